@@ -1,0 +1,18 @@
+//! What every crate of nio speaks of: operation sets and kinds of channel, the numbers that name
+//! callers, selectors, channels and keys, the limits of a system, and the gate at which a test
+//! holds a worker.
+#![tactic(auto)]
+
+pub use gate::{Gate, NoGate};
+pub use kind::Kind;
+pub use limits::Limits;
+pub use numbers::{Addr, CallerNo, ChanNo, GChan, KeyNo, OpNo, SelNo};
+pub use ops::Ops;
+
+mod gate;
+mod kind;
+mod limits;
+mod numbers;
+mod ops;
+#[cfg(test)]
+mod tests;

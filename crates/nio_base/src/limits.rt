@@ -1,0 +1,26 @@
+//! How much a system can hold.
+ghost use Rattle.std.specs.Prelude.{◌↔◌, IsTrue};
+
+/// How many callers, selectors and channels a system has at most, and how many key indexes each
+/// of its selectors.
+#[derive(Clone, Copy, Debug, PartialEq, Eq, Hash)]
+pub struct Limits {
+    pub callers: u32,
+    pub selectors: u32,
+    pub channels: u32,
+    pub keys: u32,
+}
+
+impl Limits {
+    ghost use Rattle.nio_base.specs.Limits.{IsFit};
+
+    /// Whether a system can be made with these limits.
+    pub fn fits(self) -> bool
+        ensures { IsTrue result ↔ IsFit self }
+    {
+        (1..=64).contains(&self.callers)
+            && (1..=16).contains(&self.selectors)
+            && (1..=65_536).contains(&self.channels)
+            && (1..=65_536).contains(&self.keys)
+    }
+}

@@ -1,0 +1,37 @@
+//! The numbers that name callers, selectors, channels, keys and operations, and a socket's address.
+
+/// A caller: one thread of the program, or one line of thought of a script.
+#[derive(Clone, Copy, Debug, PartialEq, Eq, Hash, PartialOrd, Ord)]
+pub struct CallerNo(pub u32);
+
+/// A selector.
+#[derive(Clone, Copy, Debug, PartialEq, Eq, Hash, PartialOrd, Ord)]
+pub struct SelNo(pub u32);
+
+/// A selectable channel.
+#[derive(Clone, Copy, Debug, PartialEq, Eq, Hash, PartialOrd, Ord)]
+pub struct ChanNo(pub u32);
+
+/// A key: its selector and its index there. `serial` tells apart the keys that an index had one
+/// after another; it is 0, since no index is used again.
+#[derive(Clone, Copy, Debug, PartialEq, Eq, Hash, PartialOrd, Ord)]
+pub struct KeyNo {
+    pub sel: SelNo,
+    pub index: u32,
+    pub serial: u32,
+}
+
+/// An operation of an asynchronous channel group, counted from 0 as they are accepted.
+#[derive(Clone, Copy, Debug, PartialEq, Eq, Hash, PartialOrd, Ord)]
+pub struct OpNo(pub u64);
+
+/// A channel of an asynchronous channel group.
+#[derive(Clone, Copy, Debug, PartialEq, Eq, Hash, PartialOrd, Ord)]
+pub struct GChan(pub u32);
+
+/// The address of a socket: the four parts of an IPv4 address as they are written, and a port.
+#[derive(Clone, Copy, Debug, PartialEq, Eq, Hash)]
+pub struct Addr {
+    pub ip: [u8; 4],
+    pub port: u16,
+}
