@@ -10,4 +10,5 @@ pub use reply::{Reply, Why};
 mod call;
 mod found;
 mod pairs;
+mod parse;
 mod reply;

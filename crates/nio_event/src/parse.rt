@@ -1,0 +1,3 @@
+//! Reading the lines of a script.
+
+mod number;
