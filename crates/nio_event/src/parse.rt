@@ -1,3 +1,4 @@
 //! Reading the lines of a script.
 
+mod name;
 mod number;
