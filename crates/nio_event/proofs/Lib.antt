@@ -1,2 +1,4 @@
 pub mod Readers
 pub mod Numbers
+pub mod Cuts
+pub mod Names

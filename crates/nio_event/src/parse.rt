@@ -1,4 +1,5 @@
 //! Reading the lines of a script.
 
+mod cut;
 mod name;
 mod number;

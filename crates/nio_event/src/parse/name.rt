@@ -5,6 +5,7 @@ ghost use Rattle.nio_event.specs.Calls.{IsPair};
 ghost use Rattle.nio_event.specs.Reading.{Reads};
 ghost use Rattle.nio_event.specs.Words.{caller_word, selector_word, channel_word, key_word, pair_word};
 
+use super::cut::cut_at;
 use super::number::read_number;
 use nio_base::{CallerNo, ChanNo, Ops, SelNo};
 
@@ -49,4 +50,13 @@ fn read_numbered(word: &[u8], letter: u8, max: u32) -> Option<u32>
     }
     let number = read_number(digits, u64::from(max))?;
     Some(number as u32)
+}
+
+pub fn read_pair(word: &[u8]) -> Option<(u32, Ops)>
+    ensures { Reads IsPair pair_word word.now result }
+{
+    let (key, ops) = cut_at(word, b':')?;
+    let key = read_key(key)?;
+    let ops = read_ops(ops)?;
+    Some((key, ops))
 }
