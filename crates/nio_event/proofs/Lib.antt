@@ -2,3 +2,4 @@ pub mod Readers
 pub mod Numbers
 pub mod Cuts
 pub mod Names
+pub mod CallWordTable

@@ -5,3 +5,4 @@ pub mod Calls
 pub mod Replies
 pub mod Script
 pub mod Reading
+pub mod CallWords

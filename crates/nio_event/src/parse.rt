@@ -1,5 +1,6 @@
 //! Reading the lines of a script.
 
+mod call_word;
 mod cut;
 mod name;
 mod number;
