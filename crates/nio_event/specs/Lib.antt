@@ -6,3 +6,4 @@ pub mod Replies
 pub mod Script
 pub mod Reading
 pub mod CallWords
+pub mod Arguments

@@ -1,5 +1,6 @@
 //! Reading the lines of a script.
 
+mod arguments;
 mod call_word;
 mod cut;
 mod name;
