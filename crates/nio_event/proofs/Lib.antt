@@ -3,3 +3,4 @@ pub mod Numbers
 pub mod Cuts
 pub mod Names
 pub mod CallWordTable
+pub mod PairLists

@@ -5,3 +5,4 @@ mod call_word;
 mod cut;
 mod name;
 mod number;
+mod told;
