@@ -4,3 +4,4 @@ pub mod Cuts
 pub mod Names
 pub mod CallWordTable
 pub mod PairLists
+pub mod CallWordDispatch

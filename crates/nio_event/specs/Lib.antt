@@ -7,3 +7,4 @@ pub mod Script
 pub mod Reading
 pub mod CallWords
 pub mod Arguments
+pub mod Dispatch

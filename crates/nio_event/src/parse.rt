@@ -5,4 +5,5 @@ mod call_word;
 mod cut;
 mod name;
 mod number;
+mod read_call;
 mod told;
