@@ -5,3 +5,5 @@ pub mod Names
 pub mod CallWordTable
 pub mod PairLists
 pub mod CallWordDispatch
+pub mod Spaces
+pub mod LineTexts

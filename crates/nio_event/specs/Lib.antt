@@ -8,3 +8,4 @@ pub mod Reading
 pub mod CallWords
 pub mod Arguments
 pub mod Dispatch
+pub mod Lines
