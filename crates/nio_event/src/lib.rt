@@ -5,6 +5,7 @@
 pub use call::{Call, Waiting};
 pub use found::{Chan, GateWord, Mark, Mode, Stage};
 pub use pairs::Pairs;
+pub use parse::{parse_line, ParseError, Parsed};
 pub use reply::{Reply, Why};
 
 mod call;
