@@ -5,11 +5,7 @@ use Rattle.std.specs.List.{slice_split}
 use Rattle.nio_base.specs.declared.numbers.CallerNo.{CallerNo}
 use Rattle.nio_event.specs.Calls.{IsLine, IsBlank}
 use Rattle.nio_event.specs.declared.call.Call.{Call}
-
--- a call and who makes it
-pub record ScriptCall : Type 0 where
-  pub caller : CallerNo
-  pub call : Call
+use Rattle.nio_event.specs.declared.call.ScriptCall.{ScriptCall}
 
 -- the lines of a text. A line ends with a newline; what follows the last one is a line too, which
 -- has no bytes where the text ends with a newline, and is blank then

@@ -2,7 +2,7 @@
 //! their replies and texts.
 #![tactic(auto)]
 
-pub use call::{Call, Waiting};
+pub use call::{Call, ScriptCall, Waiting};
 pub use found::{Chan, GateWord, Mark, Mode, Stage};
 pub use pairs::Pairs;
 pub use parse::{parse_line, ParseError, Parsed};
