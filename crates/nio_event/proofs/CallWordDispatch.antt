@@ -7,8 +7,8 @@ use Rattle.nio_event.specs.Dispatch.{ReadsArguments}
 use Rattle.nio_event.specs.Reading.{Reads, MadeFrom}
 use Rattle.nio_event.specs.declared.call.Call.{Call}
 use Rattle.nio_event.specs.declared.call.Call.TheVariants as call
-use Rattle.nio_event.specs.declared.parse.call_word.CallWord.{CallWord}
-use Rattle.nio_event.specs.declared.parse.call_word.CallWord.TheVariants.{Selector, Channel, Blocking, Register, Begin, Told}
+use Rattle.nio_event.specs.declared.call_word.CallWord.{CallWord}
+use Rattle.nio_event.specs.declared.call_word.CallWord.TheVariants.{Selector, Channel, Blocking, Register, Begin, Told}
 use Rattle.nio_event.proofs.Readers.{reads_none, made_found}
 
 word_of : Call → CallWord

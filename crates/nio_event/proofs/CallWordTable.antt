@@ -5,9 +5,9 @@ use Rattle.std.proofs.lemmas.Option.{none-some, same_Some}
 use Rattle.std.proofs.lemmas.Slice.Eq.{bytes_eq-Decides}
 use Rattle.nio_event.specs.CallWords.{call_word_text}
 use Rattle.nio_event.specs.Reading.{Reads}
-use Rattle.nio_event.specs.declared.parse.call_word.CallWord.{CallWord}
-use Rattle.nio_event.specs.declared.parse.call_word.CallWord.TheVariants.{Selector, Channel, Blocking, Register, Begin, Told}
-use Rattle.nio_event.specs.declared.parse.call_word.TheConstants.{CALL_WORDS}
+use Rattle.nio_event.specs.declared.call_word.CallWord.{CallWord}
+use Rattle.nio_event.specs.declared.call_word.CallWord.TheVariants.{Selector, Channel, Blocking, Register, Begin, Told}
+use Rattle.nio_event.specs.declared.call_word.TheConstants.{CALL_WORDS}
 
 in_table : (w : CallWord) → find (λ v. bytes_eq (call_word_text v) (call_word_text w)) CALL_WORDS ≡ Some w
 in_table Selector = refl

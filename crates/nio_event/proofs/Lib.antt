@@ -7,3 +7,4 @@ pub mod PairLists
 pub mod CallWordDispatch
 pub mod Spaces
 pub mod LineTexts
+pub mod JoinedWords

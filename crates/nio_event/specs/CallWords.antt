@@ -1,7 +1,7 @@
 -- The words with which calls begin.
 use Rattle.std.specs.Prelude.{ℕ, List, codes}
-use Rattle.nio_event.specs.declared.parse.call_word.CallWord.{CallWord}
-use Rattle.nio_event.specs.declared.parse.call_word.CallWord.TheVariants.{Selector, Channel, Blocking, Register, Begin, Told}
+use Rattle.nio_event.specs.declared.call_word.CallWord.{CallWord}
+use Rattle.nio_event.specs.declared.call_word.CallWord.TheVariants.{Selector, Channel, Blocking, Register, Begin, Told}
 
 abbrev pub call_word_text : CallWord → List ℕ
 call_word_text Selector = codes "selector"

@@ -5,8 +5,8 @@ use Rattle.nio_event.specs.Arguments.{no_words, kind_words, mode_words, interest
 use Rattle.nio_event.specs.Reading.{MadeFrom}
 use Rattle.nio_event.specs.declared.call.Call.{Call}
 use Rattle.nio_event.specs.declared.call.Call.TheVariants as call
-use Rattle.nio_event.specs.declared.parse.call_word.CallWord.{CallWord}
-use Rattle.nio_event.specs.declared.parse.call_word.CallWord.TheVariants.{Selector, Channel, Blocking, Register, Begin, Told}
+use Rattle.nio_event.specs.declared.call_word.CallWord.{CallWord}
+use Rattle.nio_event.specs.declared.call_word.CallWord.TheVariants.{Selector, Channel, Blocking, Register, Begin, Told}
 
 unfoldable pub ReadsArguments : CallWord → List (List ℕ) → Option Call → Type 0
 ReadsArguments Selector = MadeFrom (λ _. ⊤) no_words (λ _. call.Selector)

@@ -9,3 +9,4 @@ pub mod CallWords
 pub mod Arguments
 pub mod Dispatch
 pub mod Lines
+pub mod Printing

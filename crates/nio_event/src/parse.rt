@@ -10,7 +10,6 @@ use std::alloc::{AllocError, Global};
 use thiserror::Error;
 
 mod arguments;
-mod call_word;
 mod cut;
 mod line;
 mod name;

@@ -5,7 +5,7 @@ ghost use Rattle.nio_event.specs.Dispatch.{ReadsArguments};
 ghost use Rattle.nio_event.specs.Reading.{Reads};
 
 use super::arguments::{read_interest, read_kind, read_mode, read_none, read_wait};
-use super::call_word::CallWord;
+use crate::call_word::CallWord;
 use super::told::read_told;
 use crate::call::Call;
 use std::alloc::{AllocError, Global};

@@ -5,9 +5,9 @@ use Rattle.std.proofs.lemmas.Iterator.Adapters.{option_map_id}
 use Rattle.std.proofs.lemmas.Iterator.Consumers.{YieldsList-from_copied}
 use Rattle.std.proofs.lemmas.Iterator.Search.{find_from_yields_List}
 use Rattle.nio_event.specs.CallWords.{call_word_text}
-use Rattle.nio_event.specs.declared.parse.call_word.TheConstants.{CALL_WORDS}
+use Rattle.nio_event.specs.declared.call_word.TheConstants.{CALL_WORDS}
 use Rattle.nio_event.proofs.CallWordTable.{reads_call_word}
-use Rattle.nio_event.proofs.parse.call_word.CallWord.read.Goals as goal
+use Rattle.nio_event.proofs.call_word.CallWord.read.Goals as goal
 
 pub returns : goal.returns
 returns c =
