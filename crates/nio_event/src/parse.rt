@@ -15,6 +15,8 @@ mod line;
 mod name;
 mod number;
 mod read_call;
+#[cfg(test)]
+mod tests;
 mod told;
 mod words;
 

@@ -14,6 +14,8 @@ mod arguments;
 mod call;
 mod piece;
 mod reply;
+#[cfg(test)]
+mod tests;
 
 /// Most lines of a history have fewer bytes.
 const USUAL_LENGTH: usize = 64;

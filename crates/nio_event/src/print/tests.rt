@@ -1,0 +1,52 @@
+//! The text of each reply.
+use super::*;
+use crate::pairs::Pairs;
+use crate::reply::Why;
+use nio_base::{ChanNo, Ops, SelNo};
+use std::test::Fail;
+
+#[test]
+fn prints_each_reply(rt: HostRuntime) -> Result<(), Fail> {
+    let some = vec![in rt.alloc(); (3, Ops::READ), (10, Ops::of(21))]?;
+    let none = Vec::new(rt.alloc());
+    let replies = [
+        (Reply::Selector(SelNo(0)), "s0"),
+        (Reply::Channel(ChanNo(12)), "c12"),
+        (Reply::Key(4294967295), "k4294967295"),
+        (Reply::Ok, "ok"),
+        (Reply::Looked(Pairs::from_vec(some)), "looked k3:1 k10:21"),
+        (Reply::Looked(Pairs::from_vec(none)), "looked none"),
+        (Reply::Selected(2, Why::Ready), "selected 2 ready"),
+        (Reply::Selected(0, Why::Closed), "selected 0 closed"),
+        (Reply::Selected(0, Why::Now), "selected 0 now"),
+        (Reply::Selected(0, Why::Woken), "selected 0 woken"),
+        (Reply::Selected(0, Why::Interrupted), "selected 0 interrupted"),
+        (Reply::Selected(0, Why::Elapsed), "selected 0 elapsed"),
+        (Reply::Again, "again"),
+        (Reply::SelectorsSpent, "selectors-spent"),
+        (Reply::ChannelsSpent, "channels-spent"),
+        (Reply::ClosedChannel, "closed-channel"),
+        (Reply::IllegalBlockingMode, "illegal-blocking-mode"),
+        (Reply::IllegalOps, "illegal-ops"),
+        (Reply::CancelledKey, "cancelled-key"),
+        (Reply::ClosedSelector, "closed-selector"),
+        (Reply::Full, "full"),
+        (Reply::Busy, "busy"),
+        (Reply::NotSelecting, "not-selecting"),
+        (Reply::NoCaller, "no-caller"),
+        (Reply::NoSelector, "no-selector"),
+        (Reply::NoChannel, "no-channel"),
+    ];
+    for (reply, wanted) in replies {
+        let printed = print_line(
+            rt.alloc(),
+            18446744073709551615,
+            CallerNo(7),
+            &Call::Selector,
+            &reply,
+        )?;
+        let line = format!(in rt.alloc(); "18446744073709551615 t7 selector -> {wanted}\n")?;
+        assert_eq!(rt; printed.as_slice(), line.as_bytes());
+    }
+    Ok(())
+}
