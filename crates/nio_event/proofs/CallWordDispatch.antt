@@ -1,10 +1,10 @@
 -- From the call word and what its arguments are read as to the call.
-use Rattle.std.proofs.Common.{◌≡◌, ℕ, List, [], ◌∷◌, drop, Option, Some, None, IfSome, Result, Ok, Err, IfOk, refl, sym, subst, ap, ◌∙◌}
+use Rattle.std.proofs.Common.{◌≡◌, ℕ, List, ◌∷◌, drop, Option, Some, None, IfSome, Result, Ok, Err, IfOk, refl, sym, subst, ◌∙◌}
 use Rattle.std.proofs.lemmas.Option.{same_Some, none-some}
 use Rattle.nio_event.specs.Calls.{IsCall, call_words}
 use Rattle.nio_event.specs.CallWords.{call_word_text}
 use Rattle.nio_event.specs.Dispatch.{ReadsArguments}
-use Rattle.nio_event.specs.Reading.{Reads, MadeFrom}
+use Rattle.nio_event.specs.Reading.{Reads}
 use Rattle.nio_event.specs.declared.call.Call.{Call}
 use Rattle.nio_event.specs.declared.call.Call.TheVariants as call
 use Rattle.nio_event.specs.declared.call_word.CallWord.{CallWord}
@@ -66,9 +66,9 @@ reads_call : (word : List ℕ) (w : CallWord) (args words : List (List ℕ)) (r 
 reads_call word w args words r read is h = record {
   found = rw (is, read.found.1) (found_call w args r h);
   only = λ c fits e.
-    let all : word ∷ args ≡ call_word_text (word_of c) ∷ drop 1 (call_words c) = sym is ∙ (e ∙ words_of c) in
-    let same : w ≡ word_of c = same_Some w (word_of c) (read.only (word_of c) tt (cc all)) in
-    only_call c args r (subst (λ v. ReadsArguments v args r) same h) fits (cc all);
+      let all : word ∷ args ≡ call_word_text (word_of c) ∷ drop 1 (call_words c) = sym is ∙ (e ∙ words_of c) in
+      let same : w ≡ word_of c = same_Some w (word_of c) (read.only (word_of c) tt (cc all)) in
+      only_call c args r (subst (λ v. ReadsArguments v args r) same h) fits (cc all);
 }
 
 pub no_word : (word : List ℕ) (args words : List (List ℕ)) → Reads (λ _. Unit {0}) call_word_text word None
@@ -76,8 +76,8 @@ pub no_word : (word : List ℕ) (args words : List (List ℕ)) → Reads (λ _. 
 no_word word args words read is =
     reads_none IsCall call_words words
     (λ c fits e.
-      let all : word ∷ args ≡ call_word_text (word_of c) ∷ drop 1 (call_words c) = sym is ∙ (e ∙ words_of c) in
-      none-some (word_of c) (read.only (word_of c) tt (cc all)))
+    let all : word ∷ args ≡ call_word_text (word_of c) ∷ drop 1 (call_words c) = sym is ∙ (e ∙ words_of c) in
+    none-some (word_of c) (read.only (word_of c) tt (cc all)))
 
 pub reads_call_where_ok : {E : Type 0} (word : List ℕ) (w : CallWord) (args words : List (List ℕ))
     (r : Result (Option Call) E) → Reads (λ _. Unit {0}) call_word_text word (Some w)

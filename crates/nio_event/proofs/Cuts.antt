@@ -1,5 +1,5 @@
 -- Where a text is cut at its first byte of a value.
-use Rattle.std.proofs.Common.{◌≡◌, ◌≢◌, ℕ, suc, ◌<◌, ◌≤◌, ◌+◌, ◌-◌, ◌==◌, List, [], ◌∷◌, ◌++◌, length, get_or, take, drop, true, false, Some, cond, ltb, arith, sym, subst, ap, ◌∙◌, refl, position, All, add-one, length-append}
+use Rattle.std.proofs.Common.{◌≡◌, ◌≢◌, ℕ, suc, ◌<◌, ◌+◌, ◌-◌, ◌==◌, List, ◌∷◌, ◌++◌, length, get_or, take, drop, Some, arith, sym, ap, refl, position, All, add-one, length-append}
 use Rattle.std.specs.List.{position_or_len}
 use Rattle.std.proofs.Math.Seq.{take-append_seam, drop-append-add, get_or-append_seam, drop-cons}
 use Rattle.std.proofs.lemmas.List.{get_or_append_left, take-append-drop}
@@ -41,6 +41,7 @@ pub parts-cut : (byte : ℕ) (text before after : List ℕ) (place : ℕ) → So
     → text ≡ before ++ byte ∷ after
     → (take place text ≡ before) × (take (length text - (place + 1)) (drop (place + 1) text) ≡ after)
 parts-cut byte text before after place at e =
-    let p : place ≡ length before = same_Some place (length before) at in
-    (rw (p, e) (take-append_seam before (byte ∷ after)),
-      rw (take-length_drop text (place + 1), p, e) (drop-append-add before (byte ∷ after) 1))
+    let p : place ≡ length before = same_Some place (length before) at in (
+      rw (p, e) (take-append_seam before (byte ∷ after)),
+      rw (take-length_drop text (place + 1), p, e) (drop-append-add before (byte ∷ after) 1),
+    )

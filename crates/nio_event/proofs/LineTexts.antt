@@ -1,5 +1,5 @@
 -- From the words of a line to the line.
-use Rattle.std.proofs.Common.{◌≡◌, ℕ, ◌<◌, ◌≤◌, ◌==◌, List, ◌∷◌, length, Option, Some, None, Result, Ok, Err, IfOk, sym, ap, ◌∙◌, arith}
+use Rattle.std.proofs.Common.{◌≡◌, ℕ, ◌≤◌, ◌==◌, List, length, Option, Some, None, Result, Ok, Err, IfOk, sym, ap, ◌∙◌}
 use Rattle.std.specs.List.{join_with_byte, slice_split}
 use Rattle.std.proofs.lemmas.List.Splits.{join_with_byte-slice_split}
 use Rattle.nio_base.specs.declared.numbers.CallerNo.{CallerNo}

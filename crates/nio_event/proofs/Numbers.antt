@@ -27,9 +27,9 @@ pub not_begun : (text : List ℕ) (max : ℕ) → max < 2 ^ 64
 not_begun text max h bad =
     reads_none (λ n. n ≤ max) decimal text
     (λ n fits e.
-      let small : n < 2 ^ 64 = omega arith in
-      bad
-      (subst (λ (t : List ℕ). (get_or t 0 0 ≢ 43) × (get_or t 0 0 ≡ 48 → length t ≡ 1)) (sym e) (no_plus n small, lone_zero n small)))
+    let small : n < 2 ^ 64 = omega arith in
+    bad
+    (subst (λ (t : List ℕ). (get_or t 0 0 ≢ 43) × (get_or t 0 0 ≡ 48 → length t ≡ 1)) (sym e) (no_plus n small, lone_zero n small)))
 
 -- a text that is no UTF-8 is no number
 pub not_text : (text : List ℕ) (max : ℕ) → max < 2 ^ 64 → (IsUtf8 text → ⊥)
@@ -37,7 +37,7 @@ pub not_text : (text : List ℕ) (max : ℕ) → max < 2 ^ 64 → (IsUtf8 text �
 not_text text max h bad =
     reads_none (λ n. n ≤ max) decimal text
     (λ n fits e.
-      bad (subst IsUtf8 (sym e) (IsUtf8-from_ascii (decimal n) (IsAscii-decimal n (omega arith)))))
+    bad (subst IsUtf8 (sym e) (IsUtf8-from_ascii (decimal n) (IsAscii-decimal n (omega arith)))))
 
 -- what parses without a sign and without a needless zero is that number
 pub is_number : {E : Type 0} (text digits : List ℕ) (max v : ℕ) (r : Result ℕ E) → max < 2 ^ 64
@@ -58,4 +58,4 @@ pub not_parsed : {E : Type 0} (text digits : List ℕ) (max : ℕ) (r : Result �
 not_parsed text digits max r h same parsed bad =
     reads_none (λ n. n ≤ max) decimal text
     (λ n fits e.
-      bad n (parse-decimal 64 n digits r (omega arith) (omega arith) (same ∙ e) parsed) fits)
+    bad n (parse-decimal 64 n digits r (omega arith) (omega arith) (same ∙ e) parsed) fits)

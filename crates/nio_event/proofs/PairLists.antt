@@ -1,8 +1,8 @@
 -- Lists of pairs, read word by word.
-use Rattle.std.proofs.Common.{◌≡◌, ◌≢◌, ℕ, suc, ◌<◌, ◌≤◌, ◌+◌, List, [], ◌∷◌, ◌++◌, length, get_or, take, map, Option, Some, None, false, sym, subst, ap, ◌∙◌, refl, arith, All, Any, nat_eq}
+use Rattle.std.proofs.Common.{◌≡◌, ℕ, ◌<◌, ◌≤◌, ◌+◌, List, [], ◌∷◌, ◌++◌, length, get_or, take, map, Option, Some, None, false, sym, ap, ◌∙◌, refl, arith, All, Any, nat_eq}
 use denote.Ref.{Bor}
 use Rattle.std.specs.List.{IsDistinct, AllByRecursion}
-use Rattle.std.proofs.lemmas.List.{get_or-map, get_or-take, length-map, length-take-le, map-append, take-map, take_more, take_all}
+use Rattle.std.proofs.lemmas.List.{get_or-map, get_or-take, length-map, length-take-le, map-append, take_more, take_all}
 use Rattle.std.proofs.lemmas.List.Elements.{All-push, All-get_or, All-nil, All-map, recursion_from_All, Contains-get_or}
 use Rattle.std.proofs.lemmas.Map.Made.{AllPairs-from_IsDistinct}
 use Rattle.std.proofs.lemmas.Bool.{ne_eqb}
@@ -78,10 +78,10 @@ fits_push : (pairs : List (ℕ × ℕ)) (p : ℕ × ℕ) → PairsFit pairs → 
 fits_push pairs p fits is_pair new = record {
   each = All-push IsPair pairs p fits.each is_pair;
   distinct =
-    let others : All (λ (q : ℕ × ℕ). nat_eq q.0 p.0 ≡ false) pairs =
+      let others : All (λ (q : ℕ × ℕ). nat_eq q.0 p.0 ≡ false) pairs =
       λ k d lt. ne_eqb (get_or pairs k d).0 p.0 (λ e. let at = Contains-get_or pairs k d lt in new (at.0, get_or pairs k d, at.1, at.2, e)) in
-    rw (map-append (λ (q : ℕ × ℕ). q.0) pairs (p ∷ []))
-    (distinct_push (map (λ (q : ℕ × ℕ). q.0) pairs) p.0 fits.distinct
+      rw (map-append (λ (q : ℕ × ℕ). q.0) pairs (p ∷ []))
+      (distinct_push (map (λ (q : ℕ × ℕ). q.0) pairs) p.0 fits.distinct
       (recursion_from_All (λ x. nat_eq x p.0 ≡ false) (map (λ (q : ℕ × ℕ). q.0) pairs) (All-map (λ x. nat_eq x p.0 ≡ false) (λ (q : ℕ × ℕ). q.0) pairs others)));
 }
 
@@ -91,11 +91,11 @@ pub one_more : (words : List (List ℕ)) (i : ℕ) (w : List ℕ) (p : ℕ × �
 one_more words i w p pairs at read new so_far = record {
   fits = fits_push pairs p so_far.fits read.found.0 new;
   texts =
-    rw (take_more words i w at.within, map-append pair_word pairs (p ∷ []), so_far.texts, ← at.is, ← read.found.1) refl;
+      rw (take_more words i w at.within, map-append pair_word pairs (p ∷ []), so_far.texts, ← at.is, ← read.found.1) refl;
   only = λ ps fits e.
-    let there = word_at words ps i w e at in
-    let same : p ≡ get_or ps i (0, 0) = same_Some p (get_or ps i (0, 0)) (pair_at words ps i w (Some p) e fits at read) in
-    rw (take_more ps i (0, 0) there.0, so_far.only ps fits e, ← same) refl;
+      let there = word_at words ps i w e at in
+      let same : p ≡ get_or ps i (0, 0) = same_Some p (get_or ps i (0, 0)) (pair_at words ps i w (Some p) e fits at read) in
+      rw (take_more ps i (0, 0) there.0, so_far.only ps fits e, ← same) refl;
 }
 
 pub key_again : (words : List (List ℕ)) (i : ℕ) (w : List ℕ) (p : ℕ × ℕ) (pairs : List (ℕ × ℕ))
@@ -105,21 +105,21 @@ key_again words i w p pairs at read twice so_far =
     let key = λ (q : ℕ × ℕ). q.0 in
     reads_none PairsFit (map pair_word) words
     (λ ps fits e.
-      let same : p ≡ get_or ps i (0, 0) = same_Some p (get_or ps i (0, 0)) (pair_at words ps i w (Some p) e fits at read) in
-      let there = word_at words ps i w e at in
-      let front : take i ps ≡ pairs = so_far.only ps fits e in
-      let k : ℕ = twice.0 in
-      let q : ℕ × ℕ = twice.1 in
-      let before : k < i = omega (arith, twice.2, ap length front, length-take-le i ps (omega (arith, there.0))) in
-      let early : get_or ps k q ≡ q = sym (get_or-take i ps k q before) ∙ (ap (λ (l : List (ℕ × ℕ)). get_or l k q) front ∙ twice.3) in
-      AllPairs-from_IsDistinct Decides-eqb (map key ps) fits.distinct k i 0 before (omega (arith, there.0, length-map ps key))
-      (get_or-map key ps k q 0 (omega (arith, there.0)) ∙ (ap key early ∙ (twice.4 ∙ (ap key same ∙ sym (get_or-map key ps i (0, 0) 0 there.0))))))
+    let same : p ≡ get_or ps i (0, 0) = same_Some p (get_or ps i (0, 0)) (pair_at words ps i w (Some p) e fits at read) in
+    let there = word_at words ps i w e at in
+    let front : take i ps ≡ pairs = so_far.only ps fits e in
+    let k : ℕ = twice.0 in
+    let q : ℕ × ℕ = twice.1 in
+    let before : k < i = omega (arith, twice.2, ap length front, length-take-le i ps (omega (arith, there.0))) in
+    let early : get_or ps k q ≡ q = sym (get_or-take i ps k q before) ∙ (ap (λ (l : List (ℕ × ℕ)). get_or l k q) front ∙ twice.3) in
+    AllPairs-from_IsDistinct Decides-eqb (map key ps) fits.distinct k i 0 before (omega (arith, there.0, length-map ps key))
+    (get_or-map key ps k q 0 (omega (arith, there.0)) ∙ (ap key early ∙ (twice.4 ∙ (ap key same ∙ sym (get_or-map key ps i (0, 0) 0 there.0))))))
 
 pub all_read : (words : List (List ℕ)) (i : ℕ) (pairs : List (ℕ × ℕ)) → length words ≤ i
     → AreRead words i pairs → Reads PairsFit (map pair_word) words (Some pairs)
 all_read words i pairs h so_far = record {
   found = (so_far.fits, sym (take_all i words h) ∙ so_far.texts);
   only = λ ps fits e.
-    let size : length ps ≤ i = omega (arith, ap length e, length-map ps pair_word) in
-    ap Some (sym (so_far.only ps fits e) ∙ take_all i ps size);
+      let size : length ps ≤ i = omega (arith, ap length e, length-map ps pair_word) in
+      ap Some (sym (so_far.only ps fits e) ∙ take_all i ps size);
 }

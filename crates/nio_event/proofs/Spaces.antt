@@ -1,5 +1,5 @@
 -- Words without a space: those of a line are, and so splitting the line gives them back.
-use Rattle.std.proofs.Common.{◌≡◌, ◌≢◌, ℕ, ◌<◌, ◌≤◌, ◌^◌, ◌==◌, Bool, true, false, not, List, [], ◌∷◌, ◌++◌, length, get_or, map, codes, refl, sym, subst, ap, ◌∙◌, arith, All}
+use Rattle.std.proofs.Common.{◌≡◌, ◌≢◌, ℕ, ◌<◌, ◌^◌, ◌==◌, true, false, not, List, [], ◌∷◌, get_or, map, codes, refl, sym, subst, ap, ◌∙◌, arith, All}
 use Rattle.std.specs.Fmt.{decimal}
 use Rattle.std.specs.List.{AllByRecursion, join_with_byte, list_all, slice_split}
 use Rattle.std.proofs.lemmas.Bool.{ne_eqb, eq-eqb, false≢true}

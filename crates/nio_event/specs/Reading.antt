@@ -1,5 +1,5 @@
 -- What it is to read: to find what was printed.
-use Rattle.std.specs.Prelude.{◌≡◌, ◌≢◌, ℕ, List, ◌∷◌, ◌++◌, Option, Some, IfSome, All}
+use Rattle.std.specs.Prelude.{◌≡◌, Option, Some, IfSome}
 
 -- a reader's answer for a text: what it finds fits and is printed as this text, and where the text
 -- is printed from something that fits, it finds that

@@ -42,9 +42,6 @@ impl CallWord {
     pub fn read(text: &[u8]) -> Option<CallWord>
         ensures { Reads (λ _. Unit {0}) call_word_text text.now result }
     {
-        CALL_WORDS
-            .iter()
-            .copied()
-            .find(|word| word.text() == text)
+        CALL_WORDS.iter().copied().find(|word| word.text() == text)
     }
 }

@@ -5,7 +5,7 @@
 pub use call::{Call, ScriptCall, Waiting};
 pub use found::{Chan, GateWord, Mark, Mode, Stage};
 pub use pairs::Pairs;
-pub use parse::{parse_line, ParseError, Parsed};
+pub use parse::{ParseError, Parsed, parse_line};
 pub use print::print_line;
 pub use reply::{Reply, Why};
 

@@ -10,11 +10,11 @@ use std::alloc::{AllocError, Global};
 use thiserror::Error;
 
 mod arguments;
+mod call;
 mod cut;
 mod line;
 mod name;
 mod number;
-mod read_call;
 #[cfg(test)]
 mod tests;
 mod told;

@@ -3,8 +3,8 @@ ghost use Rattle.std.specs.Prelude.{◌≡◌, IfOk, map};
 ghost use Rattle.nio_event.specs.Reading.{Reads};
 ghost use Rattle.nio_event.specs.Lines.{FitsLine, line_words, ReadsLine};
 
+use super::call::read_call;
 use super::name::read_caller;
-use super::read_call::call_from;
 use super::words::words_of;
 use crate::call::Call;
 use nio_base::CallerNo;
@@ -33,7 +33,7 @@ fn line_from(alloc: Global, words: &[&[u8]]) -> Result<Option<(CallerNo, Call)>,
     let Some(caller) = read_caller(caller) else {
         return Ok(None);
     };
-    match call_from(alloc, call)? {
+    match read_call(alloc, call)? {
         Some(call) => Ok(Some((caller, call))),
         None => Ok(None),
     }

@@ -15,10 +15,10 @@ pub fn read_number(text: &[u8], max: u64) -> Option<u64>
     let Ok(digits) = str::from_utf8(text) else {
         return None;
     };
-    match digits.parse::<u64>() {
-        Ok(number) if number <= max => Some(number),
-        _ => None,
-    }
+    let Ok(number) = digits.parse::<u64>() else {
+        return None;
+    };
+    if number <= max { Some(number) } else { None }
 }
 
 /// Whether no sign and no needless zero stands before the other bytes.

@@ -10,9 +10,21 @@ fn reads_lines(rt: HostRuntime) -> Result<(), Fail> {
         ("t1 selector", 1, "Selector"),
         ("t0 channel source", 0, "Channel(Source)"),
         ("t63 blocking c0 off", 63, "Blocking(ChanNo(0), false)"),
-        ("t1 blocking c4294967295 on", 1, "Blocking(ChanNo(4294967295), true)"),
-        ("t1 register s0 c2 5", 1, "Register(SelNo(0), ChanNo(2), Ops { bits: 5 })"),
-        ("t1 register s15 c0 255", 1, "Register(SelNo(15), ChanNo(0), Ops { bits: 255 })"),
+        (
+            "t1 blocking c4294967295 on",
+            1,
+            "Blocking(ChanNo(4294967295), true)",
+        ),
+        (
+            "t1 register s0 c2 5",
+            1,
+            "Register(SelNo(0), ChanNo(2), Ops { bits: 5 })",
+        ),
+        (
+            "t1 register s15 c0 255",
+            1,
+            "Register(SelNo(15), ChanNo(0), Ops { bits: 255 })",
+        ),
         ("t2 begin s0 now", 2, "Begin(SelNo(0), Now)"),
         ("t1 told s0", 1, "Told(SelNo(0), Pairs { pairs: [] })"),
         (
@@ -83,7 +95,11 @@ fn refuses_lines(rt: HostRuntime) {
 fn reads_lines_of_every_length(rt: HostRuntime) -> Result<(), Fail> {
     let longest = told_line(rt.alloc(), "t1 told s0 k10:1")?;
     assert_eq!(rt; longest.len(), 4096);
-    let Parsed::Line { call: Call::Told(_, pairs), .. } = parse_line(rt.alloc(), longest.as_bytes())? else {
+    let Parsed::Line {
+        call: Call::Told(_, pairs),
+        ..
+    } = parse_line(rt.alloc(), longest.as_bytes())?
+    else {
         return Err(Fail::from("the longest line isn't told"));
     };
     assert_eq!(rt; pairs.as_slice().len(), 511);

@@ -37,11 +37,7 @@ pub fn push_interest(
     push_ops(line, ops)
 }
 
-pub fn push_wait(
-    line: &mut Vec<u8>,
-    selector: SelNo,
-    waiting: Waiting,
-) -> Result<(), AllocError>
+pub fn push_wait(line: &mut Vec<u8>, selector: SelNo, waiting: Waiting) -> Result<(), AllocError>
     ensures { OnOk result (line.new.items ≡ line.old.items ++ spaced (wait_words (selector, waiting))) }
 {
     push_name(line, b's', selector.0)?;

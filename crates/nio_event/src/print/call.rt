@@ -12,11 +12,7 @@ use nio_base::CallerNo;
 use std::alloc::AllocError;
 
 /// A caller and its call.
-pub fn push_line_text(
-    line: &mut Vec<u8>,
-    caller: CallerNo,
-    call: &Call,
-) -> Result<(), AllocError>
+pub fn push_line_text(line: &mut Vec<u8>, caller: CallerNo, call: &Call) -> Result<(), AllocError>
     ensures { OnOk result (line.new.items ≡ line.old.items ++ line_text caller call.now) }
 {
     push_numbered(line, b't', caller.0)?;

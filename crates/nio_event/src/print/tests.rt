@@ -20,7 +20,10 @@ fn prints_each_reply(rt: HostRuntime) -> Result<(), Fail> {
         (Reply::Selected(0, Why::Closed), "selected 0 closed"),
         (Reply::Selected(0, Why::Now), "selected 0 now"),
         (Reply::Selected(0, Why::Woken), "selected 0 woken"),
-        (Reply::Selected(0, Why::Interrupted), "selected 0 interrupted"),
+        (
+            Reply::Selected(0, Why::Interrupted),
+            "selected 0 interrupted",
+        ),
         (Reply::Selected(0, Why::Elapsed), "selected 0 elapsed"),
         (Reply::Again, "again"),
         (Reply::SelectorsSpent, "selectors-spent"),

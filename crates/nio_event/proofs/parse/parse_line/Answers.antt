@@ -1,4 +1,4 @@
-use Rattle.std.proofs.Common.{refl, rules}
+use Rattle.std.proofs.Common.{refl}
 use Rattle.nio_event.specs.Script.{IsInGrammar}
 use Rattle.nio_event.proofs.parse.parse_line.Goals as goal
 

@@ -1,4 +1,4 @@
-use Rattle.std.proofs.Common.{◌≡◌, rules, tests, sym, ◌∙◌}
+use Rattle.std.proofs.Common.{rules, tests, sym, ◌∙◌}
 use Rattle.std.specs.Str.{bytes_eq}
 use Rattle.std.proofs.lemmas.Iterator.{YieldsList-from_slice}
 use Rattle.std.proofs.lemmas.Iterator.Adapters.{option_map_id}
@@ -12,6 +12,5 @@ use Rattle.nio_event.proofs.call_word.CallWord.read.Goals as goal
 pub returns : goal.returns
 returns c =
     let text = c.args.text.now in
-    let items = YieldsList-from_copied (YieldsList-from_slice CALL_WORDS cc) in
-    let found = find_from_yields_List (λ w. bytes_eq (call_word_text w) text) _ _ c.find.result c.find.ensures.ran items (λ x b q k. search (rules, tests)) in
+    let found = find_from_yields_List (λ w. bytes_eq (call_word_text w) text) _ _ c.find.result c.find.ensures.ran (YieldsList-from_copied (YieldsList-from_slice CALL_WORDS cc)) (λ x b q k. search (rules, tests)) in
     reads_call_word text c.find.result (sym (option_map_id c.find.result) ∙ found)

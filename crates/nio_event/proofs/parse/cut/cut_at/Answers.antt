@@ -1,4 +1,4 @@
-use Rattle.std.proofs.Common.{◌≡◌, Some, None, ◌∙◌, sym, length, arith, rules}
+use Rattle.std.proofs.Common.{◌∙◌, sym}
 use Rattle.nio_event.proofs.Cuts.{position-cut, cut-position, parts-cut}
 use Rattle.nio_event.proofs.parse.cut.cut_at.Goals as goal
 
@@ -6,7 +6,7 @@ pub returns-in_err-place-clause-only : goal.returns-in_err-place-clause-only
 returns-in_err-place-clause-only c =
     λ before after others e.
     let at = position-cut c.args.byte c.args.text.now before after others e in
-    absurd (cc (at, c.in_err-place.is, c.in_err-place.ensures.place))
+    absurd (cc (at, c.in_err-place.ensures.place))
 
 pub returns-clause-found : goal.returns-clause-found
 returns-clause-found c =

@@ -1,4 +1,4 @@
-use Rattle.std.proofs.Common.{◌∷◌, ap, codes, refl, sym}
+use Rattle.std.proofs.Common.{◌∷◌, ap, codes, sym}
 use Rattle.nio_event.specs.Arguments.{interest_words}
 use Rattle.nio_event.specs.Calls.{call_words}
 use Rattle.nio_event.specs.Printing.{spaced}

@@ -2,7 +2,7 @@
 use Rattle.std.proofs.Common.{map, rules}
 use Rattle.nio_event.specs.Dispatch.{ReadsArguments}
 use Rattle.nio_event.proofs.Readers.{made_by}
-use Rattle.nio_event.proofs.parse.read_call.read_arguments.Goals as goal
+use Rattle.nio_event.proofs.parse.call.read_arguments.Goals as goal
 
 pub returns-in-Selector : goal.returns-in-Selector
 unfolding ReadsArguments

@@ -5,13 +5,13 @@ ghost use Rattle.nio_event.specs.Dispatch.{ReadsArguments};
 ghost use Rattle.nio_event.specs.Reading.{Reads};
 
 use super::arguments::{read_interest, read_kind, read_mode, read_none, read_wait};
-use crate::call_word::CallWord;
 use super::told::read_told;
 use crate::call::Call;
+use crate::call_word::CallWord;
 use std::alloc::{AllocError, Global};
 
 /// The call that these words are.
-pub fn call_from(alloc: Global, words: &[&[u8]]) -> Result<Option<Call>, AllocError>
+pub fn read_call(alloc: Global, words: &[&[u8]]) -> Result<Option<Call>, AllocError>
     ensures { IfOk result (Reads IsCall call_words (map (λ w. w.now) words.now)) }
 {
     let Some((word, args)) = words.split_first() else {
@@ -23,12 +23,7 @@ pub fn call_from(alloc: Global, words: &[&[u8]]) -> Result<Option<Call>, AllocEr
     }
 }
 
-#[tactic(auto, unfolding(crate::specs::Dispatch::ReadsArguments))]
-fn read_arguments(
-    alloc: Global,
-    word: CallWord,
-    args: &[&[u8]],
-) -> Result<Option<Call>, AllocError>
+fn read_arguments(alloc: Global, word: CallWord, args: &[&[u8]]) -> Result<Option<Call>, AllocError>
     ensures { IfOk result (ReadsArguments word (map (λ w. w.now) args.now)) }
 {
     match word {
