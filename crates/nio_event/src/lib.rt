@@ -2,12 +2,16 @@
 //! their replies and texts.
 #![tactic(auto)]
 
+pub use act::Act;
 pub use call::{Call, Waiting};
+pub use event::Event;
 pub use found::{Chan, GateWord, Mark, Mode, Stage};
 pub use pairs::Pairs;
 pub use reply::{Reply, Why};
 
+mod act;
 mod call;
+mod event;
 mod found;
 mod pairs;
 mod reply;
