@@ -1,2 +1,5 @@
 pub mod State
 pub mod Sets
+pub mod Questions
+pub mod Acts
+pub mod Answers
