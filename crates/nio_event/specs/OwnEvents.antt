@@ -6,7 +6,7 @@ use Rattle.std.specs.Option.{option_or}
 use Rattle.nio_base.specs.declared.numbers.ChanNo.{ChanNo}
 use Rattle.nio_event.specs.Sets.{in_key_set}
 use Rattle.nio_event.specs.declared.act.Act.{Act}
-use Rattle.nio_event.specs.declared.act.Act.TheVariants.{LookKey, LookChannel, Claim, LookKeys, LookReg, Enrol, TryHoldBit, SetMode, CloseBit, Enter}
+use Rattle.nio_event.specs.declared.act.Act.TheVariants.{LookKey, LookChannel, Claim, LookKeys, LookReg, Enrol, TryHoldBit, Enter}
 
 -- ---- general words
 
@@ -30,6 +30,11 @@ last tells own = fold (λ told act. option_or (tells act) told) None own
 abbrev pub since_from : (Act → Bool) → List Act → List Act
 since_from opens own = fold (λ since act. if opens act then [] else since ++ act ∷ []) [] own
 
+-- what it did after the first act that opens a span
+abbrev pub after_first : (Act → Bool) → List Act → List Act
+after_first opens [] = []
+after_first opens (act ∷ later) = if opens act then later else after_first opens later
+
 -- ---- spans
 
 -- it took the hold of channel c
@@ -48,7 +53,7 @@ enters s _ = false
 
 -- what it did since it entered selector s
 abbrev pub since_entered : ℕ → List Act → List Act
-since_entered s own = since_from (enters s) own
+since_entered s own = after_first (enters s) own
 
 -- ---- tests of one act
 
