@@ -1,1 +1,5 @@
 pub mod Legal
+pub mod Put
+pub mod OneMore
+pub mod Lasts
+pub mod Told

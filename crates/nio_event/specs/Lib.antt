@@ -6,3 +6,4 @@ pub mod Answers
 pub mod OwnEvents
 pub mod Conditions
 pub mod Histories
+pub mod Lasting
