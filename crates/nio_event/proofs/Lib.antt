@@ -3,3 +3,4 @@ pub mod Put
 pub mod OneMore
 pub mod Lasts
 pub mod Told
+pub mod Soundness

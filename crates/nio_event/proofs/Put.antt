@@ -32,3 +32,12 @@ put-same f i x = ap (λ b. cond b x (f i)) (eq-eqb i i refl)
 
 pub put_at-same : {A : Type 0} (f : ℕ → ℕ → A) (i j : ℕ) (x : A) → put_at f i j x i j ≡ x
 put_at-same f i j x = ap (λ b. cond b x (f i j)) (and_from (i == i) (j == j) (eq-eqb i i refl) (eq-eqb j j refl))
+
+-- a fact of what stands at a number in two functions stays where both new values have it
+pub put_both : {A B : Type 0} (R : ℕ → A → B → Type 0) (f : ℕ → A) (g : ℕ → B) (i : ℕ) (x : A) (y : B) → R i x y
+    → (n : ℕ) → R n (f n) (g n) → R n (put f i x n) (put g i y n)
+put_both {A = A} {B = B} R f g i x y new n here = by_test (n == i) refl
+  where
+    by_test : (b : Bool) → (n == i) ≡ b → R n (cond b x (f n)) (cond b y (g n))
+    by_test true e = subst (λ (k : ℕ). R k x y) (sym (eqb-true n i e)) new
+    by_test false e = here

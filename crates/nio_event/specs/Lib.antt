@@ -7,3 +7,4 @@ pub mod OwnEvents
 pub mod Conditions
 pub mod Histories
 pub mod Lasting
+pub mod Sound
