@@ -4,3 +4,6 @@ pub mod OneMore
 pub mod Lasts
 pub mod Told
 pub mod Soundness
+pub mod LastsOnceSound
+pub mod LastsAlone
+pub mod Stays

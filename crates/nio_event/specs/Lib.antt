@@ -8,3 +8,4 @@ pub mod Conditions
 pub mod Histories
 pub mod Lasting
 pub mod Sound
+pub mod Staying

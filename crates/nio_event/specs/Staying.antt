@@ -1,0 +1,33 @@
+-- Laws of legal histories: what never goes back doesn't, what a caller has stays its own, and so a
+-- condition that is true where a caller's pass has seen a history stays true while others go on.
+use Rattle.std.specs.Prelude.{◌≡◌, ℕ, Bool, IsTrue, List, ◌++◌}
+use mathlib.Core.List.{IsPrefix}
+use Rattle.nio_base.specs.declared.limits.Limits.{Limits}
+use Rattle.nio_base.specs.declared.numbers.CallerNo.{CallerNo}
+use Rattle.nio_event.specs.Conditions.{Condition}
+use Rattle.nio_event.specs.Histories.{state_after, mine, IsLegal}
+use Rattle.nio_event.specs.Lasting.{LastingFact, stands, OwnFact, is_had_by}
+use Rattle.nio_event.specs.declared.act.Act.{Act}
+use Rattle.nio_event.specs.declared.event.Event.{Event}
+
+-- each beginning of a legal history is legal
+abbrev pub BeginningsAreLegal : Type 0
+BeginningsAreLegal = (l : Limits) (before after : List Event) → IsPrefix before after → IsLegal l after → IsLegal l before
+
+-- what never goes back stands after every legal longer history
+abbrev pub NothingGoesBack : Type 0
+NothingGoesBack = (l : Limits) (before after : List Event) → IsPrefix before after → IsLegal l after
+    → (f : LastingFact) → IsTrue (stands f (state_after before)) → IsTrue (stands f (state_after after))
+
+-- what a caller has it has after every legal longer history in which it has no further event
+abbrev pub OnlyItselfGivesBack : Type 0
+OnlyItselfGivesBack = (l : Limits) (n : CallerNo) (before after : List Event) → IsPrefix before after → IsLegal l after
+    → mine n after ≡ mine n before
+    → (f : OwnFact) → IsTrue (is_had_by n f (state_after before)) → IsTrue (is_had_by n f (state_after after))
+
+-- a condition that is true of a step of a caller is true of it after every legal longer history in
+-- which the caller has no further event
+abbrev pub ConditionsStay : Type 0
+ConditionsStay = (l : Limits) (n : CallerNo) (before after : List Event) → IsPrefix before after → IsLegal l after
+    → mine n after ≡ mine n before
+    → (act : Act) → Condition l (mine n before) (state_after before) n act → Condition l (mine n after) (state_after after) n act
