@@ -7,3 +7,4 @@ pub mod Soundness
 pub mod LastsOnceSound
 pub mod LastsAlone
 pub mod Stays
+pub mod TurnLaws

@@ -9,3 +9,5 @@ pub mod Histories
 pub mod Lasting
 pub mod Sound
 pub mod Staying
+pub mod OneProof
+pub mod Turns

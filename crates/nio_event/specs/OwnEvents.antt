@@ -6,7 +6,7 @@ use Rattle.std.specs.Option.{option_or}
 use Rattle.nio_base.specs.declared.numbers.ChanNo.{ChanNo}
 use Rattle.nio_event.specs.Sets.{in_key_set}
 use Rattle.nio_event.specs.declared.act.Act.{Act}
-use Rattle.nio_event.specs.declared.act.Act.TheVariants.{LookKey, LookChannel, Claim, LookKeys, LookReg, Enrol, TryHoldBit, Enter}
+use Rattle.nio_event.specs.declared.act.Act.TheVariants.{LookKey, LookChannel, Claim, LookKeys, LookReg, Enrol, GiveTurn, TryHoldBit, Release, Enter}
 
 -- ---- general words
 
@@ -82,6 +82,16 @@ abbrev pub noted_found : ℕ → ℕ → Act → Option (Option ℕ)
 noted_found c s (LookReg c' s' found) = if (c'.0 == c) && (s'.0 == s) then Some found else None
 noted_found c s (Enrol c' s' i _) = if (c'.0 == c) && (s'.0 == s) then Some (Some i) else None
 noted_found c s _ = None
+
+-- it gave back the turn of selector s
+abbrev pub gives_turn : ℕ → Act → Bool
+gives_turn s (GiveTurn s') = s'.0 == s
+gives_turn s _ = false
+
+-- it gave back the hold of channel c
+abbrev pub releases : ℕ → Act → Bool
+releases c (Release c') = c'.0 == c
+releases c _ = false
 
 -- ---- a channel's noted key
 

@@ -7,6 +7,7 @@ use Rattle.nio_base.specs.declared.numbers.CallerNo.{CallerNo}
 use Rattle.nio_event.specs.Conditions.{Condition}
 use Rattle.nio_event.specs.Histories.{state_after, mine, IsLegal}
 use Rattle.nio_event.specs.Lasting.{LastingFact, stands, OwnFact, is_had_by}
+use Rattle.nio_event.specs.Sound.{IsSound}
 use Rattle.nio_event.specs.declared.act.Act.{Act}
 use Rattle.nio_event.specs.declared.event.Event.{Event}
 
@@ -31,3 +32,8 @@ abbrev pub ConditionsStay : Type 0
 ConditionsStay = (l : Limits) (n : CallerNo) (before after : List Event) → IsPrefix before after → IsLegal l after
     → mine n after ≡ mine n before
     → (act : Act) → Condition l (mine n before) (state_after before) n act → Condition l (mine n after) (state_after after) n act
+
+-- the state after a legal history is sound; among other things, every index below a selector's keys'
+-- mark is claimed
+abbrev pub StatesAreSound : Type 0
+StatesAreSound = (l : Limits) (events : List Event) → IsLegal l events → IsSound (state_after events)

@@ -13,5 +13,6 @@ mod act;
 mod call;
 mod event;
 mod found;
+pub mod laws;
 mod pairs;
 mod reply;
