@@ -8,3 +8,4 @@ pub mod LastsOnceSound
 pub mod LastsAlone
 pub mod Stays
 pub mod TurnLaws
+pub mod WorkedSteps

@@ -11,3 +11,4 @@ pub mod Sound
 pub mod Staying
 pub mod OneProof
 pub mod Turns
+pub mod Worked

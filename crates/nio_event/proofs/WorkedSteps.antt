@@ -1,0 +1,92 @@
+-- Each event of the worked history is a step.
+use Rattle.std.proofs.Common.{◌≡◌, ℕ, ◌<◌, ◌≤◌, Bool, true, false, List, [], ◌∷◌, ◌++◌, take, append_assoc, refl, sym, subst, arith, lit<, lit≤}
+use Rattle.std.proofs.lemmas.List.{append-nil}
+use Rattle.nio_base.specs.declared.limits.Limits.{Limits}
+use Rattle.nio_event.proofs.Legal.{legal_empty, legal_more}
+use Rattle.nio_event.specs.Histories.{state_after, mine, IsStep, IsLegal}
+use Rattle.nio_event.specs.Answers.{bits_below}
+use Rattle.nio_event.specs.OwnEvents.{is_clear}
+use Rattle.nio_event.specs.Worked.{v, small_limits, worked_history, WorkedHistoryIsLegal}
+use Rattle.nio_event.specs.declared.event.Event.{Event}
+
+-- each of the events is a step, one after the other
+abbrev AreSteps : Limits → List Event → List Event → Type 0
+AreSteps l past [] = Unit {0}
+AreSteps l past (e ∷ later) = IsStep l past e × AreSteps l (past ++ e ∷ []) later
+
+legal_by_steps : (l : Limits) (past later : List Event) → IsLegal l past → AreSteps l past later → IsLegal l (past ++ later)
+legal_by_steps l past [] legal steps = subst (IsLegal l) (sym (append-nil past)) legal
+legal_by_steps l past (e ∷ later) legal steps =
+    subst (IsLegal l) (append_assoc past (e ∷ []) later) (legal_by_steps l (past ++ e ∷ []) later (legal_more l past e legal steps.0) steps.1)
+
+-- there is one number below 1
+below_one : (P : ℕ → Type 0) → P 0 → (n : ℕ) → n < 1 → P n
+below_one P first n below =
+    let is_first : 0 ≡ n = omega arith in
+    subst P is_first first
+
+steps : AreSteps small_limits [] worked_history
+unfolding bits_below
+steps = (
+  record { by_caller = lit< tt; condition = (lit< tt, refl, refl); answers = refl }, (
+  record { by_caller = lit< tt; condition = (lit< tt, refl, refl); answers = refl }, (
+  record { by_caller = lit< tt; condition = lit< tt; answers = refl }, (
+  record { by_caller = lit< tt; condition = tt; answers = refl }, (
+  record { by_caller = lit< tt; condition = tt; answers = refl }, (
+  record { by_caller = lit< tt; condition = (lit< tt, λ n below. absurd (omega arith)); answers = refl }, (
+  record { by_caller = lit< tt; condition = (lit≤ tt, below_one (λ k. ((state_after (take 6 worked_history)).chan k).made ≡ true) refl); answers = refl }, (
+  record { by_caller = lit< tt; condition = lit< tt; answers = refl }, (
+  record { by_caller = lit< tt; condition = (lit< tt, refl); answers = refl }, (
+  record { by_caller = lit< tt; condition = lit< tt; answers = refl }, (
+  record { by_caller = lit< tt; condition = (lit< tt, refl, λ e. absurd cc); answers = refl }, (
+  record { by_caller = lit< tt; condition = (lit< tt, refl); answers = refl }, (
+  record { by_caller = lit< tt; condition = (lit< tt, refl); answers = refl }, (
+  record { by_caller = lit< tt; condition = lit< tt; answers = refl }, (
+  record { by_caller = lit< tt; condition = (lit< tt, lit< tt); answers = refl }, (
+  record { by_caller = lit< tt; condition = lit< tt; answers = refl }, (
+  record { by_caller = lit< tt; condition = lit< tt; answers = refl }, (
+  record { by_caller = lit< tt; condition = ((lit< tt, lit< tt), lit< tt, refl, λ n below. absurd (omega arith)); answers = refl }, (
+  record { by_caller = lit< tt; condition = (lit< tt, lit≤ tt, below_one (λ k. ((state_after (take 18 worked_history)).key 0 k).claimed ≡ true) refl); answers = refl }, (
+  record { by_caller = lit< tt; condition = lit< tt; answers = refl }, (
+  record { by_caller = lit< tt; condition = (lit< tt, lit< tt); answers = refl }, (
+  record { by_caller = lit< tt; condition = (lit< tt, lit< tt); answers = refl }, (
+  record { by_caller = lit< tt; condition = (lit< tt, (lit< tt, lit< tt), refl, refl, refl); answers = refl }, (
+  record { by_caller = lit< tt; condition = ((lit< tt, lit< tt), refl, refl, refl); answers = refl }, (
+  record { by_caller = lit< tt; condition = lit< tt; answers = refl }, (
+  record { by_caller = lit< tt; condition = (lit< tt, refl); answers = refl }, (
+  record { by_caller = lit< tt; condition = (lit< tt, lit< tt); answers = refl }, (
+  record { by_caller = lit< tt; condition = (lit< tt, lit< tt); answers = refl }, (
+  record { by_caller = lit< tt; condition = (lit< tt, lit< tt); answers = refl }, (
+  record { by_caller = lit< tt; condition = lit< tt; answers = refl }, (
+  record { by_caller = lit< tt; condition = lit< tt; answers = refl }, (
+  record { by_caller = lit< tt; condition = (lit< tt, refl); answers = refl }, (
+  record { by_caller = lit< tt; condition = lit< tt; answers = refl }, (
+  record { by_caller = lit< tt; condition = (lit< tt, lit< tt); answers = refl }, (
+  record { by_caller = lit< tt; condition = (lit< tt, lit< tt); answers = refl }, (
+  record { by_caller = lit< tt; condition = (lit< tt, refl); answers = refl }, (
+  record { by_caller = lit< tt; condition = ((lit< tt, lit< tt), refl); answers = refl }, (
+  record { by_caller = lit< tt; condition = (lit< tt, lit< tt); answers = refl }, (
+  record { by_caller = lit< tt; condition = ((lit< tt, lit< tt), refl, refl); answers = refl }, (
+  record { by_caller = lit< tt; condition = lit< tt; answers = refl }, (
+  record { by_caller = lit< tt; condition = tt; answers = refl }, (
+  record { by_caller = lit< tt; condition = (lit< tt, lit< tt); answers = refl }, (
+  record { by_caller = lit< tt; condition = ((lit< tt, lit< tt), refl); answers = refl }, (
+  record { by_caller = lit< tt; condition = (lit< tt, refl); answers = refl }, (
+  record { by_caller = lit< tt; condition = (lit< tt, refl); answers = refl }, (
+  record { by_caller = lit< tt; condition = (lit< tt, lit< tt); answers = refl }, (
+  record { by_caller = lit< tt; condition = (lit< tt, refl); answers = refl }, (
+  record { by_caller = lit< tt; condition = (lit< tt, lit< tt); answers = refl }, (
+  record { by_caller = lit< tt; condition = (lit< tt, lit< tt); answers = refl }, (
+  record { by_caller = lit< tt; condition = (lit< tt, refl, λ e. below_one (λ k. is_clear 0 k (mine v (take 49 worked_history)) ≡ true) refl); answers = refl }, (
+  record { by_caller = lit< tt; condition = (lit< tt, refl); answers = refl }, (
+  record { by_caller = lit< tt; condition = (lit< tt, refl); answers = refl }, (
+  record { by_caller = lit< tt; condition = lit< tt; answers = refl }, (
+  record { by_caller = lit< tt; condition = (lit< tt, refl); answers = refl }, (
+  record { by_caller = lit< tt; condition = lit< tt; answers = refl }, (
+  record { by_caller = lit< tt; condition = ((lit< tt, lit< tt), refl); answers = refl }, (
+  record { by_caller = lit< tt; condition = lit< tt; answers = refl }, (
+  record { by_caller = lit< tt; condition = tt; answers = refl }, (
+  tt)))))))))))))))))))))))))))))))))))))))))))))))))))))))))))
+
+pub worked_history_is_legal : WorkedHistoryIsLegal
+worked_history_is_legal = legal_by_steps small_limits [] worked_history (legal_empty small_limits) steps
