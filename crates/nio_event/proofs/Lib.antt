@@ -9,3 +9,4 @@ pub mod LastsAlone
 pub mod Stays
 pub mod TurnLaws
 pub mod WorkedSteps
+pub mod Within

@@ -1,5 +1,8 @@
 -- What holds of the state after every legal history.
-use Rattle.std.specs.Prelude.{◌≡◌, ℕ, ◌<◌, IsTrue, IsFalse, is_some}
+use Rattle.std.specs.Prelude.{◌≡◌, ℕ, ◌<◌, ◌≤◌, IsTrue, IsFalse, is_some}
+use Rattle.std.specs.Option.{ForSome}
+use Rattle.nio_base.specs.declared.limits.Limits.{Limits}
+use Rattle.nio_event.specs.Conditions.{IsCaller, IsChannel}
 use Rattle.nio_event.specs.State.{State, unmade_channel, unclaimed}
 
 pub record IsSound (st : State) : Type 0 where
@@ -18,3 +21,19 @@ pub record IsSound (st : State) : Type 0 where
   -- where a selection has begun somebody has the turn, and no closer has entered
   pub begun_turn : (s : ℕ) → IsTrue (st.begun s) → IsTrue (is_some (st.turn s))
   pub begun_open : (s : ℕ) → IsTrue (st.begun s) → IsFalse (st.entered s)
+
+-- every number that the state speaks of is within the limits
+pub record IsWithin (l : Limits) (st : State) : Type 0 where
+  pub drawn : (n : ℕ) → IsTrue (st.drawn n) → n < l.callers
+  pub interrupted : (n : ℕ) → IsTrue (st.interrupted n) → n < l.callers
+  pub selectors : (s : ℕ) → IsTrue (st.selector s) → s < l.selectors
+  pub channels : (c : ℕ) → IsTrue (st.chan c).made → c < l.channels
+  pub channels_mark : st.channels_mark ≤ l.channels
+  pub keys_mark : (s : ℕ) → st.keys_mark s ≤ l.keys
+  -- a claimed index, its selector and the channel that it was claimed for
+  pub keys : (s i : ℕ) → IsTrue (st.key s i).claimed → (s < l.selectors) × (i < l.keys) × IsChannel l (st.key s i).chan
+  -- who holds a channel, has a turn, or closes a selector, and the index that is noted
+  pub holds : (c : ℕ) → ForSome (st.hold c) (IsCaller l)
+  pub turns : (s : ℕ) → ForSome (st.turn s) (IsCaller l)
+  pub closers : (s : ℕ) → ForSome (st.closer s) (IsCaller l)
+  pub noted : (c s : ℕ) → ForSome (st.noted c s) (λ i. i < l.keys)

@@ -7,7 +7,7 @@ use Rattle.nio_base.specs.declared.numbers.CallerNo.{CallerNo}
 use Rattle.nio_event.specs.Conditions.{Condition}
 use Rattle.nio_event.specs.Histories.{state_after, mine, IsLegal}
 use Rattle.nio_event.specs.Lasting.{LastingFact, stands, OwnFact, is_had_by}
-use Rattle.nio_event.specs.Sound.{IsSound}
+use Rattle.nio_event.specs.Sound.{IsSound, IsWithin}
 use Rattle.nio_event.specs.declared.act.Act.{Act}
 use Rattle.nio_event.specs.declared.event.Event.{Event}
 
@@ -37,3 +37,7 @@ ConditionsStay = (l : Limits) (n : CallerNo) (before after : List Event) → IsP
 -- mark is claimed
 abbrev pub StatesAreSound : Type 0
 StatesAreSound = (l : Limits) (events : List Event) → IsLegal l events → IsSound (state_after events)
+
+-- every number that the state after a legal history speaks of is within the limits
+abbrev pub StatesAreWithin : Type 0
+StatesAreWithin = (l : Limits) (events : List Event) → IsLegal l events → IsWithin l (state_after events)

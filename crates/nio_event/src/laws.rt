@@ -1,6 +1,7 @@
 //! Laws of legal histories. Each is the contract of a function that does nothing.
-ghost use Rattle.nio_event.specs.Staying.{BeginningsAreLegal, NothingGoesBack, OnlyItselfGivesBack, ConditionsStay, StatesAreSound};
+ghost use Rattle.nio_event.specs.Staying.{BeginningsAreLegal, NothingGoesBack, OnlyItselfGivesBack, ConditionsStay, StatesAreSound, StatesAreWithin};
 ghost use Rattle.nio_event.specs.Turns.{TurnHasOneHolder, HoldHasOneHolder, OneSelectionAtATime, OnlyWhoMaySelects};
+ghost use Rattle.nio_event.specs.Worked.{WorkedHistoryIsLegal};
 
 /// Each beginning of a legal history is legal.
 pub fn beginnings_law()
@@ -29,9 +30,11 @@ pub fn condition_law()
 }
 
 /// The state after a legal history is sound: an index below a selector's mark is claimed, what is
-/// closed or held is made, what is published is claimed, and more.
+/// held is made, what isn't made or claimed is as it was at the opening, and more. And every number
+/// that it speaks of is within the limits.
 pub fn soundness_law()
-    ensures { StatesAreSound }
+    ensures sound { StatesAreSound }
+    ensures within { StatesAreWithin }
 {
 }
 
@@ -47,5 +50,11 @@ pub fn one_holder_law()
 pub fn one_selection_law()
     ensures at_a_time { OneSelectionAtATime }
     ensures allowed { OnlyWhoMaySelects }
+{
+}
+
+/// There are legal histories in which every kind of step stands.
+pub fn worked_history_law()
+    ensures { WorkedHistoryIsLegal }
 {
 }
