@@ -10,3 +10,5 @@ pub mod Stays
 pub mod TurnLaws
 pub mod WorkedSteps
 pub mod Within
+pub mod Bits
+pub mod Clauses

@@ -1,6 +1,6 @@
 -- What each kind of step finds in the state. The lines stand in the order in which `Act` lists the
 -- kinds.
-use Rattle.std.specs.Prelude.{◌≡◌, ℕ, zero, suc, ◌+◌, ◌^◌, ◌==◌, Bool, ◌&&◌, if◌then◌else◌, Result, Ok, Err}
+use Rattle.std.specs.Prelude.{◌≡◌, ℕ, zero, suc, ◌^◌, bit_or, ◌==◌, Bool, ◌&&◌, if◌then◌else◌, Result, Ok, Err}
 use Rattle.std.specs.Bool.{beq}
 use Rattle.nio_base.specs.declared.numbers.CallerNo.{CallerNo}
 use Rattle.nio_event.specs.State.{State}
@@ -13,7 +13,7 @@ use Rattle.nio_event.specs.declared.found.Mark.{Mark as KeyMark}
 -- the number whose bit k is set where `test` passes at k, for each k below n
 unfoldable pub bits_below : ℕ → (ℕ → Bool) → ℕ
 bits_below zero test = 0
-bits_below (suc n) test = bits_below n test + (if test n then 2 ^ n else 0)
+bits_below (suc n) test = bit_or (bits_below n test) (if test n then 2 ^ n else 0)
 
 -- all selectors that are made, as one number
 abbrev pub selectors_word : State → ℕ
