@@ -12,3 +12,4 @@ pub mod WorkedSteps
 pub mod Within
 pub mod Bits
 pub mod Clauses
+pub mod Asked
