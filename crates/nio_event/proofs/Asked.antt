@@ -1,6 +1,6 @@
 -- A step, its question and its answer: a step that found what the state answers is the one that its
 -- question comes to.
-use Rattle.std.proofs.Common.{◌≡◌, refl, ap}
+use Rattle.std.proofs.Common.{◌≡◌, refl}
 use Rattle.nio_base.specs.declared.numbers.CallerNo.{CallerNo}
 use Rattle.nio_event.specs.Answers.{act_from, Answers}
 use Rattle.nio_event.specs.Questions.{Question, draw_bit, question_of}

@@ -8,11 +8,11 @@ use Rattle.nio_base.specs.declared.limits.Limits.{Limits}
 use Rattle.nio_base.specs.declared.numbers.CallerNo.{CallerNo}
 use Rattle.nio_event.proofs.Legal.{legal_beginning, legal_next}
 use Rattle.nio_event.proofs.OneMore.{state_after-more}
-use Rattle.nio_event.proofs.Put.{put_keeps, put_both}
+use Rattle.nio_event.proofs.Put.{put_keeps}
 use Rattle.nio_event.proofs.Soundness.{held_some}
 use Rattle.nio_event.specs.Acts.{effect, taken_by}
 use Rattle.nio_event.specs.Answers.{Answers}
-use Rattle.nio_event.specs.Conditions.{Condition, is_held_by, has_turn, has_begun}
+use Rattle.nio_event.specs.Conditions.{Condition, is_held_by, has_turn}
 use Rattle.nio_event.specs.Histories.{state_after, is_by, mine, IsStep, IsLegal}
 use Rattle.nio_event.specs.Lasting.{OwnFact, the_turn, a_selection, the_hold, is_had_by, gives_back}
 use Rattle.nio_event.specs.OwnEvents.{has, gives_turn, releases}
@@ -44,7 +44,7 @@ turn_stays l own st me n (TakeTurn k found) may answers s spared = put_keeps (λ
     (λ h. let found_is : found ≡ st.turn k.0 = cc in subst (λ o. is_held_by n (taken_by me o) ≡ true) (sym found_is) (taken_keeps me n (st.turn k.0) h)) s
 turn_stays l own st me n (GiveTurn k) may answers s spared = λ h.
     put_keeps (λ m o. ((me.0 == n.0) && (k.0 == m)) ≡ false → is_held_by n o ≡ true) st.turn k.0 None
-      (λ old spared'. absurd (not_spared me n (st.turn k.0) k.0 may.1 (old spared') spared')) s (λ _. h) spared
+    (λ old spared'. absurd (not_spared me n (st.turn k.0) k.0 may.1 (old spared') spared')) s (λ _. h) spared
 turn_stays l own st me n act may answers s spared = λ h. h
 
 hold_stays : (l : Limits) (own : List Act) (st : State) (me n : CallerNo) (act : Act) → Condition l own st me act → Answers st me act
@@ -53,7 +53,7 @@ hold_stays l own st me n (TryHoldBit k found) may answers c spared = put_keeps (
     (λ h. let found_is : found ≡ st.hold k.0 = cc in subst (λ o. is_held_by n (taken_by me o) ≡ true) (sym found_is) (taken_keeps me n (st.hold k.0) h)) c
 hold_stays l own st me n (Release k) may answers c spared = λ h.
     put_keeps (λ m o. ((me.0 == n.0) && (k.0 == m)) ≡ false → is_held_by n o ≡ true) st.hold k.0 None
-      (λ old spared'. absurd (not_spared me n (st.hold k.0) k.0 may.1 (old spared') spared')) c (λ _. h) spared
+    (λ old spared'. absurd (not_spared me n (st.hold k.0) k.0 may.1 (old spared') spared')) c (λ _. h) spared
 hold_stays l own st me n act may answers c spared = λ h. h
 
 begun_stays : (l : Limits) (own : List Act) (st : State) (me n : CallerNo) (act : Act) → Condition l own st me act → Answers st me act
@@ -68,7 +68,7 @@ begun_stays l own st me n (TakeTurn k found) may answers s spared turn begun =
 begun_stays l own st me n (BeginLook k found) may answers s spared turn begun = put_keeps (λ _ b. b ≡ true) st.begun k.0 _ (λ e. ap (λ b. b || not found.shut) e) s begun
 begun_stays l own st me n (GiveTurn k) may answers s spared turn begun =
     put_keeps (λ m b. is_held_by n (st.turn m) ≡ true → ((me.0 == n.0) && (k.0 == m)) ≡ false → b ≡ true) st.begun k.0 false
-      (λ old h spared'. absurd (not_spared me n (st.turn k.0) k.0 may.1 h spared')) s (λ _ _. begun) turn spared
+    (λ old h spared'. absurd (not_spared me n (st.turn k.0) k.0 may.1 h spared')) s (λ _ _. begun) turn spared
 begun_stays l own st me n act may answers s spared turn begun = begun
 
 -- what a caller has stays but where it gives it back itself
@@ -118,7 +118,7 @@ pub had_stands : (l : Limits) (n : CallerNo) (past later : List Event) → IsLeg
     → (f : OwnFact) → has (gives_back f) (mine n later) ≡ false → is_had_by n f (state_after past) ≡ true → is_had_by n f (state_after (past ++ later)) ≡ true
 had_stands l n past later legal f kept = without_from l (λ e. is_by n e && gives_back f e.act) (λ events. is_had_by n f (state_after events) ≡ true)
     (λ before e legal' step spared here. subst (λ st. is_had_by n f st ≡ true) (sym (state_after-more before e))
-        (lasts_alone l (mine e.caller before) (state_after before) e.caller n e.act step.condition step.answers f spared here))
+    (lasts_alone l (mine e.caller before) (state_after before) e.caller n e.act step.condition step.answers f spared here))
     past later legal (sym (has-mine (gives_back f) n later) ∙ kept)
 
 pub own_stands : (l : Limits) (n : CallerNo) (past later : List Event) → IsLegal l (past ++ later) → mine n later ≡ []
@@ -133,4 +133,4 @@ nothing_added (x ∷ xs) ys e = nothing_added xs ys (cc e)
 pub none_further : (n : CallerNo) (past later : List Event) → mine n (past ++ later) ≡ mine n past → mine n later ≡ []
 none_further n past later same =
     nothing_added (mine n past) (mine n later)
-      (sym (map-append (λ x. x.act) (filter (is_by n) past) (filter (is_by n) later)) ∙ (sym (ap (map (λ x. x.act)) (filter-append (is_by n) past later)) ∙ same))
+    (sym (map-append (λ x. x.act) (filter (is_by n) past) (filter (is_by n) later)) ∙ (sym (ap (map (λ x. x.act)) (filter-append (is_by n) past later)) ∙ same))

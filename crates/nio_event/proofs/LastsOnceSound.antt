@@ -1,20 +1,20 @@
 -- What lasts from a sound state: that a key is published, cancelled or removed, that a channel is
 -- closed, and who closes a selector. With what lasts from every state, all that stands in
 -- `LastingFact`. And the channel of a claimed index.
-use Rattle.std.proofs.Common.{◌≡◌, ℕ, ◌<◌, Bool, true, false, ◌||◌, Option, Some, None, is_some, List, ◌++◌, [], ◌∷◌, refl, ap, sym, ◌∙◌, subst}
+use Rattle.std.proofs.Common.{◌≡◌, ℕ, Bool, true, false, ◌||◌, List, ◌++◌, refl, ap, sym, ◌∙◌, subst}
 use Rattle.std.proofs.lemmas.Bool.{ltb-true, lt-ltb}
 use Rattle.nio_base.specs.declared.limits.Limits.{Limits}
 use Rattle.nio_base.specs.declared.numbers.CallerNo.{CallerNo}
 use Rattle.nio_base.specs.declared.numbers.ChanNo.{ChanNo}
 use Rattle.nio_event.proofs.Lasts.{drawn_lasts, selector_lasts, shut_lasts, entered_lasts, made_lasts, claimed_lasts, keys_mark_lasts, channels_mark_lasts}
-use Rattle.nio_event.proofs.Legal.{legal_beginning, legal_from}
+use Rattle.nio_event.proofs.Legal.{legal_from}
 use Rattle.nio_event.proofs.OneMore.{state_after-more}
 use Rattle.nio_event.proofs.Put.{put_keeps, put_at_keeps}
 use Rattle.nio_event.proofs.Soundness.{legal-sound, held_some, both_ways, closed-made, beyond-claimed}
 use Rattle.nio_event.specs.Acts.{effect}
 use Rattle.nio_event.specs.Answers.{Answers}
 use Rattle.nio_event.specs.Conditions.{is_held_by}
-use Rattle.nio_event.specs.Histories.{state_after, IsStep, IsLegal}
+use Rattle.nio_event.specs.Histories.{state_after, IsLegal}
 use Rattle.nio_event.specs.Lasting.{LastingFact, caller_drawn, selector_made, selector_shut, selector_closed_by, selector_entered, channel_made, channel_closed, key_claimed, key_published, key_cancelled, key_removed, below_keys_mark, below_channels_mark, stands}
 use Rattle.nio_event.specs.Sound.{IsSound}
 use Rattle.nio_event.specs.State.{State}
@@ -119,7 +119,7 @@ channel_lasts st me act answers c s i = λ h. h
 pub lasting_stands : (l : Limits) (past later : List Event) → IsLegal l (past ++ later) → (f : LastingFact) → stands f (state_after past) ≡ true → stands f (state_after (past ++ later)) ≡ true
 lasting_stands l past later legal f = legal_from l (λ events. stands f (state_after events) ≡ true)
     (λ before e legal' step here. subst (λ st. stands f st ≡ true) (sym (state_after-more before e))
-        (lasts (state_after before) e.caller e.act step.answers (legal-sound l before legal') f here))
+    (lasts (state_after before) e.caller e.act step.answers (legal-sound l before legal') f here))
     past later legal
 
 pub channel_stands : (l : Limits) (past later : List Event) → IsLegal l (past ++ later) → (s i : ℕ) → ((state_after past).key s i).claimed ≡ true
@@ -127,6 +127,6 @@ pub channel_stands : (l : Limits) (past later : List Event) → IsLegal l (past 
 channel_stands l past later legal s i claimed =
     let c : ChanNo = ((state_after past).key s i).chan in
     (legal_from l (λ events. (((state_after events).key s i).claimed ≡ true) × (((state_after events).key s i).chan ≡ c))
-      (λ before e legal' step here. subst (λ st. ((st.key s i).claimed ≡ true) × ((st.key s i).chan ≡ c)) (sym (state_after-more before e))
-          (channel_lasts (state_after before) e.caller e.act step.answers c s i here))
-      past later legal (claimed, refl)).1
+    (λ before e legal' step here. subst (λ st. ((st.key s i).claimed ≡ true) × ((st.key s i).chan ≡ c)) (sym (state_after-more before e))
+    (channel_lasts (state_after before) e.caller e.act step.answers c s i here))
+    past later legal (claimed, refl)).1

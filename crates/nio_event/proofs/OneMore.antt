@@ -1,6 +1,6 @@
 -- What one event more does to a history's state, to a caller's own events, and to each general word
 -- over them.
-use Rattle.std.proofs.Common.{◌≡◌, ℕ, ◌+◌, ◌==◌, Bool, true, false, cond, ◌||◌, if◌then◌else◌, Option, Some, None, List, [], ◌∷◌, ◌++◌, map, refl, ap, sym, ◌∙◌}
+use Rattle.std.proofs.Common.{◌≡◌, Bool, true, false, cond, ◌||◌, if◌then◌else◌, Option, None, List, [], ◌∷◌, ◌++◌, map, refl, ap, ◌∙◌}
 use Rattle.std.specs.List.{filter}
 use Rattle.std.specs.Option.{option_or}
 use Rattle.std.proofs.lemmas.List.{map-append, append-nil}
@@ -21,12 +21,12 @@ state_after-more past e = fold-append (λ st e'. effect st e'.caller e'.act) ope
 pub mine-own : (n : CallerNo) (past : List Event) (e : Event) → is_by n e ≡ true → mine n (past ++ e ∷ []) ≡ mine n past ++ e.act ∷ []
 mine-own n past e by =
     ap (map (λ x. x.act)) (filter-append (is_by n) past (e ∷ [])) ∙ (map-append (λ x. x.act) (filter (is_by n) past) (filter (is_by n) (e ∷ []))
-        ∙ ap (λ b. mine n past ++ map (λ x. x.act) (cond b (e ∷ []) [])) by)
+    ∙ ap (λ b. mine n past ++ map (λ x. x.act) (cond b (e ∷ []) [])) by)
 
 pub mine-other : (n : CallerNo) (past : List Event) (e : Event) → is_by n e ≡ false → mine n (past ++ e ∷ []) ≡ mine n past
 mine-other n past e by =
     ap (map (λ x. x.act)) (filter-append (is_by n) past (e ∷ [])) ∙ (map-append (λ x. x.act) (filter (is_by n) past) (filter (is_by n) (e ∷ []))
-        ∙ (ap (λ b. mine n past ++ map (λ x. x.act) (cond b (e ∷ []) [])) by ∙ append-nil (mine n past)))
+    ∙ (ap (λ b. mine n past ++ map (λ x. x.act) (cond b (e ∷ []) [])) by ∙ append-nil (mine n past)))
 
 pub has-more : (p : Act → Bool) (own : List Act) (act : Act) → has p (own ++ act ∷ []) ≡ (has p own || p act)
 has-more p own act = list_any-append p own (act ∷ []) ∙ ap (λ b. has p own || b) (or-false (p act))
@@ -67,6 +67,7 @@ has-after_first p opens (x ∷ own) h = or_right (p x) (has p own) (by_test (ope
     or_right : (a b : Bool) → b ≡ true → (a || b) ≡ true
     or_right true b e = refl
     or_right false b e = e
+
     by_test : (b : Bool) → has p (if b then own else after_first opens own) ≡ true → (has p (after_first opens own) ≡ true → has p own ≡ true) → has p own ≡ true
     by_test true there shorter = there
     by_test false there shorter = shorter there

@@ -1,5 +1,5 @@
 -- The state after every legal history is sound: each step keeps each fact.
-use Rattle.std.proofs.Common.{◌≡◌, ℕ, ◌<◌, ◌≤◌, max, Bool, true, false, ◌&&◌, ◌||◌, not, ◌⊎◌, inl, inr, Option, Some, None, is_some, is_none, List, [], ◌∷◌, ◌++◌, refl, ap, sym, ◌∙◌, subst, arith}
+use Rattle.std.proofs.Common.{◌≡◌, ℕ, ◌<◌, ◌≤◌, max, Bool, true, false, ◌&&◌, ◌||◌, not, ◌⊎◌, inl, inr, Option, Some, None, is_some, is_none, List, refl, ap, sym, ◌∙◌, subst, arith}
 use Rattle.std.specs.Prelude.{nat_lt}
 use Rattle.std.proofs.lemmas.Bool.{and_parts, ltb-true, ltb-false}
 use Rattle.nio_base.specs.declared.limits.Limits.{Limits}
@@ -74,8 +74,8 @@ keys_below_step : (l : Limits) (own : List Act) (st : State) (me : CallerNo) (ac
     → (s i : ℕ) → i < (effect st me act).keys_mark s → ((effect st me act).key s i).claimed ≡ true
 keys_below_step l own st me (RaiseKeys k n found) may sound s i h =
     put_keeps (λ s' m. i < m → (st.key s' i).claimed ≡ true) st.keys_mark k.0 _
-      (λ old below. elim (below_max (st.keys_mark k.0) n i below) [ inl before ↦ old before | inr new ↦ may.2 i new ])
-      s (sound.keys_below s i) h
+    (λ old below. elim (below_max (st.keys_mark k.0) n i below) [ inl before ↦ old before | inr new ↦ may.2 i new ])
+    s (sound.keys_below s i) h
 keys_below_step l own st me act may sound s i h = claimed_lasts st me act s i (sound.keys_below s i h)
 
 unmade_bare_step : (l : Limits) (own : List Act) (st : State) (me : CallerNo) (act : Act) → Condition l own st me act → IsSound st
@@ -135,6 +135,7 @@ begun_open_step st me (Enter k found) answers sound s = put_keeps (λ n b. st.be
     some_not_none : (o : Option CallerNo) → is_some o ≡ true → is_none o ≡ false
     some_not_none None e = absurd cc
     some_not_none (Some n) e = refl
+
     still_closed : is_some (st.turn k.0) ≡ true → st.entered k.0 ≡ false → (st.entered k.0 || is_none found) ≡ false
     still_closed held out =
         let turn_is : found ≡ st.turn k.0 = cc in
@@ -152,7 +153,7 @@ remove_claimed l past me s i legal sound may =
     let st : State = state_after past in
     let key : Stage = st.key s.0 i in
     elim (either (may_sweep st me s i) (may_clear_out st (mine me past) me s i) may) [
-      inl sweep ↦
+      | inl sweep ↦
           let published = (and_parts (has_begun st me s) key.published (and_parts (has_begun st me s && key.published) key.cancelled sweep).0).1 in
           beyond-claimed st sound s.0 i (ap (λ b. b || key.cancelled || key.removed) published)
       | inr clear ↦
@@ -167,6 +168,7 @@ unclaimed_bare_step l past e legal step sound s i = by_act e.act step.condition
     keeps : (s' : SelNo) (i' : ℕ) (k : Stage) → ((((state_after past).key s'.0 i').claimed ≡ false → (state_after past).key s'.0 i' ≡ unclaimed) → k.claimed ≡ false → k ≡ unclaimed)
         → (put_at (state_after past).key s'.0 i' k s i).claimed ≡ false → put_at (state_after past).key s'.0 i' k s i ≡ unclaimed
     keeps s' i' k new = put_at_keeps (λ _ _ x. x.claimed ≡ false → x ≡ unclaimed) (state_after past).key s'.0 i' k new s i (sound.unclaimed_bare s i)
+
     by_act : (act : Act) → Condition l (mine e.caller past) (state_after past) e.caller act
         → ((effect (state_after past) e.caller act).key s i).claimed ≡ false → (effect (state_after past) e.caller act).key s i ≡ unclaimed
     by_act (CancelKey s' i' found) may =
@@ -175,10 +177,10 @@ unclaimed_bare_step l past e legal step sound s i = by_act e.act step.condition
     by_act (Claim s' i' c false) may = keeps s' i' (new_key c) (λ _ e'. absurd cc)
     by_act (Publish s' i' found) may =
         keeps s' i' (record ((state_after past).key s'.0 i') { published = true })
-          (λ _ e'. absurd (both_ways ((state_after past).key s'.0 i').claimed (claimed_told l e.caller past s'.0 i' legal may.1) e'))
+        (λ _ e'. absurd (both_ways ((state_after past).key s'.0 i').claimed (claimed_told l e.caller past s'.0 i' legal may.1) e'))
     by_act (Remove s' i' found) may =
         keeps s' i' (record ((state_after past).key s'.0 i') { removed = true })
-          (λ _ e'. absurd (both_ways ((state_after past).key s'.0 i').claimed (remove_claimed l past e.caller s' i' legal sound may.1) e'))
+        (λ _ e'. absurd (both_ways ((state_after past).key s'.0 i').claimed (remove_claimed l past e.caller s' i' legal sound may.1) e'))
     by_act act may = sound.unclaimed_bare s i
 
 sound_opening : IsSound opening

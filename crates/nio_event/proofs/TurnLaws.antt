@@ -1,28 +1,25 @@
 -- A turn, a hold and a selection last until their caller gives them back.
-use Rattle.std.proofs.Common.{◌≡◌, ℕ, ◌==◌, Bool, true, false, cond, ◌&&◌, ◌||◌, not, ◌⊎◌, inl, inr, Option, Some, None, is_some, List, [], ◌∷◌, ◌++◌, append_assoc, refl, ap, sym, ◌∙◌, subst, eqb-true, eq-eqb}
-use Rattle.std.specs.List.{list_any}
+use Rattle.std.proofs.Common.{◌≡◌, ℕ, Bool, true, false, ◌&&◌, ◌||◌, not, inl, inr, Option, Some, None, List, [], ◌∷◌, ◌++◌, append_assoc, refl, ap, sym, ◌∙◌, subst, eqb-true, eq-eqb}
 use Rattle.std.proofs.lemmas.Bool.{and_parts, and_from}
 use Rattle.nio_base.specs.declared.limits.Limits.{Limits}
 use Rattle.nio_base.specs.declared.numbers.CallerNo.{CallerNo}
-use Rattle.nio_base.specs.declared.numbers.ChanNo.{ChanNo}
 use Rattle.nio_base.specs.declared.numbers.SelNo.{SelNo}
 use Rattle.nio_event.proofs.LastsAlone.{had_stands, one_holder}
 use Rattle.nio_event.proofs.Legal.{legal_beginning, legal_next}
 use Rattle.nio_event.proofs.OneMore.{state_after-more}
-use Rattle.nio_event.proofs.Put.{put_keeps, put-same}
-use Rattle.nio_event.proofs.Soundness.{legal-sound, held_some}
+use Rattle.nio_event.proofs.Put.{put-same}
+use Rattle.nio_event.proofs.Soundness.{legal-sound}
 use Rattle.nio_event.proofs.Told.{either}
-use Rattle.nio_event.specs.Acts.{effect, taken_by}
-use Rattle.nio_event.specs.Answers.{Answers}
+use Rattle.nio_event.specs.Acts.{effect}
 use Rattle.nio_event.specs.Conditions.{Condition, is_held_by, has_turn, has_begun, is_closer, has_entered, may_sweep, may_clear_out}
-use Rattle.nio_event.specs.Histories.{state_after, event_of, is_by, mine, IsStep, IsLegal}
+use Rattle.nio_event.specs.Histories.{state_after, event_of, mine, IsStep, IsLegal}
 use Rattle.nio_event.specs.Lasting.{OwnFact, the_turn, a_selection, the_hold, is_had_by, gives_back}
 use Rattle.nio_event.specs.OwnEvents.{has, finds_below, since_entered, gives_turn, releases}
 use Rattle.nio_event.specs.Sound.{IsSound}
 use Rattle.nio_event.specs.State.{State}
 use Rattle.nio_event.specs.Turns.{selects_on, may_select, TurnHasOneHolder, HoldHasOneHolder, OneSelectionAtATime, OnlyWhoMaySelects}
 use Rattle.nio_event.specs.declared.act.Act.{Act}
-use Rattle.nio_event.specs.declared.act.Act.TheVariants.{TakeTurn, BeginLook, GiveTurn, Remove, Mark, EndWake, TryHoldBit, Release}
+use Rattle.nio_event.specs.declared.act.Act.TheVariants.{TakeTurn, BeginLook, Remove, Mark, EndWake, TryHoldBit}
 use Rattle.nio_event.specs.declared.event.Event.{Event}
 
 -- what a caller has after an event it has until it gives it back: at the step that follows
@@ -39,7 +36,7 @@ until_given_back l n f past first between e legal begins kept =
     let legal' : IsLegal l (seen ++ e ∷ []) = subst (IsLegal l) (sym (whole ∙ joined)) legal in
     let legal_seen : IsLegal l seen = legal_beginning l seen (e ∷ []) legal' in
     let had : is_had_by n f (state_after start) ≡ true =
-        subst (λ st. is_had_by n f st ≡ true) (sym (state_after-more past first)) (begins (legal_next l past first (between ++ e ∷ []) legal)) in
+    subst (λ st. is_had_by n f st ≡ true) (sym (state_after-more past first)) (begins (legal_next l past first (between ++ e ∷ []) legal)) in
     (seen, legal_seen, legal_next l seen e [] legal', had_stands l n start between legal_seen f kept had)
 
 held_by_self : (n : CallerNo) → is_held_by n (Some n) ≡ true
@@ -60,7 +57,7 @@ turn_has_one_holder l s m n past between legal = true_unless (has (gives_turn s.
     again : has (gives_turn s.0) (mine m between) ≡ false → ⊥
     again kept =
         let then = until_given_back l m (the_turn s) past (event_of m (TakeTurn s None)) between (event_of n (TakeTurn s None)) legal
-            (λ step. ap (is_held_by m) (put-same (state_after past).turn s.0 (Some m)) ∙ held_by_self m) kept in
+        (λ step. ap (is_held_by m) (put-same (state_after past).turn s.0 (Some m)) ∙ held_by_self m) kept in
         let free : None ≡ (state_after then.0).turn s.0 = cc (then.2.answers) in
         not_free m ((state_after then.0).turn s.0) then.3 free
 
@@ -70,7 +67,7 @@ hold_has_one_holder l c m n past between legal = true_unless (has (releases c.0)
     again : has (releases c.0) (mine m between) ≡ false → ⊥
     again kept =
         let then = until_given_back l m (the_hold c) past (event_of m (TryHoldBit c None)) between (event_of n (TryHoldBit c None)) legal
-            (λ step. ap (is_held_by m) (put-same (state_after past).hold c.0 (Some m)) ∙ held_by_self m) kept in
+        (λ step. ap (is_held_by m) (put-same (state_after past).hold c.0 (Some m)) ∙ held_by_self m) kept in
         let free : None ≡ (state_after then.0).hold c.0 = cc (then.2.answers) in
         not_free m ((state_after then.0).hold c.0) then.3 free
 
@@ -87,7 +84,7 @@ selecting_is : (l : Limits) (own : List Act) (st : State) (me n : CallerNo) (s :
 selecting_is l own st me n s (Remove s' i found) sound has_it may on =
     let same : s'.0 ≡ s.0 = eqb-true s'.0 s.0 on in
     elim (either (may_sweep st me s' i) (may_clear_out st own me s' i) may.1) [
-      inl sweep ↦ begun_is st me n s s' has_it same (and_parts (has_begun st me s') (st.key s'.0 i).published (and_parts (has_begun st me s' && (st.key s'.0 i).published) (st.key s'.0 i).cancelled sweep).0).0
+      | inl sweep ↦ begun_is st me n s s' has_it same (and_parts (has_begun st me s') (st.key s'.0 i).published (and_parts (has_begun st me s' && (st.key s'.0 i).published) (st.key s'.0 i).cancelled sweep).0).0
       | inr clear ↦
           let entered : st.entered s'.0 ≡ true = (and_parts (is_closer st me s') (st.entered s'.0) (and_parts (has_entered st me s') (has (finds_below s'.0 i) (since_entered s'.0 own)) clear).0).1 in
           let not_entered : st.entered s.0 ≡ false = sound.begun_open s.0 (and_parts (has_turn st n s) (st.begun s.0) has_it).1 in
@@ -102,11 +99,12 @@ pub one_selection_at_a_time : OneSelectionAtATime
 one_selection_at_a_time l s n found past between e legal open_gate kept on =
     let then = until_given_back l n (a_selection s) past (event_of n (BeginLook s found)) between e legal begins kept in
     let same : e.caller.0 ≡ n.0 =
-        selecting_is l (mine e.caller then.0) (state_after then.0) e.caller n s e.act (legal-sound l then.0 then.1) then.3 then.2.condition on in
+    selecting_is l (mine e.caller then.0) (state_after then.0) e.caller n s e.act (legal-sound l then.0 then.1) then.3 then.2.condition on in
     ap (λ (k : ℕ). caller k) same
   where
     caller : ℕ → CallerNo
     caller k = record { 0 = k }
+
     begins : IsStep l past (event_of n (BeginLook s found)) → is_had_by n (a_selection s) (effect (state_after past) n (BeginLook s found)) ≡ true
     begins step = and_from (has_turn (state_after past) n s) ((effect (state_after past) n (BeginLook s found)).begun s.0) step.condition.1
         (put-same (state_after past).begun s.0 ((state_after past).begun s.0 || not found.shut) ∙ now_begun ((state_after past).begun s.0))
@@ -128,7 +126,7 @@ may_select_by : (l : Limits) (own : List Act) (st : State) (me : CallerNo) (s : 
 may_select_by l own st me s (Remove s' i found) may on =
     let same : s'.0 ≡ s.0 = eqb-true s'.0 s.0 on in
     elim (either (may_sweep st me s' i) (may_clear_out st own me s' i) may.1) [
-      inl sweep ↦
+      | inl sweep ↦
           let begun = (and_parts (has_begun st me s') (st.key s'.0 i).published (and_parts (has_begun st me s' && (st.key s'.0 i).published) (st.key s'.0 i).cancelled sweep).0).0 in
           ap (λ b. b || has_entered st me s) (moved (has_begun st me) s' s same begun)
       | inr clear ↦

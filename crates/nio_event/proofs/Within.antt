@@ -1,10 +1,9 @@
 -- Every number that the state after a legal history speaks of is within the limits: each step keeps
 -- that.
-use Rattle.std.proofs.Common.{◌≡◌, ℕ, ◌<◌, ◌≤◌, max, Bool, true, false, Option, Some, None, List, [], ◌∷◌, ◌++◌, refl, ap, sym, ◌∙◌, subst, arith}
+use Rattle.std.proofs.Common.{◌≡◌, ℕ, ◌<◌, ◌≤◌, max, true, false, Option, Some, None, List, sym, subst, arith}
 use Rattle.std.specs.Option.{ForSome}
 use Rattle.nio_base.specs.declared.limits.Limits.{Limits}
 use Rattle.nio_base.specs.declared.numbers.CallerNo.{CallerNo}
-use Rattle.nio_base.specs.declared.numbers.SelNo.{SelNo}
 use Rattle.nio_event.proofs.Legal.{legal_induction}
 use Rattle.nio_event.proofs.OneMore.{state_after-more}
 use Rattle.nio_event.proofs.Put.{put_keeps, put_at_keeps}

@@ -1,5 +1,5 @@
 -- Each event of the worked history is a step.
-use Rattle.std.proofs.Common.{◌≡◌, ℕ, ◌<◌, ◌≤◌, Bool, true, false, List, [], ◌∷◌, ◌++◌, take, append_assoc, refl, sym, subst, arith, lit<, lit≤}
+use Rattle.std.proofs.Common.{◌≡◌, ℕ, ◌<◌, true, List, [], ◌∷◌, ◌++◌, take, append_assoc, refl, sym, subst, arith, lit<, lit≤}
 use Rattle.std.proofs.lemmas.List.{append-nil}
 use Rattle.nio_base.specs.declared.limits.Limits.{Limits}
 use Rattle.nio_event.proofs.Legal.{legal_empty, legal_more}
@@ -28,65 +28,181 @@ below_one P first n below =
 steps : AreSteps small_limits [] worked_history
 unfolding bits_below
 steps = (
-  record { by_caller = lit< tt; condition = (lit< tt, refl, refl); answers = refl }, (
-  record { by_caller = lit< tt; condition = (lit< tt, refl, refl); answers = refl }, (
-  record { by_caller = lit< tt; condition = lit< tt; answers = refl }, (
-  record { by_caller = lit< tt; condition = tt; answers = refl }, (
-  record { by_caller = lit< tt; condition = tt; answers = refl }, (
-  record { by_caller = lit< tt; condition = (lit< tt, λ n below. absurd (omega arith)); answers = refl }, (
-  record { by_caller = lit< tt; condition = (lit≤ tt, below_one (λ k. ((state_after (take 6 worked_history)).chan k).made ≡ true) refl); answers = refl }, (
-  record { by_caller = lit< tt; condition = lit< tt; answers = refl }, (
-  record { by_caller = lit< tt; condition = (lit< tt, refl); answers = refl }, (
-  record { by_caller = lit< tt; condition = lit< tt; answers = refl }, (
-  record { by_caller = lit< tt; condition = (lit< tt, refl, λ e. absurd cc); answers = refl }, (
-  record { by_caller = lit< tt; condition = (lit< tt, refl); answers = refl }, (
-  record { by_caller = lit< tt; condition = (lit< tt, refl); answers = refl }, (
-  record { by_caller = lit< tt; condition = lit< tt; answers = refl }, (
-  record { by_caller = lit< tt; condition = (lit< tt, lit< tt); answers = refl }, (
-  record { by_caller = lit< tt; condition = lit< tt; answers = refl }, (
-  record { by_caller = lit< tt; condition = lit< tt; answers = refl }, (
-  record { by_caller = lit< tt; condition = ((lit< tt, lit< tt), lit< tt, refl, λ n below. absurd (omega arith)); answers = refl }, (
-  record { by_caller = lit< tt; condition = (lit< tt, lit≤ tt, below_one (λ k. ((state_after (take 18 worked_history)).key 0 k).claimed ≡ true) refl); answers = refl }, (
-  record { by_caller = lit< tt; condition = lit< tt; answers = refl }, (
-  record { by_caller = lit< tt; condition = (lit< tt, lit< tt); answers = refl }, (
-  record { by_caller = lit< tt; condition = (lit< tt, lit< tt); answers = refl }, (
-  record { by_caller = lit< tt; condition = (lit< tt, (lit< tt, lit< tt), refl, refl, refl); answers = refl }, (
-  record { by_caller = lit< tt; condition = ((lit< tt, lit< tt), refl, refl, refl); answers = refl }, (
-  record { by_caller = lit< tt; condition = lit< tt; answers = refl }, (
-  record { by_caller = lit< tt; condition = (lit< tt, refl); answers = refl }, (
-  record { by_caller = lit< tt; condition = (lit< tt, lit< tt); answers = refl }, (
-  record { by_caller = lit< tt; condition = (lit< tt, lit< tt); answers = refl }, (
-  record { by_caller = lit< tt; condition = (lit< tt, lit< tt); answers = refl }, (
-  record { by_caller = lit< tt; condition = lit< tt; answers = refl }, (
-  record { by_caller = lit< tt; condition = lit< tt; answers = refl }, (
-  record { by_caller = lit< tt; condition = (lit< tt, refl); answers = refl }, (
-  record { by_caller = lit< tt; condition = lit< tt; answers = refl }, (
-  record { by_caller = lit< tt; condition = (lit< tt, lit< tt); answers = refl }, (
-  record { by_caller = lit< tt; condition = (lit< tt, lit< tt); answers = refl }, (
-  record { by_caller = lit< tt; condition = (lit< tt, refl); answers = refl }, (
-  record { by_caller = lit< tt; condition = ((lit< tt, lit< tt), refl); answers = refl }, (
-  record { by_caller = lit< tt; condition = (lit< tt, lit< tt); answers = refl }, (
-  record { by_caller = lit< tt; condition = ((lit< tt, lit< tt), refl, refl); answers = refl }, (
-  record { by_caller = lit< tt; condition = lit< tt; answers = refl }, (
-  record { by_caller = lit< tt; condition = tt; answers = refl }, (
-  record { by_caller = lit< tt; condition = (lit< tt, lit< tt); answers = refl }, (
-  record { by_caller = lit< tt; condition = ((lit< tt, lit< tt), refl); answers = refl }, (
-  record { by_caller = lit< tt; condition = (lit< tt, refl); answers = refl }, (
-  record { by_caller = lit< tt; condition = (lit< tt, refl); answers = refl }, (
-  record { by_caller = lit< tt; condition = (lit< tt, lit< tt); answers = refl }, (
-  record { by_caller = lit< tt; condition = (lit< tt, refl); answers = refl }, (
-  record { by_caller = lit< tt; condition = (lit< tt, lit< tt); answers = refl }, (
-  record { by_caller = lit< tt; condition = (lit< tt, lit< tt); answers = refl }, (
-  record { by_caller = lit< tt; condition = (lit< tt, refl, λ e. below_one (λ k. is_clear 0 k (mine v (take 49 worked_history)) ≡ true) refl); answers = refl }, (
-  record { by_caller = lit< tt; condition = (lit< tt, refl); answers = refl }, (
-  record { by_caller = lit< tt; condition = (lit< tt, refl); answers = refl }, (
-  record { by_caller = lit< tt; condition = lit< tt; answers = refl }, (
-  record { by_caller = lit< tt; condition = (lit< tt, refl); answers = refl }, (
-  record { by_caller = lit< tt; condition = lit< tt; answers = refl }, (
-  record { by_caller = lit< tt; condition = ((lit< tt, lit< tt), refl); answers = refl }, (
-  record { by_caller = lit< tt; condition = lit< tt; answers = refl }, (
-  record { by_caller = lit< tt; condition = tt; answers = refl }, (
-  tt)))))))))))))))))))))))))))))))))))))))))))))))))))))))))))
+  record { by_caller = lit< tt; condition = (lit< tt, refl, refl); answers = refl },
+  (
+    record { by_caller = lit< tt; condition = (lit< tt, refl, refl); answers = refl },
+    (
+      record { by_caller = lit< tt; condition = lit< tt; answers = refl },
+      (
+        record { by_caller = lit< tt; condition = tt; answers = refl },
+        (
+          record { by_caller = lit< tt; condition = tt; answers = refl },
+          (
+            record { by_caller = lit< tt; condition = (lit< tt, λ n below. absurd (omega arith)); answers = refl },
+            (
+              record { by_caller = lit< tt; condition = (lit≤ tt, below_one (λ k. ((state_after (take 6 worked_history)).chan k).made ≡ true) refl); answers = refl },
+              (
+                record { by_caller = lit< tt; condition = lit< tt; answers = refl },
+                (
+                  record { by_caller = lit< tt; condition = (lit< tt, refl); answers = refl },
+                  (
+                    record { by_caller = lit< tt; condition = lit< tt; answers = refl },
+                    (
+                      record { by_caller = lit< tt; condition = (lit< tt, refl, λ e. absurd cc); answers = refl },
+                      (
+                        record { by_caller = lit< tt; condition = (lit< tt, refl); answers = refl },
+                        (
+                          record { by_caller = lit< tt; condition = (lit< tt, refl); answers = refl },
+                          (
+                            record { by_caller = lit< tt; condition = lit< tt; answers = refl },
+                            (
+                              record { by_caller = lit< tt; condition = (lit< tt, lit< tt); answers = refl },
+                              (
+                                record { by_caller = lit< tt; condition = lit< tt; answers = refl },
+                                (
+                                  record { by_caller = lit< tt; condition = lit< tt; answers = refl },
+                                  (
+                                    record { by_caller = lit< tt; condition = ((lit< tt, lit< tt), lit< tt, refl, λ n below. absurd (omega arith)); answers = refl },
+                                    (
+                                      record { by_caller = lit< tt; condition = (lit< tt, lit≤ tt, below_one (λ k. ((state_after (take 18 worked_history)).key 0 k).claimed ≡ true) refl); answers = refl },
+                                      (
+                                        record { by_caller = lit< tt; condition = lit< tt; answers = refl },
+                                        (
+                                          record { by_caller = lit< tt; condition = (lit< tt, lit< tt); answers = refl },
+                                          (
+                                            record { by_caller = lit< tt; condition = (lit< tt, lit< tt); answers = refl },
+                                            (
+                                              record { by_caller = lit< tt; condition = (lit< tt, (lit< tt, lit< tt), refl, refl, refl); answers = refl },
+                                              (
+                                                record { by_caller = lit< tt; condition = ((lit< tt, lit< tt), refl, refl, refl); answers = refl },
+                                                (
+                                                  record { by_caller = lit< tt; condition = lit< tt; answers = refl },
+                                                  (
+                                                    record { by_caller = lit< tt; condition = (lit< tt, refl); answers = refl },
+                                                    (
+                                                      record { by_caller = lit< tt; condition = (lit< tt, lit< tt); answers = refl },
+                                                      (
+                                                        record { by_caller = lit< tt; condition = (lit< tt, lit< tt); answers = refl },
+                                                        (
+                                                          record { by_caller = lit< tt; condition = (lit< tt, lit< tt); answers = refl },
+                                                          (
+                                                            record { by_caller = lit< tt; condition = lit< tt; answers = refl },
+                                                            (
+                                                              record { by_caller = lit< tt; condition = lit< tt; answers = refl },
+                                                              (
+                                                                record { by_caller = lit< tt; condition = (lit< tt, refl); answers = refl },
+                                                                (
+                                                                  record { by_caller = lit< tt; condition = lit< tt; answers = refl },
+                                                                  (
+                                                                    record { by_caller = lit< tt; condition = (lit< tt, lit< tt); answers = refl },
+                                                                    (
+                                                                      record { by_caller = lit< tt; condition = (lit< tt, lit< tt); answers = refl },
+                                                                      (
+                                                                        record { by_caller = lit< tt; condition = (lit< tt, refl); answers = refl },
+                                                                        (
+                                                                          record { by_caller = lit< tt; condition = ((lit< tt, lit< tt), refl); answers = refl },
+                                                                          (
+                                                                            record { by_caller = lit< tt; condition = (lit< tt, lit< tt); answers = refl },
+                                                                            (
+                                                                              record { by_caller = lit< tt; condition = ((lit< tt, lit< tt), refl, refl); answers = refl },
+                                                                              (
+                                                                                record { by_caller = lit< tt; condition = lit< tt; answers = refl },
+                                                                                (
+                                                                                  record { by_caller = lit< tt; condition = tt; answers = refl },
+                                                                                  (
+                                                                                    record { by_caller = lit< tt; condition = (lit< tt, lit< tt); answers = refl },
+                                                                                    (
+                                                                                      record { by_caller = lit< tt; condition = ((lit< tt, lit< tt), refl); answers = refl },
+                                                                                      (
+                                                                                        record { by_caller = lit< tt; condition = (lit< tt, refl); answers = refl },
+                                                                                        (
+                                                                                          record { by_caller = lit< tt; condition = (lit< tt, refl); answers = refl },
+                                                                                          (
+                                                                                            record { by_caller = lit< tt; condition = (lit< tt, lit< tt); answers = refl },
+                                                                                            (
+                                                                                              record { by_caller = lit< tt; condition = (lit< tt, refl); answers = refl },
+                                                                                              (
+                                                                                                record { by_caller = lit< tt; condition = (lit< tt, lit< tt); answers = refl },
+                                                                                                (
+                                                                                                  record { by_caller = lit< tt; condition = (lit< tt, lit< tt); answers = refl },
+                                                                                                  (
+                                                                                                    record { by_caller = lit< tt; condition = (lit< tt, refl, λ e. below_one (λ k. is_clear 0 k (mine v (take 49 worked_history)) ≡ true) refl); answers = refl },
+                                                                                                    (
+                                                                                                      record { by_caller = lit< tt; condition = (lit< tt, refl); answers = refl },
+                                                                                                      (
+                                                                                                        record { by_caller = lit< tt; condition = (lit< tt, refl); answers = refl },
+                                                                                                        (
+                                                                                                          record { by_caller = lit< tt; condition = lit< tt; answers = refl },
+                                                                                                          (
+                                                                                                            record { by_caller = lit< tt; condition = (lit< tt, refl); answers = refl },
+                                                                                                            (
+                                                                                                              record { by_caller = lit< tt; condition = lit< tt; answers = refl },
+                                                                                                              (
+                                                                                                                record { by_caller = lit< tt; condition = ((lit< tt, lit< tt), refl); answers = refl },
+                                                                                                                (
+                                                                                                                  record { by_caller = lit< tt; condition = lit< tt; answers = refl },
+                                                                                                                  (
+                                                                                                                    record { by_caller = lit< tt; condition = tt; answers = refl },
+                                                                                                                    (
+                                                                                                                        tt),
+                                                                                                                  ),
+                                                                                                                ),
+                                                                                                              ),
+                                                                                                            ),
+                                                                                                          ),
+                                                                                                        ),
+                                                                                                      ),
+                                                                                                    ),
+                                                                                                  ),
+                                                                                                ),
+                                                                                              ),
+                                                                                            ),
+                                                                                          ),
+                                                                                        ),
+                                                                                      ),
+                                                                                    ),
+                                                                                  ),
+                                                                                ),
+                                                                              ),
+                                                                            ),
+                                                                          ),
+                                                                        ),
+                                                                      ),
+                                                                    ),
+                                                                  ),
+                                                                ),
+                                                              ),
+                                                            ),
+                                                          ),
+                                                        ),
+                                                      ),
+                                                    ),
+                                                  ),
+                                                ),
+                                              ),
+                                            ),
+                                          ),
+                                        ),
+                                      ),
+                                    ),
+                                  ),
+                                ),
+                              ),
+                            ),
+                          ),
+                        ),
+                      ),
+                    ),
+                  ),
+                ),
+              ),
+            ),
+          ),
+        ),
+      ),
+    ),
+  ),
+)
 
 pub worked_history_is_legal : WorkedHistoryIsLegal
 worked_history_is_legal = legal_by_steps small_limits [] worked_history (legal_empty small_limits) steps

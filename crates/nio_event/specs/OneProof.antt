@@ -1,13 +1,13 @@
 -- That an event is a step, and that a history is legal, have one proof each at most, so that a
 -- struct can keep them.
-use Rattle.std.proofs.Common.{◌≡◌, List, ◌∷◌, ◌++◌}
+use Rattle.std.proofs.Common.{List}
 use Rattle.std.proofs.Props.{props}
 use Rattle.nio_base.specs.declared.limits.Limits.{Limits}
 use Rattle.nio_base.specs.declared.numbers.CallerNo.{CallerNo}
-use Rattle.nio_event.specs.Answers.{Answers, answer_from}
+use Rattle.nio_event.specs.Answers.{Answers}
 use Rattle.nio_event.specs.Conditions.{Condition}
 use Rattle.nio_event.specs.Histories.{IsStep, IsLegal}
-use Rattle.nio_event.specs.Questions.{Answer, Answer-set, answer_of, question_of}
+use Rattle.nio_event.specs.Questions.{Answer-set}
 use Rattle.nio_event.specs.State.{State}
 use Rattle.nio_event.specs.declared.act.Act.{Act}
 use Rattle.nio_event.specs.declared.act.Act.TheVariants.{DrawBit}

@@ -1,6 +1,6 @@
 -- Laws of legal histories: what never goes back doesn't, what a caller has stays its own, and so a
 -- condition that is true where a caller's pass has seen a history stays true while others go on.
-use Rattle.std.specs.Prelude.{◌≡◌, ℕ, Bool, IsTrue, List, ◌++◌}
+use Rattle.std.specs.Prelude.{◌≡◌, IsTrue, List}
 use mathlib.Core.List.{IsPrefix}
 use Rattle.nio_base.specs.declared.limits.Limits.{Limits}
 use Rattle.nio_base.specs.declared.numbers.CallerNo.{CallerNo}
