@@ -25,184 +25,83 @@ below_one P first n below =
     let is_first : 0 ≡ n = omega arith in
     subst P is_first first
 
+-- a step, and then the others
+infixr 5 ◌▸◌
+abbrev ◌▸◌ : {A B : Type 0} → A → B → A × B
+first ▸ later = (first, later)
+
 steps : AreSteps small_limits [] worked_history
 unfolding bits_below
-steps = (
-  record { by_caller = lit< tt; condition = (lit< tt, refl, refl); answers = refl },
-  (
-    record { by_caller = lit< tt; condition = (lit< tt, refl, refl); answers = refl },
-    (
-      record { by_caller = lit< tt; condition = lit< tt; answers = refl },
-      (
-        record { by_caller = lit< tt; condition = tt; answers = refl },
-        (
-          record { by_caller = lit< tt; condition = tt; answers = refl },
-          (
-            record { by_caller = lit< tt; condition = (lit< tt, λ n below. absurd (omega arith)); answers = refl },
-            (
-              record { by_caller = lit< tt; condition = (lit≤ tt, below_one (λ k. ((state_after (take 6 worked_history)).chan k).made ≡ true) refl); answers = refl },
-              (
-                record { by_caller = lit< tt; condition = lit< tt; answers = refl },
-                (
-                  record { by_caller = lit< tt; condition = (lit< tt, refl); answers = refl },
-                  (
-                    record { by_caller = lit< tt; condition = lit< tt; answers = refl },
-                    (
-                      record { by_caller = lit< tt; condition = (lit< tt, refl, λ e. absurd cc); answers = refl },
-                      (
-                        record { by_caller = lit< tt; condition = (lit< tt, refl); answers = refl },
-                        (
-                          record { by_caller = lit< tt; condition = (lit< tt, refl); answers = refl },
-                          (
-                            record { by_caller = lit< tt; condition = lit< tt; answers = refl },
-                            (
-                              record { by_caller = lit< tt; condition = (lit< tt, lit< tt); answers = refl },
-                              (
-                                record { by_caller = lit< tt; condition = lit< tt; answers = refl },
-                                (
-                                  record { by_caller = lit< tt; condition = lit< tt; answers = refl },
-                                  (
-                                    record { by_caller = lit< tt; condition = ((lit< tt, lit< tt), lit< tt, refl, λ n below. absurd (omega arith)); answers = refl },
-                                    (
-                                      record { by_caller = lit< tt; condition = (lit< tt, lit≤ tt, below_one (λ k. ((state_after (take 18 worked_history)).key 0 k).claimed ≡ true) refl); answers = refl },
-                                      (
-                                        record { by_caller = lit< tt; condition = lit< tt; answers = refl },
-                                        (
-                                          record { by_caller = lit< tt; condition = (lit< tt, lit< tt); answers = refl },
-                                          (
-                                            record { by_caller = lit< tt; condition = (lit< tt, lit< tt); answers = refl },
-                                            (
-                                              record { by_caller = lit< tt; condition = (lit< tt, (lit< tt, lit< tt), refl, refl, refl); answers = refl },
-                                              (
-                                                record { by_caller = lit< tt; condition = ((lit< tt, lit< tt), refl, refl, refl); answers = refl },
-                                                (
-                                                  record { by_caller = lit< tt; condition = lit< tt; answers = refl },
-                                                  (
-                                                    record { by_caller = lit< tt; condition = (lit< tt, refl); answers = refl },
-                                                    (
-                                                      record { by_caller = lit< tt; condition = (lit< tt, lit< tt); answers = refl },
-                                                      (
-                                                        record { by_caller = lit< tt; condition = (lit< tt, lit< tt); answers = refl },
-                                                        (
-                                                          record { by_caller = lit< tt; condition = (lit< tt, lit< tt); answers = refl },
-                                                          (
-                                                            record { by_caller = lit< tt; condition = lit< tt; answers = refl },
-                                                            (
-                                                              record { by_caller = lit< tt; condition = lit< tt; answers = refl },
-                                                              (
-                                                                record { by_caller = lit< tt; condition = (lit< tt, refl); answers = refl },
-                                                                (
-                                                                  record { by_caller = lit< tt; condition = lit< tt; answers = refl },
-                                                                  (
-                                                                    record { by_caller = lit< tt; condition = (lit< tt, lit< tt); answers = refl },
-                                                                    (
-                                                                      record { by_caller = lit< tt; condition = (lit< tt, lit< tt); answers = refl },
-                                                                      (
-                                                                        record { by_caller = lit< tt; condition = (lit< tt, refl); answers = refl },
-                                                                        (
-                                                                          record { by_caller = lit< tt; condition = ((lit< tt, lit< tt), refl); answers = refl },
-                                                                          (
-                                                                            record { by_caller = lit< tt; condition = (lit< tt, lit< tt); answers = refl },
-                                                                            (
-                                                                              record { by_caller = lit< tt; condition = ((lit< tt, lit< tt), refl, refl); answers = refl },
-                                                                              (
-                                                                                record { by_caller = lit< tt; condition = lit< tt; answers = refl },
-                                                                                (
-                                                                                  record { by_caller = lit< tt; condition = tt; answers = refl },
-                                                                                  (
-                                                                                    record { by_caller = lit< tt; condition = (lit< tt, lit< tt); answers = refl },
-                                                                                    (
-                                                                                      record { by_caller = lit< tt; condition = ((lit< tt, lit< tt), refl); answers = refl },
-                                                                                      (
-                                                                                        record { by_caller = lit< tt; condition = (lit< tt, refl); answers = refl },
-                                                                                        (
-                                                                                          record { by_caller = lit< tt; condition = (lit< tt, refl); answers = refl },
-                                                                                          (
-                                                                                            record { by_caller = lit< tt; condition = (lit< tt, lit< tt); answers = refl },
-                                                                                            (
-                                                                                              record { by_caller = lit< tt; condition = (lit< tt, refl); answers = refl },
-                                                                                              (
-                                                                                                record { by_caller = lit< tt; condition = (lit< tt, lit< tt); answers = refl },
-                                                                                                (
-                                                                                                  record { by_caller = lit< tt; condition = (lit< tt, lit< tt); answers = refl },
-                                                                                                  (
-                                                                                                    record { by_caller = lit< tt; condition = (lit< tt, refl, λ e. below_one (λ k. is_clear 0 k (mine v (take 49 worked_history)) ≡ true) refl); answers = refl },
-                                                                                                    (
-                                                                                                      record { by_caller = lit< tt; condition = (lit< tt, refl); answers = refl },
-                                                                                                      (
-                                                                                                        record { by_caller = lit< tt; condition = (lit< tt, refl); answers = refl },
-                                                                                                        (
-                                                                                                          record { by_caller = lit< tt; condition = lit< tt; answers = refl },
-                                                                                                          (
-                                                                                                            record { by_caller = lit< tt; condition = (lit< tt, refl); answers = refl },
-                                                                                                            (
-                                                                                                              record { by_caller = lit< tt; condition = lit< tt; answers = refl },
-                                                                                                              (
-                                                                                                                record { by_caller = lit< tt; condition = ((lit< tt, lit< tt), refl); answers = refl },
-                                                                                                                (
-                                                                                                                  record { by_caller = lit< tt; condition = lit< tt; answers = refl },
-                                                                                                                  (
-                                                                                                                    record { by_caller = lit< tt; condition = tt; answers = refl },
-                                                                                                                    (
-                                                                                                                        tt),
-                                                                                                                  ),
-                                                                                                                ),
-                                                                                                              ),
-                                                                                                            ),
-                                                                                                          ),
-                                                                                                        ),
-                                                                                                      ),
-                                                                                                    ),
-                                                                                                  ),
-                                                                                                ),
-                                                                                              ),
-                                                                                            ),
-                                                                                          ),
-                                                                                        ),
-                                                                                      ),
-                                                                                    ),
-                                                                                  ),
-                                                                                ),
-                                                                              ),
-                                                                            ),
-                                                                          ),
-                                                                        ),
-                                                                      ),
-                                                                    ),
-                                                                  ),
-                                                                ),
-                                                              ),
-                                                            ),
-                                                          ),
-                                                        ),
-                                                      ),
-                                                    ),
-                                                  ),
-                                                ),
-                                              ),
-                                            ),
-                                          ),
-                                        ),
-                                      ),
-                                    ),
-                                  ),
-                                ),
-                              ),
-                            ),
-                          ),
-                        ),
-                      ),
-                    ),
-                  ),
-                ),
-              ),
-            ),
-          ),
-        ),
-      ),
-    ),
-  ),
-)
+steps =
+    -- callers 0 and 1 are drawn
+    record { by_caller = lit< tt; condition = (lit< tt, refl, refl); answers = refl } ▸
+    record { by_caller = lit< tt; condition = (lit< tt, refl, refl); answers = refl } ▸
+    -- caller 0 opens a selector and a channel
+    record { by_caller = lit< tt; condition = lit< tt; answers = refl } ▸
+    record { by_caller = lit< tt; condition = tt; answers = refl } ▸
+    record { by_caller = lit< tt; condition = tt; answers = refl } ▸
+    record { by_caller = lit< tt; condition = (lit< tt, λ n below. absurd (omega arith)); answers = refl } ▸
+    record { by_caller = lit< tt; condition = (lit≤ tt, below_one (λ k. ((state_after (take 6 worked_history)).chan k).made ≡ true) refl); answers = refl } ▸
+    -- it sets non-blocking mode
+    record { by_caller = lit< tt; condition = lit< tt; answers = refl } ▸
+    record { by_caller = lit< tt; condition = (lit< tt, refl); answers = refl } ▸
+    record { by_caller = lit< tt; condition = lit< tt; answers = refl } ▸
+    record { by_caller = lit< tt; condition = (lit< tt, refl, λ e. absurd cc); answers = refl } ▸
+    record { by_caller = lit< tt; condition = (lit< tt, refl); answers = refl } ▸
+    -- it registers the channel
+    record { by_caller = lit< tt; condition = (lit< tt, refl); answers = refl } ▸
+    record { by_caller = lit< tt; condition = lit< tt; answers = refl } ▸
+    record { by_caller = lit< tt; condition = (lit< tt, lit< tt); answers = refl } ▸
+    record { by_caller = lit< tt; condition = lit< tt; answers = refl } ▸
+    record { by_caller = lit< tt; condition = lit< tt; answers = refl } ▸
+    record { by_caller = lit< tt; condition = ((lit< tt, lit< tt), lit< tt, refl, λ n below. absurd (omega arith)); answers = refl } ▸
+    record { by_caller = lit< tt; condition = (lit< tt, lit≤ tt, below_one (λ k. ((state_after (take 18 worked_history)).key 0 k).claimed ≡ true) refl); answers = refl } ▸
+    record { by_caller = lit< tt; condition = lit< tt; answers = refl } ▸
+    record { by_caller = lit< tt; condition = (lit< tt, lit< tt); answers = refl } ▸
+    record { by_caller = lit< tt; condition = (lit< tt, lit< tt); answers = refl } ▸
+    record { by_caller = lit< tt; condition = (lit< tt, (lit< tt, lit< tt), refl, refl, refl); answers = refl } ▸
+    record { by_caller = lit< tt; condition = ((lit< tt, lit< tt), refl, refl, refl); answers = refl } ▸
+    record { by_caller = lit< tt; condition = lit< tt; answers = refl } ▸
+    record { by_caller = lit< tt; condition = (lit< tt, refl); answers = refl } ▸
+    -- it changes the interest set to and fro
+    record { by_caller = lit< tt; condition = (lit< tt, lit< tt); answers = refl } ▸
+    record { by_caller = lit< tt; condition = (lit< tt, lit< tt); answers = refl } ▸
+    record { by_caller = lit< tt; condition = (lit< tt, lit< tt); answers = refl } ▸
+    -- it begins a selection; caller 1 finds the turn taken
+    record { by_caller = lit< tt; condition = lit< tt; answers = refl } ▸
+    record { by_caller = lit< tt; condition = lit< tt; answers = refl } ▸
+    record { by_caller = lit< tt; condition = (lit< tt, refl); answers = refl } ▸
+    record { by_caller = lit< tt; condition = lit< tt; answers = refl } ▸
+    record { by_caller = lit< tt; condition = (lit< tt, lit< tt); answers = refl } ▸
+    record { by_caller = lit< tt; condition = (lit< tt, lit< tt); answers = refl } ▸
+    -- caller 1 wakes it and cancels the key
+    record { by_caller = lit< tt; condition = (lit< tt, refl); answers = refl } ▸
+    record { by_caller = lit< tt; condition = ((lit< tt, lit< tt), refl); answers = refl } ▸
+    -- it is told of the key, and ends the selection
+    record { by_caller = lit< tt; condition = (lit< tt, lit< tt); answers = refl } ▸
+    record { by_caller = lit< tt; condition = ((lit< tt, lit< tt), refl, refl); answers = refl } ▸
+    record { by_caller = lit< tt; condition = lit< tt; answers = refl } ▸
+    record { by_caller = lit< tt; condition = tt; answers = refl } ▸
+    record { by_caller = lit< tt; condition = (lit< tt, lit< tt); answers = refl } ▸
+    record { by_caller = lit< tt; condition = ((lit< tt, lit< tt), refl); answers = refl } ▸
+    record { by_caller = lit< tt; condition = (lit< tt, refl); answers = refl } ▸
+    record { by_caller = lit< tt; condition = (lit< tt, refl); answers = refl } ▸
+    record { by_caller = lit< tt; condition = (lit< tt, lit< tt); answers = refl } ▸
+    -- caller 1 sets blocking mode again: the noted key is removed
+    record { by_caller = lit< tt; condition = (lit< tt, refl); answers = refl } ▸
+    record { by_caller = lit< tt; condition = (lit< tt, lit< tt); answers = refl } ▸
+    record { by_caller = lit< tt; condition = (lit< tt, lit< tt); answers = refl } ▸
+    record { by_caller = lit< tt; condition = (lit< tt, refl, λ e. below_one (λ k. is_clear 0 k (mine v (take 49 worked_history)) ≡ true) refl); answers = refl } ▸
+    record { by_caller = lit< tt; condition = (lit< tt, refl); answers = refl } ▸
+    -- it closes the channel and the selector, and interrupts caller 0
+    record { by_caller = lit< tt; condition = (lit< tt, refl); answers = refl } ▸
+    record { by_caller = lit< tt; condition = lit< tt; answers = refl } ▸
+    record { by_caller = lit< tt; condition = (lit< tt, refl); answers = refl } ▸
+    record { by_caller = lit< tt; condition = lit< tt; answers = refl } ▸
+    record { by_caller = lit< tt; condition = ((lit< tt, lit< tt), refl); answers = refl } ▸
+    record { by_caller = lit< tt; condition = lit< tt; answers = refl } ▸
+    record { by_caller = lit< tt; condition = tt; answers = refl } ▸
+    tt
 
 pub worked_history_is_legal : WorkedHistoryIsLegal
 worked_history_is_legal = legal_by_steps small_limits [] worked_history (legal_empty small_limits) steps
