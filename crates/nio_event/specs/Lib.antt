@@ -12,3 +12,7 @@ pub mod Staying
 pub mod OneProof
 pub mod Turns
 pub mod Worked
+pub mod Words
+pub mod Calls
+pub mod Replies
+pub mod Script

@@ -3,7 +3,7 @@
 #![tactic(auto)]
 
 pub use act::Act;
-pub use call::{Call, Waiting};
+pub use call::{Call, ScriptCall, Waiting};
 pub use event::Event;
 pub use found::{Chan, GateWord, Mark, Mode, Stage};
 pub use pairs::Pairs;
