@@ -1,6 +1,6 @@
 -- A condition stays true while others go on: one line for each kind whose condition says more than
 -- the ranges of numbers.
-use Rattle.std.proofs.Common.{◌≡◌, ℕ, Bool, true, false, ◌&&◌, ◌||◌, inl, inr, is_some, List, ◌++◌, refl, ap, sym, ◌∙◌, subst}
+use Rattle.std.proofs.Common.{not, ◌≡◌, ℕ, Bool, true, false, ◌&&◌, ◌||◌, inl, inr, is_some, List, ◌++◌, refl, ap, sym, ◌∙◌, subst}
 use Rattle.std.proofs.lemmas.Bool.{and_parts, and_from}
 use Rattle.nio_base.specs.declared.limits.Limits.{Limits}
 use Rattle.nio_base.specs.declared.numbers.CallerNo.{CallerNo}
@@ -12,12 +12,13 @@ use Rattle.nio_event.proofs.Legal.{legal_beginning}
 use Rattle.nio_event.proofs.Told.{either, claimed_told}
 use Rattle.nio_event.specs.Conditions.{Condition, holds, has_begun, has_entered, is_closer, channel_of, may_sweep, may_clear_out}
 use Rattle.nio_event.specs.Histories.{state_after, mine, IsLegal}
-use Rattle.nio_event.specs.Lasting.{LastingFact, selector_made, selector_closed_by, selector_entered, channel_made, key_claimed, key_published, key_cancelled, stands, OwnFact, the_turn, a_selection, the_hold, is_had_by}
+use Rattle.nio_event.specs.Lasting.{LastingFact, selector_made, selector_closed_by, selector_entered, channel_made, key_claimed, key_published, key_cancelled, key_removed, stands, OwnFact, the_turn, a_selection, the_hold, is_had_by}
 use Rattle.nio_event.specs.OwnEvents.{has, last, under, since_entered, finds_below, finds_unblocked, claimed_for}
-use Rattle.nio_event.specs.Staying.{BeginningsAreLegal, NothingGoesBack, OnlyItselfGivesBack, ConditionsStay}
+use Rattle.nio_event.specs.Staying.{BeginningsAreLegal, NothingGoesBack, InvalidKeysStayInvalid, OnlyItselfGivesBack, ConditionsStay}
 use Rattle.nio_event.specs.State.{State}
 use Rattle.nio_event.specs.declared.act.Act.{Act}
 use Rattle.nio_event.specs.declared.act.Act.TheVariants.{Wake, CancelKey, MakeChannel, Claim, RaiseKeys, Publish, Enrol, BeginLook, GiveTurn, Remove, Mark, EndWake, RaiseChannels, TryHoldBit, Release, SetMode, CloseBit, Enter}
+use Rattle.nio_event.specs.declared.found.Stage.{Stage}
 
 -- what caller n may build on of one state stands in the other
 record StandsFor (n : CallerNo) (own : List Act) (st st' : State) : Type 0 where
@@ -84,6 +85,30 @@ beginnings_are_legal l before after begins legal = legal_beginning l before begi
 pub nothing_goes_back : NothingGoesBack
 nothing_goes_back l before after begins legal f here =
     subst (λ events. stands f (state_after events) ≡ true) begins.1 (lasting_stands l before begins.0 (subst (IsLegal l) (sym begins.1) legal) f here)
+
+-- a key is invalid where it is removed or cancelled
+invalid_where : (p c r : Bool) → (c || r) ≡ true → (p && not r && not c) ≡ false
+invalid_where true true true e = refl
+invalid_where true true false e = refl
+invalid_where true false true e = refl
+invalid_where true false false e = absurd cc
+invalid_where false c r e = refl
+
+invalid_why : (p c r : Bool) → p ≡ true → (p && not r && not c) ≡ false → (c || r) ≡ true
+invalid_why true true r e i = refl
+invalid_why true false true e i = refl
+invalid_why true false false e i = absurd cc
+invalid_why false c r e i = absurd cc
+
+pub invalid_keys_stay_invalid : InvalidKeysStayInvalid
+invalid_keys_stay_invalid l before after begins legal s i published invalid =
+    let k : Stage = (state_after before).key s i in
+    let k' : Stage = (state_after after).key s i in
+    invalid_where k'.published k'.cancelled k'.removed
+      (elim (either k.cancelled k.removed (invalid_why k.published k.cancelled k.removed published invalid)) [
+          inl cancelled ↦ ap (λ b. b || k'.removed) (nothing_goes_back l before after begins legal (key_cancelled s i) cancelled)
+          | inr removed ↦ or_right k'.cancelled k'.removed (nothing_goes_back l before after begins legal (key_removed s i) removed)
+        ])
 
 pub only_itself_gives_back : OnlyItselfGivesBack
 only_itself_gives_back l n before after begins legal same f here =

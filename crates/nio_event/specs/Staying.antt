@@ -1,12 +1,13 @@
 -- Laws of legal histories: what never goes back doesn't, what a caller has stays its own, and so a
 -- condition that is true where a caller's pass has seen a history stays true while others go on.
-use Rattle.std.specs.Prelude.{◌≡◌, IsTrue, List}
+use Rattle.std.specs.Prelude.{◌≡◌, ℕ, IsTrue, IsFalse, List}
 use mathlib.Core.List.{IsPrefix}
 use Rattle.nio_base.specs.declared.limits.Limits.{Limits}
 use Rattle.nio_base.specs.declared.numbers.CallerNo.{CallerNo}
 use Rattle.nio_event.specs.Conditions.{Condition}
 use Rattle.nio_event.specs.Histories.{state_after, mine, IsLegal}
 use Rattle.nio_event.specs.Lasting.{LastingFact, stands, OwnFact, is_had_by}
+use Rattle.nio_event.specs.Sets.{is_valid}
 use Rattle.nio_event.specs.Sound.{IsSound, IsWithin}
 use Rattle.nio_event.specs.declared.act.Act.{Act}
 use Rattle.nio_event.specs.declared.event.Event.{Event}
@@ -19,6 +20,12 @@ BeginningsAreLegal = (l : Limits) (before after : List Event) → IsPrefix befor
 abbrev pub NothingGoesBack : Type 0
 NothingGoesBack = (l : Limits) (before after : List Event) → IsPrefix before after → IsLegal l after
     → (f : LastingFact) → IsTrue (stands f (state_after before)) → IsTrue (stands f (state_after after))
+
+-- a published key that isn't valid stays so
+abbrev pub InvalidKeysStayInvalid : Type 0
+InvalidKeysStayInvalid = (l : Limits) (before after : List Event) → IsPrefix before after → IsLegal l after
+    → (s i : ℕ) → IsTrue ((state_after before).key s i).published
+    → IsFalse (is_valid ((state_after before).key s i)) → IsFalse (is_valid ((state_after after).key s i))
 
 -- what a caller has it has after every legal longer history in which it has no further event
 abbrev pub OnlyItselfGivesBack : Type 0

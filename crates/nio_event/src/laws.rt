@@ -1,5 +1,5 @@
 //! Laws of legal histories. Each is the contract of a function that does nothing.
-ghost use Rattle.nio_event.specs.Staying.{BeginningsAreLegal, NothingGoesBack, OnlyItselfGivesBack, ConditionsStay, StatesAreSound, StatesAreWithin};
+ghost use Rattle.nio_event.specs.Staying.{BeginningsAreLegal, NothingGoesBack, InvalidKeysStayInvalid, OnlyItselfGivesBack, ConditionsStay, StatesAreSound, StatesAreWithin};
 ghost use Rattle.nio_event.specs.Turns.{TurnHasOneHolder, HoldHasOneHolder, OneSelectionAtATime, OnlyWhoMaySelects};
 ghost use Rattle.nio_event.specs.Worked.{WorkedHistoryIsLegal};
 
@@ -9,9 +9,10 @@ pub fn beginnings_law()
 {}
 
 /// What never goes back doesn't: what is drawn, made, claimed, published, cancelled, removed, closed
-/// or shut stays so, marks don't fall, and a closer stays the closer.
+/// or shut stays so, marks don't fall, and a closer stays the closer. So an invalid key stays invalid.
 pub fn lasting_law()
-    ensures { NothingGoesBack }
+    ensures lasts { NothingGoesBack }
+    ensures invalid { InvalidKeysStayInvalid }
 {}
 
 /// A turn, a selection and a hold last until their caller itself gives them back.
