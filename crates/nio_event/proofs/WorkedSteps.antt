@@ -1,12 +1,12 @@
 -- Each event of the worked history is a step.
-use Rattle.std.proofs.Common.{◌≡◌, ℕ, ◌<◌, true, List, [], ◌∷◌, ◌++◌, take, append_assoc, refl, sym, subst, arith, lit<, lit≤}
+use Rattle.std.proofs.Common.{◌≡◌, ℕ, ◌<◌, true, List, [], ◌∷◌, ◌++◌, take, append_assoc, ap, refl, sym, subst, arith, lit<, lit≤}
 use Rattle.std.proofs.lemmas.List.{append-nil}
 use Rattle.nio_base.specs.declared.limits.Limits.{Limits}
 use Rattle.nio_event.proofs.Legal.{legal_empty, legal_more}
 use Rattle.nio_event.specs.Histories.{state_after, mine, IsStep, IsLegal}
 use Rattle.nio_event.specs.Answers.{bits_below}
 use Rattle.nio_event.specs.OwnEvents.{is_clear}
-use Rattle.nio_event.specs.Worked.{v, small_limits, worked_history, WorkedHistoryIsLegal}
+use Rattle.nio_event.specs.Worked.{v, small_limits, worked_history, WorkedHistoryIsLegal, RefusedEventsAreNoSteps}
 use Rattle.nio_event.specs.declared.event.Event.{Event}
 
 -- each of the events is a step, one after the other
@@ -105,3 +105,35 @@ steps =
 
 pub worked_history_is_legal : WorkedHistoryIsLegal
 worked_history_is_legal = legal_by_steps small_limits [] worked_history (legal_empty small_limits) steps
+
+pub refused_events_are_no_steps : RefusedEventsAreNoSteps
+refused_events_are_no_steps =
+    -- a number is drawn once, and by its own caller
+    (λ step. cc (step.condition.2)) ▸
+    (λ step. cc (ap (λ n. n.0) step.condition.1)) ▸
+    -- a selector is woken once it is made
+    (λ step. cc (step.condition.1)) ▸
+    -- only the holder of a channel sets its mode or claims for it
+    (λ step. cc (step.condition.1)) ▸
+    (λ step. cc (step.condition.2)) ▸
+    -- what a step finds is what stands there
+    (λ step. cc (step.answers)) ▸
+    -- only who claimed an index publishes it
+    (λ step. cc (step.condition.1)) ▸
+    -- only the holder of the turn begins a selection
+    (λ step. cc (step.condition.1)) ▸
+    -- a selection removes no key that is not cancelled
+    (λ step. cc (step.condition.1)) ▸
+    -- only the selecting caller marks, and only what it is told of and finds
+    (λ step. cc (step.condition.1)) ▸
+    (λ step. cc (step.condition.2)) ▸
+    (λ step. cc (step.answers)) ▸
+    -- a channel goes back to blocking mode only after a look at its noted keys
+    (λ step. cc (step.condition.2 refl 0 (lit< tt))) ▸
+    (λ step. cc (step.condition.2 refl 0 (lit< tt))) ▸
+    -- a closer removes after it has entered, and what it has found below the mark since
+    (λ step. cc (step.condition.1)) ▸
+    (λ step. cc (step.condition.1)) ▸
+    -- only the closer enters
+    (λ step. cc (step.condition.1)) ▸
+    tt

@@ -1,12 +1,12 @@
 -- A worked history, in which each kind of step stands: two callers register a channel, select,
 -- cancel its key in the middle of the selection, and close the channel and the selector.
-use Rattle.std.specs.Prelude.{ℕ, Bool, true, false, Some, None, Ok, List, [], ◌∷◌}
+use Rattle.std.specs.Prelude.{ℕ, Bool, true, false, Some, None, Ok, List, [], ◌∷◌, take, ⊤}
 use Rattle.nio_base.specs.declared.kind.Kind.TheVariants.{Source}
 use Rattle.nio_base.specs.declared.limits.Limits.{Limits}
 use Rattle.nio_base.specs.declared.numbers.CallerNo.{CallerNo}
 use Rattle.nio_base.specs.declared.numbers.ChanNo.{ChanNo}
 use Rattle.nio_base.specs.declared.numbers.SelNo.{SelNo}
-use Rattle.nio_event.specs.Histories.{event_of, IsLegal}
+use Rattle.nio_event.specs.Histories.{event_of, IsStep, IsLegal}
 use Rattle.nio_event.specs.declared.act.Act.TheVariants.{DrawBit, MakeSelector, LookSelectors, Wake, LookGate, SetInterrupt, TakeInterrupt, LookInterrupt, LookKey, CancelKey, LookInterest, SwapInterest, OrInterest, AndInterest, SwapNote, LookNote, MakeChannel, LookChannel, Claim, RaiseKeys, LookKeys, Publish, LookReg, Enrol, TakeTurn, BeginLook, GiveTurn, Remove, LookMark, Mark, UnselectBit, EndWake, LookChannels, RaiseChannels, TryHoldBit, Release, SetMode, CloseBit, ShutBit, Enter}
 use Rattle.nio_event.specs.declared.event.Event.{Event}
 use Rattle.nio_event.specs.declared.found.Chan.{Chan}
@@ -115,3 +115,42 @@ worked_history =
 
 abbrev pub WorkedHistoryIsLegal : Type 0
 WorkedHistoryIsLegal = IsLegal small_limits worked_history
+
+-- Events that are no steps after so many events of the worked history
+abbrev pub refused_events : List (ℕ × Event)
+refused_events =
+    -- a number is drawn once, and by its own caller
+    (1, event_of u (DrawBit u true)) ∷
+    (1, event_of v (DrawBit u false)) ∷
+    -- a selector is woken once it is made
+    (2, event_of v (Wake s false)) ∷
+    -- only the holder of a channel sets its mode or claims for it
+    (9, event_of v (SetMode c false (chan false true))) ∷
+    (12, event_of u (Claim s 0 c false)) ∷
+    -- what a step finds is what stands there
+    (17, event_of u (Claim s 0 c true)) ∷
+    -- only who claimed an index publishes it
+    (23, event_of v (Publish s 0 (stage false false false))) ∷
+    -- only the holder of the turn begins a selection
+    (31, event_of v (BeginLook s (gate false false))) ∷
+    -- a selection removes no key that is not cancelled
+    (34, event_of u (Remove s 0 (stage true false false))) ∷
+    -- only the selecting caller marks, and only what it is told of and finds
+    (38, event_of v (Mark s 0 (mark false 0) 1 (Ok tt))) ∷
+    (38, event_of u (Mark s 0 (mark false 0) 0 (Ok tt))) ∷
+    (38, event_of u (Mark s 0 (mark true 1) 4 (Ok tt))) ∷
+    -- a channel goes back to blocking mode only after a look at its noted keys
+    (47, event_of v (SetMode c true (chan false false))) ∷
+    (48, event_of v (SetMode c true (chan false false))) ∷
+    -- a closer removes after it has entered, and what it has found below the mark since
+    (53, event_of v (Remove s 0 (stage true true true))) ∷
+    (54, event_of v (Remove s 0 (stage true true true))) ∷
+    -- only the closer enters
+    (53, event_of u (Enter s None)) ∷ []
+
+abbrev pub AreNoSteps : List (ℕ × Event) → Type 0
+AreNoSteps [] = ⊤
+AreNoSteps (r ∷ rest) = (¬ IsStep small_limits (take r.0 worked_history) r.1) × AreNoSteps rest
+
+abbrev pub RefusedEventsAreNoSteps : Type 0
+RefusedEventsAreNoSteps = AreNoSteps refused_events

@@ -1,7 +1,7 @@
 //! Laws of legal histories. Each is the contract of a function that does nothing.
 ghost use Rattle.nio_event.specs.Staying.{BeginningsAreLegal, NothingGoesBack, InvalidKeysStayInvalid, OnlyItselfGivesBack, ConditionsStay, StatesAreSound, StatesAreWithin};
 ghost use Rattle.nio_event.specs.Turns.{TurnHasOneHolder, HoldHasOneHolder, OneSelectionAtATime, OnlyWhoMaySelects};
-ghost use Rattle.nio_event.specs.Worked.{WorkedHistoryIsLegal};
+ghost use Rattle.nio_event.specs.Worked.{WorkedHistoryIsLegal, RefusedEventsAreNoSteps};
 
 /// Each beginning of a legal history is legal.
 pub fn beginnings_law()
@@ -47,7 +47,8 @@ pub fn one_selection_law()
     ensures allowed { OnlyWhoMaySelects }
 {}
 
-/// There are legal histories in which every kind of step stands.
+/// There are legal histories in which every kind of step stands, and events that can't follow.
 pub fn worked_history_law()
-    ensures { WorkedHistoryIsLegal }
+    ensures legal { WorkedHistoryIsLegal }
+    ensures refused { RefusedEventsAreNoSteps }
 {}
