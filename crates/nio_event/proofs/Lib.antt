@@ -13,3 +13,4 @@ pub mod Within
 pub mod Bits
 pub mod Clauses
 pub mod Asked
+pub mod Holder

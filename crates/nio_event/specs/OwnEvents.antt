@@ -6,7 +6,7 @@ use Rattle.std.specs.Option.{option_or}
 use Rattle.nio_base.specs.declared.numbers.ChanNo.{ChanNo}
 use Rattle.nio_event.specs.Sets.{in_key_set}
 use Rattle.nio_event.specs.declared.act.Act.{Act}
-use Rattle.nio_event.specs.declared.act.Act.TheVariants.{LookKey, LookChannel, Claim, LookKeys, LookReg, Enrol, GiveTurn, TryHoldBit, Release, Enter}
+use Rattle.nio_event.specs.declared.act.Act.TheVariants.{LookKey, LookChannel, Claim, LookKeys, LookReg, Enrol, GiveTurn, TryHoldBit, Release, SetMode, Enter}
 
 -- ---- general words
 
@@ -61,6 +61,11 @@ since_entered s own = after_first (enters s) own
 abbrev pub finds_unblocked : ℕ → Act → Bool
 finds_unblocked c (LookChannel c' found) = (c'.0 == c) && not found.blocking
 finds_unblocked c _ = false
+
+-- it set the mode of channel c
+abbrev pub sets_mode : ℕ → Act → Bool
+sets_mode c (SetMode c' blocking found) = c'.0 == c
+sets_mode c _ = false
 
 -- it found the key outside the key set: removed, or not published
 abbrev pub finds_outside : ℕ → ℕ → Act → Bool

@@ -4,9 +4,9 @@ use Rattle.nio_base.specs.declared.limits.Limits.{Limits}
 use Rattle.nio_base.specs.declared.numbers.CallerNo.{CallerNo}
 use Rattle.nio_base.specs.declared.numbers.ChanNo.{ChanNo}
 use Rattle.nio_base.specs.declared.numbers.SelNo.{SelNo}
-use Rattle.nio_event.specs.Conditions.{has_begun, has_entered}
+use Rattle.nio_event.specs.Conditions.{holds, has_begun, has_entered}
 use Rattle.nio_event.specs.Histories.{state_after, event_of, mine, IsLegal}
-use Rattle.nio_event.specs.OwnEvents.{has, gives_turn, releases}
+use Rattle.nio_event.specs.OwnEvents.{has, under, finds_unblocked, sets_mode, gives_turn, releases}
 use Rattle.nio_event.specs.State.{State}
 use Rattle.nio_event.specs.declared.act.Act.{Act}
 use Rattle.nio_event.specs.declared.act.Act.TheVariants.{TakeTurn, BeginLook, Remove, Mark, EndWake, TryHoldBit}
@@ -36,6 +36,14 @@ abbrev pub HoldHasOneHolder : Type 0
 HoldHasOneHolder = (l : Limits) (c : ChanNo) (m n : CallerNo) (past between : List Event)
     → IsLegal l (past ++ event_of m (TryHoldBit c None) ∷ (between ++ event_of n (TryHoldBit c None) ∷ []))
     → IsTrue (has (releases c.0) (mine m between))
+
+-- a caller that holds a channel, found it non-blocking under this hold and didn't set its mode since
+-- it took the hold, knows that it is non-blocking
+abbrev pub HolderKnowsMode : Type 0
+HolderKnowsMode = (l : Limits) (n : CallerNo) (c : ChanNo) (events : List Event) → IsLegal l events
+    → IsTrue (holds (state_after events) n c)
+    → IsTrue (has (finds_unblocked c.0) (under c.0 (mine n events))) → IsFalse (has (sets_mode c.0) (under c.0 (mine n events)))
+    → IsFalse ((state_after events).chan c.0).blocking
 
 -- from a caller's look that found the gate not shut until it gives its turn back, nobody else marks
 -- or removes a key of the selector or ends its wakeup

@@ -1,6 +1,6 @@
 //! Laws of legal histories. Each is the contract of a function that does nothing.
 ghost use Rattle.nio_event.specs.Staying.{BeginningsAreLegal, NothingGoesBack, InvalidKeysStayInvalid, OnlyItselfGivesBack, ConditionsStay, StatesAreSound, StatesAreWithin};
-ghost use Rattle.nio_event.specs.Turns.{TurnHasOneHolder, HoldHasOneHolder, OneSelectionAtATime, OnlyWhoMaySelects};
+ghost use Rattle.nio_event.specs.Turns.{TurnHasOneHolder, HoldHasOneHolder, HolderKnowsMode, OneSelectionAtATime, OnlyWhoMaySelects};
 ghost use Rattle.nio_event.specs.Worked.{WorkedHistoryIsLegal, RefusedEventsAreNoSteps};
 
 /// Each beginning of a legal history is legal.
@@ -34,10 +34,12 @@ pub fn soundness_law()
     ensures within { StatesAreWithin }
 {}
 
-/// Nobody takes a turn or a hold before whoever has it gives it back.
+/// Nobody takes a turn or a hold before whoever has it gives it back, and nobody else changes the mode
+/// of a channel that is held.
 pub fn one_holder_law()
     ensures turn { TurnHasOneHolder }
     ensures hold { HoldHasOneHolder }
+    ensures mode { HolderKnowsMode }
 {}
 
 /// One selection at a time: while a caller selects, nobody else marks or removes a key of the
