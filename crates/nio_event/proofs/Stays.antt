@@ -2,11 +2,12 @@
 -- the ranges of numbers.
 use Rattle.std.proofs.Common.{not, ◌≡◌, ℕ, Bool, true, false, ◌&&◌, ◌||◌, inl, inr, is_some, List, ◌++◌, refl, ap, sym, ◌∙◌, subst}
 use Rattle.std.proofs.lemmas.Bool.{and_parts, and_from}
+use mathlib.Core.List.{IsPrefix}
 use Rattle.nio_base.specs.declared.limits.Limits.{Limits}
 use Rattle.nio_base.specs.declared.numbers.CallerNo.{CallerNo}
 use Rattle.nio_base.specs.declared.numbers.ChanNo.{ChanNo}
 use Rattle.nio_base.specs.declared.numbers.SelNo.{SelNo}
-use Rattle.nio_event.proofs.LastsAlone.{own_stands, none_further}
+use Rattle.nio_event.proofs.LastsAlone.{had_stands, own_stands, none_further}
 use Rattle.nio_event.proofs.LastsOnceSound.{lasting_stands, channel_stands}
 use Rattle.nio_event.proofs.Legal.{legal_beginning}
 use Rattle.nio_event.proofs.Told.{either, claimed_told}
@@ -18,6 +19,7 @@ use Rattle.nio_event.specs.Staying.{BeginningsAreLegal, NothingGoesBack, Invalid
 use Rattle.nio_event.specs.State.{State}
 use Rattle.nio_event.specs.declared.act.Act.{Act}
 use Rattle.nio_event.specs.declared.act.Act.TheVariants.{Wake, CancelKey, MakeChannel, Claim, RaiseKeys, Publish, Enrol, BeginLook, GiveTurn, Remove, Mark, EndWake, RaiseChannels, TryHoldBit, Release, SetMode, CloseBit, Enter}
+use Rattle.nio_event.specs.declared.event.Event.{Event}
 use Rattle.nio_event.specs.declared.found.Stage.{Stage}
 
 -- what caller n may build on of one state stands in the other
@@ -111,10 +113,15 @@ invalid_keys_stay_invalid l before after begins legal s i published invalid =
         ])
 
 pub only_itself_gives_back : OnlyItselfGivesBack
-only_itself_gives_back l n before after begins legal same f here =
+only_itself_gives_back l n before later legal f kept here = had_stands l n before later legal f kept here
+
+-- what a caller has it has after every legal longer history in which it has no further event
+had_after : (l : Limits) (n : CallerNo) (before after : List Event) → IsPrefix before after → IsLegal l after → mine n after ≡ mine n before
+    → (f : OwnFact) → is_had_by n f (state_after before) ≡ true → is_had_by n f (state_after after) ≡ true
+had_after l n before after begins legal same f here =
     let joined : mine n (before ++ begins.0) ≡ mine n before = ap (mine n) begins.1 ∙ same in
     subst (λ events. is_had_by n f (state_after events) ≡ true) begins.1
-    (own_stands l n before begins.0 (subst (IsLegal l) (sym begins.1) legal) (none_further n before begins.0 joined) f here)
+      (own_stands l n before begins.0 (subst (IsLegal l) (sym begins.1) legal) (none_further n before begins.0 joined) f here)
 
 pub conditions_stay : ConditionsStay
 conditions_stay l n before after begins legal same act may =
@@ -124,7 +131,7 @@ conditions_stay l n before after begins legal same act may =
     ∙ channel_stands l before begins.0 legal' s.0 i (claimed_told l n before s.0 i (legal_beginning l before begins.0 legal') claimed) in
     let stays : StandsFor n (mine n before) (state_after before) (state_after after) = record {
       lasting = nothing_goes_back l before after begins legal;
-      had = only_itself_gives_back l n before after begins legal same;
+      had = had_after l n before after begins legal same;
       channel = channel;
     } in
     subst (λ own. Condition l own (state_after after) n act) (sym same) (condition_stays l n (mine n before) (state_after before) (state_after after) stays act may)

@@ -1,12 +1,13 @@
 -- Laws of legal histories: what never goes back doesn't, what a caller has stays its own, and so a
 -- condition that is true where a caller's pass has seen a history stays true while others go on.
-use Rattle.std.specs.Prelude.{◌≡◌, ℕ, IsTrue, IsFalse, List}
+use Rattle.std.specs.Prelude.{◌≡◌, ℕ, IsTrue, IsFalse, List, ◌++◌}
 use mathlib.Core.List.{IsPrefix}
 use Rattle.nio_base.specs.declared.limits.Limits.{Limits}
 use Rattle.nio_base.specs.declared.numbers.CallerNo.{CallerNo}
 use Rattle.nio_event.specs.Conditions.{Condition}
 use Rattle.nio_event.specs.Histories.{state_after, mine, IsLegal}
-use Rattle.nio_event.specs.Lasting.{LastingFact, stands, OwnFact, is_had_by}
+use Rattle.nio_event.specs.Lasting.{LastingFact, stands, OwnFact, is_had_by, gives_back}
+use Rattle.nio_event.specs.OwnEvents.{has}
 use Rattle.nio_event.specs.Sets.{is_valid}
 use Rattle.nio_event.specs.Sound.{IsSound, IsWithin}
 use Rattle.nio_event.specs.declared.act.Act.{Act}
@@ -27,11 +28,12 @@ InvalidKeysStayInvalid = (l : Limits) (before after : List Event) → IsPrefix b
     → (s i : ℕ) → IsTrue ((state_after before).key s i).published
     → IsFalse (is_valid ((state_after before).key s i)) → IsFalse (is_valid ((state_after after).key s i))
 
--- what a caller has it has after every legal longer history in which it has no further event
+-- what a caller has it has after every legal longer history in which it doesn't give it back itself,
+-- whatever others do
 abbrev pub OnlyItselfGivesBack : Type 0
-OnlyItselfGivesBack = (l : Limits) (n : CallerNo) (before after : List Event) → IsPrefix before after → IsLegal l after
-    → mine n after ≡ mine n before
-    → (f : OwnFact) → IsTrue (is_had_by n f (state_after before)) → IsTrue (is_had_by n f (state_after after))
+OnlyItselfGivesBack = (l : Limits) (n : CallerNo) (before later : List Event) → IsLegal l (before ++ later)
+    → (f : OwnFact) → IsFalse (has (gives_back f) (mine n later))
+    → IsTrue (is_had_by n f (state_after before)) → IsTrue (is_had_by n f (state_after (before ++ later)))
 
 -- a condition that is true of a step of a caller is true of it after every legal longer history in
 -- which the caller has no further event
