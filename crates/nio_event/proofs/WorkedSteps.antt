@@ -42,8 +42,10 @@ steps =
     record { by_caller = lit< tt; condition = tt; answers = refl } ▸
     record { by_caller = lit< tt; condition = (lit< tt, λ n below. absurd (omega arith)); answers = refl } ▸
     record { by_caller = lit< tt; condition = (lit≤ tt, below_one (λ k. ((state_after (take 6 worked_history)).chan k).made ≡ true) refl); answers = refl } ▸
-    -- it sets non-blocking mode
+    record { by_caller = lit< tt; condition = tt; answers = refl } ▸
+    -- it sets non-blocking mode; caller 1 finds the hold taken
     record { by_caller = lit< tt; condition = lit< tt; answers = refl } ▸
+    record { by_caller = lit< tt; condition = (lit< tt, refl); answers = refl } ▸
     record { by_caller = lit< tt; condition = (lit< tt, refl); answers = refl } ▸
     record { by_caller = lit< tt; condition = lit< tt; answers = refl } ▸
     record { by_caller = lit< tt; condition = (lit< tt, refl, λ e. absurd cc); answers = refl } ▸
@@ -55,7 +57,7 @@ steps =
     record { by_caller = lit< tt; condition = lit< tt; answers = refl } ▸
     record { by_caller = lit< tt; condition = lit< tt; answers = refl } ▸
     record { by_caller = lit< tt; condition = ((lit< tt, lit< tt), lit< tt, refl, λ n below. absurd (omega arith)); answers = refl } ▸
-    record { by_caller = lit< tt; condition = (lit< tt, lit≤ tt, below_one (λ k. ((state_after (take 18 worked_history)).key 0 k).claimed ≡ true) refl); answers = refl } ▸
+    record { by_caller = lit< tt; condition = (lit< tt, lit≤ tt, below_one (λ k. ((state_after (take 20 worked_history)).key 0 k).claimed ≡ true) refl); answers = refl } ▸
     record { by_caller = lit< tt; condition = lit< tt; answers = refl } ▸
     record { by_caller = lit< tt; condition = (lit< tt, lit< tt); answers = refl } ▸
     record { by_caller = lit< tt; condition = (lit< tt, lit< tt); answers = refl } ▸
@@ -77,29 +79,38 @@ steps =
     -- caller 1 wakes it and cancels the key
     record { by_caller = lit< tt; condition = (lit< tt, refl); answers = refl } ▸
     record { by_caller = lit< tt; condition = ((lit< tt, lit< tt), refl); answers = refl } ▸
-    -- it is told of the key, and ends the selection
+    -- it is told of the key twice, and ends the selection
     record { by_caller = lit< tt; condition = (lit< tt, lit< tt); answers = refl } ▸
     record { by_caller = lit< tt; condition = ((lit< tt, lit< tt), refl, refl); answers = refl } ▸
+    record { by_caller = lit< tt; condition = ((lit< tt, lit< tt), refl, refl); answers = refl } ▸
+    record { by_caller = lit< tt; condition = ((lit< tt, lit< tt), refl, refl); answers = refl } ▸
+    record { by_caller = lit< tt; condition = (lit< tt, lit< tt); answers = refl } ▸
     record { by_caller = lit< tt; condition = lit< tt; answers = refl } ▸
     record { by_caller = lit< tt; condition = tt; answers = refl } ▸
     record { by_caller = lit< tt; condition = (lit< tt, lit< tt); answers = refl } ▸
     record { by_caller = lit< tt; condition = ((lit< tt, lit< tt), refl); answers = refl } ▸
     record { by_caller = lit< tt; condition = (lit< tt, refl); answers = refl } ▸
     record { by_caller = lit< tt; condition = (lit< tt, refl); answers = refl } ▸
+    record { by_caller = lit< tt; condition = lit< tt; answers = refl } ▸
+    record { by_caller = lit< tt; condition = (lit< tt, lit< tt); answers = refl } ▸
     record { by_caller = lit< tt; condition = (lit< tt, lit< tt); answers = refl } ▸
     -- caller 1 sets blocking mode again: the noted key is removed
     record { by_caller = lit< tt; condition = (lit< tt, refl); answers = refl } ▸
     record { by_caller = lit< tt; condition = (lit< tt, lit< tt); answers = refl } ▸
     record { by_caller = lit< tt; condition = (lit< tt, lit< tt); answers = refl } ▸
-    record { by_caller = lit< tt; condition = (lit< tt, refl, λ e. below_one (λ k. is_clear 0 k (mine v (take 49 worked_history)) ≡ true) refl); answers = refl } ▸
+    record { by_caller = lit< tt; condition = (lit< tt, refl, λ e. below_one (λ k. is_clear 0 k (mine v (take 56 worked_history)) ≡ true) refl); answers = refl } ▸
     record { by_caller = lit< tt; condition = (lit< tt, refl); answers = refl } ▸
     -- it closes the channel and the selector, and interrupts caller 0
     record { by_caller = lit< tt; condition = (lit< tt, refl); answers = refl } ▸
+    record { by_caller = lit< tt; condition = lit< tt; answers = refl } ▸
+    record { by_caller = lit< tt; condition = lit< tt; answers = refl } ▸
+    record { by_caller = lit< tt; condition = lit< tt; answers = refl } ▸
     record { by_caller = lit< tt; condition = lit< tt; answers = refl } ▸
     record { by_caller = lit< tt; condition = (lit< tt, refl); answers = refl } ▸
     record { by_caller = lit< tt; condition = lit< tt; answers = refl } ▸
     record { by_caller = lit< tt; condition = ((lit< tt, lit< tt), refl); answers = refl } ▸
     record { by_caller = lit< tt; condition = lit< tt; answers = refl } ▸
+    record { by_caller = lit< tt; condition = tt; answers = refl } ▸
     record { by_caller = lit< tt; condition = tt; answers = refl } ▸
     tt
 
@@ -110,6 +121,7 @@ pub refused_events_are_no_steps : RefusedEventsAreNoSteps
 refused_events_are_no_steps =
     -- a number is drawn once, and by its own caller
     (λ step. cc (step.condition.2)) ▸
+    (λ step. cc (step.answers)) ▸
     (λ step. cc (ap (λ n. n.0) step.condition.1)) ▸
     -- a selector is woken once it is made
     (λ step. cc (step.condition.1)) ▸

@@ -1,6 +1,6 @@
 -- A worked history, in which each kind of step stands: two callers register a channel, select,
 -- cancel its key in the middle of the selection, and close the channel and the selector.
-use Rattle.std.specs.Prelude.{ℕ, Bool, true, false, Some, None, Ok, List, [], ◌∷◌, take, ⊤}
+use Rattle.std.specs.Prelude.{ℕ, Bool, true, false, Some, None, Ok, Err, List, [], ◌∷◌, take, ⊤}
 use Rattle.nio_base.specs.declared.kind.Kind.TheVariants.{Source}
 use Rattle.nio_base.specs.declared.limits.Limits.{Limits}
 use Rattle.nio_base.specs.declared.numbers.CallerNo.{CallerNo}
@@ -53,9 +53,11 @@ worked_history =
     event_of u (LookChannels 0) ∷
     event_of u (MakeChannel c Source false) ∷
     event_of u (RaiseChannels 1 0) ∷
-    -- it sets non-blocking mode
+    event_of u (LookChannels 1) ∷
+    -- it sets non-blocking mode; caller 1 finds the hold taken
     event_of u (LookChannel c (chan false true)) ∷
     event_of u (TryHoldBit c None) ∷
+    event_of v (TryHoldBit c (Some u)) ∷
     event_of u (LookChannel c (chan false true)) ∷
     event_of u (SetMode c false (chan false true)) ∷
     event_of u (Release c) ∷
@@ -88,16 +90,21 @@ worked_history =
     -- caller 1 wakes it and cancels the key
     event_of v (Wake s false) ∷
     event_of v (CancelKey s 0 (stage true false false)) ∷
-    -- it is told of the key, and ends the selection
+    -- it is told of the key twice, and ends the selection
     event_of u (LookMark s 0 (mark false 0)) ∷
     event_of u (Mark s 0 (mark false 0) 1 (Ok tt)) ∷
+    event_of u (Mark s 0 (mark false 0) 1 (Err (mark true 1))) ∷
+    event_of u (Mark s 0 (mark true 1) 4 (Ok tt)) ∷
+    event_of u (LookMark s 0 (mark true 5)) ∷
     event_of u (LookGate s (gate true false)) ∷
     event_of u (LookInterrupt false) ∷
     event_of u (LookKey s 0 (stage true true false)) ∷
     event_of u (Remove s 0 (stage true true false)) ∷
     event_of u (EndWake s (gate true false)) ∷
     event_of u (GiveTurn s) ∷
+    event_of u (LookGate s (gate false false)) ∷
     event_of u (UnselectBit s 0 true) ∷
+    event_of u (LookMark s 0 (mark false 5)) ∷
     -- caller 1 sets blocking mode again: the noted key is removed
     event_of v (TryHoldBit c None) ∷
     event_of v (LookReg c s (Some 0)) ∷
@@ -106,12 +113,16 @@ worked_history =
     event_of v (Release c) ∷
     -- it closes the channel and the selector, and interrupts caller 0
     event_of v (CloseBit c false) ∷
+    event_of v (LookChannel c (chan true true)) ∷
     event_of v (ShutBit s false) ∷
+    event_of v (LookGate s (gate false true)) ∷
+    event_of u (ShutBit s true) ∷
     event_of v (Enter s None) ∷
     event_of v (LookKeys s 1) ∷
     event_of v (Remove s 0 (stage true true true)) ∷
     event_of v (SetInterrupt u false) ∷
-    event_of u (TakeInterrupt true) ∷ []
+    event_of u (TakeInterrupt true) ∷
+    event_of u (LookInterrupt false) ∷ []
 
 abbrev pub WorkedHistoryIsLegal : Type 0
 WorkedHistoryIsLegal = IsLegal small_limits worked_history
@@ -121,32 +132,33 @@ abbrev pub refused_events : List (ℕ × Event)
 refused_events =
     -- a number is drawn once, and by its own caller
     (1, event_of u (DrawBit u true)) ∷
+    (1, event_of u (DrawBit u false)) ∷
     (1, event_of v (DrawBit u false)) ∷
     -- a selector is woken once it is made
     (2, event_of v (Wake s false)) ∷
     -- only the holder of a channel sets its mode or claims for it
-    (9, event_of v (SetMode c false (chan false true))) ∷
-    (12, event_of u (Claim s 0 c false)) ∷
+    (11, event_of v (SetMode c false (chan false true))) ∷
+    (14, event_of u (Claim s 0 c false)) ∷
     -- what a step finds is what stands there
-    (17, event_of u (Claim s 0 c true)) ∷
+    (19, event_of u (Claim s 0 c true)) ∷
     -- only who claimed an index publishes it
-    (23, event_of v (Publish s 0 (stage false false false))) ∷
+    (25, event_of v (Publish s 0 (stage false false false))) ∷
     -- only the holder of the turn begins a selection
-    (31, event_of v (BeginLook s (gate false false))) ∷
+    (33, event_of v (BeginLook s (gate false false))) ∷
     -- a selection removes no key that is not cancelled
-    (34, event_of u (Remove s 0 (stage true false false))) ∷
+    (37, event_of u (Remove s 0 (stage true false false))) ∷
     -- only the selecting caller marks, and only what it is told of and finds
-    (38, event_of v (Mark s 0 (mark false 0) 1 (Ok tt))) ∷
-    (38, event_of u (Mark s 0 (mark false 0) 0 (Ok tt))) ∷
-    (38, event_of u (Mark s 0 (mark true 1) 4 (Ok tt))) ∷
+    (40, event_of v (Mark s 0 (mark false 0) 1 (Ok tt))) ∷
+    (40, event_of u (Mark s 0 (mark false 0) 0 (Ok tt))) ∷
+    (40, event_of u (Mark s 0 (mark true 1) 4 (Ok tt))) ∷
     -- a channel goes back to blocking mode only after a look at its noted keys
-    (47, event_of v (SetMode c true (chan false false))) ∷
-    (48, event_of v (SetMode c true (chan false false))) ∷
+    (54, event_of v (SetMode c true (chan false false))) ∷
+    (55, event_of v (SetMode c true (chan false false))) ∷
     -- a closer removes after it has entered, and what it has found below the mark since
-    (53, event_of v (Remove s 0 (stage true true true))) ∷
-    (54, event_of v (Remove s 0 (stage true true true))) ∷
+    (63, event_of v (Remove s 0 (stage true true true))) ∷
+    (64, event_of v (Remove s 0 (stage true true true))) ∷
     -- only the closer enters
-    (53, event_of u (Enter s None)) ∷ []
+    (63, event_of u (Enter s None)) ∷ []
 
 abbrev pub AreNoSteps : List (ℕ × Event) → Type 0
 AreNoSteps [] = ⊤
