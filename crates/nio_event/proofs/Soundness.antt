@@ -7,7 +7,7 @@ use Rattle.nio_base.specs.declared.numbers.CallerNo.{CallerNo}
 use Rattle.nio_base.specs.declared.numbers.SelNo.{SelNo}
 use Rattle.nio_event.proofs.Lasts.{shut_lasts, made_lasts, claimed_lasts}
 use Rattle.nio_event.proofs.Legal.{legal_induction}
-use Rattle.nio_event.proofs.OneMore.{state_after-more, has-after_first}
+use Rattle.nio_event.proofs.OneMore.{state_after-more, has-since_first}
 use Rattle.nio_event.proofs.Put.{put_keeps, put_at_keeps, put_both}
 use Rattle.nio_event.proofs.Told.{either, claimed_told, below_told}
 use Rattle.nio_event.specs.Acts.{effect, new_key, taken_by}
@@ -158,7 +158,7 @@ remove_claimed l past me s i legal sound may =
           beyond-claimed st sound s.0 i (ap (λ b. b || key.cancelled || key.removed) published)
       | inr clear ↦
           let below = (and_parts (has_entered st me s) (has (finds_below s.0 i) (since_entered s.0 (mine me past))) clear).1 in
-          sound.keys_below s.0 i (below_told l me past s.0 i legal (has-after_first (finds_below s.0 i) (enters s.0) (mine me past) below))
+          sound.keys_below s.0 i (below_told l me past s.0 i legal (has-since_first (finds_below s.0 i) (enters s.0) (mine me past) below))
     ]
 
 unclaimed_bare_step : (l : Limits) (past : List Event) (e : Event) → IsLegal l past → IsStep l past e → IsSound (state_after past)

@@ -107,10 +107,10 @@ invalid_keys_stay_invalid l before after begins legal s i published invalid =
     let k : Stage = (state_after before).key s i in
     let k' : Stage = (state_after after).key s i in
     invalid_where k'.published k'.cancelled k'.removed
-      (elim (either k.cancelled k.removed (invalid_why k.published k.cancelled k.removed published invalid)) [
-          inl cancelled ↦ ap (λ b. b || k'.removed) (nothing_goes_back l before after begins legal (key_cancelled s i) cancelled)
-          | inr removed ↦ or_right k'.cancelled k'.removed (nothing_goes_back l before after begins legal (key_removed s i) removed)
-        ])
+    (elim (either k.cancelled k.removed (invalid_why k.published k.cancelled k.removed published invalid)) [
+      | inl cancelled ↦ ap (λ b. b || k'.removed) (nothing_goes_back l before after begins legal (key_cancelled s i) cancelled)
+      | inr removed ↦ or_right k'.cancelled k'.removed (nothing_goes_back l before after begins legal (key_removed s i) removed)
+    ])
 
 pub only_itself_gives_back : OnlyItselfGivesBack
 only_itself_gives_back l n before later legal f kept here = had_stands l n before later legal f kept here
@@ -121,7 +121,7 @@ had_after : (l : Limits) (n : CallerNo) (before after : List Event) → IsPrefix
 had_after l n before after begins legal same f here =
     let joined : mine n (before ++ begins.0) ≡ mine n before = ap (mine n) begins.1 ∙ same in
     subst (λ events. is_had_by n f (state_after events) ≡ true) begins.1
-      (own_stands l n before begins.0 (subst (IsLegal l) (sym begins.1) legal) (none_further n before begins.0 joined) f here)
+    (own_stands l n before begins.0 (subst (IsLegal l) (sym begins.1) legal) (none_further n before begins.0 joined) f here)
 
 pub conditions_stay : ConditionsStay
 conditions_stay l n before after begins legal same act may =

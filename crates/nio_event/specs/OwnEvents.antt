@@ -31,9 +31,9 @@ abbrev pub since_from : (Act → Bool) → List Act → List Act
 since_from opens own = fold (λ since act. if opens act then [] else since ++ act ∷ []) [] own
 
 -- what it did after the first act that opens a span
-abbrev pub after_first : (Act → Bool) → List Act → List Act
-after_first opens [] = []
-after_first opens (act ∷ later) = if opens act then later else after_first opens later
+abbrev pub since_first : (Act → Bool) → List Act → List Act
+since_first opens [] = []
+since_first opens (act ∷ later) = if opens act then later else since_first opens later
 
 -- ---- spans
 
@@ -53,7 +53,7 @@ enters s _ = false
 
 -- what it did since it entered selector s
 abbrev pub since_entered : ℕ → List Act → List Act
-since_entered s own = after_first (enters s) own
+since_entered s own = since_first (enters s) own
 
 -- ---- tests of one act
 

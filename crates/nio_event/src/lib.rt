@@ -1,5 +1,5 @@
 //! The state of the sequential selector and what callers do to it: the calls of a script with
-//! their replies and texts.
+//! their replies and texts. The events of callers in threads, and the laws of their histories.
 #![tactic(auto)]
 
 pub use act::Act;
