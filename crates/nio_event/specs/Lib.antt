@@ -1,5 +1,17 @@
 pub mod State
 pub mod Sets
+pub mod Questions
+pub mod Acts
+pub mod Answers
+pub mod OwnEvents
+pub mod Conditions
+pub mod Histories
+pub mod Lasting
+pub mod Sound
+pub mod Staying
+pub mod OneProof
+pub mod Turns
+pub mod Worked
 pub mod Words
 pub mod Calls
 pub mod Replies

@@ -1,0 +1,54 @@
+-- What a change at one number, or at one pair of numbers, keeps.
+use Rattle.std.proofs.Common.{◌≡◌, ℕ, ◌==◌, Bool, true, false, cond, ◌&&◌, refl, ap, sym, subst, eqb-true, eq-eqb}
+use Rattle.std.proofs.lemmas.Bool.{and_parts, and_from}
+use Rattle.nio_event.specs.State.{put, put_at}
+
+-- a fact of what stands at a number stays where the new value has it
+pub put_keeps : {A : Type 0} (R : ℕ → A → Type 0) (f : ℕ → A) (i : ℕ) (x : A) → (R i (f i) → R i x)
+    → (n : ℕ) → R n (f n) → R n (put f i x n)
+put_keeps {A = A} R f i x new n here = by_test (n == i) refl
+  where
+    by_test : (b : Bool) → (n == i) ≡ b → R n (cond b x (f n))
+    by_test true e =
+        let same : n ≡ i = eqb-true n i e in
+        subst (λ (k : ℕ). R k x) (sym same) (new (subst (λ (k : ℕ). R k (f k)) same here))
+    by_test false e = here
+
+pub put_at_keeps : {A : Type 0} (R : ℕ → ℕ → A → Type 0) (f : ℕ → ℕ → A) (i j : ℕ) (x : A) → (R i j (f i j) → R i j x)
+    → (m n : ℕ) → R m n (f m n) → R m n (put_at f i j x m n)
+put_at_keeps {A = A} R f i j x new m n here = by_test ((m == i) && (n == j)) refl
+  where
+    by_test : (b : Bool) → ((m == i) && (n == j)) ≡ b → R m n (cond b x (f m n))
+    by_test true e =
+        let both = and_parts (m == i) (n == j) e in
+        let first : m ≡ i = eqb-true m i both.0 in
+        let second : n ≡ j = eqb-true n j both.1 in
+        let there : R i j (f i j) = subst (λ (k : ℕ). R i k (f i k)) second (subst (λ (k : ℕ). R k n (f k n)) first here) in
+        subst (λ (k : ℕ). R k n x) (sym first) (subst (λ (k : ℕ). R i k x) (sym second) (new there))
+    by_test false e = here
+
+-- a fact of what stands at a number stood before where the new value has it only then
+pub put_gave : {A : Type 0} (R : ℕ → A → Type 0) (f : ℕ → A) (i : ℕ) (x : A) → (R i x → R i (f i))
+    → (n : ℕ) → R n (put f i x n) → R n (f n)
+put_gave {A = A} R f i x old n now = by_test (n == i) refl now
+  where
+    by_test : (b : Bool) → (n == i) ≡ b → R n (cond b x (f n)) → R n (f n)
+    by_test true e now' =
+        let same : n ≡ i = eqb-true n i e in
+        subst (λ (k : ℕ). R k (f k)) (sym same) (old (subst (λ (k : ℕ). R k x) same now'))
+    by_test false e now' = now'
+
+pub put-same : {A : Type 0} (f : ℕ → A) (i : ℕ) (x : A) → put f i x i ≡ x
+put-same f i x = ap (λ b. cond b x (f i)) (eq-eqb i i refl)
+
+pub put_at-same : {A : Type 0} (f : ℕ → ℕ → A) (i j : ℕ) (x : A) → put_at f i j x i j ≡ x
+put_at-same f i j x = ap (λ b. cond b x (f i j)) (and_from (i == i) (j == j) (eq-eqb i i refl) (eq-eqb j j refl))
+
+-- a fact of what stands at a number in two functions stays where both new values have it
+pub put_both : {A B : Type 0} (R : ℕ → A → B → Type 0) (f : ℕ → A) (g : ℕ → B) (i : ℕ) (x : A) (y : B) → R i x y
+    → (n : ℕ) → R n (f n) (g n) → R n (put f i x n) (put g i y n)
+put_both {A = A} {B = B} R f g i x y new n here = by_test (n == i) refl
+  where
+    by_test : (b : Bool) → (n == i) ≡ b → R n (cond b x (f n)) (cond b y (g n))
+    by_test true e = subst (λ (k : ℕ). R k x y) (sym (eqb-true n i e)) new
+    by_test false e = here

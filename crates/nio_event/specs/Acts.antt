@@ -1,0 +1,118 @@
+-- What each kind of step does to the state. A step changes the part that it names, and nothing
+-- else; a step that only looks changes nothing. The lines stand in the order in which `Act` lists
+-- the kinds.
+use Rattle.std.specs.Prelude.{ℕ, max, true, false, not, ◌&&◌, ◌||◌, if◌then◌else◌, Option, Some, None, is_some, is_none, Result, Ok, Err, bit_and, bit_or}
+use Rattle.nio_base.specs.declared.kind.Kind.{Kind}
+use Rattle.nio_base.specs.declared.numbers.CallerNo.{CallerNo}
+use Rattle.nio_base.specs.declared.numbers.ChanNo.{ChanNo}
+use Rattle.nio_event.specs.State.{State, with_drawn, with_interrupted, with_selector, with_channels_mark, with_chan, with_hold, with_noted, with_gate, with_turn, with_keys_mark, with_key, with_interest, with_mark, with_note, with_begun, with_closer, with_entered}
+use Rattle.nio_event.specs.declared.act.Act.{Act}
+use Rattle.nio_event.specs.declared.act.Act.TheVariants.{DrawBit, MakeSelector, LookSelectors, Wake, LookGate, SetInterrupt, TakeInterrupt, LookInterrupt, LookKey, CancelKey, LookInterest, SwapInterest, OrInterest, AndInterest, SwapNote, LookNote, MakeChannel, LookChannel, Claim, RaiseKeys, LookKeys, Publish, LookReg, Enrol, TakeTurn, BeginLook, GiveTurn, Remove, LookMark, Mark, UnselectBit, EndWake, LookChannels, RaiseChannels, TryHoldBit, Release, SetMode, CloseBit, ShutBit, Enter}
+use Rattle.nio_event.specs.declared.found.Chan.{Chan}
+use Rattle.nio_event.specs.declared.found.Mark.{Mark as KeyMark}
+use Rattle.nio_event.specs.declared.found.Stage.{Stage}
+
+-- a new channel is open and in blocking mode
+abbrev pub new_channel : Kind → Chan
+new_channel kind = record { made = true; kind = kind; closed = false; blocking = true }
+
+-- an index that is claimed for a channel, and no more
+abbrev pub new_key : ChanNo → Stage
+new_key c = record { claimed = true; published = false; cancelled = false; removed = false; chan = c }
+
+-- who has a turn or a hold after `me` tried to take it: `me` where nobody had it
+abbrev pub taken_by : CallerNo → Option CallerNo → Option CallerNo
+taken_by me None = Some me
+taken_by me (Some n) = Some n
+
+-- a key that is told of: not selected, it becomes selected, and ready for exactly what is told;
+-- selected, its ready set gains what is told
+abbrev pub selected_with : KeyMark → ℕ → KeyMark
+selected_with from told = record { selected = true; ready = (if from.selected then bit_or from.ready told else told) }
+
+-- an exchange that failed changes nothing
+abbrev pub exchanged : KeyMark → KeyMark → Result (Unit {0}) KeyMark → KeyMark
+exchanged was made (Ok _) = made
+exchanged was made (Err _) = was
+
+abbrev pub effect : State → CallerNo → Act → State
+-- draws the number
+effect st me (DrawBit n found) = with_drawn st n.0 true
+-- makes the selector
+effect st me (MakeSelector s found) = with_selector st s.0 true
+-- looks
+effect st me (LookSelectors found) = st
+-- sets the wakeup
+effect st me (Wake s found) = with_gate st s.0 (record (st.gate s.0) { woken = true })
+-- looks
+effect st me (LookGate s found) = st
+-- sets the interrupt status of the caller that is named
+effect st me (SetInterrupt n found) = with_interrupted st n.0 true
+-- clears the interrupt status of the caller itself
+effect st me (TakeInterrupt found) = with_interrupted st me.0 false
+-- looks
+effect st me (LookInterrupt found) = st
+-- looks
+effect st me (LookKey s i found) = st
+-- the key is cancelled
+effect st me (CancelKey s i found) = with_key st s.0 i (record (st.key s.0 i) { cancelled = true })
+-- looks
+effect st me (LookInterest s i found) = st
+-- the interest set becomes these operations
+effect st me (SwapInterest s i ops found) = with_interest st s.0 i ops
+-- the interest set gains these operations
+effect st me (OrInterest s i ops found) = with_interest st s.0 i (bit_or (st.interest s.0 i) ops)
+-- the interest set keeps these operations alone
+effect st me (AndInterest s i ops found) = with_interest st s.0 i (bit_and (st.interest s.0 i) ops)
+-- the attachment becomes this one
+effect st me (SwapNote s i att found) = with_note st s.0 i att
+-- looks
+effect st me (LookNote s i found) = st
+-- where the channel wasn't made, it is made of this kind, in blocking mode
+effect st me (MakeChannel c kind found) = with_chan st c.0 (if found then st.chan c.0 else new_channel kind)
+-- looks
+effect st me (LookChannel c found) = st
+-- where the index wasn't claimed, it is claimed for the channel
+effect st me (Claim s i c found) = with_key st s.0 i (if found then st.key s.0 i else new_key c)
+-- the keys' mark is at least n
+effect st me (RaiseKeys s n found) = with_keys_mark st s.0 (max (st.keys_mark s.0) n)
+-- looks
+effect st me (LookKeys s found) = st
+-- the key is published
+effect st me (Publish s i found) = with_key st s.0 i (record (st.key s.0 i) { published = true })
+-- looks
+effect st me (LookReg c s found) = st
+-- the index is noted for the channel in the selector
+effect st me (Enrol c s i found) = with_noted st c.0 s.0 (Some i)
+-- where the turn was free, the caller has it, and hasn't begun
+effect st me (TakeTurn s found) = with_begun (with_turn st s.0 (taken_by me found)) s.0 (is_some found && st.begun s.0)
+-- where the gate isn't shut, the caller has begun
+effect st me (BeginLook s found) = with_begun st s.0 (st.begun s.0 || not found.shut)
+-- the turn is free, and nobody has begun
+effect st me (GiveTurn s) = with_begun (with_turn st s.0 None) s.0 false
+-- the key is removed
+effect st me (Remove s i found) = with_key st s.0 i (record (st.key s.0 i) { removed = true })
+-- looks
+effect st me (LookMark s i found) = st
+-- where the mark is the one that is named, the key becomes selected with what is told
+effect st me (Mark s i from told found) = with_mark st s.0 i (exchanged (st.mark s.0 i) (selected_with from told) found)
+-- the key isn't selected
+effect st me (UnselectBit s i found) = with_mark st s.0 i (record (st.mark s.0 i) { selected = false })
+-- clears the wakeup
+effect st me (EndWake s found) = with_gate st s.0 (record (st.gate s.0) { woken = false })
+-- looks
+effect st me (LookChannels found) = st
+-- the channels' mark is at least n
+effect st me (RaiseChannels n found) = with_channels_mark st (max st.channels_mark n)
+-- where nobody had the hold, the caller has it
+effect st me (TryHoldBit c found) = with_hold st c.0 (taken_by me found)
+-- nobody has the hold
+effect st me (Release c) = with_hold st c.0 None
+-- the channel is in this mode
+effect st me (SetMode c blocking found) = with_chan st c.0 (record (st.chan c.0) { blocking = blocking })
+-- the channel is closed
+effect st me (CloseBit c found) = with_chan st c.0 (record (st.chan c.0) { closed = true })
+-- the selector is shut; where it wasn't, the caller is its closer
+effect st me (ShutBit s found) = with_closer (with_gate st s.0 (record (st.gate s.0) { shut = true })) s.0 (if found then st.closer s.0 else Some me)
+-- where the turn is free, the closer has entered
+effect st me (Enter s found) = with_entered st s.0 (st.entered s.0 || is_none found)

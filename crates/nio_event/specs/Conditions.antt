@@ -1,0 +1,155 @@
+-- When a caller may make each kind of step. The lines stand in the order in which `Act` lists the
+-- kinds.
+--
+-- The numbers of a step are below the table's limits. What never goes back (made, claimed,
+-- published, cancelled, removed), who has a turn or a hold, who has begun, closes or has entered,
+-- and the channel of a claimed index are read in the state. That it claimed an index itself, and what
+-- else the caller has to have found, is read in its own acts: the latter under its present hold, or
+-- since it entered.
+use Rattle.std.specs.Prelude.{◌≡◌, ℕ, ◌==◌, ◌<◌, ◌≤◌, Bool, false, not, ◌&&◌, ◌||◌, Option, Some, None, is_some, List, IsTrue, ⊤}
+use Rattle.nio_base.specs.declared.limits.Limits.{Limits}
+use Rattle.nio_base.specs.declared.numbers.CallerNo.{CallerNo}
+use Rattle.nio_base.specs.declared.numbers.ChanNo.{ChanNo}
+use Rattle.nio_base.specs.declared.numbers.SelNo.{SelNo}
+use Rattle.nio_event.specs.OwnEvents.{has, last, under, since_entered, finds_unblocked, finds_below, claimed_for, is_clear}
+use Rattle.nio_event.specs.State.{State}
+use Rattle.nio_event.specs.declared.act.Act.{Act}
+use Rattle.nio_event.specs.declared.act.Act.TheVariants.{DrawBit, MakeSelector, LookSelectors, Wake, LookGate, SetInterrupt, TakeInterrupt, LookInterrupt, LookKey, CancelKey, LookInterest, SwapInterest, OrInterest, AndInterest, SwapNote, LookNote, MakeChannel, LookChannel, Claim, RaiseKeys, LookKeys, Publish, LookReg, Enrol, TakeTurn, BeginLook, GiveTurn, Remove, LookMark, Mark, UnselectBit, EndWake, LookChannels, RaiseChannels, TryHoldBit, Release, SetMode, CloseBit, ShutBit, Enter}
+
+-- ---- the numbers
+
+abbrev pub IsCaller : Limits → CallerNo → Type 0
+IsCaller l n = n.0 < l.callers
+
+abbrev pub IsSelector : Limits → SelNo → Type 0
+IsSelector l s = s.0 < l.selectors
+
+abbrev pub IsChannel : Limits → ChanNo → Type 0
+IsChannel l c = c.0 < l.channels
+
+abbrev pub IsKey : Limits → SelNo → ℕ → Type 0
+IsKey l s i = IsSelector l s × (i < l.keys)
+
+-- ---- what is read in the state
+
+abbrev pub is_made : State → ChanNo → Bool
+is_made st c = (st.chan c.0).made
+
+abbrev pub is_claimed : State → SelNo → ℕ → Bool
+is_claimed st s i = (st.key s.0 i).claimed
+
+-- every channel below n is made
+abbrev pub AllMade : State → ℕ → Type 0
+AllMade st n = (c : ℕ) → c < n → IsTrue (st.chan c).made
+
+-- every index of the selector below n is claimed
+abbrev pub AllClaimed : State → SelNo → ℕ → Type 0
+AllClaimed st s n = (i : ℕ) → i < n → IsTrue (st.key s.0 i).claimed
+
+-- the number that stands there, if any, is that of `me`
+abbrev pub is_held_by : CallerNo → Option CallerNo → Bool
+is_held_by me None = false
+is_held_by me (Some n) = n.0 == me.0
+
+-- `me` holds the channel
+abbrev pub holds : State → CallerNo → ChanNo → Bool
+holds st me c = is_held_by me (st.hold c.0)
+
+-- `me` has the turn of the selector
+abbrev pub has_turn : State → CallerNo → SelNo → Bool
+has_turn st me s = is_held_by me (st.turn s.0)
+
+-- `me` has the turn, and found the gate not shut since it took it
+abbrev pub has_begun : State → CallerNo → SelNo → Bool
+has_begun st me s = has_turn st me s && st.begun s.0
+
+-- `me` shut the selector
+abbrev pub is_closer : State → CallerNo → SelNo → Bool
+is_closer st me s = is_held_by me (st.closer s.0)
+
+-- `me` shut the selector, and found its turn free after that
+abbrev pub has_entered : State → CallerNo → SelNo → Bool
+has_entered st me s = is_closer st me s && st.entered s.0
+
+-- the channel that the index was claimed for
+abbrev pub channel_of : State → SelNo → ℕ → ChanNo
+channel_of st s i = (st.key s.0 i).chan
+
+-- a selecting caller removes a key that is published and cancelled
+abbrev pub may_sweep : State → CallerNo → SelNo → ℕ → Bool
+may_sweep st me s i = has_begun st me s && (st.key s.0 i).published && (st.key s.0 i).cancelled
+
+-- a closer that has entered removes an index that it found below the mark since
+abbrev pub may_clear_out : State → List Act → CallerNo → SelNo → ℕ → Bool
+may_clear_out st own me s i = has_entered st me s && has (finds_below s.0 i) (since_entered s.0 own)
+
+-- ---- the conditions
+
+-- `own` is what the caller did before
+abbrev pub Condition : Limits → List Act → State → CallerNo → Act → Type 0
+-- the caller draws its own number, and found it not drawn: else there is no event
+Condition l own st me (DrawBit n found) = IsCaller l n × (me ≡ n) × (found ≡ false)
+Condition l own st me (MakeSelector s found) = IsSelector l s
+Condition l own st me (LookSelectors found) = ⊤
+-- s is made
+Condition l own st me (Wake s found) = IsSelector l s × IsTrue (st.selector s.0)
+Condition l own st me (LookGate s found) = IsSelector l s
+Condition l own st me (SetInterrupt n found) = IsCaller l n
+Condition l own st me (TakeInterrupt found) = ⊤
+Condition l own st me (LookInterrupt found) = ⊤
+Condition l own st me (LookKey s i found) = IsKey l s i
+-- i is claimed
+Condition l own st me (CancelKey s i found) = IsKey l s i × IsTrue (is_claimed st s i)
+Condition l own st me (LookInterest s i found) = IsKey l s i
+Condition l own st me (SwapInterest s i ops found) = IsKey l s i
+Condition l own st me (OrInterest s i ops found) = IsKey l s i
+Condition l own st me (AndInterest s i ops found) = IsKey l s i
+Condition l own st me (SwapNote s i att found) = IsKey l s i
+Condition l own st me (LookNote s i found) = IsKey l s i
+-- all channels below c are made
+Condition l own st me (MakeChannel c kind found) = IsChannel l c × AllMade st c.0
+Condition l own st me (LookChannel c found) = IsChannel l c
+-- the caller holds c; all indexes below i are claimed
+Condition l own st me (Claim s i c found) = IsKey l s i × IsChannel l c × IsTrue (holds st me c) × AllClaimed st s i
+-- all indexes below n are claimed
+Condition l own st me (RaiseKeys s n found) = IsSelector l s × (n ≤ l.keys) × AllClaimed st s n
+Condition l own st me (LookKeys s found) = IsSelector l s
+-- the caller claimed i and holds its channel, which it found non-blocking under this hold
+Condition l own st me (Publish s i found) =
+    let c = channel_of st s i in
+    IsKey l s i × IsTrue (is_some (last (claimed_for s.0 i) own)) × IsTrue (holds st me c) × IsTrue (has (finds_unblocked c.0) (under c.0 own))
+Condition l own st me (LookReg c s found) = IsChannel l c × IsSelector l s
+-- the caller claimed i for c and holds c; the key noted before it found outside the key set, or
+-- there was none
+Condition l own st me (Enrol c s i found) =
+    IsChannel l c × IsKey l s i × (last (claimed_for s.0 i) own ≡ Some c) × IsTrue (holds st me c) × IsTrue (is_clear c.0 s.0 own)
+Condition l own st me (TakeTurn s found) = IsSelector l s
+-- the caller has the turn
+Condition l own st me (BeginLook s found) = IsSelector l s × IsTrue (has_turn st me s)
+-- the caller has the turn
+Condition l own st me (GiveTurn s) = IsSelector l s × IsTrue (has_turn st me s)
+-- either the caller has begun on s and the key is published and cancelled, or it has entered s and
+-- found i below its mark
+Condition l own st me (Remove s i found) = IsKey l s i × IsTrue (may_sweep st me s i || may_clear_out st own me s i)
+Condition l own st me (LookMark s i found) = IsKey l s i
+-- the caller has begun on s; what is told isn't empty
+Condition l own st me (Mark s i from told found) = IsKey l s i × IsTrue (has_begun st me s) × IsTrue (not (told == 0))
+Condition l own st me (UnselectBit s i found) = IsKey l s i
+-- the caller has begun on s
+Condition l own st me (EndWake s found) = IsSelector l s × IsTrue (has_begun st me s)
+Condition l own st me (LookChannels found) = ⊤
+-- all channels below n are made
+Condition l own st me (RaiseChannels n found) = (n ≤ l.channels) × AllMade st n
+-- c is made
+Condition l own st me (TryHoldBit c found) = IsChannel l c × IsTrue (is_made st c)
+-- the caller holds c
+Condition l own st me (Release c) = IsChannel l c × IsTrue (holds st me c)
+-- the caller holds c; for blocking mode, each noted key of c it found outside the key set, or not
+-- noted, under this hold
+Condition l own st me (SetMode c blocking found) =
+    IsChannel l c × IsTrue (holds st me c) × (IsTrue blocking → (s : ℕ) → s < l.selectors → IsTrue (is_clear c.0 s own))
+-- c is made
+Condition l own st me (CloseBit c found) = IsChannel l c × IsTrue (is_made st c)
+Condition l own st me (ShutBit s found) = IsSelector l s
+-- the caller is the closer
+Condition l own st me (Enter s found) = IsSelector l s × IsTrue (is_closer st me s)

@@ -1,0 +1,58 @@
+-- Facts of the state that last: those that nobody's act ends, and those of a caller that only its
+-- own acts end.
+use Rattle.std.specs.Prelude.{ℕ, nat_lt, Bool}
+use Rattle.nio_base.specs.declared.numbers.CallerNo.{CallerNo}
+use Rattle.nio_base.specs.declared.numbers.ChanNo.{ChanNo}
+use Rattle.nio_base.specs.declared.numbers.SelNo.{SelNo}
+use Rattle.nio_event.specs.Conditions.{holds, has_turn, has_begun, is_closer}
+use Rattle.nio_event.specs.OwnEvents.{gives_turn, releases}
+use Rattle.nio_event.specs.State.{State}
+use Rattle.nio_event.specs.declared.act.Act.{Act}
+
+-- what never goes back
+pub data LastingFact : Type 0 where
+  caller_drawn : ℕ → LastingFact
+  selector_made : ℕ → LastingFact
+  selector_shut : ℕ → LastingFact
+  selector_closed_by : SelNo → CallerNo → LastingFact
+  selector_entered : ℕ → LastingFact
+  channel_made : ℕ → LastingFact
+  channel_closed : ℕ → LastingFact
+  key_claimed : ℕ → ℕ → LastingFact
+  key_published : ℕ → ℕ → LastingFact
+  key_cancelled : ℕ → ℕ → LastingFact
+  key_removed : ℕ → ℕ → LastingFact
+  below_keys_mark : ℕ → ℕ → LastingFact
+  below_channels_mark : ℕ → LastingFact
+
+abbrev pub stands : LastingFact → State → Bool
+stands (caller_drawn n) st = st.drawn n
+stands (selector_made s) st = st.selector s
+stands (selector_shut s) st = (st.gate s).shut
+stands (selector_closed_by s n) st = is_closer st n s
+stands (selector_entered s) st = st.entered s
+stands (channel_made c) st = (st.chan c).made
+stands (channel_closed c) st = (st.chan c).closed
+stands (key_claimed s i) st = (st.key s i).claimed
+stands (key_published s i) st = (st.key s i).published
+stands (key_cancelled s i) st = (st.key s i).cancelled
+stands (key_removed s i) st = (st.key s i).removed
+stands (below_keys_mark s i) st = nat_lt i (st.keys_mark s)
+stands (below_channels_mark c) st = nat_lt c st.channels_mark
+
+-- what a caller has until it gives it back itself
+pub data OwnFact : Type 0 where
+  the_turn : SelNo → OwnFact
+  a_selection : SelNo → OwnFact
+  the_hold : ChanNo → OwnFact
+
+abbrev pub is_had_by : CallerNo → OwnFact → State → Bool
+is_had_by n (the_turn s) st = has_turn st n s
+is_had_by n (a_selection s) st = has_begun st n s
+is_had_by n (the_hold c) st = holds st n c
+
+-- the act by which it gives that back
+abbrev pub gives_back : OwnFact → Act → Bool
+gives_back (the_turn s) act = gives_turn s.0 act
+gives_back (a_selection s) act = gives_turn s.0 act
+gives_back (the_hold c) act = releases c.0 act

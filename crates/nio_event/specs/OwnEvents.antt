@@ -1,0 +1,112 @@
+-- What a caller knows from its own acts: general words over the list of its acts, oldest first, and
+-- small tests of one act. What is "found" is what a look found.
+use Rattle.std.specs.Prelude.{ℕ, ◌==◌, nat_lt, Bool, true, false, not, ◌&&◌, if◌then◌else◌, Option, Some, None, List, [], ◌∷◌, ◌++◌, fold, count_by}
+use Rattle.std.specs.List.{list_any}
+use Rattle.std.specs.Option.{option_or}
+use Rattle.nio_base.specs.declared.numbers.ChanNo.{ChanNo}
+use Rattle.nio_event.specs.Sets.{in_key_set}
+use Rattle.nio_event.specs.declared.act.Act.{Act}
+use Rattle.nio_event.specs.declared.act.Act.TheVariants.{LookKey, LookChannel, Claim, LookKeys, LookReg, Enrol, GiveTurn, TryHoldBit, Release, SetMode, Enter}
+
+-- ---- general words
+
+-- it did such an act
+abbrev pub has : (Act → Bool) → List Act → Bool
+has p own = list_any p own
+
+-- how many such acts it did
+abbrev pub count : (Act → Bool) → List Act → ℕ
+count p own = count_by p own
+
+-- what the first act tells that tells anything
+abbrev pub first : {A : Type 0} → (Act → Option A) → List Act → Option A
+first tells own = fold (λ told act. option_or told (tells act)) None own
+
+-- what the last act tells that tells anything
+abbrev pub last : {A : Type 0} → (Act → Option A) → List Act → Option A
+last tells own = fold (λ told act. option_or (tells act) told) None own
+
+-- what it did after the last act that opens a span
+abbrev pub since_from : (Act → Bool) → List Act → List Act
+since_from opens own = fold (λ since act. if opens act then [] else since ++ act ∷ []) [] own
+
+-- what it did after the first act that opens a span
+abbrev pub since_first : (Act → Bool) → List Act → List Act
+since_first opens [] = []
+since_first opens (act ∷ later) = if opens act then later else since_first opens later
+
+-- ---- spans
+
+-- it took the hold of channel c
+abbrev pub takes_hold : ℕ → Act → Bool
+takes_hold c (TryHoldBit c' None) = c'.0 == c
+takes_hold c _ = false
+
+-- what it did under its present hold of channel c
+abbrev pub under : ℕ → List Act → List Act
+under c own = since_from (takes_hold c) own
+
+-- it found the turn of selector s free, as the closer
+abbrev pub enters : ℕ → Act → Bool
+enters s (Enter s' None) = s'.0 == s
+enters s _ = false
+
+-- what it did since it entered selector s
+abbrev pub since_entered : ℕ → List Act → List Act
+since_entered s own = since_first (enters s) own
+
+-- ---- tests of one act
+
+-- it found channel c in non-blocking mode
+abbrev pub finds_unblocked : ℕ → Act → Bool
+finds_unblocked c (LookChannel c' found) = (c'.0 == c) && not found.blocking
+finds_unblocked c _ = false
+
+-- it set the mode of channel c
+abbrev pub sets_mode : ℕ → Act → Bool
+sets_mode c (SetMode c' blocking found) = c'.0 == c
+sets_mode c _ = false
+
+-- it found the key outside the key set: removed, or not published
+abbrev pub finds_outside : ℕ → ℕ → Act → Bool
+finds_outside s i (LookKey s' i' found) = (s'.0 == s) && (i' == i) && not (in_key_set found)
+finds_outside s i _ = false
+
+-- it found the keys' mark of selector s above index i
+abbrev pub finds_below : ℕ → ℕ → Act → Bool
+finds_below s i (LookKeys s' found) = (s'.0 == s) && nat_lt i found
+finds_below s i _ = false
+
+-- the channel for which it claimed the key's index
+abbrev pub claimed_for : ℕ → ℕ → Act → Option ChanNo
+claimed_for s i (Claim s' i' c false) = if (s'.0 == s) && (i' == i) then Some c else None
+claimed_for s i _ = None
+
+-- which key it found noted for channel c in selector s, or noted there
+abbrev pub noted_found : ℕ → ℕ → Act → Option (Option ℕ)
+noted_found c s (LookReg c' s' found) = if (c'.0 == c) && (s'.0 == s) then Some found else None
+noted_found c s (Enrol c' s' i _) = if (c'.0 == c) && (s'.0 == s) then Some (Some i) else None
+noted_found c s _ = None
+
+-- it gave back the turn of selector s
+abbrev pub gives_turn : ℕ → Act → Bool
+gives_turn s (GiveTurn s') = s'.0 == s
+gives_turn s _ = false
+
+-- it gave back the hold of channel c
+abbrev pub releases : ℕ → Act → Bool
+releases c (Release c') = c'.0 == c
+releases c _ = false
+
+-- ---- a channel's noted key
+
+-- it knows that no key of the key set is noted: none was noted, or the one that was it found
+-- outside the key set
+abbrev pub is_clear_by : ℕ → List Act → Option (Option ℕ) → Bool
+is_clear_by s held None = false
+is_clear_by s held (Some None) = true
+is_clear_by s held (Some (Some i)) = has (finds_outside s i) held
+
+-- it knows that of channel c in selector s, by what it did under its present hold of c
+abbrev pub is_clear : ℕ → ℕ → List Act → Bool
+is_clear c s own = is_clear_by s (under c own) (last (noted_found c s) (under c own))

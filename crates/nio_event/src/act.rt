@@ -1,0 +1,92 @@
+//! The kinds of atomic step. Each step reads or changes one part of the shared state, at one
+//! moment, and finds what stood there before.
+use crate::found::{Chan, GateWord, Mark, Stage};
+use nio_base::{CallerNo, ChanNo, Kind, Ops, SelNo};
+
+/// A step: its kind, its parameters in their order, and last what it found, which is its answer.
+/// A step that changes a part of the state finds what stood there before.
+#[derive(Clone, Copy, Debug)]
+pub enum Act {
+    /// Draws a caller's number: whether it was drawn.
+    DrawBit(CallerNo, bool),
+    /// Makes a selector: whether it was made.
+    MakeSelector(SelNo, bool),
+    /// Looks at all selectors: bit s of the answer is set where selector s is made.
+    LookSelectors(u64),
+    /// Leaves a wakeup: whether one was pending.
+    Wake(SelNo, bool),
+    /// Looks at a selector's gate.
+    LookGate(SelNo, GateWord),
+    /// Sets a caller's interrupt status: whether it was set.
+    SetInterrupt(CallerNo, bool),
+    /// Clears the caller's own interrupt status: whether it was set.
+    TakeInterrupt(bool),
+    /// Looks at the caller's own interrupt status.
+    LookInterrupt(bool),
+    /// Looks at how far a key's index has come.
+    LookKey(SelNo, u32, Stage),
+    /// Cancels a key.
+    CancelKey(SelNo, u32, Stage),
+    /// Looks at a key's interest set.
+    LookInterest(SelNo, u32, Ops),
+    /// Puts an interest set in the place of a key's own.
+    SwapInterest(SelNo, u32, Ops, Ops),
+    /// Adds operations to a key's interest set.
+    OrInterest(SelNo, u32, Ops, Ops),
+    /// Keeps of a key's interest set only what the given set has too.
+    AndInterest(SelNo, u32, Ops, Ops),
+    /// Puts an attachment in the place of a key's own.
+    SwapNote(SelNo, u32, u64, u64),
+    /// Looks at a key's attachment.
+    LookNote(SelNo, u32, u64),
+    /// Makes a channel of this kind, open and in blocking mode: whether it was made.
+    MakeChannel(ChanNo, Kind, bool),
+    /// Looks at a channel.
+    LookChannel(ChanNo, Chan),
+    /// Claims an index of a selector for a key of this channel: whether it was claimed.
+    Claim(SelNo, u32, ChanNo, bool),
+    /// Raises a selector's keys' mark to this number, unless it is as high.
+    RaiseKeys(SelNo, u32, u32),
+    /// Looks at a selector's keys' mark.
+    LookKeys(SelNo, u32),
+    /// Publishes a key: its registration is complete.
+    Publish(SelNo, u32, Stage),
+    /// Looks at which key is noted for a channel in a selector.
+    LookReg(ChanNo, SelNo, Option<u32>),
+    /// Notes a key for a channel in a selector.
+    Enrol(ChanNo, SelNo, u32, Option<u32>),
+    /// Takes the turn to select on a selector, where nobody has it: who had it.
+    TakeTurn(SelNo, Option<CallerNo>),
+    /// Looks at a selector's gate as the holder of its turn, and begins a selection where it isn't
+    /// shut.
+    BeginLook(SelNo, GateWord),
+    /// Gives the turn back, and ends the selection.
+    GiveTurn(SelNo),
+    /// Removes a key from its selector.
+    Remove(SelNo, u32, Stage),
+    /// Looks at whether a key is selected, and at its ready set.
+    LookMark(SelNo, u32, Mark),
+    /// Selects a key for what the poller told of it, where its mark is the one that is named: the
+    /// error is the mark that stands there.
+    Mark(SelNo, u32, Mark, Ops, Result<(), Mark>),
+    /// Takes a key out of the selected set: whether it was selected.
+    UnselectBit(SelNo, u32, bool),
+    /// Clears a selector's wakeup.
+    EndWake(SelNo, GateWord),
+    /// Looks at the channels' mark.
+    LookChannels(u32),
+    /// Raises the channels' mark to this number, unless it is as high.
+    RaiseChannels(u32, u32),
+    /// Takes the hold of a channel, where nobody has it: who had it.
+    TryHoldBit(ChanNo, Option<CallerNo>),
+    /// Gives the hold of a channel back.
+    Release(ChanNo),
+    /// Sets whether a channel is in blocking mode.
+    SetMode(ChanNo, bool, Chan),
+    /// Closes a channel: whether it was closed.
+    CloseBit(ChanNo, bool),
+    /// Shuts a selector, and makes the caller its closer where it wasn't shut: whether it was shut.
+    ShutBit(SelNo, bool),
+    /// Looks at the turn as the selector's closer, and enters where nobody has it: who has it.
+    Enter(SelNo, Option<CallerNo>),
+}
