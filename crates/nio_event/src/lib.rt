@@ -1,0 +1,13 @@
+//! The state of the sequential selector and what callers do to it: the calls of a script with
+//! their replies and texts.
+#![tactic(auto)]
+
+pub use call::{Call, ScriptCall, Waiting};
+pub use found::{Chan, GateWord, Mark, Mode, Stage};
+pub use pairs::Pairs;
+pub use reply::{Reply, Why};
+
+mod call;
+mod found;
+mod pairs;
+mod reply;
