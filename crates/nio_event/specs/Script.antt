@@ -14,10 +14,10 @@ lines_of text = slice_split (λ b. b == 10) text
 
 -- lines are these calls in this order, and blank lines among them
 pub data AreCalls : List (List ℕ) → List ScriptCall → Type 0 where
-  end : AreCalls [] []
-  blank : {line : List ℕ} {lines : List (List ℕ)} {calls : List ScriptCall}
+  no_lines : AreCalls [] []
+  blank_line : {line : List ℕ} {lines : List (List ℕ)} {calls : List ScriptCall}
       → IsBlank line → AreCalls lines calls → AreCalls (line ∷ lines) calls
-  call : {line : List ℕ} {lines : List (List ℕ)} {caller : CallerNo} {c : Call} {calls : List ScriptCall}
+  call_line : {line : List ℕ} {lines : List (List ℕ)} {caller : CallerNo} {c : Call} {calls : List ScriptCall}
       → IsLine caller c line → AreCalls lines calls
       → AreCalls (line ∷ lines) (record { caller = caller; call = c } ∷ calls)
 
@@ -27,8 +27,8 @@ IsScript text calls = AreCalls (lines_of text) calls
 
 -- a line that is in the grammar of scripts: it is blank, or a call of a caller
 pub data IsInGrammar : List ℕ → Type 0 where
-  blank : {line : List ℕ} → IsBlank line → IsInGrammar line
-  call : {line : List ℕ} (caller : CallerNo) (c : Call) → IsLine caller c line → IsInGrammar line
+  is_blank : {line : List ℕ} → IsBlank line → IsInGrammar line
+  is_call : {line : List ℕ} (caller : CallerNo) (c : Call) → IsLine caller c line → IsInGrammar line
 
 -- line number n, counted from 1 over all lines, is the first that isn't in the grammar
 pub record IsFirstBad (text : List ℕ) (n : ℕ) : Type 0 where
