@@ -4,3 +4,4 @@ pub mod Words
 pub mod Calls
 pub mod Replies
 pub mod Script
+pub mod Parsed

@@ -5,9 +5,11 @@
 pub use call::{Call, ScriptCall, Waiting};
 pub use found::{Chan, GateWord, Mark, Mode, Stage};
 pub use pairs::Pairs;
+pub use parse::{ParseError, Parsed, parse_line};
 pub use reply::{Reply, Why};
 
 mod call;
 mod found;
 mod pairs;
+mod parse;
 mod reply;

@@ -1,10 +1,12 @@
-//! Commands over bytes: how they read their input, write their output and end.
+//! Scripts: from the bytes that come in to the bytes that go out.
 #![tactic(auto)]
 
 pub use input::{LONGEST_INPUT, read_input};
 pub use output::{write_all, write_out};
+pub use script::{ScriptError, parse_script};
 pub use status::Status;
 
 mod input;
 mod output;
+mod script;
 mod status;
