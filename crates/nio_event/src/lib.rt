@@ -6,10 +6,12 @@ pub use call::{Call, ScriptCall, Waiting};
 pub use found::{Chan, GateWord, Mark, Mode, Stage};
 pub use pairs::Pairs;
 pub use parse::{ParseError, Parsed, parse_line};
+pub use print::print_line;
 pub use reply::{Reply, Why};
 
 mod call;
 mod found;
 mod pairs;
 mod parse;
+mod print;
 mod reply;

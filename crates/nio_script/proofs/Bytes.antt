@@ -1,6 +1,6 @@
 -- Lemmas on known bytes.
-use Rattle.std.proofs.Common.{◌≡◌, ℕ, List, [], ◌++◌, Some, None, refl, sym, ap, append_assoc, append-nil}
-use Rattle.std.specs.Prelude.{Option}
+use Rattle.std.proofs.Common.{◌≡◌, ℕ, List, [], ◌++◌, Some, None, refl, sym, ap, subst, append_assoc, append-nil}
+use Rattle.std.specs.Prelude.{Option, IfSome}
 use Rattle.std.specs.Io.KnownBytes.{prepend_known, append_known}
 
 -- bytes in front of nothing
@@ -22,3 +22,8 @@ append_known-nil (Some xs) = ap Some (append-nil xs)
 pub append_known-append : (known : Option (List ℕ)) (bytes more : List ℕ) → append_known known (bytes ++ more) ≡ append_known (append_known known bytes) more
 append_known-append None bytes more = refl
 append_known-append (Some xs) bytes more = ap Some (sym (append_assoc xs bytes more))
+
+-- what holds of the bytes that the known ones are holds of these
+pub if_known : (known : Option (List ℕ)) (bytes : List ℕ) (IsSo : List ℕ → Type 0) → IfSome known (λ xs. xs ≡ bytes) → IsSo bytes → IfSome known IsSo
+if_known None bytes IsSo same so = tt
+if_known (Some xs) bytes IsSo same so = subst IsSo (sym same) so

@@ -1,5 +1,5 @@
 -- What the writing of output does to its sink.
-use Rattle.std.specs.Prelude.{◌≡◌, ℕ, List, take, IfSome, IsTrue}
+use Rattle.std.specs.Prelude.{◌≡◌, ℕ, List, ◌++◌, take, IfSome, IsTrue}
 use Rattle.std.specs.Io.KnownBytes.{append_known}
 use Rattle.nio_bytes.specs.declared.sink.Sink as sink
 
@@ -15,3 +15,9 @@ WritesPrefix k old new bytes = (count : ℕ) × Writes k old new (take count byt
 pub record IsWritten {K : Type 0} (k : sink.Ghosts K) (old new : K) (bytes : List ℕ) : Type 0 where
   pub taken : Writes k old new bytes
   pub flushed : IfSome (k.flushed new) IsTrue
+
+-- Some bytes were written; with what is kept back now they are what was kept back and the line.
+pub record Gathers {K : Type 0} (k : sink.Ghosts K) (old new : K) (kept kept' line : List ℕ) : Type 0 where
+  pub bytes : List ℕ
+  pub written : Writes k old new bytes
+  pub rest : bytes ++ kept' ≡ kept ++ line

@@ -3,10 +3,12 @@
 
 pub use input::{LONGEST_INPUT, read_input};
 pub use output::{write_all, write_out};
+pub use run::run_script;
 pub use script::{ScriptError, parse_script};
 pub use status::Status;
 
 mod input;
 mod output;
+mod run;
 mod script;
 mod status;
