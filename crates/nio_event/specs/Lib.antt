@@ -4,4 +4,9 @@ pub mod Words
 pub mod Calls
 pub mod Replies
 pub mod Script
-pub mod Parsed
+pub mod Reading
+pub mod CallWords
+pub mod Arguments
+pub mod Dispatch
+pub mod Lines
+pub mod Printing

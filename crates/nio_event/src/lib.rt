@@ -5,11 +5,12 @@
 pub use call::{Call, ScriptCall, Waiting};
 pub use found::{Chan, GateWord, Mark, Mode, Stage};
 pub use pairs::Pairs;
-pub use parse::{ParseError, Parsed, parse_line};
+pub use parse::{parse_line, ParseError, Parsed};
 pub use print::print_line;
 pub use reply::{Reply, Why};
 
 mod call;
+mod call_word;
 mod found;
 mod pairs;
 mod parse;

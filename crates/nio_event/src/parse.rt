@@ -1,32 +1,76 @@
 //! Reading the lines of a script.
-ghost use Rattle.std.specs.Prelude.{◌≡◌, ◌≢◌, ◌↔◌, List, IfOk, Ok, Err};
+ghost use Rattle.std.specs.Prelude.{◌≡◌, ◌≢◌, ◌↔◌, IsTrue};
 ghost use Rattle.nio_event.specs.Calls.{IsBlank, IsLine};
 ghost use Rattle.nio_event.specs.Script.{IsInGrammar};
-ghost use Rattle.nio_event.specs.Parsed.{IsFound};
-ghost use Rattle.nio_event.specs.declared.call.Call.{Call};
-ghost use Rattle.nio_base.specs.declared.numbers.CallerNo.{CallerNo};
 
 use crate::call::Call;
+use line::read_line;
 use nio_base::CallerNo;
 use std::alloc::{AllocError, Global};
+use thiserror::Error;
 
+mod arguments;
+mod cut;
+mod line;
+mod name;
+mod number;
+mod read_call;
+mod told;
+mod words;
+
+/// What a line of a script says.
 #[derive(Debug, Drop)]
 pub enum Parsed {
+    /// Nothing: the line is empty, or a comment.
     Blank,
+    /// A call, and who makes it.
     Line { caller: CallerNo, call: Call },
 }
 
-#[derive(Clone, Copy, Debug, PartialEq, Eq)]
+#[derive(Debug, Drop, Error)]
 pub enum ParseError {
+    /// The line isn't in the grammar of scripts.
+    #[error("malformed line")]
     Malformed,
+    #[error("out of memory")]
     Memory,
 }
 
+impl From<AllocError> for ParseError {
+    ghost use Rattle.nio_event.specs.declared.parse.ParseError.TheVariants.{Memory};
+
+    ghost from_gives = { λ _ e. e ≡ Memory };
+
+    fn from(_error: AllocError) -> Self {
+        ParseError::Memory
+    }
+}
+
+/// Reads a line of a script, without its newline.
 pub fn parse_line(alloc: Global, line: &[u8]) -> Result<Parsed, ParseError>
-    ensures found { IfOk result (IsFound line.now) }
-    ensures only { (caller : CallerNo) (call : Call) → IsLine caller call line.now → result ≢ Err ParseError.Memory → result ≡ Ok (Parsed.Line caller call) }
-    ensures blank { IsBlank line.now → result ≢ Err ParseError.Memory → result ≡ Ok Parsed.Blank }
-    ensures malformed { result ≡ Err ParseError.Malformed → IsInGrammar line.now → ⊥ }
+    ensures blank { result ≡ Ok Parsed.Blank ↔ IsBlank line.now }
+    ensures found { (caller : CallerNo) (call : Call)
+        → result ≡ Ok (Parsed.Line caller call) → IsLine caller call line.now }
+    ensures only { (caller : CallerNo) (call : Call)
+        → IsLine caller call line.now → result ≢ Err ParseError.Memory
+        → result ≡ Ok (Parsed.Line caller call) }
+    ensures malformed { result ≢ Err ParseError.Memory
+        → (result ≡ Err ParseError.Malformed ↔ (IsInGrammar line.now → ⊥)) }
 {
-    Err(ParseError::Memory)
+    if is_blank(line) {
+        return Ok(Parsed::Blank);
+    }
+    match read_line(alloc, line)? {
+        Some((caller, call)) => Ok(Parsed::Line { caller, call }),
+        None => Err(ParseError::Malformed),
+    }
+}
+
+fn is_blank(line: &[u8]) -> bool
+    ensures { IsTrue result ↔ IsBlank line.now }
+{
+    match line.first() {
+        None => true,
+        Some(byte) => *byte == b'#',
+    }
 }

@@ -1,21 +1,39 @@
-//! Printing the lines of a history.
+//! Writing the lines of a history.
 ghost use Rattle.std.specs.Prelude.{◌≡◌, IfOk};
 ghost use Rattle.nio_event.specs.Replies.{history_line};
 
 use crate::call::Call;
 use crate::reply::Reply;
+use call::push_line_text;
 use nio_base::CallerNo;
+use piece::{push_bytes, push_number};
+use reply::push_reply;
 use std::alloc::{AllocError, Global};
 
-/// A stand-in, which a proved body replaces.
+mod arguments;
+mod call;
+mod piece;
+mod reply;
+
+/// Most lines of a history have fewer bytes.
+const USUAL_LENGTH: usize = 64;
+
+/// The line of a history for call number `number`, with its newline.
 pub fn print_line(
-    _alloc: Global,
-    _number: u64,
-    _caller: CallerNo,
-    _call: &Call,
-    _reply: &Reply,
+    alloc: Global,
+    number: u64,
+    caller: CallerNo,
+    call: &Call,
+    reply: &Reply,
 ) -> Result<Vec<u8>, AllocError>
-    ensures { IfOk result (λ line. line.items ≡ history_line _number _caller _call.now _reply.now) }
+    ensures { IfOk result (λ bytes. bytes.items ≡ history_line number caller call.now reply.now) }
 {
-    Err(AllocError)
+    let mut line = Vec::with_capacity(alloc, USUAL_LENGTH)?;
+    push_number(&mut line, number)?;
+    push_bytes(&mut line, b" ")?;
+    push_line_text(&mut line, caller, call)?;
+    push_bytes(&mut line, b" -> ")?;
+    push_reply(&mut line, reply)?;
+    push_bytes(&mut line, b"\n")?;
+    Ok(line)
 }

@@ -1,0 +1,10 @@
+pub mod Readers
+pub mod Numbers
+pub mod Cuts
+pub mod Names
+pub mod CallWordTable
+pub mod PairLists
+pub mod CallWordDispatch
+pub mod Spaces
+pub mod LineTexts
+pub mod JoinedWords

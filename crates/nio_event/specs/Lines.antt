@@ -1,0 +1,18 @@
+-- What a line is read as: a caller and a call.
+use Rattle.std.specs.Prelude.{◌≡◌, ℕ, ◌<◌, List, ◌∷◌, Option, Some, IfSome}
+use Rattle.nio_base.specs.declared.numbers.CallerNo.{CallerNo}
+use Rattle.nio_event.specs.Calls.{IsCall, IsLine, call_words}
+use Rattle.nio_event.specs.Words.{caller_word}
+use Rattle.nio_event.specs.declared.call.Call.{Call}
+
+pub record FitsLine (p : CallerNo × Call) : Type 0 where
+  pub caller : p.0.0 < 64
+  pub call : IsCall p.1
+
+abbrev pub line_words : CallerNo × Call → List (List ℕ)
+line_words p = caller_word p.0 ∷ call_words p.1
+
+-- the answer is the caller and the call that these bytes are a line of, where there are any
+pub record ReadsLine (bytes : List ℕ) (result : Option (CallerNo × Call)) : Type 0 where
+  pub found : IfSome result (λ p. IsLine p.0 p.1 bytes)
+  pub only : (caller : CallerNo) (call : Call) → IsLine caller call bytes → result ≡ Some (caller, call)

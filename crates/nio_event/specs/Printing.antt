@@ -1,0 +1,7 @@
+-- How words follow one another.
+use Rattle.std.specs.Prelude.{ℕ, List, ◌∷◌}
+use Rattle.std.specs.List.{flat_map}
+
+-- each word after a space
+abbrev pub spaced : List (List ℕ) → List ℕ
+spaced words = flat_map (λ w. 32 ∷ w) words

@@ -1,0 +1,48 @@
+//! Reading a selector and pairs of keys and operations, as many as there are.
+ghost use Rattle.std.specs.Prelude.{◌≡◌, ◌==◌, ◌↔◌, ◌<◌, ◌^◌, IsTrue, Any, IfOk, map, option_map};
+ghost use Rattle.nio_event.specs.Arguments.{PairsFit, ToldFits, told_words};
+ghost use Rattle.nio_event.specs.Reading.{Reads};
+ghost use Rattle.nio_event.specs.Words.{pair_word};
+
+use super::name::{read_pair, read_selector};
+use crate::pairs::Pairs;
+use nio_base::{Ops, SelNo};
+use std::alloc::{AllocError, Global};
+
+/// A selector, and pairs that name each key at most once.
+pub fn read_told(alloc: Global, args: &[&[u8]]) -> Result<Option<(SelNo, Pairs)>, AllocError>
+    ensures { IfOk result (Reads ToldFits told_words (map (λ w. w.now) args.now)) }
+{
+    let Some((selector, pairs)) = args.split_first() else {
+        return Ok(None);
+    };
+    let Some(selector) = read_selector(selector) else {
+        return Ok(None);
+    };
+    let Some(pairs) = read_pairs(alloc, pairs)? else {
+        return Ok(None);
+    };
+    Ok(Some((selector, Pairs::from_vec(pairs))))
+}
+
+fn read_pairs(alloc: Global, words: &[&[u8]]) -> Result<Option<Vec<(u32, Ops)>>, AllocError>
+    ensures { IfOk result (λ r. Reads PairsFit (map pair_word) (map (λ w. w.now) words.now) (option_map (λ v. v.items) r)) }
+{
+    let mut pairs = Vec::with_capacity(alloc, words.len())?;
+    for word in words {
+        let Some(pair) = read_pair(word) else {
+            return Ok(None);
+        };
+        if has_key(&pairs, pair.0) {
+            return Ok(None);
+        }
+        pairs.push(pair)?;
+    }
+    Ok(Some(pairs))
+}
+
+fn has_key(pairs: &[(u32, Ops)], key: u32) -> bool
+    ensures { IsTrue result ↔ Any (λ p. p.0 ≡ key) pairs.now }
+{
+    pairs.iter().any(|pair| pair.0 == key)
+}

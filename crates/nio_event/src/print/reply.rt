@@ -1,0 +1,67 @@
+//! Writing a reply.
+ghost use Rattle.std.specs.Prelude.{◌≡◌, ◌++◌, OnOk};
+ghost use Rattle.nio_event.specs.Printing.{spaced};
+ghost use Rattle.nio_event.specs.Replies.{pairs_words, reply_text, why_word};
+
+use super::piece::{push_bytes, push_number, push_numbered, push_pairs, push_word};
+use crate::reply::{Reply, Why};
+use nio_base::Ops;
+use std::alloc::AllocError;
+
+pub fn push_reply(line: &mut Vec<u8>, reply: &Reply) -> Result<(), AllocError>
+    ensures { OnOk result (line.new.items ≡ line.old.items ++ reply_text reply.now) }
+{
+    match reply {
+        Reply::Selector(selector) => push_numbered(line, b's', selector.0),
+        Reply::Channel(channel) => push_numbered(line, b'c', channel.0),
+        Reply::Key(index) => push_numbered(line, b'k', *index),
+        Reply::Ok => push_bytes(line, b"ok"),
+        Reply::Looked(pairs) => {
+            push_bytes(line, b"looked")?;
+            push_pairs_or_none(line, pairs.as_slice())
+        }
+        Reply::Selected(count, why) => {
+            push_bytes(line, b"selected ")?;
+            push_number(line, u64::from(*count))?;
+            push_word(line, why_text(*why))
+        }
+        Reply::Again => push_bytes(line, b"again"),
+        Reply::SelectorsSpent => push_bytes(line, b"selectors-spent"),
+        Reply::ChannelsSpent => push_bytes(line, b"channels-spent"),
+        Reply::ClosedChannel => push_bytes(line, b"closed-channel"),
+        Reply::IllegalBlockingMode => push_bytes(line, b"illegal-blocking-mode"),
+        Reply::IllegalOps => push_bytes(line, b"illegal-ops"),
+        Reply::CancelledKey => push_bytes(line, b"cancelled-key"),
+        Reply::ClosedSelector => push_bytes(line, b"closed-selector"),
+        Reply::Full => push_bytes(line, b"full"),
+        Reply::Busy => push_bytes(line, b"busy"),
+        Reply::NotSelecting => push_bytes(line, b"not-selecting"),
+        Reply::NoCaller => push_bytes(line, b"no-caller"),
+        Reply::NoSelector => push_bytes(line, b"no-selector"),
+        Reply::NoChannel => push_bytes(line, b"no-channel"),
+    }
+}
+
+/// Keys with operations, or `none`, each after a space.
+fn push_pairs_or_none(line: &mut Vec<u8>, pairs: &[(u32, Ops)]) -> Result<(), AllocError>
+    ensures { OnOk result (line.new.items ≡ line.old.items ++ spaced (pairs_words pairs.now)) }
+{
+    if pairs.is_empty() {
+        push_word(line, b"none")
+    } else {
+        push_pairs(line, pairs)
+    }
+}
+
+fn why_text(why: Why) -> &'static [u8]
+    ensures { result.now ≡ why_word why }
+{
+    match why {
+        Why::Ready => b"ready",
+        Why::Closed => b"closed",
+        Why::Now => b"now",
+        Why::Woken => b"woken",
+        Why::Interrupted => b"interrupted",
+        Why::Elapsed => b"elapsed",
+    }
+}
