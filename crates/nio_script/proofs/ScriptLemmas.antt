@@ -1,15 +1,20 @@
 -- How the calls of a text grow by a line.
 use Rattle.std.proofs.Common.{◌≡◌, ℕ, zero, suc, ◌+◌, ◌<◌, ◌≤◌, List, [], ◌∷◌, ◌++◌, length, drop, take, get_or, refl, sym, ◌∙◌, ap, subst, append_assoc, append-nil, arith, add-one, drop-cons}
-use Rattle.std.specs.Prelude.{All, map}
+use Rattle.std.specs.Prelude.{All, map, ◌≢◌, Result, Ok, Err}
 use Rattle.std.specs.Borrow.{Bor}
 use Rattle.std.proofs.lemmas.List.Elements.{All-append}
 use Rattle.std.proofs.Math.ListN.{drop_of_length-le, get_or-map}
 use Rattle.std.proofs.Math.Seq.{take-suc}
 use Rattle.std.proofs.lemmas.List.{take-append-drop, length-take-le, get_or_default}
 use Rattle.nio_base.specs.declared.numbers.CallerNo.{CallerNo}
+use Rattle.nio_event.specs.Calls.{IsBlank, IsLine}
 use Rattle.nio_event.specs.Script.{lines_of, IsFirstBad, AreCalls, no_lines, blank_line, call_line, IsInGrammar, is_blank, is_call}
 use Rattle.nio_event.specs.declared.call.Call.{Call}
 use Rattle.nio_event.specs.declared.call.ScriptCall.{ScriptCall}
+use Rattle.nio_event.specs.declared.parse.ParseError.{ParseError}
+use Rattle.nio_event.specs.declared.parse.ParseError.TheVariants.{Memory}
+use Rattle.nio_event.specs.declared.parse.Parsed.{Parsed}
+use Rattle.nio_event.specs.declared.parse.Parsed.TheVariants.{Blank, Line}
 use Rattle.nio_script.specs.Script.{AddsLine, HasRead}
 
 -- a line before others
@@ -151,3 +156,15 @@ pub now_at : (items : List (Bor (List ℕ))) (i : ℕ) (d : Bor (List ℕ)) → 
     → get_or (map (λ r. r.now) items) i (get_or items i d).now ≡ (get_or items i d).now
 now_at items i d within =
     get_or-map (λ r. r.now) items i (get_or items i d) ∙ ap (λ r. r.now) (get_or_default items i (get_or items i d) d within)
+
+-- the calls of a line that was read as one call
+pub AreCalls-one : {line : List ℕ} {added : List ScriptCall} (r : Result Parsed ParseError) (caller : CallerNo) (call : Call)
+    → r ≡ Ok (Line caller call) → (IsBlank line → r ≡ Ok Blank)
+    → ((t : CallerNo) (k : Call) → IsLine t k line → r ≢ Err Memory → r ≡ Ok (Line t k))
+    → AreCalls (line ∷ []) added → added ≡ record { caller = caller; call = call } ∷ []
+AreCalls-one r caller call e blank only (blank_line b no_lines) = let none = blank b in cc
+AreCalls-one r caller call e blank only (call_line {caller = t} {c = k} is no_lines) =
+    let same = only t k is (λ lacks. cc) in
+    let callers : t ≡ caller = cc in
+    let calls : k ≡ call = cc in
+    ap (λ x. record { caller = x; call = k } ∷ []) callers ∙ ap (λ x. record { caller = caller; call = x } ∷ []) calls
