@@ -3,3 +3,5 @@ pub mod Cause
 pub mod MemorySink
 pub mod MemorySource
 pub mod Sink
+pub mod StdSink
+pub mod StdSource

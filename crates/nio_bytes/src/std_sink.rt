@@ -1,5 +1,7 @@
 //! A sink over std's `Write`.
-ghost use Rattle.std.specs.Prelude.{◌≡◌, ℕ, None};
+ghost use Rattle.std.specs.Prelude.{◌≡◌, ℕ, ◌<◌, ◌≤◌, length, None, IfOk};
+ghost use Rattle.std.specs.Io.KnownBytes.{WriteAppends, Keeps};
+ghost use Rattle.nio_bytes.specs.Cause.{HasCause};
 
 use crate::failed::Failed;
 use crate::fault_count::FaultCount;
@@ -16,8 +18,11 @@ pub struct StdSink<T> {
 }
 
 impl<T: Write> StdSink<T> {
+    ghost use Rattle.nio_bytes.specs.StdSink.{writer};
+
     pub fn over(inner: T) -> StdSink<T>
-        ensures { ⟦<StdSink<T> as Sink>⟧.faults result ≡ 0 }
+        ensures writer { writer result ≡ inner }
+        ensures faults { ⟦<StdSink<T> as Sink>⟧.faults result ≡ 0 }
     {
         StdSink {
             inner,
@@ -27,13 +32,24 @@ impl<T: Write> StdSink<T> {
 }
 
 impl<T: Write> Sink for StdSink<T> {
+    ghost use Rattle.nio_bytes.specs.StdSink.{writer};
+
     ghost taken = { λ _. None };
 
     ghost flushed = { λ _. None };
 
     ghost faults = { λ s. s.faults };
 
-    fn write(&mut self, from: &[u8]) -> Result<usize, Failed> {
+    fn write(&mut self, from: &[u8]) -> Result<usize, Failed>
+        ensures within { IfOk result (λ count. count ≤ length from.now) }
+        ensures some { IfOk result (λ count. 0 < length from.now → 0 < count) }
+        ensures cause { HasCause (⟦<StdSink<T> as Sink>⟧.faults self.old)
+            (⟦<StdSink<T> as Sink>⟧.faults self.new) result }
+
+        // As the writer, where that tells its bytes.
+        ensures bytes { WriteAppends (T.contents (writer self.old)) (T.contents (writer self.new))
+            result from.now }
+    {
         for _ in 0..u64::MAX {
             match self.inner.write(from) {
                 Ok(0) if !from.is_empty() => break,
@@ -45,7 +61,11 @@ impl<T: Write> Sink for StdSink<T> {
         Err(self.faults.fail())
     }
 
-    fn flush(&mut self) -> Result<(), Failed> {
+    fn flush(&mut self) -> Result<(), Failed>
+        ensures cause { HasCause (⟦<StdSink<T> as Sink>⟧.faults self.old)
+            (⟦<StdSink<T> as Sink>⟧.faults self.new) result }
+        ensures bytes { Keeps (T.contents (writer self.old)) (T.contents (writer self.new)) }
+    {
         for _ in 0..u64::MAX {
             match self.inner.flush() {
                 Ok(()) => return Ok(()),

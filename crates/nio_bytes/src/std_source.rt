@@ -1,5 +1,7 @@
 //! A source over std's `Read`.
-ghost use Rattle.std.specs.Prelude.{◌≡◌, ℕ, None};
+ghost use Rattle.std.specs.Prelude.{◌≡◌, ℕ, ◌≤◌, length, None, IfOk};
+ghost use Rattle.std.specs.Io.KnownBytes.{ReadConsumes};
+ghost use Rattle.nio_bytes.specs.Cause.{HasCause};
 
 use crate::failed::Failed;
 use crate::fault_count::FaultCount;
@@ -15,8 +17,11 @@ pub struct StdSource<R> {
 }
 
 impl<R: Read> StdSource<R> {
+    ghost use Rattle.nio_bytes.specs.StdSource.{reader};
+
     pub fn over(inner: R) -> StdSource<R>
-        ensures { ⟦<StdSource<R> as Source>⟧.faults result ≡ 0 }
+        ensures reader { reader result ≡ inner }
+        ensures faults { ⟦<StdSource<R> as Source>⟧.faults result ≡ 0 }
     {
         StdSource {
             inner,
@@ -26,11 +31,21 @@ impl<R: Read> StdSource<R> {
 }
 
 impl<R: Read> Source for StdSource<R> {
+    ghost use Rattle.nio_bytes.specs.StdSource.{reader};
+
     ghost left = { λ _. None };
 
     ghost faults = { λ s. s.faults };
 
-    fn read(&mut self, into: &mut [u8]) -> Result<usize, Failed> {
+    fn read(&mut self, into: &mut [u8]) -> Result<usize, Failed>
+        ensures within { IfOk result (λ count. count ≤ length into.new) }
+        ensures cause { HasCause (⟦<StdSource<R> as Source>⟧.faults self.old)
+            (⟦<StdSource<R> as Source>⟧.faults self.new) result }
+
+        // As the reader, where that tells its bytes.
+        ensures bytes { ReadConsumes (R.remaining (reader self.old)) (R.remaining (reader self.new))
+            result into.new }
+    {
         for _ in 0..u64::MAX {
             match self.inner.read(into) {
                 Ok(count) => return Ok(count),

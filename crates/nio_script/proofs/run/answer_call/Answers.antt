@@ -1,0 +1,5 @@
+use Rattle.nio_script.proofs.Writing.{on_err, writes_nothing}
+use Rattle.nio_script.proofs.run.answer_call.Goals as goal
+
+pub returns-in_err-text-clause-err : goal.returns-in_err-text-clause-err
+returns-in_err-text-clause-err g c = on_err _ (writes_nothing g.K.Sink c.args.output.now _)

@@ -1,0 +1,5 @@
+pub mod Input
+pub mod Output
+pub mod Run
+pub mod Script
+pub mod Status

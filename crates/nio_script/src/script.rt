@@ -1,0 +1,86 @@
+//! A whole text, read as a script.
+ghost use Rattle.std.specs.Prelude.{◌≡◌, ◌++◌, ◌∷◌, [], ℕ, List, map, IfOk, OnOk, MatchResult};
+ghost use Rattle.nio_event.specs.Script.{lines_of, AreCalls, IsScript, IsFirstBad, IsInGrammar};
+ghost use Rattle.nio_event.specs.declared.call.ScriptCall.{ScriptCall};
+ghost use Rattle.nio_script.specs.Script.{AddsLine};
+
+use nio_event::{ParseError, Parsed, ScriptCall, parse_line};
+use std::alloc::{AllocError, AllocFailed, Global};
+
+/// Why a text isn't read as a script.
+#[derive(Clone, Copy, Debug, PartialEq, Eq)]
+pub enum ScriptError {
+    /// This line is the first that isn't in the grammar, counted from 1 over all lines.
+    BadLine { line: u64 },
+    Memory,
+}
+
+impl From<AllocError> for ScriptError {
+    ghost use Rattle.nio_script.specs.declared.script.ScriptError.TheVariants.{Memory};
+
+    ghost from_gives = { λ _ e. e ≡ Memory };
+
+    fn from(_e: AllocError) -> ScriptError {
+        ScriptError::Memory
+    }
+}
+
+impl From<AllocFailed<ScriptCall>> for ScriptError {
+    ghost use Rattle.nio_script.specs.declared.script.ScriptError.TheVariants.{Memory};
+
+    ghost from_gives = { λ _ e. e ≡ Memory };
+
+    fn from(_e: AllocFailed<ScriptCall>) -> ScriptError {
+        ScriptError::Memory
+    }
+}
+
+/// The lines of a text.
+fn lines(alloc: Global, text: &[u8]) -> Result<Vec<&[u8]>, AllocError>
+    ensures { IfOk result (λ lines. map (λ line. line.now) lines.items ≡ lines_of text.entry.now) }
+{
+    text.split(|byte| *byte == b'\n').collect(alloc)
+}
+
+/// Reads one line, and adds its call to those before.
+fn read_line(
+    alloc: Global,
+    line: &[u8],
+    number: u64,
+    calls: &mut Vec<ScriptCall>,
+) -> Result<(), ScriptError>
+    ensures read { OnOk result (AddsLine line.now calls.old.items calls.new.items) }
+    ensures only { (added : List ScriptCall) → AreCalls (line.now ∷ []) added →
+        MatchResult result (λ _. calls.new.items ≡ calls.old.items ++ added) (λ e. e ≡ ScriptError.Memory) }
+    ensures good { OnOk result (IsInGrammar line.now) }
+    ensures bad { (n : ℕ) → result ≡ Err (ScriptError.BadLine n) → (n ≡ number) × (IsInGrammar line.now → ⊥) }
+{
+    match parse_line(alloc, line) {
+        Ok(Parsed::Blank) => Ok(()),
+        Ok(Parsed::Line { caller, call }) => {
+            calls.push(ScriptCall { caller, call })?;
+            Ok(())
+        }
+        Err(ParseError::Malformed) => Err(ScriptError::BadLine { line: number }),
+        Err(ParseError::Memory) => Err(ScriptError::Memory),
+    }
+}
+
+/// The calls of a script.
+pub fn parse_script(alloc: Global, text: &[u8]) -> Result<Vec<ScriptCall>, ScriptError>
+    ensures ok { IfOk result (λ calls. IsScript text.now calls.items) }
+
+    // Whatever calls the text is a script of, these are the result.
+    ensures only { (calls : List ScriptCall) → IsScript text.now calls →
+        MatchResult result (λ read. read.items ≡ calls) (λ e. e ≡ ScriptError.Memory) }
+    ensures bad { (line : ℕ) → result ≡ Err (ScriptError.BadLine line) → IsFirstBad text.now line }
+{
+    let lines = lines(alloc, text)?;
+    let mut calls = Vec::new(alloc);
+    let mut number = 0;
+    for line in &lines {
+        number += 1;
+        read_line(alloc, line, number, &mut calls)?;
+    }
+    Ok(calls)
+}
