@@ -1,0 +1,78 @@
+-- How a call of a plain system is shown to answer as the documented one, at each of its returns.
+use Rattle.std.proofs.Common.{◌≡◌, ℕ, ◌+◌, ◌<◌, ◌≤◌, Bool, true, false, Ok, List, [], ◌∷◌, ◌++◌, length, set, refl, sym, ap, ◌∙◌}
+use Rattle.std.proofs.lemmas.List.{length-set, length_push}
+use lib.ListN.{replicate}
+use Rattle.nio_event.specs.State.{unmade_channel, put}
+use Rattle.nio_event.specs.declared.found.Chan.{Chan}
+use Rattle.nio_event.specs.declared.reply.Reply.{Reply}
+use Rattle.nio_plain.proofs.Places.{places-nil, places-replicate, places_all, places_past, places-set, places-push}
+use Rattle.nio_plain.specs.Plain.{AnswersAs}
+use Rattle.nio_plain.specs.PlainState.{places, channel_row, selector_row, SelectorRow, no_selector, state_from, state_of, limits_of}
+use Rattle.nio_plain.specs.ScriptState.{script_opening}
+use Rattle.nio_plain.specs.Seq.{Answered, refused}
+use Rattle.nio_plain.specs.declared.plain.Plain.{Plain}
+use Rattle.nio_plain.specs.declared.plain.channel.Channel.{Channel}
+use Rattle.nio_plain.specs.declared.plain.selector.Selector.{Selector}
+
+pub refused_as : (p : Plain) (r : Reply) (a : Answered) → a ≡ refused (state_of p) r → AnswersAs p p (Ok r) a
+refused_as p r a e = record {
+  reply = sym (ap (λ (x : Answered). x.reply) e);
+  left = sym (ap (λ (x : Answered). x.left) e);
+  memory = tt;
+  limits = refl;
+}
+
+pub answered_as : (p q : Plain) (r : Reply) (a b : Answered) → a ≡ b → r ≡ b.reply → state_of q ≡ b.left → limits_of q ≡ limits_of p → AnswersAs p q (Ok r) a
+answered_as p q r a b e same left limits = record {
+  reply = same ∙ sym (ap (λ (x : Answered). x.reply) e);
+  left = left ∙ sym (ap (λ (x : Answered). x.left) e);
+  memory = tt;
+  limits = limits;
+}
+
+-- selectors and channels are made below the length, and not from there on
+
+pub selector_made-below : (xs : List Selector) (k : ℕ) → k < length xs → (places selector_row no_selector xs k).made ≡ true
+selector_made-below xs k h =
+    places_all selector_row no_selector (λ r. r.made ≡ true) (λ _. refl) xs k h
+
+pub selector_made-past : (xs : List Selector) (k : ℕ) → length xs ≤ k → (places selector_row no_selector xs k).made ≡ false
+selector_made-past xs k h = ap (λ r. r.made) (places_past selector_row no_selector xs k h)
+
+pub channel_made-below : (xs : List Channel) (k : ℕ) → k < length xs → (places channel_row unmade_channel xs k).made ≡ true
+channel_made-below xs k h =
+    places_all channel_row unmade_channel (λ r. r.made ≡ true) (λ _. refl) xs k h
+
+pub channel_made-past : (xs : List Channel) (k : ℕ) → length xs ≤ k → (places channel_row unmade_channel xs k).made ≡ false
+channel_made-past xs k h =
+    ap (λ r. r.made) (places_past channel_row unmade_channel xs k h)
+
+-- a system in which nothing is made
+pub state-opening : (n : ℕ) (bs : List Bool) (cs : List Channel) (ss : List Selector) → bs ≡ replicate n false → cs ≡ [] → ss ≡ [] → state_from (places (λ b. b) false bs) (length cs) (places channel_row unmade_channel cs) (places selector_row no_selector ss) ≡ script_opening
+state-opening n bs cs ss e f g =
+    let no_interrupt = ap (places (λ b. b) false) e ∙ places-replicate n false in
+    let no_channel = ap (places channel_row unmade_channel) f ∙ places-nil channel_row unmade_channel in
+    let no_row = ap (places selector_row no_selector) g ∙ places-nil selector_row no_selector in
+    λ i. state_from (no_interrupt i) (length (f i)) (no_channel i) (no_row i)
+
+-- the state after a write of one selector, after a push of one, and after a push of a channel
+module _ (interrupted : ℕ → Bool) (mark : ℕ) (chan : ℕ → Chan) where
+  pub state-set_selector : (xs ys : List Selector) (s : ℕ) (x : Selector) → s < length xs → ys ≡ set xs s x → state_from interrupted mark chan (places selector_row no_selector ys) ≡ state_from interrupted mark chan (put (places selector_row no_selector xs) s (selector_row x))
+  state-set_selector xs ys s x h e =
+      ap (λ zs. state_from interrupted mark chan (places selector_row no_selector zs)) e ∙ ap (state_from interrupted mark chan) (places-set selector_row no_selector xs s x h)
+
+  pub state-push_selector : (xs ys : List Selector) (x : Selector) → ys ≡ xs ++ x ∷ [] → state_from interrupted mark chan (places selector_row no_selector ys) ≡ state_from interrupted mark chan (put (places selector_row no_selector xs) (length xs) (selector_row x))
+  state-push_selector xs ys x e =
+      ap (λ zs. state_from interrupted mark chan (places selector_row no_selector zs)) e ∙ ap (state_from interrupted mark chan) (places-push selector_row no_selector xs x)
+
+pub state-push_channel : (interrupted : ℕ → Bool) (row : ℕ → SelectorRow) (xs ys : List Channel) (x : Channel) → ys ≡ xs ++ x ∷ [] → state_from interrupted (length ys) (places channel_row unmade_channel ys) row ≡ state_from interrupted (length xs + 1) (put (places channel_row unmade_channel xs) (length xs) (channel_row x)) row
+state-push_channel interrupted row xs ys x e =
+    let len = ap length e ∙ length_push xs x in
+    let chan = ap (places channel_row unmade_channel) e ∙ places-push channel_row unmade_channel xs x in
+    λ i. state_from interrupted (len i) (chan i) row
+
+pub state-set_channel : (interrupted : ℕ → Bool) (row : ℕ → SelectorRow) (xs ys : List Channel) (c : ℕ) (x : Channel) → c < length xs → ys ≡ set xs c x → state_from interrupted (length ys) (places channel_row unmade_channel ys) row ≡ state_from interrupted (length xs) (put (places channel_row unmade_channel xs) c (channel_row x)) row
+state-set_channel interrupted row xs ys c x h e =
+    let len = ap length e ∙ length-set xs c x in
+    let chan = ap (places channel_row unmade_channel) e ∙ places-set channel_row unmade_channel xs c x h in
+    λ i. state_from interrupted (len i) (chan i) row

@@ -1,0 +1,46 @@
+//! The plain system: the documented system over vectors, for one thread.
+//!
+//! Selectors and channels stand by their numbers, since the least number that isn't made comes
+//! next, and the keys of a selector by their indexes.
+ghost use Rattle.std.specs.Prelude.{◌≡◌, vec_len};
+
+use self::channel::Channel;
+use self::selector::Selector;
+use nio_base::Limits;
+use std::alloc::{AllocError, Global};
+
+mod channel;
+mod opening;
+mod selector;
+
+/// A system of selectors, keys and channels, kept in vectors.
+#[derive(Drop)]
+pub struct Plain {
+    limits: Limits,
+    /// Whether each caller's interrupt status is set.
+    interrupted: Vec<bool>,
+    channels: Vec<Channel>,
+    selectors: Vec<Selector>,
+    ghost each_caller: { vec_len interrupted ≡ limits.callers },
+}
+
+impl Plain {
+    ghost use Rattle.std.specs.Prelude.{IfOk};
+    ghost use Rattle.nio_base.specs.Limits.{IsFit};
+    ghost use Rattle.nio_plain.specs.PlainState.{limits_of, state_of};
+    ghost use Rattle.nio_plain.specs.ScriptState.{script_opening};
+
+    /// A system in which nothing is made.
+    pub fn make(alloc: Global, limits: Limits) -> Result<Plain, AllocError>
+        requires { IsFit limits }
+        ensures limits { IfOk result (λ plain. limits_of plain ≡ limits) }
+        ensures opening { IfOk result (λ plain. state_of plain ≡ script_opening) }
+    {
+        Ok(Plain {
+            limits,
+            interrupted: Vec::from_elem(alloc, false, limits.callers as usize)?,
+            channels: Vec::new(alloc),
+            selectors: Vec::new(alloc),
+        })
+    }
+}
