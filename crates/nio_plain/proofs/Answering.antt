@@ -3,12 +3,11 @@ use Rattle.std.proofs.Common.{◌≡◌, ℕ, ◌+◌, ◌<◌, ◌≤◌, Bool,
 use Rattle.std.proofs.lemmas.List.{length-set, length_push}
 use lib.ListN.{replicate}
 use Rattle.nio_event.specs.State.{unmade_channel, put}
-use Rattle.nio_event.specs.declared.found.Chan.{Chan}
 use Rattle.nio_event.specs.declared.reply.Reply.{Reply}
 use Rattle.nio_plain.proofs.Places.{places-nil, places-replicate, places_all, places_past, places-set, places-push}
 use Rattle.nio_plain.specs.Plain.{AnswersAs}
 use Rattle.nio_plain.specs.PlainState.{places, channel_row, selector_row, SelectorRow, no_selector, state_from, state_of, limits_of}
-use Rattle.nio_plain.specs.ScriptState.{script_opening}
+use Rattle.nio_plain.specs.ScriptState.{ScriptState, script_opening}
 use Rattle.nio_plain.specs.Seq.{Answered, refused}
 use Rattle.nio_plain.specs.declared.plain.Plain.{Plain}
 use Rattle.nio_plain.specs.declared.plain.channel.Channel.{Channel}
@@ -55,15 +54,22 @@ state-opening n bs cs ss e f g =
     let no_row = ap (places selector_row no_selector) g ∙ places-nil selector_row no_selector in
     λ i. state_from (no_interrupt i) (length (f i)) (no_channel i) (no_row i)
 
--- the state after a write of one selector, after a push of one, and after a push of a channel
-module _ (interrupted : ℕ → Bool) (mark : ℕ) (chan : ℕ → Chan) where
-  pub state-set_selector : (xs ys : List Selector) (s : ℕ) (x : Selector) → s < length xs → ys ≡ set xs s x → state_from interrupted mark chan (places selector_row no_selector ys) ≡ state_from interrupted mark chan (put (places selector_row no_selector xs) s (selector_row x))
-  state-set_selector xs ys s x h e =
-      ap (λ zs. state_from interrupted mark chan (places selector_row no_selector zs)) e ∙ ap (state_from interrupted mark chan) (places-set selector_row no_selector xs s x h)
+-- the rows of the selectors, and the state with other rows
+abbrev pub rows_of : Plain → ℕ → SelectorRow
+rows_of p = places selector_row no_selector p.selectors.items
 
-  pub state-push_selector : (xs ys : List Selector) (x : Selector) → ys ≡ xs ++ x ∷ [] → state_from interrupted mark chan (places selector_row no_selector ys) ≡ state_from interrupted mark chan (put (places selector_row no_selector xs) (length xs) (selector_row x))
-  state-push_selector xs ys x e =
-      ap (λ zs. state_from interrupted mark chan (places selector_row no_selector zs)) e ∙ ap (state_from interrupted mark chan) (places-push selector_row no_selector xs x)
+abbrev pub with_rows : Plain → (ℕ → SelectorRow) → ScriptState
+with_rows p row =
+    state_from (places (λ b. b) false p.interrupted.items) (length p.channels.items) (places channel_row unmade_channel p.channels.items) row
+
+-- the state after a write of one selector, after a push of one, and after a push of a channel
+pub state-set_selector : (p : Plain) (ys : List Selector) (s : ℕ) (x : Selector) → s < length p.selectors.items → ys ≡ set p.selectors.items s x → with_rows p (places selector_row no_selector ys) ≡ with_rows p (put (rows_of p) s (selector_row x))
+state-set_selector p ys s x h e =
+    ap (λ zs. with_rows p (places selector_row no_selector zs)) e ∙ ap (with_rows p) (places-set selector_row no_selector p.selectors.items s x h)
+
+pub state-push_selector : (p : Plain) (ys : List Selector) (x : Selector) (r : SelectorRow) → ys ≡ p.selectors.items ++ x ∷ [] → selector_row x ≡ r → with_rows p (places selector_row no_selector ys) ≡ with_rows p (put (rows_of p) (length p.selectors.items) r)
+state-push_selector p ys x r e same =
+    (ap (λ zs. with_rows p (places selector_row no_selector zs)) e ∙ ap (with_rows p) (places-push selector_row no_selector p.selectors.items x)) ∙ ap (λ q. with_rows p (put (rows_of p) (length p.selectors.items) q)) same
 
 pub state-push_channel : (interrupted : ℕ → Bool) (row : ℕ → SelectorRow) (xs ys : List Channel) (x : Channel) → ys ≡ xs ++ x ∷ [] → state_from interrupted (length ys) (places channel_row unmade_channel ys) row ≡ state_from interrupted (length xs + 1) (put (places channel_row unmade_channel xs) (length xs) (channel_row x)) row
 state-push_channel interrupted row xs ys x e =

@@ -1,15 +1,15 @@
 -- Opening a selector and a channel, over the parts of a state.
-use Rattle.std.proofs.Common.{◌≡◌, ℕ, ◌+◌, ◌<◌, ◌≤◌, Bool, true, false, not, find, Option, Some, None, is_some, refl, sym, ap, ◌∙◌, arith}
+use Rattle.std.proofs.Common.{◌≡◌, ℕ, ◌<◌, ◌≤◌, Bool, true, false, Some, None, is_some, refl, sym, ap, ◌∙◌}
 use Rattle.nio_base.specs.declared.kind.Kind.{Kind}
 use Rattle.nio_base.specs.declared.limits.Limits.{Limits}
 use Rattle.nio_event.specs.State.{put, with_selector}
 use Rattle.nio_event.specs.declared.found.Chan.{Chan}
 use Rattle.nio_event.specs.declared.reply.Reply.TheVariants as reply
 use Rattle.nio_plain.proofs.Found.{find_unmade, find_spent}
-use Rattle.nio_plain.proofs.Places.{same_function, put_part, part_kept}
+use Rattle.nio_plain.proofs.Places.{put_part, part_kept}
 use Rattle.nio_plain.specs.PlainState.{SelectorRow, no_selector, new_selector, state_from}
 use Rattle.nio_plain.specs.ScriptState.{ScriptState}
-use Rattle.nio_plain.specs.Seq.{Answered, refused, answered, below, selector_call, selector_made, channel_call, channel_made}
+use Rattle.nio_plain.specs.Seq.{refused, answered, selector_call, selector_made, channel_call, channel_made}
 
 module _ (l : Limits) (interrupted : ℕ → Bool) (mark : ℕ) (chan : ℕ → Chan) (row : ℕ → SelectorRow) where
   abbrev st : ScriptState
