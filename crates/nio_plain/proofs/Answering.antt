@@ -5,7 +5,7 @@ use lib.ListN.{replicate}
 use Rattle.nio_event.specs.State.{unmade_channel, put}
 use Rattle.nio_event.specs.declared.reply.Reply.{Reply}
 use Rattle.nio_plain.proofs.Places.{places-nil, places-replicate, places_all, places_past, places-set, places-push}
-use Rattle.nio_plain.specs.Plain.{AnswersAs}
+use Rattle.nio_plain.specs.Plain.{Answers, AnswersAs}
 use Rattle.nio_plain.specs.PlainState.{places, channel_row, selector_row, SelectorRow, no_selector, state_from, state_of, limits_of}
 use Rattle.nio_plain.specs.ScriptState.{ScriptState, script_opening}
 use Rattle.nio_plain.specs.Seq.{Answered, refused}
@@ -82,3 +82,18 @@ state-set_channel interrupted row xs ys c x h e =
     let len = ap length e ∙ length-set xs c x in
     let chan = ap (places channel_row unmade_channel) e ∙ places-set channel_row unmade_channel xs c x h in
     λ i. state_from interrupted (len i) (chan i) row
+
+-- the same of a call that takes no memory
+pub refused_without_memory : (p : Plain) (r : Reply) (a : Answered) → a ≡ refused (state_of p) r → Answers p p r a
+refused_without_memory p r a e = record {
+  reply = sym (ap (λ (x : Answered). x.reply) e);
+  left = sym (ap (λ (x : Answered). x.left) e);
+  limits = refl;
+}
+
+pub answered_without_memory : (p q : Plain) (r : Reply) (a b : Answered) → a ≡ b → r ≡ b.reply → state_of q ≡ b.left → limits_of q ≡ limits_of p → Answers p q r a
+answered_without_memory p q r a b e same left limits = record {
+  reply = same ∙ sym (ap (λ (x : Answered). x.reply) e);
+  left = left ∙ sym (ap (λ (x : Answered). x.left) e);
+  limits = limits;
+}

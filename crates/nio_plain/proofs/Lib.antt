@@ -2,3 +2,8 @@ pub mod Places
 pub mod Found
 pub mod Opening
 pub mod Answering
+pub mod Rows
+pub mod Registered
+pub mod Blocking
+pub mod KeyParts
+pub mod Registering

@@ -1,10 +1,10 @@
 -- What a vector holds by the place, after a write and after a push.
-use Rattle.std.proofs.Common.{◌≡◌, ℕ, zero, suc, ◌<◌, ◌≤◌, eqb, List, [], ◌∷◌, ◌++◌, map, length, get_or, set, refl, sym, ap, ◌∙◌, arith, ⊎_elim}
-use Rattle.std.proofs.lemmas.Bool.{cases_eq, cond-true, cond-false, eq-eqb, ne_eqb, cases_lt}
+use Rattle.std.proofs.Common.{◌≡◌, ℕ, zero, suc, ◌<◌, ◌≤◌, eqb, ◌&&◌, List, [], ◌∷◌, ◌++◌, map, length, get_or, set, refl, sym, ap, ◌∙◌, arith, ⊎_elim}
+use Rattle.std.proofs.lemmas.Bool.{cases_eq, cond-true, cond-false, eq-eqb, ne_eqb, cases_lt, and_from, and_left, and_right}
 use Rattle.std.proofs.lemmas.List.{get_or-set_same, get_or-set_other, get_or-map, map-set, map_push, get_or_push, get_or_past, length_push, get_or_append_left, length-map as map_length, map-id, get_or-replicate, length-replicate}
 use mathlib.Core.Path.{fun_ext}
 use lib.ListN.{replicate}
-use Rattle.nio_event.specs.State.{put}
+use Rattle.nio_event.specs.State.{put, put_at}
 use Rattle.nio_plain.specs.PlainState.{places}
 
 -- two functions are one where they agree everywhere
@@ -37,6 +37,10 @@ part_kept part f s x h =
     (λ (e : n ≡ s). ((ap (λ m. part (put f s x m)) e ∙ ap part (put-here f s x)) ∙ h) ∙ ap (λ m. part (f m)) (sym e))
     (λ (ne : n ≡ s → ⊥). ap part (put-elsewhere f s n x ne))
     (cases_eq n s))
+
+-- the same at one number
+pub put_kept : {R A : Type 0} (part : R → A) (f : ℕ → R) (s : ℕ) (x : R) (n : ℕ) → part x ≡ part (f s) → part (put f s x n) ≡ part (f n)
+put_kept part f s x n h = ap (λ g. g n) (part_kept part f s x h)
 
 -- a write of one row
 pub places-set : {X A : Type 0} (f : X → A) (none : A) (xs : List X) (s : ℕ) (x : X) → s < length xs → places f none (set xs s x) ≡ put (places f none xs) s (f x)
@@ -85,3 +89,18 @@ places-replicate {A} n x =
     (λ (l : k < length (map {A = A} {B = A} (λ y. y) (replicate n x))). ap (λ xs. get_or xs k x) (map-id (replicate n x)) ∙ get_or-replicate n k x x (omega (arith, map_length (replicate n x) (λ (y : A). y), length-replicate n x)))
     (λ (l : length (map {A = A} {B = A} (λ y. y) (replicate n x)) ≤ k). get_or_past (map (λ (y : A). y) (replicate n x)) k x l)
     (cases_lt k (length (map {A = A} {B = A} (λ y. y) (replicate n x)))))
+
+-- what stands where an item was read
+pub places_at : {X A : Type 0} (f : X → A) (none : A) (xs : List X) (n : ℕ) (x : X) → n < length xs → x ≡ get_or xs n x → places f none xs n ≡ f x
+places_at f none xs n x h e = places_within f none xs n x h ∙ ap f (sym e)
+
+-- a function of two numbers that is put at a pair of them: what it is there and elsewhere
+pub put_at_is : {A : Type 0} (g f : ℕ → ℕ → A) (s i : ℕ) (x : A) → g s i ≡ x → ((t j : ℕ) → (t ≡ s → j ≡ i → ⊥) → g t j ≡ f t j) → g ≡ put_at f s i x
+put_at_is {A} g f s i x here other =
+    same_function (λ t. same_function (λ j. ⊎_elim
+    (λ (e : t ≡ s). ⊎_elim
+    (λ (d : j ≡ i). ((ap (λ m. g m j) e ∙ ap (g s) d) ∙ here) ∙ sym (cond-true (eqb t s && eqb j i) x (f t j) (and_from (eqb t s) (eqb j i) (eq-eqb t s e) (eq-eqb j i d))))
+    (λ (d : j ≡ i → ⊥). other t j (λ _ k. d k) ∙ sym (cond-false (eqb t s && eqb j i) x (f t j) (and_right (eqb t s) (eqb j i) (ne_eqb j i d))))
+    (cases_eq j i))
+    (λ (e : t ≡ s → ⊥). other t j (λ k _. e k) ∙ sym (cond-false (eqb t s && eqb j i) x (f t j) (and_left (eqb t s) (eqb j i) (ne_eqb t s e))))
+    (cases_eq t s)))

@@ -1,10 +1,11 @@
 -- The state that a plain system holds, read from its vectors.
-use Rattle.std.specs.Prelude.{ℕ, Bool, true, false, Option, Some, None, is_some, List, map, length, get_or}
+use Rattle.std.specs.Prelude.{ℕ, ◌+◌, Bool, true, false, Option, Some, None, is_some, if◌then◌else◌, List, map, length, get_or}
 use Rattle.std.specs.BTreeMap.{get}
 use Rattle.std.specs.Ordering.{nat_cmp}
 use Rattle.nio_base.specs.declared.limits.Limits.{Limits}
 use Rattle.nio_base.specs.declared.numbers.CallerNo.{CallerNo}
-use Rattle.nio_event.specs.State.{unmade_channel, open_gate, unclaimed, unmarked}
+use Rattle.nio_event.specs.State.{unmade_channel, open_gate, unclaimed, unmarked, put}
+use Rattle.nio_event.specs.Sets.{in_key_set}
 use Rattle.nio_event.specs.declared.found.Chan.{Chan}
 use Rattle.nio_event.specs.declared.found.GateWord.{GateWord}
 use Rattle.nio_event.specs.declared.found.Mark.{Mark}
@@ -76,6 +77,40 @@ no_selector = record {
 
 abbrev pub new_selector : SelectorRow
 new_selector = record no_selector { made = true }
+
+-- the channel's key in a selector: the one that is noted for it, where it is in the key set
+abbrev pub if_in_set : (ℕ → KeyRow) → Option ℕ → Option ℕ
+if_in_set keys None = None
+if_in_set keys (Some i) = if in_key_set (keys i).stage then Some i else None
+
+abbrev pub key_in : SelectorRow → ℕ → Option ℕ
+key_in r c = if_in_set r.keys (r.noted c)
+
+-- a selector with a key more, and with a key's interest set changed
+abbrev pub with_new_key : SelectorRow → ℕ → KeyRow → SelectorRow
+with_new_key r c key = record r {
+  keys_mark = r.keys_mark + 1;
+  keys = put r.keys r.keys_mark key;
+  noted = put r.noted c (Some r.keys_mark);
+}
+
+abbrev pub with_interest_at : SelectorRow → ℕ → ℕ → SelectorRow
+with_interest_at r i ops = record r { keys = put r.keys i (record (r.keys i) { interest = ops }) }
+
+-- a key that was just registered
+abbrev pub new_key_row : ℕ → ℕ → KeyRow
+new_key_row c ops = record {
+  stage = record {
+    claimed = true;
+    published = true;
+    cancelled = false;
+    removed = false;
+    chan = record { 0 = c };
+  };
+  interest = ops;
+  mark = unmarked;
+  note = 0;
+}
 
 abbrev pub caller_of : Option Selecting → Option CallerNo
 caller_of None = None

@@ -2,15 +2,17 @@
 //!
 //! Selectors and channels stand by their numbers, since the least number that isn't made comes
 //! next, and the keys of a selector by their indexes.
-ghost use Rattle.std.specs.Prelude.{◌≡◌, vec_len};
+ghost use Rattle.std.specs.Prelude.{◌≡◌, ◌≤◌, vec_len};
 
 use self::channel::Channel;
 use self::selector::Selector;
 use nio_base::Limits;
 use std::alloc::{AllocError, Global};
 
+mod blocking;
 mod channel;
 mod opening;
+mod registering;
 mod selector;
 
 /// A system of selectors, keys and channels, kept in vectors.
@@ -22,6 +24,7 @@ pub struct Plain {
     channels: Vec<Channel>,
     selectors: Vec<Selector>,
     ghost each_caller: { vec_len interrupted ≡ limits.callers },
+    ghost few_selectors: { vec_len selectors ≤ limits.selectors },
 }
 
 impl Plain {

@@ -5,7 +5,7 @@ ghost use Rattle.std.proofs.Props.{props};
 
 use nio_base::{CallerNo, ChanNo, Ops};
 use nio_event::{Mark, Mode};
-use std::alloc::Global;
+use std::alloc::{AllocError, Global};
 use std::collections::BTreeMap;
 
 /// A key that was registered.
@@ -18,6 +18,27 @@ pub(super) struct Key {
     pub(super) mark: Mark,
     /// The attachment, 0 for none.
     pub(super) note: u64,
+}
+
+impl Key {
+    ghost use Rattle.nio_plain.specs.PlainState.{key_row, new_key_row};
+
+    /// A key as it is registered: valid, not selected and without an attachment.
+    pub(super) fn new(chan: ChanNo, interest: Ops) -> Key
+        ensures { key_row result ≡ new_key_row chan.0 interest }
+    {
+        Key {
+            chan,
+            cancelled: false,
+            removed: false,
+            interest,
+            mark: Mark {
+                selected: false,
+                ready: Ops::NONE,
+            },
+            note: 0,
+        }
+    }
 }
 
 /// A selection in progress: its caller, which has the selector's turn, how long it waits, the
@@ -54,7 +75,8 @@ pub(super) struct Selector {
 }
 
 impl Selector {
-    ghost use Rattle.nio_plain.specs.PlainState.{selector_row, new_selector};
+    ghost use Rattle.std.specs.Prelude.{◌+◌, OnOk, OnErr, is_some};
+    ghost use Rattle.nio_plain.specs.PlainState.{key_in, key_row, new_selector, selector_row, with_interest_at, with_new_key};
 
     pub(super) fn new(alloc: Global) -> Selector
         ensures { selector_row result ≡ new_selector }
@@ -66,5 +88,42 @@ impl Selector {
             keys: Vec::new(alloc),
             noted: BTreeMap::new(alloc),
         }
+    }
+
+    pub(super) fn is_shut(&self) -> bool
+        ensures { result ≡ is_some self.now.closing }
+    {
+        self.closing.is_some()
+    }
+
+    /// The index of the channel's key, where it isn't removed.
+    pub(super) fn key_of(&self, chan: ChanNo) -> Option<u32>
+        ensures key { result ≡ key_in (selector_row self.now) chan.0 }
+        ensures made { IfSome result (λ i. i < vec_len self.now.keys) }
+    {
+        let index = self.noted.get(&chan.0).copied()?;
+        match self.keys.get(index as usize) {
+            Some(key) if !key.removed => Some(index),
+            _ => None,
+        }
+    }
+
+    pub(super) fn set_interest(&mut self, index: u32, ops: Ops)
+        requires { index < vec_len self.old.keys }
+        ensures { selector_row self.new ≡ with_interest_at (selector_row self.old) index ops }
+    {
+        self.keys[index as usize].interest = ops;
+    }
+
+    /// Adds a key and notes it for its channel.
+    pub(super) fn add_key(&mut self, key: Key) -> Result<(), AllocError>
+        requires { vec_len self.old.keys + 1 < 2 ^ 32 }
+        ensures ok { OnOk result (selector_row self.new ≡ with_new_key (selector_row self.old) key.chan.0 (key_row key)) }
+        ensures memory { OnErr result (selector_row self.new ≡ selector_row self.old) }
+    {
+        self.keys.reserve(1)?;
+        self.noted.insert(key.chan.0, self.keys.len() as u32)?;
+        self.keys.push(key)?;
+        Ok(())
     }
 }
