@@ -1,10 +1,13 @@
 -- How a call of a plain system is shown to answer as the documented one, at each of its returns.
-use Rattle.std.proofs.Common.{◌≡◌, ℕ, ◌+◌, ◌<◌, ◌≤◌, Bool, true, false, Ok, List, [], ◌∷◌, ◌++◌, length, set, refl, sym, ap, ◌∙◌}
+use Rattle.std.proofs.Common.{◌≡◌, ℕ, ◌+◌, ◌<◌, ◌≤◌, Bool, true, false, Result, Ok, Err, List, [], ◌∷◌, ◌++◌, length, get_or, set, refl, sym, ap, ◌∙◌}
 use Rattle.std.proofs.lemmas.List.{length-set, length_push}
+use Rattle.std.proofs.lemmas.Result.{IfOk-from_err}
+use Rattle.std.specs.Result.{IsErr, OnErr}
+use Rattle.std.specs.declared.alloc.AllocError.{AllocError}
 use lib.ListN.{replicate}
 use Rattle.nio_event.specs.State.{unmade_channel, put}
 use Rattle.nio_event.specs.declared.reply.Reply.{Reply}
-use Rattle.nio_plain.proofs.Places.{places-nil, places-replicate, places_all, places_past, places-set, places-push}
+use Rattle.nio_plain.proofs.Places.{places-nil, places-replicate, places_all, places_past, places-set, places-push, places_at, part_kept}
 use Rattle.nio_plain.specs.Plain.{Answers, AnswersAs}
 use Rattle.nio_plain.specs.PlainState.{places, channel_row, selector_row, SelectorRow, no_selector, state_from, state_of, limits_of}
 use Rattle.nio_plain.specs.ScriptState.{ScriptState, script_opening}
@@ -97,3 +100,27 @@ answered_without_memory p q r a b e same left limits = record {
   left = left ∙ sym (ap (λ (x : Answered). x.left) e);
   limits = limits;
 }
+
+on_err : {X E P : Type 0} (r : Result X E) → P → OnErr r P
+on_err (Ok x) h = tt
+on_err (Err e) h = h
+
+-- a call that lacked memory
+pub failed_as : (p q : Plain) (r : Result Reply AllocError) (a : Answered) → IsErr r → state_of q ≡ state_of p → limits_of q ≡ limits_of p → AnswersAs p q r a
+failed_as p q r a e same limits = record {
+  reply = IfOk-from_err r (λ x. x ≡ a.reply) e;
+  left = IfOk-from_err r (λ _. state_of q ≡ a.left) e;
+  memory = on_err r same;
+  limits = limits;
+}
+
+-- a write of a selector that leaves its parts as they were
+pub state-same_selector : (p : Plain) (s : ℕ) (x y : Selector) → s < length p.selectors.items → x ≡ get_or p.selectors.items s x → selector_row y ≡ selector_row x → with_rows p (places selector_row no_selector (set p.selectors.items s y)) ≡ state_of p
+state-same_selector p s x y h e same =
+    let at = places_at selector_row no_selector p.selectors.items s x h e in
+    state-set_selector p (set p.selectors.items s y) s y h refl ∙ ap (with_rows p) (part_kept (λ (r : SelectorRow). r) (rows_of p) s (selector_row y) (same ∙ sym at))
+
+-- two reads of one selector
+pub same_row : (p : Plain) (s : ℕ) (x y : Selector) → s < length p.selectors.items → x ≡ get_or p.selectors.items s x → y ≡ get_or p.selectors.items s y → selector_row x ≡ selector_row y
+same_row p s x y h e d =
+    sym (places_at selector_row no_selector p.selectors.items s x h e) ∙ places_at selector_row no_selector p.selectors.items s y h d

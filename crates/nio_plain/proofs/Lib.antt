@@ -7,3 +7,4 @@ pub mod Registered
 pub mod Blocking
 pub mod KeyParts
 pub mod Registering
+pub mod RegisteringAt
