@@ -8,3 +8,5 @@ pub mod Blocking
 pub mod KeyParts
 pub mod Registering
 pub mod RegisteringAt
+pub mod Sweeping
+pub mod Selecting

@@ -1,16 +1,18 @@
 -- The state that a plain system holds, read from its vectors.
-use Rattle.std.specs.Prelude.{ℕ, ◌+◌, Bool, true, false, Option, Some, None, is_some, if◌then◌else◌, List, map, length, get_or}
+use Rattle.std.specs.Prelude.{ℕ, ◌+◌, Bool, true, false, Option, Some, None, is_some, if◌then◌else◌, nat_lt, List, map, filter, length, get_or}
 use Rattle.std.specs.BTreeMap.{get}
 use Rattle.std.specs.Ordering.{nat_cmp}
 use Rattle.nio_base.specs.declared.limits.Limits.{Limits}
 use Rattle.nio_base.specs.declared.numbers.CallerNo.{CallerNo}
 use Rattle.nio_event.specs.State.{unmade_channel, open_gate, unclaimed, unmarked, put}
-use Rattle.nio_event.specs.Sets.{in_key_set}
+use Rattle.nio_event.specs.Sets.{in_key_set, in_cancelled_set, is_valid}
+use Rattle.nio_event.specs.declared.found.Mode.{Mode}
 use Rattle.nio_event.specs.declared.found.Chan.{Chan}
 use Rattle.nio_event.specs.declared.found.GateWord.{GateWord}
 use Rattle.nio_event.specs.declared.found.Mark.{Mark}
 use Rattle.nio_event.specs.declared.found.Stage.{Stage}
 use Rattle.nio_plain.specs.ScriptState.{ScriptState, Selection}
+use Rattle.nio_plain.specs.Seq.{below, removed_key, unselected}
 use Rattle.nio_plain.specs.declared.plain.Plain.{Plain}
 use Rattle.nio_plain.specs.declared.plain.channel.Channel.{Channel}
 use Rattle.nio_plain.specs.declared.plain.selector.Closing.{Closing}
@@ -96,6 +98,29 @@ with_new_key r c key = record r {
 
 abbrev pub with_interest_at : SelectorRow → ℕ → ℕ → SelectorRow
 with_interest_at r i ops = record r { keys = put r.keys i (record (r.keys i) { interest = ops }) }
+
+-- a key that is removed where it is cancelled, and the keys after that was done below the bound
+abbrev pub swept_key : KeyRow → KeyRow
+swept_key k =
+    if in_cancelled_set k.stage then record k { stage = removed_key k.stage; mark = unselected k.mark }
+    else k
+
+abbrev pub swept : (ℕ → KeyRow) → ℕ → ℕ → KeyRow
+swept keys bound = λ i. if nat_lt i bound then swept_key (keys i) else keys i
+
+-- the valid keys below the bound with their interests, in rising order
+abbrev pub looked_below : (ℕ → KeyRow) → ℕ → List (ℕ × ℕ)
+looked_below keys bound =
+    map (λ i. (i, (keys i).interest)) (filter (λ i. is_valid (keys i).stage) (below bound))
+
+-- a selector on which a selection has begun
+abbrev pub with_selection : SelectorRow → CallerNo → Mode → SelectorRow
+with_selection r me mode = record r {
+  turn = Some me;
+  selection =
+    Some (record { mode = mode; bound = r.keys_mark; looked = looked_below r.keys r.keys_mark });
+  keys = swept r.keys r.keys_mark;
+}
 
 -- a key that was just registered
 abbrev pub new_key_row : ℕ → ℕ → KeyRow

@@ -11,8 +11,10 @@ use std::alloc::{AllocError, Global};
 
 mod blocking;
 mod channel;
+mod looking;
 mod opening;
 mod registering;
+mod selecting;
 mod selector;
 
 /// A system of selectors, keys and channels, kept in vectors.

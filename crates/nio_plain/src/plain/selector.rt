@@ -4,7 +4,8 @@ ghost use Rattle.std.specs.List.{All, AllPairs};
 ghost use Rattle.std.proofs.Props.{props};
 
 use nio_base::{CallerNo, ChanNo, Ops};
-use nio_event::{Mark, Mode};
+use super::looking::valid_keys;
+use nio_event::{Mark, Mode, Pairs};
 use std::alloc::{AllocError, Global};
 use std::collections::BTreeMap;
 
@@ -21,7 +22,8 @@ pub(super) struct Key {
 }
 
 impl Key {
-    ghost use Rattle.nio_plain.specs.PlainState.{key_row, new_key_row};
+    ghost use Rattle.nio_plain.specs.PlainState.{key_row, new_key_row, swept_key};
+    ghost use Rattle.nio_event.specs.Sets.{is_valid};
 
     /// A key as it is registered: valid, not selected and without an attachment.
     pub(super) fn new(chan: ChanNo, interest: Ops) -> Key
@@ -37,6 +39,23 @@ impl Key {
                 ready: Ops::NONE,
             },
             note: 0,
+        }
+    }
+
+    pub(super) fn is_valid(&self) -> bool
+        ensures { result ≡ is_valid (key_row self.now).stage }
+    {
+        !self.removed && !self.cancelled
+    }
+
+    /// Removes the key from every set, where it is cancelled.
+    fn sweep(&mut self)
+        ensures { key_row self.new ≡ swept_key (key_row self.old) }
+    {
+        if !self.removed && self.cancelled {
+            self.removed = true;
+            self.cancelled = false;
+            self.mark.selected = false;
         }
     }
 }
@@ -75,8 +94,8 @@ pub(super) struct Selector {
 }
 
 impl Selector {
-    ghost use Rattle.std.specs.Prelude.{◌+◌, OnOk, OnErr, is_some};
-    ghost use Rattle.nio_plain.specs.PlainState.{key_in, key_row, new_selector, selector_row, with_interest_at, with_new_key};
+    ghost use Rattle.std.specs.Prelude.{◌+◌, IfOk, OnOk, OnErr, is_some};
+    ghost use Rattle.nio_plain.specs.PlainState.{key_in, key_row, looked_below, new_selector, selector_row, swept, with_interest_at, with_new_key, with_selection};
 
     pub(super) fn new(alloc: Global) -> Selector
         ensures { selector_row result ≡ new_selector }
@@ -125,5 +144,34 @@ impl Selector {
         self.noted.insert(key.chan.0, self.keys.len() as u32)?;
         self.keys.push(key)?;
         Ok(())
+    }
+
+    /// Removes each cancelled key whose index is below the bound.
+    pub(super) fn sweep(&mut self, bound: u32)
+        requires { bound ≤ vec_len self.old.keys }
+        ensures { selector_row self.new ≡ record (selector_row self.old) { keys = swept (selector_row self.old).keys bound } }
+    {
+        for index in 0..bound as usize {
+            self.keys[index].sweep();
+        }
+    }
+
+    /// Begins a selection, and answers the keys that it looks at. Takes its memory first.
+    pub(super) fn begin(&mut self, alloc: Global, caller: CallerNo, mode: Mode) -> Result<Pairs, AllocError>
+        ensures looked { IfOk result (λ pairs. pairs ≡ looked_below (selector_row self.old).keys (selector_row self.old).keys_mark) }
+        ensures left { OnOk result (selector_row self.new ≡ with_selection (selector_row self.old) caller mode) }
+        ensures memory { OnErr result (selector_row self.new ≡ selector_row self.old) }
+    {
+        let looked = valid_keys(alloc, &self.keys)?;
+        let answer = Vec::from_slice(alloc, &looked)?;
+        let bound = self.keys.len() as u32;
+        self.sweep(bound);
+        self.selecting = Some(Selecting {
+            caller,
+            mode,
+            bound,
+            looked,
+        });
+        Ok(Pairs::from_vec(answer))
     }
 }
