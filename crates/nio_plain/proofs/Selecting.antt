@@ -141,3 +141,54 @@ module _ (interrupted : ℕ → Bool) (mark : ℕ) (chan : ℕ → Chan) (s : �
       };
       selection = put_part (λ (q : SelectorRow). q.selection) row s r j;
     }
+
+-- what a selection looks at after the sweep: the keys that were valid before
+
+gone : (b i c p : Bool) → (b && (i && c)) ≡ true → (p && false) ≡ (i && not c)
+gone true true true p e = elim p as (λ q. (q && false) ≡ false) [ true ↦ refl | false ↦ refl ]
+gone true true false p e = absurd (true≢false (sym e))
+gone true false c p e = absurd (true≢false (sym e))
+gone false i c p e = absurd (true≢false (sym e))
+
+stays : (b i c : Bool) → (b ≡ false → i ≡ false) → (b && (i && c)) ≡ false → i ≡ (i && not c)
+stays true true true h e = absurd (true≢false e)
+stays true true false h e = refl
+stays b false c h e = refl
+stays false true c h e = absurd (true≢false (h refl))
+
+valid_after : (k : Stage) (b : Bool) → (b ≡ false → in_key_set k ≡ false) → in_key_set (cond (b && in_cancelled_set k) (removed_key k) k) ≡ is_valid k
+valid_after k b h =
+    let t = b && in_cancelled_set k in
+    ⊎_elim
+    (λ (e : t ≡ true). ap in_key_set (cond-true t (removed_key k) k e) ∙ gone b (in_key_set k) k.cancelled k.published e)
+    (λ (e : t ≡ false). ap in_key_set (cond-false t (removed_key k) k e) ∙ stays b (in_key_set k) k.cancelled h e)
+    (cases_Bool t)
+
+module _ (interrupted : ℕ → Bool) (mark : ℕ) (chan : ℕ → Chan) (row : ℕ → SelectorRow) (s : ℕ) where
+  abbrev st : ScriptState
+  st = state_from interrupted mark chan row
+
+  looked_keys-swept : (n : ℕ) → n ≡ (row s).keys_mark → ((i : ℕ) → n ≤ i → (row s).keys i ≡ no_key) → looked_keys (without_cancelled st.shared s n) s ≡ looked_below (row s).keys n
+  looked_keys-swept n same past =
+      let f : ℕ → ℕ × ℕ = λ i. (i, ((row s).keys i).interest) in
+      let in_set = same_function (λ i. valid_after ((row s).keys i).stage (eqb s s && ltb i n)
+      (λ e. ap (λ (k : KeyRow). in_key_set k.stage) (past i (ltb-false i n (⊎_elim (λ (d : eqb s s ≡ false). absurd (true≢false (sym (eq-eqb s s refl) ∙ d))) (λ (d : ltb i n ≡ false). d) (and_cases (eqb s s) (ltb i n) e)))))) in
+      ap (λ (p : ℕ → Bool). map f (filter p (below (row s).keys_mark))) in_set ∙ ap (λ m. map f (filter (λ i. is_valid ((row s).keys i).stage) (below m))) (sym same)
+
+  pub state-begun : (me : CallerNo) (how : Mode) → ((i : ℕ) → (row s).keys_mark ≤ i → (row s).keys i ≡ no_key) → state_from interrupted mark chan (put row s (with_selection (row s) me how)) ≡ (selection_begun st me s how).left
+  state-begun me how past =
+      let n = (row s).keys_mark in
+      let sel : List (ℕ × ℕ) → Option Selection = λ looked. Some (record { mode = how; bound = n; looked = looked }) in
+      let sweeps = makes-swept interrupted mark chan s n in
+      let selects = makes-selecting interrupted mark chan s (Some me) (sel (looked_below (row s).keys n)) in
+      let first : ScriptState → ScriptState = λ x. record x { shared = without_cancelled x.shared s n } in
+      let second : ScriptState → ScriptState = λ x. record {
+        shared = with_begun (with_turn x.shared s (Some me)) s true;
+        selection = put x.selection s (sel (looked_below (row s).keys n));
+      } in
+      let both = then interrupted mark chan s (λ r. record r { keys = swept r.keys n }) (λ r. record r { turn = Some me; selection = sel (looked_below (row s).keys n) }) first second sweeps selects row in
+      let left : List (ℕ × ℕ) → ScriptState = λ looked. record { shared = with_begun (with_turn (without_cancelled st.shared s n) s (Some me)) s true; selection = put st.selection s (sel looked) } in
+      both ∙ ap left (sym (looked_keys-swept n refl past))
+
+  pub looked-begun : ((i : ℕ) → (row s).keys_mark ≤ i → (row s).keys i ≡ no_key) → looked_keys (without_cancelled st.shared s (row s).keys_mark) s ≡ looked_below (row s).keys (row s).keys_mark
+  looked-begun past = looked_keys-swept (row s).keys_mark refl past

@@ -1,7 +1,8 @@
 //! Beginning a selection.
+ghost use Rattle.std.specs.Prelude.{◌≡◌};
 ghost use Rattle.nio_plain.specs.Plain.{AnswersAs};
 ghost use Rattle.nio_plain.specs.PlainState.{limits_of, state_of};
-ghost use Rattle.nio_plain.specs.Seq.{begin_call};
+ghost use Rattle.nio_plain.specs.Seq.{begin_call, mode_of};
 
 use super::Plain;
 use nio_base::{CallerNo, SelNo};
@@ -22,10 +23,16 @@ impl Plain {
         if selector.selecting.is_some() {
             return Ok(Reply::Busy);
         }
-        let mode = match waiting {
-            Waiting::Now => Mode::Now,
-        };
-        let looked = self.selectors[sel.0 as usize].begin(alloc, me, mode)?;
+        let looked = self.selectors[sel.0 as usize].begin(alloc, me, mode_of(waiting))?;
         Ok(Reply::Looked(looked))
+    }
+}
+
+/// How long the selection waits.
+fn mode_of(waiting: Waiting) -> Mode
+    ensures { result ≡ mode_of waiting }
+{
+    match waiting {
+        Waiting::Now => Mode::Now,
     }
 }
