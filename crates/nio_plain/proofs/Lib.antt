@@ -10,3 +10,5 @@ pub mod Registering
 pub mod RegisteringAt
 pub mod Sweeping
 pub mod Selecting
+pub mod Marking
+pub mod Telling

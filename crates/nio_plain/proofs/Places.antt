@@ -104,3 +104,7 @@ put_at_is {A} g f s i x here other =
     (cases_eq j i))
     (λ (e : t ≡ s → ⊥). other t j (λ k _. e k) ∙ sym (cond-false (eqb t s && eqb j i) x (f t j) (and_left (eqb t s) (eqb j i) (ne_eqb t s e))))
     (cases_eq t s)))
+
+pub places-id : {A : Type 0} (none : A) (xs : List A) (n : ℕ) → places (λ y. y) none xs n ≡ get_or xs n none
+unfolding places
+places-id none xs n = ap (λ ys. get_or ys n none) (map-id xs)

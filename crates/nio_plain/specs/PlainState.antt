@@ -1,5 +1,5 @@
 -- The state that a plain system holds, read from its vectors.
-use Rattle.std.specs.Prelude.{ℕ, ◌+◌, Bool, true, false, Option, Some, None, is_some, if◌then◌else◌, nat_lt, List, map, filter, length, get_or}
+use Rattle.std.specs.Prelude.{ℕ, ◌+◌, Bool, true, false, Option, Some, None, is_some, if◌then◌else◌, nat_lt, List, map, filter, length, get_or, bit_and}
 use Rattle.std.specs.BTreeMap.{get}
 use Rattle.std.specs.Ordering.{nat_cmp}
 use Rattle.nio_base.specs.declared.limits.Limits.{Limits}
@@ -12,7 +12,7 @@ use Rattle.nio_event.specs.declared.found.GateWord.{GateWord}
 use Rattle.nio_event.specs.declared.found.Mark.{Mark}
 use Rattle.nio_event.specs.declared.found.Stage.{Stage}
 use Rattle.nio_plain.specs.ScriptState.{ScriptState, Selection}
-use Rattle.nio_plain.specs.Seq.{below, removed_key, unselected}
+use Rattle.nio_plain.specs.Seq.{below, removed_key, unselected, marked, looked_interest}
 use Rattle.nio_plain.specs.declared.plain.Plain.{Plain}
 use Rattle.nio_plain.specs.declared.plain.channel.Channel.{Channel}
 use Rattle.nio_plain.specs.declared.plain.selector.Closing.{Closing}
@@ -120,6 +120,20 @@ with_selection r me mode = record r {
   selection =
     Some (record { mode = mode; bound = r.keys_mark; looked = looked_below r.keys r.keys_mark });
   keys = swept r.keys r.keys_mark;
+}
+
+-- the keys after each looked key was marked with what was told of its interest
+abbrev pub marked_keys : (ℕ → KeyRow) → List (ℕ × ℕ) → (ℕ → ℕ) → ℕ → KeyRow
+marked_keys keys looked told =
+    λ i. record (keys i) { mark = marked (keys i).mark (bit_and (told i) (looked_interest looked i)) }
+
+-- a selector on which a selection is over
+abbrev pub with_selection_ended : SelectorRow → List (ℕ × ℕ) → (ℕ → ℕ) → ℕ → SelectorRow
+with_selection_ended r looked told bound = record r {
+  gate = record r.gate { woken = false };
+  turn = None;
+  selection = None;
+  keys = swept (marked_keys r.keys looked told) bound;
 }
 
 -- a key that was just registered

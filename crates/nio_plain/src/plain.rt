@@ -12,10 +12,12 @@ use std::alloc::{AllocError, Global};
 mod blocking;
 mod channel;
 mod looking;
+mod marking;
 mod opening;
 mod registering;
 mod selecting;
 mod selector;
+mod telling;
 
 /// A system of selectors, keys and channels, kept in vectors.
 #[derive(Drop)]

@@ -5,7 +5,8 @@ ghost use Rattle.std.proofs.Props.{props};
 
 use nio_base::{CallerNo, ChanNo, Ops};
 use super::looking::valid_keys;
-use nio_event::{Mark, Mode, Pairs};
+use super::marking::marked;
+use nio_event::{GateWord, Mark, Mode, Pairs};
 use std::alloc::{AllocError, Global};
 use std::collections::BTreeMap;
 
@@ -94,8 +95,8 @@ pub(super) struct Selector {
 }
 
 impl Selector {
-    ghost use Rattle.std.specs.Prelude.{◌+◌, IfOk, OnOk, OnErr, is_some};
-    ghost use Rattle.nio_plain.specs.PlainState.{key_in, key_row, looked_below, new_selector, selector_row, swept, with_interest_at, with_new_key, with_selection};
+    ghost use Rattle.std.specs.Prelude.{◌+◌, IfOk, OnOk, OnErr, is_some, length, slice_index};
+    ghost use Rattle.nio_plain.specs.PlainState.{key_in, key_row, looked_below, marked_keys, new_selector, selector_row, swept, with_interest_at, with_new_key, with_selection, with_selection_ended};
 
     pub(super) fn new(alloc: Global) -> Selector
         ensures { selector_row result ≡ new_selector }
@@ -173,5 +174,43 @@ impl Selector {
             looked,
         });
         Ok(Pairs::from_vec(answer))
+    }
+
+    pub(super) fn gate(&self) -> GateWord
+        ensures { result ≡ (selector_row self.now).gate }
+    {
+        GateWord {
+            woken: self.woken,
+            shut: self.is_shut(),
+        }
+    }
+
+    /// Marks each looked key with what was told of its interest.
+    fn mark(&mut self, looked: &[(u32, Ops)], told: &[Ops])
+        requires rising { AllPairs (λ p q. p.0 < q.0) looked.now }
+        requires in_told { All (λ p. p.0 < length told.now) looked.now }
+        requires in_keys { length told.now ≤ vec_len self.old.keys }
+        ensures row { selector_row self.new ≡ record (selector_row self.old) { keys = marked_keys (selector_row self.old).keys looked.now (slice_index told.now) } }
+        ensures long { vec_len self.new.keys ≡ vec_len self.old.keys }
+    {
+        for &(index, interest) in looked {
+            let bits = told[index as usize].meet(interest);
+            let key = &mut self.keys[index as usize];
+            key.mark = marked(key.mark, bits);
+        }
+    }
+
+    /// Ends the selection in progress: its keys are marked, those that were cancelled meanwhile are
+    /// removed, and the wakeup is used up.
+    pub(super) fn end_selection(&mut self, told: &[Ops])
+        requires { IfSome self.old.selecting (λ x. length told.now ≡ x.bound) }
+        ensures { IfSome self.old.selecting
+            (λ x. selector_row self.new ≡ with_selection_ended (selector_row self.old) x.looked.items (slice_index told.now) x.bound) }
+    {
+        if let Some(selecting) = self.selecting.take() {
+            self.mark(&selecting.looked, told);
+            self.sweep(selecting.bound);
+            self.woken = false;
+        }
     }
 }
