@@ -12,3 +12,4 @@ pub mod Sweeping
 pub mod Selecting
 pub mod Marking
 pub mod Telling
+pub mod TellingAt
