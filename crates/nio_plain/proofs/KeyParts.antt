@@ -1,5 +1,5 @@
 -- The parts of a selector's keys, by the selector and the index, after a change of one selector.
-use Rattle.std.proofs.Common.{◌≡◌, ℕ, refl, sym, ap, ◌∙◌, ⊎_elim}
+use Rattle.std.proofs.Common.{◌≡◌, ℕ, sym, ap, ◌∙◌, ⊎_elim}
 use Rattle.std.proofs.lemmas.Bool.{cases_eq}
 use Rattle.nio_event.specs.State.{put, put_at}
 use Rattle.nio_plain.proofs.Places.{same_function, part_kept, put-here, put-elsewhere, put_at_is}

@@ -13,3 +13,4 @@ pub mod Selecting
 pub mod Marking
 pub mod Telling
 pub mod TellingAt
+pub mod Calling

@@ -1,5 +1,5 @@
 -- What was told of each index, and the marks that it makes, pair by pair.
-use Rattle.std.proofs.Common.{◌≡◌, ℕ, zero, suc, ◌+◌, ◌<◌, ◌≤◌, eqb, ltb, Bool, true, false, cond, List, [], ◌∷◌, ◌++◌, take, length, get_or, set, bit_and, bit_or, count_by, refl, sym, ap, ◌∙◌, arith, ⊎_elim}
+use Rattle.std.proofs.Common.{◌≡◌, ℕ, zero, suc, ◌+◌, ◌<◌, ◌≤◌, eqb, Bool, true, false, cond, List, [], ◌∷◌, ◌++◌, take, length, get_or, set, bit_and, bit_or, count_by, refl, sym, ap, ◌∙◌, arith, ⊎_elim}
 use Rattle.std.proofs.lemmas.Bool.{cases_eq, cases_lt, cond-true, cond-false, eq-eqb, ne_eqb}
 use Rattle.std.proofs.lemmas.List.{get_or-take, get_or_default, get_or-set_same, get_or-set_other, length-take-le, take_more, get_or_read}
 use Rattle.std.proofs.lemmas.Grind.{common_steps}
@@ -8,7 +8,6 @@ use Rattle.std.proofs.lemmas.Nat.Bits.{bit_at_or, same_from_bits}
 use Rattle.std.specs.List.{All, AllPairs}
 use lib.Bits.{and_zero_r, or_zero_r}
 use Rattle.nio_event.specs.State.{put}
-use Rattle.nio_event.specs.declared.found.Mark.{Mark}
 use Rattle.nio_plain.proofs.Places.{same_function, put_is, places-set, places_at}
 use Rattle.nio_plain.specs.PlainState.{KeyRow, places, key_row, no_key, marked_keys}
 use Rattle.nio_plain.specs.Seq.{all_told, looked_interest, marked, is_updated}

@@ -1,6 +1,5 @@
 -- Registering a channel, over the parts of a state.
-use Rattle.std.proofs.Common.{◌≡◌, ℕ, ◌+◌, ◌<◌, ◌==◌, Bool, true, false, Option, Some, None, is_some, nat_lt, length, get_or, bit_and, refl, sym, ap, ◌∙◌}
-use Rattle.std.proofs.lemmas.Bool.{lt-ltb, le-ltb}
+use Rattle.std.proofs.Common.{◌≡◌, ℕ, ◌<◌, ◌==◌, Bool, true, false, Option, Some, None, is_some, nat_lt, length, get_or, bit_and, refl, sym, ap, ◌∙◌}
 use Rattle.nio_base.specs.Kind.{valid_operations}
 use Rattle.nio_base.specs.declared.limits.Limits.{Limits}
 use Rattle.nio_base.specs.declared.numbers.ChanNo.{ChanNo}
@@ -17,7 +16,7 @@ use Rattle.nio_plain.specs.PlainState.{SelectorRow, KeyRow, no_key, state_from, 
 use Rattle.nio_plain.specs.declared.plain.Plain.{Plain}
 use Rattle.nio_plain.specs.declared.plain.selector.Selector.{Selector}
 use Rattle.nio_plain.specs.ScriptState.{ScriptState}
-use Rattle.nio_plain.specs.Seq.{Answered, refused, answered, register_call, registered, key_of, new_key}
+use Rattle.nio_plain.specs.Seq.{refused, answered, register_call, registered, key_of, new_key}
 
 -- x is the channel
 module _ (l : Limits) (st : ScriptState) (s : SelNo) (c : ChanNo) (ops : ℕ) where

@@ -2,7 +2,6 @@
 -- registered.
 use Rattle.std.proofs.Common.{◌≡◌, ℕ, ◌<◌, ◌≤◌, true, false, Option, Some, None, Ok, is_some, refl, sym, ap, ◌∙◌, length, set, arith, get_or}
 use Rattle.std.proofs.lemmas.Bool.{lt-ltb, le-ltb}
-use Rattle.std.specs.BTreeMap.{get}
 use Rattle.nio_base.specs.declared.numbers.ChanNo.{ChanNo}
 use Rattle.nio_base.specs.declared.numbers.SelNo.{SelNo}
 use Rattle.nio_event.specs.State.{put}
@@ -12,7 +11,7 @@ use Rattle.nio_plain.proofs.Places.{places_at, places_past}
 use Rattle.nio_plain.proofs.Registering.{key_of-read, registered-cancelled, registered-shut, registered-again, registered_new-shut, registered-full, registered-new, state-interest, state-new_key}
 use Rattle.nio_plain.specs.Plain.{AnswersAs}
 use Rattle.nio_plain.specs.PlainState.{SelectorRow, KeyRow, places, state_of, selector_row, no_selector, key_row, no_key, with_interest_at, with_new_key, new_key_row, key_in}
-use Rattle.nio_plain.specs.Seq.{Answered, registered, register_call, key_of}
+use Rattle.nio_plain.specs.Seq.{registered, register_call, key_of}
 use Rattle.nio_plain.specs.declared.plain.Plain.{Plain}
 use Rattle.nio_plain.specs.declared.plain.selector.Key.{Key}
 use Rattle.nio_plain.specs.declared.plain.selector.Selector.{Selector}

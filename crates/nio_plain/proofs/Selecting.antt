@@ -1,15 +1,13 @@
 -- The changes of one selector's parts in a selection, and the changes of the state that they are.
-use Rattle.std.proofs.Common.{◌≡◌, ℕ, ◌<◌, ◌≤◌, eqb, ltb, Bool, true, false, cond, not, ◌&&◌, Option, Some, None, is_some, List, map, filter, refl, sym, ap, ◌∙◌, arith, ⊎_elim}
+use Rattle.std.proofs.Common.{◌≡◌, ℕ, ◌≤◌, eqb, ltb, Bool, true, false, cond, not, ◌&&◌, Option, Some, None, is_some, List, map, filter, refl, sym, ap, ◌∙◌, ⊎_elim}
 use Rattle.std.proofs.lemmas.Bool.{cases_eq, cases_Bool, cond-true, cond-false, eq-eqb, ne_eqb, and_left, and_cases, ltb-false, true≢false}
 use Rattle.nio_base.specs.declared.limits.Limits.{Limits}
 use Rattle.nio_base.specs.declared.numbers.CallerNo.{CallerNo}
 use Rattle.nio_base.specs.declared.numbers.SelNo.{SelNo}
 use Rattle.nio_event.specs.Sets.{in_key_set, in_cancelled_set, is_valid}
-use Rattle.nio_event.specs.State.{State, put, with_gate, with_turn, with_begun}
+use Rattle.nio_event.specs.State.{put, with_turn, with_begun}
 use Rattle.nio_event.specs.declared.call.Waiting.{Waiting}
 use Rattle.nio_event.specs.declared.found.Chan.{Chan}
-use Rattle.nio_event.specs.declared.found.GateWord.{GateWord}
-use Rattle.nio_event.specs.declared.found.Mark.{Mark}
 use Rattle.nio_event.specs.declared.found.Mode.{Mode}
 use Rattle.nio_event.specs.declared.found.Stage.{Stage}
 use Rattle.nio_event.specs.declared.reply.Reply.TheVariants as reply
@@ -17,7 +15,7 @@ use Rattle.nio_plain.proofs.Places.{same_function, put_part, part_kept, put-here
 use Rattle.nio_plain.proofs.KeyParts.{keys_kept}
 use Rattle.nio_plain.specs.PlainState.{SelectorRow, KeyRow, no_key, state_from, swept, swept_key, looked_below, with_selection}
 use Rattle.nio_plain.specs.ScriptState.{ScriptState, Selection}
-use Rattle.nio_plain.specs.Seq.{Answered, refused, begin_call, selection_begun, mode_of, without_cancelled, removed_key, unselected, looked_keys, below}
+use Rattle.nio_plain.specs.Seq.{refused, begin_call, selection_begun, mode_of, without_cancelled, removed_key, unselected, looked_keys, below}
 
 -- begin's answers
 

@@ -1,5 +1,5 @@
 -- Telling a selection, over the parts of a state.
-use Rattle.std.proofs.Common.{◌≡◌, ℕ, ◌<◌, ◌≤◌, eqb, Bool, true, false, cond, Option, Some, None, is_some, IfSome, List, get_or, bit_and, count_by, refl, sym, ap, subst, ◌∙◌, ⊎_elim}
+use Rattle.std.proofs.Common.{◌≡◌, ℕ, ◌<◌, eqb, Bool, true, false, cond, Option, Some, None, is_some, IfSome, List, get_or, bit_and, count_by, refl, sym, ap, subst, ◌∙◌, ⊎_elim}
 use Rattle.std.specs.List.{All, AllPairs}
 use Rattle.std.proofs.lemmas.Bool.{cases_eq, cond-true, cond-false, eq-eqb, ne_eqb}
 use Rattle.nio_base.specs.declared.limits.Limits.{Limits}
@@ -17,7 +17,7 @@ use Rattle.nio_plain.proofs.Places.{same_function, put_part, part_kept, put-here
 use Rattle.nio_plain.proofs.Selecting.{Makes, then, makes-swept, makes-selecting}
 use Rattle.nio_plain.specs.PlainState.{SelectorRow, KeyRow, state_from, state_of, selector_row, caller_of, selection_of, swept, marked_keys, with_selection_ended}
 use Rattle.nio_plain.specs.ScriptState.{ScriptState, Selection}
-use Rattle.nio_plain.specs.Seq.{Answered, refused, told_call, told_selection, own_selection, selection_ended, with_marks, without_cancelled, all_told, told_bits, looked_interest, marked, is_updated, updated_count, is_again, why_ended, is_caller}
+use Rattle.nio_plain.specs.Seq.{refused, told_call, told_selection, own_selection, selection_ended, with_marks, without_cancelled, all_told, told_bits, looked_interest, marked, is_updated, updated_count, is_again, why_ended, is_caller}
 use Rattle.nio_plain.specs.declared.plain.Plain.{Plain}
 use Rattle.nio_plain.specs.declared.plain.selector.Selecting.{Selecting}
 use Rattle.nio_plain.specs.declared.plain.selector.Selector.{Selector}

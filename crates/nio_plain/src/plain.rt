@@ -6,7 +6,9 @@ ghost use Rattle.std.specs.Prelude.{◌≡◌, ◌≤◌, vec_len};
 
 use self::channel::Channel;
 use self::selector::Selector;
-use nio_base::Limits;
+use crate::system::System;
+use nio_base::{CallerNo, Limits};
+use nio_event::{Call, Reply};
 use std::alloc::{AllocError, Global};
 
 mod blocking;
@@ -50,4 +52,36 @@ impl Plain {
             selectors: Vec::new(alloc),
         })
     }
+}
+
+impl System for Plain {
+    ghost use Rattle.std.proofs.Common.{◌∙◌};
+    ghost use Rattle.nio_plain.specs.PlainState.{limits_of, state_of};
+    ghost use Rattle.std.specs.Prelude.{refl};
+
+    ghost limits = { limits_of };
+
+    ghost state = { state_of };
+
+    ghost kept = { λ y z. limits_of z ≡ limits_of y };
+
+    fn call(&mut self, alloc: Global, caller: CallerNo, call: &Call) -> Result<Reply, AllocError> {
+        if caller.0 >= self.limits.callers {
+            return Ok(Reply::NoCaller);
+        }
+        match call {
+            Call::Selector => self.open_selector(alloc),
+            Call::Channel(kind) => self.open_channel(*kind),
+            Call::Blocking(chan, on) => Ok(self.set_blocking(*chan, *on)),
+            Call::Register(sel, chan, ops) => self.register(*sel, *chan, *ops),
+            Call::Begin(sel, waiting) => self.begin(alloc, caller, *sel, *waiting),
+            Call::Told(sel, pairs) => self.told(alloc, caller, *sel, pairs),
+        }
+    }
+
+    ghost kept_same = { λ _. refl };
+
+    ghost kept_on = { λ x y z h k. k ∙ h };
+
+    ghost kept_limits = { λ y z h. h };
 }

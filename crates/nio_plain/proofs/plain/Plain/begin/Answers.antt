@@ -1,10 +1,10 @@
-use Rattle.std.proofs.Common.{◌≡◌, ◌<◌, ◌≤◌, ℕ, true, false, is_some, refl, sym, ap, ◌∙◌, length, arith}
+use Rattle.std.proofs.Common.{◌<◌, ◌≤◌, false, is_some, refl, sym, ap, ◌∙◌, length, arith}
 use Rattle.nio_event.specs.State.{put, unmade_channel}
 use Rattle.nio_event.specs.declared.reply.Reply.TheVariants as reply
-use Rattle.nio_plain.proofs.Answering.{refused_as, answered_as, failed_as, state-same_selector, state-set_selector, same_row, rows_of, with_rows, row_past, is_some-caller_of, selector_made-below, selector_made-past}
-use Rattle.nio_plain.proofs.Places.{places_at, places_past}
+use Rattle.nio_plain.proofs.Answering.{refused_as, answered_as, failed_as, state-same_selector, state-set_selector, rows_of, with_rows, row_past, is_some-caller_of, selector_made-below, selector_made-past}
+use Rattle.nio_plain.proofs.Places.{places_at}
 use Rattle.nio_plain.proofs.Selecting.{begin-no_selector, begin-shut, begin-busy, begin-begun, state-begun, looked-begun}
-use Rattle.nio_plain.specs.PlainState.{places, channel_row, SelectorRow, state_of, selector_row, no_selector, no_key, key_row, with_selection, looked_below}
+use Rattle.nio_plain.specs.PlainState.{places, channel_row, SelectorRow, state_of, selector_row, no_selector, with_selection, looked_below}
 use Rattle.nio_plain.specs.Seq.{mode_of}
 use Rattle.nio_plain.proofs.plain.Plain.begin.Goals as goal
 

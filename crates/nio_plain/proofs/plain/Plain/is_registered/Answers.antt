@@ -1,7 +1,6 @@
-use Rattle.std.proofs.Common.{◌≡◌, ℕ, ◌<◌, true, false, ap, sym, ◌∙◌, length, is_some, arith, below_more, get_or}
-use Rattle.nio_plain.proofs.Answering.{rows_of}
+use Rattle.std.proofs.Common.{◌≡◌, ◌<◌, ap, sym, ◌∙◌, length, is_some, arith, below_more, get_or}
 use Rattle.nio_plain.proofs.Places.{places_at}
-use Rattle.nio_plain.proofs.Registered.{key_of-row, is_registered-none, is_registered-some}
+use Rattle.nio_plain.proofs.Registered.{is_registered-none, is_registered-some}
 use Rattle.nio_plain.specs.PlainState.{selector_row, no_selector, key_in}
 use Rattle.nio_plain.proofs.plain.Plain.is_registered.Goals as goal
 

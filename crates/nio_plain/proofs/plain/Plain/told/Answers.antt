@@ -1,8 +1,7 @@
-use Rattle.std.proofs.Common.{◌≡◌, ◌<◌, ◌≤◌, ℕ, true, false, is_some, get_or, bit_and, count_by, refl, sym, ap, ◌∙◌, length, arith}
+use Rattle.std.proofs.Common.{◌≡◌, ◌<◌, ◌≤◌, ℕ, get_or, bit_and, count_by, refl, sym, ap, ◌∙◌, length, arith}
 use Rattle.std.proofs.lemmas.List.{get_or_default}
-use Rattle.nio_event.specs.State.{put, unmade_channel}
 use Rattle.nio_event.specs.declared.reply.Reply.TheVariants as reply
-use Rattle.nio_plain.proofs.Answering.{refused_as, answered_as, state-set_selector, rows_of, with_rows, selector_made-below, selector_made-past}
+use Rattle.nio_plain.proofs.Answering.{refused_as, selector_made-below, selector_made-past}
 use Rattle.nio_plain.proofs.Places.{places_at}
 use Rattle.nio_plain.proofs.Telling.{told-no_selector, told-own, own-none, own-others, some_at}
 use Rattle.nio_plain.proofs.TellingAt.{answers-again, answers-told}

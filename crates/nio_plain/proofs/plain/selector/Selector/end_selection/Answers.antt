@@ -1,4 +1,4 @@
-use Rattle.std.proofs.Common.{◌≡◌, ℕ, Option, Some, None, IfSome, sym, ap, subst, ◌∙◌, false, get_or}
+use Rattle.std.proofs.Common.{ℕ, sym, ap, ◌∙◌, false, get_or}
 use Rattle.nio_plain.proofs.Telling.{if_some}
 use Rattle.nio_plain.specs.PlainState.{SelectorRow, selector_row, marked_keys, swept, caller_of, selection_of}
 use Rattle.nio_plain.proofs.plain.selector.Selector.end_selection.Goals as goal

@@ -1,4 +1,4 @@
-use Rattle.std.proofs.Common.{◌≡◌, ◌<◌, ◌≤◌, true, false, not, Some, ap, sym, ◌∙◌, length, is_some}
+use Rattle.std.proofs.Common.{not, ap, sym, ◌∙◌, length, is_some}
 use Rattle.std.proofs.lemmas.Bool.{ltb-false}
 use Rattle.nio_event.specs.Sets.{in_key_set}
 use Rattle.nio_plain.proofs.Places.{places_at, places_past}

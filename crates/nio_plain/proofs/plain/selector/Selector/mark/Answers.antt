@@ -1,7 +1,7 @@
-use Rattle.std.proofs.Common.{◌≡◌, ◌+◌, ◌<◌, ℕ, take, length, ap, sym, ◌∙◌, arith, bit_and, get_or}
+use Rattle.std.proofs.Common.{◌+◌, ◌<◌, ℕ, take, length, ap, ◌∙◌, arith, bit_and, get_or}
 use Rattle.std.proofs.lemmas.List.{length-set, get_or_read}
 use Rattle.nio_plain.proofs.Marking.{marked_keys-step}
-use Rattle.nio_plain.specs.PlainState.{SelectorRow, KeyRow, selector_row, key_row, marked_keys}
+use Rattle.nio_plain.specs.PlainState.{SelectorRow, selector_row, key_row, marked_keys}
 use Rattle.nio_plain.specs.Seq.{marked}
 use Rattle.nio_plain.proofs.plain.selector.Selector.mark.Goals as goal
 
