@@ -1,3 +1,5 @@
 pub mod ScriptState
 pub mod Seq
 pub mod Answer
+pub mod PlainState
+pub mod Plain

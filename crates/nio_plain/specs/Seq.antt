@@ -17,6 +17,7 @@ use Rattle.nio_event.specs.declared.call.Call.{Call}
 use Rattle.nio_event.specs.declared.call.Call.TheVariants as call
 use Rattle.nio_event.specs.declared.call.Waiting.{Waiting}
 use Rattle.nio_event.specs.declared.call.Waiting.TheVariants as waiting
+use Rattle.nio_event.specs.declared.found.GateWord.{GateWord}
 use Rattle.nio_event.specs.declared.found.Mark.{Mark}
 use Rattle.nio_event.specs.declared.found.Mode.{Mode}
 use Rattle.nio_event.specs.declared.found.Mode.TheVariants as mode
@@ -220,14 +221,19 @@ is_now mode.Now = true
 is_now mode.Wait = false
 is_now (mode.For _) = false
 
+-- whether it goes on
+abbrev pub is_again : GateWord → Bool → Mode → Bool → ℕ → Bool
+is_again gate interrupted how elapsed count =
+    (count == 0) && goes_on how elapsed && not gate.woken && not gate.shut && not interrupted
+
 -- why it ended: the first that holds
-abbrev pub why_ended : State → CallerNo → ℕ → Mode → ℕ → Why
-why_ended st me s how count =
+abbrev pub why_ended : GateWord → Bool → Mode → ℕ → Why
+why_ended gate interrupted how count =
     if not (count == 0) then why.Ready
-    else if (st.gate s).shut then why.Closed
+    else if gate.shut then why.Closed
     else if is_now how then why.Now
-    else if (st.gate s).woken then why.Woken
-    else if st.interrupted me.0 then why.Interrupted
+    else if gate.woken then why.Woken
+    else if interrupted then why.Interrupted
     else why.Elapsed
 
 abbrev pub selection_ended : State → ℕ → Selection → List (ℕ × ℕ) → State
@@ -241,10 +247,10 @@ told_selection st me s pairs elapsed None = refused st reply.NotSelecting
 told_selection st me s pairs elapsed (Some selection) =
     let count = updated_count st.shared s selection.looked pairs in
     let gate = st.shared.gate s in
-    if (count == 0) && goes_on selection.mode elapsed && not gate.woken && not gate.shut && not (st.shared.interrupted me.0)
-    then refused st reply.Again
+    let interrupted = st.shared.interrupted me.0 in
+    if is_again gate interrupted selection.mode elapsed count then refused st reply.Again
     else record {
-      reply = reply.Selected count (why_ended st.shared me s selection.mode count);
+      reply = reply.Selected count (why_ended gate interrupted selection.mode count);
       left = record {
         shared = selection_ended st.shared s selection pairs;
         selection = put st.selection s None;

@@ -1,6 +1,8 @@
 //! The documented system, and a plain system that keeps its state in vectors.
 #![tactic(auto)]
 
+pub use plain::Plain;
 pub use system::System;
 
+mod plain;
 mod system;

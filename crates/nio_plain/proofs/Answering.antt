@@ -1,0 +1,139 @@
+-- How a call of a plain system is shown to answer as the documented one, at each of its returns.
+use Rattle.std.proofs.Common.{◌≡◌, ℕ, ◌+◌, ◌<◌, ◌≤◌, Option, None, Some, is_some, arith, Bool, true, false, Result, Ok, Err, List, [], ◌∷◌, ◌++◌, length, get_or, set, refl, sym, ap, ◌∙◌}
+use Rattle.std.proofs.lemmas.List.{length-set, length_push}
+use Rattle.std.proofs.lemmas.Result.{IfOk-from_err}
+use Rattle.std.specs.Result.{IsErr, OnErr}
+use Rattle.std.specs.declared.alloc.AllocError.{AllocError}
+use lib.ListN.{replicate}
+use Rattle.nio_event.specs.State.{unmade_channel, put}
+use Rattle.nio_event.specs.declared.reply.Reply.{Reply}
+use Rattle.nio_plain.proofs.Places.{places-nil, places-replicate, places_all, places_past, places-set, places-push, places_at, part_kept}
+use Rattle.nio_plain.specs.Plain.{Answers, AnswersAs}
+use Rattle.nio_plain.specs.PlainState.{places, key_row, no_key, caller_of, channel_row, selector_row, SelectorRow, no_selector, state_from, state_of, limits_of}
+use Rattle.nio_plain.specs.ScriptState.{ScriptState, script_opening}
+use Rattle.nio_plain.specs.Seq.{Answered, refused}
+use Rattle.nio_plain.specs.declared.plain.Plain.{Plain}
+use Rattle.nio_plain.specs.declared.plain.channel.Channel.{Channel}
+use Rattle.nio_plain.specs.declared.plain.selector.Selecting.{Selecting}
+use Rattle.nio_plain.specs.declared.plain.selector.Selector.{Selector}
+
+pub refused_as : (p : Plain) (r : Reply) (a : Answered) → a ≡ refused (state_of p) r → AnswersAs p p (Ok r) a
+refused_as p r a e = record {
+  reply = sym (ap (λ (x : Answered). x.reply) e);
+  left = sym (ap (λ (x : Answered). x.left) e);
+  memory = tt;
+  limits = refl;
+}
+
+pub answered_as : (p q : Plain) (r : Reply) (a b : Answered) → a ≡ b → r ≡ b.reply → state_of q ≡ b.left → limits_of q ≡ limits_of p → AnswersAs p q (Ok r) a
+answered_as p q r a b e same left limits = record {
+  reply = same ∙ sym (ap (λ (x : Answered). x.reply) e);
+  left = left ∙ sym (ap (λ (x : Answered). x.left) e);
+  memory = tt;
+  limits = limits;
+}
+
+-- selectors and channels are made below the length, and not from there on
+
+pub selector_made-below : (xs : List Selector) (k : ℕ) → k < length xs → (places selector_row no_selector xs k).made ≡ true
+selector_made-below xs k h =
+    places_all selector_row no_selector (λ r. r.made ≡ true) (λ _. refl) xs k h
+
+pub selector_made-past : (xs : List Selector) (k : ℕ) → length xs ≤ k → (places selector_row no_selector xs k).made ≡ false
+selector_made-past xs k h = ap (λ r. r.made) (places_past selector_row no_selector xs k h)
+
+pub channel_made-below : (xs : List Channel) (k : ℕ) → k < length xs → (places channel_row unmade_channel xs k).made ≡ true
+channel_made-below xs k h =
+    places_all channel_row unmade_channel (λ r. r.made ≡ true) (λ _. refl) xs k h
+
+pub channel_made-past : (xs : List Channel) (k : ℕ) → length xs ≤ k → (places channel_row unmade_channel xs k).made ≡ false
+channel_made-past xs k h =
+    ap (λ r. r.made) (places_past channel_row unmade_channel xs k h)
+
+-- a system in which nothing is made
+pub state-opening : (n : ℕ) (bs : List Bool) (cs : List Channel) (ss : List Selector) → bs ≡ replicate n false → cs ≡ [] → ss ≡ [] → state_from (places (λ b. b) false bs) (length cs) (places channel_row unmade_channel cs) (places selector_row no_selector ss) ≡ script_opening
+state-opening n bs cs ss e f g =
+    let no_interrupt = ap (places (λ b. b) false) e ∙ places-replicate n false in
+    let no_channel = ap (places channel_row unmade_channel) f ∙ places-nil channel_row unmade_channel in
+    let no_row = ap (places selector_row no_selector) g ∙ places-nil selector_row no_selector in
+    λ i. state_from (no_interrupt i) (length (f i)) (no_channel i) (no_row i)
+
+-- the rows of the selectors, and the state with other rows
+abbrev pub rows_of : Plain → ℕ → SelectorRow
+rows_of p = places selector_row no_selector p.selectors.items
+
+abbrev pub with_rows : Plain → (ℕ → SelectorRow) → ScriptState
+with_rows p row =
+    state_from (places (λ b. b) false p.interrupted.items) (length p.channels.items) (places channel_row unmade_channel p.channels.items) row
+
+-- the state after a write of one selector, after a push of one, and after a push of a channel
+pub state-set_selector : (p : Plain) (ys : List Selector) (s : ℕ) (x : Selector) → s < length p.selectors.items → ys ≡ set p.selectors.items s x → with_rows p (places selector_row no_selector ys) ≡ with_rows p (put (rows_of p) s (selector_row x))
+state-set_selector p ys s x h e =
+    ap (λ zs. with_rows p (places selector_row no_selector zs)) e ∙ ap (with_rows p) (places-set selector_row no_selector p.selectors.items s x h)
+
+pub state-push_selector : (p : Plain) (ys : List Selector) (x : Selector) (r : SelectorRow) → ys ≡ p.selectors.items ++ x ∷ [] → selector_row x ≡ r → with_rows p (places selector_row no_selector ys) ≡ with_rows p (put (rows_of p) (length p.selectors.items) r)
+state-push_selector p ys x r e same =
+    (ap (λ zs. with_rows p (places selector_row no_selector zs)) e ∙ ap (with_rows p) (places-push selector_row no_selector p.selectors.items x)) ∙ ap (λ q. with_rows p (put (rows_of p) (length p.selectors.items) q)) same
+
+pub state-push_channel : (interrupted : ℕ → Bool) (row : ℕ → SelectorRow) (xs ys : List Channel) (x : Channel) → ys ≡ xs ++ x ∷ [] → state_from interrupted (length ys) (places channel_row unmade_channel ys) row ≡ state_from interrupted (length xs + 1) (put (places channel_row unmade_channel xs) (length xs) (channel_row x)) row
+state-push_channel interrupted row xs ys x e =
+    let len = ap length e ∙ length_push xs x in
+    let chan = ap (places channel_row unmade_channel) e ∙ places-push channel_row unmade_channel xs x in
+    λ i. state_from interrupted (len i) (chan i) row
+
+pub state-set_channel : (interrupted : ℕ → Bool) (row : ℕ → SelectorRow) (xs ys : List Channel) (c : ℕ) (x : Channel) → c < length xs → ys ≡ set xs c x → state_from interrupted (length ys) (places channel_row unmade_channel ys) row ≡ state_from interrupted (length xs) (put (places channel_row unmade_channel xs) c (channel_row x)) row
+state-set_channel interrupted row xs ys c x h e =
+    let len = ap length e ∙ length-set xs c x in
+    let chan = ap (places channel_row unmade_channel) e ∙ places-set channel_row unmade_channel xs c x h in
+    λ i. state_from interrupted (len i) (chan i) row
+
+-- the same of a call that takes no memory
+pub refused_without_memory : (p : Plain) (r : Reply) (a : Answered) → a ≡ refused (state_of p) r → Answers p p r a
+refused_without_memory p r a e = record {
+  reply = sym (ap (λ (x : Answered). x.reply) e);
+  left = sym (ap (λ (x : Answered). x.left) e);
+  limits = refl;
+}
+
+pub answered_without_memory : (p q : Plain) (r : Reply) (a b : Answered) → a ≡ b → r ≡ b.reply → state_of q ≡ b.left → limits_of q ≡ limits_of p → Answers p q r a
+answered_without_memory p q r a b e same left limits = record {
+  reply = same ∙ sym (ap (λ (x : Answered). x.reply) e);
+  left = left ∙ sym (ap (λ (x : Answered). x.left) e);
+  limits = limits;
+}
+
+on_err : {X E P : Type 0} (r : Result X E) → P → OnErr r P
+on_err (Ok x) h = tt
+on_err (Err e) h = h
+
+-- a call that lacked memory
+pub failed_as : (p q : Plain) (r : Result Reply AllocError) (a : Answered) → IsErr r → state_of q ≡ state_of p → limits_of q ≡ limits_of p → AnswersAs p q r a
+failed_as p q r a e same limits = record {
+  reply = IfOk-from_err r (λ x. x ≡ a.reply) e;
+  left = IfOk-from_err r (λ _. state_of q ≡ a.left) e;
+  memory = on_err r same;
+  limits = limits;
+}
+
+-- a write of a selector that leaves its parts as they were
+pub state-same_selector : (p : Plain) (s : ℕ) (x y : Selector) → s < length p.selectors.items → x ≡ get_or p.selectors.items s x → selector_row y ≡ selector_row x → with_rows p (places selector_row no_selector (set p.selectors.items s y)) ≡ state_of p
+state-same_selector p s x y h e same =
+    let at = places_at selector_row no_selector p.selectors.items s x h e in
+    state-set_selector p (set p.selectors.items s y) s y h refl ∙ ap (with_rows p) (part_kept (λ (r : SelectorRow). r) (rows_of p) s (selector_row y) (same ∙ sym at))
+
+-- two reads of one selector
+pub same_row : (p : Plain) (s : ℕ) (x y : Selector) → s < length p.selectors.items → x ≡ get_or p.selectors.items s x → y ≡ get_or p.selectors.items s y → selector_row x ≡ selector_row y
+same_row p s x y h e d =
+    sym (places_at selector_row no_selector p.selectors.items s x h e) ∙ places_at selector_row no_selector p.selectors.items s y h d
+
+-- a selector has no key from its mark on
+pub row_past : (p : Plain) (s : ℕ) (x : Selector) → s < length p.selectors.items → x ≡ get_or p.selectors.items s x → (i : ℕ) → (rows_of p s).keys_mark ≤ i → (rows_of p s).keys i ≡ no_key
+row_past p s x h e i past =
+    let at = places_at selector_row no_selector p.selectors.items s x h e in
+    let mark = ap (λ (r : SelectorRow). r.keys_mark) at in
+    ap (λ (r : SelectorRow). r.keys i) at ∙ places_past key_row no_key x.keys.items i (omega arith)
+
+-- a selector's turn is taken where a selection is in progress
+pub is_some-caller_of : (o : Option Selecting) → is_some (caller_of o) ≡ is_some o
+is_some-caller_of None = refl
+is_some-caller_of (Some x) = refl

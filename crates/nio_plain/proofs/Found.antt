@@ -1,0 +1,38 @@
+-- The least number that isn't made: the length, where it is below the limit.
+use Rattle.std.proofs.Common.{◌≡◌, ℕ, zero, suc, ◌<◌, ◌≤◌, Bool, true, false, not, cond, List, [], ◌∷◌, ◌++◌, find, Option, Some, None, refl, ap, ◌∙◌, arith, ⊎_elim}
+use Rattle.std.proofs.lemmas.Bool.{cases_lt, cond-true, cond-false}
+use Rattle.nio_plain.specs.Seq.{below}
+
+abbrev or_else : Option ℕ → Option ℕ → Option ℕ
+or_else None o = o
+or_else (Some x) o = Some x
+
+find-push : (p : ℕ → Bool) (xs : List ℕ) (y : ℕ) → find p (xs ++ y ∷ []) ≡ or_else (find p xs) (cond (p y) (Some y) None)
+find-push p [] y = refl
+find-push p (x ∷ xs) y =
+    elim (p x) as (λ b. cond {A = Option ℕ} b (Some x) (find p (xs ++ y ∷ [])) ≡ or_else (cond {A = Option ℕ} b (Some x) (find p xs)) (cond {A = Option ℕ} (p y) (Some y) None)) [ true ↦ refl | false ↦ find-push p xs y ]
+
+find_none : (p : ℕ → Bool) (m : ℕ) → ((k : ℕ) → k < m → p k ≡ false) → find p (below m) ≡ None
+find_none p zero h = refl
+find_none p (suc m) h =
+    (find-push p (below m) m ∙ ap (λ o. or_else o (cond (p m) (Some m) None)) (find_none p m (λ k l. h k (omega arith)))) ∙ cond-false (p m) (Some m) None (h m (omega arith))
+
+find_first : (p : ℕ → Bool) (m n : ℕ) → n < m → p n ≡ true → ((k : ℕ) → k < n → p k ≡ false) → find p (below m) ≡ Some n
+find_first p zero n l t h = absurd (omega arith)
+find_first p (suc m) n l t h =
+    ⊎_elim
+    (λ (k : n < m). find-push p (below m) m ∙ ap (λ o. or_else o (cond (p m) (Some m) None)) (find_first p m n k t h))
+    (λ (k : m ≤ n).
+    let e : m ≡ n = omega arith in
+    ((find-push p (below m) m ∙ ap (λ o. or_else o (cond (p m) (Some m) None)) (find_none p m (λ j i. h j (omega arith)))) ∙ cond-true (p m) (Some m) None (ap p e ∙ t)) ∙ ap (λ x. Some x) e)
+    (cases_lt n m)
+
+-- n is made of all numbers below it, and of no others
+module _ (made : ℕ → Bool) (limit n : ℕ) (is_made : (k : ℕ) → k < n → made k ≡ true) (is_unmade : (k : ℕ) → n ≤ k → made k ≡ false) where
+  pub find_unmade : n < limit → find (λ s. not (made s)) (below limit) ≡ Some n
+  find_unmade l =
+      find_first (λ s. not (made s)) limit n l (ap not (is_unmade n (omega arith))) (λ k h. ap not (is_made k h))
+
+  pub find_spent : limit ≤ n → find (λ s. not (made s)) (below limit) ≡ None
+  find_spent l =
+      find_none (λ s. not (made s)) limit (λ k h. ap not (is_made k (omega arith)))

@@ -1,0 +1,16 @@
+pub mod Places
+pub mod Found
+pub mod Opening
+pub mod Answering
+pub mod Rows
+pub mod Registered
+pub mod Blocking
+pub mod KeyParts
+pub mod Registering
+pub mod RegisteringAt
+pub mod Sweeping
+pub mod Selecting
+pub mod Marking
+pub mod Telling
+pub mod TellingAt
+pub mod Calling

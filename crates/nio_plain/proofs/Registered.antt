@@ -1,0 +1,60 @@
+-- A channel's key in a selector, and whether it is registered, over the parts of a state.
+use Rattle.std.proofs.Common.{◌≡◌, ℕ, zero, suc, ◌<◌, ◌≤◌, Bool, true, false, ◌||◌, Option, Some, None, is_some, List, [], ◌∷◌, ◌++◌, length, refl, ap, ◌∙◌, arith, ⊎_elim}
+use Rattle.std.proofs.lemmas.Bool.{cases_lt, or_right}
+use Rattle.std.specs.List.{list_any}
+use Rattle.nio_event.specs.declared.found.Chan.{Chan}
+use Rattle.nio_event.specs.State.{unmade_channel}
+use Rattle.nio_plain.proofs.Answering.{rows_of}
+use Rattle.nio_plain.proofs.Places.{places_past}
+use Rattle.nio_plain.specs.PlainState.{SelectorRow, key_in, if_in_set, state_from, state_of, limits_of, places, selector_row, no_selector, channel_row}
+use Rattle.nio_plain.specs.declared.plain.Plain.{Plain}
+use Rattle.nio_plain.specs.ScriptState.{ScriptState}
+use Rattle.nio_plain.specs.Seq.{below, key_of, if_in_key_set, is_registered}
+
+list_any-push : (p : ℕ → Bool) (xs : List ℕ) (y : ℕ) → list_any p (xs ++ y ∷ []) ≡ (list_any p xs || p y)
+list_any-push p [] y = elim (p y) as (λ b. (b || false) ≡ b) [ true ↦ refl | false ↦ refl ]
+list_any-push p (x ∷ xs) y =
+    elim (p x) as (λ b. (b || list_any p (xs ++ y ∷ [])) ≡ ((b || list_any p xs) || p y)) [ true ↦ refl | false ↦ list_any-push p xs y ]
+
+any-none : (p : ℕ → Bool) (m : ℕ) → ((k : ℕ) → k < m → p k ≡ false) → list_any p (below m) ≡ false
+any-none p zero h = refl
+any-none p (suc m) h =
+    list_any-push p (below m) m ∙ (ap (λ b. b || p m) (any-none p m (λ k l. h k (omega arith))) ∙ h m (omega arith))
+
+any-some : (p : ℕ → Bool) (m n : ℕ) → n < m → p n ≡ true → list_any p (below m) ≡ true
+any-some p zero n l t = absurd (omega arith)
+any-some p (suc m) n l t =
+    list_any-push p (below m) m ∙ ⊎_elim
+    (λ (k : n < m). ap (λ b. b || p m) (any-some p m n k t))
+    (λ (k : m ≤ n).
+    let e : m ≡ n = omega arith in
+    or_right (list_any p (below m)) (p m) (ap p e ∙ t))
+    (cases_lt n m)
+
+module _ (interrupted : ℕ → Bool) (mark : ℕ) (chan : ℕ → Chan) (row : ℕ → SelectorRow) where
+  abbrev st : ScriptState
+  st = state_from interrupted mark chan row
+
+  in_set-row : (s : ℕ) (o : Option ℕ) → if_in_key_set st.shared s o ≡ if_in_set (row s).keys o
+  in_set-row s None = refl
+  in_set-row s (Some i) = refl
+
+  pub key_of-row : (c s : ℕ) → key_of st.shared c s ≡ key_in (row s) c
+  key_of-row c s = in_set-row s ((row s).noted c)
+
+
+-- over a plain system
+
+pub is_registered-none : (p : Plain) (c : ℕ) → ((k : ℕ) → k < length p.selectors.items → is_some (key_in (rows_of p k) c) ≡ false) → is_registered (limits_of p) (state_of p).shared c ≡ false
+is_registered-none p c h =
+    let at = key_of-row (places (λ b. b) false p.interrupted.items) (length p.channels.items) (places channel_row unmade_channel p.channels.items) (rows_of p) c in
+    any-none (λ s. is_some (key_of (state_of p).shared c s)) p.limits.selectors
+    (λ k _. ap is_some (at k) ∙ ⊎_elim
+    (λ (l : k < length p.selectors.items). h k l)
+    (λ (l : length p.selectors.items ≤ k). ap (λ (r : SelectorRow). is_some (key_in r c)) (places_past selector_row no_selector p.selectors.items k l))
+    (cases_lt k (length p.selectors.items)))
+
+pub is_registered-some : (p : Plain) (c s : ℕ) → s < length p.selectors.items → is_some (key_in (rows_of p s) c) ≡ true → is_registered (limits_of p) (state_of p).shared c ≡ true
+is_registered-some p c s h t =
+    let at = key_of-row (places (λ b. b) false p.interrupted.items) (length p.channels.items) (places channel_row unmade_channel p.channels.items) (rows_of p) c in
+    any-some (λ s. is_some (key_of (state_of p).shared c s)) p.limits.selectors s (omega (arith, p.selectors.ok.0, p.few_selectors)) (ap is_some (at s) ∙ t)

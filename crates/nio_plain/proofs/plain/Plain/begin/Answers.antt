@@ -1,0 +1,72 @@
+use Rattle.std.proofs.Common.{◌<◌, ◌≤◌, false, is_some, refl, sym, ap, ◌∙◌, length, arith}
+use Rattle.nio_event.specs.State.{put, unmade_channel}
+use Rattle.nio_event.specs.declared.reply.Reply.TheVariants as reply
+use Rattle.nio_plain.proofs.Answering.{refused_as, answered_as, failed_as, state-same_selector, state-set_selector, rows_of, with_rows, row_past, is_some-caller_of, selector_made-below, selector_made-past}
+use Rattle.nio_plain.proofs.Places.{places_at}
+use Rattle.nio_plain.proofs.Selecting.{begin-no_selector, begin-shut, begin-busy, begin-begun, state-begun, looked-begun}
+use Rattle.nio_plain.specs.PlainState.{places, channel_row, SelectorRow, state_of, selector_row, no_selector, with_selection, looked_below}
+use Rattle.nio_plain.specs.Seq.{mode_of}
+use Rattle.nio_plain.proofs.plain.Plain.begin.Goals as goal
+
+pub returns-then-sel-len : goal.returns-then-sel-len
+returns-then-sel-len c =
+    let p = c.args.self.now in
+    let past : length p.selectors.items ≤ c.args.sel.0 = omega (arith, p.selectors.ok.0) in
+    refused_as p reply.NoSelector _
+    (begin-no_selector p.limits (state_of p) c.args.me c.args.sel c.args.waiting (selector_made-past p.selectors.items c.args.sel.0 past))
+
+pub returns-then-is_shut : goal.returns-then-is_shut
+returns-then-is_shut c =
+    let p = c.args.self.now in
+    let s = c.args.sel.0 in
+    let within : s < length p.selectors.items = omega (arith, p.selectors.ok.0) in
+    let at = places_at selector_row no_selector p.selectors.items s c.index-selector.result.now within c.index-selector.ensures in
+    refused_as p reply.ClosedSelector _
+    (begin-shut p.limits (state_of p) c.args.me c.args.sel c.args.waiting
+    (selector_made-below p.selectors.items s within)
+    (ap (λ (r : SelectorRow). r.gate.shut) at ∙ sym c.if-is_shut.ensures))
+
+pub returns-then-is_some : goal.returns-then-is_some
+returns-then-is_some c =
+    let p = c.args.self.now in
+    let s = c.args.sel.0 in
+    let x = c.index-selector.result.now in
+    let within : s < length p.selectors.items = omega (arith, p.selectors.ok.0) in
+    let at = places_at selector_row no_selector p.selectors.items s x within c.index-selector.ensures in
+    refused_as p reply.Busy _
+    (begin-busy p.limits (state_of p) c.args.me c.args.sel c.args.waiting
+    (selector_made-below p.selectors.items s within)
+    (ap (λ (r : SelectorRow). r.gate.shut) at ∙ sym c.if-is_shut.ensures)
+    (ap (λ (r : SelectorRow). is_some r.turn) at ∙ (is_some-caller_of x.selecting ∙ sym c.if-is_some.ensures)))
+
+pub returns-in_err-looked : goal.returns-in_err-looked
+returns-in_err-looked c =
+    let p = c.args.self.now in
+    let within : c.args.sel.0 < length p.selectors.items = omega (arith, p.selectors.ok.0) in
+    failed_as _ _ _ _ c.from_residual.ensures.0
+    (state-same_selector p c.args.sel.0 c.index_mut.result.now c.begin.new.self within c.index_mut.ensures.value c.in_err-looked.ensures.memory)
+    refl
+
+pub returns : goal.returns
+returns c =
+    let p = c.args.self.now in
+    let s = c.args.sel.0 in
+    let x = c.index-selector.result.now in
+    let y = c.index_mut.result.now in
+    let within : s < length p.selectors.items = omega (arith, p.selectors.ok.0) in
+    let at = places_at selector_row no_selector p.selectors.items s x within c.index-selector.ensures in
+    let at' = places_at selector_row no_selector p.selectors.items s y within c.index_mut.ensures.value in
+    let rows = rows_of p in
+    let made = selector_made-below p.selectors.items s within in
+    let not_shut = ap (λ (r : SelectorRow). r.gate.shut) at ∙ sym c.if-is_shut.ensures in
+    let free = ap (λ (r : SelectorRow). is_some r.turn) at ∙ (is_some-caller_of x.selecting ∙ sym c.if-is_some.ensures) in
+    let past = row_past p s y within c.index_mut.ensures.value in
+    let how = mode_of c.args.waiting in
+    let moded = ap (λ m. with_selection (selector_row y) c.args.me m) c.mode_of.ensures in
+    let left = c.in_ok-looked.ensures.left ∙ (moded ∙ ap (λ r. with_selection r c.args.me how) (sym at')) in
+    let looked = c.in_ok-looked.ensures.looked ∙ (ap (λ (r : SelectorRow). looked_below r.keys r.keys_mark) (sym at') ∙ sym (looked-begun (places (λ b. b) false p.interrupted.items) (length p.channels.items) (places channel_row unmade_channel p.channels.items) rows s past)) in
+    answered_as p _ _ _ _
+    (begin-begun p.limits (state_of p) c.args.me c.args.sel c.args.waiting made not_shut free)
+    (ap reply.Looked looked)
+    (state-set_selector p _ s c.begin.new.self within refl ∙ (ap (λ r. with_rows p (put rows s r)) left ∙ state-begun _ _ _ rows s c.args.me how past))
+    refl

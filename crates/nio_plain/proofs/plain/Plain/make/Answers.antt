@@ -1,0 +1,6 @@
+use Rattle.nio_plain.proofs.Answering.{state-opening}
+use Rattle.nio_plain.proofs.plain.Plain.make.Goals as goal
+
+pub returns-clause-opening : goal.returns-clause-opening
+returns-clause-opening c =
+    state-opening c.args.limits.callers _ _ _ (c.in_ok-from_elem.ensures.items_if_clones_equal (λ y h. h)) c.new.ensures.items c.new-2.ensures.items

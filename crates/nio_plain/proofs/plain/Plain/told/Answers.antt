@@ -1,0 +1,76 @@
+use Rattle.std.proofs.Common.{◌≡◌, ◌<◌, ◌≤◌, ℕ, get_or, bit_and, count_by, refl, sym, ap, ◌∙◌, length, arith}
+use Rattle.std.proofs.lemmas.List.{get_or_default}
+use Rattle.nio_event.specs.declared.reply.Reply.TheVariants as reply
+use Rattle.nio_plain.proofs.Answering.{refused_as, selector_made-below, selector_made-past}
+use Rattle.nio_plain.proofs.Places.{places_at}
+use Rattle.nio_plain.proofs.Telling.{told-no_selector, told-own, own-none, own-others, some_at}
+use Rattle.nio_plain.proofs.TellingAt.{answers-again, answers-told}
+use Rattle.nio_plain.specs.PlainState.{places, state_of, selector_row, no_selector, key_row, no_key, with_selection_ended}
+use Rattle.nio_plain.specs.Seq.{all_told, is_updated}
+use Rattle.nio_plain.specs.declared.plain.selector.Selector.{Selector}
+use Rattle.nio_plain.proofs.plain.Plain.told.Goals as goal
+
+pub returns-then-sel-len : goal.returns-then-sel-len
+returns-then-sel-len c =
+    let p = c.args.self.now in
+    let past : length p.selectors.items ≤ c.args.sel.0 = omega (arith, p.selectors.ok.0) in
+    refused_as p reply.NoSelector _
+    (told-no_selector p.limits (state_of p) c.args.me c.args.sel c.args.pairs.now (selector_made-past p.selectors.items c.args.sel.0 past))
+
+pub returns-in_default : goal.returns-in_default
+returns-in_default c =
+    let p = c.args.self.now in
+    let s = c.args.sel.0 in
+    let x = c.index-selector.result.now in
+    let within : s < length p.selectors.items = omega (arith, p.selectors.ok.0) in
+    let at = places_at selector_row no_selector p.selectors.items s x within c.index-selector.ensures in
+    refused_as p reply.NotSelecting _
+    (told-own p.limits (state_of p) c.args.me c.args.sel c.args.pairs.now _
+    (selector_made-below p.selectors.items s within)
+    (own-none p c.args.me s x at c.in_default.is))
+
+pub returns-then-selecting-me : goal.returns-then-selecting-me
+returns-then-selecting-me c =
+    let p = c.args.self.now in
+    let s = c.args.sel.0 in
+    let x = c.index-selector.result.now in
+    let within : s < length p.selectors.items = omega (arith, p.selectors.ok.0) in
+    let at = places_at selector_row no_selector p.selectors.items s x within c.index-selector.ensures in
+    refused_as p reply.NotSelecting _
+    (told-own p.limits (state_of p) c.args.me c.args.sel c.args.pairs.now _
+    (selector_made-below p.selectors.items s within)
+    (own-others p c.args.me s x c.in-Some.selecting at c.in-Some.is c.if-selecting-me.true))
+
+pub returns-then-is_again : goal.returns-then-is_again
+returns-then-is_again c =
+    let p = c.args.self.now in
+    let s = c.args.sel.0 in
+    let x = c.index-selector.result.now in
+    let y = c.in-Some.selecting in
+    let within : s < length p.selectors.items = omega (arith, p.selectors.ok.0) in
+    let told = c.in_ok-told.told.items in
+    let told_is : (i : ℕ) → i < y.bound → get_or told i 0 ≡ all_told c.args.pairs.now i = λ i l. c.in_ok-told.ensures.told i l ∙ ap (λ ps. all_told ps i) c.as_slice.ensures in
+    let keys = c.deref.ensures.value in
+    let looked = c.deref-2.ensures.value in
+    let told' = c.deref-3.ensures.value in
+    let counted = c.updated_count-count.ensures ∙ (λ j. count_by (λ (q : ℕ × ℕ). is_updated (places key_row no_key (keys j) q.0).mark (bit_and (get_or (told' j) q.0 0) q.1)) (looked j)) in
+    answers-again p c.args.me c.args.sel c.args.pairs.now x y within c.index-selector.ensures c.in-Some.is c.if-selecting-me.false told told_is c.updated_count-count.result counted c.gate-gate.result c.gate-gate.ensures c.is_interrupted-interrupted.result c.is_interrupted-interrupted.ensures (sym c.if-is_again.ensures)
+
+pub returns : goal.returns
+returns c =
+    let p = c.args.self.now in
+    let s = c.args.sel.0 in
+    let x = c.index-selector.result.now in
+    let y = c.in-Some.selecting in
+    let within : s < length p.selectors.items = omega (arith, p.selectors.ok.0) in
+    let told = c.in_ok-told.told.items in
+    let told_is : (i : ℕ) → i < y.bound → get_or told i 0 ≡ all_told c.args.pairs.now i = λ i l. c.in_ok-told.ensures.told i l ∙ ap (λ ps. all_told ps i) c.as_slice.ensures in
+    let keys = c.deref.ensures.value in
+    let looked = c.deref-2.ensures.value in
+    let told' = c.deref-3.ensures.value in
+    let counted = c.updated_count-count.ensures ∙ (λ j. count_by (λ (q : ℕ × ℕ). is_updated (places key_row no_key (keys j) q.0).mark (bit_and (get_or (told' j) q.0 0) q.1)) (looked j)) in
+    let w = c.index_mut.result.now in
+    let one : w ≡ x = (c.index_mut.ensures.value ∙ get_or_default p.selectors.items s w x within) ∙ sym c.index-selector.ensures in
+    let some = ap (λ (z : Selector). z.selecting) one ∙ c.in-Some.is in
+    let ended = some_at _ _ _ some c.end_selection.ensures in
+    answers-told p c.args.me c.args.sel c.args.pairs.now x y within c.index-selector.ensures c.in-Some.is c.if-selecting-me.false told told_is c.updated_count-count.result counted c.gate-gate.result c.gate-gate.ensures c.is_interrupted-interrupted.result c.is_interrupted-interrupted.ensures _ c.end_selection.new.self c.why_ended.result (sym c.if-is_again.ensures) c.why_ended.ensures (ended ∙ (λ j. with_selection_ended (selector_row (one j)) y.looked.items (λ i. get_or (c.deref-4.ensures.value j) i 0) y.bound)) refl refl

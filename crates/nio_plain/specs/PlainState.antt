@@ -1,0 +1,218 @@
+-- The state that a plain system holds, read from its vectors.
+use Rattle.std.specs.Prelude.{ℕ, ◌+◌, Bool, true, false, Option, Some, None, is_some, if◌then◌else◌, nat_lt, List, map, filter, length, get_or, bit_and}
+use Rattle.std.specs.BTreeMap.{get}
+use Rattle.std.specs.Ordering.{nat_cmp}
+use Rattle.nio_base.specs.declared.limits.Limits.{Limits}
+use Rattle.nio_base.specs.declared.numbers.CallerNo.{CallerNo}
+use Rattle.nio_event.specs.State.{unmade_channel, open_gate, unclaimed, unmarked, put}
+use Rattle.nio_event.specs.Sets.{in_key_set, in_cancelled_set, is_valid}
+use Rattle.nio_event.specs.declared.found.Mode.{Mode}
+use Rattle.nio_event.specs.declared.found.Chan.{Chan}
+use Rattle.nio_event.specs.declared.found.GateWord.{GateWord}
+use Rattle.nio_event.specs.declared.found.Mark.{Mark}
+use Rattle.nio_event.specs.declared.found.Stage.{Stage}
+use Rattle.nio_plain.specs.ScriptState.{ScriptState, Selection}
+use Rattle.nio_plain.specs.Seq.{below, removed_key, unselected, marked, looked_interest}
+use Rattle.nio_plain.specs.declared.plain.Plain.{Plain}
+use Rattle.nio_plain.specs.declared.plain.channel.Channel.{Channel}
+use Rattle.nio_plain.specs.declared.plain.selector.Closing.{Closing}
+use Rattle.nio_plain.specs.declared.plain.selector.Key.{Key}
+use Rattle.nio_plain.specs.declared.plain.selector.Selecting.{Selecting}
+use Rattle.nio_plain.specs.declared.plain.selector.Selector.{Selector}
+
+-- what a vector holds, by the place: past its end the value of what isn't there
+unfoldable pub places : {X A : Type 0} → (X → A) → A → List X → ℕ → A
+places f none xs = λ n. get_or (map f xs) n none
+
+-- a channel
+abbrev pub channel_row : Channel → Chan
+channel_row c = record { made = true; kind = c.kind; closed = c.closed; blocking = c.blocking }
+
+-- a key: its stage, interest set, mark and attachment
+pub record KeyRow : Type 0 where
+  pub stage : Stage
+  pub interest : ℕ
+  pub mark : Mark
+  pub note : ℕ
+
+abbrev pub no_key : KeyRow
+no_key = record { stage = unclaimed; interest = 0; mark = unmarked; note = 0 }
+
+abbrev pub key_row : Key → KeyRow
+key_row k = record {
+  stage = record {
+    claimed = true;
+    published = true;
+    cancelled = k.cancelled;
+    removed = k.removed;
+    chan = k.chan;
+  };
+  interest = k.interest;
+  mark = k.mark;
+  note = k.note;
+}
+
+-- a selector. The caller that selects has its turn, and the selection has begun
+pub record SelectorRow : Type 0 where
+  pub made : Bool
+  pub gate : GateWord
+  pub turn : Option CallerNo
+  pub selection : Option Selection
+  pub closer : Option CallerNo
+  pub entered : Bool
+  pub keys_mark : ℕ
+  pub keys : ℕ → KeyRow
+  pub noted : ℕ → Option ℕ
+
+abbrev pub no_selector : SelectorRow
+no_selector = record {
+  made = false;
+  gate = open_gate;
+  turn = None;
+  selection = None;
+  closer = None;
+  entered = false;
+  keys_mark = 0;
+  keys = λ _. no_key;
+  noted = λ _. None;
+}
+
+abbrev pub new_selector : SelectorRow
+new_selector = record no_selector { made = true }
+
+-- the channel's key in a selector: the one that is noted for it, where it is in the key set
+abbrev pub if_in_set : (ℕ → KeyRow) → Option ℕ → Option ℕ
+if_in_set keys None = None
+if_in_set keys (Some i) = if in_key_set (keys i).stage then Some i else None
+
+abbrev pub key_in : SelectorRow → ℕ → Option ℕ
+key_in r c = if_in_set r.keys (r.noted c)
+
+-- a selector with a key more, and with a key's interest set changed
+abbrev pub with_new_key : SelectorRow → ℕ → KeyRow → SelectorRow
+with_new_key r c key = record r {
+  keys_mark = r.keys_mark + 1;
+  keys = put r.keys r.keys_mark key;
+  noted = put r.noted c (Some r.keys_mark);
+}
+
+abbrev pub with_interest_at : SelectorRow → ℕ → ℕ → SelectorRow
+with_interest_at r i ops = record r { keys = put r.keys i (record (r.keys i) { interest = ops }) }
+
+-- a key that is removed where it is cancelled, and the keys after that was done below the bound
+abbrev pub swept_key : KeyRow → KeyRow
+swept_key k =
+    if in_cancelled_set k.stage then record k { stage = removed_key k.stage; mark = unselected k.mark }
+    else k
+
+abbrev pub swept : (ℕ → KeyRow) → ℕ → ℕ → KeyRow
+swept keys bound = λ i. if nat_lt i bound then swept_key (keys i) else keys i
+
+-- the valid keys below the bound with their interests, in rising order
+abbrev pub looked_below : (ℕ → KeyRow) → ℕ → List (ℕ × ℕ)
+looked_below keys bound =
+    map (λ i. (i, (keys i).interest)) (filter (λ i. is_valid (keys i).stage) (below bound))
+
+-- a selector on which a selection has begun
+abbrev pub with_selection : SelectorRow → CallerNo → Mode → SelectorRow
+with_selection r me mode = record r {
+  turn = Some me;
+  selection =
+    Some (record { mode = mode; bound = r.keys_mark; looked = looked_below r.keys r.keys_mark });
+  keys = swept r.keys r.keys_mark;
+}
+
+-- the keys after each looked key was marked with what was told of its interest
+abbrev pub marked_keys : (ℕ → KeyRow) → List (ℕ × ℕ) → (ℕ → ℕ) → ℕ → KeyRow
+marked_keys keys looked told =
+    λ i. record (keys i) { mark = marked (keys i).mark (bit_and (told i) (looked_interest looked i)) }
+
+-- a selector on which a selection is over
+abbrev pub with_selection_ended : SelectorRow → List (ℕ × ℕ) → (ℕ → ℕ) → ℕ → SelectorRow
+with_selection_ended r looked told bound = record r {
+  gate = record r.gate { woken = false };
+  turn = None;
+  selection = None;
+  keys = swept (marked_keys r.keys looked told) bound;
+}
+
+-- a key that was just registered
+abbrev pub new_key_row : ℕ → ℕ → KeyRow
+new_key_row c ops = record {
+  stage = record {
+    claimed = true;
+    published = true;
+    cancelled = false;
+    removed = false;
+    chan = record { 0 = c };
+  };
+  interest = ops;
+  mark = unmarked;
+  note = 0;
+}
+
+abbrev pub caller_of : Option Selecting → Option CallerNo
+caller_of None = None
+caller_of (Some x) = Some x.caller
+
+abbrev pub selection_of : Option Selecting → Option Selection
+selection_of None = None
+selection_of (Some x) = Some (record { mode = x.mode; bound = x.bound; looked = x.looked.items })
+
+abbrev pub closer_of : Option Closing → Option CallerNo
+closer_of None = None
+closer_of (Some x) = Some x.closer
+
+abbrev pub has_finished : Option Closing → Bool
+has_finished None = false
+has_finished (Some x) = x.finished
+
+abbrev pub selector_row : Selector → SelectorRow
+selector_row s = record {
+  made = true;
+  gate = record { woken = s.woken; shut = is_some s.closing };
+  turn = caller_of s.selecting;
+  selection = selection_of s.selecting;
+  closer = closer_of s.closing;
+  entered = has_finished s.closing;
+  keys_mark = length s.keys.items;
+  keys = places key_row no_key s.keys.items;
+  noted = λ c. get nat_cmp s.noted c;
+}
+
+-- the state whose parts are these, by the caller, the channel and the selector
+abbrev pub state_from : (ℕ → Bool) → ℕ → (ℕ → Chan) → (ℕ → SelectorRow) → ScriptState
+state_from interrupted channels_mark chan selector = record {
+  shared = record {
+    drawn = λ _. false;
+    interrupted = interrupted;
+    selector = λ s. (selector s).made;
+    channels_mark = channels_mark;
+    chan = chan;
+    hold = λ _. None;
+    noted = λ c s. (selector s).noted c;
+    gate = λ s. (selector s).gate;
+    turn = λ s. (selector s).turn;
+    keys_mark = λ s. (selector s).keys_mark;
+    key = λ s i. ((selector s).keys i).stage;
+    interest = λ s i. ((selector s).keys i).interest;
+    mark = λ s i. ((selector s).keys i).mark;
+    note = λ s i. ((selector s).keys i).note;
+    begun = λ s. is_some (selector s).turn;
+    closer = λ s. (selector s).closer;
+    entered = λ s. (selector s).entered;
+  };
+  selection = λ s. (selector s).selection;
+}
+
+-- the state that a plain system holds
+abbrev pub state_of : Plain → ScriptState
+state_of p =
+    state_from
+    (places (λ b. b) false p.interrupted.items)
+    (length p.channels.items)
+    (places channel_row unmade_channel p.channels.items)
+    (places selector_row no_selector p.selectors.items)
+
+abbrev pub limits_of : Plain → Limits
+limits_of p = p.limits

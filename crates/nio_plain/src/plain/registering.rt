@@ -1,0 +1,73 @@
+//! Registering a channel with a selector.
+ghost use Rattle.std.specs.Option.{IfNone};
+ghost use Rattle.std.specs.Prelude.{◌≡◌, ◌<◌, IfSome, vec_len};
+ghost use Rattle.nio_plain.specs.Plain.{AnswersAs};
+ghost use Rattle.nio_plain.specs.PlainState.{limits_of, state_of};
+ghost use Rattle.nio_plain.specs.Seq.{key_of, refused, register_call, registered};
+
+use super::Plain;
+use super::selector::Key;
+use nio_base::{ChanNo, Ops, SelNo};
+use nio_event::Reply;
+use std::alloc::AllocError;
+
+impl Plain {
+    pub(super) fn register(&mut self, sel: SelNo, chan: ChanNo, ops: Ops) -> Result<Reply, AllocError>
+        ensures { AnswersAs self.old self.new result (register_call (limits_of self.old) (state_of self.old) sel chan ops) }
+    {
+        if let Some(refusal) = self.refusal(sel, chan, ops) {
+            return Ok(refusal);
+        }
+        let selector = &self.selectors[sel.0 as usize];
+        match selector.key_of(chan) {
+            Some(index) => {
+                if selector.keys[index as usize].cancelled {
+                    return Ok(Reply::CancelledKey);
+                }
+                if selector.is_shut() {
+                    return Ok(Reply::ClosedSelector);
+                }
+                self.selectors[sel.0 as usize].set_interest(index, ops);
+                Ok(Reply::Key(index))
+            }
+            None => {
+                if selector.is_shut() {
+                    return Ok(Reply::ClosedSelector);
+                }
+                let index = selector.keys.len();
+                if index >= self.limits.keys as usize {
+                    return Ok(Reply::Full);
+                }
+                self.selectors[sel.0 as usize].add_key(Key::new(chan, ops))?;
+                Ok(Reply::Key(index as u32))
+            }
+        }
+    }
+
+    /// Why the channel can't be registered so with any selector, and first of all that a name of
+    /// the call isn't made.
+    fn refusal(&self, sel: SelNo, chan: ChanNo, ops: Ops) -> Option<Reply>
+        ensures refused { IfSome result (λ reply. register_call (limits_of self.now) (state_of self.now) sel chan ops ≡ refused (state_of self.now) reply) }
+        ensures passed { IfNone result (register_call (limits_of self.now) (state_of self.now) sel chan ops
+            ≡ registered (limits_of self.now) (state_of self.now) sel.0 chan.0 ops (key_of (state_of self.now).shared chan.0 sel.0)) }
+        ensures made { IfNone result (sel.0 < vec_len self.now.selectors) }
+    {
+        if sel.0 as usize >= self.selectors.len() {
+            return Some(Reply::NoSelector);
+        }
+        if chan.0 as usize >= self.channels.len() {
+            return Some(Reply::NoChannel);
+        }
+        let channel = self.channels[chan.0 as usize];
+        if !ops.within(channel.kind.valid_ops()) {
+            return Some(Reply::IllegalOps);
+        }
+        if channel.closed {
+            return Some(Reply::ClosedChannel);
+        }
+        if channel.blocking {
+            return Some(Reply::IllegalBlockingMode);
+        }
+        None
+    }
+}
