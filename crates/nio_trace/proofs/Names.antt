@@ -7,7 +7,7 @@ pub use contract.Monad.{fact, fact_i}
 pub use contract.Running.{tables}
 pub use denote.Builtin.{RefOf, SliceRefOf}
 pub use denote.Exit.{yes}
-pub use denote.Param.{param, layouts}
+pub use denote.Param.{param, layouts, bounded}
 pub use denote.RattleType.{RattleType, owns, Valss}
 pub use denote.Ref.{mut_vals, mut_Tells, shr_vals, shr_Tells}
 pub use denote.Shadow.{makes_shadow, Pure}
@@ -17,7 +17,7 @@ pub use denote.Steps.{nothing, opens, closes}
 pub use denote.Triple.Entry.{alive}
 pub use denote.Triple.Walked.{Stays, walk_of, stay_ref, Goes-ref, stay_dropped, Goes-dropped}
 pub use mir.MapTy.{inst_fn}
-pub use mir.Syntax.{a_type, named}
+pub use mir.Syntax.{a_type, dcons, dnil, named}
 pub use mir.Val.{Val, vunit, vptr, vstruct, vcons, vnil}
 pub use seplogic.Ra.Ura.{Ura}
 pub use types.ByLocal.{alloc_all, pass_all, free_all, look_at, get, sets}

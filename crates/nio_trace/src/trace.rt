@@ -48,6 +48,29 @@ impl<T> Trace<T> {
         ensures { self.new ≡ self.old ++ _items.now }
     {
     }
+
+    /// Puts at the end what `M` reads off a value, so that no program has to make the items.
+    pub fn note<X, M: Reading<X, T>>(&mut self, _from: &X)
+        ensures { self.new ≡ self.old ++ M.items _from.now }
+    {
+    }
+}
+
+/// A way to read items off a value, in proofs alone.
+pub trait Reading<X, T> {
+    ghost items: { X → List T };
+}
+
+impl<T> Clone for Trace<T> {
+    ghost use Rattle.std.specs.Prelude.{⊤};
+
+    ghost is_clone = { λ s r. r ≡ s };
+
+    ghost is_infallible = { λ _. ⊤ };
+
+    fn clone(&self) -> Result<Trace<T>, AllocError> {
+        Ok(self.again())
+    }
 }
 
 // It owns nothing.
