@@ -1,0 +1,4 @@
+pub mod Calls
+pub mod Flow
+pub mod Kept
+pub mod Plan
