@@ -9,3 +9,5 @@ pub use plan::{ProxyPlan, Served};
 mod direction;
 mod law;
 mod plan;
+#[cfg(test)]
+mod tests;
