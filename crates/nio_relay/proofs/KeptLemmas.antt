@@ -23,14 +23,15 @@ held-items taken items whole = let w = written_of taken items in ap (drop (lengt
 pub written_of-nil : (taken : List ℕ) → written_of taken [] ≡ taken
 written_of-nil taken = let all : length taken - 0 ≡ length taken = omega arith in ap (λ (n : ℕ). take n taken) all ∙ take-length taken
 
--- once the first n items are dropped, they are written
-pub written_of-keep_last : (taken items : List ℕ) (n : ℕ) → EndsWith taken items → n ≤ length items
-    → written_of taken (drop (length items - (length items - n)) items) ≡ written_of taken items ++ take n (drop (length (written_of taken items)) taken)
-written_of-keep_last taken items n whole few =
-    let fits : length items ≤ length taken = length-items taken items whole in
+-- once all but the last `left` items are dropped, the others are written
+pub written_next : (taken items kept : List ℕ) (n left : ℕ) → EndsWith taken items → n ≤ length (drop (length (written_of taken items)) taken) → left ≡ length items - n → kept ≡ drop (length items - left) items
+    → written_of taken kept ≡ written_of taken items ++ take n (drop (length (written_of taken items)) taken)
+written_next taken items kept n left whole few left_is kept_is =
     let before = length taken - length items in
-    let rest : length taken - length (drop (length items - (length items - n)) items) ≡ before + n = omega (arith, length-drop (length items - (length items - n)) items) in
+    let fits : length items ≤ length taken = length-items taken items whole in
     let at : length (written_of taken items) ≡ before = length-written_of taken items whole in
+    let all_held : length (drop (length (written_of taken items)) taken) ≡ length items = ap length (held-items taken items whole) in
+    let rest : length taken - length kept ≡ before + n = omega (arith, ap length kept_is, length-drop (length items - left) items) in
     rw (rest, at) (take-add before n taken)
 
 module _ (taken : List ℕ) (buffer : Buffer ℕ) (ended shut failed : Bool) where

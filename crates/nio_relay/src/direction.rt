@@ -63,6 +63,24 @@ impl Direction {
         CAPACITY - self.buffer.len()
     }
 
+    pub fn is_ended(&self) -> bool
+        ensures { result ≡ self.now.ended }
+    {
+        self.ended
+    }
+
+    pub fn is_shut(&self) -> bool
+        ensures { result ≡ self.now.shut }
+    {
+        self.shut
+    }
+
+    pub fn has_failed(&self) -> bool
+        ensures { result ≡ self.now.failed }
+    {
+        self.failed
+    }
+
     /// What is to be done next. After a fault it asks for nothing.
     pub fn want(&self) -> Want
         ensures read { IsTrue result.read ↔ WantsRead self.now }

@@ -3,7 +3,7 @@
 #![tactic(auto)]
 
 pub use direction::{CAPACITY, Direction, Want};
-pub use law::relay_law;
+pub use law::{connection_law, relay_law};
 pub use plan::{ProxyPlan, Served};
 
 mod direction;
