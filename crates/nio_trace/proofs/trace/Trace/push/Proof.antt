@@ -1,6 +1,6 @@
--- Nothing is run: what the trace owns is turned to the longer list.
-use Rattle.nio_trace.proofs.Names.{◌≡◌, ℕ, List, [], ◌∷◌, ◌++◌, refl, proved, leaves, Fml, ftrue, fsep, flft, SProp, emp, fact, fact_i, tables, RefOf, yes, param, layouts, RattleType, owns, mut_vals, mut_Tells, shr_vals, shr_Tells, plain, types_at, nothing, opens, closes, Stays, walk_of, stay_ref, Goes-ref, stay_dropped, Goes-dropped, inst_fn, a_type, named, Val, vunit, vptr, alloc_all, pass_all, free_all, look_at, sets, ‵, raw, ◌⊛◌, ◌$◌, ◌∵◌, !, qed, by, move, keep, split, join, fsplit, fsplit3, fjoin, fjoin3, feq_i, use0, use1, enter, of_opd, unit_lit, returns}
-use Rattle.nio_trace.proofs.Owned.{Row, turned}
+-- No step is run: the trace is turned to the longer list.
+use Rattle.nio_trace.proofs.Names.{◌≡◌, ℕ, List, [], ◌∷◌, ◌++◌, refl, proved, leaves, Fml, ftrue, fsep, flft, SProp, emp, fact, fact_i, tables, RefOf, yes, param, layouts, RattleType, owns, MutRef, mut_vals, mut_Tells, shr_vals, shr_Tells, plain, types_at, nothing, Stays, walk_of, stay_ref, Goes-ref, stay_dropped, Goes-dropped, inst_fn, a_type, named, Val, vunit, vptr, alloc_all, pass_all, free_all, look_at, sets, ‵, raw, ◌⊛◌, ◌$◌, ◌∵◌, !, qed, by, move, keep, split, join, fsplit, fjoin, feq_i, use0, use2, later, await, enter, of_opd, unit_lit, returns}
+use Rattle.nio_trace.proofs.Owned.{Row, lengthened}
 use Rattle.nio_trace.specs.contracts.trace.Trace.push.{ended, clauses}
 use Rattle.nio_trace.specs.contracts.trace.Trace.push.Key.{name as #self}
 use Rattle.nio_trace.proofs.trace.Trace.push.Statement.{statement}
@@ -14,14 +14,14 @@ push_spec 𝓤 𝓛 𝓜 𝓡 wired T _ =
     let hs : Stays En.signature.params En.kept = (stay_ref (0 ∷ []) tt self, (stay_dropped item yes, tt)) in
     proved 𝓛 En hs c 𝓜 𝓡 (Goes-ref 𝓛 3 0 tt self, (Goes-dropped 𝓛 3 item yes (λ κs x f. refl), tt)) (#self inst) fn (code.unfolded 𝓤 H 𝓜 𝓡 wired (T, tt))
     (λ κs. (mut_vals, (shr_vals, tt))) (λ κs. (mut_Tells (named 0) κs.0 (Row R), (shr_Tells (named 1) κs.1.0 R, tt))) (λ κs qs bounds a gh are.
-    let b : ℕ = a.0.ref_ptr.0 in let o : ℕ = a.0.ref_ptr.1 in let p : Val = vptr b o in let i : Val = vptr a.1.0.ref_ptr.0 a.1.0.ref_ptr.1 in
+    let p : Val = vptr a.0.ref_ptr.0 a.0.ref_ptr.1 in let i : Val = vptr a.1.0.ref_ptr.0 a.1.0.ref_ptr.1 in
     let longer : List T.Denot = a.0.now ++ a.1.0.now ∷ [] in
     let y : (walk_of 𝓛 En hs c).Ghost = ((κs, qs, bounds, a, (p ∷ [], (i ∷ [], tt))), gh) in let Post : Val → SProp 𝓤 = (walk_of 𝓛 En hs c).post y in
     let others : Fml = fsep (flft κs.1.0 qs.1.0) (fsep (flft κs.1.1.0 qs.1.1.0) ftrue) in let Told : Type 0 = longer ≡ longer in
     qed 𝓛 (((‵ (flft κs.0 qs.0) ⊛ ‵ others) ⊛ ‵ (owns (types_at En.signature.params κs) a y.0.4)) ∷ raw ((c κs a).requires gh) ∷ []) ∵
-    split ! $ split ! $ move ! (2 ∷ []) $ fsplit ! $ fsplit3 ! $ keep ! (1 ∷ 2 ∷ 4 ∷ 5 ∷ []) $
+    split ! $ split ! $ move ! (2 ∷ []) $ fsplit ! $ keep ! (0 ∷ 2 ∷ 3 ∷ []) $
     enter ! 𝓣.C 𝓣.Λ fn (p ∷ i ∷ []) Post $ alloc_all ! (λ l. pass_all ! refl ((tt, tt), ((tt, tt), tt)) $
-    opens ! tt (Row R) b o (λ vs. move ! (1 ∷ []) $ use1 𝓛 (‵ ((Row R).own_val longer vs)) (turned R 𝓛 a.0.now longer vs) $ move ! (1 ∷ 0 ∷ []) $ closes ! tt (Row R) longer vs b o $
-    feq_i ! (List Val) (p ∷ []) (p ∷ []) refl $ fjoin3 ! $ nothing ! $ nothing ! $ fjoin ! $ move ! (1 ∷ 0 ∷ []) $ fjoin ! $ move ! (1 ∷ 2 ∷ []) $ join ! $
+    use2 𝓛 (later (‵ ((MutRef (named 0) κs.0 (Row R)).own_val (record a.0 { now = longer }) (p ∷ [])) ⊛ ‵ (flft κs.0 qs.0))) (lengthened R 𝓛 κs.0 qs.0 a.0 (p ∷ []) longer) $ await ! tt $ split ! $
+    nothing ! $ nothing ! $ fjoin ! $ move ! (1 ∷ 0 ∷ []) $ fjoin ! $ move ! (1 ∷ 2 ∷ []) $ join ! $
     sets ! (of_opd ! (unit_lit !)) refl (tt, tt) $ use0 𝓛 (raw (fact 𝓤 Told)) (fact_i 𝓤 Told (emp 𝓤) refl) $ feq_i ! (List Val) (vunit ∷ []) (vunit ∷ []) refl $
-    returns ! (look_at ! 0 refl) $ free_all ! refl $ keep ! (2 ∷ 3 ∷ 0 ∷ 1 ∷ []) $ by ! (leaves 𝓛 En hs c y vunit tt (longer, (tt, tt)) (tt, (tt, tt))))))
+    returns ! (look_at ! 0 refl) $ free_all ! refl $ keep ! (2 ∷ 3 ∷ 0 ∷ 1 ∷ []) $ by ! (leaves 𝓛 En hs c y vunit tt (longer, (tt, tt)) (tt, (tt, tt)))))
