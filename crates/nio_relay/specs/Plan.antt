@@ -3,6 +3,6 @@ use Rattle.std.specs.Prelude.{◌≤◌}
 use Rattle.nio_relay.specs.declared.plan.ProxyPlan.{ProxyPlan}
 
 -- 1 to 16,000 connections
-pub record IsFit (p : ProxyPlan) : Type 0 where
+pub record IsServable (p : ProxyPlan) : Type 0 where
   pub some_connections : 1 ≤ p.conns
   pub few_connections : p.conns ≤ 16000

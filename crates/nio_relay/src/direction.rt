@@ -12,7 +12,7 @@ use std::marker::Model;
 pub const CAPACITY: usize = 16_384;
 
 /// The bytes on their way from one end of a relayed connection to the other. Contracts see all
-/// that it ever took and wrote; it holds what is taken and not yet written.
+/// that it ever took and wrote; the buffer holds what is taken and not yet written.
 #[derive(Drop)]
 pub struct Direction {
     buffer: HeapCircularBuffer<u8>,
@@ -114,7 +114,7 @@ impl Direction {
         self.taken.extend(bytes);
     }
 
-    /// The first `n` of the held bytes were written to the other end.
+    /// The first `n` of the held bytes were written to the other end, as many of `front` as it took.
     pub fn on_written(&mut self, n: usize)
         requires { n ≤ length (held self.old) }
         ensures { self.new ≡ writes self.old n }

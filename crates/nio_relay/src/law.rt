@@ -6,11 +6,9 @@ ghost use Rattle.nio_relay.specs.Connection.{ConnectionLaw};
 /// is all of it.
 pub fn relay_law()
     ensures { RelayLaw }
-{
-}
+{}
 
 /// A connection is clean once both of its directions are shut.
 pub fn connection_law()
     ensures { ConnectionLaw }
-{
-}
+{}

@@ -13,11 +13,11 @@ pub struct ProxyPlan {
 }
 
 impl ProxyPlan {
-    ghost use Rattle.nio_relay.specs.Plan.{IsFit};
+    ghost use Rattle.nio_relay.specs.Plan.{IsServable};
 
     /// Whether a proxy can serve this plan.
     pub fn fits(self) -> bool
-        ensures { IsTrue result ↔ IsFit self }
+        ensures { IsTrue result ↔ IsServable self }
     {
         (1..=16_000).contains(&self.conns)
     }

@@ -1,6 +1,7 @@
 //! What no clause says: that the calls do what is meant by them, over one table of calls, and that
 //! memory is found where there is some.
 use crate::*;
+use circular_buffer::HeapCircularBuffer;
 use nio_base::Addr;
 use std::process::Abort;
 use std::test::Fail;
@@ -10,18 +11,22 @@ const NOTHING: Want = Want {
     write: false,
     shut: false,
 };
+
 const READ: Want = Want {
     read: true,
     ..NOTHING
 };
+
 const WRITE: Want = Want {
     write: true,
     ..NOTHING
 };
+
 const READ_WRITE: Want = Want {
     read: true,
     ..WRITE
 };
+
 const SHUT: Want = Want {
     shut: true,
     ..NOTHING
@@ -116,6 +121,8 @@ fn a_direction_fills_wraps_ends_and_shuts(rt: HostRuntime) -> Result<(), Fail> {
         assert_eq!(rt; run.direction.room(), room, "after {step:?}");
         assert_eq!(rt; run.direction.want(), want, "after {step:?}");
     }
+    assert!(rt; run.direction.is_ended() && run.direction.is_shut());
+    assert!(rt; !run.direction.has_failed());
     assert!(rt; run.unread.is_empty());
     assert_eq!(rt; run.written.as_slice(), bytes.as_slice());
     Ok(())
@@ -145,6 +152,21 @@ fn after_a_fault_nothing_is_wanted(rt: HostRuntime) -> Result<(), Fail> {
         assert_eq!(rt; run.direction.want(), NOTHING, "after {before} steps");
         assert_eq!(rt; run.direction.front().len(), held, "after {before} steps");
     }
+    Ok(())
+}
+
+fn sent<T: Send>(value: T) -> T {
+    value
+}
+
+#[test]
+fn a_direction_is_its_buffer_and_three_flags(rt: HostRuntime) -> Result<(), Fail> {
+    assert_eq!(rt;
+        size_of::<Direction>(),
+        size_of::<(HeapCircularBuffer<u8>, bool, bool, bool)>()
+    );
+    let direction = sent(Direction::make(rt.alloc())?);
+    assert!(rt; direction.front().is_empty());
     Ok(())
 }
 

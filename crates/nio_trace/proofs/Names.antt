@@ -1,18 +1,17 @@
 -- The names of the logic that the walks of this crate use, in one place.
-pub use Rattle.std.proofs.Common.{MutBor, ◌≡◌, ℕ, List, [], ◌∷◌, ◌++◌, length, refl}
+pub use Rattle.std.proofs.Common.{MutBor, ◌≡◌, List, [], ◌∷◌, ◌++◌, refl}
 pub use Rattle.std.proofs.raw_atomic.Walks.{proved, leaves}
 pub use base.Fml.{Fml, Lft, Share, ftrue, fsep, flft}
 pub use base.Logic.{SProp, ent, sep, emp}
 pub use contract.Monad.{fact, fact_i}
 pub use contract.Running.{tables}
-pub use denote.Builtin.{RefOf, SliceRefOf}
+pub use denote.Builtin.{RefOf}
 pub use denote.Exit.{yes}
 pub use denote.Param.{param, layouts, bounded}
-pub use denote.RattleType.{RattleType, owns, Valss}
+pub use denote.RattleType.{RattleType, owns}
 pub use denote.Ref.{MutRef, mut_vals, mut_Tells, shr_vals, shr_Tells}
 pub use denote.Shadow.{makes_shadow, Pure}
 pub use denote.Signature.{plain, types_at}
-pub use denote.Slice.{slice_val, shr_slice_vals, shr_slice_Tells}
 pub use denote.Steps.{nothing, opens, closes}
 pub use denote.Triple.Entry.{alive}
 pub use denote.Triple.Walked.{Stays, walk_of, stay_ref, Goes-ref, stay_dropped, Goes-dropped}

@@ -1,4 +1,5 @@
-//! The one type of this crate.
+//! The list, and how items get into it. `new` and `note` are proved by hand, from what a trace
+//! owns, which is nothing; every other call is made of them.
 ghost use Rattle.std.specs.Prelude.{◌≡◌, List, [], ◌∷◌, ◌++◌};
 
 use std::alloc::AllocError;
@@ -22,6 +23,16 @@ impl<T> Model for Trace<T> {
     ghost also_owns = { λ _. ftrue };
 }
 
+// It owns nothing, whatever its items are.
+unsafe impl<T> Send for Trace<T> {}
+
+unsafe impl<T> Sync for Trace<T> {}
+
+/// A way to read items off a value, in proofs alone.
+pub trait Reading<X, T> {
+    ghost items: { X → List T };
+}
+
 impl<T> Trace<T> {
     /// The empty list.
     pub fn new() -> Trace<T>
@@ -30,35 +41,33 @@ impl<T> Trace<T> {
         Trace { of: PhantomData }
     }
 
+    /// Puts at the end what `M` reads off a value, so that no program has to make the items.
+    pub fn note<X, M: Reading<X, T>>(&mut self, _from: &X)
+        ensures { self.new ≡ self.old ++ M.items _from.now }
+    {}
+
+    /// Puts an item at the end.
+    pub fn push(&mut self, item: &T)
+        ensures { self.new ≡ self.old ++ item.now ∷ [] }
+    {
+        self.note::<T, One>(item);
+    }
+
+    /// Puts items at the end.
+    pub fn extend(&mut self, items: &[T])
+        ensures { self.new ≡ self.old ++ items.now }
+    {
+        self.note::<&[T], All>(&items);
+    }
+
     /// The same list once more.
     pub fn again(&self) -> Trace<T>
         ensures { result ≡ self.now }
     {
-        Trace { of: PhantomData }
+        let mut trace = Trace::new();
+        trace.note::<Trace<T>, Whole>(self);
+        trace
     }
-
-    /// Puts an item at the end.
-    pub fn push(&mut self, _item: &T)
-        ensures { self.new ≡ self.old ++ _item.now ∷ [] }
-    {
-    }
-
-    /// Puts items at the end.
-    pub fn extend(&mut self, _items: &[T])
-        ensures { self.new ≡ self.old ++ _items.now }
-    {
-    }
-
-    /// Puts at the end what `M` reads off a value, so that no program has to make the items.
-    pub fn note<X, M: Reading<X, T>>(&mut self, _from: &X)
-        ensures { self.new ≡ self.old ++ M.items _from.now }
-    {
-    }
-}
-
-/// A way to read items off a value, in proofs alone.
-pub trait Reading<X, T> {
-    ghost items: { X → List T };
 }
 
 impl<T> Clone for Trace<T> {
@@ -73,7 +82,23 @@ impl<T> Clone for Trace<T> {
     }
 }
 
-// It owns nothing.
-unsafe impl<T> Send for Trace<T> {}
+/// Reads the value itself.
+struct One;
 
-unsafe impl<T> Sync for Trace<T> {}
+impl<T> Reading<T, T> for One {
+    ghost items = { λ item. item ∷ [] };
+}
+
+/// Reads each element of a slice.
+struct All;
+
+impl<'a, T> Reading<&'a [T], T> for All {
+    ghost items = { λ slice. slice.now };
+}
+
+/// Reads a trace's items.
+struct Whole;
+
+impl<T> Reading<Trace<T>, T> for Whole {
+    ghost items = { λ trace. trace };
+}

@@ -1,5 +1,5 @@
 -- No step is run: the trace is turned to the longer list.
-use Rattle.nio_trace.proofs.Names.{◌≡◌, ℕ, List, [], ◌∷◌, ◌++◌, refl, proved, leaves, Fml, ftrue, fsep, flft, SProp, emp, fact, fact_i, tables, RefOf, yes, param, bounded, RattleType, owns, MutRef, mut_vals, mut_Tells, shr_vals, shr_Tells, plain, types_at, nothing, Stays, walk_of, stay_ref, Goes-ref, stay_dropped, Goes-dropped, inst_fn, a_type, dcons, dnil, named, Val, vunit, vptr, alloc_all, pass_all, free_all, look_at, sets, ‵, raw, ◌⊛◌, ◌$◌, ◌∵◌, !, qed, by, move, keep, split, join, fsplit, fjoin, feq_i, use0, use2, later, await, enter, of_opd, unit_lit, returns}
+use Rattle.nio_trace.proofs.Names.{◌≡◌, List, [], ◌∷◌, ◌++◌, refl, proved, leaves, Fml, ftrue, fsep, flft, SProp, emp, fact, fact_i, tables, RefOf, yes, param, bounded, RattleType, owns, MutRef, mut_vals, mut_Tells, shr_vals, shr_Tells, plain, types_at, nothing, Stays, walk_of, stay_ref, Goes-ref, stay_dropped, Goes-dropped, inst_fn, a_type, dcons, dnil, named, Val, vunit, vptr, alloc_all, pass_all, free_all, look_at, sets, ‵, raw, ◌⊛◌, ◌$◌, ◌∵◌, !, qed, by, move, keep, split, join, fsplit, fjoin, feq_i, use0, use2, later, await, enter, of_opd, unit_lit, returns}
 use Rattle.nio_trace.proofs.Owned.{Row, lengthened}
 use Rattle.nio_trace.specs.contracts.trace.Trace.note.{ended, clauses}
 use Rattle.nio_trace.specs.contracts.trace.Trace.note.Key.{name as #self}
