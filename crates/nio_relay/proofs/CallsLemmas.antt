@@ -1,9 +1,9 @@
 -- Each call leaves a lawful flow lawful, so any list of calls does.
-use Rattle.std.proofs.Common.{◌≡◌, ℕ, ◌+◌, ◌-◌, ◌≤◌, List, [], ◌∷◌, ◌++◌, length, take, drop, IsTrue, Bool, true, false, refl, sym, ap, subst, ◌∙◌, arith, append_assoc, length-append, length-drop, lit≤}
+use Rattle.std.proofs.Common.{◌≡◌, ℕ, List, [], ◌∷◌, ◌++◌, length, take, drop, true, false, refl, sym, ap, subst, ◌∙◌, arith, append_assoc, length-append, length-drop, lit≤}
 use Rattle.std.proofs.lemmas.List.{take-append-drop, append-nil}
 use Rattle.std.proofs.Math.Seq.{drop-append_seam, drop-length, take-nil}
 use mathlib.Core.List.{IsPrefix}
-use Rattle.nio_relay.specs.Flow.{Flow, fresh, held, room_of, IsLawful, MayTake, WantsShut, takes, writes, ends, shuts, fails}
+use Rattle.nio_relay.specs.Flow.{Flow, fresh, held, IsLawful, MayTake, WantsShut, takes, writes, shuts}
 use Rattle.nio_relay.specs.Calls.{Call, reading, writing, ending, shutting, failing, MayCall, after, MayCallAll, after_all, bytes_given, bytes_read, Carries, RelayLaw}
 
 -- what is held follows what was written

@@ -1,8 +1,8 @@
 -- What a direction says of the links that it relays between.
-use Rattle.std.proofs.Common.{◌≡◌, IsTrue, sym, subst, ◌∙◌}
+use Rattle.std.proofs.Common.{IsTrue, sym, subst, ◌∙◌}
 use mathlib.Core.List.{IsPrefix}
 use Rattle.nio_relay.specs.Flow.{Flow, IsLawful}
-use Rattle.nio_relay.specs.Connection.{Carried, IsBegun, IsWhole, IsClean, IsFlowOf, ConnectionLaw}
+use Rattle.nio_relay.specs.Connection.{Carried, IsBegun, IsWhole, IsFlowOf, ConnectionLaw}
 
 flow-begun : (f : Flow) (a b : Carried) → IsLawful f → IsFlowOf f a b → IsBegun a b
 flow-begun f a b lawful of = subst (λ put. IsPrefix put a.got) of.written (subst (IsPrefix f.written) of.taken lawful.in_order)
