@@ -1,0 +1,50 @@
+-- A relayed connection, told from what its two links have carried.
+use Rattle.std.specs.Prelude.{◌≡◌, ℕ, ◌+◌, ◌*◌, List, Bool, IsTrue}
+use mathlib.Core.List.{IsPrefix}
+use Rattle.nio_relay.specs.Flow.{Flow, IsLawful}
+
+-- the channel numbers of the two links of the k-th accepted connection, from 0 on; the listener has
+-- the number 0
+abbrev pub client_link : ℕ → ℕ
+client_link k = 2 * k + 1
+
+abbrev pub target_link : ℕ → ℕ
+target_link k = 2 * k + 2
+
+-- what a link has carried: the bytes that it gave, in order, and whether they have ended; the bytes
+-- that were put on it, in order, and whether that side is shut
+pub record Carried : Type 0 where
+  pub got : List ℕ
+  pub ended : Bool
+  pub put : List ℕ
+  pub shut : Bool
+
+-- what was put on b begins what a gave
+abbrev pub IsBegun : Carried → Carried → Type 0
+IsBegun a b = IsPrefix b.put a.got
+
+-- all that a gave was put on b, up to its end
+pub record IsWhole (a b : Carried) : Type 0 where
+  pub bytes : b.put ≡ a.got
+  pub ended : IsTrue a.ended
+  pub shut : IsTrue b.shut
+
+-- both ways all of it was relayed
+pub record IsClean (client target : Carried) : Type 0 where
+  pub there : IsWhole client target
+  pub back : IsWhole target client
+
+-- the direction from a to b took what a gave and wrote what was put on b
+pub record IsFlowOf (f : Flow) (a b : Carried) : Type 0 where
+  pub taken : f.taken ≡ a.got
+  pub written : f.written ≡ b.put
+  pub ended : f.ended ≡ a.ended
+  pub shut : f.shut ≡ b.shut
+
+-- at any time a direction has relayed a beginning of its bytes, and once it is shut all of them: so
+-- a connection with both directions shut is clean
+pub record ConnectionLaw : Type 0 where
+  pub begun : (f : Flow) (a b : Carried) → IsLawful f → IsFlowOf f a b → IsBegun a b
+  pub whole : (f : Flow) (a b : Carried) → IsLawful f → IsFlowOf f a b → IsTrue f.shut → IsWhole a b
+  pub clean : (there back : Flow) (client target : Carried) → IsLawful there → IsLawful back → IsFlowOf there client target → IsFlowOf back target client
+      → IsTrue there.shut → IsTrue back.shut → IsClean client target

@@ -1,0 +1,13 @@
+//! One direction of a relayed connection: the bytes that were taken from the one end and are to be
+//! written to the other. Beside it what every serving crate is told, and what it answers.
+#![tactic(auto)]
+
+pub use direction::{CAPACITY, Direction, Want};
+pub use law::{connection_law, relay_law};
+pub use plan::{ProxyPlan, Served};
+
+mod direction;
+mod law;
+mod plan;
+#[cfg(test)]
+mod tests;

@@ -1,0 +1,31 @@
+//! What a proxy is to serve, and what it has served.
+ghost use Rattle.std.specs.Prelude.{◌↔◌, IsTrue};
+
+use nio_base::Addr;
+
+/// Where a proxy listens, whom it connects each client to, and how many connections it relays
+/// before it ends.
+#[derive(Clone, Copy, Debug, PartialEq, Eq, Hash)]
+pub struct ProxyPlan {
+    pub listen: Addr,
+    pub target: Addr,
+    pub conns: u32,
+}
+
+impl ProxyPlan {
+    ghost use Rattle.nio_relay.specs.Plan.{IsServable};
+
+    /// Whether a proxy can serve this plan.
+    pub fn fits(self) -> bool
+        ensures { IsTrue result ↔ IsServable self }
+    {
+        (1..=16_000).contains(&self.conns)
+    }
+}
+
+/// How many connections a proxy relayed, and how many of them ended by a fault.
+#[derive(Clone, Copy, Debug, PartialEq, Eq, Hash)]
+pub struct Served {
+    pub connections: u32,
+    pub faults: u32,
+}

@@ -1,0 +1,187 @@
+//! What no clause says: that the calls do what is meant by them, over one table of calls, and that
+//! memory is found where there is some.
+use crate::*;
+use circular_buffer::HeapCircularBuffer;
+use nio_base::Addr;
+use std::process::Abort;
+use std::test::Fail;
+
+const NOTHING: Want = Want {
+    read: false,
+    write: false,
+    shut: false,
+};
+
+const READ: Want = Want {
+    read: true,
+    ..NOTHING
+};
+
+const WRITE: Want = Want {
+    write: true,
+    ..NOTHING
+};
+
+const READ_WRITE: Want = Want {
+    read: true,
+    ..WRITE
+};
+
+const SHUT: Want = Want {
+    shut: true,
+    ..NOTHING
+};
+
+/// What is done to a direction.
+#[derive(Clone, Copy, Debug)]
+enum Step {
+    /// So many bytes are read.
+    Read(usize),
+    /// Held bytes are written until so many are left.
+    WriteTo(usize),
+    End,
+    Shut,
+}
+
+/// A direction, what is still to be read by it, and all that it wrote.
+#[derive(Drop)]
+struct Run<'a> {
+    direction: Direction,
+    unread: &'a [u8],
+    written: Vec<u8>,
+}
+
+impl Run<'_> {
+    fn take(&mut self, rt: &impl Abort, step: Step) -> Result<(), Fail> {
+        match step {
+            Step::Read(count) => self.read(rt, count),
+            Step::WriteTo(left) => self.write_to(rt, left)?,
+            Step::End => self.direction.on_end(),
+            Step::Shut => {
+                assert!(rt; self.direction.want().shut);
+                self.direction.on_shut();
+            }
+        }
+        Ok(())
+    }
+
+    fn read(&mut self, rt: &impl Abort, count: usize) {
+        assert!(rt; self.direction.want().read);
+        assert!(rt; count <= self.direction.room());
+        assert!(rt; count <= self.unread.len());
+        let (bytes, unread) = self.unread.split_at(count);
+        self.direction.on_read(bytes);
+        self.unread = unread;
+    }
+
+    /// What is held lies in two pieces at most.
+    fn write_to(&mut self, rt: &impl Abort, left: usize) -> Result<(), Fail> {
+        for _ in 0..2 {
+            let held = CAPACITY - self.direction.room();
+            let front = self.direction.front();
+            let piece = &front[..front.len().min(held.saturating_sub(left))];
+            self.written.extend_from_slice(piece)?;
+            let count = piece.len();
+            self.direction.on_written(count);
+        }
+        assert_eq!(rt; CAPACITY - self.direction.room(), left);
+        Ok(())
+    }
+}
+
+#[test]
+fn a_direction_fills_wraps_ends_and_shuts(rt: HostRuntime) -> Result<(), Fail> {
+    let bytes: Vec<u8> = (0..26_399_u32)
+        .map(|i| (i % 251) as u8)
+        .collect(rt.alloc())?;
+    let mut run = Run {
+        direction: Direction::make(rt.alloc())?,
+        unread: &bytes,
+        written: Vec::new(rt.alloc()),
+    };
+    assert_eq!(rt; run.direction.want(), READ);
+    let steps = [
+        (Step::Read(0), 16_384, READ),
+        (Step::Read(16_384), 0, WRITE),
+        (Step::WriteTo(6_384), 10_000, READ_WRITE),
+        (Step::Read(9_999), 1, READ_WRITE),
+        (Step::Read(1), 0, WRITE),
+        (Step::WriteTo(16_383), 1, READ_WRITE),
+        (Step::WriteTo(0), 16_384, READ),
+        (Step::Read(15), 16_369, READ_WRITE),
+        (Step::End, 16_369, WRITE),
+        (Step::WriteTo(1), 16_383, WRITE),
+        (Step::WriteTo(0), 16_384, SHUT),
+        (Step::End, 16_384, SHUT),
+        (Step::Shut, 16_384, NOTHING),
+        (Step::End, 16_384, NOTHING),
+    ];
+    for (step, room, want) in steps {
+        run.take(&rt, step)?;
+        assert_eq!(rt; run.direction.room(), room, "after {step:?}");
+        assert_eq!(rt; run.direction.want(), want, "after {step:?}");
+    }
+    assert!(rt; run.direction.is_ended() && run.direction.is_shut());
+    assert!(rt; !run.direction.has_failed());
+    assert!(rt; run.unread.is_empty());
+    assert_eq!(rt; run.written.as_slice(), bytes.as_slice());
+    Ok(())
+}
+
+#[test]
+fn after_a_fault_nothing_is_wanted(rt: HostRuntime) -> Result<(), Fail> {
+    let steps = [
+        Step::Read(16_384),
+        Step::WriteTo(100),
+        Step::End,
+        Step::WriteTo(0),
+        Step::Shut,
+    ];
+    let bytes = [7; 16_384].to_vec(rt.alloc())?;
+    for before in 0..=steps.len() {
+        let mut run = Run {
+            direction: Direction::make(rt.alloc())?,
+            unread: &bytes,
+            written: Vec::new(rt.alloc()),
+        };
+        for step in &steps[..before] {
+            run.take(&rt, *step)?;
+        }
+        let held = run.direction.front().len();
+        run.direction.on_fault();
+        assert_eq!(rt; run.direction.want(), NOTHING, "after {before} steps");
+        assert_eq!(rt; run.direction.front().len(), held, "after {before} steps");
+    }
+    Ok(())
+}
+
+fn sent<T: Send>(value: T) -> T {
+    value
+}
+
+#[test]
+fn a_direction_is_its_buffer_and_three_flags(rt: HostRuntime) -> Result<(), Fail> {
+    assert_eq!(rt;
+        size_of::<Direction>(),
+        size_of::<(HeapCircularBuffer<u8>, bool, bool, bool)>()
+    );
+    let direction = sent(Direction::make(rt.alloc())?);
+    assert!(rt; direction.front().is_empty());
+    Ok(())
+}
+
+#[test]
+fn plans_fit_at_their_ends(rt: HostRuntime) {
+    let here = Addr {
+        ip: [127, 0, 0, 1],
+        port: 80,
+    };
+    for (conns, fits) in [(0, false), (1, true), (16_000, true), (16_001, false)] {
+        let plan = ProxyPlan {
+            listen: here,
+            target: here,
+            conns,
+        };
+        assert_eq!(rt; plan.fits(), fits, "{plan:?}");
+    }
+}
