@@ -1,0 +1,20 @@
+-- The words of the command line.
+use Rattle.std.specs.Prelude.{◌≡◌, List, [], ◌∷◌, ◌++◌, ℕ, codes}
+use Rattle.nio_bytes.specs.declared.sink.Sink as sink
+use Rattle.nio_script.specs.Run.{IsUntouched, Notes}
+
+-- the one word `script`
+abbrev pub IsScriptCommand : List (List ℕ) → Type 0
+IsScriptCommand words = words ≡ codes "script" ∷ []
+
+-- what is said of words that say nothing that is known
+abbrev pub usage_line : List ℕ
+usage_line =
+    codes "usage: nio script | check | race | proxy --way select|group --listen ADDR --target ADDR --conns N [--workers W] | load N"
+    ++ 10 ∷ []
+
+-- The usage was said, nothing was read, and no call was made.
+pub record IsUsage {S K Y : Type 0} (k : sink.Ghosts K) (input input' : S) (output output' : K) (run run' : Y) : Type 0 where
+  pub said : Notes k output output' usage_line
+  pub unread : input' ≡ input
+  pub uncalled : run' ≡ run
