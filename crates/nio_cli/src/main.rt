@@ -1,7 +1,49 @@
-//! The program nio: selectors of `java.nio.channels`, driven by scripts.
+//! The program nio: the selectors of `java.nio.channels`, driven by scripts.
 #![tactic(auto)]
+
+use nio_base::Limits;
+use nio_bytes::{StdSink, StdSource};
+use nio_plain::Plain;
+use nio_script::Status;
+use run::run;
+use std::alloc::{AllocError, Global};
+use std::process::ExitCode;
+use std::rt::Env;
+use std::{env, io};
 
 mod run;
 mod words;
 
-fn main(_rt: HostRuntime) {}
+/// How much the program's system can hold.
+const PROGRAM_LIMITS: Limits = Limits {
+    callers: 64,
+    selectors: 16,
+    channels: 1_024,
+    keys: 1_024,
+};
+
+/// The words of the command line, after the program's name. Where one isn't text there are none,
+/// which is no command.
+fn arguments(rt: &(impl Env + AllocGlobal)) -> Result<Vec<String>, AllocError> {
+    match env::args(rt) {
+        Ok(args) => args.skip(1).collect(rt.alloc()),
+        Err(error) if error.kind() == io::ErrorKind::OutOfMemory => Err(AllocError),
+        Err(_) => Ok(Vec::new(rt.alloc())),
+    }
+}
+
+fn status(rt: &(impl Env + Input + Print + AllocGlobal), alloc: Global) -> Status {
+    let Ok(words) = arguments(rt) else {
+        return Status::Memory;
+    };
+    let Ok(mut system) = Plain::make(alloc, PROGRAM_LIMITS) else {
+        return Status::Memory;
+    };
+    let mut input = StdSource::over(rt.reader());
+    let mut output = StdSink::over(io::writer(rt));
+    run(alloc, &words, &mut input, &mut output, &mut system)
+}
+
+fn main(rt: HostRuntime) -> ExitCode {
+    ExitCode::from(status(&rt, rt.alloc()).code())
+}
