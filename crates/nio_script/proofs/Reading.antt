@@ -1,12 +1,12 @@
 -- What is kept while an input is read.
-use Rattle.std.proofs.Common.{◌≡◌, ℕ, ◌+◌, ◌-◌, ◌<◌, ◌≤◌, List, [], ◌++◌, length, take, refl, sym, ap, ◌∙◌, length-append, arith}
+use Rattle.std.proofs.Common.{◌≡◌, ℕ, ◌+◌, ◌-◌, ◌<◌, ◌≤◌, List, ◌++◌, length, refl, sym, ap, ◌∙◌, length-append, arith}
 use Rattle.std.specs.Prelude.{Result, Ok, Err, IsErrOf, IsErrAnd}
 use Rattle.std.specs.Io.KnownBytes.{prepend_known}
 use Rattle.nio_script.specs.declared.status.Status.{Status}
 use Rattle.nio_script.specs.declared.status.Status.TheVariants.{Memory, TooLong}
 use Rattle.nio_bytes.specs.declared.source.Source as source
 use Rattle.nio_script.specs.declared.input.TheConstants.{LONGEST_INPUT}
-use Rattle.nio_script.specs.Input.{Takes, StopsPastLongest}
+use Rattle.nio_script.specs.Input.{StopsPastLongest}
 use Rattle.nio_script.proofs.Bytes.{prepend_known-append}
 
 -- These bytes were taken, and no read failed.

@@ -1,5 +1,5 @@
 -- What is kept while the calls of a script are made.
-use Rattle.std.proofs.Common.{◌≡◌, ℕ, ◌+◌, List, [], ◌∷◌, ◌++◌, refl, sym, ap, ◌∙◌, subst, append_assoc}
+use Rattle.std.proofs.Common.{◌≡◌, ℕ, ◌+◌, List, ◌∷◌, ◌++◌, sym, ap, ◌∙◌, subst, append_assoc}
 use Rattle.nio_base.specs.declared.limits.Limits.{Limits}
 use Rattle.nio_bytes.specs.declared.sink.Sink as sink
 use Rattle.nio_event.specs.Replies.{history_line}

@@ -12,3 +12,5 @@ mod output;
 mod run;
 mod script;
 mod status;
+#[cfg(test)]
+mod tests;

@@ -167,6 +167,13 @@ pub fn run_script<S: Source, K: Sink, Y: System>(
     ensures of_long { IfSome (S.left input.old) (λ text. LONGEST_INPUT < length text →
         (result ≡ Status.TooLong) ⊎ (result ≡ Status.ReadFault) ⊎ (result ≡ Status.Memory)) }
 
+    // A script is answered where no count of faults rises and there is memory.
+    ensures complete { IfSome (S.left input.old) (λ text. (calls : List ScriptCall) →
+        length text ≤ LONGEST_INPUT → IsScript text calls →
+        ¬ Rose (S.faults input.old) (S.faults input.new) →
+        ¬ Rose (K.faults output.old) (K.faults output.new) →
+        (result ≡ Status.Done) ⊎ (result ≡ Status.Memory)) }
+
     ensures kept { Y.kept system.old system.new }
 {
     match read_input(alloc, input) {

@@ -1,4 +1,4 @@
-use Rattle.std.proofs.Common.{◌≡◌, ℕ, ◌++◌, length, take, drop, refl, ap, ◌∙◌, sym, subst, arith, length-take}
+use Rattle.std.proofs.Common.{◌≡◌, ◌++◌, length, take, drop, refl, ap, ◌∙◌, sym, subst, arith, length-take}
 use Rattle.std.proofs.lemmas.List.{take-append-le}
 use Rattle.nio_script.specs.declared.input.TheConstants.{LONGEST_INPUT}
 use Rattle.nio_script.proofs.Reading.{HasRead, stops_past, stops_within, has_read_more, lacks_memory}

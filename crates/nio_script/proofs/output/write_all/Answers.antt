@@ -1,4 +1,4 @@
-use Rattle.std.proofs.Common.{◌≡◌, ◌+◌, ◌-◌, ◌<◌, length, drop, ap, ◌∙◌, length-drop, arith}
+use Rattle.std.proofs.Common.{◌<◌, length, ap, ◌∙◌, length-drop, arith}
 use Rattle.nio_script.proofs.Writing.{writes_on, unflushed_on, rest_from}
 use Rattle.nio_script.proofs.output.write_all.Goals as goal
 

@@ -1,5 +1,4 @@
-use Rattle.std.proofs.Common.{◌≡◌, ap, ◌∙◌}
-use Rattle.nio_script.specs.Output.{IsWritten}
+use Rattle.std.proofs.Common.{◌∙◌}
 use Rattle.nio_script.proofs.Writing.{writes_whole}
 use Rattle.nio_script.proofs.output.write_out.Goals as goal
 

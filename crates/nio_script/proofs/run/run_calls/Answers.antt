@@ -1,5 +1,4 @@
-use Rattle.std.proofs.Common.{◌≡◌, ◌+◌, ◌∷◌, ◌++◌, drop, get_or, suc, sym, ap, ◌∙◌, subst, drop-cons, add-one}
-use Rattle.nio_plain.specs.Answer.{answer_from}
+use Rattle.std.proofs.Common.{◌≡◌, ◌+◌, ◌∷◌, drop, suc, sym, ap, subst, drop-cons, add-one}
 use Rattle.nio_script.specs.Output.{WritesPrefix}
 use Rattle.nio_script.proofs.Writing.{on_err, on_err_map, writes_prefix_after}
 use Rattle.nio_script.proofs.Running.{IsRunning, stops, goes_on}
