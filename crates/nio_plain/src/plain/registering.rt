@@ -12,7 +12,12 @@ use nio_event::Reply;
 use std::alloc::AllocError;
 
 impl Plain {
-    pub(super) fn register(&mut self, sel: SelNo, chan: ChanNo, ops: Ops) -> Result<Reply, AllocError>
+    pub(super) fn register(
+        &mut self,
+        sel: SelNo,
+        chan: ChanNo,
+        ops: Ops,
+    ) -> Result<Reply, AllocError>
         ensures { AnswersAs self.old self.new result (register_call (limits_of self.old) (state_of self.old) sel chan ops) }
     {
         if let Some(refusal) = self.refusal(sel, chan, ops) {
