@@ -41,11 +41,11 @@ new_endpoint kind.Stream = Stream Unconnected
 new_endpoint kind.Listener = Listener false
 
 abbrev pub new_channel : GKind → Channel
-new_channel k = record { open = true; endpoint = new_endpoint k }
+new_channel k = record { is_open = true; endpoint = new_endpoint k }
 
 -- what a number that isn't made reads as
 abbrev pub no_channel : Channel
-no_channel = record { open = false; endpoint = Listener false }
+no_channel = record { is_open = false; endpoint = Listener false }
 
 -- the channel with this number
 abbrev pub channel_at : Group → ℕ → Channel
@@ -74,19 +74,19 @@ pub record IsLawful (g : Group) : Type 0 where
   -- the queue lists each queued number once, and no other number
   pub queued_once : (n : ℕ) → times_queued g.flight n ≡ (if is_queued (op_at g.flight n) then 1 else 0)
   -- each pending operation's channel is open and in the state for it
-  pub pending_open : (n c : ℕ) (kind : OpKind) → IsPendingAs g.flight c kind n → IsTrue (channel_at g c).open
+  pub pending_open : (n c : ℕ) (kind : OpKind) → IsPendingAs g.flight c kind n → IsTrue (channel_at g c).is_open
   pub pending_ready : (n c : ℕ) (kind : OpKind) → IsPendingAs g.flight c kind n → IsTrue (is_ready_for (channel_at g c).endpoint kind)
   -- a channel has at most one pending operation of each kind
   pub one_each : (m n c : ℕ) (kind : OpKind) → IsPendingAs g.flight c kind m → IsPendingAs g.flight c kind n → m ≡ n
   -- an open connecting stream has a pending connect
-  pub connecting : (c : ℕ) → IsTrue (channel_at g c).open → (channel_at g c).endpoint ≡ Stream Connecting → (n : ℕ) × IsPendingAs g.flight c Connect n
+  pub connecting : (c : ℕ) → IsTrue (channel_at g c).is_open → (channel_at g c).endpoint ≡ Stream Connecting → (n : ℕ) × IsPendingAs g.flight c Connect n
   pub few_in_flight : in_flight g.flight ≤ g.flight.limit
   pub few_channels : length g.channels ≤ g.channel_limit
   pub few_accepted : accepted g.flight ≤ g.op_limit
 
 -- shut down, every channel closed, no operation queued or running
 abbrev pub all_closed : Group → Bool
-all_closed g = list_all (λ channel. not channel.open) g.channels
+all_closed g = list_all (λ channel. not channel.is_open) g.channels
 
 abbrev pub none_to_handle : Group → Bool
 none_to_handle g = not (list_any (λ slot. is_queued slot || is_running slot) g.flight.operations)

@@ -1,7 +1,10 @@
 pub mod Completion
 pub mod Flight
 pub mod Group
+pub mod Index
+pub mod Kept
 pub mod Limits
+pub mod Operations
 pub mod Refusals
 pub mod Stages
 pub mod Steps

@@ -26,13 +26,11 @@ open_refusal g =
     else if length g.channels == g.channel_limit then Some refused.ChannelsSpent else None
 
 -- a listener is bound once, while it is open
-abbrev pub bind_refusal : Channel → Option StartError
-bind_refusal channel = endpoint_bind_refusal channel.open channel.endpoint
-  where
-  abbrev pub endpoint_bind_refusal : Bool → Endpoint → Option StartError
-  endpoint_bind_refusal open (Stream link) = Some refused.WrongKind
-  endpoint_bind_refusal open (Listener bound) =
-      if open then (if bound then Some refused.AlreadyBound else None) else Some refused.ClosedChannel
+abbrev pub bind_refusal : Bool → Endpoint → Option StartError
+bind_refusal is_open (Stream link) = Some refused.WrongKind
+bind_refusal false (Listener bound) = Some refused.ClosedChannel
+bind_refusal true (Listener true) = Some refused.AlreadyBound
+bind_refusal true (Listener false) = None
 
 -- a listener accepts, a stream does the rest
 abbrev pub kind_refusal : Endpoint → OpKind → Option StartError
@@ -81,7 +79,7 @@ start_refusal g c kind =
     let channel = channel_at g c in
     if is_terminated g then Some refused.ShutdownGroup
     else option_or (kind_refusal channel.endpoint kind)
-      (option_or (if channel.open then state_refusal channel.endpoint (has_pending g.flight c kind) kind else None)
+      (option_or (if channel.is_open then state_refusal channel.endpoint (has_pending g.flight c kind) kind else None)
         (limit_refusal g))
 
 -- which outcomes an operation of this kind and length may have

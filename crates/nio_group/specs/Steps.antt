@@ -52,10 +52,10 @@ after_open g kind =
 
 -- `bind`: the listener is bound
 abbrev pub answer_to_bind : Group → ℕ → Result Unit StartError
-answer_to_bind g c = unless_refused (bind_refusal (channel_at g c)) tt
+answer_to_bind g c = unless_refused (bind_refusal (channel_at g c).is_open (channel_at g c).endpoint) tt
 
 abbrev pub after_bind : Group → ℕ → Group
-after_bind g c = kept_if_refused (bind_refusal (channel_at g c)) g (with_endpoint g c (Listener true))
+after_bind g c = kept_if_refused (bind_refusal (channel_at g c).is_open (channel_at g c).endpoint) g (with_endpoint g c (Listener true))
 
 -- `start`: on a closed channel the operation is queued at once as failed, a read or a write of no
 -- bytes with its count of 0; else it is pending, and a connect makes its stream connecting
@@ -68,13 +68,13 @@ first_stage true Write len = if len == 0 then Queued (finished.Count 0) else Pen
 
 abbrev pub channels_after_start : Group → ℕ → OpKind → Bool → Group
 channels_after_start g c Connect true = with_endpoint g c (Stream Connecting)
-channels_after_start g c kind open = g
+channels_after_start g c kind is_open = g
 
 abbrev pub started : Group → GChan → OpKind → ℕ → Group
 started g chan kind len =
-    let open = (channel_at g chan.0).open in
-    record (channels_after_start g chan.0 kind open) {
-      flight = with_accepted g.flight (record { chan = chan; kind = kind; len = len; stage = first_stage open kind len });
+    let is_open = (channel_at g chan.0).is_open in
+    record (channels_after_start g chan.0 kind is_open) {
+      flight = with_accepted g.flight (record { chan = chan; kind = kind; len = len; stage = first_stage is_open kind len });
     }
 
 abbrev pub answer_to_start : Group → GChan → OpKind → Result OpNo StartError
@@ -100,10 +100,10 @@ result_of g outcome.Accepted =
     else finished.Accepted (record { 0 = length g.channels })
 
 abbrev pub with_closed : Group → ℕ → Group
-with_closed g c = with_channel g c (record (channel_at g c) { open = false })
+with_closed g c = with_channel g c (record (channel_at g c) { is_open = false })
 
 abbrev pub connected_stream : Channel
-connected_stream = record { open = true; endpoint = Stream Connected }
+connected_stream = record { is_open = true; endpoint = Stream Connected }
 
 abbrev pub channels_after_report : Group → ℕ → OpKind → Outcome → Group
 channels_after_report g c kind outcome.Connected = with_endpoint g c (Stream Connected)
@@ -167,7 +167,7 @@ after_finish g n =
 -- `close_channel`: an open channel is closed, and what is pending on it completes
 abbrev pub after_close : Group → ℕ → Group
 after_close g c =
-    if (channel_at g c).open
+    if (channel_at g c).is_open
     then record (with_closed g c) { flight = with_channel_closed g.flight c }
     else g
 

@@ -28,6 +28,6 @@ pub enum Endpoint {
 /// A channel of a group.
 #[derive(Clone, Copy, Debug, PartialEq, Eq, Hash)]
 pub struct Channel {
-    pub open: bool,
+    pub is_open: bool,
     pub endpoint: Endpoint,
 }

@@ -11,6 +11,8 @@ pub use refusal::{NotRunning, ReportError, StartError};
 
 mod channel;
 mod completion;
+mod index;
 mod limits;
 mod operation;
+mod operations;
 mod refusal;
