@@ -101,9 +101,7 @@ impl Operations {
         ensures { self.new ≡ with_operation self.old number (Some operation) }
     {
         if let Some(key) = self.index.get(number) {
-            if let Some(numbered) = self.slab.get_mut(key) {
-                numbered.operation = operation;
-            }
+            self.slab[key] = Numbered { number, operation };
         }
     }
 
@@ -113,7 +111,7 @@ impl Operations {
         ensures { self.new ≡ with_operation self.old number None }
     {
         if let Some(key) = self.index.get(number) {
-            let _ = self.slab.try_remove(key);
+            self.slab.remove(key);
             self.index.remove(number);
         }
     }
