@@ -1,3 +1,6 @@
+pub mod FlightLemmas
 pub mod IndexLemmas
-pub mod TableLemmas
 pub mod KeptLemmas
+pub mod ListLemmas
+pub mod QueueLemmas
+pub mod TableLemmas

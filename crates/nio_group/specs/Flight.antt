@@ -62,6 +62,15 @@ with_completed f n finished =
 abbrev pub with_taken : Flight → ℕ → Flight
 with_taken f n = record (with_stage f n Running) { queue = drop 1 f.queue }
 
+abbrev pub flight_after_take : Flight → List ℕ → Flight
+flight_after_take f [] = f
+flight_after_take f (n ∷ rest) = with_taken f n
+
+-- the operation whose completion is at the front of the queue
+abbrev pub next_taken : Flight → List ℕ → Option (ℕ × Operation)
+next_taken f [] = None
+next_taken f (n ∷ rest) = option_map (λ (op : Operation). (n, op)) (op_at f n)
+
 -- the operation has ended
 abbrev pub with_ended : Flight → ℕ → Flight
 with_ended f n = record f { operations = slice_set f.operations n None }

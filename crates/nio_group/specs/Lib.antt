@@ -1,5 +1,6 @@
 pub mod Completion
 pub mod Flight
+pub mod FlightKept
 pub mod Group
 pub mod Index
 pub mod Kept

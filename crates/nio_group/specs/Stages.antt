@@ -41,6 +41,10 @@ abbrev pub is_pending_as : ℕ → OpKind → Option Operation → Bool
 is_pending_as c kind None = false
 is_pending_as c kind (Some op) = (stage_is_pending op.stage && (op.chan.0 == c)) && same_kind op.kind kind
 
+abbrev pub is_pending : Option Operation → Bool
+is_pending None = false
+is_pending (Some op) = stage_is_pending op.stage
+
 abbrev pub is_queued : Option Operation → Bool
 is_queued None = false
 is_queued (Some op) = stage_is_queued op.stage

@@ -23,7 +23,7 @@ use Rattle.nio_group.specs.declared.refusal.ReportError.{ReportError}
 use Rattle.nio_group.specs.declared.refusal.NotRunning.{NotRunning}
 use Rattle.nio_group.specs.Completion.{CompletionFields}
 use Rattle.nio_group.specs.Stages.{is_running}
-use Rattle.nio_group.specs.Flight.{Flight, op_at, accepted, with_accepted, with_completed, with_taken, with_ended, with_channel_closed}
+use Rattle.nio_group.specs.Flight.{Flight, op_at, accepted, with_accepted, with_completed, flight_after_take, with_ended, with_channel_closed}
 use Rattle.nio_group.specs.Group.{Group, new_channel, channel_at}
 use Rattle.nio_group.specs.Refusals.{open_refusal, bind_refusal, start_refusal, report_refusal}
 
@@ -144,10 +144,6 @@ taken_from f (n ∷ rest) = completion_at n (op_at f n)
 
 abbrev pub answer_to_take : Group → Option CompletionFields
 answer_to_take g = taken_from g.flight g.flight.queue
-
-abbrev pub flight_after_take : Flight → List ℕ → Flight
-flight_after_take f [] = f
-flight_after_take f (n ∷ rest) = with_taken f n
 
 abbrev pub after_take : Group → Group
 after_take g = record g { flight = flight_after_take g.flight g.flight.queue }

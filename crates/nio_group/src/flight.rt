@@ -1,7 +1,7 @@
 //! The operations of a group from their start to their end, and the queue of their completions.
-ghost use Rattle.std.specs.Prelude.{◌≡◌, ℕ, ◌+◌, ◌<◌, ◌≤◌, ◌^◌, IfOk, IsTrue, is_some, count_by, length, Some, None};
+ghost use Rattle.std.specs.Prelude.{◌≡◌, ℕ, ◌+◌, ◌<◌, ◌≤◌, ◌^◌, IfOk, IsTrue, is_some, count_by, length, Some, None, true};
 ghost use Rattle.nio_group.specs.Stages.{is_running, is_pending};
-ghost use Rattle.nio_group.specs.Flight.{Flight, op_at, accepted, in_flight, no_flight, with_accepted, with_completed, flight_after_take, next_taken, with_ended, with_channel_closed};
+ghost use Rattle.nio_group.specs.Flight.{op_at, accepted, in_flight, no_flight, with_accepted, with_completed, flight_after_take, next_taken, with_ended, with_channel_closed};
 
 use std::alloc::{AllocError, Global};
 use std::collections::VecDeque;
@@ -20,13 +20,13 @@ pub(crate) struct Flight {
 impl Model for Flight {
     ghost use Rattle.nio_group.specs.Flight as spec;
     ghost use Rattle.nio_group.specs.FlightKept.{IsFlightKept};
-    ghost use Rattle.std.specs.VecDeque.{deque_capacity};
+    ghost use Rattle.std.specs.VecDeque.{deque_len, deque_capacity};
 
     ghost Value = { spec.Flight };
 
     ghost view = { λ f. record { operations = f.operations.operations; queue = f.queue.items; limit = f.operations.limit } };
 
-    ghost invariant = { λ f. IsFlightKept f.operations f.queue.items (deque_capacity f.queue) };
+    ghost invariant = { λ f. IsFlightKept f.operations f.queue.items (deque_len f.queue) (deque_capacity f.queue) };
 }
 
 impl Flight {

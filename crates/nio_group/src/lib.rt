@@ -11,6 +11,7 @@ pub use refusal::{NotRunning, ReportError, StartError};
 
 mod channel;
 mod completion;
+mod flight;
 mod index;
 mod limits;
 mod operation;
