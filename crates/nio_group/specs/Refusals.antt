@@ -5,6 +5,7 @@ use Rattle.std.specs.List.{list_any}
 use Rattle.nio_group.specs.declared.channel.Channel.{Channel}
 use Rattle.nio_group.specs.declared.channel.Endpoint.{Endpoint}
 use Rattle.nio_group.specs.declared.channel.Endpoint.TheVariants.{Stream, Listener}
+use Rattle.nio_group.specs.declared.channel.Link.{Link}
 use Rattle.nio_group.specs.declared.channel.Link.TheVariants.{Unconnected, Connecting, Connected}
 use Rattle.nio_group.specs.declared.operation.OpKind.{OpKind}
 use Rattle.nio_group.specs.declared.operation.OpKind.TheVariants.{Accept, Connect, Read, Write}
@@ -46,23 +47,32 @@ kind_refusal (Listener bound) Write = Some refused.WrongKind
 abbrev pub if_pending : Bool → StartError → Option StartError
 if_pending pending e = if pending then Some e else None
 
--- what the state of an open channel refuses, where an operation of this kind may be pending on it
+-- what the state of an open stream refuses, where an operation of this kind may be pending on it
+abbrev pub stream_refusal : Link → Bool → OpKind → Option StartError
+stream_refusal link pending Accept = None
+stream_refusal Unconnected pending Connect = None
+stream_refusal Connecting pending Connect = Some refused.ConnectionPending
+stream_refusal Connected pending Connect = Some refused.AlreadyConnected
+stream_refusal Unconnected pending Read = Some refused.NotYetConnected
+stream_refusal Connecting pending Read = Some refused.NotYetConnected
+stream_refusal Connected pending Read = if_pending pending refused.ReadPending
+stream_refusal Unconnected pending Write = Some refused.NotYetConnected
+stream_refusal Connecting pending Write = Some refused.NotYetConnected
+stream_refusal Connected pending Write = if_pending pending refused.WritePending
+
+-- what the state of an open channel refuses
 abbrev pub state_refusal : Endpoint → Bool → OpKind → Option StartError
 state_refusal (Listener bound) pending Accept =
     if bound then if_pending pending refused.AcceptPending else Some refused.NotYetBound
 state_refusal (Listener bound) pending Connect = None
 state_refusal (Listener bound) pending Read = None
 state_refusal (Listener bound) pending Write = None
-state_refusal (Stream link) pending Accept = None
-state_refusal (Stream Unconnected) pending Connect = None
-state_refusal (Stream Connecting) pending Connect = Some refused.ConnectionPending
-state_refusal (Stream Connected) pending Connect = Some refused.AlreadyConnected
-state_refusal (Stream Unconnected) pending Read = Some refused.NotYetConnected
-state_refusal (Stream Connecting) pending Read = Some refused.NotYetConnected
-state_refusal (Stream Connected) pending Read = if_pending pending refused.ReadPending
-state_refusal (Stream Unconnected) pending Write = Some refused.NotYetConnected
-state_refusal (Stream Connecting) pending Write = Some refused.NotYetConnected
-state_refusal (Stream Connected) pending Write = if_pending pending refused.WritePending
+state_refusal (Stream link) pending kind = stream_refusal link pending kind
+
+-- what the channel's kind refuses, and then, where it is open, its state
+abbrev pub channel_refusal : Bool → Endpoint → Bool → OpKind → Option StartError
+channel_refusal is_open endpoint pending kind =
+    option_or (kind_refusal endpoint kind) (if is_open then state_refusal endpoint pending kind else None)
 
 -- an operation of this kind is pending on the channel
 abbrev pub has_pending : Flight → ℕ → OpKind → Bool
@@ -78,9 +88,7 @@ abbrev pub start_refusal : Group → ℕ → OpKind → Option StartError
 start_refusal g c kind =
     let channel = channel_at g c in
     if is_terminated g then Some refused.ShutdownGroup
-    else option_or (kind_refusal channel.endpoint kind)
-      (option_or (if channel.is_open then state_refusal channel.endpoint (has_pending g.flight c kind) kind else None)
-        (limit_refusal g))
+    else option_or (channel_refusal channel.is_open channel.endpoint (has_pending g.flight c kind) kind) (limit_refusal g)
 
 -- which outcomes an operation of this kind and length may have
 abbrev pub is_allowed : OpKind → ℕ → Outcome → Bool

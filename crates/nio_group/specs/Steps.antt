@@ -21,7 +21,7 @@ use Rattle.nio_group.specs.declared.operation.Operation.{Operation}
 use Rattle.nio_group.specs.declared.refusal.StartError.{StartError}
 use Rattle.nio_group.specs.declared.refusal.ReportError.{ReportError}
 use Rattle.nio_group.specs.declared.refusal.NotRunning.{NotRunning}
-use Rattle.nio_group.specs.Completion.{CompletionFields}
+use Rattle.nio_group.specs.Completion.{CompletionFields, JobFields}
 use Rattle.nio_group.specs.Stages.{is_running}
 use Rattle.nio_group.specs.Flight.{Flight, op_at, accepted, with_accepted, with_completed, flight_after_take, with_ended, with_channel_closed}
 use Rattle.nio_group.specs.Group.{Group, new_channel, channel_at}
@@ -178,3 +178,9 @@ closed_below (suc c) g = after_close (closed_below c g) c
 
 abbrev pub after_shutdown_now : Group → Group
 after_shutdown_now g = closed_below (length g.channels) (after_shutdown g)
+
+-- the job names a pending operation of this kind on this channel
+pub record IsJobOf (g : Group) (c : ℕ) (kind : OpKind) (job : JobFields) : Type 0 where
+  pub chan : job.chan.0 ≡ c
+  pub same_kind : job.kind ≡ kind
+  pub pending : op_at g.flight job.op.0 ≡ Some (record { chan = job.chan; kind = job.kind; len = job.len; stage = Pending })

@@ -1,5 +1,7 @@
 //! The channels of a group.
 
+ghost use Rattle.std.specs.Prelude.{◌≡◌};
+
 /// What a channel of a group is.
 #[derive(Clone, Copy, Debug, PartialEq, Eq, Hash)]
 pub enum GKind {
@@ -30,4 +32,22 @@ pub enum Endpoint {
 pub struct Channel {
     pub is_open: bool,
     pub endpoint: Endpoint,
+}
+
+impl Channel {
+    ghost use Rattle.nio_group.specs.Group.{new_channel};
+
+    /// A channel as it is made: open, a stream unconnected, a listener not bound.
+    pub(crate) fn new(kind: GKind) -> Channel
+        ensures { result ≡ new_channel kind }
+    {
+        let endpoint = match kind {
+            GKind::Stream => Endpoint::Stream(Link::Unconnected),
+            GKind::Listener => Endpoint::Listener(false),
+        };
+        Channel {
+            is_open: true,
+            endpoint,
+        }
+    }
 }

@@ -1,14 +1,17 @@
 //! The operations of a group from their start to their end, and the queue of their completions.
 ghost use Rattle.std.specs.Prelude.{◌≡◌, ℕ, ◌+◌, ◌<◌, ◌≤◌, ◌^◌, IfOk, IsTrue, is_some, count_by, length, Some, None, true};
 ghost use Rattle.nio_group.specs.Stages.{is_running, is_pending};
-ghost use Rattle.nio_group.specs.Flight.{op_at, accepted, in_flight, no_flight, with_accepted, with_completed, flight_after_take, next_taken, with_ended, with_channel_closed};
+ghost use Rattle.nio_group.specs.declared.operation.OpKind.{OpKind};
+ghost use Rattle.nio_group.specs.Pending.{slot_of};
+ghost use Rattle.nio_group.specs.Flight.{IsPendingAs, op_at, accepted, in_flight, no_flight, with_accepted, with_completed, flight_after_take, next_taken, with_ended, with_channel_closed};
 
 use std::alloc::{AllocError, Global};
 use std::collections::VecDeque;
 use std::marker::Model;
 
-use crate::operation::{Finished, Operation, Stage};
+use crate::operation::{Finished, Operation, Stage, Why};
 use crate::operations::Operations;
+use crate::pending::Pending;
 
 /// The operations in flight and the numbers of those whose completions wait.
 #[derive(Drop)]
@@ -109,5 +112,20 @@ impl Flight {
         ensures { self.new ≡ with_ended self.old number }
     {
         self.operations.end(number);
+    }
+}
+
+/// Completes what is pending on a channel that is closed, in rising order of the numbers.
+pub(crate) fn complete_all(flight: &mut Flight, chan: u32, pending: Pending)
+    requires listed { (kind : OpKind) (n : ℕ) → slot_of pending kind ≡ Some n → IsPendingAs flight.old chan kind n }
+    requires all { (kind : OpKind) (n : ℕ) → IsPendingAs flight.old chan kind n → slot_of pending kind ≡ Some n }
+    ensures { flight.new ≡ with_channel_closed flight.old chan }
+{
+    let mut left = pending;
+    while let Some(number) = left.least() {
+        if let Some(operation) = flight.get(number) {
+            flight.complete(number, operation, Finished::Failed(Why::AsynchronousClose));
+            left = left.with(operation.kind, None);
+        }
     }
 }

@@ -5,6 +5,7 @@
 
 pub use channel::{Channel, Endpoint, GKind, Link};
 pub use completion::{Completion, Job};
+pub use group::GroupCore;
 pub use limits::GroupLimits;
 pub use operation::{Finished, OpKind, Operation, Outcome, Stage, Why};
 pub use refusal::{NotRunning, ReportError, StartError};
@@ -12,8 +13,11 @@ pub use refusal::{NotRunning, ReportError, StartError};
 mod channel;
 mod completion;
 mod flight;
+mod group;
 mod index;
 mod limits;
 mod operation;
 mod operations;
+mod pending;
 mod refusal;
+mod refuse;
