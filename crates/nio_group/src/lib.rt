@@ -21,3 +21,5 @@ mod operations;
 mod pending;
 mod refusal;
 mod refuse;
+#[cfg(test)]
+mod tests;
