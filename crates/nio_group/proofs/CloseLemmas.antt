@@ -50,7 +50,7 @@ pub record IsListedOn (f : Flight) (c : ℕ) (p : slots.Pending) : Type 0 where
   pub listed : (kind : OpKind) (n : ℕ) → slot_of p kind ≡ Some n → IsPendingAs f c kind n
   pub all : (kind : OpKind) (n : ℕ) → IsPendingAs f c kind n → slot_of p kind ≡ Some n
 
-none_some : (m : ℕ) → None ≡ Some m → ⊥
+pub none_some : (m : ℕ) → None ≡ Some m → ⊥
 none_some m e = cc
 
 -- nothing is pending where no slot is filled
@@ -73,7 +73,7 @@ closed-nothing f c none =
     rw (operations, queue) refl
 
 -- where a number's operation isn't pending any more
-pending-after : (xs : List (Option Operation)) (n : ℕ) (slot : Option Operation) (c : ℕ) (kind : OpKind) (m : ℕ) → n < length xs → is_pending slot ≡ false → is_pending_as c kind (get_or (set xs n slot) m None) ≡ true → (m ≢ n) × (is_pending_as c kind (get_or xs m None) ≡ true)
+pub pending-after : (xs : List (Option Operation)) (n : ℕ) (slot : Option Operation) (c : ℕ) (kind : OpKind) (m : ℕ) → n < length xs → is_pending slot ≡ false → is_pending_as c kind (get_or (set xs n slot) m None) ≡ true → (m ≢ n) × (is_pending_as c kind (get_or xs m None) ≡ true)
 pending-after xs n slot c kind m l not_pending h =
     by_test (eqb m n)
     (λ t. let same = same_number m n t in
@@ -83,7 +83,7 @@ pending-after xs n slot c kind m l not_pending h =
     (λ e. let differ = other_number m n e in
       (differ, rw (get_or-set_other xs n m slot None differ) at h))
 
-pending-before : (xs : List (Option Operation)) (n : ℕ) (slot : Option Operation) (c : ℕ) (kind : OpKind) (m : ℕ) → m ≢ n → is_pending_as c kind (get_or xs m None) ≡ true → is_pending_as c kind (get_or (set xs n slot) m None) ≡ true
+pub pending-before : (xs : List (Option Operation)) (n : ℕ) (slot : Option Operation) (c : ℕ) (kind : OpKind) (m : ℕ) → m ≢ n → is_pending_as c kind (get_or xs m None) ≡ true → is_pending_as c kind (get_or (set xs n slot) m None) ≡ true
 pending-before xs n slot c kind m differ h = rw (get_or-set_other xs n m slot None differ) h
 
 -- a step of the closing
@@ -93,7 +93,7 @@ pub record IsClosingStep (f : Flight) (c : ℕ) (p : slots.Pending) (n : ℕ) (o
   pub closed : with_channel_closed (with_completed f n (Failed AsynchronousClose)) c ≡ with_channel_closed f c
   pub fewer : filled_slots (with_slot p op.kind None) + 1 ≡ filled_slots p
 
-some-same : {m n : ℕ} → Some m ≡ Some n → m ≡ n
+pub some-same : {m n : ℕ} → Some m ≡ Some n → m ≡ n
 some-same e = cc
 
 listed-step : (f : Flight) (c : ℕ) (p : slots.Pending) (n : ℕ) (op : Operation) (slot : Option Operation) (queue : List ℕ) → IsListedOn f c p → op_at f n ≡ Some op → n < length f.operations → slot_of p op.kind ≡ Some n → is_pending slot ≡ false → IsListedOn (record f { operations = set f.operations n slot; queue = queue }) c (with_slot p op.kind None)

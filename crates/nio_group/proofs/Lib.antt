@@ -1,8 +1,11 @@
 pub mod CloseLemmas
 pub mod FlightLemmas
+pub mod GroupLemmas
 pub mod IndexLemmas
 pub mod KeptLemmas
+pub mod LawfulLemmas
 pub mod ListLemmas
 pub mod PendingLemmas
 pub mod QueueLemmas
+pub mod StartLemmas
 pub mod TableLemmas
