@@ -1,4 +1,5 @@
 pub mod CloseLemmas
+pub mod EndLemmas
 pub mod FlightLemmas
 pub mod GroupLemmas
 pub mod IndexLemmas
@@ -7,5 +8,7 @@ pub mod LawfulLemmas
 pub mod ListLemmas
 pub mod PendingLemmas
 pub mod QueueLemmas
+pub mod ReportLemmas
 pub mod StartLemmas
 pub mod TableLemmas
+pub mod TerminatedLemmas

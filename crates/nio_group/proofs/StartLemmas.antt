@@ -31,7 +31,7 @@ use Rattle.nio_group.proofs.PendingLemmas.{pending-parts, same_kind-refl, not_pe
 use Rattle.nio_group.proofs.LawfulLemmas.{IsFlightLawful, IsFitFor, lawful-channel, lawful-operations}
 use Rattle.nio_group.proofs.GroupLemmas.{pending-pushed, pending-still, pending-within, kept-channel, kept-operations, listed-started}
 
-some_none : {T : Type 0} (x : T) → Some x ≡ None → ⊥
+pub some_none : {T : Type 0} (x : T) → Some x ≡ None → ⊥
 some_none x e = cc
 
 -- the endpoint of a channel once an operation of this kind was started on it

@@ -1,6 +1,7 @@
 //! An asynchronous channel group as calls of one thread.
 ghost use Rattle.std.specs.Prelude.{◌≡◌, ℕ, ◌+◌, ◌<◌, ◌≤◌, ◌↔◌, IfOk, IfSome, IfNone, IsTrue, length, Some, None, IsNone};
 ghost use Rattle.nio_group.specs.Limits.{IsFit};
+ghost use Rattle.nio_group.specs.Stages.{is_running as handler_runs};
 ghost use Rattle.nio_group.specs.Flight.{IsPendingAs};
 ghost use Rattle.nio_group.specs.Group.{empty_group, channel_at, is_terminated, IsLawful};
 ghost use Rattle.nio_group.specs.Refusals.{start_refusal as refusal_of_start};
@@ -265,16 +266,11 @@ impl GroupCore {
         ensures answer { result ≡ answer_to_finish self.old op.0 }
         ensures after { self.new ≡ after_finish self.old op.0 }
     {
-        match self.flight.get(op.0) {
-            Some(Operation {
-                stage: Stage::Running,
-                ..
-            }) => {
-                self.flight.finish(op.0);
-                Ok(())
-            }
-            _ => Err(NotRunning),
+        if !is_running(self.flight.get(op.0)) {
+            return Err(NotRunning);
         }
+        self.flight.finish(op.0);
+        Ok(())
     }
 
     /// Closes a channel, and completes what is pending on it; true where it was open.
@@ -346,5 +342,15 @@ fn first_stage(is_open: bool, kind: OpKind, len: u64) -> Stage
     match kind {
         OpKind::Read | OpKind::Write if len == 0 => Stage::Queued(Finished::Count(0)),
         _ => Stage::Pending,
+    }
+}
+
+/// Whether a handler of this operation runs.
+fn is_running(operation: Option<Operation>) -> bool
+    ensures { result ≡ handler_runs operation }
+{
+    match operation {
+        Some(operation) => matches!(&operation.stage, Stage::Running),
+        None => false,
     }
 }
