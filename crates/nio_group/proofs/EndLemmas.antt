@@ -1,5 +1,5 @@
 -- What takes, ends of operations and closings keep.
-use Rattle.std.proofs.Common.{◌≡◌, ◌≢◌, ℕ, ◌+◌, ◌-◌, ◌<◌, ◌≤◌, zero, suc, Bool, true, false, cond, eqb, ◌&&◌, List, [], ◌∷◌, ◌++◌, Option, Some, None, is_some, IsTrue, count_by, get_or, set, map, drop, length, refl, sym, ap, ◌∙◌, subst, arith, ◌⊎◌, inl, inr, get_or-set_same, get_or-set_other}
+use Rattle.std.proofs.Common.{◌≡◌, ◌≢◌, ℕ, ◌+◌, ◌-◌, ◌<◌, ◌≤◌, zero, suc, Bool, true, false, cond, eqb, not, ◌&&◌, List, [], ◌∷◌, ◌++◌, Option, Some, None, is_some, IsTrue, count_by, get_or, set, map, drop, length, refl, sym, ap, ◌∙◌, subst, arith, ◌⊎◌, inl, inr, get_or-set_same, get_or-set_other}
 use Rattle.std.specs.Option.{option_map}
 use Rattle.std.proofs.lemmas.Bool.{false≢true}
 use Rattle.std.proofs.lemmas.List.{length-set, length-map, get_or_read}
@@ -19,11 +19,12 @@ use Rattle.nio_group.specs.Flight.{Flight, op_at, accepted, in_flight, IsPending
 use Rattle.nio_group.specs.Pending.{slot_of, nothing_pending}
 use Rattle.nio_group.specs.Group.{Group, IsLawful, channel_at, no_channel}
 use Rattle.nio_group.specs.GroupKept.{IsGroupKept, IsListed, group_of, is_open}
+use Rattle.nio_group.specs.Steps.{after_close}
 use Rattle.nio_group.proofs.TableLemmas.{by_test, same_number, other_number, count_by-set}
 use Rattle.nio_group.proofs.IndexLemmas.{count_by-cons}
 use Rattle.nio_group.proofs.ListLemmas.{eqb-same, eqb-other}
 use Rattle.nio_group.proofs.QueueLemmas.{QueueHolds, once_if, queue-set, queue-taken, front-queued}
-use Rattle.nio_group.proofs.PendingLemmas.{pending-parts, pending-as-pending, pending_as-on, not_pending-as, slot_of-nothing, and-left, and-right}
+use Rattle.nio_group.proofs.PendingLemmas.{IsPendingOf, pending-parts, pending-as-pending, pending_as-on, not_pending-as, slot_of-nothing, and-left, and-right}
 use Rattle.nio_group.proofs.LawfulLemmas.{IsFlightLawful, IsFitFor, lawful-channel, lawful-operations}
 use Rattle.nio_group.proofs.GroupLemmas.{kept-channel, kept-operations}
 use Rattle.nio_group.proofs.CloseLemmas.{some-same, none_some, pending-after, pending-before}
@@ -292,3 +293,21 @@ open-some {f} {cs} c x kept within read was_open =
     let counts = count_by-set is_open cs c no_channel no_channel within in
     let counted = kept.opened_is in
     omega (arith, counts, one)
+
+pub not-false : (b : Bool) → not b ≡ false → b ≡ true
+not-false true h = refl
+not-false false h = sym h
+
+-- what the slots of a channel lead to
+pub job-pending : {f : Flight} {cs : List Channel} {ps : List slots.Pending} {o r r' : ℕ} {sh : Bool} {l : GroupLimits} (c : ℕ) (kind : OpKind) (p : slots.Pending) (n : ℕ) (op : Operation) → IsGroupKept f cs ps o sh l r r' → c < length cs → p ≡ get_or ps c p → slot_of p kind ≡ Some n → op_at f n ≡ Some op → IsPendingOf c kind op
+job-pending {f} {cs} {ps} c kind p n op kept within read slot is =
+    let slots_are = kept.slots in
+    let is_slot : p ≡ get_or ps c nothing_pending = get_or_read ps c p (omega arith) read nothing_pending in
+    let listed = kept.is_listed.listed c kind n (ap (λ (q : slots.Pending). slot_of q kind) (sym is_slot) ∙ slot) in
+    pending-parts c kind op (rw is at listed)
+
+pub length-after_close : (g : Group) (c : ℕ) → length (after_close g c).channels ≡ length g.channels
+length-after_close g c =
+    by_test (channel_at g c).is_open
+    (λ t. rw t (length-set g.channels c (record (channel_at g c) { is_open = false })))
+    (λ f. rw f refl)
