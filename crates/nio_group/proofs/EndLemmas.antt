@@ -62,12 +62,12 @@ queued-some : (slot : Option Operation) → is_queued slot ≡ true → (op : Op
 queued-some None h = absurd (false≢true h)
 queued-some (Some op) h = (op, refl)
 
-queued-not_pending : (stage : Stage) → stage_is_queued stage ≡ true → stage_is_pending stage ≡ false
+pub queued-not_pending : (stage : Stage) → stage_is_queued stage ≡ true → stage_is_pending stage ≡ false
 queued-not_pending Pending h = absurd (false≢true h)
 queued-not_pending (Queued finished) h = refl
 queued-not_pending Running h = absurd (false≢true h)
 
-running-not_pending : (stage : Stage) → stage_is_running stage ≡ true → stage_is_pending stage ≡ false
+pub running-not_pending : (stage : Stage) → stage_is_running stage ≡ true → stage_is_pending stage ≡ false
 running-not_pending Pending h = absurd (false≢true h)
 running-not_pending (Queued finished) h = absurd (false≢true h)
 running-not_pending Running h = refl

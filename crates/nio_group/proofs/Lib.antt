@@ -9,6 +9,8 @@ pub mod ListLemmas
 pub mod PendingLemmas
 pub mod QueueLemmas
 pub mod ReportLemmas
+pub mod RunLemmas
+pub mod StageLemmas
 pub mod StartLemmas
 pub mod TableLemmas
 pub mod TerminatedLemmas

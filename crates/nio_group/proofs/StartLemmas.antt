@@ -72,7 +72,7 @@ option_or-none : {T : Type 0} (a b : Option T) → option_or a b ≡ None → (a
 option_or-none None b h = (refl, h)
 option_or-none (Some x) b h = absurd (some_none x h)
 
-cond-none : {T : Type 0} (b : Bool) (x : T) (y : Option T) → cond b (Some x) y ≡ None → (b ≡ false) × (y ≡ None)
+pub cond-none : {T : Type 0} (b : Bool) (x : T) (y : Option T) → cond b (Some x) y ≡ None → (b ≡ false) × (y ≡ None)
 cond-none true x y h = absurd (some_none x h)
 cond-none false x y h = (refl, h)
 

@@ -9,5 +9,6 @@ pub mod Limits
 pub mod Operations
 pub mod Pending
 pub mod Refusals
+pub mod Run
 pub mod Stages
 pub mod Steps

@@ -6,6 +6,7 @@
 pub use channel::{Channel, Endpoint, GKind, Link};
 pub use completion::{Completion, Job};
 pub use group::GroupCore;
+pub use laws::{completion_law, rest_law, stage_law, step_law, terminated_law};
 pub use limits::GroupLimits;
 pub use operation::{Finished, OpKind, Operation, Outcome, Stage, Why};
 pub use refusal::{NotRunning, ReportError, StartError};
@@ -15,6 +16,7 @@ mod completion;
 mod flight;
 mod group;
 mod index;
+mod laws;
 mod limits;
 mod operation;
 mod operations;
