@@ -262,7 +262,7 @@ kept-closed {f} {cs} {ps} {o} {r} {r'} {sh} {l} c x kept within read was_open =
     let slots_are = kept.slots in
     let is : x ≡ get_or cs c no_channel = get_or_read cs c x within read no_channel in
     let open_there : (get_or cs c no_channel).is_open ≡ true = ap (λ (y : Channel). y.is_open) (sym is) ∙ was_open in
-    let one : cond (is_open (get_or cs c no_channel)) 1 0 ≡ 1 = ap {B = ℕ} (λ (b : Bool). cond b 1 0) open_there in
+    let one : cond {A = ℕ} (is_open (get_or cs c no_channel)) 1 0 ≡ 1 = ap {B = ℕ} (λ (b : Bool). cond b 1 0) open_there in
     let counts = count_by-set is_open cs c no_channel no_channel within in
     let counted = kept.opened_is in
     let some : 1 ≤ o = omega (arith, counts, one) in
@@ -289,7 +289,7 @@ pub open-some : {f : Flight} {cs : List Channel} {ps : List slots.Pending} {o r 
 open-some {f} {cs} c x kept within read was_open =
     let is : x ≡ get_or cs c no_channel = get_or_read cs c x within read no_channel in
     let open_there : (get_or cs c no_channel).is_open ≡ true = ap (λ (y : Channel). y.is_open) (sym is) ∙ was_open in
-    let one : cond (is_open (get_or cs c no_channel)) 1 0 ≡ 1 = ap {B = ℕ} (λ (b : Bool). cond b 1 0) open_there in
+    let one : cond {A = ℕ} (is_open (get_or cs c no_channel)) 1 0 ≡ 1 = ap {B = ℕ} (λ (b : Bool). cond b 1 0) open_there in
     let counts = count_by-set is_open cs c no_channel no_channel within in
     let counted = kept.opened_is in
     omega (arith, counts, one)

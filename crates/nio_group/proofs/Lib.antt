@@ -9,6 +9,7 @@ pub mod ListLemmas
 pub mod PendingLemmas
 pub mod QueueLemmas
 pub mod ReportLemmas
+pub mod RestLemmas
 pub mod RunLemmas
 pub mod StageLemmas
 pub mod StartLemmas

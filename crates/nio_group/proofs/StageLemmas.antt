@@ -177,22 +177,22 @@ onward-after g (close_channel chan) lawful = onward-after_close g chan.0
 onward-after g shutdown lawful = onward-same g.flight
 onward-after g shutdown_now lawful = onward-closed_below (length g.channels) (after_shutdown g)
 
-not-true : (b : Bool) → not b ≡ true → b ≡ false
+pub not-true : (b : Bool) → not b ≡ true → b ≡ false
 not-true true h = absurd (false≢true h)
 not-true false h = refl
 
-true-not : (b : Bool) → b ≡ false → not b ≡ true
+pub true-not : (b : Bool) → b ≡ false → not b ≡ true
 true-not true h = absurd (false≢true (sym h))
 true-not false h = refl
 
-both : (a b : Bool) → a ≡ true → b ≡ true → (a && b) ≡ true
+pub both : (a b : Bool) → a ≡ true → b ≡ true → (a && b) ≡ true
 both true b x y = y
 both false b x y = absurd (false≢true x)
 
-lt-true : (m n : ℕ) → m < n → ltb m n ≡ true
+pub lt-true : (m n : ℕ) → m < n → ltb m n ≡ true
 lt-true m n l = grind (arith, nat_tests)
 
-true-lt : (m n : ℕ) → ltb m n ≡ true → m < n
+pub true-lt : (m n : ℕ) → ltb m n ≡ true → m < n
 true-lt m n h = grind (arith, nat_tests)
 
 pub forward-from : (g left : Group) (n : ℕ) → IsOnward g.flight left.flight → IsForward g left n
