@@ -1,0 +1,21 @@
+//! Measures of nio's crates. The first word names the measure; with no word each does a small run,
+//! and `ok` is printed.
+#![tactic(auto)]
+
+use anyhow::bail;
+use std::env;
+
+mod group;
+
+fn main(rt: HostRuntime) -> anyhow::Result<()> {
+    let word = env::args(&rt)?.nth(1);
+    match word.as_deref() {
+        None => {
+            group::run(&rt, 4)?;
+            println!(rt; "ok")?;
+        }
+        Some("group") => group::measure(&rt)?,
+        Some(other) => bail!("no measure is named {other}"),
+    }
+    Ok(())
+}
