@@ -5,15 +5,18 @@
 use anyhow::bail;
 use std::env;
 
+mod group;
 mod relay;
 
 fn main(rt: HostRuntime) -> anyhow::Result<()> {
     let word = env::args(&rt)?.nth(1);
     match word.as_deref() {
         None => {
+            group::run(&rt, 4)?;
             relay::run(&rt, 4)?;
             println!(rt; "ok")?;
         }
+        Some("group") => group::measure(&rt)?,
         Some("relay") => relay::measure(&rt)?,
         Some(other) => bail!("no measure is named {other}"),
     }

@@ -1,0 +1,158 @@
+-- What a group's calls keep of its channels and of the slots of what is pending on them.
+use Rattle.std.proofs.Common.{◌≡◌, ◌≢◌, ℕ, ◌+◌, ◌<◌, ◌≤◌, zero, suc, Bool, true, false, cond, eqb, ◌&&◌, List, [], ◌∷◌, ◌++◌, Option, Some, None, is_some, IsTrue, count_by, get_or, set, length, refl, sym, ap, ◌∙◌, subst, arith, ◌⊎◌, inl, inr, get_or-set_same, get_or-set_other}
+use Rattle.std.proofs.lemmas.Bool.{false≢true, cases_lt}
+use Rattle.std.proofs.lemmas.List.{get_or_past, get_or_append_left, get_or_push, length-set, length_push}
+use Rattle.nio_group.specs.declared.channel.GKind.{GKind}
+use Rattle.nio_group.specs.declared.channel.GKind.TheVariants as gkind
+use Rattle.nio_group.specs.declared.channel.Channel.{Channel}
+use Rattle.nio_group.specs.declared.channel.Endpoint.TheVariants.{Stream, Listener}
+use Rattle.nio_group.specs.declared.channel.Link.TheVariants.{Unconnected, Connecting, Connected}
+use Rattle.nio_group.specs.declared.operation.OpKind.{OpKind}
+use Rattle.nio_group.specs.declared.operation.Operation.{Operation}
+use Rattle.nio_group.specs.declared.limits.GroupLimits.{GroupLimits}
+use Rattle.nio_group.specs.declared.pending.Pending as slots
+use Rattle.nio_group.specs.Stages.{is_pending, is_pending_as}
+use Rattle.nio_group.specs.Flight.{Flight, op_at, IsPendingAs}
+use Rattle.nio_group.specs.Pending.{slot_of, with_slot, nothing_pending}
+use Rattle.nio_group.specs.Group.{Group, IsLawful, channel_at, no_channel, new_channel}
+use Rattle.nio_group.specs.GroupKept.{IsGroupKept, IsListed, group_of, is_open}
+use Rattle.nio_group.proofs.TableLemmas.{by_test, same_number, other_number, count_by-set}
+use Rattle.nio_group.proofs.ListLemmas.{get_or-set, get_or-push, count_by-push}
+use Rattle.nio_group.proofs.PendingLemmas.{kinds, pending-parts, not_pending-as, slot_of-with_same, slot_of-with_other}
+use Rattle.nio_group.proofs.CloseLemmas.{some-same, none_some, pending-after, pending-before}
+use Rattle.nio_group.proofs.FlightLemmas.{some-within}
+use Rattle.nio_group.proofs.LawfulLemmas.{lawful-channel_made}
+
+-- a slot that is made has nothing pending
+pub slots-push : (ps : List slots.Pending) (c : ℕ) → get_or (ps ++ nothing_pending ∷ []) c nothing_pending ≡ get_or ps c nothing_pending
+slots-push ps c =
+    by_test (eqb c (length ps))
+    (λ t. let same = same_number c (length ps) t in
+      rw t at (get_or-push ps nothing_pending nothing_pending c) ∙ sym (get_or_past ps c nothing_pending (omega arith)))
+    (λ f. rw f at (get_or-push ps nothing_pending nothing_pending c))
+
+pub kept-channel_made : {f : Flight} {cs : List Channel} {ps : List slots.Pending} {o r r' : ℕ} {sh : Bool} {l : GroupLimits} (ch : Channel) → IsGroupKept f cs ps o sh l r r' → ch.is_open ≡ true → (ch.endpoint ≡ Stream Connecting → ⊥) → length cs < l.channels → IsGroupKept f (cs ++ ch ∷ []) (ps ++ nothing_pending ∷ []) (o + 1) sh l r r'
+kept-channel_made {f} {cs} {ps} {o} {r} {r'} {sh} {l} ch kept opened not_connecting room =
+    let slots_are = kept.slots in
+    let opened_were = kept.opened_is in
+    record {
+      lawful = lawful-channel_made (group_of f cs sh l) ch kept.lawful room not_connecting;
+      fit = kept.fit;
+      same_limit = kept.same_limit;
+      opened_is = let one : cond (is_open ch) 1 0 ≡ 1 = ap {B = ℕ} (λ (b : Bool). cond b 1 0) opened in omega (arith, count_by-push is_open cs ch, one, opened_were);
+      slots = omega (arith, length_push cs ch, length_push ps nothing_pending, slots_are);
+      is_listed = record {
+        listed = λ c kind n h. kept.is_listed.listed c kind n (rw (slots-push ps c) at h);
+        all = λ c kind n h. rw (slots-push ps c) (kept.is_listed.all c kind n h);
+      };
+      has_room = kept.has_room;
+      has_slots_room = kept.has_slots_room;
+    }
+
+-- one channel changes, and what is pending on it
+pub kept-channel : {f : Flight} {cs : List Channel} {ps : List slots.Pending} {o r r' : ℕ} {sh : Bool} {l : GroupLimits} (f' : Flight) (c : ℕ) (ch : Channel) (p : slots.Pending) (o' : ℕ) → IsGroupKept f cs ps o sh l r r' → c < length cs → IsLawful (group_of f' (set cs c ch) sh l) → f'.limit ≡ f.limit → o' + cond (is_open (get_or cs c no_channel)) 1 0 ≡ o + cond (is_open ch) 1 0 → IsListed f' (set ps c p) → IsGroupKept f' (set cs c ch) (set ps c p) o' sh l r r'
+kept-channel {f} {cs} {ps} {o} f' c ch p o' kept within lawful limit opened is_listed =
+    let slots_are = kept.slots in
+    let opened_were = kept.opened_is in
+    let counts = count_by-set is_open cs c ch no_channel within in
+    record {
+      lawful = lawful;
+      fit = kept.fit;
+      same_limit = limit ∙ kept.same_limit;
+      opened_is = omega (arith, counts, opened_were, opened);
+      slots = length-set ps c p ∙ slots_are ∙ sym (length-set cs c ch);
+      is_listed = is_listed;
+      has_room = kept.has_room;
+      has_slots_room = kept.has_slots_room;
+    }
+
+-- the operations change, and no channel
+pub kept-operations : {f : Flight} {cs : List Channel} {ps : List slots.Pending} {o r r' : ℕ} {sh : Bool} {l : GroupLimits} (f' : Flight) → IsGroupKept f cs ps o sh l r r' → IsLawful (group_of f' cs sh l) → f'.limit ≡ f.limit → IsListed f' ps → IsGroupKept f' cs ps o sh l r r'
+kept-operations f' kept lawful limit is_listed =
+    record {
+      lawful = lawful;
+      fit = kept.fit;
+      same_limit = limit ∙ kept.same_limit;
+      opened_is = kept.opened_is;
+      slots = kept.slots;
+      is_listed = is_listed;
+      has_room = kept.has_room;
+      has_slots_room = kept.has_slots_room;
+    }
+
+-- what is pending once an operation is put after the others
+pub pending-pushed : (xs : List (Option Operation)) (slot : Option Operation) (c : ℕ) (kind : OpKind) (m : ℕ) → is_pending_as c kind (get_or (xs ++ slot ∷ []) m None) ≡ true → ((m ≡ length xs) × (is_pending_as c kind slot ≡ true)) ⊎ ((m ≢ length xs) × (is_pending_as c kind (get_or xs m None) ≡ true))
+pending-pushed xs slot c kind m h =
+    by_test (eqb m (length xs))
+    (λ t. let has = rw t at (get_or-push xs slot None m) in
+      inl (same_number m (length xs) t, rw has at h))
+    (λ f. let has = rw f at (get_or-push xs slot None m) in
+      inr (other_number m (length xs) f, rw has at h))
+
+pub pending-within : (xs : List (Option Operation)) (c : ℕ) (kind : OpKind) (m : ℕ) → is_pending_as c kind (get_or xs m None) ≡ true → m < length xs
+pending-within xs c kind m h =
+    elim (cases_lt m (length xs)) [
+      inl l ↦ l
+    | inr past ↦ absurd (let none : is_pending_as c kind None ≡ true = rw (get_or_past xs m None past) at h in false≢true none)
+    ]
+
+pub pending-still : (xs : List (Option Operation)) (slot : Option Operation) (c : ℕ) (kind : OpKind) (m : ℕ) → is_pending_as c kind (get_or xs m None) ≡ true → is_pending_as c kind (get_or (xs ++ slot ∷ []) m None) ≡ true
+pending-still xs slot c kind m h = rw (get_or_append_left xs (slot ∷ []) None m (pending-within xs c kind m h)) h
+
+-- the slots after an operation was put after the others, pending
+pub listed-started : (f f' : Flight) (ps : List slots.Pending) (op : Operation) (c : ℕ) → IsListed f ps → f'.operations ≡ f.operations ++ Some op ∷ [] → c < length ps → is_pending_as c op.kind (Some op) ≡ true → ((n : ℕ) → IsPendingAs f c op.kind n → ⊥) → IsListed f' (set ps c (with_slot (get_or ps c nothing_pending) op.kind (Some (length f.operations))))
+listed-started f f' ps op c is_listed pushed within is_pending_op free =
+    let parts = pending-parts c op.kind op is_pending_op in
+    record {
+      listed = λ d kind m h.
+        by_test (eqb d c)
+          (λ t. let same = same_number d c t in
+            let slot = rw (here d same) at h in
+            elim (kinds kind op.kind) [
+              inl own ↦
+                let is_m : Some (length f.operations) ≡ Some m = sym (slot_of-with_same p op.kind (Some (length f.operations))) ∙ subst (λ (k : OpKind). slot_of (with_slot p op.kind (Some (length f.operations))) k ≡ Some m) own slot in
+                let number : length f.operations ≡ m = some-same is_m in
+                let at_end : is_pending_as d kind (get_or (f.operations ++ Some op ∷ []) (length f.operations) None) ≡ true =
+                  rw (new_at_end, same, own) is_pending_op in
+                rw pushed (subst (λ (i : ℕ). is_pending_as d kind (get_or (f.operations ++ Some op ∷ []) i None) ≡ true) number at_end)
+            | inr other ↦
+                let old = is_listed.listed c kind m (sym (slot_of-with_other p op.kind kind (Some (length f.operations)) other) ∙ slot) in
+                rw (pushed, same) (pending-still f.operations (Some op) c kind m old)
+            ])
+          (λ e. let differ = other_number d c e in
+            rw pushed (pending-still f.operations (Some op) d kind m (is_listed.listed d kind m (rw (there d differ) at h))));
+      all = λ d kind m h.
+        let pushed_h = rw pushed at h in
+        elim (pending-pushed f.operations (Some op) d kind m pushed_h) [
+          inl new ↦
+            let of = pending-parts d kind op new.1 in
+            let same : d ≡ c = sym of.chan ∙ parts.chan in
+            let own : kind ≡ op.kind = sym of.same in
+            rw (here d same, own, new.0) (slot_of-with_same p op.kind (Some (length f.operations)))
+        | inr old ↦
+            let has = is_listed.all d kind m old.1 in
+            by_test (eqb d c)
+              (λ t. let same = same_number d c t in
+                elim (kinds kind op.kind) [
+                  inl own ↦ absurd (free m (subst (λ (k : OpKind). IsPendingAs f c k m) own (subst (λ (e : ℕ). IsPendingAs f e kind m) same old.1)))
+                | inr other ↦ rw (here d same) (slot_of-with_other p op.kind kind (Some (length f.operations)) other ∙ rw same at has)
+                ])
+              (λ e. rw (there d (other_number d c e)) has)
+        ];
+    }
+  where
+  p : slots.Pending
+  p = get_or ps c nothing_pending
+  here : (d : ℕ) → d ≡ c → get_or (set ps c (with_slot (get_or ps c nothing_pending) op.kind (Some (length f.operations)))) d nothing_pending ≡ with_slot (get_or ps c nothing_pending) op.kind (Some (length f.operations))
+  here d same = subst (λ (e : ℕ). get_or (set ps c (with_slot (get_or ps c nothing_pending) op.kind (Some (length f.operations)))) e nothing_pending ≡ with_slot (get_or ps c nothing_pending) op.kind (Some (length f.operations))) (sym same) (get_or-set_same ps c (with_slot (get_or ps c nothing_pending) op.kind (Some (length f.operations))) nothing_pending within)
+  there : (d : ℕ) → d ≢ c → get_or (set ps c (with_slot (get_or ps c nothing_pending) op.kind (Some (length f.operations)))) d nothing_pending ≡ get_or ps d nothing_pending
+  there d differ = get_or-set_other ps c d _ nothing_pending differ
+  new_at_end : get_or (f.operations ++ Some op ∷ []) (length f.operations) None ≡ Some op
+  new_at_end = get_or_push f.operations (Some op) None (length f.operations) refl
+
+pub new-open : (kind : GKind) → (new_channel kind).is_open ≡ true
+new-open kind = refl
+
+pub new-not_connecting : (kind : GKind) → (new_channel kind).endpoint ≡ Stream Connecting → ⊥
+new-not_connecting gkind.Stream e = cc
+new-not_connecting gkind.Listener e = cc

@@ -1,0 +1,17 @@
+pub mod CloseLemmas
+pub mod EndLemmas
+pub mod FlightLemmas
+pub mod GroupLemmas
+pub mod IndexLemmas
+pub mod KeptLemmas
+pub mod LawfulLemmas
+pub mod ListLemmas
+pub mod PendingLemmas
+pub mod QueueLemmas
+pub mod ReportLemmas
+pub mod RestLemmas
+pub mod RunLemmas
+pub mod StageLemmas
+pub mod StartLemmas
+pub mod TableLemmas
+pub mod TerminatedLemmas

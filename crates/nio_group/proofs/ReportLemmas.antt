@@ -1,0 +1,272 @@
+-- What reports, takes and ends of operations keep.
+use Rattle.std.proofs.Common.{◌≡◌, ◌≢◌, ℕ, ◌+◌, ◌-◌, ◌<◌, ◌≤◌, zero, suc, Bool, true, false, cond, eqb, ◌&&◌, List, [], ◌∷◌, ◌++◌, Option, Some, None, is_some, IsTrue, count_by, get_or, set, drop, length, refl, sym, ap, ◌∙◌, subst, arith, ◌⊎◌, inl, inr, get_or-set_same, get_or-set_other}
+use Rattle.std.specs.Option.{option_map}
+use Rattle.std.proofs.lemmas.Bool.{false≢true}
+use Rattle.std.proofs.lemmas.List.{length-set, set-get_or, get_or_read}
+use Rattle.nio_group.specs.declared.channel.Channel.{Channel}
+use Rattle.nio_group.specs.declared.channel.Endpoint.{Endpoint}
+use Rattle.nio_group.specs.declared.channel.Endpoint.TheVariants.{Stream, Listener}
+use Rattle.nio_group.specs.declared.channel.Link.TheVariants.{Unconnected, Connecting, Connected}
+use Rattle.nio_group.specs.declared.operation.OpKind.{OpKind}
+use Rattle.nio_group.specs.declared.operation.OpKind.TheVariants.{Accept, Connect, Read, Write}
+use Rattle.nio_base.specs.declared.numbers.GChan.{GChan}
+use Rattle.nio_group.specs.declared.operation.Why.{Why}
+use Rattle.nio_group.specs.declared.operation.Finished.{Finished}
+use Rattle.nio_group.specs.declared.operation.Finished.TheVariants as done
+use Rattle.nio_group.specs.Steps.{result_of, no_number_left}
+use Rattle.nio_group.specs.declared.operation.Stage.{Stage}
+use Rattle.nio_group.specs.declared.operation.Stage.TheVariants.{Pending, Queued, Running}
+use Rattle.nio_group.specs.declared.operation.Operation.{Operation}
+use Rattle.nio_group.specs.declared.limits.GroupLimits.{GroupLimits}
+use Rattle.nio_group.specs.declared.pending.Pending as slots
+use Rattle.nio_group.specs.declared.operation.Outcome.{Outcome}
+use Rattle.nio_group.specs.declared.operation.Outcome.TheVariants as outcome
+use Rattle.nio_group.specs.Refusals.{report_refusal, is_allowed}
+use Rattle.nio_group.proofs.StartLemmas.{some_none}
+use Rattle.nio_group.specs.Stages.{is_pending, is_pending_as, is_queued, is_running, stage_is_pending, at_stage}
+use Rattle.nio_group.specs.Flight.{Flight, op_at, accepted, in_flight, IsPendingAs, with_completed, with_stage, flight_after_take, with_ended}
+use Rattle.nio_group.specs.Pending.{slot_of, with_slot, nothing_pending}
+use Rattle.nio_group.specs.Group.{Group, IsLawful, channel_at, no_channel, is_ready_for}
+use Rattle.nio_group.specs.GroupKept.{IsGroupKept, IsListed, group_of, is_open}
+use Rattle.nio_group.proofs.TableLemmas.{by_test, same_number, other_number, count_by-set}
+use Rattle.nio_group.proofs.ListLemmas.{eqb-same}
+use Rattle.nio_group.proofs.QueueLemmas.{QueueHolds, queue-set, queue-taken, front-queued}
+use Rattle.nio_group.proofs.PendingLemmas.{IsPendingOf, kinds, pending-parts, pending-as-pending, same_kind-refl, not_pending-as, slot_of-with_same, slot_of-with_other}
+use Rattle.nio_group.proofs.LawfulLemmas.{IsFlightLawful, IsFitFor, lawful-channel, lawful-operations, open-within}
+use Rattle.nio_group.proofs.GroupLemmas.{kept-channel, kept-operations}
+use Rattle.nio_group.proofs.CloseLemmas.{some-same, none_some, pending-after, pending-before}
+use Rattle.nio_group.proofs.FlightLemmas.{some-within, not_queued-pending}
+
+-- an operation in flight is put in another's place, which keeps the queue
+pub flight-changes : (f : Flight) (n : ℕ) (op op' : Operation) (queue : List ℕ) (op_limit : ℕ) → op_at f n ≡ Some op → QueueHolds (set f.operations n (Some op')) queue → in_flight f ≤ f.limit → accepted f ≤ op_limit → IsFlightLawful (record f { operations = set f.operations n (Some op'); queue = queue }) op_limit
+flight-changes f n op op' queue op_limit is holds few numbers =
+    let l = some-within f.operations n op is in
+    let counts = rw is at (count_by-set is_some f.operations n (Some op') None l) in
+    record {
+      queued_once = holds;
+      few_in_flight = omega (arith, counts);
+      few_accepted = omega (arith, length-set f.operations n (Some op'));
+    }
+
+pub pending-new_as : (op : Operation) → is_pending (Some op) ≡ true → is_pending_as op.chan.0 op.kind (Some op) ≡ true
+pending-new_as op is = rw (is, eqb-same op.chan.0, same_kind-refl op.kind) refl
+
+-- the operations after a pending one was completed
+abbrev pub completed_flight : Flight → ℕ → Operation → Finished → Flight
+completed_flight f n op finished =
+    record f { operations = set f.operations n (Some (at_stage (Queued finished) op)); queue = f.queue ++ n ∷ [] }
+
+pub completed-is : (f : Flight) (n : ℕ) (op : Operation) (finished : Finished) → op_at f n ≡ Some op → with_completed f n finished ≡ completed_flight f n op finished
+completed-is f n op finished is = rw is refl
+
+pub flight-completes : (f : Flight) (n : ℕ) (op : Operation) (finished : Finished) (op_limit : ℕ) → op_at f n ≡ Some op → is_pending (Some op) ≡ true → QueueHolds f.operations f.queue → in_flight f ≤ f.limit → accepted f ≤ op_limit → IsFlightLawful (completed_flight f n op finished) op_limit
+flight-completes f n op finished op_limit is is_pending_op holds few numbers =
+    let not_queued : is_queued (get_or f.operations n None) ≡ false = rw is (not_queued-pending op is_pending_op) in
+    flight-changes f n op (at_stage (Queued finished) op) (f.queue ++ n ∷ []) op_limit is
+    (queue-set f.operations f.queue n (Some (at_stage (Queued finished) op)) (some-within f.operations n op is) not_queued holds)
+    few numbers
+
+-- an operation that isn't a connect completes
+pub lawful-completed : (g : Group) (n : ℕ) (op : Operation) (finished : Finished) → IsLawful g → op_at g.flight n ≡ Some op → is_pending (Some op) ≡ true → (op.kind ≡ Connect → ⊥) → IsLawful (record g { flight = completed_flight g.flight n op finished })
+lawful-completed g n op finished lawful is is_pending_op other =
+    let xs = g.flight.operations in
+    let slot : Option Operation = Some (at_stage (Queued finished) op) in
+    let l = some-within xs n op is in
+    lawful-operations g (completed_flight g.flight n op finished) lawful
+    (flight-completes g.flight n op finished g.op_limit is is_pending_op lawful.queued_once lawful.few_in_flight lawful.few_accepted)
+    (λ c kind m h. (pending-after xs n slot c kind m l refl h).1)
+    (λ c m h. pending-before xs n slot c Connect m
+      (λ same.
+        let at : is_pending_as c Connect (get_or xs n None) ≡ true = subst (λ (i : ℕ). is_pending_as c Connect (get_or xs i None) ≡ true) same h in
+        let of : is_pending_as c Connect (Some op) ≡ true = rw is at at in
+        let parts = pending-parts c Connect op of in
+        other parts.same)
+      h)
+
+ready-connect : (e : Endpoint) → is_ready_for e Connect ≡ true → e ≡ Stream Connecting
+ready-connect (Listener bound) h = absurd (false≢true h)
+ready-connect (Stream Unconnected) h = absurd (false≢true h)
+ready-connect (Stream Connecting) h = refl
+ready-connect (Stream Connected) h = absurd (false≢true h)
+
+connecting-ready : (kind : OpKind) → is_ready_for (Stream Connecting) kind ≡ true → kind ≡ Connect
+connecting-ready Accept h = absurd (false≢true h)
+connecting-ready Connect h = refl
+connecting-ready Read h = absurd (false≢true h)
+connecting-ready Write h = absurd (false≢true h)
+
+-- a connect completes, and its channel isn't open and connecting from then on
+pub lawful-connected : (g : Group) (n : ℕ) (op : Operation) (finished : Finished) (ch : Channel) → IsLawful g → op_at g.flight n ≡ Some op → is_pending (Some op) ≡ true → op.kind ≡ Connect → (ch.is_open ≡ true → ch.endpoint ≡ Stream Connecting → ⊥) → IsLawful (record g { flight = completed_flight g.flight n op finished; channels = set g.channels op.chan.0 ch })
+lawful-connected g n op finished ch lawful is is_pending_op connect not_connecting =
+    let xs = g.flight.operations in
+    let c = op.chan.0 in
+    let slot : Option Operation = Some (at_stage (Queued finished) op) in
+    let l = some-within xs n op is in
+    let own : IsPendingAs g.flight c op.kind n = rw is (pending-new_as op is_pending_op) in
+    let own_connect : IsPendingAs g.flight c Connect n = subst (λ (k : OpKind). IsPendingAs g.flight c k n) connect own in
+    let endpoint = ready-connect (channel_at g c).endpoint (lawful.pending_ready n c Connect own_connect) in
+    let none : (kind : OpKind) (m : ℕ) → is_pending_as c kind (get_or (set xs n slot) m None) ≡ true → ⊥ =
+      λ kind m h.
+        let old = pending-after xs n slot c kind m l refl h in
+        let is_connect : kind ≡ Connect = connecting-ready kind (subst (λ (e : Endpoint). is_ready_for e kind ≡ true) endpoint (lawful.pending_ready m c kind old.1)) in
+        old.0 (lawful.one_each m n c Connect (subst (λ (k : OpKind). IsPendingAs g.flight c k m) is_connect old.1) own_connect) in
+    lawful-channel g (completed_flight g.flight n op finished) c ch lawful (open-within g.channels c (lawful.pending_open n c Connect own_connect))
+    (flight-completes g.flight n op finished g.op_limit is is_pending_op lawful.queued_once lawful.few_in_flight lawful.few_accepted)
+    (record {
+      open_for = λ kind m h. absurd (none kind m h);
+      ready_for = λ kind m h. absurd (none kind m h);
+      once_for = λ kind m m' h h'. absurd (none kind m h);
+      connects = λ o e. absurd (not_connecting o e);
+    })
+    (λ d kind m differ h. (pending-after xs n slot d kind m l refl h).1)
+    (λ d m differ h. pending-before xs n slot d Connect m
+      (λ same.
+        let at : is_pending_as d Connect (get_or xs n None) ≡ true = subst (λ (i : ℕ). is_pending_as d Connect (get_or xs i None) ≡ true) same h in
+        let of : is_pending_as d Connect (Some op) ≡ true = rw is at at in
+        let parts = pending-parts d Connect op of in
+        differ (sym parts.chan))
+      h)
+
+-- the slots after a pending operation was completed
+pub listed-completed : (f : Flight) (ps : List slots.Pending) (n : ℕ) (op : Operation) (finished : Finished) → IsListed f ps → op_at f n ≡ Some op → is_pending (Some op) ≡ true → op.chan.0 < length ps → IsListed (completed_flight f n op finished) (set ps op.chan.0 (with_slot (get_or ps op.chan.0 nothing_pending) op.kind None))
+listed-completed f ps n op finished is_listed is is_pending_op within =
+    let c = op.chan.0 in
+    let xs = f.operations in
+    let slot : Option Operation = Some (at_stage (Queued finished) op) in
+    let l = some-within xs n op is in
+    let p : slots.Pending = get_or ps c nothing_pending in
+    let p' : slots.Pending = with_slot p op.kind None in
+    let own : IsPendingAs f c op.kind n = rw is (pending-new_as op is_pending_op) in
+    let own_slot = is_listed.all c op.kind n own in
+    let here : (d : ℕ) → d ≡ c → get_or (set ps c p') d nothing_pending ≡ p' =
+      λ d same. subst (λ (e : ℕ). get_or (set ps c p') e nothing_pending ≡ p') (sym same) (get_or-set_same ps c p' nothing_pending within) in
+    let there : (d : ℕ) → d ≢ c → get_or (set ps c p') d nothing_pending ≡ get_or ps d nothing_pending =
+      λ d differ. get_or-set_other ps c d p' nothing_pending differ in
+    record {
+      listed = λ d kind m h.
+        by_test (eqb d c)
+          (λ t. let same = same_number d c t in
+            let slot_is = rw (here d same) at h in
+            elim (kinds kind op.kind) [
+              inl own_kind ↦ absurd (none_some m (sym (slot_of-with_same p op.kind None) ∙ subst (λ (k : OpKind). slot_of p' k ≡ Some m) own_kind slot_is))
+            | inr other ↦
+                let old = is_listed.listed c kind m (sym (slot_of-with_other p op.kind kind None other) ∙ slot_is) in
+                rw same (pending-before xs n slot c kind m (not_n c kind m old (λ k. other (sym k.same))) old)
+            ])
+          (λ e. let differ = other_number d c e in
+            let old = is_listed.listed d kind m (rw (there d differ) at h) in
+            pending-before xs n slot d kind m (not_n d kind m old (λ k. differ (sym k.chan))) old);
+      all = λ d kind m h.
+        let old = pending-after xs n slot d kind m l refl h in
+        let has = is_listed.all d kind m old.1 in
+        by_test (eqb d c)
+          (λ t. let same = same_number d c t in
+            let has_here : slot_of p kind ≡ Some m = rw same at has in
+            elim (kinds kind op.kind) [
+              inl own_kind ↦ absurd (old.0 (some-same (sym has_here ∙ subst (λ (k : OpKind). slot_of p k ≡ Some n) (sym own_kind) own_slot)))
+            | inr other ↦ rw (here d same) (slot_of-with_other p op.kind kind None other ∙ has_here)
+            ])
+          (λ e. rw (there d (other_number d c e)) has);
+    }
+  where
+  not_n : (d : ℕ) (kind : OpKind) (m : ℕ) → is_pending_as d kind (get_or f.operations m None) ≡ true → (IsPendingOf d kind op → ⊥) → m ≢ n
+  not_n d kind m old elsewhere same =
+    let at : is_pending_as d kind (get_or f.operations n None) ≡ true = subst (λ (i : ℕ). is_pending_as d kind (get_or f.operations i None) ≡ true) same old in
+    let of : is_pending_as d kind (Some op) ≡ true = rw is at at in
+    elsewhere (pending-parts d kind op of)
+
+-- what is known of an operation whose outcome isn't refused
+pub report-allowed : (op : Operation) (outcome : Outcome) → report_refusal (Some op) outcome ≡ None → (is_pending (Some op) ≡ true) × (is_allowed op.kind op.len outcome ≡ true)
+report-allowed op outcome h =
+    by_test (stage_is_pending op.stage)
+    (λ t.
+      by_test (is_allowed op.kind op.len outcome)
+      (λ a. (t, a))
+      (λ f. absurd (some_none _ (rw (t, f) at h))))
+    (λ f. absurd (some_none _ (rw f at h)))
+
+pub connected-connect : (kind : OpKind) (len : ℕ) → is_allowed kind len outcome.Connected ≡ true → kind ≡ Connect
+connected-connect Accept len h = absurd (false≢true h)
+connected-connect Connect len h = refl
+connected-connect Read len h = absurd (false≢true h)
+connected-connect Write len h = absurd (false≢true h)
+
+pub accepted-accept : (kind : OpKind) (len : ℕ) → is_allowed kind len outcome.Accepted ≡ true → kind ≡ Connect → ⊥
+accepted-accept kind len h e = false≢true (subst (λ (k : OpKind). is_allowed k len outcome.Accepted ≡ true) e h)
+
+pub count-other : (kind : OpKind) (len k : ℕ) → is_allowed kind len (outcome.Count k) ≡ true → kind ≡ Connect → ⊥
+count-other kind len k h e = false≢true (subst (λ (x : OpKind). is_allowed x len (outcome.Count k) ≡ true) e h)
+
+pub end-other : (kind : OpKind) (len : ℕ) → is_allowed kind len outcome.End ≡ true → kind ≡ Connect → ⊥
+end-other kind len h e = false≢true (subst (λ (x : OpKind). is_allowed x len outcome.End ≡ true) e h)
+
+-- an outcome that isn't a connection or a fault is of an operation that isn't a connect
+pub other-outcome : (kind : OpKind) (len : ℕ) (o : Outcome) → is_allowed kind len o ≡ true → (o ≡ outcome.Connected → ⊥) → (o ≡ outcome.Fault → ⊥) → kind ≡ Connect → ⊥
+other-outcome kind len (outcome.Count k) h a b = count-other kind len k h
+other-outcome kind len outcome.End h a b = end-other kind len h
+other-outcome kind len outcome.Connected h a b = absurd (a refl)
+other-outcome kind len outcome.Accepted h a b = accepted-accept kind len h
+other-outcome kind len outcome.Fault h a b = absurd (b refl)
+
+-- the channel of a pending operation is one of the group's
+pub pending-made : {f : Flight} {cs : List Channel} {ps : List slots.Pending} {o r r' : ℕ} {sh : Bool} {l : GroupLimits} (n : ℕ) (op : Operation) → IsGroupKept f cs ps o sh l r r' → op_at f n ≡ Some op → is_pending (Some op) ≡ true → (op.chan.0 < length cs) × (op.chan.0 < length ps) × ((get_or cs op.chan.0 no_channel).is_open ≡ true)
+pending-made {f} {cs} n op kept is is_pending_op =
+    let own : IsPendingAs f op.chan.0 op.kind n = rw is (pending-new_as op is_pending_op) in
+    let opened = kept.lawful.pending_open n op.chan.0 op.kind own in
+    let within = open-within cs op.chan.0 opened in
+    let slots_are = kept.slots in
+    (within, omega arith, opened)
+
+pub kept-completed : {f : Flight} {cs : List Channel} {ps : List slots.Pending} {o r r' : ℕ} {sh : Bool} {l : GroupLimits} (n : ℕ) (op : Operation) (finished : Finished) (p : slots.Pending) → IsGroupKept f cs ps o sh l r r' → op_at f n ≡ Some op → is_pending (Some op) ≡ true → p ≡ get_or ps op.chan.0 p → (op.kind ≡ Connect → ⊥) → IsGroupKept (with_completed f n finished) cs (set ps op.chan.0 (with_slot p op.kind None)) o sh l r r'
+kept-completed {f} {cs} {ps} {o} {r} {r'} {sh} {l} n op finished p kept is is_pending_op read other =
+    let made = pending-made n op kept is is_pending_op in
+    let is_slot : p ≡ get_or ps op.chan.0 nothing_pending = get_or_read ps op.chan.0 p made.1 read nothing_pending in
+    let lawful = lawful-completed (group_of f cs sh l) n op finished kept.lawful is is_pending_op other in
+    let was_opened = kept.opened_is in
+    rw (completed-is f n op finished is, is_slot)
+    (record {
+      lawful = lawful;
+      fit = kept.fit;
+      same_limit = kept.same_limit;
+      opened_is = kept.opened_is;
+      slots = length-set ps op.chan.0 (with_slot (get_or ps op.chan.0 nothing_pending) op.kind None) ∙ kept.slots;
+      is_listed = listed-completed f ps n op finished kept.is_listed is is_pending_op made.1;
+      has_room = kept.has_room;
+      has_slots_room = kept.has_slots_room;
+    })
+
+pub kept-connected : {f : Flight} {cs : List Channel} {ps : List slots.Pending} {o r r' : ℕ} {sh : Bool} {l : GroupLimits} (n : ℕ) (op : Operation) (finished : Finished) (p : slots.Pending) (ch : Channel) (o' : ℕ) → IsGroupKept f cs ps o sh l r r' → op_at f n ≡ Some op → is_pending (Some op) ≡ true → p ≡ get_or ps op.chan.0 p → op.kind ≡ Connect → (ch.is_open ≡ true → ch.endpoint ≡ Stream Connecting → ⊥) → o' + 1 ≡ o + cond (is_open ch) 1 0 → IsGroupKept (with_completed f n finished) (set cs op.chan.0 ch) (set ps op.chan.0 (with_slot p op.kind None)) o' sh l r r'
+kept-connected {f} {cs} {ps} {o} {r} {r'} {sh} {l} n op finished p ch o' kept is is_pending_op read connect not_connecting counted =
+    let made = pending-made n op kept is is_pending_op in
+    let is_slot : p ≡ get_or ps op.chan.0 nothing_pending = get_or_read ps op.chan.0 p made.1 read nothing_pending in
+    let lawful = lawful-connected (group_of f cs sh l) n op finished ch kept.lawful is is_pending_op connect not_connecting in
+    let was_one : cond (is_open (get_or cs op.chan.0 no_channel)) 1 0 ≡ 1 = ap {B = ℕ} (λ (b : Bool). cond b 1 0) made.2 in
+    rw (completed-is f n op finished is, is_slot)
+    (kept-channel (completed_flight f n op finished) op.chan.0 ch (with_slot (get_or ps op.chan.0 nothing_pending) op.kind None) o' kept made.0 lawful refl
+      (ap (λ (k : ℕ). o' + k) was_one ∙ counted)
+      (listed-completed f ps n op finished kept.is_listed is is_pending_op made.1))
+
+-- some channel is open where an operation is pending
+pub some-open : {f : Flight} {cs : List Channel} {ps : List slots.Pending} {o r r' : ℕ} {sh : Bool} {l : GroupLimits} (n : ℕ) (op : Operation) → IsGroupKept f cs ps o sh l r r' → op_at f n ≡ Some op → is_pending (Some op) ≡ true → 1 ≤ o
+some-open {f} {cs} n op kept is is_pending_op =
+    let made = pending-made n op kept is is_pending_op in
+    let was_one : cond (is_open (get_or cs op.chan.0 no_channel)) 1 0 ≡ 1 = ap {B = ℕ} (λ (b : Bool). cond b 1 0) made.2 in
+    let counts = count_by-set is_open cs op.chan.0 no_channel no_channel made.0 in
+    let counted = kept.opened_is in
+    omega (arith, counts, was_one)
+
+-- a connection that was accepted has a number left for it
+pub accepted-room : (g : Group) (o : Outcome) (x : GChan) → IsLawful g → o ≡ outcome.Accepted → result_of g o ≡ done.Accepted x → length g.channels < g.channel_limit
+accepted-room g o x lawful is h =
+    let at : result_of g outcome.Accepted ≡ done.Accepted x = subst (λ (y : Outcome). result_of g y ≡ done.Accepted x) is h in
+    by_test g.is_shut
+    (λ t. absurd (failed _ x (rw t at at)))
+    (λ f.
+      let left = rw f at at in
+      by_test (no_number_left g)
+      (λ t. absurd (failed _ x (rw t at left)))
+      (λ e. let differ = other_number (length g.channels) g.channel_limit e in
+        let few = lawful.few_channels in omega arith))
+  where
+  failed : (why : Why) (y : GChan) → done.Failed why ≡ done.Accepted y → ⊥
+  failed why y e = cc

@@ -1,0 +1,195 @@
+-- A terminated group is at rest, and each operation completes once.
+use Rattle.std.proofs.Common.{◌≡◌, ◌≢◌, ℕ, ◌+◌, ◌<◌, ◌≤◌, zero, suc, Bool, true, false, cond, eqb, ltb, not, ◌&&◌, ◌||◌, List, [], ◌∷◌, ◌++◌, Option, Some, None, is_some, length, get_or, refl, sym, ap, ◌∙◌, subst, arith, ◌⊎◌, inl, inr}
+use Rattle.std.specs.List.{list_any, list_all}
+use Rattle.std.proofs.lemmas.Bool.{false≢true}
+use Rattle.std.proofs.lemmas.List.Folds.{list_any_at, list_all_at}
+use Rattle.nio_group.specs.declared.channel.Channel.{Channel}
+use Rattle.nio_group.specs.declared.channel.Endpoint.{Endpoint}
+use Rattle.nio_group.specs.declared.channel.Endpoint.TheVariants.{Stream, Listener}
+use Rattle.nio_group.specs.declared.operation.Outcome.{Outcome}
+use Rattle.nio_group.specs.declared.operation.Stage.{Stage}
+use Rattle.nio_group.specs.declared.operation.Stage.TheVariants.{Pending, Queued, Running}
+use Rattle.nio_group.specs.declared.operation.Operation.{Operation}
+use Rattle.nio_group.specs.declared.limits.GroupLimits.{GroupLimits}
+use Rattle.nio_group.specs.Stages.{is_pending, is_pending_as, is_queued, is_running, stage_is_pending, stage_is_queued, stage_is_running}
+use Rattle.nio_group.specs.Flight.{Flight, op_at, accepted, flight_after_take, with_channel_closed}
+use Rattle.nio_group.specs.Group.{Group, IsLawful, channel_at, no_channel, is_terminated, all_closed, none_to_handle, empty_group}
+use Rattle.nio_group.specs.Refusals.{open_refusal, bind_refusal, start_refusal, report_refusal}
+use Rattle.nio_group.specs.Steps.{kept_if_refused, started, reported, finish_refusal, after_close, after_report, after_take, after_shutdown, closed_below, with_closed}
+use Rattle.nio_group.specs.Run.{Call, open_channel, bind, start, report, take, finish, close_channel, shutdown, shutdown_now, IsCallOf, after, has_completed, was_taken, has_ended, TerminatedStays, IsRunOf, left_by, completions, once_where, CompletesOnce, IsAtRest, TerminatedIsAtRest}
+use Rattle.nio_group.proofs.TableLemmas.{by_test}
+use Rattle.nio_group.proofs.ListLemmas.{eqb-same}
+use Rattle.nio_group.proofs.QueueLemmas.{QueueHolds, front-queued}
+use Rattle.nio_group.proofs.FlightLemmas.{some-within}
+use Rattle.nio_group.proofs.PendingLemmas.{and-left, and-right, same_kind-refl}
+use Rattle.nio_group.proofs.LawfulLemmas.{open-within}
+use Rattle.nio_group.proofs.StartLemmas.{some_none}
+use Rattle.nio_group.proofs.RunLemmas.{unless-refused, lawful-after}
+use Rattle.nio_group.proofs.StageLemmas.{stages-forward, not-true, true-not, both, lt-true, true-lt}
+
+-- what is known of a terminated group
+pub record IsResting (g : Group) : Type 0 where
+  pub shut : g.is_shut ≡ true
+  pub closed : (c : ℕ) → (channel_at g c).is_open ≡ false
+  pub none : (n : ℕ) → op_at g.flight n ≡ None
+
+none-left : (g : Group) (n : ℕ) → IsLawful g → ((c : ℕ) → (channel_at g c).is_open ≡ false) → list_any (λ slot. is_queued slot || is_running slot) g.flight.operations ≡ false → op_at g.flight n ≡ None
+none-left g n lawful closed idle = by_slot (op_at g.flight n) refl
+  where
+  by_stage : (op : Operation) → op_at g.flight n ≡ Some op → (stage : Stage) → op.stage ≡ stage → ⊥
+  by_stage op is Pending e =
+    let pending : is_pending_as op.chan.0 op.kind (op_at g.flight n) ≡ true = rw (is, e, eqb-same op.chan.0, same_kind-refl op.kind) refl in
+    false≢true (sym (closed op.chan.0) ∙ lawful.pending_open n op.chan.0 op.kind pending)
+  by_stage op is (Queued r) e =
+    let busy : (is_queued (op_at g.flight n) || is_running (op_at g.flight n)) ≡ true = rw (is, e) refl in
+    false≢true (sym idle ∙ list_any_at (λ slot. is_queued slot || is_running slot) g.flight.operations n None (some-within g.flight.operations n op is) busy)
+  by_stage op is Running e =
+    let busy : (is_queued (op_at g.flight n) || is_running (op_at g.flight n)) ≡ true = rw (is, e) refl in
+    false≢true (sym idle ∙ list_any_at (λ slot. is_queued slot || is_running slot) g.flight.operations n None (some-within g.flight.operations n op is) busy)
+  by_slot : (slot : Option Operation) → op_at g.flight n ≡ slot → slot ≡ None
+  by_slot None is = refl
+  by_slot (Some op) is = absurd (by_stage op is op.stage refl)
+
+pub resting : (g : Group) → IsLawful g → is_terminated g ≡ true → IsResting g
+resting g lawful terminated =
+    let rest = and-right g.is_shut (all_closed g && none_to_handle g) terminated in
+    let all = and-left (all_closed g) (none_to_handle g) rest in
+    let idle = not-true (list_any (λ slot. is_queued slot || is_running slot) g.flight.operations) (and-right (all_closed g) (none_to_handle g) rest) in
+    let closed : (c : ℕ) → (channel_at g c).is_open ≡ false =
+      λ c.
+        by_test (channel_at g c).is_open
+        (λ t.
+          let fails : not (channel_at g c).is_open ≡ false = rw t refl in
+          absurd (false≢true (sym (list_all_at (λ channel. not channel.is_open) g.channels c no_channel (open-within g.channels c t) fails) ∙ all)))
+        (λ f. f) in
+    record {
+      shut = and-left g.is_shut (all_closed g && none_to_handle g) terminated;
+      closed = closed;
+      none = λ n. none-left g n lawful closed idle;
+    }
+
+open-refused : (g : Group) → g.is_shut ≡ true → open_refusal g ≡ None → ⊥
+open-refused g shut free = some_none _ (rw shut at free)
+
+bind-refused : (is_open : Bool) (e : Endpoint) → is_open ≡ false → bind_refusal is_open e ≡ None → ⊥
+bind-refused true e closed free = false≢true (sym closed)
+bind-refused false (Stream link) closed free = some_none _ free
+bind-refused false (Listener bound) closed free = some_none _ free
+
+queue-empty : (f : Flight) → QueueHolds f.operations f.queue → ((n : ℕ) → op_at f n ≡ None) → f.queue ≡ []
+queue-empty f holds none = by_queue f.queue refl
+  where
+  by_queue : (queue : List ℕ) → f.queue ≡ queue → queue ≡ []
+  by_queue [] is = refl
+  by_queue (n ∷ rest) is =
+    let there : QueueHolds f.operations (n ∷ rest) = rw is at holds in
+    let queued = front-queued f.operations n rest there in
+    let not_there : is_queued (op_at f n) ≡ false = rw (none n) refl in
+    absurd (false≢true (sym not_there ∙ queued))
+
+close-rests : (g : Group) (c : ℕ) → (channel_at g c).is_open ≡ false → after_close g c ≡ g
+close-rests g c closed = rw closed refl
+
+closings-rest : (c : ℕ) (g : Group) → ((d : ℕ) → (channel_at g d).is_open ≡ false) → closed_below c g ≡ g
+closings-rest zero g closed = refl
+closings-rest (suc c) g closed =
+    ap (λ (h : Group). after_close h c) (closings-rest c g closed) ∙ close-rests g c (closed c)
+
+-- what a call leaves of a terminated group, where its being shut down stays
+after-resting : (P : Group → Type 0) (g : Group) (call : Call) → IsLawful g → IsResting g → is_terminated g ≡ true → P g → P (after_shutdown g) → P (after g call)
+after-resting P g (open_channel kind) lawful rest terminated same shut =
+    unless-refused P (open_refusal g) g _ same (λ free. absurd (open-refused g rest.shut free))
+after-resting P g (bind chan) lawful rest terminated same shut =
+    unless-refused P (bind_refusal (channel_at g chan.0).is_open (channel_at g chan.0).endpoint) g _ same
+    (λ free. absurd (bind-refused (channel_at g chan.0).is_open (channel_at g chan.0).endpoint (rest.closed chan.0) free))
+after-resting P g (start chan kind len) lawful rest terminated same shut =
+    unless-refused P (start_refusal g chan.0 kind) g (started g chan kind len) same (λ free. absurd (some_none _ (rw terminated at free)))
+after-resting P g (report op o) lawful rest terminated same shut =
+    subst (λ (slot : Option Operation). P (kept_if_refused (report_refusal slot o) g (reported g op.0 o slot))) (sym (rest.none op.0)) same
+after-resting P g take lawful rest terminated same shut =
+    subst (λ (queue : List ℕ). P (record g { flight = flight_after_take g.flight queue })) (sym (queue-empty g.flight lawful.queued_once rest.none)) same
+after-resting P g (finish op) lawful rest terminated same shut =
+    let idle : is_running (op_at g.flight op.0) ≡ false = rw (rest.none op.0) refl in
+    unless-refused P (finish_refusal (is_running (op_at g.flight op.0))) g _ same
+    (λ free. absurd (some_none _ (rw idle at free)))
+after-resting P g (close_channel chan) lawful rest terminated same shut =
+    subst P (sym (close-rests g chan.0 (rest.closed chan.0))) same
+after-resting P g shutdown lawful rest terminated same shut = shut
+after-resting P g shutdown_now lawful rest terminated same shut =
+    subst P (sym (closings-rest (length g.channels) (after_shutdown g) rest.closed)) shut
+
+pub terminated-stays : TerminatedStays
+terminated-stays g call lawful made terminated =
+    after-resting (λ (h : Group). is_terminated h ≡ true) g call lawful (resting g lawful terminated) terminated terminated
+    (and-right g.is_shut (all_closed g && none_to_handle g) terminated)
+
+flight-rests : (g : Group) (call : Call) → IsLawful g → is_terminated g ≡ true → (after g call).flight ≡ g.flight
+flight-rests g call lawful terminated =
+    after-resting (λ (h : Group). h.flight ≡ g.flight) g call lawful (resting g lawful terminated) terminated refl refl
+
+and-not : (b : Bool) → (b && not b) ≡ false
+and-not true = refl
+and-not false = refl
+
+none-completes : (n : ℕ) (g : Group) (calls : List Call) → IsLawful g → is_terminated g ≡ true → IsRunOf g calls → completions n g calls ≡ 0
+none-completes n g [] lawful terminated run = refl
+none-completes n g (call ∷ calls) lawful terminated run =
+    let same : has_completed (after g call) n ≡ has_completed g n =
+      ap (λ (f : Flight). ltb n (accepted f) && not (is_pending (op_at f n))) (flight-rests g call lawful terminated) in
+    let here : (has_completed (after g call) n && not (has_completed g n)) ≡ false =
+      ap (λ (b : Bool). b && not (has_completed g n)) same ∙ and-not (has_completed g n) in
+    let none : once_where (has_completed (after g call) n && not (has_completed g n)) ≡ 0 = ap once_where here in
+    let later = none-completes n (after g call) calls (lawful-after g call lawful run.0) (terminated-stays g call lawful run.0 terminated) run.1 in
+    omega (arith, none, later)
+
+pub at-rest : TerminatedIsAtRest
+at-rest g lawful terminated =
+    let rest = resting g lawful terminated in
+    record {
+      ended = λ n l.
+        let none = rest.none n in
+        let pending : is_pending (op_at g.flight n) ≡ false = rw none refl in
+        let queued : is_queued (op_at g.flight n) ≡ false = rw none refl in
+        let running : is_running (op_at g.flight n) ≡ false = rw none refl in
+        both (was_taken g n) (not (is_running (op_at g.flight n)))
+          (both (has_completed g n) (not (is_queued (op_at g.flight n)))
+            (both (ltb n (accepted g.flight)) (not (is_pending (op_at g.flight n))) (lt-true n (accepted g.flight) l) (true-not (is_pending (op_at g.flight n)) pending))
+            (true-not (is_queued (op_at g.flight n)) queued))
+          (true-not (is_running (op_at g.flight n)) running);
+      completes_none = λ n calls run. none-completes n g calls lawful terminated run;
+    }
+
+step-count : (a b : Bool) → (a ≡ true → b ≡ true) → once_where (b && not a) + once_where a ≡ once_where b
+step-count true b h = rw (h refl) refl
+step-count false true h = refl
+step-count false false h = refl
+
+counted : (n : ℕ) (g : Group) (calls : List Call) → IsLawful g → IsRunOf g calls → completions n g calls + once_where (has_completed g n) ≡ once_where (has_completed (left_by g calls) n)
+counted n g [] lawful run = omega arith
+counted n g (call ∷ calls) lawful run =
+    let later = counted n (after g call) calls (lawful-after g call lawful run.0) run.1 in
+    let forward = stages-forward g call n lawful run.0 in
+    let here = step-count (has_completed g n) (has_completed (after g call) n) forward.completes in
+    omega (arith, later, here)
+
+pub lawful-empty : (limits : GroupLimits) → IsLawful (empty_group limits)
+lawful-empty limits =
+    record {
+      queued_once = λ n. refl;
+      pending_open = λ n c kind h. absurd (false≢true h);
+      pending_ready = λ n c kind h. absurd (false≢true h);
+      one_each = λ m n c kind h h'. absurd (false≢true h);
+      connecting = λ c o e. absurd (false≢true o);
+      few_in_flight = omega arith;
+      few_channels = omega arith;
+      few_accepted = omega arith;
+    }
+
+none-completed : (n : ℕ) (limits : GroupLimits) → has_completed (empty_group limits) n ≡ false
+none-completed n limits = by_test (ltb n 0) (λ t. absurd (let l = true-lt n 0 t in omega arith)) (λ f. rw f refl)
+
+pub completes-once : CompletesOnce
+completes-once limits calls n run =
+    let total = counted n (empty_group limits) calls (lawful-empty limits) run in
+    let before : once_where (has_completed (empty_group limits) n) ≡ 0 = ap once_where (none-completed n limits) in
+    omega (arith, total, before)

@@ -1,0 +1,300 @@
+-- Each call keeps a group lawful.
+use Rattle.std.proofs.Common.{◌≡◌, ◌≢◌, ℕ, ◌+◌, ◌<◌, ◌≤◌, zero, suc, Bool, true, false, cond, eqb, List, [], ◌∷◌, ◌++◌, Option, Some, None, is_some, length, get_or, set, refl, sym, ap, ◌∙◌, subst, arith, ◌⊎◌, inl, inr}
+use Rattle.std.proofs.lemmas.Bool.{false≢true}
+use Rattle.std.proofs.lemmas.List.{set-get_or, length-set}
+use Rattle.nio_base.specs.declared.numbers.GChan.{GChan}
+use Rattle.nio_group.specs.declared.channel.GKind.{GKind}
+use Rattle.nio_group.specs.declared.channel.Channel.{Channel}
+use Rattle.nio_group.specs.declared.channel.Endpoint.{Endpoint}
+use Rattle.nio_group.specs.declared.channel.Endpoint.TheVariants.{Stream, Listener}
+use Rattle.nio_group.specs.declared.channel.Link.TheVariants.{Unconnected, Connecting, Connected}
+use Rattle.nio_group.specs.declared.operation.OpKind.{OpKind}
+use Rattle.nio_group.specs.declared.operation.OpKind.TheVariants.{Accept, Connect, Read, Write}
+use Rattle.nio_group.specs.declared.operation.Outcome.{Outcome}
+use Rattle.nio_group.specs.declared.operation.Outcome.TheVariants as outcome
+use Rattle.nio_group.specs.declared.operation.Finished.{Finished}
+use Rattle.nio_group.specs.declared.operation.Stage.{Stage}
+use Rattle.nio_group.specs.declared.operation.Stage.TheVariants.{Pending, Queued, Running}
+use Rattle.nio_group.specs.declared.operation.Operation.{Operation}
+use Rattle.nio_group.specs.Stages.{is_pending, is_queued, is_running, at_stage}
+use Rattle.nio_group.specs.Flight.{Flight, op_at, accepted, in_flight, IsPendingAs, with_accepted, with_completed, with_ended, with_taken, flight_after_take, with_channel_closed}
+use Rattle.nio_group.specs.Group.{Group, IsLawful, channel_at, no_channel, is_ready_for, new_channel}
+use Rattle.nio_group.specs.Refusals.{open_refusal, bind_refusal, start_refusal, report_refusal, has_pending, is_allowed}
+use Rattle.nio_group.specs.Steps.{kept_if_refused, after_open, after_bind, after_start, channels_after_start, started, first_stage, after_report, reported, channels_after_report, result_of, no_number_left, after_take, after_finish, finish_refusal, after_close, after_shutdown, after_shutdown_now, closed_below, with_endpoint, with_closed, connected_stream}
+use Rattle.nio_group.specs.Run.{Call, Reply, open_channel, bind, start, report, take, finish, close_channel, shutdown, shutdown_now, IsCallOf, after, reply_to, IsOneStep, IsStep, StepsAreLawful}
+use Rattle.nio_group.proofs.TableLemmas.{by_test, same_number, other_number, count_by-set}
+use Rattle.nio_group.proofs.QueueLemmas.{QueueHolds, queue-set, queue-taken, front-queued}
+use Rattle.nio_group.proofs.FlightLemmas.{some-within, not_queued-running}
+use Rattle.nio_group.proofs.LawfulLemmas.{IsFlightLawful, IsFitFor, lawful-channel, lawful-operations, lawful-channel_made, open-within}
+use Rattle.nio_group.proofs.GroupLemmas.{new-not_connecting}
+use Rattle.nio_group.proofs.StartLemmas.{startable, allowed, lawful-started, lawful-queued, pending-open, not_pending-stage, endpoint_after, cond-none, IsStartable}
+use Rattle.nio_group.proofs.ReportLemmas.{flight-changes, completed_flight, completed-is, lawful-completed, lawful-connected, report-allowed, connected-connect, other-outcome, accepted-accept}
+use Rattle.nio_group.proofs.EndLemmas.{queued-not_pending, running-not_pending, lawful-closed, lawful-unpending, length-after_close}
+
+-- a refused call keeps what holds, and one that isn't leads to it
+pub unless-refused : {E : Type 0} (P : Group → Type 0) (r : Option E) (old new : Group) → P old → (r ≡ None → P new) → P (kept_if_refused r old new)
+unless-refused P None old new kept made = made refl
+unless-refused P (Some e) old new kept made = kept
+
+pub lawful-after_open : (g : Group) (kind : GKind) → IsLawful g → IsLawful (after_open g kind)
+lawful-after_open g kind lawful =
+    unless-refused IsLawful (open_refusal g) g (record g { channels = g.channels ++ new_channel kind ∷ [] }) lawful
+    (λ free.
+      let going = cond-none g.is_shut _ _ free in
+      let room = cond-none (eqb (length g.channels) g.channel_limit) _ _ going.1 in
+      let differ = other_number (length g.channels) g.channel_limit room.0 in
+      let few = lawful.few_channels in
+      lawful-channel_made g (new_channel kind) lawful (omega arith) (new-not_connecting kind))
+
+bindable : (is_open : Bool) (e : Endpoint) → bind_refusal is_open e ≡ None → e ≡ Listener false
+bindable is_open (Stream link) h = cc
+bindable false (Listener bound) h = cc
+bindable true (Listener true) h = cc
+bindable true (Listener false) h = refl
+
+unbound-ready : (kind : OpKind) → is_ready_for (Listener false) kind ≡ true → ⊥
+unbound-ready Accept h = false≢true h
+unbound-ready Connect h = false≢true h
+unbound-ready Read h = false≢true h
+unbound-ready Write h = false≢true h
+
+flight-lawful : (g : Group) → IsLawful g → IsFlightLawful g.flight g.op_limit
+flight-lawful g lawful =
+    record {
+      queued_once = lawful.queued_once;
+      few_in_flight = lawful.few_in_flight;
+      few_accepted = lawful.few_accepted;
+    }
+
+pub lawful-after_bind : (g : Group) (c : ℕ) → IsLawful g → c < length g.channels → IsLawful (after_bind g c)
+lawful-after_bind g c lawful within =
+    unless-refused IsLawful (bind_refusal (channel_at g c).is_open (channel_at g c).endpoint) g (with_endpoint g c (Listener true)) lawful
+    (λ free.
+      let unbound = bindable (channel_at g c).is_open (channel_at g c).endpoint free in
+      let none : (kind : OpKind) (n : ℕ) → IsPendingAs g.flight c kind n → ⊥ =
+        λ kind n h. unbound-ready kind (subst (λ (e : Endpoint). is_ready_for e kind ≡ true) unbound (lawful.pending_ready n c kind h)) in
+      lawful-channel g g.flight c (record (channel_at g c) { endpoint = Listener true }) lawful within (flight-lawful g lawful)
+      (record {
+        open_for = λ kind n h. absurd (none kind n h);
+        ready_for = λ kind n h. absurd (none kind n h);
+        once_for = λ kind m n h h'. absurd (none kind m h);
+        connects = λ o e. absurd (not_listener true e);
+      })
+      (λ d kind n differ h. h)
+      (λ d n differ h. h))
+  where
+  not_listener : (b : Bool) → Listener b ≡ Stream Connecting → ⊥
+  not_listener b e = cc
+
+lt_of_ne : {a b : ℕ} → a ≤ b → a ≢ b → a < b
+lt_of_ne le ne = omega arith
+
+-- the group after a start, where the channel is open or not
+abbrev pub started_as : Group → GChan → OpKind → ℕ → Bool → Group
+started_as g chan kind len is_open =
+    record (channels_after_start g chan.0 kind is_open) {
+      flight = with_accepted g.flight (record { chan = chan; kind = kind; len = len; stage = first_stage is_open kind len });
+    }
+
+closed-same : (g : Group) (c : ℕ) (kind : OpKind) → channels_after_start g c kind false ≡ g
+closed-same g c Accept = refl
+closed-same g c Connect = refl
+closed-same g c Read = refl
+closed-same g c Write = refl
+
+-- an operation that is pending, and isn't a connect, was started
+lawful-pending : (g : Group) (op : Operation) → IsLawful g → op.chan.0 < length g.channels → op.stage ≡ Pending → (channel_at g op.chan.0).is_open ≡ true → IsStartable g op.chan.0 op.kind → endpoint_after (channel_at g op.chan.0).endpoint op.kind ≡ (channel_at g op.chan.0).endpoint → IsLawful (record g { flight = with_accepted g.flight op })
+lawful-pending g op lawful within pending is facts same =
+    let few = lawful.few_in_flight in
+    let few_numbers = lawful.few_accepted in
+    let allow = allowed (channel_at g op.chan.0).endpoint (has_pending g.flight op.chan.0 op.kind) op.kind (rw is at facts.channel) in
+    let made = lawful-started g op lawful within pending is allow (lt_of_ne few facts.room) (lt_of_ne few_numbers facts.numbers) in
+    let unchanged : set g.channels op.chan.0 (record (channel_at g op.chan.0) { endpoint = endpoint_after (channel_at g op.chan.0).endpoint op.kind }) ≡ g.channels =
+      ap (λ (e : Endpoint). set g.channels op.chan.0 (record (channel_at g op.chan.0) { endpoint = e })) same
+      ∙ set-get_or g.channels op.chan.0 no_channel in
+    subst (λ (cs : List Channel). IsLawful (record g { flight = with_accepted g.flight op; channels = cs })) unchanged made
+
+lawful-transfer : (g : Group) (op : Operation) → IsLawful g → op.chan.0 < length g.channels → op.stage ≡ first_stage true op.kind op.len → (channel_at g op.chan.0).is_open ≡ true → IsStartable g op.chan.0 op.kind → endpoint_after (channel_at g op.chan.0).endpoint op.kind ≡ (channel_at g op.chan.0).endpoint → IsLawful (record g { flight = with_accepted g.flight op })
+lawful-transfer g op lawful within stage is facts same =
+    by_stage op.stage refl
+  where
+  by_stage : (s : Stage) → op.stage ≡ s → IsLawful (record g { flight = with_accepted g.flight op })
+  by_stage Pending e = lawful-pending g op lawful within e is facts same
+  by_stage (Queued r) e =
+    let few = lawful.few_in_flight in
+    let few_numbers = lawful.few_accepted in
+    lawful-queued g op lawful (rw e refl) (lt_of_ne few facts.room) (lt_of_ne few_numbers facts.numbers)
+  by_stage Running e =
+    let few = lawful.few_in_flight in
+    let few_numbers = lawful.few_accepted in
+    lawful-queued g op lawful (rw e refl) (lt_of_ne few facts.room) (lt_of_ne few_numbers facts.numbers)
+
+-- a start that isn't refused
+lawful-started_now : (g : Group) (chan : GChan) (kind : OpKind) (len : ℕ) (is_open : Bool) → IsLawful g → chan.0 < length g.channels → IsStartable g chan.0 kind → (channel_at g chan.0).is_open ≡ is_open → IsLawful (started_as g chan kind len is_open)
+lawful-started_now g chan kind len false lawful within facts is =
+    let op : Operation = record { chan = chan; kind = kind; len = len; stage = first_stage false kind len } in
+    let few = lawful.few_in_flight in
+    let few_numbers = lawful.few_accepted in
+    let made = lawful-queued g op lawful refl (lt_of_ne few facts.room) (lt_of_ne few_numbers facts.numbers) in
+    subst (λ (h : Group). IsLawful (record h { flight = with_accepted g.flight op })) (sym (closed-same g chan.0 kind)) made
+lawful-started_now g chan Accept len true lawful within facts is =
+    lawful-transfer g (record { chan = chan; kind = Accept; len = len; stage = first_stage true Accept len }) lawful within refl is facts refl
+lawful-started_now g chan Connect len true lawful within facts is =
+    let few = lawful.few_in_flight in
+    let few_numbers = lawful.few_accepted in
+    let allow = allowed (channel_at g chan.0).endpoint (has_pending g.flight chan.0 Connect) Connect (rw is at facts.channel) in
+    lawful-started g (record { chan = chan; kind = Connect; len = len; stage = Pending }) lawful within refl is allow (lt_of_ne few facts.room) (lt_of_ne few_numbers facts.numbers)
+lawful-started_now g chan Read len true lawful within facts is =
+    lawful-transfer g (record { chan = chan; kind = Read; len = len; stage = first_stage true Read len }) lawful within refl is facts refl
+lawful-started_now g chan Write len true lawful within facts is =
+    lawful-transfer g (record { chan = chan; kind = Write; len = len; stage = first_stage true Write len }) lawful within refl is facts refl
+
+pub lawful-after_start : (g : Group) (chan : GChan) (kind : OpKind) (len : ℕ) → IsLawful g → chan.0 < length g.channels → IsLawful (after_start g chan kind len)
+lawful-after_start g chan kind len lawful within =
+    unless-refused IsLawful (start_refusal g chan.0 kind) g (started g chan kind len) lawful
+    (λ free. lawful-started_now g chan kind len (channel_at g chan.0).is_open lawful within (startable g chan.0 kind free) refl)
+
+some_refused : {T : Type 0} (x : T) → Some x ≡ None → ⊥
+some_refused x e = cc
+
+pub cond-holds : {X : Type 0} (P : X → Type 0) (b : Bool) (x y : X) → (b ≡ true → P x) → (b ≡ false → P y) → P (cond b x y)
+cond-holds P true x y chosen other = chosen refl
+cond-holds P false x y chosen other = other refl
+
+-- a report that isn't refused, of each outcome
+lawful-reported_now : (g : Group) (n : ℕ) (o : Outcome) (op : Operation) → IsLawful g → op_at g.flight n ≡ Some op → is_pending (Some op) ≡ true → is_allowed op.kind op.len o ≡ true → IsLawful (record (channels_after_report g op.chan.0 op.kind o) { flight = completed_flight g.flight n op (result_of g o) })
+lawful-reported_now g n (outcome.Count k) op lawful is pending allow =
+    lawful-completed g n op (result_of g (outcome.Count k)) lawful is pending (other-outcome op.kind op.len (outcome.Count k) allow (λ e. cc) (λ e. cc))
+lawful-reported_now g n outcome.End op lawful is pending allow =
+    lawful-completed g n op (result_of g outcome.End) lawful is pending (other-outcome op.kind op.len outcome.End allow (λ e. cc) (λ e. cc))
+lawful-reported_now g n outcome.Connected op lawful is pending allow =
+    lawful-connected g n op (result_of g outcome.Connected) (record (channel_at g op.chan.0) { endpoint = Stream Connected }) lawful is pending (connected-connect op.kind op.len allow) (λ o e. cc)
+lawful-reported_now g n outcome.Accepted op lawful is pending allow =
+    let f = completed_flight g.flight n op (result_of g outcome.Accepted) in
+    let kept = lawful-completed g n op (result_of g outcome.Accepted) lawful is pending (accepted-accept op.kind op.len allow) in
+    let P : Group → Type 0 = λ h. IsLawful (record h { flight = f }) in
+    cond-holds P g.is_shut g (cond (no_number_left g) g (record g { channels = g.channels ++ connected_stream ∷ [] }))
+    (λ t. kept)
+    (λ shut.
+      cond-holds P (no_number_left g) g (record g { channels = g.channels ++ connected_stream ∷ [] })
+      (λ t. kept)
+      (λ e.
+        let differ = other_number (length g.channels) g.channel_limit e in
+        let few = lawful.few_channels in
+        lawful-channel_made (record g { flight = f }) connected_stream kept (omega arith) (λ c. cc)))
+lawful-reported_now g n outcome.Fault op lawful is pending allow = by_kind op.kind refl
+  where
+  by_kind : (kind : OpKind) → op.kind ≡ kind → IsLawful (record (channels_after_report g op.chan.0 kind outcome.Fault) { flight = completed_flight g.flight n op (result_of g outcome.Fault) })
+  by_kind Accept e = lawful-completed g n op (result_of g outcome.Fault) lawful is pending (λ c. let no : Accept ≡ Connect = sym e ∙ c in cc)
+  by_kind Connect e = lawful-connected g n op (result_of g outcome.Fault) (record (channel_at g op.chan.0) { is_open = false }) lawful is pending e (λ o c. false≢true o)
+  by_kind Read e = lawful-completed g n op (result_of g outcome.Fault) lawful is pending (λ c. let no : Read ≡ Connect = sym e ∙ c in cc)
+  by_kind Write e = lawful-completed g n op (result_of g outcome.Fault) lawful is pending (λ c. let no : Write ≡ Connect = sym e ∙ c in cc)
+
+pub lawful-after_report : (g : Group) (n : ℕ) (o : Outcome) → IsLawful g → IsLawful (after_report g n o)
+lawful-after_report g n o lawful = by_slot (op_at g.flight n) refl
+  where
+  by_slot : (slot : Option Operation) → op_at g.flight n ≡ slot → IsLawful (kept_if_refused (report_refusal slot o) g (reported g n o slot))
+  by_slot None is = lawful
+  by_slot (Some op) is =
+    unless-refused IsLawful (report_refusal (Some op) o) g (reported g n o (Some op)) lawful
+    (λ free.
+      let facts = report-allowed op o free in
+      let made = lawful-reported_now g n o op lawful is facts.0 facts.1 in
+      subst (λ (f : Flight). IsLawful (record (channels_after_report g op.chan.0 op.kind o) { flight = f })) (sym (completed-is g.flight n op (result_of g o) is)) made)
+
+queued-there : (slot : Option Operation) → is_queued slot ≡ true → (op : Operation) × (slot ≡ Some op)
+queued-there None h = absurd (false≢true h)
+queued-there (Some op) h = (op, refl)
+
+running-there : (slot : Option Operation) → is_running slot ≡ true → (op : Operation) × (slot ≡ Some op)
+running-there None h = absurd (false≢true h)
+running-there (Some op) h = (op, refl)
+
+lawful-taken_front : (g : Group) (n : ℕ) (rest : List ℕ) (op : Operation) → IsLawful g → g.flight.queue ≡ n ∷ rest → QueueHolds g.flight.operations (n ∷ rest) → op_at g.flight n ≡ Some op → is_queued (Some op) ≡ true → IsLawful (record g { flight = with_taken g.flight n })
+lawful-taken_front g n rest op lawful is holds is_op of =
+    let within = some-within g.flight.operations n op is_op in
+    let was : is_pending (op_at g.flight n) ≡ false = rw is_op (queued-not_pending op.stage of) in
+    let slot : Option Operation = Some (at_stage Running op) in
+    let flight = flight-changes g.flight n op (at_stage Running op) rest g.op_limit is_op (queue-taken g.flight.operations n rest slot within refl holds) lawful.few_in_flight lawful.few_accepted in
+    let taken : with_taken g.flight n ≡ record g.flight { operations = set g.flight.operations n slot; queue = rest } = rw (is_op, is) refl in
+    rw taken (lawful-unpending g n slot rest lawful within was refl flight)
+
+pub lawful-after_take : (g : Group) → IsLawful g → IsLawful (after_take g)
+lawful-after_take g lawful = by_queue g.flight.queue refl
+  where
+  by_queue : (queue : List ℕ) → g.flight.queue ≡ queue → IsLawful (record g { flight = flight_after_take g.flight queue })
+  by_queue [] is = lawful
+  by_queue (n ∷ rest) is =
+    let holds : QueueHolds g.flight.operations (n ∷ rest) = rw is at lawful.queued_once in
+    let queued = front-queued g.flight.operations n rest holds in
+    let some = queued-there (op_at g.flight n) queued in
+    lawful-taken_front g n rest some.0 lawful is holds some.1 (subst (λ (slot : Option Operation). is_queued slot ≡ true) some.1 queued)
+
+lawful-ended : (g : Group) (n : ℕ) (op : Operation) → IsLawful g → op_at g.flight n ≡ Some op → is_running (Some op) ≡ true → IsLawful (record g { flight = with_ended g.flight n })
+lawful-ended g n op lawful is of =
+    let within = some-within g.flight.operations n op is in
+    let was : is_pending (op_at g.flight n) ≡ false = rw is (running-not_pending op.stage of) in
+    let not_queued : is_queued (get_or g.flight.operations n None) ≡ false = rw is (not_queued-running op of) in
+    let few = lawful.few_in_flight in
+    let few_numbers = lawful.few_accepted in
+    let counts = rw is at (count_by-set is_some g.flight.operations n None None within) in
+    let flight : IsFlightLawful (with_ended g.flight n) g.op_limit =
+      record {
+        queued_once = queue-set g.flight.operations g.flight.queue n None within not_queued lawful.queued_once;
+        few_in_flight = omega (arith, counts);
+        few_accepted = omega (arith, length-set g.flight.operations n None);
+      } in
+    lawful-unpending g n None g.flight.queue lawful within was refl flight
+
+pub lawful-after_finish : (g : Group) (n : ℕ) → IsLawful g → IsLawful (after_finish g n)
+lawful-after_finish g n lawful = by_running (is_running (op_at g.flight n)) refl
+  where
+  by_running : (b : Bool) → is_running (op_at g.flight n) ≡ b → IsLawful (kept_if_refused (finish_refusal b) g (record g { flight = with_ended g.flight n }))
+  by_running false is = lawful
+  by_running true is =
+    let some = running-there (op_at g.flight n) is in
+    lawful-ended g n some.0 lawful some.1 (subst (λ (slot : Option Operation). is_running slot ≡ true) some.1 is)
+
+pub lawful-after_close : (g : Group) (c : ℕ) → IsLawful g → IsLawful (after_close g c)
+lawful-after_close g c lawful =
+    cond-holds IsLawful (channel_at g c).is_open (record (with_closed g c) { flight = with_channel_closed g.flight c }) g
+    (λ t. lawful-closed g c lawful (open-within g.channels c t))
+    (λ f. lawful)
+
+pub lawful-after_shutdown : (g : Group) → IsLawful g → IsLawful (after_shutdown g)
+lawful-after_shutdown g lawful =
+    record {
+      queued_once = lawful.queued_once;
+      pending_open = lawful.pending_open;
+      pending_ready = lawful.pending_ready;
+      one_each = lawful.one_each;
+      connecting = lawful.connecting;
+      few_in_flight = lawful.few_in_flight;
+      few_channels = lawful.few_channels;
+      few_accepted = lawful.few_accepted;
+    }
+
+pub lawful-closed_below : (c : ℕ) (g : Group) → IsLawful g → IsLawful (closed_below c g)
+lawful-closed_below zero g lawful = lawful
+lawful-closed_below (suc c) g lawful = lawful-after_close (closed_below c g) c (lawful-closed_below c g lawful)
+
+pub lawful-after : (g : Group) (call : Call) → IsLawful g → IsCallOf g call → IsLawful (after g call)
+lawful-after g (open_channel kind) lawful made = lawful-after_open g kind lawful
+lawful-after g (bind chan) lawful made = lawful-after_bind g chan.0 lawful made
+lawful-after g (start chan kind len) lawful made = lawful-after_start g chan kind len lawful made
+lawful-after g (report op o) lawful made = lawful-after_report g op.0 o lawful
+lawful-after g take lawful made = lawful-after_take g lawful
+lawful-after g (finish op) lawful made = lawful-after_finish g op.0 lawful
+lawful-after g (close_channel chan) lawful made = lawful-after_close g chan.0 lawful
+lawful-after g shutdown lawful made = lawful-after_shutdown g lawful
+lawful-after g shutdown_now lawful made = lawful-closed_below (length g.channels) (after_shutdown g) (lawful-after_shutdown g lawful)
+
+pub steps-lawful : StepsAreLawful
+steps-lawful g call lawful made =
+    record {
+      reply = reply_to g call;
+      left = after g call;
+      step = record { answers = refl; leaves = refl };
+      lawful = lawful-after g call lawful made;
+      only = λ reply left step. (step.answers, step.leaves);
+    }

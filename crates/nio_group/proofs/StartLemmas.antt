@@ -1,0 +1,270 @@
+-- What a start that isn't refused keeps.
+use Rattle.std.proofs.Common.{◌≡◌, ◌≢◌, ℕ, ◌+◌, ◌^◌, ◌<◌, ◌≤◌, zero, suc, Bool, true, false, cond, eqb, ◌&&◌, List, [], ◌∷◌, ◌++◌, Option, Some, None, is_some, IsTrue, count_by, get_or, set, length, refl, sym, ap, ◌∙◌, subst, arith, ◌⊎◌, inl, inr, get_or-set_same, get_or-set_other}
+use Rattle.std.specs.Option.{option_or}
+use Rattle.std.specs.List.{list_any}
+use Rattle.std.proofs.lemmas.Bool.{false≢true, cases_lt}
+use Rattle.std.proofs.lemmas.List.{length_push, set-get_or, get_or_push, get_or_read}
+use Rattle.std.proofs.lemmas.List.Folds.{list_any_at}
+use Rattle.nio_group.specs.declared.channel.Channel.{Channel}
+use Rattle.nio_group.specs.declared.channel.Endpoint.{Endpoint}
+use Rattle.nio_group.specs.declared.channel.Endpoint.TheVariants.{Stream, Listener}
+use Rattle.nio_group.specs.declared.channel.Link.TheVariants.{Unconnected, Connecting, Connected}
+use Rattle.nio_group.specs.declared.operation.OpKind.{OpKind}
+use Rattle.nio_group.specs.declared.operation.OpKind.TheVariants.{Accept, Connect, Read, Write}
+use Rattle.nio_group.specs.declared.operation.Stage.{Stage}
+use Rattle.nio_group.specs.declared.operation.Stage.TheVariants.{Pending, Queued, Running}
+use Rattle.nio_group.specs.declared.operation.Operation.{Operation}
+use Rattle.nio_group.specs.declared.refusal.StartError.{StartError}
+use Rattle.nio_group.specs.declared.limits.GroupLimits.{GroupLimits}
+use Rattle.nio_group.specs.declared.pending.Pending as slots
+use Rattle.nio_group.specs.Pending.{slot_of, with_slot, nothing_pending}
+use Rattle.nio_group.specs.GroupKept.{IsGroupKept, IsListed, group_of}
+use Rattle.nio_group.specs.Stages.{is_pending, is_pending_as, is_queued, stage_is_pending, stage_is_queued}
+use Rattle.nio_group.specs.Flight.{Flight, op_at, accepted, in_flight, IsPendingAs, with_accepted}
+use Rattle.nio_group.specs.Group.{Group, IsLawful, channel_at, no_channel, is_ready_for, is_terminated}
+use Rattle.nio_group.specs.Refusals.{channel_refusal, limit_refusal, start_refusal, has_pending, kind_refusal}
+use Rattle.nio_group.specs.Steps.{first_stage, started, channels_after_start, with_endpoint}
+use Rattle.nio_group.proofs.TableLemmas.{by_test, same_number, other_number}
+use Rattle.nio_group.proofs.ListLemmas.{count_by-push, eqb-same}
+use Rattle.nio_group.proofs.QueueLemmas.{QueueHolds, queue-push}
+use Rattle.nio_group.proofs.PendingLemmas.{pending-parts, same_kind-refl, not_pending-as}
+use Rattle.nio_group.proofs.LawfulLemmas.{IsFlightLawful, IsFitFor, lawful-channel, lawful-operations}
+use Rattle.nio_group.proofs.GroupLemmas.{pending-pushed, pending-still, pending-within, kept-channel, kept-operations, listed-started}
+
+pub some_none : {T : Type 0} (x : T) → Some x ≡ None → ⊥
+some_none x e = cc
+
+-- the endpoint of a channel once an operation of this kind was started on it
+abbrev pub endpoint_after : Endpoint → OpKind → Endpoint
+endpoint_after e Accept = e
+endpoint_after e Connect = Stream Connecting
+endpoint_after e Read = e
+endpoint_after e Write = e
+
+-- what is known of an open channel that doesn't refuse an operation
+pub record IsAllowed (e : Endpoint) (pending : Bool) (kind : OpKind) : Type 0 where
+  pub ready : is_ready_for (endpoint_after e kind) kind ≡ true
+  pub others : (k : OpKind) → is_ready_for e k ≡ true → is_ready_for (endpoint_after e kind) k ≡ true
+  pub free : is_ready_for e kind ≡ true → pending ≡ false
+  pub connects : endpoint_after e kind ≡ Stream Connecting → kind ≡ Connect
+
+pub allowed : (e : Endpoint) (pending : Bool) (kind : OpKind) → channel_refusal true e pending kind ≡ None → IsAllowed e pending kind
+allowed (Listener true) true Accept h = absurd (some_none _ h)
+allowed (Listener true) false Accept h = record { ready = refl; others = λ k r. r; free = λ r. refl; connects = λ c. cc }
+allowed (Listener false) pending Accept h = absurd (some_none _ h)
+allowed (Listener bound) pending Connect h = absurd (some_none _ h)
+allowed (Listener bound) pending Read h = absurd (some_none _ h)
+allowed (Listener bound) pending Write h = absurd (some_none _ h)
+allowed (Stream link) pending Accept h = absurd (some_none _ h)
+allowed (Stream Unconnected) pending Connect h = record { ready = refl; others = λ k r. absurd (false≢true r); free = λ r. absurd (false≢true r); connects = λ c. refl }
+allowed (Stream Connecting) pending Connect h = absurd (some_none _ h)
+allowed (Stream Connected) pending Connect h = absurd (some_none _ h)
+allowed (Stream Unconnected) pending Read h = absurd (some_none _ h)
+allowed (Stream Connecting) pending Read h = absurd (some_none _ h)
+allowed (Stream Connected) true Read h = absurd (some_none _ h)
+allowed (Stream Connected) false Read h = record { ready = refl; others = λ k r. r; free = λ r. refl; connects = λ c. cc }
+allowed (Stream Unconnected) pending Write h = absurd (some_none _ h)
+allowed (Stream Connecting) pending Write h = absurd (some_none _ h)
+allowed (Stream Connected) true Write h = absurd (some_none _ h)
+allowed (Stream Connected) false Write h = record { ready = refl; others = λ k r. r; free = λ r. refl; connects = λ c. cc }
+
+option_or-none : {T : Type 0} (a b : Option T) → option_or a b ≡ None → (a ≡ None) × (b ≡ None)
+option_or-none None b h = (refl, h)
+option_or-none (Some x) b h = absurd (some_none x h)
+
+pub cond-none : {T : Type 0} (b : Bool) (x : T) (y : Option T) → cond b (Some x) y ≡ None → (b ≡ false) × (y ≡ None)
+cond-none true x y h = absurd (some_none x h)
+cond-none false x y h = (refl, h)
+
+-- what is known where a start isn't refused
+pub record IsStartable (g : Group) (c : ℕ) (kind : OpKind) : Type 0 where
+  pub not_terminated : is_terminated g ≡ false
+  pub channel : channel_refusal (channel_at g c).is_open (channel_at g c).endpoint (has_pending g.flight c kind) kind ≡ None
+  pub room : in_flight g.flight ≢ g.flight.limit
+  pub numbers : accepted g.flight ≢ g.op_limit
+
+pub startable : (g : Group) (c : ℕ) (kind : OpKind) → start_refusal g c kind ≡ None → IsStartable g c kind
+startable g c kind h =
+    let going = cond-none (is_terminated g) _ _ h in
+    let parts = option_or-none (channel_refusal (channel_at g c).is_open (channel_at g c).endpoint (has_pending g.flight c kind) kind) (limit_refusal g) going.1 in
+    let numbers = cond-none (eqb (accepted g.flight) g.op_limit) _ _ parts.1 in
+    let room = cond-none (eqb (in_flight g.flight) g.flight.limit) _ _ numbers.1 in
+    record {
+      not_terminated = going.0;
+      channel = parts.0;
+      room = other_number (in_flight g.flight) g.flight.limit room.0;
+      numbers = other_number (accepted g.flight) g.op_limit numbers.0;
+    }
+
+-- nothing of a kind is pending where nothing is found
+pub none-pending : (f : Flight) (c : ℕ) (kind : OpKind) → has_pending f c kind ≡ false → (n : ℕ) → IsPendingAs f c kind n → ⊥
+none-pending f c kind none n h =
+    false≢true (sym none ∙ list_any_at (is_pending_as c kind) f.operations n None (pending-within f.operations c kind n h) h)
+
+pub pending-open : (is_open : Bool) (kind : OpKind) (len : ℕ) → first_stage is_open kind len ≡ Pending → is_open ≡ true
+pending-open true kind len h = refl
+pending-open false kind len h = cc
+
+pub flight-accepts : (f : Flight) (op : Operation) (op_limit : ℕ) → QueueHolds f.operations f.queue → in_flight f < f.limit → accepted f < op_limit → IsFlightLawful (with_accepted f op) op_limit
+flight-accepts f op op_limit holds room numbers =
+    record {
+      queued_once = queue-push f.operations f.queue (Some op) holds;
+      few_in_flight = omega (arith, count_by-push is_some f.operations (Some op));
+      few_accepted = omega (arith, length_push f.operations (Some op));
+    }
+
+pub pending-new : (op : Operation) → op.stage ≡ Pending → is_pending_as op.chan.0 op.kind (Some op) ≡ true
+pending-new op is = rw (is, eqb-same op.chan.0, same_kind-refl op.kind) refl
+
+-- nothing of the kind is pending before
+pub start-free : (g : Group) (c : ℕ) (kind : OpKind) → IsLawful g → IsAllowed (channel_at g c).endpoint (has_pending g.flight c kind) kind → (n : ℕ) → IsPendingAs g.flight c kind n → ⊥
+start-free g c kind lawful allow n h =
+    none-pending g.flight c kind (allow.free (lawful.pending_ready n c kind h)) n h
+
+-- the group after an operation that is pending was started
+pub lawful-started : (g : Group) (op : Operation) → IsLawful g → op.chan.0 < length g.channels → op.stage ≡ Pending → (channel_at g op.chan.0).is_open ≡ true → IsAllowed (channel_at g op.chan.0).endpoint (has_pending g.flight op.chan.0 op.kind) op.kind → in_flight g.flight < g.flight.limit → accepted g.flight < g.op_limit → IsLawful (record g { flight = with_accepted g.flight op; channels = set g.channels op.chan.0 (record (channel_at g op.chan.0) { endpoint = endpoint_after (channel_at g op.chan.0).endpoint op.kind }) })
+lawful-started g op lawful within is_pending_op is_open allow room numbers =
+    let c = op.chan.0 in
+    let xs = g.flight.operations in
+    let new = pending-new op is_pending_op in
+    let free = start-free g c op.kind lawful allow in
+    lawful-channel g (with_accepted g.flight op) c (record (channel_at g c) { endpoint = endpoint_after (channel_at g c).endpoint op.kind }) lawful within
+    (flight-accepts g.flight op g.op_limit lawful.queued_once room numbers)
+    (record {
+      open_for = λ kind n h. is_open;
+      ready_for = λ kind n h.
+        elim (pending-pushed xs (Some op) c kind n h) [
+          inl own ↦ let parts = pending-parts c kind op own.1 in subst (λ (k : OpKind). is_ready_for (endpoint_after (channel_at g c).endpoint op.kind) k ≡ true) parts.same allow.ready
+        | inr old ↦ allow.others kind (lawful.pending_ready n c kind old.1)
+        ];
+      once_for = λ kind m n a b.
+        elim (pending-pushed xs (Some op) c kind m a) [
+          inl own ↦
+            elim (pending-pushed xs (Some op) c kind n b) [
+              inl own' ↦ own.0 ∙ sym own'.0
+            | inr old ↦ let parts = pending-parts c kind op own.1 in absurd (free n (subst (λ (k : OpKind). IsPendingAs g.flight c k n) (sym parts.same) old.1))
+            ]
+        | inr old ↦
+            elim (pending-pushed xs (Some op) c kind n b) [
+              inl own ↦ let parts = pending-parts c kind op own.1 in absurd (free m (subst (λ (k : OpKind). IsPendingAs g.flight c k m) (sym parts.same) old.1))
+            | inr old' ↦ lawful.one_each m n c kind old.1 old'.1
+            ]
+        ];
+      connects = λ o is.
+        let kind_is = allow.connects is in
+        (length xs, rw get_or_push_here (subst (λ (k : OpKind). is_pending_as c k (Some op) ≡ true) kind_is new));
+    })
+    (λ d kind n differ h.
+      elim (pending-pushed xs (Some op) d kind n h) [
+        inl own ↦ let parts = pending-parts d kind op own.1 in absurd (differ (sym parts.chan))
+      | inr old ↦ old.1
+      ])
+    (λ d n differ h. pending-still xs (Some op) d Connect n h)
+  where
+  get_or_push_here : get_or (g.flight.operations ++ Some op ∷ []) (length g.flight.operations) None ≡ Some op
+  get_or_push_here = get_or_push g.flight.operations (Some op) None (length g.flight.operations) refl
+
+-- the group after an operation that is queued at once was started
+pub lawful-queued : (g : Group) (op : Operation) → IsLawful g → is_pending (Some op) ≡ false → in_flight g.flight < g.flight.limit → accepted g.flight < g.op_limit → IsLawful (record g { flight = with_accepted g.flight op })
+lawful-queued g op lawful not_pending room numbers =
+    let xs = g.flight.operations in
+    lawful-operations g (with_accepted g.flight op) lawful
+    (flight-accepts g.flight op g.op_limit lawful.queued_once room numbers)
+    (λ c kind n h.
+      elim (pending-pushed xs (Some op) c kind n h) [
+        inl own ↦ absurd (false≢true (sym (not_pending-as c kind (Some op) not_pending) ∙ own.1))
+      | inr old ↦ old.1
+      ])
+    (λ c n h. pending-still xs (Some op) c Connect n h)
+
+-- the group as it is kept, after an operation that is pending was started
+pub kept-started : {f : Flight} {cs : List Channel} {ps : List slots.Pending} {o r r' : ℕ} {sh : Bool} {l : GroupLimits} (op : Operation) (x : Channel) (p : slots.Pending) (n : ℕ) → IsGroupKept f cs ps o sh l r r' → op.chan.0 < length cs → x ≡ get_or cs op.chan.0 x → p ≡ get_or ps op.chan.0 p → n ≡ length f.operations → start_refusal (group_of f cs sh l) op.chan.0 op.kind ≡ None → op.stage ≡ Pending → op.stage ≡ first_stage x.is_open op.kind op.len → IsGroupKept (with_accepted f op) (set cs op.chan.0 (record x { endpoint = endpoint_after x.endpoint op.kind })) (set ps op.chan.0 (with_slot p op.kind (Some n))) o sh l r r'
+kept-started {f} {cs} {ps} {o} {r} {r'} {sh} {l} op x p n kept within read read_slot number allowed_start is_pending_op stage =
+    let c = op.chan.0 in
+    let g : Group = group_of f cs sh l in
+    let facts = startable g c op.kind allowed_start in
+    let few = kept.lawful.few_in_flight in
+    let few_numbers = kept.lawful.few_accepted in
+    let slots_are = kept.slots in
+    let is : x ≡ get_or cs c no_channel = get_or_read cs c x within read no_channel in
+    let is_slot : p ≡ get_or ps c nothing_pending = get_or_read ps c p (omega arith) read_slot nothing_pending in
+    let was_open : x.is_open ≡ true = pending-open x.is_open op.kind op.len (sym stage ∙ is_pending_op) in
+    let open_there : (get_or cs c no_channel).is_open ≡ true = ap (λ (y : Channel). y.is_open) (sym is) ∙ was_open in
+    let refused = rw open_there at facts.channel in
+    let allow = allowed (get_or cs c no_channel).endpoint (has_pending f c op.kind) op.kind refused in
+    let lawful = lawful-started g op kept.lawful within is_pending_op open_there allow (lt_of_ne few facts.room) (lt_of_ne few_numbers facts.numbers) in
+    let free = start-free g c op.kind kept.lawful allow in
+    let made = kept-channel (with_accepted f op) c (record (get_or cs c no_channel) { endpoint = endpoint_after (get_or cs c no_channel).endpoint op.kind }) (with_slot (get_or ps c nothing_pending) op.kind (Some (length f.operations))) o kept within lawful refl refl
+      (listed-started f (with_accepted f op) ps op c kept.is_listed refl (omega arith) (pending-new op is_pending_op) free) in
+    rw (is, is_slot, number) made
+  where
+  lt_of_ne : {a b : ℕ} → a ≤ b → a ≢ b → a < b
+  lt_of_ne le ne = omega arith
+
+-- the same where no channel changes
+pub kept-started-same : {f : Flight} {cs : List Channel} {ps : List slots.Pending} {o r r' : ℕ} {sh : Bool} {l : GroupLimits} (op : Operation) (x : Channel) (p : slots.Pending) (n : ℕ) → IsGroupKept f cs ps o sh l r r' → op.chan.0 < length cs → x ≡ get_or cs op.chan.0 x → p ≡ get_or ps op.chan.0 p → n ≡ length f.operations → start_refusal (group_of f cs sh l) op.chan.0 op.kind ≡ None → op.stage ≡ Pending → op.stage ≡ first_stage x.is_open op.kind op.len → (op.kind ≡ Connect → ⊥) → IsGroupKept (with_accepted f op) cs (set ps op.chan.0 (with_slot p op.kind (Some n))) o sh l r r'
+kept-started-same {f} {cs} {ps} {o} {r} {r'} {sh} {l} op x p n kept within read read_slot number allowed_start is_pending_op stage other =
+    let made = kept-started op x p n kept within read read_slot number allowed_start is_pending_op stage in
+    let same : set cs op.chan.0 (record x { endpoint = endpoint_after x.endpoint op.kind }) ≡ cs =
+      ap (λ (e : Endpoint). set cs op.chan.0 (record x { endpoint = e })) (endpoint_same x.endpoint op.kind other)
+      ∙ ap (set cs op.chan.0) read
+      ∙ set-get_or cs op.chan.0 x in
+    subst (λ (xs : List Channel). IsGroupKept (with_accepted f op) xs (set ps op.chan.0 (with_slot p op.kind (Some n))) o sh l r r') same made
+  where
+  endpoint_same : (e : Endpoint) (kind : OpKind) → (kind ≡ Connect → ⊥) → endpoint_after e kind ≡ e
+  endpoint_same e Accept h = refl
+  endpoint_same e Connect h = absurd (h refl)
+  endpoint_same e Read h = refl
+  endpoint_same e Write h = refl
+
+-- the slots after an operation was put after the others that isn't pending
+pub listed-queued : (f : Flight) (ps : List slots.Pending) (op : Operation) → IsListed f ps → is_pending (Some op) ≡ false → IsListed (with_accepted f op) ps
+listed-queued f ps op is_listed not_pending =
+    record {
+      listed = λ c kind n h. pending-still f.operations (Some op) c kind n (is_listed.listed c kind n h);
+      all = λ c kind n h.
+        elim (pending-pushed f.operations (Some op) c kind n h) [
+          inl own ↦ absurd (false≢true (sym (not_pending-as c kind (Some op) not_pending) ∙ own.1))
+        | inr old ↦ is_listed.all c kind n old.1
+        ];
+    }
+
+pub not_pending-stage : (op : Operation) → (op.stage ≡ Pending → ⊥) → is_pending (Some op) ≡ false
+not_pending-stage op h = by_stage op.stage h
+  where
+  by_stage : (stage : Stage) → (stage ≡ Pending → ⊥) → stage_is_pending stage ≡ false
+  by_stage Pending not = absurd (not refl)
+  by_stage (Queued finished) not = refl
+  by_stage Running not = refl
+
+-- after an operation that is queued at once was started
+pub kept-queued : {f : Flight} {cs : List Channel} {ps : List slots.Pending} {o r r' : ℕ} {sh : Bool} {l : GroupLimits} (op : Operation) (c : ℕ) → IsGroupKept f cs ps o sh l r r' → start_refusal (group_of f cs sh l) c op.kind ≡ None → (op.stage ≡ Pending → ⊥) → IsGroupKept (with_accepted f op) cs ps o sh l r r'
+kept-queued {f} {cs} {ps} {o} {r} {r'} {sh} {l} op c kept allowed_start not =
+    let g : Group = group_of f cs sh l in
+    let facts = startable g c op.kind allowed_start in
+    let few = kept.lawful.few_in_flight in
+    let few_numbers = kept.lawful.few_accepted in
+    let not_pending = not_pending-stage op not in
+    kept-operations (with_accepted f op) kept (lawful-queued g op kept.lawful not_pending (lt_of_ne few facts.room) (lt_of_ne few_numbers facts.numbers)) refl
+    (listed-queued f ps op kept.is_listed not_pending)
+  where
+  lt_of_ne : {a b : ℕ} → a ≤ b → a ≢ b → a < b
+  lt_of_ne le ne = omega arith
+
+-- there is room where a start isn't refused
+pub start-room : {f : Flight} {cs : List Channel} {ps : List slots.Pending} {o r r' : ℕ} {sh : Bool} {l : GroupLimits} (c : ℕ) (kind : OpKind) → IsGroupKept f cs ps o sh l r r' → start_refusal (group_of f cs sh l) c kind ≡ None → (in_flight f < f.limit) × (accepted f < 2 ^ 62)
+start-room {f} {cs} {ps} {o} {r} {r'} {sh} {l} c kind kept allowed_start =
+    let facts = startable (group_of f cs sh l) c kind allowed_start in
+    let room = facts.room in
+    let numbers = facts.numbers in
+    let few = kept.lawful.few_in_flight in
+    let few_numbers = kept.lawful.few_accepted in
+    let fit = kept.fit.few_ops in
+    (omega arith, omega arith)
+
+-- the same where the operation is a connect
+pub kept-started-connect : {f : Flight} {cs : List Channel} {ps : List slots.Pending} {o r r' : ℕ} {sh : Bool} {l : GroupLimits} (op : Operation) (x : Channel) (p : slots.Pending) (n : ℕ) → IsGroupKept f cs ps o sh l r r' → op.chan.0 < length cs → x ≡ get_or cs op.chan.0 x → p ≡ get_or ps op.chan.0 p → n ≡ length f.operations → start_refusal (group_of f cs sh l) op.chan.0 op.kind ≡ None → op.stage ≡ Pending → op.stage ≡ first_stage x.is_open op.kind op.len → op.kind ≡ Connect → IsGroupKept (with_accepted f op) (set cs op.chan.0 (record x { endpoint = Stream Connecting })) (set ps op.chan.0 (with_slot p op.kind (Some n))) o sh l r r'
+kept-started-connect {f} {cs} {ps} {o} {r} {r'} {sh} {l} op x p n kept within read read_slot number allowed_start is_pending_op stage connect =
+    subst (λ (e : Endpoint). IsGroupKept (with_accepted f op) (set cs op.chan.0 (record x { endpoint = e })) (set ps op.chan.0 (with_slot p op.kind (Some n))) o sh l r r')
+    (ap (endpoint_after x.endpoint) connect)
+    (kept-started op x p n kept within read read_slot number allowed_start is_pending_op stage)

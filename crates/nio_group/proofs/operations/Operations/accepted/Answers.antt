@@ -1,0 +1,8 @@
+use Rattle.std.proofs.Common.{sym, ◌∙◌, ap, length}
+use Rattle.nio_group.proofs.KeptLemmas.{length-kept}
+use Rattle.nio_group.proofs.operations.Operations.accepted.Goals as goal
+
+pub returns : goal.returns
+returns c =
+    let i = c.self.inside in
+    rw (← c.self.view_is) (sym (length-kept i.slab i.index i.accepted))

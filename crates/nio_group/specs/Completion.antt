@@ -1,0 +1,20 @@
+-- What a job and a completion tell.
+use Rattle.std.specs.Prelude.{◌≡◌, ℕ, List, [], ◌∷◌, Option, Some, None, refl}
+use Rattle.nio_base.specs.declared.numbers.OpNo.{OpNo}
+use Rattle.nio_base.specs.declared.numbers.GChan.{GChan}
+use Rattle.nio_group.specs.declared.operation.OpKind.{OpKind}
+use Rattle.nio_group.specs.declared.operation.Finished.{Finished}
+
+-- a pending operation: its number, its channel, its kind and its length
+pub record JobFields : Type 0 where
+  pub op : OpNo
+  pub chan : GChan
+  pub kind : OpKind
+  pub len : ℕ
+
+-- a completion: its operation's number, channel and kind, and its result
+pub record CompletionFields : Type 0 where
+  pub op : OpNo
+  pub chan : GChan
+  pub kind : OpKind
+  pub finished : Finished

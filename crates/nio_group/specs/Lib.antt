@@ -1,0 +1,14 @@
+pub mod Completion
+pub mod Flight
+pub mod FlightKept
+pub mod Group
+pub mod GroupKept
+pub mod Index
+pub mod Kept
+pub mod Limits
+pub mod Operations
+pub mod Pending
+pub mod Refusals
+pub mod Run
+pub mod Stages
+pub mod Steps

@@ -1,0 +1,150 @@
+-- The calls that change a group, one group step for each, runs of them, and their laws.
+use Rattle.std.specs.Prelude.{◌≡◌, ℕ, ◌+◌, ◌<◌, ◌≤◌, Bool, true, false, if◌then◌else◌, not, ◌&&◌, List, [], ◌∷◌, length, Option, Some, None, Result, IsTrue, ◌⊎◌, nat_lt}
+use Rattle.nio_base.specs.declared.numbers.OpNo.{OpNo}
+use Rattle.nio_base.specs.declared.numbers.GChan.{GChan}
+use Rattle.nio_group.specs.declared.channel.GKind.{GKind}
+use Rattle.nio_group.specs.declared.operation.OpKind.{OpKind}
+use Rattle.nio_group.specs.declared.operation.Outcome.{Outcome}
+use Rattle.nio_group.specs.declared.operation.Finished.{Finished}
+use Rattle.nio_group.specs.declared.operation.Stage.TheVariants.{Pending, Queued, Running}
+use Rattle.nio_group.specs.declared.operation.Operation.{Operation}
+use Rattle.nio_group.specs.declared.refusal.StartError.{StartError}
+use Rattle.nio_group.specs.declared.refusal.ReportError.{ReportError}
+use Rattle.nio_group.specs.declared.refusal.NotRunning.{NotRunning}
+use Rattle.nio_group.specs.declared.limits.GroupLimits.{GroupLimits}
+use Rattle.nio_group.specs.Completion.{CompletionFields}
+use Rattle.nio_group.specs.Stages.{at_stage, is_pending, is_queued, is_running}
+use Rattle.nio_group.specs.Flight.{op_at, accepted}
+use Rattle.nio_group.specs.Group.{Group, IsLawful, is_terminated, channel_at, empty_group}
+use Rattle.nio_group.specs.Steps.{answer_to_open, after_open, answer_to_bind, after_bind, answer_to_start, after_start, answer_to_report, after_report, answer_to_take, after_take, answer_to_finish, after_finish, after_close, after_shutdown, after_shutdown_now}
+
+pub data Call : Type 0 where
+  open_channel : GKind → Call
+  bind : GChan → Call
+  start : GChan → OpKind → ℕ → Call
+  report : OpNo → Outcome → Call
+  take : Call
+  finish : OpNo → Call
+  close_channel : GChan → Call
+  shutdown : Call
+  shutdown_now : Call
+
+pub data Reply : Type 0 where
+  opened : Result GChan StartError → Reply
+  bound : Result Unit StartError → Reply
+  started : Result OpNo StartError → Reply
+  reported : Result Unit ReportError → Reply
+  taken : Option CompletionFields → Reply
+  finished : Result Unit NotRunning → Reply
+  closed : Bool → Reply
+  done : Reply
+
+-- a call names channels that are made
+abbrev pub IsCallOf : Group → Call → Type 0
+IsCallOf g (open_channel kind) = Unit {0}
+IsCallOf g (bind chan) = chan.0 < length g.channels
+IsCallOf g (start chan kind len) = chan.0 < length g.channels
+IsCallOf g (report op outcome) = Unit {0}
+IsCallOf g take = Unit {0}
+IsCallOf g (finish op) = Unit {0}
+IsCallOf g (close_channel chan) = chan.0 < length g.channels
+IsCallOf g shutdown = Unit {0}
+IsCallOf g shutdown_now = Unit {0}
+
+abbrev pub reply_to : Group → Call → Reply
+reply_to g (open_channel kind) = opened (answer_to_open g)
+reply_to g (bind chan) = bound (answer_to_bind g chan.0)
+reply_to g (start chan kind len) = started (answer_to_start g chan kind)
+reply_to g (report op outcome) = reported (answer_to_report g op.0 outcome)
+reply_to g take = taken (answer_to_take g)
+reply_to g (finish op) = finished (answer_to_finish g op.0)
+reply_to g (close_channel chan) = closed (channel_at g chan.0).is_open
+reply_to g shutdown = done
+reply_to g shutdown_now = done
+
+abbrev pub after : Group → Call → Group
+after g (open_channel kind) = after_open g kind
+after g (bind chan) = after_bind g chan.0
+after g (start chan kind len) = after_start g chan kind len
+after g (report op outcome) = after_report g op.0 outcome
+after g take = after_take g
+after g (finish op) = after_finish g op.0
+after g (close_channel chan) = after_close g chan.0
+after g shutdown = after_shutdown g
+after g shutdown_now = after_shutdown_now g
+
+-- the group step: this call has this reply and leaves this state
+pub record IsStep (g : Group) (call : Call) (reply : Reply) (left : Group) : Type 0 where
+  pub answers : reply ≡ reply_to g call
+  pub leaves : left ≡ after g call
+
+-- for each lawful state and call there is one reply and one next state, and that state is lawful
+pub record IsOneStep (g : Group) (call : Call) : Type 0 where
+  pub reply : Reply
+  pub left : Group
+  pub step : IsStep g call reply left
+  pub lawful : IsLawful left
+  pub only : (reply' : Reply) (left' : Group) → IsStep g call reply' left' → (reply' ≡ reply) × (left' ≡ left)
+
+abbrev pub StepsAreLawful : Type 0
+StepsAreLawful = (g : Group) (call : Call) → IsLawful g → IsCallOf g call → IsOneStep g call
+
+-- a terminated group stays so
+abbrev pub TerminatedStays : Type 0
+TerminatedStays =
+    (g : Group) (call : Call) → IsLawful g → IsCallOf g call → IsTrue (is_terminated g) → IsTrue (is_terminated (after g call))
+
+-- an operation that has completed: it was accepted and isn't pending any more
+abbrev pub has_completed : Group → ℕ → Bool
+has_completed g n = nat_lt n (accepted g.flight) && not (is_pending (op_at g.flight n))
+
+-- an operation whose handler has been given its completion
+abbrev pub was_taken : Group → ℕ → Bool
+was_taken g n = has_completed g n && not (is_queued (op_at g.flight n))
+
+-- an operation that has ended
+abbrev pub has_ended : Group → ℕ → Bool
+has_ended g n = was_taken g n && not (is_running (op_at g.flight n))
+
+-- no call takes back an acceptance, a completion, a taking or an end: stages go forward alone
+pub record IsForward (g left : Group) (n : ℕ) : Type 0 where
+  pub accepts : accepted g.flight ≤ accepted left.flight
+  pub completes : IsTrue (has_completed g n) → IsTrue (has_completed left n)
+  pub takes : IsTrue (was_taken g n) → IsTrue (was_taken left n)
+  pub ends : IsTrue (has_ended g n) → IsTrue (has_ended left n)
+
+abbrev pub StagesGoForward : Type 0
+StagesGoForward = (g : Group) (call : Call) (n : ℕ) → IsLawful g → IsCallOf g call → IsForward g (after g call) n
+
+-- a run: each call names channels that are made by then
+abbrev pub IsRunOf : Group → List Call → Type 0
+IsRunOf g [] = Unit {0}
+IsRunOf g (call ∷ calls) = IsCallOf g call × IsRunOf (after g call) calls
+
+-- the group after a run
+abbrev pub left_by : Group → List Call → Group
+left_by g [] = g
+left_by g (call ∷ calls) = left_by (after g call) calls
+
+abbrev pub once_where : Bool → ℕ
+once_where b = if b then 1 else 0
+
+-- how often an operation completes in a run
+abbrev pub completions : ℕ → Group → List Call → ℕ
+completions n g [] = 0
+completions n g (call ∷ calls) =
+    once_where (has_completed (after g call) n && not (has_completed g n)) + completions n (after g call) calls
+
+-- in a run from the empty group each operation that was accepted and isn't pending has completed
+-- once, and no other has completed at all
+abbrev pub CompletesOnce : Type 0
+CompletesOnce =
+    (limits : GroupLimits) (calls : List Call) (n : ℕ) → IsRunOf (empty_group limits) calls → completions n (empty_group limits) calls ≡ once_where (has_completed (left_by (empty_group limits) calls) n)
+
+-- where a group has terminated every accepted operation has ended, and none completes from then on
+pub record IsAtRest (g : Group) : Type 0 where
+  pub ended : (n : ℕ) → n < accepted g.flight → IsTrue (has_ended g n)
+  pub completes_none : (n : ℕ) (calls : List Call) → IsRunOf g calls → completions n g calls ≡ 0
+
+abbrev pub TerminatedIsAtRest : Type 0
+TerminatedIsAtRest = (g : Group) → IsLawful g → IsTrue (is_terminated g) → IsAtRest g

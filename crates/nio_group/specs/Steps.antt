@@ -1,0 +1,186 @@
+-- What each call of a group answers, and the state that it leaves. A refused call leaves the group
+-- as it was.
+use Rattle.std.specs.Prelude.{◌≡◌, ℕ, ◌+◌, Bool, true, false, if◌then◌else◌, ◌&&◌, ◌==◌, not, List, [], ◌∷◌, ◌++◌, length, Option, Some, None, Result, Ok, Err, slice_index_or, slice_set, suc, zero}
+use Rattle.nio_base.specs.declared.numbers.OpNo.{OpNo}
+use Rattle.nio_base.specs.declared.numbers.GChan.{GChan}
+use Rattle.nio_group.specs.declared.channel.GKind.{GKind}
+use Rattle.nio_group.specs.declared.channel.Channel.{Channel}
+use Rattle.nio_group.specs.declared.channel.Endpoint.{Endpoint}
+use Rattle.nio_group.specs.declared.channel.Endpoint.TheVariants.{Stream, Listener}
+use Rattle.nio_group.specs.declared.channel.Link.TheVariants.{Connecting, Connected}
+use Rattle.nio_group.specs.declared.operation.OpKind.{OpKind}
+use Rattle.nio_group.specs.declared.operation.OpKind.TheVariants.{Accept, Connect, Read, Write}
+use Rattle.nio_group.specs.declared.operation.Outcome.{Outcome}
+use Rattle.nio_group.specs.declared.operation.Outcome.TheVariants as outcome
+use Rattle.nio_group.specs.declared.operation.Finished.{Finished}
+use Rattle.nio_group.specs.declared.operation.Finished.TheVariants as finished
+use Rattle.nio_group.specs.declared.operation.Why.TheVariants as why
+use Rattle.nio_group.specs.declared.operation.Stage.{Stage}
+use Rattle.nio_group.specs.declared.operation.Stage.TheVariants.{Pending, Queued, Running}
+use Rattle.nio_group.specs.declared.operation.Operation.{Operation}
+use Rattle.nio_group.specs.declared.refusal.StartError.{StartError}
+use Rattle.nio_group.specs.declared.refusal.ReportError.{ReportError}
+use Rattle.nio_group.specs.declared.refusal.NotRunning.{NotRunning}
+use Rattle.nio_group.specs.Completion.{CompletionFields, JobFields}
+use Rattle.nio_group.specs.Stages.{is_running}
+use Rattle.nio_group.specs.Flight.{Flight, op_at, accepted, with_accepted, with_completed, flight_after_take, with_ended, with_channel_closed}
+use Rattle.nio_group.specs.Group.{Group, new_channel, channel_at}
+use Rattle.nio_group.specs.Refusals.{open_refusal, bind_refusal, start_refusal, report_refusal}
+
+-- the answer of a call that may be refused, and what it leaves
+abbrev pub unless_refused : {T E : Type 0} → Option E → T → Result T E
+unless_refused None answer = Ok answer
+unless_refused (Some e) answer = Err e
+
+abbrev pub kept_if_refused : {E : Type 0} → Option E → Group → Group → Group
+kept_if_refused None old new = new
+kept_if_refused (Some e) old new = old
+
+abbrev pub with_channel : Group → ℕ → Channel → Group
+with_channel g c channel = record g { channels = slice_set g.channels c channel }
+
+abbrev pub with_endpoint : Group → ℕ → Endpoint → Group
+with_endpoint g c endpoint = with_channel g c (record (channel_at g c) { endpoint = endpoint })
+
+-- `open_channel`: a new channel, with the next number
+abbrev pub answer_to_open : Group → Result GChan StartError
+answer_to_open g = unless_refused (open_refusal g) (record { 0 = length g.channels })
+
+abbrev pub after_open : Group → GKind → Group
+after_open g kind =
+    kept_if_refused (open_refusal g) g (record g { channels = g.channels ++ new_channel kind ∷ [] })
+
+-- `bind`: the listener is bound
+abbrev pub answer_to_bind : Group → ℕ → Result Unit StartError
+answer_to_bind g c = unless_refused (bind_refusal (channel_at g c).is_open (channel_at g c).endpoint) tt
+
+abbrev pub after_bind : Group → ℕ → Group
+after_bind g c = kept_if_refused (bind_refusal (channel_at g c).is_open (channel_at g c).endpoint) g (with_endpoint g c (Listener true))
+
+-- `start`: on a closed channel the operation is queued at once as failed, a read or a write of no
+-- bytes with its count of 0; else it is pending, and a connect makes its stream connecting
+abbrev pub first_stage : Bool → OpKind → ℕ → Stage
+first_stage false kind len = Queued (finished.Failed why.ClosedChannel)
+first_stage true Accept len = Pending
+first_stage true Connect len = Pending
+first_stage true Read len = if len == 0 then Queued (finished.Count 0) else Pending
+first_stage true Write len = if len == 0 then Queued (finished.Count 0) else Pending
+
+abbrev pub channels_after_start : Group → ℕ → OpKind → Bool → Group
+channels_after_start g c Connect true = with_endpoint g c (Stream Connecting)
+channels_after_start g c kind is_open = g
+
+abbrev pub started : Group → GChan → OpKind → ℕ → Group
+started g chan kind len =
+    let is_open = (channel_at g chan.0).is_open in
+    record (channels_after_start g chan.0 kind is_open) {
+      flight = with_accepted g.flight (record { chan = chan; kind = kind; len = len; stage = first_stage is_open kind len });
+    }
+
+abbrev pub answer_to_start : Group → GChan → OpKind → Result OpNo StartError
+answer_to_start g chan kind = unless_refused (start_refusal g chan.0 kind) (record { 0 = accepted g.flight })
+
+abbrev pub after_start : Group → GChan → OpKind → ℕ → Group
+after_start g chan kind len = kept_if_refused (start_refusal g chan.0 kind) g (started g chan kind len)
+
+-- `report`: the operation's completion is queued. A connection makes its stream connected, a fault
+-- of a connect closes the channel, and an accepted connection becomes a connected stream with the
+-- next number, unless the group is shut down or no number is left
+abbrev pub no_number_left : Group → Bool
+no_number_left g = length g.channels == g.channel_limit
+
+abbrev pub result_of : Group → Outcome → Finished
+result_of g (outcome.Count k) = finished.Count k
+result_of g outcome.End = finished.End
+result_of g outcome.Connected = finished.Connected
+result_of g outcome.Fault = finished.Failed why.Fault
+result_of g outcome.Accepted =
+    if g.is_shut then finished.Failed why.ShutdownGroup
+    else if no_number_left g then finished.Failed why.ChannelsSpent
+    else finished.Accepted (record { 0 = length g.channels })
+
+abbrev pub with_closed : Group → ℕ → Group
+with_closed g c = with_channel g c (record (channel_at g c) { is_open = false })
+
+abbrev pub connected_stream : Channel
+connected_stream = record { is_open = true; endpoint = Stream Connected }
+
+abbrev pub channels_after_report : Group → ℕ → OpKind → Outcome → Group
+channels_after_report g c kind outcome.Connected = with_endpoint g c (Stream Connected)
+channels_after_report g c Connect outcome.Fault = with_closed g c
+channels_after_report g c kind outcome.Accepted =
+    if g.is_shut then g else if no_number_left g then g
+    else record g { channels = g.channels ++ connected_stream ∷ [] }
+channels_after_report g c kind other = g
+
+abbrev pub reported : Group → ℕ → Outcome → Option Operation → Group
+reported g n outcome None = g
+reported g n outcome (Some op) =
+    record (channels_after_report g op.chan.0 op.kind outcome) {
+      flight = with_completed g.flight n (result_of g outcome);
+    }
+
+abbrev pub answer_to_report : Group → ℕ → Outcome → Result Unit ReportError
+answer_to_report g n outcome = unless_refused (report_refusal (op_at g.flight n) outcome) tt
+
+abbrev pub after_report : Group → ℕ → Outcome → Group
+after_report g n outcome =
+    kept_if_refused (report_refusal (op_at g.flight n) outcome) g (reported g n outcome (op_at g.flight n))
+
+-- `take`: the completion at the front of the queue, which is running from then on
+abbrev pub completion_of : ℕ → GChan → OpKind → Stage → Option CompletionFields
+completion_of n chan kind Pending = None
+completion_of n chan kind (Queued finished) =
+    Some (record { op = record { 0 = n }; chan = chan; kind = kind; finished = finished })
+completion_of n chan kind Running = None
+
+abbrev pub completion_at : ℕ → Option Operation → Option CompletionFields
+completion_at n None = None
+completion_at n (Some op) = completion_of n op.chan op.kind op.stage
+
+abbrev pub taken_from : Flight → List ℕ → Option CompletionFields
+taken_from f [] = None
+taken_from f (n ∷ rest) = completion_at n (op_at f n)
+
+abbrev pub answer_to_take : Group → Option CompletionFields
+answer_to_take g = taken_from g.flight g.flight.queue
+
+abbrev pub after_take : Group → Group
+after_take g = record g { flight = flight_after_take g.flight g.flight.queue }
+
+-- `finish`: the handler of a running operation has ended, and with it the operation
+abbrev pub finish_refusal : Bool → Option NotRunning
+finish_refusal true = None
+finish_refusal false = Some (record { })
+
+abbrev pub answer_to_finish : Group → ℕ → Result Unit NotRunning
+answer_to_finish g n = unless_refused (finish_refusal (is_running (op_at g.flight n))) tt
+
+abbrev pub after_finish : Group → ℕ → Group
+after_finish g n =
+    kept_if_refused (finish_refusal (is_running (op_at g.flight n))) g (record g { flight = with_ended g.flight n })
+
+-- `close_channel`: an open channel is closed, and what is pending on it completes
+abbrev pub after_close : Group → ℕ → Group
+after_close g c =
+    if (channel_at g c).is_open
+    then record (with_closed g c) { flight = with_channel_closed g.flight c }
+    else g
+
+-- `shutdown`
+abbrev pub after_shutdown : Group → Group
+after_shutdown g = record g { is_shut = true }
+
+-- `shutdown_now`: shut down, then every open channel is closed, in rising order
+abbrev pub closed_below : ℕ → Group → Group
+closed_below zero g = g
+closed_below (suc c) g = after_close (closed_below c g) c
+
+abbrev pub after_shutdown_now : Group → Group
+after_shutdown_now g = closed_below (length g.channels) (after_shutdown g)
+
+-- the job names a pending operation of this kind on this channel
+pub record IsJobOf (g : Group) (c : ℕ) (kind : OpKind) (job : JobFields) : Type 0 where
+  pub chan : job.chan.0 ≡ c
+  pub same_kind : job.kind ≡ kind
+  pub pending : op_at g.flight job.op.0 ≡ Some (record { chan = job.chan; kind = job.kind; len = job.len; stage = Pending })

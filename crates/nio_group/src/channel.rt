@@ -1,0 +1,53 @@
+//! The channels of a group.
+
+ghost use Rattle.std.specs.Prelude.{◌≡◌};
+
+/// What a channel of a group is.
+#[derive(Clone, Copy, Debug, PartialEq, Eq, Hash)]
+pub enum GKind {
+    /// A stream connection, as Java's `AsynchronousSocketChannel`.
+    Stream,
+    /// What accepts stream connections, as Java's `AsynchronousServerSocketChannel`.
+    Listener,
+}
+
+/// How far a stream has come.
+#[derive(Clone, Copy, Debug, PartialEq, Eq, Hash)]
+pub enum Link {
+    Unconnected,
+    Connecting,
+    Connected,
+}
+
+/// A channel's kind, and what its kind has besides: a stream its connection, a listener whether
+/// it is bound.
+#[derive(Clone, Copy, Debug, PartialEq, Eq, Hash)]
+pub enum Endpoint {
+    Stream(Link),
+    Listener(bool),
+}
+
+/// A channel of a group.
+#[derive(Clone, Copy, Debug, PartialEq, Eq, Hash)]
+pub struct Channel {
+    pub is_open: bool,
+    pub endpoint: Endpoint,
+}
+
+impl Channel {
+    ghost use Rattle.nio_group.specs.Group.{new_channel};
+
+    /// A channel as it is made: open, a stream unconnected, a listener not bound.
+    pub(crate) fn new(kind: GKind) -> Channel
+        ensures { result ≡ new_channel kind }
+    {
+        let endpoint = match kind {
+            GKind::Stream => Endpoint::Stream(Link::Unconnected),
+            GKind::Listener => Endpoint::Listener(false),
+        };
+        Channel {
+            is_open: true,
+            endpoint,
+        }
+    }
+}

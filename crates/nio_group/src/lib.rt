@@ -1,0 +1,27 @@
+//! The operations of an asynchronous channel group as calls of one thread: channels are opened,
+//! operations are started, what came of them is reported, and completions are taken and finished,
+//! until the group has shut down and terminated.
+#![tactic(auto)]
+
+pub use channel::{Channel, Endpoint, GKind, Link};
+pub use completion::{Completion, Job};
+pub use group::GroupCore;
+pub use laws::{completion_law, rest_law, stage_law, step_law, terminated_law};
+pub use limits::GroupLimits;
+pub use operation::{Finished, OpKind, Operation, Outcome, Stage, Why};
+pub use refusal::{NotRunning, ReportError, StartError};
+
+mod channel;
+mod completion;
+mod flight;
+mod group;
+mod index;
+mod laws;
+mod limits;
+mod operation;
+mod operations;
+mod pending;
+mod refusal;
+mod refuse;
+#[cfg(test)]
+mod tests;
