@@ -1,3 +1,4 @@
 pub mod RunLaws
 pub mod CallLaws
 pub mod SweepLaws
+pub mod PerformLaws
