@@ -1,7 +1,9 @@
-//! The steps of each call as a plan, and the laws about plans.
+//! The steps of each call on selectors, keys and channels, as plans, and the laws about plans; and
+//! what these calls answer.
 #![tactic(auto)]
 
-/// Placeholder.
-pub fn nothing() -> bool {
-    true
-}
+pub use refusal::{BeginError, ChannelError, KeyError, ListError, SelectorsSpent};
+pub use selected::Selected;
+
+mod refusal;
+mod selected;
