@@ -2,3 +2,4 @@ pub mod RunLaws
 pub mod CallLaws
 pub mod SweepLaws
 pub mod PerformLaws
+pub mod EachLaws

@@ -9,3 +9,5 @@ pub mod KeyCalls
 pub mod ChannelCalls
 pub mod SelectCalls
 pub mod Selections
+pub mod Laws
+pub mod Each

@@ -2,8 +2,10 @@
 //! what these calls answer.
 #![tactic(auto)]
 
+pub use laws::run_law;
 pub use refusal::{BeginError, ChannelError, KeyError, ListError, SelectorsSpent};
 pub use selected::Selected;
 
+mod laws;
 mod refusal;
 mod selected;

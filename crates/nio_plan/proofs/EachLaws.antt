@@ -1,0 +1,92 @@
+-- What holds of each question and each reply of a plan holds of what follows it.
+use Rattle.std.proofs.Common.{◌≡◌, ℕ, zero, suc, ◌+◌, ◌-◌, Bool, true, false, if◌then◌else◌, Option, Some, None, List, [], ◌∷◌, ◌++◌, refl, ap, sym, ◌∙◌, subst}
+use Rattle.std.specs.Prelude.{⊤}
+use Rattle.std.specs.List.{All}
+use Rattle.std.proofs.lemmas.List.Elements.{All-nil, All-cons, All-head, All-tail}
+use Rattle.nio_event.specs.Questions.{Question, Answer, question_of, answer_of}
+use Rattle.nio_event.specs.declared.act.Act.{Act}
+use Rattle.nio_plan.specs.Each.{Each}
+use Rattle.nio_plan.specs.Plan.{Plan, reply, ask, ◌>>=◌}
+use Rattle.nio_plan.specs.Runs.{Follows, Completes}
+use Rattle.nio_plan.specs.Sweeps.{sweep, sweep_to, seek, seek_to, sweep_over}
+
+-- ---- of plans after one another
+
+pub each_bind : {A B : Type 0} (Asks : Question → Type 0) (First : A → Type 0) (Second : B → Type 0) (plan : Plan A) (f : A → Plan B)
+    → Each Asks First plan → ((a : A) → First a → Each Asks Second (f a)) → Each Asks Second (plan >>= f)
+each_bind Asks First Second (reply a) f here later = later a here
+each_bind Asks First Second (ask q next) f here later = (here.0, λ answer. each_bind Asks First Second (next answer) f (here.1 answer) later)
+
+pub each_if : {R : Type 0} (Asks : Question → Type 0) (Replies : R → Type 0) (b : Bool) (x y : Plan R)
+    → Each Asks Replies x → Each Asks Replies y → Each Asks Replies (if b then x else y)
+each_if Asks Replies true x y this that = this
+each_if Asks Replies false x y this that = that
+
+pub each_weaker : {R : Type 0} (Asks Asks' : Question → Type 0) (Replies Replies' : R → Type 0) (plan : Plan R)
+    → ((q : Question) → Asks q → Asks' q) → ((r : R) → Replies r → Replies' r) → Each Asks Replies plan → Each Asks' Replies' plan
+each_weaker Asks Asks' Replies Replies' (reply r) asks replies here = replies r here
+each_weaker Asks Asks' Replies Replies' (ask q next) asks replies here = (asks q here.0, λ answer. each_weaker Asks Asks' Replies Replies' (next answer) asks replies (here.1 answer))
+
+-- ---- of sweeps
+
+pub each_sweep : {A : Type 0} (Asks : Question → Type 0) (Left : A → Type 0) (n i : ℕ) (f : ℕ → A → Plan A) (x : A)
+    → Left x → ((k : ℕ) (y : A) → Left y → Each Asks Left (f k y)) → Each Asks Left (sweep n i f x)
+unfolding sweep
+each_sweep Asks Left zero i f x here each = here
+each_sweep Asks Left (suc n) i f x here each = each_bind Asks Left Left (f i x) (λ y. sweep n (i + 1) f y) (each i x here) (λ y left. each_sweep Asks Left n (i + 1) f y left each)
+
+pub each_seek : (Asks : Question → Type 0) (Found : Option ℕ → Type 0) (n i : ℕ) (f : ℕ → Plan Bool)
+    → Found None → ((k : ℕ) → Found (Some k)) → ((k : ℕ) → Each Asks (λ _. ⊤) (f k)) → Each Asks Found (seek n i f)
+unfolding seek
+each_seek Asks Found zero i f none_at some_at each = none_at
+each_seek Asks Found (suc n) i f none_at some_at each =
+    each_bind Asks (λ _. ⊤) Found (f i) (λ here. if here then reply (Some i) else seek n (i + 1) f) (each i)
+      (λ here _. each_if Asks Found here (reply (Some i)) (seek n (i + 1) f) (some_at i) (each_seek Asks Found n (i + 1) f none_at some_at each))
+
+-- at each element of a list that passes `Fits`
+pub each_over : {X A : Type 0} (Asks : Question → Type 0) (Fits : X → Type 0) (Left : A → Type 0) (xs : List X) (f : X → A → Plan A) (x : A)
+    → All Fits xs → Left x → ((e : X) (y : A) → Fits e → Left y → Each Asks Left (f e y)) → Each Asks Left (sweep_over xs f x)
+unfolding sweep_over
+each_over Asks Fits Left [] f x fit here each = here
+each_over Asks Fits Left (e ∷ later) f x fit here each =
+    each_bind Asks Left Left (f e x) (λ y. sweep_over later f y) (each e x (All-head Fits e later fit) here)
+      (λ y left. each_over Asks Fits Left later f y (All-tail Fits e later fit) left each)
+
+-- ---- of what follows them
+
+-- what is left of the plan is such a one again
+pub each_part : {R : Type 0} (Asks : Question → Type 0) (Replies : R → Type 0) (plan : Plan R) (acts : List Act) (rest : Plan R)
+    → Each Asks Replies plan → Follows plan acts rest → All (λ act. Asks (question_of act)) acts × Each Asks Replies rest
+each_part Asks Replies plan [] rest here follows = (All-nil (λ act. Asks (question_of act)), subst (Each Asks Replies) follows here)
+each_part Asks Replies (reply r) (act ∷ acts) rest here follows = absurd follows
+each_part Asks Replies (ask q next) (act ∷ acts) rest here follows =
+    let later = each_part Asks Replies (next (answer_of act)) acts rest (here.1 (answer_of act)) follows.1 in
+    (All-cons (λ a. Asks (question_of a)) act acts (subst Asks (sym follows.0) here.0) later.0, later.1)
+
+pub each_run : {R : Type 0} (Asks : Question → Type 0) (Replies : R → Type 0) (plan : Plan R) (acts : List Act) (r : R)
+    → Each Asks Replies plan → Completes plan acts r → All (λ act. Asks (question_of act)) acts × Replies r
+each_run Asks Replies plan acts r here run = each_part Asks Replies plan acts (reply r) here run
+
+-- ---- a run of one plan and then another
+
+pub record Split {A B : Type 0} (plan : Plan A) (f : A → Plan B) (acts : List Act) (r : B) : Type 0 where
+  pub first : List Act
+  pub answer : A
+  pub second : List Act
+  pub parts : acts ≡ first ++ second
+  pub runs_first : Completes plan first answer
+  pub runs_second : Completes (f answer) second r
+
+pub split : {A B : Type 0} (plan : Plan A) (f : A → Plan B) (acts : List Act) (r : B) → Completes (plan >>= f) acts r → Split plan f acts r
+split (reply a) f acts r run = record { first = []; answer = a; second = acts; parts = refl; runs_first = refl; runs_second = run }
+split (ask q next) f [] r run = absurd (cc run)
+split (ask q next) f (act ∷ acts) r run =
+    let later = split (next (answer_of act)) f acts r run.1 in
+    record {
+      first = act ∷ later.first;
+      answer = later.answer;
+      second = later.second;
+      parts = ap (λ xs. act ∷ xs) later.parts;
+      runs_first = (run.0, later.runs_first);
+      runs_second = later.runs_second;
+    }
