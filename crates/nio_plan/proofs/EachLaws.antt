@@ -1,12 +1,12 @@
 -- What holds of each question and each reply of a plan holds of what follows it.
-use Rattle.std.proofs.Common.{◌≡◌, ℕ, zero, suc, ◌+◌, ◌-◌, Bool, true, false, if◌then◌else◌, Option, Some, None, List, [], ◌∷◌, ◌++◌, refl, ap, sym, ◌∙◌, subst}
+use Rattle.std.proofs.Common.{◌≡◌, ℕ, zero, suc, ◌+◌, ◌-◌, ◌<◌, ◌≤◌, Bool, true, false, if◌then◌else◌, Option, Some, None, List, [], ◌∷◌, ◌++◌, refl, ap, sym, ◌∙◌, subst, arith}
 use Rattle.std.specs.Prelude.{⊤}
 use Rattle.std.specs.List.{All}
 use Rattle.std.proofs.lemmas.List.Elements.{All-nil, All-cons, All-head, All-tail}
 use Rattle.nio_event.specs.Questions.{Question, Answer, question_of, answer_of}
 use Rattle.nio_event.specs.declared.act.Act.{Act}
 use Rattle.nio_plan.specs.Each.{Each}
-use Rattle.nio_plan.specs.Plan.{Plan, reply, ask, ◌>>=◌}
+use Rattle.nio_plan.specs.Plan.{Plan, reply, ask, ◌>>=◌, when}
 use Rattle.nio_plan.specs.Runs.{Follows, Completes}
 use Rattle.nio_plan.specs.Sweeps.{sweep, sweep_to, seek, seek_to, sweep_over}
 
@@ -18,9 +18,13 @@ each_bind Asks First Second (reply a) f here later = later a here
 each_bind Asks First Second (ask q next) f here later = (here.0, λ answer. each_bind Asks First Second (next answer) f (here.1 answer) later)
 
 pub each_if : {R : Type 0} (Asks : Question → Type 0) (Replies : R → Type 0) (b : Bool) (x y : Plan R)
-    → Each Asks Replies x → Each Asks Replies y → Each Asks Replies (if b then x else y)
-each_if Asks Replies true x y this that = this
-each_if Asks Replies false x y this that = that
+    → (b ≡ true → Each Asks Replies x) → (b ≡ false → Each Asks Replies y) → Each Asks Replies (if b then x else y)
+each_if Asks Replies true x y this that = this refl
+each_if Asks Replies false x y this that = that refl
+
+pub each_when : {A : Type 0} (Asks : Question → Type 0) (test : Bool) (plan : Plan A) → Each Asks (λ _. ⊤) plan → Each Asks (λ _. ⊤) (when test plan)
+each_when Asks true plan here = each_bind Asks (λ _. ⊤) (λ _. ⊤) plan (λ _. reply tt) here (λ _ _. tt)
+each_when Asks false plan here = tt
 
 pub each_weaker : {R : Type 0} (Asks Asks' : Question → Type 0) (Replies Replies' : R → Type 0) (plan : Plan R)
     → ((q : Question) → Asks q → Asks' q) → ((r : R) → Replies r → Replies' r) → Each Asks Replies plan → Each Asks' Replies' plan
@@ -29,19 +33,31 @@ each_weaker Asks Asks' Replies Replies' (ask q next) asks replies here = (asks q
 
 -- ---- of sweeps
 
-pub each_sweep : {A : Type 0} (Asks : Question → Type 0) (Left : A → Type 0) (n i : ℕ) (f : ℕ → A → Plan A) (x : A)
-    → Left x → ((k : ℕ) (y : A) → Left y → Each Asks Left (f k y)) → Each Asks Left (sweep n i f x)
+by_count : {A : Type 0} (Asks : Question → Type 0) (Left : A → Type 0) (n i : ℕ) (f : ℕ → A → Plan A) (x : A)
+    → Left x → ((k : ℕ) (y : A) → i ≤ k → k < i + n → Left y → Each Asks Left (f k y)) → Each Asks Left (sweep n i f x)
 unfolding sweep
-each_sweep Asks Left zero i f x here each = here
-each_sweep Asks Left (suc n) i f x here each = each_bind Asks Left Left (f i x) (λ y. sweep n (i + 1) f y) (each i x here) (λ y left. each_sweep Asks Left n (i + 1) f y left each)
+by_count Asks Left zero i f x here each = here
+by_count Asks Left (suc n) i f x here each =
+    each_bind Asks Left Left (f i x) (λ y. sweep n (i + 1) f y) (each i x (omega arith) (omega arith) here)
+      (λ y left. by_count Asks Left n (i + 1) f y left (λ k z low high. each k z (omega arith) (omega arith)))
 
-pub each_seek : (Asks : Question → Type 0) (Found : Option ℕ → Type 0) (n i : ℕ) (f : ℕ → Plan Bool)
-    → Found None → ((k : ℕ) → Found (Some k)) → ((k : ℕ) → Each Asks (λ _. ⊤) (f k)) → Each Asks Found (seek n i f)
+pub each_sweep : {A : Type 0} (Asks : Question → Type 0) (Left : A → Type 0) (b i : ℕ) (f : ℕ → A → Plan A) (x : A)
+    → Left x → ((k : ℕ) (y : A) → i ≤ k → k < b → Left y → Each Asks Left (f k y)) → Each Asks Left (sweep_to b i f x)
+each_sweep Asks Left b i f x here each = by_count Asks Left (b - i) i f x here (λ k y low high. each k y low (omega arith))
+
+by_count_to_first : (Asks : Question → Type 0) (Found : Option ℕ → Type 0) (n i : ℕ) (f : ℕ → Plan Bool)
+    → Found None → ((k : ℕ) → i ≤ k → k < i + n → Found (Some k)) → ((k : ℕ) → i ≤ k → k < i + n → Each Asks (λ _. ⊤) (f k)) → Each Asks Found (seek n i f)
 unfolding seek
-each_seek Asks Found zero i f none_at some_at each = none_at
-each_seek Asks Found (suc n) i f none_at some_at each =
-    each_bind Asks (λ _. ⊤) Found (f i) (λ here. if here then reply (Some i) else seek n (i + 1) f) (each i)
-      (λ here _. each_if Asks Found here (reply (Some i)) (seek n (i + 1) f) (some_at i) (each_seek Asks Found n (i + 1) f none_at some_at each))
+by_count_to_first Asks Found zero i f none_at some_at each = none_at
+by_count_to_first Asks Found (suc n) i f none_at some_at each =
+    each_bind Asks (λ _. ⊤) Found (f i) (λ here. if here then reply (Some i) else seek n (i + 1) f) (each i (omega arith) (omega arith))
+      (λ here _. each_if Asks Found here (reply (Some i)) (seek n (i + 1) f) (λ _. some_at i (omega arith) (omega arith))
+        (λ _. by_count_to_first Asks Found n (i + 1) f none_at (λ k low high. some_at k (omega arith) (omega arith)) (λ k low high. each k (omega arith) (omega arith))))
+
+pub each_seek : (Asks : Question → Type 0) (Found : Option ℕ → Type 0) (b i : ℕ) (f : ℕ → Plan Bool)
+    → Found None → ((k : ℕ) → i ≤ k → k < b → Found (Some k)) → ((k : ℕ) → i ≤ k → k < b → Each Asks (λ _. ⊤) (f k)) → Each Asks Found (seek_to b i f)
+each_seek Asks Found b i f none_at some_at each =
+    by_count_to_first Asks Found (b - i) i f none_at (λ k low high. some_at k low (omega arith)) (λ k low high. each k low (omega arith))
 
 -- at each element of a list that passes `Fits`
 pub each_over : {X A : Type 0} (Asks : Question → Type 0) (Fits : X → Type 0) (Left : A → Type 0) (xs : List X) (f : X → A → Plan A) (x : A)

@@ -3,3 +3,4 @@ pub mod CallLaws
 pub mod SweepLaws
 pub mod PerformLaws
 pub mod EachLaws
+pub mod ToldLaws

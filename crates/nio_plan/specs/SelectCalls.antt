@@ -161,17 +161,22 @@ pub data AfterTold : Type 0 where
   done : Selected → AfterTold
   again : Selection → AfterTold
 
+-- the keys that were cancelled meanwhile are removed, the wakeup is used up, and the turn is free
+abbrev pub end_selection : Selection → Selected → Plan AfterTold
+end_selection selection answer = do
+  sweep_to selection.bound 0 (λ i _. sweep_key selection.selector i) tt
+  end_wake selection.selector
+  give_turn selection.selector
+  reply (done answer)
+
 -- `pairs` is what the poller told, and `elapsed` whether it said that the time is over
 unfoldable pub told_plan : Selection → List (ℕ × ℕ) → Bool → Plan AfterTold
 told_plan selection pairs elapsed = do
   count ← sweep_over selection.looked (mark_entry selection.selector pairs) 0
   gate ← look_gate selection.selector
   interrupted ← look_interrupt
-  if is_again selection.mode count gate interrupted elapsed then reply (again selection) else do
-    sweep_to selection.bound 0 (λ i _. sweep_key selection.selector i) tt
-    end_wake selection.selector
-    give_turn selection.selector
-    reply (done (record { count = count; why = why_over selection.mode count gate interrupted }))
+  if is_again selection.mode count gate interrupted elapsed then reply (again selection) else
+    end_selection selection (record { count = count; why = why_over selection.mode count gate interrupted })
 
 -- after a poll that failed
 unfoldable pub leave_plan : Selection → Plan (Unit {0})
