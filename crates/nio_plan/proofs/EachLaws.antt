@@ -26,6 +26,11 @@ pub each_when : {A : Type 0} (Asks : Question → Type 0) (test : Bool) (plan : 
 each_when Asks true plan here = each_bind Asks (λ _. ⊤) (λ _. ⊤) plan (λ _. reply tt) here (λ _ _. tt)
 each_when Asks false plan here = tt
 
+-- where nothing is asked of them
+pub each_any : {R : Type 0} (plan : Plan R) → Each (λ _. ⊤) (λ _. ⊤) plan
+each_any (reply r) = tt
+each_any (ask q next) = (tt, λ answer. each_any (next answer))
+
 pub each_weaker : {R : Type 0} (Asks Asks' : Question → Type 0) (Replies Replies' : R → Type 0) (plan : Plan R)
     → ((q : Question) → Asks q → Asks' q) → ((r : R) → Replies r → Replies' r) → Each Asks Replies plan → Each Asks' Replies' plan
 each_weaker Asks Asks' Replies Replies' (reply r) asks replies here = replies r here

@@ -4,3 +4,4 @@ pub mod SweepLaws
 pub mod PerformLaws
 pub mod EachLaws
 pub mod ToldLaws
+pub mod SelectionLaws

@@ -72,19 +72,34 @@ look_over s i looked = do
       ops ← look_interest s i
       reply (looked ++ record { index = i; channel = stage.chan; interest = ops } ∷ [])) else reply looked)
 
--- `lacks` says whether there is no memory for the looked list
+-- below the bound, unless there is no memory for the looked list
+abbrev pub begin_below : SelNo → Mode → ℕ → Bool → Plan (Result Selection BeginError)
+begin_below s mode bound lacks = if lacks then given_back s (Err BeginError.Memory) else do
+  looked ← sweep_to bound 0 (look_over s) []
+  reply (Ok (record { selector = s; mode = mode; bound = bound; looked = looked }))
+
+-- with the turn
+abbrev pub begin_with_turn : SelNo → Mode → Bool → Plan (Result Selection BeginError)
+begin_with_turn s mode lacks = do
+  begun ← begin_look s
+  if begun.shut then given_back s (Err BeginError.ClosedSelector) else do
+    bound ← look_keys s
+    begin_below s mode bound lacks
+
+-- the answer is that there was no memory
+abbrev pub begin_lacks_memory : {A : Type 0} → Result A BeginError → Bool
+begin_lacks_memory (Err BeginError.Memory) = true
+begin_lacks_memory _ = false
+
+-- `lacks` says whether there is no memory for the looked list: for a call with this plan it is
+-- `begin_lacks_memory` of its answer
 unfoldable pub begin_plan : SelNo → Mode → Bool → Plan (Result Selection BeginError)
 begin_plan s mode lacks = do
   gate ← look_gate s
   if gate.shut then reply (Err BeginError.ClosedSelector) else do
     holder ← take_turn s
-    if is_some holder then reply (Err BeginError.Busy) else do
-      begun ← begin_look s
-      if begun.shut then given_back s (Err BeginError.ClosedSelector) else do
-        bound ← look_keys s
-        if lacks then given_back s (Err BeginError.Memory) else do
-          looked ← sweep_to bound 0 (look_over s) []
-          reply (Ok (record { selector = s; mode = mode; bound = bound; looked = looked }))
+    if is_some holder then reply (Err BeginError.Busy) else
+      begin_with_turn s mode lacks
 
 -- ---- telling
 
@@ -169,14 +184,19 @@ end_selection selection answer = do
   give_turn selection.selector
   reply (done answer)
 
--- `pairs` is what the poller told, and `elapsed` whether it said that the time is over
-unfoldable pub told_plan : Selection → List (ℕ × ℕ) → Bool → Plan AfterTold
-told_plan selection pairs elapsed = do
-  count ← sweep_over selection.looked (mark_entry selection.selector pairs) 0
+-- the selection goes on or is over, after so many marks that succeeded
+abbrev pub after_marks : Selection → Bool → ℕ → Plan AfterTold
+after_marks selection elapsed count = do
   gate ← look_gate selection.selector
   interrupted ← look_interrupt
   if is_again selection.mode count gate interrupted elapsed then reply (again selection) else
     end_selection selection (record { count = count; why = why_over selection.mode count gate interrupted })
+
+-- `pairs` is what the poller told, and `elapsed` whether it said that the time is over
+unfoldable pub told_plan : Selection → List (ℕ × ℕ) → Bool → Plan AfterTold
+told_plan selection pairs elapsed = do
+  count ← sweep_over selection.looked (mark_entry selection.selector pairs) 0
+  after_marks selection elapsed count
 
 -- after a poll that failed
 unfoldable pub leave_plan : Selection → Plan (Unit {0})
@@ -234,6 +254,11 @@ list_plan list_one s lacks = do
     if lacks then reply (Err ListError.Memory) else do
       listed ← sweep_to bound 0 (list_one s) []
       reply (Ok listed)
+
+-- the answer is that there was no memory
+abbrev pub list_lacks_memory : {A : Type 0} → Result A ListError → Bool
+list_lacks_memory (Err ListError.Memory) = true
+list_lacks_memory _ = false
 
 unfoldable pub keys_plan : SelNo → Bool → Plan (Result (List KeyNo) ListError)
 keys_plan s lacks = list_plan list_key s lacks
