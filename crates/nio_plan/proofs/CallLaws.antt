@@ -89,6 +89,15 @@ left_start l me plan pass legal = record {
   held = refl;
 }
 
+-- nothing more was done after a step, or after a call
+pub left_after : {R : Type 0} {l : Limits} {me : CallerNo} {act : Act} {v0 v1 : View} {plan : Plan R}
+    → StepTold l me act v0 v1 → PartTold l me plan v1 v1 plan
+left_after {l = l} {me = me} {v1 = v1} {plan = plan} step = left_start l me plan v1 step.history.legal
+
+pub left_after_call : {A R : Type 0} {l : Limits} {me : CallerNo} {made rest : Plan A} {v0 v1 : View} {plan : Plan R}
+    → PartTold l me made v0 v1 rest → PartTold l me plan v1 v1 plan
+left_after_call {l = l} {me = me} {v1 = v1} {plan = plan} told = left_start l me plan v1 told.part.history.legal
+
 -- a part of a call, and then a part of what was left
 pub left_more : {R : Type 0} {l : Limits} {me : CallerNo} {plan middle rest : Plan R} {v0 v1 v2 : View}
     → PartTold l me plan v0 v1 middle → PartTold l me middle v1 v2 rest → PartTold l me plan v0 v2 rest
