@@ -1,5 +1,5 @@
 -- What holds of each question and each reply of a plan holds of what follows it.
-use Rattle.std.proofs.Common.{◌≡◌, ℕ, zero, suc, ◌+◌, ◌-◌, ◌<◌, ◌≤◌, Bool, true, false, if◌then◌else◌, Option, Some, None, List, [], ◌∷◌, ◌++◌, refl, ap, sym, ◌∙◌, subst, arith}
+use Rattle.std.proofs.Common.{◌≡◌, ℕ, zero, suc, ◌+◌, ◌-◌, ◌<◌, ◌≤◌, Bool, true, false, if◌then◌else◌, Option, Some, None, List, [], ◌∷◌, ◌++◌, refl, ap, sym, ◌∙◌, subst, add-zero, arith}
 use Rattle.std.specs.Prelude.{⊤}
 use Rattle.std.specs.List.{All}
 use Rattle.std.proofs.lemmas.List.Elements.{All-nil, All-cons, All-head, All-tail}
@@ -38,17 +38,26 @@ each_weaker Asks Asks' Replies Replies' (ask q next) asks replies here = (asks q
 
 -- ---- of sweeps
 
-by_count : {A : Type 0} (Asks : Question → Type 0) (Left : A → Type 0) (n i : ℕ) (f : ℕ → A → Plan A) (x : A)
-    → Left x → ((k : ℕ) (y : A) → i ≤ k → k < i + n → Left y → Each Asks Left (f k y)) → Each Asks Left (sweep n i f x)
+-- `Left k` is what is left before the turn of index k
+by_count : {A : Type 0} (Asks : Question → Type 0) (Left : ℕ → A → Type 0) (n i : ℕ) (f : ℕ → A → Plan A) (x : A)
+    → Left i x → ((k : ℕ) (y : A) → i ≤ k → k < i + n → Left k y → Each Asks (Left (k + 1)) (f k y)) → Each Asks (Left (i + n)) (sweep n i f x)
 unfolding sweep
-by_count Asks Left zero i f x here each = here
+by_count Asks Left zero i f x here each = subst (λ (m : ℕ). Left m x) (sym (add-zero i)) here
 by_count Asks Left (suc n) i f x here each =
-    each_bind Asks Left Left (f i x) (λ y. sweep n (i + 1) f y) (each i x (omega arith) (omega arith) here)
-      (λ y left. by_count Asks Left n (i + 1) f y left (λ k z low high. each k z (omega arith) (omega arith)))
+    let same : (i + 1) + n ≡ i + suc n = omega arith in
+    subst (λ (m : ℕ). Each Asks (Left m) (f i x >>= λ y. sweep n (i + 1) f y)) same
+      (each_bind Asks (Left (i + 1)) (Left ((i + 1) + n)) (f i x) (λ y. sweep n (i + 1) f y) (each i x (omega arith) (omega arith) here)
+        (λ y left. by_count Asks Left n (i + 1) f y left (λ k z low high. each k z (omega arith) (omega arith))))
+
+pub each_sweep_at : {A : Type 0} (Asks : Question → Type 0) (Left : ℕ → A → Type 0) (b i : ℕ) (f : ℕ → A → Plan A) (x : A) → i ≤ b
+    → Left i x → ((k : ℕ) (y : A) → i ≤ k → k < b → Left k y → Each Asks (Left (k + 1)) (f k y)) → Each Asks (Left b) (sweep_to b i f x)
+each_sweep_at Asks Left b i f x within here each =
+    let end : i + (b - i) ≡ b = omega arith in
+    subst (λ (m : ℕ). Each Asks (Left m) (sweep_to b i f x)) end (by_count Asks Left (b - i) i f x here (λ k y low high. each k y low (omega arith)))
 
 pub each_sweep : {A : Type 0} (Asks : Question → Type 0) (Left : A → Type 0) (b i : ℕ) (f : ℕ → A → Plan A) (x : A)
     → Left x → ((k : ℕ) (y : A) → i ≤ k → k < b → Left y → Each Asks Left (f k y)) → Each Asks Left (sweep_to b i f x)
-each_sweep Asks Left b i f x here each = by_count Asks Left (b - i) i f x here (λ k y low high. each k y low (omega arith))
+each_sweep Asks Left b i f x here each = by_count Asks (λ _. Left) (b - i) i f x here (λ k y low high. each k y low (omega arith))
 
 by_count_to_first : (Asks : Question → Type 0) (Found : Option ℕ → Type 0) (n i : ℕ) (f : ℕ → Plan Bool)
     → Found None → ((k : ℕ) → i ≤ k → k < i + n → Found (Some k)) → ((k : ℕ) → i ≤ k → k < i + n → Each Asks (λ _. ⊤) (f k)) → Each Asks Found (seek n i f)

@@ -5,3 +5,4 @@ pub mod PerformLaws
 pub mod EachLaws
 pub mod ToldLaws
 pub mod SelectionLaws
+pub mod OrderLaws

@@ -21,7 +21,7 @@ use Rattle.nio_plan.specs.Each.{Each}
 use Rattle.nio_plan.specs.Laws.{BeginsSelection, AgainGoesOn, CountsSelection}
 use Rattle.nio_plan.specs.Plan.{Plan, reply, ask, ◌>>=◌}
 use Rattle.nio_plan.specs.Runs.{Follows, Completes}
-use Rattle.nio_plan.specs.SelectCalls.{Entry, Selection, AfterTold, begin_plan, begin_with_turn, begin_below, told_plan, told_bits, given_back, look_over, mark_entry, mark_told, mark_again, one_if, gains_nothing, sweep_key, is_again, why_over, end_selection, after_marks, again, done}
+use Rattle.nio_plan.specs.SelectCalls.{Entry, Selection, ToldReply, begin_plan, begin_with_turn, begin_below, told_plan, told_bits, given_back, look_over, mark_entry, mark_told, mark_again, one_if, gains_nothing, sweep_key, is_again, why_over, end_selection, after_marks, again, done}
 use Rattle.nio_plan.specs.Selections.{gives_turn, marks, IsBegun}
 use Rattle.nio_plan.specs.Steps.{look_keys, take_turn, mark, remove, flag_in, gate_in, stage_in, number_in, holder_in, mark_in, exchange_in}
 use Rattle.nio_plan.specs.Sweeps.{sweep_to, sweep_over}
@@ -191,11 +191,11 @@ abbrev NoMark : ℕ → Question → Type 0
 NoMark s q = asks_mark s q ≡ false
 
 -- the count of what is over; what goes on is this selection, and nothing was marked
-abbrev Replies : Selection → ℕ → AfterTold → Type 0
+abbrev Replies : Selection → ℕ → ToldReply → Type 0
 Replies selection n (done answer) = answer.count ≡ n
 Replies selection n (again next) = (next ≡ selection) × (n ≡ 0)
 
-abbrev IsDone : AfterTold → Type 0
+abbrev IsDone : ToldReply → Type 0
 IsDone (done answer) = ⊤
 IsDone (again next) = ⊥
 
@@ -204,7 +204,7 @@ second_of a true c d e f all = refl
 second_of true false c d e f all = absurd (cc all)
 second_of false false c d e f all = absurd (cc all)
 
-end-replies : (selection : Selection) (answer : Selected) (Wanted : AfterTold → Type 0) → Wanted (done answer) → Each (NoMark selection.selector.0) Wanted (end_selection selection answer)
+end-replies : (selection : Selection) (answer : Selected) (Wanted : ToldReply → Type 0) → Wanted (done answer) → Each (NoMark selection.selector.0) Wanted (end_selection selection answer)
 end-replies selection answer Wanted fits =
     let s = selection.selector in
     each_bind (NoMark s.0) (λ _. ⊤) Wanted (sweep_to selection.bound 0 (λ i _. sweep_key s i) tt) _

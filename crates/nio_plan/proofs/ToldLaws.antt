@@ -13,7 +13,7 @@ use Rattle.nio_plan.proofs.EachLaws.{each_bind, each_if, each_when, each_sweep, 
 use Rattle.nio_plan.specs.Each.{Each}
 use Rattle.nio_plan.specs.Laws.{MarksAsTold, IsAsTold, MarksOnlyAsTold}
 use Rattle.nio_plan.specs.Plan.{Plan, reply, ask, ◌>>=◌}
-use Rattle.nio_plan.specs.SelectCalls.{Entry, Selection, AfterTold, told_plan, told_bits, mark_entry, mark_told, mark_again, gains_nothing, sweep_key, end_selection, again}
+use Rattle.nio_plan.specs.SelectCalls.{Entry, Selection, ToldReply, told_plan, told_bits, mark_entry, mark_told, mark_again, gains_nothing, sweep_key, end_selection, again}
 use Rattle.nio_plan.specs.Steps.{mark, remove, mark_in, stage_in, exchange_in}
 use Rattle.nio_plan.specs.declared.selected.Selected.{Selected}
 use Rattle.nio_plan.specs.Sweeps.{sweep_to, sweep_over}

@@ -1,6 +1,6 @@
 -- What the plans promise.
-use Rattle.std.specs.Prelude.{◌≡◌, ℕ, ◌==◌, Bool, not, Result, Ok, List, ◌++◌, map, IsTrue, ⊤}
-use Rattle.std.specs.List.{All, Contains}
+use Rattle.std.specs.Prelude.{◌≡◌, ℕ, ◌==◌, ◌<◌, Bool, not, Result, Ok, List, ◌++◌, map, IsTrue, ⊤}
+use Rattle.std.specs.List.{All, AllPairs, Contains}
 use Rattle.nio_base.specs.declared.limits.Limits.{Limits}
 use Rattle.nio_base.specs.declared.numbers.CallerNo.{CallerNo}
 use Rattle.nio_event.specs.Histories.{state_after, event_of, IsLegal}
@@ -13,7 +13,7 @@ use Rattle.nio_event.specs.declared.event.Event.{Event}
 use Rattle.nio_plan.specs.Perform.{perform}
 use Rattle.nio_plan.specs.Plan.{Plan}
 use Rattle.nio_plan.specs.Runs.{Completes}
-use Rattle.nio_plan.specs.SelectCalls.{Entry, Selection, AfterTold, done, again, begin_plan, told_bits, told_plan}
+use Rattle.nio_plan.specs.SelectCalls.{Entry, Selection, ToldReply, done, again, begin_plan, told_bits, told_plan}
 use Rattle.nio_plan.specs.Selections.{marks, IsBegun}
 use Rattle.nio_plan.specs.declared.selected.Selected.{Selected}
 
@@ -45,7 +45,7 @@ IsAsTold selection pairs _ = ⊤
 -- looked at and looked for.
 abbrev pub MarksOnlyAsTold : Type 0
 MarksOnlyAsTold =
-    (selection : Selection) (pairs : List (ℕ × ℕ)) (elapsed : Bool) (acts : List Act) (answer : AfterTold)
+    (selection : Selection) (pairs : List (ℕ × ℕ)) (elapsed : Bool) (acts : List Act) (answer : ToldReply)
     → Completes (told_plan selection pairs elapsed) acts answer → All (IsAsTold selection pairs) acts
 
 -- A `try_begin` that answers Ok begins the selection that it answers.
@@ -53,6 +53,16 @@ abbrev pub BeginsSelection : Type 0
 BeginsSelection =
     (s : SelNo) (mode : Mode) (lacks : Bool) (own acts : List Act) (selection : Selection)
     → Completes (begin_plan s mode lacks) acts (Ok selection) → IsBegun (own ++ acts) selection
+
+-- the looked list has each key once, in rising order of the indexes, all below the bound
+pub record IsInOrder (selection : Selection) : Type 0 where
+  pub rising : AllPairs (λ x y. x.index < y.index) selection.looked
+  pub below : All (λ entry. entry.index < selection.bound) selection.looked
+
+abbrev pub LooksInOrder : Type 0
+LooksInOrder =
+    (s : SelNo) (mode : Mode) (lacks : Bool) (acts : List Act) (selection : Selection)
+    → Completes (begin_plan s mode lacks) acts (Ok selection) → IsInOrder selection
 
 -- A `told` that answers Again goes on with the selection that was begun, and has marked nothing.
 abbrev pub AgainGoesOn : Type 0

@@ -172,12 +172,12 @@ sweep_key s i = do
   when (in_cancelled_set stage) (remove s i)
 
 -- the selection is over, or goes on
-pub data AfterTold : Type 0 where
-  done : Selected → AfterTold
-  again : Selection → AfterTold
+pub data ToldReply : Type 0 where
+  done : Selected → ToldReply
+  again : Selection → ToldReply
 
 -- the keys that were cancelled meanwhile are removed, the wakeup is used up, and the turn is free
-abbrev pub end_selection : Selection → Selected → Plan AfterTold
+abbrev pub end_selection : Selection → Selected → Plan ToldReply
 end_selection selection answer = do
   sweep_to selection.bound 0 (λ i _. sweep_key selection.selector i) tt
   end_wake selection.selector
@@ -185,7 +185,7 @@ end_selection selection answer = do
   reply (done answer)
 
 -- the selection goes on or is over, after so many marks that succeeded
-abbrev pub after_marks : Selection → Bool → ℕ → Plan AfterTold
+abbrev pub after_marks : Selection → Bool → ℕ → Plan ToldReply
 after_marks selection elapsed count = do
   gate ← look_gate selection.selector
   interrupted ← look_interrupt
@@ -193,7 +193,7 @@ after_marks selection elapsed count = do
     end_selection selection (record { count = count; why = why_over selection.mode count gate interrupted })
 
 -- `pairs` is what the poller told, and `elapsed` whether it said that the time is over
-unfoldable pub told_plan : Selection → List (ℕ × ℕ) → Bool → Plan AfterTold
+unfoldable pub told_plan : Selection → List (ℕ × ℕ) → Bool → Plan ToldReply
 told_plan selection pairs elapsed = do
   count ← sweep_over selection.looked (mark_entry selection.selector pairs) 0
   after_marks selection elapsed count
@@ -204,25 +204,25 @@ leave_plan selection = give_turn selection.selector
 
 -- ---- closing
 
-pub data Shutting : Type 0 where
-  closing : Shutting
-  already_closed : Shutting
+pub data ShutReply : Type 0 where
+  closing : ShutReply
+  already_closed : ShutReply
 
-unfoldable pub shut_plan : SelNo → Plan Shutting
+unfoldable pub shut_plan : SelNo → Plan ShutReply
 shut_plan s = do
   was ← shut_bit s
   reply (if was then already_closed else closing)
 
-pub data Finish : Type 0 where
-  closed : Finish
-  busy : Finish
+pub data FinishReply : Type 0 where
+  closed : FinishReply
+  busy : FinishReply
 
 abbrev pub remove_key : SelNo → ℕ → Plan (Unit {0})
 remove_key s i = do
   remove s i
   reply tt
 
-unfoldable pub finish_plan : SelNo → Plan Finish
+unfoldable pub finish_plan : SelNo → Plan FinishReply
 finish_plan s = do
   holder ← enter s
   if is_some holder then reply busy else do

@@ -1,5 +1,5 @@
 //! What the plans promise, as the contracts of functions that do nothing.
-ghost use Rattle.nio_plan.specs.Laws.{RunsArePerformed, BeginsSelection, MarksOnlyAsTold, AgainGoesOn, CountsSelection};
+ghost use Rattle.nio_plan.specs.Laws.{RunsArePerformed, BeginsSelection, LooksInOrder, MarksOnlyAsTold, AgainGoesOn, CountsSelection};
 
 /// A call between whose steps nobody comes answers, and leaves, what its plan says of the state
 /// before it.
@@ -11,7 +11,8 @@ pub fn run_law<R>()
 /// What `try_begin` answers is the selection that it began, until the turn is given back or a key
 /// is marked.
 pub fn begin_law()
-    ensures { BeginsSelection }
+    ensures begins { BeginsSelection }
+    ensures in_order { LooksInOrder }
 {
 }
 
