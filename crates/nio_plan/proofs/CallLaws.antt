@@ -1,18 +1,18 @@
 -- What puts steps and calls together: the history clause of a call from those of its parts.
-use Rattle.std.proofs.Common.{◌≡◌, ◌≢◌, Bool, true, false, if◌then◌else◌, Option, Some, None, List, [], ◌∷◌, ◌++◌, length, drop, refl, ap, sym, ◌∙◌, subst, append_assoc, IsTrue}
-use Rattle.std.specs.Prelude.{fold, option_map}
+use Rattle.std.proofs.Common.{◌≡◌, Bool, true, false, if◌then◌else◌, Some, None, List, [], ◌∷◌, ◌++◌, length, drop, refl, ap, sym, ◌∙◌, subst, append_assoc, IsTrue}
+use Rattle.std.specs.Prelude.{option_map}
 use Rattle.std.proofs.lemmas.List.{append-nil, drop_at}
 use Rattle.std.proofs.lemmas.List.Sums.{fold-append}
 use mathlib.Core.List.{IsPrefix}
 use Rattle.nio_base.specs.declared.limits.Limits.{Limits}
 use Rattle.nio_base.specs.declared.numbers.CallerNo.{CallerNo}
 use Rattle.nio_event.specs.Histories.{IsLegal, mine, last_of, event_of, EndsWith, HistoryClause}
-use Rattle.nio_event.specs.Questions.{Question, Answer, question_of, answer_of}
+use Rattle.nio_event.specs.Questions.{Answer, question_of, answer_of}
 use Rattle.nio_event.specs.declared.act.Act.{Act}
 use Rattle.nio_event.specs.declared.event.Event.{Event}
 use Rattle.nio_plan.proofs.RunLaws.{follows_more, follows_bind}
-use Rattle.nio_plan.specs.Calls.{done_between, PartClause, CallClause, View, Holds, StepTold, PartTold, CallTold}
-use Rattle.nio_plan.specs.Plan.{Plan, reply, ask, ◌>>=◌}
+use Rattle.nio_plan.specs.Calls.{done_between, PartClause, View, Holds, StepTold, PartTold, CallTold}
+use Rattle.nio_plan.specs.Plan.{Plan, ask, ◌>>=◌}
 use Rattle.nio_plan.specs.Runs.{Follows}
 
 -- ---- the history clause
@@ -68,8 +68,8 @@ pub part_more : {R : Type 0} (l : Limits) (Holds : CallerNo → Type 0) (me : Ca
     → PartClause l Holds me plan s0 s1 middle → PartClause l Holds me middle s1 s2 rest → PartClause l Holds me plan s0 s2 rest
 part_more l Holds me plan middle rest s0 s1 s2 first second =
     part_of_acts l Holds me plan (done_between me s0 s1 ++ done_between me s1 s2) s0 s2 rest
-      (history_then l Holds me (done_between me s0 s1) (done_between me s1 s2) s0 s1 s2 first.history second.history)
-      (follows_more plan (done_between me s0 s1) middle (done_between me s1 s2) rest first.follows second.follows)
+    (history_then l Holds me (done_between me s0 s1) (done_between me s1 s2) s0 s1 s2 first.history second.history)
+    (follows_more plan (done_between me s0 s1) middle (done_between me s1 s2) rest first.follows second.follows)
 
 pub part_bind : {A B : Type 0} (l : Limits) (Holds : CallerNo → Type 0) (me : CallerNo) (plan : Plan A) (f : A → Plan B) (rest : Plan A) (s0 s1 : List Event)
     → PartClause l Holds me plan s0 s1 rest → PartClause l Holds me (plan >>= f) s0 s1 (rest >>= f)
@@ -103,7 +103,7 @@ pub left_more : {R : Type 0} {l : Limits} {me : CallerNo} {plan middle rest : Pl
     → PartTold l me plan v0 v1 middle → PartTold l me middle v1 v2 rest → PartTold l me plan v0 v2 rest
 left_more {l = l} {me = me} {plan = plan} {middle = middle} {rest = rest} {v0 = v0} {v1 = v1} {v2 = v2} first second = record {
   part = part_more l (Holds v0) me plan middle rest v0.seen v1.seen v2.seen first.part
-    (subst (λ held. PartClause l (λ n. IsTrue (held n)) me middle v1.seen v2.seen rest) first.held second.part);
+      (subst (λ held. PartClause l (λ n. IsTrue (held n)) me middle v1.seen v2.seen rest) first.held second.part);
   held = second.held ∙ first.held;
 }
 

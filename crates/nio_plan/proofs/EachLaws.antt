@@ -1,9 +1,9 @@
 -- What holds of each question and each reply of a plan holds of what follows it.
-use Rattle.std.proofs.Common.{◌≡◌, ℕ, zero, suc, ◌+◌, ◌-◌, ◌<◌, ◌≤◌, Bool, true, false, if◌then◌else◌, Option, Some, None, List, [], ◌∷◌, ◌++◌, refl, ap, sym, ◌∙◌, subst, add-zero, arith}
+use Rattle.std.proofs.Common.{◌≡◌, ℕ, zero, suc, ◌+◌, ◌-◌, ◌<◌, ◌≤◌, Bool, true, false, if◌then◌else◌, Option, Some, None, List, [], ◌∷◌, ◌++◌, refl, ap, sym, subst, add-zero, arith}
 use Rattle.std.specs.Prelude.{⊤}
 use Rattle.std.specs.List.{All}
 use Rattle.std.proofs.lemmas.List.Elements.{All-nil, All-cons, All-head, All-tail}
-use Rattle.nio_event.specs.Questions.{Question, Answer, question_of, answer_of}
+use Rattle.nio_event.specs.Questions.{Question, question_of, answer_of}
 use Rattle.nio_event.specs.declared.act.Act.{Act}
 use Rattle.nio_plan.specs.Each.{Each}
 use Rattle.nio_plan.specs.Plan.{Plan, reply, ask, ◌>>=◌, when}
@@ -46,8 +46,8 @@ by_count Asks Left zero i f x here each = subst (λ (m : ℕ). Left m x) (sym (a
 by_count Asks Left (suc n) i f x here each =
     let same : (i + 1) + n ≡ i + suc n = omega arith in
     subst (λ (m : ℕ). Each Asks (Left m) (f i x >>= λ y. sweep n (i + 1) f y)) same
-      (each_bind Asks (Left (i + 1)) (Left ((i + 1) + n)) (f i x) (λ y. sweep n (i + 1) f y) (each i x (omega arith) (omega arith) here)
-        (λ y left. by_count Asks Left n (i + 1) f y left (λ k z low high. each k z (omega arith) (omega arith))))
+    (each_bind Asks (Left (i + 1)) (Left ((i + 1) + n)) (f i x) (λ y. sweep n (i + 1) f y) (each i x (omega arith) (omega arith) here)
+    (λ y left. by_count Asks Left n (i + 1) f y left (λ k z low high. each k z (omega arith) (omega arith))))
 
 pub each_sweep_at : {A : Type 0} (Asks : Question → Type 0) (Left : ℕ → A → Type 0) (b i : ℕ) (f : ℕ → A → Plan A) (x : A) → i ≤ b
     → Left i x → ((k : ℕ) (y : A) → i ≤ k → k < b → Left k y → Each Asks (Left (k + 1)) (f k y)) → Each Asks (Left b) (sweep_to b i f x)
@@ -65,8 +65,8 @@ unfolding seek
 by_count_to_first Asks Found zero i f none_at some_at each = none_at
 by_count_to_first Asks Found (suc n) i f none_at some_at each =
     each_bind Asks (λ _. ⊤) Found (f i) (λ here. if here then reply (Some i) else seek n (i + 1) f) (each i (omega arith) (omega arith))
-      (λ here _. each_if Asks Found here (reply (Some i)) (seek n (i + 1) f) (λ _. some_at i (omega arith) (omega arith))
-        (λ _. by_count_to_first Asks Found n (i + 1) f none_at (λ k low high. some_at k (omega arith) (omega arith)) (λ k low high. each k (omega arith) (omega arith))))
+    (λ here _. each_if Asks Found here (reply (Some i)) (seek n (i + 1) f) (λ _. some_at i (omega arith) (omega arith))
+    (λ _. by_count_to_first Asks Found n (i + 1) f none_at (λ k low high. some_at k (omega arith) (omega arith)) (λ k low high. each k (omega arith) (omega arith))))
 
 pub each_seek : (Asks : Question → Type 0) (Found : Option ℕ → Type 0) (b i : ℕ) (f : ℕ → Plan Bool)
     → Found None → ((k : ℕ) → i ≤ k → k < b → Found (Some k)) → ((k : ℕ) → i ≤ k → k < b → Each Asks (λ _. ⊤) (f k)) → Each Asks Found (seek_to b i f)
@@ -80,7 +80,7 @@ unfolding sweep_over
 each_over Asks Fits Left [] f x fit here each = here
 each_over Asks Fits Left (e ∷ later) f x fit here each =
     each_bind Asks Left Left (f e x) (λ y. sweep_over later f y) (each e x (All-head Fits e later fit) here)
-      (λ y left. each_over Asks Fits Left later f y (All-tail Fits e later fit) left each)
+    (λ y left. each_over Asks Fits Left later f y (All-tail Fits e later fit) left each)
 
 -- ---- of what follows them
 

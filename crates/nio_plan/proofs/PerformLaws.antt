@@ -1,6 +1,6 @@
 -- Plans performed on a state: one after another, sweeps by a closed form of the state after so many
 -- turns, and that a run in a legal history is what is performed.
-use Rattle.std.proofs.Common.{◌≡◌, ℕ, zero, suc, ◌+◌, ◌-◌, ◌<◌, ◌≤◌, Bool, true, false, if◌then◌else◌, Option, Some, None, List, [], ◌∷◌, ◌++◌, map, refl, ap, sym, ◌∙◌, subst, append_assoc, arith}
+use Rattle.std.proofs.Common.{◌≡◌, ℕ, zero, suc, ◌+◌, ◌-◌, ◌<◌, ◌≤◌, Bool, true, false, if◌then◌else◌, Some, None, List, [], ◌∷◌, ◌++◌, map, refl, ap, sym, ◌∙◌, subst, append_assoc, arith}
 use Rattle.std.proofs.lemmas.List.{append-nil}
 use Rattle.nio_base.specs.declared.limits.Limits.{Limits}
 use Rattle.nio_base.specs.declared.numbers.CallerNo.{CallerNo}
@@ -16,9 +16,9 @@ use Rattle.nio_event.specs.declared.act.Act.TheVariants.{DrawBit, MakeSelector, 
 use Rattle.nio_event.specs.declared.event.Event.{Event}
 use Rattle.nio_plan.proofs.SweepLaws.{sweep_to-turn, sweep_to-done, seek_to-turn, seek_to-done, sweep_over-turn, sweep_over-done}
 use Rattle.nio_plan.specs.Calls.{done_between, CallClause}
-use Rattle.nio_plan.specs.Perform.{act_of, Performed, perform}
+use Rattle.nio_plan.specs.Perform.{act_of, perform}
 use Rattle.nio_plan.specs.Plan.{Plan, reply, ask, ◌>>=◌}
-use Rattle.nio_plan.specs.Runs.{Follows, Completes}
+use Rattle.nio_plan.specs.Runs.{Completes}
 use Rattle.nio_plan.specs.Sweeps.{sweep_to, seek_to, sweep_over}
 
 -- ---- plans after one another
@@ -52,7 +52,7 @@ from_closed me b i zero f left stands total each =
 from_closed me b i (suc n) f left stands total each =
     ap (λ p. perform me p (stands i)) (sweep_to-turn b i f (left i) (omega arith))
     ∙ (perform_then_on me (f i (left i)) (λ y. sweep_to b (i + 1) f y) (stands i) (left (i + 1)) (stands (i + 1)) (each i (omega arith) (omega arith))
-        ∙ from_closed me b (i + 1) n f left stands (omega arith) (λ k low high. each k (omega arith) high))
+    ∙ from_closed me b (i + 1) n f left stands (omega arith) (λ k low high. each k (omega arith) high))
 
 pub perform_sweep : {A : Type 0} (me : CallerNo) (b i : ℕ) (f : ℕ → A → Plan A) (left : ℕ → A) (stands : ℕ → State) → i ≤ b
     → ((k : ℕ) → i ≤ k → k < b → perform me (f k (left k)) (stands k) ≡ record { answer = left (k + 1); state = stands (k + 1) })
@@ -72,12 +72,12 @@ perform_seek_yes me b i j f stands low high each there = by_count (j - i) i (ome
         let here : i' ≡ j = omega arith in
         let go_on = λ (x : ℕ) (y : Bool). if y then reply (Some x) else seek_to b (x + 1) f in
         subst (λ (x : ℕ). perform me (seek_to b x f) (stands x) ≡ record { answer = Some j; state = stands (j + 1) }) (sym here)
-          (ap (λ p. perform me p (stands j)) (seek_to-turn b j f high) ∙ perform_then_on me (f j) (go_on j) (stands j) true (stands (j + 1)) there)
+        (ap (λ p. perform me p (stands j)) (seek_to-turn b j f high) ∙ perform_then_on me (f j) (go_on j) (stands j) true (stands (j + 1)) there)
     by_count (suc n) i' total each' =
         let go_on = λ (y : Bool). if y then reply (Some i') else seek_to b (i' + 1) f in
         ap (λ p. perform me p (stands i')) (seek_to-turn b i' f (omega arith))
         ∙ (perform_then_on me (f i') go_on (stands i') false (stands (i' + 1)) (each' i' (omega arith) (omega arith))
-            ∙ by_count n (i' + 1) (omega arith) (λ k from below. each' k (omega arith) below))
+        ∙ by_count n (i' + 1) (omega arith) (λ k from below. each' k (omega arith) below))
 
 -- the steps say no at each index
 pub perform_seek_no : (me : CallerNo) (b i : ℕ) (f : ℕ → Plan Bool) (stands : ℕ → State) → i ≤ b
@@ -94,7 +94,7 @@ perform_seek_no me b i f stands within each = by_count (b - i) i (omega arith) (
         let go_on = λ (y : Bool). if y then reply (Some i') else seek_to b (i' + 1) f in
         ap (λ p. perform me p (stands i')) (seek_to-turn b i' f (omega arith))
         ∙ (perform_then_on me (f i') go_on (stands i') false (stands (i' + 1)) (each' i' (omega arith) (omega arith))
-            ∙ by_count n (i' + 1) (omega arith) (λ k from below. each' k (omega arith) below))
+        ∙ by_count n (i' + 1) (omega arith) (λ k from below. each' k (omega arith) below))
 
 -- over a list: `stands` and `left` by the elements that are still to come
 pub perform_over : {X A : Type 0} (me : CallerNo) (xs : List X) (f : X → A → Plan A) (left : List X → A) (stands : List X → State)
@@ -104,7 +104,7 @@ perform_over me [] f left stands each = ap (λ p. perform me p (stands [])) (swe
 perform_over me (e ∷ later) f left stands each =
     ap (λ p. perform me p (stands (e ∷ later))) (sweep_over-turn e later f (left (e ∷ later)))
     ∙ (perform_then_on me (f e (left (e ∷ later))) (λ y. sweep_over later f y) (stands (e ∷ later)) (left later) (stands later) (each e later)
-        ∙ perform_over me later f left stands each)
+    ∙ perform_over me later f left stands each)
 
 -- ---- runs in a legal history
 
@@ -161,7 +161,7 @@ perform_ask l me q next past act step asks =
     let made : act_of q (answer_from st me q) ≡ act = ap (λ x. act_of x (answer_from st me q)) (sym asks) ∙ (ap (act_of (question_of act)) found ∙ act_of-parts act) in
     ap (λ x. perform me (next x) (effect st me (act_of q (answer_from st me q)))) found
     ∙ (ap (λ x. perform me (next (answer_of act)) (effect st me x)) made
-        ∙ ap (λ x. perform me (next (answer_of act)) x) (sym (state_after-more past (event_of me act))))
+    ∙ ap (λ x. perform me (next (answer_of act)) x) (sym (state_after-more past (event_of me act))))
 
 -- a whole run of a plan that is legal after a history, with no event of another caller between, has
 -- the reply and leaves the state of the plan performed on the state that the history left
@@ -176,7 +176,7 @@ perform_ran l me (ask q next) past (act ∷ acts) r legal whole =
     let joined : (past ++ e ∷ []) ++ map (event_of me) acts ≡ past ++ e ∷ map (event_of me) acts = append_assoc past (e ∷ []) (map (event_of me) acts) in
     perform_ask l me q next past act (legal_next l past e (map (event_of me) acts) legal) whole.0
     ∙ (perform_ran l me (next (answer_of act)) (past ++ e ∷ []) acts r (subst (IsLegal l) (sym joined) legal) whole.1
-        ∙ ap (λ x. record { answer = r; state = state_after x }) joined)
+    ∙ ap (λ x. record { answer = r; state = state_after x }) joined)
 
 -- so a call between whose steps nobody came, as where the pass has all that happens
 pub perform_call : {R : Type 0} (l : Limits) (Holds : CallerNo → Type 0) (me : CallerNo) (plan : Plan R) (before after : List Event) (r : R)

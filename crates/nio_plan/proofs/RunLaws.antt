@@ -1,6 +1,6 @@
 -- Plans after one another, and what follows them.
-use Rattle.std.proofs.Common.{◌≡◌, List, [], ◌∷◌, ◌++◌, refl, ap, sym, ◌∙◌, subst}
-use Rattle.nio_event.specs.Questions.{Answer, question_of, answer_of}
+use Rattle.std.proofs.Common.{◌≡◌, List, [], ◌∷◌, ◌++◌, refl, ap, sym, subst}
+use Rattle.nio_event.specs.Questions.{answer_of}
 use Rattle.nio_event.specs.declared.act.Act.{Act}
 use Rattle.nio_plan.specs.Plan.{Plan, reply, ask, ◌>>=◌}
 use Rattle.nio_plan.specs.Runs.{Follows, Completes}

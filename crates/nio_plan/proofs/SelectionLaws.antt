@@ -1,27 +1,25 @@
 -- To which selection a `told` belongs, and what it counts.
-use Rattle.std.proofs.Common.{◌≡◌, ℕ, ◌+◌, ◌==◌, Bool, true, false, cond, not, ◌&&◌, ◌||◌, if◌then◌else◌, Option, Result, Ok, Err, List, [], ◌∷◌, ◌++◌, refl, ap, sym, ◌∙◌, subst, eq-eqb, eqb-true, append_assoc, zero-add, arith}
+use Rattle.std.proofs.Common.{◌≡◌, ℕ, ◌+◌, ◌==◌, Bool, true, false, cond, ◌&&◌, ◌||◌, if◌then◌else◌, Result, Ok, Err, List, [], ◌∷◌, ◌++◌, refl, ap, sym, ◌∙◌, subst, eq-eqb, eqb-true, append_assoc, zero-add, arith}
 use Rattle.std.specs.Prelude.{⊤, is_ok, is_some}
 use Rattle.std.specs.List.{All}
 use Rattle.std.proofs.lemmas.List.Elements.{All-weaker}
 use Rattle.std.proofs.lemmas.List.Folds.{list_any-append, list_any_none}
 use Rattle.std.proofs.lemmas.List.Sums.{sum_by-append}
 use Rattle.std.proofs.lemmas.List.{append-nil}
-use Rattle.nio_base.specs.declared.numbers.CallerNo.{CallerNo}
 use Rattle.nio_base.specs.declared.numbers.SelNo.{SelNo}
 use Rattle.nio_event.specs.OwnEvents.{has, count}
-use Rattle.nio_event.specs.Questions.{Question, Answer, question_of, answer_of}
-use Rattle.nio_event.specs.Sets.{in_cancelled_set, is_valid}
+use Rattle.nio_event.specs.Questions.{Question, question_of, answer_of}
+use Rattle.nio_event.specs.Sets.{in_cancelled_set}
 use Rattle.nio_event.specs.declared.act.Act.{Act}
 use Rattle.nio_event.specs.declared.act.Act.TheVariants.{Mark, GiveTurn}
-use Rattle.nio_event.specs.declared.found.GateWord.{GateWord}
 use Rattle.nio_event.specs.declared.found.Mark.{Mark as KeyMark}
 use Rattle.nio_event.specs.declared.found.Mode.{Mode}
 use Rattle.nio_plan.proofs.EachLaws.{each_bind, each_if, each_when, each_any, each_sweep, each_over, each_run, split}
 use Rattle.nio_plan.specs.Each.{Each}
 use Rattle.nio_plan.specs.Laws.{BeginsSelection, AgainGoesOn, CountsSelection}
-use Rattle.nio_plan.specs.Plan.{Plan, reply, ask, ◌>>=◌}
-use Rattle.nio_plan.specs.Runs.{Follows, Completes}
-use Rattle.nio_plan.specs.SelectCalls.{Entry, Selection, ToldReply, begin_plan, begin_with_turn, begin_below, told_plan, told_bits, given_back, look_over, mark_entry, mark_told, mark_again, one_if, gains_nothing, sweep_key, is_again, why_over, end_selection, after_marks, again, done}
+use Rattle.nio_plan.specs.Plan.{reply, ◌>>=◌}
+use Rattle.nio_plan.specs.Runs.{Completes}
+use Rattle.nio_plan.specs.SelectCalls.{Entry, Selection, ToldReply, begin_plan, begin_with_turn, begin_below, told_plan, told_bits, given_back, look_over, mark_entry, mark_told, mark_again, one_if, gains_nothing, sweep_key, is_again, end_selection, after_marks, again, done}
 use Rattle.nio_plan.specs.Selections.{gives_turn, marks, IsBegun}
 use Rattle.nio_plan.specs.Steps.{look_keys, take_turn, mark, remove, flag_in, gate_in, stage_in, number_in, holder_in, mark_in, exchange_in}
 use Rattle.nio_plan.specs.Sweeps.{sweep_to, sweep_over}
@@ -173,17 +171,19 @@ entry-no_give : (s : SelNo) (pairs : List (ℕ × ℕ)) (entry : Entry) (before 
 entry-no_give s pairs entry before =
     let told = told_bits pairs entry in
     each_if {R = ℕ} (NoGive s.0) (λ _. ⊤) (told == 0) _ _ (λ _. tt)
-      (λ _. each_bind (NoGive s.0) (λ _. ⊤) (λ _. ⊤) (mark_told s entry.index told) _
-        (refl, λ was. each_if {R = ℕ} (NoGive s.0) (λ _. ⊤) (gains_nothing (mark_in was) told) (reply 0) (mark s entry.index (mark_in was) told >>= mark_again s entry.index told)
-          (λ _. tt) (λ _. (refl, λ first. again-no_give s entry.index told (exchange_in first))))
-        (λ _ _. tt))
+    (λ _. each_bind (NoGive s.0) (λ _. ⊤) (λ _. ⊤) (mark_told s entry.index told) _ (
+      refl,
+      λ was. each_if {R = ℕ} (NoGive s.0) (λ _. ⊤) (gains_nothing (mark_in was) told) (reply 0) (mark s entry.index (mark_in was) told >>= mark_again s entry.index told)
+          (λ _. tt) (λ _. (refl, λ first. again-no_give s entry.index told (exchange_in first))),
+    )
+    (λ _ _. tt))
 
 over-no_give : (s : SelNo) (pairs : List (ℕ × ℕ)) (entries : List Entry) (acts : List Act) (n : ℕ)
     → Completes (sweep_over entries (mark_entry s pairs) 0) acts n → has (gives_turn s.0) acts ≡ false
 over-no_give s pairs entries acts n run =
     no_gives s.0 acts (each_run (NoGive s.0) (λ _. ⊤) (sweep_over entries (mark_entry s pairs) 0) acts n
-      (each_over (NoGive s.0) (λ _. ⊤) (λ _. ⊤) entries (mark_entry s pairs) 0 (λ k d _. tt) tt (λ entry before _ _. entry-no_give s pairs entry before))
-      run).0
+    (each_over (NoGive s.0) (λ _. ⊤) (λ _. ⊤) entries (mark_entry s pairs) 0 (λ k d _. tt) tt (λ entry before _ _. entry-no_give s pairs entry before))
+    run).0
 
 -- ---- after the marks
 
@@ -208,16 +208,21 @@ end-replies : (selection : Selection) (answer : Selected) (Wanted : ToldReply �
 end-replies selection answer Wanted fits =
     let s = selection.selector in
     each_bind (NoMark s.0) (λ _. ⊤) Wanted (sweep_to selection.bound 0 (λ i _. sweep_key s i) tt) _
-      (each_sweep (NoMark s.0) (λ _. ⊤) selection.bound 0 (λ i _. sweep_key s i) tt tt
-        (λ i x _ _ _. (refl, λ found. each_when (NoMark s.0) (in_cancelled_set (stage_in found)) (remove s i) (refl, λ _. tt))))
-      (λ _ _. (refl, λ _. (refl, λ _. fits)))
+    (each_sweep (NoMark s.0) (λ _. ⊤) selection.bound 0 (λ i _. sweep_key s i) tt tt
+    (λ i x _ _ _. (refl, λ found. each_when (NoMark s.0) (in_cancelled_set (stage_in found)) (remove s i) (refl, λ _. tt))))
+    (λ _ _. (refl, λ _. (refl, λ _. fits)))
 
 after-replies : (selection : Selection) (elapsed : Bool) (n : ℕ) → Each (NoMark selection.selector.0) (Replies selection n) (after_marks selection elapsed n)
-after-replies selection elapsed n =
-    (refl, λ gate. (refl, λ interrupted. each_if (NoMark selection.selector.0) (Replies selection n)
-      (is_again selection.mode n (gate_in gate) (flag_in interrupted) elapsed) (reply (again selection)) (end_selection selection _)
-      (λ goes_on. (refl, eqb-true n 0 (second_of _ _ _ _ _ _ goes_on)))
-      (λ _. end-replies selection _ (Replies selection n) refl)))
+after-replies selection elapsed n = (
+  refl,
+  λ gate. (
+    refl,
+    λ interrupted. each_if (NoMark selection.selector.0) (Replies selection n)
+        (is_again selection.mode n (gate_in gate) (flag_in interrupted) elapsed) (reply (again selection)) (end_selection selection _)
+        (λ goes_on. (refl, eqb-true n 0 (second_of _ _ _ _ _ _ goes_on)))
+        (λ _. end-replies selection _ (Replies selection n) refl),
+  ),
+)
 
 -- where it goes on, the caller keeps the turn
 after-no_give : (selection next : Selection) (elapsed : Bool) (n : ℕ) (acts : List Act)
@@ -253,7 +258,7 @@ again_goes_on own selection next pairs elapsed acts begun run =
     let none_first = none-count (marks s.0) parts.first (omega (arith, counted, after.1.1)) in
     let no_mark = sym (ap (has (marks s.0)) (sym parts.parts)) ∙ none_of-append (marks s.0) parts.first parts.second none_first (no_marks s.0 parts.second after.0) in
     let no_give = sym (ap (has (gives_turn s.0)) (sym parts.parts)) ∙ none_of-append (gives_turn s.0) parts.first parts.second
-          (over-no_give s pairs selection.looked parts.first parts.answer parts.runs_first) (after-no_give selection next elapsed parts.answer parts.second parts.runs_second) in
+    (over-no_give s pairs selection.looked parts.first parts.answer parts.runs_first) (after-no_give selection next elapsed parts.answer parts.second parts.runs_second) in
     subst (IsBegun (own ++ acts)) (sym after.1.0) (longer own selection acts begun no_give no_mark)
   where
     longer : (own : List Act) (selection : Selection) (acts : List Act) → IsBegun own selection
@@ -290,16 +295,24 @@ below-answers : (s : SelNo) (mode : Mode) (bound : ℕ) (lacks : Bool) → Each 
 below-answers s mode bound true = (tt, λ _. tt)
 below-answers s mode bound false =
     each_bind (λ _. ⊤) (λ _. ⊤) (Answers s mode false) (sweep_to bound 0 (look_over s) []) _
-      (each_sweep (λ _. ⊤) (λ _. ⊤) bound 0 (look_over s) [] tt (λ i looked _ _ _. each_any (look_over s i looked)))
-      (λ looked _. (refl, refl, refl))
+    (each_sweep (λ _. ⊤) (λ _. ⊤) bound 0 (look_over s) [] tt (λ i looked _ _ _. each_any (look_over s i looked)))
+    (λ looked _. (refl, refl, refl))
 
 begin-answers : (s : SelNo) (mode : Mode) (lacks : Bool) → Each (λ _. ⊤) (Answers s mode lacks) (begin_plan s mode lacks)
 unfolding begin_plan
-begin-answers s mode lacks =
-    (tt, λ gate. each_if (λ _. ⊤) (Answers s mode lacks) (gate_in gate).shut (reply (Err BeginError.ClosedSelector)) (take_turn s >>= λ holder. if is_some holder then reply (Err BeginError.Busy) else begin_with_turn s mode lacks) (λ _. tt)
-      (λ _. (tt, λ holder. each_if (λ _. ⊤) (Answers s mode lacks) (is_some (holder_in holder)) (reply (Err BeginError.Busy)) (begin_with_turn s mode lacks) (λ _. tt)
-        (λ _. (tt, λ begun. each_if (λ _. ⊤) (Answers s mode lacks) (gate_in begun).shut (given_back s (Err BeginError.ClosedSelector)) (look_keys s >>= λ bound. begin_below s mode bound lacks)
-          (λ _. (tt, λ _. tt)) (λ _. (tt, λ bound. below-answers s mode (number_in bound) lacks)))))))
+begin-answers s mode lacks = (
+  tt,
+  λ gate. each_if (λ _. ⊤) (Answers s mode lacks) (gate_in gate).shut (reply (Err BeginError.ClosedSelector)) (take_turn s >>= λ holder. if is_some holder then reply (Err BeginError.Busy) else begin_with_turn s mode lacks) (λ _. tt)
+      (λ _. (
+        tt,
+        λ holder. each_if (λ _. ⊤) (Answers s mode lacks) (is_some (holder_in holder)) (reply (Err BeginError.Busy)) (begin_with_turn s mode lacks) (λ _. tt)
+            (λ _. (
+              tt,
+              λ begun. each_if (λ _. ⊤) (Answers s mode lacks) (gate_in begun).shut (given_back s (Err BeginError.ClosedSelector)) (look_keys s >>= λ bound. begin_below s mode bound lacks)
+                  (λ _. (tt, λ _. tt)) (λ _. (tt, λ bound. below-answers s mode (number_in bound) lacks)),
+            )),
+      )),
+)
 
 pub begins_selection : BeginsSelection
 begins_selection s mode lacks own acts selection run =
@@ -310,7 +323,7 @@ begins_selection s mode lacks own acts selection run =
       since = [];
       parts = ap (λ xs. own ++ xs) (sym (append-nil acts));
       begins = subst (λ (x : SelNo). Completes (begin_plan x selection.mode false) acts (Ok selection)) (sym says.0)
-        (subst (λ (x : Mode). Completes (begin_plan s x false) acts (Ok selection)) (sym says.1)
+          (subst (λ (x : Mode). Completes (begin_plan s x false) acts (Ok selection)) (sym says.1)
           (subst (λ (x : Bool). Completes (begin_plan s mode x) acts (Ok selection)) says.2 run));
       goes_on = refl;
       unmarked = refl;

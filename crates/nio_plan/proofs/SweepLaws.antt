@@ -1,11 +1,11 @@
 -- Sweeps and seeks, turn by turn.
-use Rattle.std.proofs.Common.{◌≡◌, ℕ, zero, suc, ◌+◌, ◌-◌, ◌<◌, ◌≤◌, Bool, true, false, if◌then◌else◌, Option, Some, None, List, [], ◌∷◌, length, drop, refl, ap, sym, ◌∙◌, subst, arith}
+use Rattle.std.proofs.Common.{◌≡◌, ℕ, suc, ◌+◌, ◌-◌, ◌<◌, ◌≤◌, Bool, true, false, if◌then◌else◌, Option, Some, None, List, [], ◌∷◌, refl, ap, ◌∙◌, subst, arith}
 use Rattle.nio_base.specs.declared.limits.Limits.{Limits}
 use Rattle.nio_base.specs.declared.numbers.CallerNo.{CallerNo}
 use Rattle.nio_plan.proofs.CallLaws.{left_more, left_bind}
 use Rattle.nio_plan.proofs.RunLaws.{bind-bind}
 use Rattle.nio_plan.specs.Calls.{View, PartTold, CallTold}
-use Rattle.nio_plan.specs.Plan.{Plan, reply, ask, ◌>>=◌}
+use Rattle.nio_plan.specs.Plan.{Plan, reply, ◌>>=◌}
 use Rattle.nio_plan.specs.Sweeps.{sweep, sweep_to, seek, seek_to, sweep_over}
 
 -- ---- the plans

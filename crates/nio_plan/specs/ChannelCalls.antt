@@ -1,5 +1,5 @@
 -- The steps of the calls on channels.
-use Rattle.std.specs.Prelude.{ℕ, ◌+◌, ◌==◌, Bool, true, false, not, ◌&&◌, ◌||◌, if◌then◌else◌, Option, Some, None, is_some, Result, Ok, Err}
+use Rattle.std.specs.Prelude.{ℕ, ◌+◌, ◌==◌, Bool, true, false, not, ◌||◌, if◌then◌else◌, Option, Some, None, is_some, Result, Ok, Err}
 use Rattle.nio_base.specs.Kind.{valid_operations}
 use Rattle.nio_base.specs.declared.kind.Kind.{Kind}
 use Rattle.nio_base.specs.declared.limits.Limits.{Limits}
@@ -10,7 +10,7 @@ use Rattle.nio_event.specs.Sets.{in_key_set, in_cancelled_set, is_valid}
 use Rattle.nio_event.specs.declared.found.Stage.{Stage}
 use Rattle.nio_plan.specs.KeyCalls.{is_within}
 use Rattle.nio_plan.specs.Names.{selector, channel, key}
-use Rattle.nio_plan.specs.Plan.{Plan, reply, ask, ◌>>=◌, ◌>>◌, when}
+use Rattle.nio_plan.specs.Plan.{Plan, reply, ◌>>=◌, ◌>>◌, when}
 use Rattle.nio_plan.specs.Steps.{look_key, cancel_key, swap_interest, swap_note, make_channel, look_channel, claim, raise_keys, look_keys, publish, look_reg, enrol, look_channels, raise_channels, look_gate, try_hold_bit, release, set_mode, close_bit}
 use Rattle.nio_plan.specs.Sweeps.{sweep_to, seek_to}
 use Rattle.nio_plan.specs.declared.refusal.ChannelError.{ChannelError}
@@ -167,23 +167,23 @@ abbrev pub register_held : Limits → SelNo → ChanNo → ℕ → ℕ → Plan 
 register_held l s c ops att = do
   found ← look_channel c
   if found.closed then reply (Err ClosedChannel) else
-    (if found.blocking then reply (Err IllegalBlockingMode) else do
-      noted ← noted_key c s
-      if noted_is in_cancelled_set noted then reply (Err CancelledKey) else do
-        gate ← look_gate s
-        if gate.shut then reply (Err ClosedSelector) else
-          register_at l s c ops att (noted_index is_valid noted))
+      (if found.blocking then reply (Err IllegalBlockingMode) else do
+        noted ← noted_key c s
+        if noted_is in_cancelled_set noted then reply (Err CancelledKey) else do
+          gate ← look_gate s
+          if gate.shut then reply (Err ClosedSelector) else
+              register_at l s c ops att (noted_index is_valid noted))
 
 unfoldable pub register_plan : Limits → SelNo → ChanNo → ℕ → ℕ → Plan (Result KeyNo ChannelError)
 register_plan l s c ops att = do
   found ← look_channel c
   if not (is_within ops (valid_operations found.kind)) then reply (Err IllegalOps) else
-    (if found.closed then reply (Err ClosedChannel) else do
-      holder ← try_hold_bit c
-      if is_some holder then reply (Err Busy) else do
-        answer ← register_held l s c ops att
-        release c
-        reply answer)
+      (if found.closed then reply (Err ClosedChannel) else do
+        holder ← try_hold_bit c
+        if is_some holder then reply (Err Busy) else do
+          answer ← register_held l s c ops att
+          release c
+          reply answer)
 
 -- ---- closing
 

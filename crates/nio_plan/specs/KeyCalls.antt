@@ -8,7 +8,7 @@ use Rattle.nio_base.specs.declared.numbers.KeyNo.{KeyNo}
 use Rattle.nio_base.specs.declared.numbers.SelNo.{SelNo}
 use Rattle.nio_event.specs.Sets.{in_key_set, is_valid}
 use Rattle.nio_plan.specs.Names.{selector, channel, key}
-use Rattle.nio_plan.specs.Plan.{Plan, reply, ask, ◌>>=◌, ◌>>◌}
+use Rattle.nio_plan.specs.Plan.{Plan, reply, ◌>>=◌, ◌>>◌}
 use Rattle.nio_plan.specs.Steps.{look_selectors, look_key, cancel_key, look_interest, swap_interest, or_interest, and_interest, swap_note, look_note, look_channel, look_mark, unselect_bit}
 use Rattle.nio_plan.specs.declared.refusal.KeyError.{KeyError}
 use Rattle.nio_plan.specs.declared.refusal.KeyError.TheVariants.{CancelledKey, IllegalOps}

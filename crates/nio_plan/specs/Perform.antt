@@ -1,6 +1,5 @@
 -- A call that nobody comes between: each question is answered from the state, which takes the effect
 -- of the step.
-use Rattle.std.specs.Prelude.{◌≡◌}
 use Rattle.nio_base.specs.declared.numbers.CallerNo.{CallerNo}
 use Rattle.nio_event.specs.Acts.{effect}
 use Rattle.nio_event.specs.Answers.{answer_from}

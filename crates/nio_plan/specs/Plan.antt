@@ -18,7 +18,6 @@ abbrev pub ◌>>◌ : {A B : Type 0} → Plan A → Plan B → Plan B
 
 infixl 1 ◌>>=◌
 infixl 1 ◌>>◌
-
 -- a plan that is followed only where the test is true, whatever it replies
 abbrev pub when : {A : Type 0} → Bool → Plan A → Plan (Unit {0})
 when test plan = if test then (plan >> reply tt) else reply tt

@@ -1,5 +1,5 @@
 -- The steps of the calls of selections, of closing a selector, and of waking and interrupting.
-use Rattle.std.specs.Prelude.{◌≡◌, ℕ, ◌+◌, ◌==◌, Bool, true, false, not, ◌&&◌, if◌then◌else◌, Option, Some, None, is_some, Result, Ok, Err, is_ok, List, [], ◌∷◌, ◌++◌, fold, bit_and, bit_or}
+use Rattle.std.specs.Prelude.{ℕ, ◌+◌, ◌==◌, Bool, true, false, not, ◌&&◌, if◌then◌else◌, Option, Some, None, is_some, Result, Ok, Err, is_ok, List, [], ◌∷◌, ◌++◌, fold, bit_and, bit_or}
 use Rattle.nio_base.specs.declared.limits.Limits.{Limits}
 use Rattle.nio_base.specs.declared.numbers.CallerNo.{CallerNo}
 use Rattle.nio_base.specs.declared.numbers.ChanNo.{ChanNo}
@@ -14,7 +14,7 @@ use Rattle.nio_event.specs.declared.reply.Why.{Why}
 use Rattle.nio_event.specs.declared.reply.Why.TheVariants.{Ready, Closed, Now, Woken, Interrupted, Elapsed}
 use Rattle.nio_plan.specs.KeyCalls.{is_within}
 use Rattle.nio_plan.specs.Names.{selector, key}
-use Rattle.nio_plan.specs.Plan.{Plan, reply, ask, ◌>>=◌, ◌>>◌, when}
+use Rattle.nio_plan.specs.Plan.{Plan, reply, ◌>>=◌, ◌>>◌, when}
 use Rattle.nio_plan.specs.Steps.{make_selector, wake, look_gate, set_interrupt, take_interrupt, look_interrupt, look_key, look_interest, look_keys, take_turn, begin_look, give_turn, remove, look_mark, mark, end_wake, shut_bit, enter}
 use Rattle.nio_plan.specs.Sweeps.{sweep_to, seek_to, sweep_over}
 use Rattle.nio_plan.specs.declared.refusal.BeginError.{BeginError}
@@ -31,7 +31,7 @@ makes_selector s = do
   reply (not was)
 
 abbrev pub opened : Option ℕ → Result SelNo SelectorsSpent
-opened None = Err (record { })
+opened None = Err (record {})
 opened (Some n) = Ok (selector n)
 
 unfoldable pub open_selector_plan : Limits → Plan (Result SelNo SelectorsSpent)
@@ -68,9 +68,9 @@ look_over s i looked = do
   if in_cancelled_set stage then (do
     remove s i
     reply looked) else
-    (if is_valid stage then (do
-      ops ← look_interest s i
-      reply (looked ++ record { index = i; channel = stage.chan; interest = ops } ∷ [])) else reply looked)
+      (if is_valid stage then (do
+        ops ← look_interest s i
+        reply (looked ++ record { index = i; channel = stage.chan; interest = ops } ∷ [])) else reply looked)
 
 -- below the bound, unless there is no memory for the looked list
 abbrev pub begin_below : SelNo → Mode → ℕ → Bool → Plan (Result Selection BeginError)
@@ -99,7 +99,7 @@ begin_plan s mode lacks = do
   if gate.shut then reply (Err BeginError.ClosedSelector) else do
     holder ← take_turn s
     if is_some holder then reply (Err BeginError.Busy) else
-      begin_with_turn s mode lacks
+        begin_with_turn s mode lacks
 
 -- ---- telling
 
@@ -190,7 +190,7 @@ after_marks selection elapsed count = do
   gate ← look_gate selection.selector
   interrupted ← look_interrupt
   if is_again selection.mode count gate interrupted elapsed then reply (again selection) else
-    end_selection selection (record { count = count; why = why_over selection.mode count gate interrupted })
+      end_selection selection (record { count = count; why = why_over selection.mode count gate interrupted })
 
 -- `pairs` is what the poller told, and `elapsed` whether it said that the time is over
 unfoldable pub told_plan : Selection → List (ℕ × ℕ) → Bool → Plan ToldReply

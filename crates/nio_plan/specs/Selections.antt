@@ -1,7 +1,7 @@
 -- To which selection a `told` or a `leave` belongs, and to which closing a `try_finish`: what the
 -- caller's own acts tell of it.
-use Rattle.std.specs.Prelude.{◌≡◌, ℕ, ◌==◌, Bool, true, false, not, ◌&&◌, Option, Some, None, Result, Ok, Err, List, ◌++◌, IsTrue}
-use Rattle.nio_event.specs.OwnEvents.{has, count, enters}
+use Rattle.std.specs.Prelude.{◌≡◌, ℕ, ◌==◌, Bool, false, not, Ok, List, ◌++◌, IsTrue}
+use Rattle.nio_event.specs.OwnEvents.{has, enters}
 use Rattle.nio_event.specs.declared.act.Act.{Act}
 use Rattle.nio_event.specs.declared.act.Act.TheVariants.{GiveTurn, Mark, ShutBit}
 use Rattle.nio_plan.specs.Runs.{Completes}

@@ -1,6 +1,6 @@
 -- Plans that go over indexes, or over a list, in rising order.
 use Rattle.std.specs.Prelude.{ℕ, zero, suc, ◌+◌, ◌-◌, Bool, if◌then◌else◌, Option, Some, None, List, [], ◌∷◌}
-use Rattle.nio_plan.specs.Plan.{Plan, reply, ask, ◌>>=◌}
+use Rattle.nio_plan.specs.Plan.{Plan, reply, ◌>>=◌}
 
 -- the steps `f` of each of n indexes from i on, each with what the one before left
 unfoldable pub sweep : {A : Type 0} → ℕ → ℕ → (ℕ → A → Plan A) → A → Plan A
