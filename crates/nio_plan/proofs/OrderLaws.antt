@@ -11,7 +11,8 @@ use Rattle.nio_plan.proofs.EachLaws.{each_bind, each_if, each_sweep_at, each_run
 use Rattle.nio_plan.specs.Each.{Each}
 use Rattle.nio_plan.specs.Laws.{IsInOrder, LooksInOrder}
 use Rattle.nio_plan.specs.Plan.{reply, ◌>>=◌}
-use Rattle.nio_plan.specs.SelectCalls.{Entry, Selection, begin_plan, begin_with_turn, begin_below, given_back, look_over}
+use Rattle.nio_plan.specs.declared.looked.LookedKey.{LookedKey}
+use Rattle.nio_plan.specs.SelectCalls.{Selection, begin_plan, begin_with_turn, begin_below, given_back, look_over}
 use Rattle.nio_plan.specs.Steps.{look_keys, take_turn, look_interest, remove, gate_in, stage_in, number_in, holder_in}
 use Rattle.nio_plan.specs.Sweeps.{sweep_to}
 use Rattle.nio_plan.specs.declared.refusal.BeginError.{BeginError}
@@ -36,24 +37,24 @@ pairs-push R (x ∷ xs) y pairs each =
 -- ---- the looked list
 
 -- what was looked at before the turn of index k
-record Rises (k : ℕ) (looked : List Entry) : Type 0 where
+record Rises (k : ℕ) (looked : List LookedKey) : Type 0 where
   rising : AllPairs (λ x y. x.index < y.index) looked
   below : All (λ entry. entry.index < k) looked
 
-rises-later : (k : ℕ) (looked : List Entry) → Rises k looked → Rises (k + 1) looked
+rises-later : (k : ℕ) (looked : List LookedKey) → Rises k looked → Rises (k + 1) looked
 rises-later k looked rises = record {
   rising = rises.rising;
   below = All-weaker (λ entry. entry.index < k) (λ entry. entry.index < k + 1) (λ entry low. omega arith) looked rises.below;
 }
 
-rises-more : (k : ℕ) (looked : List Entry) (entry : Entry) → entry.index ≡ k → Rises k looked → Rises (k + 1) (looked ++ entry ∷ [])
+rises-more : (k : ℕ) (looked : List LookedKey) (entry : LookedKey) → entry.index ≡ k → Rises k looked → Rises (k + 1) (looked ++ entry ∷ [])
 rises-more k looked entry at rises = record {
   rising = pairs-push (λ x y. x.index < y.index) looked entry rises.rising
       (All-weaker (λ e. e.index < k) (λ e. e.index < entry.index) (λ e low. omega arith) looked rises.below);
   below = All-push (λ e. e.index < k + 1) looked entry (rises-later k looked rises).below (omega arith);
 }
 
-over-rises : (s : SelNo) (k : ℕ) (looked : List Entry) → Rises k looked → Each (λ _. ⊤) (Rises (k + 1)) (look_over s k looked)
+over-rises : (s : SelNo) (k : ℕ) (looked : List LookedKey) → Rises k looked → Each (λ _. ⊤) (Rises (k + 1)) (look_over s k looked)
 over-rises s k looked rises = (
   tt,
   λ found. each_if (λ _. ⊤) (Rises (k + 1)) (in_cancelled_set (stage_in found))

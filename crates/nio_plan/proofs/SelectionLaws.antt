@@ -19,7 +19,8 @@ use Rattle.nio_plan.specs.Each.{Each}
 use Rattle.nio_plan.specs.Laws.{BeginsSelection, AgainGoesOn, CountsSelection}
 use Rattle.nio_plan.specs.Plan.{reply, ◌>>=◌}
 use Rattle.nio_plan.specs.Runs.{Completes}
-use Rattle.nio_plan.specs.SelectCalls.{Entry, Selection, ToldReply, begin_plan, begin_with_turn, begin_below, told_plan, told_bits, given_back, look_over, mark_entry, mark_told, mark_again, one_if, gains_nothing, sweep_key, is_again, end_selection, after_marks, again, done}
+use Rattle.nio_plan.specs.declared.looked.LookedKey.{LookedKey}
+use Rattle.nio_plan.specs.SelectCalls.{Selection, ToldReply, begin_plan, begin_with_turn, begin_below, told_plan, told_bits, given_back, look_over, mark_entry, mark_told, mark_again, one_if, gains_nothing, sweep_key, is_again, end_selection, after_marks, again, done}
 use Rattle.nio_plan.specs.Selections.{gives_turn, marks, IsBegun}
 use Rattle.nio_plan.specs.Steps.{look_keys, take_turn, mark, remove, flag_in, gate_in, stage_in, number_in, holder_in, mark_in, exchange_in}
 use Rattle.nio_plan.specs.Sweeps.{sweep_to, sweep_over}
@@ -124,7 +125,7 @@ mark_told-counts s i told (look ∷ acts) n run =
         let all = count-cons (marks s.0) act more in
         omega (arith, here, rest, all)
 
-mark_entry-counts : (s : SelNo) (pairs : List (ℕ × ℕ)) (entry : Entry) (before : ℕ) (acts : List Act) (n : ℕ)
+mark_entry-counts : (s : SelNo) (pairs : List (ℕ × ℕ)) (entry : LookedKey) (before : ℕ) (acts : List Act) (n : ℕ)
     → Completes (mark_entry s pairs entry before) acts n → before + count (marks s.0) acts ≡ n
 mark_entry-counts s pairs entry before acts n run = by_test (told_bits pairs entry == 0) acts run
   where
@@ -146,7 +147,7 @@ mark_entry-counts s pairs entry before acts n run = by_test (told_bits pairs ent
             omega (arith, counted, all, is)
         ended first marked (act ∷ more) parts counted run' = absurd run'
 
-over-counts : (s : SelNo) (pairs : List (ℕ × ℕ)) (entries : List Entry) (before : ℕ) (acts : List Act) (n : ℕ)
+over-counts : (s : SelNo) (pairs : List (ℕ × ℕ)) (entries : List LookedKey) (before : ℕ) (acts : List Act) (n : ℕ)
     → Completes (sweep_over entries (mark_entry s pairs) before) acts n → before + count (marks s.0) acts ≡ n
 unfolding sweep_over
 over-counts s pairs [] before [] n run = let is : before ≡ n = cc run in omega arith
@@ -167,7 +168,7 @@ again-no_give : (s : SelNo) (i told : ℕ) (found : Result (Unit {0}) KeyMark) �
 again-no_give s i told (Ok u) = tt
 again-no_give s i told (Err stands) = (refl, λ _. tt)
 
-entry-no_give : (s : SelNo) (pairs : List (ℕ × ℕ)) (entry : Entry) (before : ℕ) → Each (NoGive s.0) (λ _. ⊤) (mark_entry s pairs entry before)
+entry-no_give : (s : SelNo) (pairs : List (ℕ × ℕ)) (entry : LookedKey) (before : ℕ) → Each (NoGive s.0) (λ _. ⊤) (mark_entry s pairs entry before)
 entry-no_give s pairs entry before =
     let told = told_bits pairs entry in
     each_if {R = ℕ} (NoGive s.0) (λ _. ⊤) (told == 0) _ _ (λ _. tt)
@@ -178,7 +179,7 @@ entry-no_give s pairs entry before =
     )
     (λ _ _. tt))
 
-over-no_give : (s : SelNo) (pairs : List (ℕ × ℕ)) (entries : List Entry) (acts : List Act) (n : ℕ)
+over-no_give : (s : SelNo) (pairs : List (ℕ × ℕ)) (entries : List LookedKey) (acts : List Act) (n : ℕ)
     → Completes (sweep_over entries (mark_entry s pairs) 0) acts n → has (gives_turn s.0) acts ≡ false
 over-no_give s pairs entries acts n run =
     no_gives s.0 acts (each_run (NoGive s.0) (λ _. ⊤) (sweep_over entries (mark_entry s pairs) 0) acts n

@@ -12,7 +12,8 @@ use Rattle.nio_plan.proofs.EachLaws.{each_bind, each_if, each_when, each_sweep, 
 use Rattle.nio_plan.specs.Each.{Each}
 use Rattle.nio_plan.specs.Laws.{MarksAsTold, IsAsTold, MarksOnlyAsTold}
 use Rattle.nio_plan.specs.Plan.{reply, ◌>>=◌}
-use Rattle.nio_plan.specs.SelectCalls.{Entry, Selection, told_plan, told_bits, mark_entry, mark_told, mark_again, gains_nothing, sweep_key, end_selection, again}
+use Rattle.nio_plan.specs.declared.looked.LookedKey.{LookedKey}
+use Rattle.nio_plan.specs.SelectCalls.{Selection, told_plan, told_bits, mark_entry, mark_told, mark_again, gains_nothing, sweep_key, end_selection, again}
 use Rattle.nio_plan.specs.Steps.{mark, remove, mark_in, stage_in, exchange_in}
 use Rattle.nio_plan.specs.declared.selected.Selected.{Selected}
 use Rattle.nio_plan.specs.Sweeps.{sweep_to, sweep_over}
@@ -45,7 +46,7 @@ module _ (selection : Selection) (pairs : List (ℕ × ℕ)) where
   not_false true e = absurd (cc e)
   not_false false e = refl
 
-  entry-as_told : (entry : Entry) (count : ℕ) → Contains selection.looked entry → Each Asks (λ _. ⊤) (mark_entry selection.selector pairs entry count)
+  entry-as_told : (entry : LookedKey) (count : ℕ) → Contains selection.looked entry → Each Asks (λ _. ⊤) (mark_entry selection.selector pairs entry count)
   entry-as_told entry count looked =
       each_if {R = ℕ} Asks (λ _. ⊤) (told_bits pairs entry == 0) _ _ (λ _. tt)
       (λ some. each_bind Asks (λ _. ⊤) (λ _. ⊤) (mark_told selection.selector entry.index (told_bits pairs entry)) _

@@ -13,7 +13,8 @@ use Rattle.nio_event.specs.declared.event.Event.{Event}
 use Rattle.nio_plan.specs.Perform.{perform}
 use Rattle.nio_plan.specs.Plan.{Plan}
 use Rattle.nio_plan.specs.Runs.{Completes}
-use Rattle.nio_plan.specs.SelectCalls.{Entry, Selection, ToldReply, done, again, begin_plan, told_bits, told_plan}
+use Rattle.nio_plan.specs.declared.looked.LookedKey.{LookedKey}
+use Rattle.nio_plan.specs.SelectCalls.{Selection, ToldReply, done, again, begin_plan, told_bits, told_plan}
 use Rattle.nio_plan.specs.Selections.{marks, IsBegun}
 use Rattle.nio_plan.specs.declared.selected.Selected.{Selected}
 
@@ -30,7 +31,7 @@ RunsArePerformed R =
 -- Key i of selector s is marked with exactly its told bits, of which there are some: the bits that the
 -- poller told of a looked key, met with the interest set that the selection found.
 pub record MarksAsTold (selection : Selection) (pairs : List (ℕ × ℕ)) (s : SelNo) (i told : ℕ) : Type 0 where
-  pub entry : Entry
+  pub entry : LookedKey
   pub looked : Contains selection.looked entry
   pub on_selector : s ≡ selection.selector
   pub at_index : entry.index ≡ i

@@ -17,6 +17,7 @@ use Rattle.nio_plan.specs.Names.{selector, key}
 use Rattle.nio_plan.specs.Plan.{Plan, reply, ◌>>=◌, ◌>>◌, when}
 use Rattle.nio_plan.specs.Steps.{make_selector, wake, look_gate, set_interrupt, take_interrupt, look_interrupt, look_key, look_interest, look_keys, take_turn, begin_look, give_turn, remove, look_mark, mark, end_wake, shut_bit, enter}
 use Rattle.nio_plan.specs.Sweeps.{sweep_to, seek_to, sweep_over}
+use Rattle.nio_plan.specs.declared.looked.LookedKey.{LookedKey}
 use Rattle.nio_plan.specs.declared.refusal.BeginError.{BeginError}
 use Rattle.nio_plan.specs.declared.refusal.ListError.{ListError}
 use Rattle.nio_plan.specs.declared.refusal.SelectorsSpent.{SelectorsSpent}
@@ -41,19 +42,13 @@ open_selector_plan l = do
 
 -- ---- beginning a selection
 
--- a key that a selection looks at: its index and channel, and the interest set that was found
-pub record Entry : Type 0 where
-  pub index : ℕ
-  pub channel : ChanNo
-  pub interest : ℕ
-
 -- a selection in progress: its selector and mode, its bound, and its looked list, which has each key
 -- below the bound that was found valid, in rising order
 pub record Selection : Type 0 where
   pub selector : SelNo
   pub mode : Mode
   pub bound : ℕ
-  pub looked : List Entry
+  pub looked : List LookedKey
 
 -- a refusal after the turn was taken
 abbrev pub given_back : {A : Type 0} → SelNo → A → Plan A
@@ -62,7 +57,7 @@ given_back s answer = do
   reply answer
 
 -- a key of the cancelled set is removed; a valid one is looked at
-abbrev pub look_over : SelNo → ℕ → List Entry → Plan (List Entry)
+abbrev pub look_over : SelNo → ℕ → List LookedKey → Plan (List LookedKey)
 look_over s i looked = do
   stage ← look_key s i
   if in_cancelled_set stage then (do
@@ -108,7 +103,7 @@ abbrev pub told_of : List (ℕ × ℕ) → ℕ → ℕ
 told_of pairs i = fold (λ bits pair. if pair.0 == i then bit_or bits pair.1 else bits) 0 pairs
 
 -- the told bits of a looked key: those that the poller told of it and that the selection looked for
-abbrev pub told_bits : List (ℕ × ℕ) → Entry → ℕ
+abbrev pub told_bits : List (ℕ × ℕ) → LookedKey → ℕ
 told_bits pairs entry = bit_and (told_of pairs entry.index) entry.interest
 
 -- whether the key is selected already and its ready set would gain nothing
@@ -133,7 +128,7 @@ mark_told s i told = do
     first ← mark s i was told
     mark_again s i told first
 
-abbrev pub mark_entry : SelNo → List (ℕ × ℕ) → Entry → ℕ → Plan ℕ
+abbrev pub mark_entry : SelNo → List (ℕ × ℕ) → LookedKey → ℕ → Plan ℕ
 mark_entry s pairs entry count =
     let told = told_bits pairs entry in
     if told == 0 then reply count else do

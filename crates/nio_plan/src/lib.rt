@@ -3,9 +3,11 @@
 #![tactic(auto)]
 
 pub use laws::{begin_law, run_law, told_law};
+pub use looked::LookedKey;
 pub use refusal::{BeginError, ChannelError, KeyError, ListError, SelectorsSpent};
 pub use selected::Selected;
 
 mod laws;
+mod looked;
 mod refusal;
 mod selected;
