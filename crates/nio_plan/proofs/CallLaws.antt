@@ -10,7 +10,7 @@ use Rattle.nio_event.specs.Histories.{IsLegal, mine, last_of, event_of, EndsWith
 use Rattle.nio_event.specs.Questions.{Answer, question_of, answer_of}
 use Rattle.nio_event.specs.declared.act.Act.{Act}
 use Rattle.nio_event.specs.declared.event.Event.{Event}
-use Rattle.nio_plan.proofs.RunLaws.{follows_more, follows_bind}
+use Rattle.nio_plan.proofs.RunLaws.{bind-reply, follows_more, follows_bind}
 use Rattle.nio_plan.specs.Calls.{done_between, PartClause, View, Holds, StepTold, PartTold, CallTold}
 use Rattle.nio_plan.specs.Plan.{Plan, ask, ◌>>=◌}
 use Rattle.nio_plan.specs.Runs.{Follows}
@@ -137,6 +137,11 @@ left_bind {l = l} {me = me} {plan = plan} {rest = rest} {v0 = v0} {v1 = v1} f to
   part = part_bind l (Holds v0) me plan f rest v0.seen v1.seen told.part;
   held = told.held;
 }
+
+-- what is left, and then its reply: for a loop that is the whole of a call
+pub left_reply : {R : Type 0} {l : Limits} {me : CallerNo} {whole plan : Plan R} {v0 v1 : View}
+    → PartTold l me whole v0 v1 plan → PartTold l me whole v0 v1 (plan >>= reply)
+left_reply {l = l} {me = me} {whole = whole} {plan = plan} {v0 = v0} {v1 = v1} told = subst (PartTold l me whole v0 v1) (sym (bind-reply plan)) told
 
 -- a whole call in the middle of a call, and then a part of how that goes on with its answer
 pub ran_then : {A B : Type 0} {l : Limits} {me : CallerNo} {plan : Plan A} {a : A} {v0 v1 v2 : View} {rest : Plan B} (f : A → Plan B)
