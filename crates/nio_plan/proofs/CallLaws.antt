@@ -12,7 +12,7 @@ use Rattle.nio_event.specs.declared.act.Act.{Act}
 use Rattle.nio_event.specs.declared.event.Event.{Event}
 use Rattle.nio_plan.proofs.RunLaws.{bind-reply, follows_more, follows_bind}
 use Rattle.nio_plan.specs.Calls.{done_between, PartClause, View, Holds, StepTold, PartTold, CallTold}
-use Rattle.nio_plan.specs.Plan.{Plan, ask, ◌>>=◌}
+use Rattle.nio_plan.specs.Plan.{Plan, reply, ask, ◌>>=◌}
 use Rattle.nio_plan.specs.Runs.{Follows}
 
 -- ---- the history clause
