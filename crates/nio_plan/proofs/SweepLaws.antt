@@ -1,5 +1,6 @@
 -- Sweeps and seeks, turn by turn.
-use Rattle.std.proofs.Common.{◌≡◌, ℕ, suc, ◌+◌, ◌-◌, ◌<◌, ◌≤◌, Bool, true, false, if◌then◌else◌, Option, Some, None, List, [], ◌∷◌, refl, ap, ◌∙◌, subst, arith}
+use Rattle.std.proofs.Common.{◌≡◌, ℕ, suc, ◌+◌, ◌-◌, ◌<◌, ◌≤◌, Bool, true, false, if◌then◌else◌, Option, Some, None, List, [], ◌∷◌, refl, ap, ◌∙◌, subst, arith, get_or, drop, length}
+use Rattle.std.proofs.lemmas.List.{drop_more, drop_all}
 use Rattle.nio_base.specs.declared.limits.Limits.{Limits}
 use Rattle.nio_base.specs.declared.numbers.CallerNo.{CallerNo}
 use Rattle.nio_plan.proofs.CallLaws.{left_more, left_bind}
@@ -90,3 +91,16 @@ over_turn e later f x y rest = turn (sweep_over (e ∷ later) f x) (f e x) (λ z
 pub over_done : {X A R : Type 0} {l : Limits} {me : CallerNo} {whole : Plan R} {v0 v1 : View} (f : X → A → Plan A) (x : A) (rest : A → Plan R)
     → PartTold l me whole v0 v1 (sweep_over [] f x >>= rest) → PartTold l me whole v0 v1 (rest x)
 over_done {l = l} {me = me} {whole = whole} {v0 = v0} {v1 = v1} f x rest = subst (PartTold l me whole v0 v1) (ap (λ p. p >>= rest) (sweep_over-done f x))
+
+-- the same for a loop over a list by its index
+pub over_turn_at : {X A R : Type 0} {l : Limits} {me : CallerNo} {whole : Plan R} {v0 v1 v2 : View} (xs : List X) (k : ℕ) (d : X) (f : X → A → Plan A) (x y : A) (rest : A → Plan R)
+    → k < length xs → PartTold l me whole v0 v1 (sweep_over (drop k xs) f x >>= rest) → CallTold l me (f (get_or xs k d) x) v1 v2 y
+    → PartTold l me whole v0 v2 (sweep_over (drop (k + 1) xs) f y >>= rest)
+over_turn_at {l = l} {me = me} {whole = whole} {v0 = v0} {v1 = v1} xs k d f x y rest below so_far call =
+    over_turn (get_or xs k d) (drop (k + 1) xs) f x y rest
+      (subst (λ elements. PartTold l me whole v0 v1 (sweep_over elements f x >>= rest)) (drop_more xs k d below) so_far) call
+
+pub over_done_at : {X A R : Type 0} {l : Limits} {me : CallerNo} {whole : Plan R} {v0 v1 : View} (xs : List X) (k : ℕ) (f : X → A → Plan A) (x : A) (rest : A → Plan R)
+    → length xs ≤ k → PartTold l me whole v0 v1 (sweep_over (drop k xs) f x >>= rest) → PartTold l me whole v0 v1 (rest x)
+over_done_at {l = l} {me = me} {whole = whole} {v0 = v0} {v1 = v1} xs k f x rest past so_far =
+    over_done f x rest (subst (λ elements. PartTold l me whole v0 v1 (sweep_over elements f x >>= rest)) (drop_all k xs past) so_far)
