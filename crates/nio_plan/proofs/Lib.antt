@@ -1,0 +1,8 @@
+pub mod RunLaws
+pub mod CallLaws
+pub mod SweepLaws
+pub mod PerformLaws
+pub mod EachLaws
+pub mod ToldLaws
+pub mod SelectionLaws
+pub mod OrderLaws

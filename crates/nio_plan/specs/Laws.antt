@@ -1,0 +1,79 @@
+-- What the plans promise.
+use Rattle.std.specs.Prelude.{◌≡◌, ℕ, ◌==◌, ◌<◌, Bool, not, Ok, List, ◌++◌, map, IsTrue, ⊤}
+use Rattle.std.specs.List.{All, AllPairs, Contains}
+use Rattle.nio_base.specs.declared.limits.Limits.{Limits}
+use Rattle.nio_base.specs.declared.numbers.CallerNo.{CallerNo}
+use Rattle.nio_event.specs.Histories.{state_after, event_of, IsLegal}
+use Rattle.nio_base.specs.declared.numbers.SelNo.{SelNo}
+use Rattle.nio_event.specs.OwnEvents.{count}
+use Rattle.nio_event.specs.declared.act.Act.{Act}
+use Rattle.nio_event.specs.declared.act.Act.TheVariants.{Mark}
+use Rattle.nio_event.specs.declared.found.Mode.{Mode}
+use Rattle.nio_event.specs.declared.event.Event.{Event}
+use Rattle.nio_plan.specs.Perform.{perform}
+use Rattle.nio_plan.specs.Plan.{Plan}
+use Rattle.nio_plan.specs.Runs.{Completes}
+use Rattle.nio_plan.specs.declared.looked.LookedKey.{LookedKey}
+use Rattle.nio_plan.specs.SelectCalls.{Selection, ToldReply, done, again, begin_plan, told_bits, told_plan}
+use Rattle.nio_plan.specs.Selections.{marks, IsBegun}
+use Rattle.nio_plan.specs.declared.selected.Selected.{Selected}
+
+-- A run of a plan that is legal after a history, with no event of another caller between, has just
+-- the reply and leaves just the state of the plan performed on the state that the history left.
+abbrev pub RunsArePerformed : Type 0 → Type 0
+RunsArePerformed R =
+    (l : Limits) (me : CallerNo) (plan : Plan R) (past : List Event) (acts : List Act) (answer : R)
+    → IsLegal l (past ++ map (event_of me) acts) → Completes plan acts answer
+    → perform me plan (state_after past) ≡ record { answer = answer; state = state_after (past ++ map (event_of me) acts) }
+
+-- ---- selections
+
+-- Key i of selector s is marked with exactly its told bits, of which there are some: the bits that the
+-- poller told of a looked key, met with the interest set that the selection found.
+pub record MarksAsTold (selection : Selection) (pairs : List (ℕ × ℕ)) (s : SelNo) (i told : ℕ) : Type 0 where
+  pub entry : LookedKey
+  pub looked : Contains selection.looked entry
+  pub on_selector : s ≡ selection.selector
+  pub at_index : entry.index ≡ i
+  pub bits : told ≡ told_bits pairs entry
+  pub some : IsTrue (not (told == 0))
+
+abbrev pub IsAsTold : Selection → List (ℕ × ℕ) → Act → Type 0
+IsAsTold selection pairs (Mark s i from told found) = MarksAsTold selection pairs s i told
+IsAsTold selection pairs _ = ⊤
+
+-- A key is selected only for what the poller told of it in that selection, and only where it was
+-- looked at and looked for.
+abbrev pub MarksOnlyAsTold : Type 0
+MarksOnlyAsTold =
+    (selection : Selection) (pairs : List (ℕ × ℕ)) (elapsed : Bool) (acts : List Act) (answer : ToldReply)
+    → Completes (told_plan selection pairs elapsed) acts answer → All (IsAsTold selection pairs) acts
+
+-- A `try_begin` that answers Ok begins the selection that it answers.
+abbrev pub BeginsSelection : Type 0
+BeginsSelection =
+    (s : SelNo) (mode : Mode) (lacks : Bool) (own acts : List Act) (selection : Selection)
+    → Completes (begin_plan s mode lacks) acts (Ok selection) → IsBegun (own ++ acts) selection
+
+-- the looked list has each key once, in rising order of the indexes, all below the bound
+pub record IsInOrder (selection : Selection) : Type 0 where
+  pub rising : AllPairs (λ x y. x.index < y.index) selection.looked
+  pub below : All (λ entry. entry.index < selection.bound) selection.looked
+
+abbrev pub LooksInOrder : Type 0
+LooksInOrder =
+    (s : SelNo) (mode : Mode) (lacks : Bool) (acts : List Act) (selection : Selection)
+    → Completes (begin_plan s mode lacks) acts (Ok selection) → IsInOrder selection
+
+-- A `told` that answers Again goes on with the selection that was begun, and has marked nothing.
+abbrev pub AgainGoesOn : Type 0
+AgainGoesOn =
+    (own : List Act) (selection next : Selection) (pairs : List (ℕ × ℕ)) (elapsed : Bool) (acts : List Act)
+    → IsBegun own selection → Completes (told_plan selection pairs elapsed) acts (again next) → IsBegun (own ++ acts) next
+
+-- The count is the number of marks that succeeded since the selection began.
+abbrev pub CountsSelection : Type 0
+CountsSelection =
+    (own : List Act) (selection : Selection) (pairs : List (ℕ × ℕ)) (elapsed : Bool) (acts : List Act) (answer : Selected)
+    → (begun : IsBegun own selection) → Completes (told_plan selection pairs elapsed) acts (done answer)
+    → answer.count ≡ count (marks selection.selector.0) (begun.since ++ acts)

@@ -1,0 +1,15 @@
+-- What numbers name.
+use Rattle.std.specs.Prelude.{ℕ}
+use Rattle.nio_base.specs.declared.numbers.ChanNo.{ChanNo}
+use Rattle.nio_base.specs.declared.numbers.KeyNo.{KeyNo}
+use Rattle.nio_base.specs.declared.numbers.SelNo.{SelNo}
+
+abbrev pub selector : ℕ → SelNo
+selector n = record { 0 = n }
+
+abbrev pub channel : ℕ → ChanNo
+channel n = record { 0 = n }
+
+-- the key with this index
+abbrev pub key : SelNo → ℕ → KeyNo
+key s i = record { sel = s; index = i; serial = 0 }

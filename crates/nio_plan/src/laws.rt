@@ -1,0 +1,23 @@
+//! What the plans promise, as the contracts of functions that do nothing.
+ghost use Rattle.nio_plan.specs.Laws.{RunsArePerformed, BeginsSelection, LooksInOrder, MarksOnlyAsTold, AgainGoesOn, CountsSelection};
+
+/// A call between whose steps nobody comes answers, and leaves, what its plan says of the state
+/// before it.
+pub fn run_law<R>()
+    ensures { RunsArePerformed R }
+{}
+
+/// What `try_begin` answers is the selection that it began, until the turn is given back or a key
+/// is marked.
+pub fn begin_law()
+    ensures begins { BeginsSelection }
+    ensures in_order { LooksInOrder }
+{}
+
+/// A selection updates keys only for what the poller told of them, counts each update, and ends with
+/// the first `told` that makes one.
+pub fn told_law()
+    ensures only_as_told { MarksOnlyAsTold }
+    ensures goes_on { AgainGoesOn }
+    ensures counts { CountsSelection }
+{}
