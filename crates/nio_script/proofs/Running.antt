@@ -2,13 +2,12 @@
 use Rattle.std.proofs.Common.{◌≡◌, ℕ, ◌+◌, List, ◌∷◌, ◌++◌, sym, ap, ◌∙◌, subst, append_assoc}
 use Rattle.nio_base.specs.declared.limits.Limits.{Limits}
 use Rattle.nio_bytes.specs.declared.sink.Sink as sink
-use Rattle.nio_event.specs.Replies.{history_line}
 use Rattle.nio_event.specs.declared.call.ScriptCall.{ScriptCall}
 use Rattle.nio_plain.specs.Answer.{answer_from, left_from}
 use Rattle.nio_plain.specs.ScriptState.{ScriptState}
-use Rattle.nio_plain.specs.Seq.{seq}
 use Rattle.nio_plain.specs.declared.system.System as system
 use Rattle.nio_script.specs.Output.{Writes, WritesPrefix, Gathers}
+use Rattle.nio_script.specs.Run.{line_for, left_by_call}
 use Rattle.nio_script.proofs.Writing.{writes_both, writes_prefix_after}
 
 -- Some calls were made, and the rest of them are left. What was written, what is kept back and the
@@ -26,17 +25,17 @@ module _ {K Y : Type 0} (k : sink.Ghosts K) (y : system.Ghosts Y) (output mid no
     (running : IsRunning k y output mid run before kept number (call ∷ rest) calls) where
   -- the line of the next call
   abbrev pub next_line : List ℕ
-  next_line = history_line number call.caller call.call (seq (y.limits before) (y.state before) call.caller call.call).reply
+  next_line = line_for (y.limits before) (y.state before) number call
 
   -- the state that it leaves
   abbrev pub next_state : ScriptState
-  next_state = (seq (y.limits before) (y.state before) call.caller call.call).left
+  next_state = left_by_call (y.limits before) (y.state before) call
 
   -- what was written, what is kept back, the next line, and the answer to the calls after it
   pub answer_on : running.bytes ++ ((kept ++ next_line) ++ answer_from (y.limits run) next_state (number + 1) rest) ≡ answer_from (y.limits run) (y.state run) 1 calls
   answer_on =
-      let by_limits = λ (l : Limits). let done = seq l (y.state before) call.caller call.call in
-      running.bytes ++ (kept ++ (history_line number call.caller call.call done.reply ++ answer_from (y.limits run) done.left (number + 1) rest)) in
+      let by_limits = λ (l : Limits).
+      running.bytes ++ (kept ++ (line_for l (y.state before) number call ++ answer_from (y.limits run) (left_by_call l (y.state before) call) (number + 1) rest)) in
       ap (λ xs. running.bytes ++ xs) (append_assoc kept next_line (answer_from (y.limits run) next_state (number + 1) rest)) ∙ ap by_limits running.limits ∙ running.answer
 
   -- the next call fails
@@ -58,7 +57,7 @@ module _ {K Y : Type 0} (k : sink.Ghosts K) (y : system.Ghosts Y) (output mid no
         ∙ answer_on;
     left =
         ap (λ st. left_from (y.limits run) st rest) left
-        ∙ ap (λ l. left_from (y.limits run) (seq l (y.state before) call.caller call.call).left rest) running.limits
+        ∙ ap (λ l. left_from (y.limits run) (left_by_call l (y.state before) call) rest) running.limits
         ∙ running.left;
     still = still ∙ running.still;
     kept_on = kept_on;

@@ -7,7 +7,8 @@ use Rattle.nio_script.specs.declared.input.TheConstants.{LONGEST_INPUT}
 
 -- The source was read to its end and no read failed: where it tells its bytes, the input is all
 -- that were to come, and none is left.
-pub record IsReadWhole {S : Type 0} (s : source.Ghosts S) (old new : S) (input : List ℕ) : Type 0 where
+pub record IsReadWhole {S : Type 0} (s : source.Ghosts S) (old new : S) (input : List ℕ)
+    : Type 0 where
   pub fits : length input ≤ LONGEST_INPUT
   pub whole : IfSome (s.left old) (λ bytes. bytes ≡ input)
   pub ended : IsAtEnd (s.left new)
@@ -21,7 +22,8 @@ pub record Takes {S : Type 0} (s : source.Ghosts S) (old new : S) (count : ℕ) 
 
 -- No more than one byte past the longest input was taken, and that one exactly where the input is
 -- said to be too long.
-pub record StopsPastLongest {S : Type 0} (s : source.Ghosts S) (old new : S) (too_long : Type 0) : Type 0 where
+pub record StopsPastLongest {S : Type 0} (s : source.Ghosts S) (old new : S) (too_long : Type 0)
+    : Type 0 where
   pub count : ℕ
   pub taken : Takes s old new count
   pub few : count ≤ LONGEST_INPUT + 1

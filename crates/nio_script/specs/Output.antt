@@ -12,12 +12,14 @@ abbrev pub WritesPrefix : {K : Type 0} → sink.Ghosts K → K → K → List �
 WritesPrefix k old new bytes = (count : ℕ) × Writes k old new (take count bytes)
 
 -- The sink took exactly these bytes and was flushed after them, where it tells that.
-pub record IsWritten {K : Type 0} (k : sink.Ghosts K) (old new : K) (bytes : List ℕ) : Type 0 where
+pub record IsWritten {K : Type 0} (k : sink.Ghosts K) (old new : K) (bytes : List ℕ)
+    : Type 0 where
   pub taken : Writes k old new bytes
   pub flushed : IfSome (k.flushed new) IsTrue
 
 -- Some bytes were written; with what is kept back now they are what was kept back and the line.
-pub record Gathers {K : Type 0} (k : sink.Ghosts K) (old new : K) (kept kept' line : List ℕ) : Type 0 where
+pub record Gathers {K : Type 0} (k : sink.Ghosts K) (old new : K)
+    (kept kept' line : List ℕ) : Type 0 where
   pub bytes : List ℕ
   pub written : Writes k old new bytes
   pub rest : bytes ++ kept' ≡ kept ++ line

@@ -1,17 +1,29 @@
 -- What running a script does to its sink and its system.
 use Rattle.std.specs.Prelude.{◌≡◌, ◌⊎◌, ℕ, ◌++◌, List, [], ◌∷◌, codes}
 use Rattle.std.specs.Fmt.{decimal}
+use Rattle.nio_base.specs.declared.limits.Limits.{Limits}
 use Rattle.nio_bytes.specs.Cause.{Rose}
 use Rattle.nio_bytes.specs.declared.source.Source as source
 use Rattle.nio_bytes.specs.declared.sink.Sink as sink
+use Rattle.nio_event.specs.Replies.{history_line}
 use Rattle.nio_event.specs.Script.{IsScript, IsFirstBad}
 use Rattle.nio_event.specs.declared.call.ScriptCall.{ScriptCall}
 use Rattle.nio_plain.specs.Answer.{answer_to, left_by_script}
+use Rattle.nio_plain.specs.ScriptState.{ScriptState}
+use Rattle.nio_plain.specs.Seq.{seq}
 use Rattle.nio_plain.specs.declared.system.System as system
 use Rattle.nio_script.specs.Input.{IsReadWhole}
 use Rattle.nio_script.specs.Output.{IsWritten, WritesPrefix}
 use Rattle.nio_script.specs.declared.status.Status.{Status}
 use Rattle.nio_script.specs.declared.status.Status.TheVariants.{Done, Usage, BadScript, ReadFault, WriteFault, Memory, NetFault, Illegal, TooLong}
+
+-- the line of the history for a call in this state
+abbrev pub line_for : Limits → ScriptState → ℕ → ScriptCall → List ℕ
+line_for l st number c = history_line number c.caller c.call (seq l st c.caller c.call).reply
+
+-- the state that a call leaves
+abbrev pub left_by_call : Limits → ScriptState → ScriptCall → ScriptState
+left_by_call l st c = (seq l st c.caller c.call).left
 
 -- The input was read whole, and its text is so.
 abbrev pub ReadsText : {S : Type 0} → source.Ghosts S → S → S → (List ℕ → Type 0) → Type 0
@@ -19,7 +31,8 @@ ReadsText s input input' IsSo = (text : List ℕ) × IsReadWhole s input input' 
 
 -- The text is a script, its answer was written and flushed, no write failed, and the system is left
 -- as the script leaves it.
-pub record IsAnswered {K Y : Type 0} (k : sink.Ghosts K) (y : system.Ghosts Y) (output output' : K) (run run' : Y) (text : List ℕ) : Type 0 where
+pub record IsAnswered {K Y : Type 0} (k : sink.Ghosts K) (y : system.Ghosts Y)
+    (output output' : K) (run run' : Y) (text : List ℕ) : Type 0 where
   pub calls : List ScriptCall
   pub script : IsScript text calls
   pub written : IsWritten k output output' (answer_to (y.limits run) calls)
@@ -27,7 +40,8 @@ pub record IsAnswered {K Y : Type 0} (k : sink.Ghosts K) (y : system.Ghosts Y) (
   pub left : y.state run' ≡ left_by_script (y.limits run) calls
 
 -- The text is a script, and some of its answer was written, from its front.
-pub record IsCutShort {K Y : Type 0} (k : sink.Ghosts K) (y : system.Ghosts Y) (output output' : K) (run : Y) (text : List ℕ) : Type 0 where
+pub record IsCutShort {K Y : Type 0} (k : sink.Ghosts K) (y : system.Ghosts Y)
+    (output output' : K) (run : Y) (text : List ℕ) : Type 0 where
   pub calls : List ScriptCall
   pub script : IsScript text calls
   pub written : WritesPrefix k output output' (answer_to (y.limits run) calls)
@@ -39,10 +53,12 @@ bad_line line = codes "bad line " ++ decimal line ++ 10 ∷ []
 -- These bytes were written and flushed, or some from their front and the sink failed.
 abbrev pub Notes : {K : Type 0} → sink.Ghosts K → K → K → List ℕ → Type 0
 Notes k output output' bytes =
-    IsWritten k output output' bytes ⊎ (WritesPrefix k output output' bytes × Rose (k.faults output) (k.faults output'))
+    IsWritten k output output' bytes
+    ⊎ (WritesPrefix k output output' bytes × Rose (k.faults output) (k.faults output'))
 
 -- The line is the text's first that isn't in the grammar, which was said, and no call was made.
-pub record IsRefused {K Y : Type 0} (k : sink.Ghosts K) (output output' : K) (run run' : Y) (line : ℕ) (text : List ℕ) : Type 0 where
+pub record IsRefused {K Y : Type 0} (k : sink.Ghosts K) (output output' : K)
+    (run run' : Y) (line : ℕ) (text : List ℕ) : Type 0 where
   pub first : IsFirstBad text line
   pub said : Notes k output output' (bad_line line)
   pub uncalled : run' ≡ run

@@ -50,8 +50,10 @@ const GATHERED: usize = 65_536;
 /// Puts a line behind those that are kept back, and writes them all where they are many. At
 /// `WriteFault` and `Memory`, the only errors, the sink may have taken some from their front.
 pub fn put_line<K: Sink>(sink: &mut K, kept: &mut Vec<u8>, line: &[u8]) -> Result<(), Status>
-    ensures ok { OnOk result (Gathers K.Sink sink.old sink.new kept.old.items kept.new.items line.now) }
-    ensures err { OnErr result (WritesPrefix K.Sink sink.old sink.new (kept.old.items ++ line.now)) }
+    ensures ok { OnOk result (Gathers K.Sink sink.old sink.new
+        kept.old.items kept.new.items line.now) }
+    ensures err { OnErr result (WritesPrefix K.Sink sink.old sink.new
+        (kept.old.items ++ line.now)) }
     ensures cause { CausesFault (K.faults sink.old) (K.faults sink.new)
         (IsErrOf result Status.WriteFault) }
     ensures others { IfErr result (λ status. (status ≡ Status.WriteFault)

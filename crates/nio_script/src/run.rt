@@ -1,15 +1,13 @@
 //! Scripts, from the bytes that come in to the bytes that go out.
 ghost use Rattle.std.specs.Prelude.{◌≡◌, ℕ, ◌<◌, ◌≤◌, ◌⊎◌, ◌++◌, List, length, IfSome, IfErr, IsErrOf, OnOk, OnErr};
 ghost use Rattle.nio_bytes.specs.Cause.{Rose};
-ghost use Rattle.nio_event.specs.Replies.{history_line};
 ghost use Rattle.nio_event.specs.Script.{IsScript, IsFirstBad};
 ghost use Rattle.nio_event.specs.declared.call.ScriptCall.{ScriptCall};
 ghost use Rattle.nio_plain.specs.Answer.{answer_from, left_from};
 ghost use Rattle.nio_plain.specs.ScriptState.{script_opening};
-ghost use Rattle.nio_plain.specs.Seq.{seq};
 ghost use Rattle.nio_script.specs.Input.{CausesFault, StopsPastLongest};
 ghost use Rattle.nio_script.specs.Output.{WritesPrefix, IsWritten, Gathers};
-ghost use Rattle.nio_script.specs.Run.{bad_line, Notes, ReadsText, IsAnswered, IsCutShort, IsRefused, IsUntouched, EndsText, EndsScript};
+ghost use Rattle.nio_script.specs.Run.{line_for, left_by_call, bad_line, Notes, ReadsText, IsAnswered, IsCutShort, IsRefused, IsUntouched, EndsText, EndsScript};
 
 use crate::input::{LONGEST_INPUT, read_input};
 use crate::output::{put_line, write_out};
@@ -30,10 +28,11 @@ fn answer_call<K: Sink, Y: System>(
     system: &mut Y,
 ) -> Result<(), Status>
     ensures ok { OnOk result (Gathers K.Sink output.old output.new kept.old.items kept.new.items
-        (history_line number line.now.caller line.now.call (seq (Y.limits system.old) (Y.state system.old) line.now.caller line.now.call).reply)) }
-    ensures left { OnOk result (Y.state system.new ≡ (seq (Y.limits system.old) (Y.state system.old) line.now.caller line.now.call).left) }
+        (line_for (Y.limits system.old) (Y.state system.old) number line.now)) }
+    ensures left { OnOk result (Y.state system.new
+        ≡ left_by_call (Y.limits system.old) (Y.state system.old) line.now) }
     ensures err { OnErr result (WritesPrefix K.Sink output.old output.new (kept.old.items
-        ++ history_line number line.now.caller line.now.call (seq (Y.limits system.old) (Y.state system.old) line.now.caller line.now.call).reply)) }
+        ++ line_for (Y.limits system.old) (Y.state system.old) number line.now)) }
     ensures kept { Y.kept system.old system.new }
     ensures cause { CausesFault (K.faults output.old) (K.faults output.new)
         (IsErrOf result Status.WriteFault) }
