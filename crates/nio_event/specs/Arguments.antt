@@ -1,8 +1,7 @@
 -- The arguments of calls: one definition for each shape that the arguments of a call may have.
-use Rattle.std.specs.Prelude.{ℕ, ◌<◌, ◌^◌, if◌then◌else◌, Bool, List, [], ◌∷◌, map, codes, All}
+use Rattle.std.specs.Prelude.{ℕ, ◌<◌, ◌^◌, if◌then◌else◌, Bool, List, [], ◌∷◌, map, codes, nat_eq, All}
 use Rattle.std.specs.Fmt.{decimal}
 use Rattle.std.specs.List.{IsDistinct}
-use Rattle.std.specs.Prelude.{nat_eq}
 use Rattle.nio_base.specs.declared.kind.Kind.{Kind}
 use Rattle.nio_base.specs.declared.numbers.ChanNo.{ChanNo}
 use Rattle.nio_base.specs.declared.numbers.SelNo.{SelNo}

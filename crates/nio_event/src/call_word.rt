@@ -2,8 +2,8 @@
 ghost use Rattle.std.specs.Prelude.{◌≡◌};
 ghost use Rattle.nio_event.specs.Reading.{Reads};
 
-/// A call without its arguments. A new call needs a variant here and a line in `CALL_WORDS` and in
-/// `text`, and a line in `read_arguments`.
+/// A call without its arguments. A new call needs a variant here, a line in `CALL_WORDS` and in
+/// `text`, and an arm in `read_arguments` and `push_call`, which name its shape of arguments.
 #[derive(Clone, Copy, Debug, PartialEq, Eq)]
 pub enum CallWord {
     Selector,
