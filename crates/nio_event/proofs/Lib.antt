@@ -1,7 +1,7 @@
 pub mod Readers
 pub mod Numbers
 pub mod Cuts
-pub mod Names
+pub mod NameWords
 pub mod CallWordTable
 pub mod PairLists
 pub mod CallWordDispatch
