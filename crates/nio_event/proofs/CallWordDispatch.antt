@@ -1,5 +1,6 @@
 -- From the call word and what its arguments are read as to the call.
-use Rattle.std.proofs.Common.{◌≡◌, ℕ, ⊤, List, ◌∷◌, Option, Some, None, IfSome, Result, Ok, Err, IfOk, refl, sym, subst, ◌∙◌}
+use Rattle.std.proofs.Common.{◌≡◌, ℕ, List, ◌∷◌, Option, Some, None, IfSome, Result, Ok, Err, IfOk, refl, sym, subst, ◌∙◌}
+use Rattle.std.specs.Prelude.{⊤}
 use Rattle.std.proofs.lemmas.Option.{same_Some, none-some}
 use Rattle.nio_event.specs.Arguments.{arguments}
 use Rattle.nio_event.specs.Calls.{IsCall, call_words}
@@ -73,7 +74,8 @@ found_call Unselect args r h = found_behind Unselect args r h (λ x fits. (fits,
 found_call Attach args r h = found_behind Attach args r h (λ x fits. (fits, refl))
 found_call Attachment args r h = found_behind Attachment args r h (λ x fits. (fits, refl))
 found_call Begin args r h = found_behind Begin args r h (λ x fits. (fits, refl))
-found_call Told args r h = found_behind Told args r h (λ x fits. (fits, refl))
+found_call Told args r h =
+    found_behind Told args r h (λ x fits. ((fits.0, fits.1.0, fits.1.1), refl))
 found_call Failed args r h = found_behind Failed args r h (λ x fits. (fits, refl))
 found_call Wakeup args r h = found_behind Wakeup args r h (λ x fits. (fits, refl))
 found_call Close args r h = found_behind Close args r h (λ x fits. (fits, refl))
@@ -107,7 +109,7 @@ only_call (call.Unselect s k) args r h fits e = h.only (s, k) fits e
 only_call (call.Attach s k n) args r h fits e = h.only (s, k, n) fits e
 only_call (call.Attachment s k) args r h fits e = h.only (s, k) fits e
 only_call (call.Begin s waiting) args r h fits e = h.only (s, waiting) fits e
-only_call (call.Told s elapsed pairs) args r h fits e = h.only (s, elapsed, pairs) fits e
+only_call (call.Told s elapsed pairs) args r h fits e = h.only (s, elapsed, pairs) (fits.0, (fits.1, fits.2)) e
 only_call (call.Failed s) args r h fits e = h.only s fits e
 only_call (call.Wakeup s) args r h fits e = h.only s fits e
 only_call (call.Close s) args r h fits e = h.only s fits e

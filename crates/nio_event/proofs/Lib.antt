@@ -2,6 +2,7 @@ pub mod Readers
 pub mod Numbers
 pub mod Cuts
 pub mod NameWords
+pub mod Times
 pub mod CallWordTable
 pub mod PairLists
 pub mod CallWordDispatch

@@ -2,7 +2,7 @@
 ghost use Rattle.std.specs.Prelude.{◌≡◌, ◌∷◌, ◌++◌, OnOk, map};
 ghost use Rattle.std.specs.Fmt.{decimal, signed_decimal};
 ghost use Rattle.nio_event.specs.Printing.{spaced};
-ghost use Rattle.nio_event.specs.Words.{pair_word};
+ghost use Rattle.nio_event.specs.Words.{key_word, pair_word};
 
 use itoa::Buffer;
 use nio_base::Ops;
@@ -65,6 +65,16 @@ pub fn push_ops(line: &mut Vec<u8>, ops: Ops) -> Result<(), AllocError>
     ensures { OnOk result (line.new.items ≡ line.old.items ++ 32 ∷ decimal ops) }
 {
     push_number_word(line, u64::from(ops.bits()))
+}
+
+/// Names of keys, each after a space.
+pub fn push_keys(line: &mut Vec<u8>, indexes: &[u32]) -> Result<(), AllocError>
+    ensures { OnOk result (line.new.items ≡ line.old.items ++ spaced (map key_word indexes.now)) }
+{
+    for index in indexes {
+        push_name(line, b'k', *index)?;
+    }
+    Ok(())
 }
 
 /// Keys with operations, each after a space.

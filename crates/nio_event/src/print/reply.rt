@@ -5,7 +5,7 @@ ghost use Rattle.nio_event.specs.Printing.{spaced};
 ghost use Rattle.nio_event.specs.Replies.{pairs_words, reply_text, why_word};
 ghost use Rattle.nio_event.specs.Words.{key_word};
 
-use super::piece::{push_bytes, push_name, push_number, push_numbered, push_pairs, push_word};
+use super::piece::{push_bytes, push_keys, push_number, push_numbered, push_pairs, push_word};
 use crate::reply::{Reply, Why};
 use nio_base::Ops;
 use std::alloc::AllocError;
@@ -61,14 +61,13 @@ fn push_names(line: &mut Vec<u8>, indexes: &[u32]) -> Result<(), AllocError>
     ensures { OnOk result
         (line.new.items ≡ line.old.items ++ join_with_byte 32 (map key_word indexes.now)) }
 {
-    let Some((first, others)) = indexes.split_first() else {
-        return Ok(());
-    };
-    push_numbered(line, b'k', *first)?;
-    for index in others {
-        push_name(line, b'k', *index)?;
+    match indexes.split_first() {
+        None => Ok(()),
+        Some((first, others)) => {
+            push_numbered(line, b'k', *first)?;
+            push_keys(line, others)
+        }
     }
-    Ok(())
 }
 
 /// Keys with operations, or `none`, each after a space.
