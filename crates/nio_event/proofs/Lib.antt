@@ -5,6 +5,7 @@ pub mod NameWords
 pub mod Times
 pub mod CallWordTable
 pub mod PairLists
+pub mod Elapsed
 pub mod CallWordDispatch
 pub mod Spaces
 pub mod LineTexts

@@ -1,5 +1,5 @@
 //! How long a selection waits: `now`, `wait`, or `for` a time in milliseconds.
-ghost use Rattle.std.specs.Prelude.{◌≡◌, ◌↔◌, IsTrue, codes, map};
+ghost use Rattle.std.specs.Prelude.{◌≡◌, ◌↔◌, ◌<◌, ◌^◌, ◌∷◌, IsTrue, map, neg_ℤ, pos};
 ghost use Rattle.std.specs.Fmt.{signed_decimal};
 ghost use Rattle.nio_event.specs.Arguments.{wait_words, WaitFits};
 ghost use Rattle.nio_event.specs.Calls.{IsMilliseconds, IsTime, waiting_words};
@@ -42,18 +42,31 @@ fn read_time(word: &[u8]) -> Option<i64>
     ensures { Reads IsMilliseconds signed_decimal word.now result }
 {
     match word {
-        [b'-', digits @ ..] => {
-            let before = read_number(digits, TIME_LIMIT)?;
-            if before == 0 {
-                return None;
-            }
-            Some(-(before as i64))
-        }
+        [b'-', digits @ ..] => read_below_zero(digits),
         _ => {
             let after = read_number(word, TIME_LIMIT)?;
             Some(after as i64)
         }
     }
+}
+
+/// The number whose digits stand behind a minus.
+fn read_below_zero(digits: &[u8]) -> Option<i64>
+    ensures { Reads IsMilliseconds signed_decimal (45 ∷ digits.now) result }
+{
+    let before = read_number(digits, TIME_LIMIT)?;
+    if before == 0 {
+        None
+    } else {
+        Some(negated(before))
+    }
+}
+
+fn negated(number: u64) -> i64
+    requires { number < 2 ^ 63 }
+    ensures { result ≡ neg_ℤ (pos number) }
+{
+    -(number as i64)
 }
 
 /// The most milliseconds that a line can say.
