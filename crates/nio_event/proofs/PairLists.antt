@@ -77,12 +77,11 @@ fits_push : (pairs : List (ℕ × ℕ)) (p : ℕ × ℕ) → PairsFit pairs → 
     → (Any (λ q. q.0 ≡ p.0) pairs → ⊥) → PairsFit (pairs ++ p ∷ [])
 fits_push pairs p fits is_pair new =
     let others : All (λ (q : ℕ × ℕ). nat_eq q.0 p.0 ≡ false) pairs =
-    λ k d lt. ne_eqb (get_or pairs k d).0 p.0 (λ e. let at = Contains-get_or pairs k d lt in new (at.0, get_or pairs k d, at.1, at.2, e)) in
-    (
+    λ k d lt. ne_eqb (get_or pairs k d).0 p.0 (λ e. let at = Contains-get_or pairs k d lt in new (at.0, get_or pairs k d, at.1, at.2, e)) in (
       All-push IsPair pairs p fits.0 is_pair,
       rw (map-append (λ (q : ℕ × ℕ). q.0) pairs (p ∷ []))
-      (distinct_push (map (λ (q : ℕ × ℕ). q.0) pairs) p.0 fits.1
-      (recursion_from_All (λ x. nat_eq x p.0 ≡ false) (map (λ (q : ℕ × ℕ). q.0) pairs) (All-map (λ x. nat_eq x p.0 ≡ false) (λ (q : ℕ × ℕ). q.0) pairs others))),
+          (distinct_push (map (λ (q : ℕ × ℕ). q.0) pairs) p.0 fits.1
+          (recursion_from_All (λ x. nat_eq x p.0 ≡ false) (map (λ (q : ℕ × ℕ). q.0) pairs) (All-map (λ x. nat_eq x p.0 ≡ false) (λ (q : ℕ × ℕ). q.0) pairs others))),
     )
 
 pub one_more : (words : List (List ℕ)) (i : ℕ) (w : List ℕ) (p : ℕ × ℕ) (pairs : List (ℕ × ℕ))

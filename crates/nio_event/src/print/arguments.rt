@@ -61,11 +61,7 @@ fn push_attachment(line: &mut Vec<u8>, attachment: Option<u64>) -> Result<(), Al
     }
 }
 
-pub fn push_selector_key(
-    line: &mut Vec<u8>,
-    selector: SelNo,
-    key: u32,
-) -> Result<(), AllocError>
+pub fn push_selector_key(line: &mut Vec<u8>, selector: SelNo, key: u32) -> Result<(), AllocError>
     ensures { OnOk result
         (line.new.items ≡ line.old.items ++ spaced (selector_key_words (selector, key))) }
 {
