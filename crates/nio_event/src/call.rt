@@ -11,12 +11,60 @@ pub enum Call {
     Channel(Kind),
     /// `blocking C on` or `off`: sets the channel's mode.
     Blocking(ChanNo, bool),
-    /// `register S C OPS`: registers the channel, or changes the interest of its key.
-    Register(SelNo, ChanNo, Ops),
-    /// `begin S now`: begins a selection.
+    /// `is-blocking C`: whether the channel is in blocking mode.
+    IsBlocking(ChanNo),
+    /// `is-open C`: whether the channel isn't closed.
+    IsOpen(ChanNo),
+    /// `is-registered C`: whether the channel has a key in a key set.
+    IsRegistered(ChanNo),
+    /// `key-for C S`: the channel's key in the selector.
+    KeyFor(ChanNo, SelNo),
+    /// `register S C OPS` or `register S C OPS ATT`: registers the channel, or changes the interest
+    /// of its key, and its attachment where one is given that isn't 0.
+    Register(SelNo, ChanNo, Ops, Option<u64>),
+    /// `closec C`: closes the channel.
+    Closec(ChanNo),
+    /// `valid S K`: whether the key is valid.
+    Valid(SelNo, u32),
+    /// `interest S K`: the key's interest set.
+    Interest(SelNo, u32),
+    /// `ready S K`: the key's ready set.
+    Ready(SelNo, u32),
+    /// `iset S K OPS`: sets the interest set.
+    Iset(SelNo, u32, Ops),
+    /// `ior S K OPS`: adds to the interest set, and gives the one before.
+    Ior(SelNo, u32, Ops),
+    /// `iand S K OPS`: keeps of the interest set what is in OPS, and gives the one before.
+    Iand(SelNo, u32, Ops),
+    /// `cancel S K`: cancels the key.
+    Cancel(SelNo, u32),
+    /// `unselect S K`: takes the key out of the selected set.
+    Unselect(SelNo, u32),
+    /// `attach S K ATT`: sets the key's attachment, and gives the one before.
+    Attach(SelNo, u32, u64),
+    /// `attachment S K`: the key's attachment, 0 for none.
+    Attachment(SelNo, u32),
+    /// `begin S now`, `wait` or `for MS`: begins a selection.
     Begin(SelNo, Waiting),
-    /// `told S` and pairs `K:OPS`: tells the caller's selection what is ready.
-    Told(SelNo, Pairs),
+    /// `told S` and pairs `K:OPS`, or `told S elapsed` and pairs: tells the caller's selection what
+    /// is ready, and whether its time is over.
+    Told(SelNo, bool, Pairs),
+    /// `failed S`: the poll of the caller's selection failed.
+    Failed(SelNo),
+    /// `wakeup S`: leaves a wakeup.
+    Wakeup(SelNo),
+    /// `close S`: begins to close the selector.
+    Close(SelNo),
+    /// `close-end S`: ends the closing that the caller began.
+    CloseEnd(SelNo),
+    /// `keys S`: the key set.
+    Keys(SelNo),
+    /// `selected S`: the selected set.
+    Selected(SelNo),
+    /// `interrupt T`: sets the caller's interrupt status.
+    Interrupt(CallerNo),
+    /// `interrupted`: whether the own interrupt status was set, which it clears.
+    Interrupted,
 }
 
 /// How a line says how long its selection waits.
@@ -24,6 +72,10 @@ pub enum Call {
 pub enum Waiting {
     /// `now`: not at all.
     Now,
+    /// `wait`: without limit.
+    Wait,
+    /// `for MS`: so many milliseconds; 0 waits without limit.
+    For(i64),
 }
 
 /// A call and who makes it: what a line of a script says that isn't blank.

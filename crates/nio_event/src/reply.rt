@@ -1,4 +1,5 @@
 //! The replies to the calls of a script: one variant for each reply.
+use crate::names::Names;
 use crate::pairs::Pairs;
 use nio_base::{ChanNo, SelNo};
 
@@ -11,13 +12,29 @@ pub enum Reply {
     Channel(ChanNo),
     /// `kN`: the index of the key.
     Key(u32),
+    /// A number: a set of operations or an attachment.
+    Number(u64),
+    /// The names of keys, at least one, in rising order.
+    Names(Names),
     Ok,
+    Yes,
+    No,
+    /// There is no such key.
+    None,
     /// `looked` and the pairs `kN:OPS`, or `looked none`: each key with the interest looked at.
     Looked(Pairs),
     /// `selected N why`: how many keys were updated, and why the selection ended.
     Selected(u32, Why),
     /// The selection goes on.
     Again,
+    /// The selection was left after a failed poll.
+    Left,
+    /// The channel or the selector was closed, or being closed, before.
+    Already,
+    /// The closing has begun.
+    Closing,
+    /// The closing has ended.
+    Closed,
     SelectorsSpent,
     ChannelsSpent,
     ClosedChannel,
@@ -27,10 +44,13 @@ pub enum Reply {
     ClosedSelector,
     Full,
     Busy,
+    NegativeTimeout,
     NotSelecting,
+    NotClosing,
     NoCaller,
     NoSelector,
     NoChannel,
+    NoKey,
 }
 
 /// Why a selection ended: the first that holds, in this order.
