@@ -60,11 +60,11 @@ nothing-pending_on f c p on none n =
     (λ t. absurd (at_slot (op_at f n) refl t))
     (λ e. e)
   where
-  at_slot : (slot : Option Operation) → op_at f n ≡ slot → is_pending_on c slot ≡ true → ⊥
-  at_slot None is h = false≢true h
-  at_slot (Some op) is h =
-    let pending : is_pending_as c op.kind (op_at f n) ≡ true = rw is (pending_on-as c op h) in
-    none_some n (sym (none op.kind) ∙ on.all op.kind n pending)
+    at_slot : (slot : Option Operation) → op_at f n ≡ slot → is_pending_on c slot ≡ true → ⊥
+    at_slot None is h = false≢true h
+    at_slot (Some op) is h =
+        let pending : is_pending_as c op.kind (op_at f n) ≡ true = rw is (pending_on-as c op h) in
+        none_some n (sym (none op.kind) ∙ on.all op.kind n pending)
 
 pub closed-nothing : (f : Flight) (c : ℕ) → ((n : ℕ) → is_pending_on c (op_at f n) ≡ false) → with_channel_closed f c ≡ f
 closed-nothing f c none =
@@ -77,11 +77,11 @@ pub pending-after : (xs : List (Option Operation)) (n : ℕ) (slot : Option Oper
 pending-after xs n slot c kind m l not_pending h =
     by_test (eqb m n)
     (λ t. let same = same_number m n t in
-      let at : is_pending_as c kind (get_or (set xs n slot) n None) ≡ true = subst (λ (i : ℕ). is_pending_as c kind (get_or (set xs n slot) i None) ≡ true) same h in
-      let no : is_pending_as c kind slot ≡ true = rw (get_or-set_same xs n slot None l) at at in
-      absurd (false≢true (sym (not_pending-as c kind slot not_pending) ∙ no)))
+    let at : is_pending_as c kind (get_or (set xs n slot) n None) ≡ true = subst (λ (i : ℕ). is_pending_as c kind (get_or (set xs n slot) i None) ≡ true) same h in
+    let no : is_pending_as c kind slot ≡ true = rw (get_or-set_same xs n slot None l) at at in
+    absurd (false≢true (sym (not_pending-as c kind slot not_pending) ∙ no)))
     (λ e. let differ = other_number m n e in
-      (differ, rw (get_or-set_other xs n m slot None differ) at h))
+    (differ, rw (get_or-set_other xs n m slot None differ) at h))
 
 pub pending-before : (xs : List (Option Operation)) (n : ℕ) (slot : Option Operation) (c : ℕ) (kind : OpKind) (m : ℕ) → m ≢ n → is_pending_as c kind (get_or xs m None) ≡ true → is_pending_as c kind (get_or (set xs n slot) m None) ≡ true
 pending-before xs n slot c kind m differ h = rw (get_or-set_other xs n m slot None differ) h
@@ -100,39 +100,39 @@ listed-step : (f : Flight) (c : ℕ) (p : slots.Pending) (n : ℕ) (op : Operati
 listed-step f c p n op slot queue on is l own not_pending =
     record {
       listed = λ k m h.
-        elim (kinds k op.kind) [
-          inl same ↦ absurd (none_some m (sym (slot_of-with_same p op.kind None) ∙ subst (λ (j : OpKind). slot_of (with_slot p op.kind None) j ≡ Some m) same h))
-        | inr differ ↦
-            let old = on.listed k m (sym (slot_of-with_other p op.kind k None differ) ∙ h) in
-            pending-before f.operations n slot c k m (not_n k m old differ) old
-        ];
+          elim (kinds k op.kind) [
+            | inl same ↦ absurd (none_some m (sym (slot_of-with_same p op.kind None) ∙ subst (λ (j : OpKind). slot_of (with_slot p op.kind None) j ≡ Some m) same h))
+            | inr differ ↦
+                let old = on.listed k m (sym (slot_of-with_other p op.kind k None differ) ∙ h) in
+                pending-before f.operations n slot c k m (not_n k m old differ) old
+          ];
       all = λ k m h.
-        let old = pending-after f.operations n slot c k m l not_pending h in
-        let has = on.all k m old.1 in
-        elim (kinds k op.kind) [
-          inl same ↦ absurd (old.0 (some-same (sym has ∙ subst (λ (j : OpKind). slot_of p j ≡ Some n) (sym same) own)))
-        | inr differ ↦ slot_of-with_other p op.kind k None differ ∙ has
-        ];
+          let old = pending-after f.operations n slot c k m l not_pending h in
+          let has = on.all k m old.1 in
+          elim (kinds k op.kind) [
+            | inl same ↦ absurd (old.0 (some-same (sym has ∙ subst (λ (j : OpKind). slot_of p j ≡ Some n) (sym same) own)))
+            | inr differ ↦ slot_of-with_other p op.kind k None differ ∙ has
+          ];
     }
   where
-  not_n : (k : OpKind) (m : ℕ) → is_pending_as c k (op_at f m) ≡ true → k ≢ op.kind → m ≢ n
-  not_n k m old differ same =
-    let at : is_pending_as c k (op_at f n) ≡ true = subst (λ (i : ℕ). is_pending_as c k (op_at f i) ≡ true) same old in
-    let of : is_pending_as c k (Some op) ≡ true = rw is at at in
-    let parts = pending-parts c k op of in
-    differ (sym parts.same)
+    not_n : (k : OpKind) (m : ℕ) → is_pending_as c k (op_at f m) ≡ true → k ≢ op.kind → m ≢ n
+    not_n k m old differ same =
+        let at : is_pending_as c k (op_at f n) ≡ true = subst (λ (i : ℕ). is_pending_as c k (op_at f i) ≡ true) same old in
+        let of : is_pending_as c k (Some op) ≡ true = rw is at at in
+        let parts = pending-parts c k op of in
+        differ (sym parts.same)
 
 -- what is pending before the least is nothing
 none-before : (f : Flight) (c : ℕ) (p : slots.Pending) (n : ℕ) → IsListedOn f c p → ((k : OpKind) (m : ℕ) → slot_of p k ≡ Some m → n ≤ m) → (j : ℕ) → j < n → is_pending_on c (op_at f j) ≡ false
 none-before f c p n on least j l =
     by_test (is_pending_on c (op_at f j)) (λ t. absurd (at_slot (op_at f j) refl t)) (λ e. e)
   where
-  at_slot : (slot : Option Operation) → op_at f j ≡ slot → is_pending_on c slot ≡ true → ⊥
-  at_slot None is h = false≢true h
-  at_slot (Some op) is h =
-    let pending : is_pending_as c op.kind (op_at f j) ≡ true = rw is (pending_on-as c op h) in
-    let above = least op.kind j (on.all op.kind j pending) in
-    omega arith
+    at_slot : (slot : Option Operation) → op_at f j ≡ slot → is_pending_on c slot ≡ true → ⊥
+    at_slot None is h = false≢true h
+    at_slot (Some op) is h =
+        let pending : is_pending_as c op.kind (op_at f j) ≡ true = rw is (pending_on-as c op h) in
+        let above = least op.kind j (on.all op.kind j pending) in
+        omega arith
 
 pub closing-step : (f : Flight) (c : ℕ) (p : slots.Pending) (n : ℕ) (op : Operation) (kind : OpKind) → IsListedOn f c p → slot_of p kind ≡ Some n → ((k : OpKind) (m : ℕ) → slot_of p k ≡ Some m → n ≤ m) → op_at f n ≡ Some op → IsClosingStep f c p n op
 closing-step f c p n op kind on slot least is =
@@ -148,9 +148,9 @@ closing-step f c p n op kind on slot least is =
     let operations = map-closed_on-set c n f.operations closed_slot closes not_on in
     let first = pending_from-first c 0 n f.operations closed_slot here (none-before f c p n on least) not_on in
     let queue : f.queue ++ n ∷ [] ++ pending_from c 0 (set f.operations n closed_slot) ≡ f.queue ++ pending_from c 0 f.operations =
-      append_assoc f.queue (n ∷ []) (pending_from c 0 (set f.operations n closed_slot))
-      ∙ ap (λ (i : ℕ). f.queue ++ (i ∷ pending_from c 0 (set f.operations n closed_slot))) (omega arith)
-      ∙ ap (λ (ns : List ℕ). f.queue ++ ns) (sym first) in
+    append_assoc f.queue (n ∷ []) (pending_from c 0 (set f.operations n closed_slot))
+    ∙ ap (λ (i : ℕ). f.queue ++ (i ∷ pending_from c 0 (set f.operations n closed_slot))) (omega arith)
+    ∙ ap (λ (ns : List ℕ). f.queue ++ ns) (sym first) in
     record {
       pending = pending-as-pending c kind (Some op) as_kind;
       on = listed-step f c p n op closed_slot (f.queue ++ n ∷ []) on is l own_slot not_pending;

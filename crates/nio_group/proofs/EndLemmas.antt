@@ -39,24 +39,24 @@ lawful-unpending g n slot queue lawful l was will flight =
     (λ c kind m h. (pending-after xs n slot c kind m l will h).1)
     (λ c m h. pending-before xs n slot c Connect m (not_it c Connect m h) h)
   where
-  not_it : (c : ℕ) (kind : OpKind) (m : ℕ) → is_pending_as c kind (op_at g.flight m) ≡ true → m ≢ n
-  not_it c kind m h same =
-    let at : is_pending_as c kind (op_at g.flight n) ≡ true = subst (λ (i : ℕ). is_pending_as c kind (op_at g.flight i) ≡ true) same h in
-    false≢true (sym was ∙ pending-as-pending c kind (op_at g.flight n) at)
+    not_it : (c : ℕ) (kind : OpKind) (m : ℕ) → is_pending_as c kind (op_at g.flight m) ≡ true → m ≢ n
+    not_it c kind m h same =
+        let at : is_pending_as c kind (op_at g.flight n) ≡ true = subst (λ (i : ℕ). is_pending_as c kind (op_at g.flight i) ≡ true) same h in
+        false≢true (sym was ∙ pending-as-pending c kind (op_at g.flight n) at)
 
 pub listed-unpending : (f : Flight) (ps : List slots.Pending) (n : ℕ) (slot : Option Operation) (queue : List ℕ) → IsListed f ps → n < length f.operations → is_pending (op_at f n) ≡ false → is_pending slot ≡ false → IsListed (record f { operations = set f.operations n slot; queue = queue }) ps
 listed-unpending f ps n slot queue is_listed l was will =
     record {
       listed = λ c kind m h.
-        let old = is_listed.listed c kind m h in
-        pending-before f.operations n slot c kind m (not_it c kind m old) old;
+          let old = is_listed.listed c kind m h in
+          pending-before f.operations n slot c kind m (not_it c kind m old) old;
       all = λ c kind m h. is_listed.all c kind m (pending-after f.operations n slot c kind m l will h).1;
     }
   where
-  not_it : (c : ℕ) (kind : OpKind) (m : ℕ) → is_pending_as c kind (op_at f m) ≡ true → m ≢ n
-  not_it c kind m h same =
-    let at : is_pending_as c kind (op_at f n) ≡ true = subst (λ (i : ℕ). is_pending_as c kind (op_at f i) ≡ true) same h in
-    false≢true (sym was ∙ pending-as-pending c kind (op_at f n) at)
+    not_it : (c : ℕ) (kind : OpKind) (m : ℕ) → is_pending_as c kind (op_at f m) ≡ true → m ≢ n
+    not_it c kind m h same =
+        let at : is_pending_as c kind (op_at f n) ≡ true = subst (λ (i : ℕ). is_pending_as c kind (op_at f i) ≡ true) same h in
+        false≢true (sym was ∙ pending-as-pending c kind (op_at f n) at)
 
 queued-some : (slot : Option Operation) → is_queued slot ≡ true → (op : Operation) × (slot ≡ Some op)
 queued-some None h = absurd (false≢true h)
@@ -86,19 +86,19 @@ kept-taken_front {f} {cs} {ps} {o} {r} {r'} {sh} {l} n rest op kept is holds is_
     let taken : with_taken f n ≡ record f { operations = set f.operations n slot; queue = rest } = rw (is_op, is) refl in
     rw taken
     (kept-operations (record f { operations = set f.operations n slot; queue = rest }) kept
-      (lawful-unpending (group_of f cs sh l) n slot rest kept.lawful within was refl flight) refl
-      (listed-unpending f ps n slot rest kept.is_listed within was refl))
+    (lawful-unpending (group_of f cs sh l) n slot rest kept.lawful within was refl flight) refl
+    (listed-unpending f ps n slot rest kept.is_listed within was refl))
 
 pub kept-taken : {f : Flight} {cs : List Channel} {ps : List slots.Pending} {o r r' : ℕ} {sh : Bool} {l : GroupLimits} → IsGroupKept f cs ps o sh l r r' → IsGroupKept (flight_after_take f f.queue) cs ps o sh l r r'
 kept-taken {f} {cs} {ps} {o} {r} {r'} {sh} {l} kept = by_queue f.queue refl
   where
-  by_queue : (queue : List ℕ) → f.queue ≡ queue → IsGroupKept (flight_after_take f queue) cs ps o sh l r r'
-  by_queue [] is = kept
-  by_queue (n ∷ rest) is =
-    let holds : QueueHolds f.operations (n ∷ rest) = rw is at kept.lawful.queued_once in
-    let queued = front-queued f.operations n rest holds in
-    let some = queued-some (op_at f n) queued in
-    kept-taken_front n rest some.0 kept is holds some.1 (subst (λ (slot : Option Operation). is_queued slot ≡ true) some.1 queued)
+    by_queue : (queue : List ℕ) → f.queue ≡ queue → IsGroupKept (flight_after_take f queue) cs ps o sh l r r'
+    by_queue [] is = kept
+    by_queue (n ∷ rest) is =
+        let holds : QueueHolds f.operations (n ∷ rest) = rw is at kept.lawful.queued_once in
+        let queued = front-queued f.operations n rest holds in
+        let some = queued-some (op_at f n) queued in
+        kept-taken_front n rest some.0 kept is holds some.1 (subst (λ (slot : Option Operation). is_queued slot ≡ true) some.1 queued)
 
 -- an operation ends
 pub kept-ended : {f : Flight} {cs : List Channel} {ps : List slots.Pending} {o r r' : ℕ} {sh : Bool} {l : GroupLimits} (n : ℕ) → IsGroupKept f cs ps o sh l r r' → is_running (op_at f n) ≡ true → IsGroupKept (with_ended f n) cs ps o sh l r r'
@@ -114,14 +114,14 @@ kept-ended {f} {cs} {ps} {o} {r} {r'} {sh} {l} n kept running =
     let few_numbers = kept.lawful.few_accepted in
     let counts = rw is_op at (count_by-set is_some f.operations n None None within) in
     let flight : IsFlightLawful (with_ended f n) l.ops =
-      record {
-        queued_once = queue-set f.operations f.queue n None within not_queued kept.lawful.queued_once;
-        few_in_flight = omega (arith, counts);
-        few_accepted = omega (arith, length-set f.operations n None);
-      } in
+    record {
+      queued_once = queue-set f.operations f.queue n None within not_queued kept.lawful.queued_once;
+      few_in_flight = omega (arith, counts);
+      few_accepted = omega (arith, length-set f.operations n None);
+    } in
     kept-operations (with_ended f n) kept
-      (lawful-unpending (group_of f cs sh l) n None f.queue kept.lawful within was refl flight) refl
-      (listed-unpending f ps n None f.queue kept.is_listed within was refl)
+    (lawful-unpending (group_of f cs sh l) n None f.queue kept.lawful within was refl flight) refl
+    (listed-unpending f ps n None f.queue kept.is_listed within was refl)
 
 -- the numbers of what is pending on a channel
 count-below : (c k m : ℕ) (xs : List (Option Operation)) → m < k → count_by (λ j. eqb j m) (pending_from c k xs) ≡ 0
@@ -130,9 +130,9 @@ count-below c k m (x ∷ xs) l =
     let rest = count-below c (k + 1) m xs (omega arith) in
     by_test (is_pending_on c x)
     (λ t.
-      let differ : eqb k m ≡ false = eqb-other k m (omega arith) in
-      let zero_here : cond (eqb k m) 1 0 ≡ 0 = ap {B = ℕ} (λ (b : Bool). cond b 1 0) differ in
-      rw t (omega (arith, count_by-cons (λ j. eqb j m) k (pending_from c (k + 1) xs), rest, zero_here)))
+    let differ : eqb k m ≡ false = eqb-other k m (omega arith) in
+    let zero_here : cond (eqb k m) 1 0 ≡ 0 = ap {B = ℕ} (λ (b : Bool). cond b 1 0) differ in
+    rw t (omega (arith, count_by-cons (λ j. eqb j m) k (pending_from c (k + 1) xs), rest, zero_here)))
     (λ f. rw f rest)
 
 count-pending_from : (c k n : ℕ) (xs : List (Option Operation)) → count_by (λ j. eqb j (k + n)) (pending_from c k xs) ≡ once_if (is_pending_on c (get_or xs n None))
@@ -141,18 +141,18 @@ count-pending_from c k zero (x ∷ xs) =
     let rest = count-below c (k + 1) (k + 0) xs (omega arith) in
     by_test (is_pending_on c x)
     (λ t.
-      let same : eqb k (k + 0) ≡ true = subst (λ (i : ℕ). eqb k i ≡ true) (omega arith) (eqb-same k) in
-      let one_here : cond (eqb k (k + 0)) 1 0 ≡ 1 = ap {B = ℕ} (λ (b : Bool). cond b 1 0) same in
-      rw t (omega (arith, count_by-cons (λ j. eqb j (k + 0)) k (pending_from c (k + 1) xs), rest, one_here)))
+    let same : eqb k (k + 0) ≡ true = subst (λ (i : ℕ). eqb k i ≡ true) (omega arith) (eqb-same k) in
+    let one_here : cond (eqb k (k + 0)) 1 0 ≡ 1 = ap {B = ℕ} (λ (b : Bool). cond b 1 0) same in
+    rw t (omega (arith, count_by-cons (λ j. eqb j (k + 0)) k (pending_from c (k + 1) xs), rest, one_here)))
     (λ f. rw f rest)
 count-pending_from c k (suc n) (x ∷ xs) =
     let rest : count_by (λ j. eqb j (k + suc n)) (pending_from c (k + 1) xs) ≡ once_if (is_pending_on c (get_or xs n None)) =
-      subst (λ (i : ℕ). count_by (λ j. eqb j i) (pending_from c (k + 1) xs) ≡ once_if (is_pending_on c (get_or xs n None))) (omega arith) (count-pending_from c (k + 1) n xs) in
+    subst (λ (i : ℕ). count_by (λ j. eqb j i) (pending_from c (k + 1) xs) ≡ once_if (is_pending_on c (get_or xs n None))) (omega arith) (count-pending_from c (k + 1) n xs) in
     by_test (is_pending_on c x)
     (λ t.
-      let differ : eqb k (k + suc n) ≡ false = eqb-other k (k + suc n) (omega arith) in
-      let zero_here : cond (eqb k (k + suc n)) 1 0 ≡ 0 = ap {B = ℕ} (λ (b : Bool). cond b 1 0) differ in
-      rw t (omega (arith, count_by-cons (λ j. eqb j (k + suc n)) k (pending_from c (k + 1) xs), rest, zero_here)))
+    let differ : eqb k (k + suc n) ≡ false = eqb-other k (k + suc n) (omega arith) in
+    let zero_here : cond (eqb k (k + suc n)) 1 0 ≡ 0 = ap {B = ℕ} (λ (b : Bool). cond b 1 0) differ in
+    rw t (omega (arith, count_by-cons (λ j. eqb j (k + suc n)) k (pending_from c (k + 1) xs), rest, zero_here)))
     (λ f. rw f rest)
 
 get_or-map_closed : (c n : ℕ) (xs : List (Option Operation)) → get_or (map (closed_on c) xs) n None ≡ closed_on c (get_or xs n None)
@@ -164,10 +164,10 @@ pending-not_queued : (slot : Option Operation) (c : ℕ) → is_pending_on c slo
 pending-not_queued None c h = refl
 pending-not_queued (Some op) c h = by_stage op.stage (and-left (stage_is_pending op.stage) (eqb op.chan.0 c) h)
   where
-  by_stage : (stage : Stage) → stage_is_pending stage ≡ true → stage_is_queued stage ≡ false
-  by_stage Pending p = refl
-  by_stage (Queued finished) p = absurd (false≢true p)
-  by_stage Running p = refl
+    by_stage : (stage : Stage) → stage_is_pending stage ≡ true → stage_is_queued stage ≡ false
+    by_stage Pending p = refl
+    by_stage (Queued finished) p = absurd (false≢true p)
+    by_stage Running p = refl
 
 closed-queued : (slot : Option Operation) (c : ℕ) → is_pending_on c slot ≡ true → is_queued (closed_on c slot) ≡ true
 closed-queued None c h = absurd (false≢true h)
@@ -178,18 +178,18 @@ queue-closed c xs queue holds n =
     let slot = get_or xs n None in
     let had = holds n in
     let also : count_by (λ j. eqb j n) (pending_from c 0 xs) ≡ once_if (is_pending_on c slot) =
-      subst (λ (i : ℕ). count_by (λ j. eqb j i) (pending_from c 0 xs) ≡ once_if (is_pending_on c slot)) (omega arith) (count-pending_from c 0 n xs) in
+    subst (λ (i : ℕ). count_by (λ j. eqb j i) (pending_from c 0 xs) ≡ once_if (is_pending_on c slot)) (omega arith) (count-pending_from c 0 n xs) in
     let both = sum_by-append (λ j. cond (eqb j n) 1 0) queue (pending_from c 0 xs) in
     rw get_or-map_closed
     (by_test (is_pending_on c slot)
-      (λ t.
-        let none = rw (pending-not_queued slot c t) at had in
-        let one = rw t at also in
-        rw (closed-queued slot c t) (omega (arith, both, none, one)))
-      (λ f.
-        let none = rw f at also in
-        let same : closed_on c slot ≡ slot = rw f refl in
-        rw same (omega (arith, both, had, none))))
+    (λ t.
+    let none = rw (pending-not_queued slot c t) at had in
+    let one = rw t at also in
+    rw (closed-queued slot c t) (omega (arith, both, none, one)))
+    (λ f.
+    let none = rw f at also in
+    let same : closed_on c slot ≡ slot = rw f refl in
+    rw same (omega (arith, both, had, none))))
 
 -- what is pending after a channel was closed
 pending-closed : (c d : ℕ) (kind : OpKind) (slot : Option Operation) → is_pending_as d kind (closed_on c slot) ≡ true → (d ≢ c) × (is_pending_as d kind slot ≡ true)
@@ -197,15 +197,16 @@ pending-closed c d kind None h = absurd (false≢true h)
 pending-closed c d kind (Some op) h =
     by_test (is_pending_on c (Some op))
     (λ t.
-      let closed : is_pending_as d kind (closed_on c (Some op)) ≡ false = rw t refl in
-      absurd (false≢true (sym closed ∙ h)))
+    let closed : is_pending_as d kind (closed_on c (Some op)) ≡ false = rw t refl in
+    absurd (false≢true (sym closed ∙ h)))
     (λ f.
-      let same : closed_on c (Some op) ≡ Some op = rw f refl in
-      let still : is_pending_as d kind (Some op) ≡ true = subst (λ (slot : Option Operation). is_pending_as d kind slot ≡ true) same h in
-      (λ e.
-        let on : is_pending_on c (Some op) ≡ true = subst (λ (i : ℕ). is_pending_on i (Some op) ≡ true) e (pending_as-on d kind (Some op) still) in
-        false≢true (sym f ∙ on),
-        still))
+    let same : closed_on c (Some op) ≡ Some op = rw f refl in
+    let still : is_pending_as d kind (Some op) ≡ true = subst (λ (slot : Option Operation). is_pending_as d kind slot ≡ true) same h in (
+      λ e.
+          let on : is_pending_on c (Some op) ≡ true = subst (λ (i : ℕ). is_pending_on i (Some op) ≡ true) e (pending_as-on d kind (Some op) still) in
+          false≢true (sym f ∙ on),
+      still,
+    ))
 
 pending-stays : (c d : ℕ) (kind : OpKind) (slot : Option Operation) → d ≢ c → is_pending_as d kind slot ≡ true → is_pending_as d kind (closed_on c slot) ≡ true
 pending-stays c d kind None differ h = h
@@ -216,9 +217,9 @@ pending-stays c d kind (Some op) differ h =
     let same : closed_on c (Some op) ≡ Some op = rw off refl in
     rw same h
   where
-  and-false : (a b : Bool) → b ≡ false → (a && b) ≡ false
-  and-false true b e = e
-  and-false false b e = refl
+    and-false : (a b : Bool) → b ≡ false → (a && b) ≡ false
+    and-false true b e = e
+    and-false false b e = refl
 
 count-closed : (c : ℕ) (xs : List (Option Operation)) → count_by is_some (map (closed_on c) xs) ≡ count_by is_some xs
 count-closed c [] = refl
@@ -227,9 +228,9 @@ count-closed c (x ∷ xs) =
     let bits : cond {A = ℕ} (is_some (closed_on c x)) 1 0 ≡ cond {A = ℕ} (is_some x) 1 0 = ap {B = ℕ} (λ (b : Bool). cond b 1 0) same in
     omega (arith, count_by-cons is_some (closed_on c x) (map (closed_on c) xs), count_by-cons is_some x xs, bits, count-closed c xs)
   where
-  some-closed : (d : ℕ) (slot : Option Operation) → is_some (closed_on d slot) ≡ is_some slot
-  some-closed d None = refl
-  some-closed d (Some op) = by_test (is_pending_on d (Some op)) (λ t. rw t refl) (λ f. rw f refl)
+    some-closed : (d : ℕ) (slot : Option Operation) → is_some (closed_on d slot) ≡ is_some slot
+    some-closed d None = refl
+    some-closed d (Some op) = by_test (is_pending_on d (Some op)) (λ t. rw t refl) (λ f. rw f refl)
 
 closed-at_is : (f : Flight) (c d : ℕ) (kind : OpKind) (n : ℕ) → IsPendingAs (with_channel_closed f c) d kind n → (d ≢ c) × IsPendingAs f d kind n
 closed-at_is f c d kind n h = pending-closed c d kind (op_at f n) (rw (get_or-map_closed c n f.operations) at h)
@@ -270,19 +271,19 @@ kept-closed {f} {cs} {ps} {o} {r} {r'} {sh} {l} c x kept within read was_open =
     let here : get_or (set ps c nothing_pending) c nothing_pending ≡ nothing_pending = get_or-set_same ps c nothing_pending nothing_pending (omega arith) in
     rw is
     (kept-channel (with_channel_closed f c) c (record (get_or cs c no_channel) { is_open = false }) nothing_pending (o - 1) kept within
-      (lawful-closed (group_of f cs sh l) c kept.lawful within) refl
-      fewer
-      (record {
-        listed = λ d kind n h.
+    (lawful-closed (group_of f cs sh l) c kept.lawful within) refl
+    fewer
+    (record {
+      listed = λ d kind n h.
           by_test (eqb d c)
-            (λ t. let same = same_number d c t in
-              absurd (none_some n (sym (slot_of-nothing kind) ∙ subst (λ (p : slots.Pending). slot_of p kind ≡ Some n) here (subst (λ (e : ℕ). slot_of (get_or (set ps c nothing_pending) e nothing_pending) kind ≡ Some n) same h))))
-            (λ e. let differ = other_number d c e in
-              closed-at_stays f c d kind n differ (kept.is_listed.listed d kind n (rw (get_or-set_other ps c d nothing_pending nothing_pending differ) at h)));
-        all = λ d kind n h.
+          (λ t. let same = same_number d c t in
+          absurd (none_some n (sym (slot_of-nothing kind) ∙ subst (λ (p : slots.Pending). slot_of p kind ≡ Some n) here (subst (λ (e : ℕ). slot_of (get_or (set ps c nothing_pending) e nothing_pending) kind ≡ Some n) same h))))
+          (λ e. let differ = other_number d c e in
+          closed-at_stays f c d kind n differ (kept.is_listed.listed d kind n (rw (get_or-set_other ps c d nothing_pending nothing_pending differ) at h)));
+      all = λ d kind n h.
           let old = closed-at_is f c d kind n h in
           rw (get_or-set_other ps c d nothing_pending nothing_pending old.0) (kept.is_listed.all d kind n old.1);
-      }))
+    }))
 
 -- some channel is open where this one is
 pub open-some : {f : Flight} {cs : List Channel} {ps : List slots.Pending} {o r r' : ℕ} {sh : Bool} {l : GroupLimits} (c : ℕ) (x : Channel) → IsGroupKept f cs ps o sh l r r' → c < length cs → x ≡ get_or cs c x → x.is_open ≡ true → 1 ≤ o

@@ -89,23 +89,23 @@ queued-stage op finished is = ap stage_is_queued is
 pub not_queued-stage : (op : Operation) → ((finished : Finished) → op.stage ≡ Queued finished → ⊥) → is_queued (Some op) ≡ false
 not_queued-stage op not = by_stage op.stage refl
   where
-  by_stage : (stage : Stage) → op.stage ≡ stage → stage_is_queued op.stage ≡ false
-  by_stage Pending is = ap stage_is_queued is
-  by_stage (Queued finished) is = absurd (not finished is)
-  by_stage Running is = ap stage_is_queued is
+    by_stage : (stage : Stage) → op.stage ≡ stage → stage_is_queued op.stage ≡ false
+    by_stage Pending is = ap stage_is_queued is
+    by_stage (Queued finished) is = absurd (not finished is)
+    by_stage Running is = ap stage_is_queued is
 
 pub not_queued-pending : (op : Operation) → is_pending (Some op) ≡ true → is_queued (Some op) ≡ false
 not_queued-pending op pending = by_stage op.stage pending
   where
-  by_stage : (stage : Stage) → stage_is_pending stage ≡ true → stage_is_queued stage ≡ false
-  by_stage Pending h = refl
-  by_stage (Queued finished) h = absurd (false≢true h)
-  by_stage Running h = refl
+    by_stage : (stage : Stage) → stage_is_pending stage ≡ true → stage_is_queued stage ≡ false
+    by_stage Pending h = refl
+    by_stage (Queued finished) h = absurd (false≢true h)
+    by_stage Running h = refl
 
 pub not_queued-running : (op : Operation) → is_running (Some op) ≡ true → is_queued (Some op) ≡ false
 not_queued-running op running = by_stage op.stage running
   where
-  by_stage : (stage : Stage) → stage_is_running stage ≡ true → stage_is_queued stage ≡ false
-  by_stage Pending h = refl
-  by_stage (Queued finished) h = absurd (false≢true h)
-  by_stage Running h = refl
+    by_stage : (stage : Stage) → stage_is_running stage ≡ true → stage_is_queued stage ≡ false
+    by_stage Pending h = refl
+    by_stage (Queued finished) h = absurd (false≢true h)
+    by_stage Running h = refl

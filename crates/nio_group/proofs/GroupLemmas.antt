@@ -28,7 +28,7 @@ pub slots-push : (ps : List slots.Pending) (c : ℕ) → get_or (ps ++ nothing_p
 slots-push ps c =
     by_test (eqb c (length ps))
     (λ t. let same = same_number c (length ps) t in
-      rw t at (get_or-push ps nothing_pending nothing_pending c) ∙ sym (get_or_past ps c nothing_pending (omega arith)))
+    rw t at (get_or-push ps nothing_pending nothing_pending c) ∙ sym (get_or_past ps c nothing_pending (omega arith)))
     (λ f. rw f at (get_or-push ps nothing_pending nothing_pending c))
 
 pub kept-channel_made : {f : Flight} {cs : List Channel} {ps : List slots.Pending} {o r r' : ℕ} {sh : Bool} {l : GroupLimits} (ch : Channel) → IsGroupKept f cs ps o sh l r r' → ch.is_open ≡ true → (ch.endpoint ≡ Stream Connecting → ⊥) → length cs < l.channels → IsGroupKept f (cs ++ ch ∷ []) (ps ++ nothing_pending ∷ []) (o + 1) sh l r r'
@@ -85,15 +85,15 @@ pub pending-pushed : (xs : List (Option Operation)) (slot : Option Operation) (c
 pending-pushed xs slot c kind m h =
     by_test (eqb m (length xs))
     (λ t. let has = rw t at (get_or-push xs slot None m) in
-      inl (same_number m (length xs) t, rw has at h))
+    inl (same_number m (length xs) t, rw has at h))
     (λ f. let has = rw f at (get_or-push xs slot None m) in
-      inr (other_number m (length xs) f, rw has at h))
+    inr (other_number m (length xs) f, rw has at h))
 
 pub pending-within : (xs : List (Option Operation)) (c : ℕ) (kind : OpKind) (m : ℕ) → is_pending_as c kind (get_or xs m None) ≡ true → m < length xs
 pending-within xs c kind m h =
     elim (cases_lt m (length xs)) [
-      inl l ↦ l
-    | inr past ↦ absurd (let none : is_pending_as c kind None ≡ true = rw (get_or_past xs m None past) at h in false≢true none)
+      | inl l ↦ l
+      | inr past ↦ absurd (let none : is_pending_as c kind None ≡ true = rw (get_or_past xs m None past) at h in false≢true none)
     ]
 
 pub pending-still : (xs : List (Option Operation)) (slot : Option Operation) (c : ℕ) (kind : OpKind) (m : ℕ) → is_pending_as c kind (get_or xs m None) ≡ true → is_pending_as c kind (get_or (xs ++ slot ∷ []) m None) ≡ true
@@ -105,50 +105,53 @@ listed-started f f' ps op c is_listed pushed within is_pending_op free =
     let parts = pending-parts c op.kind op is_pending_op in
     record {
       listed = λ d kind m h.
-        by_test (eqb d c)
+          by_test (eqb d c)
           (λ t. let same = same_number d c t in
-            let slot = rw (here d same) at h in
-            elim (kinds kind op.kind) [
-              inl own ↦
+          let slot = rw (here d same) at h in
+          elim (kinds kind op.kind) [
+            | inl own ↦
                 let is_m : Some (length f.operations) ≡ Some m = sym (slot_of-with_same p op.kind (Some (length f.operations))) ∙ subst (λ (k : OpKind). slot_of (with_slot p op.kind (Some (length f.operations))) k ≡ Some m) own slot in
                 let number : length f.operations ≡ m = some-same is_m in
                 let at_end : is_pending_as d kind (get_or (f.operations ++ Some op ∷ []) (length f.operations) None) ≡ true =
-                  rw (new_at_end, same, own) is_pending_op in
+                rw (new_at_end, same, own) is_pending_op in
                 rw pushed (subst (λ (i : ℕ). is_pending_as d kind (get_or (f.operations ++ Some op ∷ []) i None) ≡ true) number at_end)
             | inr other ↦
                 let old = is_listed.listed c kind m (sym (slot_of-with_other p op.kind kind (Some (length f.operations)) other) ∙ slot) in
                 rw (pushed, same) (pending-still f.operations (Some op) c kind m old)
-            ])
+          ])
           (λ e. let differ = other_number d c e in
-            rw pushed (pending-still f.operations (Some op) d kind m (is_listed.listed d kind m (rw (there d differ) at h))));
+          rw pushed (pending-still f.operations (Some op) d kind m (is_listed.listed d kind m (rw (there d differ) at h))));
       all = λ d kind m h.
-        let pushed_h = rw pushed at h in
-        elim (pending-pushed f.operations (Some op) d kind m pushed_h) [
-          inl new ↦
-            let of = pending-parts d kind op new.1 in
-            let same : d ≡ c = sym of.chan ∙ parts.chan in
-            let own : kind ≡ op.kind = sym of.same in
-            rw (here d same, own, new.0) (slot_of-with_same p op.kind (Some (length f.operations)))
-        | inr old ↦
-            let has = is_listed.all d kind m old.1 in
-            by_test (eqb d c)
-              (λ t. let same = same_number d c t in
+          let pushed_h = rw pushed at h in
+          elim (pending-pushed f.operations (Some op) d kind m pushed_h) [
+            | inl new ↦
+                let of = pending-parts d kind op new.1 in
+                let same : d ≡ c = sym of.chan ∙ parts.chan in
+                let own : kind ≡ op.kind = sym of.same in
+                rw (here d same, own, new.0) (slot_of-with_same p op.kind (Some (length f.operations)))
+            | inr old ↦
+                let has = is_listed.all d kind m old.1 in
+                by_test (eqb d c)
+                (λ t. let same = same_number d c t in
                 elim (kinds kind op.kind) [
-                  inl own ↦ absurd (free m (subst (λ (k : OpKind). IsPendingAs f c k m) own (subst (λ (e : ℕ). IsPendingAs f e kind m) same old.1)))
-                | inr other ↦ rw (here d same) (slot_of-with_other p op.kind kind (Some (length f.operations)) other ∙ rw same at has)
+                  | inl own ↦ absurd (free m (subst (λ (k : OpKind). IsPendingAs f c k m) own (subst (λ (e : ℕ). IsPendingAs f e kind m) same old.1)))
+                  | inr other ↦ rw (here d same) (slot_of-with_other p op.kind kind (Some (length f.operations)) other ∙ rw same at has)
                 ])
-              (λ e. rw (there d (other_number d c e)) has)
-        ];
+                (λ e. rw (there d (other_number d c e)) has)
+          ];
     }
   where
-  p : slots.Pending
-  p = get_or ps c nothing_pending
-  here : (d : ℕ) → d ≡ c → get_or (set ps c (with_slot (get_or ps c nothing_pending) op.kind (Some (length f.operations)))) d nothing_pending ≡ with_slot (get_or ps c nothing_pending) op.kind (Some (length f.operations))
-  here d same = subst (λ (e : ℕ). get_or (set ps c (with_slot (get_or ps c nothing_pending) op.kind (Some (length f.operations)))) e nothing_pending ≡ with_slot (get_or ps c nothing_pending) op.kind (Some (length f.operations))) (sym same) (get_or-set_same ps c (with_slot (get_or ps c nothing_pending) op.kind (Some (length f.operations))) nothing_pending within)
-  there : (d : ℕ) → d ≢ c → get_or (set ps c (with_slot (get_or ps c nothing_pending) op.kind (Some (length f.operations)))) d nothing_pending ≡ get_or ps d nothing_pending
-  there d differ = get_or-set_other ps c d _ nothing_pending differ
-  new_at_end : get_or (f.operations ++ Some op ∷ []) (length f.operations) None ≡ Some op
-  new_at_end = get_or_push f.operations (Some op) None (length f.operations) refl
+    p : slots.Pending
+    p = get_or ps c nothing_pending
+
+    here : (d : ℕ) → d ≡ c → get_or (set ps c (with_slot (get_or ps c nothing_pending) op.kind (Some (length f.operations)))) d nothing_pending ≡ with_slot (get_or ps c nothing_pending) op.kind (Some (length f.operations))
+    here d same = subst (λ (e : ℕ). get_or (set ps c (with_slot (get_or ps c nothing_pending) op.kind (Some (length f.operations)))) e nothing_pending ≡ with_slot (get_or ps c nothing_pending) op.kind (Some (length f.operations))) (sym same) (get_or-set_same ps c (with_slot (get_or ps c nothing_pending) op.kind (Some (length f.operations))) nothing_pending within)
+
+    there : (d : ℕ) → d ≢ c → get_or (set ps c (with_slot (get_or ps c nothing_pending) op.kind (Some (length f.operations)))) d nothing_pending ≡ get_or ps d nothing_pending
+    there d differ = get_or-set_other ps c d _ nothing_pending differ
+
+    new_at_end : get_or (f.operations ++ Some op ∷ []) (length f.operations) None ≡ Some op
+    new_at_end = get_or_push f.operations (Some op) None (length f.operations) refl
 
 pub new-open : (kind : GKind) → (new_channel kind).is_open ≡ true
 new-open kind = refl

@@ -19,7 +19,7 @@ key_in-absent n [] h = refl
 key_in-absent n (None ∷ xs) h = key_in-absent n xs (omega (arith, count_by-cons (has_number n) None xs))
 key_in-absent n (Some e ∷ xs) h =
     let counted : cond (eqb e.number n) 1 0 + count_by (has_number n) xs ≡ 0 =
-        sym (count_by-cons (has_number n) (Some e) xs) ∙ h in
+    sym (count_by-cons (has_number n) (Some e) xs) ∙ h in
     grind (arith, nat_tests, key_in-absent n xs)
 
 pub absent-key_in : (n : ℕ) (xs : List (Option Entry)) → key_in n xs ≡ None → count_by (has_number n) xs ≡ 0
@@ -28,7 +28,7 @@ absent-key_in n (None ∷ xs) h = omega (arith, count_by-cons (has_number n) Non
 absent-key_in n (Some e ∷ xs) h =
     let counted : cond (eqb e.number n) (Some e.key) (key_in n xs) ≡ None = h in
     let goes_on : cond (eqb e.number n) 1 0 + count_by (has_number n) xs ≡ 0 =
-        grind (arith, nat_tests, absent-key_in n xs) in
+    grind (arith, nat_tests, absent-key_in n xs) in
     count_by-cons (has_number n) (Some e) xs ∙ goes_on
 
 pub key_in-set_same : (e : Entry) (xs : List (Option Entry)) (i : ℕ) → i < length xs → key_in e.number xs ≡ None → key_in e.number (set xs i (Some e)) ≡ Some e.key
@@ -71,10 +71,10 @@ key_in_found e (None ∷ xs) (suc i) once h =
     key_in_found e xs i (omega (arith, count_by-cons (has_number e.number) None xs)) h
 key_in_found e (Some o ∷ xs) (suc i) once h =
     let counted : cond (eqb o.number e.number) 1 0 + count_by (has_number e.number) xs ≤ 1 =
-        omega (arith, count_by-cons (has_number e.number) (Some o) xs) in
+    omega (arith, count_by-cons (has_number e.number) (Some o) xs) in
     let here : get_or xs i None ≡ Some e = h in
     let one_more : 1 ≤ count_by (has_number e.number) xs =
-        has_number-counted e.number xs i (rw here (grind (arith, nat_tests))) in
+    has_number-counted e.number xs i (rw here (grind (arith, nat_tests))) in
     grind (arith, nat_tests, key_in_found e xs i)
 
 -- as many slots as are full, one after another, are counted
@@ -105,6 +105,6 @@ home_of_small n limit some = omega arith
 pub vacant-passes : (xs : List (Option Entry)) (home at limit : ℕ) → count_by is_some xs < limit → home + limit ≤ length xs → home ≤ at → at < home + limit → ((i : ℕ) → home ≤ i → i < at → is_some (get_or xs i None) ≡ true) → is_some (get_or xs at None) ≡ true → (home ≤ at + 1) × (at + 1 < home + limit) × ((i : ℕ) → home ≤ i → i < at + 1 → is_some (get_or xs i None) ≡ true)
 vacant-passes xs home at limit room size from before full here =
     let more : (i : ℕ) → i < at + 1 → home ≤ i → is_some (get_or xs i None) ≡ true =
-      below_more (λ k. home ≤ k → is_some (get_or xs k None) ≡ true) at (λ k b a. full k a b) (λ a. here) in
+    below_more (λ k. home ≤ k → is_some (get_or xs k None) ≡ true) at (λ k b a. full k a b) (λ a. here) in
     let window = full_window xs home (at + 1 - home) (omega arith) (λ i a b. more i (omega arith) a) in
     (omega arith, omega arith, λ i a b. more i b a)

@@ -45,8 +45,8 @@ length-kept slab index accepted = length-map-range_with_len (operation_of slab i
 pub kept-at : {slab : Slab Numbered} {index : Index} {accepted limit : ℕ} (n : ℕ) → IsKept slab index accepted limit → get_or (kept_operations slab index accepted) n None ≡ operation_in slab (key_of index n)
 kept-at {slab} {index} {accepted} n kept =
     by_lt n accepted
-      (λ l. get_or-map-range_with_len (operation_of slab index) 0 accepted n n None l (omega arith))
-      (λ g. get_or_past (kept_operations slab index accepted) n None (omega (arith, length-kept slab index accepted)) ∙ sym (ap (operation_in slab) (kept.below n g)))
+    (λ l. get_or-map-range_with_len (operation_of slab index) 0 accepted n n None l (omega arith))
+    (λ g. get_or_past (kept_operations slab index accepted) n None (omega (arith, length-kept slab index accepted)) ∙ sym (ap (operation_in slab) (kept.below n g)))
 
 -- the kept operations after a change of one
 kept-set : (slab slab' : Slab Numbered) (index index' : Index) (accepted n : ℕ) (slot : Option Operation) → operation_of slab' index' n ≡ slot → ((m : ℕ) → m ≢ n → operation_of slab' index' m ≡ operation_of slab index m) → kept_operations slab' index' accepted ≡ set (kept_operations slab index accepted) n slot
@@ -56,17 +56,17 @@ kept-set slab slab' index index' accepted n slot here others =
     let had = kept_operations slab index accepted in
     let has = kept_operations slab' index' accepted in
     same_lists has (set had n slot) (length-kept slab' index' accepted ∙ sym (length-kept slab index accepted) ∙ sym (length-set had n slot))
-      (λ k d l.
-        let within : k < accepted = omega (arith, length-kept slab' index' accepted) in
-        let new = get_or-map-range_with_len f' 0 accepted k k d within (omega arith) in
-        let old = get_or-map-range_with_len f 0 accepted k k d within (omega arith) in
-        by_test (eqb k n)
-          (λ t. let same = same_number k n t in
-            let put : get_or (set had n slot) k d ≡ slot =
-              subst (λ (i : ℕ). get_or (set had n slot) i d ≡ slot) (sym same) (get_or-set_same had n slot d (omega (arith, length-kept slab index accepted))) in
-            new ∙ subst (λ (i : ℕ). f' i ≡ slot) (sym same) here ∙ sym put)
-          (λ e. let differ = other_number k n e in
-            new ∙ others k differ ∙ sym old ∙ sym (get_or-set_other had n k slot d differ)))
+    (λ k d l.
+    let within : k < accepted = omega (arith, length-kept slab' index' accepted) in
+    let new = get_or-map-range_with_len f' 0 accepted k k d within (omega arith) in
+    let old = get_or-map-range_with_len f 0 accepted k k d within (omega arith) in
+    by_test (eqb k n)
+    (λ t. let same = same_number k n t in
+    let put : get_or (set had n slot) k d ≡ slot =
+    subst (λ (i : ℕ). get_or (set had n slot) i d ≡ slot) (sym same) (get_or-set_same had n slot d (omega (arith, length-kept slab index accepted))) in
+    new ∙ subst (λ (i : ℕ). f' i ≡ slot) (sym same) here ∙ sym put)
+    (λ e. let differ = other_number k n e in
+    new ∙ others k differ ∙ sym old ∙ sym (get_or-set_other had n k slot d differ)))
 
 -- another number's operation stays, where its key isn't the one that changes
 other-stays : (slab slab' : Slab Numbered) (key : ℕ) (o : Option ℕ) → ((other : ℕ) → other ≢ key → get slab' other ≡ get slab other) → ((k : ℕ) → o ≡ Some k → k ≢ key) → operation_in slab' o ≡ operation_in slab o
@@ -86,7 +86,7 @@ map-same : (f f' : ℕ → Option Operation) (n : ℕ) → ((m : ℕ) → m < n 
 map-same f f' n same =
     same_lists (map f' (range_with_len 0 n)) (map f (range_with_len 0 n)) (length-map-range_with_len f' 0 n ∙ sym (length-map-range_with_len f 0 n))
     (λ k d l. let within : k < n = omega (arith, length-map-range_with_len f' 0 n) in
-      get_or-map-range_with_len f' 0 n k k d within (omega arith) ∙ same k within ∙ sym (get_or-map-range_with_len f 0 n k k d within (omega arith)))
+    get_or-map-range_with_len f' 0 n k k d within (omega arith) ∙ same k within ∙ sym (get_or-map-range_with_len f 0 n k k d within (omega arith)))
 
 -- what has a key has another than a vacant one
 not_vacant : {slab : Slab Numbered} {index : Index} {accepted limit : ℕ} → IsKept slab index accepted limit → (key : ℕ) → get slab key ≡ None → (m k : ℕ) → key_of index m ≡ Some k → k ≢ key
@@ -97,12 +97,13 @@ not_vacant {slab} kept key vacant m k at same =
 
 -- what a number with a key has
 had_by : {slab : Slab Numbered} {index : Index} {accepted limit : ℕ} (n key : ℕ) (x : Numbered) → IsKept slab index accepted limit → key_of index n ≡ Some key → get slab key ≡ Some x → (n < accepted) × (get_or (kept_operations slab index accepted) n None ≡ Some x.operation)
-had_by {slab} {index} {accepted} n key x kept at is =
-    (by_lt n accepted (λ l. l) (λ g. absurd (none_some key (sym (kept.below n g) ∙ at))),
-      kept-at n kept ∙ ap (operation_in slab) at ∙ ap (option_map (λ (y : Numbered). y.operation)) is)
+had_by {slab} {index} {accepted} n key x kept at is = (
+  by_lt n accepted (λ l. l) (λ g. absurd (none_some key (sym (kept.below n g) ∙ at))),
+  kept-at n kept ∙ ap (operation_in slab) at ∙ ap (option_map (λ (y : Numbered). y.operation)) is,
+)
   where
-  none_some : (k : ℕ) → None ≡ Some k → ⊥
-  none_some k e = cc
+    none_some : (k : ℕ) → None ≡ Some k → ⊥
+    none_some k e = cc
 
 -- one number's key leads to an operation
 pub kept-has : {slab : Slab Numbered} {index : Index} {accepted limit : ℕ} (n key : ℕ) → IsKept slab index accepted limit → key_of index n ≡ Some key → IsSome (get slab key)
@@ -132,20 +133,20 @@ module _ {slab slab' : Slab Numbered} {index index' : Index} {accepted limit : �
       let had_room = kept.room in
       record {
         leads = λ n k at.
-          by_test (eqb n accepted)
+            by_test (eqb n accepted)
             (λ t. let same = same_number n accepted t in
-              let is_key : Some key ≡ Some k = sym change.changed ∙ ap (key_of index') (sym same) ∙ at in
-              let same_key : key ≡ k = cc in
-              is_some_and (get slab' k) (λ x. x.number ≡ n) (record { number = accepted; operation = operation }) (ap (get slab') (sym same_key) ∙ updates.changed) (sym same))
+            let is_key : Some key ≡ Some k = sym change.changed ∙ ap (key_of index') (sym same) ∙ at in
+            let same_key : key ≡ k = cc in
+            is_some_and (get slab' k) (λ x. x.number ≡ n) (record { number = accepted; operation = operation }) (ap (get slab') (sym same_key) ∙ updates.changed) (sym same))
             (λ e. let differ = other_number n accepted e in
-              let was : key_of index n ≡ Some k = sym (change.others n differ) ∙ at in
-              let there = some_and (get slab k) (λ x. x.number ≡ n) (kept.leads n k was) in
-              is_some_and (get slab' k) (λ x. x.number ≡ n) there.0 (updates.others k (not_vacant kept key vacant n k was) ∙ there.1) there.2);
+            let was : key_of index n ≡ Some k = sym (change.others n differ) ∙ at in
+            let there = some_and (get slab k) (λ x. x.number ≡ n) (kept.leads n k was) in
+            is_some_and (get slab' k) (λ x. x.number ≡ n) there.0 (updates.others k (not_vacant kept key vacant n k was) ∙ there.1) there.2);
         below = λ n above. change.others n (omega arith) ∙ kept.below n (omega arith);
         counted =
-          ap (count_by is_some) (kept-accepts key operation kept vacant updates change)
-          ∙ sum_by_push (λ x. cond (is_some x) 1 0) (kept_operations slab index accepted) (Some operation)
-          ∙ (omega (arith, was_counted, len));
+            ap (count_by is_some) (kept-accepts key operation kept vacant updates change)
+            ∙ sum_by_push (λ x. cond (is_some x) 1 0) (kept_operations slab index accepted) (Some operation)
+            ∙ (omega (arith, was_counted, len));
         indexed = omega (arith, was_indexed, len, indexed);
         within = omega arith;
         room = omega (arith, had_room, capacity);
@@ -170,21 +171,21 @@ module _ {slab slab' : Slab Numbered} {index : Index} {accepted limit : ℕ} whe
       let had_room = kept.room in
       record {
         leads = λ m k at'.
-          by_test (eqb m n)
+            by_test (eqb m n)
             (λ t. let same = same_number m n t in
-              let is_key : Some key ≡ Some k = sym at ∙ ap (key_of index) (sym same) ∙ at' in
-              let same_key : key ≡ k = cc in
-              is_some_and (get slab' k) (λ x. x.number ≡ m) (record { number = n; operation = operation }) (ap (get slab') (sym same_key) ∙ updates.changed) (sym same))
+            let is_key : Some key ≡ Some k = sym at ∙ ap (key_of index) (sym same) ∙ at' in
+            let same_key : key ≡ k = cc in
+            is_some_and (get slab' k) (λ x. x.number ≡ m) (record { number = n; operation = operation }) (ap (get slab') (sym same_key) ∙ updates.changed) (sym same))
             (λ e. let differ = other_number m n e in
-              let there = some_and (get slab k) (λ x. x.number ≡ m) (kept.leads m k at') in
-              is_some_and (get slab' k) (λ x. x.number ≡ m) there.0 (updates.others k (apart n m key kept at differ k at') ∙ there.1) there.2);
+            let there = some_and (get slab k) (λ x. x.number ≡ m) (kept.leads m k at') in
+            is_some_and (get slab' k) (λ x. x.number ≡ m) there.0 (updates.others k (apart n m key kept at differ k at') ∙ there.1) there.2);
         below = kept.below;
         counted =
-          let there = some_and (get slab key) (λ x. x.number ≡ n) (kept.leads n key at) in
-          let had = had_by n key there.0 kept at there.1 in
-          let l = had.0 in
-          let counts = rw had.1 at (count_by-set is_some (kept_operations slab index accepted) n (Some operation) None (omega (arith, length-kept slab index accepted))) in
-          ap (count_by is_some) (kept-replaces n key operation kept at updates) ∙ omega (arith, counts, was_counted, len);
+            let there = some_and (get slab key) (λ x. x.number ≡ n) (kept.leads n key at) in
+            let had = had_by n key there.0 kept at there.1 in
+            let l = had.0 in
+            let counts = rw had.1 at (count_by-set is_some (kept_operations slab index accepted) n (Some operation) None (omega (arith, length-kept slab index accepted))) in
+            ap (count_by is_some) (kept-replaces n key operation kept at updates) ∙ omega (arith, counts, was_counted, len);
         indexed = omega arith;
         within = omega arith;
         room = omega arith;
@@ -209,24 +210,24 @@ module _ {slab slab' : Slab Numbered} {index index' : Index} {accepted limit : �
       let had_room = kept.room in
       record {
         leads = λ m k at'.
-          by_test (eqb m n)
+            by_test (eqb m n)
             (λ t. let same = same_number m n t in
-              let none : None ≡ Some k = sym change.changed ∙ ap (key_of index') (sym same) ∙ at' in
-              absurd (let no : ⊥ = cc in no))
+            let none : None ≡ Some k = sym change.changed ∙ ap (key_of index') (sym same) ∙ at' in
+            absurd (let no : ⊥ = cc in no))
             (λ e. let differ = other_number m n e in
-              let was : key_of index m ≡ Some k = sym (change.others m differ) ∙ at' in
-              let there = some_and (get slab k) (λ x. x.number ≡ m) (kept.leads m k was) in
-              is_some_and (get slab' k) (λ x. x.number ≡ m) there.0 (updates.others k (apart n m key kept at differ k was) ∙ there.1) there.2);
+            let was : key_of index m ≡ Some k = sym (change.others m differ) ∙ at' in
+            let there = some_and (get slab k) (λ x. x.number ≡ m) (kept.leads m k was) in
+            is_some_and (get slab' k) (λ x. x.number ≡ m) there.0 (updates.others k (apart n m key kept at differ k was) ∙ there.1) there.2);
         below = λ m above.
-          by_test (eqb m n)
+            by_test (eqb m n)
             (λ t. let same = same_number m n t in ap (key_of index') same ∙ change.changed)
             (λ e. change.others m (other_number m n e) ∙ kept.below m above);
         counted =
-          let there = some_and (get slab key) (λ x. x.number ≡ n) (kept.leads n key at) in
-          let had = had_by n key there.0 kept at there.1 in
-          let l = had.0 in
-          let counts = rw had.1 at (count_by-set is_some (kept_operations slab index accepted) n None None (omega (arith, length-kept slab index accepted))) in
-          ap (count_by is_some) (kept-ends n key kept at updates change) ∙ omega (arith, counts, was_counted, len);
+            let there = some_and (get slab key) (λ x. x.number ≡ n) (kept.leads n key at) in
+            let had = had_by n key there.0 kept at there.1 in
+            let l = had.0 in
+            let counts = rw had.1 at (count_by-set is_some (kept_operations slab index accepted) n None None (omega (arith, length-kept slab index accepted))) in
+            ap (count_by is_some) (kept-ends n key kept at updates change) ∙ omega (arith, counts, was_counted, len);
         indexed = omega arith;
         within = omega arith;
         room = omega arith;

@@ -38,8 +38,8 @@ lawful-operations g f lawful flight less stay =
 pub open-within : (cs : List Channel) (c : ℕ) → (get_or cs c no_channel).is_open ≡ true → c < length cs
 open-within cs c is_open =
     elim (cases_lt c (length cs)) [
-      inl l ↦ l
-    | inr past ↦ absurd (false≢true (sym (ap (λ (ch : Channel). ch.is_open) (get_or_past cs c no_channel past)) ∙ is_open))
+      | inl l ↦ l
+      | inr past ↦ absurd (false≢true (sym (ap (λ (ch : Channel). ch.is_open) (get_or_past cs c no_channel past)) ∙ is_open))
     ]
 
 -- one more channel is made, which isn't connecting
@@ -51,18 +51,18 @@ lawful-channel_made g ch lawful room not_connecting =
       pending_ready = λ n c kind h. let was = lawful.pending_open n c kind h in rw (stays c was) (lawful.pending_ready n c kind h);
       one_each = lawful.one_each;
       connecting = λ c is_open is.
-        by_test (eqb c (length g.channels))
+          by_test (eqb c (length g.channels))
           (λ t. let has = rw t at (get_or-push g.channels ch no_channel c) in
-            absurd (not_connecting (sym (ap (λ (x : Channel). x.endpoint) has) ∙ is)))
+          absurd (not_connecting (sym (ap (λ (x : Channel). x.endpoint) has) ∙ is)))
           (λ f. let has = rw f at (get_or-push g.channels ch no_channel c) in
-            lawful.connecting c (sym (ap (λ (x : Channel). x.is_open) has) ∙ is_open) (sym (ap (λ (x : Channel). x.endpoint) has) ∙ is));
+          lawful.connecting c (sym (ap (λ (x : Channel). x.is_open) has) ∙ is_open) (sym (ap (λ (x : Channel). x.endpoint) has) ∙ is));
       few_in_flight = lawful.few_in_flight;
       few_channels = omega (arith, length_push g.channels ch);
       few_accepted = lawful.few_accepted;
     }
   where
-  stays : (c : ℕ) → (get_or g.channels c no_channel).is_open ≡ true → get_or (g.channels ++ ch ∷ []) c no_channel ≡ get_or g.channels c no_channel
-  stays c is_open = get_or_append_left g.channels (ch ∷ []) no_channel c (open-within g.channels c is_open)
+    stays : (c : ℕ) → (get_or g.channels c no_channel).is_open ≡ true → get_or (g.channels ++ ch ∷ []) c no_channel ≡ get_or g.channels c no_channel
+    stays c is_open = get_or_append_left g.channels (ch ∷ []) no_channel c (open-within g.channels c is_open)
 
 -- what is known of the operations that are pending on a channel that changes
 pub record IsFitFor (f : Flight) (c : ℕ) (ch : Channel) : Type 0 where
@@ -77,37 +77,38 @@ lawful-channel g f c ch lawful l flight own less stay =
     record {
       queued_once = flight.queued_once;
       pending_open = λ n d kind h.
-        by_test (eqb d c)
+          by_test (eqb d c)
           (λ t. let same = same_number d c t in
-            rw (here d same) (own.open_for kind n (subst (λ (e : ℕ). IsPendingAs f e kind n) same h)))
+          rw (here d same) (own.open_for kind n (subst (λ (e : ℕ). IsPendingAs f e kind n) same h)))
           (λ e. let differ = other_number d c e in
-            rw (there d differ) (lawful.pending_open n d kind (less d kind n differ h)));
+          rw (there d differ) (lawful.pending_open n d kind (less d kind n differ h)));
       pending_ready = λ n d kind h.
-        by_test (eqb d c)
+          by_test (eqb d c)
           (λ t. let same = same_number d c t in
-            rw (here d same) (own.ready_for kind n (subst (λ (e : ℕ). IsPendingAs f e kind n) same h)))
+          rw (here d same) (own.ready_for kind n (subst (λ (e : ℕ). IsPendingAs f e kind n) same h)))
           (λ e. let differ = other_number d c e in
-            rw (there d differ) (lawful.pending_ready n d kind (less d kind n differ h)));
+          rw (there d differ) (lawful.pending_ready n d kind (less d kind n differ h)));
       one_each = λ m n d kind a b.
-        by_test (eqb d c)
+          by_test (eqb d c)
           (λ t. let same = same_number d c t in
-            own.once_for kind m n (subst (λ (e : ℕ). IsPendingAs f e kind m) same a) (subst (λ (e : ℕ). IsPendingAs f e kind n) same b))
+          own.once_for kind m n (subst (λ (e : ℕ). IsPendingAs f e kind m) same a) (subst (λ (e : ℕ). IsPendingAs f e kind n) same b))
           (λ e. let differ = other_number d c e in
-            lawful.one_each m n d kind (less d kind m differ a) (less d kind n differ b));
+          lawful.one_each m n d kind (less d kind m differ a) (less d kind n differ b));
       connecting = λ d is_open is.
-        by_test (eqb d c)
+          by_test (eqb d c)
           (λ t. let same = same_number d c t in
-            let found = own.connects (rw (here d same) at is_open) (rw (here d same) at is) in
-            (found.0, subst (λ (e : ℕ). IsPendingAs f e Connect found.0) (sym same) found.1))
+          let found = own.connects (rw (here d same) at is_open) (rw (here d same) at is) in
+          (found.0, subst (λ (e : ℕ). IsPendingAs f e Connect found.0) (sym same) found.1))
           (λ e. let differ = other_number d c e in
-            let found = lawful.connecting d (rw (there d differ) at is_open) (rw (there d differ) at is) in
-            (found.0, stay d found.0 differ found.1));
+          let found = lawful.connecting d (rw (there d differ) at is_open) (rw (there d differ) at is) in
+          (found.0, stay d found.0 differ found.1));
       few_in_flight = flight.few_in_flight;
       few_channels = let few = lawful.few_channels in omega (arith, length-set g.channels c ch);
       few_accepted = flight.few_accepted;
     }
   where
-  here : (d : ℕ) → d ≡ c → get_or (set g.channels c ch) d no_channel ≡ ch
-  here d same = subst (λ (e : ℕ). get_or (set g.channels c ch) e no_channel ≡ ch) (sym same) (get_or-set_same g.channels c ch no_channel l)
-  there : (d : ℕ) → d ≢ c → get_or (set g.channels c ch) d no_channel ≡ get_or g.channels d no_channel
-  there d differ = get_or-set_other g.channels c d ch no_channel differ
+    here : (d : ℕ) → d ≡ c → get_or (set g.channels c ch) d no_channel ≡ ch
+    here d same = subst (λ (e : ℕ). get_or (set g.channels c ch) e no_channel ≡ ch) (sym same) (get_or-set_same g.channels c ch no_channel l)
+
+    there : (d : ℕ) → d ≢ c → get_or (set g.channels c ch) d no_channel ≡ get_or g.channels d no_channel
+    there d differ = get_or-set_other g.channels c d ch no_channel differ

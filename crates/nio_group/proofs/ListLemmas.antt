@@ -20,10 +20,10 @@ pub get_or-set : {X : Type 0} (xs : List X) (i : ℕ) (y d : X) (n : ℕ) → i 
 get_or-set xs i y d n l =
     by_test (eqb n i)
     (λ t. let same = same_number n i t in
-      subst (λ (k : ℕ). get_or (set xs i y) k d ≡ y) (sym same) (get_or-set_same xs i y d l)
-      ∙ sym (ap (λ b. cond b y (get_or xs n d)) t))
+    subst (λ (k : ℕ). get_or (set xs i y) k d ≡ y) (sym same) (get_or-set_same xs i y d l)
+    ∙ sym (ap (λ b. cond b y (get_or xs n d)) t))
     (λ f. get_or-set_other xs i n y d (other_number n i f)
-      ∙ sym (ap (λ b. cond b y (get_or xs n d)) f))
+    ∙ sym (ap (λ b. cond b y (get_or xs n d)) f))
 
 -- what is at an index after a push
 pub get_or-push : {X : Type 0} (xs : List X) (y d : X) (n : ℕ) → get_or (xs ++ y ∷ []) n d ≡ cond (eqb n (length xs)) y (get_or xs n d)
@@ -31,14 +31,14 @@ get_or-push xs y d n =
     by_test (eqb n (length xs))
     (λ t. get_or_push xs y d n (sym (same_number n (length xs) t)) ∙ sym (ap (λ b. cond b y (get_or xs n d)) t))
     (λ f. let differ = other_number n (length xs) f in
-      elim (cases_order n (length xs)) [
-        inl same ↦ absurd (differ same)
+    elim (cases_order n (length xs)) [
+      | inl same ↦ absurd (differ same)
       | inr other ↦
           elim other [
-            inl below ↦ get_or_append_left xs (y ∷ []) d n below ∙ sym (ap (λ b. cond b y (get_or xs n d)) f)
-          | inr above ↦
-              get_or_past (xs ++ y ∷ []) n d (omega (arith, length_push xs y))
-              ∙ sym (get_or_past xs n d (omega arith))
-              ∙ sym (ap (λ b. cond b y (get_or xs n d)) f)
+            | inl below ↦ get_or_append_left xs (y ∷ []) d n below ∙ sym (ap (λ b. cond b y (get_or xs n d)) f)
+            | inr above ↦
+                get_or_past (xs ++ y ∷ []) n d (omega (arith, length_push xs y))
+                ∙ sym (get_or_past xs n d (omega arith))
+                ∙ sym (ap (λ b. cond b y (get_or xs n d)) f)
           ]
-      ])
+    ])

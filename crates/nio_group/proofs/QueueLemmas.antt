@@ -33,23 +33,24 @@ queue-push xs queue slot holds n =
     let counts = count_by-queued_after (is_queued slot) queue (length xs) n in
     by_test (eqb n (length xs))
     (λ t. let same = same_number n (length xs) t in
-      let none : get_or xs n None ≡ None = get_or_past xs n None (omega arith) in
-      let had_none = rw none at had in
-      let has = rw t at (get_or-push xs slot None n) in
-      let turned : eqb (length xs) n ≡ true = subst (λ (k : ℕ). eqb (length xs) k ≡ true) (sym same) (eqb-same (length xs)) in
-      let counted = rw turned at counts in
-      rw has (at_end (is_queued slot) counted had_none))
+    let none : get_or xs n None ≡ None = get_or_past xs n None (omega arith) in
+    let had_none = rw none at had in
+    let has = rw t at (get_or-push xs slot None n) in
+    let turned : eqb (length xs) n ≡ true = subst (λ (k : ℕ). eqb (length xs) k ≡ true) (sym same) (eqb-same (length xs)) in
+    let counted = rw turned at counts in
+    rw has (at_end (is_queued slot) counted had_none))
     (λ f. let has = rw f at (get_or-push xs slot None n) in
-      let turned : eqb (length xs) n ≡ false = eqb-other (length xs) n (λ e. other_number n (length xs) f (sym e)) in
-      let counted = rw turned at counts in
-      rw has (elsewhere (is_queued slot) counted had))
+    let turned : eqb (length xs) n ≡ false = eqb-other (length xs) n (λ e. other_number n (length xs) f (sym e)) in
+    let counted = rw turned at counts in
+    rw has (elsewhere (is_queued slot) counted had))
   where
-  at_end : {c c' : ℕ} (q : Bool) → c' ≡ c + cond q 1 0 → c ≡ 0 → c' ≡ once_if q
-  at_end true a b = omega arith
-  at_end false a b = omega arith
-  elsewhere : {c c' w : ℕ} (q : Bool) → c' ≡ c + cond q 0 0 → c ≡ w → c' ≡ w
-  elsewhere true a b = omega arith
-  elsewhere false a b = omega arith
+    at_end : {c c' : ℕ} (q : Bool) → c' ≡ c + cond q 1 0 → c ≡ 0 → c' ≡ once_if q
+    at_end true a b = omega arith
+    at_end false a b = omega arith
+
+    elsewhere : {c c' w : ℕ} (q : Bool) → c' ≡ c + cond q 0 0 → c ≡ w → c' ≡ w
+    elsewhere true a b = omega arith
+    elsewhere false a b = omega arith
 
 pub queue-set : (xs : List (Option Operation)) (queue : List ℕ) (i : ℕ) (slot : Option Operation) → i < length xs → is_queued (get_or xs i None) ≡ false → QueueHolds xs queue → QueueHolds (set xs i slot) (queued_after (is_queued slot) queue i)
 queue-set xs queue i slot l was holds n =
@@ -57,22 +58,23 @@ queue-set xs queue i slot l was holds n =
     let counts = count_by-queued_after (is_queued slot) queue i n in
     by_test (eqb n i)
     (λ t. let same = same_number n i t in
-      let had_none = subst (λ (k : ℕ). count_by (λ m. eqb m n) queue ≡ once_if (is_queued (get_or xs k None))) same had ∙ ap once_if was in
-      let has = rw t at (get_or-set xs i slot None n l) in
-      let turned : eqb i n ≡ true = subst (λ (k : ℕ). eqb i k ≡ true) (sym same) (eqb-same i) in
-      let counted = rw turned at counts in
-      rw has (at_index (is_queued slot) counted had_none))
+    let had_none = subst (λ (k : ℕ). count_by (λ m. eqb m n) queue ≡ once_if (is_queued (get_or xs k None))) same had ∙ ap once_if was in
+    let has = rw t at (get_or-set xs i slot None n l) in
+    let turned : eqb i n ≡ true = subst (λ (k : ℕ). eqb i k ≡ true) (sym same) (eqb-same i) in
+    let counted = rw turned at counts in
+    rw has (at_index (is_queued slot) counted had_none))
     (λ f. let has = rw f at (get_or-set xs i slot None n l) in
-      let turned : eqb i n ≡ false = eqb-other i n (λ e. other_number n i f (sym e)) in
-      let counted = rw turned at counts in
-      rw has (elsewhere (is_queued slot) counted had))
+    let turned : eqb i n ≡ false = eqb-other i n (λ e. other_number n i f (sym e)) in
+    let counted = rw turned at counts in
+    rw has (elsewhere (is_queued slot) counted had))
   where
-  at_index : {c c' : ℕ} (q : Bool) → c' ≡ c + cond q 1 0 → c ≡ 0 → c' ≡ once_if q
-  at_index true a b = omega arith
-  at_index false a b = omega arith
-  elsewhere : {c c' w : ℕ} (q : Bool) → c' ≡ c + cond q 0 0 → c ≡ w → c' ≡ w
-  elsewhere true a b = omega arith
-  elsewhere false a b = omega arith
+    at_index : {c c' : ℕ} (q : Bool) → c' ≡ c + cond q 1 0 → c ≡ 0 → c' ≡ once_if q
+    at_index true a b = omega arith
+    at_index false a b = omega arith
+
+    elsewhere : {c c' w : ℕ} (q : Bool) → c' ≡ c + cond q 0 0 → c ≡ w → c' ≡ w
+    elsewhere true a b = omega arith
+    elsewhere false a b = omega arith
 
 -- the number at the front of the queue is that of a queued operation
 pub front-queued : (xs : List (Option Operation)) (i : ℕ) (rest : List ℕ) → QueueHolds xs (i ∷ rest) → is_queued (get_or xs i None) ≡ true
@@ -85,13 +87,13 @@ queue-taken xs i rest slot l is holds n =
     let counts = sym (count_by-cons (λ m. eqb m n) i rest) ∙ holds n in
     by_test (eqb n i)
     (λ t. let same = same_number n i t in
-      let has = rw t at (get_or-set xs i slot None n l) in
-      let turned : eqb i n ≡ true = subst (λ (k : ℕ). eqb i k ≡ true) (sym same) (eqb-same i) in
-      let counted = rw turned at counts in
-      let queued : is_queued (get_or xs n None) ≡ true = subst (λ (k : ℕ). is_queued (get_or xs k None) ≡ true) (sym same) (front-queued xs i rest holds) in
-      let one = rw queued at counted in
-      rw (has, is) (omega (arith, one)))
+    let has = rw t at (get_or-set xs i slot None n l) in
+    let turned : eqb i n ≡ true = subst (λ (k : ℕ). eqb i k ≡ true) (sym same) (eqb-same i) in
+    let counted = rw turned at counts in
+    let queued : is_queued (get_or xs n None) ≡ true = subst (λ (k : ℕ). is_queued (get_or xs k None) ≡ true) (sym same) (front-queued xs i rest holds) in
+    let one = rw queued at counted in
+    rw (has, is) (omega (arith, one)))
     (λ f. let has = rw f at (get_or-set xs i slot None n l) in
-      let turned : eqb i n ≡ false = eqb-other i n (λ e. other_number n i f (sym e)) in
-      let counted = rw turned at counts in
-      rw has (omega (arith, counted)))
+    let turned : eqb i n ≡ false = eqb-other i n (λ e. other_number n i f (sym e)) in
+    let counted = rw turned at counts in
+    rw has (omega (arith, counted)))

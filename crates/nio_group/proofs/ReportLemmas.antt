@@ -76,12 +76,12 @@ lawful-completed g n op finished lawful is is_pending_op other =
     (flight-completes g.flight n op finished g.op_limit is is_pending_op lawful.queued_once lawful.few_in_flight lawful.few_accepted)
     (λ c kind m h. (pending-after xs n slot c kind m l refl h).1)
     (λ c m h. pending-before xs n slot c Connect m
-      (λ same.
-        let at : is_pending_as c Connect (get_or xs n None) ≡ true = subst (λ (i : ℕ). is_pending_as c Connect (get_or xs i None) ≡ true) same h in
-        let of : is_pending_as c Connect (Some op) ≡ true = rw is at at in
-        let parts = pending-parts c Connect op of in
-        other parts.same)
-      h)
+    (λ same.
+    let at : is_pending_as c Connect (get_or xs n None) ≡ true = subst (λ (i : ℕ). is_pending_as c Connect (get_or xs i None) ≡ true) same h in
+    let of : is_pending_as c Connect (Some op) ≡ true = rw is at at in
+    let parts = pending-parts c Connect op of in
+    other parts.same)
+    h)
 
 ready-connect : (e : Endpoint) → is_ready_for e Connect ≡ true → e ≡ Stream Connecting
 ready-connect (Listener bound) h = absurd (false≢true h)
@@ -106,10 +106,10 @@ lawful-connected g n op finished ch lawful is is_pending_op connect not_connecti
     let own_connect : IsPendingAs g.flight c Connect n = subst (λ (k : OpKind). IsPendingAs g.flight c k n) connect own in
     let endpoint = ready-connect (channel_at g c).endpoint (lawful.pending_ready n c Connect own_connect) in
     let none : (kind : OpKind) (m : ℕ) → is_pending_as c kind (get_or (set xs n slot) m None) ≡ true → ⊥ =
-      λ kind m h.
-        let old = pending-after xs n slot c kind m l refl h in
-        let is_connect : kind ≡ Connect = connecting-ready kind (subst (λ (e : Endpoint). is_ready_for e kind ≡ true) endpoint (lawful.pending_ready m c kind old.1)) in
-        old.0 (lawful.one_each m n c Connect (subst (λ (k : OpKind). IsPendingAs g.flight c k m) is_connect old.1) own_connect) in
+    λ kind m h.
+    let old = pending-after xs n slot c kind m l refl h in
+    let is_connect : kind ≡ Connect = connecting-ready kind (subst (λ (e : Endpoint). is_ready_for e kind ≡ true) endpoint (lawful.pending_ready m c kind old.1)) in
+    old.0 (lawful.one_each m n c Connect (subst (λ (k : OpKind). IsPendingAs g.flight c k m) is_connect old.1) own_connect) in
     lawful-channel g (completed_flight g.flight n op finished) c ch lawful (open-within g.channels c (lawful.pending_open n c Connect own_connect))
     (flight-completes g.flight n op finished g.op_limit is is_pending_op lawful.queued_once lawful.few_in_flight lawful.few_accepted)
     (record {
@@ -120,12 +120,12 @@ lawful-connected g n op finished ch lawful is is_pending_op connect not_connecti
     })
     (λ d kind m differ h. (pending-after xs n slot d kind m l refl h).1)
     (λ d m differ h. pending-before xs n slot d Connect m
-      (λ same.
-        let at : is_pending_as d Connect (get_or xs n None) ≡ true = subst (λ (i : ℕ). is_pending_as d Connect (get_or xs i None) ≡ true) same h in
-        let of : is_pending_as d Connect (Some op) ≡ true = rw is at at in
-        let parts = pending-parts d Connect op of in
-        differ (sym parts.chan))
-      h)
+    (λ same.
+    let at : is_pending_as d Connect (get_or xs n None) ≡ true = subst (λ (i : ℕ). is_pending_as d Connect (get_or xs i None) ≡ true) same h in
+    let of : is_pending_as d Connect (Some op) ≡ true = rw is at at in
+    let parts = pending-parts d Connect op of in
+    differ (sym parts.chan))
+    h)
 
 -- the slots after a pending operation was completed
 pub listed-completed : (f : Flight) (ps : List slots.Pending) (n : ℕ) (op : Operation) (finished : Finished) → IsListed f ps → op_at f n ≡ Some op → is_pending (Some op) ≡ true → op.chan.0 < length ps → IsListed (completed_flight f n op finished) (set ps op.chan.0 (with_slot (get_or ps op.chan.0 nothing_pending) op.kind None))
@@ -139,50 +139,50 @@ listed-completed f ps n op finished is_listed is is_pending_op within =
     let own : IsPendingAs f c op.kind n = rw is (pending-new_as op is_pending_op) in
     let own_slot = is_listed.all c op.kind n own in
     let here : (d : ℕ) → d ≡ c → get_or (set ps c p') d nothing_pending ≡ p' =
-      λ d same. subst (λ (e : ℕ). get_or (set ps c p') e nothing_pending ≡ p') (sym same) (get_or-set_same ps c p' nothing_pending within) in
+    λ d same. subst (λ (e : ℕ). get_or (set ps c p') e nothing_pending ≡ p') (sym same) (get_or-set_same ps c p' nothing_pending within) in
     let there : (d : ℕ) → d ≢ c → get_or (set ps c p') d nothing_pending ≡ get_or ps d nothing_pending =
-      λ d differ. get_or-set_other ps c d p' nothing_pending differ in
+    λ d differ. get_or-set_other ps c d p' nothing_pending differ in
     record {
       listed = λ d kind m h.
-        by_test (eqb d c)
+          by_test (eqb d c)
           (λ t. let same = same_number d c t in
-            let slot_is = rw (here d same) at h in
-            elim (kinds kind op.kind) [
-              inl own_kind ↦ absurd (none_some m (sym (slot_of-with_same p op.kind None) ∙ subst (λ (k : OpKind). slot_of p' k ≡ Some m) own_kind slot_is))
+          let slot_is = rw (here d same) at h in
+          elim (kinds kind op.kind) [
+            | inl own_kind ↦ absurd (none_some m (sym (slot_of-with_same p op.kind None) ∙ subst (λ (k : OpKind). slot_of p' k ≡ Some m) own_kind slot_is))
             | inr other ↦
                 let old = is_listed.listed c kind m (sym (slot_of-with_other p op.kind kind None other) ∙ slot_is) in
                 rw same (pending-before xs n slot c kind m (not_n c kind m old (λ k. other (sym k.same))) old)
-            ])
+          ])
           (λ e. let differ = other_number d c e in
-            let old = is_listed.listed d kind m (rw (there d differ) at h) in
-            pending-before xs n slot d kind m (not_n d kind m old (λ k. differ (sym k.chan))) old);
+          let old = is_listed.listed d kind m (rw (there d differ) at h) in
+          pending-before xs n slot d kind m (not_n d kind m old (λ k. differ (sym k.chan))) old);
       all = λ d kind m h.
-        let old = pending-after xs n slot d kind m l refl h in
-        let has = is_listed.all d kind m old.1 in
-        by_test (eqb d c)
+          let old = pending-after xs n slot d kind m l refl h in
+          let has = is_listed.all d kind m old.1 in
+          by_test (eqb d c)
           (λ t. let same = same_number d c t in
-            let has_here : slot_of p kind ≡ Some m = rw same at has in
-            elim (kinds kind op.kind) [
-              inl own_kind ↦ absurd (old.0 (some-same (sym has_here ∙ subst (λ (k : OpKind). slot_of p k ≡ Some n) (sym own_kind) own_slot)))
+          let has_here : slot_of p kind ≡ Some m = rw same at has in
+          elim (kinds kind op.kind) [
+            | inl own_kind ↦ absurd (old.0 (some-same (sym has_here ∙ subst (λ (k : OpKind). slot_of p k ≡ Some n) (sym own_kind) own_slot)))
             | inr other ↦ rw (here d same) (slot_of-with_other p op.kind kind None other ∙ has_here)
-            ])
+          ])
           (λ e. rw (there d (other_number d c e)) has);
     }
   where
-  not_n : (d : ℕ) (kind : OpKind) (m : ℕ) → is_pending_as d kind (get_or f.operations m None) ≡ true → (IsPendingOf d kind op → ⊥) → m ≢ n
-  not_n d kind m old elsewhere same =
-    let at : is_pending_as d kind (get_or f.operations n None) ≡ true = subst (λ (i : ℕ). is_pending_as d kind (get_or f.operations i None) ≡ true) same old in
-    let of : is_pending_as d kind (Some op) ≡ true = rw is at at in
-    elsewhere (pending-parts d kind op of)
+    not_n : (d : ℕ) (kind : OpKind) (m : ℕ) → is_pending_as d kind (get_or f.operations m None) ≡ true → (IsPendingOf d kind op → ⊥) → m ≢ n
+    not_n d kind m old elsewhere same =
+        let at : is_pending_as d kind (get_or f.operations n None) ≡ true = subst (λ (i : ℕ). is_pending_as d kind (get_or f.operations i None) ≡ true) same old in
+        let of : is_pending_as d kind (Some op) ≡ true = rw is at at in
+        elsewhere (pending-parts d kind op of)
 
 -- what is known of an operation whose outcome isn't refused
 pub report-allowed : (op : Operation) (outcome : Outcome) → report_refusal (Some op) outcome ≡ None → (is_pending (Some op) ≡ true) × (is_allowed op.kind op.len outcome ≡ true)
 report-allowed op outcome h =
     by_test (stage_is_pending op.stage)
     (λ t.
-      by_test (is_allowed op.kind op.len outcome)
-      (λ a. (t, a))
-      (λ f. absurd (some_none _ (rw (t, f) at h))))
+    by_test (is_allowed op.kind op.len outcome)
+    (λ a. (t, a))
+    (λ f. absurd (some_none _ (rw (t, f) at h))))
     (λ f. absurd (some_none _ (rw f at h)))
 
 pub connected-connect : (kind : OpKind) (len : ℕ) → is_allowed kind len outcome.Connected ≡ true → kind ≡ Connect
@@ -243,8 +243,8 @@ kept-connected {f} {cs} {ps} {o} {r} {r'} {sh} {l} n op finished p ch o' kept is
     let was_one : cond (is_open (get_or cs op.chan.0 no_channel)) 1 0 ≡ 1 = ap {B = ℕ} (λ (b : Bool). cond b 1 0) made.2 in
     rw (completed-is f n op finished is, is_slot)
     (kept-channel (completed_flight f n op finished) op.chan.0 ch (with_slot (get_or ps op.chan.0 nothing_pending) op.kind None) o' kept made.0 lawful refl
-      (ap (λ (k : ℕ). o' + k) was_one ∙ counted)
-      (listed-completed f ps n op finished kept.is_listed is is_pending_op made.1))
+    (ap (λ (k : ℕ). o' + k) was_one ∙ counted)
+    (listed-completed f ps n op finished kept.is_listed is is_pending_op made.1))
 
 -- some channel is open where an operation is pending
 pub some-open : {f : Flight} {cs : List Channel} {ps : List slots.Pending} {o r r' : ℕ} {sh : Bool} {l : GroupLimits} (n : ℕ) (op : Operation) → IsGroupKept f cs ps o sh l r r' → op_at f n ≡ Some op → is_pending (Some op) ≡ true → 1 ≤ o
@@ -262,11 +262,11 @@ accepted-room g o x lawful is h =
     by_test g.is_shut
     (λ t. absurd (failed _ x (rw t at at)))
     (λ f.
-      let left = rw f at at in
-      by_test (no_number_left g)
-      (λ t. absurd (failed _ x (rw t at left)))
-      (λ e. let differ = other_number (length g.channels) g.channel_limit e in
-        let few = lawful.few_channels in omega arith))
+    let left = rw f at at in
+    by_test (no_number_left g)
+    (λ t. absurd (failed _ x (rw t at left)))
+    (λ e. let differ = other_number (length g.channels) g.channel_limit e in
+    let few = lawful.few_channels in omega arith))
   where
-  failed : (why : Why) (y : GChan) → done.Failed why ≡ done.Accepted y → ⊥
-  failed why y e = cc
+    failed : (why : Why) (y : GChan) → done.Failed why ≡ done.Accepted y → ⊥
+    failed why y e = cc

@@ -36,19 +36,20 @@ pub record IsResting (g : Group) : Type 0 where
 none-left : (g : Group) (n : ℕ) → IsLawful g → ((c : ℕ) → (channel_at g c).is_open ≡ false) → list_any (λ slot. is_queued slot || is_running slot) g.flight.operations ≡ false → op_at g.flight n ≡ None
 none-left g n lawful closed idle = by_slot (op_at g.flight n) refl
   where
-  by_stage : (op : Operation) → op_at g.flight n ≡ Some op → (stage : Stage) → op.stage ≡ stage → ⊥
-  by_stage op is Pending e =
-    let pending : is_pending_as op.chan.0 op.kind (op_at g.flight n) ≡ true = rw (is, e, eqb-same op.chan.0, same_kind-refl op.kind) refl in
-    false≢true (sym (closed op.chan.0) ∙ lawful.pending_open n op.chan.0 op.kind pending)
-  by_stage op is (Queued r) e =
-    let busy : (is_queued (op_at g.flight n) || is_running (op_at g.flight n)) ≡ true = rw (is, e) refl in
-    false≢true (sym idle ∙ list_any_at (λ slot. is_queued slot || is_running slot) g.flight.operations n None (some-within g.flight.operations n op is) busy)
-  by_stage op is Running e =
-    let busy : (is_queued (op_at g.flight n) || is_running (op_at g.flight n)) ≡ true = rw (is, e) refl in
-    false≢true (sym idle ∙ list_any_at (λ slot. is_queued slot || is_running slot) g.flight.operations n None (some-within g.flight.operations n op is) busy)
-  by_slot : (slot : Option Operation) → op_at g.flight n ≡ slot → slot ≡ None
-  by_slot None is = refl
-  by_slot (Some op) is = absurd (by_stage op is op.stage refl)
+    by_stage : (op : Operation) → op_at g.flight n ≡ Some op → (stage : Stage) → op.stage ≡ stage → ⊥
+    by_stage op is Pending e =
+        let pending : is_pending_as op.chan.0 op.kind (op_at g.flight n) ≡ true = rw (is, e, eqb-same op.chan.0, same_kind-refl op.kind) refl in
+        false≢true (sym (closed op.chan.0) ∙ lawful.pending_open n op.chan.0 op.kind pending)
+    by_stage op is (Queued r) e =
+        let busy : (is_queued (op_at g.flight n) || is_running (op_at g.flight n)) ≡ true = rw (is, e) refl in
+        false≢true (sym idle ∙ list_any_at (λ slot. is_queued slot || is_running slot) g.flight.operations n None (some-within g.flight.operations n op is) busy)
+    by_stage op is Running e =
+        let busy : (is_queued (op_at g.flight n) || is_running (op_at g.flight n)) ≡ true = rw (is, e) refl in
+        false≢true (sym idle ∙ list_any_at (λ slot. is_queued slot || is_running slot) g.flight.operations n None (some-within g.flight.operations n op is) busy)
+
+    by_slot : (slot : Option Operation) → op_at g.flight n ≡ slot → slot ≡ None
+    by_slot None is = refl
+    by_slot (Some op) is = absurd (by_stage op is op.stage refl)
 
 pub resting : (g : Group) → IsLawful g → is_terminated g ≡ true → IsResting g
 resting g lawful terminated =
@@ -56,12 +57,12 @@ resting g lawful terminated =
     let all = and-left (all_closed g) (none_to_handle g) rest in
     let idle = not-true (list_any (λ slot. is_queued slot || is_running slot) g.flight.operations) (and-right (all_closed g) (none_to_handle g) rest) in
     let closed : (c : ℕ) → (channel_at g c).is_open ≡ false =
-      λ c.
-        by_test (channel_at g c).is_open
-        (λ t.
-          let fails : not (channel_at g c).is_open ≡ false = rw t refl in
-          absurd (false≢true (sym (list_all_at (λ channel. not channel.is_open) g.channels c no_channel (open-within g.channels c t) fails) ∙ all)))
-        (λ f. f) in
+    λ c.
+    by_test (channel_at g c).is_open
+    (λ t.
+    let fails : not (channel_at g c).is_open ≡ false = rw t refl in
+    absurd (false≢true (sym (list_all_at (λ channel. not channel.is_open) g.channels c no_channel (open-within g.channels c t) fails) ∙ all)))
+    (λ f. f) in
     record {
       shut = and-left g.is_shut (all_closed g && none_to_handle g) terminated;
       closed = closed;
@@ -79,13 +80,13 @@ bind-refused false (Listener bound) closed free = some_none _ free
 queue-empty : (f : Flight) → QueueHolds f.operations f.queue → ((n : ℕ) → op_at f n ≡ None) → f.queue ≡ []
 queue-empty f holds none = by_queue f.queue refl
   where
-  by_queue : (queue : List ℕ) → f.queue ≡ queue → queue ≡ []
-  by_queue [] is = refl
-  by_queue (n ∷ rest) is =
-    let there : QueueHolds f.operations (n ∷ rest) = rw is at holds in
-    let queued = front-queued f.operations n rest there in
-    let not_there : is_queued (op_at f n) ≡ false = rw (none n) refl in
-    absurd (false≢true (sym not_there ∙ queued))
+    by_queue : (queue : List ℕ) → f.queue ≡ queue → queue ≡ []
+    by_queue [] is = refl
+    by_queue (n ∷ rest) is =
+        let there : QueueHolds f.operations (n ∷ rest) = rw is at holds in
+        let queued = front-queued f.operations n rest there in
+        let not_there : is_queued (op_at f n) ≡ false = rw (none n) refl in
+        absurd (false≢true (sym not_there ∙ queued))
 
 close-rests : (g : Group) (c : ℕ) → (channel_at g c).is_open ≡ false → after_close g c ≡ g
 close-rests g c closed = rw closed refl
@@ -135,9 +136,9 @@ none-completes : (n : ℕ) (g : Group) (calls : List Call) → IsLawful g → is
 none-completes n g [] lawful terminated run = refl
 none-completes n g (call ∷ calls) lawful terminated run =
     let same : has_completed (after g call) n ≡ has_completed g n =
-      ap (λ (f : Flight). ltb n (accepted f) && not (is_pending (op_at f n))) (flight-rests g call lawful terminated) in
+    ap (λ (f : Flight). ltb n (accepted f) && not (is_pending (op_at f n))) (flight-rests g call lawful terminated) in
     let here : (has_completed (after g call) n && not (has_completed g n)) ≡ false =
-      ap (λ (b : Bool). b && not (has_completed g n)) same ∙ and-not (has_completed g n) in
+    ap (λ (b : Bool). b && not (has_completed g n)) same ∙ and-not (has_completed g n) in
     let none : once_where (has_completed (after g call) n && not (has_completed g n)) ≡ 0 = ap once_where here in
     let later = none-completes n (after g call) calls (lawful-after g call lawful run.0) (terminated-stays g call lawful run.0 terminated) run.1 in
     omega (arith, none, later)
@@ -147,14 +148,14 @@ at-rest g lawful terminated =
     let rest = resting g lawful terminated in
     record {
       ended = λ n l.
-        let none = rest.none n in
-        let pending : is_pending (op_at g.flight n) ≡ false = rw none refl in
-        let queued : is_queued (op_at g.flight n) ≡ false = rw none refl in
-        let running : is_running (op_at g.flight n) ≡ false = rw none refl in
-        both (was_taken g n) (not (is_running (op_at g.flight n)))
+          let none = rest.none n in
+          let pending : is_pending (op_at g.flight n) ≡ false = rw none refl in
+          let queued : is_queued (op_at g.flight n) ≡ false = rw none refl in
+          let running : is_running (op_at g.flight n) ≡ false = rw none refl in
+          both (was_taken g n) (not (is_running (op_at g.flight n)))
           (both (has_completed g n) (not (is_queued (op_at g.flight n)))
-            (both (ltb n (accepted g.flight)) (not (is_pending (op_at g.flight n))) (lt-true n (accepted g.flight) l) (true-not (is_pending (op_at g.flight n)) pending))
-            (true-not (is_queued (op_at g.flight n)) queued))
+          (both (ltb n (accepted g.flight)) (not (is_pending (op_at g.flight n))) (lt-true n (accepted g.flight) l) (true-not (is_pending (op_at g.flight n)) pending))
+          (true-not (is_queued (op_at g.flight n)) queued))
           (true-not (is_running (op_at g.flight n)) running);
       completes_none = λ n calls run. none-completes n g calls lawful terminated run;
     }

@@ -40,11 +40,11 @@ pub lawful-after_open : (g : Group) (kind : GKind) → IsLawful g → IsLawful (
 lawful-after_open g kind lawful =
     unless-refused IsLawful (open_refusal g) g (record g { channels = g.channels ++ new_channel kind ∷ [] }) lawful
     (λ free.
-      let going = cond-none g.is_shut _ _ free in
-      let room = cond-none (eqb (length g.channels) g.channel_limit) _ _ going.1 in
-      let differ = other_number (length g.channels) g.channel_limit room.0 in
-      let few = lawful.few_channels in
-      lawful-channel_made g (new_channel kind) lawful (omega arith) (new-not_connecting kind))
+    let going = cond-none g.is_shut _ _ free in
+    let room = cond-none (eqb (length g.channels) g.channel_limit) _ _ going.1 in
+    let differ = other_number (length g.channels) g.channel_limit room.0 in
+    let few = lawful.few_channels in
+    lawful-channel_made g (new_channel kind) lawful (omega arith) (new-not_connecting kind))
 
 bindable : (is_open : Bool) (e : Endpoint) → bind_refusal is_open e ≡ None → e ≡ Listener false
 bindable is_open (Stream link) h = cc
@@ -70,21 +70,21 @@ pub lawful-after_bind : (g : Group) (c : ℕ) → IsLawful g → c < length g.ch
 lawful-after_bind g c lawful within =
     unless-refused IsLawful (bind_refusal (channel_at g c).is_open (channel_at g c).endpoint) g (with_endpoint g c (Listener true)) lawful
     (λ free.
-      let unbound = bindable (channel_at g c).is_open (channel_at g c).endpoint free in
-      let none : (kind : OpKind) (n : ℕ) → IsPendingAs g.flight c kind n → ⊥ =
-        λ kind n h. unbound-ready kind (subst (λ (e : Endpoint). is_ready_for e kind ≡ true) unbound (lawful.pending_ready n c kind h)) in
-      lawful-channel g g.flight c (record (channel_at g c) { endpoint = Listener true }) lawful within (flight-lawful g lawful)
-      (record {
-        open_for = λ kind n h. absurd (none kind n h);
-        ready_for = λ kind n h. absurd (none kind n h);
-        once_for = λ kind m n h h'. absurd (none kind m h);
-        connects = λ o e. absurd (not_listener true e);
-      })
-      (λ d kind n differ h. h)
-      (λ d n differ h. h))
+    let unbound = bindable (channel_at g c).is_open (channel_at g c).endpoint free in
+    let none : (kind : OpKind) (n : ℕ) → IsPendingAs g.flight c kind n → ⊥ =
+    λ kind n h. unbound-ready kind (subst (λ (e : Endpoint). is_ready_for e kind ≡ true) unbound (lawful.pending_ready n c kind h)) in
+    lawful-channel g g.flight c (record (channel_at g c) { endpoint = Listener true }) lawful within (flight-lawful g lawful)
+    (record {
+      open_for = λ kind n h. absurd (none kind n h);
+      ready_for = λ kind n h. absurd (none kind n h);
+      once_for = λ kind m n h h'. absurd (none kind m h);
+      connects = λ o e. absurd (not_listener true e);
+    })
+    (λ d kind n differ h. h)
+    (λ d n differ h. h))
   where
-  not_listener : (b : Bool) → Listener b ≡ Stream Connecting → ⊥
-  not_listener b e = cc
+    not_listener : (b : Bool) → Listener b ≡ Stream Connecting → ⊥
+    not_listener b e = cc
 
 lt_of_ne : {a b : ℕ} → a ≤ b → a ≢ b → a < b
 lt_of_ne le ne = omega arith
@@ -110,24 +110,24 @@ lawful-pending g op lawful within pending is facts same =
     let allow = allowed (channel_at g op.chan.0).endpoint (has_pending g.flight op.chan.0 op.kind) op.kind (rw is at facts.channel) in
     let made = lawful-started g op lawful within pending is allow (lt_of_ne few facts.room) (lt_of_ne few_numbers facts.numbers) in
     let unchanged : set g.channels op.chan.0 (record (channel_at g op.chan.0) { endpoint = endpoint_after (channel_at g op.chan.0).endpoint op.kind }) ≡ g.channels =
-      ap (λ (e : Endpoint). set g.channels op.chan.0 (record (channel_at g op.chan.0) { endpoint = e })) same
-      ∙ set-get_or g.channels op.chan.0 no_channel in
+    ap (λ (e : Endpoint). set g.channels op.chan.0 (record (channel_at g op.chan.0) { endpoint = e })) same
+    ∙ set-get_or g.channels op.chan.0 no_channel in
     subst (λ (cs : List Channel). IsLawful (record g { flight = with_accepted g.flight op; channels = cs })) unchanged made
 
 lawful-transfer : (g : Group) (op : Operation) → IsLawful g → op.chan.0 < length g.channels → op.stage ≡ first_stage true op.kind op.len → (channel_at g op.chan.0).is_open ≡ true → IsStartable g op.chan.0 op.kind → endpoint_after (channel_at g op.chan.0).endpoint op.kind ≡ (channel_at g op.chan.0).endpoint → IsLawful (record g { flight = with_accepted g.flight op })
 lawful-transfer g op lawful within stage is facts same =
     by_stage op.stage refl
   where
-  by_stage : (s : Stage) → op.stage ≡ s → IsLawful (record g { flight = with_accepted g.flight op })
-  by_stage Pending e = lawful-pending g op lawful within e is facts same
-  by_stage (Queued r) e =
-    let few = lawful.few_in_flight in
-    let few_numbers = lawful.few_accepted in
-    lawful-queued g op lawful (rw e refl) (lt_of_ne few facts.room) (lt_of_ne few_numbers facts.numbers)
-  by_stage Running e =
-    let few = lawful.few_in_flight in
-    let few_numbers = lawful.few_accepted in
-    lawful-queued g op lawful (rw e refl) (lt_of_ne few facts.room) (lt_of_ne few_numbers facts.numbers)
+    by_stage : (s : Stage) → op.stage ≡ s → IsLawful (record g { flight = with_accepted g.flight op })
+    by_stage Pending e = lawful-pending g op lawful within e is facts same
+    by_stage (Queued r) e =
+        let few = lawful.few_in_flight in
+        let few_numbers = lawful.few_accepted in
+        lawful-queued g op lawful (rw e refl) (lt_of_ne few facts.room) (lt_of_ne few_numbers facts.numbers)
+    by_stage Running e =
+        let few = lawful.few_in_flight in
+        let few_numbers = lawful.few_accepted in
+        lawful-queued g op lawful (rw e refl) (lt_of_ne few facts.room) (lt_of_ne few_numbers facts.numbers)
 
 -- a start that isn't refused
 lawful-started_now : (g : Group) (chan : GChan) (kind : OpKind) (len : ℕ) (is_open : Bool) → IsLawful g → chan.0 < length g.channels → IsStartable g chan.0 kind → (channel_at g chan.0).is_open ≡ is_open → IsLawful (started_as g chan kind len is_open)
@@ -176,31 +176,31 @@ lawful-reported_now g n outcome.Accepted op lawful is pending allow =
     cond-holds P g.is_shut g (cond (no_number_left g) g (record g { channels = g.channels ++ connected_stream ∷ [] }))
     (λ t. kept)
     (λ shut.
-      cond-holds P (no_number_left g) g (record g { channels = g.channels ++ connected_stream ∷ [] })
-      (λ t. kept)
-      (λ e.
-        let differ = other_number (length g.channels) g.channel_limit e in
-        let few = lawful.few_channels in
-        lawful-channel_made (record g { flight = f }) connected_stream kept (omega arith) (λ c. cc)))
+    cond-holds P (no_number_left g) g (record g { channels = g.channels ++ connected_stream ∷ [] })
+    (λ t. kept)
+    (λ e.
+    let differ = other_number (length g.channels) g.channel_limit e in
+    let few = lawful.few_channels in
+    lawful-channel_made (record g { flight = f }) connected_stream kept (omega arith) (λ c. cc)))
 lawful-reported_now g n outcome.Fault op lawful is pending allow = by_kind op.kind refl
   where
-  by_kind : (kind : OpKind) → op.kind ≡ kind → IsLawful (record (channels_after_report g op.chan.0 kind outcome.Fault) { flight = completed_flight g.flight n op (result_of g outcome.Fault) })
-  by_kind Accept e = lawful-completed g n op (result_of g outcome.Fault) lawful is pending (λ c. let no : Accept ≡ Connect = sym e ∙ c in cc)
-  by_kind Connect e = lawful-connected g n op (result_of g outcome.Fault) (record (channel_at g op.chan.0) { is_open = false }) lawful is pending e (λ o c. false≢true o)
-  by_kind Read e = lawful-completed g n op (result_of g outcome.Fault) lawful is pending (λ c. let no : Read ≡ Connect = sym e ∙ c in cc)
-  by_kind Write e = lawful-completed g n op (result_of g outcome.Fault) lawful is pending (λ c. let no : Write ≡ Connect = sym e ∙ c in cc)
+    by_kind : (kind : OpKind) → op.kind ≡ kind → IsLawful (record (channels_after_report g op.chan.0 kind outcome.Fault) { flight = completed_flight g.flight n op (result_of g outcome.Fault) })
+    by_kind Accept e = lawful-completed g n op (result_of g outcome.Fault) lawful is pending (λ c. let no : Accept ≡ Connect = sym e ∙ c in cc)
+    by_kind Connect e = lawful-connected g n op (result_of g outcome.Fault) (record (channel_at g op.chan.0) { is_open = false }) lawful is pending e (λ o c. false≢true o)
+    by_kind Read e = lawful-completed g n op (result_of g outcome.Fault) lawful is pending (λ c. let no : Read ≡ Connect = sym e ∙ c in cc)
+    by_kind Write e = lawful-completed g n op (result_of g outcome.Fault) lawful is pending (λ c. let no : Write ≡ Connect = sym e ∙ c in cc)
 
 pub lawful-after_report : (g : Group) (n : ℕ) (o : Outcome) → IsLawful g → IsLawful (after_report g n o)
 lawful-after_report g n o lawful = by_slot (op_at g.flight n) refl
   where
-  by_slot : (slot : Option Operation) → op_at g.flight n ≡ slot → IsLawful (kept_if_refused (report_refusal slot o) g (reported g n o slot))
-  by_slot None is = lawful
-  by_slot (Some op) is =
-    unless-refused IsLawful (report_refusal (Some op) o) g (reported g n o (Some op)) lawful
-    (λ free.
-      let facts = report-allowed op o free in
-      let made = lawful-reported_now g n o op lawful is facts.0 facts.1 in
-      subst (λ (f : Flight). IsLawful (record (channels_after_report g op.chan.0 op.kind o) { flight = f })) (sym (completed-is g.flight n op (result_of g o) is)) made)
+    by_slot : (slot : Option Operation) → op_at g.flight n ≡ slot → IsLawful (kept_if_refused (report_refusal slot o) g (reported g n o slot))
+    by_slot None is = lawful
+    by_slot (Some op) is =
+        unless-refused IsLawful (report_refusal (Some op) o) g (reported g n o (Some op)) lawful
+        (λ free.
+        let facts = report-allowed op o free in
+        let made = lawful-reported_now g n o op lawful is facts.0 facts.1 in
+        subst (λ (f : Flight). IsLawful (record (channels_after_report g op.chan.0 op.kind o) { flight = f })) (sym (completed-is g.flight n op (result_of g o) is)) made)
 
 queued-there : (slot : Option Operation) → is_queued slot ≡ true → (op : Operation) × (slot ≡ Some op)
 queued-there None h = absurd (false≢true h)
@@ -222,13 +222,13 @@ lawful-taken_front g n rest op lawful is holds is_op of =
 pub lawful-after_take : (g : Group) → IsLawful g → IsLawful (after_take g)
 lawful-after_take g lawful = by_queue g.flight.queue refl
   where
-  by_queue : (queue : List ℕ) → g.flight.queue ≡ queue → IsLawful (record g { flight = flight_after_take g.flight queue })
-  by_queue [] is = lawful
-  by_queue (n ∷ rest) is =
-    let holds : QueueHolds g.flight.operations (n ∷ rest) = rw is at lawful.queued_once in
-    let queued = front-queued g.flight.operations n rest holds in
-    let some = queued-there (op_at g.flight n) queued in
-    lawful-taken_front g n rest some.0 lawful is holds some.1 (subst (λ (slot : Option Operation). is_queued slot ≡ true) some.1 queued)
+    by_queue : (queue : List ℕ) → g.flight.queue ≡ queue → IsLawful (record g { flight = flight_after_take g.flight queue })
+    by_queue [] is = lawful
+    by_queue (n ∷ rest) is =
+        let holds : QueueHolds g.flight.operations (n ∷ rest) = rw is at lawful.queued_once in
+        let queued = front-queued g.flight.operations n rest holds in
+        let some = queued-there (op_at g.flight n) queued in
+        lawful-taken_front g n rest some.0 lawful is holds some.1 (subst (λ (slot : Option Operation). is_queued slot ≡ true) some.1 queued)
 
 lawful-ended : (g : Group) (n : ℕ) (op : Operation) → IsLawful g → op_at g.flight n ≡ Some op → is_running (Some op) ≡ true → IsLawful (record g { flight = with_ended g.flight n })
 lawful-ended g n op lawful is of =
@@ -239,21 +239,21 @@ lawful-ended g n op lawful is of =
     let few_numbers = lawful.few_accepted in
     let counts = rw is at (count_by-set is_some g.flight.operations n None None within) in
     let flight : IsFlightLawful (with_ended g.flight n) g.op_limit =
-      record {
-        queued_once = queue-set g.flight.operations g.flight.queue n None within not_queued lawful.queued_once;
-        few_in_flight = omega (arith, counts);
-        few_accepted = omega (arith, length-set g.flight.operations n None);
-      } in
+    record {
+      queued_once = queue-set g.flight.operations g.flight.queue n None within not_queued lawful.queued_once;
+      few_in_flight = omega (arith, counts);
+      few_accepted = omega (arith, length-set g.flight.operations n None);
+    } in
     lawful-unpending g n None g.flight.queue lawful within was refl flight
 
 pub lawful-after_finish : (g : Group) (n : ℕ) → IsLawful g → IsLawful (after_finish g n)
 lawful-after_finish g n lawful = by_running (is_running (op_at g.flight n)) refl
   where
-  by_running : (b : Bool) → is_running (op_at g.flight n) ≡ b → IsLawful (kept_if_refused (finish_refusal b) g (record g { flight = with_ended g.flight n }))
-  by_running false is = lawful
-  by_running true is =
-    let some = running-there (op_at g.flight n) is in
-    lawful-ended g n some.0 lawful some.1 (subst (λ (slot : Option Operation). is_running slot ≡ true) some.1 is)
+    by_running : (b : Bool) → is_running (op_at g.flight n) ≡ b → IsLawful (kept_if_refused (finish_refusal b) g (record g { flight = with_ended g.flight n }))
+    by_running false is = lawful
+    by_running true is =
+        let some = running-there (op_at g.flight n) is in
+        lawful-ended g n some.0 lawful some.1 (subst (λ (slot : Option Operation). is_running slot ≡ true) some.1 is)
 
 pub lawful-after_close : (g : Group) (c : ℕ) → IsLawful g → IsLawful (after_close g c)
 lawful-after_close g c lawful =

@@ -77,12 +77,12 @@ onward-set f i slot queue moves =
     record {
       accepts = omega (arith, length-set f.operations i slot);
       moved = λ n l.
-        by_test (eqb n i)
-        (λ t. let same = same_number n i t in
+          by_test (eqb n i)
+          (λ t. let same = same_number n i t in
           let put : get_or (set f.operations i slot) n None ≡ slot =
-            subst (λ (k : ℕ). get_or (set f.operations i slot) k None ≡ slot) (sym same) (get_or-set_same f.operations i slot None (subst (λ (k : ℕ). k < length f.operations) same l)) in
+          subst (λ (k : ℕ). get_or (set f.operations i slot) k None ≡ slot) (sym same) (get_or-set_same f.operations i slot None (subst (λ (k : ℕ). k < length f.operations) same l)) in
           rw put (subst (λ (k : ℕ). IsMoved (op_at f k) slot) (sym same) moves))
-        (λ e. rw (get_or-set_other f.operations i n slot None (other_number n i e)) (moved-same (op_at f n)));
+          (λ e. rw (get_or-set_other f.operations i n slot None (other_number n i e)) (moved-same (op_at f n)));
     }
 
 -- a pending operation completes
@@ -144,22 +144,22 @@ reportable (Some op) o h =
 onward-report : (g : Group) (n : ℕ) (o : Outcome) → IsOnward g.flight (after_report g n o).flight
 onward-report g n o = by_slot (op_at g.flight n) refl
   where
-  by_slot : (slot : Option Operation) → op_at g.flight n ≡ slot → IsOnward g.flight (kept_if_refused (report_refusal slot o) g (reported g n o slot)).flight
-  by_slot None is = onward-same g.flight
-  by_slot (Some op) is =
-    unless-refused (λ (h : Group). IsOnward g.flight h.flight) (report_refusal (Some op) o) g (reported g n o (Some op)) (onward-same g.flight)
-    (λ free.
-      let pending : is_pending (op_at g.flight n) ≡ true = rw is (reportable (Some op) o free) in
-      onward-set g.flight n (option_map (at_stage (Queued (result_of g o))) (op_at g.flight n)) (g.flight.queue ++ n ∷ []) (moved-completed (op_at g.flight n) (Queued (result_of g o)) pending))
+    by_slot : (slot : Option Operation) → op_at g.flight n ≡ slot → IsOnward g.flight (kept_if_refused (report_refusal slot o) g (reported g n o slot)).flight
+    by_slot None is = onward-same g.flight
+    by_slot (Some op) is =
+        unless-refused (λ (h : Group). IsOnward g.flight h.flight) (report_refusal (Some op) o) g (reported g n o (Some op)) (onward-same g.flight)
+        (λ free.
+        let pending : is_pending (op_at g.flight n) ≡ true = rw is (reportable (Some op) o free) in
+        onward-set g.flight n (option_map (at_stage (Queued (result_of g o))) (op_at g.flight n)) (g.flight.queue ++ n ∷ []) (moved-completed (op_at g.flight n) (Queued (result_of g o)) pending))
 
 onward-take : (g : Group) → IsLawful g → IsOnward g.flight (after_take g).flight
 onward-take g lawful = by_queue g.flight.queue refl
   where
-  by_queue : (queue : List ℕ) → g.flight.queue ≡ queue → IsOnward g.flight (flight_after_take g.flight queue)
-  by_queue [] is = onward-same g.flight
-  by_queue (n ∷ rest) is =
-    let holds : QueueHolds g.flight.operations (n ∷ rest) = rw is at lawful.queued_once in
-    onward-set g.flight n (option_map (at_stage Running) (op_at g.flight n)) _ (moved-taken (op_at g.flight n) (front-queued g.flight.operations n rest holds))
+    by_queue : (queue : List ℕ) → g.flight.queue ≡ queue → IsOnward g.flight (flight_after_take g.flight queue)
+    by_queue [] is = onward-same g.flight
+    by_queue (n ∷ rest) is =
+        let holds : QueueHolds g.flight.operations (n ∷ rest) = rw is at lawful.queued_once in
+        onward-set g.flight n (option_map (at_stage Running) (op_at g.flight n)) _ (moved-taken (op_at g.flight n) (front-queued g.flight.operations n rest holds))
 
 pub onward-after : (g : Group) (call : Call) → IsLawful g → IsOnward g.flight (after g call).flight
 onward-after g (open_channel kind) lawful =
@@ -202,30 +202,33 @@ forward-from g left n onward =
       completes = completes;
       takes = takes;
       ends = λ h.
-        let took = and-left (was_taken g n) (not (is_running (op_at g.flight n))) h in
-        let running = not-true (is_running (op_at g.flight n)) (and-right (was_taken g n) (not (is_running (op_at g.flight n))) h) in
-        let done = and-left (has_completed g n) (not (is_queued (op_at g.flight n))) took in
-        let queued = not-true (is_queued (op_at g.flight n)) (and-right (has_completed g n) (not (is_queued (op_at g.flight n))) took) in
-        let moved = onward.moved n (within done) in
-        both (was_taken left n) (not (is_running (op_at left.flight n))) (takes took) (true-not (is_running (op_at left.flight n)) (moved.ended (pending done) queued running));
+          let took = and-left (was_taken g n) (not (is_running (op_at g.flight n))) h in
+          let running = not-true (is_running (op_at g.flight n)) (and-right (was_taken g n) (not (is_running (op_at g.flight n))) h) in
+          let done = and-left (has_completed g n) (not (is_queued (op_at g.flight n))) took in
+          let queued = not-true (is_queued (op_at g.flight n)) (and-right (has_completed g n) (not (is_queued (op_at g.flight n))) took) in
+          let moved = onward.moved n (within done) in
+          both (was_taken left n) (not (is_running (op_at left.flight n))) (takes took) (true-not (is_running (op_at left.flight n)) (moved.ended (pending done) queued running));
     }
   where
-  within : has_completed g n ≡ true → n < accepted g.flight
-  within h = true-lt n (accepted g.flight) (and-left (ltb n (accepted g.flight)) (not (is_pending (op_at g.flight n))) h)
-  pending : has_completed g n ≡ true → is_pending (op_at g.flight n) ≡ false
-  pending h = not-true (is_pending (op_at g.flight n)) (and-right (ltb n (accepted g.flight)) (not (is_pending (op_at g.flight n))) h)
-  completes : has_completed g n ≡ true → has_completed left n ≡ true
-  completes h =
-    let more = onward.accepts in
-    let l = within h in
-    both (ltb n (accepted left.flight)) (not (is_pending (op_at left.flight n))) (lt-true n (accepted left.flight) (omega arith))
-    (true-not (is_pending (op_at left.flight n)) ((onward.moved n l).done (pending h)))
-  takes : was_taken g n ≡ true → was_taken left n ≡ true
-  takes h =
-    let done = and-left (has_completed g n) (not (is_queued (op_at g.flight n))) h in
-    let queued = not-true (is_queued (op_at g.flight n)) (and-right (has_completed g n) (not (is_queued (op_at g.flight n))) h) in
-    let moved = onward.moved n (within done) in
-    both (has_completed left n) (not (is_queued (op_at left.flight n))) (completes done) (true-not (is_queued (op_at left.flight n)) (moved.taken (pending done) queued))
+    within : has_completed g n ≡ true → n < accepted g.flight
+    within h = true-lt n (accepted g.flight) (and-left (ltb n (accepted g.flight)) (not (is_pending (op_at g.flight n))) h)
+
+    pending : has_completed g n ≡ true → is_pending (op_at g.flight n) ≡ false
+    pending h = not-true (is_pending (op_at g.flight n)) (and-right (ltb n (accepted g.flight)) (not (is_pending (op_at g.flight n))) h)
+
+    completes : has_completed g n ≡ true → has_completed left n ≡ true
+    completes h =
+        let more = onward.accepts in
+        let l = within h in
+        both (ltb n (accepted left.flight)) (not (is_pending (op_at left.flight n))) (lt-true n (accepted left.flight) (omega arith))
+        (true-not (is_pending (op_at left.flight n)) ((onward.moved n l).done (pending h)))
+
+    takes : was_taken g n ≡ true → was_taken left n ≡ true
+    takes h =
+        let done = and-left (has_completed g n) (not (is_queued (op_at g.flight n))) h in
+        let queued = not-true (is_queued (op_at g.flight n)) (and-right (has_completed g n) (not (is_queued (op_at g.flight n))) h) in
+        let moved = onward.moved n (within done) in
+        both (has_completed left n) (not (is_queued (op_at left.flight n))) (completes done) (true-not (is_queued (op_at left.flight n)) (moved.taken (pending done) queued))
 
 pub stages-forward : StagesGoForward
 stages-forward g call n lawful made = forward-from g (after g call) n (onward-after g call lawful)

@@ -133,36 +133,36 @@ lawful-started g op lawful within is_pending_op is_open allow room numbers =
     (record {
       open_for = λ kind n h. is_open;
       ready_for = λ kind n h.
-        elim (pending-pushed xs (Some op) c kind n h) [
-          inl own ↦ let parts = pending-parts c kind op own.1 in subst (λ (k : OpKind). is_ready_for (endpoint_after (channel_at g c).endpoint op.kind) k ≡ true) parts.same allow.ready
-        | inr old ↦ allow.others kind (lawful.pending_ready n c kind old.1)
-        ];
+          elim (pending-pushed xs (Some op) c kind n h) [
+            | inl own ↦ let parts = pending-parts c kind op own.1 in subst (λ (k : OpKind). is_ready_for (endpoint_after (channel_at g c).endpoint op.kind) k ≡ true) parts.same allow.ready
+            | inr old ↦ allow.others kind (lawful.pending_ready n c kind old.1)
+          ];
       once_for = λ kind m n a b.
-        elim (pending-pushed xs (Some op) c kind m a) [
-          inl own ↦
-            elim (pending-pushed xs (Some op) c kind n b) [
-              inl own' ↦ own.0 ∙ sym own'.0
-            | inr old ↦ let parts = pending-parts c kind op own.1 in absurd (free n (subst (λ (k : OpKind). IsPendingAs g.flight c k n) (sym parts.same) old.1))
-            ]
-        | inr old ↦
-            elim (pending-pushed xs (Some op) c kind n b) [
-              inl own ↦ let parts = pending-parts c kind op own.1 in absurd (free m (subst (λ (k : OpKind). IsPendingAs g.flight c k m) (sym parts.same) old.1))
-            | inr old' ↦ lawful.one_each m n c kind old.1 old'.1
-            ]
-        ];
+          elim (pending-pushed xs (Some op) c kind m a) [
+            | inl own ↦
+                elim (pending-pushed xs (Some op) c kind n b) [
+                  | inl own' ↦ own.0 ∙ sym own'.0
+                  | inr old ↦ let parts = pending-parts c kind op own.1 in absurd (free n (subst (λ (k : OpKind). IsPendingAs g.flight c k n) (sym parts.same) old.1))
+                ]
+            | inr old ↦
+                elim (pending-pushed xs (Some op) c kind n b) [
+                  | inl own ↦ let parts = pending-parts c kind op own.1 in absurd (free m (subst (λ (k : OpKind). IsPendingAs g.flight c k m) (sym parts.same) old.1))
+                  | inr old' ↦ lawful.one_each m n c kind old.1 old'.1
+                ]
+          ];
       connects = λ o is.
-        let kind_is = allow.connects is in
-        (length xs, rw get_or_push_here (subst (λ (k : OpKind). is_pending_as c k (Some op) ≡ true) kind_is new));
+          let kind_is = allow.connects is in
+          (length xs, rw get_or_push_here (subst (λ (k : OpKind). is_pending_as c k (Some op) ≡ true) kind_is new));
     })
     (λ d kind n differ h.
-      elim (pending-pushed xs (Some op) d kind n h) [
-        inl own ↦ let parts = pending-parts d kind op own.1 in absurd (differ (sym parts.chan))
+    elim (pending-pushed xs (Some op) d kind n h) [
+      | inl own ↦ let parts = pending-parts d kind op own.1 in absurd (differ (sym parts.chan))
       | inr old ↦ old.1
-      ])
+    ])
     (λ d n differ h. pending-still xs (Some op) d Connect n h)
   where
-  get_or_push_here : get_or (g.flight.operations ++ Some op ∷ []) (length g.flight.operations) None ≡ Some op
-  get_or_push_here = get_or_push g.flight.operations (Some op) None (length g.flight.operations) refl
+    get_or_push_here : get_or (g.flight.operations ++ Some op ∷ []) (length g.flight.operations) None ≡ Some op
+    get_or_push_here = get_or_push g.flight.operations (Some op) None (length g.flight.operations) refl
 
 -- the group after an operation that is queued at once was started
 pub lawful-queued : (g : Group) (op : Operation) → IsLawful g → is_pending (Some op) ≡ false → in_flight g.flight < g.flight.limit → accepted g.flight < g.op_limit → IsLawful (record g { flight = with_accepted g.flight op })
@@ -171,10 +171,10 @@ lawful-queued g op lawful not_pending room numbers =
     lawful-operations g (with_accepted g.flight op) lawful
     (flight-accepts g.flight op g.op_limit lawful.queued_once room numbers)
     (λ c kind n h.
-      elim (pending-pushed xs (Some op) c kind n h) [
-        inl own ↦ absurd (false≢true (sym (not_pending-as c kind (Some op) not_pending) ∙ own.1))
+    elim (pending-pushed xs (Some op) c kind n h) [
+      | inl own ↦ absurd (false≢true (sym (not_pending-as c kind (Some op) not_pending) ∙ own.1))
       | inr old ↦ old.1
-      ])
+    ])
     (λ c n h. pending-still xs (Some op) c Connect n h)
 
 -- the group as it is kept, after an operation that is pending was started
@@ -195,27 +195,27 @@ kept-started {f} {cs} {ps} {o} {r} {r'} {sh} {l} op x p n kept within read read_
     let lawful = lawful-started g op kept.lawful within is_pending_op open_there allow (lt_of_ne few facts.room) (lt_of_ne few_numbers facts.numbers) in
     let free = start-free g c op.kind kept.lawful allow in
     let made = kept-channel (with_accepted f op) c (record (get_or cs c no_channel) { endpoint = endpoint_after (get_or cs c no_channel).endpoint op.kind }) (with_slot (get_or ps c nothing_pending) op.kind (Some (length f.operations))) o kept within lawful refl refl
-      (listed-started f (with_accepted f op) ps op c kept.is_listed refl (omega arith) (pending-new op is_pending_op) free) in
+    (listed-started f (with_accepted f op) ps op c kept.is_listed refl (omega arith) (pending-new op is_pending_op) free) in
     rw (is, is_slot, number) made
   where
-  lt_of_ne : {a b : ℕ} → a ≤ b → a ≢ b → a < b
-  lt_of_ne le ne = omega arith
+    lt_of_ne : {a b : ℕ} → a ≤ b → a ≢ b → a < b
+    lt_of_ne le ne = omega arith
 
 -- the same where no channel changes
 pub kept-started-same : {f : Flight} {cs : List Channel} {ps : List slots.Pending} {o r r' : ℕ} {sh : Bool} {l : GroupLimits} (op : Operation) (x : Channel) (p : slots.Pending) (n : ℕ) → IsGroupKept f cs ps o sh l r r' → op.chan.0 < length cs → x ≡ get_or cs op.chan.0 x → p ≡ get_or ps op.chan.0 p → n ≡ length f.operations → start_refusal (group_of f cs sh l) op.chan.0 op.kind ≡ None → op.stage ≡ Pending → op.stage ≡ first_stage x.is_open op.kind op.len → (op.kind ≡ Connect → ⊥) → IsGroupKept (with_accepted f op) cs (set ps op.chan.0 (with_slot p op.kind (Some n))) o sh l r r'
 kept-started-same {f} {cs} {ps} {o} {r} {r'} {sh} {l} op x p n kept within read read_slot number allowed_start is_pending_op stage other =
     let made = kept-started op x p n kept within read read_slot number allowed_start is_pending_op stage in
     let same : set cs op.chan.0 (record x { endpoint = endpoint_after x.endpoint op.kind }) ≡ cs =
-      ap (λ (e : Endpoint). set cs op.chan.0 (record x { endpoint = e })) (endpoint_same x.endpoint op.kind other)
-      ∙ ap (set cs op.chan.0) read
-      ∙ set-get_or cs op.chan.0 x in
+    ap (λ (e : Endpoint). set cs op.chan.0 (record x { endpoint = e })) (endpoint_same x.endpoint op.kind other)
+    ∙ ap (set cs op.chan.0) read
+    ∙ set-get_or cs op.chan.0 x in
     subst (λ (xs : List Channel). IsGroupKept (with_accepted f op) xs (set ps op.chan.0 (with_slot p op.kind (Some n))) o sh l r r') same made
   where
-  endpoint_same : (e : Endpoint) (kind : OpKind) → (kind ≡ Connect → ⊥) → endpoint_after e kind ≡ e
-  endpoint_same e Accept h = refl
-  endpoint_same e Connect h = absurd (h refl)
-  endpoint_same e Read h = refl
-  endpoint_same e Write h = refl
+    endpoint_same : (e : Endpoint) (kind : OpKind) → (kind ≡ Connect → ⊥) → endpoint_after e kind ≡ e
+    endpoint_same e Accept h = refl
+    endpoint_same e Connect h = absurd (h refl)
+    endpoint_same e Read h = refl
+    endpoint_same e Write h = refl
 
 -- the slots after an operation was put after the others that isn't pending
 pub listed-queued : (f : Flight) (ps : List slots.Pending) (op : Operation) → IsListed f ps → is_pending (Some op) ≡ false → IsListed (with_accepted f op) ps
@@ -223,19 +223,19 @@ listed-queued f ps op is_listed not_pending =
     record {
       listed = λ c kind n h. pending-still f.operations (Some op) c kind n (is_listed.listed c kind n h);
       all = λ c kind n h.
-        elim (pending-pushed f.operations (Some op) c kind n h) [
-          inl own ↦ absurd (false≢true (sym (not_pending-as c kind (Some op) not_pending) ∙ own.1))
-        | inr old ↦ is_listed.all c kind n old.1
-        ];
+          elim (pending-pushed f.operations (Some op) c kind n h) [
+            | inl own ↦ absurd (false≢true (sym (not_pending-as c kind (Some op) not_pending) ∙ own.1))
+            | inr old ↦ is_listed.all c kind n old.1
+          ];
     }
 
 pub not_pending-stage : (op : Operation) → (op.stage ≡ Pending → ⊥) → is_pending (Some op) ≡ false
 not_pending-stage op h = by_stage op.stage h
   where
-  by_stage : (stage : Stage) → (stage ≡ Pending → ⊥) → stage_is_pending stage ≡ false
-  by_stage Pending not = absurd (not refl)
-  by_stage (Queued finished) not = refl
-  by_stage Running not = refl
+    by_stage : (stage : Stage) → (stage ≡ Pending → ⊥) → stage_is_pending stage ≡ false
+    by_stage Pending not = absurd (not refl)
+    by_stage (Queued finished) not = refl
+    by_stage Running not = refl
 
 -- after an operation that is queued at once was started
 pub kept-queued : {f : Flight} {cs : List Channel} {ps : List slots.Pending} {o r r' : ℕ} {sh : Bool} {l : GroupLimits} (op : Operation) (c : ℕ) → IsGroupKept f cs ps o sh l r r' → start_refusal (group_of f cs sh l) c op.kind ≡ None → (op.stage ≡ Pending → ⊥) → IsGroupKept (with_accepted f op) cs ps o sh l r r'
@@ -248,8 +248,8 @@ kept-queued {f} {cs} {ps} {o} {r} {r'} {sh} {l} op c kept allowed_start not =
     kept-operations (with_accepted f op) kept (lawful-queued g op kept.lawful not_pending (lt_of_ne few facts.room) (lt_of_ne few_numbers facts.numbers)) refl
     (listed-queued f ps op kept.is_listed not_pending)
   where
-  lt_of_ne : {a b : ℕ} → a ≤ b → a ≢ b → a < b
-  lt_of_ne le ne = omega arith
+    lt_of_ne : {a b : ℕ} → a ≤ b → a ≢ b → a < b
+    lt_of_ne le ne = omega arith
 
 -- there is room where a start isn't refused
 pub start-room : {f : Flight} {cs : List Channel} {ps : List slots.Pending} {o r r' : ℕ} {sh : Bool} {l : GroupLimits} (c : ℕ) (kind : OpKind) → IsGroupKept f cs ps o sh l r r' → start_refusal (group_of f cs sh l) c kind ≡ None → (in_flight f < f.limit) × (accepted f < 2 ^ 62)

@@ -23,12 +23,12 @@ outside : (slots : List (Option Entry)) (limit reach n : ℕ) → IsNear slots l
 outside slots limit reach n near h i None at = refl
 outside slots limit reach n near h i (Some e) at =
     by_test (eqb e.number n)
-      (λ t. let same = same_number e.number n t in
-        let place = near i e at in
-        let there : has_number n (get_or slots i None) ≡ false =
-          h i (subst (λ (m : ℕ). home_of m limit ≤ i) same place.0) (subst (λ (m : ℕ). i ≤ home_of m limit + reach) same place.1) in
-        rw at at there)
-      (λ f. f)
+    (λ t. let same = same_number e.number n t in
+    let place = near i e at in
+    let there : has_number n (get_or slots i None) ≡ false =
+    h i (subst (λ (m : ℕ). home_of m limit ≤ i) same place.0) (subst (λ (m : ℕ). i ≤ home_of m limit + reach) same place.1) in
+    rw at at there)
+    (λ f. f)
 
 -- a number that isn't near its home has no key
 pub key_in-not_near : {slots : List (Option Entry)} {limit reach : ℕ} (n : ℕ) → IsTable slots limit reach → ((i : ℕ) → home_of n limit ≤ i → i ≤ home_of n limit + reach → has_number n (get_or slots i None) ≡ false) → key_in n slots ≡ None
@@ -52,29 +52,30 @@ table-inserted {slots} {limit} {reach} e i table l vacant above below new =
       size = length-set slots i (Some e) ∙ table.size;
       small_reach = let small = table.small_reach in omega arith;
       once = λ n.
-        let had = table.once n in
-        let counts = count_by-set (has_number n) slots i (Some e) None l in
-        let empty : has_number n (get_or slots i None) ≡ false = rw vacant refl in
-        let none = absent-key_in e.number slots new in
-        once_more n had counts empty none;
+          let had = table.once n in
+          let counts = count_by-set (has_number n) slots i (Some e) None l in
+          let empty : has_number n (get_or slots i None) ≡ false = rw vacant refl in
+          let none = absent-key_in e.number slots new in
+          once_more n had counts empty none;
       near = λ j o at. near_more j o at;
     }
   where
-  once_more : (n : ℕ) → count_by (has_number n) slots ≤ 1 → count_by (has_number n) (set slots i (Some e)) + cond (has_number n (get_or slots i None)) 1 0 ≡ count_by (has_number n) slots + cond (eqb e.number n) 1 0 → has_number n (get_or slots i None) ≡ false → count_by (has_number e.number) slots ≡ 0 → count_by (has_number n) (set slots i (Some e)) ≤ 1
-  once_more n had counts empty none =
-    by_test (eqb e.number n)
-      (λ t. let same = same_number e.number n t in
+    once_more : (n : ℕ) → count_by (has_number n) slots ≤ 1 → count_by (has_number n) (set slots i (Some e)) + cond (has_number n (get_or slots i None)) 1 0 ≡ count_by (has_number n) slots + cond (eqb e.number n) 1 0 → has_number n (get_or slots i None) ≡ false → count_by (has_number e.number) slots ≡ 0 → count_by (has_number n) (set slots i (Some e)) ≤ 1
+    once_more n had counts empty none =
+        by_test (eqb e.number n)
+        (λ t. let same = same_number e.number n t in
         let zero_there : count_by (has_number n) slots ≡ 0 = subst (λ (m : ℕ). count_by (has_number m) slots ≡ 0) same none in
         let c = rw (empty, t) at counts in omega (arith, c))
-      (λ f. let c = rw (empty, f) at counts in omega (arith, c))
-  near_more : (j : ℕ) (o : Entry) → get_or (set slots i (Some e)) j None ≡ Some o → (home_of o.number limit ≤ j) × (j ≤ home_of o.number limit + max reach (i - home_of e.number limit))
-  near_more j o at =
-    by_test (eqb j i)
-      (λ t. let same = same_number j i t in
+        (λ f. let c = rw (empty, f) at counts in omega (arith, c))
+
+    near_more : (j : ℕ) (o : Entry) → get_or (set slots i (Some e)) j None ≡ Some o → (home_of o.number limit ≤ j) × (j ≤ home_of o.number limit + max reach (i - home_of e.number limit))
+    near_more j o at =
+        by_test (eqb j i)
+        (λ t. let same = same_number j i t in
         let here : Some e ≡ Some o = sym (get_or-set_same slots i (Some e) None l) ∙ subst (λ (k : ℕ). get_or (set slots i (Some e)) k None ≡ Some o) same at in
         let is_e : e ≡ o = cc in
         subst (λ (x : Entry). (home_of x.number limit ≤ j) × (j ≤ home_of x.number limit + max reach (i - home_of e.number limit))) is_e (omega arith, omega arith))
-      (λ f. let differ = other_number j i f in
+        (λ f. let differ = other_number j i f in
         let near = table.near j o (sym (get_or-set_other slots i j (Some e) None differ) ∙ at) in
         (near.0, omega (arith, near.1)))
 
@@ -89,16 +90,16 @@ table-removed {slots} {limit} {reach} i table l =
       size = length-set slots i None ∙ table.size;
       small_reach = table.small_reach;
       once = λ n.
-        let had = table.once n in
-        let counts = count_by-set (has_number n) slots i None None l in
-        omega (arith, counts, had);
+          let had = table.once n in
+          let counts = count_by-set (has_number n) slots i None None l in
+          omega (arith, counts, had);
       near = λ j o at.
-        by_test (eqb j i)
+          by_test (eqb j i)
           (λ t. let same = same_number j i t in
-            let here : None ≡ Some o = sym (get_or-set_same slots i None None l) ∙ subst (λ (k : ℕ). get_or (set slots i None) k None ≡ Some o) same at in
-            cc)
+          let here : None ≡ Some o = sym (get_or-set_same slots i None None l) ∙ subst (λ (k : ℕ). get_or (set slots i None) k None ≡ Some o) same at in
+          cc)
           (λ f. let differ = other_number j i f in
-            table.near j o (sym (get_or-set_other slots i j None None differ) ∙ at));
+          table.near j o (sym (get_or-set_other slots i j None None differ) ∙ at));
     }
 
 -- a number whose entry is removed has no other
@@ -120,7 +121,7 @@ pub table-inserts : {slots : List (Option Entry)} {limit reach : ℕ} (e : Entry
 table-inserts {slots} {limit} {reach} e home i is table below vacant from before new =
     let size = table.size in
     subst (λ (h : ℕ). IsTable (set slots i (Some e)) limit (max reach (i - h))) (sym is)
-      (table-inserted e i table (omega arith) vacant (omega arith) (omega arith) new)
+    (table-inserted e i table (omega arith) vacant (omega arith) (omega arith) new)
 
 pub changes-inserted : {slots : List (Option Entry)} {limit reach : ℕ} (e : Entry) (home i : ℕ) → IsTable slots limit reach → home < 2 * limit → get_or slots i None ≡ None → i < home + limit → key_in e.number slots ≡ None → ChangesKey (record { slots = slots; limit = limit }) (record { slots = set slots i (Some e); limit = limit }) e.number (Some e.key)
 changes-inserted {slots} {limit} e home i table below vacant before new =
@@ -137,6 +138,6 @@ changes-removed {slots} {limit} n i table l has =
       others = λ m ne. key_in-set_none m slots i (not_this m (get_or slots i None) has ne);
     }
   where
-  not_this : (m : ℕ) (slot : Option Entry) → has_number n slot ≡ true → m ≢ n → has_number m slot ≡ false
-  not_this m None h ne = refl
-  not_this m (Some e) h ne = let same = same_number e.number n h in grind (arith, nat_tests)
+    not_this : (m : ℕ) (slot : Option Entry) → has_number n slot ≡ true → m ≢ n → has_number m slot ≡ false
+    not_this m None h ne = refl
+    not_this m (Some e) h ne = let same = same_number e.number n h in grind (arith, nat_tests)

@@ -61,13 +61,13 @@ none-in_flight (Some op ∷ xs) h =
 nothing-pending : {f : Flight} {cs : List Channel} {ps : List slots.Pending} {o r r' : ℕ} {sh : Bool} {l : GroupLimits} → IsGroupKept f cs ps o sh l r r' → count_by is_open cs ≡ 0 → (i : ℕ) → is_pending (op_at f i) ≡ false
 nothing-pending {f} {cs} kept closed i = by_slot (op_at f i) refl
   where
-  by_slot : (slot : Option Operation) → op_at f i ≡ slot → is_pending (op_at f i) ≡ false
-  by_slot None is = rw is refl
-  by_slot (Some op) is =
-    by_test (stage_is_pending op.stage)
-    (λ t. let pending : is_pending_as op.chan.0 op.kind (op_at f i) ≡ true = rw (is, t, eqb-same op.chan.0, same_kind-refl op.kind) refl in
-      absurd (false≢true (sym (closed-at cs closed op.chan.0) ∙ kept.lawful.pending_open i op.chan.0 op.kind pending)))
-    (λ e. rw is e)
+    by_slot : (slot : Option Operation) → op_at f i ≡ slot → is_pending (op_at f i) ≡ false
+    by_slot None is = rw is refl
+    by_slot (Some op) is =
+        by_test (stage_is_pending op.stage)
+        (λ t. let pending : is_pending_as op.chan.0 op.kind (op_at f i) ≡ true = rw (is, t, eqb-same op.chan.0, same_kind-refl op.kind) refl in
+        absurd (false≢true (sym (closed-at cs closed op.chan.0) ∙ kept.lawful.pending_open i op.chan.0 op.kind pending)))
+        (λ e. rw is e)
 
 pub terminated-where_closed : {f : Flight} {cs : List Channel} {ps : List slots.Pending} {o r r' : ℕ} {l : GroupLimits} → IsGroupKept f cs ps o true l r r' → o ≡ 0 → eqb (in_flight f) 0 ≡ is_terminated (group_of f cs true l)
 terminated-where_closed {f} {cs} kept zero_open =
@@ -86,15 +86,15 @@ any-index p (x ∷ xs) h =
 pub has_pending-slot : (f : Flight) (ps : List slots.Pending) (c : ℕ) (kind : OpKind) → IsListed f ps → has_pending f c kind ≡ is_some (slot_of (get_or ps c nothing_pending) kind)
 has_pending-slot f ps c kind is_listed = by_slot (slot_of (get_or ps c nothing_pending) kind) refl
   where
-  by_slot : (slot : Option ℕ) → slot_of (get_or ps c nothing_pending) kind ≡ slot → has_pending f c kind ≡ is_some slot
-  by_slot (Some n) is =
-    let pending = is_listed.listed c kind n is in
-    list_any_at (is_pending_as c kind) f.operations n None (pending-within f.operations c kind n pending) pending
-  by_slot None is =
-    by_test (has_pending f c kind)
-    (λ t. let found = any-index (is_pending_as c kind) f.operations t in
-      absurd (none_some found.0 (sym is ∙ is_listed.all c kind found.0 found.1)))
-    (λ e. e)
+    by_slot : (slot : Option ℕ) → slot_of (get_or ps c nothing_pending) kind ≡ slot → has_pending f c kind ≡ is_some slot
+    by_slot (Some n) is =
+        let pending = is_listed.listed c kind n is in
+        list_any_at (is_pending_as c kind) f.operations n None (pending-within f.operations c kind n pending) pending
+    by_slot None is =
+        by_test (has_pending f c kind)
+        (λ t. let found = any-index (is_pending_as c kind) f.operations t in
+        absurd (none_some found.0 (sym is ∙ is_listed.all c kind found.0 found.1)))
+        (λ e. e)
 
 -- a start's refusal, from what is read of the channel and its slots
 pub start_refusal-read : {f : Flight} {cs : List Channel} {ps : List slots.Pending} {o r r' : ℕ} {sh : Bool} {l : GroupLimits} (c : ℕ) (kind : OpKind) (x : Channel) (p : slots.Pending) (pending : Bool) (refusal : Option StartError) → IsGroupKept f cs ps o sh l r r' → c < length cs → is_terminated (group_of f cs sh l) ≡ false → x ≡ get_or cs c x → p ≡ get_or ps c p → pending ≡ is_some (slot_of p kind) → refusal ≡ channel_refusal x.is_open x.endpoint pending kind → start_refusal (group_of f cs sh l) c kind ≡ option_or refusal (limit_refusal (group_of f cs sh l))

@@ -151,7 +151,7 @@ after_take g = record g { flight = flight_after_take g.flight g.flight.queue }
 -- `finish`: the handler of a running operation has ended, and with it the operation
 abbrev pub finish_refusal : Bool → Option NotRunning
 finish_refusal true = None
-finish_refusal false = Some (record { })
+finish_refusal false = Some (record {})
 
 abbrev pub answer_to_finish : Group → ℕ → Result Unit NotRunning
 answer_to_finish g n = unless_refused (finish_refusal (is_running (op_at g.flight n))) tt

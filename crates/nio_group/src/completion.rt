@@ -2,10 +2,9 @@
 //! makes them, each one once, and neither can be copied.
 ghost use Rattle.std.specs.Prelude.{◌≡◌};
 
+use crate::operation::{Finished, OpKind};
 use nio_base::{GChan, OpNo};
 use std::marker::Model;
-
-use crate::operation::{Finished, OpKind};
 
 /// A pending operation, for whoever does its work.
 #[derive(Debug, Drop)]

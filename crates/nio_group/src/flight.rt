@@ -5,13 +5,12 @@ ghost use Rattle.nio_group.specs.declared.operation.OpKind.{OpKind};
 ghost use Rattle.nio_group.specs.Pending.{slot_of};
 ghost use Rattle.nio_group.specs.Flight.{IsPendingAs, op_at, accepted, in_flight, no_flight, with_accepted, with_completed, flight_after_take, next_taken, with_ended, with_channel_closed};
 
-use std::alloc::{AllocError, Global};
-use std::collections::VecDeque;
-use std::marker::Model;
-
 use crate::operation::{Finished, Operation, Stage, Why};
 use crate::operations::Operations;
 use crate::pending::Pending;
+use std::alloc::{AllocError, Global};
+use std::collections::VecDeque;
+use std::marker::Model;
 
 /// The operations in flight and the numbers of those whose completions wait.
 #[derive(Drop)]

@@ -7,10 +7,6 @@ ghost use Rattle.nio_group.specs.Group.{empty_group, channel_at, is_terminated, 
 ghost use Rattle.nio_group.specs.Refusals.{start_refusal as refusal_of_start};
 ghost use Rattle.nio_group.specs.Steps.{answer_to_open, after_open, answer_to_bind, after_bind, answer_to_start, after_start, answer_to_report, after_report, answer_to_take, after_take, answer_to_finish, after_finish, after_close, after_shutdown, after_shutdown_now, IsJobOf, result_of as finished_as, first_stage as stage_at_start};
 
-use nio_base::{GChan, OpNo};
-use std::alloc::{AllocError, Global};
-use std::marker::Model;
-
 use crate::channel::{Channel, Endpoint, GKind, Link};
 use crate::completion::{Completion, Job};
 use crate::flight::{Flight, complete_all};
@@ -19,6 +15,9 @@ use crate::operation::{Finished, OpKind, Operation, Outcome, Stage, Why};
 use crate::pending::Pending;
 use crate::refusal::{NotRunning, ReportError, StartError};
 use crate::refuse;
+use nio_base::{GChan, OpNo};
+use std::alloc::{AllocError, Global};
+use std::marker::Model;
 
 /// An asynchronous channel group: its channels, its operations in flight, and the queue of their
 /// completions. It takes all its memory when it is made.
@@ -168,12 +167,7 @@ impl GroupCore {
     {
         let number = self.pending[chan.0 as usize].get(kind)?;
         let operation = self.flight.get(number)?;
-        Some(Job::make(
-            OpNo(number),
-            operation.chan,
-            operation.kind,
-            operation.len,
-        ))
+        Some(Job::make(OpNo(number), operation.chan, operation.kind, operation.len))
     }
 
     /// Takes what came of a pending operation, whose completion is queued.

@@ -3,12 +3,11 @@
 ghost use Rattle.std.specs.Prelude.{◌≡◌, ℕ, ◌+◌, ◌<◌, ◌≤◌, ◌^◌, ◌++◌, ◌∷◌, [], IfOk, Some, None, IsSome, is_some, count_by, length};
 ghost use Rattle.nio_group.specs.Operations.{operation_at, with_operation};
 
+use crate::index::Index;
+use crate::operation::Operation;
 use slab::Slab;
 use std::alloc::{AllocError, Global};
 use std::marker::Model;
-
-use crate::index::Index;
-use crate::operation::Operation;
 
 /// An operation in flight, with its number.
 #[derive(Clone, Copy, Debug)]

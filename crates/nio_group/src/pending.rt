@@ -57,7 +57,10 @@ impl Pending {
         ensures least { IfSome result (λ n. (kind : OpKind) (m : ℕ) → slot_of self kind ≡ Some m → n ≤ m) }
         ensures none { IfNone result ((kind : OpKind) → slot_of self kind ≡ None) }
     {
-        lesser(lesser(self.accept, self.connect), lesser(self.read, self.write))
+        lesser(
+            lesser(self.accept, self.connect),
+            lesser(self.read, self.write),
+        )
     }
 }
 

@@ -120,8 +120,11 @@ fn run(rt: &impl Abort, name: &str, group: &mut GroupCore, calls: &[(Call, Reply
 }
 
 const ACCEPT: OpKind = OpKind::Accept;
+
 const CONNECT: OpKind = OpKind::Connect;
+
 const READ: OpKind = OpKind::Read;
+
 const WRITE: OpKind = OpKind::Write;
 
 #[test]
@@ -133,7 +136,10 @@ fn runs_of_a_group(rt: HostRuntime) -> Result<(), Fail> {
         &mut group,
         &[
             (Call::Open(GKind::Stream), Reply::Opened(0)),
-            (Call::Start(0, READ, 10), Reply::Refused(StartError::NotYetConnected)),
+            (
+                Call::Start(0, READ, 10),
+                Reply::Refused(StartError::NotYetConnected),
+            ),
             (Call::Start(0, CONNECT, 0), Reply::Started(0)),
             (Call::Job(0, CONNECT), Reply::Working(0, 0)),
             (Call::Report(0, Outcome::Connected), Reply::Done),
@@ -141,18 +147,30 @@ fn runs_of_a_group(rt: HostRuntime) -> Result<(), Fail> {
             (Call::Take, Reply::Completed(0, Finished::Connected)),
             (Call::Finish(0), Reply::Done),
             (Call::Start(0, READ, 10), Reply::Started(1)),
-            (Call::Start(0, READ, 10), Reply::Refused(StartError::ReadPending)),
+            (
+                Call::Start(0, READ, 10),
+                Reply::Refused(StartError::ReadPending),
+            ),
             (Call::IsShutdown, Reply::Is(false)),
             (Call::ShutdownNow, Reply::Done),
             (Call::IsShutdown, Reply::Is(true)),
             (Call::IsTerminated, Reply::Is(false)),
-            (Call::Take, Reply::Completed(1, Finished::Failed(Why::AsynchronousClose))),
+            (
+                Call::Take,
+                Reply::Completed(1, Finished::Failed(Why::AsynchronousClose)),
+            ),
             (Call::IsTerminated, Reply::Is(false)),
             (Call::Finish(1), Reply::Done),
             (Call::IsTerminated, Reply::Is(true)),
-            (Call::Start(0, READ, 1), Reply::Refused(StartError::ShutdownGroup)),
+            (
+                Call::Start(0, READ, 1),
+                Reply::Refused(StartError::ShutdownGroup),
+            ),
             (Call::Take, Reply::Nothing),
-            (Call::Open(GKind::Stream), Reply::Refused(StartError::ShutdownGroup)),
+            (
+                Call::Open(GKind::Stream),
+                Reply::Refused(StartError::ShutdownGroup),
+            ),
         ],
     );
     let mut group = GroupCore::make(rt.alloc(), LIMITS)?;
@@ -162,15 +180,27 @@ fn runs_of_a_group(rt: HostRuntime) -> Result<(), Fail> {
         &mut group,
         &[
             (Call::Open(GKind::Listener), Reply::Opened(0)),
-            (Call::Start(0, ACCEPT, 0), Reply::Refused(StartError::NotYetBound)),
+            (
+                Call::Start(0, ACCEPT, 0),
+                Reply::Refused(StartError::NotYetBound),
+            ),
             (Call::Bind(0), Reply::Done),
             (Call::Bind(0), Reply::Refused(StartError::AlreadyBound)),
             (Call::Start(0, ACCEPT, 0), Reply::Started(0)),
-            (Call::Start(0, ACCEPT, 0), Reply::Refused(StartError::AcceptPending)),
+            (
+                Call::Start(0, ACCEPT, 0),
+                Reply::Refused(StartError::AcceptPending),
+            ),
             (Call::Shutdown, Reply::Done),
             (Call::Report(0, Outcome::Accepted), Reply::Done),
-            (Call::Take, Reply::Completed(0, Finished::Failed(Why::ShutdownGroup))),
-            (Call::Report(0, Outcome::Accepted), Reply::NotReported(ReportError::NotPending)),
+            (
+                Call::Take,
+                Reply::Completed(0, Finished::Failed(Why::ShutdownGroup)),
+            ),
+            (
+                Call::Report(0, Outcome::Accepted),
+                Reply::NotReported(ReportError::NotPending),
+            ),
         ],
     );
     let mut group = GroupCore::make(rt.alloc(), LIMITS)?;
@@ -180,21 +210,33 @@ fn runs_of_a_group(rt: HostRuntime) -> Result<(), Fail> {
         &mut group,
         &[
             (Call::Open(GKind::Listener), Reply::Opened(0)),
-            (Call::Start(0, ACCEPT, 0), Reply::Refused(StartError::NotYetBound)),
+            (
+                Call::Start(0, ACCEPT, 0),
+                Reply::Refused(StartError::NotYetBound),
+            ),
             (Call::Bind(0), Reply::Done),
             (Call::Start(0, ACCEPT, 0), Reply::Started(0)),
             (Call::Report(0, Outcome::Accepted), Reply::Done),
-            (Call::Take, Reply::Completed(0, Finished::Accepted(GChan(1)))),
+            (
+                Call::Take,
+                Reply::Completed(0, Finished::Accepted(GChan(1))),
+            ),
             (Call::Start(1, READ, 0), Reply::Started(1)),
             (Call::Take, Reply::Completed(1, Finished::Count(0))),
             (Call::Start(1, READ, 5), Reply::Started(2)),
-            (Call::Report(2, Outcome::Count(6)), Reply::NotReported(ReportError::WrongOutcome)),
+            (
+                Call::Report(2, Outcome::Count(6)),
+                Reply::NotReported(ReportError::WrongOutcome),
+            ),
             (Call::Report(2, Outcome::End), Reply::Done),
             (Call::Take, Reply::Completed(2, Finished::End)),
             (Call::Close(1), Reply::Is(true)),
             (Call::Close(1), Reply::Is(false)),
             (Call::Start(1, WRITE, 3), Reply::Started(3)),
-            (Call::Take, Reply::Completed(3, Finished::Failed(Why::ClosedChannel))),
+            (
+                Call::Take,
+                Reply::Completed(3, Finished::Failed(Why::ClosedChannel)),
+            ),
         ],
     );
     Ok(())
@@ -214,19 +256,34 @@ fn group_limits(rt: HostRuntime) -> Result<(), Fail> {
         &mut group,
         &[
             (Call::Open(GKind::Listener), Reply::Opened(0)),
-            (Call::Open(GKind::Listener), Reply::Refused(StartError::ChannelsSpent)),
+            (
+                Call::Open(GKind::Listener),
+                Reply::Refused(StartError::ChannelsSpent),
+            ),
             (Call::Bind(0), Reply::Done),
             (Call::Start(0, ACCEPT, 0), Reply::Started(0)),
             (Call::Report(0, Outcome::Accepted), Reply::Done),
-            (Call::Take, Reply::Completed(0, Finished::Failed(Why::ChannelsSpent))),
-            (Call::Start(0, ACCEPT, 0), Reply::Refused(StartError::FlightFull)),
+            (
+                Call::Take,
+                Reply::Completed(0, Finished::Failed(Why::ChannelsSpent)),
+            ),
+            (
+                Call::Start(0, ACCEPT, 0),
+                Reply::Refused(StartError::FlightFull),
+            ),
             (Call::Finish(0), Reply::Done),
             (Call::Finish(0), Reply::NotRunning),
             (Call::Start(0, ACCEPT, 0), Reply::Started(1)),
             (Call::Close(0), Reply::Is(true)),
-            (Call::Take, Reply::Completed(1, Finished::Failed(Why::AsynchronousClose))),
+            (
+                Call::Take,
+                Reply::Completed(1, Finished::Failed(Why::AsynchronousClose)),
+            ),
             (Call::Finish(1), Reply::Done),
-            (Call::Start(0, ACCEPT, 0), Reply::Refused(StartError::OpsSpent)),
+            (
+                Call::Start(0, ACCEPT, 0),
+                Reply::Refused(StartError::OpsSpent),
+            ),
         ],
     );
     Ok(())

@@ -13,7 +13,7 @@ invariant_of-self c =
     let i = c.self.inside in
     let room = rw (← c.self.view_is) at c.requires.room in
     let pushed = rw (queued-stage c.args.operation c.in-Queued.field-0 c.in-Queued.is) at
-      (kept-push i.operations i.queue.items i.queue.len i.queue.cap c.args.operation c.self.invariant room) in
+    (kept-push i.operations i.queue.items i.queue.len i.queue.cap c.args.operation c.self.invariant room) in
     let put = c.push_back_reserved.ensures in
     rw (c.accept-number.ensures.accepts, put.items, put.capacity, put.len, c.accept-number.ensures.number) pushed
 
@@ -22,5 +22,5 @@ invariant_of-self-in_default c =
     let i = c.self.inside in
     let room = rw (← c.self.view_is) at c.requires.room in
     let pushed = rw (not_queued-stage c.args.operation c.in_default.not-Queued, add-zero) at
-      (kept-push i.operations i.queue.items i.queue.len i.queue.cap c.args.operation c.self.invariant room) in
+    (kept-push i.operations i.queue.items i.queue.len i.queue.cap c.args.operation c.self.invariant room) in
     rw c.accept-number.ensures.accepts pushed

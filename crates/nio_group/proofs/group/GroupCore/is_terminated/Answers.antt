@@ -9,8 +9,8 @@ pub returns-then-self-eq0 : goal.returns-then-self-eq0
 returns-then-self-eq0 c =
     let i = c.self.inside in
     elim c.if-self.branch [
-      then-self w ↦
-        rw (c.in_flight.ensures, ← c.self.view_is)
-        (terminated-when {f = i.flight} {cs = i.channels.items} {ps = i.pending.items} {o = i.open} {r = i.channels.cap} {r' = i.pending.cap} {sh = i.shut} {l = i.limits} c.self.invariant w.if-self.true (same_number c.self.inside.open 0 (sym w.value-is ∙ c.if-self-eq0.true)))
-    | else-self w ↦ absurd (false≢true (sym w.if-self.false ∙ sym w.value-is ∙ c.if-self-eq0.true))
+      | then-self w ↦
+          rw (c.in_flight.ensures, ← c.self.view_is)
+          (terminated-when {f = i.flight} {cs = i.channels.items} {ps = i.pending.items} {o = i.open} {r = i.channels.cap} {r' = i.pending.cap} {sh = i.shut} {l = i.limits} c.self.invariant w.if-self.true (same_number c.self.inside.open 0 (sym w.value-is ∙ c.if-self-eq0.true)))
+      | else-self w ↦ absurd (false≢true (sym w.if-self.false ∙ sym w.value-is ∙ c.if-self-eq0.true))
     ]

@@ -75,10 +75,10 @@ invariant_of-self c =
     let read : c.index.result.now ≡ get_or i.pending.items c.in-Some.operation.chan.0 c.index.result.now = c.index.ensures in
     rw (c.complete.ensures, slot)
     (kept-connected c.args.op.0 c.in-Some.operation c.result_of-finished.result c.index.result.now (record { is_open = c.index-channel.result.now.is_open; endpoint = Stream Connected }) i.open c.self.invariant is facts.0 read
-      (connected-connect c.in-Some.operation.kind c.in-Some.operation.len (allowed_as c.in-Some.operation.kind c.in-Some.operation.len c.args.outcome outcome.Connected c.in-Connected.is facts.1)) (λ o e. cc)
-      (let made = pending-made c.args.op.0 c.in-Some.operation c.self.invariant is facts.0 in
-       let x_is : c.index-channel.result.now ≡ get_or i.channels.items c.in-Some.operation.chan.0 no_channel = get_or_read i.channels.items c.in-Some.operation.chan.0 c.index-channel.result.now made.0 c.index-channel.ensures no_channel in
-       ap {B = ℕ} (λ (b : Bool). i.open + cond b 1 0) (sym (ap (λ (y : Channel). y.is_open) x_is ∙ made.2))))
+    (connected-connect c.in-Some.operation.kind c.in-Some.operation.len (allowed_as c.in-Some.operation.kind c.in-Some.operation.len c.args.outcome outcome.Connected c.in-Connected.is facts.1)) (λ o e. cc)
+    (let made = pending-made c.args.op.0 c.in-Some.operation c.self.invariant is facts.0 in
+    let x_is : c.index-channel.result.now ≡ get_or i.channels.items c.in-Some.operation.chan.0 no_channel = get_or_read i.channels.items c.in-Some.operation.chan.0 c.index-channel.result.now made.0 c.index-channel.ensures no_channel in
+    ap {B = ℕ} (λ (b : Bool). i.open + cond b 1 0) (sym (ap (λ (y : Channel). y.is_open) x_is ∙ made.2))))
 
 pub invariant_of-self-in-Connect : goal.invariant_of-self-in-Connect
 invariant_of-self-in-Connect c =
@@ -89,8 +89,8 @@ invariant_of-self-in-Connect c =
     let read : c.index.result.now ≡ get_or i.pending.items c.in-Some.operation.chan.0 c.index.result.now = c.index.ensures in
     rw (c.complete.ensures, slot)
     (kept-connected c.args.op.0 c.in-Some.operation c.result_of-finished.result c.index.result.now (record { is_open = false; endpoint = c.index-channel.result.now.endpoint }) (i.open - 1) c.self.invariant is facts.0 read
-      c.in-Connect.is (λ o e. false≢true o)
-      (let some = some-open c.args.op.0 c.in-Some.operation c.self.invariant is facts.0 in omega (arith, some)))
+    c.in-Connect.is (λ o e. false≢true o)
+    (let some = some-open c.args.op.0 c.in-Some.operation c.self.invariant is facts.0 in omega (arith, some)))
 
 pub invariant_of-self-in-Fault : goal.invariant_of-self-in-Fault
 invariant_of-self-in-Fault c =
@@ -110,7 +110,7 @@ invariant_of-self-in-Accepted-finished c =
     let slot : c.with.result ≡ with_slot c.index.result.now c.in-Some.operation.kind None = c.with.ensures in
     let read : c.index.result.now ≡ get_or i.pending.items c.in-Some.operation.chan.0 c.index.result.now = c.index.ensures in
     let kept = (kept-completed c.args.op.0 c.in-Some.operation c.result_of-finished.result c.index.result.now c.self.invariant is facts.0 read
-      (accepted-accept c.in-Some.operation.kind c.in-Some.operation.len (allowed_as c.in-Some.operation.kind c.in-Some.operation.len c.args.outcome outcome.Accepted c.in-Accepted.is facts.1))) in
+    (accepted-accept c.in-Some.operation.kind c.in-Some.operation.len (allowed_as c.in-Some.operation.kind c.in-Some.operation.len c.args.outcome outcome.Accepted c.in-Accepted.is facts.1))) in
     let room = accepted-room (group_of i.flight i.channels.items i.shut i.limits) c.args.outcome c.in-Accepted-finished.field-0 c.self.invariant.lawful c.in-Accepted.is (rw (← c.self.view_is) at (sym c.result_of-finished.ensures ∙ c.in-Accepted-finished.is)) in
     let made = c.push_reserved.ensures in
     let also = c.push_reserved-in-Accepted-finished.ensures in
@@ -126,7 +126,7 @@ invariant_of-self-in-Accepted c =
     let read : c.index.result.now ≡ get_or i.pending.items c.in-Some.operation.chan.0 c.index.result.now = c.index.ensures in
     rw (c.complete.ensures, slot)
     (kept-completed c.args.op.0 c.in-Some.operation c.result_of-finished.result c.index.result.now c.self.invariant is facts.0 read
-      (accepted-accept c.in-Some.operation.kind c.in-Some.operation.len (allowed_as c.in-Some.operation.kind c.in-Some.operation.len c.args.outcome outcome.Accepted c.in-Accepted.is facts.1)))
+    (accepted-accept c.in-Some.operation.kind c.in-Some.operation.len (allowed_as c.in-Some.operation.kind c.in-Some.operation.len c.args.outcome outcome.Accepted c.in-Accepted.is facts.1)))
 
 pub invariant_of-self-in_default-outcome : goal.invariant_of-self-in_default-outcome
 invariant_of-self-in_default-outcome c =
@@ -137,4 +137,4 @@ invariant_of-self-in_default-outcome c =
     let read : c.index.result.now ≡ get_or i.pending.items c.in-Some.operation.chan.0 c.index.result.now = c.index.ensures in
     rw (c.complete.ensures, slot)
     (kept-completed c.args.op.0 c.in-Some.operation c.result_of-finished.result c.index.result.now c.self.invariant is facts.0 read
-      (other-outcome c.in-Some.operation.kind c.in-Some.operation.len c.args.outcome facts.1 c.in_default-outcome.not-Connected c.in_default-outcome.not-Fault))
+    (other-outcome c.in-Some.operation.kind c.in-Some.operation.len c.args.outcome facts.1 c.in_default-outcome.not-Connected c.in_default-outcome.not-Fault))

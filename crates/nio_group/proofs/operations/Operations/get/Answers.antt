@@ -14,10 +14,10 @@ pub returns-in_err-numbered : goal.returns-in_err-numbered
 returns-in_err-numbered c =
     rw (c.from_residual-in_err-numbered.ensures, ← c.self.view_is)
     (sym (kept-at c.args.number c.self.invariant ∙ ap (operation_in c.self.inside.slab) (sym c.in_ok-key.ensures)
-      ∙ ap (option_map (λ (x : Numbered). x.operation)) (sym c.in_err-numbered.ensures)))
+    ∙ ap (option_map (λ (x : Numbered). x.operation)) (sym c.in_err-numbered.ensures)))
 
 pub returns : goal.returns
 returns c =
     rw (← c.self.view_is)
     (sym (kept-at c.args.number c.self.invariant ∙ ap (operation_in c.self.inside.slab) (sym c.in_ok-key.ensures)
-      ∙ ap (option_map (λ (x : Numbered). x.operation)) (sym c.in_ok-numbered.ensures)))
+    ∙ ap (option_map (λ (x : Numbered). x.operation)) (sym c.in_ok-numbered.ensures)))
