@@ -1,21 +1,18 @@
 -- What takes, ends of operations and closings keep.
-use Rattle.std.proofs.Common.{◌≡◌, ◌≢◌, ℕ, ◌+◌, ◌-◌, ◌<◌, ◌≤◌, zero, suc, Bool, true, false, cond, eqb, not, ◌&&◌, List, [], ◌∷◌, ◌++◌, Option, Some, None, is_some, IsTrue, count_by, get_or, set, map, drop, length, refl, sym, ap, ◌∙◌, subst, arith, ◌⊎◌, inl, inr, get_or-set_same, get_or-set_other}
-use Rattle.std.specs.Option.{option_map}
+use Rattle.std.proofs.Common.{◌≡◌, ◌≢◌, ℕ, ◌+◌, ◌-◌, ◌<◌, ◌≤◌, zero, suc, Bool, true, false, cond, eqb, not, ◌&&◌, List, [], ◌∷◌, ◌++◌, Option, Some, None, is_some, count_by, get_or, set, map, length, refl, sym, ap, ◌∙◌, subst, arith, get_or-set_same, get_or-set_other}
 use Rattle.std.proofs.lemmas.Bool.{false≢true}
 use Rattle.std.proofs.lemmas.List.{length-set, length-map, get_or_read}
 use Rattle.std.proofs.lemmas.List.Sums.{sum_by-append}
 use Rattle.nio_group.specs.declared.channel.Channel.{Channel}
 use Rattle.nio_group.specs.declared.operation.OpKind.{OpKind}
-use Rattle.nio_group.specs.declared.operation.OpKind.TheVariants.{Accept, Connect, Read, Write}
-use Rattle.nio_group.specs.declared.operation.Finished.TheVariants.{Failed}
-use Rattle.nio_group.specs.declared.operation.Why.TheVariants.{AsynchronousClose}
+use Rattle.nio_group.specs.declared.operation.OpKind.TheVariants.{Connect}
 use Rattle.nio_group.specs.declared.operation.Stage.{Stage}
 use Rattle.nio_group.specs.declared.operation.Stage.TheVariants.{Pending, Queued, Running}
 use Rattle.nio_group.specs.declared.operation.Operation.{Operation}
 use Rattle.nio_group.specs.declared.limits.GroupLimits.{GroupLimits}
 use Rattle.nio_group.specs.declared.pending.Pending as slots
 use Rattle.nio_group.specs.Stages.{is_pending, is_pending_on, is_pending_as, is_queued, is_running, stage_is_pending, stage_is_queued, stage_is_running, at_stage}
-use Rattle.nio_group.specs.Flight.{Flight, op_at, accepted, in_flight, IsPendingAs, flight_after_take, with_taken, with_ended, closed_on, pending_from, with_channel_closed}
+use Rattle.nio_group.specs.Flight.{Flight, op_at, IsPendingAs, flight_after_take, with_taken, with_ended, closed_on, pending_from, with_channel_closed}
 use Rattle.nio_group.specs.Pending.{slot_of, nothing_pending}
 use Rattle.nio_group.specs.Group.{Group, IsLawful, channel_at, no_channel}
 use Rattle.nio_group.specs.GroupKept.{IsGroupKept, IsListed, group_of, is_open}
@@ -24,10 +21,10 @@ use Rattle.nio_group.proofs.TableLemmas.{by_test, same_number, other_number, cou
 use Rattle.nio_group.proofs.IndexLemmas.{count_by-cons}
 use Rattle.nio_group.proofs.ListLemmas.{eqb-same, eqb-other}
 use Rattle.nio_group.proofs.QueueLemmas.{QueueHolds, once_if, queue-set, queue-taken, front-queued}
-use Rattle.nio_group.proofs.PendingLemmas.{IsPendingOf, pending-parts, pending-as-pending, pending_as-on, not_pending-as, slot_of-nothing, and-left, and-right}
-use Rattle.nio_group.proofs.LawfulLemmas.{IsFlightLawful, IsFitFor, lawful-channel, lawful-operations}
+use Rattle.nio_group.proofs.PendingLemmas.{IsPendingOf, pending-parts, pending-as-pending, pending_as-on, slot_of-nothing, and-left}
+use Rattle.nio_group.proofs.LawfulLemmas.{IsFlightLawful, lawful-channel, lawful-operations}
 use Rattle.nio_group.proofs.GroupLemmas.{kept-channel, kept-operations}
-use Rattle.nio_group.proofs.CloseLemmas.{some-same, none_some, pending-after, pending-before}
+use Rattle.nio_group.proofs.CloseLemmas.{none_some, pending-after, pending-before}
 use Rattle.nio_group.proofs.FlightLemmas.{some-within, not_queued-running}
 use Rattle.nio_group.proofs.ReportLemmas.{flight-changes}
 

@@ -1,6 +1,5 @@
 -- What a group's calls keep of the operations in flight and their queue.
-use Rattle.std.proofs.Common.{◌≡◌, ◌≢◌, ℕ, ◌+◌, ◌<◌, ◌≤◌, zero, suc, Bool, true, false, cond, eqb, List, [], ◌∷◌, ◌++◌, Option, Some, None, is_some, count_by, get_or, set, length, refl, sym, ap, ◌∙◌, subst, arith}
-use Rattle.std.proofs.lemmas.List.{length_push, get_or_past, length-set}
+use Rattle.std.proofs.Common.{◌≡◌, ℕ, ◌+◌, ◌<◌, ◌≤◌, zero, suc, Bool, true, false, cond, List, [], ◌∷◌, ◌++◌, Option, Some, None, is_some, count_by, get_or, set, length, refl, sym, ap, ◌∙◌, arith}
 use Rattle.std.proofs.lemmas.List.Sums.{sum_by-le-sum_by}
 use Rattle.nio_group.specs.declared.operation.Operation.{Operation}
 use Rattle.std.proofs.lemmas.Bool.{false≢true}
@@ -10,7 +9,7 @@ use Rattle.nio_group.specs.declared.operation.Stage.TheVariants.{Pending, Queued
 use Rattle.nio_group.specs.Stages.{is_queued, is_pending, is_running, stage_is_queued, stage_is_pending, stage_is_running}
 use Rattle.nio_group.specs.Operations.{Accepted, with_operation}
 use Rattle.nio_group.specs.FlightKept.{IsFlightKept}
-use Rattle.nio_group.proofs.TableLemmas.{by_test, count_by-set}
+use Rattle.nio_group.proofs.TableLemmas.{count_by-set}
 use Rattle.nio_group.proofs.ListLemmas.{count_by-push}
 use Rattle.nio_group.proofs.QueueLemmas.{queued_after, queue-push, queue-set, queue-taken, front-queued}
 

@@ -1,26 +1,25 @@
 -- What a group's calls keep of its channels and of the slots of what is pending on them.
-use Rattle.std.proofs.Common.{◌≡◌, ◌≢◌, ℕ, ◌+◌, ◌<◌, ◌≤◌, zero, suc, Bool, true, false, cond, eqb, ◌&&◌, List, [], ◌∷◌, ◌++◌, Option, Some, None, is_some, IsTrue, count_by, get_or, set, length, refl, sym, ap, ◌∙◌, subst, arith, ◌⊎◌, inl, inr, get_or-set_same, get_or-set_other}
+use Rattle.std.proofs.Common.{◌≡◌, ◌≢◌, ℕ, ◌+◌, ◌<◌, Bool, true, cond, eqb, List, [], ◌∷◌, ◌++◌, Option, Some, None, get_or, set, length, refl, sym, ap, ◌∙◌, subst, arith, ◌⊎◌, inl, inr, get_or-set_same, get_or-set_other}
 use Rattle.std.proofs.lemmas.Bool.{false≢true, cases_lt}
 use Rattle.std.proofs.lemmas.List.{get_or_past, get_or_append_left, get_or_push, length-set, length_push}
 use Rattle.nio_group.specs.declared.channel.GKind.{GKind}
 use Rattle.nio_group.specs.declared.channel.GKind.TheVariants as gkind
 use Rattle.nio_group.specs.declared.channel.Channel.{Channel}
-use Rattle.nio_group.specs.declared.channel.Endpoint.TheVariants.{Stream, Listener}
-use Rattle.nio_group.specs.declared.channel.Link.TheVariants.{Unconnected, Connecting, Connected}
+use Rattle.nio_group.specs.declared.channel.Endpoint.TheVariants.{Stream}
+use Rattle.nio_group.specs.declared.channel.Link.TheVariants.{Connecting}
 use Rattle.nio_group.specs.declared.operation.OpKind.{OpKind}
 use Rattle.nio_group.specs.declared.operation.Operation.{Operation}
 use Rattle.nio_group.specs.declared.limits.GroupLimits.{GroupLimits}
 use Rattle.nio_group.specs.declared.pending.Pending as slots
-use Rattle.nio_group.specs.Stages.{is_pending, is_pending_as}
-use Rattle.nio_group.specs.Flight.{Flight, op_at, IsPendingAs}
+use Rattle.nio_group.specs.Stages.{is_pending_as}
+use Rattle.nio_group.specs.Flight.{Flight, IsPendingAs}
 use Rattle.nio_group.specs.Pending.{slot_of, with_slot, nothing_pending}
-use Rattle.nio_group.specs.Group.{Group, IsLawful, channel_at, no_channel, new_channel}
+use Rattle.nio_group.specs.Group.{IsLawful, no_channel, new_channel}
 use Rattle.nio_group.specs.GroupKept.{IsGroupKept, IsListed, group_of, is_open}
 use Rattle.nio_group.proofs.TableLemmas.{by_test, same_number, other_number, count_by-set}
-use Rattle.nio_group.proofs.ListLemmas.{get_or-set, get_or-push, count_by-push}
-use Rattle.nio_group.proofs.PendingLemmas.{kinds, pending-parts, not_pending-as, slot_of-with_same, slot_of-with_other}
-use Rattle.nio_group.proofs.CloseLemmas.{some-same, none_some, pending-after, pending-before}
-use Rattle.nio_group.proofs.FlightLemmas.{some-within}
+use Rattle.nio_group.proofs.ListLemmas.{get_or-push, count_by-push}
+use Rattle.nio_group.proofs.PendingLemmas.{kinds, pending-parts, slot_of-with_same, slot_of-with_other}
+use Rattle.nio_group.proofs.CloseLemmas.{some-same}
 use Rattle.nio_group.proofs.LawfulLemmas.{lawful-channel_made}
 
 -- a slot that is made has nothing pending

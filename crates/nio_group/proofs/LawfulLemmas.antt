@@ -1,17 +1,16 @@
 -- What keeps a group lawful.
-use Rattle.std.proofs.Common.{◌≡◌, ◌≢◌, ℕ, ◌+◌, ◌<◌, ◌≤◌, zero, suc, Bool, true, false, cond, eqb, List, [], ◌∷◌, ◌++◌, Option, Some, None, is_some, IsTrue, count_by, get_or, set, length, refl, sym, ap, ◌∙◌, subst, arith, ◌⊎◌, inl, inr, get_or-set_same, get_or-set_other}
+use Rattle.std.proofs.Common.{◌≡◌, ◌≢◌, ℕ, ◌<◌, ◌≤◌, true, eqb, List, [], ◌∷◌, ◌++◌, get_or, set, length, sym, ap, ◌∙◌, subst, arith, inl, inr, get_or-set_same, get_or-set_other}
 use Rattle.std.proofs.lemmas.Bool.{false≢true, cases_lt}
 use Rattle.std.proofs.lemmas.List.{get_or_past, get_or_append_left, length-set, length_push}
 use Rattle.nio_group.specs.declared.channel.Channel.{Channel}
-use Rattle.nio_group.specs.declared.channel.Endpoint.TheVariants.{Stream, Listener}
-use Rattle.nio_group.specs.declared.channel.Link.TheVariants.{Unconnected, Connecting, Connected}
+use Rattle.nio_group.specs.declared.channel.Endpoint.TheVariants.{Stream}
+use Rattle.nio_group.specs.declared.channel.Link.TheVariants.{Connecting}
 use Rattle.nio_group.specs.declared.operation.OpKind.{OpKind}
-use Rattle.nio_group.specs.declared.operation.OpKind.TheVariants.{Accept, Connect, Read, Write}
-use Rattle.nio_group.specs.Stages.{is_queued}
-use Rattle.nio_group.specs.Flight.{Flight, op_at, accepted, in_flight, IsPendingAs}
-use Rattle.nio_group.specs.Group.{Group, IsLawful, channel_at, no_channel, is_ready_for}
+use Rattle.nio_group.specs.declared.operation.OpKind.TheVariants.{Connect}
+use Rattle.nio_group.specs.Flight.{Flight, accepted, in_flight, IsPendingAs}
+use Rattle.nio_group.specs.Group.{Group, IsLawful, no_channel, is_ready_for}
 use Rattle.nio_group.proofs.TableLemmas.{by_test, same_number, other_number}
-use Rattle.nio_group.proofs.ListLemmas.{get_or-set, get_or-push}
+use Rattle.nio_group.proofs.ListLemmas.{get_or-push}
 use Rattle.nio_group.proofs.QueueLemmas.{QueueHolds}
 
 -- what a change of the operations keeps, whatever channel they stand on

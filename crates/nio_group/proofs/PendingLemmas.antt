@@ -1,16 +1,15 @@
 -- Pending operations, by their channels and kinds.
-use Rattle.std.proofs.Common.{◌≡◌, ◌≢◌, ℕ, ◌+◌, ◌<◌, ◌≤◌, zero, suc, Bool, true, false, cond, eqb, ◌&&◌, List, [], ◌∷◌, ◌++◌, Option, Some, None, is_some, IsTrue, get_or, set, length, refl, sym, ap, ◌∙◌, subst, arith, ◌⊎◌, inl, inr, get_or-set_same, get_or-set_other}
-use Rattle.std.specs.Option.{option_map}
-use Rattle.std.proofs.lemmas.Bool.{false≢true, and_parts}
+use Rattle.std.proofs.Common.{◌≡◌, ◌≢◌, ℕ, ◌+◌, Bool, true, false, eqb, ◌&&◌, Option, Some, None, refl, arith, ◌⊎◌, inl, inr}
+use Rattle.std.proofs.lemmas.Bool.{false≢true}
 use Rattle.nio_group.specs.declared.operation.OpKind.{OpKind}
 use Rattle.nio_group.specs.declared.operation.OpKind.TheVariants.{Accept, Connect, Read, Write}
 use Rattle.nio_group.specs.declared.operation.Stage.{Stage}
 use Rattle.nio_group.specs.declared.operation.Stage.TheVariants.{Pending, Queued, Running}
 use Rattle.nio_group.specs.declared.operation.Operation.{Operation}
 use Rattle.nio_group.specs.declared.pending.Pending as slots
-use Rattle.nio_group.specs.Stages.{same_kind, stage_is_pending, is_pending, is_pending_on, is_pending_as, is_queued, at_stage}
+use Rattle.nio_group.specs.Stages.{same_kind, stage_is_pending, is_pending, is_pending_on, is_pending_as}
 use Rattle.nio_group.specs.Pending.{slot_of, with_slot, nothing_pending}
-use Rattle.nio_group.proofs.TableLemmas.{by_test, same_number, other_number}
+use Rattle.nio_group.proofs.TableLemmas.{same_number}
 
 pub kinds : (a b : OpKind) → (a ≡ b) ⊎ (a ≢ b)
 kinds Accept Accept = inl refl

@@ -1,8 +1,7 @@
 -- What reports, takes and ends of operations keep.
-use Rattle.std.proofs.Common.{◌≡◌, ◌≢◌, ℕ, ◌+◌, ◌-◌, ◌<◌, ◌≤◌, zero, suc, Bool, true, false, cond, eqb, ◌&&◌, List, [], ◌∷◌, ◌++◌, Option, Some, None, is_some, IsTrue, count_by, get_or, set, drop, length, refl, sym, ap, ◌∙◌, subst, arith, ◌⊎◌, inl, inr, get_or-set_same, get_or-set_other}
-use Rattle.std.specs.Option.{option_map}
+use Rattle.std.proofs.Common.{◌≡◌, ◌≢◌, ℕ, ◌+◌, ◌<◌, ◌≤◌, Bool, true, false, cond, eqb, List, [], ◌∷◌, ◌++◌, Option, Some, None, is_some, get_or, set, length, refl, sym, ap, ◌∙◌, subst, arith, inl, inr, get_or-set_same, get_or-set_other}
 use Rattle.std.proofs.lemmas.Bool.{false≢true}
-use Rattle.std.proofs.lemmas.List.{length-set, set-get_or, get_or_read}
+use Rattle.std.proofs.lemmas.List.{length-set, get_or_read}
 use Rattle.nio_group.specs.declared.channel.Channel.{Channel}
 use Rattle.nio_group.specs.declared.channel.Endpoint.{Endpoint}
 use Rattle.nio_group.specs.declared.channel.Endpoint.TheVariants.{Stream, Listener}
@@ -14,8 +13,7 @@ use Rattle.nio_group.specs.declared.operation.Why.{Why}
 use Rattle.nio_group.specs.declared.operation.Finished.{Finished}
 use Rattle.nio_group.specs.declared.operation.Finished.TheVariants as done
 use Rattle.nio_group.specs.Steps.{result_of, no_number_left}
-use Rattle.nio_group.specs.declared.operation.Stage.{Stage}
-use Rattle.nio_group.specs.declared.operation.Stage.TheVariants.{Pending, Queued, Running}
+use Rattle.nio_group.specs.declared.operation.Stage.TheVariants.{Queued}
 use Rattle.nio_group.specs.declared.operation.Operation.{Operation}
 use Rattle.nio_group.specs.declared.limits.GroupLimits.{GroupLimits}
 use Rattle.nio_group.specs.declared.pending.Pending as slots
@@ -23,17 +21,17 @@ use Rattle.nio_group.specs.declared.operation.Outcome.{Outcome}
 use Rattle.nio_group.specs.declared.operation.Outcome.TheVariants as outcome
 use Rattle.nio_group.specs.Refusals.{report_refusal, is_allowed}
 use Rattle.nio_group.proofs.StartLemmas.{some_none}
-use Rattle.nio_group.specs.Stages.{is_pending, is_pending_as, is_queued, is_running, stage_is_pending, at_stage}
-use Rattle.nio_group.specs.Flight.{Flight, op_at, accepted, in_flight, IsPendingAs, with_completed, with_stage, flight_after_take, with_ended}
+use Rattle.nio_group.specs.Stages.{is_pending, is_pending_as, is_queued, stage_is_pending, at_stage}
+use Rattle.nio_group.specs.Flight.{Flight, op_at, accepted, in_flight, IsPendingAs, with_completed}
 use Rattle.nio_group.specs.Pending.{slot_of, with_slot, nothing_pending}
 use Rattle.nio_group.specs.Group.{Group, IsLawful, channel_at, no_channel, is_ready_for}
 use Rattle.nio_group.specs.GroupKept.{IsGroupKept, IsListed, group_of, is_open}
 use Rattle.nio_group.proofs.TableLemmas.{by_test, same_number, other_number, count_by-set}
 use Rattle.nio_group.proofs.ListLemmas.{eqb-same}
-use Rattle.nio_group.proofs.QueueLemmas.{QueueHolds, queue-set, queue-taken, front-queued}
-use Rattle.nio_group.proofs.PendingLemmas.{IsPendingOf, kinds, pending-parts, pending-as-pending, same_kind-refl, not_pending-as, slot_of-with_same, slot_of-with_other}
-use Rattle.nio_group.proofs.LawfulLemmas.{IsFlightLawful, IsFitFor, lawful-channel, lawful-operations, open-within}
-use Rattle.nio_group.proofs.GroupLemmas.{kept-channel, kept-operations}
+use Rattle.nio_group.proofs.QueueLemmas.{QueueHolds, queue-set}
+use Rattle.nio_group.proofs.PendingLemmas.{IsPendingOf, kinds, pending-parts, same_kind-refl, slot_of-with_same, slot_of-with_other}
+use Rattle.nio_group.proofs.LawfulLemmas.{IsFlightLawful, lawful-channel, lawful-operations, open-within}
+use Rattle.nio_group.proofs.GroupLemmas.{kept-channel}
 use Rattle.nio_group.proofs.CloseLemmas.{some-same, none_some, pending-after, pending-before}
 use Rattle.nio_group.proofs.FlightLemmas.{some-within, not_queued-pending}
 

@@ -1,22 +1,20 @@
 -- A terminated group is at rest, and each operation completes once.
-use Rattle.std.proofs.Common.{◌≡◌, ◌≢◌, ℕ, ◌+◌, ◌<◌, ◌≤◌, zero, suc, Bool, true, false, cond, eqb, ltb, not, ◌&&◌, ◌||◌, List, [], ◌∷◌, ◌++◌, Option, Some, None, is_some, length, get_or, refl, sym, ap, ◌∙◌, subst, arith, ◌⊎◌, inl, inr}
-use Rattle.std.specs.List.{list_any, list_all}
+use Rattle.std.proofs.Common.{◌≡◌, ℕ, ◌+◌, zero, suc, Bool, true, false, ltb, not, ◌&&◌, ◌||◌, List, [], ◌∷◌, Option, Some, None, length, refl, sym, ap, ◌∙◌, subst, arith}
+use Rattle.std.specs.List.{list_any}
 use Rattle.std.proofs.lemmas.Bool.{false≢true}
 use Rattle.std.proofs.lemmas.List.Folds.{list_any_at, list_all_at}
-use Rattle.nio_group.specs.declared.channel.Channel.{Channel}
 use Rattle.nio_group.specs.declared.channel.Endpoint.{Endpoint}
 use Rattle.nio_group.specs.declared.channel.Endpoint.TheVariants.{Stream, Listener}
-use Rattle.nio_group.specs.declared.operation.Outcome.{Outcome}
 use Rattle.nio_group.specs.declared.operation.Stage.{Stage}
 use Rattle.nio_group.specs.declared.operation.Stage.TheVariants.{Pending, Queued, Running}
 use Rattle.nio_group.specs.declared.operation.Operation.{Operation}
 use Rattle.nio_group.specs.declared.limits.GroupLimits.{GroupLimits}
-use Rattle.nio_group.specs.Stages.{is_pending, is_pending_as, is_queued, is_running, stage_is_pending, stage_is_queued, stage_is_running}
-use Rattle.nio_group.specs.Flight.{Flight, op_at, accepted, flight_after_take, with_channel_closed}
+use Rattle.nio_group.specs.Stages.{is_pending, is_pending_as, is_queued, is_running}
+use Rattle.nio_group.specs.Flight.{Flight, op_at, accepted, flight_after_take}
 use Rattle.nio_group.specs.Group.{Group, IsLawful, channel_at, no_channel, is_terminated, all_closed, none_to_handle, empty_group}
 use Rattle.nio_group.specs.Refusals.{open_refusal, bind_refusal, start_refusal, report_refusal}
-use Rattle.nio_group.specs.Steps.{kept_if_refused, started, reported, finish_refusal, after_close, after_report, after_take, after_shutdown, closed_below, with_closed}
-use Rattle.nio_group.specs.Run.{Call, open_channel, bind, start, report, take, finish, close_channel, shutdown, shutdown_now, IsCallOf, after, has_completed, was_taken, has_ended, TerminatedStays, IsRunOf, left_by, completions, once_where, CompletesOnce, IsAtRest, TerminatedIsAtRest}
+use Rattle.nio_group.specs.Steps.{kept_if_refused, started, reported, finish_refusal, after_close, after_shutdown, closed_below}
+use Rattle.nio_group.specs.Run.{Call, open_channel, bind, start, report, take, finish, close_channel, shutdown, shutdown_now, after, has_completed, was_taken, TerminatedStays, IsRunOf, left_by, completions, once_where, CompletesOnce, TerminatedIsAtRest}
 use Rattle.nio_group.proofs.TableLemmas.{by_test}
 use Rattle.nio_group.proofs.ListLemmas.{eqb-same}
 use Rattle.nio_group.proofs.QueueLemmas.{QueueHolds, front-queued}

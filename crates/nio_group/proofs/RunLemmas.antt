@@ -1,5 +1,5 @@
 -- Each call keeps a group lawful.
-use Rattle.std.proofs.Common.{◌≡◌, ◌≢◌, ℕ, ◌+◌, ◌<◌, ◌≤◌, zero, suc, Bool, true, false, cond, eqb, List, [], ◌∷◌, ◌++◌, Option, Some, None, is_some, length, get_or, set, refl, sym, ap, ◌∙◌, subst, arith, ◌⊎◌, inl, inr}
+use Rattle.std.proofs.Common.{◌≡◌, ◌≢◌, ℕ, ◌<◌, ◌≤◌, zero, suc, Bool, true, false, cond, eqb, List, [], ◌∷◌, ◌++◌, Option, Some, None, is_some, length, get_or, set, refl, sym, ap, ◌∙◌, subst, arith}
 use Rattle.std.proofs.lemmas.Bool.{false≢true}
 use Rattle.std.proofs.lemmas.List.{set-get_or, length-set}
 use Rattle.nio_base.specs.declared.numbers.GChan.{GChan}
@@ -7,29 +7,28 @@ use Rattle.nio_group.specs.declared.channel.GKind.{GKind}
 use Rattle.nio_group.specs.declared.channel.Channel.{Channel}
 use Rattle.nio_group.specs.declared.channel.Endpoint.{Endpoint}
 use Rattle.nio_group.specs.declared.channel.Endpoint.TheVariants.{Stream, Listener}
-use Rattle.nio_group.specs.declared.channel.Link.TheVariants.{Unconnected, Connecting, Connected}
+use Rattle.nio_group.specs.declared.channel.Link.TheVariants.{Connecting, Connected}
 use Rattle.nio_group.specs.declared.operation.OpKind.{OpKind}
 use Rattle.nio_group.specs.declared.operation.OpKind.TheVariants.{Accept, Connect, Read, Write}
 use Rattle.nio_group.specs.declared.operation.Outcome.{Outcome}
 use Rattle.nio_group.specs.declared.operation.Outcome.TheVariants as outcome
-use Rattle.nio_group.specs.declared.operation.Finished.{Finished}
 use Rattle.nio_group.specs.declared.operation.Stage.{Stage}
 use Rattle.nio_group.specs.declared.operation.Stage.TheVariants.{Pending, Queued, Running}
 use Rattle.nio_group.specs.declared.operation.Operation.{Operation}
 use Rattle.nio_group.specs.Stages.{is_pending, is_queued, is_running, at_stage}
-use Rattle.nio_group.specs.Flight.{Flight, op_at, accepted, in_flight, IsPendingAs, with_accepted, with_completed, with_ended, with_taken, flight_after_take, with_channel_closed}
+use Rattle.nio_group.specs.Flight.{Flight, op_at, IsPendingAs, with_accepted, with_ended, with_taken, flight_after_take, with_channel_closed}
 use Rattle.nio_group.specs.Group.{Group, IsLawful, channel_at, no_channel, is_ready_for, new_channel}
 use Rattle.nio_group.specs.Refusals.{open_refusal, bind_refusal, start_refusal, report_refusal, has_pending, is_allowed}
-use Rattle.nio_group.specs.Steps.{kept_if_refused, after_open, after_bind, after_start, channels_after_start, started, first_stage, after_report, reported, channels_after_report, result_of, no_number_left, after_take, after_finish, finish_refusal, after_close, after_shutdown, after_shutdown_now, closed_below, with_endpoint, with_closed, connected_stream}
-use Rattle.nio_group.specs.Run.{Call, Reply, open_channel, bind, start, report, take, finish, close_channel, shutdown, shutdown_now, IsCallOf, after, reply_to, IsOneStep, IsStep, StepsAreLawful}
-use Rattle.nio_group.proofs.TableLemmas.{by_test, same_number, other_number, count_by-set}
+use Rattle.nio_group.specs.Steps.{kept_if_refused, after_open, after_bind, after_start, channels_after_start, started, first_stage, after_report, reported, channels_after_report, result_of, no_number_left, after_take, after_finish, finish_refusal, after_close, after_shutdown, closed_below, with_endpoint, with_closed, connected_stream}
+use Rattle.nio_group.specs.Run.{Call, open_channel, bind, start, report, take, finish, close_channel, shutdown, shutdown_now, IsCallOf, after, reply_to, StepsAreLawful}
+use Rattle.nio_group.proofs.TableLemmas.{other_number, count_by-set}
 use Rattle.nio_group.proofs.QueueLemmas.{QueueHolds, queue-set, queue-taken, front-queued}
 use Rattle.nio_group.proofs.FlightLemmas.{some-within, not_queued-running}
-use Rattle.nio_group.proofs.LawfulLemmas.{IsFlightLawful, IsFitFor, lawful-channel, lawful-operations, lawful-channel_made, open-within}
+use Rattle.nio_group.proofs.LawfulLemmas.{IsFlightLawful, lawful-channel, lawful-channel_made, open-within}
 use Rattle.nio_group.proofs.GroupLemmas.{new-not_connecting}
-use Rattle.nio_group.proofs.StartLemmas.{startable, allowed, lawful-started, lawful-queued, pending-open, not_pending-stage, endpoint_after, cond-none, IsStartable}
+use Rattle.nio_group.proofs.StartLemmas.{startable, allowed, lawful-started, lawful-queued, endpoint_after, cond-none, IsStartable}
 use Rattle.nio_group.proofs.ReportLemmas.{flight-changes, completed_flight, completed-is, lawful-completed, lawful-connected, report-allowed, connected-connect, other-outcome, accepted-accept}
-use Rattle.nio_group.proofs.EndLemmas.{queued-not_pending, running-not_pending, lawful-closed, lawful-unpending, length-after_close}
+use Rattle.nio_group.proofs.EndLemmas.{queued-not_pending, running-not_pending, lawful-closed, lawful-unpending}
 
 -- a refused call keeps what holds, and one that isn't leads to it
 pub unless-refused : {E : Type 0} (P : Group → Type 0) (r : Option E) (old new : Group) → P old → (r ≡ None → P new) → P (kept_if_refused r old new)

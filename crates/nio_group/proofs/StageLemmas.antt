@@ -1,35 +1,23 @@
 -- Stages go forward, and a terminated group is at rest.
-use Rattle.std.proofs.Common.{◌≡◌, ◌≢◌, ℕ, ◌+◌, ◌<◌, ◌≤◌, zero, suc, Bool, true, false, cond, eqb, ltb, not, ◌&&◌, ◌||◌, List, [], ◌∷◌, ◌++◌, Option, Some, None, is_some, length, get_or, set, map, refl, sym, ap, ◌∙◌, subst, arith, ◌⊎◌, inl, inr, get_or-set_same, get_or-set_other}
+use Rattle.std.proofs.Common.{◌≡◌, ℕ, ◌<◌, ◌≤◌, zero, suc, Bool, true, false, eqb, ltb, not, ◌&&◌, List, [], ◌∷◌, ◌++◌, Option, Some, None, length, get_or, set, map, refl, sym, ◌∙◌, subst, arith, get_or-set_same, get_or-set_other}
 use Rattle.std.specs.Option.{option_map}
-use Rattle.std.specs.List.{list_any, list_all}
-use Rattle.std.proofs.lemmas.Bool.{false≢true, cases_lt}
+use Rattle.std.proofs.lemmas.Bool.{false≢true}
 use Rattle.std.proofs.lemmas.Bool.Decides.{nat_tests}
-use Rattle.std.proofs.lemmas.List.{get_or_append_left, get_or_past, length_push, length-set, length-map}
-use Rattle.std.proofs.lemmas.List.Folds.{list_any_at, list_all_at}
-use Rattle.nio_base.specs.declared.numbers.GChan.{GChan}
-use Rattle.nio_group.specs.declared.channel.GKind.{GKind}
-use Rattle.nio_group.specs.declared.channel.Channel.{Channel}
-use Rattle.nio_group.specs.declared.channel.Endpoint.{Endpoint}
-use Rattle.nio_group.specs.declared.channel.Endpoint.TheVariants.{Stream, Listener}
-use Rattle.nio_group.specs.declared.operation.OpKind.{OpKind}
-use Rattle.nio_group.specs.declared.operation.OpKind.TheVariants.{Accept, Connect, Read, Write}
+use Rattle.std.proofs.lemmas.List.{get_or_append_left, length_push, length-set, length-map}
 use Rattle.nio_group.specs.declared.operation.Outcome.{Outcome}
-use Rattle.nio_group.specs.declared.operation.Outcome.TheVariants as outcome
 use Rattle.nio_group.specs.declared.operation.Stage.{Stage}
-use Rattle.nio_group.specs.declared.operation.Stage.TheVariants.{Pending, Queued, Running}
+use Rattle.nio_group.specs.declared.operation.Stage.TheVariants.{Queued, Running}
 use Rattle.nio_group.specs.declared.operation.Operation.{Operation}
-use Rattle.nio_group.specs.declared.limits.GroupLimits.{GroupLimits}
-use Rattle.nio_group.specs.Stages.{is_pending, is_pending_on, is_pending_as, is_queued, is_running, stage_is_pending, stage_is_queued, stage_is_running, at_stage}
-use Rattle.nio_group.specs.Flight.{Flight, op_at, accepted, with_accepted, with_completed, with_ended, with_taken, flight_after_take, with_channel_closed, closed_on}
-use Rattle.nio_group.specs.Group.{Group, IsLawful, channel_at, no_channel, is_terminated, all_closed, none_to_handle, empty_group}
+use Rattle.nio_group.specs.Stages.{is_pending, is_pending_on, is_queued, is_running, stage_is_pending, at_stage}
+use Rattle.nio_group.specs.Flight.{Flight, op_at, accepted, with_accepted, flight_after_take, with_channel_closed, closed_on}
+use Rattle.nio_group.specs.Group.{Group, IsLawful, channel_at}
 use Rattle.nio_group.specs.Refusals.{open_refusal, bind_refusal, start_refusal, report_refusal}
-use Rattle.nio_group.specs.Steps.{kept_if_refused, after_open, after_bind, after_start, channels_after_start, started, after_report, reported, channels_after_report, result_of, no_number_left, after_take, after_finish, finish_refusal, after_close, after_shutdown, after_shutdown_now, closed_below, with_closed}
-use Rattle.nio_group.specs.Run.{Call, open_channel, bind, start, report, take, finish, close_channel, shutdown, shutdown_now, IsCallOf, after, has_completed, was_taken, has_ended, IsForward, StagesGoForward, TerminatedStays, IsRunOf, left_by, completions, once_where, CompletesOnce, IsAtRest, TerminatedIsAtRest}
+use Rattle.nio_group.specs.Steps.{kept_if_refused, started, after_report, reported, result_of, after_take, finish_refusal, after_close, after_shutdown, closed_below, with_closed}
+use Rattle.nio_group.specs.Run.{Call, open_channel, bind, start, report, take, finish, close_channel, shutdown, shutdown_now, after, has_completed, was_taken, IsForward, StagesGoForward}
 use Rattle.nio_group.proofs.TableLemmas.{by_test, same_number, other_number}
-use Rattle.nio_group.proofs.ListLemmas.{eqb-same, get_or-set}
 use Rattle.nio_group.proofs.QueueLemmas.{QueueHolds, front-queued}
-use Rattle.nio_group.proofs.PendingLemmas.{and-left, and-right, same_kind-refl}
-use Rattle.nio_group.proofs.RunLemmas.{unless-refused, cond-holds, lawful-after}
+use Rattle.nio_group.proofs.PendingLemmas.{and-left, and-right}
+use Rattle.nio_group.proofs.RunLemmas.{unless-refused, cond-holds}
 
 -- a slot that has come no less far than another
 pub record IsMoved (slot slot' : Option Operation) : Type 0 where

@@ -1,8 +1,7 @@
 -- What a start that isn't refused keeps.
-use Rattle.std.proofs.Common.{◌≡◌, ◌≢◌, ℕ, ◌+◌, ◌^◌, ◌<◌, ◌≤◌, zero, suc, Bool, true, false, cond, eqb, ◌&&◌, List, [], ◌∷◌, ◌++◌, Option, Some, None, is_some, IsTrue, count_by, get_or, set, length, refl, sym, ap, ◌∙◌, subst, arith, ◌⊎◌, inl, inr, get_or-set_same, get_or-set_other}
+use Rattle.std.proofs.Common.{◌≡◌, ◌≢◌, ℕ, ◌^◌, ◌<◌, ◌≤◌, Bool, true, false, cond, eqb, List, [], ◌∷◌, ◌++◌, Option, Some, None, is_some, get_or, set, length, refl, sym, ap, ◌∙◌, subst, arith, inl, inr}
 use Rattle.std.specs.Option.{option_or}
-use Rattle.std.specs.List.{list_any}
-use Rattle.std.proofs.lemmas.Bool.{false≢true, cases_lt}
+use Rattle.std.proofs.lemmas.Bool.{false≢true}
 use Rattle.std.proofs.lemmas.List.{length_push, set-get_or, get_or_push, get_or_read}
 use Rattle.std.proofs.lemmas.List.Folds.{list_any_at}
 use Rattle.nio_group.specs.declared.channel.Channel.{Channel}
@@ -14,21 +13,20 @@ use Rattle.nio_group.specs.declared.operation.OpKind.TheVariants.{Accept, Connec
 use Rattle.nio_group.specs.declared.operation.Stage.{Stage}
 use Rattle.nio_group.specs.declared.operation.Stage.TheVariants.{Pending, Queued, Running}
 use Rattle.nio_group.specs.declared.operation.Operation.{Operation}
-use Rattle.nio_group.specs.declared.refusal.StartError.{StartError}
 use Rattle.nio_group.specs.declared.limits.GroupLimits.{GroupLimits}
 use Rattle.nio_group.specs.declared.pending.Pending as slots
-use Rattle.nio_group.specs.Pending.{slot_of, with_slot, nothing_pending}
+use Rattle.nio_group.specs.Pending.{with_slot, nothing_pending}
 use Rattle.nio_group.specs.GroupKept.{IsGroupKept, IsListed, group_of}
-use Rattle.nio_group.specs.Stages.{is_pending, is_pending_as, is_queued, stage_is_pending, stage_is_queued}
-use Rattle.nio_group.specs.Flight.{Flight, op_at, accepted, in_flight, IsPendingAs, with_accepted}
+use Rattle.nio_group.specs.Stages.{is_pending, is_pending_as, stage_is_pending}
+use Rattle.nio_group.specs.Flight.{Flight, accepted, in_flight, IsPendingAs, with_accepted}
 use Rattle.nio_group.specs.Group.{Group, IsLawful, channel_at, no_channel, is_ready_for, is_terminated}
-use Rattle.nio_group.specs.Refusals.{channel_refusal, limit_refusal, start_refusal, has_pending, kind_refusal}
-use Rattle.nio_group.specs.Steps.{first_stage, started, channels_after_start, with_endpoint}
-use Rattle.nio_group.proofs.TableLemmas.{by_test, same_number, other_number}
+use Rattle.nio_group.specs.Refusals.{channel_refusal, limit_refusal, start_refusal, has_pending}
+use Rattle.nio_group.specs.Steps.{first_stage}
+use Rattle.nio_group.proofs.TableLemmas.{other_number}
 use Rattle.nio_group.proofs.ListLemmas.{count_by-push, eqb-same}
 use Rattle.nio_group.proofs.QueueLemmas.{QueueHolds, queue-push}
 use Rattle.nio_group.proofs.PendingLemmas.{pending-parts, same_kind-refl, not_pending-as}
-use Rattle.nio_group.proofs.LawfulLemmas.{IsFlightLawful, IsFitFor, lawful-channel, lawful-operations}
+use Rattle.nio_group.proofs.LawfulLemmas.{IsFlightLawful, lawful-channel, lawful-operations}
 use Rattle.nio_group.proofs.GroupLemmas.{pending-pushed, pending-still, pending-within, kept-channel, kept-operations, listed-started}
 
 pub some_none : {T : Type 0} (x : T) → Some x ≡ None → ⊥

@@ -1,12 +1,11 @@
 -- A table of entries under look-ups, insertions and removals.
-use Rattle.std.proofs.Common.{◌≡◌, ◌≢◌, ℕ, ◌+◌, ◌-◌, ◌*◌, ◌<◌, ◌≤◌, max, zero, suc, Bool, true, false, cond, eqb, List, [], ◌∷◌, Option, Some, None, is_some, count_by, get_or, set, length, replicate, refl, sym, ap, ◌∙◌, subst, arith, rules, ◌⊎◌, inl, inr, ⊎_elim, get_or-set_same, get_or-set_other}
-use Rattle.std.proofs.lemmas.Grind.{common_steps}
+use Rattle.std.proofs.Common.{◌≡◌, ◌≢◌, ℕ, ◌+◌, ◌-◌, ◌*◌, ◌<◌, ◌≤◌, max, Bool, true, false, cond, eqb, List, Option, Some, None, count_by, get_or, set, length, refl, sym, ◌∙◌, subst, arith, get_or-set_same, get_or-set_other}
 use Rattle.std.proofs.lemmas.Bool.Decides.{nat_tests}
-use Rattle.std.proofs.lemmas.List.{get_or_past, get_or_read, length-set}
+use Rattle.std.proofs.lemmas.List.{get_or_read, length-set}
 use Rattle.std.proofs.lemmas.List.Sums.{sum_by-set}
 use Rattle.nio_group.specs.declared.index.Entry.{Entry}
-use Rattle.nio_group.specs.Index.{has_number, key_in, home_of, IsOnce, IsNear, IsTable, Index, ChangesKey}
-use Rattle.nio_group.proofs.IndexLemmas.{none_has_number, key_in_found, has_number-counted, absent-key_in, key_in-absent, key_in-set_none, key_in-set_other, key_in-set_same}
+use Rattle.nio_group.specs.Index.{has_number, key_in, home_of, IsNear, IsTable, ChangesKey}
+use Rattle.nio_group.proofs.IndexLemmas.{none_has_number, key_in_found, absent-key_in, key_in-absent, key_in-set_none, key_in-set_other, key_in-set_same}
 
 pub by_test : (b : Bool) {P : Type 0} → (b ≡ true → P) → (b ≡ false → P) → P
 by_test true f g = f refl

@@ -1,5 +1,5 @@
 -- When a group has terminated, and what is pending, as the code finds them.
-use Rattle.std.proofs.Common.{◌≡◌, ◌≢◌, ℕ, ◌+◌, ◌<◌, ◌≤◌, zero, suc, Bool, true, false, cond, eqb, not, ◌&&◌, ◌||◌, List, [], ◌∷◌, ◌++◌, Option, Some, None, is_some, IsTrue, count_by, get_or, set, length, refl, sym, ap, ◌∙◌, subst, arith}
+use Rattle.std.proofs.Common.{◌≡◌, ◌≢◌, ℕ, ◌<◌, zero, suc, Bool, true, false, cond, eqb, not, ◌||◌, List, [], ◌∷◌, Option, Some, None, is_some, count_by, get_or, length, refl, sym, ap, ◌∙◌, subst, arith}
 use Rattle.std.specs.Option.{option_or}
 use Rattle.std.specs.List.{list_any, list_all}
 use Rattle.std.proofs.lemmas.Bool.{false≢true}
@@ -15,9 +15,9 @@ use Rattle.nio_group.specs.declared.refusal.StartError.TheVariants as refused
 use Rattle.nio_group.specs.declared.limits.GroupLimits.{GroupLimits}
 use Rattle.nio_group.specs.declared.pending.Pending as slots
 use Rattle.nio_group.specs.Stages.{is_pending, is_pending_as, is_queued, is_running, stage_is_pending, stage_is_queued, stage_is_running}
-use Rattle.nio_group.specs.Flight.{Flight, op_at, IsPendingAs, in_flight, accepted}
+use Rattle.nio_group.specs.Flight.{Flight, op_at, in_flight, accepted}
 use Rattle.nio_group.specs.Pending.{slot_of, nothing_pending}
-use Rattle.nio_group.specs.Group.{Group, no_channel, is_terminated, all_closed, none_to_handle}
+use Rattle.nio_group.specs.Group.{Group, no_channel, is_terminated}
 use Rattle.nio_group.specs.GroupKept.{IsGroupKept, IsListed, group_of, is_open}
 use Rattle.nio_group.specs.Refusals.{has_pending, channel_refusal, start_refusal, limit_refusal}
 use Rattle.nio_group.proofs.TableLemmas.{by_test}

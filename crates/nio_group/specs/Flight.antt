@@ -1,15 +1,15 @@
 -- The operations that a group has accepted, the queue of its completions, and what its calls make
 -- of them.
-use Rattle.std.specs.Prelude.{◌≡◌, ◌≢◌, ℕ, ◌+◌, ◌≤◌, Bool, true, if◌then◌else◌, ◌==◌, List, [], ◌∷◌, ◌++◌, length, Option, Some, None, is_some, count_by, map, drop, slice_index_or, slice_set, IsTrue}
+use Rattle.std.specs.Prelude.{ℕ, ◌+◌, if◌then◌else◌, ◌==◌, List, [], ◌∷◌, ◌++◌, length, Option, Some, None, is_some, count_by, map, drop, slice_index_or, slice_set, IsTrue}
 use Rattle.std.specs.Option.{option_map}
 use Rattle.nio_group.specs.declared.operation.OpKind.{OpKind}
 use Rattle.nio_group.specs.declared.operation.Finished.{Finished}
 use Rattle.nio_group.specs.declared.operation.Finished.TheVariants.{Failed}
 use Rattle.nio_group.specs.declared.operation.Why.TheVariants.{AsynchronousClose}
 use Rattle.nio_group.specs.declared.operation.Stage.{Stage}
-use Rattle.nio_group.specs.declared.operation.Stage.TheVariants.{Pending, Queued, Running}
+use Rattle.nio_group.specs.declared.operation.Stage.TheVariants.{Queued, Running}
 use Rattle.nio_group.specs.declared.operation.Operation.{Operation}
-use Rattle.nio_group.specs.Stages.{is_pending_on, is_pending_as, is_queued, stage_is_queued, at_stage}
+use Rattle.nio_group.specs.Stages.{is_pending_on, is_pending_as, stage_is_queued, at_stage}
 
 -- each accepted operation by its number, where one that has ended is `None`; the numbers of those
 -- whose completions wait, the first to be taken first; and how many may be in flight

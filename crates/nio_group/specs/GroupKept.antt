@@ -1,5 +1,5 @@
 -- How a group is kept.
-use Rattle.std.specs.Prelude.{◌≡◌, ℕ, ◌≤◌, Bool, List, length, Option, Some, count_by, slice_index_or}
+use Rattle.std.specs.Prelude.{◌≡◌, ℕ, ◌≤◌, Bool, List, length, Some, count_by, slice_index_or}
 use Rattle.nio_group.specs.declared.channel.Channel.{Channel}
 use Rattle.nio_group.specs.declared.operation.OpKind.{OpKind}
 use Rattle.nio_group.specs.declared.limits.GroupLimits.{GroupLimits}

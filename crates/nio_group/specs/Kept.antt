@@ -1,6 +1,6 @@
 -- How the operations in flight are kept in a slab.
-use Rattle.std.specs.Prelude.{◌≡◌, ◌≢◌, ℕ, ◌+◌, ◌<◌, ◌≤◌, ◌^◌, List, Option, Some, None, is_some, count_by, map, IsSomeAnd}
-use Rattle.std.specs.Option.{option_map, option_and_then}
+use Rattle.std.specs.Prelude.{◌≡◌, ℕ, ◌≤◌, ◌^◌, List, Option, Some, None, is_some, count_by, map, IsSomeAnd}
+use Rattle.std.specs.Option.{option_map}
 use Rattle.std.specs.List.{range_with_len}
 use Rattle.slab.specs.Slab.{Slab, get, slab_len}
 use Rattle.nio_group.specs.declared.operation.Operation.{Operation}

@@ -1,6 +1,6 @@
 -- What a group keeps of its operations: those in flight, in a slab, with an index from their
 -- numbers to their keys there.
-use Rattle.std.specs.Prelude.{ℕ, List, [], ◌∷◌, ◌++◌, length, Option, Some, None, slice_set, slice_index_or}
+use Rattle.std.specs.Prelude.{ℕ, List, Option, None, slice_set, slice_index_or}
 use Rattle.nio_group.specs.declared.operation.Operation.{Operation}
 
 -- each accepted operation by its number, where one that has ended is `None`, and how many may be in

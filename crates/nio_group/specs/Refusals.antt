@@ -1,8 +1,7 @@
 -- Which calls of a group are refused, and why: the first cause in the order that stands here.
-use Rattle.std.specs.Prelude.{ℕ, ◌≤◌, Bool, true, false, if◌then◌else◌, not, ◌&&◌, ◌==◌, nat_le, List, length, Option, Some, None}
+use Rattle.std.specs.Prelude.{ℕ, Bool, true, false, if◌then◌else◌, ◌&&◌, ◌==◌, nat_le, length, Option, Some, None}
 use Rattle.std.specs.Option.{option_or}
 use Rattle.std.specs.List.{list_any}
-use Rattle.nio_group.specs.declared.channel.Channel.{Channel}
 use Rattle.nio_group.specs.declared.channel.Endpoint.{Endpoint}
 use Rattle.nio_group.specs.declared.channel.Endpoint.TheVariants.{Stream, Listener}
 use Rattle.nio_group.specs.declared.channel.Link.{Link}
@@ -17,7 +16,7 @@ use Rattle.nio_group.specs.declared.refusal.StartError.TheVariants as refused
 use Rattle.nio_group.specs.declared.refusal.ReportError.{ReportError}
 use Rattle.nio_group.specs.declared.refusal.ReportError.TheVariants as unreported
 use Rattle.nio_group.specs.Stages.{is_pending_as, stage_is_pending}
-use Rattle.nio_group.specs.Flight.{Flight, op_at, accepted, in_flight}
+use Rattle.nio_group.specs.Flight.{Flight, accepted, in_flight}
 use Rattle.nio_group.specs.Group.{Group, channel_at, is_terminated}
 
 -- a new channel is refused after shutdown, and where as many were made as may be

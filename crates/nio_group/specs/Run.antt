@@ -1,19 +1,16 @@
 -- The calls that change a group, one group step for each, runs of them, and their laws.
-use Rattle.std.specs.Prelude.{◌≡◌, ℕ, ◌+◌, ◌<◌, ◌≤◌, Bool, true, false, if◌then◌else◌, not, ◌&&◌, List, [], ◌∷◌, length, Option, Some, None, Result, IsTrue, ◌⊎◌, nat_lt}
+use Rattle.std.specs.Prelude.{◌≡◌, ℕ, ◌+◌, ◌<◌, ◌≤◌, Bool, if◌then◌else◌, not, ◌&&◌, List, [], ◌∷◌, length, Option, Result, IsTrue, nat_lt}
 use Rattle.nio_base.specs.declared.numbers.OpNo.{OpNo}
 use Rattle.nio_base.specs.declared.numbers.GChan.{GChan}
 use Rattle.nio_group.specs.declared.channel.GKind.{GKind}
 use Rattle.nio_group.specs.declared.operation.OpKind.{OpKind}
 use Rattle.nio_group.specs.declared.operation.Outcome.{Outcome}
-use Rattle.nio_group.specs.declared.operation.Finished.{Finished}
-use Rattle.nio_group.specs.declared.operation.Stage.TheVariants.{Pending, Queued, Running}
-use Rattle.nio_group.specs.declared.operation.Operation.{Operation}
 use Rattle.nio_group.specs.declared.refusal.StartError.{StartError}
 use Rattle.nio_group.specs.declared.refusal.ReportError.{ReportError}
 use Rattle.nio_group.specs.declared.refusal.NotRunning.{NotRunning}
 use Rattle.nio_group.specs.declared.limits.GroupLimits.{GroupLimits}
 use Rattle.nio_group.specs.Completion.{CompletionFields}
-use Rattle.nio_group.specs.Stages.{at_stage, is_pending, is_queued, is_running}
+use Rattle.nio_group.specs.Stages.{is_pending, is_queued, is_running}
 use Rattle.nio_group.specs.Flight.{op_at, accepted}
 use Rattle.nio_group.specs.Group.{Group, IsLawful, is_terminated, channel_at, empty_group}
 use Rattle.nio_group.specs.Steps.{answer_to_open, after_open, answer_to_bind, after_bind, answer_to_start, after_start, answer_to_report, after_report, answer_to_take, after_take, answer_to_finish, after_finish, after_close, after_shutdown, after_shutdown_now}

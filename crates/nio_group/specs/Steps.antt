@@ -1,6 +1,6 @@
 -- What each call of a group answers, and the state that it leaves. A refused call leaves the group
 -- as it was.
-use Rattle.std.specs.Prelude.{◌≡◌, ℕ, ◌+◌, Bool, true, false, if◌then◌else◌, ◌&&◌, ◌==◌, not, List, [], ◌∷◌, ◌++◌, length, Option, Some, None, Result, Ok, Err, slice_index_or, slice_set, suc, zero}
+use Rattle.std.specs.Prelude.{◌≡◌, ℕ, Bool, true, false, if◌then◌else◌, ◌==◌, List, [], ◌∷◌, ◌++◌, length, Option, Some, None, Result, Ok, Err, slice_set, suc, zero}
 use Rattle.nio_base.specs.declared.numbers.OpNo.{OpNo}
 use Rattle.nio_base.specs.declared.numbers.GChan.{GChan}
 use Rattle.nio_group.specs.declared.channel.GKind.{GKind}

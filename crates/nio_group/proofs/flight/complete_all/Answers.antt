@@ -1,7 +1,4 @@
-use Rattle.std.proofs.Common.{◌≡◌, ◌<◌, ℕ, sym, ap, ◌∙◌, subst, arith, Option, Some, None}
-use Rattle.nio_group.specs.declared.operation.Operation.{Operation}
-use Rattle.nio_group.specs.declared.pending.Pending.{Pending}
-use Rattle.nio_group.specs.Flight.{with_channel_closed}
+use Rattle.std.proofs.Common.{◌<◌, sym, ◌∙◌, arith}
 use Rattle.nio_group.proofs.PendingLemmas.{filled_slots}
 use Rattle.nio_group.proofs.CloseLemmas.{closing-step, closed-nothing, nothing-pending_on, listed-some}
 use Rattle.nio_group.proofs.flight.complete_all.Goals as goal

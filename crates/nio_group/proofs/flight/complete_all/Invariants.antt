@@ -1,4 +1,4 @@
-use Rattle.std.proofs.Common.{◌≡◌, ℕ}
+use Rattle.std.proofs.Common.{◌≡◌}
 use Rattle.nio_group.specs.Flight.{with_channel_closed}
 use Rattle.nio_group.proofs.PendingLemmas.{filled_slots}
 use Rattle.nio_group.proofs.CloseLemmas.{IsListedOn}

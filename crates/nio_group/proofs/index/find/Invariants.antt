@@ -1,4 +1,4 @@
-use Rattle.std.proofs.Common.{◌≡◌, ℕ, ◌+◌, ◌<◌, ◌≤◌, None, false, slice_index_or}
+use Rattle.std.proofs.Common.{◌≡◌, ℕ, ◌<◌, ◌≤◌, None, false, slice_index_or}
 use Rattle.nio_group.specs.Index.{has_number}
 use Rattle.nio_group.proofs.index.find.Given as goal
 

@@ -1,5 +1,5 @@
 use Rattle.nio_group.proofs.FlightLemmas.{kept-push, queued-in_flight, queued-stage, not_queued-stage}
-use Rattle.std.proofs.Common.{◌≡◌, sym, ap, ◌∙◌, subst, arith, deque_len, add-zero}
+use Rattle.std.proofs.Common.{arith, add-zero}
 use Rattle.nio_group.proofs.flight.Flight.accept.Goals as goal
 
 pub push_back_reserved-requires : goal.push_back_reserved-requires

@@ -1,5 +1,5 @@
-use Rattle.nio_group.proofs.FlightLemmas.{kept-changed, queued-below, not_queued-pending}
-use Rattle.std.proofs.Common.{◌≡◌, sym, ap, ◌∙◌, subst, arith, deque_len, add-zero}
+use Rattle.nio_group.proofs.FlightLemmas.{queued-below, not_queued-pending}
+use Rattle.std.proofs.Common.{arith}
 use Rattle.nio_group.proofs.flight.Flight.complete.Goals as goal
 
 pub push_back_reserved-requires : goal.push_back_reserved-requires

@@ -1,4 +1,3 @@
-use Rattle.std.proofs.Common.{◌≡◌, ◌∙◌, ap, sym, subst}
 use Rattle.nio_group.proofs.EndLemmas.{kept-closed, not-false}
 use Rattle.nio_group.proofs.group.GroupCore.close_channel.Goals as goal
 

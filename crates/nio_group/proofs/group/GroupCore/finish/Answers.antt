@@ -1,4 +1,4 @@
-use Rattle.std.proofs.Common.{◌≡◌, ◌∙◌, ap, sym, subst}
+use Rattle.std.proofs.Common.{◌∙◌, sym}
 use Rattle.nio_group.proofs.EndLemmas.{kept-ended}
 use Rattle.nio_group.proofs.group.GroupCore.finish.Goals as goal
 

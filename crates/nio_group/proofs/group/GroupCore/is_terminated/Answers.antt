@@ -1,4 +1,4 @@
-use Rattle.std.proofs.Common.{◌≡◌, ◌∙◌, sym, ℕ}
+use Rattle.std.proofs.Common.{◌∙◌, sym}
 use Rattle.std.proofs.lemmas.Bool.{false≢true}
 use Rattle.nio_group.proofs.TableLemmas.{same_number}
 use Rattle.nio_group.proofs.TerminatedLemmas.{terminated-when}

@@ -1,8 +1,5 @@
-use Rattle.std.proofs.Common.{◌≡◌, ◌∙◌, ap, sym, Option, Some}
-use Rattle.nio_group.specs.declared.operation.Operation.{Operation}
+use Rattle.std.proofs.Common.{◌≡◌, ◌∙◌, ap, sym, Some}
 use Rattle.nio_group.specs.declared.operation.Stage.{Stage}
-use Rattle.nio_group.specs.Completion.{JobFields}
-use Rattle.nio_group.specs.Steps.{IsJobOf}
 use Rattle.nio_group.specs.Pending.{slot_of}
 use Rattle.nio_group.specs.Flight.{op_at}
 use Rattle.nio_group.proofs.EndLemmas.{job-pending}

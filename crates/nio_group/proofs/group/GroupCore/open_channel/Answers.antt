@@ -1,5 +1,4 @@
-use Rattle.std.proofs.Common.{◌≡◌, arith, sym, ◌∙◌, ap}
-use Rattle.nio_group.specs.declared.channel.Channel.{Channel}
+use Rattle.std.proofs.Common.{arith}
 use Rattle.nio_group.proofs.GroupLemmas.{kept-channel_made, new-open, new-not_connecting}
 use Rattle.nio_group.proofs.group.GroupCore.open_channel.Goals as goal
 

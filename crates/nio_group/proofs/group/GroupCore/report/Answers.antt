@@ -1,5 +1,4 @@
-use Rattle.std.proofs.Common.{◌≡◌, ◌<◌, ◌∙◌, ap, sym, subst, arith, Option, Some, None, Bool, true, false, refl, get_or, cond, ◌+◌, ◌-◌, ℕ}
-use Rattle.nio_group.specs.declared.operation.OpKind.TheVariants.{Connect}
+use Rattle.std.proofs.Common.{◌≡◌, ◌∙◌, ap, sym, subst, arith, None, Bool, true, false, refl, get_or, cond, ◌+◌, ◌-◌, ℕ}
 use Rattle.std.proofs.lemmas.Bool.{false≢true}
 use Rattle.nio_group.specs.declared.operation.OpKind.{OpKind}
 use Rattle.nio_group.specs.declared.operation.Outcome.{Outcome}

@@ -1,6 +1,5 @@
 use Rattle.std.proofs.Common.{◌≡◌, length}
 use Rattle.nio_group.specs.Steps.{closed_below}
-use Rattle.nio_group.proofs.EndLemmas.{length-after_close}
 use Rattle.nio_group.proofs.group.GroupCore.shutdown_now.Given as goal
 
 abbrev pub invariant-loop-chan : goal.invariant-loop-chan

@@ -1,7 +1,5 @@
-use Rattle.std.proofs.Common.{◌≡◌, ℕ, Option, Some, None, sym, ap, ◌∙◌, subst, arith}
+use Rattle.std.proofs.Common.{◌≡◌, Some, None, sym, ◌∙◌}
 use Rattle.nio_group.specs.declared.operation.Operation.{Operation}
-use Rattle.nio_group.specs.declared.operation.OpKind.TheVariants.{Connect}
-use Rattle.nio_group.specs.declared.refusal.StartError.{StartError}
 use Rattle.nio_group.specs.Pending.{with_slot}
 use Rattle.nio_group.specs.GroupKept.{group_of}
 use Rattle.nio_group.specs.Refusals.{start_refusal}

@@ -1,10 +1,10 @@
-use Rattle.std.proofs.Common.{◌≡◌, ◌≢◌, ◌∙◌, ap, sym, Bool, false, true, ℕ, eqb, subst, Option, Some, None}
+use Rattle.std.proofs.Common.{◌≡◌, ◌≢◌, ◌∙◌, ap, sym, false, Option}
 use Rattle.std.specs.Option.{option_or}
 use Rattle.nio_group.specs.declared.refusal.StartError.{StartError}
 use Rattle.nio_group.specs.Group.{Group, is_terminated}
 use Rattle.nio_group.specs.GroupKept.{group_of}
 use Rattle.nio_group.specs.Flight.{accepted, in_flight}
-use Rattle.nio_group.specs.Refusals.{start_refusal, limit_refusal}
+use Rattle.nio_group.specs.Refusals.{limit_refusal}
 use Rattle.nio_group.proofs.TerminatedLemmas.{start_refusal-read, limit-ops, limit-flight, limit-none}
 use Rattle.nio_group.proofs.group.GroupCore.start_refusal.Goals as goal
 

@@ -1,4 +1,3 @@
-use Rattle.std.proofs.Common.{◌≡◌, ◌∙◌, ap, sym, subst}
 use Rattle.nio_group.proofs.EndLemmas.{kept-taken}
 use Rattle.nio_group.proofs.group.GroupCore.take.Goals as goal
 

@@ -1,4 +1,4 @@
-use Rattle.std.proofs.Common.{sym, ◌∙◌, arith}
+use Rattle.std.proofs.Common.{sym, arith}
 use Rattle.nio_group.proofs.TableLemmas.{key_in-not_near, key_in-read}
 use Rattle.nio_group.proofs.index.Index.get.Goals as goal
 

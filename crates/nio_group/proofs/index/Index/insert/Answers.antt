@@ -1,4 +1,3 @@
-use Rattle.std.proofs.Common.{sym, ◌∙◌, arith}
 use Rattle.nio_group.proofs.TableLemmas.{table-inserts, changes-inserted}
 use Rattle.nio_group.proofs.index.Index.insert.Goals as goal
 

@@ -1,7 +1,6 @@
-use Rattle.std.proofs.Common.{◌≡◌, Bool, true, false, Option, None, is_some, sym, ◌∙◌, arith}
+use Rattle.std.proofs.Common.{arith}
 use Rattle.std.proofs.lemmas.Bool.{false≢true}
 use Rattle.nio_group.proofs.TableLemmas.{table-removed, changes-removed, key_in-not_near}
-use Rattle.nio_group.specs.Index.{key_in}
 use Rattle.nio_group.proofs.index.Index.remove.Goals as goal
 
 pub invariant_of-self : goal.invariant_of-self

@@ -1,6 +1,4 @@
-use Rattle.std.proofs.Common.{◌<◌, ℕ, sym, ◌∙◌, ap, subst, arith, length}
-use Rattle.slab.specs.Slab.{slab_len}
-use Rattle.nio_group.specs.Operations.{Accepted}
+use Rattle.std.proofs.Common.{sym, ap, arith}
 use Rattle.nio_group.proofs.KeptLemmas.{length-kept, kept-accepts, is_kept-accepts}
 use Rattle.nio_group.proofs.operations.Operations.accept.Goals as goal
 

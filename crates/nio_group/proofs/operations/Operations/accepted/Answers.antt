@@ -1,4 +1,4 @@
-use Rattle.std.proofs.Common.{sym, ◌∙◌, ap, length}
+use Rattle.std.proofs.Common.{sym}
 use Rattle.nio_group.proofs.KeptLemmas.{length-kept}
 use Rattle.nio_group.proofs.operations.Operations.accepted.Goals as goal
 

@@ -1,4 +1,4 @@
-use Rattle.std.proofs.Common.{◌≡◌, ℕ, Option, None, IsSome, sym, ◌∙◌, ap, subst, arith}
+use Rattle.std.proofs.Common.{Option, IsSome, sym, ◌∙◌, ap, subst}
 use Rattle.nio_group.specs.declared.operation.Operation.{Operation}
 use Rattle.nio_group.specs.Kept.{operation_in}
 use Rattle.nio_group.proofs.KeptLemmas.{kept-at, kept-has, kept-ends, is_kept-ends, not_some}

@@ -1,4 +1,4 @@
-use Rattle.std.proofs.Common.{◌≡◌, ℕ, Option, None, IsSome, sym, ◌∙◌, ap, subst, refl, arith}
+use Rattle.std.proofs.Common.{Option, IsSome, sym, ◌∙◌, ap, subst, refl}
 use Rattle.nio_group.specs.declared.operation.Operation.{Operation}
 use Rattle.nio_group.specs.declared.operations.Numbered.{Numbered}
 use Rattle.nio_group.specs.Kept.{operation_in}
