@@ -6,7 +6,12 @@ use Rattle.std.proofs.lemmas.List.Elements.{All-weaker}
 use Rattle.std.proofs.lemmas.List.Folds.{list_any-append, list_any_none}
 use Rattle.std.proofs.lemmas.List.Sums.{sum_by-append}
 use Rattle.std.proofs.lemmas.List.{append-nil}
+use Rattle.nio_base.specs.declared.limits.Limits.{Limits}
+use Rattle.nio_base.specs.declared.numbers.CallerNo.{CallerNo}
 use Rattle.nio_base.specs.declared.numbers.SelNo.{SelNo}
+use Rattle.nio_event.specs.Histories.{mine}
+use Rattle.nio_event.specs.declared.event.Event.{Event}
+use Rattle.nio_plan.specs.Calls.{done_between, CallClause}
 use Rattle.nio_event.specs.OwnEvents.{has, count}
 use Rattle.nio_event.specs.Questions.{Question, question_of, answer_of}
 use Rattle.nio_event.specs.Sets.{in_cancelled_set}
@@ -329,3 +334,15 @@ begins_selection s mode lacks own acts selection run =
       goes_on = refl;
       unmarked = refl;
     }
+
+-- ---- the same of calls
+
+pub begun_by_call : (l : Limits) (Holds : CallerNo → Type 0) (me : CallerNo) (s : SelNo) (mode : Mode) (lacks : Bool) (before after : List Event) (selection : Selection)
+    → CallClause l Holds me (begin_plan s mode lacks) before after (Ok selection) → IsBegun (mine me after) selection
+begun_by_call l Holds me s mode lacks before after selection call =
+    subst (λ own. IsBegun own selection) (sym call.history.own) (begins_selection s mode lacks (mine me before) (done_between me before after) selection call.follows)
+
+pub goes_on_by_call : (l : Limits) (Holds : CallerNo → Type 0) (me : CallerNo) (selection next : Selection) (pairs : List (ℕ × ℕ)) (elapsed : Bool) (before after : List Event)
+    → IsBegun (mine me before) selection → CallClause l Holds me (told_plan selection pairs elapsed) before after (again next) → IsBegun (mine me after) next
+goes_on_by_call l Holds me selection next pairs elapsed before after begun call =
+    subst (λ own. IsBegun own next) (sym call.history.own) (again_goes_on (mine me before) selection next pairs elapsed (done_between me before after) begun call.follows)
