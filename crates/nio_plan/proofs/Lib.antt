@@ -6,3 +6,4 @@ pub mod EachLaws
 pub mod ToldLaws
 pub mod SelectionLaws
 pub mod OrderLaws
+mod Worked

@@ -6,7 +6,12 @@ use Rattle.std.proofs.lemmas.List.Elements.{All-weaker}
 use Rattle.std.proofs.lemmas.List.Folds.{list_any-append, list_any_none}
 use Rattle.std.proofs.lemmas.List.Sums.{sum_by-append}
 use Rattle.std.proofs.lemmas.List.{append-nil}
+use Rattle.nio_base.specs.declared.limits.Limits.{Limits}
+use Rattle.nio_base.specs.declared.numbers.CallerNo.{CallerNo}
 use Rattle.nio_base.specs.declared.numbers.SelNo.{SelNo}
+use Rattle.nio_event.specs.Histories.{mine}
+use Rattle.nio_event.specs.declared.event.Event.{Event}
+use Rattle.nio_plan.specs.Calls.{done_between, CallClause}
 use Rattle.nio_event.specs.OwnEvents.{has, count}
 use Rattle.nio_event.specs.Questions.{Question, question_of, answer_of}
 use Rattle.nio_event.specs.Sets.{in_cancelled_set}
@@ -20,7 +25,7 @@ use Rattle.nio_plan.specs.Laws.{BeginsSelection, AgainGoesOn, CountsSelection}
 use Rattle.nio_plan.specs.Plan.{reply, ◌>>=◌}
 use Rattle.nio_plan.specs.Runs.{Completes}
 use Rattle.nio_plan.specs.declared.looked.LookedKey.{LookedKey}
-use Rattle.nio_plan.specs.SelectCalls.{Selection, ToldReply, begin_plan, begin_with_turn, begin_below, told_plan, told_bits, given_back, look_over, mark_entry, mark_told, mark_again, one_if, gains_nothing, sweep_key, is_again, end_selection, after_marks, again, done}
+use Rattle.nio_plan.specs.SelectCalls.{Selection, ToldReply, begin_plan, begin_with_turn, begin_below, told_plan, told_bits, given_back, look_over, mark_entry, mark_told, mark_looked, mark_again, one_if, gains_nothing, sweep_key, is_again, end_selection, after_marks, again, done}
 use Rattle.nio_plan.specs.Selections.{gives_turn, marks, IsBegun}
 use Rattle.nio_plan.specs.Steps.{look_keys, take_turn, mark, remove, flag_in, gate_in, stage_in, number_in, holder_in, mark_in, exchange_in}
 use Rattle.nio_plan.specs.Sweeps.{sweep_to, sweep_over}
@@ -109,9 +114,9 @@ again-counts s i told (Err found) (act ∷ []) n run =
     omega (arith, here, is)
 again-counts s i told (Err found) (act ∷ more ∷ acts) n run = absurd run.1
 
-mark_told-counts : (s : SelNo) (i told : ℕ) (acts : List Act) (n : ℕ) → Completes (mark_told s i told) acts n → count (marks s.0) acts ≡ n
-mark_told-counts s i told [] n run = absurd (cc run)
-mark_told-counts s i told (look ∷ acts) n run =
+mark_looked-counts : (s : SelNo) (i told : ℕ) (acts : List Act) (n : ℕ) → Completes (mark_looked s i told) acts n → count (marks s.0) acts ≡ n
+mark_looked-counts s i told [] n run = absurd (cc run)
+mark_looked-counts s i told (look ∷ acts) n run =
     let no_mark : marks s.0 look ≡ false = not-marks s.0 look (ap (asks_mark s.0) run.0) in
     count-cons (marks s.0) look acts ∙ (ap (λ (b : Bool). cond {A = ℕ} b 1 0 + count (marks s.0) acts) no_mark ∙ by_test (gains_nothing (mark_in (answer_of look)) told) (mark_in (answer_of look)) acts run.1)
   where
@@ -125,27 +130,27 @@ mark_told-counts s i told (look ∷ acts) n run =
         let all = count-cons (marks s.0) act more in
         omega (arith, here, rest, all)
 
+mark_told-counts : (s : SelNo) (i told : ℕ) (acts : List Act) (n : ℕ) → Completes (mark_told s i told) acts n → count (marks s.0) acts ≡ n
+mark_told-counts s i told acts n run = by_test (told == 0) acts run
+  where
+    by_test : (b : Bool) (acts : List Act) → Completes (if b then reply 0 else mark_looked s i told) acts n → count (marks s.0) acts ≡ n
+    by_test true [] went = cc went
+    by_test true (act ∷ more) went = absurd went
+    by_test false acts went = mark_looked-counts s i told acts n went
+
 mark_entry-counts : (s : SelNo) (pairs : List (ℕ × ℕ)) (entry : LookedKey) (before : ℕ) (acts : List Act) (n : ℕ)
     → Completes (mark_entry s pairs entry before) acts n → before + count (marks s.0) acts ≡ n
-mark_entry-counts s pairs entry before acts n run = by_test (told_bits pairs entry == 0) acts run
+mark_entry-counts s pairs entry before acts n run =
+    let parts = split (mark_told s entry.index (told_bits pairs entry)) (λ marked. reply (before + marked)) acts n run in
+    ended parts.first parts.answer parts.second parts.parts (mark_told-counts s entry.index (told_bits pairs entry) parts.first parts.answer parts.runs_first) parts.runs_second
   where
-    by_test : (b : Bool) (later : List Act)
-        → Completes (if b then reply before else (mark_told s entry.index (told_bits pairs entry) >>= (λ marked. reply (before + marked)))) later n
-        → before + count (marks s.0) later ≡ n
-    by_test true [] went = let is : before ≡ n = cc went in omega arith
-    by_test true (act ∷ more) went = absurd went
-    by_test false later went =
-        let parts = split (mark_told s entry.index (told_bits pairs entry)) (λ marked. reply (before + marked)) later n went in
-        let marked = mark_told-counts s entry.index (told_bits pairs entry) parts.first parts.answer parts.runs_first in
-        ended parts.first parts.answer parts.second parts.parts marked parts.runs_second
-      where
-        ended : (first : List Act) (marked : ℕ) (second : List Act) → later ≡ first ++ second → count (marks s.0) first ≡ marked
-            → Completes (reply (before + marked)) second n → before + count (marks s.0) later ≡ n
-        ended first marked [] parts counted run' =
-            let is : before + marked ≡ n = cc run' in
-            let all : count (marks s.0) later ≡ count (marks s.0) first = ap (count (marks s.0)) (parts ∙ append-nil first) in
-            omega (arith, counted, all, is)
-        ended first marked (act ∷ more) parts counted run' = absurd run'
+    ended : (first : List Act) (marked : ℕ) (second : List Act) → acts ≡ first ++ second → count (marks s.0) first ≡ marked
+        → Completes (reply (before + marked)) second n → before + count (marks s.0) acts ≡ n
+    ended first marked [] parts counted went =
+        let is : before + marked ≡ n = cc went in
+        let all : count (marks s.0) acts ≡ count (marks s.0) first = ap (count (marks s.0)) (parts ∙ append-nil first) in
+        omega (arith, counted, all, is)
+    ended first marked (act ∷ more) parts counted went = absurd went
 
 over-counts : (s : SelNo) (pairs : List (ℕ × ℕ)) (entries : List LookedKey) (before : ℕ) (acts : List Act) (n : ℕ)
     → Completes (sweep_over entries (mark_entry s pairs) before) acts n → before + count (marks s.0) acts ≡ n
@@ -171,13 +176,11 @@ again-no_give s i told (Err stands) = (refl, λ _. tt)
 entry-no_give : (s : SelNo) (pairs : List (ℕ × ℕ)) (entry : LookedKey) (before : ℕ) → Each (NoGive s.0) (λ _. ⊤) (mark_entry s pairs entry before)
 entry-no_give s pairs entry before =
     let told = told_bits pairs entry in
-    each_if {R = ℕ} (NoGive s.0) (λ _. ⊤) (told == 0) _ _ (λ _. tt)
-    (λ _. each_bind (NoGive s.0) (λ _. ⊤) (λ _. ⊤) (mark_told s entry.index told) _ (
-      refl,
-      λ was. each_if {R = ℕ} (NoGive s.0) (λ _. ⊤) (gains_nothing (mark_in was) told) (reply 0) (mark s entry.index (mark_in was) told >>= mark_again s entry.index told)
-          (λ _. tt) (λ _. (refl, λ first. again-no_give s entry.index told (exchange_in first))),
-    )
-    (λ _ _. tt))
+    each_bind (NoGive s.0) (λ _. ⊤) (λ _. ⊤) (mark_told s entry.index told) _
+      (each_if {R = ℕ} (NoGive s.0) (λ _. ⊤) (told == 0) (reply 0) (mark_looked s entry.index told) (λ _. tt)
+        (λ _. (refl, λ was. each_if {R = ℕ} (NoGive s.0) (λ _. ⊤) (gains_nothing (mark_in was) told) (reply 0) (mark s entry.index (mark_in was) told >>= mark_again s entry.index told)
+          (λ _. tt) (λ _. (refl, λ first. again-no_give s entry.index told (exchange_in first))))))
+      (λ _ _. tt)
 
 over-no_give : (s : SelNo) (pairs : List (ℕ × ℕ)) (entries : List LookedKey) (acts : List Act) (n : ℕ)
     → Completes (sweep_over entries (mark_entry s pairs) 0) acts n → has (gives_turn s.0) acts ≡ false
@@ -329,3 +332,15 @@ begins_selection s mode lacks own acts selection run =
       goes_on = refl;
       unmarked = refl;
     }
+
+-- ---- the same of calls
+
+pub begun_by_call : (l : Limits) (Holds : CallerNo → Type 0) (me : CallerNo) (s : SelNo) (mode : Mode) (lacks : Bool) (before after : List Event) (selection : Selection)
+    → CallClause l Holds me (begin_plan s mode lacks) before after (Ok selection) → IsBegun (mine me after) selection
+begun_by_call l Holds me s mode lacks before after selection call =
+    subst (λ own. IsBegun own selection) (sym call.history.own) (begins_selection s mode lacks (mine me before) (done_between me before after) selection call.follows)
+
+pub goes_on_by_call : (l : Limits) (Holds : CallerNo → Type 0) (me : CallerNo) (selection next : Selection) (pairs : List (ℕ × ℕ)) (elapsed : Bool) (before after : List Event)
+    → IsBegun (mine me before) selection → CallClause l Holds me (told_plan selection pairs elapsed) before after (again next) → IsBegun (mine me after) next
+goes_on_by_call l Holds me selection next pairs elapsed before after begun call =
+    subst (λ own. IsBegun own next) (sym call.history.own) (again_goes_on (mine me before) selection next pairs elapsed (done_between me before after) begun call.follows)

@@ -13,7 +13,7 @@ use Rattle.nio_plan.specs.Each.{Each}
 use Rattle.nio_plan.specs.Laws.{MarksAsTold, IsAsTold, MarksOnlyAsTold}
 use Rattle.nio_plan.specs.Plan.{reply, ◌>>=◌}
 use Rattle.nio_plan.specs.declared.looked.LookedKey.{LookedKey}
-use Rattle.nio_plan.specs.SelectCalls.{Selection, told_plan, told_bits, mark_entry, mark_told, mark_again, gains_nothing, sweep_key, end_selection, again}
+use Rattle.nio_plan.specs.SelectCalls.{Selection, told_plan, told_bits, mark_entry, mark_told, mark_looked, mark_again, gains_nothing, sweep_key, end_selection, again}
 use Rattle.nio_plan.specs.Steps.{mark, remove, mark_in, stage_in, exchange_in}
 use Rattle.nio_plan.specs.declared.selected.Selected.{Selected}
 use Rattle.nio_plan.specs.Sweeps.{sweep_to, sweep_over}
@@ -35,7 +35,7 @@ module _ (selection : Selection) (pairs : List (ℕ × ℕ)) where
   again-as_told i told (Ok u) fits = tt
   again-as_told i told (Err stands) fits = (fits, λ _. tt)
 
-  mark-as_told : (i told : ℕ) → MarksAsTold selection pairs selection.selector i told → Each Asks (λ _. ⊤) (mark_told selection.selector i told)
+  mark-as_told : (i told : ℕ) → MarksAsTold selection pairs selection.selector i told → Each Asks (λ _. ⊤) (mark_looked selection.selector i told)
   mark-as_told i told fits = (
     tt,
     λ was. each_if {R = ℕ} Asks (λ _. ⊤) (gains_nothing (mark_in was) told) (reply 0) (mark selection.selector i (mark_in was) told >>= mark_again selection.selector i told)
@@ -48,11 +48,12 @@ module _ (selection : Selection) (pairs : List (ℕ × ℕ)) where
 
   entry-as_told : (entry : LookedKey) (count : ℕ) → Contains selection.looked entry → Each Asks (λ _. ⊤) (mark_entry selection.selector pairs entry count)
   entry-as_told entry count looked =
-      each_if {R = ℕ} Asks (λ _. ⊤) (told_bits pairs entry == 0) _ _ (λ _. tt)
-      (λ some. each_bind Asks (λ _. ⊤) (λ _. ⊤) (mark_told selection.selector entry.index (told_bits pairs entry)) _
-      (mark-as_told entry.index (told_bits pairs entry)
-      (record { entry = entry; looked = looked; on_selector = refl; at_index = refl; bits = refl; some = not_false _ some }))
-      (λ marked _. tt))
+      let told = told_bits pairs entry in
+      each_bind Asks (λ _. ⊤) (λ _. ⊤) (mark_told selection.selector entry.index told) _
+        (each_if {R = ℕ} Asks (λ _. ⊤) (told == 0) (reply 0) (mark_looked selection.selector entry.index told) (λ _. tt)
+          (λ some. mark-as_told entry.index told
+            (record { entry = entry; looked = looked; on_selector = refl; at_index = refl; bits = refl; some = not_false _ some })))
+        (λ marked _. tt)
 
   sweep-as_told : (i : ℕ) → Each Asks (λ _. ⊤) (sweep_key selection.selector i)
   sweep-as_told i = (tt, λ found. each_when Asks (in_cancelled_set (stage_in found)) (remove selection.selector i) (tt, λ _. tt))

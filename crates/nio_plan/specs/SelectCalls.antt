@@ -120,20 +120,21 @@ mark_again s i told (Err found) = do
   second ← mark s i found told
   reply (one_if (is_ok second))
 
--- how many marks of the key succeeded, which is one at most
-abbrev pub mark_told : SelNo → ℕ → ℕ → Plan ℕ
-mark_told s i told = do
+abbrev pub mark_looked : SelNo → ℕ → ℕ → Plan ℕ
+mark_looked s i told = do
   was ← look_mark s i
   if gains_nothing was told then reply 0 else do
     first ← mark s i was told
     mark_again s i told first
 
+-- how many marks of the key succeeded, which is one at most; a key that nothing is told of has no step
+abbrev pub mark_told : SelNo → ℕ → ℕ → Plan ℕ
+mark_told s i told = if told == 0 then reply 0 else mark_looked s i told
+
 abbrev pub mark_entry : SelNo → List (ℕ × ℕ) → LookedKey → ℕ → Plan ℕ
-mark_entry s pairs entry count =
-    let told = told_bits pairs entry in
-    if told == 0 then reply count else do
-      marked ← mark_told s entry.index told
-      reply (count + marked)
+mark_entry s pairs entry count = do
+  marked ← mark_told s entry.index (told_bits pairs entry)
+  reply (count + marked)
 
 abbrev pub may_wait : Mode → Bool
 may_wait WithoutWaiting = false
