@@ -1,0 +1,13 @@
+//! The shared table of selectors, keys and channels: words that change in single atomic steps, and
+//! the passes that callers step with. All steps of all callers stand in one legal history.
+#![tactic(auto)]
+
+pub use words::{Pass, Words};
+
+mod decode;
+mod instruction;
+mod part;
+mod step;
+mod steps;
+mod view;
+mod words;

@@ -1,0 +1,4 @@
+//! The kinds of step, by the parts that they are on. Each is one atomic instruction, which adds one
+//! event to the history.
+
+mod gates;
