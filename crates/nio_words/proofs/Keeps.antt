@@ -7,7 +7,7 @@ use mathlib.Core.List.{IsPrefix}
 use mathlib.Core.Option.{some, some-injective, some-ne-none}
 use lib.ListN.{get_elem?}
 use Rattle.atomic_table.specs.Table.{State as Table}
-use Rattle.atomic_table.proofs.Lists.{at_set}
+use Rattle.atomic_table.proofs.Lists.{at_set, set_else}
 use Rattle.nio_base.specs.declared.limits.Limits.{Limits}
 use Rattle.nio_base.specs.declared.numbers.CallerNo.{CallerNo}
 use Rattle.nio_event.proofs.Lasts.{drawn_lasts}
@@ -149,6 +149,12 @@ module _ (l : Limits) (s : Table (Unit {0}) View) (kept : IsKept l s) (id : ℕ)
       ]
     ]
 
+    spent_empty : (j : ℕ) (u : View) → get_elem? (set s.views id w) j ≡ some u → u.spent ≡ true → u.numbers ≡ 0
+    spent_empty j u at is_spent = elim (at_set s.views id j w u at) [
+      inl same ↦ let clash : true ≡ false = sym is_spent ∙ (ap (λ x. x.spent) (sym same.1) ∙ adds.unspent) in absurd cc
+      | inr other ↦ kept.spent_empty j u other.1 is_spent
+    ]
+
     undrawn : (n : CallerNo) → (state_after (kept.history ++ e ∷ [])).drawn n.0 ≡ false → mine n (kept.history ++ e ∷ []) ≡ []
     undrawn n h =
         let now : (effect (state_after kept.history) e.caller e.act).drawn n.0 ≡ false = subst (λ st. st.drawn n.0 ≡ false) state-after h in
@@ -186,6 +192,7 @@ module _ (l : Limits) (s : Table (Unit {0}) View) (kept : IsKept l s) (id : ℕ)
       limits = get_or-set_other s.words (place l p) 1 new 0 (λ same. place-limits l p within (sym same)) ∙ kept.limits;
       each = each;
       one_seat = one_seat;
+      spent_empty = spent_empty;
       undrawn = undrawn;
       alone = alone;
       others_spent = others_spent;
@@ -193,3 +200,57 @@ module _ (l : Limits) (s : Table (Unit {0}) View) (kept : IsKept l s) (id : ℕ)
       where
         set_here' : get_elem? (set s.views id w) id ≡ some w
         set_here' = set_at_own s.views id v w here
+
+  -- what a seat sees more of the history without a step keeps the rule
+  module _ (w : View) (knows : Knows l kept.history w) (numbers : w.numbers ≡ v.numbers) (same_alone : w.alone ≡ v.alone) (live : w.spent ≡ false) (further : IsPrefix v.seen w.seen) where
+    seen_whole : v.seen ≡ kept.history → w.seen ≡ kept.history
+    seen_whole whole = sym (prefix_both kept.history w.seen (subst (λ es. IsPrefix es w.seen) whole further) knows.begins)
+
+    longest_seen : (i : ℕ) × (u : View) × (get_elem? (set s.views id w) i ≡ some u) × (u.seen ≡ kept.history)
+    longest_seen = by_test (kept.longest.0 == id) refl
+      where
+        by_test : (b : Bool) → (kept.longest.0 == id) ≡ b → (i : ℕ) × (u : View) × (get_elem? (set s.views id w) i ≡ some u) × (u.seen ≡ kept.history)
+        by_test true e = (id, w, set_at_own s.views id v w here, seen_whole (ap (λ x. x.seen) (sym (its_own kept.longest.0 kept.longest.1 kept.longest.2 (eqb-true kept.longest.0 id e))) ∙ kept.longest.3))
+        by_test false e = (kept.longest.0, kept.longest.1, set_else s.views id kept.longest.0 w (eqb-false kept.longest.0 id e) ∙ kept.longest.2, kept.longest.3)
+
+    pub looked : (words : List ℕ) → words ≡ s.words → (homes : _) → IsKept l record { words = words; homes = homes; views = set s.views id w }
+    looked words same_words homes = record {
+      fit = kept.fit;
+      history = kept.history;
+      legal = kept.legal;
+      longest = longest_seen;
+      wide = ap length same_words ∙ kept.wide;
+      encoded = λ p h. subst (λ ws. IsEncoded l kept.history ws p) (sym same_words) (kept.encoded p h);
+      limits = ap (λ ws. get_or ws 1 0) same_words ∙ kept.limits;
+      each = λ j u at alive. elim (at_set s.views id j w u at) [
+        inl same ↦ subst (Knows l kept.history) same.1 knows
+        | inr other ↦ kept.each j u other.1 alive
+      ];
+      one_seat = λ i j x y n at_i at_j has_i has_j. kept.one_seat i j (before i x at_i).0 (before j y at_j).0 n (was_at i x at_i) (was_at j y at_j) (was_has i x at_i n has_i) (was_has j y at_j n has_j);
+      spent_empty = λ j u at is_spent. elim (at_set s.views id j w u at) [
+        inl same ↦ let clash : true ≡ false = sym is_spent ∙ (ap (λ x. x.spent) (sym same.1) ∙ live) in absurd cc
+        | inr other ↦ kept.spent_empty j u other.1 is_spent
+      ];
+      undrawn = kept.undrawn;
+      alone = λ j u at is_alone. elim (at_set s.views id j w u at) [
+        inl same ↦ ap (λ x. x.seen) (sym same.1) ∙ seen_whole (kept.alone id v here (sym same_alone ∙ (ap (λ x. x.alone) same.1 ∙ is_alone)))
+        | inr other ↦ absurd (not_alone j u other.0 other.1 is_alone)
+      ];
+      others_spent = λ i j x y at_i is_alone at_j ne. elim (at_set s.views id i w x at_i) [
+        inl same ↦ elim (at_set s.views id j w y at_j) [
+          inl same' ↦ absurd (ne (same'.0 ∙ sym same.0))
+          | inr other' ↦ kept.others_spent id j v y here (sym same_alone ∙ (ap (λ u. u.alone) same.1 ∙ is_alone)) other'.1 other'.0
+        ]
+        | inr other ↦ absurd (not_alone i x other.0 other.1 is_alone)
+      ];
+    }
+      where
+        before : (j : ℕ) (u : View) → get_elem? (set s.views id w) j ≡ some u → (u' : View) × (get_elem? s.views j ≡ some u') × (u'.numbers ≡ u.numbers)
+        before j u at = elim (at_set s.views id j w u at) [
+          inl same ↦ (v, ap (get_elem? s.views) same.0 ∙ here, sym numbers ∙ ap (λ x. x.numbers) same.1)
+          | inr other ↦ (u, other.1, refl)
+        ]
+        was_at : (j : ℕ) (u : View) → (at : get_elem? (set s.views id w) j ≡ some u) → get_elem? s.views j ≡ some (before j u at).0
+        was_at j u at = (before j u at).1
+        was_has : (j : ℕ) (u : View) → (at : get_elem? (set s.views id w) j ≡ some u) → (n : ℕ) → HasBit u.numbers n → HasBit (before j u at).0.numbers n
+        was_has j u at n has = subst (λ (k : ℕ). HasBit k n) (sym (before j u at).2) has

@@ -34,7 +34,7 @@ use Rattle.nio_words.specs.declared.words.Words.{Words}
 pub allowed : (l : Limits) (slots id : ℕ) (v : View) (carried : _) (me : CallerNo) (p : Part) (f : ℕ → ℕ) (act : ℕ → Act)
     → v.spent ≡ false → HasBit v.numbers me.0 → Moves l me p f act
     → ((n : ℕ) → Condition v.limits (mine me v.seen) (state_after v.seen) me (act n))
-    → Allows (IsKept l) slots id (v, carried) (place l p) f (λ n after. (after.1 ≡ carried) × Adds v me (act n) after.0)
+    → Allows (IsKept l) slots id (v, carried) (place l p) f (λ n after. (after.1 ≡ carried) × Adds v v.numbers me (act n) after.0)
 allowed l slots id v carried me p f act unspent has moves may s kept homes at fits =
     let known = kept.each id v at unspent in
     let n : ℕ = slice_index s.words (place l p) in
@@ -92,7 +92,7 @@ clause_of l Holds' me (DrawBit n true) before past after legal clause =
 clause_of l Holds' me act before past after legal clause = clause
 
 -- what a step tells gives its clause
-pub history_clause : (v : View) (me : CallerNo) (act : Act) (w : View) → HasBit v.numbers me.0 → Adds v me act w → HistoryClause v.limits (λ n. HasBit v.numbers n.0) me (act ∷ []) v.seen w.seen
+pub history_clause : (v : View) (me : CallerNo) (act : Act) (w : View) → HasBit v.numbers me.0 → Adds v v.numbers me act w → HistoryClause v.limits (λ n. HasBit v.numbers n.0) me (act ∷ []) v.seen w.seen
 history_clause v me act w has_me adds =
     let e : Event = event_of me act in
     let now : w.seen ≡ adds.past ++ e ∷ [] = ap (λ x. x.seen) adds.after in
@@ -104,7 +104,7 @@ history_clause v me act w has_me adds =
       ends = fold-append (λ _ x. Some x) None adds.past (e ∷ []);
     }
 
-pub step_taken : (w : Words) (p q : Pass) (me : CallerNo) (act : Act) → IsPassOf w p → Holds p me → q.seat.table_id ≡ p.seat.table_id → Adds (view_of p) me act (view_of q) → Steps w p q me act
+pub step_taken : (w : Words) (p q : Pass) (me : CallerNo) (act : Act) → IsPassOf w p → Holds p me → q.seat.table_id ≡ p.seat.table_id → Adds (view_of p) (view_of p).numbers me act (view_of q) → Steps w p q me act
 step_taken w p q me act pass has table adds =
     let clause : HistoryClause w.limits (Holds p) me (act ∷ []) (seen p) (seen q) = subst (λ l. HistoryClause l (Holds p) me (act ∷ []) (seen p) (seen q)) pass.limits (history_clause (view_of p) me act (view_of q) has adds) in
     let legal : IsLegal w.limits (adds.past ++ event_of me act ∷ []) = subst (λ l. IsLegal l (adds.past ++ event_of me act ∷ [])) pass.limits adds.legal in

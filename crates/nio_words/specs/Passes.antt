@@ -1,5 +1,5 @@
 -- What contracts say of a table and its passes.
-use Rattle.std.specs.Prelude.{◌≡◌, ℕ, ◌<◌, IsTrue, List}
+use Rattle.std.specs.Prelude.{◌≡◌, IsTrue, List, []}
 use Rattle.nio_base.specs.declared.limits.Limits.{Limits}
 use Rattle.nio_base.specs.declared.numbers.CallerNo.{CallerNo}
 use Rattle.nio_event.specs.Histories.{state_after, mine, IsLegal}
@@ -48,3 +48,10 @@ pub record IsPassOf (w : Words) (p : Pass) : Type 0 where
 pub record IsReady (w : Words) (p : Pass) (me : CallerNo) : Type 0 where
   pub pass : IsPassOf w p
   pub number : Holds p me
+
+-- the table's first pass: it has seen nothing, holds no number, and is the only one
+pub record IsFirstPass (w : Words) (p : Pass) : Type 0 where
+  pub pass : IsPassOf w p
+  pub unseen : seen p ≡ []
+  pub empty : (n : CallerNo) → Holds p n → ⊥
+  pub only : IsOnly p

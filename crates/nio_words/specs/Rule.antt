@@ -1,5 +1,5 @@
 -- The table's rule: what holds of its words and of all seats' views between any two steps.
-use Rattle.std.specs.Prelude.{◌≡◌, ◌≢◌, ℕ, ◌<◌, Bool, true, false, IsTrue, IsFalse, List, [], ◌∷◌, length, All, slice_index, if◌then◌else◌, nat_lt, bit_or}
+use Rattle.std.specs.Prelude.{◌≡◌, ◌≢◌, ℕ, ◌<◌, true, false, IsTrue, List, [], ◌∷◌, length, All, slice_index, if◌then◌else◌, nat_lt, bit_or}
 use Rattle.std.specs.Int.{bit_at}
 use mathlib.Core.List.{IsPrefix}
 use mathlib.Core.Option.{some}
@@ -23,6 +23,24 @@ HasBit numbers n = bit_at numbers n ≡ 1
 -- the first seat has seen nothing, holds no number, and is the only one
 abbrev pub first_view : Limits → View
 first_view l = record { seen = []; numbers = 0; limits = l; alone = true; spent = false; halves = [] }
+
+-- what two seats that are joined leave: one with the numbers of both and the longer of what they
+-- have seen, and one that is spent
+abbrev pub longer : List Event → List Event → List Event
+longer xs ys = if nat_lt (length xs) (length ys) then ys else xs
+
+abbrev pub half : View → Half
+half v = record { seen = v.seen; numbers = v.numbers }
+
+abbrev pub joined_view : View → View → View
+joined_view v w = record v { seen = longer v.seen w.seen; numbers = bit_or v.numbers w.numbers; alone = false; halves = half v ∷ half w ∷ [] }
+
+abbrev pub spent_view : View
+spent_view = record { seen = []; numbers = 0; limits = record { callers = 0; selectors = 0; channels = 0; keys = 0 }; alone = false; spent = true; halves = [] }
+
+-- what a seat that is split leaves with these numbers, on either side
+abbrev pub split_view : ℕ → View → View
+split_view numbers v = record v { numbers = numbers; alone = false; halves = [] }
 
 -- what one of two joined passes knew stands in what is seen now
 pub record StandsIn (seen : List Event) (h : Half) : Type 0 where
@@ -59,6 +77,7 @@ pub record IsKept (l : Limits) (s : Table (Unit {0}) View) : Type 0 where
   pub each : (i : ℕ) (v : View) → get_elem? s.views i ≡ some v → v.spent ≡ false → Knows l history v
   -- no number is held by two seats
   pub one_seat : (i j : ℕ) (v w : View) (n : ℕ) → get_elem? s.views i ≡ some v → get_elem? s.views j ≡ some w → HasBit v.numbers n → HasBit w.numbers n → i ≡ j
+  pub spent_empty : (i : ℕ) (v : View) → get_elem? s.views i ≡ some v → v.spent ≡ true → v.numbers ≡ 0
   -- a number that isn't drawn has no event
   pub undrawn : (n : CallerNo) → (state_after history).drawn n.0 ≡ false → mine n history ≡ []
   -- a seat that is marked as the only one has seen the whole history, and every other seat is spent

@@ -46,14 +46,23 @@ pub record Doing : Type 0 where
 abbrev pub MayDo : Words → Pass → Doing → Type 0
 MayDo w p doing = (n : ℕ) → Condition (limits_of w) (mine doing.who (seen p)) (state_seen p) doing.who (doing.act n)
 
--- the view has seen the history so far and one event more, a step of `me`
-pub record Adds (v : View) (me : CallerNo) (act : Act) (w : View) : Type 0 where
+-- the view has seen the history so far
+pub record Looks (v : View) (w : View) : Type 0 where
+  pub past : List Event
+  pub begins : IsPrefix v.seen past
+  pub own : (n : CallerNo) → HasBit v.numbers n.0 → mine n past ≡ mine n v.seen
+  pub legal : IsLegal v.limits past
+  pub whole : v.alone ≡ true → past ≡ v.seen
+  pub after : w ≡ record v { seen = past; halves = [] }
+
+-- the view has seen the history so far and one event more, a step of `me`, and has these numbers
+pub record Adds (v : View) (numbers : ℕ) (me : CallerNo) (act : Act) (w : View) : Type 0 where
   pub past : List Event
   pub begins : IsPrefix v.seen past
   pub own : (n : CallerNo) → HasBit v.numbers n.0 → mine n past ≡ mine n v.seen
   pub legal : IsLegal v.limits (past ++ event_of me act ∷ [])
   pub whole : v.alone ≡ true → past ≡ v.seen
-  pub after : w ≡ record v { seen = past ++ event_of me act ∷ []; halves = [] }
+  pub after : w ≡ record v { seen = past ++ event_of me act ∷ []; numbers = numbers; halves = [] }
 
 -- What a kind of step owes: on the word of its part its instruction does what its act does to that
 -- part, and it finds what the act finds.

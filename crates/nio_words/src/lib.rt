@@ -9,5 +9,6 @@ mod instruction;
 mod part;
 mod step;
 mod steps;
+mod table;
 mod view;
 mod words;
