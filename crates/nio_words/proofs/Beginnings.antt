@@ -49,3 +49,6 @@ mine_begins n xs ys p = (mine n p.0, sym (mine-append n xs p.0) ∙ ap (mine n) 
 pub mine_between : (n : CallerNo) (xs ys zs : List Event) → IsPrefix xs ys → IsPrefix ys zs → mine n zs ≡ mine n xs → mine n ys ≡ mine n xs
 mine_between n xs ys zs p q e =
     sym (prefix_both (mine n xs) (mine n ys) (mine_begins n xs ys p) (subst (λ es. IsPrefix (mine n ys) es) e (mine_begins n ys zs q)))
+
+pub same_number : (m n : CallerNo) → m.0 ≡ n.0 → m ≡ n
+same_number m n e = ap (λ (k : ℕ). record { 0 = k }) e

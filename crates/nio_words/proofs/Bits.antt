@@ -3,8 +3,8 @@ use Rattle.std.proofs.Common.{◌≡◌, ◌≢◌, ℕ, zero, suc, ◌+◌, ◌
 use Rattle.std.specs.Prelude.{bit_and, bit_or}
 use Rattle.std.specs.Int.{bit_at, bit_not, w64}
 use Rattle.std.proofs.lemmas.Bool.{eqb-false}
-use Rattle.std.proofs.lemmas.Nat.{pow_pos, or_lt, and_le_l, pow_below, one_shl}
-use Rattle.std.proofs.lemmas.Nat.Bits.{bit_at_set_same, bit_at_set_other, bit_at_clear_same, bit_at_clear_other, bit_at_cat_low, bit_at_cat_high, bit_at_lowest, bit_at-zero, bit_at-lt, bit_at_or, bit_at_above, same_from_bits_below}
+use Rattle.std.proofs.lemmas.Nat.{pow_pos, or_lt, and_le_l, pow_below, one_shl, and_mask}
+use Rattle.std.proofs.lemmas.Nat.Bits.{bit_at_set_same, bit_at_set_other, bit_at_clear_same, bit_at_clear_other, bit_at_cat_low, bit_at_cat_high, bit_at_lowest, bit_at-zero, bit_at-lt, bit_at_or, bit_at_and, bit_at_not, bit_at_above, same_from_bits_below}
 use Rattle.nio_event.specs.Answers.{bits_below}
 use Rattle.nio_event.specs.State.{put}
 use Rattle.nio_event.proofs.Put.{put-same}
@@ -73,6 +73,32 @@ pub still_has : (numbers k n : ℕ) → numbers < 2 ^ 64 → k < 64 → n ≢ k 
 still_has numbers k n fits below ne has =
     let inside : n < 64 = grind (arith, bit_at_above numbers 64 n fits) in
     bit_at_clear_other w64 numbers k below n inside ne ∙ has
+
+-- a number of a set without others is one of the set, and none of those
+pub kept_has : (a m n : ℕ) → HasBit (bit_and a m) n → HasBit a n
+kept_has a m n has =
+    let least = bit_at_and a m n in
+    let below = bit_at-lt a n in
+    omega arith
+
+pub kept_not : (a m n : ℕ) → m < 2 ^ 64 → HasBit (bit_and a (bit_not w64 m)) n → HasBit m n → ⊥
+kept_not a m n fits has has' =
+    let inside : n < 64 = grind (arith, bit_at_above m 64 n fits) in
+    let least = bit_at_and a (bit_not w64 m) n in
+    let not_there = bit_at_not w64 m n fits inside in
+    omega arith
+
+pub only_has : (k n : ℕ) → k < 64 → HasBit (one_bit k) n → n ≡ k
+only_has k n below has = elim (more_has 0 k n below has) [ inl same ↦ same | inr old ↦ absurd (none_has n old) ]
+
+pub alone_has : (k : ℕ) → k < 64 → HasBit (one_bit k) k
+alone_has k below = new_has 0 k below
+
+pub kept_all : (a : ℕ) → a < 2 ^ 64 → bit_and a (bit_not w64 0) ≡ a
+kept_all a fits = and_mask a 64 ∙ mod_small a fits
+  where
+    mod_small : (b : ℕ) → b < 2 ^ 64 → b % 2 ^ 64 ≡ b
+    mod_small b h = omega arith
 
 -- ---- the word of a set that a test gives
 

@@ -68,7 +68,7 @@ module _ (l : Limits) (s : Table (Unit {0}) View) (kept : IsKept l s) (id : ℕ)
   held_here n has j u ne at has' = ne (kept.one_seat j id u v n at here has' has)
 
   -- where another seat is the only one, this one is spent
-  not_alone : (j : ℕ) (u : View) → j ≢ id → get_elem? s.views j ≡ some u → u.alone ≡ true → ⊥
+  pub not_alone : (j : ℕ) (u : View) → j ≢ id → get_elem? s.views j ≡ some u → u.alone ≡ true → ⊥
   not_alone j u ne at alone =
       let spent : v.spent ≡ true = kept.others_spent j id u v at alone here (λ e. ne (sym e)) in
       let clash : true ≡ false = sym spent ∙ unspent in

@@ -4,5 +4,7 @@ pub mod Places
 pub mod Apart
 pub mod Keeps
 pub mod Starts
+pub mod Splitting
+pub mod Joining
 pub mod Stepping
 pub mod Gates

@@ -19,6 +19,7 @@ use Rattle.nio_event.specs.Histories.{state_after, is_by, mine, event_of, last_o
 use Rattle.nio_event.specs.declared.act.Act.{Act}
 use Rattle.nio_event.specs.declared.act.Act.TheVariants.{DrawBit}
 use Rattle.nio_event.specs.declared.event.Event.{Event}
+use Rattle.nio_words.proofs.Beginnings.{same_number}
 use Rattle.nio_words.proofs.Keeps.{AddsTo, added, held_here}
 use Rattle.nio_words.specs.Encodings.{encoding, bound}
 use Rattle.nio_words.specs.Passes.{view_of, seen, Holds, HoldSame, IsOnly, IsPassOf}
@@ -80,9 +81,6 @@ allowed l slots id v carried me p f act unspent has moves may s kept homes at fi
       ),
     )
 
-same_number : (m n : CallerNo) → m.0 ≡ n.0 → m ≡ n
-same_number m n e = ap (λ (k : ℕ). record { 0 = k }) e
-
 -- a legal history's draw found its number not drawn, so its clause is that of every step
 clause_of : (l : Limits) (Holds' : CallerNo → Type 0) (me : CallerNo) (act : Act) (before past after : List Event)
     → IsLegal l (past ++ event_of me act ∷ []) → HistoryClause l Holds' me (act ∷ []) before after → StepClause l Holds' me act before after
@@ -113,6 +111,7 @@ step_taken w p q me act pass has table adds =
         table = table ∙ pass.table;
         limits = ap (λ x. x.limits) adds.after ∙ pass.limits;
         legal = clause.legal;
+        callers = λ n has'. pass.callers n (subst (λ (k : ℕ). HasBit k n.0) (ap (λ x. x.numbers) adds.after) has');
       };
       clause = clause_of w.limits (Holds p) me act (seen p) adds.past (seen q) legal clause;
       numbers = ap (λ x. x.numbers) adds.after;

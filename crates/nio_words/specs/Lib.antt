@@ -4,5 +4,7 @@ pub mod Encodings
 pub mod Decodings
 pub mod Rule
 pub mod Passes
+pub mod Sharing
 pub mod Parts
 pub mod Steps
+pub mod Drawing

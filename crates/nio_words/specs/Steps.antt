@@ -1,5 +1,5 @@
 -- What a step on the table does.
-use Rattle.std.specs.Prelude.{◌≡◌, ℕ, ◌<◌, true, List, [], ◌∷◌, ◌++◌}
+use Rattle.std.specs.Prelude.{◌≡◌, ℕ, ◌<◌, true, List, [], ◌∷◌, ◌++◌, All}
 use mathlib.Core.List.{IsPrefix}
 use mathlib.Core.Option.{none}
 use Rattle.atomic_table.specs.Table.{Step, step}
@@ -16,7 +16,7 @@ use Rattle.nio_words.specs.Encodings.{encoding, bound}
 use Rattle.nio_words.specs.Passes.{view_of, seen, state_seen, Holds, HoldSame, IsOnly, IsPassOf, limits_of}
 use Rattle.nio_words.specs.Parts.{part_of}
 use Rattle.nio_words.specs.Places.{IsWithin}
-use Rattle.nio_words.specs.Rule.{HasBit}
+use Rattle.nio_words.specs.Rule.{HasBit, StandsIn}
 use Rattle.nio_words.specs.declared.part.Part.{Part}
 use Rattle.nio_words.specs.declared.view.View.{View}
 use Rattle.nio_words.specs.declared.words.Pass.{Pass}
@@ -63,6 +63,13 @@ pub record Adds (v : View) (numbers : ℕ) (me : CallerNo) (act : Act) (w : View
   pub legal : IsLegal v.limits (past ++ event_of me act ∷ [])
   pub whole : v.alone ≡ true → past ≡ v.seen
   pub after : w ≡ record v { seen = past ++ event_of me act ∷ []; numbers = numbers; halves = [] }
+
+-- of a view that comes from a joining: what both sides knew stands in what it has seen, which is a
+-- legal history
+pub record Recalls (v w : View) : Type 0 where
+  pub halves : All (StandsIn v.seen) v.halves
+  pub legal : IsLegal v.limits v.seen
+  pub after : w ≡ record v { halves = [] }
 
 -- What a kind of step owes: on the word of its part its instruction does what its act does to that
 -- part, and it finds what the act finds.

@@ -2,11 +2,14 @@
 //! the passes that callers step with. All steps of all callers stand in one legal history.
 #![tactic(auto)]
 
+pub use drawing::DrawError;
 pub use words::{Pass, Words};
 
 mod decode;
+mod drawing;
 mod instruction;
 mod part;
+mod sharing;
 mod step;
 mod steps;
 mod table;

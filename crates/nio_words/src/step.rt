@@ -22,7 +22,7 @@ impl Play<(), View> for Brand {
 impl Words {
     /// Carries out an instruction on a word.
     #[inline(always)]
-    fn perform<M: Play<(), View>>(
+    pub(crate) fn perform<M: Play<(), View>>(
         &self,
         seat: &mut Seat<(), View>,
         word: usize,

@@ -25,6 +25,7 @@ returns-clause-pass c =
         table = c.in_ok-table.ensures.2;
         limits = ap (λ m. m.0.limits) me;
         legal = subst (IsLegal c.args.limits) (sym (ap (λ m. m.0.seen) me)) (legal_empty c.args.limits);
+        callers = λ n has. absurd (none_has n.0 (subst (λ k. HasBit k n.0) (ap (λ m. m.0.numbers) me) has));
       };
       unseen = ap (λ m. m.0.seen) me;
       empty = λ n has. none_has n.0 (subst (λ k. HasBit k n.0) (ap (λ m. m.0.numbers) me) has);
