@@ -148,7 +148,7 @@ reads_bit f i below = ap (λ (m : ℕ). m == 1) (bit_at-bits_below 64 f i below)
 bit-put : (f : ℕ → Bool) (k : ℕ) (x : Bool) (i : ℕ) → i ≢ k → bit (put f k x i) ≡ bit (f i)
 bit-put f k x i ne = ap (λ t. bit (cond t x (f i))) (ne_eqb i k ne)
 
-one_bit-lt : (k : ℕ) → one_bit k < 2 ^ 64
+pub one_bit-lt : (k : ℕ) → one_bit k < 2 ^ 64
 one_bit-lt k = omega arith
 
 pub sets_bit : (f : ℕ → Bool) (k : ℕ) → k < 64 → bit_or (bits_below 64 f) (one_bit k) ≡ bits_below 64 (put f k true)
@@ -182,3 +182,17 @@ clears_bit f k below = same_from_bits_below 64 _ _ small (bits_below-lt 64 (put 
         by_test false e =
             let ne = eqb-false i k e in
             bit_at_clear_other w64 (bits_below 64 f) k below i inside ne ∙ (bit_at-bits_below 64 f i inside ∙ sym (bit_at-bits_below 64 (put f k false) i inside ∙ bit-put f k false i ne))
+
+-- to set a bit that is set changes nothing
+pub sets_again : (f : ℕ → Bool) (k : ℕ) → k < 64 → f k ≡ true → bit_or (bits_below 64 f) (one_bit k) ≡ bits_below 64 f
+sets_again f k below is = same_from_bits_below 64 _ _ (or_lt 64 _ _ (bits_below-lt 64 f) (one_bit-lt k)) (bits_below-lt 64 f) each
+  where
+    each : (i : ℕ) → i < 64 → bit_at (bit_or (bits_below 64 f) (one_bit k)) i ≡ bit_at (bits_below 64 f) i
+    each i inside = by_test (i == k) refl
+      where
+        by_test : (t : Bool) → (i == k) ≡ t → bit_at (bit_or (bits_below 64 f) (one_bit k)) i ≡ bit_at (bits_below 64 f) i
+        by_test true e =
+            let same : i ≡ k = eqb-true i k e in
+            subst (λ (m : ℕ). bit_at (bit_or (bits_below 64 f) (one_bit k)) m ≡ bit_at (bits_below 64 f) m) (sym same)
+              (bit_at_set_same w64 (bits_below 64 f) k below ∙ sym (bit_at-bits_below 64 f k below ∙ ap bit is))
+        by_test false e = bit_at_set_other w64 (bits_below 64 f) k below i (eqb-false i k e)

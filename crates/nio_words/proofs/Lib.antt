@@ -7,4 +7,5 @@ pub mod Starts
 pub mod Splitting
 pub mod Joining
 pub mod Stepping
+pub mod Draws
 pub mod Gates

@@ -74,6 +74,7 @@ allowed l slots id v carried me p f act unspent has moves may s kept homes at fi
           past = kept.history;
           begins = known.begins;
           own = known.own;
+          own_me = known.own me has;
           legal = subst (λ l'. IsLegal l' (kept.history ++ e ∷ [])) (sym known.limits) (legal_more l kept.history e kept.legal step);
           whole = λ alone. sym (kept.alone id v at alone);
           after = refl;
@@ -90,21 +91,21 @@ clause_of l Holds' me (DrawBit n true) before past after legal clause =
 clause_of l Holds' me act before past after legal clause = clause
 
 -- what a step tells gives its clause
-pub history_clause : (v : View) (me : CallerNo) (act : Act) (w : View) → HasBit v.numbers me.0 → Adds v v.numbers me act w → HistoryClause v.limits (λ n. HasBit v.numbers n.0) me (act ∷ []) v.seen w.seen
-history_clause v me act w has_me adds =
+pub history_clause : (v : View) (numbers : ℕ) (me : CallerNo) (act : Act) (w : View) → Adds v numbers me act w → HistoryClause v.limits (λ n. HasBit v.numbers n.0) me (act ∷ []) v.seen w.seen
+history_clause v numbers me act w adds =
     let e : Event = event_of me act in
     let now : w.seen ≡ adds.past ++ e ∷ [] = ap (λ x. x.seen) adds.after in
     subst (λ es. HistoryClause v.limits (λ n. HasBit v.numbers n.0) me (act ∷ []) v.seen es) (sym now) record {
       legal = adds.legal;
       goes_on = (adds.begins.0 ++ e ∷ [], sym (append_assoc v.seen adds.begins.0 (e ∷ [])) ∙ ap (λ es. es ++ e ∷ []) adds.begins.1);
-      own = mine-own me adds.past e (eq-eqb me.0 me.0 refl) ∙ ap (λ acts. acts ++ act ∷ []) (adds.own me has_me);
+      own = mine-own me adds.past e (eq-eqb me.0 me.0 refl) ∙ ap (λ acts. acts ++ act ∷ []) adds.own_me;
       others = λ n has other. mine-other n adds.past e (ne_eqb me.0 n.0 (λ same. other (same_number n me (sym same)))) ∙ adds.own n has;
       ends = fold-append (λ _ x. Some x) None adds.past (e ∷ []);
     }
 
-pub step_taken : (w : Words) (p q : Pass) (me : CallerNo) (act : Act) → IsPassOf w p → Holds p me → q.seat.table_id ≡ p.seat.table_id → Adds (view_of p) (view_of p).numbers me act (view_of q) → Steps w p q me act
-step_taken w p q me act pass has table adds =
-    let clause : HistoryClause w.limits (Holds p) me (act ∷ []) (seen p) (seen q) = subst (λ l. HistoryClause l (Holds p) me (act ∷ []) (seen p) (seen q)) pass.limits (history_clause (view_of p) me act (view_of q) has adds) in
+pub step_taken : (w : Words) (p q : Pass) (me : CallerNo) (act : Act) → IsPassOf w p → q.seat.table_id ≡ p.seat.table_id → Adds (view_of p) (view_of p).numbers me act (view_of q) → Steps w p q me act
+step_taken w p q me act pass table adds =
+    let clause : HistoryClause w.limits (Holds p) me (act ∷ []) (seen p) (seen q) = subst (λ l. HistoryClause l (Holds p) me (act ∷ []) (seen p) (seen q)) pass.limits (history_clause (view_of p) (view_of p).numbers me act (view_of q) adds) in
     let legal : IsLegal w.limits (adds.past ++ event_of me act ∷ []) = subst (λ l. IsLegal l (adds.past ++ event_of me act ∷ [])) pass.limits adds.legal in
     record {
       pass = record {

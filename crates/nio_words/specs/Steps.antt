@@ -60,6 +60,7 @@ pub record Adds (v : View) (numbers : ℕ) (me : CallerNo) (act : Act) (w : View
   pub past : List Event
   pub begins : IsPrefix v.seen past
   pub own : (n : CallerNo) → HasBit v.numbers n.0 → mine n past ≡ mine n v.seen
+  pub own_me : mine me past ≡ mine me v.seen
   pub legal : IsLegal v.limits (past ++ event_of me act ∷ [])
   pub whole : v.alone ≡ true → past ≡ v.seen
   pub after : w ≡ record v { seen = past ++ event_of me act ∷ []; numbers = numbers; halves = [] }

@@ -14,5 +14,5 @@ perform-requires-clause-rule g c =
 
 pub returns : goal.returns
 returns g c = record {
-  step = step_taken c.args.self.now c.args.p.now _ g.doing.who _ c.requires.0.pass c.requires.0.number c.perform.ensures.seat.0 c.perform.ensures.told.1;
+  step = step_taken c.args.self.now c.args.p.now _ g.doing.who _ c.requires.0.pass c.perform.ensures.seat.0 c.perform.ensures.told.1;
 }
