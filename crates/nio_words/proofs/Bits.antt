@@ -10,11 +10,8 @@ use Rattle.nio_event.specs.State.{put}
 use Rattle.nio_event.proofs.Put.{put-same}
 use Rattle.nio_words.specs.Decodings.{is_set}
 use Rattle.nio_words.specs.Encodings.{bit}
+use Rattle.nio_words.specs.Instructions.{one_bit}
 use Rattle.nio_words.specs.Rule.{HasBit}
-
--- the word that has bit k alone
-abbrev pub one_bit : ℕ → ℕ
-one_bit k = 1 * 2 ^ k % 2 ^ 64
 
 pub none_has : (n : ℕ) → HasBit 0 n → ⊥
 none_has n has = let e : bit_at 0 n ≡ 0 = bit_at-zero n in omega arith

@@ -27,7 +27,8 @@ use Rattle.nio_words.proofs.Bits.{none_has, more_has, new_has, left_has, reads_b
 use Rattle.nio_words.proofs.Keeps.{AddsTo, added, looked, held_here, Elsewhere}
 use Rattle.nio_words.proofs.Stepping.{history_clause}
 use Rattle.nio_words.specs.Decodings.{is_set}
-use Rattle.nio_words.specs.Drawing.{Draws, TellsDrawn, bit_of}
+use Rattle.nio_words.specs.Drawing.{Draws, TellsDrawn}
+use Rattle.nio_words.specs.Instructions.{one_bit}
 use Rattle.nio_words.specs.Passes.{view_of, seen, numbers_of, Holds, IsPassOf}
 use Rattle.nio_words.specs.Rule.{HasBit, Knows, IsKept}
 use Rattle.nio_words.specs.Steps.{Adds, Looks}
@@ -41,7 +42,7 @@ module _ (l : Limits) (s : Table (Unit {0}) View) (kept : IsKept l s) (id : ℕ)
   -- what the step may do at this moment
   pub May : List (ℕ × Unit {0}) → Bool → Type 0
   May carried found =
-      (w : View) × (a : TableAct (Unit {0})) × Valid s.homes carried a × IsKept l (stepped s 0 (bit_or (slice_index s.words 0) (bit_of number)) id carried w a)
+      (w : View) × (a : TableAct (Unit {0})) × Valid s.homes carried a × IsKept l (stepped s 0 (bit_or (slice_index s.words 0) (one_bit number.0)) id carried w a)
       × ((carried_after carried a ≡ carried) × TellsDrawn v number found w)
 
   known : Knows l kept.history v
@@ -65,12 +66,12 @@ module _ (l : Limits) (s : Table (Unit {0}) View) (kept : IsKept l s) (id : ℕ)
             drawn = known.drawn;
             halves = λ i d h. absurd (omega arith);
           } in
-      let same : bit_or (slice_index s.words 0) (bit_of number) ≡ slice_index s.words 0 =
-            ap (λ n. bit_or n (bit_of number)) word ∙ (sets_again (state_after kept.history).drawn number.0 below drawn ∙ sym word) in (
+      let same : bit_or (slice_index s.words 0) (one_bit number.0) ≡ slice_index s.words 0 =
+            ap (λ n. bit_or n (one_bit number.0)) word ∙ (sets_again (state_after kept.history).drawn number.0 below drawn ∙ sym word) in (
         w,
         keeps,
         tt,
-        looked l s kept id v here unspent w knows refl refl unspent known.begins (set s.words 0 (bit_or (slice_index s.words 0) (bit_of number)))
+        looked l s kept id v here unspent w knows refl refl unspent known.begins (set s.words 0 (bit_or (slice_index s.words 0) (one_bit number.0)))
           (ap (set s.words 0) same ∙ set-get_or s.words 0 0) s.homes,
         (
           refl,
@@ -101,7 +102,7 @@ module _ (l : Limits) (s : Table (Unit {0}) View) (kept : IsKept l s) (id : ℕ)
   finds_undrawn carried undrawn =
       let e : Event = event_of number (DrawBit number false) in
       let st = state_after kept.history in
-      let w : View = record v { seen = kept.history ++ e ∷ []; numbers = bit_or v.numbers (bit_of number); halves = [] } in
+      let w : View = record v { seen = kept.history ++ e ∷ []; numbers = bit_or v.numbers (one_bit number.0); halves = [] } in
       let step : IsStep l kept.history e = record { by_caller = is_caller; condition = (is_caller, refl, refl); answers = ap flag (sym undrawn) } in
       let drawn_now : put st.drawn number.0 true number.0 ≡ true = put-same st.drawn number.0 true in
       let no_event : mine number kept.history ≡ [] = kept.undrawn number undrawn in
@@ -124,13 +125,13 @@ module _ (l : Limits) (s : Table (Unit {0}) View) (kept : IsKept l s) (id : ℕ)
               | inr old ↦ held_here l s kept id v here unspent n old
             ];
           } in
-      let new_word : bit_or (slice_index s.words 0) (bit_of number) ≡ bits_below 64 (put st.drawn number.0 true) =
-            ap (λ n. bit_or n (bit_of number)) word ∙ sets_bit st.drawn number.0 below in (
+      let new_word : bit_or (slice_index s.words 0) (one_bit number.0) ≡ bits_below 64 (put st.drawn number.0 true) =
+            ap (λ n. bit_or n (one_bit number.0)) word ∙ sets_bit st.drawn number.0 below in (
         w,
         keeps,
         tt,
-        added l s kept id v here unspent w e Callers (bit_or (slice_index s.words 0) (bit_of number)) adds tt refl new_word
-          (or_lt 64 (slice_index s.words 0) (bit_of number) (kept.encoded Callers tt).small (one_bit-lt number.0)) s.homes,
+        added l s kept id v here unspent w e Callers (bit_or (slice_index s.words 0) (one_bit number.0)) adds tt refl new_word
+          (or_lt 64 (slice_index s.words 0) (one_bit number.0) (kept.encoded Callers tt).small (one_bit-lt number.0)) s.homes,
         (
           refl,
           record {
@@ -153,7 +154,7 @@ module _ (l : Limits) (s : Table (Unit {0}) View) (kept : IsKept l s) (id : ℕ)
       by_test false e = subst (May carried) (sym (reads ∙ e)) (finds_undrawn carried e)
 
 pub draw_allowed : (l : Limits) (slots id : ℕ) (v : View) (carried : List (ℕ × Unit {0})) (number : CallerNo) → number.0 < 64 → v.spent ≡ false → IsCaller l number
-    → Allows (IsKept l) slots id (v, carried) 0 (λ n. bit_or n (bit_of number)) (λ n after. (after.1 ≡ carried) × TellsDrawn v number (is_set n number.0) after.0)
+    → Allows (IsKept l) slots id (v, carried) 0 (λ n. bit_or n (one_bit number.0)) (λ n after. (after.1 ≡ carried) × TellsDrawn v number (is_set n number.0) after.0)
 unfolding May
 draw_allowed l slots id v carried number below unspent is_caller s kept homes at fits = may_draw l s kept id v at unspent number below is_caller carried
 
@@ -165,8 +166,8 @@ draws_undrawn w p q number below is_caller pass table adds =
     let e : Event = event_of number (DrawBit number false) in
     let clause : HistoryClause w.limits (Holds p) number (DrawBit number false ∷ []) (seen p) (seen q) =
           subst (λ l. HistoryClause l (Holds p) number (DrawBit number false ∷ []) (seen p) (seen q)) pass.limits
-            (history_clause (view_of p) (bit_or (numbers_of p) (bit_of number)) number (DrawBit number false) (view_of q) adds) in
-    let numbers : numbers_of q ≡ bit_or (numbers_of p) (bit_of number) = ap (λ x. x.numbers) adds.after in
+            (history_clause (view_of p) (bit_or (numbers_of p) (one_bit number.0)) number (DrawBit number false) (view_of q) adds) in
+    let numbers : numbers_of q ≡ bit_or (numbers_of p) (one_bit number.0) = ap (λ x. x.numbers) adds.after in
     let which : (n : CallerNo) → Holds q n → (n.0 ≡ number.0) ⊎ Holds p n = λ n has. more_has (numbers_of p) number.0 n.0 below (subst (λ (k : ℕ). HasBit k n.0) numbers has) in
     record {
       pass = record {
@@ -176,7 +177,7 @@ draws_undrawn w p q number below is_caller pass table adds =
         callers = λ n has. elim (which n has) [ inl same ↦ subst (λ (k : ℕ). k < w.limits.callers) (sym same) is_caller | inr old ↦ pass.callers n old ];
       };
       clause = clause;
-      keeps = λ n has. subst (λ (k : ℕ). HasBit k n.0) (sym numbers) (left_has (numbers_of p) (bit_of number) n.0 has);
+      keeps = λ n has. subst (λ (k : ℕ). HasBit k n.0) (sym numbers) (left_has (numbers_of p) (one_bit number.0) n.0 has);
       holds = λ _. subst (λ (k : ℕ). HasBit k number.0) (sym numbers) (new_has (numbers_of p) number.0 below);
       others = λ n has other. elim (which n has) [ inl same ↦ absurd (other (same_number n number same)) | inr old ↦ old ];
       same = λ clash. absurd cc;

@@ -13,6 +13,7 @@ use Rattle.nio_event.specs.declared.found.GateWord.{GateWord}
 use Rattle.nio_words.specs.Decodings.{is_set, gate_of}
 use Rattle.nio_words.specs.Encodings.{bit, gate_word}
 use Rattle.nio_words.specs.Steps.{Moves}
+use Rattle.nio_words.specs.declared.instruction.Instruction.TheVariants.{Load, SetBit}
 use Rattle.nio_words.specs.declared.part.Part.TheVariants.{Gate}
 
 sets_woken : (woken shut : Bool) → bit_or (bit woken + 2 * bit shut) 1 ≡ 1 + 2 * bit shut
@@ -36,18 +37,20 @@ reads_shut false false = refl
 reads_gate : (g : GateWord) → gate_of (gate_word g) ≡ g
 reads_gate g = λ k. record { woken = reads_woken g.woken g.shut k; shut = reads_shut g.woken g.shut k }
 
-pub wake_moves : (l : Limits) (me : CallerNo) (s : SelNo) → IsSelector l s → Moves l me (Gate s.0) (λ n. bit_or n 1) (λ n. Wake s (is_set n 0))
+pub wake_moves : (l : Limits) (me : CallerNo) (s : SelNo) → IsSelector l s → Moves l me (Gate s.0) (SetBit 0) (λ n. Wake s (is_set n 0))
 wake_moves l me s below = record {
   within = below;
+  bit = omega arith;
   part = λ n. refl;
   word = λ st small. sets_woken (st.gate s.0).woken (st.gate s.0).shut ∙ ap gate_word (sym (put-same st.gate s.0 (record (st.gate s.0) { woken = true })));
   small = λ n small. or_lt 2 n 1 small (omega arith);
   answers = λ st small. ap flag (reads_woken (st.gate s.0).woken (st.gate s.0).shut);
 }
 
-pub look_gate_moves : (l : Limits) (me : CallerNo) (s : SelNo) → IsSelector l s → Moves l me (Gate s.0) (λ n. n) (λ n. LookGate s (gate_of n))
+pub look_gate_moves : (l : Limits) (me : CallerNo) (s : SelNo) → IsSelector l s → Moves l me (Gate s.0) Load (λ n. LookGate s (gate_of n))
 look_gate_moves l me s below = record {
   within = below;
+  bit = tt;
   part = λ n. refl;
   word = λ st small. refl;
   small = λ n small. small;

@@ -9,3 +9,8 @@ pub mod Joining
 pub mod Stepping
 pub mod Draws
 pub mod Gates
+pub mod Interests
+pub mod Interrupts
+pub mod Keys
+pub mod Notes
+pub mod Selectors

@@ -22,21 +22,23 @@ use Rattle.nio_event.specs.declared.event.Event.{Event}
 use Rattle.nio_words.proofs.Beginnings.{same_number}
 use Rattle.nio_words.proofs.Keeps.{AddsTo, added, held_here}
 use Rattle.nio_words.specs.Encodings.{encoding, bound}
+use Rattle.nio_words.specs.Instructions.{applied}
 use Rattle.nio_words.specs.Passes.{view_of, seen, Holds, HoldSame, IsOnly, IsPassOf}
 use Rattle.nio_words.specs.Places.{place}
 use Rattle.nio_words.specs.Rule.{HasBit, IsKept}
 use Rattle.nio_words.specs.Steps.{Adds, Moves, Steps}
+use Rattle.nio_words.specs.declared.instruction.Instruction.{Instruction}
 use Rattle.nio_words.specs.declared.part.Part.{Part}
 use Rattle.nio_words.specs.declared.view.View.{View}
 use Rattle.nio_words.specs.declared.words.Pass.{Pass}
 use Rattle.nio_words.specs.declared.words.Words.{Words}
 
 -- whatever the table is at that moment, the step may be made
-pub allowed : (l : Limits) (slots id : ℕ) (v : View) (carried : _) (me : CallerNo) (p : Part) (f : ℕ → ℕ) (act : ℕ → Act)
-    → v.spent ≡ false → HasBit v.numbers me.0 → Moves l me p f act
+pub allowed : (l : Limits) (slots id : ℕ) (v : View) (carried : _) (me : CallerNo) (p : Part) (instruction : Instruction) (act : ℕ → Act)
+    → v.spent ≡ false → HasBit v.numbers me.0 → Moves l me p instruction act
     → ((n : ℕ) → Condition v.limits (mine me v.seen) (state_after v.seen) me (act n))
-    → Allows (IsKept l) slots id (v, carried) (place l p) f (λ n after. (after.1 ≡ carried) × Adds v v.numbers me (act n) after.0)
-allowed l slots id v carried me p f act unspent has moves may s kept homes at fits =
+    → Allows (IsKept l) slots id (v, carried) (place l p) (applied instruction) (λ n after. (after.1 ≡ carried) × Adds v v.numbers me (act n) after.0)
+allowed l slots id v carried me p instruction act unspent has moves may s kept homes at fits =
     let known = kept.each id v at unspent in
     let n : ℕ = slice_index s.words (place l p) in
     let e : Event = event_of me (act n) in
@@ -63,11 +65,11 @@ allowed l slots id v carried me p f act unspent has moves may s kept homes at fi
           drawn = λ k has'. drawn_lasts (state_after kept.history) me (act n) k (known.drawn k has');
           numbers = held_here l s kept id v at unspent;
         } in
-    let word : f n ≡ encoding (effect (state_after kept.history) me (act n)) p = subst (λ (k : ℕ). f k ≡ encoding (effect (state_after kept.history) me (act k)) p) is_word (moves.word (state_after kept.history) small) in (
+    let word : applied instruction n ≡ encoding (effect (state_after kept.history) me (act n)) p = subst (λ (k : ℕ). applied instruction k ≡ encoding (effect (state_after kept.history) me (act k)) p) is_word (moves.word (state_after kept.history) small) in (
       w,
       keeps,
       tt,
-      added l s kept id v at unspent w e p (f n) adds moves.within (moves.part n) word (moves.small n here.small) s.homes,
+      added l s kept id v at unspent w e p (applied instruction n) adds moves.within (moves.part n) word (moves.small n here.small) s.homes,
       (
         refl,
         record {

@@ -19,3 +19,6 @@ stage_of word = record {
   removed = is_set word 3;
   chan = record { 0 = word / 2 ^ 32 };
 }
+
+abbrev pub operations_of : ℕ → ℕ
+operations_of word = word % 256

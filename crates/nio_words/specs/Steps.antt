@@ -13,10 +13,12 @@ use Rattle.nio_event.specs.State.{State}
 use Rattle.nio_event.specs.declared.act.Act.{Act}
 use Rattle.nio_event.specs.declared.event.Event.{Event}
 use Rattle.nio_words.specs.Encodings.{encoding, bound}
+use Rattle.nio_words.specs.Instructions.{applied, IsInWord}
 use Rattle.nio_words.specs.Passes.{view_of, seen, state_seen, Holds, HoldSame, IsOnly, IsPassOf, limits_of}
 use Rattle.nio_words.specs.Parts.{part_of}
 use Rattle.nio_words.specs.Places.{IsWithin}
 use Rattle.nio_words.specs.Rule.{HasBit, StandsIn}
+use Rattle.nio_words.specs.declared.instruction.Instruction.{Instruction}
 use Rattle.nio_words.specs.declared.part.Part.{Part}
 use Rattle.nio_words.specs.declared.view.View.{View}
 use Rattle.nio_words.specs.declared.words.Pass.{Pass}
@@ -74,9 +76,10 @@ pub record Recalls (v w : View) : Type 0 where
 
 -- What a kind of step owes: on the word of its part its instruction does what its act does to that
 -- part, and it finds what the act finds.
-pub record Moves (l : Limits) (me : CallerNo) (p : Part) (f : ℕ → ℕ) (act : ℕ → Act) : Type 0 where
+pub record Moves (l : Limits) (me : CallerNo) (p : Part) (instruction : Instruction) (act : ℕ → Act) : Type 0 where
   pub within : IsWithin l p
+  pub bit : IsInWord instruction
   pub part : (n : ℕ) → part_of (act n) ≡ p
-  pub word : (st : State) → encoding st p < bound p → f (encoding st p) ≡ encoding (effect st me (act (encoding st p))) p
-  pub small : (n : ℕ) → n < bound p → f n < bound p
+  pub word : (st : State) → encoding st p < bound p → applied instruction (encoding st p) ≡ encoding (effect st me (act (encoding st p))) p
+  pub small : (n : ℕ) → n < bound p → applied instruction n < bound p
   pub answers : (st : State) → encoding st p < bound p → Answers st me (act (encoding st p))

@@ -1,8 +1,8 @@
 //! What the words of the parts tell.
 ghost use Rattle.std.specs.Prelude.{◌≡◌, ◌<◌};
-ghost use Rattle.nio_words.specs.Decodings.{is_set, gate_of, stage_of};
+ghost use Rattle.nio_words.specs.Decodings.{is_set, gate_of, stage_of, operations_of};
 
-use nio_base::ChanNo;
+use nio_base::{ChanNo, Ops};
 use nio_event::{GateWord, Stage};
 
 /// Whether bit `k` is set.
@@ -35,4 +35,11 @@ pub(crate) fn stage_of(word: u64) -> Stage
         removed: is_set(word, 3),
         chan: ChanNo((word >> 32) as u32),
     }
+}
+
+#[inline(always)]
+pub(crate) fn operations_of(word: u64) -> Ops
+    ensures { result ≡ operations_of word }
+{
+    Ops::of((word % 256) as u8)
 }

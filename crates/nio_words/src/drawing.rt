@@ -29,11 +29,11 @@ impl Words {
         requires number { IsCaller (limits_of self.now) number }
         ensures { Draws self.now p.old p.new who result }
     {
-        let bit = 1 << number.0;
-        let callers = self.perform::<Brand>(&mut p.seat, 0, Instruction::Or(bit));
+        let set = Instruction::SetBit(number.0);
+        let callers = self.perform::<Brand>(&mut p.seat, 0, set);
         let drawn = is_set(callers, number.0);
         if !drawn {
-            p.numbers |= bit;
+            p.numbers |= 1 << number.0;
         }
         drawn
     }

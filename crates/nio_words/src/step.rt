@@ -1,6 +1,6 @@
 //! The one function that makes every step.
 ghost use Rattle.std.specs.Prelude.{◌≡◌, ◌<◌};
-ghost use Rattle.nio_words.specs.Instructions.{applied};
+ghost use Rattle.nio_words.specs.Instructions.{applied, IsInWord};
 ghost use Rattle.nio_words.specs.Passes.{IsReady, limits_of};
 ghost use Rattle.nio_words.specs.Steps.{Doing, MayDo, Moves, Steps, any_step};
 ghost use Rattle.nio_words.specs.Rule.{IsKept};
@@ -30,6 +30,7 @@ impl Words {
     ) -> u64
         requires table { seat.old.table_id ≡ self.now.table.shared.table_id }
         requires inside { word < self.now.table.shared.table_id.words }
+        requires bit { IsInWord instruction }
         requires rule { Allows (IsKept self.now.table.shared.key) self.now.table.shared.table_id.slots seat.old.id seat.old.me word (applied instruction) (M.then any_step seat.old.me) }
         ensures seat { (seat.new.table_id ≡ seat.old.table_id) × (seat.new.id ≡ seat.old.id) }
         ensures told { M.then any_step seat.old.me result seat.new.me }
@@ -37,6 +38,8 @@ impl Words {
         let shared = &self.table.shared;
         match instruction {
             Instruction::Load => shared.load::<Brand>(seat, word),
+            Instruction::SetBit(k) => shared.fetch_or::<Brand>(seat, word, 1 << k),
+            Instruction::ClearBit(k) => shared.fetch_and::<Brand>(seat, word, !(1 << k)),
             Instruction::Or(bits) => shared.fetch_or::<Brand>(seat, word, bits),
             Instruction::And(bits) => shared.fetch_and::<Brand>(seat, word, bits),
             Instruction::Max(number) => shared.fetch_max::<Brand>(seat, word, number),
@@ -58,7 +61,7 @@ impl Words {
     ) -> u64
         ghost doing: { Doing }
         requires ready { IsReady self.now p.old doing.who }
-        requires moves { Moves (limits_of self.now) doing.who part (applied instruction) doing.act }
+        requires moves { Moves (limits_of self.now) doing.who part instruction doing.act }
         requires condition { MayDo self.now p.old doing }
         ensures step { Steps self.now p.old p.new doing.who (doing.act result) }
     {

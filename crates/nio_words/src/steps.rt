@@ -2,3 +2,8 @@
 //! event to the history.
 
 mod gates;
+mod interest;
+mod interrupts;
+mod keys;
+mod notes;
+mod selectors;

@@ -20,7 +20,7 @@ impl Words {
         requires made { IsTrue ((state_seen p.old).selector s.0) }
         ensures { Steps self.now p.old p.new me (Wake s result) }
     {
-        let found = self.step(p, me, Part::Gate(s.0), Instruction::Or(1));
+        let found = self.step(p, me, Part::Gate(s.0), Instruction::SetBit(0));
         is_set(found, 0)
     }
 
