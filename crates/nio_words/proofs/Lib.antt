@@ -14,3 +14,4 @@ pub mod Interrupts
 pub mod Keys
 pub mod Notes
 pub mod Selectors
+pub mod Whole

@@ -8,3 +8,4 @@ pub mod Sharing
 pub mod Parts
 pub mod Steps
 pub mod Drawing
+pub mod Whole

@@ -22,7 +22,7 @@ pub enum DrawError {
 }
 
 impl Words {
-    fn draw_as(&self, p: &mut Pass, number: CallerNo) -> bool
+    fn draw_as(&self, p: &mut Pass, _me: CallerNo, number: CallerNo) -> bool
         ghost who: { Number }
         requires who { who ≡ number }
         requires pass { IsPassOf self.now p.old }
@@ -46,8 +46,7 @@ impl Words {
         requires own { me ≡ number }
         ensures { Draws self.now p.old p.new number result }
     {
-        let _me = me;
-        self.draw_as(p, number)
+        self.draw_as(p, me, number)
     }
 
     /// Makes the pass hold the number, so that it may step as that caller.

@@ -3,11 +3,13 @@
 #![tactic(auto)]
 
 pub use drawing::DrawError;
+pub use laws::whole_law;
 pub use words::{Pass, Words};
 
 mod decode;
 mod drawing;
 mod instruction;
+mod laws;
 mod part;
 mod sharing;
 mod step;
