@@ -15,3 +15,4 @@ pub mod Keys
 pub mod Notes
 pub mod Selectors
 pub mod Whole
+pub mod Seen

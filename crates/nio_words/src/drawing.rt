@@ -52,7 +52,8 @@ impl Words {
     /// Makes the pass hold the number, so that it may step as that caller.
     pub fn draw(&self, p: &mut Pass, number: CallerNo) -> Result<(), DrawError>
         requires { IsPassOf self.now p.old }
-        ensures { Drawn self.now p.old p.new number result }
+        ensures pass { IsPassOf self.now p.new }
+        ensures answer { Drawn self.now p.old p.new number result }
     {
         if number.0 >= self.limits.callers {
             return Err(DrawError::NoSuchCaller);

@@ -15,5 +15,7 @@ mod sharing;
 mod step;
 mod steps;
 mod table;
+#[cfg(test)]
+mod tests;
 mod view;
 mod words;
