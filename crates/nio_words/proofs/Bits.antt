@@ -54,8 +54,10 @@ less_has numbers k n fits below has = by_test (n == k) refl
       where
         small : bit_and numbers (bit_not w64 (one_bit k)) < 2 ^ 64
         small = let le = and_le_l numbers (bit_not w64 (one_bit k)) in omega arith
+
         by_bound : (b : Bool) → (n == n) ≡ b → n < 64
         by_bound b e = grind (arith, bit_at_above (bit_and numbers (bit_not w64 (one_bit k))) 64 n small)
+
     by_test : (b : Bool) → (n == k) ≡ b → (n ≢ k) × HasBit numbers n
     by_test true e =
         let same : n ≡ k = eqb-true n k e in
@@ -121,15 +123,17 @@ bit_at-bits_below (suc k) f i h = by_test (i == k) refl (λ lower. bit_at-bits_b
     as_block : (b : Bool) → bits_below k f + (if b then 2 ^ k else 0) ≡ bit b * 2 ^ k + bits_below k f
     as_block true = omega arith
     as_block false = omega arith
+
     top : (b : Bool) → bit_at (bit b) 0 ≡ bit b
     top true = refl
     top false = refl
+
     by_test : (t : Bool) → (i == k) ≡ t → (i < k → bit_at (bits_below k f) i ≡ bit (f i)) → bit_at (bits_below k f + (if f k then 2 ^ k else 0)) i ≡ bit (f i)
     by_test true e rest =
         let same : i ≡ k = eqb-true i k e in
         let zero_left : i - k ≡ 0 = omega arith in
         ap (λ m. bit_at m i) (as_block (f k)) ∙ (bit_at_cat_high (bit (f k)) k (bits_below k f) i (bits_below-lt k f) (omega arith)
-          ∙ (ap (bit_at (bit (f k))) zero_left ∙ (top (f k) ∙ ap (λ m. bit (f m)) (sym same))))
+        ∙ (ap (bit_at (bit (f k))) zero_left ∙ (top (f k) ∙ ap (λ m. bit (f m)) (sym same))))
     by_test false e rest =
         let ne : i ≢ k = eqb-false i k e in
         let lower : i < k = omega arith in
@@ -158,7 +162,7 @@ sets_bit f k below = same_from_bits_below 64 _ _ (or_lt 64 _ _ (bits_below-lt 64
         by_test true e =
             let same : i ≡ k = eqb-true i k e in
             subst (λ (m : ℕ). bit_at (bit_or (bits_below 64 f) (one_bit k)) m ≡ bit_at (bits_below 64 (put f k true)) m) (sym same)
-              (bit_at_set_same w64 (bits_below 64 f) k below ∙ sym (bit_at-bits_below 64 (put f k true) k below ∙ ap bit (put-same f k true)))
+            (bit_at_set_same w64 (bits_below 64 f) k below ∙ sym (bit_at-bits_below 64 (put f k true) k below ∙ ap bit (put-same f k true)))
         by_test false e =
             let ne = eqb-false i k e in
             bit_at_set_other w64 (bits_below 64 f) k below i ne ∙ (bit_at-bits_below 64 f i inside ∙ sym (bit_at-bits_below 64 (put f k true) i inside ∙ bit-put f k true i ne))
@@ -168,6 +172,7 @@ clears_bit f k below = same_from_bits_below 64 _ _ small (bits_below-lt 64 (put 
   where
     small : bit_and (bits_below 64 f) (bit_not w64 (one_bit k)) < 2 ^ 64
     small = let le = and_le_l (bits_below 64 f) (bit_not w64 (one_bit k)) in let lt = bits_below-lt 64 f in omega arith
+
     each : (i : ℕ) → i < 64 → bit_at (bit_and (bits_below 64 f) (bit_not w64 (one_bit k))) i ≡ bit_at (bits_below 64 (put f k false)) i
     each i inside = by_test (i == k) refl
       where
@@ -175,7 +180,7 @@ clears_bit f k below = same_from_bits_below 64 _ _ small (bits_below-lt 64 (put 
         by_test true e =
             let same : i ≡ k = eqb-true i k e in
             subst (λ (m : ℕ). bit_at (bit_and (bits_below 64 f) (bit_not w64 (one_bit k))) m ≡ bit_at (bits_below 64 (put f k false)) m) (sym same)
-              (bit_at_clear_same w64 (bits_below 64 f) k below ∙ sym (bit_at-bits_below 64 (put f k false) k below ∙ ap bit (put-same f k false)))
+            (bit_at_clear_same w64 (bits_below 64 f) k below ∙ sym (bit_at-bits_below 64 (put f k false) k below ∙ ap bit (put-same f k false)))
         by_test false e =
             let ne = eqb-false i k e in
             bit_at_clear_other w64 (bits_below 64 f) k below i inside ne ∙ (bit_at-bits_below 64 f i inside ∙ sym (bit_at-bits_below 64 (put f k false) i inside ∙ bit-put f k false i ne))
@@ -191,5 +196,5 @@ sets_again f k below is = same_from_bits_below 64 _ _ (or_lt 64 _ _ (bits_below-
         by_test true e =
             let same : i ≡ k = eqb-true i k e in
             subst (λ (m : ℕ). bit_at (bit_or (bits_below 64 f) (one_bit k)) m ≡ bit_at (bits_below 64 f) m) (sym same)
-              (bit_at_set_same w64 (bits_below 64 f) k below ∙ sym (bit_at-bits_below 64 f k below ∙ ap bit is))
+            (bit_at_set_same w64 (bits_below 64 f) k below ∙ sym (bit_at-bits_below 64 f k below ∙ ap bit is))
         by_test false e = bit_at_set_other w64 (bits_below 64 f) k below i (eqb-false i k e)

@@ -59,20 +59,20 @@ module _ (l : Limits) (s : Table (Unit {0}) View) (kept : IsKept l s) (id : ℕ)
   finds_drawn carried drawn =
       let w : View = record v { seen = kept.history; halves = [] } in
       let knows : Knows l kept.history w = record {
-            limits = known.limits;
-            begins = prefix_self kept.history;
-            own = λ n has. refl;
-            callers = known.callers;
-            drawn = known.drawn;
-            halves = λ i d h. absurd (omega arith);
-          } in
+        limits = known.limits;
+        begins = prefix_self kept.history;
+        own = λ n has. refl;
+        callers = known.callers;
+        drawn = known.drawn;
+        halves = λ i d h. absurd (omega arith);
+      } in
       let same : bit_or (slice_index s.words 0) (one_bit number.0) ≡ slice_index s.words 0 =
-            ap (λ n. bit_or n (one_bit number.0)) word ∙ (sets_again (state_after kept.history).drawn number.0 below drawn ∙ sym word) in (
+      ap (λ n. bit_or n (one_bit number.0)) word ∙ (sets_again (state_after kept.history).drawn number.0 below drawn ∙ sym word) in (
         w,
         keeps,
         tt,
         looked l s kept id v here unspent w knows refl refl unspent known.begins (set s.words 0 (bit_or (slice_index s.words 0) (one_bit number.0)))
-          (ap (set s.words 0) same ∙ set-get_or s.words 0 0) s.homes,
+            (ap (set s.words 0) same ∙ set-get_or s.words 0 0) s.homes,
         (
           refl,
           (
@@ -107,31 +107,31 @@ module _ (l : Limits) (s : Table (Unit {0}) View) (kept : IsKept l s) (id : ℕ)
       let drawn_now : put st.drawn number.0 true number.0 ≡ true = put-same st.drawn number.0 true in
       let no_event : mine number kept.history ≡ [] = kept.undrawn number undrawn in
       let adds : AddsTo l s kept.history id v w e = record {
-            step = step;
-            caller_drawn = drawn_now;
-            caller_here = λ j u ne at has. nowhere undrawn j u at has;
-            seen = refl;
-            limits = known.limits;
-            alone = refl;
-            unspent = unspent;
-            halves = refl;
-            callers = λ n has. elim (more_has v.numbers number.0 n below has) [ inl same ↦ subst (λ (m : ℕ). m < l.callers) (sym same) is_caller | inr old ↦ known.callers n old ];
-            drawn = λ n has. elim (more_has v.numbers number.0 n below has) [
-              inl same ↦ subst (λ (m : ℕ). put st.drawn number.0 true m ≡ true) (sym same) drawn_now
-              | inr old ↦ drawn_lasts st number (DrawBit number false) n (known.drawn n old)
-            ];
-            numbers = λ n has. elim (more_has v.numbers number.0 n below has) [
-              inl same ↦ λ j u ne at has'. nowhere undrawn j u at (subst (HasBit u.numbers) same has')
-              | inr old ↦ held_here l s kept id v here unspent n old
-            ];
-          } in
+        step = step;
+        caller_drawn = drawn_now;
+        caller_here = λ j u ne at has. nowhere undrawn j u at has;
+        seen = refl;
+        limits = known.limits;
+        alone = refl;
+        unspent = unspent;
+        halves = refl;
+        callers = λ n has. elim (more_has v.numbers number.0 n below has) [ inl same ↦ subst (λ (m : ℕ). m < l.callers) (sym same) is_caller | inr old ↦ known.callers n old ];
+        drawn = λ n has. elim (more_has v.numbers number.0 n below has) [
+          | inl same ↦ subst (λ (m : ℕ). put st.drawn number.0 true m ≡ true) (sym same) drawn_now
+          | inr old ↦ drawn_lasts st number (DrawBit number false) n (known.drawn n old)
+        ];
+        numbers = λ n has. elim (more_has v.numbers number.0 n below has) [
+          | inl same ↦ λ j u ne at has'. nowhere undrawn j u at (subst (HasBit u.numbers) same has')
+          | inr old ↦ held_here l s kept id v here unspent n old
+        ];
+      } in
       let new_word : bit_or (slice_index s.words 0) (one_bit number.0) ≡ bits_below 64 (put st.drawn number.0 true) =
-            ap (λ n. bit_or n (one_bit number.0)) word ∙ sets_bit st.drawn number.0 below in (
+      ap (λ n. bit_or n (one_bit number.0)) word ∙ sets_bit st.drawn number.0 below in (
         w,
         keeps,
         tt,
         added l s kept id v here unspent w e Callers (bit_or (slice_index s.words 0) (one_bit number.0)) adds tt refl new_word
-          (or_lt 64 (slice_index s.words 0) (one_bit number.0) (kept.encoded Callers tt).small (one_bit-lt number.0)) s.homes,
+            (or_lt 64 (slice_index s.words 0) (one_bit number.0) (kept.encoded Callers tt).small (one_bit-lt number.0)) s.homes,
         (
           refl,
           record {
@@ -165,8 +165,8 @@ pub draws_undrawn : (w : Words) (p q : Pass) (number : CallerNo) → number.0 < 
 draws_undrawn w p q number below is_caller pass table adds =
     let e : Event = event_of number (DrawBit number false) in
     let clause : HistoryClause w.limits (Holds p) number (DrawBit number false ∷ []) (seen p) (seen q) =
-          subst (λ l. HistoryClause l (Holds p) number (DrawBit number false ∷ []) (seen p) (seen q)) pass.limits
-            (history_clause (view_of p) (bit_or (numbers_of p) (one_bit number.0)) number (DrawBit number false) (view_of q) adds) in
+    subst (λ l. HistoryClause l (Holds p) number (DrawBit number false ∷ []) (seen p) (seen q)) pass.limits
+    (history_clause (view_of p) (bit_or (numbers_of p) (one_bit number.0)) number (DrawBit number false) (view_of q) adds) in
     let numbers : numbers_of q ≡ bit_or (numbers_of p) (one_bit number.0) = ap (λ x. x.numbers) adds.after in
     let which : (n : CallerNo) → Holds q n → (n.0 ≡ number.0) ⊎ Holds p n = λ n has. more_has (numbers_of p) number.0 n.0 below (subst (λ (k : ℕ). HasBit k n.0) numbers has) in
     record {

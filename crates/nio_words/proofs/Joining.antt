@@ -79,14 +79,14 @@ module _ (l : Limits) (s : Table (Unit {0}) View) (kept : IsKept l s) (id : ℕ)
     limits = left_knows.limits;
     begins = long.whole;
     own = λ n has. elim (both_has v.numbers w.numbers n.0 has) [
-      inl first ↦ left_knows.own n first ∙ sym (left_between n first)
+      | inl first ↦ left_knows.own n first ∙ sym (left_between n first)
       | inr second ↦ right_knows.own n second ∙ sym (right_between n second)
     ];
     callers = λ n has. elim (both_has v.numbers w.numbers n has) [ inl first ↦ left_knows.callers n first | inr second ↦ right_knows.callers n second ];
     drawn = λ n has. elim (both_has v.numbers w.numbers n has) [ inl first ↦ left_knows.drawn n first | inr second ↦ right_knows.drawn n second ];
     halves = both_of (StandsIn (longer v.seen w.seen)) (half v) (half w)
-      record { begins = long.first; own = left_between }
-      record { begins = long.second; own = right_between };
+        record { begins = long.first; own = left_between }
+        record { begins = long.second; own = right_between };
   }
 
   -- a seat of the table after it: the joined one, the spent one, or another seat as it was
@@ -97,7 +97,7 @@ module _ (l : Limits) (s : Table (Unit {0}) View) (kept : IsKept l s) (id : ℕ)
 
   seat_at : (j : ℕ) (u : View) → get_elem? (set (set s.views id (joined_view v w)) from spent_view) j ≡ some u → Seat j u
   seat_at j u at = elim (at_set (set s.views id (joined_view v w)) from j spent_view u at) [
-    inl same ↦ spent same.0 same.1
+    | inl same ↦ spent same.0 same.1
     | inr else ↦ elim (at_set s.views id j (joined_view v w) u else.1) [ inl same ↦ joined same.0 same.1 | inr else' ↦ other else.0 else'.0 else'.1 ]
   ]
 
@@ -109,7 +109,8 @@ module _ (l : Limits) (s : Table (Unit {0}) View) (kept : IsKept l s) (id : ℕ)
   -- a number that the joined seat has is in no other
   no_other : (j : ℕ) (u : View) (n : ℕ) → j ≢ from → j ≢ id → get_elem? s.views j ≡ some u → HasBit u.numbers n → HasBit (bit_or v.numbers w.numbers) n → ⊥
   no_other j u n ne ne' at has has' = elim (both_has v.numbers w.numbers n has') [
-    inl first ↦ ne' (kept.one_seat j id u v n at here has first) | inr second ↦ ne (kept.one_seat j from u w n at there has second)
+    | inl first ↦ ne' (kept.one_seat j id u v n at here has first)
+    | inr second ↦ ne (kept.one_seat j from u w n at there has second)
   ]
 
   one_seat : (i j : ℕ) (x y : View) (n : ℕ) → Seat i x → Seat j y → HasBit x.numbers n → HasBit y.numbers n → i ≡ j
@@ -145,14 +146,25 @@ module _ (l : Limits) (s : Table (Unit {0}) View) (kept : IsKept l s) (id : ℕ)
     where
       by_test : (t t' : Bool) → (kept.longest.0 == id) ≡ t → (kept.longest.0 == from) ≡ t'
           → (i : ℕ) × (u : View) × (get_elem? (set (set s.views id (joined_view v w)) from spent_view) i ≡ some u) × (u.seen ≡ kept.history)
-      by_test true t' e e' = (id, joined_view v w, joined_at,
-        whole_of v.seen (ap (λ x. x.seen) (sym (its_own l s kept id v here unspent kept.longest.0 kept.longest.1 kept.longest.2 (eqb-true kept.longest.0 id e))) ∙ kept.longest.3) long.first)
-      by_test false true e e' = (id, joined_view v w, joined_at,
-        whole_of w.seen (ap (λ x. x.seen) (sym (its_other kept.longest.0 kept.longest.1 kept.longest.2 (eqb-true kept.longest.0 from e'))) ∙ kept.longest.3) long.second)
-      by_test false false e e' = (kept.longest.0, kept.longest.1,
+      by_test true t' e e' = (
+        id,
+        joined_view v w,
+        joined_at,
+        whole_of v.seen (ap (λ x. x.seen) (sym (its_own l s kept id v here unspent kept.longest.0 kept.longest.1 kept.longest.2 (eqb-true kept.longest.0 id e))) ∙ kept.longest.3) long.first,
+      )
+      by_test false true e e' = (
+        id,
+        joined_view v w,
+        joined_at,
+        whole_of w.seen (ap (λ x. x.seen) (sym (its_other kept.longest.0 kept.longest.1 kept.longest.2 (eqb-true kept.longest.0 from e'))) ∙ kept.longest.3) long.second,
+      )
+      by_test false false e e' = (
+        kept.longest.0,
+        kept.longest.1,
         set_else (set s.views id (joined_view v w)) from kept.longest.0 spent_view (eqb-false kept.longest.0 from e')
-          ∙ (set_else s.views id kept.longest.0 (joined_view v w) (eqb-false kept.longest.0 id e) ∙ kept.longest.2),
-        kept.longest.3)
+            ∙ (set_else s.views id kept.longest.0 (joined_view v w) (eqb-false kept.longest.0 id e) ∙ kept.longest.2),
+        kept.longest.3,
+      )
 
   pub brought_together : IsKept l record { words = s.words; homes = s.homes; views = set (set s.views id (joined_view v w)) from spent_view }
   brought_together = record {
@@ -183,13 +195,13 @@ recalls_allowed l slots id v carried i unspent s kept homes at fits =
     let known = kept.each id v at unspent in
     let w : View = record v { halves = [] } in
     let knows : Knows l kept.history w = record {
-          limits = known.limits;
-          begins = known.begins;
-          own = known.own;
-          callers = known.callers;
-          drawn = known.drawn;
-          halves = λ k d h. absurd (omega arith);
-        } in
+      limits = known.limits;
+      begins = known.begins;
+      own = known.own;
+      callers = known.callers;
+      drawn = known.drawn;
+      halves = λ k d h. absurd (omega arith);
+    } in
     let legal : IsLegal l v.seen = legal_beginning l v.seen known.begins.0 (subst (IsLegal l) (sym known.begins.1) kept.legal) in (
       w,
       keeps,
@@ -220,7 +232,8 @@ joins_clause w p p' q pass other_pass table recalls =
       numbers = λ n. (
         split_number n,
         λ either. subst (λ (k : ℕ). HasBit k n.0) (sym numbers) (elim either [
-          inl at_p ↦ left_has (numbers_of p) (numbers_of p') n.0 at_p | inr at_other ↦ right_has (numbers_of p) (numbers_of p') n.0 at_other
+          | inl at_p ↦ left_has (numbers_of p) (numbers_of p') n.0 at_p
+          | inr at_other ↦ right_has (numbers_of p) (numbers_of p') n.0 at_other
         ]),
       );
     }

@@ -133,25 +133,25 @@ module _ (l : Limits) (s : Table (Unit {0}) View) (kept : IsKept l s) (id : ℕ)
 
     each : (j : ℕ) (u : View) → get_elem? (set s.views id w) j ≡ some u → u.spent ≡ false → Knows l (kept.history ++ e ∷ []) u
     each j u at live = elim (at_set s.views id j w u at) [
-      inl same ↦ subst (Knows l (kept.history ++ e ∷ [])) same.1 knows_new
+      | inl same ↦ subst (Knows l (kept.history ++ e ∷ [])) same.1 knows_new
       | inr other ↦ knows_other j u other.0 other.1 live
     ]
 
     one_seat : (i j : ℕ) (x y : View) (n : ℕ) → get_elem? (set s.views id w) i ≡ some x → get_elem? (set s.views id w) j ≡ some y → HasBit x.numbers n → HasBit y.numbers n → i ≡ j
     one_seat i j x y n at_i at_j has_i has_j = elim (at_set s.views id i w x at_i) [
-      inl same ↦ elim (at_set s.views id j w y at_j) [
-        inl same' ↦ same.0 ∙ sym same'.0
+      | inl same ↦ elim (at_set s.views id j w y at_j) [
+        | inl same' ↦ same.0 ∙ sym same'.0
         | inr other' ↦ absurd (adds.numbers n (subst (λ u. HasBit u.numbers n) (sym same.1) has_i) j y other'.0 other'.1 has_j)
       ]
       | inr other ↦ elim (at_set s.views id j w y at_j) [
-        inl same' ↦ absurd (adds.numbers n (subst (λ u. HasBit u.numbers n) (sym same'.1) has_j) i x other.0 other.1 has_i)
+        | inl same' ↦ absurd (adds.numbers n (subst (λ u. HasBit u.numbers n) (sym same'.1) has_j) i x other.0 other.1 has_i)
         | inr other' ↦ kept.one_seat i j x y n other.1 other'.1 has_i has_j
       ]
     ]
 
     spent_empty : (j : ℕ) (u : View) → get_elem? (set s.views id w) j ≡ some u → u.spent ≡ true → u.numbers ≡ 0
     spent_empty j u at is_spent = elim (at_set s.views id j w u at) [
-      inl same ↦ let clash : true ≡ false = sym is_spent ∙ (ap (λ x. x.spent) (sym same.1) ∙ adds.unspent) in absurd cc
+      | inl same ↦ let clash : true ≡ false = sym is_spent ∙ (ap (λ x. x.spent) (sym same.1) ∙ adds.unspent) in absurd cc
       | inr other ↦ kept.spent_empty j u other.1 is_spent
     ]
 
@@ -167,14 +167,14 @@ module _ (l : Limits) (s : Table (Unit {0}) View) (kept : IsKept l s) (id : ℕ)
 
     alone : (j : ℕ) (u : View) → get_elem? (set s.views id w) j ≡ some u → u.alone ≡ true → u.seen ≡ kept.history ++ e ∷ []
     alone j u at is_alone = elim (at_set s.views id j w u at) [
-      inl same ↦ ap (λ x. x.seen) (sym same.1) ∙ adds.seen
+      | inl same ↦ ap (λ x. x.seen) (sym same.1) ∙ adds.seen
       | inr other ↦ absurd (not_alone j u other.0 other.1 is_alone)
     ]
 
     others_spent : (i j : ℕ) (x y : View) → get_elem? (set s.views id w) i ≡ some x → x.alone ≡ true → get_elem? (set s.views id w) j ≡ some y → j ≢ i → y.spent ≡ true
     others_spent i j x y at_i is_alone at_j ne = elim (at_set s.views id i w x at_i) [
-      inl same ↦ elim (at_set s.views id j w y at_j) [
-        inl same' ↦ absurd (ne (same'.0 ∙ sym same.0))
+      | inl same ↦ elim (at_set s.views id j w y at_j) [
+        | inl same' ↦ absurd (ne (same'.0 ∙ sym same.0))
         | inr other' ↦ kept.others_spent id j v y here (sym adds.alone ∙ (ap (λ u. u.alone) same.1 ∙ is_alone)) other'.1 other'.0
       ]
       | inr other ↦ absurd (not_alone i x other.0 other.1 is_alone)
@@ -186,7 +186,7 @@ module _ (l : Limits) (s : Table (Unit {0}) View) (kept : IsKept l s) (id : ℕ)
       fit = kept.fit;
       history = kept.history ++ e ∷ [];
       legal = legal;
-      longest = (id, w, set_here' , adds.seen);
+      longest = (id, w, set_here', adds.seen);
       wide = length-set s.words (place l p) new ∙ kept.wide;
       encoded = encoded;
       limits = get_or-set_other s.words (place l p) 1 new 0 (λ same. place-limits l p within (sym same)) ∙ kept.limits;
@@ -223,22 +223,22 @@ module _ (l : Limits) (s : Table (Unit {0}) View) (kept : IsKept l s) (id : ℕ)
       encoded = λ p h. subst (λ ws. IsEncoded l kept.history ws p) (sym same_words) (kept.encoded p h);
       limits = ap (λ ws. get_or ws 1 0) same_words ∙ kept.limits;
       each = λ j u at alive. elim (at_set s.views id j w u at) [
-        inl same ↦ subst (Knows l kept.history) same.1 knows
+        | inl same ↦ subst (Knows l kept.history) same.1 knows
         | inr other ↦ kept.each j u other.1 alive
       ];
       one_seat = λ i j x y n at_i at_j has_i has_j. kept.one_seat i j (before i x at_i).0 (before j y at_j).0 n (was_at i x at_i) (was_at j y at_j) (was_has i x at_i n has_i) (was_has j y at_j n has_j);
       spent_empty = λ j u at is_spent. elim (at_set s.views id j w u at) [
-        inl same ↦ let clash : true ≡ false = sym is_spent ∙ (ap (λ x. x.spent) (sym same.1) ∙ live) in absurd cc
+        | inl same ↦ let clash : true ≡ false = sym is_spent ∙ (ap (λ x. x.spent) (sym same.1) ∙ live) in absurd cc
         | inr other ↦ kept.spent_empty j u other.1 is_spent
       ];
       undrawn = kept.undrawn;
       alone = λ j u at is_alone. elim (at_set s.views id j w u at) [
-        inl same ↦ ap (λ x. x.seen) (sym same.1) ∙ seen_whole (kept.alone id v here (sym same_alone ∙ (ap (λ x. x.alone) same.1 ∙ is_alone)))
+        | inl same ↦ ap (λ x. x.seen) (sym same.1) ∙ seen_whole (kept.alone id v here (sym same_alone ∙ (ap (λ x. x.alone) same.1 ∙ is_alone)))
         | inr other ↦ absurd (not_alone j u other.0 other.1 is_alone)
       ];
       others_spent = λ i j x y at_i is_alone at_j ne. elim (at_set s.views id i w x at_i) [
-        inl same ↦ elim (at_set s.views id j w y at_j) [
-          inl same' ↦ absurd (ne (same'.0 ∙ sym same.0))
+        | inl same ↦ elim (at_set s.views id j w y at_j) [
+          | inl same' ↦ absurd (ne (same'.0 ∙ sym same.0))
           | inr other' ↦ kept.others_spent id j v y here (sym same_alone ∙ (ap (λ u. u.alone) same.1 ∙ is_alone)) other'.1 other'.0
         ]
         | inr other ↦ absurd (not_alone i x other.0 other.1 is_alone)
@@ -247,10 +247,12 @@ module _ (l : Limits) (s : Table (Unit {0}) View) (kept : IsKept l s) (id : ℕ)
       where
         before : (j : ℕ) (u : View) → get_elem? (set s.views id w) j ≡ some u → (u' : View) × (get_elem? s.views j ≡ some u') × (u'.numbers ≡ u.numbers)
         before j u at = elim (at_set s.views id j w u at) [
-          inl same ↦ (v, ap (get_elem? s.views) same.0 ∙ here, sym numbers ∙ ap (λ x. x.numbers) same.1)
+          | inl same ↦ (v, ap (get_elem? s.views) same.0 ∙ here, sym numbers ∙ ap (λ x. x.numbers) same.1)
           | inr other ↦ (u, other.1, refl)
         ]
+
         was_at : (j : ℕ) (u : View) → (at : get_elem? (set s.views id w) j ≡ some u) → get_elem? s.views j ≡ some (before j u at).0
         was_at j u at = (before j u at).1
+
         was_has : (j : ℕ) (u : View) → (at : get_elem? (set s.views id w) j ≡ some u) → (n : ℕ) → HasBit u.numbers n → HasBit (before j u at).0.numbers n
         was_has j u at n has = subst (λ (k : ℕ). HasBit k n) (sym (before j u at).2) has

@@ -40,7 +40,7 @@ module _ (l : Limits) (s : Table (Unit {0}) View) (kept : IsKept l s) (id : ℕ)
 
   seat_at : (j : ℕ) (u : View) → get_elem? (set s.views id (split_view a v) ++ split_view b v ∷ []) j ≡ some u → Seat j u
   seat_at j u at = elim (at_end (set s.views id (split_view a v)) (split_view b v) j u at) [
-    inl old ↦ elim (at_set s.views id j (split_view a v) u old) [ inl same ↦ left same.0 same.1 | inr else ↦ other else.0 else.1 ]
+    | inl old ↦ elim (at_set s.views id j (split_view a v) u old) [ inl same ↦ left same.0 same.1 | inr else ↦ other else.0 else.1 ]
     | inr new ↦ right (new.0 ∙ length-set s.views id (split_view a v)) new.1
   ]
 

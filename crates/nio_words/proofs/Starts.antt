@@ -63,8 +63,8 @@ starts l words fit are = record {
     encoded : (p : Part) → IsWithin l p → IsEncoded l [] words p
     encoded p h =
         let zero_there : get_or words (place l p) 0 ≡ 0 =
-              ap (λ ws. get_or ws (place l p) 0) are ∙ (get_or-set_other (replicate (word_count l) 0) 1 (place l p) (limits_word l) 0 (place-limits l p h)
-                ∙ get_or-replicate (word_count l) (place l p) 0 0 (place_inside l p h)) in
+        ap (λ ws. get_or ws (place l p) 0) are ∙ (get_or-set_other (replicate (word_count l) 0) 1 (place l p) (limits_word l) 0 (place-limits l p h)
+        ∙ get_or-replicate (word_count l) (place l p) 0 0 (place_inside l p h)) in
         record {
           word = zero_there ∙ sym (encoding-opening p);
           small = subst (λ (k : ℕ). k < bound p) (sym zero_there) (bound-pos p);

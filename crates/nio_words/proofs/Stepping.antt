@@ -48,23 +48,23 @@ allowed l slots id v carried me p instruction act unspent has moves may s kept h
     let small : encoding (state_after kept.history) p < bound p = subst (λ (k : ℕ). k < bound p) here.word here.small in
     let may' : Condition l (mine me v.seen) (state_after v.seen) me (act n) = subst (λ l'. Condition l' (mine me v.seen) (state_after v.seen) me (act n)) known.limits (may n) in
     let step : IsStep l kept.history e = record {
-          by_caller = known.callers me.0 has;
-          condition = conditions_stay l me v.seen kept.history known.begins kept.legal (known.own me has) (act n) may';
-          answers = subst (λ (k : ℕ). Answers (state_after kept.history) me (act k)) is_word (moves.answers (state_after kept.history) small);
-        } in
+      by_caller = known.callers me.0 has;
+      condition = conditions_stay l me v.seen kept.history known.begins kept.legal (known.own me has) (act n) may';
+      answers = subst (λ (k : ℕ). Answers (state_after kept.history) me (act k)) is_word (moves.answers (state_after kept.history) small);
+    } in
     let adds : AddsTo l s kept.history id v w e = record {
-          step = step;
-          caller_drawn = drawn_lasts (state_after kept.history) me (act n) me.0 (known.drawn me.0 has);
-          caller_here = held_here l s kept id v at unspent me.0 has;
-          seen = refl;
-          limits = known.limits;
-          alone = refl;
-          unspent = unspent;
-          halves = refl;
-          callers = known.callers;
-          drawn = λ k has'. drawn_lasts (state_after kept.history) me (act n) k (known.drawn k has');
-          numbers = held_here l s kept id v at unspent;
-        } in
+      step = step;
+      caller_drawn = drawn_lasts (state_after kept.history) me (act n) me.0 (known.drawn me.0 has);
+      caller_here = held_here l s kept id v at unspent me.0 has;
+      seen = refl;
+      limits = known.limits;
+      alone = refl;
+      unspent = unspent;
+      halves = refl;
+      callers = known.callers;
+      drawn = λ k has'. drawn_lasts (state_after kept.history) me (act n) k (known.drawn k has');
+      numbers = held_here l s kept id v at unspent;
+    } in
     let word : applied instruction n ≡ encoding (effect (state_after kept.history) me (act n)) p = subst (λ (k : ℕ). applied instruction k ≡ encoding (effect (state_after kept.history) me (act k)) p) is_word (moves.word (state_after kept.history) small) in (
       w,
       keeps,

@@ -9,21 +9,21 @@ use Rattle.nio_words.specs.declared.part.Part.TheVariants.{Callers, Interrupts, 
 -- how many words each row has
 abbrev pub rows : Limits → List ℕ
 rows l =
-    1 -- callers
-    ∷ 1 -- the limits
-    ∷ 1 -- interrupted callers
-    ∷ 1 -- selectors
-    ∷ 1 -- the channels' mark
-    ∷ l.channels -- channels
-    ∷ l.channels -- their holders
-    ∷ (l.channels * l.selectors) -- noted keys
-    ∷ l.selectors -- gates
-    ∷ l.selectors -- turns
-    ∷ l.selectors -- keys' marks
-    ∷ (l.selectors * l.keys) -- keys
-    ∷ (l.selectors * l.keys) -- their interest sets
-    ∷ (l.selectors * l.keys) -- their marks
-    ∷ (l.selectors * l.keys) -- their attachments
+    1  -- callers
+    ∷ 1  -- the limits
+    ∷ 1  -- interrupted callers
+    ∷ 1  -- selectors
+    ∷ 1  -- the channels' mark
+    ∷ l.channels  -- channels
+    ∷ l.channels  -- their holders
+    ∷ (l.channels * l.selectors)  -- noted keys
+    ∷ l.selectors  -- gates
+    ∷ l.selectors  -- turns
+    ∷ l.selectors  -- keys' marks
+    ∷ (l.selectors * l.keys)  -- keys
+    ∷ (l.selectors * l.keys)  -- their interest sets
+    ∷ (l.selectors * l.keys)  -- their marks
+    ∷ (l.selectors * l.keys)  -- their attachments
     ∷ []
 
 -- in which row a part's word stands

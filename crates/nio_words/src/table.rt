@@ -20,7 +20,9 @@ fn word_count(limits: &Limits) -> usize
     let selectors = limits.selectors as usize;
     let channels = limits.channels as usize;
     let of_keys = selectors * limits.keys as usize;
-    5 + channels + channels + channels * selectors
+    5 + channels
+        + channels
+        + channels * selectors
         + selectors
         + selectors
         + selectors

@@ -20,8 +20,14 @@ fn table_passes(rt: HostRuntime) -> Result<(), Fail> {
     let (words, mut p) = Words::make(rt.alloc(), SMALL)?;
     assert_eq!(rt; words.limits(), SMALL);
     assert_eq!(rt; words.draw(&mut p, CallerNo(0)), Ok(()));
-    assert_eq!(rt; words.draw(&mut p, CallerNo(0)), Err(DrawError::CallerTaken));
-    assert_eq!(rt; words.draw(&mut p, CallerNo(2)), Err(DrawError::NoSuchCaller));
+    assert_eq!(rt;
+        words.draw(&mut p, CallerNo(0)),
+        Err(DrawError::CallerTaken)
+    );
+    assert_eq!(rt;
+        words.draw(&mut p, CallerNo(2)),
+        Err(DrawError::NoSuchCaller)
+    );
     let mut q = words.split(&mut p)?;
     assert!(rt; !q.holds(CallerNo(0)) && !q.holds(CallerNo(1)));
     assert_eq!(rt; words.draw(&mut q, CallerNo(1)), Ok(()));
@@ -60,7 +66,10 @@ fn two_threads_wake(rt: HostRuntime) -> Result<(), Fail> {
             ensures { IsPassOf words result.0 }
         { wakes(&words, q, one, s) },
     );
-    assert!(rt; first != second, "one of them found no wakeup, and the other found it");
+    assert!(rt;
+        first != second,
+        "one of them found no wakeup, and the other found it"
+    );
     words.join(&mut p, q);
     assert!(rt; p.holds(zero) && p.holds(one));
     Ok(())

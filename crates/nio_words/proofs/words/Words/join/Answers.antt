@@ -23,4 +23,4 @@ perform-requires-clause-rule c =
 pub returns : goal.returns
 returns c =
     joins_clause c.args.self.now c.args.p.now c.args.other _ c.requires.pass c.requires.other (c.perform.ensures.seat.0 ∙ c.join_seat.ensures.0)
-      (subst (λ m. Recalls m.0 c.perform.new.seat.me.0) c.join_seat.ensures.2 c.perform.ensures.told.1)
+    (subst (λ m. Recalls m.0 c.perform.new.seat.me.0) c.join_seat.ensures.2 c.perform.ensures.told.1)

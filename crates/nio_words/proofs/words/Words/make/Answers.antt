@@ -15,7 +15,7 @@ of_words-requires c =
     let limits : c.limits_word.result ≡ limits_word c.args.limits = c.limits_word.ensures in
     let words : c.as_slice.result.now ≡ set c.in_ok-words.words.items 1 c.limits_word.result = c.as_slice.ensures.value in
     starts c.args.limits c.as_slice.result.now c.requires
-      (words ∙ (ap (λ ws. set ws 1 c.limits_word.result) (zeros ∙ ap (λ n. replicate n 0) many) ∙ ap (set (replicate (word_count c.args.limits) 0) 1) limits))
+    (words ∙ (ap (λ ws. set ws 1 c.limits_word.result) (zeros ∙ ap (λ n. replicate n 0) many) ∙ ap (set (replicate (word_count c.args.limits) 0) 1) limits))
 
 pub returns-clause-pass : goal.returns-clause-pass
 returns-clause-pass c =

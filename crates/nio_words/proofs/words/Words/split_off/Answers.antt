@@ -18,9 +18,9 @@ split_seat-seat-requires g c =
       c.requires.1.0.table,
       omega (arith, w.sized, limits_inside w.limits),
       rw w.key (splits w.limits p.seat.id v (bit_and v.numbers (bit_not w64 g.taken)) g.taken p.unspent
-        (λ n has. kept_has v.numbers (bit_not w64 g.taken) n has)
-        (λ n has. c.requires.1.1 n (subst (λ (k : ℕ). HasBit k n) taken has))
-        (λ n has has'. kept_not v.numbers g.taken n small has has')),
+          (λ n has. kept_has v.numbers (bit_not w64 g.taken) n has)
+          (λ n has. c.requires.1.1 n (subst (λ (k : ℕ). HasBit k n) taken has))
+          (λ n has has'. kept_not v.numbers g.taken n small has has')),
     )
 
 pub returns-clause-sees : goal.returns-clause-sees
