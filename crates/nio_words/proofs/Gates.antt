@@ -42,9 +42,9 @@ wake_moves l me s below = record {
   within = below;
   bit = omega arith;
   part = λ n. refl;
-  word = λ st small. sets_woken (st.gate s.0).woken (st.gate s.0).shut ∙ ap gate_word (sym (put-same st.gate s.0 (record (st.gate s.0) { woken = true })));
+  word = λ st now. sets_woken (st.gate s.0).woken (st.gate s.0).shut ∙ ap gate_word (sym (put-same st.gate s.0 (record (st.gate s.0) { woken = true })));
   small = λ n small. or_lt 2 n 1 small (omega arith);
-  answers = λ st small. ap flag (reads_woken (st.gate s.0).woken (st.gate s.0).shut);
+  answers = λ st now. ap flag (reads_woken (st.gate s.0).woken (st.gate s.0).shut);
 }
 
 pub look_gate_moves : (l : Limits) (me : CallerNo) (s : SelNo) → IsSelector l s → Moves l me (Gate s.0) Load (λ n. LookGate s (gate_of n))
@@ -52,7 +52,7 @@ look_gate_moves l me s below = record {
   within = below;
   bit = tt;
   part = λ n. refl;
-  word = λ st small. refl;
+  word = λ st now. refl;
   small = λ n small. small;
-  answers = λ st small. ap found_gate (reads_gate (st.gate s.0));
+  answers = λ st now. ap found_gate (reads_gate (st.gate s.0));
 }

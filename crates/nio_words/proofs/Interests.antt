@@ -22,9 +22,9 @@ look_interest_moves l me s i is_key = record {
   within = is_key;
   bit = tt;
   part = λ n. refl;
-  word = λ st small. refl;
+  word = λ st now. refl;
   small = λ n small. small;
-  answers = λ st small. ap operations (reads_operations (st.interest s.0 i) small);
+  answers = λ st now. ap operations (reads_operations (st.interest s.0 i) now.small);
 }
 
 pub swap_interest_moves : (l : Limits) (me : CallerNo) (s : SelNo) (i ops : ℕ) → IsKey l s i → ops < 256 → Moves l me (Interest s.0 i) (Swap ops) (λ n. SwapInterest s i ops (operations_of n))
@@ -32,9 +32,9 @@ swap_interest_moves l me s i ops is_key fits = record {
   within = is_key;
   bit = tt;
   part = λ n. refl;
-  word = λ st small. sym (put_at-same st.interest s.0 i ops);
+  word = λ st now. sym (put_at-same st.interest s.0 i ops);
   small = λ n small. fits;
-  answers = λ st small. ap operations (reads_operations (st.interest s.0 i) small);
+  answers = λ st now. ap operations (reads_operations (st.interest s.0 i) now.small);
 }
 
 pub or_interest_moves : (l : Limits) (me : CallerNo) (s : SelNo) (i ops : ℕ) → IsKey l s i → ops < 256 → Moves l me (Interest s.0 i) (Or ops) (λ n. OrInterest s i ops (operations_of n))
@@ -42,9 +42,9 @@ or_interest_moves l me s i ops is_key fits = record {
   within = is_key;
   bit = tt;
   part = λ n. refl;
-  word = λ st small. sym (put_at-same st.interest s.0 i (bit_or (st.interest s.0 i) ops));
+  word = λ st now. sym (put_at-same st.interest s.0 i (bit_or (st.interest s.0 i) ops));
   small = λ n small. or_lt 8 n ops small fits;
-  answers = λ st small. ap operations (reads_operations (st.interest s.0 i) small);
+  answers = λ st now. ap operations (reads_operations (st.interest s.0 i) now.small);
 }
 
 pub and_interest_moves : (l : Limits) (me : CallerNo) (s : SelNo) (i ops : ℕ) → IsKey l s i → Moves l me (Interest s.0 i) (And ops) (λ n. AndInterest s i ops (operations_of n))
@@ -52,7 +52,7 @@ and_interest_moves l me s i ops is_key = record {
   within = is_key;
   bit = tt;
   part = λ n. refl;
-  word = λ st small. sym (put_at-same st.interest s.0 i (bit_and (st.interest s.0 i) ops));
+  word = λ st now. sym (put_at-same st.interest s.0 i (bit_and (st.interest s.0 i) ops));
   small = λ n small. let less = and_le_l n ops in omega arith;
-  answers = λ st small. ap operations (reads_operations (st.interest s.0 i) small);
+  answers = λ st now. ap operations (reads_operations (st.interest s.0 i) now.small);
 }

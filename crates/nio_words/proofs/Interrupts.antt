@@ -18,9 +18,9 @@ set_interrupt_moves l me target below = record {
   within = tt;
   bit = below;
   part = λ n. refl;
-  word = λ st small. sets_bit st.interrupted target.0 below;
+  word = λ st now. sets_bit st.interrupted target.0 below;
   small = λ n small. or_lt 64 n (one_bit target.0) small (one_bit-lt target.0);
-  answers = λ st small. ap flag (reads_bit st.interrupted target.0 below);
+  answers = λ st now. ap flag (reads_bit st.interrupted target.0 below);
 }
 
 pub take_interrupt_moves : (l : Limits) (me : CallerNo) → me.0 < 64 → Moves l me Interrupts (ClearBit me.0) (λ n. TakeInterrupt (is_set n me.0))
@@ -28,9 +28,9 @@ take_interrupt_moves l me below = record {
   within = tt;
   bit = below;
   part = λ n. refl;
-  word = λ st small. clears_bit st.interrupted me.0 below;
+  word = λ st now. clears_bit st.interrupted me.0 below;
   small = λ n small. let less = and_le_l n (bit_not w64 (one_bit me.0)) in omega arith;
-  answers = λ st small. ap flag (reads_bit st.interrupted me.0 below);
+  answers = λ st now. ap flag (reads_bit st.interrupted me.0 below);
 }
 
 pub look_interrupt_moves : (l : Limits) (me : CallerNo) → me.0 < 64 → Moves l me Interrupts Load (λ n. LookInterrupt (is_set n me.0))
@@ -38,7 +38,7 @@ look_interrupt_moves l me below = record {
   within = tt;
   bit = tt;
   part = λ n. refl;
-  word = λ st small. refl;
+  word = λ st now. refl;
   small = λ n small. small;
-  answers = λ st small. ap flag (reads_bit st.interrupted me.0 below);
+  answers = λ st now. ap flag (reads_bit st.interrupted me.0 below);
 }

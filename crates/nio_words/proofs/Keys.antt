@@ -145,9 +145,9 @@ look_key_moves l me s i is_key = record {
   within = is_key;
   bit = tt;
   part = λ n. refl;
-  word = λ st small. refl;
+  word = λ st now. refl;
   small = λ n small. small;
-  answers = λ st small. ap stage (reads_stage (st.key s.0 i));
+  answers = λ st now. ap stage (reads_stage (st.key s.0 i));
 }
 
 pub cancel_key_moves : (l : Limits) (me : CallerNo) (s : SelNo) (i : ℕ) → IsKey l s i → Moves l me (Key s.0 i) (SetBit 2) (λ n. CancelKey s i (stage_of n))
@@ -155,7 +155,7 @@ cancel_key_moves l me s i is_key = record {
   within = is_key;
   bit = omega arith;
   part = λ n. refl;
-  word = λ st small. cancels_stage (st.key s.0 i) ∙ ap stage_word (sym (put_at-same st.key s.0 i (record (st.key s.0 i) { cancelled = true })));
+  word = λ st now. cancels_stage (st.key s.0 i) ∙ ap stage_word (sym (put_at-same st.key s.0 i (record (st.key s.0 i) { cancelled = true })));
   small = λ n small. or_lt 64 n 4 small (omega arith);
-  answers = λ st small. ap stage (reads_stage (st.key s.0 i));
+  answers = λ st now. ap stage (reads_stage (st.key s.0 i));
 }

@@ -15,9 +15,9 @@ swap_note_moves l me s i att is_key fits = record {
   within = is_key;
   bit = tt;
   part = λ n. refl;
-  word = λ st small. sym (put_at-same st.note s.0 i att);
+  word = λ st now. sym (put_at-same st.note s.0 i att);
   small = λ n small. fits;
-  answers = λ st small. refl;
+  answers = λ st now. refl;
 }
 
 pub look_note_moves : (l : Limits) (me : CallerNo) (s : SelNo) (i : ℕ) → IsKey l s i → Moves l me (Note s.0 i) Load (λ n. LookNote s i n)
@@ -25,7 +25,7 @@ look_note_moves l me s i is_key = record {
   within = is_key;
   bit = tt;
   part = λ n. refl;
-  word = λ st small. refl;
+  word = λ st now. refl;
   small = λ n small. small;
-  answers = λ st small. refl;
+  answers = λ st now. refl;
 }

@@ -18,9 +18,9 @@ make_selector_moves l me s below = record {
   within = tt;
   bit = below;
   part = λ n. refl;
-  word = λ st small. sets_bit st.selector s.0 below;
+  word = λ st now. sets_bit st.selector s.0 below;
   small = λ n small. or_lt 64 n (one_bit s.0) small (one_bit-lt s.0);
-  answers = λ st small. ap flag (reads_bit st.selector s.0 below);
+  answers = λ st now. ap flag (reads_bit st.selector s.0 below);
 }
 
 pub look_selectors_moves : (l : Limits) (me : CallerNo) → Moves l me Selectors Load (λ n. LookSelectors n)
@@ -28,7 +28,7 @@ look_selectors_moves l me = record {
   within = tt;
   bit = tt;
   part = λ n. refl;
-  word = λ st small. refl;
+  word = λ st now. refl;
   small = λ n small. small;
-  answers = λ st small. refl;
+  answers = λ st now. refl;
 }

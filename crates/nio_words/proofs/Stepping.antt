@@ -26,7 +26,7 @@ use Rattle.nio_words.specs.Instructions.{applied}
 use Rattle.nio_words.specs.Passes.{view_of, seen, Holds, HoldSame, IsOnly, IsPassOf}
 use Rattle.nio_words.specs.Places.{place}
 use Rattle.nio_words.specs.Rule.{HasBit, IsKept}
-use Rattle.nio_words.specs.Steps.{Adds, Moves, Steps}
+use Rattle.nio_words.specs.Steps.{Adds, IsMoment, Moves, Steps}
 use Rattle.nio_words.specs.declared.instruction.Instruction.{Instruction}
 use Rattle.nio_words.specs.declared.part.Part.{Part}
 use Rattle.nio_words.specs.declared.view.View.{View}
@@ -46,11 +46,14 @@ allowed l slots id v carried me p instruction act unspent has moves may s kept h
     let here = kept.encoded p moves.within in
     let is_word : encoding (state_after kept.history) p ≡ n = sym here.word in
     let small : encoding (state_after kept.history) p < bound p = subst (λ (k : ℕ). k < bound p) here.word here.small in
-    let may' : Condition l (mine me v.seen) (state_after v.seen) me (act n) = subst (λ l'. Condition l' (mine me v.seen) (state_after v.seen) me (act n)) known.limits (may n) in
+    let may' : (k : ℕ) → Condition l (mine me kept.history) (state_after kept.history) me (act k) = λ k.
+          conditions_stay l me v.seen kept.history known.begins kept.legal (known.own me has) (act k)
+            (subst (λ l'. Condition l' (mine me v.seen) (state_after v.seen) me (act k)) known.limits (may k)) in
+    let now : IsMoment l me p act (state_after kept.history) = record { past = kept.history; legal = kept.legal; leaves = refl; condition = may'; small = small } in
     let step : IsStep l kept.history e = record {
       by_caller = known.callers me.0 has;
-      condition = conditions_stay l me v.seen kept.history known.begins kept.legal (known.own me has) (act n) may';
-      answers = subst (λ (k : ℕ). Answers (state_after kept.history) me (act k)) is_word (moves.answers (state_after kept.history) small);
+      condition = may' n;
+      answers = subst (λ (k : ℕ). Answers (state_after kept.history) me (act k)) is_word (moves.answers (state_after kept.history) now);
     } in
     let adds : AddsTo l s kept.history id v w e = record {
       step = step;
@@ -65,7 +68,7 @@ allowed l slots id v carried me p instruction act unspent has moves may s kept h
       drawn = λ k has'. drawn_lasts (state_after kept.history) me (act n) k (known.drawn k has');
       numbers = held_here l s kept id v at unspent;
     } in
-    let word : applied instruction n ≡ encoding (effect (state_after kept.history) me (act n)) p = subst (λ (k : ℕ). applied instruction k ≡ encoding (effect (state_after kept.history) me (act k)) p) is_word (moves.word (state_after kept.history) small) in (
+    let word : applied instruction n ≡ encoding (effect (state_after kept.history) me (act n)) p = subst (λ (k : ℕ). applied instruction k ≡ encoding (effect (state_after kept.history) me (act k)) p) is_word (moves.word (state_after kept.history) now) in (
       w,
       keeps,
       tt,

@@ -74,12 +74,20 @@ pub record Recalls (v w : View) : Type 0 where
   pub legal : IsLegal v.limits v.seen
   pub after : w ≡ record v { halves = [] }
 
--- What a kind of step owes: on the word of its part its instruction does what its act does to that
--- part, and it finds what the act finds.
+-- a moment at which `me` may do it: a legal history leaves this state
+pub record IsMoment (l : Limits) (me : CallerNo) (p : Part) (act : ℕ → Act) (st : State) : Type 0 where
+  pub past : List Event
+  pub legal : IsLegal l past
+  pub leaves : state_after past ≡ st
+  pub condition : (n : ℕ) → Condition l (mine me past) st me (act n)
+  pub small : encoding st p < bound p
+
+-- What a kind of step owes: at each such moment its instruction does to the word of its part what
+-- its act does to that part, and it finds what the act finds.
 pub record Moves (l : Limits) (me : CallerNo) (p : Part) (instruction : Instruction) (act : ℕ → Act) : Type 0 where
   pub within : IsWithin l p
   pub bit : IsInWord instruction
   pub part : (n : ℕ) → part_of (act n) ≡ p
-  pub word : (st : State) → encoding st p < bound p → applied instruction (encoding st p) ≡ encoding (effect st me (act (encoding st p))) p
+  pub word : (st : State) → IsMoment l me p act st → applied instruction (encoding st p) ≡ encoding (effect st me (act (encoding st p))) p
   pub small : (n : ℕ) → n < bound p → applied instruction n < bound p
-  pub answers : (st : State) → encoding st p < bound p → Answers st me (act (encoding st p))
+  pub answers : (st : State) → IsMoment l me p act st → Answers st me (act (encoding st p))
