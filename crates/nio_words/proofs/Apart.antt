@@ -1,0 +1,67 @@
+-- A step changes no word but that of its own part. Of each sort of part only the kinds of step that
+-- change such a part are looked at; of the others the last line speaks.
+use Rattle.std.proofs.Common.{◌≡◌, ◌≢◌, ℕ, ◌==◌, Bool, true, false, cond, ◌&&◌, refl, ap, sym, eqb-true, ne_eqb}
+use Rattle.std.proofs.lemmas.Bool.{and_parts}
+use Rattle.nio_base.specs.declared.numbers.CallerNo.{CallerNo}
+use Rattle.nio_event.specs.Acts.{effect}
+use Rattle.nio_event.specs.State.{State, put, put_at}
+use Rattle.nio_event.specs.declared.act.Act.{Act}
+use Rattle.nio_event.specs.declared.act.Act.TheVariants.{DrawBit, MakeSelector, Wake, SetInterrupt, TakeInterrupt, CancelKey, SwapInterest, OrInterest, AndInterest, SwapNote, MakeChannel, Claim, RaiseKeys, Publish, Enrol, TakeTurn, GiveTurn, Remove, Mark as MarkKey, UnselectBit, EndWake, RaiseChannels, TryHoldBit, Release, SetMode, CloseBit, ShutBit}
+use Rattle.nio_words.specs.Encodings.{encoding, channel_word, holder_word, noted_word, gate_word, stage_word, mark_word}
+use Rattle.nio_words.specs.Parts.{part_of}
+use Rattle.nio_words.specs.declared.part.Part.{Part}
+use Rattle.nio_words.specs.declared.part.Part.TheVariants.{Callers, Interrupts, Selectors, ChannelsMark, Chan, Hold, Noted, Gate, Turn, KeysMark, Key, Interest, Mark, Note}
+
+-- at another number a changed function is what it was
+put-other : {A : Type 0} (f : ℕ → A) (i : ℕ) (x : A) (n : ℕ) → n ≢ i → put f i x n ≡ f n
+put-other f i x n ne = ap (λ b. cond b x (f n)) (ne_eqb n i ne)
+
+put_at-other : {A : Type 0} (f : ℕ → ℕ → A) (i j : ℕ) (x : A) (m n : ℕ) → ((m ≡ i) → (n ≡ j) → ⊥) → put_at f i j x m n ≡ f m n
+put_at-other {A = A} f i j x m n ne = by_test ((m == i) && (n == j)) refl
+  where
+    by_test : (b : Bool) → ((m == i) && (n == j)) ≡ b → cond b x (f m n) ≡ f m n
+    by_test true e = let both = and_parts (m == i) (n == j) e in absurd (ne (eqb-true m i both.0) (eqb-true n j both.1))
+    by_test false e = refl
+
+pub apart : (st : State) (me : CallerNo) (act : Act) (q : Part) → q ≢ part_of act → encoding (effect st me act) q ≡ encoding st q
+apart st me (DrawBit n found) Callers ne = absurd (ne refl)
+apart st me act Callers ne = refl
+apart st me (SetInterrupt n found) Interrupts ne = absurd (ne refl)
+apart st me (TakeInterrupt found) Interrupts ne = absurd (ne refl)
+apart st me act Interrupts ne = refl
+apart st me (MakeSelector s found) Selectors ne = absurd (ne refl)
+apart st me act Selectors ne = refl
+apart st me (RaiseChannels n found) ChannelsMark ne = absurd (ne refl)
+apart st me act ChannelsMark ne = refl
+apart st me (MakeChannel c kind found) (Chan d) ne = ap channel_word (put-other st.chan c.0 _ d (λ e. ne (ap Chan e)))
+apart st me (SetMode c blocking found) (Chan d) ne = ap channel_word (put-other st.chan c.0 _ d (λ e. ne (ap Chan e)))
+apart st me (CloseBit c found) (Chan d) ne = ap channel_word (put-other st.chan c.0 _ d (λ e. ne (ap Chan e)))
+apart st me act (Chan d) ne = refl
+apart st me (TryHoldBit c found) (Hold d) ne = ap holder_word (put-other st.hold c.0 _ d (λ e. ne (ap Hold e)))
+apart st me (Release c) (Hold d) ne = ap holder_word (put-other st.hold c.0 _ d (λ e. ne (ap Hold e)))
+apart st me act (Hold d) ne = refl
+apart st me (Enrol c s i found) (Noted d t) ne = ap noted_word (put_at-other st.noted c.0 s.0 _ d t (λ e e'. ne cc))
+apart st me act (Noted d t) ne = refl
+apart st me (Wake s found) (Gate t) ne = ap gate_word (put-other st.gate s.0 _ t (λ e. ne (ap Gate e)))
+apart st me (EndWake s found) (Gate t) ne = ap gate_word (put-other st.gate s.0 _ t (λ e. ne (ap Gate e)))
+apart st me (ShutBit s found) (Gate t) ne = ap gate_word (put-other st.gate s.0 _ t (λ e. ne (ap Gate e)))
+apart st me act (Gate t) ne = refl
+apart st me (TakeTurn s found) (Turn t) ne = ap holder_word (put-other st.turn s.0 _ t (λ e. ne (ap Turn e)))
+apart st me (GiveTurn s) (Turn t) ne = ap holder_word (put-other st.turn s.0 _ t (λ e. ne (ap Turn e)))
+apart st me act (Turn t) ne = refl
+apart st me (RaiseKeys s n found) (KeysMark t) ne = put-other st.keys_mark s.0 _ t (λ e. ne (ap KeysMark e))
+apart st me act (KeysMark t) ne = refl
+apart st me (CancelKey s i found) (Key t j) ne = ap stage_word (put_at-other st.key s.0 i _ t j (λ e e'. ne cc))
+apart st me (Claim s i c found) (Key t j) ne = ap stage_word (put_at-other st.key s.0 i _ t j (λ e e'. ne cc))
+apart st me (Publish s i found) (Key t j) ne = ap stage_word (put_at-other st.key s.0 i _ t j (λ e e'. ne cc))
+apart st me (Remove s i found) (Key t j) ne = ap stage_word (put_at-other st.key s.0 i _ t j (λ e e'. ne cc))
+apart st me act (Key t j) ne = refl
+apart st me (SwapInterest s i ops found) (Interest t j) ne = put_at-other st.interest s.0 i _ t j (λ e e'. ne cc)
+apart st me (OrInterest s i ops found) (Interest t j) ne = put_at-other st.interest s.0 i _ t j (λ e e'. ne cc)
+apart st me (AndInterest s i ops found) (Interest t j) ne = put_at-other st.interest s.0 i _ t j (λ e e'. ne cc)
+apart st me act (Interest t j) ne = refl
+apart st me (MarkKey s i from told found) (Mark t j) ne = ap mark_word (put_at-other st.mark s.0 i _ t j (λ e e'. ne cc))
+apart st me (UnselectBit s i found) (Mark t j) ne = ap mark_word (put_at-other st.mark s.0 i _ t j (λ e e'. ne cc))
+apart st me act (Mark t j) ne = refl
+apart st me (SwapNote s i att found) (Note t j) ne = put_at-other st.note s.0 i _ t j (λ e e'. ne cc)
+apart st me act (Note t j) ne = refl

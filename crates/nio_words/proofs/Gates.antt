@@ -1,0 +1,58 @@
+-- The kinds of step on a gate do to its word what they do to the gate.
+use Rattle.std.proofs.Common.{◌≡◌, ℕ, ◌+◌, ◌*◌, ◌<◌, Bool, true, false, refl, ap, sym, ◌∙◌, arith}
+use Rattle.std.specs.Prelude.{bit_or}
+use Rattle.std.proofs.lemmas.Nat.{or_lt}
+use Rattle.nio_base.specs.declared.limits.Limits.{Limits}
+use Rattle.nio_base.specs.declared.numbers.CallerNo.{CallerNo}
+use Rattle.nio_base.specs.declared.numbers.SelNo.{SelNo}
+use Rattle.nio_event.proofs.Put.{put-same}
+use Rattle.nio_event.specs.Conditions.{IsSelector}
+use Rattle.nio_event.specs.Questions.{flag, gate_word as found_gate}
+use Rattle.nio_event.specs.declared.act.Act.TheVariants.{Wake, LookGate}
+use Rattle.nio_event.specs.declared.found.GateWord.{GateWord}
+use Rattle.nio_words.specs.Decodings.{is_set, gate_of}
+use Rattle.nio_words.specs.Encodings.{bit, gate_word}
+use Rattle.nio_words.specs.Steps.{Moves}
+use Rattle.nio_words.specs.declared.instruction.Instruction.TheVariants.{Load, SetBit}
+use Rattle.nio_words.specs.declared.part.Part.TheVariants.{Gate}
+
+sets_woken : (woken shut : Bool) → bit_or (bit woken + 2 * bit shut) 1 ≡ 1 + 2 * bit shut
+sets_woken true true = refl
+sets_woken true false = refl
+sets_woken false true = refl
+sets_woken false false = refl
+
+reads_woken : (woken shut : Bool) → is_set (bit woken + 2 * bit shut) 0 ≡ woken
+reads_woken true true = refl
+reads_woken true false = refl
+reads_woken false true = refl
+reads_woken false false = refl
+
+reads_shut : (woken shut : Bool) → is_set (bit woken + 2 * bit shut) 1 ≡ shut
+reads_shut true true = refl
+reads_shut true false = refl
+reads_shut false true = refl
+reads_shut false false = refl
+
+reads_gate : (g : GateWord) → gate_of (gate_word g) ≡ g
+reads_gate g = λ k. record { woken = reads_woken g.woken g.shut k; shut = reads_shut g.woken g.shut k }
+
+pub wake_moves : (l : Limits) (me : CallerNo) (s : SelNo) → IsSelector l s → Moves l me (Gate s.0) (SetBit 0) (λ n. Wake s (is_set n 0))
+wake_moves l me s below = record {
+  within = below;
+  bit = omega arith;
+  part = λ n. refl;
+  word = λ st now. sets_woken (st.gate s.0).woken (st.gate s.0).shut ∙ ap gate_word (sym (put-same st.gate s.0 (record (st.gate s.0) { woken = true })));
+  small = λ n small. or_lt 2 n 1 small (omega arith);
+  answers = λ st now. ap flag (reads_woken (st.gate s.0).woken (st.gate s.0).shut);
+}
+
+pub look_gate_moves : (l : Limits) (me : CallerNo) (s : SelNo) → IsSelector l s → Moves l me (Gate s.0) Load (λ n. LookGate s (gate_of n))
+look_gate_moves l me s below = record {
+  within = below;
+  bit = tt;
+  part = λ n. refl;
+  word = λ st now. refl;
+  small = λ n small. small;
+  answers = λ st now. ap found_gate (reads_gate (st.gate s.0));
+}

@@ -1,0 +1,4 @@
+use Rattle.nio_words.proofs.words.Words.hand_over.Given as goal
+
+abbrev pub ghost-split_off : goal.ghost-split_off
+ghost-split_off a = a.numbers

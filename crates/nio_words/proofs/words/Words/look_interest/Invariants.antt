@@ -1,0 +1,7 @@
+use Rattle.nio_event.specs.declared.act.Act.TheVariants.{LookInterest}
+use Rattle.nio_words.specs.Decodings.{operations_of}
+use Rattle.nio_words.specs.Parts.{selector_in, index_in}
+use Rattle.nio_words.proofs.words.Words.look_interest.Given as goal
+
+abbrev pub ghost-step : goal.ghost-step
+ghost-step a = record { who = a._me; act = λ n. LookInterest (selector_in a.part) (index_in a.part) (operations_of n) }

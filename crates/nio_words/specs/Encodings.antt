@@ -1,0 +1,94 @@
+-- The word of each part of the state, and below which number it stays. In the opening state every
+-- word is 0.
+use Rattle.std.specs.Prelude.{ℕ, ◌+◌, ◌*◌, ◌^◌, Bool, if◌then◌else◌, Option, Some, None}
+use Rattle.nio_base.specs.declared.kind.Kind.{Kind}
+use Rattle.nio_base.specs.declared.kind.Kind.TheVariants.{Stream, Listener, Source, Sink}
+use Rattle.nio_base.specs.declared.limits.Limits.{Limits}
+use Rattle.nio_base.specs.declared.numbers.CallerNo.{CallerNo}
+use Rattle.nio_event.specs.Answers.{bits_below, selectors_word}
+use Rattle.nio_event.specs.State.{State}
+use Rattle.nio_event.specs.declared.found.Chan.{Chan as Channel}
+use Rattle.nio_event.specs.declared.found.GateWord.{GateWord}
+use Rattle.nio_event.specs.declared.found.Mark.{Mark as KeyMark}
+use Rattle.nio_event.specs.declared.found.Stage.{Stage}
+use Rattle.nio_words.specs.declared.part.Part.{Part}
+use Rattle.nio_words.specs.declared.part.Part.TheVariants.{Callers, Interrupts, Selectors, ChannelsMark, Chan, Hold, Noted, Gate, Turn, KeysMark, Key, Interest, Mark, Note}
+
+abbrev pub bit : Bool → ℕ
+bit b = if b then 1 else 0
+
+-- bit 0 wakeup; bit 1 shut
+abbrev pub gate_word : GateWord → ℕ
+gate_word g = bit g.woken + 2 * bit g.shut
+
+-- bit 0 claimed; bit 1 published; bit 2 cancelled; bit 3 removed; bits 32 to 63 the channel
+abbrev pub stage_bits : Stage → ℕ
+stage_bits k = bit k.claimed + 2 * bit k.published + 4 * bit k.cancelled + 8 * bit k.removed
+
+abbrev pub stage_word : Stage → ℕ
+stage_word k = k.chan.0 * 2 ^ 32 + stage_bits k
+
+abbrev pub kind_code : Kind → ℕ
+kind_code Stream = 0
+kind_code Listener = 1
+kind_code Source = 2
+kind_code Sink = 3
+
+-- bit 0 made; bits 1 to 3 kind; bit 4 closed; bit 5 blocking
+abbrev pub channel_word : Channel → ℕ
+channel_word c = bit c.made + 2 * kind_code c.kind + 16 * bit c.closed + 32 * bit c.blocking
+
+-- bits 0 to 7 ready; bit 8 selected
+abbrev pub mark_word : KeyMark → ℕ
+mark_word m = m.ready + 256 * bit m.selected
+
+-- 0 for none, else the caller's number plus 1
+abbrev pub holder_word : Option CallerNo → ℕ
+holder_word None = 0
+holder_word (Some n) = n.0 + 1
+
+-- 0 for none, else the index plus 1
+abbrev pub noted_word : Option ℕ → ℕ
+noted_word None = 0
+noted_word (Some i) = i + 1
+
+abbrev pub encoding : State → Part → ℕ
+-- bit n: number n is drawn
+encoding st Callers = bits_below 64 st.drawn
+-- bit n: caller n is interrupted
+encoding st Interrupts = bits_below 64 st.interrupted
+-- bit s: selector s is made
+encoding st Selectors = selectors_word st
+encoding st ChannelsMark = st.channels_mark
+encoding st (Chan c) = channel_word (st.chan c)
+encoding st (Hold c) = holder_word (st.hold c)
+encoding st (Noted c s) = noted_word (st.noted c s)
+encoding st (Gate s) = gate_word (st.gate s)
+encoding st (Turn s) = holder_word (st.turn s)
+encoding st (KeysMark s) = st.keys_mark s
+encoding st (Key s i) = stage_word (st.key s i)
+encoding st (Interest s i) = st.interest s i
+encoding st (Mark s i) = mark_word (st.mark s i)
+encoding st (Note s i) = st.note s i
+
+-- the word stays below this number
+abbrev pub bound : Part → ℕ
+bound Callers = 2 ^ 64
+bound Interrupts = 2 ^ 64
+bound Selectors = 2 ^ 64
+bound ChannelsMark = 2 ^ 32
+bound (Chan c) = 2 ^ 6
+bound (Hold c) = 2 ^ 32 + 1
+bound (Noted c s) = 2 ^ 32 + 1
+bound (Gate s) = 4
+bound (Turn s) = 2 ^ 32 + 1
+bound (KeysMark s) = 2 ^ 32
+bound (Key s i) = 2 ^ 64
+bound (Interest s i) = 256
+bound (Mark s i) = 512
+bound (Note s i) = 2 ^ 64
+
+-- the word that holds the limits: callers in bits 0 to 7, selectors in bits 8 to 15, channels in
+-- bits 16 to 39, keys in bits 40 to 63
+abbrev pub limits_word : Limits → ℕ
+limits_word l = l.callers + l.selectors * 2 ^ 8 + l.channels * 2 ^ 16 + l.keys * 2 ^ 40

@@ -1,0 +1,38 @@
+-- What each atomic instruction makes of its word.
+use Rattle.std.specs.Prelude.{ℕ, ◌*◌, ◌%◌, ◌^◌, ◌<◌, ◌==◌, max, bit_and, bit_or}
+use Rattle.std.specs.Int.{bit_not, w64}
+use prog.Atomic.{either}
+use Rattle.nio_words.specs.declared.instruction.Instruction.{Instruction}
+use Rattle.nio_words.specs.declared.instruction.Instruction.TheVariants.{Load, SetBit, ClearBit, Or, And, Max, Swap, Exchange}
+
+-- the word that has bit k alone
+abbrev pub one_bit : ℕ → ℕ
+one_bit k = 1 * 2 ^ k % 2 ^ 64
+
+abbrev pub applied : Instruction → ℕ → ℕ
+applied Load n = n
+applied (SetBit k) n = bit_or n (one_bit k)
+applied (ClearBit k) n = bit_and n (bit_not w64 (one_bit k))
+applied (Or bits) n = bit_or n bits
+applied (And bits) n = bit_and n bits
+applied (Max k) n = max n k
+applied (Swap new) n = new
+applied (Exchange old new) n = either (n == old) new n
+
+-- a word has 64 bits
+abbrev pub IsInWord : Instruction → Type 0
+IsInWord (SetBit k) = k < 64
+IsInWord (ClearBit k) = k < 64
+IsInWord _ = Unit {0}
+
+-- the bit that it is on, and the word that it brings
+abbrev pub bit_in : Instruction → ℕ
+bit_in (SetBit k) = k
+bit_in (ClearBit k) = k
+bit_in _ = 0
+
+abbrev pub word_in : Instruction → ℕ
+word_in (Or bits) = bits
+word_in (And bits) = bits
+word_in (Swap new) = new
+word_in _ = 0

@@ -1,0 +1,11 @@
+pub mod Places
+pub mod Instructions
+pub mod Encodings
+pub mod Decodings
+pub mod Rule
+pub mod Passes
+pub mod Sharing
+pub mod Parts
+pub mod Steps
+pub mod Drawing
+pub mod Whole

@@ -1,0 +1,64 @@
+-- On which part of the state each kind of step is. The lines stand in the order in which `Act` lists
+-- the kinds.
+use Rattle.std.specs.Prelude.{ℕ}
+use Rattle.nio_base.specs.declared.numbers.SelNo.{SelNo}
+use Rattle.nio_event.specs.declared.act.Act.{Act}
+use Rattle.nio_event.specs.declared.act.Act.TheVariants.{DrawBit, MakeSelector, LookSelectors, Wake, LookGate, SetInterrupt, TakeInterrupt, LookInterrupt, LookKey, CancelKey, LookInterest, SwapInterest, OrInterest, AndInterest, SwapNote, LookNote, MakeChannel, LookChannel, Claim, RaiseKeys, LookKeys, Publish, LookReg, Enrol, TakeTurn, BeginLook, GiveTurn, Remove, LookMark, Mark as MarkKey, UnselectBit, EndWake, LookChannels, RaiseChannels, TryHoldBit, Release, SetMode, CloseBit, ShutBit, Enter}
+use Rattle.nio_words.specs.declared.part.Part.{Part}
+use Rattle.nio_words.specs.declared.part.Part.TheVariants.{Callers, Interrupts, Selectors, ChannelsMark, Chan, Hold, Noted, Gate, Turn, KeysMark, Key, Interest, Mark, Note}
+
+abbrev pub part_of : Act → Part
+part_of (DrawBit n found) = Callers
+part_of (MakeSelector s found) = Selectors
+part_of (LookSelectors found) = Selectors
+part_of (Wake s found) = Gate s.0
+part_of (LookGate s found) = Gate s.0
+part_of (SetInterrupt n found) = Interrupts
+part_of (TakeInterrupt found) = Interrupts
+part_of (LookInterrupt found) = Interrupts
+part_of (LookKey s i found) = Key s.0 i
+part_of (CancelKey s i found) = Key s.0 i
+part_of (LookInterest s i found) = Interest s.0 i
+part_of (SwapInterest s i ops found) = Interest s.0 i
+part_of (OrInterest s i ops found) = Interest s.0 i
+part_of (AndInterest s i ops found) = Interest s.0 i
+part_of (SwapNote s i att found) = Note s.0 i
+part_of (LookNote s i found) = Note s.0 i
+part_of (MakeChannel c kind found) = Chan c.0
+part_of (LookChannel c found) = Chan c.0
+part_of (Claim s i c found) = Key s.0 i
+part_of (RaiseKeys s n found) = KeysMark s.0
+part_of (LookKeys s found) = KeysMark s.0
+part_of (Publish s i found) = Key s.0 i
+part_of (LookReg c s found) = Noted c.0 s.0
+part_of (Enrol c s i found) = Noted c.0 s.0
+part_of (TakeTurn s found) = Turn s.0
+part_of (BeginLook s found) = Gate s.0
+part_of (GiveTurn s) = Turn s.0
+part_of (Remove s i found) = Key s.0 i
+part_of (LookMark s i found) = Mark s.0 i
+part_of (MarkKey s i from told found) = Mark s.0 i
+part_of (UnselectBit s i found) = Mark s.0 i
+part_of (EndWake s found) = Gate s.0
+part_of (LookChannels found) = ChannelsMark
+part_of (RaiseChannels n found) = ChannelsMark
+part_of (TryHoldBit c found) = Hold c.0
+part_of (Release c) = Hold c.0
+part_of (SetMode c blocking found) = Chan c.0
+part_of (CloseBit c found) = Chan c.0
+part_of (ShutBit s found) = Gate s.0
+part_of (Enter s found) = Turn s.0
+
+-- the selector of a part, and the index of a key
+abbrev pub selector_in : Part → SelNo
+selector_in (Gate s) = record { 0 = s }
+selector_in (Key s i) = record { 0 = s }
+selector_in (Interest s i) = record { 0 = s }
+selector_in (Note s i) = record { 0 = s }
+selector_in _ = record { 0 = 0 }
+
+abbrev pub index_in : Part → ℕ
+index_in (Key s i) = i
+index_in (Interest s i) = i
+index_in (Note s i) = i
+index_in _ = 0

@@ -1,0 +1,21 @@
+//! The atomic instructions of the table's steps.
+
+/// What one step does to its word. It finds what stood there before.
+#[derive(Clone, Copy)]
+pub enum Instruction {
+    Load,
+    /// Sets this bit.
+    SetBit(u32),
+    /// Clears this bit.
+    ClearBit(u32),
+    /// Sets these bits.
+    Or(u64),
+    /// Clears all bits but these.
+    And(u64),
+    /// Raises the word to this number, unless it is as high.
+    Max(u64),
+    /// Puts this word in its place.
+    Swap(u64),
+    /// Where the first word stands there, puts the second in its place.
+    Exchange(u64, u64),
+}

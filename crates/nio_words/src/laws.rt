@@ -1,0 +1,7 @@
+//! What follows from the table's rule alone. The functions do nothing: their contracts are laws.
+ghost use Rattle.nio_words.specs.Whole.{HoldersOfAllSeeAll};
+
+/// A pass that holds every number below the limit has seen the whole history.
+pub fn whole_law()
+    ensures { HoldersOfAllSeeAll }
+{}

@@ -1,0 +1,21 @@
+//! The shared table of selectors, keys and channels: words that change in single atomic steps, and
+//! the passes that callers step with. All steps of all callers stand in one legal history.
+#![tactic(auto)]
+
+pub use drawing::DrawError;
+pub use laws::whole_law;
+pub use words::{Pass, Words};
+
+mod decode;
+mod drawing;
+mod instruction;
+mod laws;
+mod part;
+mod sharing;
+mod step;
+mod steps;
+mod table;
+#[cfg(test)]
+mod tests;
+mod view;
+mod words;

@@ -1,0 +1,73 @@
+//! The parts of the shared state, and where the word of each stands in the table.
+ghost use Rattle.std.specs.Prelude.{◌≡◌, ◌<◌};
+ghost use Rattle.nio_base.specs.Limits.{IsFit};
+ghost use Rattle.nio_words.specs.Places.{IsWithin, place, word_count};
+
+use nio_base::Limits;
+
+/// A part of the state that one word holds, with the numbers that it is of.
+#[derive(Clone, Copy)]
+pub enum Part {
+    /// Which callers are drawn.
+    Callers,
+    /// Which callers are interrupted.
+    Interrupts,
+    /// Which selectors are made.
+    Selectors,
+    /// The channels' mark.
+    ChannelsMark,
+    /// A channel.
+    Chan(u32),
+    /// Who holds a channel.
+    Hold(u32),
+    /// The key that is noted for a channel in a selector.
+    Noted(u32, u32),
+    /// The gate of a selector.
+    Gate(u32),
+    /// Who has the turn of a selector.
+    Turn(u32),
+    /// The keys' mark of a selector.
+    KeysMark(u32),
+    /// How far a key of a selector has come.
+    Key(u32, u32),
+    /// A key's interest set.
+    Interest(u32, u32),
+    /// Whether a key is selected, and its ready set.
+    Mark(u32, u32),
+    /// A key's attachment.
+    Note(u32, u32),
+}
+
+/// The place of a part's word.
+#[inline(always)]
+pub(crate) fn place_of(limits: &Limits, part: Part) -> usize
+    requires fit { IsFit limits.now }
+    requires within { IsWithin limits.now part }
+    ensures place { result ≡ place limits.now part }
+    ensures inside { result < word_count limits.now }
+{
+    let selectors = limits.selectors as usize;
+    let channels = limits.channels as usize;
+    let keys = limits.keys as usize;
+    let gates = 5 + channels + channels + channels * selectors;
+    let stages = gates + selectors + selectors + selectors;
+    let of_keys = selectors * keys;
+    match part {
+        Part::Callers => 0,
+        Part::Interrupts => 2,
+        Part::Selectors => 3,
+        Part::ChannelsMark => 4,
+        Part::Chan(c) => 5 + c as usize,
+        Part::Hold(c) => 5 + channels + c as usize,
+        Part::Noted(c, s) => 5 + channels + channels + (c as usize * selectors + s as usize),
+        Part::Gate(s) => gates + s as usize,
+        Part::Turn(s) => gates + selectors + s as usize,
+        Part::KeysMark(s) => gates + selectors + selectors + s as usize,
+        Part::Key(s, i) => stages + (s as usize * keys + i as usize),
+        Part::Interest(s, i) => stages + of_keys + (s as usize * keys + i as usize),
+        Part::Mark(s, i) => stages + of_keys + of_keys + (s as usize * keys + i as usize),
+        Part::Note(s, i) => {
+            stages + of_keys + of_keys + of_keys + (s as usize * keys + i as usize)
+        }
+    }
+}

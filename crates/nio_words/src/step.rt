@@ -1,0 +1,71 @@
+//! The one function that makes every step.
+ghost use Rattle.std.specs.Prelude.{◌≡◌, ◌<◌};
+ghost use Rattle.nio_words.specs.Instructions.{applied, IsInWord};
+ghost use Rattle.nio_words.specs.Passes.{IsReady, limits_of};
+ghost use Rattle.nio_words.specs.Steps.{Doing, MayDo, Moves, Steps, any_step};
+ghost use Rattle.nio_words.specs.Rule.{IsKept};
+ghost use Rattle.atomic_table.specs.Table.{Allows};
+
+use crate::instruction::Instruction;
+use crate::part::{Part, place_of};
+use crate::view::View;
+use crate::words::{Pass, Words};
+use atomic_table::{Play, Seat};
+use nio_base::CallerNo;
+use std::marker::Brand;
+
+// What a step tells is picked where the step is made.
+impl Play<(), View> for Brand {
+    ghost then = { λ step before found after. Unit {0} };
+}
+
+impl Words {
+    /// Carries out an instruction on a word.
+    #[inline(always)]
+    pub(crate) fn perform<M: Play<(), View>>(
+        &self,
+        seat: &mut Seat<(), View>,
+        word: usize,
+        instruction: Instruction,
+    ) -> u64
+        requires table { seat.old.table_id ≡ self.now.table.shared.table_id }
+        requires inside { word < self.now.table.shared.table_id.words }
+        requires bit { IsInWord instruction }
+        requires rule { Allows (IsKept self.now.table.shared.key) self.now.table.shared.table_id.slots seat.old.id seat.old.me word (applied instruction) (M.then any_step seat.old.me) }
+        ensures seat { (seat.new.table_id ≡ seat.old.table_id) × (seat.new.id ≡ seat.old.id) }
+        ensures told { M.then any_step seat.old.me result seat.new.me }
+    {
+        let shared = &self.table.shared;
+        match instruction {
+            Instruction::Load => shared.load::<Brand>(seat, word),
+            Instruction::SetBit(k) => shared.fetch_or::<Brand>(seat, word, 1 << k),
+            Instruction::ClearBit(k) => shared.fetch_and::<Brand>(seat, word, !(1 << k)),
+            Instruction::Or(bits) => shared.fetch_or::<Brand>(seat, word, bits),
+            Instruction::And(bits) => shared.fetch_and::<Brand>(seat, word, bits),
+            Instruction::Max(number) => shared.fetch_max::<Brand>(seat, word, number),
+            Instruction::Swap(new) => shared.swap::<Brand>(seat, word, new),
+            Instruction::Exchange(old, new) => {
+                shared.compare_exchange::<Brand>(seat, word, old, new)
+            }
+        }
+    }
+
+    /// Makes one step: `doing` says which event it is, by the word that it finds.
+    #[inline(always)]
+    pub(crate) fn step(
+        &self,
+        p: &mut Pass,
+        _me: CallerNo,
+        part: Part,
+        instruction: Instruction,
+    ) -> u64
+        ghost doing: { Doing }
+        requires ready { IsReady self.now p.old doing.who }
+        requires moves { Moves (limits_of self.now) doing.who part instruction doing.act }
+        requires condition { MayDo self.now p.old doing }
+        ensures step { Steps self.now p.old p.new doing.who (doing.act result) }
+    {
+        let word = place_of(&self.limits, part);
+        self.perform::<Brand>(&mut p.seat, word, instruction)
+    }
+}
