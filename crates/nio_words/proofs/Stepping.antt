@@ -47,8 +47,8 @@ allowed l slots id v carried me p instruction act unspent has moves may s kept h
     let is_word : encoding (state_after kept.history) p ≡ n = sym here.word in
     let small : encoding (state_after kept.history) p < bound p = subst (λ (k : ℕ). k < bound p) here.word here.small in
     let may' : (k : ℕ) → Condition l (mine me kept.history) (state_after kept.history) me (act k) = λ k.
-          conditions_stay l me v.seen kept.history known.begins kept.legal (known.own me has) (act k)
-            (subst (λ l'. Condition l' (mine me v.seen) (state_after v.seen) me (act k)) known.limits (may k)) in
+    conditions_stay l me v.seen kept.history known.begins kept.legal (known.own me has) (act k)
+    (subst (λ l'. Condition l' (mine me v.seen) (state_after v.seen) me (act k)) known.limits (may k)) in
     let now : IsMoment l me p act (state_after kept.history) = record { past = kept.history; legal = kept.legal; leaves = refl; condition = may'; small = small } in
     let step : IsStep l kept.history e = record {
       by_caller = known.callers me.0 has;
