@@ -1,4 +1,4 @@
-use Rattle.std.proofs.Common.{◌≡◌, ◌∷◌, ◌++◌, ap, refl, sym, ◌∙◌}
+use Rattle.std.proofs.Common.{◌∷◌, ap, refl, sym, ◌∙◌}
 use Rattle.nio_event.specs.Arguments.{arguments}
 use Rattle.nio_event.specs.Calls.{call_words}
 use Rattle.nio_event.specs.CallWords.{call_word, call_word_text}
