@@ -35,7 +35,11 @@ impl MemorySource {
     /// stand in `fail_at` fail, and take nothing.
     pub fn make(bytes: Vec<u8>, piece: usize, fail_at: Vec<u64>) -> MemorySource
         requires { 1 ≤ piece }
-        ensures { result ≡ record { left = bytes.items; piece = piece; reads = no_calls fail_at.items } }
+        ensures { result ≡ record {
+          left = bytes.items;
+          piece = piece;
+          reads = no_calls fail_at.items;
+        } }
     {
         MemorySource {
             bytes: SteadySource::make(bytes),

@@ -1,5 +1,5 @@
 //! A sink over std's `Write`.
-ghost use Rattle.std.specs.Prelude.{◌≡◌, ℕ, ◌<◌, ◌≤◌, length, None, IfOk};
+ghost use Rattle.std.specs.Prelude.{◌≡◌, ◌<◌, ◌≤◌, length, None, IfOk};
 ghost use Rattle.std.specs.Io.KnownBytes.{WriteAppends, Keeps};
 ghost use Rattle.nio_bytes.specs.Cause.{HasCause};
 
@@ -18,11 +18,11 @@ pub struct StdSink<T> {
 }
 
 impl<T: Write> StdSink<T> {
-    ghost use Rattle.nio_bytes.specs.StdSink.{writer};
+    ghost use Rattle.nio_bytes.specs.StdSink.{writer, faults_of};
 
     pub fn over(inner: T) -> StdSink<T>
         ensures writer { writer result ≡ inner }
-        ensures faults { ⟦<StdSink<T> as Sink>⟧.faults result ≡ 0 }
+        ensures faults { faults_of result ≡ 0 }
     {
         StdSink {
             inner,
@@ -32,19 +32,18 @@ impl<T: Write> StdSink<T> {
 }
 
 impl<T: Write> Sink for StdSink<T> {
-    ghost use Rattle.nio_bytes.specs.StdSink.{writer};
+    ghost use Rattle.nio_bytes.specs.StdSink.{writer, faults_of};
 
     ghost taken = { λ _. None };
 
     ghost flushed = { λ _. None };
 
-    ghost faults = { λ s. s.faults };
+    ghost faults = { faults_of };
 
     fn write(&mut self, from: &[u8]) -> Result<usize, Failed>
         ensures within { IfOk result (λ count. count ≤ length from.now) }
         ensures some { IfOk result (λ count. 0 < length from.now → 0 < count) }
-        ensures cause { HasCause (⟦<StdSink<T> as Sink>⟧.faults self.old)
-            (⟦<StdSink<T> as Sink>⟧.faults self.new) result }
+        ensures cause { HasCause (faults_of self.old) (faults_of self.new) result }
 
         // As the writer, where that tells its bytes.
         ensures bytes { WriteAppends (T.contents (writer self.old)) (T.contents (writer self.new))
@@ -62,8 +61,7 @@ impl<T: Write> Sink for StdSink<T> {
     }
 
     fn flush(&mut self) -> Result<(), Failed>
-        ensures cause { HasCause (⟦<StdSink<T> as Sink>⟧.faults self.old)
-            (⟦<StdSink<T> as Sink>⟧.faults self.new) result }
+        ensures cause { HasCause (faults_of self.old) (faults_of self.new) result }
         ensures bytes { Keeps (T.contents (writer self.old)) (T.contents (writer self.new)) }
     {
         for _ in 0..u64::MAX {

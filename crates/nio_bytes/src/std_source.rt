@@ -1,5 +1,5 @@
 //! A source over std's `Read`.
-ghost use Rattle.std.specs.Prelude.{◌≡◌, ℕ, ◌≤◌, length, None, IfOk};
+ghost use Rattle.std.specs.Prelude.{◌≡◌, ◌≤◌, length, None, IfOk};
 ghost use Rattle.std.specs.Io.KnownBytes.{ReadConsumes};
 ghost use Rattle.nio_bytes.specs.Cause.{HasCause};
 
@@ -17,11 +17,11 @@ pub struct StdSource<R> {
 }
 
 impl<R: Read> StdSource<R> {
-    ghost use Rattle.nio_bytes.specs.StdSource.{reader};
+    ghost use Rattle.nio_bytes.specs.StdSource.{reader, faults_of};
 
     pub fn over(inner: R) -> StdSource<R>
         ensures reader { reader result ≡ inner }
-        ensures faults { ⟦<StdSource<R> as Source>⟧.faults result ≡ 0 }
+        ensures faults { faults_of result ≡ 0 }
     {
         StdSource {
             inner,
@@ -31,16 +31,15 @@ impl<R: Read> StdSource<R> {
 }
 
 impl<R: Read> Source for StdSource<R> {
-    ghost use Rattle.nio_bytes.specs.StdSource.{reader};
+    ghost use Rattle.nio_bytes.specs.StdSource.{reader, faults_of};
 
     ghost left = { λ _. None };
 
-    ghost faults = { λ s. s.faults };
+    ghost faults = { faults_of };
 
     fn read(&mut self, into: &mut [u8]) -> Result<usize, Failed>
         ensures within { IfOk result (λ count. count ≤ length into.new) }
-        ensures cause { HasCause (⟦<StdSource<R> as Source>⟧.faults self.old)
-            (⟦<StdSource<R> as Source>⟧.faults self.new) result }
+        ensures cause { HasCause (faults_of self.old) (faults_of self.new) result }
 
         // As the reader, where that tells its bytes.
         ensures bytes { ReadConsumes (R.remaining (reader self.old)) (R.remaining (reader self.new))
