@@ -20,7 +20,7 @@ impl Play<(), View> for Brand {
 }
 
 impl Words {
-    /// Carries out an instruction on a word.
+    /// Carries out an instruction on a word. What it tells is `M`.
     #[inline(always)]
     pub(crate) fn perform<M: Play<(), View>>(
         &self,
@@ -50,7 +50,8 @@ impl Words {
         }
     }
 
-    /// Makes one step: `doing` says which event it is, by the word that it finds.
+    /// Makes one step of `_me`, whom the proof alone needs. `doing` says which event it adds, by the
+    /// word that it finds, and each caller of this function picks it.
     #[inline(always)]
     pub(crate) fn step(
         &self,
