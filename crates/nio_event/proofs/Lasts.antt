@@ -1,10 +1,9 @@
 -- What lasts: no step ends what stands in `LastingFact`. Of the kinds of step only those that change
 -- a fact's part of the state are looked at; of the others the last line of each lemma speaks.
-use Rattle.std.proofs.Common.{◌≡◌, ◌≢◌, ℕ, ◌==◌, ◌<◌, ◌≤◌, max, Bool, true, false, ◌||◌, not, if◌then◌else◌, Option, Some, None, refl, ap, sym, ◌∙◌, arith}
+use Rattle.std.proofs.Common.{◌≡◌, ℕ, ◌<◌, Bool, true, false, ◌||◌, refl, ap, arith}
 use Rattle.nio_base.specs.declared.numbers.CallerNo.{CallerNo}
-use Rattle.nio_base.specs.declared.numbers.ChanNo.{ChanNo}
 use Rattle.nio_event.proofs.Put.{put_keeps, put_at_keeps}
-use Rattle.nio_event.specs.Acts.{effect, new_key}
+use Rattle.nio_event.specs.Acts.{effect}
 use Rattle.nio_event.specs.State.{State}
 use Rattle.nio_event.specs.declared.act.Act.{Act}
 use Rattle.nio_event.specs.declared.act.Act.TheVariants.{DrawBit, MakeSelector, Wake, CancelKey, MakeChannel, Claim, RaiseKeys, Publish, Remove, EndWake, RaiseChannels, SetMode, CloseBit, ShutBit, Enter}

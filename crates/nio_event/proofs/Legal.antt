@@ -30,7 +30,8 @@ split_more (v ∷ xs) x [] y zs eq = inr (xs, cc)
 split_more (v ∷ xs) x (w ∷ ys) y zs eq =
     let heads : v ≡ w = cc in
     elim (split_more xs x ys y zs (cc eq)) [
-      inl both ↦ inl (cc (heads, both.0), both.1) | inr more ↦ inr (more.0, cc (heads, more.1))
+      | inl both ↦ inl (cc (heads, both.0), both.1)
+      | inr more ↦ inr (more.0, cc (heads, more.1))
     ]
 
 -- a step after a legal history makes it longer
@@ -38,7 +39,7 @@ pub legal_more : (l : Limits) (past : List Event) (e : Event) → IsLegal l past
 legal_more l past e legal step = record {
   steps = λ before e' after eq.
       elim (split_more past e before e' after eq) [
-        inl both ↦ subst (λ b. IsStep l b e') both.0 (subst (λ x. IsStep l past x) both.1 step)
+        | inl both ↦ subst (λ b. IsStep l b e') both.0 (subst (λ x. IsStep l past x) both.1 step)
         | inr more ↦ legal.steps before e' more.0 more.1
       ];
 }

@@ -7,3 +7,10 @@ pub mod Soundness
 pub mod LastsOnceSound
 pub mod LastsAlone
 pub mod Stays
+pub mod TurnLaws
+pub mod WorkedSteps
+pub mod Within
+pub mod Bits
+pub mod Clauses
+pub mod Asked
+pub mod Holder

@@ -27,6 +27,17 @@ put_at_keeps {A = A} R f i j x new m n here = by_test ((m == i) && (n == j)) ref
         subst (λ (k : ℕ). R k n x) (sym first) (subst (λ (k : ℕ). R i k x) (sym second) (new there))
     by_test false e = here
 
+-- a fact of what stands at a number stood before where the new value has it only then
+pub put_gave : {A : Type 0} (R : ℕ → A → Type 0) (f : ℕ → A) (i : ℕ) (x : A) → (R i x → R i (f i))
+    → (n : ℕ) → R n (put f i x n) → R n (f n)
+put_gave {A = A} R f i x old n now = by_test (n == i) refl now
+  where
+    by_test : (b : Bool) → (n == i) ≡ b → R n (cond b x (f n)) → R n (f n)
+    by_test true e now' =
+        let same : n ≡ i = eqb-true n i e in
+        subst (λ (k : ℕ). R k (f k)) (sym same) (old (subst (λ (k : ℕ). R k x) same now'))
+    by_test false e now' = now'
+
 pub put-same : {A : Type 0} (f : ℕ → A) (i : ℕ) (x : A) → put f i x i ≡ x
 put-same f i x = ap (λ b. cond b x (f i)) (eq-eqb i i refl)
 

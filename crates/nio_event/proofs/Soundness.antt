@@ -1,5 +1,5 @@
 -- The state after every legal history is sound: each step keeps each fact.
-use Rattle.std.proofs.Common.{◌≡◌, ℕ, ◌<◌, ◌≤◌, max, Bool, true, false, ◌&&◌, ◌||◌, not, ◌⊎◌, inl, inr, Option, Some, None, is_some, is_none, List, [], ◌∷◌, ◌++◌, refl, ap, sym, ◌∙◌, subst, arith}
+use Rattle.std.proofs.Common.{◌≡◌, ℕ, ◌<◌, ◌≤◌, max, Bool, true, false, ◌&&◌, ◌||◌, not, ◌⊎◌, inl, inr, Option, Some, None, is_some, is_none, List, refl, ap, sym, ◌∙◌, subst, arith}
 use Rattle.std.specs.Prelude.{nat_lt}
 use Rattle.std.proofs.lemmas.Bool.{and_parts, ltb-true, ltb-false}
 use Rattle.nio_base.specs.declared.limits.Limits.{Limits}
@@ -7,16 +7,16 @@ use Rattle.nio_base.specs.declared.numbers.CallerNo.{CallerNo}
 use Rattle.nio_base.specs.declared.numbers.SelNo.{SelNo}
 use Rattle.nio_event.proofs.Lasts.{shut_lasts, made_lasts, claimed_lasts}
 use Rattle.nio_event.proofs.Legal.{legal_induction}
-use Rattle.nio_event.proofs.OneMore.{state_after-more, has-after_first}
+use Rattle.nio_event.proofs.OneMore.{state_after-more, has-since_first}
 use Rattle.nio_event.proofs.Put.{put_keeps, put_at_keeps, put_both}
 use Rattle.nio_event.proofs.Told.{either, claimed_told, below_told}
-use Rattle.nio_event.specs.Acts.{effect, taken_by}
+use Rattle.nio_event.specs.Acts.{effect, new_key, taken_by}
 use Rattle.nio_event.specs.Answers.{Answers}
 use Rattle.nio_event.specs.Conditions.{Condition, is_held_by, has_begun, has_entered, may_sweep, may_clear_out}
 use Rattle.nio_event.specs.Histories.{state_after, mine, IsStep, IsLegal}
 use Rattle.nio_event.specs.OwnEvents.{has, enters, finds_below, since_entered}
-use Rattle.nio_event.specs.Sound.{is_beyond_claimed, IsSound}
-use Rattle.nio_event.specs.State.{State, opening}
+use Rattle.nio_event.specs.Sound.{IsSound}
+use Rattle.nio_event.specs.State.{State, opening, unmade_channel, unclaimed, put_at}
 use Rattle.nio_event.specs.declared.act.Act.{Act}
 use Rattle.nio_event.specs.declared.act.Act.TheVariants.{CancelKey, MakeChannel, Claim, RaiseKeys, Publish, TakeTurn, BeginLook, GiveTurn, Remove, RaiseChannels, TryHoldBit, Release, SetMode, CloseBit, ShutBit, Enter}
 use Rattle.nio_event.specs.declared.event.Event.{Event}
@@ -44,6 +44,26 @@ not_true : (b : Bool) → (b ≡ true → ⊥) → b ≡ false
 not_true true no_way = absurd (no_way refl)
 not_true false no_way = refl
 
+pub both_ways : (b : Bool) → b ≡ true → b ≡ false → ⊥
+both_ways true e f = cc
+both_ways false e f = cc
+
+-- what is closed is made
+pub closed-made : (st : State) → IsSound st → (c : ℕ) → (st.chan c).closed ≡ true → (st.chan c).made ≡ true
+closed-made st sound c closed = by_test (st.chan c).made refl
+  where
+    by_test : (b : Bool) → (st.chan c).made ≡ b → (st.chan c).made ≡ true
+    by_test true e = e
+    by_test false e = absurd (both_ways (st.chan c).closed closed (ap (λ x. x.closed) (sound.unmade_bare c e)))
+
+-- what is published, cancelled or removed is claimed
+pub beyond-claimed : (st : State) → IsSound st → (s i : ℕ) → ((st.key s i).published || (st.key s i).cancelled || (st.key s i).removed) ≡ true → (st.key s i).claimed ≡ true
+beyond-claimed st sound s i beyond = by_test (st.key s i).claimed refl
+  where
+    by_test : (b : Bool) → (st.key s i).claimed ≡ b → (st.key s i).claimed ≡ true
+    by_test true e = e
+    by_test false e = absurd (both_ways ((st.key s i).published || (st.key s i).cancelled || (st.key s i).removed) beyond (ap (λ k. k.published || k.cancelled || k.removed) (sound.unclaimed_bare s i e)))
+
 channels_below_step : (l : Limits) (own : List Act) (st : State) (me : CallerNo) (act : Act) → Condition l own st me act → IsSound st
     → (c : ℕ) → c < (effect st me act).channels_mark → ((effect st me act).chan c).made ≡ true
 channels_below_step l own st me (RaiseChannels n found) may sound c h =
@@ -54,17 +74,19 @@ keys_below_step : (l : Limits) (own : List Act) (st : State) (me : CallerNo) (ac
     → (s i : ℕ) → i < (effect st me act).keys_mark s → ((effect st me act).key s i).claimed ≡ true
 keys_below_step l own st me (RaiseKeys k n found) may sound s i h =
     put_keeps (λ s' m. i < m → (st.key s' i).claimed ≡ true) st.keys_mark k.0 _
-      (λ old below. elim (below_max (st.keys_mark k.0) n i below) [ inl before ↦ old before | inr new ↦ may.2 i new ])
-      s (sound.keys_below s i) h
+    (λ old below. elim (below_max (st.keys_mark k.0) n i below) [ inl before ↦ old before | inr new ↦ may.2 i new ])
+    s (sound.keys_below s i) h
 keys_below_step l own st me act may sound s i h = claimed_lasts st me act s i (sound.keys_below s i h)
 
-closed_made_step : (l : Limits) (own : List Act) (st : State) (me : CallerNo) (act : Act) → Condition l own st me act → IsSound st
-    → (c : ℕ) → ((effect st me act).chan c).closed ≡ true → ((effect st me act).chan c).made ≡ true
-closed_made_step l own st me (MakeChannel k kind true) may sound c = put_keeps (λ _ x. x.closed ≡ true → x.made ≡ true) st.chan k.0 _ (λ e. e) c (sound.closed_made c)
-closed_made_step l own st me (MakeChannel k kind false) may sound c = put_keeps (λ _ x. x.closed ≡ true → x.made ≡ true) st.chan k.0 _ (λ _ _. refl) c (sound.closed_made c)
-closed_made_step l own st me (SetMode k blocking found) may sound c = put_keeps (λ _ x. x.closed ≡ true → x.made ≡ true) st.chan k.0 _ (λ e. e) c (sound.closed_made c)
-closed_made_step l own st me (CloseBit k found) may sound c = put_keeps (λ _ x. x.closed ≡ true → x.made ≡ true) st.chan k.0 _ (λ _ _. may.1) c (sound.closed_made c)
-closed_made_step l own st me act may sound c = sound.closed_made c
+unmade_bare_step : (l : Limits) (own : List Act) (st : State) (me : CallerNo) (act : Act) → Condition l own st me act → IsSound st
+    → (c : ℕ) → ((effect st me act).chan c).made ≡ false → (effect st me act).chan c ≡ unmade_channel
+unmade_bare_step l own st me (MakeChannel k kind true) may sound c = put_keeps (λ _ x. x.made ≡ false → x ≡ unmade_channel) st.chan k.0 _ (λ e. e) c (sound.unmade_bare c)
+unmade_bare_step l own st me (MakeChannel k kind false) may sound c = put_keeps (λ _ x. x.made ≡ false → x ≡ unmade_channel) st.chan k.0 _ (λ _ e. absurd cc) c (sound.unmade_bare c)
+unmade_bare_step l own st me (SetMode k blocking found) may sound c = put_keeps (λ _ x. x.made ≡ false → x ≡ unmade_channel) st.chan k.0 _
+    (λ _ e. absurd (both_ways (st.chan k.0).made (sound.held_made k.0 (held_some me (st.hold k.0) may.1)) e)) c (sound.unmade_bare c)
+unmade_bare_step l own st me (CloseBit k found) may sound c = put_keeps (λ _ x. x.made ≡ false → x ≡ unmade_channel) st.chan k.0 _
+    (λ _ e. absurd (both_ways (st.chan k.0).made may.1 e)) c (sound.unmade_bare c)
+unmade_bare_step l own st me act may sound c = sound.unmade_bare c
 
 held_made_step : (l : Limits) (own : List Act) (st : State) (me : CallerNo) (act : Act) → Condition l own st me act → IsSound st
     → (c : ℕ) → is_some ((effect st me act).hold c) ≡ true → ((effect st me act).chan c).made ≡ true
@@ -113,6 +135,7 @@ begun_open_step st me (Enter k found) answers sound s = put_keeps (λ n b. st.be
     some_not_none : (o : Option CallerNo) → is_some o ≡ true → is_none o ≡ false
     some_not_none None e = absurd cc
     some_not_none (Some n) e = refl
+
     still_closed : is_some (st.turn k.0) ≡ true → st.entered k.0 ≡ false → (st.entered k.0 || is_none found) ≡ false
     still_closed held out =
         let turn_is : found ≡ st.turn k.0 = cc in
@@ -130,36 +153,43 @@ remove_claimed l past me s i legal sound may =
     let st : State = state_after past in
     let key : Stage = st.key s.0 i in
     elim (either (may_sweep st me s i) (may_clear_out st (mine me past) me s i) may) [
-      inl sweep ↦
+      | inl sweep ↦
           let published = (and_parts (has_begun st me s) key.published (and_parts (has_begun st me s && key.published) key.cancelled sweep).0).1 in
-          sound.stages_claimed s.0 i (ap (λ b. b || key.cancelled || key.removed) published)
+          beyond-claimed st sound s.0 i (ap (λ b. b || key.cancelled || key.removed) published)
       | inr clear ↦
           let below = (and_parts (has_entered st me s) (has (finds_below s.0 i) (since_entered s.0 (mine me past))) clear).1 in
-          sound.keys_below s.0 i (below_told l me past s.0 i legal (has-after_first (finds_below s.0 i) (enters s.0) (mine me past) below))
+          sound.keys_below s.0 i (below_told l me past s.0 i legal (has-since_first (finds_below s.0 i) (enters s.0) (mine me past) below))
     ]
 
-stages_claimed_step : (l : Limits) (past : List Event) (e : Event) → IsLegal l past → IsStep l past e → IsSound (state_after past)
-    → (s i : ℕ) → is_beyond_claimed ((effect (state_after past) e.caller e.act).key s i) ≡ true → ((effect (state_after past) e.caller e.act).key s i).claimed ≡ true
-stages_claimed_step l past e legal step sound s i = by_act e.act step.condition
+unclaimed_bare_step : (l : Limits) (past : List Event) (e : Event) → IsLegal l past → IsStep l past e → IsSound (state_after past)
+    → (s i : ℕ) → ((effect (state_after past) e.caller e.act).key s i).claimed ≡ false → (effect (state_after past) e.caller e.act).key s i ≡ unclaimed
+unclaimed_bare_step l past e legal step sound s i = by_act e.act step.condition
   where
+    keeps : (s' : SelNo) (i' : ℕ) (k : Stage) → ((((state_after past).key s'.0 i').claimed ≡ false → (state_after past).key s'.0 i' ≡ unclaimed) → k.claimed ≡ false → k ≡ unclaimed)
+        → (put_at (state_after past).key s'.0 i' k s i).claimed ≡ false → put_at (state_after past).key s'.0 i' k s i ≡ unclaimed
+    keeps s' i' k new = put_at_keeps (λ _ _ x. x.claimed ≡ false → x ≡ unclaimed) (state_after past).key s'.0 i' k new s i (sound.unclaimed_bare s i)
+
     by_act : (act : Act) → Condition l (mine e.caller past) (state_after past) e.caller act
-        → is_beyond_claimed ((effect (state_after past) e.caller act).key s i) ≡ true → ((effect (state_after past) e.caller act).key s i).claimed ≡ true
-    by_act (CancelKey s' i' found) may = put_at_keeps (λ _ _ k. is_beyond_claimed k ≡ true → k.claimed ≡ true) (state_after past).key s'.0 i' _ (λ _ _. may.1) s i (sound.stages_claimed s i)
-    by_act (Claim s' i' c true) may = put_at_keeps (λ _ _ k. is_beyond_claimed k ≡ true → k.claimed ≡ true) (state_after past).key s'.0 i' _ (λ e'. e') s i (sound.stages_claimed s i)
-    by_act (Claim s' i' c false) may = put_at_keeps (λ _ _ k. is_beyond_claimed k ≡ true → k.claimed ≡ true) (state_after past).key s'.0 i' _ (λ _ _. refl) s i (sound.stages_claimed s i)
-    by_act (Publish s' i' found) may = put_at_keeps (λ _ _ k. is_beyond_claimed k ≡ true → k.claimed ≡ true) (state_after past).key s'.0 i' _
-        (λ _ _. claimed_told l e.caller past s'.0 i' legal may.1) s i (sound.stages_claimed s i)
-    by_act (Remove s' i' found) may = put_at_keeps (λ _ _ k. is_beyond_claimed k ≡ true → k.claimed ≡ true) (state_after past).key s'.0 i' _
-        (λ _ _. remove_claimed l past e.caller s' i' legal sound may.1) s i (sound.stages_claimed s i)
-    by_act act may = sound.stages_claimed s i
+        → ((effect (state_after past) e.caller act).key s i).claimed ≡ false → (effect (state_after past) e.caller act).key s i ≡ unclaimed
+    by_act (CancelKey s' i' found) may =
+        keeps s' i' (record ((state_after past).key s'.0 i') { cancelled = true }) (λ _ e'. absurd (both_ways ((state_after past).key s'.0 i').claimed may.1 e'))
+    by_act (Claim s' i' c true) may = keeps s' i' ((state_after past).key s'.0 i') (λ old. old)
+    by_act (Claim s' i' c false) may = keeps s' i' (new_key c) (λ _ e'. absurd cc)
+    by_act (Publish s' i' found) may =
+        keeps s' i' (record ((state_after past).key s'.0 i') { published = true })
+        (λ _ e'. absurd (both_ways ((state_after past).key s'.0 i').claimed (claimed_told l e.caller past s'.0 i' legal may.1) e'))
+    by_act (Remove s' i' found) may =
+        keeps s' i' (record ((state_after past).key s'.0 i') { removed = true })
+        (λ _ e'. absurd (both_ways ((state_after past).key s'.0 i').claimed (remove_claimed l past e.caller s' i' legal sound may.1) e'))
+    by_act act may = sound.unclaimed_bare s i
 
 sound_opening : IsSound opening
 sound_opening = record {
   channels_below = λ c h. absurd (omega arith);
   keys_below = λ s i h. absurd (omega arith);
-  closed_made = λ c h. absurd cc;
+  unmade_bare = λ c h. refl;
+  unclaimed_bare = λ s i h. refl;
   held_made = λ c h. absurd cc;
-  stages_claimed = λ s i h. absurd cc;
   closer_shut = λ s h. absurd cc;
   entered_closer = λ s h. absurd cc;
   begun_turn = λ s h. absurd cc;
@@ -170,9 +200,9 @@ sound_step : (l : Limits) (past : List Event) (e : Event) → IsLegal l past →
 sound_step l past e legal step sound = record {
   channels_below = channels_below_step l (mine e.caller past) (state_after past) e.caller e.act step.condition sound;
   keys_below = keys_below_step l (mine e.caller past) (state_after past) e.caller e.act step.condition sound;
-  closed_made = closed_made_step l (mine e.caller past) (state_after past) e.caller e.act step.condition sound;
+  unmade_bare = unmade_bare_step l (mine e.caller past) (state_after past) e.caller e.act step.condition sound;
+  unclaimed_bare = unclaimed_bare_step l past e legal step sound;
   held_made = held_made_step l (mine e.caller past) (state_after past) e.caller e.act step.condition sound;
-  stages_claimed = stages_claimed_step l past e legal step sound;
   closer_shut = closer_shut_step (state_after past) e.caller e.act sound;
   entered_closer = entered_closer_step l (mine e.caller past) (state_after past) e.caller e.act step.condition sound;
   begun_turn = begun_turn_step l (mine e.caller past) (state_after past) e.caller e.act step.condition sound;

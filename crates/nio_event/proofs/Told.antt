@@ -1,14 +1,13 @@
 -- What a caller's own acts told of what lasts holds ever after.
-use Rattle.std.proofs.Common.{◌≡◌, ℕ, ◌==◌, ◌<◌, Bool, true, false, ◌&&◌, ◌||◌, not, if◌then◌else◌, ◌⊎◌, inl, inr, Option, Some, None, is_some, List, [], ◌∷◌, ◌++◌, refl, ap, sym, ◌∙◌, subst, arith, eqb-true}
+use Rattle.std.proofs.Common.{◌≡◌, ℕ, ◌==◌, ◌<◌, Bool, true, false, ◌||◌, if◌then◌else◌, ◌⊎◌, inl, inr, Option, Some, None, is_some, List, [], ◌∷◌, ◌++◌, refl, ap, sym, ◌∙◌, subst, eqb-true}
 use Rattle.std.specs.Prelude.{nat_lt, fold}
 use Rattle.std.proofs.lemmas.Bool.{and_parts, ltb-true, lt-ltb}
 use Rattle.std.specs.Option.{option_or}
 use Rattle.nio_base.specs.declared.limits.Limits.{Limits}
 use Rattle.nio_base.specs.declared.numbers.CallerNo.{CallerNo}
-use Rattle.nio_base.specs.declared.numbers.ChanNo.{ChanNo}
 use Rattle.nio_event.proofs.Lasts.{claimed_lasts, keys_mark_lasts}
 use Rattle.nio_event.proofs.Legal.{legal_induction}
-use Rattle.nio_event.proofs.OneMore.{state_after-more, mine-own, mine-other, has-more, last-more}
+use Rattle.nio_event.proofs.OneMore.{state_after-more, mine-own, mine-other, has-more}
 use Rattle.nio_event.proofs.Put.{put_at-same}
 use Rattle.nio_event.specs.Acts.{effect, new_key}
 use Rattle.nio_event.specs.Answers.{Answers}
@@ -38,7 +37,8 @@ has_told l p fact lasts tells n events legal = legal_induction l (λ evs. has p 
         by_test true by =
             let more : (has p (mine n past) || p e.act) ≡ true = sym (has-more p (mine n past) e.act) ∙ (sym (ap (has p) (mine-own n past e by)) ∙ now) in
             elim (either (has p (mine n past)) (p e.act) more) [
-              inl had ↦ lasts past e step (before had) | inr tells' ↦ tells past e step tells'
+              | inl had ↦ lasts past e step (before had)
+              | inr tells' ↦ tells past e step tells'
             ]
         by_test false by = lasts past e step (before (sym (ap (has p) (mine-other n past e by)) ∙ now))
 
@@ -77,9 +77,9 @@ last-is_some tells own = from_told tells None own
 pub claimed_told : (l : Limits) (n : CallerNo) (events : List Event) (s i : ℕ) → IsLegal l events → is_some (last (claimed_for s i) (mine n events)) ≡ true → ((state_after events).key s i).claimed ≡ true
 claimed_told l n events s i legal h =
     has_told l (λ act. is_some (claimed_for s i act)) (λ st. (st.key s i).claimed)
-      (λ past e step. claimed_lasts (state_after past) e.caller e.act s i)
-      (λ past e step. claim_tells (state_after past) e.caller e.act s i)
-      n events legal (sym (last-is_some (claimed_for s i) (mine n events)) ∙ h)
+    (λ past e step. claimed_lasts (state_after past) e.caller e.act s i)
+    (λ past e step. claim_tells (state_after past) e.caller e.act s i)
+    n events legal (sym (last-is_some (claimed_for s i) (mine n events)) ∙ h)
 
 -- ---- below the keys' mark
 
@@ -95,6 +95,6 @@ below_tells st me act s i found_is h = absurd (cc h)
 pub below_told : (l : Limits) (n : CallerNo) (events : List Event) (s i : ℕ) → IsLegal l events → has (finds_below s i) (mine n events) ≡ true → i < (state_after events).keys_mark s
 below_told l n events s i legal h =
     ltb-true _ _ (has_told l (finds_below s i) (λ st. nat_lt i (st.keys_mark s))
-      (λ past e step before. lt-ltb _ _ (keys_mark_lasts (state_after past) e.caller e.act s i (ltb-true _ _ before)))
-      (λ past e step. below_tells (state_after past) e.caller e.act s i step.answers)
-      n events legal h)
+    (λ past e step before. lt-ltb _ _ (keys_mark_lasts (state_after past) e.caller e.act s i (ltb-true _ _ before)))
+    (λ past e step. below_tells (state_after past) e.caller e.act s i step.answers)
+    n events legal h)

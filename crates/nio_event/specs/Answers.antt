@@ -1,19 +1,19 @@
 -- What each kind of step finds in the state. The lines stand in the order in which `Act` lists the
 -- kinds.
-use Rattle.std.specs.Prelude.{◌≡◌, ℕ, zero, suc, ◌+◌, ◌^◌, ◌==◌, Bool, ◌&&◌, if◌then◌else◌, Result, Ok, Err}
+use Rattle.std.specs.Prelude.{◌≡◌, ℕ, zero, suc, ◌^◌, bit_or, ◌==◌, Bool, ◌&&◌, if◌then◌else◌, Result, Ok, Err}
 use Rattle.std.specs.Bool.{beq}
 use Rattle.nio_base.specs.declared.numbers.CallerNo.{CallerNo}
 use Rattle.nio_event.specs.State.{State}
 use Rattle.nio_event.specs.Questions.{Question, draw_bit, make_selector, look_selectors, wake, look_gate, set_interrupt, take_interrupt, look_interrupt, look_key, cancel_key, look_interest, swap_interest, or_interest, and_interest, swap_note, look_note, make_channel, look_channel, claim, raise_keys, look_keys, publish, look_reg, enrol, take_turn, begin_look, give_turn, remove, look_mark, mark, unselect_bit, end_wake, look_channels, raise_channels, try_hold_bit, release, set_mode, close_bit, shut_bit, enter}
-use Rattle.nio_event.specs.Questions.{Answer, flag, word, gate_word, stage, operations, channel, number, key_index, holder, key_mark, exchange, nothing}
-use Rattle.nio_event.specs.Questions.{question_of, answer_of}
+use Rattle.nio_event.specs.Questions.{Answer, question_of, answer_of}
 use Rattle.nio_event.specs.declared.act.Act.{Act}
+use Rattle.nio_event.specs.declared.act.Act.TheVariants.{DrawBit, MakeSelector, LookSelectors, Wake, LookGate, SetInterrupt, TakeInterrupt, LookInterrupt, LookKey, CancelKey, LookInterest, SwapInterest, OrInterest, AndInterest, SwapNote, LookNote, MakeChannel, LookChannel, Claim, RaiseKeys, LookKeys, Publish, LookReg, Enrol, TakeTurn, BeginLook, GiveTurn, Remove, LookMark, Mark, UnselectBit, EndWake, LookChannels, RaiseChannels, TryHoldBit, Release, SetMode, CloseBit, ShutBit, Enter}
 use Rattle.nio_event.specs.declared.found.Mark.{Mark as KeyMark}
 
 -- the number whose bit k is set where `test` passes at k, for each k below n
 unfoldable pub bits_below : ℕ → (ℕ → Bool) → ℕ
 bits_below zero test = 0
-bits_below (suc n) test = bits_below n test + (if test n then 2 ^ n else 0)
+bits_below (suc n) test = bit_or (bits_below n test) (if test n then 2 ^ n else 0)
 
 -- all selectors that are made, as one number
 abbrev pub selectors_word : State → ℕ
@@ -26,61 +26,93 @@ is_same_mark x y = beq x.selected y.selected && (x.ready == y.ready)
 abbrev pub exchange_from : KeyMark → KeyMark → Result (Unit {0}) KeyMark
 exchange_from from stands = if is_same_mark stands from then Ok tt else Err stands
 
-abbrev pub answer_from : State → CallerNo → Question → Answer
--- whether it was drawn
-answer_from st me (draw_bit n) = flag (st.drawn n.0)
+-- the step that a question to this state comes to: the last field is what it finds
+abbrev pub act_from : State → CallerNo → Question → Act
+-- whether the number was drawn
+act_from st me (draw_bit n) = DrawBit n (st.drawn n.0)
 -- whether it was made
-answer_from st me (make_selector s) = flag (st.selector s.0)
-answer_from st me look_selectors = word (selectors_word st)
+act_from st me (make_selector s) = MakeSelector s (st.selector s.0)
+-- which selectors are made
+act_from st me look_selectors = LookSelectors (selectors_word st)
 -- whether a wakeup was pending
-answer_from st me (wake s) = flag (st.gate s.0).woken
-answer_from st me (look_gate s) = gate_word (st.gate s.0)
+act_from st me (wake s) = Wake s (st.gate s.0).woken
+-- the gate
+act_from st me (look_gate s) = LookGate s (st.gate s.0)
 -- whether it was set
-answer_from st me (set_interrupt n) = flag (st.interrupted n.0)
--- the status of the caller itself
-answer_from st me take_interrupt = flag (st.interrupted me.0)
-answer_from st me look_interrupt = flag (st.interrupted me.0)
-answer_from st me (look_key s i) = stage (st.key s.0 i)
-answer_from st me (cancel_key s i) = stage (st.key s.0 i)
-answer_from st me (look_interest s i) = operations (st.interest s.0 i)
-answer_from st me (swap_interest s i ops) = operations (st.interest s.0 i)
-answer_from st me (or_interest s i ops) = operations (st.interest s.0 i)
-answer_from st me (and_interest s i ops) = operations (st.interest s.0 i)
-answer_from st me (swap_note s i att) = word (st.note s.0 i)
-answer_from st me (look_note s i) = word (st.note s.0 i)
+act_from st me (set_interrupt n) = SetInterrupt n (st.interrupted n.0)
+-- whether the status of the caller itself was set
+act_from st me take_interrupt = TakeInterrupt (st.interrupted me.0)
+-- whether the status of the caller itself is set
+act_from st me look_interrupt = LookInterrupt (st.interrupted me.0)
+-- the stage of the key
+act_from st me (look_key s i) = LookKey s i (st.key s.0 i)
+-- the stage before
+act_from st me (cancel_key s i) = CancelKey s i (st.key s.0 i)
+-- the interest set
+act_from st me (look_interest s i) = LookInterest s i (st.interest s.0 i)
+-- the interest set before
+act_from st me (swap_interest s i ops) = SwapInterest s i ops (st.interest s.0 i)
+-- the interest set before
+act_from st me (or_interest s i ops) = OrInterest s i ops (st.interest s.0 i)
+-- the interest set before
+act_from st me (and_interest s i ops) = AndInterest s i ops (st.interest s.0 i)
+-- the attachment before
+act_from st me (swap_note s i att) = SwapNote s i att (st.note s.0 i)
+-- the attachment
+act_from st me (look_note s i) = LookNote s i (st.note s.0 i)
 -- whether it was made
-answer_from st me (make_channel c kind) = flag (st.chan c.0).made
-answer_from st me (look_channel c) = channel (st.chan c.0)
+act_from st me (make_channel c kind) = MakeChannel c kind (st.chan c.0).made
+-- the channel
+act_from st me (look_channel c) = LookChannel c (st.chan c.0)
 -- whether it was claimed
-answer_from st me (claim s i c) = flag (st.key s.0 i).claimed
-answer_from st me (raise_keys s n) = number (st.keys_mark s.0)
-answer_from st me (look_keys s) = number (st.keys_mark s.0)
-answer_from st me (publish s i) = stage (st.key s.0 i)
-answer_from st me (look_reg c s) = key_index (st.noted c.0 s.0)
-answer_from st me (enrol c s i) = key_index (st.noted c.0 s.0)
--- who had it
-answer_from st me (take_turn s) = holder (st.turn s.0)
-answer_from st me (begin_look s) = gate_word (st.gate s.0)
-answer_from st me (give_turn s) = nothing
-answer_from st me (remove s i) = stage (st.key s.0 i)
-answer_from st me (look_mark s i) = key_mark (st.mark s.0 i)
-answer_from st me (mark s i from told) = exchange (exchange_from from (st.mark s.0 i))
+act_from st me (claim s i c) = Claim s i c (st.key s.0 i).claimed
+-- the mark before
+act_from st me (raise_keys s n) = RaiseKeys s n (st.keys_mark s.0)
+-- the mark
+act_from st me (look_keys s) = LookKeys s (st.keys_mark s.0)
+-- the stage before
+act_from st me (publish s i) = Publish s i (st.key s.0 i)
+-- the noted index, if any
+act_from st me (look_reg c s) = LookReg c s (st.noted c.0 s.0)
+-- the index that was noted before, if any
+act_from st me (enrol c s i) = Enrol c s i (st.noted c.0 s.0)
+-- who had the turn
+act_from st me (take_turn s) = TakeTurn s (st.turn s.0)
+-- the gate
+act_from st me (begin_look s) = BeginLook s (st.gate s.0)
+-- nothing
+act_from st me (give_turn s) = GiveTurn s
+-- the stage before
+act_from st me (remove s i) = Remove s i (st.key s.0 i)
+-- whether the key is selected, and its ready set
+act_from st me (look_mark s i) = LookMark s i (st.mark s.0 i)
+-- that the mark was the one that is named, or else the mark that stands there
+act_from st me (mark s i from told) = Mark s i from told (exchange_from from (st.mark s.0 i))
 -- whether it was selected
-answer_from st me (unselect_bit s i) = flag (st.mark s.0 i).selected
-answer_from st me (end_wake s) = gate_word (st.gate s.0)
-answer_from st me look_channels = number st.channels_mark
-answer_from st me (raise_channels n) = number st.channels_mark
--- who had it
-answer_from st me (try_hold_bit c) = holder (st.hold c.0)
-answer_from st me (release c) = nothing
-answer_from st me (set_mode c blocking) = channel (st.chan c.0)
+act_from st me (unselect_bit s i) = UnselectBit s i (st.mark s.0 i).selected
+-- the gate before
+act_from st me (end_wake s) = EndWake s (st.gate s.0)
+-- the mark
+act_from st me look_channels = LookChannels st.channels_mark
+-- the mark before
+act_from st me (raise_channels n) = RaiseChannels n st.channels_mark
+-- who had the hold
+act_from st me (try_hold_bit c) = TryHoldBit c (st.hold c.0)
+-- nothing
+act_from st me (release c) = Release c
+-- the channel before
+act_from st me (set_mode c blocking) = SetMode c blocking (st.chan c.0)
 -- whether it was closed
-answer_from st me (close_bit c) = flag (st.chan c.0).closed
+act_from st me (close_bit c) = CloseBit c (st.chan c.0).closed
 -- whether it was shut
-answer_from st me (shut_bit s) = flag (st.gate s.0).shut
--- who has it
-answer_from st me (enter s) = holder (st.turn s.0)
+act_from st me (shut_bit s) = ShutBit s (st.gate s.0).shut
+-- who has the turn
+act_from st me (enter s) = Enter s (st.turn s.0)
 
--- what the step found is what the state gives
+-- what the state answers
+abbrev pub answer_from : State → CallerNo → Question → Answer
+answer_from st me question = answer_of (act_from st me question)
+
+-- what the step found is what the state answers
 abbrev pub Answers : State → CallerNo → Act → Type 0
 Answers st me act = answer_of act ≡ answer_from st me (question_of act)

@@ -3,9 +3,10 @@
 --
 -- The numbers of a step are below the table's limits. What never goes back (made, claimed,
 -- published, cancelled, removed), who has a turn or a hold, who has begun, closes or has entered,
--- and the channel of a claimed index are read in the state. What else the caller has to have found
--- is read in its own acts: under its present hold, or since it entered.
-use Rattle.std.specs.Prelude.{◌≡◌, ℕ, ◌==◌, ◌<◌, ◌≤◌, Bool, true, false, not, ◌&&◌, ◌||◌, Option, Some, None, is_some, List, IsTrue, ⊤}
+-- and the channel of a claimed index are read in the state. That it claimed an index itself, and what
+-- else the caller has to have found, is read in its own acts: the latter under its present hold, or
+-- since it entered.
+use Rattle.std.specs.Prelude.{◌≡◌, ℕ, ◌==◌, ◌<◌, ◌≤◌, Bool, false, not, ◌&&◌, ◌||◌, Option, Some, None, is_some, List, IsTrue, ⊤}
 use Rattle.nio_base.specs.declared.limits.Limits.{Limits}
 use Rattle.nio_base.specs.declared.numbers.CallerNo.{CallerNo}
 use Rattle.nio_base.specs.declared.numbers.ChanNo.{ChanNo}

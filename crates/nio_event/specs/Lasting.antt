@@ -5,7 +5,9 @@ use Rattle.nio_base.specs.declared.numbers.CallerNo.{CallerNo}
 use Rattle.nio_base.specs.declared.numbers.ChanNo.{ChanNo}
 use Rattle.nio_base.specs.declared.numbers.SelNo.{SelNo}
 use Rattle.nio_event.specs.Conditions.{holds, has_turn, has_begun, is_closer}
+use Rattle.nio_event.specs.OwnEvents.{gives_turn, releases}
 use Rattle.nio_event.specs.State.{State}
+use Rattle.nio_event.specs.declared.act.Act.{Act}
 
 -- what never goes back
 pub data LastingFact : Type 0 where
@@ -48,3 +50,9 @@ abbrev pub is_had_by : CallerNo → OwnFact → State → Bool
 is_had_by n (the_turn s) st = has_turn st n s
 is_had_by n (a_selection s) st = has_begun st n s
 is_had_by n (the_hold c) st = holds st n c
+
+-- the act by which it gives that back
+abbrev pub gives_back : OwnFact → Act → Bool
+gives_back (the_turn s) act = gives_turn s.0 act
+gives_back (a_selection s) act = gives_turn s.0 act
+gives_back (the_hold c) act = releases c.0 act

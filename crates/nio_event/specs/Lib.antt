@@ -9,3 +9,10 @@ pub mod Histories
 pub mod Lasting
 pub mod Sound
 pub mod Staying
+pub mod OneProof
+pub mod Turns
+pub mod Worked
+pub mod Words
+pub mod Calls
+pub mod Replies
+pub mod Script

@@ -6,7 +6,7 @@ use Rattle.std.specs.Option.{option_or}
 use Rattle.nio_base.specs.declared.numbers.ChanNo.{ChanNo}
 use Rattle.nio_event.specs.Sets.{in_key_set}
 use Rattle.nio_event.specs.declared.act.Act.{Act}
-use Rattle.nio_event.specs.declared.act.Act.TheVariants.{LookKey, LookChannel, Claim, LookKeys, LookReg, Enrol, TryHoldBit, Enter}
+use Rattle.nio_event.specs.declared.act.Act.TheVariants.{LookKey, LookChannel, Claim, LookKeys, LookReg, Enrol, GiveTurn, TryHoldBit, Release, SetMode, Enter}
 
 -- ---- general words
 
@@ -31,9 +31,9 @@ abbrev pub since_from : (Act → Bool) → List Act → List Act
 since_from opens own = fold (λ since act. if opens act then [] else since ++ act ∷ []) [] own
 
 -- what it did after the first act that opens a span
-abbrev pub after_first : (Act → Bool) → List Act → List Act
-after_first opens [] = []
-after_first opens (act ∷ later) = if opens act then later else after_first opens later
+abbrev pub since_first : (Act → Bool) → List Act → List Act
+since_first opens [] = []
+since_first opens (act ∷ later) = if opens act then later else since_first opens later
 
 -- ---- spans
 
@@ -53,7 +53,7 @@ enters s _ = false
 
 -- what it did since it entered selector s
 abbrev pub since_entered : ℕ → List Act → List Act
-since_entered s own = after_first (enters s) own
+since_entered s own = since_first (enters s) own
 
 -- ---- tests of one act
 
@@ -61,6 +61,11 @@ since_entered s own = after_first (enters s) own
 abbrev pub finds_unblocked : ℕ → Act → Bool
 finds_unblocked c (LookChannel c' found) = (c'.0 == c) && not found.blocking
 finds_unblocked c _ = false
+
+-- it set the mode of channel c
+abbrev pub sets_mode : ℕ → Act → Bool
+sets_mode c (SetMode c' blocking found) = c'.0 == c
+sets_mode c _ = false
 
 -- it found the key outside the key set: removed, or not published
 abbrev pub finds_outside : ℕ → ℕ → Act → Bool
@@ -82,6 +87,16 @@ abbrev pub noted_found : ℕ → ℕ → Act → Option (Option ℕ)
 noted_found c s (LookReg c' s' found) = if (c'.0 == c) && (s'.0 == s) then Some found else None
 noted_found c s (Enrol c' s' i _) = if (c'.0 == c) && (s'.0 == s) then Some (Some i) else None
 noted_found c s _ = None
+
+-- it gave back the turn of selector s
+abbrev pub gives_turn : ℕ → Act → Bool
+gives_turn s (GiveTurn s') = s'.0 == s
+gives_turn s _ = false
+
+-- it gave back the hold of channel c
+abbrev pub releases : ℕ → Act → Bool
+releases c (Release c') = c'.0 == c
+releases c _ = false
 
 -- ---- a channel's noted key
 

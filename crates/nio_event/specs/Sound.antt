@@ -1,24 +1,39 @@
 -- What holds of the state after every legal history.
-use Rattle.std.specs.Prelude.{◌≡◌, ℕ, ◌<◌, Bool, false, ◌||◌, IsTrue, IsFalse, is_some}
-use Rattle.nio_event.specs.State.{State}
-use Rattle.nio_event.specs.declared.found.Stage.{Stage}
-
-abbrev pub is_beyond_claimed : Stage → Bool
-is_beyond_claimed k = k.published || k.cancelled || k.removed
+use Rattle.std.specs.Prelude.{◌≡◌, ℕ, ◌<◌, ◌≤◌, IsTrue, IsFalse, is_some}
+use Rattle.std.specs.Option.{ForSome}
+use Rattle.nio_base.specs.declared.limits.Limits.{Limits}
+use Rattle.nio_event.specs.Conditions.{IsCaller, IsChannel}
+use Rattle.nio_event.specs.State.{State, unmade_channel, unclaimed}
 
 pub record IsSound (st : State) : Type 0 where
   -- every channel below the channels' mark is made
   pub channels_below : (c : ℕ) → c < st.channels_mark → IsTrue (st.chan c).made
   -- every index below a selector's keys' mark is claimed
   pub keys_below : (s i : ℕ) → i < st.keys_mark s → IsTrue (st.key s i).claimed
-  -- a channel that is closed, or that somebody holds, is made
-  pub closed_made : (c : ℕ) → IsTrue (st.chan c).closed → IsTrue (st.chan c).made
+  -- a channel that isn't made and an index that isn't claimed are as in the opening state
+  pub unmade_bare : (c : ℕ) → IsFalse (st.chan c).made → st.chan c ≡ unmade_channel
+  pub unclaimed_bare : (s i : ℕ) → IsFalse (st.key s i).claimed → st.key s i ≡ unclaimed
+  -- a channel that somebody holds is made
   pub held_made : (c : ℕ) → IsTrue (is_some (st.hold c)) → IsTrue (st.chan c).made
-  -- a key that is published, cancelled or removed is claimed
-  pub stages_claimed : (s i : ℕ) → IsTrue (is_beyond_claimed (st.key s i)) → IsTrue (st.key s i).claimed
   -- a selector that has a closer is shut, and one that was entered has a closer
   pub closer_shut : (s : ℕ) → IsTrue (is_some (st.closer s)) → IsTrue (st.gate s).shut
   pub entered_closer : (s : ℕ) → IsTrue (st.entered s) → IsTrue (is_some (st.closer s))
   -- where a selection has begun somebody has the turn, and no closer has entered
   pub begun_turn : (s : ℕ) → IsTrue (st.begun s) → IsTrue (is_some (st.turn s))
   pub begun_open : (s : ℕ) → IsTrue (st.begun s) → IsFalse (st.entered s)
+
+-- every number that the state speaks of is within the limits
+pub record IsWithin (l : Limits) (st : State) : Type 0 where
+  pub drawn : (n : ℕ) → IsTrue (st.drawn n) → n < l.callers
+  pub interrupted : (n : ℕ) → IsTrue (st.interrupted n) → n < l.callers
+  pub selectors : (s : ℕ) → IsTrue (st.selector s) → s < l.selectors
+  pub channels : (c : ℕ) → IsTrue (st.chan c).made → c < l.channels
+  pub channels_mark : st.channels_mark ≤ l.channels
+  pub keys_mark : (s : ℕ) → st.keys_mark s ≤ l.keys
+  -- a claimed index, its selector and the channel that it was claimed for
+  pub keys : (s i : ℕ) → IsTrue (st.key s i).claimed → (s < l.selectors) × (i < l.keys) × IsChannel l (st.key s i).chan
+  -- who holds a channel, has a turn, or closes a selector, and the index that is noted
+  pub holds : (c : ℕ) → ForSome (st.hold c) (IsCaller l)
+  pub turns : (s : ℕ) → ForSome (st.turn s) (IsCaller l)
+  pub closers : (s : ℕ) → ForSome (st.closer s) (IsCaller l)
+  pub noted : (c s : ℕ) → ForSome (st.noted c s) (λ i. i < l.keys)

@@ -66,8 +66,8 @@ pub enum Act {
     Remove(SelNo, u32, Stage),
     /// Looks at whether a key is selected, and at its ready set.
     LookMark(SelNo, u32, Mark),
-    /// Selects a key that was found so, for what the poller told of it: the error is what stands
-    /// there in place of it.
+    /// Selects a key for what the poller told of it, where its mark is the one that is named: the
+    /// error is the mark that stands there.
     Mark(SelNo, u32, Mark, Ops, Result<(), Mark>),
     /// Takes a key out of the selected set: whether it was selected.
     UnselectBit(SelNo, u32, bool),

@@ -1,6 +1,6 @@
 //! The calls of a script: one variant for each call word, its arguments in the order of the line.
 use crate::pairs::Pairs;
-use nio_base::{ChanNo, Kind, Ops, SelNo};
+use nio_base::{CallerNo, ChanNo, Kind, Ops, SelNo};
 
 /// A call as a line of a script gives it.
 #[derive(Debug, Drop)]
@@ -24,4 +24,11 @@ pub enum Call {
 pub enum Waiting {
     /// `now`: not at all.
     Now,
+}
+
+/// A call and who makes it: what a line of a script says that isn't blank.
+#[derive(Debug, Drop)]
+pub struct ScriptCall {
+    pub caller: CallerNo,
+    pub call: Call,
 }

@@ -1,0 +1,5 @@
+pub mod Calls
+pub mod Cause
+pub mod MemorySink
+pub mod MemorySource
+pub mod Sink

@@ -1,0 +1,63 @@
+-- The number of a set of bits: which bit it has, and that a number with these bits is that number.
+use Rattle.std.proofs.Common.{◌≡◌, ◌≢◌, ℕ, zero, suc, ◌<◌, ◌≤◌, ◌^◌, max, Bool, true, false, cond, if◌then◌else◌, refl, ap, sym, ◌∙◌, subst, arith}
+use Rattle.std.specs.Prelude.{nat_lt}
+use Rattle.std.specs.Int.{bit_at}
+use Rattle.std.proofs.lemmas.Bool.{ltb-true, ltb-false}
+use Rattle.std.proofs.lemmas.Nat.Bits.{bit_at-zero, bit_at_or, bit_at-pow_same, bit_at-pow_other, bit_at_above, same_from_bits}
+use Rattle.nio_event.specs.Answers.{bits_below}
+
+one_bit-same : (b : Bool) (n : ℕ) → bit_at (cond b (2 ^ n) 0) n ≡ (if b then 1 else 0)
+one_bit-same true n = bit_at-pow_same n
+one_bit-same false n = bit_at-zero n
+
+one_bit-other : (b : Bool) (n i : ℕ) → i ≢ n → bit_at (cond b (2 ^ n) 0) i ≡ 0
+one_bit-other true n i other = bit_at-pow_other n i other
+one_bit-other false n i other = bit_at-zero i
+
+-- it has no bit from n on
+pub bits_below-above : (n : ℕ) (test : ℕ → Bool) (i : ℕ) → n ≤ i → bit_at (bits_below n test) i ≡ 0
+unfolding bits_below
+bits_below-above zero test i above = bit_at-zero i
+bits_below-above (suc n) test i above =
+    let rest : bit_at (bits_below n test) i ≡ 0 = bits_below-above n test i (omega arith) in
+    let other : i ≢ n = omega arith in
+    let last : bit_at (cond (test n) (2 ^ n) 0) i ≡ 0 = one_bit-other (test n) n i other in
+    bit_at_or (bits_below n test) (cond (test n) (2 ^ n) 0) i ∙ omega (arith, rest, last)
+
+-- below n it has each bit at which the test passes
+pub bits_below-at : (n : ℕ) (test : ℕ → Bool) (i : ℕ) → i < n → bit_at (bits_below n test) i ≡ (if test i then 1 else 0)
+unfolding bits_below
+bits_below-at zero test i below = absurd (omega arith)
+bits_below-at (suc n) test i below = bit_at_or (bits_below n test) (cond (test n) (2 ^ n) 0) i ∙ by_test (nat_lt i n) refl (bits_below-at n test i)
+  where
+    by_test : (b : Bool) → nat_lt i n ≡ b → (i < n → bit_at (bits_below n test) i ≡ (if test i then 1 else 0))
+        → max (bit_at (bits_below n test) i) (bit_at (cond (test n) (2 ^ n) 0) i) ≡ (if test i then 1 else 0)
+    by_test true e earlier =
+        let lower : i < n = ltb-true i n e in
+        let rest : bit_at (bits_below n test) i ≡ (if test i then 1 else 0) = earlier lower in
+        let other : i ≢ n = omega arith in
+        let last : bit_at (cond (test n) (2 ^ n) 0) i ≡ 0 = one_bit-other (test n) n i other in
+        omega (arith, rest, last)
+    by_test false e earlier =
+        let not_lower : n ≤ i = ltb-false i n e in
+        let same : n ≡ i = omega arith in
+        let rest : bit_at (bits_below n test) i ≡ 0 = bits_below-above n test i not_lower in
+        let last : bit_at (cond (test n) (2 ^ n) 0) i ≡ (if test n then 1 else 0) = subst (λ (k : ℕ). bit_at (cond (test n) (2 ^ n) 0) k ≡ (if test n then 1 else 0)) same (one_bit-same (test n) n) in
+        let bit : ℕ → ℕ = λ k. if test k then 1 else 0 in
+        let tests = ap bit same in
+        omega (arith, rest, last, tests)
+
+-- a number of n bits that has these bits is that number
+pub bits_below-is : (n : ℕ) (test : ℕ → Bool) (word : ℕ) → word < 2 ^ n → ((i : ℕ) → i < n → bit_at word i ≡ (if test i then 1 else 0)) → word ≡ bits_below n test
+bits_below-is n test word small same = same_from_bits word (bits_below n test) each
+  where
+    each : (i : ℕ) → bit_at word i ≡ bit_at (bits_below n test) i
+    each i = by_test (nat_lt i n) refl
+      where
+        by_test : (b : Bool) → nat_lt i n ≡ b → bit_at word i ≡ bit_at (bits_below n test) i
+        by_test true e =
+            let below : i < n = ltb-true i n e in
+            same i below ∙ sym (bits_below-at n test i below)
+        by_test false e =
+            let above : n ≤ i = ltb-false i n e in
+            bit_at_above word n i small above ∙ sym (bits_below-above n test i above)

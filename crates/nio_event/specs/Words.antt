@@ -1,0 +1,31 @@
+-- The words of a script that name something.
+use Rattle.std.specs.Prelude.{ℕ, List, ◌++◌, codes}
+use Rattle.std.specs.Fmt.{decimal}
+use Rattle.nio_base.specs.declared.kind.Kind.{Kind}
+use Rattle.nio_base.specs.declared.kind.Kind.TheVariants.{Stream, Listener, Source, Sink}
+use Rattle.nio_base.specs.declared.numbers.CallerNo.{CallerNo}
+use Rattle.nio_base.specs.declared.numbers.ChanNo.{ChanNo}
+use Rattle.nio_base.specs.declared.numbers.SelNo.{SelNo}
+
+-- a letter and a decimal number: t1, s0, c2, k3
+abbrev pub caller_word : CallerNo → List ℕ
+caller_word t = codes "t" ++ decimal t.0
+
+abbrev pub selector_word : SelNo → List ℕ
+selector_word s = codes "s" ++ decimal s.0
+
+abbrev pub channel_word : ChanNo → List ℕ
+channel_word c = codes "c" ++ decimal c.0
+
+abbrev pub key_word : ℕ → List ℕ
+key_word i = codes "k" ++ decimal i
+
+-- a key with operations: k3:5
+abbrev pub pair_word : ℕ × ℕ → List ℕ
+pair_word p = key_word p.0 ++ codes ":" ++ decimal p.1
+
+abbrev pub kind_word : Kind → List ℕ
+kind_word Stream = codes "stream"
+kind_word Listener = codes "listener"
+kind_word Source = codes "source"
+kind_word Sink = codes "sink"

@@ -1,0 +1,168 @@
+-- A worked history, in which each kind of step stands: two callers register a channel, select,
+-- cancel its key in the middle of the selection, and close the channel and the selector.
+use Rattle.std.specs.Prelude.{ℕ, Bool, true, false, Some, None, Ok, Err, List, [], ◌∷◌, take, ⊤}
+use Rattle.nio_base.specs.declared.kind.Kind.TheVariants.{Source}
+use Rattle.nio_base.specs.declared.limits.Limits.{Limits}
+use Rattle.nio_base.specs.declared.numbers.CallerNo.{CallerNo}
+use Rattle.nio_base.specs.declared.numbers.ChanNo.{ChanNo}
+use Rattle.nio_base.specs.declared.numbers.SelNo.{SelNo}
+use Rattle.nio_event.specs.Histories.{event_of, IsStep, IsLegal}
+use Rattle.nio_event.specs.declared.act.Act.TheVariants.{DrawBit, MakeSelector, LookSelectors, Wake, LookGate, SetInterrupt, TakeInterrupt, LookInterrupt, LookKey, CancelKey, LookInterest, SwapInterest, OrInterest, AndInterest, SwapNote, LookNote, MakeChannel, LookChannel, Claim, RaiseKeys, LookKeys, Publish, LookReg, Enrol, TakeTurn, BeginLook, GiveTurn, Remove, LookMark, Mark, UnselectBit, EndWake, LookChannels, RaiseChannels, TryHoldBit, Release, SetMode, CloseBit, ShutBit, Enter}
+use Rattle.nio_event.specs.declared.event.Event.{Event}
+use Rattle.nio_event.specs.declared.found.Chan.{Chan}
+use Rattle.nio_event.specs.declared.found.GateWord.{GateWord}
+use Rattle.nio_event.specs.declared.found.Mark.{Mark as KeyMark}
+use Rattle.nio_event.specs.declared.found.Stage.{Stage}
+
+-- two callers, one selector with one key, one channel
+abbrev pub small_limits : Limits
+small_limits = record { callers = 2; selectors = 1; channels = 1; keys = 1 }
+
+abbrev pub u : CallerNo
+u = record { 0 = 0 }
+
+abbrev pub v : CallerNo
+v = record { 0 = 1 }
+
+abbrev pub s : SelNo
+s = record { 0 = 0 }
+
+abbrev pub c : ChanNo
+c = record { 0 = 0 }
+
+abbrev pub chan : Bool → Bool → Chan
+chan closed blocking = record { made = true; kind = Source; closed = closed; blocking = blocking }
+
+abbrev pub gate : Bool → Bool → GateWord
+gate woken shut = record { woken = woken; shut = shut }
+
+abbrev pub stage : Bool → Bool → Bool → Stage
+stage published cancelled removed = record { claimed = true; published = published; cancelled = cancelled; removed = removed; chan = c }
+
+abbrev pub mark : Bool → ℕ → KeyMark
+mark selected ready = record { selected = selected; ready = ready }
+
+abbrev pub worked_history : List Event
+worked_history =
+    -- callers 0 and 1 are drawn
+    event_of u (DrawBit u false) ∷
+    event_of v (DrawBit v false) ∷
+    -- caller 0 opens a selector and a channel
+    event_of u (MakeSelector s false) ∷
+    event_of u (LookSelectors 1) ∷
+    event_of u (LookChannels 0) ∷
+    event_of u (MakeChannel c Source false) ∷
+    event_of u (RaiseChannels 1 0) ∷
+    event_of u (LookChannels 1) ∷
+    -- it sets non-blocking mode; caller 1 finds the hold taken
+    event_of u (LookChannel c (chan false true)) ∷
+    event_of u (TryHoldBit c None) ∷
+    event_of v (TryHoldBit c (Some u)) ∷
+    event_of u (LookChannel c (chan false true)) ∷
+    event_of u (SetMode c false (chan false true)) ∷
+    event_of u (Release c) ∷
+    -- it registers the channel
+    event_of u (TryHoldBit c None) ∷
+    event_of u (LookChannel c (chan false false)) ∷
+    event_of u (LookReg c s None) ∷
+    event_of u (LookGate s (gate false false)) ∷
+    event_of u (LookKeys s 0) ∷
+    event_of u (Claim s 0 c false) ∷
+    event_of u (RaiseKeys s 1 0) ∷
+    event_of u (LookGate s (gate false false)) ∷
+    event_of u (SwapInterest s 0 1 0) ∷
+    event_of u (SwapNote s 0 7 0) ∷
+    event_of u (Enrol c s 0 None) ∷
+    event_of u (Publish s 0 (stage false false false)) ∷
+    event_of u (LookChannel c (chan false false)) ∷
+    event_of u (Release c) ∷
+    -- it changes the interest set to and fro
+    event_of u (OrInterest s 0 4 1) ∷
+    event_of u (AndInterest s 0 1 5) ∷
+    event_of u (LookNote s 0 7) ∷
+    -- it begins a selection; caller 1 finds the turn taken
+    event_of u (TakeTurn s None) ∷
+    event_of v (TakeTurn s (Some u)) ∷
+    event_of u (BeginLook s (gate false false)) ∷
+    event_of u (LookKeys s 1) ∷
+    event_of u (LookKey s 0 (stage true false false)) ∷
+    event_of u (LookInterest s 0 1) ∷
+    -- caller 1 wakes it and cancels the key
+    event_of v (Wake s false) ∷
+    event_of v (CancelKey s 0 (stage true false false)) ∷
+    -- it is told of the key twice, and ends the selection
+    event_of u (LookMark s 0 (mark false 0)) ∷
+    event_of u (Mark s 0 (mark false 0) 1 (Ok tt)) ∷
+    event_of u (Mark s 0 (mark false 0) 1 (Err (mark true 1))) ∷
+    event_of u (Mark s 0 (mark true 1) 4 (Ok tt)) ∷
+    event_of u (LookMark s 0 (mark true 5)) ∷
+    event_of u (LookGate s (gate true false)) ∷
+    event_of u (LookInterrupt false) ∷
+    event_of u (LookKey s 0 (stage true true false)) ∷
+    event_of u (Remove s 0 (stage true true false)) ∷
+    event_of u (EndWake s (gate true false)) ∷
+    event_of u (GiveTurn s) ∷
+    event_of u (LookGate s (gate false false)) ∷
+    event_of u (UnselectBit s 0 true) ∷
+    event_of u (LookMark s 0 (mark false 5)) ∷
+    -- caller 1 sets blocking mode again: the noted key is removed
+    event_of v (TryHoldBit c None) ∷
+    event_of v (LookReg c s (Some 0)) ∷
+    event_of v (LookKey s 0 (stage true true true)) ∷
+    event_of v (SetMode c true (chan false false)) ∷
+    event_of v (Release c) ∷
+    -- it closes the channel and the selector, and interrupts caller 0
+    event_of v (CloseBit c false) ∷
+    event_of v (LookChannel c (chan true true)) ∷
+    event_of v (ShutBit s false) ∷
+    event_of v (LookGate s (gate false true)) ∷
+    event_of u (ShutBit s true) ∷
+    event_of v (Enter s None) ∷
+    event_of v (LookKeys s 1) ∷
+    event_of v (Remove s 0 (stage true true true)) ∷
+    event_of v (SetInterrupt u false) ∷
+    event_of u (TakeInterrupt true) ∷
+    event_of u (LookInterrupt false) ∷ []
+
+abbrev pub WorkedHistoryIsLegal : Type 0
+WorkedHistoryIsLegal = IsLegal small_limits worked_history
+
+-- Events that are no steps after so many events of the worked history
+abbrev pub refused_events : List (ℕ × Event)
+refused_events =
+    -- a number is drawn once, and by its own caller
+    (1, event_of u (DrawBit u true)) ∷
+    (1, event_of u (DrawBit u false)) ∷
+    (1, event_of v (DrawBit u false)) ∷
+    -- a selector is woken once it is made
+    (2, event_of v (Wake s false)) ∷
+    -- only the holder of a channel sets its mode or claims for it
+    (11, event_of v (SetMode c false (chan false true))) ∷
+    (14, event_of u (Claim s 0 c false)) ∷
+    -- what a step finds is what stands there
+    (19, event_of u (Claim s 0 c true)) ∷
+    -- only who claimed an index publishes it
+    (25, event_of v (Publish s 0 (stage false false false))) ∷
+    -- only the holder of the turn begins a selection
+    (33, event_of v (BeginLook s (gate false false))) ∷
+    -- a selection removes no key that is not cancelled
+    (37, event_of u (Remove s 0 (stage true false false))) ∷
+    -- only the selecting caller marks, and only what it is told of and finds
+    (40, event_of v (Mark s 0 (mark false 0) 1 (Ok tt))) ∷
+    (40, event_of u (Mark s 0 (mark false 0) 0 (Ok tt))) ∷
+    (40, event_of u (Mark s 0 (mark true 1) 4 (Ok tt))) ∷
+    -- a channel goes back to blocking mode only after a look at its noted keys
+    (54, event_of v (SetMode c true (chan false false))) ∷
+    (55, event_of v (SetMode c true (chan false false))) ∷
+    -- a closer removes after it has entered, and what it has found below the mark since
+    (63, event_of v (Remove s 0 (stage true true true))) ∷
+    (64, event_of v (Remove s 0 (stage true true true))) ∷
+    -- only the closer enters
+    (63, event_of u (Enter s None)) ∷ []
+
+abbrev pub AreNoSteps : List (ℕ × Event) → Type 0
+AreNoSteps [] = ⊤
+AreNoSteps (r ∷ rest) = (¬ IsStep small_limits (take r.0 worked_history) r.1) × AreNoSteps rest
+
+abbrev pub RefusedEventsAreNoSteps : Type 0
+RefusedEventsAreNoSteps = AreNoSteps refused_events

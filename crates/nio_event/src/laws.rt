@@ -1,0 +1,56 @@
+//! Laws of legal histories. Each is the contract of a function that does nothing.
+ghost use Rattle.nio_event.specs.Staying.{BeginningsAreLegal, NothingGoesBack, InvalidKeysStayInvalid, OnlyItselfGivesBack, ConditionsStay, StatesAreSound, StatesAreWithin};
+ghost use Rattle.nio_event.specs.Turns.{TurnHasOneHolder, HoldHasOneHolder, HolderKnowsMode, OneSelectionAtATime, OnlyWhoMaySelects};
+ghost use Rattle.nio_event.specs.Worked.{WorkedHistoryIsLegal, RefusedEventsAreNoSteps};
+
+/// Each beginning of a legal history is legal.
+pub fn beginnings_law()
+    ensures { BeginningsAreLegal }
+{}
+
+/// What never goes back doesn't: what is drawn, made, claimed, published, cancelled, removed, closed
+/// or shut stays so, marks don't fall, and a closer stays the closer. So an invalid key stays invalid.
+pub fn lasting_law()
+    ensures lasts { NothingGoesBack }
+    ensures invalid { InvalidKeysStayInvalid }
+{}
+
+/// A turn, a selection and a hold last until their caller itself gives them back.
+pub fn own_law()
+    ensures { OnlyItselfGivesBack }
+{}
+
+/// A caller whose step is allowed by what its pass has seen may take it later too, whatever others
+/// did in between.
+pub fn condition_law()
+    ensures { ConditionsStay }
+{}
+
+/// The state after a legal history is sound: an index below a selector's mark is claimed, what is
+/// held is made, what isn't made or claimed is as it was at the opening, and more. And every number
+/// that it speaks of is within the limits.
+pub fn soundness_law()
+    ensures sound { StatesAreSound }
+    ensures within { StatesAreWithin }
+{}
+
+/// Nobody takes a turn or a hold before whoever has it gives it back, and nobody else changes the mode
+/// of a channel that is held.
+pub fn one_holder_law()
+    ensures turn { TurnHasOneHolder }
+    ensures hold { HoldHasOneHolder }
+    ensures mode { HolderKnowsMode }
+{}
+
+/// One selection at a time: while a caller selects, nobody else marks or removes a key of the
+/// selector or ends its wakeup. And only who may does.
+pub fn one_selection_law()
+    ensures at_a_time { OneSelectionAtATime }
+    ensures allowed { OnlyWhoMaySelects }
+{}
+
+/// There are legal histories in which every kind of step stands, and events that can't follow.
+pub fn worked_history_law()
+    ensures legal { WorkedHistoryIsLegal }
+    ensures refused { RefusedEventsAreNoSteps }
+{}

@@ -1,0 +1,3 @@
+pub mod ScriptState
+pub mod Seq
+pub mod Answer

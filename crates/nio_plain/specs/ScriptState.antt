@@ -1,0 +1,24 @@
+-- What a script's system holds: the shared state of selectors, keys and channels, and the selections
+-- in progress.
+--
+-- A state of a script counts no caller as drawn, and counts a removed index as neither cancelled nor
+-- selected: no call of a script tells these apart.
+use Rattle.std.specs.Prelude.{ℕ, List, Option, None}
+use Rattle.nio_event.specs.State.{State, opening}
+use Rattle.nio_event.specs.declared.found.Mode.{Mode}
+
+-- a selection in progress: how long it waits, the bound below which it looks at indexes, and the
+-- keys that it looked at with the interest that each had then. Its caller has the selector's turn
+pub record Selection : Type 0 where
+  pub mode : Mode
+  pub bound : ℕ
+  pub looked : List (ℕ × ℕ)
+
+pub record ScriptState : Type 0 where
+  pub shared : State
+  -- by the selector's number
+  pub selection : ℕ → Option Selection
+
+-- the state in which a script begins
+abbrev pub script_opening : ScriptState
+script_opening = record { shared = opening; selection = λ _. None }

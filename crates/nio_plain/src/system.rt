@@ -1,0 +1,35 @@
+//! What runs the calls of a script.
+ghost use Rattle.std.specs.Prelude.{◌≡◌, IfOk, OnErr};
+
+use nio_base::CallerNo;
+use nio_event::{Call, Reply};
+use std::alloc::{AllocError, Global};
+
+/// A system of selectors, keys and channels, which answers as the documented one.
+pub trait System {
+    ghost use Rattle.nio_base.specs.declared.limits.Limits.{Limits};
+    ghost use Rattle.nio_plain.specs.ScriptState.{ScriptState};
+    ghost use Rattle.nio_plain.specs.Seq.{seq};
+
+    // How much the system can hold.
+    ghost limits: { Self → Limits };
+
+    // What it holds.
+    ghost state: { Self → ScriptState };
+
+    // What stays the same from a state of the system to one that calls made of it.
+    ghost kept: { Self → Self → Type 0 };
+
+    /// Makes one call. Want of memory leaves all as it was.
+    fn call(&mut self, alloc: Global, caller: CallerNo, call: &Call) -> Result<Reply, AllocError>
+        ensures reply { IfOk result (λ reply. reply ≡ (seq (limits self.old) (state self.old) caller call.now).reply) }
+        ensures left { IfOk result (λ _. state self.new ≡ (seq (limits self.old) (state self.old) caller call.now).left) }
+        ensures memory { OnErr result (state self.new ≡ state self.old) }
+        ensures kept { kept self.old self.new };
+
+    ghost kept_same: { (y : Self) → kept y y };
+
+    ghost kept_on: { (x y z : Self) → kept x y → kept y z → kept x z };
+
+    ghost kept_limits: { (y z : Self) → kept y z → limits z ≡ limits y };
+}
