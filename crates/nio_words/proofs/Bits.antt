@@ -1,10 +1,10 @@
 -- Sets of numbers as the bits of a word.
-use Rattle.std.proofs.Common.{◌≡◌, ◌≢◌, ℕ, zero, suc, ◌+◌, ◌-◌, ◌*◌, ◌/◌, ◌%◌, ◌^◌, ◌<◌, ◌≤◌, ◌==◌, Bool, true, false, cond, ◌⊎◌, inl, inr, if◌then◌else◌, refl, ap, sym, ◌∙◌, subst, arith, eqb-true, eq-eqb, ne_eqb}
+use Rattle.std.proofs.Common.{◌≡◌, ◌≢◌, ℕ, zero, suc, ◌+◌, ◌-◌, ◌*◌, ◌%◌, ◌^◌, ◌<◌, ◌==◌, Bool, true, false, cond, ◌⊎◌, inl, inr, if◌then◌else◌, refl, ap, sym, ◌∙◌, subst, arith, eqb-true, ne_eqb}
 use Rattle.std.specs.Prelude.{bit_and, bit_or}
 use Rattle.std.specs.Int.{bit_at, bit_not, w64}
 use Rattle.std.proofs.lemmas.Bool.{eqb-false}
-use Rattle.std.proofs.lemmas.Nat.{pow_pos, or_lt, and_le_l, pow_below, one_shl, and_mask}
-use Rattle.std.proofs.lemmas.Nat.Bits.{bit_at_set_same, bit_at_set_other, bit_at_clear_same, bit_at_clear_other, bit_at_cat_low, bit_at_cat_high, bit_at_lowest, bit_at-zero, bit_at-lt, bit_at_or, bit_at_and, bit_at_not, bit_at_above, same_from_bits_below}
+use Rattle.std.proofs.lemmas.Nat.{or_lt, or_comm, or_shifted, and_le_l, and_mask}
+use Rattle.std.proofs.lemmas.Nat.Bits.{bit_at_set_same, bit_at_set_other, bit_at_clear_same, bit_at_clear_other, bit_at_cat_low, bit_at_cat_high, bit_at-zero, bit_at-lt, bit_at_or, bit_at_and, bit_at_not, bit_at_above, same_from_bits_below}
 use Rattle.nio_event.specs.Answers.{bits_below}
 use Rattle.nio_event.specs.State.{put}
 use Rattle.nio_event.proofs.Put.{put-same}
@@ -101,43 +101,50 @@ kept_all a fits = and_mask a 64 ∙ mod_small a fits
 
 -- ---- the word of a set that a test gives
 
+-- one bit more beside those below it
+with_bit : (k a : ℕ) (b : Bool) → a < 2 ^ k → bit_or a (if b then 2 ^ k else 0) ≡ bit b * 2 ^ k + a
+with_bit k a true h = or_comm a (2 ^ k) ∙ (ap (λ (n : ℕ). bit_or n a) one_block ∙ or_shifted 1 k a h)
+  where
+    one_block : 2 ^ k ≡ 1 * 2 ^ k
+    one_block = omega arith
+with_bit k a false h = or_comm a 0 ∙ no_block
+  where
+    no_block : a ≡ bit false * 2 ^ k + a
+    no_block = omega arith
+
 pub bits_below-lt : (k : ℕ) (f : ℕ → Bool) → bits_below k f < 2 ^ k
 unfolding bits_below
 bits_below-lt zero f = omega arith
 bits_below-lt (suc k) f = by_test (f k) (bits_below-lt k f)
   where
-    by_test : (b : Bool) → bits_below k f < 2 ^ k → bits_below k f + (if b then 2 ^ k else 0) < 2 ^ suc k
-    by_test true h = omega arith
-    by_test false h = omega arith
+    by_test : (b : Bool) → bits_below k f < 2 ^ k → bit_or (bits_below k f) (if b then 2 ^ k else 0) < 2 ^ suc k
+    by_test true h = let sum : bit_or (bits_below k f) (2 ^ k) ≡ 1 * 2 ^ k + bits_below k f = with_bit k (bits_below k f) true h in omega arith
+    by_test false h = let sum : bit_or (bits_below k f) 0 ≡ bits_below k f = or_comm (bits_below k f) 0 in omega arith
 
 pub bits_below-none : (k : ℕ) → bits_below k (λ _. false) ≡ 0
 unfolding bits_below
 bits_below-none zero = refl
-bits_below-none (suc k) = let rest = bits_below-none k in omega arith
+bits_below-none (suc k) = or_comm (bits_below k (λ _. false)) 0 ∙ bits_below-none k
 
 pub bit_at-bits_below : (k : ℕ) (f : ℕ → Bool) (i : ℕ) → i < k → bit_at (bits_below k f) i ≡ bit (f i)
 unfolding bits_below
 bit_at-bits_below zero f i h = absurd (omega arith)
-bit_at-bits_below (suc k) f i h = by_test (i == k) refl (λ lower. bit_at-bits_below k f i lower)
+bit_at-bits_below (suc k) f i h = ap (λ (m : ℕ). bit_at m i) (with_bit k (bits_below k f) (f k) (bits_below-lt k f)) ∙ by_test (i == k) refl (λ lower. bit_at-bits_below k f i lower)
   where
-    as_block : (b : Bool) → bits_below k f + (if b then 2 ^ k else 0) ≡ bit b * 2 ^ k + bits_below k f
-    as_block true = omega arith
-    as_block false = omega arith
-
     top : (b : Bool) → bit_at (bit b) 0 ≡ bit b
     top true = refl
     top false = refl
 
-    by_test : (t : Bool) → (i == k) ≡ t → (i < k → bit_at (bits_below k f) i ≡ bit (f i)) → bit_at (bits_below k f + (if f k then 2 ^ k else 0)) i ≡ bit (f i)
+    by_test : (t : Bool) → (i == k) ≡ t → (i < k → bit_at (bits_below k f) i ≡ bit (f i)) → bit_at (bit (f k) * 2 ^ k + bits_below k f) i ≡ bit (f i)
     by_test true e rest =
         let same : i ≡ k = eqb-true i k e in
         let zero_left : i - k ≡ 0 = omega arith in
-        ap (λ m. bit_at m i) (as_block (f k)) ∙ (bit_at_cat_high (bit (f k)) k (bits_below k f) i (bits_below-lt k f) (omega arith)
-        ∙ (ap (bit_at (bit (f k))) zero_left ∙ (top (f k) ∙ ap (λ m. bit (f m)) (sym same))))
+        bit_at_cat_high (bit (f k)) k (bits_below k f) i (bits_below-lt k f) (omega arith)
+        ∙ (ap (bit_at (bit (f k))) zero_left ∙ (top (f k) ∙ ap (λ m. bit (f m)) (sym same)))
     by_test false e rest =
         let ne : i ≢ k = eqb-false i k e in
         let lower : i < k = omega arith in
-        ap (λ m. bit_at m i) (as_block (f k)) ∙ (bit_at_cat_low (bit (f k)) k (bits_below k f) i lower ∙ rest lower)
+        bit_at_cat_low (bit (f k)) k (bits_below k f) i lower ∙ rest lower
 
 test_of : (b : Bool) → (bit b == 1) ≡ b
 test_of true = refl

@@ -1,5 +1,5 @@
 -- The kinds of step on a gate do to its word what they do to the gate.
-use Rattle.std.proofs.Common.{◌≡◌, ℕ, ◌+◌, ◌*◌, ◌<◌, Bool, true, false, refl, ap, sym, ◌∙◌, arith}
+use Rattle.std.proofs.Common.{◌≡◌, ◌+◌, ◌*◌, Bool, true, false, refl, ap, sym, ◌∙◌, arith}
 use Rattle.std.specs.Prelude.{bit_or}
 use Rattle.std.proofs.lemmas.Nat.{or_lt}
 use Rattle.nio_base.specs.declared.limits.Limits.{Limits}
@@ -12,7 +12,7 @@ use Rattle.nio_event.specs.declared.act.Act.TheVariants.{Wake, LookGate}
 use Rattle.nio_event.specs.declared.found.GateWord.{GateWord}
 use Rattle.nio_words.specs.Decodings.{is_set, gate_of}
 use Rattle.nio_words.specs.Encodings.{bit, gate_word}
-use Rattle.nio_words.specs.Steps.{Moves}
+use Rattle.nio_words.specs.Owed.{Moves}
 use Rattle.nio_words.specs.declared.instruction.Instruction.TheVariants.{Load, SetBit}
 use Rattle.nio_words.specs.declared.part.Part.TheVariants.{Gate}
 

@@ -12,8 +12,8 @@ use Rattle.nio_event.specs.Questions.{stage}
 use Rattle.nio_event.specs.declared.act.Act.TheVariants.{LookKey, CancelKey}
 use Rattle.nio_event.specs.declared.found.Stage.{Stage}
 use Rattle.nio_words.specs.Decodings.{is_set, stage_of}
-use Rattle.nio_words.specs.Encodings.{bit, stage_bits, stage_word}
-use Rattle.nio_words.specs.Steps.{Moves}
+use Rattle.nio_words.specs.Encodings.{bit, stage_word}
+use Rattle.nio_words.specs.Owed.{Moves}
 use Rattle.nio_words.specs.declared.instruction.Instruction.TheVariants.{Load, SetBit}
 use Rattle.nio_words.specs.declared.part.Part.TheVariants.{Key}
 

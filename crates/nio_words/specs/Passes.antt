@@ -5,7 +5,6 @@ use Rattle.nio_base.specs.declared.numbers.CallerNo.{CallerNo}
 use Rattle.nio_event.specs.Conditions.{IsCaller}
 use Rattle.nio_event.specs.Histories.{state_after, IsLegal}
 use Rattle.nio_event.specs.State.{State}
-use Rattle.nio_event.specs.declared.act.Act.{Act}
 use Rattle.nio_event.specs.declared.event.Event.{Event}
 use Rattle.nio_words.specs.Rule.{HasBit}
 use Rattle.nio_words.specs.declared.view.View.{View}

@@ -7,6 +7,7 @@ ghost use Rattle.nio_words.specs.Passes.{IsPassOf, limits_of};
 
 use crate::decode::is_set;
 use crate::instruction::Instruction;
+use crate::part::CALLERS;
 use crate::words::{Pass, Words};
 use nio_base::CallerNo;
 use std::marker::Brand;
@@ -30,7 +31,7 @@ impl Words {
         ensures { Draws self.now p.old p.new who result }
     {
         let set = Instruction::SetBit(number.0);
-        let callers = self.perform::<Brand>(&mut p.seat, 0, set);
+        let callers = self.perform::<Brand>(&mut p.seat, CALLERS, set);
         let drawn = is_set(callers, number.0);
         if !drawn {
             p.numbers |= 1 << number.0;

@@ -38,6 +38,12 @@ pub enum Part {
     Note(u32, u32),
 }
 
+/// The place of the word of the drawn callers.
+pub(crate) const CALLERS: usize = 0;
+
+/// The place of the word that holds the limits, which no step changes.
+pub(crate) const LIMITS: usize = 1;
+
 /// The place of a part's word.
 #[inline(always)]
 pub(crate) fn place_of(limits: &Limits, part: Part) -> usize

@@ -7,6 +7,7 @@ ghost use Rattle.nio_words.specs.Sharing.{SeesSame, Splits, HandsOver, Joins};
 
 use crate::decode::is_set;
 use crate::instruction::Instruction;
+use crate::part::CALLERS;
 use crate::view::View;
 use crate::words::{Pass, Words};
 use atomic_table::{Join, Split};
@@ -84,6 +85,6 @@ impl Words {
         let Pass { numbers, seat } = other;
         self.table.shared.join_seat::<Joined>(&mut p.seat, seat);
         p.numbers |= numbers;
-        self.perform::<Brand>(&mut p.seat, 0, Instruction::Load);
+        self.perform::<Brand>(&mut p.seat, CALLERS, Instruction::Load);
     }
 }

@@ -2,7 +2,9 @@
 ghost use Rattle.std.specs.Prelude.{◌≡◌, ◌<◌};
 ghost use Rattle.nio_words.specs.Instructions.{applied, IsInWord};
 ghost use Rattle.nio_words.specs.Passes.{IsReady, limits_of};
-ghost use Rattle.nio_words.specs.Steps.{Doing, MayDo, Moves, Steps, any_step};
+ghost use Rattle.nio_words.specs.Telling.{Doing, MayDo, any_step};
+ghost use Rattle.nio_words.specs.Owed.{Moves};
+ghost use Rattle.nio_words.specs.Steps.{Steps};
 ghost use Rattle.nio_words.specs.Rule.{IsKept};
 ghost use Rattle.atomic_table.specs.Table.{Allows};
 
@@ -20,7 +22,7 @@ impl Play<(), View> for Brand {
 }
 
 impl Words {
-    /// Carries out an instruction on a word.
+    /// Carries out an instruction on a word. What it tells is `M`.
     #[inline(always)]
     pub(crate) fn perform<M: Play<(), View>>(
         &self,
@@ -50,7 +52,8 @@ impl Words {
         }
     }
 
-    /// Makes one step: `doing` says which event it is, by the word that it finds.
+    /// Makes one step of `_me`, whom the proof alone needs. `doing` says which event it adds, by the
+    /// word that it finds, and each caller of this function picks it.
     #[inline(always)]
     pub(crate) fn step(
         &self,

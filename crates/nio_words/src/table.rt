@@ -5,13 +5,11 @@ ghost use Rattle.nio_words.specs.Encodings.{limits_word as word_of_limits};
 ghost use Rattle.nio_words.specs.Passes.{IsFirstPass, limits_of};
 ghost use Rattle.nio_words.specs.Places.{word_count as count_of_words};
 
+use crate::part::LIMITS;
 use crate::words::{Pass, Words};
 use atomic_table::Table;
 use nio_base::Limits;
 use std::alloc::{AllocError, Global};
-
-// The place of the word that holds the limits.
-const LIMITS: usize = 1;
 
 fn word_count(limits: &Limits) -> usize
     requires { IsFit limits.now }
