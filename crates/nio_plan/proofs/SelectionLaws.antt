@@ -12,7 +12,7 @@ use Rattle.nio_base.specs.declared.numbers.SelNo.{SelNo}
 use Rattle.nio_event.specs.Histories.{mine}
 use Rattle.nio_event.specs.declared.event.Event.{Event}
 use Rattle.nio_plan.specs.Calls.{done_between, CallClause}
-use Rattle.nio_event.specs.OwnEvents.{has, count}
+use Rattle.nio_event.specs.OwnEvents.{has, count, gives_turn}
 use Rattle.nio_event.specs.Questions.{Question, question_of, answer_of}
 use Rattle.nio_event.specs.Sets.{in_cancelled_set}
 use Rattle.nio_event.specs.declared.act.Act.{Act}
@@ -26,7 +26,7 @@ use Rattle.nio_plan.specs.Plan.{reply, ◌>>=◌}
 use Rattle.nio_plan.specs.Runs.{Completes}
 use Rattle.nio_plan.specs.declared.looked.LookedKey.{LookedKey}
 use Rattle.nio_plan.specs.SelectCalls.{Selection, ToldReply, begin_plan, begin_with_turn, begin_below, told_plan, told_bits, given_back, look_over, mark_entry, mark_told, mark_looked, mark_again, one_if, gains_nothing, sweep_key, is_again, end_selection, after_marks, again, done}
-use Rattle.nio_plan.specs.Selections.{gives_turn, marks, IsBegun}
+use Rattle.nio_plan.specs.Selections.{marks, IsBegun}
 use Rattle.nio_plan.specs.Steps.{look_keys, take_turn, mark, remove, flag_in, gate_in, stage_in, number_in, holder_in, mark_in, exchange_in}
 use Rattle.nio_plan.specs.Sweeps.{sweep_to, sweep_over}
 use Rattle.nio_plan.specs.declared.refusal.BeginError.{BeginError}
