@@ -7,3 +7,4 @@ pub mod ToldLaws
 pub mod SelectionLaws
 pub mod OrderLaws
 mod Worked
+pub mod StandLaws

@@ -38,7 +38,7 @@ abbrev asks_mark : ℕ → Question → Bool
 asks_mark s (Question.mark s' i from told) = s'.0 == s
 asks_mark s _ = false
 
-abbrev asks_give : ℕ → Question → Bool
+abbrev pub asks_give : ℕ → Question → Bool
 asks_give s (Question.give_turn s') = s'.0 == s
 asks_give s _ = false
 
@@ -55,7 +55,7 @@ no_marks : (s : ℕ) (acts : List Act) → All (λ act. asks_mark s (question_of
 no_marks s acts each =
     list_any_none (marks s) acts (All-weaker (λ act. asks_mark s (question_of act) ≡ false) (λ act. marks s act ≡ false) (not-marks s) acts each)
 
-no_gives : (s : ℕ) (acts : List Act) → All (λ act. asks_give s (question_of act) ≡ false) acts → has (gives_turn s) acts ≡ false
+pub no_gives : (s : ℕ) (acts : List Act) → All (λ act. asks_give s (question_of act) ≡ false) acts → has (gives_turn s) acts ≡ false
 no_gives s acts each =
     list_any_none (gives_turn s) acts (All-weaker (λ act. asks_give s (question_of act) ≡ false) (λ act. gives_turn s act ≡ false) (not-gives s) acts each)
 
@@ -166,7 +166,7 @@ over-counts s pairs (entry ∷ later) before acts n run =
 
 -- ---- giving the turn back
 
-abbrev NoGive : ℕ → Question → Type 0
+abbrev pub NoGive : ℕ → Question → Type 0
 NoGive s q = asks_give s q ≡ false
 
 again-no_give : (s : SelNo) (i told : ℕ) (found : Result (Unit {0}) KeyMark) → Each (NoGive s.0) (λ _. ⊤) (mark_again s i told found)
