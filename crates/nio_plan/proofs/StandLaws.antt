@@ -12,7 +12,7 @@ use Rattle.nio_event.proofs.OneMore.{state_after-more}
 use Rattle.nio_event.proofs.Put.{put-same}
 use Rattle.nio_event.proofs.Stays.{nothing_goes_back, only_itself_gives_back}
 use Rattle.nio_event.specs.Acts.{effect}
-use Rattle.nio_event.specs.Conditions.{has_turn, has_begun, is_closer}
+use Rattle.nio_event.specs.Conditions.{has_turn, has_begun, is_held_by, is_closer}
 use Rattle.nio_event.specs.Histories.{state_after, is_by, mine, event_of, IsStep, IsLegal}
 use Rattle.nio_event.specs.Lasting.{a_selection, selector_closed_by}
 use Rattle.nio_event.specs.OwnEvents.{has, gives_turn}
@@ -27,10 +27,11 @@ use Rattle.nio_event.specs.declared.found.Mode.{Mode}
 use Rattle.nio_plan.proofs.EachLaws.{each_bind, each_if, each_sweep, each_run}
 use Rattle.nio_plan.proofs.SelectionLaws.{NoGive, no_gives}
 use Rattle.nio_plan.specs.Each.{Each}
+use Rattle.nio_plan.specs.Laws.{SelectionsStand, ClosingsStand}
 use Rattle.nio_plan.specs.Plan.{Plan, reply, ask, ◌>>=◌}
 use Rattle.nio_plan.specs.Runs.{Follows, Completes}
 use Rattle.nio_plan.specs.SelectCalls.{Selection, begin_plan, begin_with_turn, begin_below, given_back, look_over}
-use Rattle.nio_plan.specs.Selections.{IsBegun}
+use Rattle.nio_plan.specs.Selections.{shuts}
 use Rattle.nio_plan.specs.Steps.{look_keys, take_turn, look_interest, remove, gate_in, stage_in, number_in, holder_in}
 use Rattle.nio_plan.specs.Sweeps.{sweep_to}
 use Rattle.nio_plan.specs.declared.looked.LookedKey.{LookedKey}
@@ -183,9 +184,8 @@ or-last true b e = refl
 or-last false b e = e
 
 -- who began a selection has begun on its selector, in every legal history
-pub begun_stands : (l : Limits) (n : CallerNo) (events : List Event) (selection : Selection) → IsLegal l events → IsBegun (mine n events) selection
-    → IsTrue (has_begun (state_after events) n selection.selector)
-begun_stands l n events selection legal begun =
+pub selections_stand : SelectionsStand
+selections_stand l n events selection legal begun =
     let s = selection.selector in
     let looked = begin-looks s selection.mode selection begun.beginning begun.begins in
     let own : mine n events ≡ (begun.earlier ++ looked.before) ++ BeginLook s looked.found ∷ (looked.later ++ begun.since)
@@ -206,3 +206,40 @@ begun_stands l n events selection legal begun =
           = ap (has (gives_turn s.0)) cut.mine_later ∙ (list_any-append (gives_turn s.0) looked.later begun.since ∙ (ap (λ b. b || has (gives_turn s.0) begun.since) looked.keeps ∙ begun.goes_on)) in
     subst (λ evs. IsTrue (has_begun (state_after evs) n s)) joined
       (only_itself_gives_back l n (cut.past ++ e ∷ []) cut.later (subst (IsLegal l) (sym joined) legal) (a_selection s) keeps there)
+
+-- ---- closing
+
+pub record Found (p : Act → Bool) (own : List Act) : Type 0 where
+  before : List Act
+  act : Act
+  later : List Act
+  parts : own ≡ before ++ act ∷ later
+  passes : p act ≡ true
+
+find_act : (p : Act → Bool) (own : List Act) → has p own ≡ true → Found p own
+find_act p [] there = absurd (cc there)
+find_act p (act ∷ own) there = by_test (p act) refl there (find_act p own)
+  where
+    by_test : (b : Bool) → p act ≡ b → (b || has p own) ≡ true → (has p own ≡ true → Found p own) → Found p (act ∷ own)
+    by_test true is there' rec = record { before = []; act = act; later = own; parts = refl; passes = is }
+    by_test false is there' rec =
+        let found = rec there' in
+        record { before = act ∷ found.before; act = found.act; later = found.later; parts = ap (λ rest. act ∷ rest) found.parts; passes = found.passes }
+
+-- after its step the selector's closer is the caller
+shut-closes : (st : State) (n : CallerNo) (s : SelNo) (act : Act) → shuts s.0 act ≡ true → is_closer (effect st n act) n s ≡ true
+shut-closes st n s (ShutBit s' false) is =
+    let same : s'.0 ≡ s.0 = eqb-true s'.0 s.0 is in
+    subst (λ (k : ℕ). is_held_by n (put st.closer s'.0 (Some n) k) ≡ true) same
+      (ap (is_held_by n) (put-same st.closer s'.0 (Some n)) ∙ eq-eqb n.0 n.0 refl)
+shut-closes st n s _ is = absurd (cc is)
+
+pub closings_stand : ClosingsStand
+closings_stand l n events s legal closing =
+    let found = find_act (shuts s.0) (mine n events) closing.began in
+    let cut = cut_at n events found.before found.act found.later found.parts in
+    let e = event_of n found.act in
+    let joined : (cut.past ++ e ∷ []) ++ cut.later ≡ events = append_assoc cut.past (e ∷ []) cut.later ∙ sym cut.parts in
+    let here : is_closer (state_after (cut.past ++ e ∷ [])) n s ≡ true
+          = ap (λ x. is_closer x n s) (state_after-more cut.past e) ∙ shut-closes (state_after cut.past) n s found.act found.passes in
+    nothing_goes_back l (cut.past ++ e ∷ []) events (cut.later, joined) legal (selector_closed_by s n) here

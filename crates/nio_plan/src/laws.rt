@@ -1,5 +1,5 @@
 //! What the plans promise, as the contracts of functions that do nothing.
-ghost use Rattle.nio_plan.specs.Laws.{RunsArePerformed, BeginsSelection, LooksInOrder, MarksOnlyAsTold, AgainGoesOn, CountsSelection};
+ghost use Rattle.nio_plan.specs.Laws.{RunsArePerformed, BeginsSelection, LooksInOrder, MarksOnlyAsTold, AgainGoesOn, CountsSelection, SelectionsStand, ClosingsStand};
 
 /// A call between whose steps nobody comes answers, and leaves, what its plan says of the state
 /// before it.
@@ -21,3 +21,11 @@ pub fn told_law()
     ensures goes_on { AgainGoesOn }
     ensures counts { CountsSelection }
 {}
+
+/// A selection and a closing that a caller's own steps show in progress stand in the state, whatever
+/// other callers did.
+pub fn progress_law()
+    ensures selections { SelectionsStand }
+    ensures closings { ClosingsStand }
+{
+}

@@ -2,7 +2,7 @@
 //! what these calls answer.
 #![tactic(auto)]
 
-pub use laws::{begin_law, run_law, told_law};
+pub use laws::{begin_law, progress_law, run_law, told_law};
 pub use looked::LookedKey;
 pub use refusal::{BeginError, ChannelError, KeyError, ListError, SelectorsSpent};
 pub use selected::Selected;
