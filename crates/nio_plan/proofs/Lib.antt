@@ -8,3 +8,4 @@ pub mod SelectionLaws
 pub mod OrderLaws
 mod Worked
 pub mod StandLaws
+pub mod TurnLaws
