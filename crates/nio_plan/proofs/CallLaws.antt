@@ -1,13 +1,10 @@
 -- What puts steps and calls together: the history clause of a call from those of its parts.
-use Rattle.std.proofs.Common.{◌≡◌, Bool, true, false, if◌then◌else◌, Some, None, List, [], ◌∷◌, ◌++◌, length, drop, refl, ap, sym, ◌∙◌, subst, append_assoc, IsTrue}
-use Rattle.std.specs.Prelude.{option_map}
-use Rattle.std.proofs.lemmas.List.{append-nil, drop_at}
-use Rattle.std.proofs.lemmas.List.Sums.{fold-append}
-use mathlib.Core.List.{IsPrefix}
+use Rattle.std.proofs.Common.{◌≡◌, Bool, true, false, if◌then◌else◌, List, [], ◌∷◌, ◌++◌, length, drop, refl, ap, sym, ◌∙◌, subst, IsTrue}
+use Rattle.std.proofs.lemmas.List.{drop_at}
 use Rattle.nio_base.specs.declared.limits.Limits.{Limits}
 use Rattle.nio_base.specs.declared.numbers.CallerNo.{CallerNo}
 use Rattle.nio_event.proofs.Clauses.{clause_nothing, clause_then}
-use Rattle.nio_event.specs.Histories.{IsLegal, mine, last_of, event_of, EndsWith, HistoryClause}
+use Rattle.nio_event.specs.Histories.{IsLegal, mine, HistoryClause}
 use Rattle.nio_event.specs.Questions.{Answer, question_of, answer_of}
 use Rattle.nio_event.specs.declared.act.Act.{Act}
 use Rattle.nio_event.specs.declared.event.Event.{Event}

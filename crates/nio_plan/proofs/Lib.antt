@@ -9,3 +9,4 @@ pub mod OrderLaws
 mod Worked
 pub mod StandLaws
 pub mod TurnLaws
+pub mod ClosedLaws

@@ -177,10 +177,13 @@ entry-no_give : (s : SelNo) (pairs : List (ℕ × ℕ)) (entry : LookedKey) (bef
 entry-no_give s pairs entry before =
     let told = told_bits pairs entry in
     each_bind (NoGive s.0) (λ _. ⊤) (λ _. ⊤) (mark_told s entry.index told) _
-      (each_if {R = ℕ} (NoGive s.0) (λ _. ⊤) (told == 0) (reply 0) (mark_looked s entry.index told) (λ _. tt)
-        (λ _. (refl, λ was. each_if {R = ℕ} (NoGive s.0) (λ _. ⊤) (gains_nothing (mark_in was) told) (reply 0) (mark s entry.index (mark_in was) told >>= mark_again s entry.index told)
-          (λ _. tt) (λ _. (refl, λ first. again-no_give s entry.index told (exchange_in first))))))
-      (λ _ _. tt)
+    (each_if {R = ℕ} (NoGive s.0) (λ _. ⊤) (told == 0) (reply 0) (mark_looked s entry.index told) (λ _. tt)
+    (λ _. (
+      refl,
+      λ was. each_if {R = ℕ} (NoGive s.0) (λ _. ⊤) (gains_nothing (mark_in was) told) (reply 0) (mark s entry.index (mark_in was) told >>= mark_again s entry.index told)
+          (λ _. tt) (λ _. (refl, λ first. again-no_give s entry.index told (exchange_in first))),
+    )))
+    (λ _ _. tt)
 
 over-no_give : (s : SelNo) (pairs : List (ℕ × ℕ)) (entries : List LookedKey) (acts : List Act) (n : ℕ)
     → Completes (sweep_over entries (mark_entry s pairs) 0) acts n → has (gives_turn s.0) acts ≡ false

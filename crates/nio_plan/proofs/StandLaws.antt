@@ -1,10 +1,9 @@
 -- What a caller began and hasn't ended stands in the state, whatever others did.
-use Rattle.std.proofs.Common.{◌≡◌, ℕ, ◌==◌, Bool, true, false, cond, not, ◌&&◌, ◌||◌, if◌then◌else◌, Option, Some, None, Result, Ok, Err, List, [], ◌∷◌, ◌++◌, map, refl, ap, sym, ◌∙◌, subst, append_assoc, eqb-true, eq-eqb, IsTrue}
-use Rattle.std.specs.Prelude.{⊤, is_some, IsFalse}
+use Rattle.std.proofs.Common.{◌≡◌, ℕ, Bool, true, false, cond, not, ◌||◌, if◌then◌else◌, Some, Ok, Err, List, [], ◌∷◌, ◌++◌, map, refl, ap, sym, ◌∙◌, subst, append_assoc, eqb-true, eq-eqb, IsTrue}
+use Rattle.std.specs.Prelude.{⊤, is_some}
 use Rattle.std.specs.List.{filter}
 use Rattle.std.proofs.lemmas.Bool.{and_from}
 use Rattle.std.proofs.lemmas.List.Folds.{list_any-append}
-use Rattle.nio_base.specs.declared.limits.Limits.{Limits}
 use Rattle.nio_base.specs.declared.numbers.CallerNo.{CallerNo}
 use Rattle.nio_base.specs.declared.numbers.SelNo.{SelNo}
 use Rattle.nio_event.proofs.Legal.{legal_next}
@@ -13,10 +12,10 @@ use Rattle.nio_event.proofs.Put.{put-same}
 use Rattle.nio_event.proofs.Stays.{nothing_goes_back, only_itself_gives_back}
 use Rattle.nio_event.specs.Acts.{effect}
 use Rattle.nio_event.specs.Conditions.{has_turn, has_begun, is_held_by, is_closer}
-use Rattle.nio_event.specs.Histories.{state_after, is_by, mine, event_of, IsStep, IsLegal}
+use Rattle.nio_event.specs.Histories.{state_after, is_by, mine, event_of, IsLegal}
 use Rattle.nio_event.specs.Lasting.{a_selection, selector_closed_by}
 use Rattle.nio_event.specs.OwnEvents.{has, gives_turn}
-use Rattle.nio_event.specs.Questions.{Question, Answer, question_of, answer_of}
+use Rattle.nio_event.specs.Questions.{Question, question_of, answer_of}
 use Rattle.nio_event.specs.Sets.{in_cancelled_set, is_valid}
 use Rattle.nio_event.specs.State.{State, put}
 use Rattle.nio_event.specs.declared.act.Act.{Act}
@@ -28,8 +27,8 @@ use Rattle.nio_plan.proofs.EachLaws.{each_bind, each_if, each_sweep, each_run}
 use Rattle.nio_plan.proofs.SelectionLaws.{NoGive, no_gives}
 use Rattle.nio_plan.specs.Each.{Each}
 use Rattle.nio_plan.specs.Laws.{SelectionsStand, ClosingsStand}
-use Rattle.nio_plan.specs.Plan.{Plan, reply, ask, ◌>>=◌}
-use Rattle.nio_plan.specs.Runs.{Follows, Completes}
+use Rattle.nio_plan.specs.Plan.{reply, ◌>>=◌}
+use Rattle.nio_plan.specs.Runs.{Completes}
 use Rattle.nio_plan.specs.SelectCalls.{Selection, begin_plan, begin_with_turn, begin_below, given_back, look_over}
 use Rattle.nio_plan.specs.Selections.{shuts}
 use Rattle.nio_plan.specs.Steps.{look_keys, take_turn, look_interest, remove, gate_in, stage_in, number_in, holder_in}
@@ -106,24 +105,28 @@ look-act s _ asks = absurd (cc asks)
 
 -- nothing that a selection does below its bound gives the turn back
 over-no_give : (s : SelNo) (k : ℕ) (looked : List LookedKey) → Each (NoGive s.0) (λ _. ⊤) (look_over s k looked)
-over-no_give s k looked =
-    (refl, λ found. each_if (NoGive s.0) (λ _. ⊤) (in_cancelled_set (stage_in found))
+over-no_give s k looked = (
+  refl,
+  λ found. each_if (NoGive s.0) (λ _. ⊤) (in_cancelled_set (stage_in found))
       (remove s k >>= λ _. reply looked)
       (if is_valid (stage_in found) then (look_interest s k >>= λ ops. reply (looked ++ record { index = k; channel = (stage_in found).chan; interest = ops } ∷ [])) else reply looked)
       (λ _. (refl, λ _. tt))
       (λ _. each_if (NoGive s.0) (λ _. ⊤) (is_valid (stage_in found))
-        (look_interest s k >>= λ ops. reply (looked ++ record { index = k; channel = (stage_in found).chan; interest = ops } ∷ [])) (reply looked)
-        (λ _. (refl, λ ops. tt))
-        (λ _. tt)))
+      (look_interest s k >>= λ ops. reply (looked ++ record { index = k; channel = (stage_in found).chan; interest = ops } ∷ [])) (reply looked)
+      (λ _. (refl, λ ops. tt))
+      (λ _. tt)),
+)
 
 below_keeps : (s : SelNo) (mode : Mode) (selection : Selection) (acts : List Act)
     → Completes (look_keys s >>= λ bound. begin_below s mode bound false) acts (Ok selection) → has (gives_turn s.0) acts ≡ false
 below_keeps s mode selection acts run =
-    no_gives s.0 acts (each_run (NoGive s.0) (λ _. ⊤) (look_keys s >>= λ bound. begin_below s mode bound false) acts (Ok selection)
-      (refl, λ bound. each_bind (NoGive s.0) (λ _. ⊤) (λ _. ⊤) (sweep_to (number_in bound) 0 (look_over s) []) _
-        (each_sweep (NoGive s.0) (λ _. ⊤) (number_in bound) 0 (look_over s) [] tt (λ k looked _ _ _. over-no_give s k looked))
-        (λ looked _. tt))
-      run).0
+    no_gives s.0 acts (each_run (NoGive s.0) (λ _. ⊤) (look_keys s >>= λ bound. begin_below s mode bound false) acts (Ok selection) (
+      refl,
+      λ bound. each_bind (NoGive s.0) (λ _. ⊤) (λ _. ⊤) (sweep_to (number_in bound) 0 (look_over s) []) _
+          (each_sweep (NoGive s.0) (λ _. ⊤) (number_in bound) 0 (look_over s) [] tt (λ k looked _ _ _. over-no_give s k looked))
+          (λ looked _. tt),
+    )
+    run).0
 
 module _ (s : SelNo) (mode : Mode) (selection : Selection) where
   refused : (refusal : BeginError) (acts : List Act) → Completes (reply (Err refusal)) acts (Ok selection) → ⊥
@@ -189,9 +192,9 @@ selections_stand l n events selection legal begun =
     let s = selection.selector in
     let looked = begin-looks s selection.mode selection begun.beginning begun.begins in
     let own : mine n events ≡ (begun.earlier ++ looked.before) ++ BeginLook s looked.found ∷ (looked.later ++ begun.since)
-          = begun.parts ∙ (ap (λ xs. begun.earlier ++ (xs ++ begun.since)) looked.parts
-            ∙ (ap (λ xs. begun.earlier ++ xs) (append_assoc looked.before (BeginLook s looked.found ∷ looked.later) begun.since)
-              ∙ sym (append_assoc begun.earlier looked.before (BeginLook s looked.found ∷ (looked.later ++ begun.since))))) in
+    = begun.parts ∙ (ap (λ xs. begun.earlier ++ (xs ++ begun.since)) looked.parts
+    ∙ (ap (λ xs. begun.earlier ++ xs) (append_assoc looked.before (BeginLook s looked.found ∷ looked.later) begun.since)
+    ∙ sym (append_assoc begun.earlier looked.before (BeginLook s looked.found ∷ (looked.later ++ begun.since))))) in
     let cut = cut_at n events (begun.earlier ++ looked.before) (BeginLook s looked.found) (looked.later ++ begun.since) own in
     let e = event_of n (BeginLook s looked.found) in
     let legal' = subst (IsLegal l) cut.parts legal in
@@ -199,24 +202,24 @@ selections_stand l n events selection legal begun =
     let st = state_after cut.past in
     let begins : (st.begun s.0 || not looked.found.shut) ≡ true = or-last (st.begun s.0) (not looked.found.shut) (ap not looked.opens) in
     let here : has_begun (effect st n (BeginLook s looked.found)) n s ≡ true
-          = and_from (has_turn st n s) (put st.begun s.0 (st.begun s.0 || not looked.found.shut) s.0) step.condition.1 (put-same st.begun s.0 (st.begun s.0 || not looked.found.shut) ∙ begins) in
+    = and_from (has_turn st n s) (put st.begun s.0 (st.begun s.0 || not looked.found.shut) s.0) step.condition.1 (put-same st.begun s.0 (st.begun s.0 || not looked.found.shut) ∙ begins) in
     let there : has_begun (state_after (cut.past ++ e ∷ [])) n s ≡ true = ap (λ x. has_begun x n s) (state_after-more cut.past e) ∙ here in
     let joined : (cut.past ++ e ∷ []) ++ cut.later ≡ events = append_assoc cut.past (e ∷ []) cut.later ∙ sym cut.parts in
     let keeps : has (gives_turn s.0) (mine n cut.later) ≡ false
-          = ap (has (gives_turn s.0)) cut.mine_later ∙ (list_any-append (gives_turn s.0) looked.later begun.since ∙ (ap (λ b. b || has (gives_turn s.0) begun.since) looked.keeps ∙ begun.goes_on)) in
+    = ap (has (gives_turn s.0)) cut.mine_later ∙ (list_any-append (gives_turn s.0) looked.later begun.since ∙ (ap (λ b. b || has (gives_turn s.0) begun.since) looked.keeps ∙ begun.goes_on)) in
     subst (λ evs. IsTrue (has_begun (state_after evs) n s)) joined
-      (only_itself_gives_back l n (cut.past ++ e ∷ []) cut.later (subst (IsLegal l) (sym joined) legal) (a_selection s) keeps there)
+    (only_itself_gives_back l n (cut.past ++ e ∷ []) cut.later (subst (IsLegal l) (sym joined) legal) (a_selection s) keeps there)
 
 -- ---- closing
 
 pub record Found (p : Act → Bool) (own : List Act) : Type 0 where
-  before : List Act
-  act : Act
-  later : List Act
-  parts : own ≡ before ++ act ∷ later
-  passes : p act ≡ true
+  pub before : List Act
+  pub act : Act
+  pub later : List Act
+  pub parts : own ≡ before ++ act ∷ later
+  pub passes : p act ≡ true
 
-find_act : (p : Act → Bool) (own : List Act) → has p own ≡ true → Found p own
+pub find_act : (p : Act → Bool) (own : List Act) → has p own ≡ true → Found p own
 find_act p [] there = absurd (cc there)
 find_act p (act ∷ own) there = by_test (p act) refl there (find_act p own)
   where
@@ -231,7 +234,7 @@ shut-closes : (st : State) (n : CallerNo) (s : SelNo) (act : Act) → shuts s.0 
 shut-closes st n s (ShutBit s' false) is =
     let same : s'.0 ≡ s.0 = eqb-true s'.0 s.0 is in
     subst (λ (k : ℕ). is_held_by n (put st.closer s'.0 (Some n) k) ≡ true) same
-      (ap (is_held_by n) (put-same st.closer s'.0 (Some n)) ∙ eq-eqb n.0 n.0 refl)
+    (ap (is_held_by n) (put-same st.closer s'.0 (Some n)) ∙ eq-eqb n.0 n.0 refl)
 shut-closes st n s _ is = absurd (cc is)
 
 pub closings_stand : ClosingsStand
@@ -241,5 +244,5 @@ closings_stand l n events s legal closing =
     let e = event_of n found.act in
     let joined : (cut.past ++ e ∷ []) ++ cut.later ≡ events = append_assoc cut.past (e ∷ []) cut.later ∙ sym cut.parts in
     let here : is_closer (state_after (cut.past ++ e ∷ [])) n s ≡ true
-          = ap (λ x. is_closer x n s) (state_after-more cut.past e) ∙ shut-closes (state_after cut.past) n s found.act found.passes in
+    = ap (λ x. is_closer x n s) (state_after-more cut.past e) ∙ shut-closes (state_after cut.past) n s found.act found.passes in
     nothing_goes_back l (cut.past ++ e ∷ []) events (cut.later, joined) legal (selector_closed_by s n) here

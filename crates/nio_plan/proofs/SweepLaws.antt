@@ -98,7 +98,7 @@ pub over_turn_at : {X A R : Type 0} {l : Limits} {me : CallerNo} {whole : Plan R
     → PartTold l me whole v0 v2 (sweep_over (drop (k + 1) xs) f y >>= rest)
 over_turn_at {l = l} {me = me} {whole = whole} {v0 = v0} {v1 = v1} xs k d f x y rest below so_far call =
     over_turn (get_or xs k d) (drop (k + 1) xs) f x y rest
-      (subst (λ elements. PartTold l me whole v0 v1 (sweep_over elements f x >>= rest)) (drop_more xs k d below) so_far) call
+    (subst (λ elements. PartTold l me whole v0 v1 (sweep_over elements f x >>= rest)) (drop_more xs k d below) so_far) call
 
 pub over_done_at : {X A R : Type 0} {l : Limits} {me : CallerNo} {whole : Plan R} {v0 v1 : View} (xs : List X) (k : ℕ) (f : X → A → Plan A) (x : A) (rest : A → Plan R)
     → length xs ≤ k → PartTold l me whole v0 v1 (sweep_over (drop k xs) f x >>= rest) → PartTold l me whole v0 v1 (rest x)

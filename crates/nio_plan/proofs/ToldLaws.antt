@@ -50,10 +50,10 @@ module _ (selection : Selection) (pairs : List (ℕ × ℕ)) where
   entry-as_told entry count looked =
       let told = told_bits pairs entry in
       each_bind Asks (λ _. ⊤) (λ _. ⊤) (mark_told selection.selector entry.index told) _
-        (each_if {R = ℕ} Asks (λ _. ⊤) (told == 0) (reply 0) (mark_looked selection.selector entry.index told) (λ _. tt)
-          (λ some. mark-as_told entry.index told
-            (record { entry = entry; looked = looked; on_selector = refl; at_index = refl; bits = refl; some = not_false _ some })))
-        (λ marked _. tt)
+      (each_if {R = ℕ} Asks (λ _. ⊤) (told == 0) (reply 0) (mark_looked selection.selector entry.index told) (λ _. tt)
+      (λ some. mark-as_told entry.index told
+      (record { entry = entry; looked = looked; on_selector = refl; at_index = refl; bits = refl; some = not_false _ some })))
+      (λ marked _. tt)
 
   sweep-as_told : (i : ℕ) → Each Asks (λ _. ⊤) (sweep_key selection.selector i)
   sweep-as_told i = (tt, λ found. each_when Asks (in_cancelled_set (stage_in found)) (remove selection.selector i) (tt, λ _. tt))

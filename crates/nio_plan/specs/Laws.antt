@@ -6,7 +6,7 @@ use Rattle.nio_base.specs.declared.numbers.CallerNo.{CallerNo}
 use Rattle.nio_event.specs.Conditions.{has_begun, is_closer}
 use Rattle.nio_event.specs.Histories.{state_after, mine, event_of, IsLegal}
 use Rattle.nio_base.specs.declared.numbers.SelNo.{SelNo}
-use Rattle.nio_event.specs.OwnEvents.{count}
+use Rattle.nio_event.specs.OwnEvents.{has, count, finds_below}
 use Rattle.nio_event.specs.declared.act.Act.{Act}
 use Rattle.nio_event.specs.declared.act.Act.TheVariants.{Mark}
 use Rattle.nio_event.specs.declared.found.Mode.{Mode}
@@ -15,7 +15,7 @@ use Rattle.nio_plan.specs.Perform.{perform}
 use Rattle.nio_plan.specs.Plan.{Plan}
 use Rattle.nio_plan.specs.Runs.{Completes}
 use Rattle.nio_plan.specs.declared.looked.LookedKey.{LookedKey}
-use Rattle.nio_plan.specs.SelectCalls.{Selection, ToldReply, done, again, begin_plan, told_bits, told_plan}
+use Rattle.nio_plan.specs.SelectCalls.{Selection, ToldReply, done, again, begin_plan, told_bits, told_plan, closed, finish_plan}
 use Rattle.nio_plan.specs.Selections.{marks, IsBegun, IsClosing}
 use Rattle.nio_plan.specs.declared.selected.Selected.{Selected}
 
@@ -92,3 +92,11 @@ abbrev pub ClosingsStand : Type 0
 ClosingsStand =
     (l : Limits) (n : CallerNo) (events : List Event) (s : SelNo)
     → IsLegal l events → IsClosing (mine n events) s.0 → IsTrue (is_closer (state_after events) n s)
+
+-- A `try_finish` that answers Closed has removed each index below the mark that it found; the key is
+-- removed in every legal history in which that stands.
+abbrev pub ClosedRemovesAll : Type 0
+ClosedRemovesAll =
+    (l : Limits) (n : CallerNo) (events : List Event) (s : SelNo) (own acts later : List Act)
+    → IsLegal l events → mine n events ≡ own ++ (acts ++ later) → Completes (finish_plan s) acts closed
+    → (i : ℕ) → IsTrue (has (finds_below s.0 i) acts) → IsTrue ((state_after events).key s.0 i).removed

@@ -1,5 +1,5 @@
 //! What the plans promise, as the contracts of functions that do nothing.
-ghost use Rattle.nio_plan.specs.Laws.{RunsArePerformed, BeginsSelection, LooksInOrder, MarksOnlyAsTold, AgainGoesOn, CountsSelection, SelectionsStand, ClosingsStand};
+ghost use Rattle.nio_plan.specs.Laws.{RunsArePerformed, BeginsSelection, LooksInOrder, MarksOnlyAsTold, AgainGoesOn, CountsSelection, SelectionsStand, ClosingsStand, ClosedRemovesAll};
 
 /// A call between whose steps nobody comes answers, and leaves, what its plan says of the state
 /// before it.
@@ -27,5 +27,9 @@ pub fn told_law()
 pub fn progress_law()
     ensures selections { SelectionsStand }
     ensures closings { ClosingsStand }
-{
-}
+{}
+
+/// A selector whose closing has finished keeps no key of those below the mark that the closing found.
+pub fn close_law()
+    ensures { ClosedRemovesAll }
+{}
