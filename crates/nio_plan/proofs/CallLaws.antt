@@ -1,12 +1,10 @@
 -- What puts steps and calls together: the history clause of a call from those of its parts.
-use Rattle.std.proofs.Common.{◌≡◌, Bool, true, false, if◌then◌else◌, Some, None, List, [], ◌∷◌, ◌++◌, length, drop, refl, ap, sym, ◌∙◌, subst, append_assoc, IsTrue}
-use Rattle.std.specs.Prelude.{option_map}
-use Rattle.std.proofs.lemmas.List.{append-nil, drop_at}
-use Rattle.std.proofs.lemmas.List.Sums.{fold-append}
-use mathlib.Core.List.{IsPrefix}
+use Rattle.std.proofs.Common.{◌≡◌, Bool, true, false, if◌then◌else◌, List, [], ◌∷◌, ◌++◌, length, drop, refl, ap, sym, ◌∙◌, subst, IsTrue}
+use Rattle.std.proofs.lemmas.List.{drop_at}
 use Rattle.nio_base.specs.declared.limits.Limits.{Limits}
 use Rattle.nio_base.specs.declared.numbers.CallerNo.{CallerNo}
-use Rattle.nio_event.specs.Histories.{IsLegal, mine, last_of, event_of, EndsWith, HistoryClause}
+use Rattle.nio_event.proofs.Clauses.{clause_nothing, clause_then}
+use Rattle.nio_event.specs.Histories.{IsLegal, mine, HistoryClause}
 use Rattle.nio_event.specs.Questions.{Answer, question_of, answer_of}
 use Rattle.nio_event.specs.declared.act.Act.{Act}
 use Rattle.nio_event.specs.declared.event.Event.{Event}
@@ -14,40 +12,6 @@ use Rattle.nio_plan.proofs.RunLaws.{bind-reply, follows_more, follows_bind}
 use Rattle.nio_plan.specs.Calls.{done_between, PartClause, View, Holds, StepTold, PartTold, CallTold}
 use Rattle.nio_plan.specs.Plan.{Plan, reply, ask, ◌>>=◌}
 use Rattle.nio_plan.specs.Runs.{Follows}
-
--- ---- the history clause
-
-prefix-trans : (xs ys zs : List Event) → IsPrefix xs ys → IsPrefix ys zs → IsPrefix xs zs
-prefix-trans xs ys zs first second = (first.0 ++ second.0, sym (append_assoc xs first.0 second.0) ∙ (ap (λ l. l ++ second.0) first.1 ∙ second.1))
-
-last_of-append : {A : Type 0} (xs : List A) (y : A) (ys : List A) → last_of (xs ++ y ∷ ys) ≡ last_of (y ∷ ys)
-last_of-append xs y ys = fold-append (λ _ x. Some x) None xs (y ∷ ys)
-
-ends_then : (me : CallerNo) (acts later : List Act) (s0 s1 s2 : List Event) → EndsWith me s0 acts s1 → EndsWith me s1 later s2 → EndsWith me s0 (acts ++ later) s2
-ends_then me acts [] s0 s1 s2 first second = subst (λ xs. EndsWith me s0 xs s2) (sym (append-nil acts)) (subst (EndsWith me s0 acts) (sym second) first)
-ends_then me [] (y ∷ ys) s0 s1 s2 first second = second
-ends_then me (x ∷ xs) (y ∷ ys) s0 s1 s2 first second = second ∙ ap (option_map (event_of me)) (sym (last_of-append (x ∷ xs) y ys))
-
--- what `me` did, and then what it did after that
-pub history_then : (l : Limits) (Holds : CallerNo → Type 0) (me : CallerNo) (acts later : List Act) (s0 s1 s2 : List Event)
-    → HistoryClause l Holds me acts s0 s1 → HistoryClause l Holds me later s1 s2 → HistoryClause l Holds me (acts ++ later) s0 s2
-history_then l Holds me acts later s0 s1 s2 first second = record {
-  legal = second.legal;
-  goes_on = prefix-trans s0 s1 s2 first.goes_on second.goes_on;
-  own = second.own ∙ (ap (λ xs. xs ++ later) first.own ∙ append_assoc (mine me s0) acts later);
-  others = λ n held other. second.others n held other ∙ first.others n held other;
-  ends = ends_then me acts later s0 s1 s2 first.ends second.ends;
-}
-
--- where nothing was done yet
-pub history_start : (l : Limits) (Holds : CallerNo → Type 0) (me : CallerNo) (s : List Event) → IsLegal l s → HistoryClause l Holds me [] s s
-history_start l Holds me s legal = record {
-  legal = legal;
-  goes_on = ([], append-nil s);
-  own = sym (append-nil (mine me s));
-  others = λ n held other. refl;
-  ends = refl;
-}
 
 -- ---- parts of calls, between two lists of what was seen
 
@@ -68,7 +32,7 @@ pub part_more : {R : Type 0} (l : Limits) (Holds : CallerNo → Type 0) (me : Ca
     → PartClause l Holds me plan s0 s1 middle → PartClause l Holds me middle s1 s2 rest → PartClause l Holds me plan s0 s2 rest
 part_more l Holds me plan middle rest s0 s1 s2 first second =
     part_of_acts l Holds me plan (done_between me s0 s1 ++ done_between me s1 s2) s0 s2 rest
-    (history_then l Holds me (done_between me s0 s1) (done_between me s1 s2) s0 s1 s2 first.history second.history)
+    (clause_then l Holds me (done_between me s0 s1) (done_between me s1 s2) s0 s1 s2 first.history second.history)
     (follows_more plan (done_between me s0 s1) middle (done_between me s1 s2) rest first.follows second.follows)
 
 pub part_bind : {A B : Type 0} (l : Limits) (Holds : CallerNo → Type 0) (me : CallerNo) (plan : Plan A) (f : A → Plan B) (rest : Plan A) (s0 s1 : List Event)
@@ -85,7 +49,7 @@ part_bind l Holds me plan f rest s0 s1 part = record {
 -- nothing was done yet
 pub left_start : {R : Type 0} (l : Limits) (me : CallerNo) (plan : Plan R) (pass : View) → IsLegal l pass.seen → PartTold l me plan pass pass plan
 left_start l me plan pass legal = record {
-  part = part_of_acts l (Holds pass) me plan [] pass.seen pass.seen plan (history_start l (Holds pass) me pass.seen legal) refl;
+  part = part_of_acts l (Holds pass) me plan [] pass.seen pass.seen plan (clause_nothing l (Holds pass) me pass.seen legal) refl;
   held = refl;
 }
 

@@ -7,3 +7,6 @@ pub mod ToldLaws
 pub mod SelectionLaws
 pub mod OrderLaws
 mod Worked
+pub mod StandLaws
+pub mod TurnLaws
+pub mod ClosedLaws

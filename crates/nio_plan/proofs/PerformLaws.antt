@@ -4,19 +4,19 @@ use Rattle.std.proofs.Common.{◌≡◌, ℕ, zero, suc, ◌+◌, ◌-◌, ◌<�
 use Rattle.std.proofs.lemmas.List.{append-nil}
 use Rattle.nio_base.specs.declared.limits.Limits.{Limits}
 use Rattle.nio_base.specs.declared.numbers.CallerNo.{CallerNo}
+use Rattle.nio_event.proofs.Asked.{act_from-question_of}
 use Rattle.nio_event.proofs.Legal.{legal_next}
 use Rattle.nio_event.proofs.OneMore.{state_after-more}
 use Rattle.nio_event.specs.Acts.{effect}
-use Rattle.nio_event.specs.Answers.{answer_from}
+use Rattle.nio_event.specs.Answers.{act_from}
 use Rattle.nio_event.specs.Histories.{state_after, event_of, IsStep, IsLegal}
 use Rattle.nio_event.specs.Questions.{Question, Answer, question_of, answer_of}
 use Rattle.nio_event.specs.State.{State}
 use Rattle.nio_event.specs.declared.act.Act.{Act}
-use Rattle.nio_event.specs.declared.act.Act.TheVariants.{DrawBit, MakeSelector, LookSelectors, Wake, LookGate, SetInterrupt, TakeInterrupt, LookInterrupt, LookKey, CancelKey, LookInterest, SwapInterest, OrInterest, AndInterest, SwapNote, LookNote, MakeChannel, LookChannel, Claim, RaiseKeys, LookKeys, Publish, LookReg, Enrol, TakeTurn, BeginLook, GiveTurn, Remove, LookMark, Mark, UnselectBit, EndWake, LookChannels, RaiseChannels, TryHoldBit, Release, SetMode, CloseBit, ShutBit, Enter}
 use Rattle.nio_event.specs.declared.event.Event.{Event}
 use Rattle.nio_plan.proofs.SweepLaws.{sweep_to-turn, sweep_to-done, seek_to-turn, seek_to-done, sweep_over-turn, sweep_over-done}
 use Rattle.nio_plan.specs.Calls.{done_between, CallClause}
-use Rattle.nio_plan.specs.Perform.{act_of, perform}
+use Rattle.nio_plan.specs.Perform.{perform}
 use Rattle.nio_plan.specs.Plan.{Plan, reply, ask, ◌>>=◌}
 use Rattle.nio_plan.specs.Runs.{Completes}
 use Rattle.nio_plan.specs.Sweeps.{sweep_to, seek_to, sweep_over}
@@ -26,7 +26,7 @@ use Rattle.nio_plan.specs.Sweeps.{sweep_to, seek_to, sweep_over}
 pub perform-bind : {A B : Type 0} (me : CallerNo) (plan : Plan A) (f : A → Plan B) (st : State)
     → perform me (plan >>= f) st ≡ perform me (f (perform me plan st).answer) (perform me plan st).state
 perform-bind me (reply a) f st = refl
-perform-bind me (ask q next) f st = let found = answer_from st me q in perform-bind me (next found) f (effect st me (act_of q found))
+perform-bind me (ask q next) f st = let act = act_from st me q in perform-bind me (next (answer_of act)) f (effect st me act)
 
 -- a plan that is performed so, and then another
 pub perform_then_on : {A B : Type 0} (me : CallerNo) (plan : Plan A) (f : A → Plan B) (st : State) (a : A) (st' : State)
@@ -108,60 +108,15 @@ perform_over me (e ∷ later) f left stands each =
 
 -- ---- runs in a legal history
 
--- an act is its question with its answer
-pub act_of-parts : (act : Act) → act_of (question_of act) (answer_of act) ≡ act
-act_of-parts (DrawBit n found) = refl
-act_of-parts (MakeSelector s found) = refl
-act_of-parts (LookSelectors found) = refl
-act_of-parts (Wake s found) = refl
-act_of-parts (LookGate s found) = refl
-act_of-parts (SetInterrupt n found) = refl
-act_of-parts (TakeInterrupt found) = refl
-act_of-parts (LookInterrupt found) = refl
-act_of-parts (LookKey s i found) = refl
-act_of-parts (CancelKey s i found) = refl
-act_of-parts (LookInterest s i found) = refl
-act_of-parts (SwapInterest s i ops found) = refl
-act_of-parts (OrInterest s i ops found) = refl
-act_of-parts (AndInterest s i ops found) = refl
-act_of-parts (SwapNote s i att found) = refl
-act_of-parts (LookNote s i found) = refl
-act_of-parts (MakeChannel c kind found) = refl
-act_of-parts (LookChannel c found) = refl
-act_of-parts (Claim s i c found) = refl
-act_of-parts (RaiseKeys s n found) = refl
-act_of-parts (LookKeys s found) = refl
-act_of-parts (Publish s i found) = refl
-act_of-parts (LookReg c s found) = refl
-act_of-parts (Enrol c s i found) = refl
-act_of-parts (TakeTurn s found) = refl
-act_of-parts (BeginLook s found) = refl
-act_of-parts (GiveTurn s) = refl
-act_of-parts (Remove s i found) = refl
-act_of-parts (LookMark s i found) = refl
-act_of-parts (Mark s i from told found) = refl
-act_of-parts (UnselectBit s i found) = refl
-act_of-parts (EndWake s found) = refl
-act_of-parts (LookChannels found) = refl
-act_of-parts (RaiseChannels n found) = refl
-act_of-parts (TryHoldBit c found) = refl
-act_of-parts (Release c) = refl
-act_of-parts (SetMode c blocking found) = refl
-act_of-parts (CloseBit c found) = refl
-act_of-parts (ShutBit s found) = refl
-act_of-parts (Enter s found) = refl
-
 -- a step along a plan is performed
 perform_ask : {R : Type 0} (l : Limits) (me : CallerNo) (q : Question) (next : Answer → Plan R) (past : List Event) (act : Act)
     → IsStep l past (event_of me act) → question_of act ≡ q
     → perform me (ask q next) (state_after past) ≡ perform me (next (answer_of act)) (state_after (past ++ event_of me act ∷ []))
 perform_ask l me q next past act step asks =
     let st = state_after past in
-    let found : answer_from st me q ≡ answer_of act = ap (answer_from st me) (sym asks) ∙ sym step.answers in
-    let made : act_of q (answer_from st me q) ≡ act = ap (λ x. act_of x (answer_from st me q)) (sym asks) ∙ (ap (act_of (question_of act)) found ∙ act_of-parts act) in
-    ap (λ x. perform me (next x) (effect st me (act_of q (answer_from st me q)))) found
-    ∙ (ap (λ x. perform me (next (answer_of act)) (effect st me x)) made
-    ∙ ap (λ x. perform me (next (answer_of act)) x) (sym (state_after-more past (event_of me act))))
+    let made : act_from st me q ≡ act = ap (act_from st me) (sym asks) ∙ sym (act_from-question_of st me act step.answers) in
+    ap (λ x. perform me (next (answer_of x)) (effect st me x)) made
+    ∙ ap (λ x. perform me (next (answer_of act)) x) (sym (state_after-more past (event_of me act)))
 
 -- a whole run of a plan that is legal after a history, with no event of another caller between, has
 -- the reply and leaves the state of the plan performed on the state that the history left

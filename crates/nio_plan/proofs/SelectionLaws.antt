@@ -12,7 +12,7 @@ use Rattle.nio_base.specs.declared.numbers.SelNo.{SelNo}
 use Rattle.nio_event.specs.Histories.{mine}
 use Rattle.nio_event.specs.declared.event.Event.{Event}
 use Rattle.nio_plan.specs.Calls.{done_between, CallClause}
-use Rattle.nio_event.specs.OwnEvents.{has, count}
+use Rattle.nio_event.specs.OwnEvents.{has, count, gives_turn}
 use Rattle.nio_event.specs.Questions.{Question, question_of, answer_of}
 use Rattle.nio_event.specs.Sets.{in_cancelled_set}
 use Rattle.nio_event.specs.declared.act.Act.{Act}
@@ -26,7 +26,7 @@ use Rattle.nio_plan.specs.Plan.{reply, ◌>>=◌}
 use Rattle.nio_plan.specs.Runs.{Completes}
 use Rattle.nio_plan.specs.declared.looked.LookedKey.{LookedKey}
 use Rattle.nio_plan.specs.SelectCalls.{Selection, ToldReply, begin_plan, begin_with_turn, begin_below, told_plan, told_bits, given_back, look_over, mark_entry, mark_told, mark_looked, mark_again, one_if, gains_nothing, sweep_key, is_again, end_selection, after_marks, again, done}
-use Rattle.nio_plan.specs.Selections.{gives_turn, marks, IsBegun}
+use Rattle.nio_plan.specs.Selections.{marks, IsBegun}
 use Rattle.nio_plan.specs.Steps.{look_keys, take_turn, mark, remove, flag_in, gate_in, stage_in, number_in, holder_in, mark_in, exchange_in}
 use Rattle.nio_plan.specs.Sweeps.{sweep_to, sweep_over}
 use Rattle.nio_plan.specs.declared.refusal.BeginError.{BeginError}
@@ -38,7 +38,7 @@ abbrev asks_mark : ℕ → Question → Bool
 asks_mark s (Question.mark s' i from told) = s'.0 == s
 asks_mark s _ = false
 
-abbrev asks_give : ℕ → Question → Bool
+abbrev pub asks_give : ℕ → Question → Bool
 asks_give s (Question.give_turn s') = s'.0 == s
 asks_give s _ = false
 
@@ -55,7 +55,7 @@ no_marks : (s : ℕ) (acts : List Act) → All (λ act. asks_mark s (question_of
 no_marks s acts each =
     list_any_none (marks s) acts (All-weaker (λ act. asks_mark s (question_of act) ≡ false) (λ act. marks s act ≡ false) (not-marks s) acts each)
 
-no_gives : (s : ℕ) (acts : List Act) → All (λ act. asks_give s (question_of act) ≡ false) acts → has (gives_turn s) acts ≡ false
+pub no_gives : (s : ℕ) (acts : List Act) → All (λ act. asks_give s (question_of act) ≡ false) acts → has (gives_turn s) acts ≡ false
 no_gives s acts each =
     list_any_none (gives_turn s) acts (All-weaker (λ act. asks_give s (question_of act) ≡ false) (λ act. gives_turn s act ≡ false) (not-gives s) acts each)
 
@@ -166,7 +166,7 @@ over-counts s pairs (entry ∷ later) before acts n run =
 
 -- ---- giving the turn back
 
-abbrev NoGive : ℕ → Question → Type 0
+abbrev pub NoGive : ℕ → Question → Type 0
 NoGive s q = asks_give s q ≡ false
 
 again-no_give : (s : SelNo) (i told : ℕ) (found : Result (Unit {0}) KeyMark) → Each (NoGive s.0) (λ _. ⊤) (mark_again s i told found)

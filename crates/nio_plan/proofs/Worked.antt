@@ -1,5 +1,5 @@
 -- Worked cases: calls one after the other, from the opening state, and what each of them answers.
-use Rattle.std.proofs.Common.{◌≡◌, ℕ, true, false, Option, Some, None, Result, Ok, Err, List, [], ◌∷◌, refl}
+use Rattle.std.proofs.Common.{◌≡◌, ℕ, true, false, Some, None, Ok, Err, [], ◌∷◌, refl}
 use Rattle.nio_base.specs.declared.kind.Kind.{Kind}
 use Rattle.nio_base.specs.declared.kind.Kind.TheVariants.{Stream, Source}
 use Rattle.nio_base.specs.declared.limits.Limits.{Limits}
@@ -19,7 +19,6 @@ use Rattle.nio_plan.specs.Perform.{perform}
 use Rattle.nio_plan.specs.Plan.{Plan}
 use Rattle.nio_plan.specs.SelectCalls.{open_selector_plan, begin_plan, told_plan, leave_plan, shut_plan, finish_plan, keys_plan, selected_keys_plan, wakeup_plan, interrupt_plan, interrupted_plan, done, again, closing, already_closed, closed, busy, Selection}
 use Rattle.nio_plan.specs.Sweeps.{sweep, seek, sweep_over}
-use Rattle.nio_plan.specs.declared.looked.LookedKey.{LookedKey}
 use Rattle.nio_plan.specs.declared.refusal.BeginError.{BeginError}
 use Rattle.nio_plan.specs.declared.refusal.ChannelError.{ChannelError}
 use Rattle.nio_plan.specs.declared.refusal.KeyError.{KeyError}

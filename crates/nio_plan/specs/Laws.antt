@@ -3,9 +3,10 @@ use Rattle.std.specs.Prelude.{◌≡◌, ℕ, ◌==◌, ◌<◌, Bool, not, Ok, 
 use Rattle.std.specs.List.{All, AllPairs, Contains}
 use Rattle.nio_base.specs.declared.limits.Limits.{Limits}
 use Rattle.nio_base.specs.declared.numbers.CallerNo.{CallerNo}
-use Rattle.nio_event.specs.Histories.{state_after, event_of, IsLegal}
+use Rattle.nio_event.specs.Conditions.{has_begun, is_closer}
+use Rattle.nio_event.specs.Histories.{state_after, mine, event_of, IsLegal}
 use Rattle.nio_base.specs.declared.numbers.SelNo.{SelNo}
-use Rattle.nio_event.specs.OwnEvents.{count}
+use Rattle.nio_event.specs.OwnEvents.{has, count, finds_below}
 use Rattle.nio_event.specs.declared.act.Act.{Act}
 use Rattle.nio_event.specs.declared.act.Act.TheVariants.{Mark}
 use Rattle.nio_event.specs.declared.found.Mode.{Mode}
@@ -14,8 +15,8 @@ use Rattle.nio_plan.specs.Perform.{perform}
 use Rattle.nio_plan.specs.Plan.{Plan}
 use Rattle.nio_plan.specs.Runs.{Completes}
 use Rattle.nio_plan.specs.declared.looked.LookedKey.{LookedKey}
-use Rattle.nio_plan.specs.SelectCalls.{Selection, ToldReply, done, again, begin_plan, told_bits, told_plan}
-use Rattle.nio_plan.specs.Selections.{marks, IsBegun}
+use Rattle.nio_plan.specs.SelectCalls.{Selection, ToldReply, done, again, begin_plan, told_bits, told_plan, closed, finish_plan}
+use Rattle.nio_plan.specs.Selections.{marks, IsBegun, IsClosing}
 use Rattle.nio_plan.specs.declared.selected.Selected.{Selected}
 
 -- A run of a plan that is legal after a history, with no event of another caller between, has just
@@ -77,3 +78,25 @@ CountsSelection =
     (own : List Act) (selection : Selection) (pairs : List (ℕ × ℕ)) (elapsed : Bool) (acts : List Act) (answer : Selected)
     → (begun : IsBegun own selection) → Completes (told_plan selection pairs elapsed) acts (done answer)
     → answer.count ≡ count (marks selection.selector.0) (begun.since ++ acts)
+
+-- ---- what is in progress
+
+-- Who began a selection and hasn't left it has begun on its selector, in every legal history.
+abbrev pub SelectionsStand : Type 0
+SelectionsStand =
+    (l : Limits) (n : CallerNo) (events : List Event) (selection : Selection)
+    → IsLegal l events → IsBegun (mine n events) selection → IsTrue (has_begun (state_after events) n selection.selector)
+
+-- Who is closing a selector is its closer, in every legal history.
+abbrev pub ClosingsStand : Type 0
+ClosingsStand =
+    (l : Limits) (n : CallerNo) (events : List Event) (s : SelNo)
+    → IsLegal l events → IsClosing (mine n events) s.0 → IsTrue (is_closer (state_after events) n s)
+
+-- A `try_finish` that answers Closed has removed each index below the mark that it found; the key is
+-- removed in every legal history in which that stands.
+abbrev pub ClosedRemovesAll : Type 0
+ClosedRemovesAll =
+    (l : Limits) (n : CallerNo) (events : List Event) (s : SelNo) (own acts later : List Act)
+    → IsLegal l events → mine n events ≡ own ++ (acts ++ later) → Completes (finish_plan s) acts closed
+    → (i : ℕ) → IsTrue (has (finds_below s.0 i) acts) → IsTrue ((state_after events).key s.0 i).removed

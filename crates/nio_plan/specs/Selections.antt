@@ -1,16 +1,11 @@
 -- To which selection a `told` or a `leave` belongs, and to which closing a `try_finish`: what the
 -- caller's own acts tell of it.
-use Rattle.std.specs.Prelude.{◌≡◌, ℕ, ◌==◌, Bool, false, not, Ok, List, ◌++◌, IsTrue}
-use Rattle.nio_event.specs.OwnEvents.{has, enters}
+use Rattle.std.specs.Prelude.{◌≡◌, ℕ, ◌==◌, Bool, false, not, ◌&&◌, Ok, List, ◌++◌, IsTrue}
+use Rattle.nio_event.specs.OwnEvents.{has, enters, gives_turn}
 use Rattle.nio_event.specs.declared.act.Act.{Act}
-use Rattle.nio_event.specs.declared.act.Act.TheVariants.{GiveTurn, Mark, ShutBit}
+use Rattle.nio_event.specs.declared.act.Act.TheVariants.{Remove, Mark, ShutBit}
 use Rattle.nio_plan.specs.Runs.{Completes}
 use Rattle.nio_plan.specs.SelectCalls.{Selection, begin_plan}
-
--- it gave the turn of selector s back
-abbrev pub gives_turn : ℕ → Act → Bool
-gives_turn s (GiveTurn s') = s'.0 == s
-gives_turn s _ = false
 
 -- it marked a key of selector s, which succeeded
 abbrev pub marks : ℕ → Act → Bool
@@ -38,3 +33,8 @@ shuts s _ = false
 pub record IsClosing (own : List Act) (s : ℕ) : Type 0 where
   pub began : IsTrue (has (shuts s) own)
   pub unfinished : IsTrue (not (has (enters s) own))
+
+-- it removed the key
+abbrev pub removes : ℕ → ℕ → Act → Bool
+removes s i (Remove s' i' found) = (s'.0 == s) && (i' == i)
+removes s i _ = false

@@ -1,5 +1,5 @@
 //! What the plans promise, as the contracts of functions that do nothing.
-ghost use Rattle.nio_plan.specs.Laws.{RunsArePerformed, BeginsSelection, LooksInOrder, MarksOnlyAsTold, AgainGoesOn, CountsSelection};
+ghost use Rattle.nio_plan.specs.Laws.{RunsArePerformed, BeginsSelection, LooksInOrder, MarksOnlyAsTold, AgainGoesOn, CountsSelection, SelectionsStand, ClosingsStand, ClosedRemovesAll};
 
 /// A call between whose steps nobody comes answers, and leaves, what its plan says of the state
 /// before it.
@@ -20,4 +20,16 @@ pub fn told_law()
     ensures only_as_told { MarksOnlyAsTold }
     ensures goes_on { AgainGoesOn }
     ensures counts { CountsSelection }
+{}
+
+/// A selection and a closing that a caller's own steps show in progress stand in the state, whatever
+/// other callers did.
+pub fn progress_law()
+    ensures selections { SelectionsStand }
+    ensures closings { ClosingsStand }
+{}
+
+/// A selector whose closing has finished keeps no key of those below the mark that the closing found.
+pub fn close_law()
+    ensures { ClosedRemovesAll }
 {}
