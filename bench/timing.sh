@@ -1,0 +1,38 @@
+# What the benchmarks of the program share: sourced, with `program` and `work` set by `begin_timing`.
+
+# begin_timing: builds the program where it must, and makes a folder that goes when the script ends.
+begin_timing() {
+    ./nio script </dev/null >/dev/null
+    program=crates/nio_cli/out/nio_cli
+    work=$(mktemp -d)
+    trap 'rm -rf "$work"' EXIT
+}
+
+# best COMMAND..: the least of five times, in milliseconds
+best() {
+    local least=999999999 start end took
+    for _ in 1 2 3 4 5; do
+        start=$(date +%s%N)
+        "$@"
+        end=$(date +%s%N)
+        took=$(((end - start) / 1000000))
+        [ "$took" -ge "$least" ] || least=$took
+    done
+    echo "$least"
+}
+
+whole() { "$program" script <"$work/whole" >"$work/history"; }
+half() { "$program" script <"$work/half" >"$work/half-history"; }
+stream() { sed 's/ -> /=/' "$work/history" >"$work/edited"; }
+
+# compare_halves: runs the whole script, its half, and sed over the history of the whole
+compare_halves() {
+    local whole_ms half_ms sed_ms
+    whole_ms=$(best whole)
+    half_ms=$(best half)
+    sed_ms=$(best stream)
+    echo "whole $whole_ms ms, half $half_ms ms, sed $sed_ms ms"
+    awk -v w="$whole_ms" -v h="$half_ms" -v s="$sed_ms" \
+        'BEGIN { printf "halves %.2f (asked: at most 2.2), to sed %.2f (asked: at most 10)\n", w / h, w / s }'
+    echo "machine: $(nproc) processors, $(sed -n 's/^model name[^:]*: //p' /proc/cpuinfo | head -n 1)"
+}
