@@ -1,9 +1,11 @@
 pub mod Readers
 pub mod Numbers
 pub mod Cuts
-pub mod Names
+pub mod NameWords
+pub mod Times
 pub mod CallWordTable
 pub mod PairLists
+pub mod Elapsed
 pub mod CallWordDispatch
 pub mod Spaces
 pub mod LineTexts

@@ -23,7 +23,7 @@ pub record AreRead (words : List (List ℕ)) (i : ℕ) (pairs : List (ℕ × ℕ
 pub none_read : (words : List (List ℕ)) → AreRead words 0 []
 unfolding IsDistinct
 none_read words = record {
-  fits = record { each = All-nil IsPair; distinct = tt };
+  fits = (All-nil IsPair, tt);
   texts = refl;
   only = λ ps fits e. refl;
 }
@@ -53,7 +53,7 @@ pair_at : (words : List (List ℕ)) (ps : List (ℕ × ℕ)) (i : ℕ) (w : List
     → Reads IsPair pair_word w r → r ≡ Some (get_or ps i (0, 0))
 pair_at words ps i w r e fits at read =
     let there = word_at words ps i w e at in
-    read.only (get_or ps i (0, 0)) (All-get_or IsPair ps i (0, 0) there.0 fits.each) there.1
+    read.only (get_or ps i (0, 0)) (All-get_or IsPair ps i (0, 0) there.0 fits.0) there.1
 
 pub no_pair : (words : List (List ℕ)) (i : ℕ) (w : List ℕ) → StandsAt words i w
     → Reads IsPair pair_word w None → Reads PairsFit (map pair_word) words None
@@ -75,15 +75,14 @@ distinct_push (x ∷ xs) y d a =
 -- no pair has the key, so the keys stay distinct with it
 fits_push : (pairs : List (ℕ × ℕ)) (p : ℕ × ℕ) → PairsFit pairs → IsPair p
     → (Any (λ q. q.0 ≡ p.0) pairs → ⊥) → PairsFit (pairs ++ p ∷ [])
-fits_push pairs p fits is_pair new = record {
-  each = All-push IsPair pairs p fits.each is_pair;
-  distinct =
-      let others : All (λ (q : ℕ × ℕ). nat_eq q.0 p.0 ≡ false) pairs =
-      λ k d lt. ne_eqb (get_or pairs k d).0 p.0 (λ e. let at = Contains-get_or pairs k d lt in new (at.0, get_or pairs k d, at.1, at.2, e)) in
+fits_push pairs p fits is_pair new =
+    let others : All (λ (q : ℕ × ℕ). nat_eq q.0 p.0 ≡ false) pairs =
+    λ k d lt. ne_eqb (get_or pairs k d).0 p.0 (λ e. let at = Contains-get_or pairs k d lt in new (at.0, get_or pairs k d, at.1, at.2, e)) in (
+      All-push IsPair pairs p fits.0 is_pair,
       rw (map-append (λ (q : ℕ × ℕ). q.0) pairs (p ∷ []))
-      (distinct_push (map (λ (q : ℕ × ℕ). q.0) pairs) p.0 fits.distinct
-      (recursion_from_All (λ x. nat_eq x p.0 ≡ false) (map (λ (q : ℕ × ℕ). q.0) pairs) (All-map (λ x. nat_eq x p.0 ≡ false) (λ (q : ℕ × ℕ). q.0) pairs others)));
-}
+          (distinct_push (map (λ (q : ℕ × ℕ). q.0) pairs) p.0 fits.1
+          (recursion_from_All (λ x. nat_eq x p.0 ≡ false) (map (λ (q : ℕ × ℕ). q.0) pairs) (All-map (λ x. nat_eq x p.0 ≡ false) (λ (q : ℕ × ℕ). q.0) pairs others))),
+    )
 
 pub one_more : (words : List (List ℕ)) (i : ℕ) (w : List ℕ) (p : ℕ × ℕ) (pairs : List (ℕ × ℕ))
     → StandsAt words i w → Reads IsPair pair_word w (Some p)
@@ -112,7 +111,7 @@ key_again words i w p pairs at read twice so_far =
     let q : ℕ × ℕ = twice.1 in
     let before : k < i = omega (arith, twice.2, ap length front, length-take-le i ps (omega (arith, there.0))) in
     let early : get_or ps k q ≡ q = sym (get_or-take i ps k q before) ∙ (ap (λ (l : List (ℕ × ℕ)). get_or l k q) front ∙ twice.3) in
-    AllPairs-from_IsDistinct Decides-eqb (map key ps) fits.distinct k i 0 before (omega (arith, there.0, length-map ps key))
+    AllPairs-from_IsDistinct Decides-eqb (map key ps) fits.1 k i 0 before (omega (arith, there.0, length-map ps key))
     (get_or-map key ps k q 0 (omega (arith, there.0)) ∙ (ap key early ∙ (twice.4 ∙ (ap key same ∙ sym (get_or-map key ps i (0, 0) 0 there.0))))))
 
 pub all_read : (words : List (List ℕ)) (i : ℕ) (pairs : List (ℕ × ℕ)) → length words ≤ i

@@ -1,50 +1,104 @@
 -- The arguments of calls: one definition for each shape that the arguments of a call may have.
-use Rattle.std.specs.Prelude.{ℕ, ◌<◌, ◌^◌, if◌then◌else◌, Bool, List, [], ◌∷◌, map, codes, nat_eq, All}
+use Rattle.std.specs.Prelude.{ℕ, ◌<◌, ◌^◌, Bool, Option, List, [], ◌∷◌, ◌++◌, drop, map, ⊤, All, nat_eq}
 use Rattle.std.specs.Fmt.{decimal}
 use Rattle.std.specs.List.{IsDistinct}
 use Rattle.nio_base.specs.declared.kind.Kind.{Kind}
+use Rattle.nio_base.specs.declared.numbers.CallerNo.{CallerNo}
 use Rattle.nio_base.specs.declared.numbers.ChanNo.{ChanNo}
 use Rattle.nio_base.specs.declared.numbers.SelNo.{SelNo}
-use Rattle.nio_event.specs.Calls.{IsPair, waiting_words}
-use Rattle.nio_event.specs.Words.{selector_word, channel_word, kind_word, pair_word}
+use Rattle.nio_event.specs.Calls.{IsAttachment, IsNumber, IsPair, IsTime, attachment_words, call_words, elapsed_words, mode_word, waiting_words}
+use Rattle.nio_event.specs.Words.{caller_word, selector_word, channel_word, key_word, kind_word, pair_word}
+use Rattle.nio_event.specs.declared.call.Call.{Call}
 use Rattle.nio_event.specs.declared.call.Waiting.{Waiting}
 
+-- the words behind the call word
+abbrev pub arguments : Call → List (List ℕ)
+arguments call = drop 1 (call_words call)
+
 -- none
-abbrev pub no_words : Unit {0} → List (List ℕ)
+abbrev pub no_words : ⊤ → List (List ℕ)
 no_words _ = []
 
--- a kind of channel that can be opened
+-- a caller
+abbrev pub caller_words : CallerNo → List (List ℕ)
+caller_words t = caller_word t ∷ []
+
+abbrev pub CallerFits : CallerNo → Type 0
+CallerFits t = t.0 < 64
+
+-- a selector
+abbrev pub selector_words : SelNo → List (List ℕ)
+selector_words s = selector_word s ∷ []
+
+abbrev pub SelectorFits : SelNo → Type 0
+SelectorFits s = IsNumber s.0
+
+-- a channel
+abbrev pub channel_words : ChanNo → List (List ℕ)
+channel_words c = channel_word c ∷ []
+
+abbrev pub ChannelFits : ChanNo → Type 0
+ChannelFits c = IsNumber c.0
+
+-- a kind of channel
 abbrev pub kind_words : Kind → List (List ℕ)
 kind_words kind = kind_word kind ∷ []
 
-abbrev pub on_word : Bool → List ℕ
-on_word on = if on then codes "on" else codes "off"
-
 -- a channel, and on or off
 abbrev pub mode_words : ChanNo × Bool → List (List ℕ)
-mode_words p = channel_word p.0 ∷ on_word p.1 ∷ []
+mode_words p = channel_word p.0 ∷ mode_word p.1 ∷ []
 
--- a selector, a channel and operations
-abbrev pub interest_words : SelNo × ChanNo × ℕ → List (List ℕ)
-interest_words p = selector_word p.0 ∷ channel_word p.1 ∷ decimal p.2 ∷ []
+abbrev pub ModeFits : ChanNo × Bool → Type 0
+ModeFits p = IsNumber p.0.0
 
-pub record InterestFits (p : SelNo × ChanNo × ℕ) : Type 0 where
-  pub selector : p.0.0 < 2 ^ 32
-  pub channel : p.1.0 < 2 ^ 32
-  pub ops : p.2 < 256
+-- a channel and a selector
+abbrev pub channel_selector_words : ChanNo × SelNo → List (List ℕ)
+channel_selector_words p = channel_word p.0 ∷ selector_word p.1 ∷ []
+
+abbrev pub ChannelSelectorFits : ChanNo × SelNo → Type 0
+ChannelSelectorFits p = IsNumber p.0.0 × IsNumber p.1.0
+
+-- a selector, a channel, operations, and an attachment or none
+abbrev pub registration_words : SelNo × ChanNo × ℕ × Option ℕ → List (List ℕ)
+registration_words p = selector_word p.0 ∷ channel_word p.1 ∷ decimal p.2 ∷ attachment_words p.3
+
+abbrev pub RegistrationFits : SelNo × ChanNo × ℕ × Option ℕ → Type 0
+RegistrationFits p = IsNumber p.0.0 × IsNumber p.1.0 × (p.2 < 256) × IsAttachment p.3
+
+-- a selector and a key
+abbrev pub selector_key_words : SelNo × ℕ → List (List ℕ)
+selector_key_words p = selector_word p.0 ∷ key_word p.1 ∷ []
+
+abbrev pub SelectorKeyFits : SelNo × ℕ → Type 0
+SelectorKeyFits p = IsNumber p.0.0 × IsNumber p.1
+
+-- a selector, a key and operations
+abbrev pub key_ops_words : SelNo × ℕ × ℕ → List (List ℕ)
+key_ops_words p = selector_word p.0 ∷ key_word p.1 ∷ decimal p.2 ∷ []
+
+abbrev pub KeyOpsFits : SelNo × ℕ × ℕ → Type 0
+KeyOpsFits p = IsNumber p.0.0 × IsNumber p.1 × (p.2 < 256)
+
+-- a selector, a key and a number
+abbrev pub key_number_words : SelNo × ℕ × ℕ → List (List ℕ)
+key_number_words p = selector_word p.0 ∷ key_word p.1 ∷ decimal p.2 ∷ []
+
+abbrev pub KeyNumberFits : SelNo × ℕ × ℕ → Type 0
+KeyNumberFits p = IsNumber p.0.0 × IsNumber p.1 × (p.2 < 2 ^ 64)
 
 -- a selector, and how long to wait
 abbrev pub wait_words : SelNo × Waiting → List (List ℕ)
 wait_words p = selector_word p.0 ∷ waiting_words p.1
 
--- a selector, and keys with operations, each key at most once
-abbrev pub told_words : SelNo × List (ℕ × ℕ) → List (List ℕ)
-told_words p = selector_word p.0 ∷ map pair_word p.1
+abbrev pub WaitFits : SelNo × Waiting → Type 0
+WaitFits p = IsNumber p.0.0 × IsTime p.1
 
-pub record PairsFit (pairs : List (ℕ × ℕ)) : Type 0 where
-  pub each : All IsPair pairs
-  pub distinct : IsDistinct nat_eq (map (λ p. p.0) pairs)
+-- a selector, whether its time is over, and keys with operations, each key at most once
+abbrev pub told_words : SelNo × Bool × List (ℕ × ℕ) → List (List ℕ)
+told_words p = selector_word p.0 ∷ (elapsed_words p.1 ++ map pair_word p.2)
 
-pub record ToldFits (p : SelNo × List (ℕ × ℕ)) : Type 0 where
-  pub selector : p.0.0 < 2 ^ 32
-  pub pairs : PairsFit p.1
+abbrev pub PairsFit : List (ℕ × ℕ) → Type 0
+PairsFit pairs = All IsPair pairs × IsDistinct nat_eq (map (λ p. p.0) pairs)
+
+abbrev pub ToldFits : SelNo × Bool × List (ℕ × ℕ) → Type 0
+ToldFits p = IsNumber p.0.0 × PairsFit p.2

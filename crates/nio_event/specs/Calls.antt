@@ -1,5 +1,5 @@
 -- The lines of a script: which bytes are a call of which caller, and which are blank.
-use Rattle.std.specs.Prelude.{◌≡◌, ℕ, ◌<◌, ◌≤◌, ◌≤ℤ◌, pos, negsuc, ◌^◌, ⊤, Bool, true, false, Option, None, Some, List, [], ◌∷◌, ◌++◌, ◌⊎◌, nat_eq, length, map, codes, slice_get, All}
+use Rattle.std.specs.Prelude.{◌≡◌, ℕ, ◌<◌, ◌≤◌, ℤ, nat_abs, ◌^◌, ⊤, Bool, true, false, Option, None, Some, List, [], ◌∷◌, ◌++◌, ◌⊎◌, nat_eq, length, map, codes, slice_get, All}
 use Rattle.std.specs.Fmt.{decimal, signed_decimal}
 use Rattle.std.specs.List.{IsDistinct, join_with_byte}
 use Rattle.nio_base.specs.declared.numbers.CallerNo.{CallerNo}
@@ -66,11 +66,14 @@ pub record IsPair (p : ℕ × ℕ) : Type 0 where
   pub key_fits : p.0 < 2 ^ 32
   pub ops_fit : p.1 < 256
 
--- a time in milliseconds: at most 2 ^ 63 - 1 either way
+-- a number of milliseconds, less than 2 ^ 63 either way
+abbrev pub IsMilliseconds : ℤ → Type 0
+IsMilliseconds ms = nat_abs ms < 2 ^ 63
+
 abbrev pub IsTime : Waiting → Type 0
 IsTime Now = ⊤
 IsTime Wait = ⊤
-IsTime (For ms) = (negsuc (2 ^ 63 - 2) ≤ℤ ms) × (ms ≤ℤ pos (2 ^ 63 - 1))
+IsTime (For ms) = IsMilliseconds ms
 
 abbrev pub IsAttachment : Option ℕ → Type 0
 IsAttachment None = ⊤

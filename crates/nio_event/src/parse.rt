@@ -18,6 +18,7 @@ mod number;
 #[cfg(test)]
 mod tests;
 mod told;
+mod waiting;
 mod words;
 
 /// What a line of a script says.

@@ -1,13 +1,13 @@
 //! The arguments of calls: one reader for each shape that the arguments of a call may have.
-ghost use Rattle.std.specs.Prelude.{◌≡◌, ℕ, ◌<◌, ◌^◌, map, ⊤, ◌↔◌, IsTrue, codes};
-ghost use Rattle.nio_event.specs.Arguments.{no_words, kind_words, on_word, mode_words, interest_words, InterestFits, wait_words};
-ghost use Rattle.nio_event.specs.Calls.{waiting_words};
+ghost use Rattle.std.specs.Prelude.{◌≡◌, ℕ, ◌<◌, ◌^◌, map, ⊤};
+ghost use Rattle.nio_event.specs.Arguments.{no_words, caller_words, CallerFits, selector_words, SelectorFits, channel_words, ChannelFits, kind_words, mode_words, ModeFits, channel_selector_words, ChannelSelectorFits, registration_words, RegistrationFits, selector_key_words, SelectorKeyFits, key_ops_words, KeyOpsFits, key_number_words, KeyNumberFits};
+ghost use Rattle.nio_event.specs.Calls.{IsAttachment, attachment_words, mode_word};
 ghost use Rattle.nio_event.specs.Reading.{Reads};
 ghost use Rattle.nio_event.specs.Words.{kind_word};
 
-use super::name::{read_channel, read_ops, read_selector};
-use crate::call::Waiting;
-use nio_base::{ChanNo, Kind, Ops, SelNo};
+use super::name::{read_caller, read_channel, read_key, read_ops, read_selector};
+use super::number::read_number;
+use nio_base::{CallerNo, ChanNo, Kind, Ops, SelNo};
 
 pub fn read_none(args: &[&[u8]]) -> Option<()>
     ensures { Reads (λ _. ⊤) no_words (map (λ w. w.now) args.now) result }
@@ -15,9 +15,36 @@ pub fn read_none(args: &[&[u8]]) -> Option<()>
     args.is_empty().then_some(())
 }
 
-/// A kind of channel that can be opened: `source`.
+pub fn read_one_caller(args: &[&[u8]]) -> Option<CallerNo>
+    ensures { Reads CallerFits caller_words (map (λ w. w.now) args.now) result }
+{
+    let [caller] = args else {
+        return None;
+    };
+    read_caller(caller)
+}
+
+pub fn read_one_selector(args: &[&[u8]]) -> Option<SelNo>
+    ensures { Reads SelectorFits selector_words (map (λ w. w.now) args.now) result }
+{
+    let [selector] = args else {
+        return None;
+    };
+    read_selector(selector)
+}
+
+pub fn read_one_channel(args: &[&[u8]]) -> Option<ChanNo>
+    ensures { Reads ChannelFits channel_words (map (λ w. w.now) args.now) result }
+{
+    let [channel] = args else {
+        return None;
+    };
+    read_channel(channel)
+}
+
+/// A kind of channel.
 pub fn read_kind(args: &[&[u8]]) -> Option<Kind>
-    ensures { Reads (λ kind. kind ≡ Kind.Source) kind_words (map (λ w. w.now) args.now) result }
+    ensures { Reads (λ _. ⊤) kind_words (map (λ w. w.now) args.now) result }
 {
     let [kind] = args else {
         return None;
@@ -26,28 +53,31 @@ pub fn read_kind(args: &[&[u8]]) -> Option<Kind>
 }
 
 fn read_kind_word(word: &[u8]) -> Option<Kind>
-    ensures { Reads (λ kind. kind ≡ Kind.Source) kind_word word.now result }
+    ensures { Reads (λ _. ⊤) kind_word word.now result }
 {
     match word {
+        b"stream" => Some(Kind::Stream),
+        b"listener" => Some(Kind::Listener),
         b"source" => Some(Kind::Source),
+        b"sink" => Some(Kind::Sink),
         _ => None,
     }
 }
 
 /// A channel, and `on` or `off`.
 pub fn read_mode(args: &[&[u8]]) -> Option<(ChanNo, bool)>
-    ensures { Reads (λ p. p.0.0 < 2 ^ 32) mode_words (map (λ w. w.now) args.now) result }
+    ensures { Reads ModeFits mode_words (map (λ w. w.now) args.now) result }
 {
     let [channel, mode] = args else {
         return None;
     };
     let channel = read_channel(channel)?;
-    let on = read_on(mode)?;
+    let on = read_mode_word(mode)?;
     Some((channel, on))
 }
 
-fn read_on(word: &[u8]) -> Option<bool>
-    ensures { Reads (λ _. ⊤) on_word word.now result }
+fn read_mode_word(word: &[u8]) -> Option<bool>
+    ensures { Reads (λ _. ⊤) mode_word word.now result }
 {
     match word {
         b"on" => Some(true),
@@ -56,40 +86,74 @@ fn read_on(word: &[u8]) -> Option<bool>
     }
 }
 
-/// A selector, a channel and operations.
-pub fn read_interest(args: &[&[u8]]) -> Option<(SelNo, ChanNo, Ops)>
-    ensures { Reads InterestFits interest_words (map (λ w. w.now) args.now) result }
+pub fn read_channel_selector(args: &[&[u8]]) -> Option<(ChanNo, SelNo)>
+    ensures { Reads ChannelSelectorFits channel_selector_words (map (λ w. w.now) args.now) result }
 {
-    let [selector, channel, ops] = args else {
+    let [channel, selector] = args else {
+        return None;
+    };
+    let channel = read_channel(channel)?;
+    let selector = read_selector(selector)?;
+    Some((channel, selector))
+}
+
+/// A selector, a channel, operations, and an attachment or none.
+pub fn read_registration(args: &[&[u8]]) -> Option<(SelNo, ChanNo, Ops, Option<u64>)>
+    ensures { Reads RegistrationFits registration_words (map (λ w. w.now) args.now) result }
+{
+    let [selector, channel, ops, attachment @ ..] = args else {
         return None;
     };
     let selector = read_selector(selector)?;
     let channel = read_channel(channel)?;
     let ops = read_ops(ops)?;
-    Some((selector, channel, ops))
+    let attachment = read_attachment(attachment)?;
+    Some((selector, channel, ops, attachment))
 }
 
-/// A selector, and how long to wait: `now`.
-pub fn read_wait(args: &[&[u8]]) -> Option<(SelNo, Waiting)>
-    ensures { Reads (λ p. p.0.0 < 2 ^ 32) wait_words (map (λ w. w.now) args.now) result }
-{
-    let (selector, waiting) = args.split_first()?;
-    let selector = read_selector(selector)?;
-    let waiting = read_waiting(waiting)?;
-    Some((selector, waiting))
-}
-
-fn read_waiting(args: &[&[u8]]) -> Option<Waiting>
-    ensures { Reads (λ _. ⊤) waiting_words (map (λ w. w.now) args.now) result }
+fn read_attachment(args: &[&[u8]]) -> Option<Option<u64>>
+    ensures { Reads IsAttachment attachment_words (map (λ w. w.now) args.now) result }
 {
     match args {
-        [word] if is_now(word) => Some(Waiting::Now),
+        [] => Some(None),
+        [attachment] => read_number(attachment, u64::MAX).map(Some),
         _ => None,
     }
 }
 
-fn is_now(word: &[u8]) -> bool
-    ensures { IsTrue result ↔ (word.now ≡ codes "now") }
+pub fn read_selector_key(args: &[&[u8]]) -> Option<(SelNo, u32)>
+    ensures { Reads SelectorKeyFits selector_key_words (map (λ w. w.now) args.now) result }
 {
-    word == b"now".as_slice()
+    let [selector, key] = args else {
+        return None;
+    };
+    let selector = read_selector(selector)?;
+    let key = read_key(key)?;
+    Some((selector, key))
+}
+
+/// A selector, a key and operations.
+pub fn read_key_ops(args: &[&[u8]]) -> Option<(SelNo, u32, Ops)>
+    ensures { Reads KeyOpsFits key_ops_words (map (λ w. w.now) args.now) result }
+{
+    let [selector, key, ops] = args else {
+        return None;
+    };
+    let selector = read_selector(selector)?;
+    let key = read_key(key)?;
+    let ops = read_ops(ops)?;
+    Some((selector, key, ops))
+}
+
+/// A selector, a key and a number.
+pub fn read_key_number(args: &[&[u8]]) -> Option<(SelNo, u32, u64)>
+    ensures { Reads KeyNumberFits key_number_words (map (λ w. w.now) args.now) result }
+{
+    let [selector, key, number] = args else {
+        return None;
+    };
+    let selector = read_selector(selector)?;
+    let key = read_key(key)?;
+    let number = read_number(number, u64::MAX)?;
+    Some((selector, key, number))
 }

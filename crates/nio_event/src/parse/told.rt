@@ -1,6 +1,8 @@
-//! Reading a selector and pairs of keys and operations, as many as there are.
-ghost use Rattle.std.specs.Prelude.{◌≡◌, ◌==◌, ◌↔◌, ◌<◌, ◌^◌, IsTrue, Any, IfOk, map, option_map};
+//! Reading what a selection is told: a selector, `elapsed` or not, and pairs of keys and operations,
+//! as many as there are.
+ghost use Rattle.std.specs.Prelude.{◌≡◌, ℕ, ◌==◌, ◌↔◌, ◌<◌, ◌^◌, ◌++◌, Bool, List, IsTrue, Any, IfOk, codes, map, option_map};
 ghost use Rattle.nio_event.specs.Arguments.{PairsFit, ToldFits, told_words};
+ghost use Rattle.nio_event.specs.Calls.{elapsed_words};
 ghost use Rattle.nio_event.specs.Reading.{Reads};
 ghost use Rattle.nio_event.specs.Words.{pair_word};
 
@@ -9,20 +11,40 @@ use crate::pairs::Pairs;
 use nio_base::{Ops, SelNo};
 use std::alloc::{AllocError, Global};
 
-/// A selector, and pairs that name each key at most once.
-pub fn read_told(alloc: Global, args: &[&[u8]]) -> Result<Option<(SelNo, Pairs)>, AllocError>
+/// A selector, `elapsed` or not, and pairs that name each key at most once.
+pub fn read_told(alloc: Global, args: &[&[u8]]) -> Result<Option<(SelNo, bool, Pairs)>, AllocError>
     ensures { IfOk result (Reads ToldFits told_words (map (λ w. w.now) args.now)) }
 {
-    let Some((selector, pairs)) = args.split_first() else {
+    let Some((selector, rest)) = args.split_first() else {
         return Ok(None);
     };
     let Some(selector) = read_selector(selector) else {
         return Ok(None);
     };
+    let (elapsed, pairs) = split_elapsed(rest);
     let Some(pairs) = read_pairs(alloc, pairs)? else {
         return Ok(None);
     };
-    Ok(Some((selector, Pairs::from_vec(pairs))))
+    Ok(Some((selector, elapsed, Pairs::from_vec(pairs))))
+}
+
+/// Whether the first word is `elapsed`, and the words behind it.
+fn split_elapsed<'a, 'b>(words: &'a [&'b [u8]]) -> (bool, &'a [&'b [u8]])
+    ensures text { map (λ w. w.now) words.now ≡ elapsed_words result.0 ++ map (λ w. w.now) result.1.now }
+    ensures only { (elapsed : Bool) (pairs : List (ℕ × ℕ))
+        → map (λ w. w.now) words.now ≡ elapsed_words elapsed ++ map pair_word pairs
+        → (elapsed ≡ result.0) × (map (λ w. w.now) result.1.now ≡ map pair_word pairs) }
+{
+    match words {
+        [first, pairs @ ..] if is_elapsed(first) => (true, pairs),
+        _ => (false, words),
+    }
+}
+
+fn is_elapsed(word: &[u8]) -> bool
+    ensures { IsTrue result ↔ (word.now ≡ codes "elapsed") }
+{
+    word == b"elapsed".as_slice()
 }
 
 fn read_pairs(alloc: Global, words: &[&[u8]]) -> Result<Option<Vec<(u32, Ops)>>, AllocError>

@@ -1,11 +1,12 @@
-//! Writing the arguments of calls, each after a space: one function for each shape.
+//! Writing the arguments of calls, each after a space: one function for each shape that has more than
+//! one argument, or more than one form.
 ghost use Rattle.std.specs.Prelude.{◌≡◌, ◌++◌, OnOk};
-ghost use Rattle.nio_event.specs.Arguments.{kind_words, interest_words, mode_words, on_word, told_words, wait_words};
-ghost use Rattle.nio_event.specs.Calls.{waiting_words};
+ghost use Rattle.nio_event.specs.Arguments.{channel_selector_words, key_number_words, key_ops_words, kind_words, mode_words, registration_words, selector_key_words, told_words, wait_words};
+ghost use Rattle.nio_event.specs.Calls.{attachment_words, elapsed_words, mode_word, waiting_words};
 ghost use Rattle.nio_event.specs.Printing.{spaced};
 ghost use Rattle.nio_event.specs.Words.{kind_word};
 
-use super::piece::{push_name, push_ops, push_pairs, push_word};
+use super::piece::{push_name, push_number_word, push_ops, push_pairs, push_time, push_word};
 use crate::call::Waiting;
 use nio_base::{ChanNo, Kind, Ops, SelNo};
 use std::alloc::AllocError;
@@ -20,42 +21,124 @@ pub fn push_mode(line: &mut Vec<u8>, channel: ChanNo, on: bool) -> Result<(), Al
     ensures { OnOk result (line.new.items ≡ line.old.items ++ spaced (mode_words (channel, on))) }
 {
     push_name(line, b'c', channel.0)?;
-    push_word(line, on_text(on))
+    push_word(line, mode_text(on))
 }
 
-pub fn push_interest(
+pub fn push_channel_selector(
+    line: &mut Vec<u8>,
+    channel: ChanNo,
+    selector: SelNo,
+) -> Result<(), AllocError>
+    ensures { OnOk result
+        (line.new.items ≡ line.old.items ++ spaced (channel_selector_words (channel, selector))) }
+{
+    push_name(line, b'c', channel.0)?;
+    push_name(line, b's', selector.0)
+}
+
+pub fn push_registration(
     line: &mut Vec<u8>,
     selector: SelNo,
     channel: ChanNo,
     ops: Ops,
+    attachment: Option<u64>,
 ) -> Result<(), AllocError>
     ensures { OnOk result
-        (line.new.items ≡ line.old.items ++ spaced (interest_words (selector, channel, ops))) }
+        (line.new.items ≡ line.old.items ++ spaced (registration_words (selector, channel, ops, attachment))) }
 {
     push_name(line, b's', selector.0)?;
     push_name(line, b'c', channel.0)?;
+    push_ops(line, ops)?;
+    push_attachment(line, attachment)
+}
+
+fn push_attachment(line: &mut Vec<u8>, attachment: Option<u64>) -> Result<(), AllocError>
+    ensures { OnOk result (line.new.items ≡ line.old.items ++ spaced (attachment_words attachment)) }
+{
+    match attachment {
+        Some(attachment) => push_number_word(line, attachment),
+        None => Ok(()),
+    }
+}
+
+pub fn push_selector_key(line: &mut Vec<u8>, selector: SelNo, key: u32) -> Result<(), AllocError>
+    ensures { OnOk result
+        (line.new.items ≡ line.old.items ++ spaced (selector_key_words (selector, key))) }
+{
+    push_name(line, b's', selector.0)?;
+    push_name(line, b'k', key)
+}
+
+pub fn push_key_ops(
+    line: &mut Vec<u8>,
+    selector: SelNo,
+    key: u32,
+    ops: Ops,
+) -> Result<(), AllocError>
+    ensures { OnOk result
+        (line.new.items ≡ line.old.items ++ spaced (key_ops_words (selector, key, ops))) }
+{
+    push_name(line, b's', selector.0)?;
+    push_name(line, b'k', key)?;
     push_ops(line, ops)
+}
+
+pub fn push_key_number(
+    line: &mut Vec<u8>,
+    selector: SelNo,
+    key: u32,
+    number: u64,
+) -> Result<(), AllocError>
+    ensures { OnOk result
+        (line.new.items ≡ line.old.items ++ spaced (key_number_words (selector, key, number))) }
+{
+    push_name(line, b's', selector.0)?;
+    push_name(line, b'k', key)?;
+    push_number_word(line, number)
 }
 
 pub fn push_wait(line: &mut Vec<u8>, selector: SelNo, waiting: Waiting) -> Result<(), AllocError>
     ensures { OnOk result (line.new.items ≡ line.old.items ++ spaced (wait_words (selector, waiting))) }
 {
     push_name(line, b's', selector.0)?;
+    push_waiting(line, waiting)
+}
+
+fn push_waiting(line: &mut Vec<u8>, waiting: Waiting) -> Result<(), AllocError>
+    ensures { OnOk result (line.new.items ≡ line.old.items ++ spaced (waiting_words waiting)) }
+{
     match waiting {
         Waiting::Now => push_word(line, b"now"),
+        Waiting::Wait => push_word(line, b"wait"),
+        Waiting::For(time) => {
+            push_word(line, b"for")?;
+            push_time(line, time)
+        }
     }
 }
 
 pub fn push_told(
     line: &mut Vec<u8>,
     selector: SelNo,
+    elapsed: bool,
     pairs: &[(u32, Ops)],
 ) -> Result<(), AllocError>
     ensures { OnOk result
-        (line.new.items ≡ line.old.items ++ spaced (told_words (selector, pairs.now))) }
+        (line.new.items ≡ line.old.items ++ spaced (told_words (selector, elapsed, pairs.now))) }
 {
     push_name(line, b's', selector.0)?;
+    push_elapsed(line, elapsed)?;
     push_pairs(line, pairs)
+}
+
+fn push_elapsed(line: &mut Vec<u8>, elapsed: bool) -> Result<(), AllocError>
+    ensures { OnOk result (line.new.items ≡ line.old.items ++ spaced (elapsed_words elapsed)) }
+{
+    if elapsed {
+        push_word(line, b"elapsed")
+    } else {
+        Ok(())
+    }
 }
 
 fn kind_text(kind: Kind) -> &'static [u8]
@@ -69,8 +152,8 @@ fn kind_text(kind: Kind) -> &'static [u8]
     }
 }
 
-fn on_text(on: bool) -> &'static [u8]
-    ensures { result.now ≡ on_word on }
+fn mode_text(on: bool) -> &'static [u8]
+    ensures { result.now ≡ mode_word on }
 {
     if on { b"on" } else { b"off" }
 }

@@ -1,8 +1,8 @@
 //! The pieces of a line.
 ghost use Rattle.std.specs.Prelude.{◌≡◌, ◌∷◌, ◌++◌, OnOk, map};
-ghost use Rattle.std.specs.Fmt.{decimal};
+ghost use Rattle.std.specs.Fmt.{decimal, signed_decimal};
 ghost use Rattle.nio_event.specs.Printing.{spaced};
-ghost use Rattle.nio_event.specs.Words.{pair_word};
+ghost use Rattle.nio_event.specs.Words.{key_word, pair_word};
 
 use itoa::Buffer;
 use nio_base::Ops;
@@ -44,12 +44,37 @@ pub fn push_name(line: &mut Vec<u8>, letter: u8, number: u32) -> Result<(), Allo
     push_numbered(line, letter, number)
 }
 
+/// A space and a number.
+pub fn push_number_word(line: &mut Vec<u8>, number: u64) -> Result<(), AllocError>
+    ensures { OnOk result (line.new.items ≡ line.old.items ++ 32 ∷ decimal number) }
+{
+    line.push(b' ')?;
+    push_number(line, number)
+}
+
+/// A space and a number of milliseconds.
+pub fn push_time(line: &mut Vec<u8>, milliseconds: i64) -> Result<(), AllocError>
+    ensures { OnOk result (line.new.items ≡ line.old.items ++ 32 ∷ signed_decimal milliseconds) }
+{
+    line.push(b' ')?;
+    line.extend_from_slice(Buffer::new().format(milliseconds).as_bytes())
+}
+
 /// A space and operations.
 pub fn push_ops(line: &mut Vec<u8>, ops: Ops) -> Result<(), AllocError>
     ensures { OnOk result (line.new.items ≡ line.old.items ++ 32 ∷ decimal ops) }
 {
-    line.push(b' ')?;
-    push_number(line, u64::from(ops.bits()))
+    push_number_word(line, u64::from(ops.bits()))
+}
+
+/// Names of keys, each after a space.
+pub fn push_keys(line: &mut Vec<u8>, indexes: &[u32]) -> Result<(), AllocError>
+    ensures { OnOk result (line.new.items ≡ line.old.items ++ spaced (map key_word indexes.now)) }
+{
+    for index in indexes {
+        push_name(line, b'k', *index)?;
+    }
+    Ok(())
 }
 
 /// Keys with operations, each after a space.

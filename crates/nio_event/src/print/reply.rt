@@ -1,9 +1,11 @@
 //! Writing a reply.
-ghost use Rattle.std.specs.Prelude.{◌≡◌, ◌++◌, OnOk};
+ghost use Rattle.std.specs.Prelude.{◌≡◌, ◌++◌, OnOk, map};
+ghost use Rattle.std.specs.List.{join_with_byte};
 ghost use Rattle.nio_event.specs.Printing.{spaced};
 ghost use Rattle.nio_event.specs.Replies.{pairs_words, reply_text, why_word};
+ghost use Rattle.nio_event.specs.Words.{key_word};
 
-use super::piece::{push_bytes, push_number, push_numbered, push_pairs, push_word};
+use super::piece::{push_bytes, push_keys, push_number, push_numbered, push_pairs, push_word};
 use crate::reply::{Reply, Why};
 use nio_base::Ops;
 use std::alloc::AllocError;
@@ -15,7 +17,12 @@ pub fn push_reply(line: &mut Vec<u8>, reply: &Reply) -> Result<(), AllocError>
         Reply::Selector(selector) => push_numbered(line, b's', selector.0),
         Reply::Channel(channel) => push_numbered(line, b'c', channel.0),
         Reply::Key(index) => push_numbered(line, b'k', *index),
+        Reply::Number(number) => push_number(line, *number),
+        Reply::Names(names) => push_names(line, names.as_slice()),
         Reply::Ok => push_bytes(line, b"ok"),
+        Reply::Yes => push_bytes(line, b"yes"),
+        Reply::No => push_bytes(line, b"no"),
+        Reply::None => push_bytes(line, b"none"),
         Reply::Looked(pairs) => {
             push_bytes(line, b"looked")?;
             push_pairs_or_none(line, pairs.as_slice())
@@ -26,6 +33,10 @@ pub fn push_reply(line: &mut Vec<u8>, reply: &Reply) -> Result<(), AllocError>
             push_word(line, why_text(*why))
         }
         Reply::Again => push_bytes(line, b"again"),
+        Reply::Left => push_bytes(line, b"left"),
+        Reply::Already => push_bytes(line, b"already"),
+        Reply::Closing => push_bytes(line, b"closing"),
+        Reply::Closed => push_bytes(line, b"closed"),
         Reply::SelectorsSpent => push_bytes(line, b"selectors-spent"),
         Reply::ChannelsSpent => push_bytes(line, b"channels-spent"),
         Reply::ClosedChannel => push_bytes(line, b"closed-channel"),
@@ -35,10 +46,27 @@ pub fn push_reply(line: &mut Vec<u8>, reply: &Reply) -> Result<(), AllocError>
         Reply::ClosedSelector => push_bytes(line, b"closed-selector"),
         Reply::Full => push_bytes(line, b"full"),
         Reply::Busy => push_bytes(line, b"busy"),
+        Reply::NegativeTimeout => push_bytes(line, b"negative-timeout"),
         Reply::NotSelecting => push_bytes(line, b"not-selecting"),
+        Reply::NotClosing => push_bytes(line, b"not-closing"),
         Reply::NoCaller => push_bytes(line, b"no-caller"),
         Reply::NoSelector => push_bytes(line, b"no-selector"),
         Reply::NoChannel => push_bytes(line, b"no-channel"),
+        Reply::NoKey => push_bytes(line, b"no-key"),
+    }
+}
+
+/// Names of keys, with a space between each two.
+fn push_names(line: &mut Vec<u8>, indexes: &[u32]) -> Result<(), AllocError>
+    ensures { OnOk result
+        (line.new.items ≡ line.old.items ++ join_with_byte 32 (map key_word indexes.now)) }
+{
+    match indexes.split_first() {
+        None => Ok(()),
+        Some((first, others)) => {
+            push_numbered(line, b'k', *first)?;
+            push_keys(line, others)
+        }
     }
 }
 

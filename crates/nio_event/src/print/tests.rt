@@ -1,5 +1,6 @@
 //! The text of each reply.
 use super::*;
+use crate::names::Names;
 use crate::pairs::Pairs;
 use crate::reply::Why;
 use nio_base::{ChanNo, Ops, SelNo};
@@ -9,11 +10,17 @@ use std::test::Fail;
 fn prints_each_reply(rt: HostRuntime) -> Result<(), Fail> {
     let some = vec![in rt.alloc(); (3, Ops::READ), (10, Ops::of(21))]?;
     let none = Vec::new(rt.alloc());
+    let names = vec![in rt.alloc(); 3, 10]?;
     let replies = [
         (Reply::Selector(SelNo(0)), "s0"),
         (Reply::Channel(ChanNo(12)), "c12"),
         (Reply::Key(4294967295), "k4294967295"),
+        (Reply::Number(18446744073709551615), "18446744073709551615"),
+        (Reply::Names(Names::from_vec(names)), "k3 k10"),
         (Reply::Ok, "ok"),
+        (Reply::Yes, "yes"),
+        (Reply::No, "no"),
+        (Reply::None, "none"),
         (Reply::Looked(Pairs::from_vec(some)), "looked k3:1 k10:21"),
         (Reply::Looked(Pairs::from_vec(none)), "looked none"),
         (Reply::Selected(2, Why::Ready), "selected 2 ready"),
@@ -26,6 +33,10 @@ fn prints_each_reply(rt: HostRuntime) -> Result<(), Fail> {
         ),
         (Reply::Selected(0, Why::Elapsed), "selected 0 elapsed"),
         (Reply::Again, "again"),
+        (Reply::Left, "left"),
+        (Reply::Already, "already"),
+        (Reply::Closing, "closing"),
+        (Reply::Closed, "closed"),
         (Reply::SelectorsSpent, "selectors-spent"),
         (Reply::ChannelsSpent, "channels-spent"),
         (Reply::ClosedChannel, "closed-channel"),
@@ -35,10 +46,13 @@ fn prints_each_reply(rt: HostRuntime) -> Result<(), Fail> {
         (Reply::ClosedSelector, "closed-selector"),
         (Reply::Full, "full"),
         (Reply::Busy, "busy"),
+        (Reply::NegativeTimeout, "negative-timeout"),
         (Reply::NotSelecting, "not-selecting"),
+        (Reply::NotClosing, "not-closing"),
         (Reply::NoCaller, "no-caller"),
         (Reply::NoSelector, "no-selector"),
         (Reply::NoChannel, "no-channel"),
+        (Reply::NoKey, "no-key"),
     ];
     for (reply, wanted) in replies {
         let printed = print_line(

@@ -1,4 +1,4 @@
-use Rattle.nio_event.proofs.Names.{no_cut, no_key, no_ops, some_pair}
+use Rattle.nio_event.proofs.NameWords.{no_cut, no_key, no_ops, some_pair}
 use Rattle.nio_event.proofs.parse.name.read_pair.Goals as goal
 
 pub returns-in_err-key : goal.returns-in_err-key
