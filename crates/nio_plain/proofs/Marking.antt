@@ -109,20 +109,20 @@ module _ (ps : List (ℕ × ℕ)) (j : ℕ) (p : ℕ × ℕ) (told : List ℕ) (
 
   pub all_told-step : (new : ℕ) → p.0 < bound → new ≡ bit_or (get_or told p.0 0) p.1 → (i : ℕ) → i < bound → get_or (set told p.0 new) i 0 ≡ all_told (take (j + 1) ps) i
   all_told-step new within united = λ i l. ⊎_elim
-    (λ (d : i ≡ p.0).
-    let here = get_or-set_same told p.0 new 0 (omega arith) in
-    let told_here = ap (λ n. bit_or n p.1) (so_far p.0 within) in
-    let sum = longer p.0 ∙ ap (bit_or (all_told (take j ps) p.0)) (cond-true (eqb p.0 p.0) p.1 0 (eq-eqb p.0 p.0 refl)) in
-    (ap (λ n. get_or (set told p.0 new) n 0) d ∙ (here ∙ (united ∙ told_here))) ∙ (sym sum ∙ ap (all_told (take (j + 1) ps)) (sym d)))
-    (λ (ne : i ≡ p.0 → ⊥).
-    let sum = longer i ∙ (ap (bit_or (all_told (take j ps) i)) (cond-false (eqb p.0 i) p.1 0 (ne_eqb p.0 i (λ d. ne (sym d)))) ∙ or_zero_r (all_told (take j ps) i)) in
-    (get_or-set_other told p.0 i new 0 ne ∙ so_far i l) ∙ sym sum)
-    (cases_eq i p.0)
+      (λ (d : i ≡ p.0).
+      let here = get_or-set_same told p.0 new 0 (omega arith) in
+      let told_here = ap (λ n. bit_or n p.1) (so_far p.0 within) in
+      let sum = longer p.0 ∙ ap (bit_or (all_told (take j ps) p.0)) (cond-true (eqb p.0 p.0) p.1 0 (eq-eqb p.0 p.0 refl)) in
+      (ap (λ n. get_or (set told p.0 new) n 0) d ∙ (here ∙ (united ∙ told_here))) ∙ (sym sum ∙ ap (all_told (take (j + 1) ps)) (sym d)))
+      (λ (ne : i ≡ p.0 → ⊥).
+      let sum = longer i ∙ (ap (bit_or (all_told (take j ps) i)) (cond-false (eqb p.0 i) p.1 0 (ne_eqb p.0 i (λ d. ne (sym d)))) ∙ or_zero_r (all_told (take j ps) i)) in
+      (get_or-set_other told p.0 i new 0 ne ∙ so_far i l) ∙ sym sum)
+      (cases_eq i p.0)
 
   pub all_told-skip : bound ≤ p.0 → (i : ℕ) → i < bound → get_or told i 0 ≡ all_told (take (j + 1) ps) i
   all_told-skip past = λ i l.
-    let sum = longer i ∙ (ap (bit_or (all_told (take j ps) i)) (cond-false (eqb p.0 i) p.1 0 (ne_eqb p.0 i (λ d. omega arith))) ∙ or_zero_r (all_told (take j ps) i)) in
-    so_far i l ∙ sym sum
+      let sum = longer i ∙ (ap (bit_or (all_told (take j ps) i)) (cond-false (eqb p.0 i) p.1 0 (ne_eqb p.0 i (λ d. omega arith))) ∙ or_zero_r (all_told (take j ps) i)) in
+      so_far i l ∙ sym sum
 
 count_by-cons : {X : Type 0} (p : X → Bool) (x : X) (xs : List X) → count_by p (x ∷ xs) ≡ cond (p x) 1 0 + count_by p xs
 count_by-cons p x xs = grind (arith, common_steps)

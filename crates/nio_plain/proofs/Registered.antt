@@ -42,7 +42,6 @@ module _ (interrupted : ℕ → Bool) (mark : ℕ) (chan : ℕ → Chan) (row : 
   pub key_of-row : (c s : ℕ) → key_of st.shared c s ≡ key_in (row s) c
   key_of-row c s = in_set-row s ((row s).noted c)
 
-
 -- over a plain system
 
 pub is_registered-none : (p : Plain) (c : ℕ) → ((k : ℕ) → k < length p.selectors.items → is_some (key_in (rows_of p k) c) ≡ false) → is_registered (limits_of p) (state_of p).shared c ≡ false

@@ -56,9 +56,9 @@ module _ (interrupted : ℕ → Bool) (mark : ℕ) (chan : ℕ → Chan) (s : �
   -- one change after another
   pub then : (f g : SelectorRow → SelectorRow) (F G : ScriptState → ScriptState) → Makes f F → Makes g G → Makes (λ r. g (f r)) (λ st. G (F st))
   then f g F G first second = λ row.
-    let row' = put row s (f (row s)) in
-    let same = sym (put-put row s (f (row s)) (g (f (row s)))) ∙ ap (λ r. put row' s (g r)) (sym (put-here row s (f (row s)))) in
-    (ap (state_from interrupted mark chan) same ∙ second row') ∙ ap G (first row)
+      let row' = put row s (f (row s)) in
+      let same = sym (put-put row s (f (row s)) (g (f (row s)))) ∙ ap (λ r. put row' s (g r)) (sym (put-here row s (f (row s)))) in
+      (ap (state_from interrupted mark chan) same ∙ second row') ∙ ap G (first row)
 
   kept : {A : Type 0} (row : ℕ → SelectorRow) (r : SelectorRow) (part : SelectorRow → A) → part r ≡ part (row s) → ◌≡◌ {A = ℕ → A} (λ t. part (put row s r t)) (λ t. part (row t))
   kept row r part same = part_kept part row s r same
@@ -93,56 +93,56 @@ module _ (interrupted : ℕ → Bool) (mark : ℕ) (chan : ℕ → Chan) (s : �
   -- the cancelled keys below the bound are removed
   pub makes-swept : (n : ℕ) → Makes (λ r. record r { keys = swept r.keys n }) (λ st. record st { shared = without_cancelled st.shared s n })
   makes-swept n = λ row.
-    let r = record (row s) { keys = swept (row s).keys n } in
-    λ j. record {
-      shared = record {
-        drawn = λ _. false;
-        interrupted = interrupted;
-        selector = kept row r (λ (q : SelectorRow). q.made) refl j;
-        channels_mark = mark;
-        chan = chan;
-        hold = λ _. None;
-        noted = λ c. kept row r (λ (q : SelectorRow). q.noted c) refl j;
-        gate = kept row r (λ (q : SelectorRow). q.gate) refl j;
-        turn = kept row r (λ (q : SelectorRow). q.turn) refl j;
-        keys_mark = kept row r (λ (q : SelectorRow). q.keys_mark) refl j;
-        key = swept_part (λ (k : KeyRow). k.stage) removed_key swept-stage n row j;
-        interest = keys_kept row s r (λ (k : KeyRow). k.interest) (swept-other (λ (k : KeyRow). k.interest) (λ _. refl) n (row s).keys) j;
-        mark = swept_part (λ (k : KeyRow). k.mark) unselected swept-mark n row j;
-        note = keys_kept row s r (λ (k : KeyRow). k.note) (swept-other (λ (k : KeyRow). k.note) (λ _. refl) n (row s).keys) j;
-        begun = kept row r (λ (q : SelectorRow). is_some q.turn) refl j;
-        closer = kept row r (λ (q : SelectorRow). q.closer) refl j;
-        entered = kept row r (λ (q : SelectorRow). q.entered) refl j;
-      };
-      selection = kept row r (λ (q : SelectorRow). q.selection) refl j;
-    }
+      let r = record (row s) { keys = swept (row s).keys n } in
+      λ j. record {
+        shared = record {
+          drawn = λ _. false;
+          interrupted = interrupted;
+          selector = kept row r (λ (q : SelectorRow). q.made) refl j;
+          channels_mark = mark;
+          chan = chan;
+          hold = λ _. None;
+          noted = λ c. kept row r (λ (q : SelectorRow). q.noted c) refl j;
+          gate = kept row r (λ (q : SelectorRow). q.gate) refl j;
+          turn = kept row r (λ (q : SelectorRow). q.turn) refl j;
+          keys_mark = kept row r (λ (q : SelectorRow). q.keys_mark) refl j;
+          key = swept_part (λ (k : KeyRow). k.stage) removed_key swept-stage n row j;
+          interest = keys_kept row s r (λ (k : KeyRow). k.interest) (swept-other (λ (k : KeyRow). k.interest) (λ _. refl) n (row s).keys) j;
+          mark = swept_part (λ (k : KeyRow). k.mark) unselected swept-mark n row j;
+          note = keys_kept row s r (λ (k : KeyRow). k.note) (swept-other (λ (k : KeyRow). k.note) (λ _. refl) n (row s).keys) j;
+          begun = kept row r (λ (q : SelectorRow). is_some q.turn) refl j;
+          closer = kept row r (λ (q : SelectorRow). q.closer) refl j;
+          entered = kept row r (λ (q : SelectorRow). q.entered) refl j;
+        };
+        selection = kept row r (λ (q : SelectorRow). q.selection) refl j;
+      }
 
   -- the turn is taken and a selection has begun, or both are over
   pub makes-selecting : (turn : Option CallerNo) (selection : Option Selection) → Makes (λ r. record r { turn = turn; selection = selection }) (λ st. record { shared = with_begun (with_turn st.shared s turn) s (is_some turn); selection = put st.selection s selection })
   makes-selecting turn selection = λ row.
-    let r = record (row s) { turn = turn; selection = selection } in
-    λ j. record {
-      shared = record {
-        drawn = λ _. false;
-        interrupted = interrupted;
-        selector = kept row r (λ (q : SelectorRow). q.made) refl j;
-        channels_mark = mark;
-        chan = chan;
-        hold = λ _. None;
-        noted = λ c. kept row r (λ (q : SelectorRow). q.noted c) refl j;
-        gate = kept row r (λ (q : SelectorRow). q.gate) refl j;
-        turn = put_part (λ (q : SelectorRow). q.turn) row s r j;
-        keys_mark = kept row r (λ (q : SelectorRow). q.keys_mark) refl j;
-        key = kept row r (λ (q : SelectorRow). λ (i : ℕ). (q.keys i).stage) refl j;
-        interest = kept row r (λ (q : SelectorRow). λ (i : ℕ). (q.keys i).interest) refl j;
-        mark = kept row r (λ (q : SelectorRow). λ (i : ℕ). (q.keys i).mark) refl j;
-        note = kept row r (λ (q : SelectorRow). λ (i : ℕ). (q.keys i).note) refl j;
-        begun = put_part (λ (q : SelectorRow). is_some q.turn) row s r j;
-        closer = kept row r (λ (q : SelectorRow). q.closer) refl j;
-        entered = kept row r (λ (q : SelectorRow). q.entered) refl j;
-      };
-      selection = put_part (λ (q : SelectorRow). q.selection) row s r j;
-    }
+      let r = record (row s) { turn = turn; selection = selection } in
+      λ j. record {
+        shared = record {
+          drawn = λ _. false;
+          interrupted = interrupted;
+          selector = kept row r (λ (q : SelectorRow). q.made) refl j;
+          channels_mark = mark;
+          chan = chan;
+          hold = λ _. None;
+          noted = λ c. kept row r (λ (q : SelectorRow). q.noted c) refl j;
+          gate = kept row r (λ (q : SelectorRow). q.gate) refl j;
+          turn = put_part (λ (q : SelectorRow). q.turn) row s r j;
+          keys_mark = kept row r (λ (q : SelectorRow). q.keys_mark) refl j;
+          key = kept row r (λ (q : SelectorRow). λ (i : ℕ). (q.keys i).stage) refl j;
+          interest = kept row r (λ (q : SelectorRow). λ (i : ℕ). (q.keys i).interest) refl j;
+          mark = kept row r (λ (q : SelectorRow). λ (i : ℕ). (q.keys i).mark) refl j;
+          note = kept row r (λ (q : SelectorRow). λ (i : ℕ). (q.keys i).note) refl j;
+          begun = put_part (λ (q : SelectorRow). is_some q.turn) row s r j;
+          closer = kept row r (λ (q : SelectorRow). q.closer) refl j;
+          entered = kept row r (λ (q : SelectorRow). q.entered) refl j;
+        };
+        selection = put_part (λ (q : SelectorRow). q.selection) row s r j;
+      }
 
 -- what a selection looks at after the sweep: the keys that were valid before
 

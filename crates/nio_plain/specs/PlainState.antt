@@ -149,7 +149,7 @@ abbrev pub with_selection : SelectorRow → CallerNo → Mode → SelectorRow
 with_selection r me mode = record r {
   turn = Some me;
   selection =
-    Some (record { mode = mode; bound = r.keys_mark; looked = looked_below r.keys r.keys_mark });
+      Some (record { mode = mode; bound = r.keys_mark; looked = looked_below r.keys r.keys_mark });
   keys = swept r.keys r.keys_mark;
 }
 

@@ -6,3 +6,5 @@ pub use system::System;
 
 mod plain;
 mod system;
+#[cfg(test)]
+mod tests;

@@ -10,7 +10,11 @@ use nio_event::Mark;
 use std::alloc::{AllocError, Global};
 
 /// All that was told of each index below the bound.
-pub(super) fn all_told(alloc: Global, pairs: &[(u32, Ops)], bound: u32) -> Result<Vec<Ops>, AllocError>
+pub(super) fn all_told(
+    alloc: Global,
+    pairs: &[(u32, Ops)],
+    bound: u32,
+) -> Result<Vec<Ops>, AllocError>
     ensures long { IfOk result (λ v. vec_len v ≡ bound) }
     ensures told { IfOk result (λ v. (i : ℕ) → i < bound → slice_index v.items i ≡ all_told pairs.now i) }
 {

@@ -3,9 +3,9 @@ ghost use Rattle.std.specs.Prelude.{◌≡◌, ◌<◌, ◌≤◌, ◌^◌, IfSo
 ghost use Rattle.std.specs.List.{All, AllPairs};
 ghost use Rattle.std.proofs.Props.{props};
 
-use nio_base::{CallerNo, ChanNo, Ops};
 use super::looking::valid_keys;
 use super::marking::marked;
+use nio_base::{CallerNo, ChanNo, Ops};
 use nio_event::{GateWord, Mark, Mode, Pairs};
 use std::alloc::{AllocError, Global};
 use std::collections::BTreeMap;
@@ -202,7 +202,12 @@ impl Selector {
     }
 
     /// Begins a selection, and answers the keys that it looks at. Takes its memory first.
-    pub(super) fn begin(&mut self, alloc: Global, caller: CallerNo, mode: Mode) -> Result<Pairs, AllocError>
+    pub(super) fn begin(
+        &mut self,
+        alloc: Global,
+        caller: CallerNo,
+        mode: Mode,
+    ) -> Result<Pairs, AllocError>
         ensures looked { IfOk result (λ pairs. pairs ≡ looked_below (selector_row self.old).keys (selector_row self.old).keys_mark) }
         ensures left { OnOk result (selector_row self.new ≡ with_selection (selector_row self.old) caller mode) }
         ensures memory { OnErr result (selector_row self.new ≡ selector_row self.old) }

@@ -16,18 +16,20 @@ loop-index-preserved c =
     let before = c.loop-index.invariant in
     let at = places_at key_row no_key c.args.keys.now n k c.loop-index-test.true c.index-keys-index.is in
     let below_more = All-weaker (λ (p : ℕ × ℕ). p.0 < n) (λ (p : ℕ × ℕ). p.0 < n + 1) (λ p h. omega arith) xs before.below in
-    elim c.if-is_valid.branch [ then-is_valid+in_ok-push w ↦
-    rw (w.looked-is, w.in_ok-push.ensures.items)
-    (record {
-      looked = ap (λ ys. ys ++ (n, k.interest) ∷ []) before.looked ∙ sym (looked_below-valid keys n (key_row k) at (sym w.if-is_valid.ensures));
-      rising = all_pairs_push (λ (p q : ℕ × ℕ). p.0 < q.0) xs (n, k.interest) before.rising before.below;
-      below = All-push (λ (p : ℕ × ℕ). p.0 < n + 1) xs (n, k.interest) below_more (omega arith);
-      few = omega (arith, w.in_ok-push.ensures.len);
-    })
-    | else-is_valid w ↦ rw w.looked-is
-    (record {
-      looked = before.looked ∙ sym (looked_below-other keys n (key_row k) at (sym w.if-is_valid.ensures));
-      rising = before.rising;
-      below = below_more;
-      few = omega arith;
-    }) ]
+    elim c.if-is_valid.branch [
+      | then-is_valid+in_ok-push w ↦
+          rw (w.looked-is, w.in_ok-push.ensures.items)
+          (record {
+            looked = ap (λ ys. ys ++ (n, k.interest) ∷ []) before.looked ∙ sym (looked_below-valid keys n (key_row k) at (sym w.if-is_valid.ensures));
+            rising = all_pairs_push (λ (p q : ℕ × ℕ). p.0 < q.0) xs (n, k.interest) before.rising before.below;
+            below = All-push (λ (p : ℕ × ℕ). p.0 < n + 1) xs (n, k.interest) below_more (omega arith);
+            few = omega (arith, w.in_ok-push.ensures.len);
+          })
+      | else-is_valid w ↦ rw w.looked-is
+          (record {
+            looked = before.looked ∙ sym (looked_below-other keys n (key_row k) at (sym w.if-is_valid.ensures));
+            rising = before.rising;
+            below = below_more;
+            few = omega arith;
+          })
+    ]

@@ -12,15 +12,17 @@ loop-index-preserved c =
     let j = c.loop-index.index-index in
     let p = c.loop-index-item.result in
     let long : length told ≡ bound = omega (arith, c.loop-index.told.ok.0, c.loop-index.invariant.long) in
-    elim c.if-index-bound.branch [ then-index-bound w ↦
-    let read = get_or_read told p.0 w.index.result.now (omega arith) w.index.ensures 0 in
-    rw w.told-is
-    (record {
-      long = c.loop-index.invariant.long;
-      told = all_told-step ps j p told bound c.loop-index-test.true c.loop-index-item.is long c.loop-index.invariant.told w.union.result w.if-index-bound.true (w.union.ensures ∙ ap (λ n. bit_or n p.1) read);
-    })
-    | else-index-bound w ↦ rw w.told-is
-    (record {
-      long = c.loop-index.invariant.long;
-      told = all_told-skip ps j p told bound c.loop-index-test.true c.loop-index-item.is long c.loop-index.invariant.told w.if-index-bound.false;
-    }) ]
+    elim c.if-index-bound.branch [
+      | then-index-bound w ↦
+          let read = get_or_read told p.0 w.index.result.now (omega arith) w.index.ensures 0 in
+          rw w.told-is
+          (record {
+            long = c.loop-index.invariant.long;
+            told = all_told-step ps j p told bound c.loop-index-test.true c.loop-index-item.is long c.loop-index.invariant.told w.union.result w.if-index-bound.true (w.union.ensures ∙ ap (λ n. bit_or n p.1) read);
+          })
+      | else-index-bound w ↦ rw w.told-is
+          (record {
+            long = c.loop-index.invariant.long;
+            told = all_told-skip ps j p told bound c.loop-index-test.true c.loop-index-item.is long c.loop-index.invariant.told w.if-index-bound.false;
+          })
+    ]

@@ -22,7 +22,9 @@ loop-index-preserved c =
     let in_told : p.0 < length told = omega arith in
     let at = updated-at keys told p c.index-keys-index.result c.index-told-index.result c.meet-bits.result in
     let read = ap (λ (k : Key). is_updated k.mark c.meet-bits.result) (sym c.index-keys-index.is) in
-    elim c.if-is_updated.branch [ then-is_updated w ↦
-    rw w.count-is (ap (λ n. n + 1) c.loop-index.invariant ∙ sym (count_by_more_yes test xs j p c.loop-index-test.true (ap test (sym c.loop-index-item.is) ∙ at true in_keys c.index-keys-index.is in_told c.index-told-index.is c.meet-bits.ensures (w.if-is_updated.ensures ∙ read))))
-    | else-is_updated w ↦
-    rw w.count-is (c.loop-index.invariant ∙ sym (count_by_more_no test xs j p c.loop-index-test.true (ap test (sym c.loop-index-item.is) ∙ at false in_keys c.index-keys-index.is in_told c.index-told-index.is c.meet-bits.ensures (w.if-is_updated.ensures ∙ read)))) ]
+    elim c.if-is_updated.branch [
+      | then-is_updated w ↦
+          rw w.count-is (ap (λ n. n + 1) c.loop-index.invariant ∙ sym (count_by_more_yes test xs j p c.loop-index-test.true (ap test (sym c.loop-index-item.is) ∙ at true in_keys c.index-keys-index.is in_told c.index-told-index.is c.meet-bits.ensures (w.if-is_updated.ensures ∙ read))))
+      | else-is_updated w ↦
+          rw w.count-is (c.loop-index.invariant ∙ sym (count_by_more_no test xs j p c.loop-index-test.true (ap test (sym c.loop-index-item.is) ∙ at false in_keys c.index-keys-index.is in_told c.index-told-index.is c.meet-bits.ensures (w.if-is_updated.ensures ∙ read))))
+    ]
