@@ -5,7 +5,7 @@ use Rattle.std.proofs.lemmas.Result.{IfOk-from_err}
 use Rattle.std.specs.Result.{IsErr, OnErr}
 use Rattle.std.specs.declared.alloc.AllocError.{AllocError}
 use lib.ListN.{replicate}
-use Rattle.nio_event.specs.State.{unmade_channel, put}
+use Rattle.nio_event.specs.State.{unmade_channel, put, with_interrupted}
 use Rattle.nio_event.specs.declared.reply.Reply.{Reply}
 use Rattle.nio_plain.proofs.Places.{places-nil, places-replicate, places_all, places_past, places-set, places-push, places_at, part_kept}
 use Rattle.nio_plain.specs.Plain.{Answers, AnswersAs}
@@ -137,3 +137,8 @@ row_past p s x h e i past =
 pub is_some-caller_of : (o : Option Selecting) → is_some (caller_of o) ≡ is_some o
 is_some-caller_of None = refl
 is_some-caller_of (Some x) = refl
+
+-- the state after a write of a caller's interrupt status
+pub interrupted-set : (p : Plain) (n : ℕ) (b : Bool) → n < length p.interrupted.items → state_from (places (λ (x : Bool). x) false (set p.interrupted.items n b)) (length p.channels.items) (places channel_row unmade_channel p.channels.items) (rows_of p) ≡ record (state_of p) { shared = with_interrupted (state_of p).shared n b }
+interrupted-set p n b h =
+    ap (λ f. state_from f (length p.channels.items) (places channel_row unmade_channel p.channels.items) (rows_of p)) (places-set (λ (x : Bool). x) false p.interrupted.items n b h)

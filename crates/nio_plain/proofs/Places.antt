@@ -25,6 +25,10 @@ put_is {A} g f s x here other =
     (λ (ne : n ≡ s → ⊥). other n ne ∙ sym (put-elsewhere f s n x ne))
     (cases_eq n s))
 
+-- what stands there already is put there
+pub put_same : {A : Type 0} (f : ℕ → A) (s : ℕ) (x : A) → f s ≡ x → put f s x ≡ f
+put_same f s x e = sym (put_is f f s x e (λ n ne. refl))
+
 -- a part of what is put in is put in that part
 pub put_part : {R A : Type 0} (part : R → A) (f : ℕ → R) (s : ℕ) (x : R) → ◌≡◌ {A = ℕ → A} (λ n. part (put f s x n)) (put (λ n. part (f n)) s (part x))
 put_part part f s x =
@@ -108,3 +112,7 @@ put_at_is {A} g f s i x here other =
 pub places-id : {A : Type 0} (none : A) (xs : List A) (n : ℕ) → places (λ y. y) none xs n ≡ get_or xs n none
 unfolding places
 places-id none xs n = ap (λ ys. get_or ys n none) (map-id xs)
+
+-- what stands there already is put there
+pub put_at_same : {A : Type 0} (f : ℕ → ℕ → A) (s i : ℕ) (x : A) → f s i ≡ x → put_at f s i x ≡ f
+put_at_same f s i x e = sym (put_at_is f f s i x e (λ t j h. refl))

@@ -1,7 +1,6 @@
 -- The changes of one selector's parts in a selection, and the changes of the state that they are.
 use Rattle.std.proofs.Common.{◌≡◌, ℕ, ◌≤◌, eqb, ltb, Bool, true, false, cond, not, ◌&&◌, Option, Some, None, is_some, List, map, filter, refl, sym, ap, ◌∙◌, ⊎_elim}
 use Rattle.std.proofs.lemmas.Bool.{cases_eq, cases_Bool, cond-true, cond-false, eq-eqb, ne_eqb, and_left, and_cases, ltb-false, true≢false}
-use Rattle.nio_base.specs.declared.limits.Limits.{Limits}
 use Rattle.nio_base.specs.declared.numbers.CallerNo.{CallerNo}
 use Rattle.nio_base.specs.declared.numbers.SelNo.{SelNo}
 use Rattle.nio_event.specs.Sets.{in_key_set, in_cancelled_set, is_valid}
@@ -19,22 +18,27 @@ use Rattle.nio_plain.specs.Seq.{refused, begin_call, selection_begun, mode_of, w
 
 -- begin's answers
 
-module _ (l : Limits) (st : ScriptState) (me : CallerNo) (s : SelNo) (waiting : Waiting) where
-  pub begin-no_selector : st.shared.selector s.0 ≡ false → begin_call l st me s waiting ≡ refused st reply.NoSelector
+module _ (st : ScriptState) (me : CallerNo) (s : SelNo) (waiting : Waiting) where
+  pub begin-no_selector : st.shared.selector s.0 ≡ false → begin_call st me s waiting ≡ refused st reply.NoSelector
   unfolding begin_call
   begin-no_selector h = rw h
 
-  pub begin-shut : st.shared.selector s.0 ≡ true → (st.shared.gate s.0).shut ≡ true → begin_call l st me s waiting ≡ refused st reply.ClosedSelector
-  unfolding begin_call
-  begin-shut h k = rw (h, k)
+  module _ (made : st.shared.selector s.0 ≡ true) where
+    pub begin-negative : mode_of waiting ≡ None → begin_call st me s waiting ≡ refused st reply.NegativeTimeout
+    unfolding begin_call
+    begin-negative h = rw (made, h)
 
-  pub begin-busy : st.shared.selector s.0 ≡ true → (st.shared.gate s.0).shut ≡ false → is_some (st.shared.turn s.0) ≡ true → begin_call l st me s waiting ≡ refused st reply.Busy
-  unfolding begin_call
-  begin-busy h k t = rw (h, k, t)
+    pub begin-shut : (how : Mode) → mode_of waiting ≡ Some how → (st.shared.gate s.0).shut ≡ true → begin_call st me s waiting ≡ refused st reply.ClosedSelector
+    unfolding begin_call
+    begin-shut how h k = rw (made, h, k)
 
-  pub begin-begun : st.shared.selector s.0 ≡ true → (st.shared.gate s.0).shut ≡ false → is_some (st.shared.turn s.0) ≡ false → begin_call l st me s waiting ≡ selection_begun st me s.0 (mode_of waiting)
-  unfolding begin_call
-  begin-begun h k t = rw (h, k, t)
+    pub begin-busy : (how : Mode) → mode_of waiting ≡ Some how → (st.shared.gate s.0).shut ≡ false → is_some (st.shared.turn s.0) ≡ true → begin_call st me s waiting ≡ refused st reply.Busy
+    unfolding begin_call
+    begin-busy how h k t = rw (made, h, k, t)
+
+    pub begin-begun : (how : Mode) → mode_of waiting ≡ Some how → (st.shared.gate s.0).shut ≡ false → is_some (st.shared.turn s.0) ≡ false → begin_call st me s waiting ≡ selection_begun st me s.0 how
+    unfolding begin_call
+    begin-begun how h k t = rw (made, h, k, t)
 
 put-put : {A : Type 0} (f : ℕ → A) (s : ℕ) (x y : A) → put (put f s x) s y ≡ put f s y
 put-put f s x y =

@@ -1,36 +1,15 @@
--- Step 1 of a selection: the sweep of the cancelled keys, key by key, and what the selection looks at.
-use Rattle.std.proofs.Common.{◌≡◌, ℕ, ◌+◌, ◌<◌, ◌≤◌, ltb, Bool, true, false, cond, List, [], ◌∷◌, ◌++◌, map, filter, length, get_or, set, refl, sym, ap, ◌∙◌, arith, ⊎_elim, add-one}
+-- Step 1 of a selection: what it looks at, key by key.
+use Rattle.std.proofs.Common.{◌≡◌, ℕ, ◌+◌, ◌<◌, ◌≤◌, ltb, Bool, true, false, ◌&&◌, cond, List, [], ◌∷◌, ◌++◌, map, filter, length, get_or, set, refl, sym, ap, ◌∙◌, arith, ⊎_elim, add-one}
 use Rattle.std.proofs.lemmas.Bool.{cond-true, cond-false, lt-ltb, le-ltb, cases_lt}
 use Rattle.std.proofs.lemmas.List.{map-append, append-nil}
-use Rattle.nio_event.specs.Sets.{is_valid}
+use Rattle.nio_event.specs.Sets.{is_valid, in_key_set}
 use Rattle.nio_event.specs.State.{put}
 use Rattle.nio_plain.proofs.Places.{same_function, put_is, places-set, places_at}
-use Rattle.nio_plain.specs.PlainState.{KeyRow, places, key_row, no_key, swept, swept_key, looked_below}
+use Rattle.nio_plain.specs.PlainState.{KeyRow, places, key_row, no_key, swept, swept_key, looked_below, is_listed, listed_below}
 use Rattle.nio_plain.specs.Seq.{below}
 use Rattle.nio_plain.specs.declared.plain.selector.Key.{Key}
 
-pub swept-none : (keys : ℕ → KeyRow) → swept keys 0 ≡ keys
-swept-none keys =
-    same_function (λ i. cond-false (ltb i 0) (swept_key (keys i)) (keys i) (le-ltb i 0 (omega arith)))
-
-pub swept-more : (keys : ℕ → KeyRow) (n : ℕ) → swept keys (n + 1) ≡ put (swept keys n) n (swept_key (keys n))
-swept-more keys n =
-    put_is (swept keys (n + 1)) (swept keys n) n (swept_key (keys n))
-    (cond-true (ltb n (n + 1)) (swept_key (keys n)) (keys n) (lt-ltb n (n + 1) (omega arith)))
-    (λ m ne. ⊎_elim
-    (λ (l : m < n). cond-true (ltb m (n + 1)) (swept_key (keys m)) (keys m) (lt-ltb m (n + 1) (omega arith)) ∙ sym (cond-true (ltb m n) (swept_key (keys m)) (keys m) (lt-ltb m n l)))
-    (λ (l : n ≤ m). cond-false (ltb m (n + 1)) (swept_key (keys m)) (keys m) (le-ltb m (n + 1) (omega arith)) ∙ sym (cond-false (ltb m n) (swept_key (keys m)) (keys m) (le-ltb m n l)))
-    (cases_lt m n))
-
--- one key more is swept
-pub swept-step : (keys : ℕ → KeyRow) (items : List Key) (i : ℕ) (k k' : Key) → places key_row no_key items ≡ swept keys i → i < length items → k ≡ get_or items i k → key_row k' ≡ swept_key (key_row k) → places key_row no_key (set items i k') ≡ swept keys (i + 1)
-swept-step keys items i k k' so_far h e done =
-    let at = places_at key_row no_key items i k h e in
-    let was = cond-false (ltb i i) (swept_key (keys i)) (keys i) (le-ltb i i (omega arith)) in
-    let same = (sym at ∙ ap (λ (f : ℕ → KeyRow). f i) so_far) ∙ was in
-    (places-set key_row no_key items i k' h ∙ (ap (λ r. put (places key_row no_key items) i r) (done ∙ ap swept_key same) ∙ ap (λ f. put f i (swept_key (keys i))) so_far)) ∙ sym (swept-more keys i)
-
-filter-push : (p : ℕ → Bool) (xs : List ℕ) (y : ℕ) → filter p (xs ++ y ∷ []) ≡ filter p xs ++ cond (p y) (y ∷ []) []
+pub filter-push : (p : ℕ → Bool) (xs : List ℕ) (y : ℕ) → filter p (xs ++ y ∷ []) ≡ filter p xs ++ cond (p y) (y ∷ []) []
 filter-push p [] y = refl
 filter-push p (x ∷ xs) y =
     elim (p x) as (λ b. cond {A = List ℕ} b (x ∷ filter p (xs ++ y ∷ [])) (filter p (xs ++ y ∷ [])) ≡ cond {A = List ℕ} b (x ∷ filter p xs) (filter p xs) ++ cond {A = List ℕ} (p y) (y ∷ []) []) [ true ↦ ap (λ ys. x ∷ ys) (filter-push p xs y) | false ↦ filter-push p xs y ]
@@ -51,3 +30,24 @@ pub looked_below-other : (keys : ℕ → KeyRow) (n : ℕ) (k : KeyRow) → keys
 looked_below-other keys n k e h =
     let f : ℕ → ℕ × ℕ = λ i. (i, (keys i).interest) in
     (looked_below-step keys n ∙ ap (λ xs. looked_below keys n ++ map f xs) (cond-false (is_valid (keys n).stage) (n ∷ []) [] (ap (λ (r : KeyRow). is_valid r.stage) e ∙ h))) ∙ append-nil (looked_below keys n)
+
+-- the listed indexes with one more
+
+listed_below-step : (keys : ℕ → KeyRow) (selected : Bool) (n : ℕ) → listed_below keys selected (n + 1) ≡ listed_below keys selected n ++ cond (is_listed (keys n) selected) (n ∷ []) []
+listed_below-step keys selected n =
+    let p : ℕ → Bool = λ i. is_listed (keys i) selected in
+    ap (λ m. filter p (below m)) (add-one n) ∙ filter-push p (below n) n
+
+pub listed_below-yes : (keys : ℕ → KeyRow) (selected : Bool) (n : ℕ) (k : KeyRow) → keys n ≡ k → is_listed k selected ≡ true → listed_below keys selected (n + 1) ≡ listed_below keys selected n ++ n ∷ []
+listed_below-yes keys selected n k e h =
+    listed_below-step keys selected n ∙ ap (λ xs. listed_below keys selected n ++ xs) (cond-true (is_listed (keys n) selected) (n ∷ []) [] (ap (λ (r : KeyRow). is_listed r selected) e ∙ h))
+
+pub listed_below-no : (keys : ℕ → KeyRow) (selected : Bool) (n : ℕ) (k : KeyRow) → keys n ≡ k → is_listed k selected ≡ false → listed_below keys selected (n + 1) ≡ listed_below keys selected n
+listed_below-no keys selected n k e h =
+    (listed_below-step keys selected n ∙ ap (λ xs. listed_below keys selected n ++ xs) (cond-false (is_listed (keys n) selected) (n ∷ []) [] (ap (λ (r : KeyRow). is_listed r selected) e ∙ h))) ∙ append-nil (listed_below keys selected n)
+
+-- with no more asked, each key that isn't removed is listed
+pub all-listed : (keys : ℕ → KeyRow) (n : ℕ) → filter (λ i. in_key_set (keys i).stage) (below n) ≡ listed_below keys false n
+all-listed keys n =
+    let both : (b : Bool) → b ≡ (b && true) = λ b. elim b as (λ x. x ≡ (x && true)) [ true ↦ refl | false ↦ refl ] in
+    ap (λ (p : ℕ → Bool). filter p (below n)) (same_function (λ i. both (in_key_set (keys i).stage)))

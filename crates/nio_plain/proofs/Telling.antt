@@ -2,7 +2,6 @@
 use Rattle.std.proofs.Common.{◌≡◌, ℕ, ◌<◌, eqb, Bool, true, false, cond, Option, Some, None, is_some, IfSome, List, get_or, bit_and, count_by, refl, sym, ap, subst, ◌∙◌, ⊎_elim}
 use Rattle.std.specs.List.{All, AllPairs}
 use Rattle.std.proofs.lemmas.Bool.{cases_eq, cond-true, cond-false, eq-eqb, ne_eqb}
-use Rattle.nio_base.specs.declared.limits.Limits.{Limits}
 use Rattle.nio_base.specs.declared.numbers.CallerNo.{CallerNo}
 use Rattle.nio_base.specs.declared.numbers.SelNo.{SelNo}
 use Rattle.nio_event.specs.State.{put, with_gate, with_turn, with_begun}
@@ -24,22 +23,22 @@ use Rattle.nio_plain.specs.declared.plain.selector.Selector.{Selector}
 
 -- told's answers
 
-module _ (l : Limits) (st : ScriptState) (me : CallerNo) (s : SelNo) (pairs : List (ℕ × ℕ)) where
-  pub told-no_selector : st.shared.selector s.0 ≡ false → told_call l st me s pairs ≡ refused st reply.NoSelector
+module _ (st : ScriptState) (me : CallerNo) (s : SelNo) (elapsed : Bool) (pairs : List (ℕ × ℕ)) where
+  pub told-no_selector : st.shared.selector s.0 ≡ false → told_call st me s elapsed pairs ≡ refused st reply.NoSelector
   unfolding told_call
   told-no_selector h = rw h
 
-  pub told-own : (own : Option Selection) → st.shared.selector s.0 ≡ true → own_selection st me s.0 ≡ own → told_call l st me s pairs ≡ told_selection st me s.0 pairs false own
+  pub told-own : (own : Option Selection) → st.shared.selector s.0 ≡ true → own_selection st me s.0 ≡ own → told_call st me s elapsed pairs ≡ told_selection st me s.0 pairs elapsed own
   unfolding told_call
   told-own own h e =
-      let there : told_call l st me s pairs ≡ told_selection st me s.0 pairs false (own_selection st me s.0) = rw h in
-      there ∙ ap (told_selection st me s.0 pairs false) e
+      let there : told_call st me s elapsed pairs ≡ told_selection st me s.0 pairs elapsed (own_selection st me s.0) = rw h in
+      there ∙ ap (told_selection st me s.0 pairs elapsed) e
 
-module _ (st : ScriptState) (me : CallerNo) (s : ℕ) (pairs : List (ℕ × ℕ)) (selection : Selection) (count : ℕ) (counted : updated_count st.shared s selection.looked pairs ≡ count) (gate : GateWord) (gated : st.shared.gate s ≡ gate) (interrupted : Bool) (asked : st.shared.interrupted me.0 ≡ interrupted) where
-  pub told-again : is_again gate interrupted selection.mode false count ≡ true → told_selection st me s pairs false (Some selection) ≡ refused st reply.Again
+module _ (st : ScriptState) (me : CallerNo) (s : ℕ) (elapsed : Bool) (pairs : List (ℕ × ℕ)) (selection : Selection) (count : ℕ) (counted : updated_count st.shared s selection.looked pairs ≡ count) (gate : GateWord) (gated : st.shared.gate s ≡ gate) (interrupted : Bool) (asked : st.shared.interrupted me.0 ≡ interrupted) where
+  pub told-again : is_again gate interrupted selection.mode elapsed count ≡ true → told_selection st me s pairs elapsed (Some selection) ≡ refused st reply.Again
   told-again h = rw (counted, gated, asked, h)
 
-  pub told-done : is_again gate interrupted selection.mode false count ≡ false → told_selection st me s pairs false (Some selection) ≡ record {
+  pub told-done : is_again gate interrupted selection.mode elapsed count ≡ false → told_selection st me s pairs elapsed (Some selection) ≡ record {
     reply = reply.Selected count (why_ended gate interrupted selection.mode count);
     left = record {
       shared = selection_ended st.shared s selection pairs;
@@ -64,56 +63,56 @@ module _ (interrupted : ℕ → Bool) (mark : ℕ) (chan : ℕ → Chan) (s : �
   -- the looked keys are marked
   makes-marked : (looked pairs : List (ℕ × ℕ)) → Makes interrupted mark chan s (λ r. record r { keys = marked_keys r.keys looked (all_told pairs) }) (λ st. record st { shared = with_marks st.shared s looked pairs })
   makes-marked looked pairs = λ row.
-      let r = record (row s) { keys = marked_keys (row s).keys looked (all_told pairs) } in
-      λ j. record {
-        shared = record {
-          drawn = λ _. false;
-          interrupted = interrupted;
-          selector = kept row r (λ (q : SelectorRow). q.made) refl j;
-          channels_mark = mark;
-          chan = chan;
-          hold = λ _. None;
-          noted = λ c. kept row r (λ (q : SelectorRow). q.noted c) refl j;
-          gate = kept row r (λ (q : SelectorRow). q.gate) refl j;
-          turn = kept row r (λ (q : SelectorRow). q.turn) refl j;
-          keys_mark = kept row r (λ (q : SelectorRow). q.keys_mark) refl j;
-          key = keys_kept row s r (λ (k : KeyRow). k.stage) (λ _. refl) j;
-          interest = keys_kept row s r (λ (k : KeyRow). k.interest) (λ _. refl) j;
-          mark = marks_part looked pairs row j;
-          note = keys_kept row s r (λ (k : KeyRow). k.note) (λ _. refl) j;
-          begun = kept row r (λ (q : SelectorRow). is_some q.turn) refl j;
-          closer = kept row r (λ (q : SelectorRow). q.closer) refl j;
-          entered = kept row r (λ (q : SelectorRow). q.entered) refl j;
-        };
-        selection = kept row r (λ (q : SelectorRow). q.selection) refl j;
-      }
+    let r = record (row s) { keys = marked_keys (row s).keys looked (all_told pairs) } in
+    λ j. record {
+      shared = record {
+        drawn = λ _. false;
+        interrupted = interrupted;
+        selector = kept row r (λ (q : SelectorRow). q.made) refl j;
+        channels_mark = mark;
+        chan = chan;
+        hold = λ _. None;
+        noted = λ c. kept row r (λ (q : SelectorRow). q.noted c) refl j;
+        gate = kept row r (λ (q : SelectorRow). q.gate) refl j;
+        turn = kept row r (λ (q : SelectorRow). q.turn) refl j;
+        keys_mark = kept row r (λ (q : SelectorRow). q.keys_mark) refl j;
+        key = keys_kept row s r (λ (k : KeyRow). k.stage) (λ _. refl) j;
+        interest = keys_kept row s r (λ (k : KeyRow). k.interest) (λ _. refl) j;
+        mark = marks_part looked pairs row j;
+        note = keys_kept row s r (λ (k : KeyRow). k.note) (λ _. refl) j;
+        begun = kept row r (λ (q : SelectorRow). is_some q.turn) refl j;
+        closer = kept row r (λ (q : SelectorRow). q.closer) refl j;
+        entered = kept row r (λ (q : SelectorRow). q.entered) refl j;
+      };
+      selection = kept row r (λ (q : SelectorRow). q.selection) refl j;
+    }
 
-  -- the wakeup is used up
-  makes-slept : Makes interrupted mark chan s (λ r. record r { gate = record r.gate { woken = false } }) (λ st. record st { shared = with_gate st.shared s (record (st.shared.gate s) { woken = false }) })
-  makes-slept = λ row.
-      let r = record (row s) { gate = record (row s).gate { woken = false } } in
-      λ j. record {
-        shared = record {
-          drawn = λ _. false;
-          interrupted = interrupted;
-          selector = kept row r (λ (q : SelectorRow). q.made) refl j;
-          channels_mark = mark;
-          chan = chan;
-          hold = λ _. None;
-          noted = λ c. kept row r (λ (q : SelectorRow). q.noted c) refl j;
-          gate = put_part (λ (q : SelectorRow). q.gate) row s r j;
-          turn = kept row r (λ (q : SelectorRow). q.turn) refl j;
-          keys_mark = kept row r (λ (q : SelectorRow). q.keys_mark) refl j;
-          key = kept row r (λ (q : SelectorRow). λ (i : ℕ). (q.keys i).stage) refl j;
-          interest = kept row r (λ (q : SelectorRow). λ (i : ℕ). (q.keys i).interest) refl j;
-          mark = kept row r (λ (q : SelectorRow). λ (i : ℕ). (q.keys i).mark) refl j;
-          note = kept row r (λ (q : SelectorRow). λ (i : ℕ). (q.keys i).note) refl j;
-          begun = kept row r (λ (q : SelectorRow). is_some q.turn) refl j;
-          closer = kept row r (λ (q : SelectorRow). q.closer) refl j;
-          entered = kept row r (λ (q : SelectorRow). q.entered) refl j;
-        };
-        selection = kept row r (λ (q : SelectorRow). q.selection) refl j;
-      }
+  -- the gate is changed
+  pub makes-gate : (change : GateWord → GateWord) → Makes interrupted mark chan s (λ r. record r { gate = change r.gate }) (λ st. record st { shared = with_gate st.shared s (change (st.shared.gate s)) })
+  makes-gate change = λ row.
+    let r = record (row s) { gate = change (row s).gate } in
+    λ j. record {
+      shared = record {
+        drawn = λ _. false;
+        interrupted = interrupted;
+        selector = kept row r (λ (q : SelectorRow). q.made) refl j;
+        channels_mark = mark;
+        chan = chan;
+        hold = λ _. None;
+        noted = λ c. kept row r (λ (q : SelectorRow). q.noted c) refl j;
+        gate = put_part (λ (q : SelectorRow). q.gate) row s r j;
+        turn = kept row r (λ (q : SelectorRow). q.turn) refl j;
+        keys_mark = kept row r (λ (q : SelectorRow). q.keys_mark) refl j;
+        key = kept row r (λ (q : SelectorRow). λ (i : ℕ). (q.keys i).stage) refl j;
+        interest = kept row r (λ (q : SelectorRow). λ (i : ℕ). (q.keys i).interest) refl j;
+        mark = kept row r (λ (q : SelectorRow). λ (i : ℕ). (q.keys i).mark) refl j;
+        note = kept row r (λ (q : SelectorRow). λ (i : ℕ). (q.keys i).note) refl j;
+        begun = kept row r (λ (q : SelectorRow). is_some q.turn) refl j;
+        closer = kept row r (λ (q : SelectorRow). q.closer) refl j;
+        entered = kept row r (λ (q : SelectorRow). q.entered) refl j;
+      };
+      selection = kept row r (λ (q : SelectorRow). q.selection) refl j;
+    }
 
   pub state-ended : (row : ℕ → SelectorRow) (selection : Selection) (pairs : List (ℕ × ℕ)) → state_from interrupted mark chan (put row s (with_selection_ended (row s) selection.looked (all_told pairs) selection.bound)) ≡ record { shared = selection_ended (state_from interrupted mark chan row).shared s selection pairs; selection = put (state_from interrupted mark chan row).selection s None }
   state-ended row selection pairs =
@@ -126,7 +125,7 @@ module _ (interrupted : ℕ → Bool) (mark : ℕ) (chan : ℕ → Chan) (s : �
       let ends : SelectorRow → SelectorRow = λ r. record r { turn = None; selection = None } in
       let ends' : ScriptState → ScriptState = λ x. record { shared = with_begun (with_turn x.shared s None) s false; selection = put x.selection s None } in
       let two = then interrupted mark chan s marks sweeps marks' sweeps' (makes-marked selection.looked pairs) (makes-swept interrupted mark chan s selection.bound) in
-      let three = then interrupted mark chan s (λ r. sweeps (marks r)) sleeps (λ x. sweeps' (marks' x)) sleeps' two makes-slept in
+      let three = then interrupted mark chan s (λ r. sweeps (marks r)) sleeps (λ x. sweeps' (marks' x)) sleeps' two (makes-gate (λ g. record g { woken = false })) in
       then interrupted mark chan s (λ r. sleeps (sweeps (marks r))) ends (λ x. sleeps' (sweeps' (marks' x))) ends' three (makes-selecting interrupted mark chan s None None) row
 
 pub if_some : {A : Type 0} (o : Option A) (x : A) (P : A → Type 0) → o ≡ Some x → P x → IfSome o P

@@ -18,16 +18,16 @@ use Rattle.nio_plain.specs.declared.plain.Plain.{Plain}
 use Rattle.nio_plain.specs.declared.plain.selector.Selecting.{Selecting}
 use Rattle.nio_plain.specs.declared.plain.selector.Selector.{Selector}
 
-module _ (p : Plain) (me : CallerNo) (sel : SelNo) (pairs : List (ℕ × ℕ)) (x : Selector) (y : Selecting) (within : sel.0 < length p.selectors.items) (e : x ≡ get_or p.selectors.items sel.0 x) (some : x.selecting ≡ Some y) (same : y.caller.0 ≡ me.0) (told : List ℕ) (told_is : (i : ℕ) → i < y.bound → get_or told i 0 ≡ all_told pairs i) where
+module _ (p : Plain) (me : CallerNo) (sel : SelNo) (elapsed : Bool) (pairs : List (ℕ × ℕ)) (x : Selector) (y : Selecting) (within : sel.0 < length p.selectors.items) (e : x ≡ get_or p.selectors.items sel.0 x) (some : x.selecting ≡ Some y) (same : y.caller.0 ≡ me.0) (told : List ℕ) (told_is : (i : ℕ) → i < y.bound → get_or told i 0 ≡ all_told pairs i) where
   row_is : rows_of p sel.0 ≡ selector_row x
   row_is = places_at selector_row no_selector p.selectors.items sel.0 x within e
 
   abbrev own : Selection
   own = record { mode = y.mode; bound = y.bound; looked = y.looked.items }
 
-  call_is : told_call p.limits (state_of p) me sel pairs ≡ told_selection (state_of p) me sel.0 pairs false (Some own)
+  call_is : told_call (state_of p) me sel elapsed pairs ≡ told_selection (state_of p) me sel.0 pairs elapsed (Some own)
   call_is =
-      told-own p.limits (state_of p) me sel pairs (Some own)
+      told-own (state_of p) me sel elapsed pairs (Some own)
       (selector_made-below p.selectors.items sel.0 within)
       (own-some p me sel.0 x y row_is some same)
 
@@ -39,18 +39,18 @@ module _ (p : Plain) (me : CallerNo) (sel : SelNo) (pairs : List (ℕ × ℕ)) (
     gate_is : (state_of p).shared.gate sel.0 ≡ gate
     gate_is = ap (λ (r : SelectorRow). r.gate) row_is ∙ sym gated
 
-    pub answers-again : is_again gate interrupted y.mode false count ≡ true → AnswersAs p p (Ok reply.Again) (told_call p.limits (state_of p) me sel pairs)
+    pub answers-again : is_again gate interrupted y.mode elapsed count ≡ true → AnswersAs p p (Ok reply.Again) (told_call (state_of p) me sel elapsed pairs)
     answers-again h =
         refused_as p reply.Again _
-        (call_is ∙ told-again (state_of p) me sel.0 pairs own count count_is gate gate_is interrupted (sym asked) h)
+        (call_is ∙ told-again (state_of p) me sel.0 elapsed pairs own count count_is gate gate_is interrupted (sym asked) h)
 
-    pub answers-told : (q : Plain) (z : Selector) (why : Why) → is_again gate interrupted y.mode false count ≡ false → why ≡ why_ended gate interrupted y.mode count → selector_row z ≡ with_selection_ended (selector_row x) y.looked.items (λ i. get_or told i 0) y.bound → state_of q ≡ with_rows p (places selector_row no_selector (set p.selectors.items sel.0 z)) → q.limits ≡ p.limits → AnswersAs p q (Ok (reply.Selected count why)) (told_call p.limits (state_of p) me sel pairs)
+    pub answers-told : (q : Plain) (z : Selector) (why : Why) → is_again gate interrupted y.mode elapsed count ≡ false → why ≡ why_ended gate interrupted y.mode count → selector_row z ≡ with_selection_ended (selector_row x) y.looked.items (λ i. get_or told i 0) y.bound → state_of q ≡ with_rows p (places selector_row no_selector (set p.selectors.items sel.0 z)) → q.limits ≡ p.limits → AnswersAs p q (Ok (reply.Selected count why)) (told_call (state_of p) me sel elapsed pairs)
     answers-told q z why h because ended left limits =
         let marks = marked_keys-told (selector_row x).keys y.looked.items (λ i. get_or told i 0) (all_told pairs) y.bound y.below_bound told_is in
         let ends : (ℕ → KeyRow) → SelectorRow = λ keys. record (with_selection_ended (selector_row x) y.looked.items (all_told pairs) y.bound) { keys = swept keys y.bound } in
         let row = (ended ∙ ap ends marks) ∙ ap (λ r. with_selection_ended r y.looked.items (all_told pairs) y.bound) (sym row_is) in
         answered_as p q _ _ _
-        (call_is ∙ told-done (state_of p) me sel.0 pairs own count count_is gate gate_is interrupted (sym asked) h)
+        (call_is ∙ told-done (state_of p) me sel.0 elapsed pairs own count count_is gate gate_is interrupted (sym asked) h)
         (ap (reply.Selected count) because)
         (left ∙ (state-set_selector p _ sel.0 z within refl ∙ (ap (λ r. with_rows p (put (rows_of p) sel.0 r)) row ∙ state-ended (places (λ b. b) false p.interrupted.items) (length p.channels.items) (places channel_row unmade_channel p.channels.items) sel.0 (rows_of p) own pairs)))
         limits

@@ -3,3 +3,4 @@ pub mod Seq
 pub mod Answer
 pub mod PlainState
 pub mod Plain
+pub mod Naming

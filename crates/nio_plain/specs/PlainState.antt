@@ -1,10 +1,10 @@
 -- The state that a plain system holds, read from its vectors.
-use Rattle.std.specs.Prelude.{ℕ, ◌+◌, Bool, true, false, Option, Some, None, is_some, if◌then◌else◌, nat_lt, List, map, filter, length, get_or, bit_and}
+use Rattle.std.specs.Prelude.{ℕ, ◌+◌, Bool, true, false, not, ◌&&◌, ◌||◌, Option, Some, None, is_some, if◌then◌else◌, nat_lt, List, map, filter, length, get_or, bit_and}
 use Rattle.std.specs.BTreeMap.{get}
 use Rattle.std.specs.Ordering.{nat_cmp}
 use Rattle.nio_base.specs.declared.limits.Limits.{Limits}
 use Rattle.nio_base.specs.declared.numbers.CallerNo.{CallerNo}
-use Rattle.nio_event.specs.State.{unmade_channel, open_gate, unclaimed, unmarked, put}
+use Rattle.nio_event.specs.State.{unmade_channel, open_gate, unclaimed, unmarked, put, with_key, with_interest, with_mark, with_note}
 use Rattle.nio_event.specs.Sets.{in_key_set, in_cancelled_set, is_valid}
 use Rattle.nio_event.specs.declared.found.Mode.{Mode}
 use Rattle.nio_event.specs.declared.found.Chan.{Chan}
@@ -12,7 +12,7 @@ use Rattle.nio_event.specs.declared.found.GateWord.{GateWord}
 use Rattle.nio_event.specs.declared.found.Mark.{Mark}
 use Rattle.nio_event.specs.declared.found.Stage.{Stage}
 use Rattle.nio_plain.specs.ScriptState.{ScriptState, Selection}
-use Rattle.nio_plain.specs.Seq.{below, removed_key, unselected, marked, looked_interest}
+use Rattle.nio_plain.specs.Seq.{below, cancelled_key, is_key, removed_key, unselected, marked, looked_interest}
 use Rattle.nio_plain.specs.declared.plain.Plain.{Plain}
 use Rattle.nio_plain.specs.declared.plain.channel.Channel.{Channel}
 use Rattle.nio_plain.specs.declared.plain.selector.Closing.{Closing}
@@ -88,7 +88,7 @@ if_in_set keys (Some i) = if in_key_set (keys i).stage then Some i else None
 abbrev pub key_in : SelectorRow → ℕ → Option ℕ
 key_in r c = if_in_set r.keys (r.noted c)
 
--- a selector with a key more, and with a key's interest set changed
+-- a selector with a key more, and with another key in the place of one
 abbrev pub with_new_key : SelectorRow → ℕ → KeyRow → SelectorRow
 with_new_key r c key = record r {
   keys_mark = r.keys_mark + 1;
@@ -96,22 +96,53 @@ with_new_key r c key = record r {
   noted = put r.noted c (Some r.keys_mark);
 }
 
-abbrev pub with_interest_at : SelectorRow → ℕ → ℕ → SelectorRow
-with_interest_at r i ops = record r { keys = put r.keys i (record (r.keys i) { interest = ops }) }
+abbrev pub with_key_at : SelectorRow → ℕ → KeyRow → SelectorRow
+with_key_at r i key = record r { keys = put r.keys i key }
 
--- a key that is removed where it is cancelled, and the keys after that was done below the bound
+-- a selector in which the channel's key is cancelled, where it has one
+abbrev pub cancelled_row : KeyRow → KeyRow
+cancelled_row k = record k { stage = cancelled_key k.stage }
+
+abbrev pub with_cancelled_key : SelectorRow → ℕ → SelectorRow
+with_cancelled_key r c = record r {
+  keys = λ i. if is_key (key_in r c) i then cancelled_row (r.keys i) else r.keys i;
+}
+
+-- what stands below the bound is changed
+abbrev pub changed : {A : Type 0} → (A → A) → (ℕ → A) → ℕ → ℕ → A
+changed change f bound = λ i. if nat_lt i bound then change (f i) else f i
+
+-- a key that is removed; one that is removed where it is cancelled, and the keys after that was done
+-- below the bound
+abbrev pub removed_row : KeyRow → KeyRow
+removed_row k = record k { stage = removed_key k.stage; mark = unselected k.mark }
+
 abbrev pub swept_key : KeyRow → KeyRow
-swept_key k =
-    if in_cancelled_set k.stage then record k { stage = removed_key k.stage; mark = unselected k.mark }
-    else k
+swept_key k = if in_cancelled_set k.stage then removed_row k else k
 
 abbrev pub swept : (ℕ → KeyRow) → ℕ → ℕ → KeyRow
-swept keys bound = λ i. if nat_lt i bound then swept_key (keys i) else keys i
+swept keys bound = changed swept_key keys bound
+
+-- a selector whose closing has ended
+abbrev pub with_closing_ended : SelectorRow → CallerNo → SelectorRow
+with_closing_ended r closer = record r {
+  gate = record r.gate { shut = true };
+  closer = Some closer;
+  entered = true;
+  keys = changed removed_row r.keys r.keys_mark;
+}
 
 -- the valid keys below the bound with their interests, in rising order
 abbrev pub looked_below : (ℕ → KeyRow) → ℕ → List (ℕ × ℕ)
 looked_below keys bound =
     map (λ i. (i, (keys i).interest)) (filter (λ i. is_valid (keys i).stage) (below bound))
+
+-- the indexes below the bound whose keys aren't removed, or of those among them that are selected
+abbrev pub is_listed : KeyRow → Bool → Bool
+is_listed k selected = in_key_set k.stage && (not selected || k.mark.selected)
+
+abbrev pub listed_below : (ℕ → KeyRow) → Bool → ℕ → List ℕ
+listed_below keys selected bound = filter (λ i. is_listed (keys i) selected) (below bound)
 
 -- a selector on which a selection has begun
 abbrev pub with_selection : SelectorRow → CallerNo → Mode → SelectorRow
@@ -137,8 +168,8 @@ with_selection_ended r looked told bound = record r {
 }
 
 -- a key that was just registered
-abbrev pub new_key_row : ℕ → ℕ → KeyRow
-new_key_row c ops = record {
+abbrev pub new_key_row : ℕ → ℕ → ℕ → KeyRow
+new_key_row c ops note = record {
   stage = record {
     claimed = true;
     published = true;
@@ -148,7 +179,7 @@ new_key_row c ops = record {
   };
   interest = ops;
   mark = unmarked;
-  note = 0;
+  note = note;
 }
 
 abbrev pub caller_of : Option Selecting → Option CallerNo
@@ -216,3 +247,9 @@ state_of p =
 
 abbrev pub limits_of : Plain → Limits
 limits_of p = p.limits
+
+-- the state with another key in the place of one
+abbrev pub with_key_row : ScriptState → ℕ → ℕ → KeyRow → ScriptState
+with_key_row st s i k = record st {
+  shared = with_note (with_mark (with_interest (with_key st.shared s i k.stage) s i k.interest) s i k.mark) s i k.note;
+}

@@ -3,7 +3,7 @@
 --
 -- A refusal changes nothing. Refusals are tested in the order in which they stand here: first the
 -- caller, then the names of the line, then the call's own.
-use Rattle.std.specs.Prelude.{ℕ, zero, suc, ◌+◌, ◌==◌, nat_lt, Bool, true, false, not, ◌&&◌, ◌||◌, if◌then◌else◌, Option, Some, None, is_some, List, [], ◌∷◌, ◌++◌, map, filter, find, count_by, bit_and, bit_or}
+use Rattle.std.specs.Prelude.{ℕ, zero, suc, ℤ, pos, negsuc, ◌+◌, ◌==◌, nat_lt, Bool, true, false, not, ◌&&◌, ◌||◌, if◌then◌else◌, Option, Some, None, is_some, List, [], ◌∷◌, ◌++◌, map, filter, find, count_by, bit_and, bit_or}
 use Rattle.std.specs.List.{list_any}
 use Rattle.nio_base.specs.Kind.{valid_operations}
 use Rattle.nio_base.specs.declared.kind.Kind.{Kind}
@@ -11,8 +11,8 @@ use Rattle.nio_base.specs.declared.limits.Limits.{Limits}
 use Rattle.nio_base.specs.declared.numbers.CallerNo.{CallerNo}
 use Rattle.nio_base.specs.declared.numbers.ChanNo.{ChanNo}
 use Rattle.nio_base.specs.declared.numbers.SelNo.{SelNo}
-use Rattle.nio_event.specs.Sets.{in_key_set, in_cancelled_set}
-use Rattle.nio_event.specs.State.{State, put, with_selector, with_chan, with_channels_mark, with_noted, with_gate, with_turn, with_keys_mark, with_key, with_interest, with_begun}
+use Rattle.nio_event.specs.Sets.{in_key_set, in_cancelled_set, in_selected_set, is_valid}
+use Rattle.nio_event.specs.State.{State, put, with_interrupted, with_selector, with_chan, with_channels_mark, with_noted, with_gate, with_turn, with_keys_mark, with_key, with_interest, with_mark, with_note, with_begun, with_closer, with_entered}
 use Rattle.nio_event.specs.declared.call.Call.{Call}
 use Rattle.nio_event.specs.declared.call.Call.TheVariants as call
 use Rattle.nio_event.specs.declared.call.Waiting.{Waiting}
@@ -44,6 +44,23 @@ answered st reply shared = record { reply = reply; left = record st { shared = s
 abbrev pub below : ℕ → List ℕ
 below zero = []
 below (suc n) = below n ++ n ∷ []
+
+-- NAMES. A selector and a channel have to be made, and a key published.
+
+abbrev pub with_named_channel : ScriptState → ChanNo → Answered → Answered
+with_named_channel st c done = if (st.shared.chan c.0).made then done else refused st reply.NoChannel
+
+abbrev pub with_named_selector : ScriptState → SelNo → Answered → Answered
+with_named_selector st s done = if st.shared.selector s.0 then done else refused st reply.NoSelector
+
+abbrev pub with_named_key : ScriptState → SelNo → ℕ → Answered → Answered
+with_named_key st s i done =
+    with_named_selector st s (if (st.shared.key s.0 i).published then done else refused st reply.NoKey)
+
+-- the reply to a question
+abbrev pub yes_or_no : Bool → Reply
+yes_or_no true = reply.Yes
+yes_or_no false = reply.No
 
 -- OPENING. A selector and a channel get the least number that isn't made. A new channel is open, in
 -- blocking mode and not registered.
@@ -84,17 +101,45 @@ is_registered l st c = list_any (λ s. is_some (key_of st c s)) (below l.selecto
 unfoldable pub blocking_call : Limits → ScriptState → ChanNo → Bool → Answered
 blocking_call l st c on =
     let chan = st.shared.chan c.0 in
-    if not chan.made then refused st reply.NoChannel
-    else if chan.closed then refused st reply.ClosedChannel
+    with_named_channel st c
+    (if chan.closed then refused st reply.ClosedChannel
     else if on && is_registered l st.shared c.0 then refused st reply.IllegalBlockingMode
-    else answered st reply.«Ok» (with_chan st.shared c.0 (record chan { blocking = on }))
+    else answered st reply.«Ok» (with_chan st.shared c.0 (record chan { blocking = on })))
+
+unfoldable pub is_blocking_call : ScriptState → ChanNo → Answered
+is_blocking_call st c = with_named_channel st c (refused st (yes_or_no (st.shared.chan c.0).blocking))
+
+unfoldable pub is_open_call : ScriptState → ChanNo → Answered
+is_open_call st c = with_named_channel st c (refused st (yes_or_no (not (st.shared.chan c.0).closed)))
+
+unfoldable pub is_registered_call : Limits → ScriptState → ChanNo → Answered
+is_registered_call l st c = with_named_channel st c (refused st (yes_or_no (is_registered l st.shared c.0)))
+
+-- the name of a key, where there is one
+abbrev pub name_or_none : Option ℕ → Reply
+name_or_none None = reply.None
+name_or_none (Some i) = reply.Key i
+
+unfoldable pub key_for_call : ScriptState → ChanNo → SelNo → Answered
+key_for_call st c s =
+    with_named_channel st c (with_named_selector st s (refused st (name_or_none (key_of st.shared c.0 s.0))))
 
 -- REGISTERING. A channel must be non-blocking, and no key of it there may be cancelled and still in
 -- the key set. A valid key gets the new interest; else there is a new key, whose index is the number
 -- of keys claimed in the selector.
 
-abbrev pub new_key : State → ℕ → ℕ → ℕ → ℕ → State
-new_key st s c i ops =
+-- the attachment that a new key gets
+abbrev pub given_or_none : Option ℕ → ℕ
+given_or_none None = 0
+given_or_none (Some att) = att
+
+-- the attachment of a key that is registered again: 0 is none, and changes nothing
+abbrev pub given_or_kept : Option ℕ → ℕ → ℕ
+given_or_kept None kept = kept
+given_or_kept (Some att) kept = if att == 0 then kept else att
+
+abbrev pub new_key : State → ℕ → ℕ → ℕ → ℕ → ℕ → State
+new_key st s c i ops att =
     let stage : Stage = record {
       claimed = true;
       published = true;
@@ -102,28 +147,124 @@ new_key st s c i ops =
       removed = false;
       chan = record { 0 = c };
     } in
-    with_interest (with_noted (with_keys_mark (with_key st s i stage) s (i + 1)) c s (Some i)) s i ops
+    let noted = with_noted (with_keys_mark (with_key st s i stage) s (i + 1)) c s (Some i) in
+    with_note (with_interest noted s i ops) s i att
 
-abbrev pub registered : Limits → ScriptState → ℕ → ℕ → ℕ → Option ℕ → Answered
-registered l st s c ops None =
+abbrev pub registered : Limits → ScriptState → ℕ → ℕ → ℕ → Option ℕ → Option ℕ → Answered
+registered l st s c ops att None =
     let i = st.shared.keys_mark s in
     if (st.shared.gate s).shut then refused st reply.ClosedSelector
-    else if nat_lt i l.keys then answered st (reply.Key i) (new_key st.shared s c i ops)
+    else if nat_lt i l.keys then answered st (reply.Key i) (new_key st.shared s c i ops (given_or_none att))
     else refused st reply.Full
-registered l st s c ops (Some i) =
+registered l st s c ops att (Some i) =
     if (st.shared.key s i).cancelled then refused st reply.CancelledKey
     else if (st.shared.gate s).shut then refused st reply.ClosedSelector
-    else answered st (reply.Key i) (with_interest st.shared s i ops)
+    else
+    answered st (reply.Key i)
+    (with_note (with_interest st.shared s i ops) s i (given_or_kept att (st.shared.note s i)))
 
-unfoldable pub register_call : Limits → ScriptState → SelNo → ChanNo → ℕ → Answered
-register_call l st s c ops =
+-- no bit is outside the kind's operations
+abbrev pub are_legal : Kind → ℕ → Bool
+are_legal kind ops = bit_and ops (valid_operations kind) == ops
+
+unfoldable pub register_call : Limits → ScriptState → SelNo → ChanNo → ℕ → Option ℕ → Answered
+register_call l st s c ops att =
     let chan = st.shared.chan c.0 in
-    if not (st.shared.selector s.0) then refused st reply.NoSelector
-    else if not chan.made then refused st reply.NoChannel
-    else if not (bit_and ops (valid_operations chan.kind) == ops) then refused st reply.IllegalOps
+    with_named_selector st s
+    (with_named_channel st c
+    (if not (are_legal chan.kind ops) then refused st reply.IllegalOps
     else if chan.closed then refused st reply.ClosedChannel
     else if chan.blocking then refused st reply.IllegalBlockingMode
-    else registered l st s.0 c.0 ops (key_of st.shared c.0 s.0)
+    else registered l st s.0 c.0 ops att (key_of st.shared c.0 s.0)))
+
+-- CANCELLING AND CLOSING. Cancelling a key again changes nothing. Closing a channel cancels all its
+-- keys: the one in each selector.
+
+abbrev pub cancelled_key : Stage → Stage
+cancelled_key k = record k { cancelled = true }
+
+abbrev pub is_key : Option ℕ → ℕ → Bool
+is_key None i = false
+is_key (Some k) i = k == i
+
+-- the channel's key in each selector is cancelled
+abbrev pub with_keys_cancelled : State → ℕ → State
+with_keys_cancelled st c = record st {
+  key = λ s i. if is_key (key_of st c s) i then cancelled_key (st.key s i) else st.key s i;
+}
+
+abbrev pub channel_closed : State → ℕ → State
+channel_closed st c = with_keys_cancelled (with_chan st c (record (st.chan c) { closed = true })) c
+
+unfoldable pub closec_call : ScriptState → ChanNo → Answered
+closec_call st c =
+    with_named_channel st c
+    (if (st.shared.chan c.0).closed then refused st reply.Already
+    else answered st reply.«Ok» (channel_closed st.shared c.0))
+
+unfoldable pub cancel_call : ScriptState → SelNo → ℕ → Answered
+cancel_call st s i =
+    let k = st.shared.key s.0 i in
+    with_named_key st s i
+    (answered st reply.«Ok» (with_key st.shared s.0 i (if in_key_set k then cancelled_key k else k)))
+
+-- KEYS. What a key is interested in and ready for is told and set while it is valid. Setting and
+-- or-ing refuse bits outside the kind's operations; and-ing takes any. Or-ing and and-ing give the
+-- set before.
+
+unfoldable pub valid_call : ScriptState → SelNo → ℕ → Answered
+valid_call st s i = with_named_key st s i (refused st (yes_or_no (is_valid (st.shared.key s.0 i))))
+
+abbrev pub with_valid_key : ScriptState → SelNo → ℕ → Answered → Answered
+with_valid_key st s i done =
+    with_named_key st s i (if is_valid (st.shared.key s.0 i) then done else refused st reply.CancelledKey)
+
+unfoldable pub interest_call : ScriptState → SelNo → ℕ → Answered
+interest_call st s i = with_valid_key st s i (refused st (reply.Number (st.shared.interest s.0 i)))
+
+unfoldable pub ready_call : ScriptState → SelNo → ℕ → Answered
+ready_call st s i = with_valid_key st s i (refused st (reply.Number (st.shared.mark s.0 i).ready))
+
+-- the operations of the key's channel
+abbrev pub are_legal_at : State → ℕ → ℕ → ℕ → Bool
+are_legal_at st s i ops = are_legal (st.chan (st.key s i).chan.0).kind ops
+
+unfoldable pub iset_call : ScriptState → SelNo → ℕ → ℕ → Answered
+iset_call st s i ops =
+    with_valid_key st s i
+    (if are_legal_at st.shared s.0 i ops then answered st reply.«Ok» (with_interest st.shared s.0 i ops)
+    else refused st reply.IllegalOps)
+
+unfoldable pub ior_call : ScriptState → SelNo → ℕ → ℕ → Answered
+ior_call st s i ops =
+    let before = st.shared.interest s.0 i in
+    with_valid_key st s i
+    (if are_legal_at st.shared s.0 i ops
+    then answered st (reply.Number before) (with_interest st.shared s.0 i (bit_or before ops))
+    else refused st reply.IllegalOps)
+
+unfoldable pub iand_call : ScriptState → SelNo → ℕ → ℕ → Answered
+iand_call st s i ops =
+    let before = st.shared.interest s.0 i in
+    with_valid_key st s i
+    (answered st (reply.Number before) (with_interest st.shared s.0 i (bit_and before ops)))
+
+-- a user may take a key out of the selected set, and can't add one
+unfoldable pub unselect_call : ScriptState → SelNo → ℕ → Answered
+unselect_call st s i =
+    with_named_key st s i
+    (if in_selected_set st.shared s.0 i
+    then answered st reply.Yes (with_mark st.shared s.0 i (record (st.shared.mark s.0 i) { selected = false }))
+    else refused st reply.No)
+
+-- attaching gives the attachment before
+unfoldable pub attach_call : ScriptState → SelNo → ℕ → ℕ → Answered
+attach_call st s i att =
+    with_named_key st s i
+    (answered st (reply.Number (st.shared.note s.0 i)) (with_note st.shared s.0 i att))
+
+unfoldable pub attachment_call : ScriptState → SelNo → ℕ → Answered
+attachment_call st s i = with_named_key st s i (refused st (reply.Number (st.shared.note s.0 i)))
 
 -- A SELECTION, STEP 1. Each cancelled key is removed from every set, and the selection looks at each
 -- key that is left, with its interest. One caller selects on a selector at a time.
@@ -148,8 +289,16 @@ abbrev pub looked_keys : State → ℕ → List (ℕ × ℕ)
 looked_keys st s =
     map (λ i. (i, st.interest s i)) (filter (λ i. in_key_set (st.key s i)) (below (st.keys_mark s)))
 
-abbrev pub mode_of : Waiting → Mode
-mode_of waiting.Now = mode.Now
+-- how long a line's selection waits: a negative time is refused, and 0 waits without limit
+abbrev pub timed : ℤ → Option Mode
+timed (pos zero) = Some mode.Wait
+timed (pos (suc ms)) = Some (mode.For (suc ms))
+timed (negsuc _) = None
+
+abbrev pub mode_of : Waiting → Option Mode
+mode_of waiting.Now = Some mode.Now
+mode_of waiting.Wait = Some mode.Wait
+mode_of (waiting.For ms) = timed ms
 
 abbrev pub selection_begun : ScriptState → CallerNo → ℕ → Mode → Answered
 selection_begun st me s how =
@@ -164,12 +313,16 @@ selection_begun st me s how =
       };
     }
 
-unfoldable pub begin_call : Limits → ScriptState → CallerNo → SelNo → Waiting → Answered
-begin_call l st me s waiting =
-    if not (st.shared.selector s.0) then refused st reply.NoSelector
-    else if (st.shared.gate s.0).shut then refused st reply.ClosedSelector
-    else if is_some (st.shared.turn s.0) then refused st reply.Busy
-    else selection_begun st me s.0 (mode_of waiting)
+abbrev pub begun_with : ScriptState → CallerNo → ℕ → Option Mode → Answered
+begun_with st me s None = refused st reply.NegativeTimeout
+begun_with st me s (Some how) =
+    if (st.shared.gate s).shut then refused st reply.ClosedSelector
+    else if is_some (st.shared.turn s) then refused st reply.Busy
+    else selection_begun st me s how
+
+unfoldable pub begin_call : ScriptState → CallerNo → SelNo → Waiting → Answered
+begin_call st me s waiting =
+    with_named_selector st s (begun_with st me s.0 (mode_of waiting))
 
 -- A SELECTION, STEP 2. A key that isn't in the selected set is added to it, and its ready set becomes
 -- exactly what was told of the interest looked at. For a key of the selected set the told bits are
@@ -265,10 +418,88 @@ is_caller me (Some other) = other.0 == me.0
 abbrev pub own_selection : ScriptState → CallerNo → ℕ → Option Selection
 own_selection st me s = if is_caller me (st.shared.turn s) then st.selection s else None
 
-unfoldable pub told_call : Limits → ScriptState → CallerNo → SelNo → List (ℕ × ℕ) → Answered
-told_call l st me s pairs =
-    if not (st.shared.selector s.0) then refused st reply.NoSelector
-    else told_selection st me s.0 pairs false (own_selection st me s.0)
+unfoldable pub told_call : ScriptState → CallerNo → SelNo → Bool → List (ℕ × ℕ) → Answered
+told_call st me s elapsed pairs =
+    with_named_selector st s (told_selection st me s.0 pairs elapsed (own_selection st me s.0))
+
+-- after a failed poll the selection is over, and nothing else changes: a pending wakeup stays
+
+abbrev pub left_selection : ScriptState → ℕ → Option Selection → Answered
+left_selection st s None = refused st reply.NotSelecting
+left_selection st s (Some selection) = record {
+  reply = reply.Left;
+  left = record {
+    shared = with_begun (with_turn st.shared s None) s false;
+    selection = put st.selection s None;
+  };
+}
+
+unfoldable pub failed_call : ScriptState → CallerNo → SelNo → Answered
+failed_call st me s = with_named_selector st s (left_selection st s.0 (own_selection st me s.0))
+
+-- WAKEUPS AND INTERRUPTS. A wakeup stays until a selection ends that it woke or that didn't wait;
+-- several act as one. Telling the own interrupt status clears it.
+
+unfoldable pub wakeup_call : ScriptState → SelNo → Answered
+wakeup_call st s =
+    with_named_selector st s
+    (answered st reply.«Ok» (with_gate st.shared s.0 (record (st.shared.gate s.0) { woken = true })))
+
+unfoldable pub interrupt_call : Limits → ScriptState → CallerNo → Answered
+interrupt_call l st target =
+    if nat_lt target.0 l.callers then answered st reply.«Ok» (with_interrupted st.shared target.0 true)
+    else refused st reply.NoCaller
+
+unfoldable pub interrupted_call : ScriptState → CallerNo → Answered
+interrupted_call st me =
+    answered st (yes_or_no (st.shared.interrupted me.0)) (with_interrupted st.shared me.0 false)
+
+-- CLOSING A SELECTOR, in two parts. From the first on selections and registrations are refused, and
+-- a selection in progress ends; the second, once no caller selects, removes every key. Closing
+-- again changes nothing.
+
+unfoldable pub close_call : ScriptState → CallerNo → SelNo → Answered
+close_call st me s =
+    let gate = st.shared.gate s.0 in
+    with_named_selector st s
+    (if gate.shut then refused st reply.Already
+    else
+    answered st reply.Closing
+    (with_closer (with_gate st.shared s.0 (record gate { shut = true })) s.0 (Some me)))
+
+-- every index that is claimed in the selector is removed
+abbrev pub without_keys : State → ℕ → State
+without_keys st s =
+    let goes : ℕ → ℕ → Bool = λ t i. (t == s) && (st.key t i).claimed in
+    record st {
+      key = λ t i. if goes t i then removed_key (st.key t i) else st.key t i;
+      mark = λ t i. if goes t i then unselected (st.mark t i) else st.mark t i;
+    }
+
+unfoldable pub close_end_call : ScriptState → CallerNo → SelNo → Answered
+close_end_call st me s =
+    with_named_selector st s
+    (if not (is_caller me (st.shared.closer s.0)) || st.shared.entered s.0 then refused st reply.NotClosing
+    else if is_some (st.shared.turn s.0) then refused st reply.Busy
+    else answered st reply.Closed (with_entered (without_keys st.shared s.0) s.0 true))
+
+-- THE SETS of a selector, in rising order
+
+abbrev pub names_or_none : List ℕ → Reply
+names_or_none [] = reply.None
+names_or_none (i ∷ is) = reply.Names (i ∷ is)
+
+abbrev pub listed : ScriptState → SelNo → (ℕ → Bool) → Answered
+listed st s in_set =
+    with_named_selector st s
+    (if (st.shared.gate s.0).shut then refused st reply.ClosedSelector
+    else refused st (names_or_none (filter in_set (below (st.shared.keys_mark s.0)))))
+
+unfoldable pub keys_call : ScriptState → SelNo → Answered
+keys_call st s = listed st s (λ i. in_key_set (st.shared.key s.0 i))
+
+unfoldable pub selected_call : ScriptState → SelNo → Answered
+selected_call st s = listed st s (λ i. in_selected_set st.shared s.0 i)
 
 -- EVERY CALL, by its word
 
@@ -276,9 +507,32 @@ unfoldable pub call_of : Limits → ScriptState → CallerNo → Call → Answer
 call_of l st me call.Selector = selector_call l st
 call_of l st me (call.Channel kind) = channel_call l st kind
 call_of l st me (call.Blocking c on) = blocking_call l st c on
-call_of l st me (call.Register s c ops) = register_call l st s c ops
-call_of l st me (call.Begin s waiting) = begin_call l st me s waiting
-call_of l st me (call.Told s pairs) = told_call l st me s pairs
+call_of l st me (call.IsBlocking c) = is_blocking_call st c
+call_of l st me (call.IsOpen c) = is_open_call st c
+call_of l st me (call.IsRegistered c) = is_registered_call l st c
+call_of l st me (call.KeyFor c s) = key_for_call st c s
+call_of l st me (call.Register s c ops att) = register_call l st s c ops att
+call_of l st me (call.Closec c) = closec_call st c
+call_of l st me (call.Valid s i) = valid_call st s i
+call_of l st me (call.Interest s i) = interest_call st s i
+call_of l st me (call.Ready s i) = ready_call st s i
+call_of l st me (call.Iset s i ops) = iset_call st s i ops
+call_of l st me (call.Ior s i ops) = ior_call st s i ops
+call_of l st me (call.Iand s i ops) = iand_call st s i ops
+call_of l st me (call.Cancel s i) = cancel_call st s i
+call_of l st me (call.Unselect s i) = unselect_call st s i
+call_of l st me (call.Attach s i att) = attach_call st s i att
+call_of l st me (call.Attachment s i) = attachment_call st s i
+call_of l st me (call.Begin s waiting) = begin_call st me s waiting
+call_of l st me (call.Told s elapsed pairs) = told_call st me s elapsed pairs
+call_of l st me (call.Failed s) = failed_call st me s
+call_of l st me (call.Wakeup s) = wakeup_call st s
+call_of l st me (call.Close s) = close_call st me s
+call_of l st me (call.CloseEnd s) = close_end_call st me s
+call_of l st me (call.Keys s) = keys_call st s
+call_of l st me (call.Selected s) = selected_call st s
+call_of l st me (call.Interrupt target) = interrupt_call l st target
+call_of l st me call.Interrupted = interrupted_call st me
 
 unfoldable pub seq : Limits → ScriptState → CallerNo → Call → Answered
 seq l st me call =

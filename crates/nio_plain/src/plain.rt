@@ -13,13 +13,20 @@ use std::alloc::{AllocError, Global};
 
 mod blocking;
 mod channel;
+mod channels;
+mod closing;
+mod interest;
+mod keys;
 mod looking;
 mod marking;
+mod naming;
 mod opening;
 mod registering;
 mod selecting;
 mod selector;
+mod sets;
 mod telling;
+mod waking;
 
 /// A system of selectors, keys and channels, kept in vectors.
 #[derive(Drop)]
@@ -73,9 +80,32 @@ impl System for Plain {
             Call::Selector => self.open_selector(alloc),
             Call::Channel(kind) => self.open_channel(*kind),
             Call::Blocking(chan, on) => Ok(self.set_blocking(*chan, *on)),
-            Call::Register(sel, chan, ops) => self.register(*sel, *chan, *ops),
+            Call::IsBlocking(chan) => Ok(self.is_blocking_channel(*chan)),
+            Call::IsOpen(chan) => Ok(self.is_open_channel(*chan)),
+            Call::IsRegistered(chan) => Ok(self.is_registered_channel(*chan)),
+            Call::KeyFor(chan, sel) => Ok(self.key_for(*chan, *sel)),
+            Call::Register(sel, chan, ops, note) => self.register(*sel, *chan, *ops, *note),
+            Call::Closec(chan) => Ok(self.close_channel(*chan)),
+            Call::Valid(sel, index) => Ok(self.is_valid_key(*sel, *index)),
+            Call::Interest(sel, index) => Ok(self.interest(*sel, *index)),
+            Call::Ready(sel, index) => Ok(self.ready(*sel, *index)),
+            Call::Iset(sel, index, ops) => Ok(self.set_interest(*sel, *index, *ops)),
+            Call::Ior(sel, index, ops) => Ok(self.interest_or(*sel, *index, *ops)),
+            Call::Iand(sel, index, ops) => Ok(self.interest_and(*sel, *index, *ops)),
+            Call::Cancel(sel, index) => Ok(self.cancel(*sel, *index)),
+            Call::Unselect(sel, index) => Ok(self.unselect(*sel, *index)),
+            Call::Attach(sel, index, note) => Ok(self.attach(*sel, *index, *note)),
+            Call::Attachment(sel, index) => Ok(self.attachment(*sel, *index)),
             Call::Begin(sel, waiting) => self.begin(alloc, caller, *sel, *waiting),
-            Call::Told(sel, pairs) => self.told(alloc, caller, *sel, pairs),
+            Call::Told(sel, elapsed, pairs) => self.told(alloc, caller, *sel, *elapsed, pairs),
+            Call::Failed(sel) => Ok(self.failed(caller, *sel)),
+            Call::Wakeup(sel) => Ok(self.wakeup(*sel)),
+            Call::Close(sel) => Ok(self.close(caller, *sel)),
+            Call::CloseEnd(sel) => Ok(self.close_end(caller, *sel)),
+            Call::Keys(sel) => self.keys(alloc, *sel),
+            Call::Selected(sel) => self.selected(alloc, *sel),
+            Call::Interrupt(target) => Ok(self.interrupt(*target)),
+            Call::Interrupted => Ok(self.interrupted(caller)),
         }
     }
 

@@ -27,7 +27,7 @@ impl Plain {
     }
 
     /// Whether a key of the channel is in the key set of a selector.
-    fn is_registered(&self, chan: ChanNo) -> bool
+    pub(super) fn is_registered(&self, chan: ChanNo) -> bool
         ensures { result ≡ is_registered (limits_of self.now) (state_of self.now).shared chan.0 }
     {
         for selector in &self.selectors {

@@ -1,9 +1,9 @@
 //! Registering a channel with a selector.
 ghost use Rattle.std.specs.Option.{IfNone};
-ghost use Rattle.std.specs.Prelude.{◌≡◌, ◌<◌, IfSome, vec_len};
+ghost use Rattle.std.specs.Prelude.{◌≡◌, ℕ, ◌<◌, IfSome, Option, vec_len};
 ghost use Rattle.nio_plain.specs.Plain.{AnswersAs};
 ghost use Rattle.nio_plain.specs.PlainState.{limits_of, state_of};
-ghost use Rattle.nio_plain.specs.Seq.{key_of, refused, register_call, registered};
+ghost use Rattle.nio_plain.specs.Seq.{given_or_kept, key_of, refused, register_call, registered};
 
 use super::Plain;
 use super::selector::Key;
@@ -12,13 +12,8 @@ use nio_event::Reply;
 use std::alloc::AllocError;
 
 impl Plain {
-    pub(super) fn register(
-        &mut self,
-        sel: SelNo,
-        chan: ChanNo,
-        ops: Ops,
-    ) -> Result<Reply, AllocError>
-        ensures { AnswersAs self.old self.new result (register_call (limits_of self.old) (state_of self.old) sel chan ops) }
+    pub(super) fn register(&mut self, sel: SelNo, chan: ChanNo, ops: Ops, note: Option<u64>) -> Result<Reply, AllocError>
+        ensures { AnswersAs self.old self.new result (register_call (limits_of self.old) (state_of self.old) sel chan ops note) }
     {
         if let Some(refusal) = self.refusal(sel, chan, ops) {
             return Ok(refusal);
@@ -26,13 +21,19 @@ impl Plain {
         let selector = &self.selectors[sel.0 as usize];
         match selector.key_of(chan) {
             Some(index) => {
-                if selector.keys[index as usize].cancelled {
+                let key = selector.keys[index as usize];
+                if key.cancelled {
                     return Ok(Reply::CancelledKey);
                 }
                 if selector.is_shut() {
                     return Ok(Reply::ClosedSelector);
                 }
-                self.selectors[sel.0 as usize].set_interest(index, ops);
+                let key = Key {
+                    interest: ops,
+                    note: given_or_kept(note, key.note),
+                    ..key
+                };
+                self.selectors[sel.0 as usize].put_key(index, key);
                 Ok(Reply::Key(index))
             }
             None => {
@@ -43,7 +44,7 @@ impl Plain {
                 if index >= self.limits.keys as usize {
                     return Ok(Reply::Full);
                 }
-                self.selectors[sel.0 as usize].add_key(Key::new(chan, ops))?;
+                self.selectors[sel.0 as usize].add_key(Key::new(chan, ops, note.unwrap_or(0)))?;
                 Ok(Reply::Key(index as u32))
             }
         }
@@ -52,9 +53,9 @@ impl Plain {
     /// Why the channel can't be registered so with any selector, and first of all that a name of
     /// the call isn't made.
     fn refusal(&self, sel: SelNo, chan: ChanNo, ops: Ops) -> Option<Reply>
-        ensures refused { IfSome result (λ reply. register_call (limits_of self.now) (state_of self.now) sel chan ops ≡ refused (state_of self.now) reply) }
-        ensures passed { IfNone result (register_call (limits_of self.now) (state_of self.now) sel chan ops
-            ≡ registered (limits_of self.now) (state_of self.now) sel.0 chan.0 ops (key_of (state_of self.now).shared chan.0 sel.0)) }
+        ensures refused { IfSome result (λ reply. (note : Option ℕ) → register_call (limits_of self.now) (state_of self.now) sel chan ops note ≡ refused (state_of self.now) reply) }
+        ensures passed { IfNone result ((note : Option ℕ) → register_call (limits_of self.now) (state_of self.now) sel chan ops note
+            ≡ registered (limits_of self.now) (state_of self.now) sel.0 chan.0 ops note (key_of (state_of self.now).shared chan.0 sel.0)) }
         ensures made { IfNone result (sel.0 < vec_len self.now.selectors) }
     {
         if sel.0 as usize >= self.selectors.len() {
@@ -74,5 +75,15 @@ impl Plain {
             return Some(Reply::IllegalBlockingMode);
         }
         None
+    }
+}
+
+/// The attachment of a key that is registered again: 0 is none, and changes nothing.
+fn given_or_kept(given: Option<u64>, kept: u64) -> u64
+    ensures { result ≡ given_or_kept given kept }
+{
+    match given {
+        Some(note) if note != 0 => note,
+        _ => kept,
     }
 }

@@ -1,7 +1,7 @@
 //! Beginning a selection.
 ghost use Rattle.std.specs.Prelude.{◌≡◌};
 ghost use Rattle.nio_plain.specs.Plain.{AnswersAs};
-ghost use Rattle.nio_plain.specs.PlainState.{limits_of, state_of};
+ghost use Rattle.nio_plain.specs.PlainState.{state_of};
 ghost use Rattle.nio_plain.specs.Seq.{begin_call, mode_of};
 
 use super::Plain;
@@ -10,18 +10,15 @@ use nio_event::{Mode, Reply, Waiting};
 use std::alloc::{AllocError, Global};
 
 impl Plain {
-    pub(super) fn begin(
-        &mut self,
-        alloc: Global,
-        me: CallerNo,
-        sel: SelNo,
-        waiting: Waiting,
-    ) -> Result<Reply, AllocError>
-        ensures { AnswersAs self.old self.new result (begin_call (limits_of self.old) (state_of self.old) me sel waiting) }
+    pub(super) fn begin(&mut self, alloc: Global, me: CallerNo, sel: SelNo, waiting: Waiting) -> Result<Reply, AllocError>
+        ensures { AnswersAs self.old self.new result (begin_call (state_of self.old) me sel waiting) }
     {
         if sel.0 as usize >= self.selectors.len() {
             return Ok(Reply::NoSelector);
         }
+        let Some(mode) = mode_of(waiting) else {
+            return Ok(Reply::NegativeTimeout);
+        };
         let selector = &self.selectors[sel.0 as usize];
         if selector.is_shut() {
             return Ok(Reply::ClosedSelector);
@@ -29,16 +26,19 @@ impl Plain {
         if selector.selecting.is_some() {
             return Ok(Reply::Busy);
         }
-        let looked = self.selectors[sel.0 as usize].begin(alloc, me, mode_of(waiting))?;
+        let looked = self.selectors[sel.0 as usize].begin(alloc, me, mode)?;
         Ok(Reply::Looked(looked))
     }
 }
 
-/// How long the selection waits.
-fn mode_of(waiting: Waiting) -> Mode
+/// How long the selection waits: a negative time is refused, and 0 waits without limit.
+fn mode_of(waiting: Waiting) -> Option<Mode>
     ensures { result ≡ mode_of waiting }
 {
     match waiting {
-        Waiting::Now => Mode::Now,
+        Waiting::Now => Some(Mode::Now),
+        Waiting::Wait | Waiting::For(0) => Some(Mode::Wait),
+        Waiting::For(ms) if ms < 0 => None,
+        Waiting::For(ms) => Some(Mode::For(ms as u64)),
     }
 }

@@ -23,12 +23,12 @@ pub(super) struct Key {
 }
 
 impl Key {
-    ghost use Rattle.nio_plain.specs.PlainState.{key_row, new_key_row, swept_key};
+    ghost use Rattle.nio_plain.specs.PlainState.{is_listed, key_row, new_key_row, removed_row, swept_key};
     ghost use Rattle.nio_event.specs.Sets.{is_valid};
 
-    /// A key as it is registered: valid, not selected and without an attachment.
-    pub(super) fn new(chan: ChanNo, interest: Ops) -> Key
-        ensures { key_row result ≡ new_key_row chan.0 interest }
+    /// A key as it is registered: valid and not selected.
+    pub(super) fn new(chan: ChanNo, interest: Ops, note: u64) -> Key
+        ensures { key_row result ≡ new_key_row chan.0 interest note }
     {
         Key {
             chan,
@@ -39,7 +39,7 @@ impl Key {
                 selected: false,
                 ready: Ops::NONE,
             },
-            note: 0,
+            note,
         }
     }
 
@@ -49,15 +49,29 @@ impl Key {
         !self.removed && !self.cancelled
     }
 
+    /// Whether the key isn't removed, and is selected where only such are asked for.
+    pub(super) fn is_listed(&self, selected: bool) -> bool
+        ensures { result ≡ is_listed (key_row self.now) selected }
+    {
+        !self.removed && (!selected || self.mark.selected)
+    }
+
     /// Removes the key from every set, where it is cancelled.
     fn sweep(&mut self)
         ensures { key_row self.new ≡ swept_key (key_row self.old) }
     {
         if !self.removed && self.cancelled {
-            self.removed = true;
-            self.cancelled = false;
-            self.mark.selected = false;
+            self.remove();
         }
+    }
+
+    /// Removes the key from every set.
+    fn remove(&mut self)
+        ensures { key_row self.new ≡ removed_row (key_row self.old) }
+    {
+        self.removed = true;
+        self.cancelled = false;
+        self.mark.selected = false;
     }
 }
 
@@ -96,7 +110,7 @@ pub(super) struct Selector {
 
 impl Selector {
     ghost use Rattle.std.specs.Prelude.{◌+◌, IfOk, OnOk, OnErr, is_some, length, slice_index};
-    ghost use Rattle.nio_plain.specs.PlainState.{key_in, key_row, looked_below, marked_keys, new_selector, selector_row, swept, with_interest_at, with_new_key, with_selection, with_selection_ended};
+    ghost use Rattle.nio_plain.specs.PlainState.{changed, key_in, key_row, looked_below, marked_keys, new_selector, removed_row, selector_row, swept, with_cancelled_key, with_closing_ended, with_key_at, with_new_key, with_selection, with_selection_ended};
 
     pub(super) fn new(alloc: Global) -> Selector
         ensures { selector_row result ≡ new_selector }
@@ -128,11 +142,41 @@ impl Selector {
         }
     }
 
-    pub(super) fn set_interest(&mut self, index: u32, ops: Ops)
+    /// Puts a key in the place of one.
+    pub(super) fn put_key(&mut self, index: u32, key: Key)
         requires { index < vec_len self.old.keys }
-        ensures { selector_row self.new ≡ with_interest_at (selector_row self.old) index ops }
+        ensures { selector_row self.new ≡ with_key_at (selector_row self.old) index (key_row key) }
     {
-        self.keys[index as usize].interest = ops;
+        self.keys[index as usize] = key;
+    }
+
+    /// Cancels the channel's key, where it isn't removed.
+    pub(super) fn cancel_key_of(&mut self, chan: ChanNo)
+        ensures { selector_row self.new ≡ with_cancelled_key (selector_row self.old) chan.0 }
+    {
+        if let Some(index) = self.key_of(chan) {
+            self.keys[index as usize].cancelled = true;
+        }
+    }
+
+    /// Removes every key.
+    fn remove_keys(&mut self)
+        ensures { selector_row self.new ≡ record (selector_row self.old) { keys = changed removed_row (selector_row self.old).keys (selector_row self.old).keys_mark } }
+    {
+        for index in 0..self.keys.len() {
+            self.keys[index].remove();
+        }
+    }
+
+    /// Ends the closing: every key is removed.
+    pub(super) fn finish_closing(&mut self, closer: CallerNo)
+        ensures { selector_row self.new ≡ with_closing_ended (selector_row self.old) closer }
+    {
+        self.remove_keys();
+        self.closing = Some(Closing {
+            closer,
+            finished: true,
+        });
     }
 
     /// Adds a key and notes it for its channel.

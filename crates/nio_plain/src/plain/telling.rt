@@ -1,8 +1,8 @@
 //! Telling a selection what is ready.
 ghost use Rattle.std.specs.Prelude.{◌≡◌, ◌==◌, false, slice_index};
-ghost use Rattle.nio_plain.specs.Plain.{AnswersAs};
-ghost use Rattle.nio_plain.specs.PlainState.{limits_of, state_of};
-ghost use Rattle.nio_plain.specs.Seq.{goes_on, is_again, told_call, why_ended};
+ghost use Rattle.nio_plain.specs.Plain.{Answers, AnswersAs};
+ghost use Rattle.nio_plain.specs.PlainState.{state_of};
+ghost use Rattle.nio_plain.specs.Seq.{failed_call, goes_on, is_again, told_call, why_ended};
 
 use super::Plain;
 use super::marking::{all_told, updated_count};
@@ -11,14 +11,8 @@ use nio_event::{GateWord, Mode, Pairs, Reply, Why};
 use std::alloc::{AllocError, Global};
 
 impl Plain {
-    pub(super) fn told(
-        &mut self,
-        alloc: Global,
-        me: CallerNo,
-        sel: SelNo,
-        pairs: &Pairs,
-    ) -> Result<Reply, AllocError>
-        ensures { AnswersAs self.old self.new result (told_call (limits_of self.old) (state_of self.old) me sel pairs.now) }
+    pub(super) fn told(&mut self, alloc: Global, me: CallerNo, sel: SelNo, elapsed: bool, pairs: &Pairs) -> Result<Reply, AllocError>
+        ensures { AnswersAs self.old self.new result (told_call (state_of self.old) me sel elapsed pairs.now) }
     {
         if sel.0 as usize >= self.selectors.len() {
             return Ok(Reply::NoSelector);
@@ -35,14 +29,35 @@ impl Plain {
         let gate = selector.gate();
         let interrupted = self.is_interrupted(me);
         let mode = selecting.mode;
-        if is_again(gate, interrupted, mode, false, count) {
+        if is_again(gate, interrupted, mode, elapsed, count) {
             return Ok(Reply::Again);
         }
         self.selectors[sel.0 as usize].end_selection(&told);
-        Ok(Reply::Selected(count, why_ended(gate, interrupted, mode, count)))
+        Ok(Reply::Selected(
+            count,
+            why_ended(gate, interrupted, mode, count),
+        ))
     }
 
-    fn is_interrupted(&self, caller: CallerNo) -> bool
+    /// Leaves the caller's selection after a failed poll. A pending wakeup stays.
+    pub(super) fn failed(&mut self, me: CallerNo, sel: SelNo) -> Reply
+        ensures { Answers self.old self.new result (failed_call (state_of self.old) me sel) }
+    {
+        let place = match self.selector(sel) {
+            Ok(place) => place,
+            Err(refusal) => return refusal,
+        };
+        let Some(selecting) = &self.selectors[place].selecting else {
+            return Reply::NotSelecting;
+        };
+        if selecting.caller.0 != me.0 {
+            return Reply::NotSelecting;
+        }
+        self.selectors[place].selecting = None;
+        Reply::Left
+    }
+
+    pub(super) fn is_interrupted(&self, caller: CallerNo) -> bool
         ensures { result ≡ (state_of self.now).shared.interrupted caller.0 }
     {
         self.interrupted

@@ -3,9 +3,8 @@ use Rattle.nio_event.specs.State.{put, unmade_channel}
 use Rattle.nio_event.specs.declared.reply.Reply.TheVariants as reply
 use Rattle.nio_plain.proofs.Answering.{refused_as, answered_as, failed_as, state-same_selector, state-set_selector, rows_of, with_rows, row_past, is_some-caller_of, selector_made-below, selector_made-past}
 use Rattle.nio_plain.proofs.Places.{places_at}
-use Rattle.nio_plain.proofs.Selecting.{begin-no_selector, begin-shut, begin-busy, begin-begun, state-begun, looked-begun}
+use Rattle.nio_plain.proofs.Selecting.{begin-no_selector, begin-negative, begin-shut, begin-busy, begin-begun, state-begun, looked-begun}
 use Rattle.nio_plain.specs.PlainState.{places, channel_row, SelectorRow, state_of, selector_row, no_selector, with_selection, looked_below}
-use Rattle.nio_plain.specs.Seq.{mode_of}
 use Rattle.nio_plain.proofs.plain.Plain.begin.Goals as goal
 
 pub returns-then-sel-len : goal.returns-then-sel-len
@@ -13,7 +12,14 @@ returns-then-sel-len c =
     let p = c.args.self.now in
     let past : length p.selectors.items ≤ c.args.sel.0 = omega (arith, p.selectors.ok.0) in
     refused_as p reply.NoSelector _
-    (begin-no_selector p.limits (state_of p) c.args.me c.args.sel c.args.waiting (selector_made-past p.selectors.items c.args.sel.0 past))
+    (begin-no_selector (state_of p) c.args.me c.args.sel c.args.waiting (selector_made-past p.selectors.items c.args.sel.0 past))
+
+pub returns-in_default : goal.returns-in_default
+returns-in_default c =
+    let p = c.args.self.now in
+    let within : c.args.sel.0 < length p.selectors.items = omega (arith, p.selectors.ok.0) in
+    refused_as p reply.NegativeTimeout _
+    (begin-negative (state_of p) c.args.me c.args.sel c.args.waiting (selector_made-below p.selectors.items c.args.sel.0 within) (sym c.mode_of.ensures ∙ c.in_default.is))
 
 pub returns-then-is_shut : goal.returns-then-is_shut
 returns-then-is_shut c =
@@ -22,8 +28,9 @@ returns-then-is_shut c =
     let within : s < length p.selectors.items = omega (arith, p.selectors.ok.0) in
     let at = places_at selector_row no_selector p.selectors.items s c.index-selector.result.now within c.index-selector.ensures in
     refused_as p reply.ClosedSelector _
-    (begin-shut p.limits (state_of p) c.args.me c.args.sel c.args.waiting
+    (begin-shut (state_of p) c.args.me c.args.sel c.args.waiting
     (selector_made-below p.selectors.items s within)
+    c.in-Some.mode (sym c.mode_of.ensures ∙ c.in-Some.is)
     (ap (λ (r : SelectorRow). r.gate.shut) at ∙ sym c.if-is_shut.ensures))
 
 pub returns-then-is_some : goal.returns-then-is_some
@@ -34,8 +41,9 @@ returns-then-is_some c =
     let within : s < length p.selectors.items = omega (arith, p.selectors.ok.0) in
     let at = places_at selector_row no_selector p.selectors.items s x within c.index-selector.ensures in
     refused_as p reply.Busy _
-    (begin-busy p.limits (state_of p) c.args.me c.args.sel c.args.waiting
+    (begin-busy (state_of p) c.args.me c.args.sel c.args.waiting
     (selector_made-below p.selectors.items s within)
+    c.in-Some.mode (sym c.mode_of.ensures ∙ c.in-Some.is)
     (ap (λ (r : SelectorRow). r.gate.shut) at ∙ sym c.if-is_shut.ensures)
     (ap (λ (r : SelectorRow). is_some r.turn) at ∙ (is_some-caller_of x.selecting ∙ sym c.if-is_some.ensures)))
 
@@ -61,12 +69,11 @@ returns c =
     let not_shut = ap (λ (r : SelectorRow). r.gate.shut) at ∙ sym c.if-is_shut.ensures in
     let free = ap (λ (r : SelectorRow). is_some r.turn) at ∙ (is_some-caller_of x.selecting ∙ sym c.if-is_some.ensures) in
     let past = row_past p s y within c.index_mut.ensures.value in
-    let how = mode_of c.args.waiting in
-    let moded = ap (λ m. with_selection (selector_row y) c.args.me m) c.mode_of.ensures in
-    let left = c.in_ok-looked.ensures.left ∙ (moded ∙ ap (λ r. with_selection r c.args.me how) (sym at')) in
+    let how = c.in-Some.mode in
+    let left = c.in_ok-looked.ensures.left ∙ ap (λ r. with_selection r c.args.me how) (sym at') in
     let looked = c.in_ok-looked.ensures.looked ∙ (ap (λ (r : SelectorRow). looked_below r.keys r.keys_mark) (sym at') ∙ sym (looked-begun (places (λ b. b) false p.interrupted.items) (length p.channels.items) (places channel_row unmade_channel p.channels.items) rows s past)) in
     answered_as p _ _ _ _
-    (begin-begun p.limits (state_of p) c.args.me c.args.sel c.args.waiting made not_shut free)
+    (begin-begun (state_of p) c.args.me c.args.sel c.args.waiting made c.in-Some.mode (sym c.mode_of.ensures ∙ c.in-Some.is) not_shut free)
     (ap reply.Looked looked)
     (state-set_selector p _ s c.begin.new.self within refl ∙ (ap (λ r. with_rows p (put rows s r)) left ∙ state-begun _ _ _ rows s c.args.me how past))
     refl

@@ -12,7 +12,7 @@ pub returns-then-sel-len-clause-refused : goal.returns-then-sel-len-clause-refus
 returns-then-sel-len-clause-refused c =
     let p = c.args.self.now in
     let past : length p.selectors.items ≤ c.args.sel.0 = omega (arith, p.selectors.ok.0) in
-    register-no_selector p.limits (state_of p) c.args.sel c.args.chan c.args.ops
+    λ note. register-no_selector p.limits (state_of p) c.args.sel c.args.chan c.args.ops note
     (selector_made-past p.selectors.items c.args.sel.0 past)
 
 pub returns-then-chan-len-clause-refused : goal.returns-then-chan-len-clause-refused
@@ -20,7 +20,7 @@ returns-then-chan-len-clause-refused c =
     let p = c.args.self.now in
     let within : c.args.sel.0 < length p.selectors.items = omega (arith, p.selectors.ok.0) in
     let past : length p.channels.items ≤ c.args.chan.0 = omega (arith, p.channels.ok.0) in
-    register-no_channel p.limits (state_of p) c.args.sel c.args.chan c.args.ops
+    λ note. register-no_channel p.limits (state_of p) c.args.sel c.args.chan c.args.ops note
     (selector_made-below p.selectors.items c.args.sel.0 within)
     unmade_channel
     (places_past channel_row unmade_channel p.channels.items c.args.chan.0 past)
@@ -41,7 +41,7 @@ returns-then-not-within-clause-refused c =
     let at = places_at channel_row unmade_channel p.channels.items c.args.chan.0 x in_channels c.index-channel.ensures in
     let made = selector_made-below p.selectors.items c.args.sel.0 in_selectors in
     let illegal = never_valid c.args.ops c.valid_ops.result (valid_operations x.kind) c.valid_ops.ensures (λ k. true≢false (sym (c.within.ensures.1 k) ∙ c.if-not-within.true)) in
-    register-illegal_ops p.limits (state_of p) c.args.sel c.args.chan c.args.ops made (channel_row x) at refl illegal
+    λ note. register-illegal_ops p.limits (state_of p) c.args.sel c.args.chan c.args.ops note made (channel_row x) at refl illegal
 
 pub returns-then-channel-clause-refused : goal.returns-then-channel-clause-refused
 returns-then-channel-clause-refused c =
@@ -52,7 +52,7 @@ returns-then-channel-clause-refused c =
     let at = places_at channel_row unmade_channel p.channels.items c.args.chan.0 x in_channels c.index-channel.ensures in
     let made = selector_made-below p.selectors.items c.args.sel.0 in_selectors in
     let valid = is_valid c.args.ops c.valid_ops.result (valid_operations x.kind) c.valid_ops.ensures (c.within.ensures.0 c.if-not-within.false) in
-    register-closed p.limits (state_of p) c.args.sel c.args.chan c.args.ops made (channel_row x) at refl valid c.if-channel.true
+    λ note. register-closed p.limits (state_of p) c.args.sel c.args.chan c.args.ops note made (channel_row x) at refl valid c.if-channel.true
 
 pub returns-then-channel-2-clause-refused : goal.returns-then-channel-2-clause-refused
 returns-then-channel-2-clause-refused c =
@@ -63,7 +63,7 @@ returns-then-channel-2-clause-refused c =
     let at = places_at channel_row unmade_channel p.channels.items c.args.chan.0 x in_channels c.index-channel.ensures in
     let made = selector_made-below p.selectors.items c.args.sel.0 in_selectors in
     let valid = is_valid c.args.ops c.valid_ops.result (valid_operations x.kind) c.valid_ops.ensures (c.within.ensures.0 c.if-not-within.false) in
-    register-blocking p.limits (state_of p) c.args.sel c.args.chan c.args.ops made (channel_row x) at refl valid c.if-channel.false c.if-channel-2.true
+    λ note. register-blocking p.limits (state_of p) c.args.sel c.args.chan c.args.ops note made (channel_row x) at refl valid c.if-channel.false c.if-channel-2.true
 
 pub returns-clause-passed : goal.returns-clause-passed
 returns-clause-passed c =
@@ -74,4 +74,4 @@ returns-clause-passed c =
     let at = places_at channel_row unmade_channel p.channels.items c.args.chan.0 x in_channels c.index-channel.ensures in
     let made = selector_made-below p.selectors.items c.args.sel.0 in_selectors in
     let valid = is_valid c.args.ops c.valid_ops.result (valid_operations x.kind) c.valid_ops.ensures (c.within.ensures.0 c.if-not-within.false) in
-    register-passed p.limits (state_of p) c.args.sel c.args.chan c.args.ops made (channel_row x) at refl valid _ c.if-channel.false c.if-channel-2.false refl
+    λ note. register-passed p.limits (state_of p) c.args.sel c.args.chan c.args.ops note made (channel_row x) at refl valid _ c.if-channel.false c.if-channel-2.false refl

@@ -1,16 +1,18 @@
-use Rattle.std.proofs.Common.{◌≡◌, ◌<◌, ◌≤◌, refl, sym, ap, ◌∙◌, length, arith}
+use Rattle.std.proofs.Common.{◌≡◌, ℕ, ◌<◌, ◌≤◌, refl, sym, ap, ◌∙◌, length, arith}
 use Rattle.nio_plain.proofs.Answering.{failed_as, state-same_selector, same_row}
+use Rattle.nio_plain.proofs.Registering.{given-unwrapped}
 use Rattle.nio_plain.proofs.RegisteringAt.{answers-cancelled, answers-shut, answers-again, answers_new-shut, answers-full, answers-new}
-use Rattle.nio_plain.specs.PlainState.{selector_row, with_interest_at, with_new_key, new_key_row}
+use Rattle.nio_plain.specs.PlainState.{KeyRow, key_row, selector_row, with_key_at, with_new_key, new_key_row}
+use Rattle.nio_plain.specs.Seq.{given_or_none}
 use Rattle.nio_plain.proofs.plain.Plain.register.Goals as goal
 
-pub returns-then-index : goal.returns-then-index
-returns-then-index c =
+pub returns-then-key : goal.returns-then-key
+returns-then-key c =
     let p = c.args.self.now in
     let x = c.index-selector.result.now in
     let within : c.args.sel.0 < length p.selectors.items = omega (arith, p.selectors.ok.0, c.in_default.ensures.made) in
     let in_keys : c.in-Some-key_of.index < length x.keys.items = omega (arith, x.keys.ok.0, c.in-Some-key_of.ensures.made) in
-    answers-cancelled p c.args.sel c.args.chan c.args.ops x within c.index-selector.ensures c.in_default.ensures.passed c.in-Some-key_of.index c.index.result.now c.in-Some-key_of.ensures.key in_keys c.index.ensures c.if-index.true
+    answers-cancelled p c.args.sel c.args.chan c.args.ops c.args.note x within c.index-selector.ensures (c.in_default.ensures.passed c.args.note) c.in-Some-key_of.index c.index-key.result.now c.in-Some-key_of.ensures.key in_keys c.index-key.ensures c.if-key.true
 
 pub returns-then-is_shut : goal.returns-then-is_shut
 returns-then-is_shut c =
@@ -18,7 +20,7 @@ returns-then-is_shut c =
     let x = c.index-selector.result.now in
     let within : c.args.sel.0 < length p.selectors.items = omega (arith, p.selectors.ok.0, c.in_default.ensures.made) in
     let in_keys : c.in-Some-key_of.index < length x.keys.items = omega (arith, x.keys.ok.0, c.in-Some-key_of.ensures.made) in
-    answers-shut p c.args.sel c.args.chan c.args.ops x within c.index-selector.ensures c.in_default.ensures.passed c.in-Some-key_of.index c.index.result.now c.in-Some-key_of.ensures.key in_keys c.index.ensures c.if-index.false (sym c.if-is_shut.ensures)
+    answers-shut p c.args.sel c.args.chan c.args.ops c.args.note x within c.index-selector.ensures (c.in_default.ensures.passed c.args.note) c.in-Some-key_of.index c.index-key.result.now c.in-Some-key_of.ensures.key in_keys c.index-key.ensures c.if-key.false (sym c.if-is_shut.ensures)
 
 pub returns-else-is_shut : goal.returns-else-is_shut
 returns-else-is_shut c =
@@ -28,14 +30,17 @@ returns-else-is_shut c =
     let within : c.args.sel.0 < length p.selectors.items = omega (arith, p.selectors.ok.0, c.in_default.ensures.made) in
     let in_keys : i < length x.keys.items = omega (arith, x.keys.ok.0, c.in-Some-key_of.ensures.made) in
     let same = same_row p c.args.sel.0 c.index_mut.result.now x within c.index_mut.ensures.value c.index-selector.ensures in
-    answers-again p c.args.sel c.args.chan c.args.ops x within c.index-selector.ensures c.in_default.ensures.passed i c.index.result.now c.in-Some-key_of.ensures.key in_keys c.index.ensures _ c.set_interest.new.self c.if-index.false (sym c.if-is_shut.ensures) (c.set_interest.ensures ∙ ap (λ r. with_interest_at r i c.args.ops) same) refl refl
+    let k = c.index-key.result.now in
+    let new : ℕ → KeyRow = λ n. record (key_row k) { interest = c.args.ops; note = n } in
+    let done = c.put_key.ensures ∙ (ap (λ r. with_key_at r i (new c.given_or_kept.result)) same ∙ ap (λ n. with_key_at (selector_row x) i (new n)) c.given_or_kept.ensures) in
+    answers-again p c.args.sel c.args.chan c.args.ops c.args.note x within c.index-selector.ensures (c.in_default.ensures.passed c.args.note) i c.index-key.result.now c.in-Some-key_of.ensures.key in_keys c.index-key.ensures _ c.put_key.new.self c.if-key.false (sym c.if-is_shut.ensures) done refl refl
 
 pub returns-then-is_shut-2 : goal.returns-then-is_shut-2
 returns-then-is_shut-2 c =
     let p = c.args.self.now in
     let x = c.index-selector.result.now in
     let within : c.args.sel.0 < length p.selectors.items = omega (arith, p.selectors.ok.0, c.in_default.ensures.made) in
-    answers_new-shut p c.args.sel c.args.chan c.args.ops x within c.index-selector.ensures c.in_default.ensures.passed c.in-None.ensures.key (sym c.if-is_shut-2.ensures)
+    answers_new-shut p c.args.sel c.args.chan c.args.ops c.args.note x within c.index-selector.ensures (c.in_default.ensures.passed c.args.note) c.in-None.ensures.key (sym c.if-is_shut-2.ensures)
 
 pub returns-then-index-self : goal.returns-then-index-self
 returns-then-index-self c =
@@ -43,7 +48,7 @@ returns-then-index-self c =
     let x = c.index-selector.result.now in
     let within : c.args.sel.0 < length p.selectors.items = omega (arith, p.selectors.ok.0, c.in_default.ensures.made) in
     let full : p.limits.keys ≤ length x.keys.items = omega (arith, x.keys.ok.0) in
-    answers-full p c.args.sel c.args.chan c.args.ops x within c.index-selector.ensures c.in_default.ensures.passed c.in-None.ensures.key (sym c.if-is_shut-2.ensures) full
+    answers-full p c.args.sel c.args.chan c.args.ops c.args.note x within c.index-selector.ensures (c.in_default.ensures.passed c.args.note) c.in-None.ensures.key (sym c.if-is_shut-2.ensures) full
 
 pub returns-in_err-add_key-in-None : goal.returns-in_err-add_key-in-None
 returns-in_err-add_key-in-None c =
@@ -64,5 +69,7 @@ returns-in_ok-add_key-in-None c =
     let y = c.index_mut-in-None.result.now in
     let same = same_row p c.args.sel.0 y x within c.index_mut-in-None.ensures.value c.index-selector.ensures in
     let as_new = ap (λ k. with_new_key (selector_row y) k.stage.chan.0 k) c.new.ensures in
-    let added = c.in_ok-add_key-in-None.ensures.ok ∙ (as_new ∙ ap (λ r. with_new_key r chan (new_key_row chan c.args.ops)) same) in
-    answers-new p c.args.sel c.args.chan c.args.ops x within c.index-selector.ensures c.in_default.ensures.passed c.in-None.ensures.key _ c.add_key.new.self c.len-index.result (sym c.if-is_shut-2.ensures) number room added refl refl
+    let att = c.unwrap_or.ensures ∙ given-unwrapped c.args.note in
+    let noted = ap (λ n. with_new_key (selector_row y) chan (new_key_row chan c.args.ops n)) att in
+    let added = c.in_ok-add_key-in-None.ensures.ok ∙ ((as_new ∙ noted) ∙ ap (λ r. with_new_key r chan (new_key_row chan c.args.ops (given_or_none c.args.note))) same) in
+    answers-new p c.args.sel c.args.chan c.args.ops c.args.note x within c.index-selector.ensures (c.in_default.ensures.passed c.args.note) c.in-None.ensures.key _ c.add_key.new.self c.len-index.result (sym c.if-is_shut-2.ensures) number room added refl refl

@@ -15,7 +15,7 @@ returns-then-sel-len c =
     let p = c.args.self.now in
     let past : length p.selectors.items ≤ c.args.sel.0 = omega (arith, p.selectors.ok.0) in
     refused_as p reply.NoSelector _
-    (told-no_selector p.limits (state_of p) c.args.me c.args.sel c.args.pairs.now (selector_made-past p.selectors.items c.args.sel.0 past))
+    (told-no_selector (state_of p) c.args.me c.args.sel c.args.elapsed c.args.pairs.now (selector_made-past p.selectors.items c.args.sel.0 past))
 
 pub returns-in_default : goal.returns-in_default
 returns-in_default c =
@@ -25,7 +25,7 @@ returns-in_default c =
     let within : s < length p.selectors.items = omega (arith, p.selectors.ok.0) in
     let at = places_at selector_row no_selector p.selectors.items s x within c.index-selector.ensures in
     refused_as p reply.NotSelecting _
-    (told-own p.limits (state_of p) c.args.me c.args.sel c.args.pairs.now _
+    (told-own (state_of p) c.args.me c.args.sel c.args.elapsed c.args.pairs.now _
     (selector_made-below p.selectors.items s within)
     (own-none p c.args.me s x at c.in_default.is))
 
@@ -37,7 +37,7 @@ returns-then-selecting-me c =
     let within : s < length p.selectors.items = omega (arith, p.selectors.ok.0) in
     let at = places_at selector_row no_selector p.selectors.items s x within c.index-selector.ensures in
     refused_as p reply.NotSelecting _
-    (told-own p.limits (state_of p) c.args.me c.args.sel c.args.pairs.now _
+    (told-own (state_of p) c.args.me c.args.sel c.args.elapsed c.args.pairs.now _
     (selector_made-below p.selectors.items s within)
     (own-others p c.args.me s x c.in-Some.selecting at c.in-Some.is c.if-selecting-me.true))
 
@@ -54,7 +54,7 @@ returns-then-is_again c =
     let looked = c.deref-2.ensures.value in
     let told' = c.deref-3.ensures.value in
     let counted = c.updated_count-count.ensures ∙ (λ j. count_by (λ (q : ℕ × ℕ). is_updated (places key_row no_key (keys j) q.0).mark (bit_and (get_or (told' j) q.0 0) q.1)) (looked j)) in
-    answers-again p c.args.me c.args.sel c.args.pairs.now x y within c.index-selector.ensures c.in-Some.is c.if-selecting-me.false told told_is c.updated_count-count.result counted c.gate-gate.result c.gate-gate.ensures c.is_interrupted-interrupted.result c.is_interrupted-interrupted.ensures (sym c.if-is_again.ensures)
+    answers-again p c.args.me c.args.sel c.args.elapsed c.args.pairs.now x y within c.index-selector.ensures c.in-Some.is c.if-selecting-me.false told told_is c.updated_count-count.result counted c.gate-gate.result c.gate-gate.ensures c.is_interrupted-interrupted.result c.is_interrupted-interrupted.ensures (sym c.if-is_again.ensures)
 
 pub returns : goal.returns
 returns c =
@@ -73,4 +73,4 @@ returns c =
     let one : w ≡ x = (c.index_mut.ensures.value ∙ get_or_default p.selectors.items s w x within) ∙ sym c.index-selector.ensures in
     let some = ap (λ (z : Selector). z.selecting) one ∙ c.in-Some.is in
     let ended = some_at _ _ _ some c.end_selection.ensures in
-    answers-told p c.args.me c.args.sel c.args.pairs.now x y within c.index-selector.ensures c.in-Some.is c.if-selecting-me.false told told_is c.updated_count-count.result counted c.gate-gate.result c.gate-gate.ensures c.is_interrupted-interrupted.result c.is_interrupted-interrupted.ensures _ c.end_selection.new.self c.why_ended.result (sym c.if-is_again.ensures) c.why_ended.ensures (ended ∙ (λ j. with_selection_ended (selector_row (one j)) y.looked.items (λ i. get_or (c.deref-4.ensures.value j) i 0) y.bound)) refl refl
+    answers-told p c.args.me c.args.sel c.args.elapsed c.args.pairs.now x y within c.index-selector.ensures c.in-Some.is c.if-selecting-me.false told told_is c.updated_count-count.result counted c.gate-gate.result c.gate-gate.ensures c.is_interrupted-interrupted.result c.is_interrupted-interrupted.ensures _ c.end_selection.new.self c.why_ended.result (sym c.if-is_again.ensures) c.why_ended.ensures (ended ∙ (λ j. with_selection_ended (selector_row (one j)) y.looked.items (λ i. get_or (c.deref-4.ensures.value j) i 0) y.bound)) refl refl

@@ -1,7 +1,7 @@
 use Rattle.std.proofs.Common.{◌+◌, ◌<◌, length, ap, ◌∙◌, arith}
 use Rattle.std.proofs.lemmas.List.{length-set}
-use Rattle.nio_plain.proofs.Sweeping.{swept-step}
-use Rattle.nio_plain.specs.PlainState.{SelectorRow, selector_row, swept}
+use Rattle.nio_plain.proofs.Changing.{changed-step}
+use Rattle.nio_plain.specs.PlainState.{SelectorRow, selector_row, key_row, no_key, swept, swept_key}
 use Rattle.nio_plain.proofs.plain.selector.Selector.sweep.Goals as goal
 
 pub loop-index-preserved : goal.loop-index-preserved
@@ -12,7 +12,7 @@ loop-index-preserved c =
     let keys = (selector_row c.args.self.now).keys in
     let within : i < length xs = omega (arith, s.keys.ok.0, c.loop-index.invariant.long) in
     let so_far = ap (λ r. r.keys) c.loop-index.invariant.swept in
-    let step = swept-step keys xs i c.index_mut.result.now c.sweep.new.self so_far within c.index_mut.ensures.value c.sweep.ensures in
+    let step = changed-step key_row no_key swept_key keys xs i c.index_mut.result.now c.sweep.new.self so_far within c.index_mut.ensures.value c.sweep.ensures in
     let len = length-set xs i c.sweep.new.self in
     let other_keys : SelectorRow → SelectorRow = λ r. record r { keys = swept keys (i + 1) } in
     record {

@@ -1,0 +1,18 @@
+use Rattle.std.proofs.Common.{sym, ap, ◌∙◌}
+use Rattle.nio_event.specs.declared.reply.Reply.TheVariants as reply
+use Rattle.nio_plain.proofs.Answering.{refused_without_memory}
+use Rattle.nio_plain.specs.PlainState.{state_of}
+use Rattle.nio_plain.specs.Seq.{refused, is_registered_call, yes_or_no}
+use Rattle.nio_plain.proofs.plain.Plain.is_registered_channel.Goals as goal
+
+pub returns-in-Ok : goal.returns-in-Ok
+unfolding is_registered_call
+returns-in-Ok c =
+    let st = state_of c.args.self.now in
+    refused_without_memory c.args.self.now _ _
+    (c.in-Ok.ensures.through _ ∙ ap (refused st) (sym (c.yes_or_no.ensures ∙ ap yes_or_no c.is_registered.ensures)))
+
+pub returns-in-Err : goal.returns-in-Err
+unfolding is_registered_call
+returns-in-Err c =
+    refused_without_memory c.args.self.now _ _ (c.in-Err.ensures.refused _)

@@ -1,0 +1,81 @@
+//! Closing a selector, in two parts, and closing a channel.
+ghost use Rattle.std.specs.Prelude.{◌≡◌};
+ghost use Rattle.nio_plain.specs.Plain.{Answers};
+ghost use Rattle.nio_plain.specs.PlainState.{limits_of, state_of};
+ghost use Rattle.nio_plain.specs.Seq.{close_call, close_end_call, closec_call, with_keys_cancelled};
+
+use super::Plain;
+use super::selector::Closing;
+use nio_base::{CallerNo, ChanNo, SelNo};
+use nio_event::Reply;
+
+impl Plain {
+    /// Begins to close the selector: from now on selections and registrations are refused.
+    pub(super) fn close(&mut self, me: CallerNo, sel: SelNo) -> Reply
+        ensures { Answers self.old self.new result (close_call (state_of self.old) me sel) }
+    {
+        let place = match self.selector(sel) {
+            Ok(place) => place,
+            Err(refusal) => return refusal,
+        };
+        if self.selectors[place].is_shut() {
+            return Reply::Already;
+        }
+        self.selectors[place].closing = Some(Closing {
+            closer: me,
+            finished: false,
+        });
+        Reply::Closing
+    }
+
+    /// Ends the closing that the caller began: every key is removed.
+    pub(super) fn close_end(&mut self, me: CallerNo, sel: SelNo) -> Reply
+        ensures { Answers self.old self.new result (close_end_call (state_of self.old) me sel) }
+    {
+        let place = match self.selector(sel) {
+            Ok(place) => place,
+            Err(refusal) => return refusal,
+        };
+        let selector = &self.selectors[place];
+        let Some(closing) = selector.closing else {
+            return Reply::NotClosing;
+        };
+        if closing.closer.0 != me.0 {
+            return Reply::NotClosing;
+        }
+        if closing.finished {
+            return Reply::NotClosing;
+        }
+        if selector.selecting.is_some() {
+            return Reply::Busy;
+        }
+        self.selectors[place].finish_closing(closing.closer);
+        Reply::Closed
+    }
+
+    /// Closes the channel, and cancels its key in each selector.
+    pub(super) fn close_channel(&mut self, chan: ChanNo) -> Reply
+        ensures { Answers self.old self.new result (closec_call (state_of self.old) chan) }
+    {
+        let channel = match self.channel(chan) {
+            Ok(channel) => channel,
+            Err(refusal) => return refusal,
+        };
+        if channel.closed {
+            return Reply::Already;
+        }
+        self.channels[chan.0 as usize].closed = true;
+        self.cancel_keys_of(chan);
+        Reply::Ok
+    }
+
+    /// Cancels the channel's key in each selector.
+    fn cancel_keys_of(&mut self, chan: ChanNo)
+        ensures left { state_of self.new ≡ record (state_of self.old) { shared = with_keys_cancelled (state_of self.old).shared chan.0 } }
+        ensures limits { limits_of self.new ≡ limits_of self.old }
+    {
+        for place in 0..self.selectors.len() {
+            self.selectors[place].cancel_key_of(chan);
+        }
+    }
+}

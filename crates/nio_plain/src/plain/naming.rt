@@ -1,0 +1,82 @@
+//! The names of a line: the channel, the selector or the key that each stands for, or the refusal.
+ghost use Rattle.std.specs.Prelude.{◌≡◌, ◌<◌, IfErr, IfOk, vec_len};
+ghost use Rattle.nio_plain.specs.Naming.{LetsThrough, Refuses};
+ghost use Rattle.nio_plain.specs.PlainState.{channel_row, key_row, limits_of, no_selector, places, selector_row, state_of, with_key_row};
+ghost use Rattle.nio_plain.specs.Seq.{with_named_channel, with_named_key, with_named_selector, with_valid_key};
+
+use super::Plain;
+use super::channel::Channel;
+use super::selector::Key;
+use nio_base::{ChanNo, SelNo};
+use nio_event::Reply;
+
+impl Plain {
+    /// The channel of this name.
+    pub(super) fn channel(&self, chan: ChanNo) -> Result<Channel, Reply>
+        ensures through { IfOk result (λ _. LetsThrough (with_named_channel (state_of self.now) chan)) }
+        ensures row { IfOk result (λ channel. (state_of self.now).shared.chan chan.0 ≡ channel_row channel) }
+        ensures made { IfOk result (λ _. chan.0 < vec_len self.now.channels) }
+        ensures refused { IfErr result (Refuses (state_of self.now) (with_named_channel (state_of self.now) chan)) }
+    {
+        if chan.0 as usize >= self.channels.len() {
+            return Err(Reply::NoChannel);
+        }
+        Ok(self.channels[chan.0 as usize])
+    }
+
+    /// The place of the selector of this name.
+    pub(super) fn selector(&self, sel: SelNo) -> Result<usize, Reply>
+        ensures through { IfOk result (λ _. LetsThrough (with_named_selector (state_of self.now) sel)) }
+        ensures place { IfOk result (λ place. place ≡ sel.0) }
+        ensures made { IfOk result (λ _. sel.0 < vec_len self.now.selectors) }
+        ensures refused { IfErr result (Refuses (state_of self.now) (with_named_selector (state_of self.now) sel)) }
+    {
+        if sel.0 as usize >= self.selectors.len() {
+            return Err(Reply::NoSelector);
+        }
+        Ok(sel.0 as usize)
+    }
+
+    /// The key of this name.
+    pub(super) fn key(&self, sel: SelNo, index: u32) -> Result<Key, Reply>
+        ensures through { IfOk result (λ _. LetsThrough (with_named_key (state_of self.now) sel index)) }
+        ensures row { IfOk result (λ key. (places selector_row no_selector self.now.selectors.items sel.0).keys index ≡ key_row key) }
+        ensures claimed { IfOk result (λ _. index < (state_of self.now).shared.keys_mark sel.0) }
+        ensures refused { IfErr result (Refuses (state_of self.now) (with_named_key (state_of self.now) sel index)) }
+    {
+        if sel.0 as usize >= self.selectors.len() {
+            return Err(Reply::NoSelector);
+        }
+        let selector = &self.selectors[sel.0 as usize];
+        if index as usize >= selector.keys.len() {
+            return Err(Reply::NoKey);
+        }
+        Ok(selector.keys[index as usize])
+    }
+
+    /// The key of this name, where it is valid.
+    pub(super) fn valid_key(&self, sel: SelNo, index: u32) -> Result<Key, Reply>
+        ensures through { IfOk result (λ _. LetsThrough (with_valid_key (state_of self.now) sel index)) }
+        ensures row { IfOk result (λ key. (places selector_row no_selector self.now.selectors.items sel.0).keys index ≡ key_row key) }
+        ensures claimed { IfOk result (λ _. index < (state_of self.now).shared.keys_mark sel.0) }
+        ensures refused { IfErr result (Refuses (state_of self.now) (with_valid_key (state_of self.now) sel index)) }
+    {
+        let key = match self.key(sel, index) {
+            Ok(key) => key,
+            Err(refusal) => return Err(refusal),
+        };
+        if !key.is_valid() {
+            return Err(Reply::CancelledKey);
+        }
+        Ok(key)
+    }
+
+    /// Puts a key in the place of one.
+    pub(super) fn put_key(&mut self, sel: SelNo, index: u32, key: Key)
+        requires { index < (state_of self.old).shared.keys_mark sel.0 }
+        ensures left { state_of self.new ≡ with_key_row (state_of self.old) sel.0 index (key_row key) }
+        ensures limits { limits_of self.new ≡ limits_of self.old }
+    {
+        self.selectors[sel.0 as usize].put_key(index, key);
+    }
+}
