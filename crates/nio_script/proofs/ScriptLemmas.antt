@@ -168,3 +168,12 @@ AreCalls-one r caller call e blank only (call_line {caller = t} {c = k} is no_li
     let callers : t ≡ caller = cc in
     let calls : k ≡ call = cc in
     ap (λ x. record { caller = x; call = k } ∷ []) callers ∙ ap (λ x. record { caller = caller; call = x } ∷ []) calls
+
+-- a line that was read as blank has no calls
+pub AreCalls-blank : {line : List ℕ} {added : List ScriptCall} (r : Result Parsed ParseError)
+    → r ≡ Ok Blank
+    → ((t : CallerNo) (k : Call) → IsLine t k line → r ≢ Err Memory → r ≡ Ok (Line t k))
+    → AreCalls (line ∷ []) added → added ≡ []
+AreCalls-blank r e only (blank_line b no_lines) = refl
+AreCalls-blank r e only (call_line {caller = t} {c = k} is no_lines) =
+    let same = only t k is (λ lacks. cc) in absurd cc

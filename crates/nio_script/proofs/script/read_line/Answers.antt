@@ -1,7 +1,7 @@
 use Rattle.std.proofs.Common.{[], ◌∷◌, ◌++◌, sym, ap, ◌∙◌}
 use Rattle.std.specs.Prelude.{Ok}
 use Rattle.nio_event.specs.Script.{no_lines, blank_line, call_line, is_blank, is_call}
-use Rattle.nio_script.proofs.ScriptLemmas.{append-nil_sym, AreCalls-one}
+use Rattle.nio_script.proofs.ScriptLemmas.{append-nil_sym, AreCalls-blank, AreCalls-one}
 use Rattle.nio_script.proofs.script.read_line.Goals as goal
 
 pub returns-in-Ok-Blank-clause-read : goal.returns-in-Ok-Blank-clause-read
@@ -26,3 +26,9 @@ returns-in_ok-push-in-Ok-Line-clause-only c = λ added are.
     let read = c.in-Ok-Line in
     let one = AreCalls-one (Ok read.field-0) read.caller read.call (ap Ok read.field-0-is) read.ensures.blank.1 read.ensures.only are in
     c.in_ok-push-in-Ok-Line.ensures.items ∙ ap (λ xs. c.args.calls.now.items ++ xs) (sym one)
+
+pub returns-in-Ok-Blank-clause-only : goal.returns-in-Ok-Blank-clause-only
+returns-in-Ok-Blank-clause-only c = λ added are.
+    let read = c.in-Ok-Blank in
+    let none = AreCalls-blank (Ok read.field-0) (ap Ok read.field-0-is) read.ensures.only are in
+    append-nil_sym _ ∙ ap (λ xs. c.args.calls.now.items ++ xs) (sym none)
