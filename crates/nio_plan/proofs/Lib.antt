@@ -10,3 +10,4 @@ mod Worked
 pub mod StandLaws
 pub mod TurnLaws
 pub mod ClosedLaws
+pub mod LookedLaws
