@@ -4,17 +4,19 @@ use Rattle.std.specs.Prelude.{⊤, is_some, nat_lt}
 use Rattle.std.proofs.lemmas.Bool.{and_parts, and_from, ltb-true}
 use Rattle.std.proofs.lemmas.List.Elements.{All-weaker}
 use Rattle.std.proofs.lemmas.List.Folds.{list_any-append, list_any_none}
+use Rattle.nio_base.specs.declared.limits.Limits.{Limits}
 use Rattle.nio_base.specs.declared.numbers.CallerNo.{CallerNo}
 use Rattle.nio_base.specs.declared.numbers.SelNo.{SelNo}
 use Rattle.nio_event.proofs.OneMore.{state_after-more}
 use Rattle.nio_event.proofs.Put.{put_at-same}
 use Rattle.nio_event.proofs.Stays.{nothing_goes_back}
 use Rattle.nio_event.specs.Acts.{effect}
-use Rattle.nio_event.specs.Histories.{state_after, mine, event_of}
+use Rattle.nio_event.specs.Histories.{state_after, mine, event_of, IsLegal}
 use Rattle.nio_event.specs.Lasting.{key_removed}
 use Rattle.nio_event.specs.OwnEvents.{has, finds_below}
 use Rattle.nio_event.specs.Questions.{Question, question_of, answer_of}
 use Rattle.nio_event.specs.State.{State, put_at}
+use Rattle.nio_event.specs.declared.event.Event.{Event}
 use Rattle.nio_event.specs.declared.act.Act.{Act}
 use Rattle.nio_event.specs.declared.act.Act.TheVariants.{LookKeys, Remove}
 use Rattle.nio_plan.proofs.EachLaws.{each_bind, each_sweep, each_run, split}
@@ -42,7 +44,7 @@ look-finds : (s : SelNo) (i : ℕ) (act : Act) → question_of act ≡ Question.
 look-finds s i (LookKeys s' found) asks finds = ltb-true i found (and_parts (s'.0 == s.0) (nat_lt i found) finds).1
 look-finds s i _ asks finds = absurd (cc asks)
 
-remove-removes : (s : SelNo) (i : ℕ) (act : Act) → question_of act ≡ Question.remove s i → removes s.0 i act ≡ true
+pub remove-removes : (s : SelNo) (i : ℕ) (act : Act) → question_of act ≡ Question.remove s i → removes s.0 i act ≡ true
 remove-removes s i (Remove s' i' found) asks =
     let first : s' ≡ s = cc asks in
     let second : i' ≡ i = cc asks in
@@ -67,7 +69,7 @@ turn-removes : (s : SelNo) (i : ℕ) (acts : List Act) (y : Unit {0}) → Comple
 turn-removes s i [] y run = absurd (cc run)
 turn-removes s i (act ∷ acts) y run = ap (λ b. b || has (removes s.0 i) acts) (remove-removes s i act run.0)
 
-has-between : (p : Act → Bool) (before turn after : List Act) → has p turn ≡ true → has p (before ++ (turn ++ after)) ≡ true
+pub has-between : (p : Act → Bool) (before turn after : List Act) → has p turn ≡ true → has p (before ++ (turn ++ after)) ≡ true
 has-between p before turn after there =
     list_any-append p before (turn ++ after) ∙ (ap (λ b. has p before || b) (list_any-append p turn after ∙ ap (λ b. b || has p after) there) ∙ or-true (has p before))
   where
@@ -125,13 +127,19 @@ removes-removed st n s i (Remove s' i' found) is =
     (subst (λ (k : ℕ). ((put_at st.key s'.0 i' (record (st.key s'.0 i') { removed = true })) s'.0 k).removed ≡ true) second here)
 removes-removed st n s i _ is = absurd (cc is)
 
-pub closed_removes_all : ClosedRemovesAll
-closed_removes_all l n events s own acts later legal parts run i finds =
-    let there : has (removes s.0 i) (mine n events) ≡ true = ap (has (removes s.0 i)) parts ∙ has-between (removes s.0 i) own acts later (run-removes s i acts run finds) in
-    let found = find_act (removes s.0 i) (mine n events) there in
+-- who removed a key once leaves it removed
+pub removed_stands : (l : Limits) (n : CallerNo) (events : List Event) (s i : ℕ) → IsLegal l events → has (removes s i) (mine n events) ≡ true
+    → ((state_after events).key s i).removed ≡ true
+removed_stands l n events s i legal there =
+    let found = find_act (removes s i) (mine n events) there in
     let cut = cut_at n events found.before found.act found.later found.parts in
     let e = event_of n found.act in
     let joined : (cut.past ++ e ∷ []) ++ cut.later ≡ events = append_assoc cut.past (e ∷ []) cut.later ∙ sym cut.parts in
-    let here : ((state_after (cut.past ++ e ∷ [])).key s.0 i).removed ≡ true
-    = ap (λ x. (x.key s.0 i).removed) (state_after-more cut.past e) ∙ removes-removed (state_after cut.past) n s.0 i found.act found.passes in
-    nothing_goes_back l (cut.past ++ e ∷ []) events (cut.later, joined) legal (key_removed s.0 i) here
+    let here : ((state_after (cut.past ++ e ∷ [])).key s i).removed ≡ true
+          = ap (λ x. (x.key s i).removed) (state_after-more cut.past e) ∙ removes-removed (state_after cut.past) n s i found.act found.passes in
+    nothing_goes_back l (cut.past ++ e ∷ []) events (cut.later, joined) legal (key_removed s i) here
+
+pub closed_removes_all : ClosedRemovesAll
+closed_removes_all l n events s own acts later legal parts run i finds =
+    removed_stands l n events s.0 i legal
+      (ap (has (removes s.0 i)) parts ∙ has-between (removes s.0 i) own acts later (run-removes s i acts run finds))

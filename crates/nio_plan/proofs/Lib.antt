@@ -11,3 +11,4 @@ pub mod StandLaws
 pub mod TurnLaws
 pub mod ClosedLaws
 pub mod LookedLaws
+pub mod GoneLaws
