@@ -136,10 +136,10 @@ removed_stands l n events s i legal there =
     let e = event_of n found.act in
     let joined : (cut.past ++ e ∷ []) ++ cut.later ≡ events = append_assoc cut.past (e ∷ []) cut.later ∙ sym cut.parts in
     let here : ((state_after (cut.past ++ e ∷ [])).key s i).removed ≡ true
-          = ap (λ x. (x.key s i).removed) (state_after-more cut.past e) ∙ removes-removed (state_after cut.past) n s i found.act found.passes in
+    = ap (λ x. (x.key s i).removed) (state_after-more cut.past e) ∙ removes-removed (state_after cut.past) n s i found.act found.passes in
     nothing_goes_back l (cut.past ++ e ∷ []) events (cut.later, joined) legal (key_removed s i) here
 
 pub closed_removes_all : ClosedRemovesAll
 closed_removes_all l n events s own acts later legal parts run i finds =
     removed_stands l n events s.0 i legal
-      (ap (has (removes s.0 i)) parts ∙ has-between (removes s.0 i) own acts later (run-removes s i acts run finds))
+    (ap (has (removes s.0 i)) parts ∙ has-between (removes s.0 i) own acts later (run-removes s i acts run finds))

@@ -1,7 +1,7 @@
 -- A key that was cancelled before a selection begins is gone when it has begun.
-use Rattle.std.proofs.Common.{◌≡◌, ◌≢◌, ℕ, ◌+◌, ◌-◌, ◌<◌, ◌≤◌, ◌==◌, Bool, true, false, not, ◌&&◌, ◌||◌, if◌then◌else◌, Option, Some, None, Result, Ok, Err, List, [], ◌∷◌, ◌++◌, map, refl, ap, sym, ◌∙◌, subst, append_assoc, eqb-true, arith, IsTrue}
+use Rattle.std.proofs.Common.{◌≡◌, ◌≢◌, ℕ, ◌-◌, ◌==◌, Bool, true, false, not, ◌&&◌, ◌||◌, if◌then◌else◌, Result, Ok, Err, List, [], ◌∷◌, ◌++◌, map, refl, ap, sym, ◌∙◌, subst, append_assoc, eqb-true, arith}
 use Rattle.std.specs.Prelude.{is_some}
-use Rattle.std.specs.List.{All, filter}
+use Rattle.std.specs.List.{filter}
 use Rattle.std.proofs.lemmas.Bool.{and_parts, and_from}
 use Rattle.std.proofs.lemmas.List.{append-nil, map-append}
 use Rattle.std.proofs.lemmas.List.Folds.{list_any-append}
@@ -11,10 +11,10 @@ use Rattle.nio_base.specs.declared.numbers.CallerNo.{CallerNo}
 use Rattle.nio_base.specs.declared.numbers.SelNo.{SelNo}
 use Rattle.nio_event.proofs.Legal.{legal_beginning, legal_next}
 use Rattle.nio_event.proofs.Stays.{nothing_goes_back}
-use Rattle.nio_event.specs.Histories.{state_after, is_by, mine, event_of, IsStep, IsLegal}
+use Rattle.nio_event.specs.Histories.{state_after, is_by, mine, event_of, IsLegal}
 use Rattle.nio_event.specs.Lasting.{key_published, key_cancelled, key_removed}
 use Rattle.nio_event.specs.OwnEvents.{has}
-use Rattle.nio_event.specs.Questions.{Question, Answer, question_of, answer_of}
+use Rattle.nio_event.specs.Questions.{Question, question_of, answer_of}
 use Rattle.nio_event.specs.Sets.{in_cancelled_set, is_valid}
 use Rattle.nio_event.specs.declared.act.Act.{Act}
 use Rattle.nio_event.specs.declared.act.Act.TheVariants.{LookKey}
@@ -27,7 +27,7 @@ use Rattle.nio_plan.proofs.LookedLaws.{WasValid, sweep-valid}
 use Rattle.nio_plan.proofs.StandLaws.{cut_at, find_act}
 use Rattle.nio_plan.proofs.TurnLaws.{sweep-turns}
 use Rattle.nio_plan.specs.Laws.{CancelledKeysGo}
-use Rattle.nio_plan.specs.Plan.{Plan, reply, ◌>>=◌}
+use Rattle.nio_plan.specs.Plan.{reply, ◌>>=◌}
 use Rattle.nio_plan.specs.Runs.{Completes}
 use Rattle.nio_plan.specs.SelectCalls.{Selection, begin_plan, begin_with_turn, begin_below, given_back, look_over}
 use Rattle.nio_plan.specs.Selections.{removes, finds_valid}
@@ -126,7 +126,7 @@ valid-look s i (LookKey s' i' found) finds =
 valid-look s i _ finds = absurd (cc finds)
 
 module _ (l : Limits) (n : CallerNo) (before later : List Event) (s : SelNo) (i : ℕ) (legal : IsLegal l (before ++ later))
-  (published : ((state_after before).key s.0 i).published ≡ true) (cancelled : ((state_after before).key s.0 i).cancelled ≡ true) where
+    (published : ((state_after before).key s.0 i).published ≡ true) (cancelled : ((state_after before).key s.0 i).cancelled ≡ true) where
   -- the look finds the key published and cancelled, and if it finds it removed it is so ever after
   record Finds (found : Stage) : Type 0 where
     published_too : found.published ≡ true
@@ -146,7 +146,7 @@ module _ (l : Limits) (n : CallerNo) (before later : List Event) (s : SelNo) (i 
         published_too = ap (λ (k : Stage). k.published) stands ∙ nothing_goes_back l before (before ++ cut.past) (cut.past, refl) here (key_published s.0 i) published;
         cancelled_too = ap (λ (k : Stage). k.cancelled) stands ∙ nothing_goes_back l before (before ++ cut.past) (cut.past, refl) here (key_cancelled s.0 i) cancelled;
         removed_for_good = λ removed. nothing_goes_back l (before ++ cut.past) (before ++ later) (e ∷ cut.later, sym joined) legal (key_removed s.0 i)
-          (sym (ap (λ (k : Stage). k.removed) stands) ∙ removed);
+            (sym (ap (λ (k : Stage). k.removed) stands) ∙ removed);
       }
 
   -- the turn of the index removes the key, or finds it removed
@@ -164,6 +164,7 @@ module _ (l : Limits) (n : CallerNo) (before later : List Event) (s : SelNo) (i 
       go true is t [] went = absurd (cc went)
       go true is t (act ∷ rest) went = ap (λ b. b || has (removes s.0 i) rest) (remove-removes s i act went.0)
       go false is t rest went = absurd (cc t)
+
       by_removed : (b : Bool) → (stage_in (answer_of look)).removed ≡ b → Finds (stage_in (answer_of look))
           → Completes (if in_cancelled_set (stage_in (answer_of look)) then (remove s i >>= λ _. reply looked) else (if is_valid (stage_in (answer_of look)) then (look_interest s i >>= λ ops. reply (looked ++ record { index = i; channel = (stage_in (answer_of look)).chan; interest = ops } ∷ [])) else reply looked)) acts y
           → ((state_after (before ++ later)).key s.0 i).removed ≡ true
@@ -175,7 +176,7 @@ module _ (l : Limits) (n : CallerNo) (before later : List Event) (s : SelNo) (i 
           let joined : mine n later ≡ (xs ++ look ∷ []) ++ (acts ++ ys) = own ∙ sym (append_assoc xs (look ∷ []) (acts ++ ys)) in
           let among : has (removes s.0 i) (mine n later) ≡ true = ap (has (removes s.0 i)) joined ∙ has-between (removes s.0 i) (xs ++ look ∷ []) acts ys removes_it in
           removed_stands l n (before ++ later) s.0 i legal
-            (ap (has (removes s.0 i)) (mine-append n before later) ∙ (list_any-append (removes s.0 i) (mine n before) (mine n later) ∙ or-true-right (has (removes s.0 i) (mine n before)) _ among))
+          (ap (has (removes s.0 i)) (mine-append n before later) ∙ (list_any-append (removes s.0 i) (mine n before) (mine n later) ∙ or-true-right (has (removes s.0 i) (mine n before)) _ among))
 
   -- a key that was found valid was not cancelled
   not-valid : (xs acts ys : List Act) → mine n later ≡ xs ++ (acts ++ ys) → has (finds_valid s.0 i) acts ≡ true → ⊥
@@ -184,8 +185,8 @@ module _ (l : Limits) (n : CallerNo) (before later : List Event) (s : SelNo) (i 
       let valid = valid-look s i look.act look.passes in
       let found = stage_in (answer_of look.act) in
       let at : mine n later ≡ (xs ++ look.before) ++ LookKey s i found ∷ (look.later ++ ys)
-            = own ∙ (ap (λ x. xs ++ (x ++ ys)) look.parts ∙ (ap (λ x. xs ++ x) (append_assoc look.before (look.act ∷ look.later) ys)
-              ∙ (sym (append_assoc xs look.before (look.act ∷ (look.later ++ ys))) ∙ ap (λ x. (xs ++ look.before) ++ x ∷ (look.later ++ ys)) valid.0))) in
+      = own ∙ (ap (λ x. xs ++ (x ++ ys)) look.parts ∙ (ap (λ x. xs ++ x) (append_assoc look.before (look.act ∷ look.later) ys)
+      ∙ (sym (append_assoc xs look.before (look.act ∷ (look.later ++ ys))) ∙ ap (λ x. (xs ++ look.before) ++ x ∷ (look.later ++ ys)) valid.0))) in
       let finds = look-finds (xs ++ look.before) found (look.later ++ ys) at in
       let not_cancelled = (and_parts (found.published && not found.removed) (not found.cancelled) valid.1).1 in
       contradiction found.cancelled finds.cancelled_too not_cancelled
@@ -200,13 +201,12 @@ cancelled_keys_go l n before later s mode lacks selection i legal run published 
     let turn = sweep-turns selection.bound 0 (look_over s) [] swept.swept selection.looked swept.runs i (omega arith) below in
     let has_it = turn.has_turn in
     let at : mine n later ≡ (swept.before ++ has_it.before) ++ (has_it.turn ++ has_it.after)
-          = swept.parts ∙ (ap (λ x. swept.before ++ x) has_it.parts ∙ sym (append_assoc swept.before has_it.before (has_it.turn ++ has_it.after))) in
+    = swept.parts ∙ (ap (λ x. swept.before ++ x) has_it.parts ∙ sym (append_assoc swept.before has_it.before (has_it.turn ++ has_it.after))) in
     let gone = turn-gone l n before later s i legal published cancelled turn.from turn.to (swept.before ++ has_it.before) has_it.turn has_it.after at has_it.runs in
     let was = sweep-valid s (selection.bound - 0) 0 [] [] swept.swept selection.looked (All-nil (WasValid s [])) swept.runs in
-    let whole : mine n later ≡ swept.before ++ (swept.swept ++ []) = swept.parts ∙ ap (λ x. swept.before ++ x) (sym (append-nil swept.swept)) in
-    (
+    let whole : mine n later ≡ swept.before ++ (swept.swept ++ []) = swept.parts ∙ ap (λ x. swept.before ++ x) (sym (append-nil swept.swept)) in (
       gone,
       All-weaker (WasValid s swept.swept) (λ entry. entry.index ≢ i)
-        (λ entry valid same. not-valid l n before later s i legal published cancelled swept.before swept.swept [] whole (subst (λ (k : ℕ). has (finds_valid s.0 k) swept.swept ≡ true) same valid))
-        selection.looked was,
+          (λ entry valid same. not-valid l n before later s i legal published cancelled swept.before swept.swept [] whole (subst (λ (k : ℕ). has (finds_valid s.0 k) swept.swept ≡ true) same valid))
+          selection.looked was,
     )

@@ -1,20 +1,17 @@
 -- What a beginning selection found of the keys that it looks at.
-use Rattle.std.proofs.Common.{◌≡◌, ℕ, zero, suc, ◌+◌, ◌-◌, ◌==◌, Bool, true, false, ◌&&◌, ◌||◌, if◌then◌else◌, Option, Some, None, Result, Ok, Err, List, [], ◌∷◌, ◌++◌, refl, ap, sym, ◌∙◌, subst, append_assoc, eq-eqb}
-use Rattle.std.specs.Prelude.{is_some}
+use Rattle.std.proofs.Common.{◌≡◌, ℕ, zero, suc, ◌+◌, ◌==◌, Bool, true, false, ◌&&◌, ◌||◌, if◌then◌else◌, List, [], ◌∷◌, ◌++◌, refl, ap, sym, ◌∙◌, subst, append_assoc, eq-eqb}
 use Rattle.std.specs.List.{All}
 use Rattle.std.proofs.lemmas.Bool.{and_from}
-use Rattle.std.proofs.lemmas.List.{append-nil}
-use Rattle.std.proofs.lemmas.List.Elements.{All-nil, All-push, All-weaker}
+use Rattle.std.proofs.lemmas.List.Elements.{All-push, All-weaker}
 use Rattle.std.proofs.lemmas.List.Folds.{list_any-append}
 use Rattle.nio_base.specs.declared.numbers.SelNo.{SelNo}
 use Rattle.nio_event.specs.OwnEvents.{has}
-use Rattle.nio_event.specs.Questions.{Question, Answer, question_of, answer_of}
+use Rattle.nio_event.specs.Questions.{Question, question_of, answer_of}
 use Rattle.nio_event.specs.Sets.{in_cancelled_set, is_valid}
 use Rattle.nio_event.specs.declared.act.Act.{Act}
 use Rattle.nio_event.specs.declared.act.Act.TheVariants.{LookKey}
-use Rattle.nio_event.specs.declared.found.Stage.{Stage}
 use Rattle.nio_plan.proofs.EachLaws.{split}
-use Rattle.nio_plan.specs.Plan.{Plan, reply, ◌>>=◌}
+use Rattle.nio_plan.specs.Plan.{reply, ◌>>=◌}
 use Rattle.nio_plan.specs.Runs.{Completes}
 use Rattle.nio_plan.specs.SelectCalls.{look_over}
 use Rattle.nio_plan.specs.Selections.{finds_valid}
@@ -36,7 +33,7 @@ or-true-right false b e = e
 was_valid-later : (s : SelNo) (acts later : List Act) (looked : List LookedKey) → All (WasValid s acts) looked → All (WasValid s (acts ++ later)) looked
 was_valid-later s acts later looked each =
     All-weaker (WasValid s acts) (WasValid s (acts ++ later))
-      (λ entry was. list_any-append (finds_valid s.0 entry.index) acts later ∙ or-true-left _ _ was) looked each
+    (λ entry was. list_any-append (finds_valid s.0 entry.index) acts later ∙ or-true-left _ _ was) looked each
 
 look-valid : (s : SelNo) (i : ℕ) (act : Act) → question_of act ≡ Question.look_key s i → is_valid (stage_in (answer_of act)) ≡ true → finds_valid s.0 i act ≡ true
 look-valid s i (LookKey s' i' found) asks valid =
@@ -52,6 +49,7 @@ turn-valid s i looked before (look ∷ acts) y each run = by_cancelled (in_cance
   where
     kept : (rest : List Act) → looked ≡ y → All (WasValid s (before ++ look ∷ rest)) y
     kept rest same = subst (All (WasValid s (before ++ look ∷ rest))) same (was_valid-later s before (look ∷ rest) looked each)
+
     by_valid : (b : Bool) → is_valid (stage_in (answer_of look)) ≡ b → (rest : List Act)
         → Completes (if b then (look_interest s i >>= λ ops. reply (looked ++ record { index = i; channel = (stage_in (answer_of look)).chan; interest = ops } ∷ [])) else reply looked) rest y
         → All (WasValid s (before ++ look ∷ rest)) y
@@ -60,12 +58,13 @@ turn-valid s i looked before (look ∷ acts) y each run = by_cancelled (in_cance
         let entry : LookedKey = record { index = i; channel = (stage_in (answer_of look)).chan; interest = operations_in (answer_of act) } in
         let same : looked ++ entry ∷ [] ≡ y = cc went.1 in
         let here : WasValid s (before ++ look ∷ act ∷ []) entry
-              = list_any-append (finds_valid s.0 i) before (look ∷ act ∷ []) ∙ or-true-right (has (finds_valid s.0 i) before) _ (or-true-left (finds_valid s.0 i look) _ (look-valid s i look run.0 is)) in
+        = list_any-append (finds_valid s.0 i) before (look ∷ act ∷ []) ∙ or-true-right (has (finds_valid s.0 i) before) _ (or-true-left (finds_valid s.0 i look) _ (look-valid s i look run.0 is)) in
         subst (All (WasValid s (before ++ look ∷ act ∷ []))) same
-          (All-push (WasValid s (before ++ look ∷ act ∷ [])) looked entry (was_valid-later s before (look ∷ act ∷ []) looked each) here)
+        (All-push (WasValid s (before ++ look ∷ act ∷ [])) looked entry (was_valid-later s before (look ∷ act ∷ []) looked each) here)
     by_valid true is (act ∷ more ∷ rest) went = absurd went.1
     by_valid false is [] went = kept [] (cc went)
     by_valid false is (act ∷ rest) went = absurd went
+
     by_cancelled : (b : Bool) (rest : List Act)
         → Completes (if b then (remove s i >>= λ _. reply looked) else (if is_valid (stage_in (answer_of look)) then (look_interest s i >>= λ ops. reply (looked ++ record { index = i; channel = (stage_in (answer_of look)).chan; interest = ops } ∷ [])) else reply looked)) rest y
         → All (WasValid s (before ++ look ∷ rest)) y
