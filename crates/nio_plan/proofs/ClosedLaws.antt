@@ -19,6 +19,7 @@ use Rattle.nio_event.specs.State.{State, put_at}
 use Rattle.nio_event.specs.declared.event.Event.{Event}
 use Rattle.nio_event.specs.declared.act.Act.{Act}
 use Rattle.nio_event.specs.declared.act.Act.TheVariants.{LookKeys, Remove}
+use Rattle.nio_plan.proofs.Either.{by_second, then_first, then_second}
 use Rattle.nio_plan.proofs.EachLaws.{each_bind, each_sweep, each_run, split}
 use Rattle.nio_plan.proofs.StandLaws.{cut_at, find_act}
 use Rattle.nio_plan.proofs.TurnLaws.{sweep-turns}
@@ -52,18 +53,6 @@ remove-removes s i (Remove s' i' found) asks =
 remove-removes s i _ asks = absurd (cc asks)
 
 -- ---- a run that finished
-
-or-second_of : (a b : Bool) → a ≡ false → (a || b) ≡ true → b ≡ true
-or-second_of true b is all = absurd (cc is)
-or-second_of false b is all = all
-
-or-first_of : (a b : Bool) → b ≡ false → (a || b) ≡ true → a ≡ true
-or-first_of true b is all = refl
-or-first_of false b is all = absurd (cc (sym all ∙ is))
-
-or-right : (a b : Bool) → b ≡ true → (a || b) ≡ true
-or-right true b e = refl
-or-right false b e = e
 
 turn-removes : (s : SelNo) (i : ℕ) (acts : List Act) (y : Unit {0}) → Completes (remove_key s i) acts y → has (removes s.0 i) acts ≡ true
 turn-removes s i [] y run = absurd (cc run)
@@ -102,7 +91,7 @@ unfolding finish_plan
 run-removes s i [] run finds = absurd (cc run)
 run-removes s i (enters ∷ acts) run finds =
     let none = not-finds s.0 i enters (ap asks_keys run.0) in
-    or-right (removes s.0 i enters) (has (removes s.0 i) acts) (by_holder (is_some (holder_in (answer_of enters))) acts run.1 (or-second_of (finds_below s.0 i enters) (has (finds_below s.0 i) acts) none finds))
+    by_second (removes s.0 i enters) (has (removes s.0 i) acts) (by_holder (is_some (holder_in (answer_of enters))) acts run.1 (then_second (finds_below s.0 i enters) (has (finds_below s.0 i) acts) none finds))
   where
     by_holder : (b : Bool) (rest : List Act)
         → Completes (if b then reply busy else (look_keys s >>= λ bound. (sweep_to bound 0 (λ k _. remove_key s k) tt >>= λ _. reply closed))) rest closed
@@ -112,8 +101,8 @@ run-removes s i (enters ∷ acts) run finds =
     by_holder false [] went found = absurd (cc found)
     by_holder false (look ∷ rest) went found =
         let no_more = sweep-no_look s (number_in (answer_of look)) i rest went.1 in
-        let below = look-finds s i look went.0 (or-first_of (finds_below s.0 i look) (has (finds_below s.0 i) rest) no_more found) in
-        or-right (removes s.0 i look) (has (removes s.0 i) rest) (sweep-removes s (number_in (answer_of look)) i rest went.1 below)
+        let below = look-finds s i look went.0 (then_first (finds_below s.0 i look) (has (finds_below s.0 i) rest) no_more found) in
+        by_second (removes s.0 i look) (has (removes s.0 i) rest) (sweep-removes s (number_in (answer_of look)) i rest went.1 below)
 
 -- ---- what was removed stays so
 

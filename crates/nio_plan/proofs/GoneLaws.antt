@@ -21,6 +21,7 @@ use Rattle.nio_event.specs.declared.act.Act.TheVariants.{LookKey}
 use Rattle.nio_event.specs.declared.event.Event.{Event}
 use Rattle.nio_event.specs.declared.found.Mode.{Mode}
 use Rattle.nio_event.specs.declared.found.Stage.{Stage}
+use Rattle.nio_plan.proofs.Either.{by_second}
 use Rattle.nio_plan.proofs.ClosedLaws.{removed_stands, has-between, remove-removes}
 use Rattle.nio_plan.proofs.EachLaws.{split}
 use Rattle.nio_plan.proofs.LookedLaws.{WasValid, sweep-valid}
@@ -106,10 +107,6 @@ module _ (s : SelNo) (mode : Mode) (selection : Selection) where
 mine-append : (n : CallerNo) (xs ys : List Event) → mine n (xs ++ ys) ≡ mine n xs ++ mine n ys
 mine-append n xs ys = ap (map (λ x. x.act)) (filter-append (is_by n) xs ys) ∙ map-append (λ x. x.act) (filter (is_by n) xs) (filter (is_by n) ys)
 
-or-true-right : (a b : Bool) → b ≡ true → (a || b) ≡ true
-or-true-right true b e = refl
-or-true-right false b e = e
-
 -- ---- a look at a key that was cancelled before
 
 key-look : (s : SelNo) (i : ℕ) (act : Act) → question_of act ≡ Question.look_key s i → act ≡ LookKey s i (stage_in (answer_of act))
@@ -176,7 +173,7 @@ module _ (l : Limits) (n : CallerNo) (before later : List Event) (s : SelNo) (i 
           let joined : mine n later ≡ (xs ++ look ∷ []) ++ (acts ++ ys) = own ∙ sym (append_assoc xs (look ∷ []) (acts ++ ys)) in
           let among : has (removes s.0 i) (mine n later) ≡ true = ap (has (removes s.0 i)) joined ∙ has-between (removes s.0 i) (xs ++ look ∷ []) acts ys removes_it in
           removed_stands l n (before ++ later) s.0 i legal
-          (ap (has (removes s.0 i)) (mine-append n before later) ∙ (list_any-append (removes s.0 i) (mine n before) (mine n later) ∙ or-true-right (has (removes s.0 i) (mine n before)) _ among))
+          (ap (has (removes s.0 i)) (mine-append n before later) ∙ (list_any-append (removes s.0 i) (mine n before) (mine n later) ∙ by_second (has (removes s.0 i) (mine n before)) _ among))
 
   -- a key that was found valid was not cancelled
   not-valid : (xs acts ys : List Act) → mine n later ≡ xs ++ (acts ++ ys) → has (finds_valid s.0 i) acts ≡ true → ⊥

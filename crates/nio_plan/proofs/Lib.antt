@@ -12,3 +12,5 @@ pub mod TurnLaws
 pub mod ClosedLaws
 pub mod LookedLaws
 pub mod GoneLaws
+pub mod Either
+pub mod BeginLaws

@@ -10,6 +10,7 @@ use Rattle.nio_event.specs.Questions.{Question, question_of, answer_of}
 use Rattle.nio_event.specs.Sets.{in_cancelled_set, is_valid}
 use Rattle.nio_event.specs.declared.act.Act.{Act}
 use Rattle.nio_event.specs.declared.act.Act.TheVariants.{LookKey}
+use Rattle.nio_plan.proofs.Either.{by_first, by_second}
 use Rattle.nio_plan.proofs.EachLaws.{split}
 use Rattle.nio_plan.specs.Plan.{reply, ◌>>=◌}
 use Rattle.nio_plan.specs.Runs.{Completes}
@@ -23,17 +24,10 @@ use Rattle.nio_plan.specs.declared.looked.LookedKey.{LookedKey}
 abbrev pub WasValid : SelNo → List Act → LookedKey → Type 0
 WasValid s acts entry = has (finds_valid s.0 entry.index) acts ≡ true
 
-or-true-left : (a b : Bool) → a ≡ true → (a || b) ≡ true
-or-true-left a b e = ap (λ x. x || b) e
-
-or-true-right : (a b : Bool) → b ≡ true → (a || b) ≡ true
-or-true-right true b e = refl
-or-true-right false b e = e
-
 was_valid-later : (s : SelNo) (acts later : List Act) (looked : List LookedKey) → All (WasValid s acts) looked → All (WasValid s (acts ++ later)) looked
 was_valid-later s acts later looked each =
     All-weaker (WasValid s acts) (WasValid s (acts ++ later))
-    (λ entry was. list_any-append (finds_valid s.0 entry.index) acts later ∙ or-true-left _ _ was) looked each
+    (λ entry was. list_any-append (finds_valid s.0 entry.index) acts later ∙ by_first _ _ was) looked each
 
 look-valid : (s : SelNo) (i : ℕ) (act : Act) → question_of act ≡ Question.look_key s i → is_valid (stage_in (answer_of act)) ≡ true → finds_valid s.0 i act ≡ true
 look-valid s i (LookKey s' i' found) asks valid =
@@ -58,7 +52,7 @@ turn-valid s i looked before (look ∷ acts) y each run = by_cancelled (in_cance
         let entry : LookedKey = record { index = i; channel = (stage_in (answer_of look)).chan; interest = operations_in (answer_of act) } in
         let same : looked ++ entry ∷ [] ≡ y = cc went.1 in
         let here : WasValid s (before ++ look ∷ act ∷ []) entry
-        = list_any-append (finds_valid s.0 i) before (look ∷ act ∷ []) ∙ or-true-right (has (finds_valid s.0 i) before) _ (or-true-left (finds_valid s.0 i look) _ (look-valid s i look run.0 is)) in
+        = list_any-append (finds_valid s.0 i) before (look ∷ act ∷ []) ∙ by_second (has (finds_valid s.0 i) before) _ (by_first (finds_valid s.0 i look) _ (look-valid s i look run.0 is)) in
         subst (All (WasValid s (before ++ look ∷ act ∷ []))) same
         (All-push (WasValid s (before ++ look ∷ act ∷ [])) looked entry (was_valid-later s before (look ∷ act ∷ []) looked each) here)
     by_valid true is (act ∷ more ∷ rest) went = absurd went.1

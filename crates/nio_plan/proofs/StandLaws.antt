@@ -23,6 +23,7 @@ use Rattle.nio_event.specs.declared.act.Act.TheVariants.{BeginLook, ShutBit}
 use Rattle.nio_event.specs.declared.event.Event.{Event}
 use Rattle.nio_event.specs.declared.found.GateWord.{GateWord}
 use Rattle.nio_event.specs.declared.found.Mode.{Mode}
+use Rattle.nio_plan.proofs.Either.{by_second}
 use Rattle.nio_plan.proofs.EachLaws.{each_bind, each_if, each_sweep, each_run}
 use Rattle.nio_plan.proofs.SelectionLaws.{NoGive, no_gives}
 use Rattle.nio_plan.specs.Each.{Each}
@@ -182,10 +183,6 @@ module _ (s : SelNo) (mode : Mode) (selection : Selection) where
 
 -- ---- it stands
 
-or-last : (a b : Bool) → b ≡ true → (a || b) ≡ true
-or-last true b e = refl
-or-last false b e = e
-
 -- who began a selection has begun on its selector, in every legal history
 pub selections_stand : SelectionsStand
 selections_stand l n events selection legal begun =
@@ -200,7 +197,7 @@ selections_stand l n events selection legal begun =
     let legal' = subst (IsLegal l) cut.parts legal in
     let step = legal_next l cut.past e cut.later legal' in
     let st = state_after cut.past in
-    let begins : (st.begun s.0 || not looked.found.shut) ≡ true = or-last (st.begun s.0) (not looked.found.shut) (ap not looked.opens) in
+    let begins : (st.begun s.0 || not looked.found.shut) ≡ true = by_second (st.begun s.0) (not looked.found.shut) (ap not looked.opens) in
     let here : has_begun (effect st n (BeginLook s looked.found)) n s ≡ true
     = and_from (has_turn st n s) (put st.begun s.0 (st.begun s.0 || not looked.found.shut) s.0) step.condition.1 (put-same st.begun s.0 (st.begun s.0 || not looked.found.shut) ∙ begins) in
     let there : has_begun (state_after (cut.past ++ e ∷ [])) n s ≡ true = ap (λ x. has_begun x n s) (state_after-more cut.past e) ∙ here in
