@@ -22,6 +22,7 @@ use Rattle.nio_event.specs.declared.event.Event.{Event}
 use Rattle.nio_event.specs.declared.found.Mode.{Mode}
 use Rattle.nio_event.specs.declared.found.Stage.{Stage}
 use Rattle.nio_plan.proofs.Either.{by_second}
+use Rattle.nio_plan.proofs.BeginLaws.{given, begin-parts}
 use Rattle.nio_plan.proofs.ClosedLaws.{removed_stands, has-between, remove-removes}
 use Rattle.nio_plan.proofs.EachLaws.{split}
 use Rattle.nio_plan.proofs.LookedLaws.{WasValid, sweep-valid}
@@ -49,14 +50,6 @@ module _ (s : SelNo) (mode : Mode) (selection : Selection) where
   abbrev begun : ℕ → List LookedKey → Selection
   begun bound looked = record { selector = s; mode = mode; bound = bound; looked = looked }
 
-  refused : (refusal : BeginError) (acts : List Act) → Completes (reply (Err refusal)) acts (Ok selection) → ⊥
-  refused refusal [] run = cc run
-  refused refusal (act ∷ acts) run = run
-
-  given : (refusal : BeginError) (acts : List Act) → Completes (given_back s (Err refusal)) acts (Ok selection) → ⊥
-  given refusal [] run = cc run
-  given refusal (act ∷ acts) run = refused refusal acts run.1
-
   ended : (bound : ℕ) (looked : List LookedKey) (acts first second : List Act) → acts ≡ first ++ second → Completes (sweep_to bound 0 (look_over s) []) first looked
       → Completes {R = Result Selection BeginError} (reply (Ok (begun bound looked))) second (Ok selection) → Swept s selection acts
   ended bound looked acts first [] parts runs run =
@@ -69,38 +62,28 @@ module _ (s : SelNo) (mode : Mode) (selection : Selection) where
       }
   ended bound looked acts first (act ∷ second) parts runs run = absurd run
 
-  more : (act : Act) (acts : List Act) → Swept s selection acts → Swept s selection (act ∷ acts)
-  more act acts swept = record { before = act ∷ swept.before; swept = swept.swept; parts = ap (λ xs. act ∷ xs) swept.parts; runs = swept.runs }
-
   below-swept : (bound : ℕ) (lacks : Bool) (acts : List Act) → Completes (begin_below s mode bound lacks) acts (Ok selection) → Swept s selection acts
-  below-swept bound true acts run = absurd (given BeginError.Memory acts run)
+  below-swept bound true acts run = absurd (given s selection BeginError.Memory acts run)
   below-swept bound false acts run =
       let parts = split (sweep_to bound 0 (look_over s) []) (λ looked. reply (Ok (begun bound looked))) acts (Ok selection) run in
       ended bound parts.answer acts parts.first parts.second parts.parts parts.runs_first parts.runs_second
 
-  look-swept : (lacks b : Bool) (acts : List Act)
-      → Completes (if b then given_back s (Err BeginError.ClosedSelector) else (look_keys s >>= λ bound. begin_below s mode bound lacks)) acts (Ok selection) → Swept s selection acts
-  look-swept lacks true acts run = absurd (given BeginError.ClosedSelector acts run)
-  look-swept lacks false [] run = absurd (cc run)
-  look-swept lacks false (act ∷ acts) run = more act acts (below-swept (number_in (answer_of act)) lacks acts run.1)
-
-  turn-swept : (lacks b : Bool) (acts : List Act)
-      → Completes (if b then reply (Err BeginError.Busy) else begin_with_turn s mode lacks) acts (Ok selection) → Swept s selection acts
-  turn-swept lacks true acts run = absurd (refused BeginError.Busy acts run)
-  turn-swept lacks false [] run = absurd (cc run)
-  turn-swept lacks false (act ∷ acts) run = more act acts (look-swept lacks (gate_in (answer_of act)).shut acts run.1)
-
-  gate-swept : (lacks b : Bool) (acts : List Act)
-      → Completes (if b then reply (Err BeginError.ClosedSelector) else (take_turn s >>= λ holder. if is_some holder then reply (Err BeginError.Busy) else begin_with_turn s mode lacks)) acts (Ok selection)
-      → Swept s selection acts
-  gate-swept lacks true acts run = absurd (refused BeginError.ClosedSelector acts run)
-  gate-swept lacks false [] run = absurd (cc run)
-  gate-swept lacks false (act ∷ acts) run = more act acts (turn-swept lacks (is_some (holder_in (answer_of act))) acts run.1)
-
   begin-swept : (lacks : Bool) (acts : List Act) → Completes (begin_plan s mode lacks) acts (Ok selection) → Swept s selection acts
-  unfolding begin_plan
-  begin-swept lacks [] run = absurd (cc run)
-  begin-swept lacks (act ∷ acts) run = more act acts (gate-swept lacks (gate_in (answer_of act)).shut acts run.1)
+  begin-swept lacks acts run =
+      let begun = begin-parts s mode lacks selection acts run in
+      from_rest begun.gate begun.take begun.look begun.rest begun.parts begun.runs_rest
+    where
+      from_rest : (gate take look : Act) (rest : List Act) → acts ≡ gate ∷ take ∷ look ∷ rest
+          → Completes (look_keys s >>= λ bound. begin_below s mode bound lacks) rest (Ok selection) → Swept s selection acts
+      from_rest gate take look [] parts went = absurd (cc went)
+      from_rest gate take look (keys ∷ rest) parts went =
+          let swept = below-swept (number_in (answer_of keys)) lacks rest went.1 in
+          record {
+            before = gate ∷ take ∷ look ∷ keys ∷ swept.before;
+            swept = swept.swept;
+            parts = parts ∙ ap (λ xs. gate ∷ take ∷ look ∷ keys ∷ xs) swept.parts;
+            runs = swept.runs;
+          }
 
 -- ---- own events of a longer history
 
