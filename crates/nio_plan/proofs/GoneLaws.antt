@@ -1,6 +1,5 @@
 -- A key that was cancelled before a selection begins is gone when it has begun.
-use Rattle.std.proofs.Common.{◌≡◌, ◌≢◌, ℕ, ◌-◌, ◌==◌, Bool, true, false, not, ◌&&◌, ◌||◌, if◌then◌else◌, Result, Ok, Err, List, [], ◌∷◌, ◌++◌, map, refl, ap, sym, ◌∙◌, subst, append_assoc, eqb-true, arith}
-use Rattle.std.specs.Prelude.{is_some}
+use Rattle.std.proofs.Common.{◌≡◌, ◌≢◌, ℕ, ◌-◌, ◌==◌, Bool, true, false, not, ◌&&◌, ◌||◌, if◌then◌else◌, Result, Ok, List, [], ◌∷◌, ◌++◌, map, refl, ap, sym, ◌∙◌, subst, append_assoc, eqb-true, arith}
 use Rattle.std.specs.List.{filter}
 use Rattle.std.proofs.lemmas.Bool.{and_parts, and_from}
 use Rattle.std.proofs.lemmas.List.{append-nil, map-append}
@@ -31,9 +30,9 @@ use Rattle.nio_plan.proofs.TurnLaws.{sweep-turns}
 use Rattle.nio_plan.specs.Laws.{CancelledKeysGo}
 use Rattle.nio_plan.specs.Plan.{reply, ◌>>=◌}
 use Rattle.nio_plan.specs.Runs.{Completes}
-use Rattle.nio_plan.specs.SelectCalls.{Selection, begin_plan, begin_with_turn, begin_below, given_back, look_over}
+use Rattle.nio_plan.specs.SelectCalls.{Selection, begin_plan, begin_below, look_over}
 use Rattle.nio_plan.specs.Selections.{removes, finds_valid}
-use Rattle.nio_plan.specs.Steps.{look_keys, take_turn, look_interest, remove, gate_in, stage_in, number_in, holder_in}
+use Rattle.nio_plan.specs.Steps.{look_keys, look_interest, remove, stage_in, number_in}
 use Rattle.nio_plan.specs.Sweeps.{sweep_to}
 use Rattle.nio_plan.specs.declared.looked.LookedKey.{LookedKey}
 use Rattle.nio_plan.specs.declared.refusal.BeginError.{BeginError}

@@ -1,6 +1,6 @@
 -- In which order a selection looks at keys.
 use Rattle.std.proofs.Common.{◌≡◌, ℕ, suc, ◌+◌, ◌<◌, Bool, true, false, if◌then◌else◌, Result, Ok, Err, List, [], ◌∷◌, ◌++◌, refl, arith}
-use Rattle.std.specs.Prelude.{⊤, is_some}
+use Rattle.std.specs.Prelude.{⊤}
 use Rattle.std.specs.List.{All, AllPairs}
 use Rattle.std.proofs.lemmas.List.Elements.{All-nil, All-push, All-tail, All-head, All-weaker}
 use Rattle.std.proofs.lemmas.List.Kept.{AllPairs-cons}
@@ -13,8 +13,8 @@ use Rattle.nio_plan.specs.Each.{Each}
 use Rattle.nio_plan.specs.Laws.{IsInOrder, LooksInOrder}
 use Rattle.nio_plan.specs.Plan.{reply, ◌>>=◌}
 use Rattle.nio_plan.specs.declared.looked.LookedKey.{LookedKey}
-use Rattle.nio_plan.specs.SelectCalls.{Selection, begin_plan, begin_with_turn, begin_below, given_back, look_over}
-use Rattle.nio_plan.specs.Steps.{look_keys, take_turn, look_interest, remove, gate_in, stage_in, number_in, holder_in}
+use Rattle.nio_plan.specs.SelectCalls.{Selection, begin_plan, begin_below, look_over}
+use Rattle.nio_plan.specs.Steps.{look_interest, remove, stage_in}
 use Rattle.nio_plan.specs.Sweeps.{sweep_to}
 use Rattle.nio_plan.specs.declared.refusal.BeginError.{BeginError}
 

@@ -1,6 +1,6 @@
 -- To which selection a `told` belongs, and what it counts.
 use Rattle.std.proofs.Common.{◌≡◌, ℕ, ◌+◌, ◌==◌, Bool, true, false, cond, ◌&&◌, ◌||◌, if◌then◌else◌, Result, Ok, Err, List, [], ◌∷◌, ◌++◌, refl, ap, sym, ◌∙◌, subst, eq-eqb, eqb-true, append_assoc, zero-add, arith}
-use Rattle.std.specs.Prelude.{⊤, is_ok, is_some}
+use Rattle.std.specs.Prelude.{⊤, is_ok}
 use Rattle.std.specs.List.{All}
 use Rattle.std.proofs.lemmas.List.Elements.{All-weaker}
 use Rattle.std.proofs.lemmas.List.Folds.{list_any-append, list_any_none}
@@ -27,9 +27,9 @@ use Rattle.nio_plan.specs.Laws.{BeginsSelection, AgainGoesOn, CountsSelection}
 use Rattle.nio_plan.specs.Plan.{reply, ◌>>=◌}
 use Rattle.nio_plan.specs.Runs.{Completes}
 use Rattle.nio_plan.specs.declared.looked.LookedKey.{LookedKey}
-use Rattle.nio_plan.specs.SelectCalls.{Selection, ToldReply, begin_plan, begin_with_turn, begin_below, told_plan, told_bits, given_back, look_over, mark_entry, mark_told, mark_looked, mark_again, one_if, gains_nothing, sweep_key, is_again, end_selection, after_marks, again, done}
+use Rattle.nio_plan.specs.SelectCalls.{Selection, ToldReply, begin_plan, begin_below, told_plan, told_bits, look_over, mark_entry, mark_told, mark_looked, mark_again, one_if, gains_nothing, sweep_key, is_again, end_selection, after_marks, again, done}
 use Rattle.nio_plan.specs.Selections.{marks, IsBegun}
-use Rattle.nio_plan.specs.Steps.{look_keys, take_turn, mark, remove, flag_in, gate_in, stage_in, number_in, holder_in, mark_in, exchange_in}
+use Rattle.nio_plan.specs.Steps.{mark, remove, flag_in, gate_in, stage_in, mark_in, exchange_in}
 use Rattle.nio_plan.specs.Sweeps.{sweep_to, sweep_over}
 use Rattle.nio_plan.specs.declared.refusal.BeginError.{BeginError}
 use Rattle.nio_plan.specs.declared.selected.Selected.{Selected}

@@ -1,6 +1,6 @@
 -- What a caller began and hasn't ended stands in the state, whatever others did.
-use Rattle.std.proofs.Common.{◌≡◌, ℕ, Bool, true, false, cond, not, ◌||◌, if◌then◌else◌, Some, Ok, Err, List, [], ◌∷◌, ◌++◌, map, refl, ap, sym, ◌∙◌, subst, append_assoc, eqb-true, eq-eqb, IsTrue}
-use Rattle.std.specs.Prelude.{⊤, is_some}
+use Rattle.std.proofs.Common.{◌≡◌, ℕ, Bool, true, false, cond, not, ◌||◌, if◌then◌else◌, Some, Ok, List, [], ◌∷◌, ◌++◌, map, refl, ap, sym, ◌∙◌, subst, append_assoc, eqb-true, eq-eqb, IsTrue}
+use Rattle.std.specs.Prelude.{⊤}
 use Rattle.std.specs.List.{filter}
 use Rattle.std.proofs.lemmas.Bool.{and_from}
 use Rattle.std.proofs.lemmas.List.Folds.{list_any-append}
@@ -21,7 +21,6 @@ use Rattle.nio_event.specs.State.{State, put}
 use Rattle.nio_event.specs.declared.act.Act.{Act}
 use Rattle.nio_event.specs.declared.act.Act.TheVariants.{BeginLook, ShutBit}
 use Rattle.nio_event.specs.declared.event.Event.{Event}
-use Rattle.nio_event.specs.declared.found.GateWord.{GateWord}
 use Rattle.nio_event.specs.declared.found.Mode.{Mode}
 use Rattle.nio_plan.proofs.BeginLaws.{begin-parts}
 use Rattle.nio_plan.proofs.Either.{by_second}
@@ -31,12 +30,11 @@ use Rattle.nio_plan.specs.Each.{Each}
 use Rattle.nio_plan.specs.Laws.{SelectionsStand, ClosingsStand}
 use Rattle.nio_plan.specs.Plan.{reply, ◌>>=◌}
 use Rattle.nio_plan.specs.Runs.{Completes}
-use Rattle.nio_plan.specs.SelectCalls.{Selection, begin_plan, begin_with_turn, begin_below, given_back, look_over}
+use Rattle.nio_plan.specs.SelectCalls.{Selection, begin_below, look_over}
 use Rattle.nio_plan.specs.Selections.{shuts}
-use Rattle.nio_plan.specs.Steps.{look_keys, take_turn, look_interest, remove, gate_in, stage_in, number_in, holder_in}
+use Rattle.nio_plan.specs.Steps.{look_keys, look_interest, remove, gate_in, stage_in, number_in}
 use Rattle.nio_plan.specs.Sweeps.{sweep_to}
 use Rattle.nio_plan.specs.declared.looked.LookedKey.{LookedKey}
-use Rattle.nio_plan.specs.declared.refusal.BeginError.{BeginError}
 
 -- ---- where an own act stands in a history
 
@@ -133,10 +131,10 @@ selections_stand l n events selection legal begun =
     let before = looked.gate ∷ looked.take ∷ [] in
     let keeps_later = below_keeps s selection.mode selection looked.rest looked.runs_rest in
     let acts : begun.beginning ≡ before ++ BeginLook s found ∷ looked.rest
-          = looked.parts ∙ ap (λ x. looked.gate ∷ looked.take ∷ x ∷ looked.rest) (look-act s looked.look looked.asks_look) in
+    = looked.parts ∙ ap (λ x. looked.gate ∷ looked.take ∷ x ∷ looked.rest) (look-act s looked.look looked.asks_look) in
     let own : mine n events ≡ (begun.earlier ++ before) ++ BeginLook s found ∷ (looked.rest ++ begun.since)
-          = begun.parts ∙ (ap (λ xs. begun.earlier ++ (xs ++ begun.since)) acts
-            ∙ sym (append_assoc begun.earlier before (BeginLook s found ∷ (looked.rest ++ begun.since)))) in
+    = begun.parts ∙ (ap (λ xs. begun.earlier ++ (xs ++ begun.since)) acts
+    ∙ sym (append_assoc begun.earlier before (BeginLook s found ∷ (looked.rest ++ begun.since)))) in
     let cut = cut_at n events (begun.earlier ++ before) (BeginLook s found) (looked.rest ++ begun.since) own in
     let e = event_of n (BeginLook s found) in
     let legal' = subst (IsLegal l) cut.parts legal in
