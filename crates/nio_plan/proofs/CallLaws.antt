@@ -42,6 +42,25 @@ part_bind l Holds me plan f rest s0 s1 part = record {
   follows = follows_bind plan f (done_between me s0 s1) rest part.follows;
 }
 
+-- one step is a part of a call that asks it
+pub part_one : {R : Type 0} (l : Limits) (Holds : CallerNo → Type 0) (me : CallerNo) (act : Act) (next : Answer → Plan R) (s0 s1 : List Event)
+    → HistoryClause l Holds me (act ∷ []) s0 s1 → PartClause l Holds me (ask (question_of act) next) s0 s1 (next (answer_of act))
+part_one l Holds me act next s0 s1 step = part_of_acts l Holds me (ask (question_of act) next) (act ∷ []) s0 s1 (next (answer_of act)) step (refl, refl)
+
+-- of a pass that holds fewer numbers less is said
+pub part_holds : {R : Type 0} (l : Limits) (Holds More : CallerNo → Type 0) (me : CallerNo) (plan rest : Plan R) (s0 s1 : List Event)
+    → ((n : CallerNo) → Holds n → More n) → PartClause l More me plan s0 s1 rest → PartClause l Holds me plan s0 s1 rest
+part_holds l Holds More me plan rest s0 s1 more part = record {
+  history = record {
+    legal = part.history.legal;
+    goes_on = part.history.goes_on;
+    own = part.history.own;
+    others = λ n held other. part.history.others n (more n held) other;
+    ends = part.history.ends;
+  };
+  follows = part.follows;
+}
+
 -- ---- parts of calls, on a pass
 --
 -- `left_` is what is left of the plan, `ran_` a whole run of it.
@@ -75,7 +94,7 @@ left_more {l = l} {me = me} {plan = plan} {middle = middle} {rest = rest} {v0 = 
 pub left_one : {R : Type 0} {l : Limits} {me : CallerNo} {act : Act} {v0 v1 : View} (next : Answer → Plan R)
     → StepTold l me act v0 v1 → PartTold l me (ask (question_of act) next) v0 v1 (next (answer_of act))
 left_one {l = l} {me = me} {act = act} {v0 = v0} {v1 = v1} next step = record {
-  part = part_of_acts l (Holds v0) me (ask (question_of act) next) (act ∷ []) v0.seen v1.seen (next (answer_of act)) step.history (refl, refl);
+  part = part_one l (Holds v0) me act next v0.seen v1.seen step.history;
   held = step.held;
 }
 

@@ -4,19 +4,22 @@ use Rattle.std.specs.Prelude.{⊤, is_some, nat_lt}
 use Rattle.std.proofs.lemmas.Bool.{and_parts, and_from, ltb-true}
 use Rattle.std.proofs.lemmas.List.Elements.{All-weaker}
 use Rattle.std.proofs.lemmas.List.Folds.{list_any-append, list_any_none}
+use Rattle.nio_base.specs.declared.limits.Limits.{Limits}
 use Rattle.nio_base.specs.declared.numbers.CallerNo.{CallerNo}
 use Rattle.nio_base.specs.declared.numbers.SelNo.{SelNo}
 use Rattle.nio_event.proofs.OneMore.{state_after-more}
 use Rattle.nio_event.proofs.Put.{put_at-same}
 use Rattle.nio_event.proofs.Stays.{nothing_goes_back}
 use Rattle.nio_event.specs.Acts.{effect}
-use Rattle.nio_event.specs.Histories.{state_after, mine, event_of}
+use Rattle.nio_event.specs.Histories.{state_after, mine, event_of, IsLegal}
 use Rattle.nio_event.specs.Lasting.{key_removed}
 use Rattle.nio_event.specs.OwnEvents.{has, finds_below}
 use Rattle.nio_event.specs.Questions.{Question, question_of, answer_of}
 use Rattle.nio_event.specs.State.{State, put_at}
+use Rattle.nio_event.specs.declared.event.Event.{Event}
 use Rattle.nio_event.specs.declared.act.Act.{Act}
 use Rattle.nio_event.specs.declared.act.Act.TheVariants.{LookKeys, Remove}
+use Rattle.nio_plan.proofs.Either.{by_second, then_first, then_second}
 use Rattle.nio_plan.proofs.EachLaws.{each_bind, each_sweep, each_run, split}
 use Rattle.nio_plan.proofs.StandLaws.{cut_at, find_act}
 use Rattle.nio_plan.proofs.TurnLaws.{sweep-turns}
@@ -42,7 +45,7 @@ look-finds : (s : SelNo) (i : ℕ) (act : Act) → question_of act ≡ Question.
 look-finds s i (LookKeys s' found) asks finds = ltb-true i found (and_parts (s'.0 == s.0) (nat_lt i found) finds).1
 look-finds s i _ asks finds = absurd (cc asks)
 
-remove-removes : (s : SelNo) (i : ℕ) (act : Act) → question_of act ≡ Question.remove s i → removes s.0 i act ≡ true
+pub remove-removes : (s : SelNo) (i : ℕ) (act : Act) → question_of act ≡ Question.remove s i → removes s.0 i act ≡ true
 remove-removes s i (Remove s' i' found) asks =
     let first : s' ≡ s = cc asks in
     let second : i' ≡ i = cc asks in
@@ -51,23 +54,11 @@ remove-removes s i _ asks = absurd (cc asks)
 
 -- ---- a run that finished
 
-or-second_of : (a b : Bool) → a ≡ false → (a || b) ≡ true → b ≡ true
-or-second_of true b is all = absurd (cc is)
-or-second_of false b is all = all
-
-or-first_of : (a b : Bool) → b ≡ false → (a || b) ≡ true → a ≡ true
-or-first_of true b is all = refl
-or-first_of false b is all = absurd (cc (sym all ∙ is))
-
-or-right : (a b : Bool) → b ≡ true → (a || b) ≡ true
-or-right true b e = refl
-or-right false b e = e
-
 turn-removes : (s : SelNo) (i : ℕ) (acts : List Act) (y : Unit {0}) → Completes (remove_key s i) acts y → has (removes s.0 i) acts ≡ true
 turn-removes s i [] y run = absurd (cc run)
 turn-removes s i (act ∷ acts) y run = ap (λ b. b || has (removes s.0 i) acts) (remove-removes s i act run.0)
 
-has-between : (p : Act → Bool) (before turn after : List Act) → has p turn ≡ true → has p (before ++ (turn ++ after)) ≡ true
+pub has-between : (p : Act → Bool) (before turn after : List Act) → has p turn ≡ true → has p (before ++ (turn ++ after)) ≡ true
 has-between p before turn after there =
     list_any-append p before (turn ++ after) ∙ (ap (λ b. has p before || b) (list_any-append p turn after ∙ ap (λ b. b || has p after) there) ∙ or-true (has p before))
   where
@@ -100,7 +91,7 @@ unfolding finish_plan
 run-removes s i [] run finds = absurd (cc run)
 run-removes s i (enters ∷ acts) run finds =
     let none = not-finds s.0 i enters (ap asks_keys run.0) in
-    or-right (removes s.0 i enters) (has (removes s.0 i) acts) (by_holder (is_some (holder_in (answer_of enters))) acts run.1 (or-second_of (finds_below s.0 i enters) (has (finds_below s.0 i) acts) none finds))
+    by_second (removes s.0 i enters) (has (removes s.0 i) acts) (by_holder (is_some (holder_in (answer_of enters))) acts run.1 (then_second (finds_below s.0 i enters) (has (finds_below s.0 i) acts) none finds))
   where
     by_holder : (b : Bool) (rest : List Act)
         → Completes (if b then reply busy else (look_keys s >>= λ bound. (sweep_to bound 0 (λ k _. remove_key s k) tt >>= λ _. reply closed))) rest closed
@@ -110,8 +101,8 @@ run-removes s i (enters ∷ acts) run finds =
     by_holder false [] went found = absurd (cc found)
     by_holder false (look ∷ rest) went found =
         let no_more = sweep-no_look s (number_in (answer_of look)) i rest went.1 in
-        let below = look-finds s i look went.0 (or-first_of (finds_below s.0 i look) (has (finds_below s.0 i) rest) no_more found) in
-        or-right (removes s.0 i look) (has (removes s.0 i) rest) (sweep-removes s (number_in (answer_of look)) i rest went.1 below)
+        let below = look-finds s i look went.0 (then_first (finds_below s.0 i look) (has (finds_below s.0 i) rest) no_more found) in
+        by_second (removes s.0 i look) (has (removes s.0 i) rest) (sweep-removes s (number_in (answer_of look)) i rest went.1 below)
 
 -- ---- what was removed stays so
 
@@ -125,13 +116,19 @@ removes-removed st n s i (Remove s' i' found) is =
     (subst (λ (k : ℕ). ((put_at st.key s'.0 i' (record (st.key s'.0 i') { removed = true })) s'.0 k).removed ≡ true) second here)
 removes-removed st n s i _ is = absurd (cc is)
 
-pub closed_removes_all : ClosedRemovesAll
-closed_removes_all l n events s own acts later legal parts run i finds =
-    let there : has (removes s.0 i) (mine n events) ≡ true = ap (has (removes s.0 i)) parts ∙ has-between (removes s.0 i) own acts later (run-removes s i acts run finds) in
-    let found = find_act (removes s.0 i) (mine n events) there in
+-- who removed a key once leaves it removed
+pub removed_stands : (l : Limits) (n : CallerNo) (events : List Event) (s i : ℕ) → IsLegal l events → has (removes s i) (mine n events) ≡ true
+    → ((state_after events).key s i).removed ≡ true
+removed_stands l n events s i legal there =
+    let found = find_act (removes s i) (mine n events) there in
     let cut = cut_at n events found.before found.act found.later found.parts in
     let e = event_of n found.act in
     let joined : (cut.past ++ e ∷ []) ++ cut.later ≡ events = append_assoc cut.past (e ∷ []) cut.later ∙ sym cut.parts in
-    let here : ((state_after (cut.past ++ e ∷ [])).key s.0 i).removed ≡ true
-    = ap (λ x. (x.key s.0 i).removed) (state_after-more cut.past e) ∙ removes-removed (state_after cut.past) n s.0 i found.act found.passes in
-    nothing_goes_back l (cut.past ++ e ∷ []) events (cut.later, joined) legal (key_removed s.0 i) here
+    let here : ((state_after (cut.past ++ e ∷ [])).key s i).removed ≡ true
+    = ap (λ x. (x.key s i).removed) (state_after-more cut.past e) ∙ removes-removed (state_after cut.past) n s i found.act found.passes in
+    nothing_goes_back l (cut.past ++ e ∷ []) events (cut.later, joined) legal (key_removed s i) here
+
+pub closed_removes_all : ClosedRemovesAll
+closed_removes_all l n events s own acts later legal parts run i finds =
+    removed_stands l n events s.0 i legal
+    (ap (has (removes s.0 i)) parts ∙ has-between (removes s.0 i) own acts later (run-removes s i acts run finds))

@@ -10,3 +10,7 @@ mod Worked
 pub mod StandLaws
 pub mod TurnLaws
 pub mod ClosedLaws
+pub mod LookedLaws
+pub mod GoneLaws
+pub mod Either
+pub mod BeginLaws

@@ -1,19 +1,20 @@
 -- In which order a selection looks at keys.
 use Rattle.std.proofs.Common.{◌≡◌, ℕ, suc, ◌+◌, ◌<◌, Bool, true, false, if◌then◌else◌, Result, Ok, Err, List, [], ◌∷◌, ◌++◌, refl, arith}
-use Rattle.std.specs.Prelude.{⊤, is_some}
+use Rattle.std.specs.Prelude.{⊤}
 use Rattle.std.specs.List.{All, AllPairs}
 use Rattle.std.proofs.lemmas.List.Elements.{All-nil, All-push, All-tail, All-head, All-weaker}
 use Rattle.std.proofs.lemmas.List.Kept.{AllPairs-cons}
 use Rattle.nio_base.specs.declared.numbers.SelNo.{SelNo}
 use Rattle.nio_event.specs.Sets.{in_cancelled_set, is_valid}
 use Rattle.nio_event.specs.declared.found.Mode.{Mode}
+use Rattle.nio_plan.proofs.BeginLaws.{each_begin}
 use Rattle.nio_plan.proofs.EachLaws.{each_bind, each_if, each_sweep_at, each_run}
 use Rattle.nio_plan.specs.Each.{Each}
 use Rattle.nio_plan.specs.Laws.{IsInOrder, LooksInOrder}
 use Rattle.nio_plan.specs.Plan.{reply, ◌>>=◌}
 use Rattle.nio_plan.specs.declared.looked.LookedKey.{LookedKey}
-use Rattle.nio_plan.specs.SelectCalls.{Selection, begin_plan, begin_with_turn, begin_below, given_back, look_over}
-use Rattle.nio_plan.specs.Steps.{look_keys, take_turn, look_interest, remove, gate_in, stage_in, number_in, holder_in}
+use Rattle.nio_plan.specs.SelectCalls.{Selection, begin_plan, begin_below, look_over}
+use Rattle.nio_plan.specs.Steps.{look_interest, remove, stage_in}
 use Rattle.nio_plan.specs.Sweeps.{sweep_to}
 use Rattle.nio_plan.specs.declared.refusal.BeginError.{BeginError}
 
@@ -81,21 +82,7 @@ below-in_order s mode bound false =
     (λ looked rises. record { rising = rises.rising; below = rises.below })
 
 begin-in_order : (s : SelNo) (mode : Mode) (lacks : Bool) → Each (λ _. ⊤) InOrder (begin_plan s mode lacks)
-unfolding begin_plan
-begin-in_order s mode lacks = (
-  tt,
-  λ gate. each_if (λ _. ⊤) InOrder (gate_in gate).shut (reply (Err BeginError.ClosedSelector))
-      (take_turn s >>= λ holder. if is_some holder then reply (Err BeginError.Busy) else begin_with_turn s mode lacks) (λ _. tt)
-      (λ _. (
-        tt,
-        λ holder. each_if (λ _. ⊤) InOrder (is_some (holder_in holder)) (reply (Err BeginError.Busy)) (begin_with_turn s mode lacks) (λ _. tt)
-            (λ _. (
-              tt,
-              λ begun. each_if (λ _. ⊤) InOrder (gate_in begun).shut (given_back s (Err BeginError.ClosedSelector)) (look_keys s >>= λ bound. begin_below s mode bound lacks)
-                  (λ _. (tt, λ _. tt)) (λ _. (tt, λ bound. below-in_order s mode (number_in bound) lacks)),
-            )),
-      )),
-)
+begin-in_order s mode lacks = each_begin InOrder s mode lacks (λ _. tt) (λ bound. below-in_order s mode bound lacks)
 
 pub looks_in_order : LooksInOrder
 looks_in_order s mode lacks acts selection run =

@@ -1,6 +1,6 @@
 -- To which selection a `told` belongs, and what it counts.
 use Rattle.std.proofs.Common.{◌≡◌, ℕ, ◌+◌, ◌==◌, Bool, true, false, cond, ◌&&◌, ◌||◌, if◌then◌else◌, Result, Ok, Err, List, [], ◌∷◌, ◌++◌, refl, ap, sym, ◌∙◌, subst, eq-eqb, eqb-true, append_assoc, zero-add, arith}
-use Rattle.std.specs.Prelude.{⊤, is_ok, is_some}
+use Rattle.std.specs.Prelude.{⊤, is_ok}
 use Rattle.std.specs.List.{All}
 use Rattle.std.proofs.lemmas.List.Elements.{All-weaker}
 use Rattle.std.proofs.lemmas.List.Folds.{list_any-append, list_any_none}
@@ -19,15 +19,17 @@ use Rattle.nio_event.specs.declared.act.Act.{Act}
 use Rattle.nio_event.specs.declared.act.Act.TheVariants.{Mark, GiveTurn}
 use Rattle.nio_event.specs.declared.found.Mark.{Mark as KeyMark}
 use Rattle.nio_event.specs.declared.found.Mode.{Mode}
+use Rattle.nio_plan.proofs.Either.{neither, not_first, not_second}
+use Rattle.nio_plan.proofs.BeginLaws.{each_begin}
 use Rattle.nio_plan.proofs.EachLaws.{each_bind, each_if, each_when, each_any, each_sweep, each_over, each_run, split}
 use Rattle.nio_plan.specs.Each.{Each}
 use Rattle.nio_plan.specs.Laws.{BeginsSelection, AgainGoesOn, CountsSelection}
 use Rattle.nio_plan.specs.Plan.{reply, ◌>>=◌}
 use Rattle.nio_plan.specs.Runs.{Completes}
 use Rattle.nio_plan.specs.declared.looked.LookedKey.{LookedKey}
-use Rattle.nio_plan.specs.SelectCalls.{Selection, ToldReply, begin_plan, begin_with_turn, begin_below, told_plan, told_bits, given_back, look_over, mark_entry, mark_told, mark_looked, mark_again, one_if, gains_nothing, sweep_key, is_again, end_selection, after_marks, again, done}
+use Rattle.nio_plan.specs.SelectCalls.{Selection, ToldReply, begin_plan, begin_below, told_plan, told_bits, look_over, mark_entry, mark_told, mark_looked, mark_again, one_if, gains_nothing, sweep_key, is_again, end_selection, after_marks, again, done}
 use Rattle.nio_plan.specs.Selections.{marks, IsBegun}
-use Rattle.nio_plan.specs.Steps.{look_keys, take_turn, mark, remove, flag_in, gate_in, stage_in, number_in, holder_in, mark_in, exchange_in}
+use Rattle.nio_plan.specs.Steps.{mark, remove, flag_in, gate_in, stage_in, mark_in, exchange_in}
 use Rattle.nio_plan.specs.Sweeps.{sweep_to, sweep_over}
 use Rattle.nio_plan.specs.declared.refusal.BeginError.{BeginError}
 use Rattle.nio_plan.specs.declared.selected.Selected.{Selected}
@@ -59,17 +61,6 @@ pub no_gives : (s : ℕ) (acts : List Act) → All (λ act. asks_give s (questio
 no_gives s acts each =
     list_any_none (gives_turn s) acts (All-weaker (λ act. asks_give s (question_of act) ≡ false) (λ act. gives_turn s act ≡ false) (not-gives s) acts each)
 
-or-none : (a b : Bool) → a ≡ false → b ≡ false → (a || b) ≡ false
-or-none a b this that = ap (λ x. x || b) this ∙ that
-
-or-first : (a b : Bool) → (a || b) ≡ false → a ≡ false
-or-first true b e = e
-or-first false b e = refl
-
-or-second : (a b : Bool) → (a || b) ≡ false → b ≡ false
-or-second true b e = absurd (cc e)
-or-second false b e = e
-
 count-append : (p : Act → Bool) (acts later : List Act) → count p (acts ++ later) ≡ count p acts + count p later
 count-append p acts later = sum_by-append (λ act. cond (p act) 1 0) acts later
 
@@ -80,8 +71,8 @@ count-cons p act acts = count-append p (act ∷ []) acts ∙ ap (λ (n : ℕ). n
 count-none : (p : Act → Bool) (acts : List Act) → has p acts ≡ false → count p acts ≡ 0
 count-none p [] none = refl
 count-none p (act ∷ acts) none =
-    let here : cond {A = ℕ} (p act) 1 0 ≡ 0 = ap (λ (b : Bool). cond {A = ℕ} b 1 0) (or-first (p act) (has p acts) none) in
-    let later = count-none p acts (or-second (p act) (has p acts) none) in
+    let here : cond {A = ℕ} (p act) 1 0 ≡ 0 = ap (λ (b : Bool). cond {A = ℕ} b 1 0) (not_first (p act) (has p acts) none) in
+    let later = count-none p acts (not_second (p act) (has p acts) none) in
     let all = count-cons p act acts in
     omega (arith, here, later, all)
 
@@ -240,7 +231,7 @@ after-no_give selection next elapsed n (look ∷ look' ∷ later) run =
     let s = selection.selector.0 in
     let first = not-gives s look (ap (asks_give s) run.0) in
     let second = not-gives s look' (ap (asks_give s) run.1.0) in
-    or-none _ _ first (or-none _ _ second (by_test (is_again selection.mode n (gate_in (answer_of look)) (flag_in (answer_of look')) elapsed) _ later run.1.1))
+    neither _ _ first (neither _ _ second (by_test (is_again selection.mode n (gate_in (answer_of look)) (flag_in (answer_of look')) elapsed) _ later run.1.1))
   where
     by_test : (b : Bool) (answer : Selected) (acts : List Act) → Completes (if b then reply (again selection) else end_selection selection answer) acts (again next)
         → has (gives_turn selection.selector.0) acts ≡ false
@@ -252,7 +243,7 @@ after-no_give selection next elapsed n (look ∷ look' ∷ later) run =
 -- ---- the laws
 
 none_of-append : (p : Act → Bool) (acts later : List Act) → has p acts ≡ false → has p later ≡ false → has p (acts ++ later) ≡ false
-none_of-append p acts later first second = list_any-append p acts later ∙ or-none _ _ first second
+none_of-append p acts later first second = list_any-append p acts later ∙ neither _ _ first second
 
 -- what a run of `told` marks, and how it goes on or ends
 pub again_goes_on : AgainGoesOn
@@ -306,20 +297,7 @@ below-answers s mode bound false =
     (λ looked _. (refl, refl, refl))
 
 begin-answers : (s : SelNo) (mode : Mode) (lacks : Bool) → Each (λ _. ⊤) (Answers s mode lacks) (begin_plan s mode lacks)
-unfolding begin_plan
-begin-answers s mode lacks = (
-  tt,
-  λ gate. each_if (λ _. ⊤) (Answers s mode lacks) (gate_in gate).shut (reply (Err BeginError.ClosedSelector)) (take_turn s >>= λ holder. if is_some holder then reply (Err BeginError.Busy) else begin_with_turn s mode lacks) (λ _. tt)
-      (λ _. (
-        tt,
-        λ holder. each_if (λ _. ⊤) (Answers s mode lacks) (is_some (holder_in holder)) (reply (Err BeginError.Busy)) (begin_with_turn s mode lacks) (λ _. tt)
-            (λ _. (
-              tt,
-              λ begun. each_if (λ _. ⊤) (Answers s mode lacks) (gate_in begun).shut (given_back s (Err BeginError.ClosedSelector)) (look_keys s >>= λ bound. begin_below s mode bound lacks)
-                  (λ _. (tt, λ _. tt)) (λ _. (tt, λ bound. below-answers s mode (number_in bound) lacks)),
-            )),
-      )),
-)
+begin-answers s mode lacks = each_begin (Answers s mode lacks) s mode lacks (λ _. tt) (λ bound. below-answers s mode bound lacks)
 
 pub begins_selection : BeginsSelection
 begins_selection s mode lacks own acts selection run =

@@ -1,6 +1,6 @@
 -- What a caller began and hasn't ended stands in the state, whatever others did.
-use Rattle.std.proofs.Common.{◌≡◌, ℕ, Bool, true, false, cond, not, ◌||◌, if◌then◌else◌, Some, Ok, Err, List, [], ◌∷◌, ◌++◌, map, refl, ap, sym, ◌∙◌, subst, append_assoc, eqb-true, eq-eqb, IsTrue}
-use Rattle.std.specs.Prelude.{⊤, is_some}
+use Rattle.std.proofs.Common.{◌≡◌, ℕ, Bool, true, false, cond, not, ◌||◌, if◌then◌else◌, Some, Ok, List, [], ◌∷◌, ◌++◌, map, refl, ap, sym, ◌∙◌, subst, append_assoc, eqb-true, eq-eqb, IsTrue}
+use Rattle.std.specs.Prelude.{⊤}
 use Rattle.std.specs.List.{filter}
 use Rattle.std.proofs.lemmas.Bool.{and_from}
 use Rattle.std.proofs.lemmas.List.Folds.{list_any-append}
@@ -21,20 +21,20 @@ use Rattle.nio_event.specs.State.{State, put}
 use Rattle.nio_event.specs.declared.act.Act.{Act}
 use Rattle.nio_event.specs.declared.act.Act.TheVariants.{BeginLook, ShutBit}
 use Rattle.nio_event.specs.declared.event.Event.{Event}
-use Rattle.nio_event.specs.declared.found.GateWord.{GateWord}
 use Rattle.nio_event.specs.declared.found.Mode.{Mode}
+use Rattle.nio_plan.proofs.BeginLaws.{begin-parts}
+use Rattle.nio_plan.proofs.Either.{by_second}
 use Rattle.nio_plan.proofs.EachLaws.{each_bind, each_if, each_sweep, each_run}
 use Rattle.nio_plan.proofs.SelectionLaws.{NoGive, no_gives}
 use Rattle.nio_plan.specs.Each.{Each}
 use Rattle.nio_plan.specs.Laws.{SelectionsStand, ClosingsStand}
 use Rattle.nio_plan.specs.Plan.{reply, ◌>>=◌}
 use Rattle.nio_plan.specs.Runs.{Completes}
-use Rattle.nio_plan.specs.SelectCalls.{Selection, begin_plan, begin_with_turn, begin_below, given_back, look_over}
+use Rattle.nio_plan.specs.SelectCalls.{Selection, begin_below, look_over}
 use Rattle.nio_plan.specs.Selections.{shuts}
-use Rattle.nio_plan.specs.Steps.{look_keys, take_turn, look_interest, remove, gate_in, stage_in, number_in, holder_in}
+use Rattle.nio_plan.specs.Steps.{look_keys, look_interest, remove, gate_in, stage_in, number_in}
 use Rattle.nio_plan.specs.Sweeps.{sweep_to}
 use Rattle.nio_plan.specs.declared.looked.LookedKey.{LookedKey}
-use Rattle.nio_plan.specs.declared.refusal.BeginError.{BeginError}
 
 -- ---- where an own act stands in a history
 
@@ -91,14 +91,6 @@ cut_at n (e ∷ events) xs act ys own = by_test (is_by n e) refl xs own (λ zs r
 
 -- ---- a beginning of a selection
 
-pub record Looked (s : SelNo) (beginning : List Act) : Type 0 where
-  before : List Act
-  found : GateWord
-  later : List Act
-  parts : beginning ≡ before ++ BeginLook s found ∷ later
-  opens : found.shut ≡ false
-  keeps : has (gives_turn s.0) later ≡ false
-
 look-act : (s : SelNo) (act : Act) → question_of act ≡ Question.begin_look s → act ≡ BeginLook s (gate_in (answer_of act))
 look-act s (BeginLook s' found) asks = cc asks
 look-act s _ asks = absurd (cc asks)
@@ -128,85 +120,33 @@ below_keeps s mode selection acts run =
     )
     run).0
 
-module _ (s : SelNo) (mode : Mode) (selection : Selection) where
-  refused : (refusal : BeginError) (acts : List Act) → Completes (reply (Err refusal)) acts (Ok selection) → ⊥
-  refused refusal [] run = cc run
-  refused refusal (act ∷ acts) run = run
-
-  -- what comes after the look keeps the turn
-  rest-keeps : (b : Bool) (acts : List Act)
-      → Completes (if b then given_back s (Err BeginError.ClosedSelector) else (look_keys s >>= λ bound. begin_below s mode bound false)) acts (Ok selection)
-      → (b ≡ false) × (has (gives_turn s.0) acts ≡ false)
-  rest-keeps true [] run = absurd (cc run)
-  rest-keeps true (act ∷ acts) run = absurd (refused BeginError.ClosedSelector acts run.1)
-  rest-keeps false acts run = (refl, below_keeps s mode selection acts run)
-
-  turn-looks : (acts : List Act) → Completes (begin_with_turn s mode false) acts (Ok selection) → Looked s acts
-  turn-looks [] run = absurd (cc run)
-  turn-looks (look ∷ acts) run =
-      let rest = rest-keeps (gate_in (answer_of look)).shut acts run.1 in
-      record {
-        before = [];
-        found = gate_in (answer_of look);
-        later = acts;
-        parts = ap (λ x. x ∷ acts) (look-act s look run.0);
-        opens = rest.0;
-        keeps = rest.1;
-      }
-
-  one_more : (act : Act) (acts : List Act) → Looked s acts → Looked s (act ∷ acts)
-  one_more act acts looked = record {
-    before = act ∷ looked.before;
-    found = looked.found;
-    later = looked.later;
-    parts = ap (λ rest. act ∷ rest) looked.parts;
-    opens = looked.opens;
-    keeps = looked.keeps;
-  }
-
-  holder-looks : (b : Bool) (acts : List Act) → Completes (if b then reply (Err BeginError.Busy) else begin_with_turn s mode false) acts (Ok selection) → Looked s acts
-  holder-looks true acts run = absurd (refused BeginError.Busy acts run)
-  holder-looks false acts run = turn-looks acts run
-
-  gate-looks : (b : Bool) (acts : List Act)
-      → Completes (if b then reply (Err BeginError.ClosedSelector) else (take_turn s >>= λ holder. if is_some holder then reply (Err BeginError.Busy) else begin_with_turn s mode false)) acts (Ok selection)
-      → Looked s acts
-  gate-looks true acts run = absurd (refused BeginError.ClosedSelector acts run)
-  gate-looks false [] run = absurd (cc run)
-  gate-looks false (take ∷ acts) run = one_more take acts (holder-looks (is_some (holder_in (answer_of take))) acts run.1)
-
-  begin-looks : (acts : List Act) → Completes (begin_plan s mode false) acts (Ok selection) → Looked s acts
-  unfolding begin_plan
-  begin-looks [] run = absurd (cc run)
-  begin-looks (look ∷ acts) run = one_more look acts (gate-looks (gate_in (answer_of look)).shut acts run.1)
-
 -- ---- it stands
-
-or-last : (a b : Bool) → b ≡ true → (a || b) ≡ true
-or-last true b e = refl
-or-last false b e = e
 
 -- who began a selection has begun on its selector, in every legal history
 pub selections_stand : SelectionsStand
 selections_stand l n events selection legal begun =
     let s = selection.selector in
-    let looked = begin-looks s selection.mode selection begun.beginning begun.begins in
-    let own : mine n events ≡ (begun.earlier ++ looked.before) ++ BeginLook s looked.found ∷ (looked.later ++ begun.since)
-    = begun.parts ∙ (ap (λ xs. begun.earlier ++ (xs ++ begun.since)) looked.parts
-    ∙ (ap (λ xs. begun.earlier ++ xs) (append_assoc looked.before (BeginLook s looked.found ∷ looked.later) begun.since)
-    ∙ sym (append_assoc begun.earlier looked.before (BeginLook s looked.found ∷ (looked.later ++ begun.since))))) in
-    let cut = cut_at n events (begun.earlier ++ looked.before) (BeginLook s looked.found) (looked.later ++ begun.since) own in
-    let e = event_of n (BeginLook s looked.found) in
+    let looked = begin-parts s selection.mode false selection begun.beginning begun.begins in
+    let found = gate_in (answer_of looked.look) in
+    let before = looked.gate ∷ looked.take ∷ [] in
+    let keeps_later = below_keeps s selection.mode selection looked.rest looked.runs_rest in
+    let acts : begun.beginning ≡ before ++ BeginLook s found ∷ looked.rest
+    = looked.parts ∙ ap (λ x. looked.gate ∷ looked.take ∷ x ∷ looked.rest) (look-act s looked.look looked.asks_look) in
+    let own : mine n events ≡ (begun.earlier ++ before) ++ BeginLook s found ∷ (looked.rest ++ begun.since)
+    = begun.parts ∙ (ap (λ xs. begun.earlier ++ (xs ++ begun.since)) acts
+    ∙ sym (append_assoc begun.earlier before (BeginLook s found ∷ (looked.rest ++ begun.since)))) in
+    let cut = cut_at n events (begun.earlier ++ before) (BeginLook s found) (looked.rest ++ begun.since) own in
+    let e = event_of n (BeginLook s found) in
     let legal' = subst (IsLegal l) cut.parts legal in
     let step = legal_next l cut.past e cut.later legal' in
     let st = state_after cut.past in
-    let begins : (st.begun s.0 || not looked.found.shut) ≡ true = or-last (st.begun s.0) (not looked.found.shut) (ap not looked.opens) in
-    let here : has_begun (effect st n (BeginLook s looked.found)) n s ≡ true
-    = and_from (has_turn st n s) (put st.begun s.0 (st.begun s.0 || not looked.found.shut) s.0) step.condition.1 (put-same st.begun s.0 (st.begun s.0 || not looked.found.shut) ∙ begins) in
+    let begins : (st.begun s.0 || not found.shut) ≡ true = by_second (st.begun s.0) (not found.shut) (ap not looked.opens) in
+    let here : has_begun (effect st n (BeginLook s found)) n s ≡ true
+    = and_from (has_turn st n s) (put st.begun s.0 (st.begun s.0 || not found.shut) s.0) step.condition.1 (put-same st.begun s.0 (st.begun s.0 || not found.shut) ∙ begins) in
     let there : has_begun (state_after (cut.past ++ e ∷ [])) n s ≡ true = ap (λ x. has_begun x n s) (state_after-more cut.past e) ∙ here in
     let joined : (cut.past ++ e ∷ []) ++ cut.later ≡ events = append_assoc cut.past (e ∷ []) cut.later ∙ sym cut.parts in
     let keeps : has (gives_turn s.0) (mine n cut.later) ≡ false
-    = ap (has (gives_turn s.0)) cut.mine_later ∙ (list_any-append (gives_turn s.0) looked.later begun.since ∙ (ap (λ b. b || has (gives_turn s.0) begun.since) looked.keeps ∙ begun.goes_on)) in
+    = ap (has (gives_turn s.0)) cut.mine_later ∙ (list_any-append (gives_turn s.0) looked.rest begun.since ∙ (ap (λ b. b || has (gives_turn s.0) begun.since) keeps_later ∙ begun.goes_on)) in
     subst (λ evs. IsTrue (has_begun (state_after evs) n s)) joined
     (only_itself_gives_back l n (cut.past ++ e ∷ []) cut.later (subst (IsLegal l) (sym joined) legal) (a_selection s) keeps there)
 

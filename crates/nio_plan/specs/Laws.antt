@@ -1,5 +1,5 @@
 -- What the plans promise.
-use Rattle.std.specs.Prelude.{◌≡◌, ℕ, ◌==◌, ◌<◌, Bool, not, Ok, List, ◌++◌, map, IsTrue, ⊤}
+use Rattle.std.specs.Prelude.{◌≡◌, ◌≢◌, ℕ, ◌==◌, ◌<◌, Bool, not, Ok, List, ◌++◌, map, IsTrue, ⊤}
 use Rattle.std.specs.List.{All, AllPairs, Contains}
 use Rattle.nio_base.specs.declared.limits.Limits.{Limits}
 use Rattle.nio_base.specs.declared.numbers.CallerNo.{CallerNo}
@@ -65,6 +65,16 @@ abbrev pub LooksInOrder : Type 0
 LooksInOrder =
     (s : SelNo) (mode : Mode) (lacks : Bool) (acts : List Act) (selection : Selection)
     → Completes (begin_plan s mode lacks) acts (Ok selection) → IsInOrder selection
+
+-- A key that was published and cancelled before a `try_begin` that answers Ok with a bound above its
+-- index is removed after it, and isn't in the looked list. What the caller did after `before` is this
+-- call.
+abbrev pub CancelledKeysGo : Type 0
+CancelledKeysGo =
+    (l : Limits) (n : CallerNo) (before later : List Event) (s : SelNo) (mode : Mode) (lacks : Bool) (selection : Selection) (i : ℕ)
+    → IsLegal l (before ++ later) → Completes (begin_plan s mode lacks) (mine n later) (Ok selection)
+    → IsTrue ((state_after before).key s.0 i).published → IsTrue ((state_after before).key s.0 i).cancelled → i < selection.bound
+    → IsTrue ((state_after (before ++ later)).key s.0 i).removed × All (λ entry. entry.index ≢ i) selection.looked
 
 -- A `told` that answers Again goes on with the selection that was begun, and has marked nothing.
 abbrev pub AgainGoesOn : Type 0

@@ -2,8 +2,9 @@
 -- caller's own acts tell of it.
 use Rattle.std.specs.Prelude.{◌≡◌, ℕ, ◌==◌, Bool, false, not, ◌&&◌, Ok, List, ◌++◌, IsTrue}
 use Rattle.nio_event.specs.OwnEvents.{has, enters, gives_turn}
+use Rattle.nio_event.specs.Sets.{is_valid}
 use Rattle.nio_event.specs.declared.act.Act.{Act}
-use Rattle.nio_event.specs.declared.act.Act.TheVariants.{Remove, Mark, ShutBit}
+use Rattle.nio_event.specs.declared.act.Act.TheVariants.{LookKey, Remove, Mark, ShutBit}
 use Rattle.nio_plan.specs.Runs.{Completes}
 use Rattle.nio_plan.specs.SelectCalls.{Selection, begin_plan}
 
@@ -38,3 +39,8 @@ pub record IsClosing (own : List Act) (s : ℕ) : Type 0 where
 abbrev pub removes : ℕ → ℕ → Act → Bool
 removes s i (Remove s' i' found) = (s'.0 == s) && (i' == i)
 removes s i _ = false
+
+-- it found the key valid
+abbrev pub finds_valid : ℕ → ℕ → Act → Bool
+finds_valid s i (LookKey s' i' found) = (s'.0 == s) && (i' == i) && is_valid found
+finds_valid s i _ = false

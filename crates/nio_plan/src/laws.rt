@@ -1,5 +1,5 @@
 //! What the plans promise, as the contracts of functions that do nothing.
-ghost use Rattle.nio_plan.specs.Laws.{RunsArePerformed, BeginsSelection, LooksInOrder, MarksOnlyAsTold, AgainGoesOn, CountsSelection, SelectionsStand, ClosingsStand, ClosedRemovesAll};
+ghost use Rattle.nio_plan.specs.Laws.{RunsArePerformed, BeginsSelection, LooksInOrder, CancelledKeysGo, MarksOnlyAsTold, AgainGoesOn, CountsSelection, SelectionsStand, ClosingsStand, ClosedRemovesAll};
 
 /// A call between whose steps nobody comes answers, and leaves, what its plan says of the state
 /// before it.
@@ -8,10 +8,12 @@ pub fn run_law<R>()
 {}
 
 /// What `try_begin` answers is the selection that it began, until the turn is given back or a key
-/// is marked.
+/// is marked. Its keys are in rising order, and none of them was cancelled before; a key below its
+/// bound that was is removed.
 pub fn begin_law()
     ensures begins { BeginsSelection }
     ensures in_order { LooksInOrder }
+    ensures cancelled { CancelledKeysGo }
 {}
 
 /// A selection updates keys only for what the poller told of them, counts each update, and ends with
