@@ -62,56 +62,56 @@ module _ (interrupted : ℕ → Bool) (mark : ℕ) (chan : ℕ → Chan) (s : �
   -- the closer is set
   pub makes-closer : (closer : Option CallerNo) → Makes interrupted mark chan s (λ r. record r { closer = closer }) (λ st. record st { shared = with_closer st.shared s closer })
   makes-closer closer = λ row.
-    let r = record (row s) { closer = closer } in
-    λ j. record {
-      shared = record {
-        drawn = λ _. false;
-        interrupted = interrupted;
-        selector = kept row r (λ (q : SelectorRow). q.made) refl j;
-        channels_mark = mark;
-        chan = chan;
-        hold = λ _. None;
-        noted = λ c. kept row r (λ (q : SelectorRow). q.noted c) refl j;
-        gate = kept row r (λ (q : SelectorRow). q.gate) refl j;
-        turn = kept row r (λ (q : SelectorRow). q.turn) refl j;
-        keys_mark = kept row r (λ (q : SelectorRow). q.keys_mark) refl j;
-        key = kept row r (λ (q : SelectorRow). λ (i : ℕ). (q.keys i).stage) refl j;
-        interest = kept row r (λ (q : SelectorRow). λ (i : ℕ). (q.keys i).interest) refl j;
-        mark = kept row r (λ (q : SelectorRow). λ (i : ℕ). (q.keys i).mark) refl j;
-        note = kept row r (λ (q : SelectorRow). λ (i : ℕ). (q.keys i).note) refl j;
-        begun = kept row r (λ (q : SelectorRow). is_some q.turn) refl j;
-        closer = put_part (λ (q : SelectorRow). q.closer) row s r j;
-        entered = kept row r (λ (q : SelectorRow). q.entered) refl j;
-      };
-      selection = kept row r (λ (q : SelectorRow). q.selection) refl j;
-    }
+      let r = record (row s) { closer = closer } in
+      λ j. record {
+        shared = record {
+          drawn = λ _. false;
+          interrupted = interrupted;
+          selector = kept row r (λ (q : SelectorRow). q.made) refl j;
+          channels_mark = mark;
+          chan = chan;
+          hold = λ _. None;
+          noted = λ c. kept row r (λ (q : SelectorRow). q.noted c) refl j;
+          gate = kept row r (λ (q : SelectorRow). q.gate) refl j;
+          turn = kept row r (λ (q : SelectorRow). q.turn) refl j;
+          keys_mark = kept row r (λ (q : SelectorRow). q.keys_mark) refl j;
+          key = kept row r (λ (q : SelectorRow). λ (i : ℕ). (q.keys i).stage) refl j;
+          interest = kept row r (λ (q : SelectorRow). λ (i : ℕ). (q.keys i).interest) refl j;
+          mark = kept row r (λ (q : SelectorRow). λ (i : ℕ). (q.keys i).mark) refl j;
+          note = kept row r (λ (q : SelectorRow). λ (i : ℕ). (q.keys i).note) refl j;
+          begun = kept row r (λ (q : SelectorRow). is_some q.turn) refl j;
+          closer = put_part (λ (q : SelectorRow). q.closer) row s r j;
+          entered = kept row r (λ (q : SelectorRow). q.entered) refl j;
+        };
+        selection = kept row r (λ (q : SelectorRow). q.selection) refl j;
+      }
 
   -- the closing is over
   pub makes-entered : (entered : Bool) → Makes interrupted mark chan s (λ r. record r { entered = entered }) (λ st. record st { shared = with_entered st.shared s entered })
   makes-entered entered = λ row.
-    let r = record (row s) { entered = entered } in
-    λ j. record {
-      shared = record {
-        drawn = λ _. false;
-        interrupted = interrupted;
-        selector = kept row r (λ (q : SelectorRow). q.made) refl j;
-        channels_mark = mark;
-        chan = chan;
-        hold = λ _. None;
-        noted = λ c. kept row r (λ (q : SelectorRow). q.noted c) refl j;
-        gate = kept row r (λ (q : SelectorRow). q.gate) refl j;
-        turn = kept row r (λ (q : SelectorRow). q.turn) refl j;
-        keys_mark = kept row r (λ (q : SelectorRow). q.keys_mark) refl j;
-        key = kept row r (λ (q : SelectorRow). λ (i : ℕ). (q.keys i).stage) refl j;
-        interest = kept row r (λ (q : SelectorRow). λ (i : ℕ). (q.keys i).interest) refl j;
-        mark = kept row r (λ (q : SelectorRow). λ (i : ℕ). (q.keys i).mark) refl j;
-        note = kept row r (λ (q : SelectorRow). λ (i : ℕ). (q.keys i).note) refl j;
-        begun = kept row r (λ (q : SelectorRow). is_some q.turn) refl j;
-        closer = kept row r (λ (q : SelectorRow). q.closer) refl j;
-        entered = put_part (λ (q : SelectorRow). q.entered) row s r j;
-      };
-      selection = kept row r (λ (q : SelectorRow). q.selection) refl j;
-    }
+      let r = record (row s) { entered = entered } in
+      λ j. record {
+        shared = record {
+          drawn = λ _. false;
+          interrupted = interrupted;
+          selector = kept row r (λ (q : SelectorRow). q.made) refl j;
+          channels_mark = mark;
+          chan = chan;
+          hold = λ _. None;
+          noted = λ c. kept row r (λ (q : SelectorRow). q.noted c) refl j;
+          gate = kept row r (λ (q : SelectorRow). q.gate) refl j;
+          turn = kept row r (λ (q : SelectorRow). q.turn) refl j;
+          keys_mark = kept row r (λ (q : SelectorRow). q.keys_mark) refl j;
+          key = kept row r (λ (q : SelectorRow). λ (i : ℕ). (q.keys i).stage) refl j;
+          interest = kept row r (λ (q : SelectorRow). λ (i : ℕ). (q.keys i).interest) refl j;
+          mark = kept row r (λ (q : SelectorRow). λ (i : ℕ). (q.keys i).mark) refl j;
+          note = kept row r (λ (q : SelectorRow). λ (i : ℕ). (q.keys i).note) refl j;
+          begun = kept row r (λ (q : SelectorRow). is_some q.turn) refl j;
+          closer = kept row r (λ (q : SelectorRow). q.closer) refl j;
+          entered = put_part (λ (q : SelectorRow). q.entered) row s r j;
+        };
+        selection = kept row r (λ (q : SelectorRow). q.selection) refl j;
+      }
 
   emptied_at : {A : Type 0} (part : KeyRow → A) (k : KeyRow) (a b : Bool) → a ≡ true → part (cond b (removed_row k) k) ≡ cond (a && b) (part (removed_row k)) (part k)
   emptied_at part k true true e = refl
@@ -134,29 +134,29 @@ module _ (interrupted : ℕ → Bool) (mark : ℕ) (chan : ℕ → Chan) (s : �
   -- every key is removed
   pub makes-emptied : Makes interrupted mark chan s (λ r. record r { keys = emptied r.keys }) (λ st. record st { shared = without_keys st.shared s })
   makes-emptied = λ row.
-    let r = record (row s) { keys = emptied (row s).keys } in
-    λ j. record {
-      shared = record {
-        drawn = λ _. false;
-        interrupted = interrupted;
-        selector = kept row r (λ (q : SelectorRow). q.made) refl j;
-        channels_mark = mark;
-        chan = chan;
-        hold = λ _. None;
-        noted = λ c. kept row r (λ (q : SelectorRow). q.noted c) refl j;
-        gate = kept row r (λ (q : SelectorRow). q.gate) refl j;
-        turn = kept row r (λ (q : SelectorRow). q.turn) refl j;
-        keys_mark = kept row r (λ (q : SelectorRow). q.keys_mark) refl j;
-        key = emptied_part (λ (k : KeyRow). k.stage) row j;
-        interest = keys_kept row s r (λ (k : KeyRow). k.interest) (emptied-other (λ (k : KeyRow). k.interest) (λ _. refl) (row s).keys) j;
-        mark = emptied_part (λ (k : KeyRow). k.mark) row j;
-        note = keys_kept row s r (λ (k : KeyRow). k.note) (emptied-other (λ (k : KeyRow). k.note) (λ _. refl) (row s).keys) j;
-        begun = kept row r (λ (q : SelectorRow). is_some q.turn) refl j;
-        closer = kept row r (λ (q : SelectorRow). q.closer) refl j;
-        entered = kept row r (λ (q : SelectorRow). q.entered) refl j;
-      };
-      selection = kept row r (λ (q : SelectorRow). q.selection) refl j;
-    }
+      let r = record (row s) { keys = emptied (row s).keys } in
+      λ j. record {
+        shared = record {
+          drawn = λ _. false;
+          interrupted = interrupted;
+          selector = kept row r (λ (q : SelectorRow). q.made) refl j;
+          channels_mark = mark;
+          chan = chan;
+          hold = λ _. None;
+          noted = λ c. kept row r (λ (q : SelectorRow). q.noted c) refl j;
+          gate = kept row r (λ (q : SelectorRow). q.gate) refl j;
+          turn = kept row r (λ (q : SelectorRow). q.turn) refl j;
+          keys_mark = kept row r (λ (q : SelectorRow). q.keys_mark) refl j;
+          key = emptied_part (λ (k : KeyRow). k.stage) row j;
+          interest = keys_kept row s r (λ (k : KeyRow). k.interest) (emptied-other (λ (k : KeyRow). k.interest) (λ _. refl) (row s).keys) j;
+          mark = emptied_part (λ (k : KeyRow). k.mark) row j;
+          note = keys_kept row s r (λ (k : KeyRow). k.note) (emptied-other (λ (k : KeyRow). k.note) (λ _. refl) (row s).keys) j;
+          begun = kept row r (λ (q : SelectorRow). is_some q.turn) refl j;
+          closer = kept row r (λ (q : SelectorRow). q.closer) refl j;
+          entered = kept row r (λ (q : SelectorRow). q.entered) refl j;
+        };
+        selection = kept row r (λ (q : SelectorRow). q.selection) refl j;
+      }
 
 module _ (interrupted : ℕ → Bool) (mark : ℕ) (chan : ℕ → Chan) (row : ℕ → SelectorRow) (c : ℕ) where
   cancelled_stage : (b : Bool) (k : KeyRow) → (cond {A = KeyRow} b (cancelled_row k) k).stage ≡ cond b (cancelled_key k.stage) k.stage

@@ -63,56 +63,56 @@ module _ (interrupted : ℕ → Bool) (mark : ℕ) (chan : ℕ → Chan) (s : �
   -- the looked keys are marked
   makes-marked : (looked pairs : List (ℕ × ℕ)) → Makes interrupted mark chan s (λ r. record r { keys = marked_keys r.keys looked (all_told pairs) }) (λ st. record st { shared = with_marks st.shared s looked pairs })
   makes-marked looked pairs = λ row.
-    let r = record (row s) { keys = marked_keys (row s).keys looked (all_told pairs) } in
-    λ j. record {
-      shared = record {
-        drawn = λ _. false;
-        interrupted = interrupted;
-        selector = kept row r (λ (q : SelectorRow). q.made) refl j;
-        channels_mark = mark;
-        chan = chan;
-        hold = λ _. None;
-        noted = λ c. kept row r (λ (q : SelectorRow). q.noted c) refl j;
-        gate = kept row r (λ (q : SelectorRow). q.gate) refl j;
-        turn = kept row r (λ (q : SelectorRow). q.turn) refl j;
-        keys_mark = kept row r (λ (q : SelectorRow). q.keys_mark) refl j;
-        key = keys_kept row s r (λ (k : KeyRow). k.stage) (λ _. refl) j;
-        interest = keys_kept row s r (λ (k : KeyRow). k.interest) (λ _. refl) j;
-        mark = marks_part looked pairs row j;
-        note = keys_kept row s r (λ (k : KeyRow). k.note) (λ _. refl) j;
-        begun = kept row r (λ (q : SelectorRow). is_some q.turn) refl j;
-        closer = kept row r (λ (q : SelectorRow). q.closer) refl j;
-        entered = kept row r (λ (q : SelectorRow). q.entered) refl j;
-      };
-      selection = kept row r (λ (q : SelectorRow). q.selection) refl j;
-    }
+      let r = record (row s) { keys = marked_keys (row s).keys looked (all_told pairs) } in
+      λ j. record {
+        shared = record {
+          drawn = λ _. false;
+          interrupted = interrupted;
+          selector = kept row r (λ (q : SelectorRow). q.made) refl j;
+          channels_mark = mark;
+          chan = chan;
+          hold = λ _. None;
+          noted = λ c. kept row r (λ (q : SelectorRow). q.noted c) refl j;
+          gate = kept row r (λ (q : SelectorRow). q.gate) refl j;
+          turn = kept row r (λ (q : SelectorRow). q.turn) refl j;
+          keys_mark = kept row r (λ (q : SelectorRow). q.keys_mark) refl j;
+          key = keys_kept row s r (λ (k : KeyRow). k.stage) (λ _. refl) j;
+          interest = keys_kept row s r (λ (k : KeyRow). k.interest) (λ _. refl) j;
+          mark = marks_part looked pairs row j;
+          note = keys_kept row s r (λ (k : KeyRow). k.note) (λ _. refl) j;
+          begun = kept row r (λ (q : SelectorRow). is_some q.turn) refl j;
+          closer = kept row r (λ (q : SelectorRow). q.closer) refl j;
+          entered = kept row r (λ (q : SelectorRow). q.entered) refl j;
+        };
+        selection = kept row r (λ (q : SelectorRow). q.selection) refl j;
+      }
 
   -- the gate is changed
   pub makes-gate : (change : GateWord → GateWord) → Makes interrupted mark chan s (λ r. record r { gate = change r.gate }) (λ st. record st { shared = with_gate st.shared s (change (st.shared.gate s)) })
   makes-gate change = λ row.
-    let r = record (row s) { gate = change (row s).gate } in
-    λ j. record {
-      shared = record {
-        drawn = λ _. false;
-        interrupted = interrupted;
-        selector = kept row r (λ (q : SelectorRow). q.made) refl j;
-        channels_mark = mark;
-        chan = chan;
-        hold = λ _. None;
-        noted = λ c. kept row r (λ (q : SelectorRow). q.noted c) refl j;
-        gate = put_part (λ (q : SelectorRow). q.gate) row s r j;
-        turn = kept row r (λ (q : SelectorRow). q.turn) refl j;
-        keys_mark = kept row r (λ (q : SelectorRow). q.keys_mark) refl j;
-        key = kept row r (λ (q : SelectorRow). λ (i : ℕ). (q.keys i).stage) refl j;
-        interest = kept row r (λ (q : SelectorRow). λ (i : ℕ). (q.keys i).interest) refl j;
-        mark = kept row r (λ (q : SelectorRow). λ (i : ℕ). (q.keys i).mark) refl j;
-        note = kept row r (λ (q : SelectorRow). λ (i : ℕ). (q.keys i).note) refl j;
-        begun = kept row r (λ (q : SelectorRow). is_some q.turn) refl j;
-        closer = kept row r (λ (q : SelectorRow). q.closer) refl j;
-        entered = kept row r (λ (q : SelectorRow). q.entered) refl j;
-      };
-      selection = kept row r (λ (q : SelectorRow). q.selection) refl j;
-    }
+      let r = record (row s) { gate = change (row s).gate } in
+      λ j. record {
+        shared = record {
+          drawn = λ _. false;
+          interrupted = interrupted;
+          selector = kept row r (λ (q : SelectorRow). q.made) refl j;
+          channels_mark = mark;
+          chan = chan;
+          hold = λ _. None;
+          noted = λ c. kept row r (λ (q : SelectorRow). q.noted c) refl j;
+          gate = put_part (λ (q : SelectorRow). q.gate) row s r j;
+          turn = kept row r (λ (q : SelectorRow). q.turn) refl j;
+          keys_mark = kept row r (λ (q : SelectorRow). q.keys_mark) refl j;
+          key = kept row r (λ (q : SelectorRow). λ (i : ℕ). (q.keys i).stage) refl j;
+          interest = kept row r (λ (q : SelectorRow). λ (i : ℕ). (q.keys i).interest) refl j;
+          mark = kept row r (λ (q : SelectorRow). λ (i : ℕ). (q.keys i).mark) refl j;
+          note = kept row r (λ (q : SelectorRow). λ (i : ℕ). (q.keys i).note) refl j;
+          begun = kept row r (λ (q : SelectorRow). is_some q.turn) refl j;
+          closer = kept row r (λ (q : SelectorRow). q.closer) refl j;
+          entered = kept row r (λ (q : SelectorRow). q.entered) refl j;
+        };
+        selection = kept row r (λ (q : SelectorRow). q.selection) refl j;
+      }
 
   pub state-ended : (row : ℕ → SelectorRow) (selection : Selection) (pairs : List (ℕ × ℕ)) → state_from interrupted mark chan (put row s (with_selection_ended (row s) selection.looked (all_told pairs) selection.bound)) ≡ record { shared = selection_ended (state_from interrupted mark chan row).shared s selection pairs; selection = put (state_from interrupted mark chan row).selection s None }
   state-ended row selection pairs =

@@ -22,13 +22,23 @@ fn call_of(rt: &impl Abort, alloc: Global, line: &str) -> (CallerNo, Call) {
 }
 
 /// Makes the calls, and compares each line of the history with the one that is expected.
-fn answers(rt: &impl Abort, alloc: Global, plain: &mut Plain, label: &str, rows: &[(&str, &str)]) -> Result<(), Fail> {
+fn answers(
+    rt: &impl Abort,
+    alloc: Global,
+    plain: &mut Plain,
+    label: &str,
+    rows: &[(&str, &str)],
+) -> Result<(), Fail> {
     for (index, (line, reply)) in rows.iter().enumerate() {
         let (caller, call) = call_of(rt, alloc, line);
         let answer = plain.call(alloc, caller, &call)?;
         let written = print_line(alloc, index as u64, caller, &call, &answer)?;
         let wanted = format!(in alloc; "{index} {line} -> {reply}\n")?;
-        assert_eq!(rt; written.as_slice(), wanted.as_bytes(), "{label}: {line} -> {answer:?}");
+        assert_eq!(rt;
+            written.as_slice(),
+            wanted.as_bytes(),
+            "{label}: {line} -> {answer:?}"
+        );
     }
     Ok(())
 }
@@ -40,7 +50,14 @@ fn row(rt: &impl Abort, alloc: Global, label: &str, rows: &[(&str, &str)]) -> Re
 }
 
 /// The same where one channel of a kind is registered.
-fn registered(rt: &impl Abort, alloc: Global, label: &str, kind: &str, ops: &str, rows: &[(&str, &str)]) -> Result<(), Fail> {
+fn registered(
+    rt: &impl Abort,
+    alloc: Global,
+    label: &str,
+    kind: &str,
+    ops: &str,
+    rows: &[(&str, &str)],
+) -> Result<(), Fail> {
     let mut plain = Plain::make(alloc, LIMITS)?;
     let opening = format!(in alloc; "t1 channel {kind}")?;
     let registering = format!(in alloc; "t1 register s0 c0 {ops}")?;

@@ -29,7 +29,14 @@ impl Plain {
         if !self.are_legal(key.chan, ops) {
             return Reply::IllegalOps;
         }
-        self.put_key(sel, index, Key { interest: ops, ..key });
+        self.put_key(
+            sel,
+            index,
+            Key {
+                interest: ops,
+                ..key
+            },
+        );
         Reply::Ok
     }
 

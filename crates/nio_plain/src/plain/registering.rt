@@ -12,7 +12,13 @@ use nio_event::Reply;
 use std::alloc::AllocError;
 
 impl Plain {
-    pub(super) fn register(&mut self, sel: SelNo, chan: ChanNo, ops: Ops, note: Option<u64>) -> Result<Reply, AllocError>
+    pub(super) fn register(
+        &mut self,
+        sel: SelNo,
+        chan: ChanNo,
+        ops: Ops,
+        note: Option<u64>,
+    ) -> Result<Reply, AllocError>
         ensures { AnswersAs self.old self.new result (register_call (limits_of self.old) (state_of self.old) sel chan ops note) }
     {
         if let Some(refusal) = self.refusal(sel, chan, ops) {

@@ -10,7 +10,13 @@ use nio_event::{Mode, Reply, Waiting};
 use std::alloc::{AllocError, Global};
 
 impl Plain {
-    pub(super) fn begin(&mut self, alloc: Global, me: CallerNo, sel: SelNo, waiting: Waiting) -> Result<Reply, AllocError>
+    pub(super) fn begin(
+        &mut self,
+        alloc: Global,
+        me: CallerNo,
+        sel: SelNo,
+        waiting: Waiting,
+    ) -> Result<Reply, AllocError>
         ensures { AnswersAs self.old self.new result (begin_call (state_of self.old) me sel waiting) }
     {
         if sel.0 as usize >= self.selectors.len() {

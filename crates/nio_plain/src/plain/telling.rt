@@ -11,7 +11,14 @@ use nio_event::{GateWord, Mode, Pairs, Reply, Why};
 use std::alloc::{AllocError, Global};
 
 impl Plain {
-    pub(super) fn told(&mut self, alloc: Global, me: CallerNo, sel: SelNo, elapsed: bool, pairs: &Pairs) -> Result<Reply, AllocError>
+    pub(super) fn told(
+        &mut self,
+        alloc: Global,
+        me: CallerNo,
+        sel: SelNo,
+        elapsed: bool,
+        pairs: &Pairs,
+    ) -> Result<Reply, AllocError>
         ensures { AnswersAs self.old self.new result (told_call (state_of self.old) me sel elapsed pairs.now) }
     {
         if sel.0 as usize >= self.selectors.len() {
@@ -33,10 +40,7 @@ impl Plain {
             return Ok(Reply::Again);
         }
         self.selectors[sel.0 as usize].end_selection(&told);
-        Ok(Reply::Selected(
-            count,
-            why_ended(gate, interrupted, mode, count),
-        ))
+        Ok(Reply::Selected(count, why_ended(gate, interrupted, mode, count)))
     }
 
     /// Leaves the caller's selection after a failed poll. A pending wakeup stays.

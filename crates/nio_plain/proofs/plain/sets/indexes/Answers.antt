@@ -12,14 +12,16 @@ loop-index-preserved c =
     let k = c.index-keys-index.result in
     let before = c.loop-index.invariant in
     let at = places_at key_row no_key c.args.keys.now n k c.loop-index-test.true c.index-keys-index.is in
-    elim c.if-is_listed.branch [ then-is_listed+in_ok-push w ↦
-    rw (w.indexes-is, w.in_ok-push.ensures.items)
-    (record {
-      listed = ap (λ ys. ys ++ n ∷ []) before.listed ∙ sym (listed_below-yes keys c.args.selected n (key_row k) at (sym w.if-is_listed.ensures));
-      few = omega (arith, w.in_ok-push.ensures.len);
-    })
-    | else-is_listed w ↦ rw w.indexes-is
-    (record {
-      listed = before.listed ∙ sym (listed_below-no keys c.args.selected n (key_row k) at (sym w.if-is_listed.ensures));
-      few = omega arith;
-    }) ]
+    elim c.if-is_listed.branch [
+      | then-is_listed+in_ok-push w ↦
+          rw (w.indexes-is, w.in_ok-push.ensures.items)
+          (record {
+            listed = ap (λ ys. ys ++ n ∷ []) before.listed ∙ sym (listed_below-yes keys c.args.selected n (key_row k) at (sym w.if-is_listed.ensures));
+            few = omega (arith, w.in_ok-push.ensures.len);
+          })
+      | else-is_listed w ↦ rw w.indexes-is
+          (record {
+            listed = before.listed ∙ sym (listed_below-no keys c.args.selected n (key_row k) at (sym w.if-is_listed.ensures));
+            few = omega arith;
+          })
+    ]
