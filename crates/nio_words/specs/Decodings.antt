@@ -1,6 +1,9 @@
 -- What a word tells of its part: the other way round from the encodings.
-use Rattle.std.specs.Prelude.{ℕ, ◌/◌, ◌%◌, ◌^◌, ◌==◌, Bool}
+use Rattle.std.specs.Prelude.{ℕ, ◌-◌, ◌/◌, ◌%◌, ◌^◌, ◌==◌, Bool, if◌then◌else◌, Option, Some, None}
+use Rattle.nio_base.specs.declared.kind.Kind.{Kind}
+use Rattle.nio_base.specs.declared.kind.Kind.TheVariants.{Stream, Listener, Source, Sink}
 use Rattle.nio_base.specs.declared.numbers.CallerNo.{CallerNo}
+use Rattle.nio_event.specs.declared.found.Chan.{Chan as Channel}
 use Rattle.nio_event.specs.declared.found.GateWord.{GateWord}
 use Rattle.nio_event.specs.declared.found.Stage.{Stage}
 
@@ -22,3 +25,26 @@ stage_of word = record {
 
 abbrev pub operations_of : ℕ → ℕ
 operations_of word = word % 256
+
+-- a number of 32 bits
+abbrev pub number_of : ℕ → ℕ
+number_of word = word % 2 ^ 32
+
+abbrev pub kind_of : ℕ → Kind
+kind_of code = if code == 0 then Stream else if code == 1 then Listener else if code == 2 then Source else Sink
+
+abbrev pub chan_of : ℕ → Channel
+chan_of word = record {
+  made = is_set word 0;
+  kind = kind_of (word / 2 ^ 1 % 8);
+  closed = is_set word 4;
+  blocking = is_set word 5;
+}
+
+-- 0 for nobody, and else one more than the caller's number
+abbrev pub holder_of : ℕ → Option CallerNo
+holder_of word = if word == 0 then None else Some (record { 0 = number_of (word - 1) })
+
+-- 0 for none, and else one more than the index
+abbrev pub noted_of : ℕ → Option ℕ
+noted_of word = if word == 0 then None else Some (number_of (word - 1))

@@ -69,4 +69,24 @@ impl Words {
         let word = place_of(&self.limits, part);
         self.perform::<Brand>(&mut p.seat, word, instruction)
     }
+
+    /// The same for a step that its part and its instruction don't tell whole. `_said` is what they
+    /// leave out, and the proof alone needs it.
+    #[inline(always)]
+    pub(crate) fn step_that<T: Copy>(
+        &self,
+        p: &mut Pass,
+        me: CallerNo,
+        part: Part,
+        instruction: Instruction,
+        _said: T,
+    ) -> u64
+        ghost doing: { Doing }
+        requires ready { IsReady self.now p.old doing.who }
+        requires moves { Moves (limits_of self.now) doing.who part instruction doing.act }
+        requires condition { MayDo self.now p.old doing }
+        ensures step { Steps self.now p.old p.new doing.who (doing.act result) }
+    {
+        self.step(p, me, part, instruction)
+    }
 }
