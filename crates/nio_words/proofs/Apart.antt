@@ -1,6 +1,6 @@
 -- A step changes no word but that of its own part. Of each sort of part only the kinds of step that
 -- change such a part are looked at; of the others the last line speaks.
-use Rattle.std.proofs.Common.{◌≡◌, ◌≢◌, ℕ, ◌==◌, Bool, true, false, cond, ◌&&◌, refl, ap, sym, eqb-true, ne_eqb}
+use Rattle.std.proofs.Common.{◌≡◌, ◌≢◌, ℕ, ◌==◌, Bool, true, false, cond, ◌&&◌, refl, ap, eqb-true, ne_eqb}
 use Rattle.std.proofs.lemmas.Bool.{and_parts}
 use Rattle.nio_base.specs.declared.numbers.CallerNo.{CallerNo}
 use Rattle.nio_event.specs.Acts.{effect}

@@ -1,10 +1,10 @@
 -- Sets of numbers as the bits of a word.
-use Rattle.std.proofs.Common.{◌≡◌, ◌≢◌, ℕ, zero, suc, ◌+◌, ◌-◌, ◌*◌, ◌/◌, ◌%◌, ◌^◌, ◌<◌, ◌≤◌, ◌==◌, Bool, true, false, cond, ◌⊎◌, inl, inr, if◌then◌else◌, refl, ap, sym, ◌∙◌, subst, arith, eqb-true, eq-eqb, ne_eqb}
+use Rattle.std.proofs.Common.{◌≡◌, ◌≢◌, ℕ, zero, suc, ◌+◌, ◌-◌, ◌*◌, ◌%◌, ◌^◌, ◌<◌, ◌==◌, Bool, true, false, cond, ◌⊎◌, inl, inr, if◌then◌else◌, refl, ap, sym, ◌∙◌, subst, arith, eqb-true, ne_eqb}
 use Rattle.std.specs.Prelude.{bit_and, bit_or}
 use Rattle.std.specs.Int.{bit_at, bit_not, w64}
 use Rattle.std.proofs.lemmas.Bool.{eqb-false}
-use Rattle.std.proofs.lemmas.Nat.{pow_pos, or_lt, or_comm, or_shifted, and_le_l, pow_below, one_shl, and_mask}
-use Rattle.std.proofs.lemmas.Nat.Bits.{bit_at_set_same, bit_at_set_other, bit_at_clear_same, bit_at_clear_other, bit_at_cat_low, bit_at_cat_high, bit_at_lowest, bit_at-zero, bit_at-lt, bit_at_or, bit_at_and, bit_at_not, bit_at_above, same_from_bits_below}
+use Rattle.std.proofs.lemmas.Nat.{or_lt, or_comm, or_shifted, and_le_l, and_mask}
+use Rattle.std.proofs.lemmas.Nat.Bits.{bit_at_set_same, bit_at_set_other, bit_at_clear_same, bit_at_clear_other, bit_at_cat_low, bit_at_cat_high, bit_at-zero, bit_at-lt, bit_at_or, bit_at_and, bit_at_not, bit_at_above, same_from_bits_below}
 use Rattle.nio_event.specs.Answers.{bits_below}
 use Rattle.nio_event.specs.State.{put}
 use Rattle.nio_event.proofs.Put.{put-same}
@@ -134,12 +134,13 @@ bit_at-bits_below (suc k) f i h = ap (λ (m : ℕ). bit_at m i) (with_bit k (bit
     top : (b : Bool) → bit_at (bit b) 0 ≡ bit b
     top true = refl
     top false = refl
+
     by_test : (t : Bool) → (i == k) ≡ t → (i < k → bit_at (bits_below k f) i ≡ bit (f i)) → bit_at (bit (f k) * 2 ^ k + bits_below k f) i ≡ bit (f i)
     by_test true e rest =
         let same : i ≡ k = eqb-true i k e in
         let zero_left : i - k ≡ 0 = omega arith in
         bit_at_cat_high (bit (f k)) k (bits_below k f) i (bits_below-lt k f) (omega arith)
-          ∙ (ap (bit_at (bit (f k))) zero_left ∙ (top (f k) ∙ ap (λ m. bit (f m)) (sym same)))
+        ∙ (ap (bit_at (bit (f k))) zero_left ∙ (top (f k) ∙ ap (λ m. bit (f m)) (sym same)))
     by_test false e rest =
         let ne : i ≢ k = eqb-false i k e in
         let lower : i < k = omega arith in

@@ -1,5 +1,5 @@
 -- A draw keeps the table's rule, and tells whether its number was drawn.
-use Rattle.std.proofs.Common.{◌≡◌, ◌≢◌, ℕ, ◌<◌, ◌≤◌, Bool, true, false, ◌⊎◌, inl, inr, List, [], ◌∷◌, ◌++◌, length, set, get_or, refl, ap, sym, ◌∙◌, subst, arith}
+use Rattle.std.proofs.Common.{◌≡◌, ℕ, ◌<◌, Bool, true, false, ◌⊎◌, inl, inr, List, [], ◌∷◌, ◌++◌, length, set, refl, ap, sym, ◌∙◌, subst, arith}
 use Rattle.std.specs.Prelude.{bit_or, slice_index}
 use Rattle.std.proofs.lemmas.List.{set-get_or, append-nil}
 use Rattle.std.proofs.lemmas.Nat.{or_lt}
@@ -7,31 +7,28 @@ use mathlib.Core.List.{IsPrefix}
 use mathlib.Core.Option.{some}
 use lib.ListN.{get_elem?}
 use Rattle.atomic_table.specs.Table.{State as Table, Act as TableAct, Valid, carried_after, stepped, keeps, Allows}
-use Rattle.nio_base.specs.Limits.{IsFit}
 use Rattle.nio_base.specs.declared.limits.Limits.{Limits}
 use Rattle.nio_base.specs.declared.numbers.CallerNo.{CallerNo}
 use Rattle.nio_event.proofs.Lasts.{drawn_lasts}
 use Rattle.nio_event.proofs.Legal.{legal_more}
 use Rattle.nio_event.proofs.Put.{put-same}
-use Rattle.nio_event.specs.Acts.{effect}
 use Rattle.nio_event.specs.Answers.{bits_below}
 use Rattle.nio_event.specs.Conditions.{IsCaller}
-use Rattle.nio_event.specs.Histories.{state_after, mine, event_of, IsStep, IsLegal, HistoryClause, FindsDrawn}
+use Rattle.nio_event.specs.Histories.{state_after, mine, event_of, IsStep, IsLegal, HistoryClause}
 use Rattle.nio_event.specs.Questions.{flag}
 use Rattle.nio_event.specs.State.{put}
-use Rattle.nio_event.specs.declared.act.Act.{Act}
 use Rattle.nio_event.specs.declared.act.Act.TheVariants.{DrawBit}
 use Rattle.nio_event.specs.declared.event.Event.{Event}
 use Rattle.nio_words.proofs.Beginnings.{prefix_self, prefix_whole, mine_begins, same_number}
 use Rattle.nio_words.proofs.Bits.{none_has, more_has, new_has, left_has, reads_bit, sets_bit, sets_again, one_bit-lt}
-use Rattle.nio_words.proofs.Keeps.{AddsTo, added, looked, held_here, Elsewhere}
+use Rattle.nio_words.proofs.Keeps.{AddsTo, added, looked, held_here}
 use Rattle.nio_words.proofs.Stepping.{history_clause}
 use Rattle.nio_words.specs.Decodings.{is_set}
-use Rattle.nio_words.specs.Drawing.{Draws, TellsDrawn}
+use Rattle.nio_words.specs.Drawing.{Draws}
+use Rattle.nio_words.specs.Telling.{TellsDrawn}
 use Rattle.nio_words.specs.Instructions.{one_bit}
 use Rattle.nio_words.specs.Passes.{view_of, seen, numbers_of, Holds, IsPassOf}
 use Rattle.nio_words.specs.Rule.{HasBit, Knows, IsKept}
-use Rattle.nio_words.specs.Steps.{Adds, Looks}
 use Rattle.nio_words.specs.declared.part.Part.TheVariants.{Callers}
 use Rattle.nio_words.specs.declared.view.View.{View}
 use Rattle.nio_words.specs.declared.words.Pass.{Pass}

@@ -9,7 +9,7 @@ use Rattle.nio_event.specs.Conditions.{IsSelector}
 use Rattle.nio_event.specs.Questions.{number}
 use Rattle.nio_event.specs.declared.act.Act.TheVariants.{LookChannels, RaiseChannels, LookKeys, RaiseKeys}
 use Rattle.nio_words.specs.Decodings.{number_of}
-use Rattle.nio_words.specs.Steps.{Moves}
+use Rattle.nio_words.specs.Owed.{Moves}
 use Rattle.nio_words.specs.declared.instruction.Instruction.TheVariants.{Load, Max}
 use Rattle.nio_words.specs.declared.part.Part.TheVariants.{ChannelsMark, KeysMark}
 

@@ -1,5 +1,5 @@
 -- The kinds of step on an interest set's word do to it what they do to the set.
-use Rattle.std.proofs.Common.{◌≡◌, ℕ, ◌%◌, ◌<◌, refl, ap, sym, arith}
+use Rattle.std.proofs.Common.{◌≡◌, ℕ, ◌<◌, refl, ap, sym, arith}
 use Rattle.std.specs.Prelude.{bit_and, bit_or}
 use Rattle.std.proofs.lemmas.Nat.{or_lt, and_le_l}
 use Rattle.nio_base.specs.declared.limits.Limits.{Limits}
@@ -10,7 +10,7 @@ use Rattle.nio_event.specs.Conditions.{IsKey}
 use Rattle.nio_event.specs.Questions.{operations}
 use Rattle.nio_event.specs.declared.act.Act.TheVariants.{LookInterest, SwapInterest, OrInterest, AndInterest}
 use Rattle.nio_words.specs.Decodings.{operations_of}
-use Rattle.nio_words.specs.Steps.{Moves}
+use Rattle.nio_words.specs.Owed.{Moves}
 use Rattle.nio_words.specs.declared.instruction.Instruction.TheVariants.{Load, Or, And, Swap}
 use Rattle.nio_words.specs.declared.part.Part.TheVariants.{Interest}
 

@@ -1,10 +1,10 @@
 -- Two seats that are joined keep the table's rule, and a look after it tells what both knew.
-use Rattle.std.proofs.Common.{◌≡◌, ◌≢◌, ℕ, zero, suc, ◌==◌, ◌<◌, ◌≤◌, Bool, true, false, cond, ◌⊎◌, inl, inr, List, [], ◌∷◌, ◌++◌, length, set, get_or, refl, ap, sym, ◌∙◌, subst, arith, eqb-true, length-set}
+use Rattle.std.proofs.Common.{◌≡◌, ◌≢◌, ℕ, zero, suc, ◌==◌, ◌<◌, ◌≤◌, Bool, true, false, cond, ◌⊎◌, inl, inr, List, [], ◌∷◌, length, set, get_or, refl, ap, sym, ◌∙◌, subst, arith, eqb-true}
 use Rattle.std.specs.Prelude.{All, bit_or, nat_lt}
 use Rattle.std.proofs.lemmas.Bool.{eqb-false, ltb-true, ltb-false}
 use Rattle.std.proofs.lemmas.List.{set-get_or}
 use mathlib.Core.List.{IsPrefix}
-use mathlib.Core.Option.{some, some-injective, some-ne-none}
+use mathlib.Core.Option.{some, some-injective}
 use lib.ListN.{get_elem?}
 use Rattle.atomic_table.specs.Table.{State as Table, Joins, Allows, keeps}
 use Rattle.atomic_table.proofs.Lists.{at_set, set_else}
@@ -13,13 +13,13 @@ use Rattle.nio_base.specs.declared.numbers.CallerNo.{CallerNo}
 use Rattle.nio_event.specs.Histories.{mine, IsLegal}
 use Rattle.nio_event.proofs.Legal.{legal_beginning}
 use Rattle.nio_event.specs.declared.event.Event.{Event}
-use Rattle.nio_words.proofs.Beginnings.{prefix_self, prefix_shorter, prefix_length, prefix_both, mine_between}
+use Rattle.nio_words.proofs.Beginnings.{prefix_self, prefix_shorter, prefix_both, mine_between}
 use Rattle.nio_words.proofs.Bits.{none_has, both_has, left_has, right_has}
 use Rattle.nio_words.proofs.Keeps.{set_at_own, its_own, not_alone, looked}
 use Rattle.nio_words.specs.Passes.{view_of, seen, numbers_of, Holds, IsPassOf}
 use Rattle.nio_words.specs.Sharing.{Joins as JoinsPasses}
 use Rattle.nio_words.specs.Rule.{HasBit, StandsIn, Knows, IsKept, longer, half, joined_view, spent_view}
-use Rattle.nio_words.specs.Steps.{Recalls}
+use Rattle.nio_words.specs.Telling.{Recalls}
 use Rattle.nio_words.specs.declared.view.Half.{Half}
 use Rattle.nio_words.specs.declared.view.View.{View}
 use Rattle.nio_words.specs.declared.words.Pass.{Pass}

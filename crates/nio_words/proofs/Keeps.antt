@@ -1,8 +1,7 @@
 -- What keeps the table's rule: one event more, by any seat; and a seat that sees more of the history.
-use Rattle.std.proofs.Common.{◌≡◌, ◌≢◌, ℕ, zero, suc, ◌==◌, ◌<◌, ◌≤◌, Bool, true, false, ◌⊎◌, inl, inr, List, [], ◌∷◌, ◌++◌, length, set, get_or, refl, ap, sym, ◌∙◌, subst, arith, eqb-true, ne_eqb, length-set, get_or-set_same, get_or-set_other}
-use Rattle.std.specs.Prelude.{All, IsTrue}
+use Rattle.std.proofs.Common.{◌≡◌, ◌≢◌, ℕ, zero, suc, ◌==◌, ◌<◌, Bool, true, false, inl, inr, List, [], ◌∷◌, ◌++◌, length, set, get_or, refl, ap, sym, ◌∙◌, subst, arith, eqb-true, ne_eqb, length-set, get_or-set_same, get_or-set_other}
+use Rattle.std.specs.Prelude.{All}
 use Rattle.std.proofs.lemmas.Bool.{eqb-false}
-use Rattle.std.proofs.lemmas.List.{set-get_or}
 use mathlib.Core.List.{IsPrefix}
 use mathlib.Core.Option.{some, some-injective, some-ne-none}
 use lib.ListN.{get_elem?}
@@ -15,15 +14,13 @@ use Rattle.nio_event.proofs.Legal.{legal_more}
 use Rattle.nio_event.proofs.OneMore.{state_after-more, mine-other}
 use Rattle.nio_event.specs.Acts.{effect}
 use Rattle.nio_event.specs.Histories.{state_after, is_by, mine, IsStep, IsLegal}
-use Rattle.nio_event.specs.State.{State}
-use Rattle.nio_event.specs.declared.act.Act.{Act}
 use Rattle.nio_event.specs.declared.event.Event.{Event}
 use Rattle.nio_words.proofs.Apart.{apart}
 use Rattle.nio_words.proofs.Beginnings.{prefix_self, prefix_trans, prefix_both}
 use Rattle.nio_words.proofs.Places.{place_inside, same_part, place-limits}
-use Rattle.nio_words.specs.Encodings.{encoding, bound, limits_word}
+use Rattle.nio_words.specs.Encodings.{encoding, bound}
 use Rattle.nio_words.specs.Parts.{part_of}
-use Rattle.nio_words.specs.Places.{IsWithin, place, word_count}
+use Rattle.nio_words.specs.Places.{IsWithin, place}
 use Rattle.nio_words.specs.Rule.{HasBit, StandsIn, Knows, IsEncoded, IsKept}
 use Rattle.nio_words.specs.declared.part.Part.{Part}
 use Rattle.nio_words.specs.declared.view.View.{View}

@@ -20,7 +20,7 @@ use Rattle.nio_words.proofs.Fields.{bit-lt, sets, exchanges, exchange_small, if_
 use Rattle.nio_words.specs.Decodings.{is_set, stage_of}
 use Rattle.nio_words.specs.Encodings.{bit, stage_bits, stage_word}
 use Rattle.nio_words.specs.Instructions.{applied}
-use Rattle.nio_words.specs.Steps.{IsMoment, Moves}
+use Rattle.nio_words.specs.Owed.{IsMoment, Moves}
 use Rattle.nio_words.specs.declared.instruction.Instruction.TheVariants.{Load, SetBit, Exchange}
 use Rattle.nio_words.specs.declared.part.Part.TheVariants.{Key}
 

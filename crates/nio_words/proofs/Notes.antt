@@ -1,12 +1,12 @@
 -- The kinds of step on an attachment's word do to it what they do to the attachment.
-use Rattle.std.proofs.Common.{◌≡◌, ℕ, ◌^◌, ◌<◌, refl, ap, sym}
+use Rattle.std.proofs.Common.{ℕ, ◌^◌, ◌<◌, refl, sym}
 use Rattle.nio_base.specs.declared.limits.Limits.{Limits}
 use Rattle.nio_base.specs.declared.numbers.CallerNo.{CallerNo}
 use Rattle.nio_base.specs.declared.numbers.SelNo.{SelNo}
 use Rattle.nio_event.proofs.Put.{put_at-same}
 use Rattle.nio_event.specs.Conditions.{IsKey}
 use Rattle.nio_event.specs.declared.act.Act.TheVariants.{SwapNote, LookNote}
-use Rattle.nio_words.specs.Steps.{Moves}
+use Rattle.nio_words.specs.Owed.{Moves}
 use Rattle.nio_words.specs.declared.instruction.Instruction.TheVariants.{Load, Swap}
 use Rattle.nio_words.specs.declared.part.Part.TheVariants.{Note}
 

@@ -1,5 +1,5 @@
 -- Different parts have different places, and each place is one of the table's words.
-use Rattle.std.proofs.Common.{◌≡◌, ◌≢◌, ℕ, zero, suc, ◌+◌, ◌*◌, ◌<◌, ◌≤◌, List, [], ◌∷◌, take, get_or, refl, ap, arith}
+use Rattle.std.proofs.Common.{◌≡◌, ◌≢◌, ℕ, zero, suc, ◌+◌, ◌<◌, List, [], ◌∷◌, take, get_or, refl, ap, arith}
 use Rattle.std.proofs.lemmas.Nat.{mul-add-lt, same_from_place}
 use Rattle.nio_base.specs.declared.limits.Limits.{Limits}
 use Rattle.nio_words.specs.Places.{rows, row, column, IsWithin, total, word_count, place}

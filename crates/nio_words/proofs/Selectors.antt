@@ -1,5 +1,5 @@
 -- The kinds of step on the selectors' word do to it what they do to the selectors.
-use Rattle.std.proofs.Common.{◌≡◌, ℕ, ◌<◌, refl, ap, sym, arith}
+use Rattle.std.proofs.Common.{◌<◌, refl, ap}
 use Rattle.std.proofs.lemmas.Nat.{or_lt}
 use Rattle.nio_base.specs.declared.limits.Limits.{Limits}
 use Rattle.nio_base.specs.declared.numbers.CallerNo.{CallerNo}
@@ -9,7 +9,7 @@ use Rattle.nio_event.specs.declared.act.Act.TheVariants.{MakeSelector, LookSelec
 use Rattle.nio_words.proofs.Bits.{reads_bit, sets_bit, one_bit-lt}
 use Rattle.nio_words.specs.Decodings.{is_set}
 use Rattle.nio_words.specs.Instructions.{one_bit}
-use Rattle.nio_words.specs.Steps.{Moves}
+use Rattle.nio_words.specs.Owed.{Moves}
 use Rattle.nio_words.specs.declared.instruction.Instruction.TheVariants.{Load, SetBit}
 use Rattle.nio_words.specs.declared.part.Part.TheVariants.{Selectors}
 

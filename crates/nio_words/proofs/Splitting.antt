@@ -1,6 +1,5 @@
 -- A seat that is split keeps the table's rule.
-use Rattle.std.proofs.Common.{◌≡◌, ◌≢◌, ℕ, zero, suc, ◌==◌, ◌<◌, Bool, true, false, ◌⊎◌, inl, inr, List, [], ◌∷◌, ◌++◌, length, set, refl, ap, sym, ◌∙◌, subst, arith, eqb-true, length-set}
-use Rattle.std.specs.Prelude.{All}
+use Rattle.std.proofs.Common.{◌≡◌, ◌≢◌, ℕ, zero, suc, ◌==◌, Bool, true, false, ◌⊎◌, inl, inr, List, [], ◌∷◌, ◌++◌, length, set, refl, ap, sym, ◌∙◌, subst, arith, eqb-true, length-set}
 use Rattle.std.proofs.lemmas.Bool.{eqb-false}
 use mathlib.Core.Option.{some, some-injective, some-ne-none}
 use lib.ListN.{get_elem?}
@@ -8,7 +7,7 @@ use Rattle.atomic_table.specs.Table.{State as Table, Splits}
 use Rattle.atomic_table.proofs.Lists.{at_set, set_else, at_longer}
 use Rattle.nio_base.specs.declared.limits.Limits.{Limits}
 use Rattle.nio_words.proofs.Keeps.{set_at_own, its_own, not_alone}
-use Rattle.nio_words.specs.Rule.{HasBit, StandsIn, Knows, IsKept, split_view}
+use Rattle.nio_words.specs.Rule.{HasBit, Knows, IsKept, split_view}
 use Rattle.nio_words.specs.declared.view.View.{View}
 
 -- an element of a list with one more at its end is that one, or one of the list

@@ -1,5 +1,5 @@
 -- A table that was just made keeps its rule.
-use Rattle.std.proofs.Common.{◌≡◌, ◌≢◌, ℕ, zero, suc, ◌<◌, true, false, List, [], ◌∷◌, length, set, get_or, replicate, refl, ap, sym, ◌∙◌, subst, arith, length-set, get_or-set_same, get_or-set_other}
+use Rattle.std.proofs.Common.{◌≡◌, ℕ, zero, suc, ◌<◌, List, [], ◌∷◌, length, set, get_or, replicate, refl, ap, sym, ◌∙◌, subst, arith, length-set, get_or-set_same, get_or-set_other}
 use Rattle.std.proofs.lemmas.List.{get_or-replicate, length-replicate}
 use mathlib.Core.Option.{some, some-injective, some-ne-none}
 use lib.ListN.{get_elem?}
@@ -13,7 +13,7 @@ use Rattle.nio_words.proofs.Bits.{none_has, bits_below-none}
 use Rattle.nio_words.proofs.Places.{place_inside, place-limits, limits_inside}
 use Rattle.nio_words.specs.Encodings.{encoding, bound, limits_word}
 use Rattle.nio_words.specs.Places.{IsWithin, place, word_count}
-use Rattle.nio_words.specs.Rule.{HasBit, first_view, Knows, IsEncoded, IsKept}
+use Rattle.nio_words.specs.Rule.{first_view, Knows, IsEncoded, IsKept}
 use Rattle.nio_words.specs.declared.part.Part.{Part}
 use Rattle.nio_words.specs.declared.part.Part.TheVariants.{Callers, Interrupts, Selectors}
 use Rattle.nio_words.specs.declared.view.View.{View}

@@ -1,11 +1,9 @@
 -- A kind of step that does to its word what it does to its part keeps the rule, and tells what it
 -- adds; and from what it tells follows the history clause.
-use Rattle.std.proofs.Common.{◌≡◌, ◌≢◌, ℕ, ◌<◌, Bool, true, false, List, [], ◌∷◌, ◌++◌, Option, Some, None, length, get_or, refl, ap, sym, ◌∙◌, subst, eq-eqb, ne_eqb, append_assoc}
-use Rattle.std.specs.Prelude.{slice_index, fold}
+use Rattle.std.proofs.Common.{◌≡◌, ℕ, ◌<◌, true, false, List, [], ◌∷◌, ◌++◌, Some, None, refl, ap, sym, ◌∙◌, subst, eq-eqb, ne_eqb, append_assoc}
+use Rattle.std.specs.Prelude.{slice_index}
 use Rattle.std.proofs.lemmas.List.Sums.{fold-append}
-use mathlib.Core.Option.{some}
-use lib.ListN.{get_elem?}
-use Rattle.atomic_table.specs.Table.{State as Table, Act as TableAct, keeps, Allows}
+use Rattle.atomic_table.specs.Table.{keeps, Allows}
 use Rattle.nio_base.specs.declared.limits.Limits.{Limits}
 use Rattle.nio_base.specs.declared.numbers.CallerNo.{CallerNo}
 use Rattle.nio_event.proofs.Lasts.{drawn_lasts}
@@ -15,7 +13,7 @@ use Rattle.nio_event.proofs.Stays.{conditions_stay}
 use Rattle.nio_event.specs.Acts.{effect}
 use Rattle.nio_event.specs.Answers.{Answers}
 use Rattle.nio_event.specs.Conditions.{Condition}
-use Rattle.nio_event.specs.Histories.{state_after, is_by, mine, event_of, last_of, IsStep, IsLegal, HistoryClause, StepClause}
+use Rattle.nio_event.specs.Histories.{state_after, mine, event_of, IsStep, IsLegal, HistoryClause, StepClause}
 use Rattle.nio_event.specs.declared.act.Act.{Act}
 use Rattle.nio_event.specs.declared.act.Act.TheVariants.{DrawBit}
 use Rattle.nio_event.specs.declared.event.Event.{Event}
@@ -23,10 +21,12 @@ use Rattle.nio_words.proofs.Beginnings.{same_number}
 use Rattle.nio_words.proofs.Keeps.{AddsTo, added, held_here}
 use Rattle.nio_words.specs.Encodings.{encoding, bound}
 use Rattle.nio_words.specs.Instructions.{applied}
-use Rattle.nio_words.specs.Passes.{view_of, seen, Holds, HoldSame, IsOnly, IsPassOf}
+use Rattle.nio_words.specs.Passes.{view_of, seen, Holds, IsPassOf}
 use Rattle.nio_words.specs.Places.{place}
 use Rattle.nio_words.specs.Rule.{HasBit, IsKept}
-use Rattle.nio_words.specs.Steps.{Adds, IsMoment, Moves, Steps}
+use Rattle.nio_words.specs.Telling.{Adds}
+use Rattle.nio_words.specs.Owed.{IsMoment, Moves}
+use Rattle.nio_words.specs.Steps.{Steps}
 use Rattle.nio_words.specs.declared.instruction.Instruction.{Instruction}
 use Rattle.nio_words.specs.declared.part.Part.{Part}
 use Rattle.nio_words.specs.declared.view.View.{View}
@@ -47,8 +47,8 @@ allowed l slots id v carried me p instruction act unspent has moves may s kept h
     let is_word : encoding (state_after kept.history) p ≡ n = sym here.word in
     let small : encoding (state_after kept.history) p < bound p = subst (λ (k : ℕ). k < bound p) here.word here.small in
     let may' : (k : ℕ) → Condition l (mine me kept.history) (state_after kept.history) me (act k) = λ k.
-          conditions_stay l me v.seen kept.history known.begins kept.legal (known.own me has) (act k)
-            (subst (λ l'. Condition l' (mine me v.seen) (state_after v.seen) me (act k)) known.limits (may k)) in
+    conditions_stay l me v.seen kept.history known.begins kept.legal (known.own me has) (act k)
+    (subst (λ l'. Condition l' (mine me v.seen) (state_after v.seen) me (act k)) known.limits (may k)) in
     let now : IsMoment l me p act (state_after kept.history) = record { past = kept.history; legal = kept.legal; leaves = refl; condition = may'; small = small } in
     let step : IsStep l kept.history e = record {
       by_caller = known.callers me.0 has;

@@ -1,6 +1,6 @@
 -- Whoever holds every number has seen the whole history: an event more would be by a caller whose
 -- number is held, and so seen.
-use Rattle.std.proofs.Common.{◌≡◌, ℕ, ◌<◌, true, List, [], ◌∷◌, ◌++◌, map, if◌then◌else◌, refl, ap, sym, ◌∙◌, subst, eq-eqb}
+use Rattle.std.proofs.Common.{◌≡◌, ◌<◌, true, List, [], ◌∷◌, ◌++◌, map, if◌then◌else◌, refl, ap, sym, ◌∙◌, subst, eq-eqb}
 use Rattle.std.specs.List.{filter}
 use Rattle.std.proofs.lemmas.List.{append-nil}
 use Rattle.nio_base.specs.declared.limits.Limits.{Limits}

@@ -1,17 +1,12 @@
 -- What drawing a caller's number does.
-use Rattle.std.specs.Prelude.{◌≡◌, ◌≢◌, Bool, true, false, List, [], ◌∷◌, ◌++◌, if◌then◌else◌, Result, Ok, Err, bit_or}
-use mathlib.Core.List.{IsPrefix}
+use Rattle.std.specs.Prelude.{◌≡◌, ◌≢◌, Bool, true, false, [], ◌∷◌, ◌++◌, if◌then◌else◌, Result, Ok, Err}
 use Rattle.nio_base.specs.declared.numbers.CallerNo.{CallerNo}
 use Rattle.nio_event.specs.Conditions.{IsCaller}
-use Rattle.nio_event.specs.Histories.{state_after, event_of, StepClause}
+use Rattle.nio_event.specs.Histories.{event_of, StepClause}
 use Rattle.nio_event.specs.declared.act.Act.TheVariants.{DrawBit}
-use Rattle.nio_words.specs.Decodings.{is_set}
-use Rattle.nio_words.specs.Instructions.{one_bit}
 use Rattle.nio_words.specs.Passes.{seen, Holds, HoldSame, IsOnly, IsPassOf, limits_of}
-use Rattle.nio_words.specs.Steps.{Adds, Looks}
 use Rattle.nio_words.specs.declared.drawing.DrawError.{DrawError}
 use Rattle.nio_words.specs.declared.drawing.DrawError.TheVariants.{NoSuchCaller, CallerTaken}
-use Rattle.nio_words.specs.declared.view.View.{View}
 use Rattle.nio_words.specs.declared.words.Pass.{Pass}
 use Rattle.nio_words.specs.declared.words.Words.{Words}
 
@@ -33,8 +28,3 @@ abbrev pub Drawn : Words → Pass → Pass → CallerNo → Result (Unit {0}) Dr
 Drawn w p q number (Ok _) = IsCaller (limits_of w) number × Draws w p q number false
 Drawn w p q number (Err NoSuchCaller) = (IsCaller (limits_of w) number → ⊥) × (q ≡ p)
 Drawn w p q number (Err CallerTaken) = IsCaller (limits_of w) number × Draws w p q number true
-
--- what the step tells, where it found the number drawn or not
-abbrev pub TellsDrawn : View → CallerNo → Bool → View → Type 0
-TellsDrawn v number true w = Looks v w × ((state_after w.seen).drawn number.0 ≡ true)
-TellsDrawn v number false w = Adds v (bit_or v.numbers (one_bit number.0)) number (DrawBit number false) w

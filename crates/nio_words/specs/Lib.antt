@@ -7,5 +7,7 @@ pub mod Passes
 pub mod Sharing
 pub mod Parts
 pub mod Steps
+pub mod Telling
+pub mod Owed
 pub mod Drawing
 pub mod Whole

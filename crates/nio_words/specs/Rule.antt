@@ -57,11 +57,12 @@ pub record Knows (l : Limits) (history : List Event) (v : View) : Type 0 where
   pub drawn : (n : ℕ) → HasBit v.numbers n → IsTrue ((state_after history).drawn n)
   pub halves : All (StandsIn v.seen) v.halves
 
--- a part's word is its encoding
+-- a part's word is its encoding, and stays below the part's bound
 pub record IsEncoded (l : Limits) (history : List Event) (words : List ℕ) (p : Part) : Type 0 where
   pub word : slice_index words (place l p) ≡ encoding (state_after history) p
   pub small : slice_index words (place l p) < bound p
 
+-- the rule, for a table of these limits
 pub record IsKept (l : Limits) (s : Table (Unit {0}) View) : Type 0 where
   pub fit : IsFit l
   -- one legal history, which some seat has seen whole
@@ -75,7 +76,7 @@ pub record IsKept (l : Limits) (s : Table (Unit {0}) View) : Type 0 where
   pub limits : slice_index s.words 1 ≡ limits_word l
   -- each seat knows a beginning of the history
   pub each : (i : ℕ) (v : View) → get_elem? s.views i ≡ some v → v.spent ≡ false → Knows l history v
-  -- no number is held by two seats
+  -- no number is held by two seats, and none by a seat that is spent
   pub one_seat : (i j : ℕ) (v w : View) (n : ℕ) → get_elem? s.views i ≡ some v → get_elem? s.views j ≡ some w → HasBit v.numbers n → HasBit w.numbers n → i ≡ j
   pub spent_empty : (i : ℕ) (v : View) → get_elem? s.views i ≡ some v → v.spent ≡ true → v.numbers ≡ 0
   -- a number that isn't drawn has no event

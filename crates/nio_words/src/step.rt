@@ -2,7 +2,9 @@
 ghost use Rattle.std.specs.Prelude.{◌≡◌, ◌<◌};
 ghost use Rattle.nio_words.specs.Instructions.{applied, IsInWord};
 ghost use Rattle.nio_words.specs.Passes.{IsReady, limits_of};
-ghost use Rattle.nio_words.specs.Steps.{Doing, MayDo, Moves, Steps, any_step};
+ghost use Rattle.nio_words.specs.Telling.{Doing, MayDo, any_step};
+ghost use Rattle.nio_words.specs.Owed.{Moves};
+ghost use Rattle.nio_words.specs.Steps.{Steps};
 ghost use Rattle.nio_words.specs.Rule.{IsKept};
 ghost use Rattle.atomic_table.specs.Table.{Allows};
 

@@ -1,6 +1,5 @@
-use Rattle.std.proofs.Common.{◌≡◌, ℕ, true, refl, sym, ap, ◌∙◌, subst, arith}
+use Rattle.std.proofs.Common.{refl}
 use Rattle.nio_base.specs.declared.numbers.CallerNo.{CallerNo}
-use Rattle.nio_words.proofs.Seen.{made_just_now}
 use Rattle.nio_words.proofs.tests.two_threads_wake.Goals as goal
 
 pub make_selector-requires-clause-ready : goal.make_selector-requires-clause-ready

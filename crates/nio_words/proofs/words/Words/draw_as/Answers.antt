@@ -1,7 +1,7 @@
-use Rattle.std.proofs.Common.{◌≡◌, ◌<◌, ℕ, Bool, false, true, sym, ap, ◌∙◌, subst, arith}
+use Rattle.std.proofs.Common.{◌≡◌, ◌<◌, Bool, false, true, sym, ◌∙◌, subst, arith}
 use Rattle.nio_words.proofs.Draws.{draw_allowed, draws_undrawn, draws_drawn}
 use Rattle.nio_words.specs.Decodings.{is_set}
-use Rattle.nio_words.specs.Drawing.{Draws, TellsDrawn}
+use Rattle.nio_words.specs.Telling.{TellsDrawn}
 use Rattle.nio_words.proofs.words.Words.draw_as.Goals as goal
 
 pub perform-callers-requires-clause-rule : goal.perform-callers-requires-clause-rule

@@ -1,6 +1,6 @@
 use Rattle.std.proofs.Common.{◌≡◌}
 use Rattle.nio_words.specs.Decodings.{is_set}
-use Rattle.nio_words.specs.Drawing.{TellsDrawn}
+use Rattle.nio_words.specs.Telling.{TellsDrawn}
 use Rattle.nio_words.proofs.words.Words.draw_as.Given as goal
 
 abbrev pub ghosts-perform : goal.ghosts-perform

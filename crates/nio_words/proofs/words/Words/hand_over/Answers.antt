@@ -1,8 +1,8 @@
-use Rattle.std.proofs.Common.{◌≡◌, ℕ, ◌*◌, ◌%◌, ◌^◌, ◌<◌, refl, ap, sym, ◌∙◌, subst, arith}
+use Rattle.std.proofs.Common.{ℕ, ◌*◌, ◌%◌, ◌^◌, ◌<◌, refl, ap, sym, subst, arith}
 use Rattle.nio_base.specs.declared.numbers.CallerNo.{CallerNo}
 use Rattle.nio_words.proofs.Beginnings.{same_number}
 use Rattle.nio_words.specs.Passes.{numbers_of}
-use Rattle.nio_words.proofs.Bits.{none_has, only_has, alone_has, less_has, still_has}
+use Rattle.nio_words.proofs.Bits.{only_has, alone_has, less_has, still_has}
 use Rattle.nio_words.specs.Rule.{HasBit}
 use Rattle.nio_words.proofs.words.Words.hand_over.Goals as goal
 

@@ -1,7 +1,7 @@
-use Rattle.std.proofs.Common.{◌≡◌, sym, ap, ◌∙◌, subst, arith}
+use Rattle.std.proofs.Common.{ap, ◌∙◌, subst, arith}
 use Rattle.nio_words.proofs.Joining.{joins, recalls_allowed, joins_clause}
 use Rattle.nio_words.proofs.Places.{limits_inside}
-use Rattle.nio_words.specs.Steps.{Recalls}
+use Rattle.nio_words.specs.Telling.{Recalls}
 use Rattle.nio_words.proofs.words.Words.join.Goals as goal
 
 pub join_seat-requires : goal.join_seat-requires

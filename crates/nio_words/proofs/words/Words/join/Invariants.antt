@@ -1,5 +1,5 @@
 use Rattle.std.proofs.Common.{◌≡◌}
-use Rattle.nio_words.specs.Steps.{Recalls}
+use Rattle.nio_words.specs.Telling.{Recalls}
 use Rattle.nio_words.proofs.words.Words.join.Given as goal
 
 abbrev pub ghosts-perform : goal.ghosts-perform

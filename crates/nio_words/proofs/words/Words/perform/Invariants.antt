@@ -1,5 +1,5 @@
 use Rattle.nio_words.proofs.words.Words.perform.Given as goal
-use Rattle.nio_words.specs.Steps.{any_step}
+use Rattle.nio_words.specs.Telling.{any_step}
 
 abbrev pub ghosts-load : goal.ghosts-load
 ghosts-load g a = record { then = λ _ before found after. g.M.Play.then any_step before found after }

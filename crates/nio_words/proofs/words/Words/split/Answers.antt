@@ -1,4 +1,4 @@
-use Rattle.std.proofs.Common.{◌≡◌, ℕ, ap, ◌∙◌, subst}
+use Rattle.std.proofs.Common.{ℕ, ◌∙◌, subst}
 use Rattle.nio_words.proofs.Bits.{none_has, kept_all}
 use Rattle.nio_words.specs.Rule.{HasBit}
 use Rattle.nio_words.proofs.words.Words.split.Goals as goal

@@ -1,5 +1,3 @@
-use Rattle.std.proofs.Common.{◌≡◌, ℕ, sym, subst, ap, ◌∙◌}
-use Rattle.atomic_table.specs.Table.{Allows}
 use Rattle.nio_words.proofs.Stepping.{allowed, step_taken}
 use Rattle.nio_words.proofs.words.Words.step.Goals as goal
 
