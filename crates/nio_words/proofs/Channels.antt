@@ -109,6 +109,7 @@ make_channel_moves l me c kind below = record {
   part = λ n. refl;
   word = λ st now. makes_channel (st.chan c.0) kind (bare st now) ∙ ap channel_word (sym (put-same st.chan c.0 (if is_set (channel_word (st.chan c.0)) 0 then st.chan c.0 else new_channel kind)));
   small = λ n small. exchange_small 0 (channel_word (new_channel kind)) n 64 (channel_word-lt (new_channel kind)) small;
+  proper = λ st now. tt;
   answers = λ st now. ap flag (reads_made (st.chan c.0));
 }
   where
@@ -122,6 +123,7 @@ look_channel_moves l me c below = record {
   part = λ n. refl;
   word = λ st now. refl;
   small = λ n small. small;
+  proper = λ st now. tt;
   answers = λ st now. ap channel (reads_channel (st.chan c.0));
 }
 
@@ -132,6 +134,7 @@ close_bit_moves l me c below = record {
   part = λ n. refl;
   word = λ st now. closes_channel (st.chan c.0) ∙ ap channel_word (sym (put-same st.chan c.0 (record (st.chan c.0) { closed = true })));
   small = λ n small. or_lt 6 n 16 small (omega arith);
+  proper = λ st now. tt;
   answers = λ st now. ap flag (reads_closed (st.chan c.0));
 }
 
@@ -142,6 +145,7 @@ set_mode_moves l me c true below = record {
   part = λ n. refl;
   word = λ st now. blocks_channel (st.chan c.0) ∙ ap channel_word (sym (put-same st.chan c.0 (record (st.chan c.0) { blocking = true })));
   small = λ n small. or_lt 6 n 32 small (omega arith);
+  proper = λ st now. tt;
   answers = λ st now. ap channel (reads_channel (st.chan c.0));
 }
 set_mode_moves l me c false below = record {
@@ -150,5 +154,6 @@ set_mode_moves l me c false below = record {
   part = λ n. refl;
   word = λ st now. unblocks_channel (st.chan c.0) ∙ ap channel_word (sym (put-same st.chan c.0 (record (st.chan c.0) { blocking = false })));
   small = λ n small. let less = and_le_l n (bit_not w64 32) in omega arith;
+  proper = λ st now. tt;
   answers = λ st now. ap channel (reads_channel (st.chan c.0));
 }

@@ -37,7 +37,10 @@ sets k hi lo b small =
 pub clears_top : (k top lo : ℕ) (b : Bool) → lo < 2 ^ k → lo % 2 ^ k ≡ lo → bit_and (bit b) top ≡ 0 → bit_and (bit b * 2 ^ k + lo) (top * 2 ^ k + (2 ^ k - 1)) ≡ lo
 clears_top k top lo b small same none_of =
     and_block k (bit b) top lo (2 ^ k - 1) small (let positive = pow_pos k in omega arith)
-    ∙ (ap (λ (n : ℕ). n * 2 ^ k + bit_and lo (2 ^ k - 1)) none_of ∙ (and_mask lo k ∙ same))
+    ∙ (ap (λ (n : ℕ). n * 2 ^ k + bit_and lo (2 ^ k - 1)) none_of ∙ (no_block (bit_and lo (2 ^ k - 1)) ∙ (and_mask lo k ∙ same)))
+  where
+    no_block : (n : ℕ) → 0 * 2 ^ k + n ≡ n
+    no_block n = omega arith
 
 -- an exchange of 0 for a new word puts it there where 0 stands there, and else changes nothing
 pub exchanges : (w new : ℕ) (was : Bool) → (was ≡ true → w ≢ 0) → (was ≡ false → w ≡ 0) → applied (Exchange 0 new) w ≡ (if was then w else new)

@@ -23,7 +23,7 @@ sets_woken true false = refl
 sets_woken false true = refl
 sets_woken false false = refl
 
-clears_woken : (woken shut : Bool) → bit_and (bit woken + 2 * bit shut) (bit_not w64 1) ≡ 2 * bit shut
+clears_woken : (woken shut : Bool) → bit_and (bit woken + 2 * bit shut) (bit_not w64 1) ≡ bit false + 2 * bit shut
 clears_woken true true = refl
 clears_woken true false = refl
 clears_woken false true = refl
@@ -57,6 +57,7 @@ wake_moves l me s below = record {
   part = λ n. refl;
   word = λ st now. sets_woken (st.gate s.0).woken (st.gate s.0).shut ∙ ap gate_word (sym (put-same st.gate s.0 (record (st.gate s.0) { woken = true })));
   small = λ n small. or_lt 2 n 1 small (omega arith);
+  proper = λ st now. tt;
   answers = λ st now. ap flag (reads_woken (st.gate s.0).woken (st.gate s.0).shut);
 }
 
@@ -67,6 +68,7 @@ look_gate_moves l me s below = record {
   part = λ n. refl;
   word = λ st now. refl;
   small = λ n small. small;
+  proper = λ st now. tt;
   answers = λ st now. ap found_gate (reads_gate (st.gate s.0));
 }
 
@@ -77,6 +79,7 @@ begin_look_moves l me s below = record {
   part = λ n. refl;
   word = λ st now. refl;
   small = λ n small. small;
+  proper = λ st now. tt;
   answers = λ st now. ap found_gate (reads_gate (st.gate s.0));
 }
 
@@ -87,6 +90,7 @@ end_wake_moves l me s below = record {
   part = λ n. refl;
   word = λ st now. clears_woken (st.gate s.0).woken (st.gate s.0).shut ∙ ap gate_word (sym (put-same st.gate s.0 (record (st.gate s.0) { woken = false })));
   small = λ n small. let less = and_le_l n (bit_not w64 1) in omega arith;
+  proper = λ st now. tt;
   answers = λ st now. ap found_gate (reads_gate (st.gate s.0));
 }
 
@@ -97,5 +101,6 @@ shut_bit_moves l me s below = record {
   part = λ n. refl;
   word = λ st now. sets_shut (st.gate s.0).woken (st.gate s.0).shut ∙ ap gate_word (sym (put-same st.gate s.0 (record (st.gate s.0) { shut = true })));
   small = λ n small. or_lt 2 n 2 small (omega arith);
+  proper = λ st now. tt;
   answers = λ st now. ap flag (reads_shut (st.gate s.0).woken (st.gate s.0).shut);
 }

@@ -23,6 +23,7 @@ look_channels_moves l me = record {
   part = λ n. refl;
   word = λ st now. refl;
   small = λ n small. small;
+  proper = λ st now. tt;
   answers = λ st now. ap number (reads_number st.channels_mark now.small);
 }
 
@@ -33,6 +34,7 @@ raise_channels_moves l me k few = record {
   part = λ n. refl;
   word = λ st now. refl;
   small = λ n small. omega arith;
+  proper = λ st now. tt;
   answers = λ st now. ap number (reads_number st.channels_mark now.small);
 }
 
@@ -43,6 +45,7 @@ look_keys_moves l me s below = record {
   part = λ n. refl;
   word = λ st now. refl;
   small = λ n small. small;
+  proper = λ st now. tt;
   answers = λ st now. ap number (reads_number (st.keys_mark s.0) now.small);
 }
 
@@ -53,5 +56,6 @@ raise_keys_moves l me s k below few = record {
   part = λ n. refl;
   word = λ st now. sym (put-same st.keys_mark s.0 (max (st.keys_mark s.0) k));
   small = λ n small. omega arith;
+  proper = λ st now. tt;
   answers = λ st now. ap number (reads_number (st.keys_mark s.0) now.small);
 }

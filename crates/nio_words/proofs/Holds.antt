@@ -24,8 +24,9 @@ try_hold_bit_moves l me c below few = record {
   word = λ st now.
       takes me (st.hold c.0)
       ∙ (ap (λ o. holder_word (taken_by me o)) (sym (reads_holder (st.hold c.0) now.small))
-        ∙ ap holder_word (sym (put-same st.hold c.0 (taken_by me (holder_of (holder_word (st.hold c.0)))))));
+      ∙ ap holder_word (sym (put-same st.hold c.0 (taken_by me (holder_of (holder_word (st.hold c.0)))))));
   small = λ n small. exchange_small 0 (me.0 + 1) n (2 ^ 32 + 1) (omega arith) small;
+  proper = λ st now. tt;
   answers = λ st now. ap holder (reads_holder (st.hold c.0) now.small);
 }
 
@@ -36,5 +37,6 @@ release_moves l me c below = record {
   part = λ n. refl;
   word = λ st now. ap holder_word (sym (put-same st.hold c.0 None));
   small = λ n small. omega arith;
+  proper = λ st now. tt;
   answers = λ st now. refl;
 }

@@ -154,6 +154,7 @@ look_key_moves l me s i is_key = record {
   part = λ n. refl;
   word = λ st now. refl;
   small = λ n small. small;
+  proper = λ st now. tt;
   answers = λ st now. ap stage (reads_stage (st.key s.0 i));
 }
 
@@ -164,6 +165,7 @@ cancel_key_moves l me s i is_key = record {
   part = λ n. refl;
   word = λ st now. cancels_stage (st.key s.0 i) ∙ ap stage_word (sym (put_at-same st.key s.0 i (record (st.key s.0 i) { cancelled = true })));
   small = λ n small. or_lt 64 n 4 small (omega arith);
+  proper = λ st now. tt;
   answers = λ st now. ap stage (reads_stage (st.key s.0 i));
 }
 
@@ -203,6 +205,7 @@ claim_moves l me s i c is_key few = record {
   part = λ n. refl;
   word = λ st now. claims_stage (st.key s.0 i) c (bare st now) ∙ ap stage_word (sym (put_at-same st.key s.0 i (if is_set (stage_word (st.key s.0 i)) 0 then st.key s.0 i else new_key c)));
   small = λ n small. exchange_small 0 (stage_word (new_key c)) n (2 ^ 64) (omega arith) small;
+  proper = λ st now. tt;
   answers = λ st now. ap flag (stage-claimed (st.key s.0 i));
 }
   where
@@ -216,6 +219,7 @@ publish_moves l me s i is_key = record {
   part = λ n. refl;
   word = λ st now. publishes_stage (st.key s.0 i) ∙ ap stage_word (sym (put_at-same st.key s.0 i (record (st.key s.0 i) { published = true })));
   small = λ n small. or_lt 64 n 2 small (omega arith);
+  proper = λ st now. tt;
   answers = λ st now. ap stage (reads_stage (st.key s.0 i));
 }
 
@@ -226,5 +230,6 @@ remove_moves l me s i is_key = record {
   part = λ n. refl;
   word = λ st now. removes_stage (st.key s.0 i) ∙ ap stage_word (sym (put_at-same st.key s.0 i (record (st.key s.0 i) { removed = true })));
   small = λ n small. or_lt 64 n 8 small (omega arith);
+  proper = λ st now. tt;
   answers = λ st now. ap stage (reads_stage (st.key s.0 i));
 }

@@ -15,6 +15,7 @@ pub mod Holds
 pub mod Turns
 pub mod Noted
 pub mod HighMarks
+pub mod Marks
 pub mod Interests
 pub mod Interrupts
 pub mod Keys

@@ -22,6 +22,7 @@ look_reg_moves l me c s is_channel is_selector = record {
   part = λ n. refl;
   word = λ st now. refl;
   small = λ n small. small;
+  proper = λ st now. tt;
   answers = λ st now. ap key_index (reads_noted (st.noted c.0 s.0) now.small);
 }
 
@@ -33,5 +34,6 @@ enrol_moves l me c s i is_channel is_selector few = record {
   part = λ n. refl;
   word = λ st now. ap noted_word (sym (put_at-same st.noted c.0 s.0 (Some i)));
   small = λ n small. omega arith;
+  proper = λ st now. tt;
   answers = λ st now. ap key_index (reads_noted (st.noted c.0 s.0) now.small);
 }

@@ -24,8 +24,9 @@ take_turn_moves l me s below few = record {
   word = λ st now.
       takes me (st.turn s.0)
       ∙ (ap (λ o. holder_word (taken_by me o)) (sym (reads_holder (st.turn s.0) now.small))
-        ∙ ap holder_word (sym (put-same st.turn s.0 (taken_by me (holder_of (holder_word (st.turn s.0)))))));
+      ∙ ap holder_word (sym (put-same st.turn s.0 (taken_by me (holder_of (holder_word (st.turn s.0)))))));
   small = λ n small. exchange_small 0 (me.0 + 1) n (2 ^ 32 + 1) (omega arith) small;
+  proper = λ st now. tt;
   answers = λ st now. ap holder (reads_holder (st.turn s.0) now.small);
 }
 
@@ -36,6 +37,7 @@ give_turn_moves l me s below = record {
   part = λ n. refl;
   word = λ st now. ap holder_word (sym (put-same st.turn s.0 None));
   small = λ n small. omega arith;
+  proper = λ st now. tt;
   answers = λ st now. refl;
 }
 
@@ -46,5 +48,6 @@ enter_moves l me s below = record {
   part = λ n. refl;
   word = λ st now. refl;
   small = λ n small. small;
+  proper = λ st now. tt;
   answers = λ st now. ap holder (reads_holder (st.turn s.0) now.small);
 }

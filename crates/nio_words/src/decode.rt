@@ -1,9 +1,9 @@
 //! What the words of the parts tell.
 ghost use Rattle.std.specs.Prelude.{◌≡◌, ◌<◌};
-ghost use Rattle.nio_words.specs.Decodings.{is_set, gate_of, stage_of, operations_of, number_of, kind_of, chan_of, holder_of, noted_of};
+ghost use Rattle.nio_words.specs.Decodings.{is_set, gate_of, stage_of, operations_of, number_of, kind_of, chan_of, mark_of, holder_of, noted_of};
 
 use nio_base::{CallerNo, ChanNo, Kind, Ops};
-use nio_event::{Chan, GateWord, Stage};
+use nio_event::{Chan, GateWord, Mark, Stage};
 
 /// Whether bit `k` is set.
 #[inline(always)]
@@ -94,5 +94,15 @@ pub(crate) fn noted_of(word: u64) -> Option<u32>
         None
     } else {
         Some(number_of(word - 1))
+    }
+}
+
+#[inline(always)]
+pub(crate) fn mark_of(word: u64) -> Mark
+    ensures { result ≡ mark_of word }
+{
+    Mark {
+        selected: is_set(word, 8),
+        ready: operations_of(word),
     }
 }

@@ -19,6 +19,7 @@ mod holds;
 mod interest;
 mod interrupts;
 mod keys;
+mod marks;
 mod noted;
 mod notes;
 mod selectors;

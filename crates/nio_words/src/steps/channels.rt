@@ -10,12 +10,14 @@ use crate::decode::{chan_of, is_set};
 use crate::encode;
 use crate::instruction::Instruction;
 use crate::part::Part;
+use crate::step::Said;
 use crate::words::{Pass, Words};
 use nio_base::{CallerNo, ChanNo, Kind};
 use nio_event::Chan;
 
 // The bits of a channel that is closed, and of one that is in blocking mode.
 const CLOSED: u32 = 4;
+
 const BLOCKING: u32 = 5;
 
 impl Words {
@@ -27,7 +29,13 @@ impl Words {
         ensures { Steps self.now p.old p.new me (MakeChannel c kind result) }
     {
         let new = encode::new_channel(kind);
-        let found = self.step_that(p, me, Part::Chan(c.0), Instruction::Exchange(0, new), kind);
+        let found = self.step_that(
+            p,
+            me,
+            Part::Chan(c.0),
+            Instruction::Exchange(0, new),
+            Said::OfKind(kind),
+        );
         is_set(found, 0)
     }
 
@@ -50,7 +58,7 @@ impl Words {
         ensures { Steps self.now p.old p.new me (SetMode c blocking result) }
     {
         let instruction = Instruction::to_put_bit(BLOCKING, blocking);
-        let found = self.step_that(p, me, Part::Chan(c.0), instruction, blocking);
+        let found = self.step_that(p, me, Part::Chan(c.0), instruction, Said::Mode(blocking));
         chan_of(found)
     }
 

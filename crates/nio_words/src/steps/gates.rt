@@ -14,6 +14,7 @@ use nio_event::GateWord;
 
 // The bits of a gate with a pending wakeup, and of one that is shut.
 const WOKEN: u32 = 0;
+
 const SHUT: u32 = 1;
 
 impl Words {

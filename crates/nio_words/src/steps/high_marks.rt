@@ -8,6 +8,7 @@ ghost use Rattle.nio_words.specs.Steps.{Steps};
 use crate::decode::number_of;
 use crate::instruction::Instruction;
 use crate::part::Part;
+use crate::step::Said;
 use crate::words::{Pass, Words};
 use nio_base::{CallerNo, SelNo};
 
@@ -28,7 +29,14 @@ impl Words {
         requires lower { AllMade (state_seen p.old) n }
         ensures { Steps self.now p.old p.new me (RaiseChannels n result) }
     {
-        let found = self.step(p, me, Part::ChannelsMark, Instruction::Max(u64::from(n)));
+        let least = u64::from(n);
+        let found = self.step_that(
+            p,
+            me,
+            Part::ChannelsMark,
+            Instruction::Max(least),
+            Said::Number(n),
+        );
         number_of(found)
     }
 
@@ -50,7 +58,14 @@ impl Words {
         requires lower { AllClaimed (state_seen p.old) s n }
         ensures { Steps self.now p.old p.new me (RaiseKeys s n result) }
     {
-        let found = self.step(p, me, Part::KeysMark(s.0), Instruction::Max(u64::from(n)));
+        let least = u64::from(n);
+        let found = self.step_that(
+            p,
+            me,
+            Part::KeysMark(s.0),
+            Instruction::Max(least),
+            Said::Number(n),
+        );
         number_of(found)
     }
 }

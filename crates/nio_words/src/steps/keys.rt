@@ -10,13 +10,16 @@ use crate::decode::{is_set, stage_of};
 use crate::encode;
 use crate::instruction::Instruction;
 use crate::part::Part;
+use crate::step::Said;
 use crate::words::{Pass, Words};
 use nio_base::{CallerNo, ChanNo, SelNo};
 use nio_event::Stage;
 
 // The bits of a key that is published, cancelled or removed.
 const PUBLISHED: u32 = 1;
+
 const CANCELLED: u32 = 2;
+
 const REMOVED: u32 = 3;
 
 impl Words {
@@ -51,7 +54,13 @@ impl Words {
         ensures { Steps self.now p.old p.new me (Claim s i c result) }
     {
         let new = encode::new_key(c);
-        let found = self.step_that(p, me, Part::Key(s.0, i), Instruction::Exchange(0, new), c);
+        let found = self.step_that(
+            p,
+            me,
+            Part::Key(s.0, i),
+            Instruction::Exchange(0, new),
+            Said::ForChannel(c),
+        );
         is_set(found, 0)
     }
 

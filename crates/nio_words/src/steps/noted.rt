@@ -10,6 +10,7 @@ use crate::decode::noted_of;
 use crate::encode;
 use crate::instruction::Instruction;
 use crate::part::Part;
+use crate::step::Said;
 use crate::words::{Pass, Words};
 use nio_base::{CallerNo, ChanNo, SelNo};
 
@@ -36,7 +37,13 @@ impl Words {
         ensures { Steps self.now p.old p.new me (Enrol c s i result) }
     {
         let new = encode::noted(i);
-        let found = self.step_that(p, me, Part::Noted(c.0, s.0), Instruction::Swap(new), i);
+        let found = self.step_that(
+            p,
+            me,
+            Part::Noted(c.0, s.0),
+            Instruction::Swap(new),
+            Said::Number(i),
+        );
         noted_of(found)
     }
 }
