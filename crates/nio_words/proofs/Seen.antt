@@ -1,17 +1,20 @@
 -- What a pass has seen just after a step of its own.
-use Rattle.std.proofs.Common.{◌≡◌, Bool, true, Some, List, [], ◌∷◌, ◌++◌, ap, ◌∙◌}
+use Rattle.std.proofs.Common.{◌≡◌, ℕ, Bool, true, Option, Some, None, List, [], ◌∷◌, ◌++◌, refl, ap, sym, ◌∙◌, subst, eq-eqb}
 use Rattle.std.specs.Prelude.{fold}
 use Rattle.nio_base.specs.declared.limits.Limits.{Limits}
 use Rattle.nio_base.specs.declared.numbers.CallerNo.{CallerNo}
+use Rattle.nio_base.specs.declared.numbers.ChanNo.{ChanNo}
 use Rattle.nio_base.specs.declared.numbers.SelNo.{SelNo}
 use Rattle.nio_event.proofs.OneMore.{state_after-more}
 use Rattle.nio_event.proofs.Put.{put-same}
-use Rattle.nio_event.specs.Acts.{effect}
+use Rattle.nio_event.specs.Acts.{effect, taken_by}
+use Rattle.nio_event.specs.Conditions.{is_held_by, holds}
 use Rattle.nio_event.specs.Histories.{state_after, event_of, last_of, HistoryClause}
 use Rattle.nio_event.specs.declared.act.Act.{Act}
-use Rattle.nio_event.specs.declared.act.Act.TheVariants.{MakeSelector}
+use Rattle.nio_event.specs.declared.act.Act.TheVariants.{MakeSelector, TryHoldBit}
 use Rattle.nio_event.specs.declared.event.Event.{Event}
-use Rattle.nio_words.specs.Passes.{state_seen}
+use Rattle.nio_words.specs.Passes.{IsReady, state_seen}
+use Rattle.nio_words.specs.Rule.{HasBit}
 use Rattle.nio_words.specs.Steps.{Steps}
 use Rattle.nio_words.specs.declared.words.Pass.{Pass}
 use Rattle.nio_words.specs.declared.words.Words.{Words}
@@ -37,3 +40,15 @@ pub made_just_now : (w : Words) (p q : Pass) (me : CallerNo) (s : SelNo) (found 
 made_just_now w p q me s found steps =
     let now = state_just_after _ _ me (MakeSelector s found) _ _ steps.clause in
     ap (λ st. st.selector s.0) now.1 ∙ put-same (state_after now.0).selector s.0 true
+
+-- a step leaves its pass ready for whom it was ready for
+pub still_ready : (w : Words) (p q : Pass) (me n : CallerNo) (act : Act) → Steps w p q me act → IsReady w p n → IsReady w q n
+still_ready w p q me n act steps ready = record { pass = steps.pass; number = subst (λ (k : ℕ). HasBit k n.0) (sym steps.numbers) ready.number }
+
+-- who just took the hold, which was free, has it
+pub holds_just_now : (past : List Event) (me : CallerNo) (c : ChanNo) (found : Option CallerNo) → found ≡ None
+    → holds (state_after (past ++ event_of me (TryHoldBit c found) ∷ [])) me c ≡ true
+holds_just_now past me c found free =
+    ap (λ st. holds st me c) (state_after-more past (event_of me (TryHoldBit c found)))
+    ∙ (ap (is_held_by me) (put-same (state_after past).hold c.0 (taken_by me found))
+      ∙ (ap (λ o. is_held_by me (taken_by me o)) free ∙ eq-eqb me.0 me.0 refl))

@@ -1,10 +1,10 @@
 //! Passes in one hand and in two threads.
 ghost use Rattle.std.specs.Prelude.{IsTrue};
 ghost use Rattle.nio_words.specs.Passes.{IsPassOf, IsReady, limits_of, state_seen};
-ghost use Rattle.nio_event.specs.Conditions.{IsSelector};
+ghost use Rattle.nio_event.specs.Conditions.{IsChannel, IsKey, IsSelector, holds};
 
 use crate::*;
-use nio_base::{CallerNo, Limits, SelNo};
+use nio_base::{CallerNo, ChanNo, Kind, Limits, SelNo};
 use std::test::Fail;
 use std::thread::join;
 
@@ -70,6 +70,53 @@ fn two_threads_wake(rt: HostRuntime) -> Result<(), Fail> {
         first != second,
         "one of them found no wakeup, and the other found it"
     );
+    words.join(&mut p, q);
+    assert!(rt; p.holds(zero) && p.holds(one));
+    Ok(())
+}
+
+const TWO_CHANNELS: Limits = Limits {
+    callers: 2,
+    selectors: 1,
+    channels: 2,
+    keys: 2,
+};
+
+fn claims_first(words: &Words, mut p: Pass, me: CallerNo, s: SelNo, c: ChanNo) -> (Pass, bool)
+    requires ready { IsReady words.now p me }
+    requires key { IsKey (limits_of words.now) s 0 }
+    requires channel { IsChannel (limits_of words.now) c }
+    requires holds { IsTrue (holds (state_seen p) me c) }
+    ensures { IsPassOf words.now result.0 }
+{
+    let claimed = words.claim(&mut p, me, s, 0, c);
+    (p, claimed)
+}
+
+#[test]
+fn two_threads_claim(rt: HostRuntime) -> Result<(), Fail> {
+    let (words, mut p) = Words::make(rt.alloc(), TWO_CHANNELS)?;
+    let (zero, one, s) = (CallerNo(0), CallerNo(1), SelNo(0));
+    let (left, right) = (ChanNo(0), ChanNo(1));
+    words.draw(&mut p, zero)?;
+    words.draw(&mut p, one)?;
+    assert!(rt; !words.make_channel(&mut p, zero, left, Kind::Source));
+    assert!(rt; !words.make_channel(&mut p, one, right, Kind::Sink));
+    assert!(rt; words.try_hold_bit(&mut p, zero, left).is_none());
+    assert!(rt; words.try_hold_bit(&mut p, one, right).is_none());
+    let q = words.hand_over(&mut p, one)?;
+    let ((mut p, first), (q, second)) = join(
+        &rt,
+        || -> (Pass, bool)
+            requires { IsReady words p zero × IsKey (limits_of words) s 0 × IsChannel (limits_of words) left × IsTrue (holds (state_seen p) zero left) }
+            ensures { IsPassOf words result.0 }
+        { claims_first(&words, p, zero, s, left) },
+        || -> (Pass, bool)
+            requires { IsReady words q one × IsKey (limits_of words) s 0 × IsChannel (limits_of words) right × IsTrue (holds (state_seen q) one right) }
+            ensures { IsPassOf words result.0 }
+        { claims_first(&words, q, one, s, right) },
+    );
+    assert!(rt; first != second, "the index is claimed once");
     words.join(&mut p, q);
     assert!(rt; p.holds(zero) && p.holds(one));
     Ok(())
