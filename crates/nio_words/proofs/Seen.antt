@@ -51,4 +51,4 @@ pub holds_just_now : (past : List Event) (me : CallerNo) (c : ChanNo) (found : O
 holds_just_now past me c found free =
     ap (λ st. holds st me c) (state_after-more past (event_of me (TryHoldBit c found)))
     ∙ (ap (is_held_by me) (put-same (state_after past).hold c.0 (taken_by me found))
-      ∙ (ap (λ o. is_held_by me (taken_by me o)) free ∙ eq-eqb me.0 me.0 refl))
+    ∙ (ap (λ o. is_held_by me (taken_by me o)) free ∙ eq-eqb me.0 me.0 refl))

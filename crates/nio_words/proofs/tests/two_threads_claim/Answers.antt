@@ -1,4 +1,4 @@
-use Rattle.std.proofs.Common.{◌≡◌, ℕ, true, None, [], ◌∷◌, ◌++◌, refl, sym, ap, ◌∙◌, subst, arith, rules}
+use Rattle.std.proofs.Common.{◌≡◌, true, None, refl, ap, ◌∙◌, arith, rules}
 use Rattle.nio_base.specs.declared.numbers.CallerNo.{CallerNo}
 use Rattle.nio_base.specs.declared.numbers.ChanNo.{ChanNo}
 use Rattle.nio_event.proofs.OneMore.{state_after-more}
@@ -36,7 +36,7 @@ join-p-requires-after_bounds g c κs within =
     let drawn : IsReady c.in_ok-words.words c.draw-2.new.p zero = record { pass = second.pass; number = second.keeps zero (first.holds refl) } in
     let ready : IsReady c.in_ok-words.words c.try_hold_bit-2.new.p zero =
     still_ready _ _ _ one zero _ c.try_hold_bit-2.ensures (still_ready _ _ _ zero zero _ c.try_hold_bit.ensures
-      (still_ready _ _ _ one zero _ c.make_channel-2.ensures (still_ready _ _ _ zero zero _ c.make_channel.ensures drawn))) in
+    (still_ready _ _ _ one zero _ c.make_channel-2.ensures (still_ready _ _ _ zero zero _ c.make_channel.ensures drawn))) in
     let o1 = first.only c.in_ok-words.ensures.pass.only in
     let o2 = second.only o1.0 in
     let o3 = c.make_channel.ensures.only o2.0 in
