@@ -15,7 +15,6 @@ use Rattle.nio_event.specs.Conditions.{IsChannel}
 use Rattle.nio_event.specs.Questions.{flag, channel}
 use Rattle.nio_event.specs.Sound.{IsSound}
 use Rattle.nio_event.specs.State.{State, unmade_channel}
-use Rattle.nio_event.specs.declared.act.Act.{Act}
 use Rattle.nio_event.specs.declared.act.Act.TheVariants.{MakeChannel, LookChannel, SetMode, CloseBit}
 use Rattle.nio_event.specs.declared.found.Chan.{Chan as Channel}
 use Rattle.nio_words.proofs.Fields.{bit-lt, reads, sets, clears_top, exchanges, if_ap, exchange_small}
@@ -23,7 +22,7 @@ use Rattle.nio_words.specs.Decodings.{is_set, kind_of, chan_of}
 use Rattle.nio_words.specs.Encodings.{bit, kind_code, channel_word}
 use Rattle.nio_words.specs.Instructions.{applied, put_bit}
 use Rattle.nio_words.specs.Owed.{IsMoment, Moves}
-use Rattle.nio_words.specs.declared.instruction.Instruction.TheVariants.{Load, SetBit, ClearBit, Exchange}
+use Rattle.nio_words.specs.declared.instruction.Instruction.TheVariants.{Load, SetBit, Exchange}
 use Rattle.nio_words.specs.declared.part.Part.TheVariants.{Chan}
 
 kind_code-lt : (k : Kind) → kind_code k < 4

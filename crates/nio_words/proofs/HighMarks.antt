@@ -1,6 +1,6 @@
 -- The kinds of step on the words of the channels' mark and of a selector's keys' mark do to them what
 -- they do to the marks.
-use Rattle.std.proofs.Common.{◌≡◌, ℕ, max, ◌%◌, ◌^◌, ◌<◌, refl, ap, sym, arith}
+use Rattle.std.proofs.Common.{◌≡◌, ℕ, max, ◌^◌, ◌<◌, refl, ap, sym, arith}
 use Rattle.nio_base.specs.declared.limits.Limits.{Limits}
 use Rattle.nio_base.specs.declared.numbers.CallerNo.{CallerNo}
 use Rattle.nio_base.specs.declared.numbers.SelNo.{SelNo}

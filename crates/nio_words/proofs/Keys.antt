@@ -18,7 +18,7 @@ use Rattle.nio_event.specs.declared.act.Act.TheVariants.{LookKey, CancelKey, Cla
 use Rattle.nio_event.specs.declared.found.Stage.{Stage}
 use Rattle.nio_words.proofs.Fields.{bit-lt, sets, exchanges, exchange_small, if_ap}
 use Rattle.nio_words.specs.Decodings.{is_set, stage_of}
-use Rattle.nio_words.specs.Encodings.{bit, stage_bits, stage_word}
+use Rattle.nio_words.specs.Encodings.{bit, stage_word}
 use Rattle.nio_words.specs.Instructions.{applied}
 use Rattle.nio_words.specs.Owed.{IsMoment, Moves}
 use Rattle.nio_words.specs.declared.instruction.Instruction.TheVariants.{Load, SetBit, Exchange}

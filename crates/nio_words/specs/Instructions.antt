@@ -41,7 +41,3 @@ word_in (Or bits) = bits
 word_in (And bits) = bits
 word_in (Swap new) = new
 word_in _ = 0
-
-abbrev pub number_in : Instruction → ℕ
-number_in (Max k) = k
-number_in _ = 0
