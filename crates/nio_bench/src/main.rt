@@ -7,6 +7,7 @@ use std::env;
 
 mod group;
 mod relay;
+mod words;
 
 fn main(rt: HostRuntime) -> anyhow::Result<()> {
     let word = env::args(&rt)?.nth(1);
@@ -18,6 +19,7 @@ fn main(rt: HostRuntime) -> anyhow::Result<()> {
         }
         Some("group") => group::measure(&rt)?,
         Some("relay") => relay::measure(&rt)?,
+        Some("words") => words::measure(&rt)?,
         Some(other) => bail!("no measure is named {other}"),
     }
     Ok(())

@@ -1,0 +1,6 @@
+use Rattle.std.specs.Prelude.{IsTrue}
+use Rattle.nio_words.specs.Passes.{IsReady, state_seen}
+use Rattle.nio_bench.proofs.words.swaps.Given as goal
+
+abbrev pub invariant-loop-turn : goal.invariant-loop-turn
+invariant-loop-turn l = IsReady l.words l.p l.me
