@@ -1,13 +1,13 @@
 -- A step changes no word but that of its own part. Of each sort of part only the kinds of step that
 -- change such a part are looked at; of the others the last line speaks.
-use Rattle.std.proofs.Common.{◌≡◌, ◌≢◌, ℕ, ◌==◌, Bool, true, false, cond, ◌&&◌, refl, ap, eqb-true, ne_eqb}
+use Rattle.std.proofs.Common.{◌≡◌, ◌≢◌, ℕ, ◌==◌, ◌<◌, Bool, true, false, cond, ◌&&◌, refl, ap, sym, subst, eqb-true, ne_eqb}
 use Rattle.std.proofs.lemmas.Bool.{and_parts}
 use Rattle.nio_base.specs.declared.numbers.CallerNo.{CallerNo}
 use Rattle.nio_event.specs.Acts.{effect}
 use Rattle.nio_event.specs.State.{State, put, put_at}
 use Rattle.nio_event.specs.declared.act.Act.{Act}
 use Rattle.nio_event.specs.declared.act.Act.TheVariants.{DrawBit, MakeSelector, Wake, SetInterrupt, TakeInterrupt, CancelKey, SwapInterest, OrInterest, AndInterest, SwapNote, MakeChannel, Claim, RaiseKeys, Publish, Enrol, TakeTurn, GiveTurn, Remove, Mark as MarkKey, UnselectBit, EndWake, RaiseChannels, TryHoldBit, Release, SetMode, CloseBit, ShutBit}
-use Rattle.nio_words.specs.Encodings.{encoding, channel_word, holder_word, noted_word, gate_word, stage_word, mark_word}
+use Rattle.nio_words.specs.Encodings.{encoding, IsProper, channel_word, holder_word, noted_word, gate_word, stage_word, mark_word}
 use Rattle.nio_words.specs.Parts.{part_of}
 use Rattle.nio_words.specs.declared.part.Part.{Part}
 use Rattle.nio_words.specs.declared.part.Part.TheVariants.{Callers, Interrupts, Selectors, ChannelsMark, Chan, Hold, Noted, Gate, Turn, KeysMark, Key, Interest, Mark, Note}
@@ -65,3 +65,9 @@ apart st me (UnselectBit s i found) (Mark t j) ne = ap mark_word (put_at-other s
 apart st me act (Mark t j) ne = refl
 apart st me (SwapNote s i att found) (Note t j) ne = put_at-other st.note s.0 i _ t j (λ e e'. ne cc)
 apart st me act (Note t j) ne = refl
+
+pub proper-apart : (st : State) (me : CallerNo) (act : Act) (q : Part) → q ≢ part_of act → IsProper st q → IsProper (effect st me act) q
+proper-apart st me (MarkKey s i from told found) (Mark t j) ne h = subst (λ m. m.ready < 256) (sym (put_at-other st.mark s.0 i _ t j (λ e e'. ne cc))) h
+proper-apart st me (UnselectBit s i found) (Mark t j) ne h = subst (λ m. m.ready < 256) (sym (put_at-other st.mark s.0 i _ t j (λ e e'. ne cc))) h
+proper-apart st me act (Mark t j) ne h = h
+proper-apart st me act q ne h = tt

@@ -128,7 +128,7 @@ module _ (l : Limits) (s : Table (Unit {0}) View) (kept : IsKept l s) (id : ℕ)
         keeps,
         tt,
         added l s kept id v here unspent w e Callers (bit_or (slice_index s.words 0) (one_bit number.0)) adds tt refl new_word
-            (or_lt 64 (slice_index s.words 0) (one_bit number.0) (kept.encoded Callers tt).small (one_bit-lt number.0)) s.homes,
+            (or_lt 64 (slice_index s.words 0) (one_bit number.0) (kept.encoded Callers tt).small (one_bit-lt number.0)) tt s.homes,
         (
           refl,
           record {

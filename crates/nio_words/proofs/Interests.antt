@@ -24,6 +24,7 @@ look_interest_moves l me s i is_key = record {
   part = λ n. refl;
   word = λ st now. refl;
   small = λ n small. small;
+  proper = λ st now. tt;
   answers = λ st now. ap operations (reads_operations (st.interest s.0 i) now.small);
 }
 
@@ -34,6 +35,7 @@ swap_interest_moves l me s i ops is_key fits = record {
   part = λ n. refl;
   word = λ st now. sym (put_at-same st.interest s.0 i ops);
   small = λ n small. fits;
+  proper = λ st now. tt;
   answers = λ st now. ap operations (reads_operations (st.interest s.0 i) now.small);
 }
 
@@ -44,6 +46,7 @@ or_interest_moves l me s i ops is_key fits = record {
   part = λ n. refl;
   word = λ st now. sym (put_at-same st.interest s.0 i (bit_or (st.interest s.0 i) ops));
   small = λ n small. or_lt 8 n ops small fits;
+  proper = λ st now. tt;
   answers = λ st now. ap operations (reads_operations (st.interest s.0 i) now.small);
 }
 
@@ -54,5 +57,6 @@ and_interest_moves l me s i ops is_key = record {
   part = λ n. refl;
   word = λ st now. sym (put_at-same st.interest s.0 i (bit_and (st.interest s.0 i) ops));
   small = λ n small. let less = and_le_l n ops in omega arith;
+  proper = λ st now. tt;
   answers = λ st now. ap operations (reads_operations (st.interest s.0 i) now.small);
 }

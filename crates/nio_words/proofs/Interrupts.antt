@@ -20,6 +20,7 @@ set_interrupt_moves l me target below = record {
   part = λ n. refl;
   word = λ st now. sets_bit st.interrupted target.0 below;
   small = λ n small. or_lt 64 n (one_bit target.0) small (one_bit-lt target.0);
+  proper = λ st now. tt;
   answers = λ st now. ap flag (reads_bit st.interrupted target.0 below);
 }
 
@@ -30,6 +31,7 @@ take_interrupt_moves l me below = record {
   part = λ n. refl;
   word = λ st now. clears_bit st.interrupted me.0 below;
   small = λ n small. let less = and_le_l n (bit_not w64 (one_bit me.0)) in omega arith;
+  proper = λ st now. tt;
   answers = λ st now. ap flag (reads_bit st.interrupted me.0 below);
 }
 
@@ -40,5 +42,6 @@ look_interrupt_moves l me below = record {
   part = λ n. refl;
   word = λ st now. refl;
   small = λ n small. small;
+  proper = λ st now. tt;
   answers = λ st now. ap flag (reads_bit st.interrupted me.0 below);
 }

@@ -15,10 +15,10 @@ use Rattle.nio_event.proofs.OneMore.{state_after-more, mine-other}
 use Rattle.nio_event.specs.Acts.{effect}
 use Rattle.nio_event.specs.Histories.{state_after, is_by, mine, IsStep, IsLegal}
 use Rattle.nio_event.specs.declared.event.Event.{Event}
-use Rattle.nio_words.proofs.Apart.{apart}
+use Rattle.nio_words.proofs.Apart.{apart, proper-apart}
 use Rattle.nio_words.proofs.Beginnings.{prefix_self, prefix_trans, prefix_both}
 use Rattle.nio_words.proofs.Places.{place_inside, same_part, place-limits}
-use Rattle.nio_words.specs.Encodings.{encoding, bound}
+use Rattle.nio_words.specs.Encodings.{encoding, bound, IsProper}
 use Rattle.nio_words.specs.Parts.{part_of}
 use Rattle.nio_words.specs.Places.{IsWithin, place}
 use Rattle.nio_words.specs.Rule.{HasBit, StandsIn, Knows, IsEncoded, IsKept}
@@ -71,7 +71,7 @@ module _ (l : Limits) (s : Table (Unit {0}) View) (kept : IsKept l s) (id : ℕ)
       let clash : true ≡ false = sym spent ∙ unspent in
       cc
 
-  module _ (w : View) (e : Event) (p : Part) (new : ℕ) (adds : AddsTo l s kept.history id v w e) (within : IsWithin l p) (part : part_of e.act ≡ p) (word : new ≡ encoding (effect (state_after kept.history) e.caller e.act) p) (small : new < bound p) where
+  module _ (w : View) (e : Event) (p : Part) (new : ℕ) (adds : AddsTo l s kept.history id v w e) (within : IsWithin l p) (part : part_of e.act ≡ p) (word : new ≡ encoding (effect (state_after kept.history) e.caller e.act) p) (small : new < bound p) (proper : IsProper (effect (state_after kept.history) e.caller e.act) p) where
     state-after : state_after (kept.history ++ e ∷ []) ≡ effect (state_after kept.history) e.caller e.act
     state-after = state_after-more kept.history e
 
@@ -87,6 +87,7 @@ module _ (l : Limits) (s : Table (Unit {0}) View) (kept : IsKept l s) (id : ℕ)
         record {
           word = there ∙ (word ∙ ap (λ st. encoding st p) (sym state-after));
           small = subst (λ (k : ℕ). k < bound p) (sym there) small;
+          proper = subst (λ st. IsProper st p) (sym state-after) proper;
         }
 
     encoded_there : (q : Part) → IsWithin l q → place l q ≢ place l p → IsEncoded l (kept.history ++ e ∷ []) (set s.words (place l p) new) q
@@ -97,6 +98,7 @@ module _ (l : Limits) (s : Table (Unit {0}) View) (kept : IsKept l s) (id : ℕ)
         record {
           word = there ∙ (old.word ∙ (sym apart' ∙ ap (λ st. encoding st q) (sym state-after)));
           small = subst (λ (k : ℕ). k < bound q) (sym there) old.small;
+          proper = subst (λ st. IsProper st q) (sym state-after) (proper-apart (state_after kept.history) e.caller e.act q (λ same. ne (ap (place l) (same ∙ part))) old.proper);
         }
 
     encoded : (q : Part) → IsWithin l q → IsEncoded l (kept.history ++ e ∷ []) (set s.words (place l p) new) q

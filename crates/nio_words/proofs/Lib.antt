@@ -1,5 +1,6 @@
 pub mod Beginnings
 pub mod Bits
+pub mod Fields
 pub mod Places
 pub mod Apart
 pub mod Keeps
@@ -9,6 +10,12 @@ pub mod Joining
 pub mod Stepping
 pub mod Draws
 pub mod Gates
+pub mod Channels
+pub mod Holds
+pub mod Turns
+pub mod Noted
+pub mod HighMarks
+pub mod Marks
 pub mod Interests
 pub mod Interrupts
 pub mod Keys

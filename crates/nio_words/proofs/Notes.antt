@@ -17,6 +17,7 @@ swap_note_moves l me s i att is_key fits = record {
   part = λ n. refl;
   word = λ st now. sym (put_at-same st.note s.0 i att);
   small = λ n small. fits;
+  proper = λ st now. tt;
   answers = λ st now. refl;
 }
 
@@ -27,5 +28,6 @@ look_note_moves l me s i is_key = record {
   part = λ n. refl;
   word = λ st now. refl;
   small = λ n small. small;
+  proper = λ st now. tt;
   answers = λ st now. refl;
 }

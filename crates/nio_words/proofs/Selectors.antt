@@ -20,6 +20,7 @@ make_selector_moves l me s below = record {
   part = λ n. refl;
   word = λ st now. sets_bit st.selector s.0 below;
   small = λ n small. or_lt 64 n (one_bit s.0) small (one_bit-lt s.0);
+  proper = λ st now. tt;
   answers = λ st now. ap flag (reads_bit st.selector s.0 below);
 }
 
@@ -30,5 +31,6 @@ look_selectors_moves l me = record {
   part = λ n. refl;
   word = λ st now. refl;
   small = λ n small. small;
+  proper = λ st now. tt;
   answers = λ st now. refl;
 }

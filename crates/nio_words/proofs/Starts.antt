@@ -11,11 +11,11 @@ use Rattle.nio_event.specs.State.{opening}
 use Rattle.nio_words.proofs.Beginnings.{prefix_self}
 use Rattle.nio_words.proofs.Bits.{none_has, bits_below-none}
 use Rattle.nio_words.proofs.Places.{place_inside, place-limits, limits_inside}
-use Rattle.nio_words.specs.Encodings.{encoding, bound, limits_word}
+use Rattle.nio_words.specs.Encodings.{encoding, bound, IsProper, limits_word}
 use Rattle.nio_words.specs.Places.{IsWithin, place, word_count}
 use Rattle.nio_words.specs.Rule.{first_view, Knows, IsEncoded, IsKept}
 use Rattle.nio_words.specs.declared.part.Part.{Part}
-use Rattle.nio_words.specs.declared.part.Part.TheVariants.{Callers, Interrupts, Selectors}
+use Rattle.nio_words.specs.declared.part.Part.TheVariants.{Callers, Interrupts, Selectors, Mark}
 use Rattle.nio_words.specs.declared.view.View.{View}
 
 -- in the opening state every word is 0
@@ -28,6 +28,10 @@ encoding-opening p = refl
 bound-pos : (p : Part) → 0 < bound p
 bound-pos Callers = omega arith
 bound-pos p = omega arith
+
+proper-opening : (p : Part) → IsProper opening p
+proper-opening (Mark s i) = omega arith
+proper-opening p = tt
 
 only_first : (v : View) (i : ℕ) (u : View) → get_elem? (v ∷ []) i ≡ some u → (i ≡ 0) × (v ≡ u)
 only_first v zero u at = (refl, some-injective v u at)
@@ -68,4 +72,5 @@ starts l words fit are = record {
         record {
           word = zero_there ∙ sym (encoding-opening p);
           small = subst (λ (k : ℕ). k < bound p) (sym zero_there) (bound-pos p);
+          proper = proper-opening p;
         }

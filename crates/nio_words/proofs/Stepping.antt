@@ -19,7 +19,7 @@ use Rattle.nio_event.specs.declared.act.Act.TheVariants.{DrawBit}
 use Rattle.nio_event.specs.declared.event.Event.{Event}
 use Rattle.nio_words.proofs.Beginnings.{same_number}
 use Rattle.nio_words.proofs.Keeps.{AddsTo, added, held_here}
-use Rattle.nio_words.specs.Encodings.{encoding, bound}
+use Rattle.nio_words.specs.Encodings.{encoding, bound, IsProper}
 use Rattle.nio_words.specs.Instructions.{applied}
 use Rattle.nio_words.specs.Passes.{view_of, seen, Holds, IsPassOf}
 use Rattle.nio_words.specs.Places.{place}
@@ -49,7 +49,7 @@ allowed l slots id v carried me p instruction act unspent has moves may s kept h
     let may' : (k : ℕ) → Condition l (mine me kept.history) (state_after kept.history) me (act k) = λ k.
     conditions_stay l me v.seen kept.history known.begins kept.legal (known.own me has) (act k)
     (subst (λ l'. Condition l' (mine me v.seen) (state_after v.seen) me (act k)) known.limits (may k)) in
-    let now : IsMoment l me p act (state_after kept.history) = record { past = kept.history; legal = kept.legal; leaves = refl; condition = may'; small = small } in
+    let now : IsMoment l me p act (state_after kept.history) = record { past = kept.history; legal = kept.legal; leaves = refl; condition = may'; small = small; proper = here.proper } in
     let step : IsStep l kept.history e = record {
       by_caller = known.callers me.0 has;
       condition = may' n;
@@ -68,11 +68,12 @@ allowed l slots id v carried me p instruction act unspent has moves may s kept h
       drawn = λ k has'. drawn_lasts (state_after kept.history) me (act n) k (known.drawn k has');
       numbers = held_here l s kept id v at unspent;
     } in
-    let word : applied instruction n ≡ encoding (effect (state_after kept.history) me (act n)) p = subst (λ (k : ℕ). applied instruction k ≡ encoding (effect (state_after kept.history) me (act k)) p) is_word (moves.word (state_after kept.history) now) in (
+    let word : applied instruction n ≡ encoding (effect (state_after kept.history) me (act n)) p = subst (λ (k : ℕ). applied instruction k ≡ encoding (effect (state_after kept.history) me (act k)) p) is_word (moves.word (state_after kept.history) now) in
+    let proper : IsProper (effect (state_after kept.history) me (act n)) p = subst (λ (k : ℕ). IsProper (effect (state_after kept.history) me (act k)) p) is_word (moves.proper (state_after kept.history) now) in (
       w,
       keeps,
       tt,
-      added l s kept id v at unspent w e p (applied instruction n) adds moves.within (moves.part n) word (moves.small n here.small) s.homes,
+      added l s kept id v at unspent w e p (applied instruction n) adds moves.within (moves.part n) word (moves.small n here.small) proper s.homes,
       (
         refl,
         record {

@@ -1,7 +1,13 @@
 -- What a word tells of its part: the other way round from the encodings.
-use Rattle.std.specs.Prelude.{ℕ, ◌/◌, ◌%◌, ◌^◌, ◌==◌, Bool}
+use Rattle.std.specs.Prelude.{ℕ, ◌-◌, ◌/◌, ◌%◌, ◌^◌, ◌==◌, Bool, if◌then◌else◌, Option, Some, None, Result, Ok, Err}
+use Rattle.nio_base.specs.declared.kind.Kind.{Kind}
+use Rattle.nio_base.specs.declared.kind.Kind.TheVariants.{Stream, Listener, Source, Sink}
+use Rattle.nio_base.specs.declared.numbers.CallerNo.{CallerNo}
+use Rattle.nio_event.specs.declared.found.Chan.{Chan as Channel}
 use Rattle.nio_event.specs.declared.found.GateWord.{GateWord}
+use Rattle.nio_event.specs.declared.found.Mark.{Mark as KeyMark}
 use Rattle.nio_event.specs.declared.found.Stage.{Stage}
+use Rattle.nio_words.specs.Encodings.{mark_word}
 
 -- bit k is set
 abbrev pub is_set : ℕ → ℕ → Bool
@@ -21,3 +27,33 @@ stage_of word = record {
 
 abbrev pub operations_of : ℕ → ℕ
 operations_of word = word % 256
+
+abbrev pub mark_of : ℕ → KeyMark
+mark_of word = record { selected = is_set word 8; ready = operations_of word }
+
+-- what an exchange from a mark finds: that its word stood there, or else the mark that did
+abbrev pub exchange_found : KeyMark → ℕ → Result (Unit {0}) KeyMark
+exchange_found from word = if word == mark_word from then Ok tt else Err (mark_of word)
+
+-- a number of 32 bits
+abbrev pub number_of : ℕ → ℕ
+number_of word = word % 2 ^ 32
+
+abbrev pub kind_of : ℕ → Kind
+kind_of code = if code == 0 then Stream else if code == 1 then Listener else if code == 2 then Source else Sink
+
+abbrev pub chan_of : ℕ → Channel
+chan_of word = record {
+  made = is_set word 0;
+  kind = kind_of (word / 2 ^ 1 % 8);
+  closed = is_set word 4;
+  blocking = is_set word 5;
+}
+
+-- 0 for nobody, and else one more than the caller's number
+abbrev pub holder_of : ℕ → Option CallerNo
+holder_of word = if word == 0 then None else Some (record { 0 = number_of (word - 1) })
+
+-- 0 for none, and else one more than the index
+abbrev pub noted_of : ℕ → Option ℕ
+noted_of word = if word == 0 then None else Some (number_of (word - 1))

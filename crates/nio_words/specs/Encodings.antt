@@ -1,6 +1,6 @@
 -- The word of each part of the state, and below which number it stays. In the opening state every
 -- word is 0.
-use Rattle.std.specs.Prelude.{ℕ, ◌+◌, ◌*◌, ◌^◌, Bool, if◌then◌else◌, Option, Some, None}
+use Rattle.std.specs.Prelude.{ℕ, ◌+◌, ◌*◌, ◌^◌, ◌<◌, Bool, if◌then◌else◌, Option, Some, None}
 use Rattle.nio_base.specs.declared.kind.Kind.{Kind}
 use Rattle.nio_base.specs.declared.kind.Kind.TheVariants.{Stream, Listener, Source, Sink}
 use Rattle.nio_base.specs.declared.limits.Limits.{Limits}
@@ -87,6 +87,11 @@ bound (Key s i) = 2 ^ 64
 bound (Interest s i) = 256
 bound (Mark s i) = 512
 bound (Note s i) = 2 ^ 64
+
+-- what the word alone doesn't tell: a ready set has eight bits
+abbrev pub IsProper : State → Part → Type 0
+IsProper st (Mark s i) = (st.mark s i).ready < 256
+IsProper st _ = Unit {0}
 
 -- the word that holds the limits: callers in bits 0 to 7, selectors in bits 8 to 15, channels in
 -- bits 16 to 39, keys in bits 40 to 63

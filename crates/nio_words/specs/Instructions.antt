@@ -1,5 +1,5 @@
 -- What each atomic instruction makes of its word.
-use Rattle.std.specs.Prelude.{ℕ, ◌*◌, ◌%◌, ◌^◌, ◌<◌, ◌==◌, max, bit_and, bit_or}
+use Rattle.std.specs.Prelude.{ℕ, ◌*◌, ◌%◌, ◌^◌, ◌<◌, ◌==◌, Bool, true, false, max, bit_and, bit_or}
 use Rattle.std.specs.Int.{bit_not, w64}
 use prog.Atomic.{either}
 use Rattle.nio_words.specs.declared.instruction.Instruction.{Instruction}
@@ -8,6 +8,11 @@ use Rattle.nio_words.specs.declared.instruction.Instruction.TheVariants.{Load, S
 -- the word that has bit k alone
 abbrev pub one_bit : ℕ → ℕ
 one_bit k = 1 * 2 ^ k % 2 ^ 64
+
+-- what sets or clears bit k
+abbrev pub put_bit : ℕ → Bool → Instruction
+put_bit k true = SetBit k
+put_bit k false = ClearBit k
 
 abbrev pub applied : Instruction → ℕ → ℕ
 applied Load n = n
@@ -36,3 +41,7 @@ word_in (Or bits) = bits
 word_in (And bits) = bits
 word_in (Swap new) = new
 word_in _ = 0
+
+abbrev pub number_in : Instruction → ℕ
+number_in (Max k) = k
+number_in _ = 0

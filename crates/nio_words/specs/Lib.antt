@@ -6,6 +6,7 @@ pub mod Rule
 pub mod Passes
 pub mod Sharing
 pub mod Parts
+pub mod Said
 pub mod Steps
 pub mod Telling
 pub mod Owed

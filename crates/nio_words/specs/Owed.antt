@@ -9,7 +9,7 @@ use Rattle.nio_event.specs.Histories.{state_after, mine, IsLegal}
 use Rattle.nio_event.specs.State.{State}
 use Rattle.nio_event.specs.declared.act.Act.{Act}
 use Rattle.nio_event.specs.declared.event.Event.{Event}
-use Rattle.nio_words.specs.Encodings.{encoding, bound}
+use Rattle.nio_words.specs.Encodings.{encoding, bound, IsProper}
 use Rattle.nio_words.specs.Instructions.{applied, IsInWord}
 use Rattle.nio_words.specs.Parts.{part_of}
 use Rattle.nio_words.specs.Places.{IsWithin}
@@ -23,6 +23,7 @@ pub record IsMoment (l : Limits) (me : CallerNo) (p : Part) (act : ℕ → Act) 
   pub leaves : state_after past ≡ st
   pub condition : (n : ℕ) → Condition l (mine me past) st me (act n)
   pub small : encoding st p < bound p
+  pub proper : IsProper st p
 
 -- What a kind of step owes: at each such moment its instruction does to the word of its part what
 -- its act does to that part, and it finds what the act finds.
@@ -32,4 +33,5 @@ pub record Moves (l : Limits) (me : CallerNo) (p : Part) (instruction : Instruct
   pub part : (n : ℕ) → part_of (act n) ≡ p
   pub word : (st : State) → IsMoment l me p act st → applied instruction (encoding st p) ≡ encoding (effect st me (act (encoding st p))) p
   pub small : (n : ℕ) → n < bound p → applied instruction n < bound p
+  pub proper : (st : State) → IsMoment l me p act st → IsProper (effect st me (act (encoding st p))) p
   pub answers : (st : State) → IsMoment l me p act st → Answers st me (act (encoding st p))

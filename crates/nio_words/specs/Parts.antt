@@ -1,6 +1,7 @@
 -- On which part of the state each kind of step is. The lines stand in the order in which `Act` lists
 -- the kinds.
 use Rattle.std.specs.Prelude.{ℕ}
+use Rattle.nio_base.specs.declared.numbers.ChanNo.{ChanNo}
 use Rattle.nio_base.specs.declared.numbers.SelNo.{SelNo}
 use Rattle.nio_event.specs.declared.act.Act.{Act}
 use Rattle.nio_event.specs.declared.act.Act.TheVariants.{DrawBit, MakeSelector, LookSelectors, Wake, LookGate, SetInterrupt, TakeInterrupt, LookInterrupt, LookKey, CancelKey, LookInterest, SwapInterest, OrInterest, AndInterest, SwapNote, LookNote, MakeChannel, LookChannel, Claim, RaiseKeys, LookKeys, Publish, LookReg, Enrol, TakeTurn, BeginLook, GiveTurn, Remove, LookMark, Mark as MarkKey, UnselectBit, EndWake, LookChannels, RaiseChannels, TryHoldBit, Release, SetMode, CloseBit, ShutBit, Enter}
@@ -49,16 +50,27 @@ part_of (CloseBit c found) = Chan c.0
 part_of (ShutBit s found) = Gate s.0
 part_of (Enter s found) = Turn s.0
 
--- the selector of a part, and the index of a key
+-- the selector of a part, the channel, and the index of a key
 abbrev pub selector_in : Part → SelNo
+selector_in (Noted c s) = record { 0 = s }
 selector_in (Gate s) = record { 0 = s }
+selector_in (Turn s) = record { 0 = s }
+selector_in (KeysMark s) = record { 0 = s }
 selector_in (Key s i) = record { 0 = s }
 selector_in (Interest s i) = record { 0 = s }
+selector_in (Mark s i) = record { 0 = s }
 selector_in (Note s i) = record { 0 = s }
 selector_in _ = record { 0 = 0 }
+
+abbrev pub channel_in : Part → ChanNo
+channel_in (Chan c) = record { 0 = c }
+channel_in (Hold c) = record { 0 = c }
+channel_in (Noted c s) = record { 0 = c }
+channel_in _ = record { 0 = 0 }
 
 abbrev pub index_in : Part → ℕ
 index_in (Key s i) = i
 index_in (Interest s i) = i
+index_in (Mark s i) = i
 index_in (Note s i) = i
 index_in _ = 0

@@ -3,8 +3,9 @@ use Rattle.std.specs.Prelude.{◌≡◌, ℕ, IsTrue, List, []}
 use Rattle.nio_base.specs.declared.limits.Limits.{Limits}
 use Rattle.nio_base.specs.declared.numbers.CallerNo.{CallerNo}
 use Rattle.nio_event.specs.Conditions.{IsCaller}
-use Rattle.nio_event.specs.Histories.{state_after, IsLegal}
+use Rattle.nio_event.specs.Histories.{state_after, mine, IsLegal}
 use Rattle.nio_event.specs.State.{State}
+use Rattle.nio_event.specs.declared.act.Act.{Act}
 use Rattle.nio_event.specs.declared.event.Event.{Event}
 use Rattle.nio_words.specs.Rule.{HasBit}
 use Rattle.nio_words.specs.declared.view.View.{View}
@@ -21,6 +22,10 @@ seen p = (view_of p).seen
 -- and the state that it leaves
 abbrev pub state_seen : Pass → State
 state_seen p = state_after (seen p)
+
+-- and what a caller did in it
+abbrev pub acts_seen : Pass → CallerNo → List Act
+acts_seen p n = mine n (seen p)
 
 -- the numbers that it holds, one bit each
 abbrev pub numbers_of : Pass → ℕ

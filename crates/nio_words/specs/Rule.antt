@@ -10,7 +10,7 @@ use Rattle.nio_base.specs.declared.limits.Limits.{Limits}
 use Rattle.nio_base.specs.declared.numbers.CallerNo.{CallerNo}
 use Rattle.nio_event.specs.Histories.{state_after, mine, IsLegal}
 use Rattle.nio_event.specs.declared.event.Event.{Event}
-use Rattle.nio_words.specs.Encodings.{encoding, bound, limits_word}
+use Rattle.nio_words.specs.Encodings.{encoding, bound, IsProper, limits_word}
 use Rattle.nio_words.specs.Places.{IsWithin, place, word_count}
 use Rattle.nio_words.specs.declared.part.Part.{Part}
 use Rattle.nio_words.specs.declared.view.Half.{Half}
@@ -61,6 +61,7 @@ pub record Knows (l : Limits) (history : List Event) (v : View) : Type 0 where
 pub record IsEncoded (l : Limits) (history : List Event) (words : List ℕ) (p : Part) : Type 0 where
   pub word : slice_index words (place l p) ≡ encoding (state_after history) p
   pub small : slice_index words (place l p) < bound p
+  pub proper : IsProper (state_after history) p
 
 -- the rule, for a table of these limits
 pub record IsKept (l : Limits) (s : Table (Unit {0}) View) : Type 0 where

@@ -1,9 +1,9 @@
 //! What the words of the parts tell.
 ghost use Rattle.std.specs.Prelude.{◌≡◌, ◌<◌};
-ghost use Rattle.nio_words.specs.Decodings.{is_set, gate_of, stage_of, operations_of};
+ghost use Rattle.nio_words.specs.Decodings.{is_set, gate_of, stage_of, operations_of, number_of, kind_of, chan_of, mark_of, holder_of, noted_of};
 
-use nio_base::{ChanNo, Ops};
-use nio_event::{GateWord, Stage};
+use nio_base::{CallerNo, ChanNo, Kind, Ops};
+use nio_event::{Chan, GateWord, Mark, Stage};
 
 /// Whether bit `k` is set.
 #[inline(always)]
@@ -42,4 +42,67 @@ pub(crate) fn operations_of(word: u64) -> Ops
     ensures { result ≡ operations_of word }
 {
     Ops::of((word % 256) as u8)
+}
+
+#[inline(always)]
+pub(crate) fn number_of(word: u64) -> u32
+    ensures { result ≡ number_of word }
+{
+    (word % (1 << 32)) as u32
+}
+
+#[inline(always)]
+fn kind_of(code: u64) -> Kind
+    ensures { result ≡ kind_of code }
+{
+    match code {
+        0 => Kind::Stream,
+        1 => Kind::Listener,
+        2 => Kind::Source,
+        _ => Kind::Sink,
+    }
+}
+
+#[inline(always)]
+pub(crate) fn chan_of(word: u64) -> Chan
+    ensures { result ≡ chan_of word }
+{
+    Chan {
+        made: is_set(word, 0),
+        kind: kind_of((word >> 1) % 8),
+        closed: is_set(word, 4),
+        blocking: is_set(word, 5),
+    }
+}
+
+#[inline(always)]
+pub(crate) fn holder_of(word: u64) -> Option<CallerNo>
+    ensures { result ≡ holder_of word }
+{
+    if word == 0 {
+        None
+    } else {
+        Some(CallerNo(number_of(word - 1)))
+    }
+}
+
+#[inline(always)]
+pub(crate) fn noted_of(word: u64) -> Option<u32>
+    ensures { result ≡ noted_of word }
+{
+    if word == 0 {
+        None
+    } else {
+        Some(number_of(word - 1))
+    }
+}
+
+#[inline(always)]
+pub(crate) fn mark_of(word: u64) -> Mark
+    ensures { result ≡ mark_of word }
+{
+    Mark {
+        selected: is_set(word, 8),
+        ready: operations_of(word),
+    }
 }

@@ -1,4 +1,6 @@
 //! The atomic instructions of the table's steps.
+ghost use Rattle.std.specs.Prelude.{◌≡◌};
+ghost use Rattle.nio_words.specs.Instructions.{put_bit};
 
 /// What one step does to its word. It finds what stood there before.
 #[derive(Clone, Copy)]
@@ -18,4 +20,18 @@ pub enum Instruction {
     Swap(u64),
     /// Where the first word stands there, puts the second in its place.
     Exchange(u64, u64),
+}
+
+impl Instruction {
+    /// Sets the bit where `set`, and else clears it.
+    #[inline(always)]
+    pub(crate) fn to_put_bit(k: u32, set: bool) -> Instruction
+        ensures { result ≡ put_bit k set }
+    {
+        if set {
+            Instruction::SetBit(k)
+        } else {
+            Instruction::ClearBit(k)
+        }
+    }
 }

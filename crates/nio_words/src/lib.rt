@@ -8,6 +8,7 @@ pub use words::{Pass, Words};
 
 mod decode;
 mod drawing;
+mod encode;
 mod instruction;
 mod laws;
 mod part;

@@ -13,8 +13,19 @@ use crate::part::{Part, place_of};
 use crate::view::View;
 use crate::words::{Pass, Words};
 use atomic_table::{Play, Seat};
-use nio_base::CallerNo;
+use nio_base::{CallerNo, ChanNo, Kind, Ops};
 use std::marker::Brand;
+
+/// What the part and the instruction of a step leave out of the event that it adds.
+#[derive(Clone, Copy)]
+pub enum Said {
+    OfKind(Kind),
+    ForChannel(ChanNo),
+    Number(u32),
+    Mode(bool),
+    /// Whether the key was selected, its ready set, and what was told of it.
+    Told(bool, Ops, Ops),
+}
 
 // What a step tells is picked where the step is made.
 impl Play<(), View> for Brand {
@@ -70,5 +81,25 @@ impl Words {
     {
         let word = place_of(&self.limits, part);
         self.perform::<Brand>(&mut p.seat, word, instruction)
+    }
+
+    /// The same for a step that its part and its instruction don't tell whole. `_said` is what they
+    /// leave out, and the proof alone needs it.
+    #[inline(always)]
+    pub(crate) fn step_that(
+        &self,
+        p: &mut Pass,
+        me: CallerNo,
+        part: Part,
+        instruction: Instruction,
+        _said: Said,
+    ) -> u64
+        ghost doing: { Doing }
+        requires ready { IsReady self.now p.old doing.who }
+        requires moves { Moves (limits_of self.now) doing.who part instruction doing.act }
+        requires condition { MayDo self.now p.old doing }
+        ensures step { Steps self.now p.old p.new doing.who (doing.act result) }
+    {
+        self.step(p, me, part, instruction)
     }
 }

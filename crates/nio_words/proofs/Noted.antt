@@ -1,0 +1,39 @@
+-- The kinds of step on the word of a channel's noted key do to it what they do to what is noted.
+use Rattle.std.proofs.Common.{◌≡◌, ℕ, ◌+◌, ◌^◌, ◌<◌, Some, refl, ap, sym, arith}
+use Rattle.nio_base.specs.declared.limits.Limits.{Limits}
+use Rattle.nio_base.specs.declared.numbers.CallerNo.{CallerNo}
+use Rattle.nio_base.specs.declared.numbers.ChanNo.{ChanNo}
+use Rattle.nio_base.specs.declared.numbers.SelNo.{SelNo}
+use Rattle.nio_event.proofs.Put.{put_at-same}
+use Rattle.nio_event.specs.Conditions.{IsChannel, IsSelector}
+use Rattle.nio_event.specs.Questions.{key_index}
+use Rattle.nio_event.specs.declared.act.Act.TheVariants.{LookReg, Enrol}
+use Rattle.nio_words.proofs.Fields.{reads_noted}
+use Rattle.nio_words.specs.Decodings.{noted_of}
+use Rattle.nio_words.specs.Encodings.{noted_word}
+use Rattle.nio_words.specs.Owed.{Moves}
+use Rattle.nio_words.specs.declared.instruction.Instruction.TheVariants.{Load, Swap}
+use Rattle.nio_words.specs.declared.part.Part.TheVariants.{Noted}
+
+pub look_reg_moves : (l : Limits) (me : CallerNo) (c : ChanNo) (s : SelNo) → IsChannel l c → IsSelector l s → Moves l me (Noted c.0 s.0) Load (λ n. LookReg c s (noted_of n))
+look_reg_moves l me c s is_channel is_selector = record {
+  within = (is_channel, is_selector);
+  bit = tt;
+  part = λ n. refl;
+  word = λ st now. refl;
+  small = λ n small. small;
+  proper = λ st now. tt;
+  answers = λ st now. ap key_index (reads_noted (st.noted c.0 s.0) now.small);
+}
+
+pub enrol_moves : (l : Limits) (me : CallerNo) (c : ChanNo) (s : SelNo) (i : ℕ) → IsChannel l c → IsSelector l s → i < 2 ^ 32
+    → Moves l me (Noted c.0 s.0) (Swap (noted_word (Some i))) (λ n. Enrol c s i (noted_of n))
+enrol_moves l me c s i is_channel is_selector few = record {
+  within = (is_channel, is_selector);
+  bit = tt;
+  part = λ n. refl;
+  word = λ st now. ap noted_word (sym (put_at-same st.noted c.0 s.0 (Some i)));
+  small = λ n small. omega arith;
+  proper = λ st now. tt;
+  answers = λ st now. ap key_index (reads_noted (st.noted c.0 s.0) now.small);
+}

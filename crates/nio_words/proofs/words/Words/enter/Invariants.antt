@@ -1,0 +1,7 @@
+use Rattle.nio_event.specs.declared.act.Act.TheVariants.{Enter}
+use Rattle.nio_words.specs.Decodings.{holder_of}
+use Rattle.nio_words.specs.Parts.{selector_in}
+use Rattle.nio_words.proofs.words.Words.enter.Given as goal
+
+abbrev pub ghost-step : goal.ghost-step
+ghost-step a = record { who = a._me; act = λ n. Enter (selector_in a.part) (holder_of n) }
