@@ -1,0 +1,12 @@
+//! Calls that find selectors, channels and keys by their numbers, and calls on keys.
+//!
+//! Each call ensures `Calls` of its plan: what the caller's pass has seen grew by a whole run of the
+//! plan with the call's answer, and by what other callers did between. None of them waits or takes
+//! memory.
+#![tactic(auto)]
+
+pub use nio_plan::KeyError;
+pub use simple::{attach, attachment, cancel, is_valid};
+
+mod simple;
+mod valid;
