@@ -4,7 +4,8 @@ use Rattle.std.specs.Int.{bit_at}
 use Rattle.nio_base.specs.declared.numbers.CallerNo.{CallerNo}
 use Rattle.nio_base.specs.declared.numbers.ChanNo.{ChanNo}
 use Rattle.nio_base.specs.declared.numbers.KeyNo.{KeyNo}
-use Rattle.nio_event.specs.Conditions.{IsKey, is_claimed}
+use Rattle.nio_base.specs.declared.numbers.SelNo.{SelNo}
+use Rattle.nio_event.specs.Conditions.{IsSelector, IsChannel, IsKey, is_made, is_claimed}
 use Rattle.nio_plan.specs.Calls.{View, PartTold}
 use Rattle.nio_plan.specs.Plan.{Plan, reply}
 use Rattle.nio_words.specs.Passes.{seen, state_seen, numbers_of, HoldSame, IsOnly, IsPassOf, limits_of}
@@ -29,7 +30,17 @@ pub record ComesTo {R : Type 0} (w : Words) (p q : Pass) (me : CallerNo) (plan r
 abbrev pub Calls : {R : Type 0} → Words → Pass → Pass → CallerNo → Plan R → R → Type 0
 Calls w p q me plan answer = ComesTo w p q me plan (reply answer)
 
--- the key's numbers are below the table's limits, and its making stands in what the pass has seen
+-- ---- what is passed to a call: its numbers are below the table's limits, and its making stands in
+-- what the pass has seen
+
+pub record HasSelector (w : Words) (p : Pass) (s : SelNo) : Type 0 where
+  pub inside : IsSelector (limits_of w) s
+  pub made : IsTrue ((state_seen p).selector s.0)
+
+pub record HasChannel (w : Words) (p : Pass) (c : ChanNo) : Type 0 where
+  pub inside : IsChannel (limits_of w) c
+  pub made : IsTrue (is_made (state_seen p) c)
+
 pub record HasKey (w : Words) (p : Pass) (k : KeyNo) : Type 0 where
   pub inside : IsKey (limits_of w) k.sel k.index
   pub claimed : IsTrue (is_claimed (state_seen p) k.sel k.index)
