@@ -35,7 +35,8 @@ pub fn interest_and(
     requires key { HasKey w.now p.old key }
     ensures { Calls w.now p.old p.new me (interest_and_plan key ops) result }
 {
-    if !valid(w.look_key(p, me, key.sel, key.index)) {
+    let stage = w.look_key(p, me, key.sel, key.index);
+    if !valid(stage) {
         return Err(KeyError::CancelledKey);
     }
     Ok(w.and_interest(p, me, key.sel, key.index, ops))
@@ -58,8 +59,8 @@ pub fn set_interest(
     if !valid(stage) {
         return Err(KeyError::CancelledKey);
     }
-    let found = w.look_channel(p, me, stage.chan);
-    if !supports(found.kind, ops) {
+    let channel = w.look_channel(p, me, stage.chan);
+    if !supports(channel.kind, ops) {
         return Err(KeyError::IllegalOps);
     }
     w.swap_interest(p, me, key.sel, key.index, ops);

@@ -15,8 +15,8 @@ returns-then-not-supports c =
     let valid : not (is_valid c.look_key-stage.result) ≡ false = search rules in
     let outside : not (is_within c.args.ops (valid_operations c.look_channel-found.result.kind)) ≡ true = search rules in
     left_ask _ c.look_key-stage.ensures c.look_key-stage.ensures.clause (left_else _ _ _ valid
-      (left_ask _ c.look_channel-found.ensures c.look_channel-found.ensures.clause (left_then _ _ _ outside
-        (left_after c.look_channel-found.ensures c.look_channel-found.ensures.clause))))
+    (left_ask _ c.look_channel-found.ensures c.look_channel-found.ensures.clause (left_then _ _ _ outside
+    (left_after c.look_channel-found.ensures c.look_channel-found.ensures.clause))))
 
 pub returns : goal.returns
 unfolding interest_or_plan
@@ -24,5 +24,5 @@ returns c =
     let valid : not (is_valid c.look_key-stage.result) ≡ false = search rules in
     let within : not (is_within c.args.ops (valid_operations c.look_channel-found.result.kind)) ≡ false = search rules in
     left_ask _ c.look_key-stage.ensures c.look_key-stage.ensures.clause (left_else _ _ _ valid
-      (left_ask _ c.look_channel-found.ensures c.look_channel-found.ensures.clause (left_else _ _ _ within
-        (left_ask _ c.or_interest.ensures c.or_interest.ensures.clause (left_after c.or_interest.ensures c.or_interest.ensures.clause)))))
+    (left_ask _ c.look_channel-found.ensures c.look_channel-found.ensures.clause (left_else _ _ _ within
+    (left_ask _ c.or_interest.ensures c.or_interest.ensures.clause (left_after c.or_interest.ensures c.or_interest.ensures.clause)))))
