@@ -15,4 +15,6 @@ mod finds;
 mod interests;
 mod selected;
 mod simple;
+#[cfg(test)]
+mod tests;
 mod valid;
