@@ -47,3 +47,6 @@ fn status(rt: &(impl Env + Input + Print + AllocGlobal), alloc: Global) -> Statu
 fn main(rt: HostRuntime) -> ExitCode {
     ExitCode::from(status(&rt, rt.alloc()).code())
 }
+
+#[cfg(test)]
+mod tests;
