@@ -1,5 +1,5 @@
 -- From the steps on the words to a call along its plan.
-use Rattle.std.proofs.Common.{◌≡◌, ◌≢◌, ℕ, ◌==◌, Bool, if◌then◌else◌, true, false, [], ◌∷◌, IsTrue, refl, ap, sym, ◌∙◌, eqb-true}
+use Rattle.std.proofs.Common.{◌≡◌, ◌==◌, Bool, if◌then◌else◌, true, false, [], ◌∷◌, refl, ap, ◌∙◌, eqb-true}
 use Rattle.std.specs.Int.{bit_at}
 use Rattle.nio_base.specs.declared.numbers.CallerNo.{CallerNo}
 use Rattle.nio_event.specs.Histories.{HistoryClause}
@@ -7,7 +7,7 @@ use Rattle.nio_event.specs.Questions.{Answer, question_of, answer_of}
 use Rattle.nio_event.specs.declared.act.Act.{Act}
 use Rattle.nio_keys.specs.Calls.{view, ComesTo}
 use Rattle.nio_plan.proofs.CallLaws.{left_start, left_ask as ask_on, left_then as then_on, left_else as else_on}
-use Rattle.nio_plan.specs.Calls.{Holds as HoldsView, StepTold}
+use Rattle.nio_plan.specs.Calls.{StepTold}
 use Rattle.nio_plan.specs.Plan.{Plan, ask}
 use Rattle.nio_words.specs.Passes.{seen, numbers_of, Holds, limits_of}
 use Rattle.nio_words.specs.Steps.{Steps}

@@ -1,5 +1,5 @@
 -- What a call on the table does.
-use Rattle.std.specs.Prelude.{ℕ, ◌==◌, IsTrue}
+use Rattle.std.specs.Prelude.{◌==◌, IsTrue}
 use Rattle.std.specs.Int.{bit_at}
 use Rattle.nio_base.specs.declared.numbers.CallerNo.{CallerNo}
 use Rattle.nio_base.specs.declared.numbers.ChanNo.{ChanNo}

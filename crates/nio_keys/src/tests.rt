@@ -3,7 +3,7 @@ ghost use Rattle.std.specs.Prelude.{◌≡◌, false, [], ◌∷◌, IfSome};
 ghost use Rattle.nio_event.specs.Histories.{event_of};
 ghost use Rattle.nio_event.specs.declared.act.Act.TheVariants.{DrawBit};
 ghost use Rattle.nio_event.specs.Conditions.{IsChannel, IsKey};
-ghost use Rattle.nio_keys.specs.Calls.{HasKey, HasSelector};
+ghost use Rattle.nio_keys.specs.Calls.{HasKey};
 ghost use Rattle.nio_words.specs.Passes.{IsReady, IsOnly, limits_of, seen};
 
 use crate::*;
@@ -53,6 +53,20 @@ fn publish_key(w: &Words, p: &mut Pass) -> Option<KeyNo>
         index: 0,
         serial: 0,
     })
+}
+
+/// The selector, the channel and the key of the first selector with this number.
+fn find_all(w: &Words, p: &mut Pass, number: u32) -> (Option<SelNo>, Option<ChanNo>, Option<KeyNo>)
+    requires { IsReady w.now p.old ME }
+    ensures { IsReady w.now p.new ME }
+{
+    let selector = find_selector(w, p, ME, number);
+    let channel = find_channel(w, p, ME, number);
+    let key = match find_selector(w, p, ME, 0) {
+        Some(first) => find(w, p, ME, first, number),
+        None => None,
+    };
+    (selector, channel, key)
 }
 
 /// A call on the key, and what it answers.
@@ -138,5 +152,28 @@ fn calls_on_a_key(rt: HostRuntime) -> Result<(), Fail> {
     for (call, told) in rows {
         assert_eq!(rt; answer(&words, &mut p, key, call), told);
     }
+    Ok(())
+}
+
+#[test]
+fn what_is_made_is_found(rt: HostRuntime) -> Result<(), Fail> {
+    let (words, mut p) = Words::make(rt.alloc(), SMALL)?;
+    words.draw(&mut p, ME)?;
+    let key = publish_key(&words, &mut p);
+    assert!(rt; key.is_some());
+    assert_eq!(rt;
+        find_all(&words, &mut p, 0),
+        (Some(SelNo(0)), Some(ChanNo(0)), key)
+    );
+    assert_eq!(rt;
+        find_all(&words, &mut p, 1),
+        (None, None, None),
+        "it isn't made"
+    );
+    assert_eq!(rt;
+        find_all(&words, &mut p, 2),
+        (None, None, None),
+        "no such number"
+    );
     Ok(())
 }

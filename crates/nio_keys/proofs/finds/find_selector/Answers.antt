@@ -1,4 +1,4 @@
-use Rattle.std.proofs.Common.{rules, ◌<◌}
+use Rattle.std.proofs.Common.{rules}
 use Rattle.nio_keys.proofs.Looked.{selector_made}
 use Rattle.nio_keys.proofs.finds.find_selector.Goals as goal
 

@@ -1,4 +1,3 @@
-use Rattle.nio_base.specs.declared.numbers.CallerNo.{CallerNo}
 use Rattle.nio_keys.specs.Calls.{HasKey}
 use Rattle.nio_words.specs.Passes.{IsReady}
 use Rattle.nio_keys.proofs.tests.calls_on_a_key.Given as goal
