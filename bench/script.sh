@@ -1,6 +1,6 @@
 #!/usr/bin/env bash
 # How long `nio script` takes for 16 MiB of `t1 selector` lines and for half of them, beside `sed` over
-# what it wrote, all in one run. The best of five of each.
+# what it wrote, all in one run. The best of fifteen of each.
 set -eu
 cd "$(dirname "$0")/.."
 . bench/timing.sh
