@@ -1,3 +1,4 @@
 pub mod Looked
 pub mod Bridge
 pub mod Stays
+pub mod Supported

@@ -54,23 +54,23 @@ interest_plan k = do
 abbrev pub is_within : ℕ → ℕ → Bool
 is_within these those = bit_and these those == these
 
-unfoldable pub set_interest_plan : KeyNo → ℕ → Plan (Result (Unit {0}) KeyError)
-set_interest_plan k ops = do
+-- how a call goes on with a key that it finds valid, and operations that the key's channel has
+abbrev pub if_supported : {A : Type 0} → KeyNo → ℕ → Plan (Result A KeyError) → Plan (Result A KeyError)
+if_supported k ops next = do
   stage ← look_key k.sel k.index
   if not (is_valid stage) then reply (Err CancelledKey) else do
     found ← look_channel stage.chan
-    if not (is_within ops (valid_operations found.kind)) then reply (Err IllegalOps) else do
-      swap_interest k.sel k.index ops
-      reply (Ok tt)
+    if not (is_within ops (valid_operations found.kind)) then reply (Err IllegalOps) else next
+
+unfoldable pub set_interest_plan : KeyNo → ℕ → Plan (Result (Unit {0}) KeyError)
+set_interest_plan k ops = if_supported k ops do
+  swap_interest k.sel k.index ops
+  reply (Ok tt)
 
 unfoldable pub interest_or_plan : KeyNo → ℕ → Plan (Result ℕ KeyError)
-interest_or_plan k ops = do
-  stage ← look_key k.sel k.index
-  if not (is_valid stage) then reply (Err CancelledKey) else do
-    found ← look_channel stage.chan
-    if not (is_within ops (valid_operations found.kind)) then reply (Err IllegalOps) else do
-      before ← or_interest k.sel k.index ops
-      reply (Ok before)
+interest_or_plan k ops = if_supported k ops do
+  before ← or_interest k.sel k.index ops
+  reply (Ok before)
 
 -- any operations are accepted
 unfoldable pub interest_and_plan : KeyNo → ℕ → Plan (Result ℕ KeyError)
