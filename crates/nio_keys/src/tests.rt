@@ -1,4 +1,4 @@
-//! Each call once with its answer, and once refused, on a key that bare steps publish.
+//! Each call once with its answer, and once refused, on a key that bare steps publish and select.
 ghost use Rattle.std.specs.Prelude.{◌≡◌, false, [], ◌∷◌, IfSome};
 ghost use Rattle.nio_event.specs.Histories.{event_of};
 ghost use Rattle.nio_event.specs.declared.act.Act.TheVariants.{DrawBit};
@@ -8,6 +8,7 @@ ghost use Rattle.nio_words.specs.Passes.{IsReady, IsOnly, limits_of, seen};
 
 use crate::*;
 use nio_base::{CallerNo, ChanNo, KeyNo, Kind, Limits, Ops, SelNo};
+use nio_event::Mark;
 use nio_words::{Pass, Words};
 use std::test::Fail;
 
@@ -22,8 +23,9 @@ const ME: CallerNo = CallerNo(0);
 
 const GONE: Told = Told::Set(Err(KeyError::CancelledKey));
 
-/// Publishes a key of a source in a table where nothing was done but a draw.
-fn publish_key(w: &Words, p: &mut Pass) -> Option<KeyNo>
+/// Publishes a key of a source, and selects it as ready for reading, in a table where nothing was done
+/// but a draw.
+fn select_key(w: &Words, p: &mut Pass) -> Option<KeyNo>
     requires ready { IsReady w.now p.old ME }
     requires only { IsOnly p.old }
     requires seen { seen p.old ≡ event_of ME (DrawBit ME false) ∷ [] }
@@ -48,6 +50,18 @@ fn publish_key(w: &Words, p: &mut Pass) -> Option<KeyNo>
         return None;
     }
     w.publish(p, ME, s, 0);
+    if w.take_turn(p, ME, s).is_some() {
+        return None;
+    }
+    if w.begin_look(p, ME, s).shut {
+        return None;
+    }
+    let unselected = Mark {
+        selected: false,
+        ready: Ops::NONE,
+    };
+    w.mark(p, ME, s, 0, unselected, Ops::READ).ok()?;
+    w.give_turn(p, ME, s);
     Some(KeyNo {
         sel: s,
         index: 0,
@@ -119,7 +133,7 @@ fn answer(w: &Words, p: &mut Pass, key: KeyNo, call: OnKey) -> Told
 fn calls_on_a_key(rt: HostRuntime) -> Result<(), Fail> {
     let (words, mut p) = Words::make(rt.alloc(), SMALL)?;
     words.draw(&mut p, ME)?;
-    let Some(key) = publish_key(&words, &mut p) else {
+    let Some(key) = select_key(&words, &mut p) else {
         panic!(rt; "nothing stands in the way of the key");
     };
     let rows = [
@@ -134,7 +148,8 @@ fn calls_on_a_key(rt: HostRuntime) -> Result<(), Fail> {
         (OnKey::And(Ops::of(254)), Told::Set(Ok(Ops::READ))),
         (OnKey::Or(Ops::READ), Told::Set(Ok(Ops::NONE))),
         (OnKey::Interest, Told::Set(Ok(Ops::READ))),
-        (OnKey::Ready, Told::Set(Ok(Ops::NONE))),
+        (OnKey::Ready, Told::Set(Ok(Ops::READ))),
+        (OnKey::Unselect, Told::Flag(true)),
         (OnKey::Unselect, Told::Flag(false)),
         (OnKey::Attach(7), Told::Number(0)),
         (OnKey::Attachment, Told::Number(7)),
@@ -159,7 +174,7 @@ fn calls_on_a_key(rt: HostRuntime) -> Result<(), Fail> {
 fn what_is_made_is_found(rt: HostRuntime) -> Result<(), Fail> {
     let (words, mut p) = Words::make(rt.alloc(), SMALL)?;
     words.draw(&mut p, ME)?;
-    let key = publish_key(&words, &mut p);
+    let key = select_key(&words, &mut p);
     assert!(rt; key.is_some());
     assert_eq!(rt;
         find_all(&words, &mut p, 0),
