@@ -10,7 +10,7 @@ use Rattle.std.proofs.lemmas.List.Sums.{fold-append, sum_by-append}
 use Rattle.nio_base.specs.declared.numbers.CallerNo.{CallerNo}
 use Rattle.nio_event.specs.Acts.{effect}
 use Rattle.nio_event.specs.Histories.{state_after, is_by, mine}
-use Rattle.nio_event.specs.OwnEvents.{has, count, first, last, since_from, since_first}
+use Rattle.nio_event.specs.OwnEvents.{has, count, last, since_from, since_first}
 use Rattle.nio_event.specs.State.{opening}
 use Rattle.nio_event.specs.declared.act.Act.{Act}
 use Rattle.nio_event.specs.declared.event.Event.{Event}
@@ -37,9 +37,6 @@ has-more p own act = list_any-append p own (act ∷ []) ∙ ap (λ b. has p own 
 
 pub count-more : (p : Act → Bool) (own : List Act) (act : Act) → count p (own ++ act ∷ []) ≡ count p own + (if p act then 1 else 0)
 count-more p own act = sum_by-append (λ a. cond (p a) 1 0) own (act ∷ []) ∙ ap (λ k. count p own + k) (zero-add (cond (p act) 1 0))
-
-pub first-more : {A : Type 0} (tells : Act → Option A) (own : List Act) (act : Act) → first tells (own ++ act ∷ []) ≡ option_or (first tells own) (tells act)
-first-more tells own act = fold-append (λ told act'. option_or told (tells act')) None own (act ∷ [])
 
 pub last-more : {A : Type 0} (tells : Act → Option A) (own : List Act) (act : Act) → last tells (own ++ act ∷ []) ≡ option_or (tells act) (last tells own)
 last-more tells own act = fold-append (λ told act'. option_or (tells act') told) None own (act ∷ [])

@@ -1,6 +1,6 @@
--- What each kind of step does to the state. A step changes the part that it names, and nothing
--- else; a step that only looks changes nothing. The lines stand in the order in which `Act` lists
--- the kinds.
+-- What each kind of step does to the state. A step changes the part that it names; taking and giving
+-- a turn, beginning, shutting and entering also keep who has begun, closes and has entered. Nothing
+-- else is changed. The lines stand in the order in which `Act` lists the kinds.
 use Rattle.std.specs.Prelude.{ℕ, max, true, false, not, ◌&&◌, ◌||◌, if◌then◌else◌, Option, Some, None, is_some, is_none, Result, Ok, Err, bit_and, bit_or}
 use Rattle.nio_base.specs.declared.kind.Kind.{Kind}
 use Rattle.nio_base.specs.declared.numbers.CallerNo.{CallerNo}

@@ -1,11 +1,13 @@
 -- When a caller may make each kind of step. The lines stand in the order in which `Act` lists the
 -- kinds.
 --
--- The numbers of a step are below the table's limits. What never goes back (made, claimed,
--- published, cancelled, removed), who has a turn or a hold, who has begun, closes or has entered,
--- and the channel of a claimed index are read in the state. That it claimed an index itself, and what
--- else the caller has to have found, is read in its own acts: the latter under its present hold, or
--- since it entered.
+-- The numbers of a step are below the table's limits; operations and attachments are of their types
+-- in `Act`, below 256 and below 2 ^ 64, of which no condition speaks.
+--
+-- Read in the state: what never goes back (made, claimed, published, cancelled), who has a turn or a
+-- hold, who has begun, closes or has entered, and the channel of a claimed index.
+-- Read in the caller's own acts: that it claimed an index itself; what it found under its present
+-- hold, among it that a noted key is outside the key set; what a closer found since it entered.
 use Rattle.std.specs.Prelude.{◌≡◌, ℕ, ◌==◌, ◌<◌, ◌≤◌, Bool, false, not, ◌&&◌, ◌||◌, Option, Some, None, is_some, List, IsTrue, ⊤}
 use Rattle.nio_base.specs.declared.limits.Limits.{Limits}
 use Rattle.nio_base.specs.declared.numbers.CallerNo.{CallerNo}
@@ -16,7 +18,7 @@ use Rattle.nio_event.specs.State.{State}
 use Rattle.nio_event.specs.declared.act.Act.{Act}
 use Rattle.nio_event.specs.declared.act.Act.TheVariants.{DrawBit, MakeSelector, LookSelectors, Wake, LookGate, SetInterrupt, TakeInterrupt, LookInterrupt, LookKey, CancelKey, LookInterest, SwapInterest, OrInterest, AndInterest, SwapNote, LookNote, MakeChannel, LookChannel, Claim, RaiseKeys, LookKeys, Publish, LookReg, Enrol, TakeTurn, BeginLook, GiveTurn, Remove, LookMark, Mark, UnselectBit, EndWake, LookChannels, RaiseChannels, TryHoldBit, Release, SetMode, CloseBit, ShutBit, Enter}
 
--- ---- the numbers
+-- ---- the numbers: below the limit, whether there is such a thing or not
 
 abbrev pub IsCaller : Limits → CallerNo → Type 0
 IsCaller l n = n.0 < l.callers
@@ -119,8 +121,8 @@ Condition l own st me (Publish s i found) =
     let c = channel_of st s i in
     IsKey l s i × IsTrue (is_some (last (claimed_for s.0 i) own)) × IsTrue (holds st me c) × IsTrue (has (finds_unblocked c.0) (under c.0 own))
 Condition l own st me (LookReg c s found) = IsChannel l c × IsSelector l s
--- the caller claimed i for c and holds c; the key noted before it found outside the key set, or
--- there was none
+-- the caller claimed i for c and holds c; the key that was noted till now, if any, it found outside
+-- the key set
 Condition l own st me (Enrol c s i found) =
     IsChannel l c × IsKey l s i × (last (claimed_for s.0 i) own ≡ Some c) × IsTrue (holds st me c) × IsTrue (is_clear c.0 s.0 own)
 Condition l own st me (TakeTurn s found) = IsSelector l s

@@ -1,5 +1,6 @@
 -- What a caller knows from its own acts: general words over the list of its acts, oldest first, and
--- small tests of one act. What is "found" is what a look found.
+-- small tests of one act. What is "found" is what a look found; of the key that is noted for a channel
+-- a caller knows too what it noted itself.
 use Rattle.std.specs.Prelude.{ℕ, ◌==◌, nat_lt, Bool, true, false, not, ◌&&◌, if◌then◌else◌, Option, Some, None, List, [], ◌∷◌, ◌++◌, fold, count_by}
 use Rattle.std.specs.List.{list_any}
 use Rattle.std.specs.Option.{option_or}
@@ -18,19 +19,15 @@ has p own = list_any p own
 abbrev pub count : (Act → Bool) → List Act → ℕ
 count p own = count_by p own
 
--- what the first act tells that tells anything
-abbrev pub first : {A : Type 0} → (Act → Option A) → List Act → Option A
-first tells own = fold (λ told act. option_or told (tells act)) None own
-
 -- what the last act tells that tells anything
 abbrev pub last : {A : Type 0} → (Act → Option A) → List Act → Option A
 last tells own = fold (λ told act. option_or (tells act) told) None own
 
--- what it did after the last act that opens a span
+-- what it did after the last act that opens a span, or all that it did where none does
 abbrev pub since_from : (Act → Bool) → List Act → List Act
 since_from opens own = fold (λ since act. if opens act then [] else since ++ act ∷ []) [] own
 
--- what it did after the first act that opens a span
+-- what it did after the first act that opens a span, or nothing where none does
 abbrev pub since_first : (Act → Bool) → List Act → List Act
 since_first opens [] = []
 since_first opens (act ∷ later) = if opens act then later else since_first opens later
@@ -42,7 +39,7 @@ abbrev pub takes_hold : ℕ → Act → Bool
 takes_hold c (TryHoldBit c' None) = c'.0 == c
 takes_hold c _ = false
 
--- what it did under its present hold of channel c
+-- what it did under its present hold of channel c, where it has it
 abbrev pub under : ℕ → List Act → List Act
 under c own = since_from (takes_hold c) own
 
@@ -100,13 +97,13 @@ releases c _ = false
 
 -- ---- a channel's noted key
 
--- it knows that no key of the key set is noted: none was noted, or the one that was it found
--- outside the key set
+-- by what it did under its hold, none was noted, or the key that was it found outside the key set. A
+-- key that it found not published it might publish itself after that look: no call does
 abbrev pub is_clear_by : ℕ → List Act → Option (Option ℕ) → Bool
 is_clear_by s held None = false
 is_clear_by s held (Some None) = true
 is_clear_by s held (Some (Some i)) = has (finds_outside s i) held
 
--- it knows that of channel c in selector s, by what it did under its present hold of c
+-- the same of channel c in selector s, under its present hold of c
 abbrev pub is_clear : ℕ → ℕ → List Act → Bool
 is_clear c s own = is_clear_by s (under c own) (last (noted_found c s) (under c own))

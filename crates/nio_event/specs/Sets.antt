@@ -12,7 +12,8 @@ in_key_set k = k.published && not k.removed
 abbrev pub in_cancelled_set : Stage → Bool
 in_cancelled_set k = in_key_set k && k.cancelled
 
--- a key is valid until it is cancelled, its channel is closed or its selector is closed
+-- a valid key is in the key set and isn't cancelled. Closing its channel cancels it, and closing its
+-- selector removes it
 abbrev pub is_valid : Stage → Bool
 is_valid k = in_key_set k && not k.cancelled
 

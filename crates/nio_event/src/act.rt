@@ -1,10 +1,10 @@
-//! The kinds of atomic step. Each step reads or changes one part of the shared state, at one
-//! moment, and finds what stood there before.
+//! The kinds of atomic step. Each step reads or changes one word of the shared table, at one moment.
 use crate::found::{Chan, GateWord, Mark, Stage};
 use nio_base::{CallerNo, ChanNo, Kind, Ops, SelNo};
 
 /// A step: its kind, its parameters in their order, and last what it found, which is its answer.
-/// A step that changes a part of the state finds what stood there before.
+/// A step that changes a part of the state finds what stood there before; giving a turn or a hold back
+/// finds nothing.
 #[derive(Clone, Copy, Debug)]
 pub enum Act {
     /// Draws a caller's number: whether it was drawn.
@@ -45,7 +45,7 @@ pub enum Act {
     LookChannel(ChanNo, Chan),
     /// Claims an index of a selector for a key of this channel: whether it was claimed.
     Claim(SelNo, u32, ChanNo, bool),
-    /// Raises a selector's keys' mark to this number, unless it is as high.
+    /// Raises a selector's keys' mark to this number, unless it is as high or higher.
     RaiseKeys(SelNo, u32, u32),
     /// Looks at a selector's keys' mark.
     LookKeys(SelNo, u32),
@@ -75,7 +75,7 @@ pub enum Act {
     EndWake(SelNo, GateWord),
     /// Looks at the channels' mark.
     LookChannels(u32),
-    /// Raises the channels' mark to this number, unless it is as high.
+    /// Raises the channels' mark to this number, unless it is as high or higher.
     RaiseChannels(u32, u32),
     /// Takes the hold of a channel, where nobody has it: who had it.
     TryHoldBit(ChanNo, Option<CallerNo>),
