@@ -28,8 +28,7 @@ pub fn condition_law()
 
 /// The state after a legal history is sound: an index below a selector's mark is claimed, what is
 /// held is made, a channel that isn't made and a key that isn't claimed are as they were at the
-/// opening, and more. And every number
-/// that it speaks of is within the limits.
+/// opening, and more. And every number that it speaks of is within the limits.
 pub fn soundness_law()
     ensures sound { StatesAreSound }
     ensures within { StatesAreWithin }
