@@ -20,6 +20,7 @@ pub mod TellingAt
 pub mod Calling
 pub mod ReachedSound
 pub mod ReachedRemoving
+pub mod ReachedChanges
 pub mod ReachedChannels
 pub mod ReachedRegistering
 pub mod ReachedCalls

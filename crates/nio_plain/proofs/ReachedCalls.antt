@@ -17,8 +17,9 @@ use Rattle.nio_event.specs.declared.found.Mode.{Mode}
 use Rattle.nio_event.specs.declared.reply.Reply.{Reply}
 use Rattle.nio_event.specs.declared.reply.Reply.TheVariants as reply
 use Rattle.nio_plain.proofs.Found.{found_below}
+use Rattle.nio_plain.proofs.ReachedChanges.{keeps_beside, keeps_woken, keeps_unselected, keeps_shut, keeps_left, keeps_cancelled_key}
 use Rattle.nio_plain.proofs.ReachedChannels.{keeps_selector, keeps_channel, keeps_mode, keeps_closed_channel}
-use Rattle.nio_plain.proofs.ReachedRegistering.{keeps_beside, keeps_woken, keeps_unselected, keeps_shut, keeps_left, keeps_cancelled_key, keeps_new_key}
+use Rattle.nio_plain.proofs.ReachedRegistering.{keeps_new_key}
 use Rattle.nio_plain.proofs.ReachedRemoving.{keeps_begun, keeps_ended, keeps_closed}
 use Rattle.nio_plain.proofs.ReachedSound.{Sound, Keeps, Stays, keeps_refused, same_stays, by_test}
 use Rattle.nio_plain.specs.Answer.{left_from}
