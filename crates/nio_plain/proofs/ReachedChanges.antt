@@ -12,7 +12,7 @@ use Rattle.nio_event.specs.declared.found.Mark.{Mark}
 use Rattle.nio_event.specs.declared.found.Stage.{Stage}
 use Rattle.nio_event.specs.declared.reply.Reply.{Reply}
 use Rattle.nio_plain.proofs.ReachedRemoving.{look-none}
-use Rattle.nio_plain.proofs.ReachedSound.{ClosingSound, LookSound, Sound, Keeps, Aged, here_or_there, aged-same, aged-cancelled, same_stays, keeps_cancelled}
+use Rattle.nio_plain.proofs.ReachedSound.{ClosingSound, LookSound, Sound, Keeps, Aged, here_or_there, aged-same, aged-cancelled, in_set-cancelled, same_stays, keeps_cancelled}
 use Rattle.nio_plain.specs.ScriptState.{ScriptState}
 use Rattle.nio_plain.specs.Seq.{answered, cancelled_key}
 
@@ -90,15 +90,11 @@ cancelled-in_set : (k : Stage) (b : Bool) → in_key_set k ≡ b → Aged k (con
 cancelled-in_set k true e = aged-cancelled k e
 cancelled-in_set k false e = aged-same k
 
-in_set-cancelled : (k : Stage) (b : Bool) → in_key_set k ≡ true → in_key_set (cond b (cancelled_key k) k) ≡ true
-in_set-cancelled k true h = h
-in_set-cancelled k false h = h
-
 pub keeps_cancelled_key : (l : Limits) (st : ScriptState) (r : Reply) (s i : ℕ) → Sound l st → Keeps l st (answered st r (with_key st.shared s i (cond (in_key_set (st.shared.key s i)) (cancelled_key (st.shared.key s i)) (st.shared.key s i))))
 keeps_cancelled_key l st r s i sound =
     let k = st.shared.key s i in
     let after = cond (in_key_set k) (cancelled_key k) k in
     keeps_cancelled l st r (put_at st.shared.key s i after)
     (λ t j. put_at_keeps (λ m n (x : Stage). Aged (st.shared.key m n) x) st.shared.key s i after (λ _. cancelled-in_set k (in_key_set k) refl) t j (aged-same (st.shared.key t j)))
-    (λ t j. put_at_keeps (λ m n (x : Stage). in_key_set x ≡ true) st.shared.key s i after (in_set-cancelled k (in_key_set k)) t j)
+    (λ t j. put_at_keeps (λ m n (x : Stage). in_key_set x ≡ true) st.shared.key s i after (in_set-cancelled (in_key_set k) k) t j)
     sound

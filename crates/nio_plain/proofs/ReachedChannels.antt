@@ -9,7 +9,7 @@ use Rattle.nio_event.specs.State.{State, put, with_selector, with_chan, with_cha
 use Rattle.nio_event.specs.declared.found.Chan.{Chan}
 use Rattle.nio_event.specs.declared.found.Stage.{Stage}
 use Rattle.nio_event.specs.declared.reply.Reply.{Reply}
-use Rattle.nio_plain.proofs.ReachedSound.{ChannelsSound, Sound, Keeps, Aged, aged-same, aged-cancelled, not_valid_cancelled, same_stays, keeps_cancelled}
+use Rattle.nio_plain.proofs.ReachedSound.{ChannelsSound, Sound, Keeps, Aged, aged-same, aged-cancelled, not_valid_cancelled, in_set-cancelled, same_stays, keeps_cancelled}
 use Rattle.nio_plain.proofs.Registered.{any-some, key_of-some, key_of-is}
 use Rattle.nio_plain.specs.ScriptState.{ScriptState}
 use Rattle.nio_plain.specs.Seq.{answered, key_of, is_key, is_registered, cancelled_key, with_keys_cancelled, channel_closed}
@@ -110,10 +110,6 @@ module _ (l : Limits) (st : ScriptState) (c : ℕ) where
           aged-cancelled (st.shared.key s i) (subst (λ (n : ℕ). in_key_set (st.shared.key s n) ≡ true) (eqb-true k i same) in_set)
       by_index false other = aged-same (st.shared.key s i)
 
-  in_set_at : (b : Bool) (k : Stage) → in_key_set k ≡ true → in_key_set (cond b (cancelled_key k) k) ≡ true
-  in_set_at true k h = h
-  in_set_at false k h = h
-
   -- no key of the channel is valid then
   not_valid_at : Sound l st → (s i : ℕ) → c ≡ (st.shared.key s i).chan.0 → is_valid (cancelled s i) ≡ true → ⊥
   not_valid_at sound s i of_channel valid =
@@ -127,27 +123,17 @@ module _ (l : Limits) (st : ScriptState) (c : ℕ) where
   pub keeps_closed_channel : (r : Reply) → Sound l st → Keeps l st (answered st r (channel_closed st.shared c))
   keeps_closed_channel r sound =
       let new : Chan = record (st.shared.chan c) { closed = true } in
-      let first = keeps_cancelled l st r cancelled (λ s i. cancelled_at s i (key_of closed c s) refl) (λ s i. in_set_at (is_key (key_of closed c s) i) (st.shared.key s i)) sound in
+      let without : ScriptState = record st { shared = record st.shared { key = cancelled } } in
+      let first = keeps_cancelled l st r cancelled (λ s i. cancelled_at s i (key_of closed c s) refl) (λ s i. in_set-cancelled (is_key (key_of closed c s) i) (st.shared.key s i)) sound in
       let channels = first.sound.keys.channels in
-      record {
-        sound = record {
-          keys = record {
-            selectors = first.sound.keys.selectors;
-            indexes = first.sound.keys.indexes;
-            notes = first.sound.keys.notes;
-            channels = record {
-              made = λ s i h. put_keeps (λ _ (x : Chan). x.made ≡ true) st.shared.chan c new (λ old. old) (cancelled s i).chan.0 (channels.made s i h);
-              non_blocking = λ s i h. put_keeps (λ _ (x : Chan). x.blocking ≡ false) st.shared.chan c new (λ old. old) (cancelled s i).chan.0 (channels.non_blocking s i h);
-              is_open = λ s i h.
-                  put_keeps (λ n (x : Chan). n ≡ (cancelled s i).chan.0 → x.closed ≡ false) st.shared.chan c new
-                  (λ _ of_channel. absurd (not_valid_at sound s i (of_channel ∙ ap (λ n. n.0) (cancelled_at s i (key_of closed c s) refl).chan) h))
-                  (cancelled s i).chan.0 (λ _. channels.is_open s i h) refl;
-            };
-            cancelled = first.sound.keys.cancelled;
-          };
-          selected = first.sound.selected;
-          closings = first.sound.closings;
-          looks = first.sound.looks;
-        };
-        stays = first.stays;
-      }
+      let second = keeps_channels l without r (put st.shared.chan c new) st.shared.channels_mark
+      (record {
+        made = λ s i h. put_keeps (λ _ (x : Chan). x.made ≡ true) st.shared.chan c new (λ old. old) (cancelled s i).chan.0 (channels.made s i h);
+        non_blocking = λ s i h. put_keeps (λ _ (x : Chan). x.blocking ≡ false) st.shared.chan c new (λ old. old) (cancelled s i).chan.0 (channels.non_blocking s i h);
+        is_open = λ s i h.
+            put_keeps (λ n (x : Chan). n ≡ (cancelled s i).chan.0 → x.closed ≡ false) st.shared.chan c new
+            (λ _ of_channel. absurd (not_valid_at sound s i (of_channel ∙ ap (λ n. n.0) (cancelled_at s i (key_of closed c s) refl).chan) h))
+            (cancelled s i).chan.0 (λ _. channels.is_open s i h) refl;
+      })
+      first.sound in
+      record { sound = second.sound; stays = first.stays }

@@ -175,6 +175,11 @@ aged-cancelled k in_set = record {
   cancelled = λ _ _. in_set;
 }
 
+-- a key that is cancelled stays in the key set
+pub in_set-cancelled : (b : Bool) (k : Stage) → in_key_set k ≡ true → in_key_set (cond b (cancelled_key k) k) ≡ true
+in_set-cancelled true k h = h
+in_set-cancelled false k h = h
+
 pub aged-removed : (k : Stage) → Aged k (removed_key k)
 aged-removed k = record {
   claimed = refl;
