@@ -18,3 +18,10 @@ pub mod Closing
 pub mod Telling
 pub mod TellingAt
 pub mod Calling
+pub mod ReachedSound
+pub mod ReachedRemoving
+pub mod ReachedChanges
+pub mod ReachedChannels
+pub mod ReachedRegistering
+pub mod ReachedCalls
+pub mod ReachedLaws

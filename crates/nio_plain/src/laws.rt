@@ -1,0 +1,7 @@
+//! Laws of the documented system. Each is the contract of a function that does nothing.
+mod reached;
+
+pub use reached::{
+    closed_channel_law, closed_selector_law, invalid_keys_law, key_of_channel_law, registered_law,
+    sets_law,
+};
