@@ -18,3 +18,8 @@ pub mod Closing
 pub mod Telling
 pub mod TellingAt
 pub mod Calling
+pub mod CallLawsCases
+pub mod CallLawsRefusals
+pub mod CallLawsMarks
+pub mod CallLawsLooked
+pub mod CallLawsWakeups

@@ -4,3 +4,4 @@ pub mod Answer
 pub mod PlainState
 pub mod Plain
 pub mod Naming
+pub mod CallLaws

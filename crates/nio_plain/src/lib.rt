@@ -4,6 +4,7 @@
 pub use plain::Plain;
 pub use system::System;
 
+pub mod laws;
 mod plain;
 mod system;
 #[cfg(test)]
