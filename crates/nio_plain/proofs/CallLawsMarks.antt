@@ -84,7 +84,7 @@ module _ (st : ScriptState) (me : CallerNo) (s i : ℕ) where
 
   changes : HoldsOfChanges st me Gains
   changes = record {
-    nothing = λ c r. same m (newly_told st me c s i);
+    nothing = λ c r _. same m (newly_told st me c s i);
     selector = λ _. same m 0;
     channel = λ _ _. same m 0;
     blocking = λ _ _. same m 0;
@@ -97,7 +97,7 @@ module _ (st : ScriptState) (me : CallerNo) (s i : ℕ) where
     iand = λ _ _ _. same m 0;
     unselect = λ t j. put_at_keeps (λ s' i' n. GainsOnly (st.shared.mark s' i') n 0) st.shared.mark t.0 j (unselected (st.shared.mark t.0 j)) after_unselecting s i (same m 0);
     attach = λ _ _ _. same m 0;
-    begin = λ t _ _. after_sweep _ (same m 0);
+    begin = λ t _ _ _. after_sweep _ (same m 0);
     told = λ t elapsed pairs selection count why own. after_sweep _ (after_told m s t.0 (own_selection st me) selection pairs i own);
     failed = λ _ _ _. same m 0;
     wakeup = λ _. same m 0;

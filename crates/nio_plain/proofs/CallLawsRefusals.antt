@@ -19,7 +19,7 @@ said false e = no_refusal e
 
 changes : (st : ScriptState) (me : CallerNo) → HoldsOfChanges st me (Keeps st)
 changes st me = record {
-  nothing = λ c r e. refl;
+  nothing = λ c r _ e. refl;
   selector = λ s. no_refusal;
   channel = λ kind c. no_refusal;
   blocking = λ c on. no_refusal;
@@ -32,7 +32,7 @@ changes st me = record {
   iand = λ s i ops. no_refusal;
   unselect = λ s i. no_refusal;
   attach = λ s i att. no_refusal;
-  begin = λ s waiting how. no_refusal;
+  begin = λ s waiting how free. no_refusal;
   told = λ s elapsed pairs selection count why own. no_refusal;
   failed = λ s selection own. no_refusal;
   wakeup = λ s. no_refusal;

@@ -1,67 +1,108 @@
--- A wakeup stays until a selection ends, and further ones change nothing until then.
-use Rattle.std.proofs.Common.{◌≡◌, ℕ, ◌==◌, nat_lt, Bool, true, false, cond, List, [], ◌∷◌, ◌++◌, refl, sym, ap, subst, ◌∙◌}
-use Rattle.std.proofs.lemmas.Bool.{eqb-false, lt-ltb}
+-- A wakeup stays until a selection ends, which uses it up, and further ones change nothing until then.
+use Rattle.std.proofs.Common.{◌≡◌, ℕ, ◌==◌, nat_lt, Bool, true, false, cond, not, ◌&&◌, ◌||◌, ⊎_elim, List, [], ◌∷◌, ◌++◌, refl, sym, ap, ◌∙◌}
+use Rattle.std.proofs.lemmas.Bool.{cases_eq, and_from, or_left, or_right, eq-eqb, ne_eqb, lt-ltb}
 use Rattle.nio_base.specs.declared.limits.Limits.{Limits}
 use Rattle.nio_base.specs.declared.numbers.CallerNo.{CallerNo}
 use Rattle.nio_base.specs.declared.numbers.SelNo.{SelNo}
-use Rattle.nio_event.proofs.Put.{put-same, put_keeps}
-use Rattle.nio_event.specs.State.{with_gate}
+use Rattle.nio_event.proofs.Put.{put-same}
+use Rattle.nio_event.specs.State.{put, with_gate}
 use Rattle.nio_event.specs.declared.call.Call.{Call}
 use Rattle.nio_event.specs.declared.call.Call.TheVariants as call
 use Rattle.nio_event.specs.declared.call.ScriptCall.{ScriptCall}
 use Rattle.nio_event.specs.declared.found.GateWord.{GateWord}
+use Rattle.nio_event.specs.declared.reply.Reply.{Reply}
 use Rattle.nio_event.specs.declared.reply.Reply.TheVariants as reply
-use Rattle.nio_plain.proofs.CallLawsCases.{HoldsOfChanges, holds_of_calls}
-use Rattle.nio_plain.proofs.Places.{put-elsewhere, put_same}
+use Rattle.nio_plain.proofs.CallLawsCases.{may_keep, HoldsOfChanges, holds_of_calls}
+use Rattle.nio_plain.proofs.Places.{put-elsewhere, put_same, put_kept}
 use Rattle.nio_plain.specs.Answer.{left_from}
-use Rattle.nio_plain.specs.CallLaws.{is_woken, is_end, WakeupsStay, FurtherWakeupsChangeNothing, WakeupsAreAnswered, NoneEnds, WakeupsActAsOne}
+use Rattle.nio_plain.specs.CallLaws.{is_woken, is_wakeup, is_end, WakeupsArePending, FurtherWakeupsChangeNothing, WakeupsAreAnswered, NoneEnds, WakeupsActAsOne}
 use Rattle.nio_plain.specs.ScriptState.{ScriptState}
 use Rattle.nio_plain.specs.Seq.{Answered, answered, refused, wakeup_call, call_of, seq}
 
--- it stays through each call
+-- no wakeup and no end
+kept : (w : Bool) → w ≡ (false || (w && not false))
+kept true = refl
+kept false = refl
+
+used_up : (w : Bool) → false ≡ (false || (w && not true))
+used_up true = refl
+used_up false = refl
+
+-- a call that changes nothing was neither a wakeup nor the end of a selection
+no_wakeup : (s : ℕ) (c : Call) (r : Reply) → may_keep r ≡ true → is_wakeup s c r ≡ false
+no_wakeup s (call.Wakeup t) reply.«Ok» keeps = absurd cc
+no_wakeup s _ _ keeps = refl
+
+no_end : (s : ℕ) (c : Call) (r : Reply) → may_keep r ≡ true → is_end s c r ≡ false
+no_end s (call.Told t elapsed pairs) (reply.Selected count why) keeps = absurd cc
+no_end s _ _ keeps = refl
+
 module _ (st : ScriptState) (me : CallerNo) (s : ℕ) where
-  abbrev Stays : Call → Answered → Type 0
-  Stays c done = is_end s c done.reply ≡ false → is_woken st s ≡ true → is_woken done.left s ≡ true
+  abbrev Pending : Call → Answered → Type 0
+  Pending c done = is_woken done.left s ≡ (is_wakeup s c done.reply || (is_woken st s && not (is_end s c done.reply)))
 
-  as_before : {P : Type 0} → P → is_woken st s ≡ true → is_woken st s ≡ true
-  as_before _ h = h
+  abbrev w : Bool
+  w = is_woken st s
 
-  -- the gate of a selector is changed and isn't less woken than before
-  at_gate : {P : Type 0} (t : ℕ) (g : GateWord) → ((st.shared.gate t).woken ≡ true → g.woken ≡ true) → P → is_woken st s ≡ true → ((with_gate st.shared t g).gate s).woken ≡ true
-  at_gate t g new _ h = put_keeps (λ _ x. x.woken ≡ true) st.shared.gate t g new s h
+  same : w ≡ (false || (w && not false))
+  same = kept w
 
-  -- a selection of another selector ended
-  elsewhere : (t : ℕ) (g : GateWord) → (t == s) ≡ false → is_woken st s ≡ true → ((with_gate st.shared t g).gate s).woken ≡ true
-  elsewhere t g other h =
-      ap (λ (x : GateWord). x.woken) (put-elsewhere st.shared.gate t s g (λ e. eqb-false t s other (sym e))) ∙ h
+  nothing : (c : Call) (r : Reply) → may_keep r ≡ true → Pending c (refused st r)
+  nothing c r keeps =
+      same ∙ (ap (λ b. b || (w && not false)) (sym (no_wakeup s c r keeps)) ∙ ap (λ b. is_wakeup s c r || (w && not b)) (sym (no_end s c r keeps)))
 
-  changes : HoldsOfChanges st me Stays
+  -- a gate that is woken where its selector is this one, and one that isn't
+  by_wakeup : (t : ℕ) → (put st.shared.gate t (record (st.shared.gate t) { woken = true }) s).woken ≡ ((t == s) || (w && not false))
+  by_wakeup t =
+      let gate : GateWord = record (st.shared.gate t) { woken = true } in
+      ⊎_elim
+      (λ (e : s ≡ t).
+      ap (λ (g : GateWord). g.woken) (ap (put st.shared.gate t gate) e ∙ put-same st.shared.gate t gate) ∙ ap (λ b. b || (w && not false)) (sym (eq-eqb t s (sym e))))
+      (λ (ne : s ≡ t → ⊥).
+      ap (λ (g : GateWord). g.woken) (put-elsewhere st.shared.gate t s gate ne) ∙ (same ∙ ap (λ b. b || (w && not false)) (sym (ne_eqb t s (λ e. ne (sym e))))))
+      (cases_eq s t)
+
+  by_end : (t : ℕ) → (put st.shared.gate t (record (st.shared.gate t) { woken = false }) s).woken ≡ (false || (w && not (t == s)))
+  by_end t =
+      let gate : GateWord = record (st.shared.gate t) { woken = false } in
+      ⊎_elim
+      (λ (e : s ≡ t).
+      ap (λ (g : GateWord). g.woken) (ap (put st.shared.gate t gate) e ∙ put-same st.shared.gate t gate) ∙ (used_up w ∙ ap (λ b. false || (w && not b)) (sym (eq-eqb t s (sym e)))))
+      (λ (ne : s ≡ t → ⊥).
+      ap (λ (g : GateWord). g.woken) (put-elsewhere st.shared.gate t s gate ne) ∙ (same ∙ ap (λ b. false || (w && not b)) (sym (ne_eqb t s (λ e. ne (sym e))))))
+      (cases_eq s t)
+
+  by_close : (t : ℕ) → (put st.shared.gate t (record (st.shared.gate t) { shut = true }) s).woken ≡ (false || (w && not false))
+  by_close t =
+      put_kept (λ (g : GateWord). g.woken) st.shared.gate t (record (st.shared.gate t) { shut = true }) s refl ∙ same
+
+  changes : HoldsOfChanges st me Pending
   changes = record {
-    nothing = λ _ _. as_before;
-    selector = λ _. as_before;
-    channel = λ _ _. as_before;
-    blocking = λ _ _. as_before;
-    register = λ _ _ _ _ _ _. as_before;
-    register_again = λ _ _ _ _ _ _. as_before;
-    closec = λ _. as_before;
-    cancel = λ _ _. as_before;
-    iset = λ _ _ _. as_before;
-    ior = λ _ _ _. as_before;
-    iand = λ _ _ _. as_before;
-    unselect = λ _ _. as_before;
-    attach = λ _ _ _. as_before;
-    begin = λ _ _ _. as_before;
-    told = λ t _ _ _ _ _ _. elsewhere t.0 (record (st.shared.gate t.0) { woken = false });
-    failed = λ _ _ _. as_before;
-    wakeup = λ t. at_gate t.0 (record (st.shared.gate t.0) { woken = true }) (λ _. refl);
-    close = λ t. at_gate t.0 (record (st.shared.gate t.0) { shut = true }) (λ h. h);
-    close_end = λ _. as_before;
-    interrupt = λ _. as_before;
-    interrupted = as_before;
+    nothing = nothing;
+    selector = λ _. same;
+    channel = λ _ _. same;
+    blocking = λ _ _. same;
+    register = λ _ _ _ _ _ _. same;
+    register_again = λ _ _ _ _ _ _. same;
+    closec = λ _. same;
+    cancel = λ _ _. same;
+    iset = λ _ _ _. same;
+    ior = λ _ _ _. same;
+    iand = λ _ _ _. same;
+    unselect = λ _ _. same;
+    attach = λ _ _ _. same;
+    begin = λ _ _ _ _. same;
+    told = λ t _ _ _ _ _ _. by_end t.0;
+    failed = λ _ _ _. same;
+    wakeup = λ t. by_wakeup t.0;
+    close = λ t. by_close t.0;
+    close_end = λ _. same;
+    interrupt = λ _. same;
+    interrupted = same;
   }
 
-pub wakeups_stay : WakeupsStay
-wakeups_stay l st me c s = holds_of_calls l st me (Stays st me s) (changes st me s) c
+pub wakeups_are_pending : WakeupsArePending
+wakeups_are_pending l st me c s = holds_of_calls l st me (Pending st me s) (changes st me s) c
 
 -- a wakeup, by whether there are its caller and its selector
 module _ (st : ScriptState) (s : SelNo) where
@@ -74,11 +115,6 @@ module _ (st : ScriptState) (s : SelNo) where
   wakeup-is : (l : Limits) (me : CallerNo) → seq l st me (call.Wakeup s) ≡ by_names (nat_lt me.0 l.callers) (st.shared.selector s.0)
   unfolding seq call_of wakeup_call
   wakeup-is l me = refl
-
-  woken_after : (a b : Bool) → (by_names a b).reply ≡ reply.«Ok» → is_woken (by_names a b).left s.0 ≡ true
-  woken_after true true e = ap (λ (g : GateWord). g.woken) (put-same st.shared.gate s.0 (record (st.shared.gate s.0) { woken = true }))
-  woken_after true false e = absurd cc
-  woken_after false b e = absurd cc
 
   woken_as_before : is_woken st s.0 ≡ true → (a b : Bool) → (by_names a b).left ≡ st
   woken_as_before h true true =
@@ -100,11 +136,6 @@ pub further_wakeups_change_nothing : FurtherWakeupsChangeNothing
 further_wakeups_change_nothing l st me s h =
     ap (λ (a : Answered). a.left) (wakeup-is st s l me) ∙ woken_as_before st s h (nat_lt me.0 l.callers) (st.shared.selector s.0)
 
-woken_by : (l : Limits) (st : ScriptState) (me : CallerNo) (s : SelNo) → (seq l st me (call.Wakeup s)).reply ≡ reply.«Ok» → is_woken (seq l st me (call.Wakeup s)).left s.0 ≡ true
-woken_by l st me s ok =
-    let e = wakeup-is st s l me in
-    ap (λ (a : Answered). is_woken a.left s.0) e ∙ woken_after st s (nat_lt me.0 l.callers) (st.shared.selector s.0) (sym (ap (λ (a : Answered). a.reply) e) ∙ ok)
-
 -- over lists of calls
 left_from-append : (l : Limits) (st : ScriptState) (xs ys : List ScriptCall) → left_from l st (xs ++ ys) ≡ left_from l (left_from l st xs) ys
 left_from-append l st [] ys = refl
@@ -113,14 +144,16 @@ left_from-append l st (x ∷ xs) ys = left_from-append l (seq l st x.caller x.ca
 stays_through : (l : Limits) (st : ScriptState) (s : ℕ) (calls : List ScriptCall) → NoneEnds l st s calls → is_woken st s ≡ true → is_woken (left_from l st calls) s ≡ true
 stays_through l st s [] none h = h
 stays_through l st s (c ∷ calls) none h =
-    stays_through l (seq l st c.caller c.call).left s calls none.1 (wakeups_stay l st c.caller c.call s none.0 h)
+    let done = seq l st c.caller c.call in
+    let stays : (is_woken st s && not (is_end s c.call done.reply)) ≡ true = and_from (is_woken st s) (not (is_end s c.call done.reply)) h (ap not none.0) in
+    stays_through l done.left s calls none.1
+    (wakeups_are_pending l st c.caller c.call s ∙ or_right (is_wakeup s c.call done.reply) (is_woken st s && not (is_end s c.call done.reply)) stays)
 
 pub wakeups_act_as_one : WakeupsActAsOne
 wakeups_act_as_one l st s first further between later wakeup none called =
-    let st' = (seq l st first.caller first.call).left in
-    let mid = left_from l st' between in
-    let woken : is_woken st' s.0 ≡ true = subst (λ (c : Call). is_woken (seq l st first.caller c).left s.0 ≡ true) (sym wakeup.called)
-    (woken_by l st first.caller s (sym (ap (λ c. (seq l st first.caller c).reply) wakeup.called) ∙ wakeup.answered)) in
-    let pending = stays_through l st' s.0 between none.1 woken in
+    let done = seq l st first.caller first.call in
+    let mid = left_from l done.left between in
+    let woken : is_woken done.left s.0 ≡ true = wakeups_are_pending l st first.caller first.call s.0 ∙ or_left (is_wakeup s.0 first.call done.reply) (is_woken st s.0 && not (is_end s.0 first.call done.reply)) wakeup in
+    let pending = stays_through l done.left s.0 between none.1 woken in
     let same : (seq l mid further.caller further.call).left ≡ mid = ap (λ c. (seq l mid further.caller c).left) called ∙ further_wakeups_change_nothing l mid further.caller s pending in
-    left_from-append l st' between (further ∷ later) ∙ (ap (λ x. left_from l x later) same ∙ sym (left_from-append l st' between later))
+    left_from-append l done.left between (further ∷ later) ∙ (ap (λ x. left_from l x later) same ∙ sym (left_from-append l done.left between later))

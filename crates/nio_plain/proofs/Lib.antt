@@ -21,5 +21,5 @@ pub mod Calling
 pub mod CallLawsCases
 pub mod CallLawsRefusals
 pub mod CallLawsMarks
-pub mod CallLawsLooked
+pub mod CallLawsSelections
 pub mod CallLawsWakeups

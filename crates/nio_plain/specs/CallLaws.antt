@@ -1,7 +1,7 @@
 -- Laws of one call, and of the calls between two wakeups: for all limits, from every state, also from
 -- those that no script reaches. They follow from the documented system, and say what a reader may rely
 -- on without going through its calls.
-use Rattle.std.specs.Prelude.{◌≡◌, ◌≢◌, ◌⊎◌, ℕ, ◌<◌, ◌==◌, Bool, true, false, if◌then◌else◌, Option, Some, None, List, [], ◌∷◌, ◌++◌, IsTrue, IsFalse}
+use Rattle.std.specs.Prelude.{◌≡◌, ◌≢◌, ◌⊎◌, ℕ, ◌<◌, ◌==◌, Bool, true, false, not, ◌&&◌, ◌||◌, if◌then◌else◌, Option, Some, None, List, [], ◌∷◌, ◌++◌, IsTrue, IsFalse}
 use Rattle.std.specs.Int.{bit_at}
 use Rattle.std.specs.List.{All, Contains}
 use Rattle.nio_base.specs.declared.limits.Limits.{Limits}
@@ -116,22 +116,40 @@ LookedIsAnswered = (l : Limits) (st : ScriptState) (me : CallerNo) (c : Call) (s
     → (seq l st me c).left.selection s ≡ Some selection
     → (st.selection s ≡ Some selection) ⊎ IsBegunBy me c (seq l st me c) s selection
 
+-- a selection of the selector ended in the call
+abbrev pub is_end : ℕ → Call → Reply → Bool
+is_end s (call.Told t elapsed pairs) (reply.Selected count why) = t.0 == s
+is_end s _ _ = false
+
+-- the same, or it was left after a failed poll
+abbrev pub is_over : ℕ → Call → Reply → Bool
+is_over s (call.Failed t) reply.Left = t.0 == s
+is_over s c r = is_end s c r
+
+-- a caller's own selection stays so, as it is, until the caller itself makes the call in which it is over
+abbrev pub OnlyItselfEndsASelection : Type 0
+OnlyItselfEndsASelection = (l : Limits) (st : ScriptState) (me other : CallerNo) (c : Call) (s : ℕ) (selection : Selection)
+    → own_selection st me s ≡ Some selection → let done = seq l st other c in
+    (own_selection done.left me s ≡ Some selection) ⊎ ((other.0 ≡ me.0) × IsTrue (is_over s c done.reply))
+
 -- WAKEUPS
 
 abbrev pub is_woken : ScriptState → ℕ → Bool
 is_woken st s = (st.shared.gate s).woken
 
--- a selection of the selector ended in this call
-abbrev pub is_end : ℕ → Call → Reply → Bool
-is_end s (call.Told t elapsed pairs) (reply.Selected count why) = t.0 == s
-is_end s _ _ = false
+-- the call was a wakeup of the selector, answered `ok`
+abbrev pub is_wakeup : ℕ → Call → Reply → Bool
+is_wakeup s (call.Wakeup t) reply.«Ok» = t.0 == s
+is_wakeup s _ _ = false
 
--- a pending wakeup stays until a selection of its selector ends
-abbrev pub WakeupsStay : Type 0
-WakeupsStay = (l : Limits) (st : ScriptState) (me : CallerNo) (c : Call) (s : ℕ)
-    → IsFalse (is_end s c (seq l st me c).reply) → IsTrue (is_woken st s) → IsTrue (is_woken (seq l st me c).left s)
+-- a wakeup is pending after a call exactly where the call was one, or where one was pending before and
+-- no selection of its selector ended in the call
+abbrev pub WakeupsArePending : Type 0
+WakeupsArePending = (l : Limits) (st : ScriptState) (me : CallerNo) (c : Call) (s : ℕ)
+    → let done = seq l st me c in
+    is_woken done.left s ≡ (is_wakeup s c done.reply || (is_woken st s && not (is_end s c done.reply)))
 
--- while it is pending a further one, of any caller, leaves the state as it is
+-- while one is pending a further wakeup, of any caller, leaves the state as it is
 abbrev pub FurtherWakeupsChangeNothing : Type 0
 FurtherWakeupsChangeNothing = (l : Limits) (st : ScriptState) (me : CallerNo) (s : SelNo)
     → IsTrue (is_woken st s.0) → (seq l st me (call.Wakeup s)).left ≡ st
@@ -148,14 +166,10 @@ NoneEnds l st s (c ∷ calls) =
     let done = seq l st c.caller c.call in
     IsFalse (is_end s c.call done.reply) × NoneEnds l done.left s calls
 
--- a wakeup of the selector, answered `ok`
-pub record IsWakeup (l : Limits) (st : ScriptState) (s : SelNo) (c : ScriptCall) : Type 0 where
-  pub called : c.call ≡ call.Wakeup s
-  pub answered : (seq l st c.caller c.call).reply ≡ reply.«Ok»
-
 -- several wakeups act as one: after a wakeup, and calls in which no selection of its selector ends, a
 -- further one may be left out, and all later calls leave the same state
 abbrev pub WakeupsActAsOne : Type 0
 WakeupsActAsOne = (l : Limits) (st : ScriptState) (s : SelNo) (first further : ScriptCall) (between later : List ScriptCall)
-    → IsWakeup l st s first → NoneEnds l st s.0 (first ∷ between) → further.call ≡ call.Wakeup s
+    → IsTrue (is_wakeup s.0 first.call (seq l st first.caller first.call).reply) → NoneEnds l st s.0 (first ∷ between)
+    → further.call ≡ call.Wakeup s
     → left_from l st (first ∷ between ++ further ∷ later) ≡ left_from l st (first ∷ between ++ later)

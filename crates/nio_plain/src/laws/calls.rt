@@ -1,5 +1,5 @@
 //! Laws of one call, and of the calls between two wakeups.
-ghost use Rattle.nio_plain.specs.CallLaws.{RefusalsChangeNothing, OnlyToldBitsAreSelected, BitsAreToldAndLookedFor, LookedIsAnswered, WakeupsStay, FurtherWakeupsChangeNothing, WakeupsAreAnswered, WakeupsActAsOne};
+ghost use Rattle.nio_plain.specs.CallLaws.{RefusalsChangeNothing, OnlyToldBitsAreSelected, BitsAreToldAndLookedFor, LookedIsAnswered, OnlyItselfEndsASelection, WakeupsArePending, FurtherWakeupsChangeNothing, WakeupsAreAnswered, WakeupsActAsOne};
 
 /// A refused call changes nothing.
 pub fn refusals_law()
@@ -13,15 +13,17 @@ pub fn told_law()
     ensures bits { BitsAreToldAndLookedFor }
 {}
 
-/// A selection in progress looks at what its `begin` answered: the valid keys with their interests.
-pub fn looked_law()
-    ensures { LookedIsAnswered }
+/// A selection in progress looks at what its `begin` answered, the valid keys with their interests, and
+/// stays so until its own caller ends it.
+pub fn selections_law()
+    ensures begun { LookedIsAnswered }
+    ensures stay { OnlyItselfEndsASelection }
 {}
 
-/// A pending wakeup stays until a selection of its selector ends, and further ones change nothing until
-/// then: several wakeups act as one.
+/// A wakeup stays until a selection of its selector ends, which uses it up, and further ones change
+/// nothing until then: several wakeups act as one.
 pub fn wakeups_law()
-    ensures stay { WakeupsStay }
+    ensures pending { WakeupsArePending }
     ensures further { FurtherWakeupsChangeNothing }
     ensures answered { WakeupsAreAnswered }
     ensures one { WakeupsActAsOne }

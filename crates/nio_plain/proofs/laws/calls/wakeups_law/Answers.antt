@@ -1,8 +1,8 @@
-use Rattle.nio_plain.proofs.CallLawsWakeups.{wakeups_stay, further_wakeups_change_nothing, wakeups_are_answered, wakeups_act_as_one}
+use Rattle.nio_plain.proofs.CallLawsWakeups.{wakeups_are_pending, further_wakeups_change_nothing, wakeups_are_answered, wakeups_act_as_one}
 use Rattle.nio_plain.proofs.laws.calls.wakeups_law.Goals as goal
 
-pub returns-clause-stay : goal.returns-clause-stay
-returns-clause-stay c = wakeups_stay
+pub returns-clause-pending : goal.returns-clause-pending
+returns-clause-pending c = wakeups_are_pending
 
 pub returns-clause-further : goal.returns-clause-further
 returns-clause-further c = further_wakeups_change_nothing

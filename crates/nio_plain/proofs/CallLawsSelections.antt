@@ -1,6 +1,7 @@
--- A selection in progress was begun by a `begin`, and looks at what was answered.
-use Rattle.std.proofs.Common.{◌≡◌, ◌⊎◌, ℕ, zero, suc, ◌<◌, ◌==◌, nat_lt, Bool, true, false, cond, not, ◌&&◌, Some, None, List, [], ◌∷◌, ◌++◌, map, length, get_or, refl, sym, ap, subst, ◌∙◌, inl, inr, ⊎_elim, arith, eq-eqb, lt-ltb}
-use Rattle.std.proofs.lemmas.Bool.{cases_eq, cond-true, true≢false}
+-- A selection in progress was begun by a `begin`, looks at what was answered, and stays so until its
+-- own caller ends it.
+use Rattle.std.proofs.Common.{◌≡◌, ◌⊎◌, ℕ, zero, suc, ◌<◌, ◌==◌, nat_lt, Bool, true, false, cond, not, ◌&&◌, Option, Some, None, is_some, List, [], ◌∷◌, ◌++◌, map, length, get_or, refl, sym, ap, subst, ◌∙◌, inl, inr, ⊎_elim, arith, eq-eqb, eqb-true, lt-ltb}
+use Rattle.std.proofs.lemmas.Bool.{cases_eq, cond-true, true≢false, both_ways}
 use Rattle.std.proofs.lemmas.List.{get_or-map, length-map}
 use Rattle.std.proofs.lemmas.List.Elements.{All-map, All-filter, All-push, All-nil, All-weaker, filter_passes, Contains-push, Contains-append_left}
 use Rattle.std.specs.List.{All, Contains, filter}
@@ -16,9 +17,9 @@ use Rattle.nio_event.specs.declared.found.Mode.{Mode}
 use Rattle.nio_event.specs.declared.found.Stage.{Stage}
 use Rattle.nio_plain.proofs.CallLawsCases.{HoldsOfChanges, holds_of_calls}
 use Rattle.nio_plain.proofs.Places.{put-elsewhere}
-use Rattle.nio_plain.specs.CallLaws.{IsBegunBy, LookedIsAnswered}
+use Rattle.nio_plain.specs.CallLaws.{IsBegunBy, LookedIsAnswered, is_over, OnlyItselfEndsASelection}
 use Rattle.nio_plain.specs.ScriptState.{ScriptState, Selection}
-use Rattle.nio_plain.specs.Seq.{Answered, below, removed_key, without_cancelled, looked_keys, selection_begun, is_caller}
+use Rattle.nio_plain.specs.Seq.{Answered, below, removed_key, without_cancelled, looked_keys, selection_begun, is_caller, own_selection}
 
 -- the numbers below n
 below_all : (n : ℕ) → All (λ i. i < n) (below n)
@@ -155,7 +156,7 @@ module _ (st : ScriptState) (me : CallerNo) (s : ℕ) (selection : Selection) wh
 
   changes : HoldsOfChanges st me Begun
   changes = record {
-    nothing = λ _ _. before;
+    nothing = λ _ _ _. before;
     selector = λ _. before;
     channel = λ _ _. before;
     blocking = λ _ _. before;
@@ -168,7 +169,7 @@ module _ (st : ScriptState) (me : CallerNo) (s : ℕ) (selection : Selection) wh
     iand = λ _ _ _. before;
     unselect = λ _ _. before;
     attach = λ _ _ _. before;
-    begin = by_begin;
+    begin = λ t waiting how _. by_begin t waiting how;
     told = λ t _ _ _ _ _ _ e. inl (over t.0 e);
     failed = λ t _ _ e. inl (over t.0 e);
     wakeup = λ _. before;
@@ -180,3 +181,79 @@ module _ (st : ScriptState) (me : CallerNo) (s : ℕ) (selection : Selection) wh
 
 pub looked_is_answered : LookedIsAnswered
 looked_is_answered l st me c s selection = holds_of_calls l st me (Begun st me s selection) (changes st me s selection) c
+
+-- whoever has the turn
+some_caller : (me : CallerNo) (o : Option CallerNo) → is_caller me o ≡ true → is_some o ≡ true
+some_caller me None h = absurd cc
+some_caller me (Some x) h = refl
+
+one_caller : (me other : CallerNo) (o : Option CallerNo) → is_caller me o ≡ true → is_caller other o ≡ true → other.0 ≡ me.0
+one_caller me other None h k = absurd cc
+one_caller me other (Some x) h k = sym (eqb-true x.0 other.0 k) ∙ eqb-true x.0 me.0 h
+
+-- the caller of an own selection has the turn
+has_turn : {selection : Selection} (b : Bool) (o : Option Selection) → cond b o None ≡ Some selection → b ≡ true
+has_turn true o e = refl
+has_turn false o e = absurd cc
+
+module _ (st : ScriptState) (me other : CallerNo) (s : ℕ) (selection : Selection) (own : own_selection st me s ≡ Some selection) where
+  abbrev Stays : Call → Answered → Type 0
+  Stays c done = (own_selection done.left me s ≡ Some selection) ⊎ ((other.0 ≡ me.0) × (is_over s c done.reply ≡ true))
+
+  turn : is_caller me (st.shared.turn s) ≡ true
+  turn = has_turn (is_caller me (st.shared.turn s)) (st.selection s) own
+
+  stays : {A : Type 0} → (own_selection st me s ≡ Some selection) ⊎ A
+  stays = inl own
+
+  -- what changes at another selector
+  elsewhere : (t : ℕ) (o : Option CallerNo) (x : Option Selection) → (s ≡ t → ⊥) → cond (is_caller me (put st.shared.turn t o s)) (put st.selection t x s) None ≡ Some selection
+  elsewhere t o x ne =
+      ap (λ (c : Option CallerNo). cond (is_caller me c) (put st.selection t x s) None) (put-elsewhere st.shared.turn t s o ne)
+      ∙ (ap (λ (y : Option Selection). cond (is_caller me (st.shared.turn s)) y None) (put-elsewhere st.selection t s x ne) ∙ own)
+
+  begins : (t : SelNo) (waiting : Waiting) (how : Mode) → is_some (st.shared.turn t.0) ≡ false → Stays (call.Begin t waiting) (selection_begun st other t.0 how)
+  begins t waiting how free =
+      ⊎_elim
+      (λ (e : s ≡ t.0). absurd (both_ways (is_some (st.shared.turn t.0)) free (some_caller me (st.shared.turn t.0) (ap (λ k. is_caller me (st.shared.turn k)) (sym e) ∙ turn))))
+      (λ (ne : s ≡ t.0 → ⊥). inl (elsewhere t.0 (Some other) (Some (begun st other t how)) ne))
+      (cases_eq s t.0)
+
+  -- a call that ends the selection of the caller that has the turn
+  ends : {x : Selection} (t : ℕ) → own_selection st other t ≡ Some x → (cond (is_caller me (put st.shared.turn t None s)) (put st.selection t None s) None ≡ Some selection) ⊎ ((other.0 ≡ me.0) × ((t == s) ≡ true))
+  ends t theirs =
+      ⊎_elim
+      (λ (e : s ≡ t).
+      let their_turn = has_turn (is_caller other (st.shared.turn t)) (st.selection t) theirs in
+      inr (one_caller me other (st.shared.turn s) turn (ap (λ k. is_caller other (st.shared.turn k)) e ∙ their_turn), eq-eqb t s (sym e)))
+      (λ (ne : s ≡ t → ⊥). inl (elsewhere t None None ne))
+      (cases_eq s t)
+
+  changes_stay : HoldsOfChanges st other Stays
+  changes_stay = record {
+    nothing = λ _ _ _. stays;
+    selector = λ _. stays;
+    channel = λ _ _. stays;
+    blocking = λ _ _. stays;
+    register = λ _ _ _ _ _ _. stays;
+    register_again = λ _ _ _ _ _ _. stays;
+    closec = λ _. stays;
+    cancel = λ _ _. stays;
+    iset = λ _ _ _. stays;
+    ior = λ _ _ _. stays;
+    iand = λ _ _ _. stays;
+    unselect = λ _ _. stays;
+    attach = λ _ _ _. stays;
+    begin = begins;
+    told = λ t _ _ _ _ _ theirs. ends t.0 theirs;
+    failed = λ t _ theirs. ends t.0 theirs;
+    wakeup = λ _. stays;
+    close = λ _. stays;
+    close_end = λ _. stays;
+    interrupt = λ _. stays;
+    interrupted = stays;
+  }
+
+pub only_itself_ends_a_selection : OnlyItselfEndsASelection
+only_itself_ends_a_selection l st me other c s selection own =
+    holds_of_calls l st other (Stays st me other s selection own) (changes_stay st me other s selection own) c
