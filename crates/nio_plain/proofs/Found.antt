@@ -1,5 +1,5 @@
 -- The least number that isn't made: the length, where it is below the limit.
-use Rattle.std.proofs.Common.{◌≡◌, ℕ, zero, suc, ◌<◌, ◌≤◌, Bool, true, false, not, cond, List, [], ◌∷◌, ◌++◌, find, Option, Some, None, refl, ap, ◌∙◌, arith, ⊎_elim}
+use Rattle.std.proofs.Common.{◌≡◌, ℕ, zero, suc, ◌<◌, ◌≤◌, Bool, true, false, not, cond, List, [], ◌∷◌, ◌++◌, find, Option, Some, None, refl, sym, ap, ◌∙◌, subst, arith, ⊎_elim}
 use Rattle.std.proofs.lemmas.Bool.{cases_lt, cond-true, cond-false}
 use Rattle.nio_plain.specs.Seq.{below}
 
@@ -26,6 +26,23 @@ find_first p (suc m) n l t h =
     let e : m ≡ n = omega arith in
     ((find-push p (below m) m ∙ ap (λ o. or_else o (cond (p m) (Some m) None)) (find_none p m (λ j i. h j (omega arith)))) ∙ cond-true (p m) (Some m) None (ap p e ∙ t)) ∙ ap (λ x. Some x) e)
     (cases_lt n m)
+
+-- what is found passes the test, and is below the limit
+pub found_below : (p : ℕ → Bool) (m n : ℕ) → find p (below m) ≡ Some n → (p n ≡ true) × (n < m)
+found_below p zero n e = absurd cc
+found_below p (suc m) n e = by_first (found_below p m n) (find p (below m)) refl (sym (find-push p (below m) m) ∙ e)
+  where
+    by_last : (b : Bool) → p m ≡ b → cond {A = Option ℕ} b (Some m) None ≡ Some n → (p n ≡ true) × (n < suc m)
+    by_last true t now =
+        let same : m ≡ n = cc in
+        (subst (λ (k : ℕ). p k ≡ true) same t, omega arith)
+    by_last false t now = absurd cc
+
+    by_first : (find p (below m) ≡ Some n → (p n ≡ true) × (n < m)) → (o : Option ℕ) → find p (below m) ≡ o → or_else o (cond (p m) (Some m) None) ≡ Some n → (p n ≡ true) × (n < suc m)
+    by_first rest None first now = by_last (p m) refl now
+    by_first rest (Some k) first now =
+        let found = rest (first ∙ now) in
+        (found.0, omega arith)
 
 -- n is made of all numbers below it, and of no others
 module _ (made : ℕ → Bool) (limit n : ℕ) (is_made : (k : ℕ) → k < n → made k ≡ true) (is_unmade : (k : ℕ) → n ≤ k → made k ≡ false) where

@@ -23,3 +23,10 @@ pub mod CallLawsRefusals
 pub mod CallLawsMarks
 pub mod CallLawsSelections
 pub mod CallLawsWakeups
+pub mod ReachedSound
+pub mod ReachedRemoving
+pub mod ReachedChanges
+pub mod ReachedChannels
+pub mod ReachedRegistering
+pub mod ReachedCalls
+pub mod ReachedLaws

@@ -1,9 +1,11 @@
 -- A channel's key in a selector, and whether it is registered, over the parts of a state.
-use Rattle.std.proofs.Common.{◌≡◌, ℕ, zero, suc, ◌<◌, ◌≤◌, Bool, true, false, ◌||◌, Option, Some, None, is_some, List, [], ◌∷◌, ◌++◌, length, refl, ap, ◌∙◌, arith, ⊎_elim}
-use Rattle.std.proofs.lemmas.Bool.{cases_lt, or_right}
+use Rattle.std.proofs.Common.{◌≡◌, ℕ, zero, suc, ◌<◌, ◌≤◌, Bool, true, false, ◌||◌, Option, Some, None, is_some, List, [], ◌∷◌, ◌++◌, length, cond, refl, sym, ap, ◌∙◌, subst, arith, ⊎_elim}
+use Rattle.std.proofs.lemmas.Bool.{cases_lt, or_right, or_cases, cond-true}
 use Rattle.std.specs.List.{list_any}
+use Rattle.nio_base.specs.declared.limits.Limits.{Limits}
+use Rattle.nio_event.specs.Sets.{in_key_set}
+use Rattle.nio_event.specs.State.{State, unmade_channel}
 use Rattle.nio_event.specs.declared.found.Chan.{Chan}
-use Rattle.nio_event.specs.State.{unmade_channel}
 use Rattle.nio_plain.proofs.Answering.{rows_of}
 use Rattle.nio_plain.proofs.Places.{places_past}
 use Rattle.nio_plain.specs.PlainState.{SelectorRow, key_in, if_in_set, state_from, state_of, limits_of, places, selector_row, no_selector, channel_row}
@@ -21,7 +23,7 @@ any-none p zero h = refl
 any-none p (suc m) h =
     list_any-push p (below m) m ∙ (ap (λ b. b || p m) (any-none p m (λ k l. h k (omega arith))) ∙ h m (omega arith))
 
-any-some : (p : ℕ → Bool) (m n : ℕ) → n < m → p n ≡ true → list_any p (below m) ≡ true
+pub any-some : (p : ℕ → Bool) (m n : ℕ) → n < m → p n ≡ true → list_any p (below m) ≡ true
 any-some p zero n l t = absurd (omega arith)
 any-some p (suc m) n l t =
     list_any-push p (below m) m ∙ ⊎_elim
@@ -30,6 +32,39 @@ any-some p (suc m) n l t =
     let e : m ≡ n = omega arith in
     or_right (list_any p (below m)) (p m) (ap p e ∙ t))
     (cases_lt n m)
+
+any-witness : (p : ℕ → Bool) (m : ℕ) → list_any p (below m) ≡ true → (k : ℕ) × (p k ≡ true)
+any-witness p zero h = absurd cc
+any-witness p (suc m) h = ⊎_elim (any-witness p m) (λ t. (m, t)) (or_cases (list_any p (below m)) (p m) (sym (list_any-push p (below m) m) ∙ h))
+
+-- over a state
+
+-- the key that is noted is the channel's, where it is in the key set
+pub key_of-some : (st : State) (c s i : ℕ) → st.noted c s ≡ Some i → in_key_set (st.key s i) ≡ true → key_of st c s ≡ Some i
+key_of-some st c s i e h = ap (if_in_key_set st s) e ∙ cond-true (in_key_set (st.key s i)) (Some i) None h
+
+in_set-is : (st : State) (s i : ℕ) (o : Option ℕ) → if_in_key_set st s o ≡ Some i → (o ≡ Some i) × (in_key_set (st.key s i) ≡ true)
+in_set-is st s i None e = absurd cc
+in_set-is st s i (Some k) e = by_set (in_key_set (st.key s k)) refl e
+  where
+    by_set : (b : Bool) → in_key_set (st.key s k) ≡ b → cond {A = Option ℕ} b (Some k) None ≡ Some i → (◌≡◌ {A = Option ℕ} (Some k) (Some i)) × (in_key_set (st.key s i) ≡ true)
+    by_set true t now =
+        let same : k ≡ i = cc in
+        (now, subst (λ (n : ℕ). in_key_set (st.key s n) ≡ true) same t)
+    by_set false t now = absurd cc
+
+pub key_of-is : (st : State) (c s i : ℕ) → key_of st c s ≡ Some i → (st.noted c s ≡ Some i) × (in_key_set (st.key s i) ≡ true)
+key_of-is st c s i e = in_set-is st s i (st.noted c s) e
+
+-- a channel that counts as registered has a key in a selector
+pub registered-key : (l : Limits) (st : State) (c : ℕ) → is_registered l st c ≡ true → (s : ℕ) × (i : ℕ) × (key_of st c s ≡ Some i)
+registered-key l st c h =
+    let found = any-witness (λ s. is_some (key_of st c s)) l.selectors h in
+    named found.0 (key_of st c found.0) refl found.1
+  where
+    named : (s : ℕ) (o : Option ℕ) → key_of st c s ≡ o → is_some o ≡ true → (s : ℕ) × (i : ℕ) × (key_of st c s ≡ Some i)
+    named s None e t = absurd cc
+    named s (Some i) e t = (s, i, e)
 
 module _ (interrupted : ℕ → Bool) (mark : ℕ) (chan : ℕ → Chan) (row : ℕ → SelectorRow) where
   abbrev st : ScriptState

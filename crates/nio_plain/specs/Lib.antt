@@ -5,3 +5,4 @@ pub mod PlainState
 pub mod Plain
 pub mod Naming
 pub mod CallLaws
+pub mod ReachedLaws
