@@ -1,6 +1,6 @@
 use Rattle.std.proofs.Common.{◌<◌, true, Some, length, refl, sym, ap, ◌∙◌, arith}
-use Rattle.std.proofs.lemmas.Bool.{cond-true, cond-false, eq-eqb, ne_eqb}
-use Rattle.nio_event.specs.State.{put, with_gate, with_closer}
+use Rattle.std.proofs.lemmas.Bool.{cond-true, cond-false}
+use Rattle.nio_event.specs.State.{with_gate, with_closer}
 use Rattle.nio_event.specs.declared.reply.Reply.TheVariants as reply
 use Rattle.nio_plain.proofs.Answering.{refused_without_memory, answered_without_memory}
 use Rattle.nio_plain.proofs.Closing.{changed_selector, read_row, makes-closer, not_finished}

@@ -1,7 +1,7 @@
-use Rattle.std.proofs.Common.{◌<◌, Bool, true, false, not, ◌||◌, Option, Some, None, is_some, get_or, length, refl, sym, ap, ◌∙◌, arith}
+use Rattle.std.proofs.Common.{◌<◌, Bool, true, not, ◌||◌, Option, is_some, length, refl, sym, ap, ◌∙◌, arith}
 use Rattle.std.proofs.lemmas.Bool.{cond-true, cond-false, eq-eqb, ne_eqb, or_right}
 use Rattle.std.proofs.lemmas.List.{get_or_default}
-use Rattle.nio_event.specs.State.{put, with_entered}
+use Rattle.nio_event.specs.State.{with_entered}
 use Rattle.nio_event.specs.declared.reply.Reply.TheVariants as reply
 use Rattle.nio_plain.proofs.Answering.{is_some-caller_of, refused_without_memory, answered_without_memory}
 use Rattle.nio_plain.proofs.Closing.{changed_selector, read_row, makes-emptied, makes-entered, emptied, emptied-all}

@@ -1,4 +1,4 @@
-use Rattle.std.proofs.Common.{◌<◌, true, refl, ap, length, arith}
+use Rattle.std.proofs.Common.{◌<◌, true, refl, length, arith}
 use Rattle.std.proofs.lemmas.Bool.{cond-true, cond-false, lt-ltb, le-ltb}
 use Rattle.nio_event.specs.declared.reply.Reply.TheVariants as reply
 use Rattle.nio_plain.proofs.Answering.{refused_without_memory, answered_without_memory, interrupted-set}

@@ -1,6 +1,5 @@
 use Rattle.std.proofs.Common.{not, sym, ap, ◌∙◌}
 use Rattle.nio_event.specs.declared.found.Chan.{Chan}
-use Rattle.nio_event.specs.declared.reply.Reply.TheVariants as reply
 use Rattle.nio_plain.proofs.Answering.{refused_without_memory}
 use Rattle.nio_plain.specs.PlainState.{state_of}
 use Rattle.nio_plain.specs.Seq.{refused, is_open_call, yes_or_no}

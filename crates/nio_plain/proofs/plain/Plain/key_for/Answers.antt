@@ -1,5 +1,4 @@
-use Rattle.std.proofs.Common.{◌<◌, ℕ, Option, Some, None, get_or, length, sym, ap, ◌∙◌, arith}
-use Rattle.nio_event.specs.declared.reply.Reply.TheVariants as reply
+use Rattle.std.proofs.Common.{◌<◌, ℕ, Option, Some, None, get_or, length, ap, ◌∙◌, arith}
 use Rattle.nio_plain.proofs.Answering.{refused_without_memory}
 use Rattle.nio_plain.proofs.Registering.{key_of-read}
 use Rattle.nio_plain.specs.PlainState.{state_of}

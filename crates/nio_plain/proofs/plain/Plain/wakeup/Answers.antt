@@ -1,7 +1,5 @@
 use Rattle.std.proofs.Common.{◌<◌, true, length, refl, arith}
-use Rattle.std.proofs.lemmas.Bool.{cond-true, cond-false, eq-eqb, ne_eqb}
-use Rattle.nio_event.specs.State.{put, with_gate}
-use Rattle.nio_event.specs.declared.reply.Reply.TheVariants as reply
+use Rattle.nio_event.specs.State.{with_gate}
 use Rattle.nio_plain.proofs.Answering.{refused_without_memory, answered_without_memory}
 use Rattle.nio_plain.proofs.Closing.{changed_selector}
 use Rattle.nio_plain.proofs.Telling.{makes-gate}
