@@ -16,7 +16,18 @@ use Rattle.nio_event.specs.declared.reply.Reply.{Reply}
 use Rattle.nio_event.specs.declared.reply.Reply.TheVariants as reply
 use Rattle.nio_event.specs.declared.reply.Why.{Why}
 use Rattle.nio_plain.specs.ScriptState.{ScriptState, Selection}
-use Rattle.nio_plain.specs.Seq.{Answered, refused, answered, below, yes_or_no, channel_made, name_or_none, names_or_none, key_of, is_registered, given_or_none, given_or_kept, new_key, are_legal, are_legal_at, channel_closed, cancelled_key, unselected, mode_of, selection_begun, updated_count, is_again, why_ended, selection_ended, own_selection, left_selection, is_caller, without_keys, registered, begun_with, told_selection, selector_made, selector_call, channel_call, blocking_call, is_blocking_call, is_open_call, is_registered_call, key_for_call, register_call, closec_call, cancel_call, valid_call, interest_call, ready_call, iset_call, ior_call, iand_call, unselect_call, attach_call, attachment_call, begin_call, told_call, failed_call, wakeup_call, interrupt_call, interrupted_call, close_call, close_end_call, keys_call, selected_call, call_of, seq}
+use Rattle.nio_plain.specs.Seq.{call_of, seq}
+use Rattle.nio_plain.specs.Seq.Answers.{Answered, refused, answered, yes_or_no}
+use Rattle.nio_plain.specs.Seq.Cancelling.{channel_closed, cancelled_key, closec_call, cancel_call}
+use Rattle.nio_plain.specs.Seq.Closing.{without_keys, close_call, close_end_call}
+use Rattle.nio_plain.specs.Seq.Keys.{are_legal_at, valid_call, interest_call, ready_call, iset_call, ior_call, iand_call, unselect_call, attach_call, attachment_call}
+use Rattle.nio_plain.specs.Seq.Listing.{names_or_none, keys_call, selected_call}
+use Rattle.nio_plain.specs.Seq.Modes.{name_or_none, key_of, is_registered, blocking_call, is_blocking_call, is_open_call, is_registered_call, key_for_call}
+use Rattle.nio_plain.specs.Seq.Names.{below}
+use Rattle.nio_plain.specs.Seq.Opening.{channel_made, selector_made, selector_call, channel_call}
+use Rattle.nio_plain.specs.Seq.Registering.{given_or_none, given_or_kept, new_key, are_legal, registered, register_call}
+use Rattle.nio_plain.specs.Seq.Selections.{unselected, mode_of, selection_begun, updated_count, is_again, why_ended, selection_ended, own_selection, left_selection, is_caller, begun_with, told_selection, begin_call, told_call, failed_call}
+use Rattle.nio_plain.specs.Seq.Wakeups.{wakeup_call, interrupt_call, interrupted_call}
 
 -- a selection that ended in a `told`
 abbrev pub told_ended : ScriptState → ℕ → List (ℕ × ℕ) → Selection → ℕ → Why → Answered

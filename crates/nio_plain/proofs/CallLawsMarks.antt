@@ -12,7 +12,8 @@ use Rattle.nio_event.specs.declared.found.Mark.{Mark}
 use Rattle.nio_plain.proofs.CallLawsCases.{HoldsOfChanges, holds_of_calls}
 use Rattle.nio_plain.specs.CallLaws.{told_of, newly_told, HasBit, GainsOnly, OnlyToldBitsAreSelected, IsGiven, IsToldAndLookedFor, BitsAreToldAndLookedFor}
 use Rattle.nio_plain.specs.ScriptState.{ScriptState, Selection}
-use Rattle.nio_plain.specs.Seq.{Answered, own_selection, all_told, looked_interest, told_bits, marked, unselected}
+use Rattle.nio_plain.specs.Seq.Answers.{Answered}
+use Rattle.nio_plain.specs.Seq.Selections.{own_selection, all_told, looked_interest, told_bits, marked, unselected}
 
 -- bits of a union and of a meet
 one_of_max : (x y : ℕ) → x ≢ 1 → x < 2 → max x y ≡ 1 → y ≡ 1

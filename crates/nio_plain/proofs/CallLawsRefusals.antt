@@ -5,7 +5,7 @@ use Rattle.nio_event.specs.declared.call.Call.{Call}
 use Rattle.nio_plain.proofs.CallLawsCases.{HoldsOfChanges, holds_of_calls}
 use Rattle.nio_plain.specs.CallLaws.{is_refusal, RefusalsChangeNothing}
 use Rattle.nio_plain.specs.ScriptState.{ScriptState}
-use Rattle.nio_plain.specs.Seq.{Answered, yes_or_no}
+use Rattle.nio_plain.specs.Seq.Answers.{Answered, yes_or_no}
 
 abbrev Keeps : ScriptState → Call → Answered → Type 0
 Keeps st c done = is_refusal done.reply ≡ true → done.left ≡ st

@@ -19,7 +19,9 @@ use Rattle.nio_plain.proofs.CallLawsCases.{HoldsOfChanges, holds_of_calls}
 use Rattle.nio_plain.proofs.Places.{put-elsewhere}
 use Rattle.nio_plain.specs.CallLaws.{IsBegunBy, LookedIsAnswered, is_over, OnlyItselfEndsASelection}
 use Rattle.nio_plain.specs.ScriptState.{ScriptState, Selection}
-use Rattle.nio_plain.specs.Seq.{Answered, below, removed_key, without_cancelled, looked_keys, selection_begun, is_caller, own_selection}
+use Rattle.nio_plain.specs.Seq.Answers.{Answered}
+use Rattle.nio_plain.specs.Seq.Names.{below}
+use Rattle.nio_plain.specs.Seq.Selections.{removed_key, without_cancelled, looked_keys, selection_begun, is_caller, own_selection}
 
 -- the numbers below n
 below_all : (n : ℕ) → All (λ i. i < n) (below n)

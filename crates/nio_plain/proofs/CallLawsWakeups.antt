@@ -17,7 +17,9 @@ use Rattle.nio_plain.proofs.Places.{put-elsewhere, put_same, put_kept}
 use Rattle.nio_plain.specs.Answer.{left_from}
 use Rattle.nio_plain.specs.CallLaws.{is_woken, is_wakeup, is_end, WakeupsArePending, FurtherWakeupsChangeNothing, WakeupsAreAnswered, NoneEnds, WakeupsActAsOne}
 use Rattle.nio_plain.specs.ScriptState.{ScriptState}
-use Rattle.nio_plain.specs.Seq.{Answered, answered, refused, wakeup_call, call_of, seq}
+use Rattle.nio_plain.specs.Seq.{call_of, seq}
+use Rattle.nio_plain.specs.Seq.Answers.{Answered, answered, refused}
+use Rattle.nio_plain.specs.Seq.Wakeups.{wakeup_call}
 
 -- no wakeup and no end
 kept : (w : Bool) → w ≡ (false || (w && not false))

@@ -14,7 +14,8 @@ use Rattle.nio_plain.proofs.Registered.{key_of-row}
 use Rattle.nio_plain.proofs.Selecting.{Makes}
 use Rattle.nio_plain.specs.PlainState.{SelectorRow, KeyRow, places, changed, state_from, state_of, channel_row, selector_row, no_selector, key_row, no_key, removed_row, cancelled_row, key_in, with_cancelled_key, has_finished}
 use Rattle.nio_plain.specs.ScriptState.{ScriptState}
-use Rattle.nio_plain.specs.Seq.{is_key, cancelled_key, without_keys, with_keys_cancelled}
+use Rattle.nio_plain.specs.Seq.Cancelling.{is_key, cancelled_key, with_keys_cancelled}
+use Rattle.nio_plain.specs.Seq.Closing.{without_keys}
 use Rattle.nio_plain.specs.declared.plain.Plain.{Plain}
 use Rattle.nio_plain.specs.declared.plain.selector.Closing.{Closing}
 use Rattle.nio_plain.specs.declared.plain.selector.Key.{Key}

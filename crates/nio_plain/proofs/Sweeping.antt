@@ -5,7 +5,7 @@ use Rattle.std.proofs.lemmas.List.{map-append, append-nil}
 use Rattle.nio_event.specs.Sets.{is_valid, in_key_set}
 use Rattle.nio_plain.proofs.Places.{same_function}
 use Rattle.nio_plain.specs.PlainState.{KeyRow, looked_below, is_listed, listed_below}
-use Rattle.nio_plain.specs.Seq.{below}
+use Rattle.nio_plain.specs.Seq.Names.{below}
 
 pub filter-push : (p : ℕ → Bool) (xs : List ℕ) (y : ℕ) → filter p (xs ++ y ∷ []) ≡ filter p xs ++ cond (p y) (y ∷ []) []
 filter-push p [] y = refl

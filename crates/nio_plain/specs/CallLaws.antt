@@ -17,7 +17,9 @@ use Rattle.nio_event.specs.declared.reply.Reply.{Reply}
 use Rattle.nio_event.specs.declared.reply.Reply.TheVariants as reply
 use Rattle.nio_plain.specs.Answer.{left_from}
 use Rattle.nio_plain.specs.ScriptState.{ScriptState, Selection}
-use Rattle.nio_plain.specs.Seq.{Answered, seq, own_selection, told_bits}
+use Rattle.nio_plain.specs.Seq.{seq}
+use Rattle.nio_plain.specs.Seq.Answers.{Answered}
+use Rattle.nio_plain.specs.Seq.Selections.{own_selection, told_bits}
 
 -- REFUSALS. `already` is counted with them, since what the call asks for was done before, and so is
 -- `again`, since the selection goes on as it was.

@@ -8,7 +8,8 @@ use Rattle.nio_plain.proofs.Selecting.{then}
 use Rattle.nio_plain.proofs.Telling.{makes-gate}
 use Rattle.nio_plain.specs.PlainState.{SelectorRow, state_of, selector_row}
 use Rattle.nio_plain.specs.ScriptState.{ScriptState}
-use Rattle.nio_plain.specs.Seq.{refused, close_call}
+use Rattle.nio_plain.specs.Seq.Answers.{refused}
+use Rattle.nio_plain.specs.Seq.Closing.{close_call}
 use Rattle.nio_plain.proofs.plain.Plain.close.Goals as goal
 
 pub returns-in-Err : goal.returns-in-Err

@@ -10,7 +10,9 @@ use Rattle.nio_plain.specs.PlainState.{SelectorRow, state_of, selector_row, clos
 use Rattle.nio_plain.specs.declared.plain.selector.Closing.{Closing}
 use Rattle.nio_plain.specs.declared.plain.selector.Selector.{Selector}
 use Rattle.nio_plain.specs.ScriptState.{ScriptState}
-use Rattle.nio_plain.specs.Seq.{refused, close_end_call, is_caller, without_keys}
+use Rattle.nio_plain.specs.Seq.Answers.{refused}
+use Rattle.nio_plain.specs.Seq.Closing.{close_end_call, without_keys}
+use Rattle.nio_plain.specs.Seq.Selections.{is_caller}
 use Rattle.nio_plain.proofs.plain.Plain.close_end.Goals as goal
 
 pub returns-in-Err : goal.returns-in-Err

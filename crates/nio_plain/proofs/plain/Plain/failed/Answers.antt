@@ -6,7 +6,7 @@ use Rattle.nio_plain.proofs.Selecting.{makes-selecting}
 use Rattle.nio_plain.proofs.Telling.{own-none, own-others, own-some}
 use Rattle.nio_plain.specs.PlainState.{SelectorRow, state_of}
 use Rattle.nio_plain.specs.ScriptState.{ScriptState}
-use Rattle.nio_plain.specs.Seq.{failed_call, left_selection}
+use Rattle.nio_plain.specs.Seq.Selections.{failed_call, left_selection}
 use Rattle.nio_plain.proofs.plain.Plain.failed.Goals as goal
 
 pub returns-in-Err : goal.returns-in-Err

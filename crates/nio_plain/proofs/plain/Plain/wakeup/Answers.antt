@@ -5,7 +5,7 @@ use Rattle.nio_plain.proofs.Closing.{changed_selector}
 use Rattle.nio_plain.proofs.Telling.{makes-gate}
 use Rattle.nio_plain.specs.PlainState.{SelectorRow}
 use Rattle.nio_plain.specs.ScriptState.{ScriptState}
-use Rattle.nio_plain.specs.Seq.{wakeup_call}
+use Rattle.nio_plain.specs.Seq.Wakeups.{wakeup_call}
 use Rattle.nio_plain.proofs.plain.Plain.wakeup.Goals as goal
 
 pub returns-in-Err : goal.returns-in-Err
