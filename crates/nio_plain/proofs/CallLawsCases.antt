@@ -39,7 +39,7 @@ told_ended st s pairs selection count why = record {
   };
 }
 
--- a reply that doesn't tell of a change alone, and may be that of a call that changes nothing
+-- the replies of calls that change nothing; some of them are also those of calls that do
 abbrev pub may_keep : Reply → Bool
 may_keep (reply.Selector s) = false
 may_keep (reply.Channel c) = false
