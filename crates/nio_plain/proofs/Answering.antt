@@ -11,7 +11,7 @@ use Rattle.nio_plain.proofs.Places.{places-nil, places-replicate, places_all, pl
 use Rattle.nio_plain.specs.Plain.{Answers, AnswersAs}
 use Rattle.nio_plain.specs.PlainState.{places, key_row, no_key, caller_of, channel_row, selector_row, SelectorRow, no_selector, state_from, state_of, limits_of}
 use Rattle.nio_plain.specs.ScriptState.{ScriptState, script_opening}
-use Rattle.nio_plain.specs.Seq.{Answered, refused}
+use Rattle.nio_plain.specs.Seq.Answers.{Answered, refused}
 use Rattle.nio_plain.specs.declared.plain.Plain.{Plain}
 use Rattle.nio_plain.specs.declared.plain.channel.Channel.{Channel}
 use Rattle.nio_plain.specs.declared.plain.selector.Selecting.{Selecting}

@@ -6,7 +6,8 @@ use Rattle.nio_event.specs.State.{with_chan}
 use Rattle.nio_event.specs.declared.found.Chan.{Chan}
 use Rattle.nio_event.specs.declared.reply.Reply.TheVariants as reply
 use Rattle.nio_plain.specs.ScriptState.{ScriptState}
-use Rattle.nio_plain.specs.Seq.{refused, answered, blocking_call, is_registered}
+use Rattle.nio_plain.specs.Seq.Answers.{refused, answered}
+use Rattle.nio_plain.specs.Seq.Modes.{blocking_call, is_registered}
 
 -- x is the channel
 module _ (l : Limits) (st : ScriptState) (c : ChanNo) (on : Bool) (x : Chan) (e : st.shared.chan c.0 ≡ x) where

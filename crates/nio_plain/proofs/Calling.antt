@@ -8,7 +8,8 @@ use Rattle.nio_event.specs.declared.call.Call.{Call}
 use Rattle.nio_event.specs.declared.reply.Reply.{Reply}
 use Rattle.nio_event.specs.declared.reply.Reply.TheVariants as reply
 use Rattle.nio_plain.specs.ScriptState.{ScriptState}
-use Rattle.nio_plain.specs.Seq.{Answered, seq, call_of, refused}
+use Rattle.nio_plain.specs.Seq.{seq, call_of}
+use Rattle.nio_plain.specs.Seq.Answers.{Answered, refused}
 
 pub seq-no_caller : (l : Limits) (st : ScriptState) (me : CallerNo) (call : Call) → l.callers ≤ me.0 → seq l st me call ≡ refused st reply.NoCaller
 unfolding seq

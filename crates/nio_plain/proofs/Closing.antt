@@ -1,6 +1,6 @@
 -- The changes of one selector's parts when it is woken and closed, and the changes of the state that
 -- they are.
-use Rattle.std.proofs.Common.{◌≡◌, ℕ, ◌<◌, ◌≤◌, eqb, ltb, Bool, true, false, cond, not, ◌&&◌, Option, Some, None, is_some, List, length, get_or, set, refl, sym, ap, ◌∙◌, ⊎_elim}
+use Rattle.std.proofs.Common.{◌≡◌, ℕ, ◌<◌, ◌≤◌, eqb, Bool, true, false, cond, ◌&&◌, Option, Some, None, is_some, List, length, get_or, set, refl, sym, ap, ◌∙◌, ⊎_elim}
 use Rattle.std.proofs.lemmas.Bool.{cases_eq, cases_lt, cond-true, cond-false, eq-eqb, ne_eqb, and_left, true≢false}
 use Rattle.nio_base.specs.declared.numbers.CallerNo.{CallerNo}
 use Rattle.nio_event.specs.State.{put, unmade_channel, with_closer, with_entered}
@@ -11,10 +11,11 @@ use Rattle.nio_plain.proofs.Changing.{changed-below, changed-past}
 use Rattle.nio_plain.proofs.KeyParts.{keys_kept}
 use Rattle.nio_plain.proofs.Places.{same_function, put_part, part_kept, put_is, put-here, put-elsewhere, places_at, places_all, places_past}
 use Rattle.nio_plain.proofs.Registered.{key_of-row}
-use Rattle.nio_plain.proofs.Selecting.{Makes, then}
+use Rattle.nio_plain.proofs.Selecting.{Makes}
 use Rattle.nio_plain.specs.PlainState.{SelectorRow, KeyRow, places, changed, state_from, state_of, channel_row, selector_row, no_selector, key_row, no_key, removed_row, cancelled_row, key_in, with_cancelled_key, has_finished}
 use Rattle.nio_plain.specs.ScriptState.{ScriptState}
-use Rattle.nio_plain.specs.Seq.{is_key, removed_key, unselected, cancelled_key, without_keys, with_keys_cancelled}
+use Rattle.nio_plain.specs.Seq.Cancelling.{is_key, cancelled_key, with_keys_cancelled}
+use Rattle.nio_plain.specs.Seq.Closing.{without_keys}
 use Rattle.nio_plain.specs.declared.plain.Plain.{Plain}
 use Rattle.nio_plain.specs.declared.plain.selector.Closing.{Closing}
 use Rattle.nio_plain.specs.declared.plain.selector.Key.{Key}

@@ -1,7 +1,7 @@
 -- The least number that isn't made: the length, where it is below the limit.
 use Rattle.std.proofs.Common.{◌≡◌, ℕ, zero, suc, ◌<◌, ◌≤◌, Bool, true, false, not, cond, List, [], ◌∷◌, ◌++◌, find, Option, Some, None, refl, sym, ap, ◌∙◌, subst, arith, ⊎_elim}
 use Rattle.std.proofs.lemmas.Bool.{cases_lt, cond-true, cond-false}
-use Rattle.nio_plain.specs.Seq.{below}
+use Rattle.nio_plain.specs.Seq.Names.{below}
 
 abbrev or_else : Option ℕ → Option ℕ → Option ℕ
 or_else None o = o

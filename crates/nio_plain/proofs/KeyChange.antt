@@ -1,5 +1,5 @@
 -- Another key in the place of one, and the changes of a state that it is.
-use Rattle.std.proofs.Common.{◌≡◌, ℕ, ◌<◌, ◌≤◌, Bool, false, None, is_some, length, refl, sym, ap, ◌∙◌, arith, ⊎_elim}
+use Rattle.std.proofs.Common.{◌≡◌, ℕ, ◌<◌, ◌≤◌, Bool, false, None, is_some, length, refl, ap, arith, ⊎_elim}
 use Rattle.std.proofs.lemmas.Bool.{cases_lt}
 use Rattle.nio_event.specs.State.{put, put_at, with_key, with_interest, with_mark, with_note}
 use Rattle.nio_event.specs.declared.found.Chan.{Chan}

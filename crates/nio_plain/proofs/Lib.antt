@@ -18,6 +18,11 @@ pub mod Closing
 pub mod Telling
 pub mod TellingAt
 pub mod Calling
+pub mod CallLawsCases
+pub mod CallLawsRefusals
+pub mod CallLawsMarks
+pub mod CallLawsSelections
+pub mod CallLawsWakeups
 pub mod ReachedSound
 pub mod ReachedRemoving
 pub mod ReachedChanges

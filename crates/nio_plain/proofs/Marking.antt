@@ -10,7 +10,7 @@ use lib.Bits.{and_zero_r, or_zero_r}
 use Rattle.nio_event.specs.State.{put}
 use Rattle.nio_plain.proofs.Places.{same_function, put_is, places-set, places_at}
 use Rattle.nio_plain.specs.PlainState.{KeyRow, places, key_row, no_key, marked_keys}
-use Rattle.nio_plain.specs.Seq.{all_told, looked_interest, marked, is_updated}
+use Rattle.nio_plain.specs.Seq.Selections.{all_told, looked_interest, marked, is_updated}
 use Rattle.nio_plain.specs.declared.plain.selector.Key.{Key}
 
 or_assoc : (a b c : ℕ) → bit_or a (bit_or b c) ≡ bit_or (bit_or a b) c

@@ -1,5 +1,5 @@
 -- The tests of the names of a line.
-use Rattle.std.proofs.Common.{◌≡◌, ℕ, true, false, cond, ap, sym, ◌∙◌}
+use Rattle.std.proofs.Common.{◌≡◌, ℕ, true, false, ◌∙◌}
 use Rattle.std.proofs.lemmas.Bool.{cond-true, cond-false}
 use Rattle.nio_base.specs.declared.numbers.ChanNo.{ChanNo}
 use Rattle.nio_base.specs.declared.numbers.SelNo.{SelNo}
@@ -8,7 +8,9 @@ use Rattle.nio_event.specs.declared.reply.Reply.{Reply}
 use Rattle.nio_event.specs.declared.reply.Reply.TheVariants as reply
 use Rattle.nio_plain.specs.Naming.{LetsThrough, Refuses}
 use Rattle.nio_plain.specs.ScriptState.{ScriptState}
-use Rattle.nio_plain.specs.Seq.{refused, with_named_channel, with_named_selector, with_named_key, with_valid_key}
+use Rattle.nio_plain.specs.Seq.Answers.{refused}
+use Rattle.nio_plain.specs.Seq.Keys.{with_valid_key}
+use Rattle.nio_plain.specs.Seq.Names.{with_named_channel, with_named_selector, with_named_key}
 
 module _ (st : ScriptState) where
   pub channel-through : (c : ChanNo) → (st.shared.chan c.0).made ≡ true → LetsThrough (with_named_channel st c)

@@ -9,7 +9,8 @@ use Rattle.nio_plain.proofs.Found.{find_unmade, find_spent}
 use Rattle.nio_plain.proofs.Places.{put_part, part_kept}
 use Rattle.nio_plain.specs.PlainState.{SelectorRow, no_selector, new_selector, state_from}
 use Rattle.nio_plain.specs.ScriptState.{ScriptState}
-use Rattle.nio_plain.specs.Seq.{refused, answered, selector_call, selector_made, channel_call, channel_made}
+use Rattle.nio_plain.specs.Seq.Answers.{refused, answered}
+use Rattle.nio_plain.specs.Seq.Opening.{selector_call, selector_made, channel_call, channel_made}
 
 module _ (l : Limits) (interrupted : ℕ → Bool) (mark : ℕ) (chan : ℕ → Chan) (row : ℕ → SelectorRow) where
   abbrev st : ScriptState

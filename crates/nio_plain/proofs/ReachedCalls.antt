@@ -24,7 +24,18 @@ use Rattle.nio_plain.proofs.ReachedRemoving.{keeps_begun, keeps_ended, keeps_clo
 use Rattle.nio_plain.proofs.ReachedSound.{Sound, Keeps, Stays, keeps_refused, same_stays, by_test}
 use Rattle.nio_plain.specs.Answer.{left_from}
 use Rattle.nio_plain.specs.ScriptState.{ScriptState, Selection}
-use Rattle.nio_plain.specs.Seq.{Answered, refused, below, with_named_channel, with_named_selector, with_named_key, with_valid_key, selector_made, selector_call, channel_made, channel_call, is_registered, blocking_call, is_blocking_call, is_open_call, is_registered_call, key_of, key_for_call, are_legal, are_legal_at, given_or_none, given_or_kept, registered, register_call, closec_call, cancel_call, valid_call, interest_call, ready_call, iset_call, ior_call, iand_call, unselect_call, attach_call, attachment_call, mode_of, begun_with, begin_call, updated_count, is_again, told_selection, is_caller, own_selection, told_call, left_selection, failed_call, wakeup_call, interrupt_call, interrupted_call, close_call, close_end_call, listed, keys_call, selected_call, call_of, seq}
+use Rattle.nio_plain.specs.Seq.{call_of, seq}
+use Rattle.nio_plain.specs.Seq.Answers.{Answered, refused}
+use Rattle.nio_plain.specs.Seq.Cancelling.{closec_call, cancel_call}
+use Rattle.nio_plain.specs.Seq.Closing.{close_call, close_end_call}
+use Rattle.nio_plain.specs.Seq.Keys.{with_valid_key, are_legal_at, valid_call, interest_call, ready_call, iset_call, ior_call, iand_call, unselect_call, attach_call, attachment_call}
+use Rattle.nio_plain.specs.Seq.Listing.{listed, keys_call, selected_call}
+use Rattle.nio_plain.specs.Seq.Modes.{is_registered, blocking_call, is_blocking_call, is_open_call, is_registered_call, key_of, key_for_call}
+use Rattle.nio_plain.specs.Seq.Names.{below, with_named_channel, with_named_selector, with_named_key}
+use Rattle.nio_plain.specs.Seq.Opening.{selector_made, selector_call, channel_made, channel_call}
+use Rattle.nio_plain.specs.Seq.Registering.{are_legal, given_or_none, given_or_kept, registered, register_call}
+use Rattle.nio_plain.specs.Seq.Selections.{mode_of, begun_with, begin_call, updated_count, is_again, told_selection, is_caller, own_selection, told_call, left_selection, failed_call}
+use Rattle.nio_plain.specs.Seq.Wakeups.{wakeup_call, interrupt_call, interrupted_call}
 
 module _ (l : Limits) (st : ScriptState) (sound : Sound l st) where
   refusal : (r : Reply) → Keeps l st (refused st r)

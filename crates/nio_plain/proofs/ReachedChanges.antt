@@ -14,7 +14,8 @@ use Rattle.nio_event.specs.declared.reply.Reply.{Reply}
 use Rattle.nio_plain.proofs.ReachedRemoving.{look-none}
 use Rattle.nio_plain.proofs.ReachedSound.{ClosingSound, LookSound, Sound, Keeps, Aged, here_or_there, aged-same, aged-cancelled, in_set-cancelled, same_stays, keeps_cancelled}
 use Rattle.nio_plain.specs.ScriptState.{ScriptState}
-use Rattle.nio_plain.specs.Seq.{answered, cancelled_key}
+use Rattle.nio_plain.specs.Seq.Answers.{answered}
+use Rattle.nio_plain.specs.Seq.Cancelling.{cancelled_key}
 
 -- interrupt statuses, interests and attachments may be what they like
 pub keeps_beside : (l : Limits) (st : ScriptState) (r : Reply) (interrupted : ℕ → Bool) (interest note : ℕ → ℕ → ℕ) → Sound l st → Keeps l st (answered st r (record st.shared { interrupted = interrupted; interest = interest; note = note }))

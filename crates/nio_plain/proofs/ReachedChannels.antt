@@ -12,7 +12,9 @@ use Rattle.nio_event.specs.declared.reply.Reply.{Reply}
 use Rattle.nio_plain.proofs.ReachedSound.{ChannelsSound, Sound, Keeps, Aged, aged-same, aged-cancelled, not_valid_cancelled, in_set-cancelled, same_stays, keeps_cancelled}
 use Rattle.nio_plain.proofs.Registered.{any-some, key_of-some, key_of-is}
 use Rattle.nio_plain.specs.ScriptState.{ScriptState}
-use Rattle.nio_plain.specs.Seq.{answered, key_of, is_key, is_registered, cancelled_key, with_keys_cancelled, channel_closed}
+use Rattle.nio_plain.specs.Seq.Answers.{answered}
+use Rattle.nio_plain.specs.Seq.Cancelling.{is_key, cancelled_key, with_keys_cancelled, channel_closed}
+use Rattle.nio_plain.specs.Seq.Modes.{key_of, is_registered}
 
 pub keeps_selector : (l : Limits) (st : ScriptState) (r : Reply) (s : ℕ) → s < l.selectors → Sound l st → Keeps l st (answered st r (with_selector st.shared s true))
 keeps_selector l st r s within sound = record {

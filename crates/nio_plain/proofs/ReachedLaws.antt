@@ -17,7 +17,11 @@ use Rattle.nio_plain.proofs.Registered.{key_of-some, key_of-is, registered-key}
 use Rattle.nio_plain.specs.Answer.{left_from, left_by_script}
 use Rattle.nio_plain.specs.ReachedLaws.{SetsAreWithinKeySet, InvalidKeysStayInvalid, KeyOfAChannelIsFound, OneKeyOfAChannel, RegisteredIsInAKeySet, RegisteredIsNonBlocking, ClosedChannelHasNoValidKey, IsEmptied, ClosedSelectorIsEmpty}
 use Rattle.nio_plain.specs.ScriptState.{ScriptState, script_opening}
-use Rattle.nio_plain.specs.Seq.{Answered, refused, if_in_key_set, is_caller, close_end_call, call_of, seq}
+use Rattle.nio_plain.specs.Seq.{call_of, seq}
+use Rattle.nio_plain.specs.Seq.Answers.{Answered, refused}
+use Rattle.nio_plain.specs.Seq.Closing.{close_end_call}
+use Rattle.nio_plain.specs.Seq.Modes.{if_in_key_set}
+use Rattle.nio_plain.specs.Seq.Selections.{is_caller}
 
 -- every state that a script leaves is sound
 reached : (l : Limits) (calls : List ScriptCall) → Sound l (left_by_script l calls)

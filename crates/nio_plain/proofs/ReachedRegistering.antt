@@ -10,7 +10,9 @@ use Rattle.nio_event.specs.declared.reply.Reply.{Reply}
 use Rattle.nio_plain.proofs.ReachedSound.{IndexesSound, NotesSound, ChannelsSound, ClosingSound, LookSound, Sound, Keeps, IsInvalid, some_same, look-kept}
 use Rattle.nio_plain.proofs.Registered.{key_of-some}
 use Rattle.nio_plain.specs.ScriptState.{ScriptState}
-use Rattle.nio_plain.specs.Seq.{answered, new_key, key_of}
+use Rattle.nio_plain.specs.Seq.Answers.{answered}
+use Rattle.nio_plain.specs.Seq.Modes.{key_of}
+use Rattle.nio_plain.specs.Seq.Registering.{new_key}
 
 module _ (l : Limits) (st : ScriptState) (s c : ℕ) (sound : Sound l st) where
   abbrev index : ℕ

@@ -15,7 +15,10 @@ use Rattle.nio_event.specs.declared.found.Stage.{Stage}
 use Rattle.nio_event.specs.declared.reply.Reply.{Reply}
 use Rattle.nio_plain.proofs.ReachedSound.{SelectedSound, ClosingSound, LookSound, Sound, Keeps, Aged, aged-same, aged-removed, not_in_set_removed, some_same, here_or_there, keys-aged, closing-aged, invalid-aged, look-kept}
 use Rattle.nio_plain.specs.ScriptState.{ScriptState, Selection}
-use Rattle.nio_plain.specs.Seq.{answered, removed_key, unselected, without_keys, looked_interest, looked_keys, below, selection_begun, selection_ended, with_marks, marked, told_bits, all_told}
+use Rattle.nio_plain.specs.Seq.Answers.{answered}
+use Rattle.nio_plain.specs.Seq.Closing.{without_keys}
+use Rattle.nio_plain.specs.Seq.Names.{below}
+use Rattle.nio_plain.specs.Seq.Selections.{removed_key, unselected, looked_interest, looked_keys, selection_begun, selection_ended, with_marks, marked, told_bits, all_told}
 
 -- keys and marks after the keys that the test says were removed
 abbrev pub removed_where : (ℕ → ℕ → Bool) → (ℕ → ℕ → Stage) → ℕ → ℕ → Stage

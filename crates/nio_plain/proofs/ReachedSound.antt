@@ -10,7 +10,9 @@ use Rattle.nio_event.specs.declared.found.Mark.{Mark}
 use Rattle.nio_event.specs.declared.found.Stage.{Stage}
 use Rattle.nio_event.specs.declared.reply.Reply.{Reply}
 use Rattle.nio_plain.specs.ScriptState.{ScriptState, Selection, script_opening}
-use Rattle.nio_plain.specs.Seq.{Answered, cancelled_key, removed_key, looked_interest}
+use Rattle.nio_plain.specs.Seq.Answers.{Answered}
+use Rattle.nio_plain.specs.Seq.Cancelling.{cancelled_key}
+use Rattle.nio_plain.specs.Seq.Selections.{removed_key, looked_interest}
 
 -- ---- the parts
 

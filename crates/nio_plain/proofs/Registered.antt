@@ -11,7 +11,8 @@ use Rattle.nio_plain.proofs.Places.{places_past}
 use Rattle.nio_plain.specs.PlainState.{SelectorRow, key_in, if_in_set, state_from, state_of, limits_of, places, selector_row, no_selector, channel_row}
 use Rattle.nio_plain.specs.declared.plain.Plain.{Plain}
 use Rattle.nio_plain.specs.ScriptState.{ScriptState}
-use Rattle.nio_plain.specs.Seq.{below, key_of, if_in_key_set, is_registered}
+use Rattle.nio_plain.specs.Seq.Modes.{key_of, if_in_key_set, is_registered}
+use Rattle.nio_plain.specs.Seq.Names.{below}
 
 list_any-push : (p : ℕ → Bool) (xs : List ℕ) (y : ℕ) → list_any p (xs ++ y ∷ []) ≡ (list_any p xs || p y)
 list_any-push p [] y = elim (p y) as (λ b. (b || false) ≡ b) [ true ↦ refl | false ↦ refl ]

@@ -16,7 +16,9 @@ use Rattle.nio_plain.specs.PlainState.{SelectorRow, KeyRow, no_key, state_from, 
 use Rattle.nio_plain.specs.declared.plain.Plain.{Plain}
 use Rattle.nio_plain.specs.declared.plain.selector.Selector.{Selector}
 use Rattle.nio_plain.specs.ScriptState.{ScriptState}
-use Rattle.nio_plain.specs.Seq.{refused, answered, register_call, registered, key_of, new_key, given_or_kept, given_or_none}
+use Rattle.nio_plain.specs.Seq.Answers.{refused, answered}
+use Rattle.nio_plain.specs.Seq.Modes.{key_of}
+use Rattle.nio_plain.specs.Seq.Registering.{register_call, registered, new_key, given_or_kept, given_or_none}
 
 -- x is the channel
 module _ (l : Limits) (st : ScriptState) (s : SelNo) (c : ChanNo) (ops : ℕ) (att : Option ℕ) where

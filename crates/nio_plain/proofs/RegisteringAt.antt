@@ -12,7 +12,8 @@ use Rattle.nio_plain.proofs.Places.{places_at, places_past}
 use Rattle.nio_plain.proofs.Registering.{key_of-read, registered-cancelled, registered-shut, registered-again, registered_new-shut, registered-full, registered-new, state-new_key}
 use Rattle.nio_plain.specs.Plain.{AnswersAs}
 use Rattle.nio_plain.specs.PlainState.{SelectorRow, KeyRow, places, state_of, selector_row, no_selector, key_row, no_key, with_key_at, with_new_key, new_key_row, key_in}
-use Rattle.nio_plain.specs.Seq.{registered, register_call, key_of, given_or_kept, given_or_none}
+use Rattle.nio_plain.specs.Seq.Modes.{key_of}
+use Rattle.nio_plain.specs.Seq.Registering.{registered, register_call, given_or_kept, given_or_none}
 use Rattle.nio_plain.specs.declared.plain.Plain.{Plain}
 use Rattle.nio_plain.specs.declared.plain.selector.Key.{Key}
 use Rattle.nio_plain.specs.declared.plain.selector.Selector.{Selector}

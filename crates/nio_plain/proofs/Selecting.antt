@@ -14,7 +14,9 @@ use Rattle.nio_plain.proofs.Places.{same_function, put_part, part_kept, put-here
 use Rattle.nio_plain.proofs.KeyParts.{keys_kept}
 use Rattle.nio_plain.specs.PlainState.{SelectorRow, KeyRow, no_key, state_from, swept, swept_key, looked_below, with_selection}
 use Rattle.nio_plain.specs.ScriptState.{ScriptState, Selection}
-use Rattle.nio_plain.specs.Seq.{refused, begin_call, selection_begun, mode_of, without_cancelled, removed_key, unselected, looked_keys, below}
+use Rattle.nio_plain.specs.Seq.Answers.{refused}
+use Rattle.nio_plain.specs.Seq.Names.{below}
+use Rattle.nio_plain.specs.Seq.Selections.{begin_call, selection_begun, mode_of, without_cancelled, removed_key, unselected, looked_keys}
 
 -- begin's answers
 

@@ -1,13 +1,11 @@
 -- Step 1 of a selection: what it looks at, key by key.
-use Rattle.std.proofs.Common.{◌≡◌, ℕ, ◌+◌, ◌<◌, ◌≤◌, ltb, Bool, true, false, ◌&&◌, cond, List, [], ◌∷◌, ◌++◌, map, filter, length, get_or, set, refl, sym, ap, ◌∙◌, arith, ⊎_elim, add-one}
-use Rattle.std.proofs.lemmas.Bool.{cond-true, cond-false, lt-ltb, le-ltb, cases_lt}
+use Rattle.std.proofs.Common.{◌≡◌, ℕ, ◌+◌, Bool, true, false, ◌&&◌, cond, List, [], ◌∷◌, ◌++◌, map, filter, refl, ap, ◌∙◌, add-one}
+use Rattle.std.proofs.lemmas.Bool.{cond-true, cond-false}
 use Rattle.std.proofs.lemmas.List.{map-append, append-nil}
 use Rattle.nio_event.specs.Sets.{is_valid, in_key_set}
-use Rattle.nio_event.specs.State.{put}
-use Rattle.nio_plain.proofs.Places.{same_function, put_is, places-set, places_at}
-use Rattle.nio_plain.specs.PlainState.{KeyRow, places, key_row, no_key, swept, swept_key, looked_below, is_listed, listed_below}
-use Rattle.nio_plain.specs.Seq.{below}
-use Rattle.nio_plain.specs.declared.plain.selector.Key.{Key}
+use Rattle.nio_plain.proofs.Places.{same_function}
+use Rattle.nio_plain.specs.PlainState.{KeyRow, looked_below, is_listed, listed_below}
+use Rattle.nio_plain.specs.Seq.Names.{below}
 
 pub filter-push : (p : ℕ → Bool) (xs : List ℕ) (y : ℕ) → filter p (xs ++ y ∷ []) ≡ filter p xs ++ cond (p y) (y ∷ []) []
 filter-push p [] y = refl

@@ -16,7 +16,8 @@ use Rattle.nio_plain.proofs.Places.{same_function, put_part, part_kept, put-here
 use Rattle.nio_plain.proofs.Selecting.{Makes, then, makes-swept, makes-selecting}
 use Rattle.nio_plain.specs.PlainState.{SelectorRow, KeyRow, state_from, state_of, selector_row, caller_of, selection_of, swept, marked_keys, with_selection_ended}
 use Rattle.nio_plain.specs.ScriptState.{ScriptState, Selection}
-use Rattle.nio_plain.specs.Seq.{refused, told_call, told_selection, own_selection, selection_ended, with_marks, without_cancelled, all_told, told_bits, looked_interest, marked, is_updated, updated_count, is_again, why_ended, is_caller}
+use Rattle.nio_plain.specs.Seq.Answers.{refused}
+use Rattle.nio_plain.specs.Seq.Selections.{told_call, told_selection, own_selection, selection_ended, with_marks, without_cancelled, all_told, told_bits, looked_interest, marked, is_updated, updated_count, is_again, why_ended, is_caller}
 use Rattle.nio_plain.specs.declared.plain.Plain.{Plain}
 use Rattle.nio_plain.specs.declared.plain.selector.Selecting.{Selecting}
 use Rattle.nio_plain.specs.declared.plain.selector.Selector.{Selector}

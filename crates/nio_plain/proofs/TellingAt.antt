@@ -13,7 +13,7 @@ use Rattle.nio_plain.proofs.Telling.{told-own, told-again, told-done, own-some, 
 use Rattle.nio_plain.specs.Plain.{AnswersAs}
 use Rattle.nio_plain.specs.PlainState.{SelectorRow, KeyRow, places, state_of, channel_row, selector_row, no_selector, key_row, no_key, swept, with_selection_ended}
 use Rattle.nio_plain.specs.ScriptState.{Selection}
-use Rattle.nio_plain.specs.Seq.{told_call, told_selection, updated_count, is_updated, told_bits, all_told, is_again, why_ended}
+use Rattle.nio_plain.specs.Seq.Selections.{told_call, told_selection, updated_count, is_updated, told_bits, all_told, is_again, why_ended}
 use Rattle.nio_plain.specs.declared.plain.Plain.{Plain}
 use Rattle.nio_plain.specs.declared.plain.selector.Selecting.{Selecting}
 use Rattle.nio_plain.specs.declared.plain.selector.Selector.{Selector}

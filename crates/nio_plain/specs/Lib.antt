@@ -4,4 +4,5 @@ pub mod Answer
 pub mod PlainState
 pub mod Plain
 pub mod Naming
+pub mod CallLaws
 pub mod ReachedLaws

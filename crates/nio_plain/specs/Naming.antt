@@ -2,7 +2,7 @@
 use Rattle.std.specs.Prelude.{◌≡◌}
 use Rattle.nio_event.specs.declared.reply.Reply.{Reply}
 use Rattle.nio_plain.specs.ScriptState.{ScriptState}
-use Rattle.nio_plain.specs.Seq.{Answered, refused}
+use Rattle.nio_plain.specs.Seq.Answers.{Answered, refused}
 
 -- the test lets each call through
 abbrev pub LetsThrough : (Answered → Answered) → Type 0

@@ -3,7 +3,7 @@ use Rattle.std.specs.Prelude.{◌≡◌, Result, IfOk, OnErr}
 use Rattle.std.specs.declared.alloc.AllocError.{AllocError}
 use Rattle.nio_event.specs.declared.reply.Reply.{Reply}
 use Rattle.nio_plain.specs.PlainState.{limits_of, state_of}
-use Rattle.nio_plain.specs.Seq.{Answered}
+use Rattle.nio_plain.specs.Seq.Answers.{Answered}
 use Rattle.nio_plain.specs.declared.plain.Plain.{Plain}
 
 -- the reply and the state are those of the documented system, and the limits stay

@@ -12,7 +12,9 @@ use Rattle.nio_event.specs.declared.found.GateWord.{GateWord}
 use Rattle.nio_event.specs.declared.found.Mark.{Mark}
 use Rattle.nio_event.specs.declared.found.Stage.{Stage}
 use Rattle.nio_plain.specs.ScriptState.{ScriptState, Selection}
-use Rattle.nio_plain.specs.Seq.{below, cancelled_key, is_key, removed_key, unselected, marked, looked_interest}
+use Rattle.nio_plain.specs.Seq.Cancelling.{cancelled_key, is_key}
+use Rattle.nio_plain.specs.Seq.Names.{below}
+use Rattle.nio_plain.specs.Seq.Selections.{removed_key, unselected, marked, looked_interest}
 use Rattle.nio_plain.specs.declared.plain.Plain.{Plain}
 use Rattle.nio_plain.specs.declared.plain.channel.Channel.{Channel}
 use Rattle.nio_plain.specs.declared.plain.selector.Closing.{Closing}

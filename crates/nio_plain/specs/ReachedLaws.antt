@@ -10,7 +10,8 @@ use Rattle.nio_event.specs.declared.call.Call.TheVariants as call
 use Rattle.nio_event.specs.declared.call.ScriptCall.{ScriptCall}
 use Rattle.nio_event.specs.declared.reply.Reply.TheVariants as reply
 use Rattle.nio_plain.specs.Answer.{left_by_script}
-use Rattle.nio_plain.specs.Seq.{seq, key_of, is_registered}
+use Rattle.nio_plain.specs.Seq.{seq}
+use Rattle.nio_plain.specs.Seq.Modes.{key_of, is_registered}
 
 -- THE SETS
 

@@ -1,6 +1,8 @@
 //! Laws of the documented system. Each is the contract of a function that does nothing.
+mod calls;
 mod reached;
 
+pub use calls::{refusals_law, selections_law, told_law, wakeups_law};
 pub use reached::{
     closed_channel_law, closed_selector_law, invalid_keys_law, key_of_channel_law, registered_law,
     sets_law,

@@ -2,7 +2,7 @@
 ghost use Rattle.std.specs.Prelude.{◌≡◌};
 ghost use Rattle.nio_plain.specs.Plain.{Answers};
 ghost use Rattle.nio_plain.specs.PlainState.{limits_of, state_of};
-ghost use Rattle.nio_plain.specs.Seq.{blocking_call, is_registered};
+ghost use Rattle.nio_plain.specs.Seq.Modes.{blocking_call, is_registered};
 
 use super::Plain;
 use nio_base::ChanNo;

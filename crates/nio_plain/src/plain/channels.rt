@@ -2,7 +2,8 @@
 ghost use Rattle.std.specs.Prelude.{◌≡◌};
 ghost use Rattle.nio_plain.specs.Plain.{Answers};
 ghost use Rattle.nio_plain.specs.PlainState.{limits_of, state_of};
-ghost use Rattle.nio_plain.specs.Seq.{is_blocking_call, is_open_call, is_registered_call, key_for_call, yes_or_no};
+ghost use Rattle.nio_plain.specs.Seq.Answers.{yes_or_no};
+ghost use Rattle.nio_plain.specs.Seq.Modes.{is_blocking_call, is_open_call, is_registered_call, key_for_call};
 
 use super::Plain;
 use nio_base::{ChanNo, SelNo};

@@ -2,7 +2,8 @@
 ghost use Rattle.std.specs.Prelude.{◌≡◌};
 ghost use Rattle.nio_plain.specs.Plain.{Answers};
 ghost use Rattle.nio_plain.specs.PlainState.{limits_of, state_of};
-ghost use Rattle.nio_plain.specs.Seq.{close_call, close_end_call, closec_call, with_keys_cancelled};
+ghost use Rattle.nio_plain.specs.Seq.Cancelling.{closec_call, with_keys_cancelled};
+ghost use Rattle.nio_plain.specs.Seq.Closing.{close_call, close_end_call};
 
 use super::Plain;
 use super::selector::Closing;

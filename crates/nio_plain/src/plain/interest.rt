@@ -2,7 +2,8 @@
 ghost use Rattle.std.specs.Prelude.{◌≡◌};
 ghost use Rattle.nio_plain.specs.Plain.{Answers};
 ghost use Rattle.nio_plain.specs.PlainState.{state_of};
-ghost use Rattle.nio_plain.specs.Seq.{are_legal, iand_call, interest_call, ior_call, iset_call};
+ghost use Rattle.nio_plain.specs.Seq.Keys.{iand_call, interest_call, ior_call, iset_call};
+ghost use Rattle.nio_plain.specs.Seq.Registering.{are_legal};
 
 use super::Plain;
 use super::selector::Key;

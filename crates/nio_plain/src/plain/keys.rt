@@ -2,7 +2,8 @@
 ghost use Rattle.std.specs.Prelude.{◌≡◌};
 ghost use Rattle.nio_plain.specs.Plain.{Answers};
 ghost use Rattle.nio_plain.specs.PlainState.{state_of};
-ghost use Rattle.nio_plain.specs.Seq.{attach_call, attachment_call, cancel_call, ready_call, unselect_call, valid_call};
+ghost use Rattle.nio_plain.specs.Seq.Cancelling.{cancel_call};
+ghost use Rattle.nio_plain.specs.Seq.Keys.{attach_call, attachment_call, ready_call, unselect_call, valid_call};
 
 use super::Plain;
 use super::channels::yes_or_no;

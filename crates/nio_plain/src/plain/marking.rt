@@ -2,7 +2,7 @@
 ghost use Rattle.std.specs.List.{All};
 ghost use Rattle.std.specs.Prelude.{ℕ, ◌≡◌, ◌<◌, ◌^◌, IfOk, bit_and, count_by, length, slice_index, vec_len};
 ghost use Rattle.nio_plain.specs.PlainState.{key_row, no_key, places};
-ghost use Rattle.nio_plain.specs.Seq.{all_told, is_updated, marked};
+ghost use Rattle.nio_plain.specs.Seq.Selections.{all_told, is_updated, marked};
 
 use super::selector::Key;
 use nio_base::Ops;

@@ -2,7 +2,8 @@
 ghost use Rattle.std.specs.Prelude.{◌≡◌, ◌<◌, IfErr, IfOk, vec_len};
 ghost use Rattle.nio_plain.specs.Naming.{LetsThrough, Refuses};
 ghost use Rattle.nio_plain.specs.PlainState.{channel_row, key_row, limits_of, no_selector, places, selector_row, state_of, with_key_row};
-ghost use Rattle.nio_plain.specs.Seq.{with_named_channel, with_named_key, with_named_selector, with_valid_key};
+ghost use Rattle.nio_plain.specs.Seq.Keys.{with_valid_key};
+ghost use Rattle.nio_plain.specs.Seq.Names.{with_named_channel, with_named_key, with_named_selector};
 
 use super::Plain;
 use super::channel::Channel;

@@ -1,7 +1,7 @@
 //! Opening selectors and channels: the least number that isn't made comes next.
 ghost use Rattle.nio_plain.specs.Plain.{AnswersAs};
 ghost use Rattle.nio_plain.specs.PlainState.{limits_of, state_of};
-ghost use Rattle.nio_plain.specs.Seq.{channel_call, selector_call};
+ghost use Rattle.nio_plain.specs.Seq.Opening.{channel_call, selector_call};
 
 use super::Plain;
 use super::channel::Channel;

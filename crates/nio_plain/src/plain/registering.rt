@@ -3,7 +3,9 @@ ghost use Rattle.std.specs.Option.{IfNone};
 ghost use Rattle.std.specs.Prelude.{◌≡◌, ℕ, ◌<◌, IfSome, Option, vec_len};
 ghost use Rattle.nio_plain.specs.Plain.{AnswersAs};
 ghost use Rattle.nio_plain.specs.PlainState.{limits_of, state_of};
-ghost use Rattle.nio_plain.specs.Seq.{given_or_kept, key_of, refused, register_call, registered};
+ghost use Rattle.nio_plain.specs.Seq.Answers.{refused};
+ghost use Rattle.nio_plain.specs.Seq.Modes.{key_of};
+ghost use Rattle.nio_plain.specs.Seq.Registering.{given_or_kept, register_call, registered};
 
 use super::Plain;
 use super::selector::Key;

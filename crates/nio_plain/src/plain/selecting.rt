@@ -2,7 +2,7 @@
 ghost use Rattle.std.specs.Prelude.{◌≡◌};
 ghost use Rattle.nio_plain.specs.Plain.{AnswersAs};
 ghost use Rattle.nio_plain.specs.PlainState.{state_of};
-ghost use Rattle.nio_plain.specs.Seq.{begin_call, mode_of};
+ghost use Rattle.nio_plain.specs.Seq.Selections.{begin_call, mode_of};
 
 use super::Plain;
 use nio_base::{CallerNo, SelNo};

@@ -2,7 +2,7 @@
 ghost use Rattle.std.specs.Prelude.{◌≡◌, ◌<◌, ◌^◌, IfOk, length};
 ghost use Rattle.nio_plain.specs.Plain.{AnswersAs};
 ghost use Rattle.nio_plain.specs.PlainState.{key_row, listed_below, no_key, places, state_of};
-ghost use Rattle.nio_plain.specs.Seq.{keys_call, names_or_none, selected_call};
+ghost use Rattle.nio_plain.specs.Seq.Listing.{keys_call, names_or_none, selected_call};
 
 use super::Plain;
 use super::selector::Key;

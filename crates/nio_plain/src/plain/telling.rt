@@ -2,7 +2,7 @@
 ghost use Rattle.std.specs.Prelude.{◌≡◌, ◌==◌, false, slice_index};
 ghost use Rattle.nio_plain.specs.Plain.{Answers, AnswersAs};
 ghost use Rattle.nio_plain.specs.PlainState.{state_of};
-ghost use Rattle.nio_plain.specs.Seq.{failed_call, goes_on, is_again, told_call, why_ended};
+ghost use Rattle.nio_plain.specs.Seq.Selections.{failed_call, goes_on, is_again, told_call, why_ended};
 
 use super::Plain;
 use super::marking::{all_told, updated_count};

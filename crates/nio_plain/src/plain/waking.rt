@@ -2,7 +2,7 @@
 ghost use Rattle.std.specs.Prelude.{◌≡◌, ◌<◌};
 ghost use Rattle.nio_plain.specs.Plain.{Answers};
 ghost use Rattle.nio_plain.specs.PlainState.{limits_of, state_of};
-ghost use Rattle.nio_plain.specs.Seq.{interrupt_call, interrupted_call, wakeup_call};
+ghost use Rattle.nio_plain.specs.Seq.Wakeups.{interrupt_call, interrupted_call, wakeup_call};
 
 use super::Plain;
 use super::channels::yes_or_no;

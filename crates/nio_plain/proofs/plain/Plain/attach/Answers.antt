@@ -2,8 +2,8 @@ use Rattle.std.proofs.Common.{sym, ap, ◌∙◌}
 use Rattle.nio_event.specs.declared.reply.Reply.TheVariants as reply
 use Rattle.nio_plain.proofs.Answering.{refused_without_memory, answered_without_memory}
 use Rattle.nio_plain.proofs.KeyChange.{key-note}
-use Rattle.nio_plain.specs.PlainState.{KeyRow, key_row, state_of}
-use Rattle.nio_plain.specs.Seq.{attach_call}
+use Rattle.nio_plain.specs.PlainState.{KeyRow, key_row}
+use Rattle.nio_plain.specs.Seq.Keys.{attach_call}
 use Rattle.nio_plain.proofs.plain.Plain.attach.Goals as goal
 
 pub returns-in-Ok : goal.returns-in-Ok

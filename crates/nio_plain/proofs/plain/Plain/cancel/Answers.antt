@@ -7,7 +7,8 @@ use Rattle.nio_event.specs.declared.reply.Reply.TheVariants as reply
 use Rattle.nio_plain.proofs.Answering.{refused_without_memory, answered_without_memory}
 use Rattle.nio_plain.proofs.KeyChange.{key-stage, stage-same}
 use Rattle.nio_plain.specs.PlainState.{KeyRow, key_row, state_of}
-use Rattle.nio_plain.specs.Seq.{answered, cancel_call, cancelled_key}
+use Rattle.nio_plain.specs.Seq.Answers.{answered}
+use Rattle.nio_plain.specs.Seq.Cancelling.{cancel_call, cancelled_key}
 use Rattle.nio_plain.proofs.plain.Plain.cancel.Goals as goal
 
 pub returns-then-key : goal.returns-then-key

@@ -1,4 +1,4 @@
-use Rattle.std.proofs.Common.{◌<◌, ◌≤◌, false, length, refl, ap, ◌∙◌, arith}
+use Rattle.std.proofs.Common.{◌<◌, ◌≤◌, false, length, refl, ◌∙◌, arith}
 use Rattle.nio_event.specs.State.{unmade_channel}
 use Rattle.nio_plain.proofs.Answering.{rows_of}
 use Rattle.nio_plain.proofs.Changing.{changed-step, changed-all}

@@ -1,6 +1,6 @@
 use Rattle.std.proofs.Common.{◌<◌, true, Some, length, refl, sym, ap, ◌∙◌, arith}
-use Rattle.std.proofs.lemmas.Bool.{cond-true, cond-false, eq-eqb, ne_eqb}
-use Rattle.nio_event.specs.State.{put, with_gate, with_closer}
+use Rattle.std.proofs.lemmas.Bool.{cond-true, cond-false}
+use Rattle.nio_event.specs.State.{with_gate, with_closer}
 use Rattle.nio_event.specs.declared.reply.Reply.TheVariants as reply
 use Rattle.nio_plain.proofs.Answering.{refused_without_memory, answered_without_memory}
 use Rattle.nio_plain.proofs.Closing.{changed_selector, read_row, makes-closer, not_finished}
@@ -8,7 +8,8 @@ use Rattle.nio_plain.proofs.Selecting.{then}
 use Rattle.nio_plain.proofs.Telling.{makes-gate}
 use Rattle.nio_plain.specs.PlainState.{SelectorRow, state_of, selector_row}
 use Rattle.nio_plain.specs.ScriptState.{ScriptState}
-use Rattle.nio_plain.specs.Seq.{refused, close_call}
+use Rattle.nio_plain.specs.Seq.Answers.{refused}
+use Rattle.nio_plain.specs.Seq.Closing.{close_call}
 use Rattle.nio_plain.proofs.plain.Plain.close.Goals as goal
 
 pub returns-in-Err : goal.returns-in-Err

@@ -7,7 +7,8 @@ use Rattle.nio_plain.proofs.Answering.{refused_without_memory, answered_without_
 use Rattle.nio_plain.proofs.Places.{places_at}
 use Rattle.nio_plain.specs.PlainState.{state_of, channel_row}
 use Rattle.nio_plain.specs.ScriptState.{ScriptState}
-use Rattle.nio_plain.specs.Seq.{refused, closec_call, with_keys_cancelled}
+use Rattle.nio_plain.specs.Seq.Answers.{refused}
+use Rattle.nio_plain.specs.Seq.Cancelling.{closec_call, with_keys_cancelled}
 use Rattle.nio_plain.proofs.plain.Plain.close_channel.Goals as goal
 
 pub returns-in-Err : goal.returns-in-Err

@@ -1,7 +1,7 @@
-use Rattle.std.proofs.Common.{◌<◌, Bool, true, false, not, ◌||◌, Option, Some, None, is_some, get_or, length, refl, sym, ap, ◌∙◌, arith}
+use Rattle.std.proofs.Common.{◌<◌, Bool, true, not, ◌||◌, Option, is_some, length, refl, sym, ap, ◌∙◌, arith}
 use Rattle.std.proofs.lemmas.Bool.{cond-true, cond-false, eq-eqb, ne_eqb, or_right}
 use Rattle.std.proofs.lemmas.List.{get_or_default}
-use Rattle.nio_event.specs.State.{put, with_entered}
+use Rattle.nio_event.specs.State.{with_entered}
 use Rattle.nio_event.specs.declared.reply.Reply.TheVariants as reply
 use Rattle.nio_plain.proofs.Answering.{is_some-caller_of, refused_without_memory, answered_without_memory}
 use Rattle.nio_plain.proofs.Closing.{changed_selector, read_row, makes-emptied, makes-entered, emptied, emptied-all}
@@ -10,7 +10,9 @@ use Rattle.nio_plain.specs.PlainState.{SelectorRow, state_of, selector_row, clos
 use Rattle.nio_plain.specs.declared.plain.selector.Closing.{Closing}
 use Rattle.nio_plain.specs.declared.plain.selector.Selector.{Selector}
 use Rattle.nio_plain.specs.ScriptState.{ScriptState}
-use Rattle.nio_plain.specs.Seq.{refused, close_end_call, is_caller, without_keys}
+use Rattle.nio_plain.specs.Seq.Answers.{refused}
+use Rattle.nio_plain.specs.Seq.Closing.{close_end_call, without_keys}
+use Rattle.nio_plain.specs.Seq.Selections.{is_caller}
 use Rattle.nio_plain.proofs.plain.Plain.close_end.Goals as goal
 
 pub returns-in-Err : goal.returns-in-Err

@@ -1,14 +1,12 @@
-use Rattle.std.proofs.Common.{◌<◌, false, None, is_some, length, refl, sym, ap, ◌∙◌, arith}
-use Rattle.std.proofs.lemmas.Bool.{cond-true, cond-false, eq-eqb, ne_eqb}
+use Rattle.std.proofs.Common.{◌<◌, false, None, length, refl, ap, ◌∙◌, arith}
 use Rattle.nio_event.specs.State.{put, with_turn, with_begun}
-use Rattle.nio_event.specs.declared.reply.Reply.TheVariants as reply
 use Rattle.nio_plain.proofs.Answering.{refused_without_memory, answered_without_memory}
 use Rattle.nio_plain.proofs.Closing.{changed_selector, read_row}
 use Rattle.nio_plain.proofs.Selecting.{makes-selecting}
 use Rattle.nio_plain.proofs.Telling.{own-none, own-others, own-some}
 use Rattle.nio_plain.specs.PlainState.{SelectorRow, state_of}
 use Rattle.nio_plain.specs.ScriptState.{ScriptState}
-use Rattle.nio_plain.specs.Seq.{failed_call, left_selection}
+use Rattle.nio_plain.specs.Seq.Selections.{failed_call, left_selection}
 use Rattle.nio_plain.proofs.plain.Plain.failed.Goals as goal
 
 pub returns-in-Err : goal.returns-in-Err

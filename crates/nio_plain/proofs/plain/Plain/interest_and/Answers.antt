@@ -1,11 +1,10 @@
 use Rattle.std.proofs.Common.{bit_and, sym, ap, ◌∙◌}
-use Rattle.std.proofs.lemmas.Bool.{cond-true, cond-false}
 use Rattle.nio_event.specs.State.{with_interest}
 use Rattle.nio_event.specs.declared.reply.Reply.TheVariants as reply
 use Rattle.nio_plain.proofs.Answering.{refused_without_memory, answered_without_memory}
 use Rattle.nio_plain.proofs.KeyChange.{key-interest}
 use Rattle.nio_plain.specs.PlainState.{KeyRow, key_row, state_of}
-use Rattle.nio_plain.specs.Seq.{refused, iand_call}
+use Rattle.nio_plain.specs.Seq.Keys.{iand_call}
 use Rattle.nio_plain.proofs.plain.Plain.interest_and.Goals as goal
 
 pub returns : goal.returns

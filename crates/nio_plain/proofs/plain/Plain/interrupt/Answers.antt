@@ -1,9 +1,10 @@
-use Rattle.std.proofs.Common.{◌<◌, true, refl, ap, length, arith}
+use Rattle.std.proofs.Common.{◌<◌, true, refl, length, arith}
 use Rattle.std.proofs.lemmas.Bool.{cond-true, cond-false, lt-ltb, le-ltb}
 use Rattle.nio_event.specs.declared.reply.Reply.TheVariants as reply
 use Rattle.nio_plain.proofs.Answering.{refused_without_memory, answered_without_memory, interrupted-set}
 use Rattle.nio_plain.specs.PlainState.{state_of}
-use Rattle.nio_plain.specs.Seq.{refused, interrupt_call}
+use Rattle.nio_plain.specs.Seq.Answers.{refused}
+use Rattle.nio_plain.specs.Seq.Wakeups.{interrupt_call}
 use Rattle.nio_plain.proofs.plain.Plain.interrupt.Goals as goal
 
 pub returns-then-target-self : goal.returns-then-target-self

@@ -1,6 +1,7 @@
 use Rattle.std.proofs.Common.{◌<◌, false, refl, ap, ◌∙◌, length, arith}
 use Rattle.nio_plain.proofs.Answering.{answered_without_memory, interrupted-set}
-use Rattle.nio_plain.specs.Seq.{interrupted_call, yes_or_no}
+use Rattle.nio_plain.specs.Seq.Answers.{yes_or_no}
+use Rattle.nio_plain.specs.Seq.Wakeups.{interrupted_call}
 use Rattle.nio_plain.proofs.plain.Plain.interrupted.Goals as goal
 
 pub returns : goal.returns

@@ -1,9 +1,9 @@
-use Rattle.std.proofs.Common.{not, sym, ap, ◌∙◌}
+use Rattle.std.proofs.Common.{sym, ap, ◌∙◌}
 use Rattle.nio_event.specs.declared.found.Chan.{Chan}
-use Rattle.nio_event.specs.declared.reply.Reply.TheVariants as reply
 use Rattle.nio_plain.proofs.Answering.{refused_without_memory}
 use Rattle.nio_plain.specs.PlainState.{state_of}
-use Rattle.nio_plain.specs.Seq.{refused, is_blocking_call, yes_or_no}
+use Rattle.nio_plain.specs.Seq.Answers.{refused, yes_or_no}
+use Rattle.nio_plain.specs.Seq.Modes.{is_blocking_call}
 use Rattle.nio_plain.proofs.plain.Plain.is_blocking_channel.Goals as goal
 
 pub returns-in-Ok : goal.returns-in-Ok

@@ -1,8 +1,8 @@
 use Rattle.std.proofs.Common.{sym, ap, ◌∙◌}
-use Rattle.nio_event.specs.declared.reply.Reply.TheVariants as reply
 use Rattle.nio_plain.proofs.Answering.{refused_without_memory}
 use Rattle.nio_plain.specs.PlainState.{state_of}
-use Rattle.nio_plain.specs.Seq.{refused, is_registered_call, yes_or_no}
+use Rattle.nio_plain.specs.Seq.Answers.{refused, yes_or_no}
+use Rattle.nio_plain.specs.Seq.Modes.{is_registered_call}
 use Rattle.nio_plain.proofs.plain.Plain.is_registered_channel.Goals as goal
 
 pub returns-in-Ok : goal.returns-in-Ok

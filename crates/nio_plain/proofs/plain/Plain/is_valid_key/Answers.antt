@@ -1,9 +1,9 @@
 use Rattle.std.proofs.Common.{sym, ap, ◌∙◌}
 use Rattle.nio_event.specs.Sets.{is_valid}
-use Rattle.nio_event.specs.declared.reply.Reply.TheVariants as reply
 use Rattle.nio_plain.proofs.Answering.{refused_without_memory}
 use Rattle.nio_plain.specs.PlainState.{KeyRow, state_of}
-use Rattle.nio_plain.specs.Seq.{refused, valid_call, yes_or_no}
+use Rattle.nio_plain.specs.Seq.Answers.{refused, yes_or_no}
+use Rattle.nio_plain.specs.Seq.Keys.{valid_call}
 use Rattle.nio_plain.proofs.plain.Plain.is_valid_key.Goals as goal
 
 pub returns-in-Ok : goal.returns-in-Ok

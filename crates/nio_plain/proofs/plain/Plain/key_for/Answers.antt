@@ -1,9 +1,9 @@
-use Rattle.std.proofs.Common.{◌<◌, ℕ, Option, Some, None, get_or, length, sym, ap, ◌∙◌, arith}
-use Rattle.nio_event.specs.declared.reply.Reply.TheVariants as reply
+use Rattle.std.proofs.Common.{◌<◌, ℕ, Option, Some, None, get_or, length, ap, ◌∙◌, arith}
 use Rattle.nio_plain.proofs.Answering.{refused_without_memory}
 use Rattle.nio_plain.proofs.Registering.{key_of-read}
 use Rattle.nio_plain.specs.PlainState.{state_of}
-use Rattle.nio_plain.specs.Seq.{refused, key_for_call, name_or_none}
+use Rattle.nio_plain.specs.Seq.Answers.{refused}
+use Rattle.nio_plain.specs.Seq.Modes.{key_for_call, name_or_none}
 use Rattle.nio_plain.proofs.plain.Plain.key_for.Goals as goal
 
 pub returns-in-Err : goal.returns-in-Err

@@ -1,4 +1,4 @@
-use Rattle.std.proofs.Common.{◌<◌, refl, ap, sym, ◌∙◌, length, arith}
+use Rattle.std.proofs.Common.{refl, ap, sym, ◌∙◌, arith}
 use Rattle.nio_event.specs.State.{put}
 use Rattle.nio_plain.proofs.Answering.{rows_of, with_rows, state-set_selector}
 use Rattle.nio_plain.proofs.KeyChange.{claimed-made, state-key}

@@ -2,7 +2,8 @@ use Rattle.std.proofs.Common.{sym, ap, ◌∙◌}
 use Rattle.nio_event.specs.declared.reply.Reply.TheVariants as reply
 use Rattle.nio_plain.proofs.Answering.{refused_without_memory}
 use Rattle.nio_plain.specs.PlainState.{KeyRow, state_of}
-use Rattle.nio_plain.specs.Seq.{refused, ready_call}
+use Rattle.nio_plain.specs.Seq.Answers.{refused}
+use Rattle.nio_plain.specs.Seq.Keys.{ready_call}
 use Rattle.nio_plain.proofs.plain.Plain.ready.Goals as goal
 
 pub returns-in-Ok : goal.returns-in-Ok

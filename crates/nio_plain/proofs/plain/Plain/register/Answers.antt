@@ -3,7 +3,7 @@ use Rattle.nio_plain.proofs.Answering.{failed_as, state-same_selector, same_row}
 use Rattle.nio_plain.proofs.Registering.{given-unwrapped}
 use Rattle.nio_plain.proofs.RegisteringAt.{answers-cancelled, answers-shut, answers-again, answers_new-shut, answers-full, answers-new}
 use Rattle.nio_plain.specs.PlainState.{KeyRow, key_row, selector_row, with_key_at, with_new_key, new_key_row}
-use Rattle.nio_plain.specs.Seq.{given_or_none}
+use Rattle.nio_plain.specs.Seq.Registering.{given_or_none}
 use Rattle.nio_plain.proofs.plain.Plain.register.Goals as goal
 
 pub returns-then-key : goal.returns-then-key

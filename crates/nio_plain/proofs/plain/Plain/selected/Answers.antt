@@ -1,12 +1,13 @@
-use Rattle.std.proofs.Common.{◌<◌, ℕ, List, true, false, ◌&&◌, filter, length, sym, ap, ◌∙◌, arith}
+use Rattle.std.proofs.Common.{◌<◌, ℕ, List, true, ◌&&◌, filter, length, sym, ap, ◌∙◌, arith}
 use Rattle.std.proofs.lemmas.Bool.{cond-true, cond-false}
 use Rattle.nio_event.specs.Sets.{in_key_set}
 use Rattle.nio_event.specs.declared.reply.Reply.TheVariants as reply
 use Rattle.nio_plain.proofs.Answering.{refused_as}
 use Rattle.nio_plain.proofs.Closing.{read_row}
-use Rattle.nio_plain.proofs.Sweeping.{all-listed}
 use Rattle.nio_plain.specs.PlainState.{SelectorRow, state_of, places, key_row, no_key, listed_below}
-use Rattle.nio_plain.specs.Seq.{Answered, refused, selected_call, names_or_none, below}
+use Rattle.nio_plain.specs.Seq.Answers.{Answered, refused}
+use Rattle.nio_plain.specs.Seq.Listing.{selected_call, names_or_none}
+use Rattle.nio_plain.specs.Seq.Names.{below}
 use Rattle.nio_plain.proofs.plain.Plain.selected.Goals as goal
 
 pub returns-in-Err : goal.returns-in-Err

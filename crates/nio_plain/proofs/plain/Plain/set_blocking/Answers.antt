@@ -6,7 +6,7 @@ use Rattle.nio_plain.proofs.Answering.{refused_without_memory, answered_without_
 use Rattle.nio_plain.proofs.Blocking.{blocking-no_channel, blocking-closed, blocking-registered, blocking-set}
 use Rattle.nio_plain.proofs.Places.{places_at, places_past}
 use Rattle.nio_plain.specs.PlainState.{state_of, limits_of, channel_row}
-use Rattle.nio_plain.specs.Seq.{is_registered}
+use Rattle.nio_plain.specs.Seq.Modes.{is_registered}
 use Rattle.nio_plain.proofs.plain.Plain.set_blocking.Goals as goal
 use Rattle.nio_plain.proofs.plain.Plain.set_blocking.Goals.{else-on-via-then-on+else-is_registered, else-on-via-else-on}
 

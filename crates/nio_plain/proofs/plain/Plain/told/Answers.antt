@@ -6,7 +6,7 @@ use Rattle.nio_plain.proofs.Places.{places_at}
 use Rattle.nio_plain.proofs.Telling.{told-no_selector, told-own, own-none, own-others, some_at}
 use Rattle.nio_plain.proofs.TellingAt.{answers-again, answers-told}
 use Rattle.nio_plain.specs.PlainState.{places, state_of, selector_row, no_selector, key_row, no_key, with_selection_ended}
-use Rattle.nio_plain.specs.Seq.{all_told, is_updated}
+use Rattle.nio_plain.specs.Seq.Selections.{all_told, is_updated}
 use Rattle.nio_plain.specs.declared.plain.selector.Selector.{Selector}
 use Rattle.nio_plain.proofs.plain.Plain.told.Goals as goal
 

@@ -6,7 +6,8 @@ use Rattle.nio_event.specs.declared.reply.Reply.TheVariants as reply
 use Rattle.nio_plain.proofs.Answering.{refused_without_memory, answered_without_memory}
 use Rattle.nio_plain.proofs.KeyChange.{key-mark}
 use Rattle.nio_plain.specs.PlainState.{KeyRow, key_row, state_of}
-use Rattle.nio_plain.specs.Seq.{refused, answered, unselect_call}
+use Rattle.nio_plain.specs.Seq.Answers.{refused}
+use Rattle.nio_plain.specs.Seq.Keys.{unselect_call}
 use Rattle.nio_plain.proofs.plain.Plain.unselect.Goals as goal
 use Rattle.nio_plain.proofs.plain.Plain.unselect.Goals.{then-key-via-then-key, then-key-via-else-key+then-not-key}
 

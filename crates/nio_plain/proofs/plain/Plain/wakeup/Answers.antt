@@ -1,13 +1,11 @@
 use Rattle.std.proofs.Common.{◌<◌, true, length, refl, arith}
-use Rattle.std.proofs.lemmas.Bool.{cond-true, cond-false, eq-eqb, ne_eqb}
-use Rattle.nio_event.specs.State.{put, with_gate}
-use Rattle.nio_event.specs.declared.reply.Reply.TheVariants as reply
+use Rattle.nio_event.specs.State.{with_gate}
 use Rattle.nio_plain.proofs.Answering.{refused_without_memory, answered_without_memory}
 use Rattle.nio_plain.proofs.Closing.{changed_selector}
 use Rattle.nio_plain.proofs.Telling.{makes-gate}
 use Rattle.nio_plain.specs.PlainState.{SelectorRow}
 use Rattle.nio_plain.specs.ScriptState.{ScriptState}
-use Rattle.nio_plain.specs.Seq.{wakeup_call}
+use Rattle.nio_plain.specs.Seq.Wakeups.{wakeup_call}
 use Rattle.nio_plain.proofs.plain.Plain.wakeup.Goals as goal
 
 pub returns-in-Err : goal.returns-in-Err

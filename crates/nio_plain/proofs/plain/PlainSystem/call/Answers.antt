@@ -1,7 +1,8 @@
 use Rattle.std.proofs.Common.{sym, ap, ◌∙◌}
 use Rattle.nio_plain.proofs.Calling.{seq-no_caller, seq-call, reply_by, left_by}
 use Rattle.nio_plain.specs.PlainState.{limits_of, state_of}
-use Rattle.nio_plain.specs.Seq.{Answered, call_of}
+use Rattle.nio_plain.specs.Seq.{call_of}
+use Rattle.nio_plain.specs.Seq.Answers.{Answered}
 use Rattle.nio_plain.proofs.plain.PlainSystem.call.Goals as goal
 
 pub returns-then-caller-self-clause-reply : goal.returns-then-caller-self-clause-reply

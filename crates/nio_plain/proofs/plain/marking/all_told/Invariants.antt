@@ -1,5 +1,5 @@
 use Rattle.std.proofs.Common.{◌≡◌, ◌<◌, ℕ, take, vec_len, slice_index}
-use Rattle.nio_plain.specs.Seq.{all_told}
+use Rattle.nio_plain.specs.Seq.Selections.{all_told}
 use Rattle.nio_plain.proofs.plain.marking.all_told.Given as goal
 
 abbrev pub invariant-loop-index : goal.invariant-loop-index

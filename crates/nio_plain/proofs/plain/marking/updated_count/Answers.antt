@@ -2,7 +2,7 @@ use Rattle.std.proofs.Common.{◌+◌, ◌<◌, ℕ, true, false, bit_and, get_o
 use Rattle.std.proofs.lemmas.List.Sums.{count_by_more_yes, count_by_more_no}
 use Rattle.nio_plain.proofs.Marking.{updated-at}
 use Rattle.nio_plain.specs.PlainState.{places, key_row, no_key}
-use Rattle.nio_plain.specs.Seq.{is_updated}
+use Rattle.nio_plain.specs.Seq.Selections.{is_updated}
 use Rattle.nio_plain.specs.declared.plain.selector.Key.{Key}
 use Rattle.nio_plain.proofs.plain.marking.updated_count.Goals as goal
 use Rattle.nio_plain.proofs.plain.marking.updated_count.Goals.{then-is_updated, else-is_updated}

@@ -1,6 +1,6 @@
 use Rattle.std.proofs.Common.{◌≡◌, take, count_by, bit_and, slice_index}
 use Rattle.nio_plain.specs.PlainState.{places, key_row, no_key}
-use Rattle.nio_plain.specs.Seq.{is_updated}
+use Rattle.nio_plain.specs.Seq.Selections.{is_updated}
 use Rattle.nio_plain.proofs.plain.marking.updated_count.Given as goal
 
 abbrev pub invariant-loop-index : goal.invariant-loop-index

@@ -5,7 +5,8 @@ use Rattle.nio_base.specs.declared.numbers.CallerNo.{CallerNo}
 use Rattle.nio_event.specs.declared.call.Call.{Call}
 use Rattle.nio_event.specs.declared.reply.Reply.TheVariants.{NoCaller}
 use Rattle.nio_plain.specs.ScriptState.{ScriptState}
-use Rattle.nio_plain.specs.Seq.{seq, refused}
+use Rattle.nio_plain.specs.Seq.{seq}
+use Rattle.nio_plain.specs.Seq.Answers.{refused}
 use Rattle.nio_script.proofs.tests.DeafSystem.call.Goals as goal
 
 none_below_zero : (n : ℕ) → ltb n 0 ≡ false

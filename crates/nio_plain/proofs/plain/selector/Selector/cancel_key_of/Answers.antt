@@ -1,10 +1,10 @@
-use Rattle.std.proofs.Common.{true, ◌<◌, eqb, cond, ℕ, Option, length, ap, sym, ◌∙◌, arith}
+use Rattle.std.proofs.Common.{true, ◌<◌, cond, ℕ, Option, length, ap, sym, ◌∙◌, arith}
 use Rattle.std.proofs.lemmas.List.{length-set}
 use Rattle.nio_event.specs.State.{put}
 use Rattle.nio_plain.proofs.Closing.{cancelled-one}
 use Rattle.nio_plain.proofs.Places.{places-set, places_at}
-use Rattle.nio_plain.specs.PlainState.{KeyRow, places, key_row, no_key, selector_row, cancelled_row}
-use Rattle.nio_plain.specs.Seq.{is_key}
+use Rattle.nio_plain.specs.PlainState.{places, key_row, no_key, selector_row, cancelled_row}
+use Rattle.nio_plain.specs.Seq.Cancelling.{is_key}
 use Rattle.nio_plain.proofs.plain.selector.Selector.cancel_key_of.Goals as goal
 
 pub returns-in-Some : goal.returns-in-Some

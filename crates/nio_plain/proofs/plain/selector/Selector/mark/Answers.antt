@@ -2,7 +2,7 @@ use Rattle.std.proofs.Common.{◌+◌, ◌<◌, ℕ, take, length, ap, ◌∙◌
 use Rattle.std.proofs.lemmas.List.{length-set, get_or_read}
 use Rattle.nio_plain.proofs.Marking.{marked_keys-step}
 use Rattle.nio_plain.specs.PlainState.{SelectorRow, selector_row, key_row, marked_keys}
-use Rattle.nio_plain.specs.Seq.{marked}
+use Rattle.nio_plain.specs.Seq.Selections.{marked}
 use Rattle.nio_plain.proofs.plain.selector.Selector.mark.Goals as goal
 
 pub loop-index-preserved : goal.loop-index-preserved

@@ -1,0 +1,23 @@
+-- What a call answers: a reply, and the state that it leaves.
+use Rattle.std.specs.Prelude.{Bool, true, false}
+use Rattle.nio_event.specs.State.{State}
+use Rattle.nio_event.specs.declared.reply.Reply.{Reply}
+use Rattle.nio_event.specs.declared.reply.Reply.TheVariants as reply
+use Rattle.nio_plain.specs.ScriptState.{ScriptState}
+
+-- a reply, and the state that the call leaves
+pub record Answered : Type 0 where
+  pub reply : Reply
+  pub left : ScriptState
+
+abbrev pub refused : ScriptState → Reply → Answered
+refused st reply = record { reply = reply; left = st }
+
+-- a call that changes the shared state alone
+abbrev pub answered : ScriptState → Reply → State → Answered
+answered st reply shared = record { reply = reply; left = record st { shared = shared } }
+
+-- the reply to a question
+abbrev pub yes_or_no : Bool → Reply
+yes_or_no true = reply.Yes
+yes_or_no false = reply.No

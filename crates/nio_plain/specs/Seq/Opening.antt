@@ -1,0 +1,30 @@
+-- Opening. A selector and a channel get the least number that isn't made. A new channel is open, in
+-- blocking mode and not registered.
+use Rattle.std.specs.Prelude.{ℕ, ◌+◌, true, false, not, Option, Some, None, find}
+use Rattle.nio_base.specs.declared.kind.Kind.{Kind}
+use Rattle.nio_base.specs.declared.limits.Limits.{Limits}
+use Rattle.nio_event.specs.State.{with_selector, with_chan, with_channels_mark}
+use Rattle.nio_event.specs.declared.reply.Reply.TheVariants as reply
+use Rattle.nio_plain.specs.ScriptState.{ScriptState}
+use Rattle.nio_plain.specs.Seq.Answers.{Answered, refused, answered}
+use Rattle.nio_plain.specs.Seq.Names.{below}
+
+abbrev pub selector_made : ScriptState → Option ℕ → Answered
+selector_made st None = refused st reply.SelectorsSpent
+selector_made st (Some s) =
+    answered st (reply.Selector (record { 0 = s })) (with_selector st.shared s true)
+
+unfoldable pub selector_call : Limits → ScriptState → Answered
+selector_call l st =
+    selector_made st (find (λ s. not (st.shared.selector s)) (below l.selectors))
+
+abbrev pub channel_made : ScriptState → Kind → Option ℕ → Answered
+channel_made st kind None = refused st reply.ChannelsSpent
+channel_made st kind (Some c) =
+    let opened = with_chan st.shared c
+    (record { made = true; kind = kind; closed = false; blocking = true }) in
+    answered st (reply.Channel (record { 0 = c })) (with_channels_mark opened (c + 1))
+
+unfoldable pub channel_call : Limits → ScriptState → Kind → Answered
+channel_call l st kind =
+    channel_made st kind (find (λ c. not (st.shared.chan c).made) (below l.channels))

@@ -1,0 +1,25 @@
+-- Wakeups and interrupts. A wakeup stays until a selection ends that it woke or that didn't wait;
+-- several act as one. Telling the own interrupt status clears it.
+use Rattle.std.specs.Prelude.{nat_lt, true, false, if◌then◌else◌}
+use Rattle.nio_base.specs.declared.limits.Limits.{Limits}
+use Rattle.nio_base.specs.declared.numbers.CallerNo.{CallerNo}
+use Rattle.nio_base.specs.declared.numbers.SelNo.{SelNo}
+use Rattle.nio_event.specs.State.{with_interrupted, with_gate}
+use Rattle.nio_event.specs.declared.reply.Reply.TheVariants as reply
+use Rattle.nio_plain.specs.ScriptState.{ScriptState}
+use Rattle.nio_plain.specs.Seq.Answers.{Answered, refused, answered, yes_or_no}
+use Rattle.nio_plain.specs.Seq.Names.{with_named_selector}
+
+unfoldable pub wakeup_call : ScriptState → SelNo → Answered
+wakeup_call st s =
+    with_named_selector st s
+    (answered st reply.«Ok» (with_gate st.shared s.0 (record (st.shared.gate s.0) { woken = true })))
+
+unfoldable pub interrupt_call : Limits → ScriptState → CallerNo → Answered
+interrupt_call l st target =
+    if nat_lt target.0 l.callers then answered st reply.«Ok» (with_interrupted st.shared target.0 true)
+    else refused st reply.NoCaller
+
+unfoldable pub interrupted_call : ScriptState → CallerNo → Answered
+interrupted_call st me =
+    answered st (yes_or_no (st.shared.interrupted me.0)) (with_interrupted st.shared me.0 false)

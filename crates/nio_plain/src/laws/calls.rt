@@ -1,0 +1,30 @@
+//! Laws of one call, and of the calls between two wakeups.
+ghost use Rattle.nio_plain.specs.CallLaws.{RefusalsChangeNothing, OnlyToldBitsAreSelected, BitsAreToldAndLookedFor, LookedIsAnswered, OnlyItselfEndsASelection, WakeupsArePending, FurtherWakeupsChangeNothing, WakeupsAreAnswered, WakeupsActAsOne};
+
+/// A refused call changes nothing.
+pub fn refusals_law()
+    ensures { RefusalsChangeNothing }
+{}
+
+/// A key becomes selected, and its ready set gains a bit, only for bits that the poller told in that
+/// call and that the caller's own selection looked for.
+pub fn told_law()
+    ensures only { OnlyToldBitsAreSelected }
+    ensures bits { BitsAreToldAndLookedFor }
+{}
+
+/// A selection in progress looks at what its `begin` answered, the valid keys with their interests, and
+/// stays so until its own caller ends it.
+pub fn selections_law()
+    ensures begun { LookedIsAnswered }
+    ensures stay { OnlyItselfEndsASelection }
+{}
+
+/// A wakeup stays until a selection of its selector ends, which uses it up, and further ones change
+/// nothing until then: several wakeups act as one.
+pub fn wakeups_law()
+    ensures pending { WakeupsArePending }
+    ensures further { FurtherWakeupsChangeNothing }
+    ensures answered { WakeupsAreAnswered }
+    ensures one { WakeupsActAsOne }
+{}
