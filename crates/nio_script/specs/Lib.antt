@@ -1,3 +1,5 @@
+pub mod Check
+pub mod History
 pub mod Input
 pub mod Output
 pub mod Run
