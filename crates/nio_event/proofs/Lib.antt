@@ -7,9 +7,11 @@ pub mod CallWordTable
 pub mod PairLists
 pub mod Elapsed
 pub mod CallWordDispatch
+pub mod PlainWords
 pub mod Spaces
 pub mod LineTexts
 pub mod JoinedWords
+pub mod PlainTexts
 pub mod Legal
 pub mod Put
 pub mod OneMore

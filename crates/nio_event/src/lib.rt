@@ -9,7 +9,7 @@ pub use found::{Chan, GateWord, Mark, Mode, Stage};
 pub use names::Names;
 pub use pairs::Pairs;
 pub use parse::{ParseError, Parsed, parse_line};
-pub use print::print_line;
+pub use print::{print_line, print_reply};
 pub use reply::{Reply, Why};
 
 mod act;

@@ -1,6 +1,6 @@
 //! Writing the lines of a history.
 ghost use Rattle.std.specs.Prelude.{◌≡◌, IfOk};
-ghost use Rattle.nio_event.specs.Replies.{history_line};
+ghost use Rattle.nio_event.specs.Replies.{history_line, reply_text};
 
 use crate::call::Call;
 use crate::reply::Reply;
@@ -38,4 +38,13 @@ pub fn print_line(
     push_reply(&mut line, reply)?;
     push_bytes(&mut line, b"\n")?;
     Ok(line)
+}
+
+/// The text of a reply as a line of a history has it, with no newline.
+pub fn print_reply(alloc: Global, reply: &Reply) -> Result<Vec<u8>, AllocError>
+    ensures { IfOk result (λ bytes. bytes.items ≡ reply_text reply.now) }
+{
+    let mut text = Vec::with_capacity(alloc, USUAL_LENGTH)?;
+    push_reply(&mut text, reply)?;
+    Ok(text)
 }

@@ -64,6 +64,8 @@ fn prints_each_reply(rt: HostRuntime) -> Result<(), Fail> {
         )?;
         let line = format!(in rt.alloc(); "18446744073709551615 t7 selector -> {wanted}\n")?;
         assert_eq!(rt; printed.as_slice(), line.as_bytes());
+        let text = print_reply(rt.alloc(), &reply)?;
+        assert_eq!(rt; text.as_slice(), wanted.as_bytes());
     }
     Ok(())
 }

@@ -1,0 +1,217 @@
+-- Plain words: those of a line and of a reply have no bytes but digits, small letters, `-` and `:`.
+use Rattle.std.proofs.Common.{◌≡◌, ◌≢◌, ℕ, zero, suc, ◌+◌, ℤ, pos, negsuc, Bool, true, false, not, ◌&&◌, if◌then◌else◌, Option, None, Some, List, [], ◌∷◌, ◌++◌, ◌<◌, ◌≤◌, ◌/◌, ◌%◌, ◌==◌, nat_le, map, codes, refl, sym, subst, ap, ◌∙◌, arith, All}
+use Rattle.std.specs.Fmt.{decimal, signed_decimal, digits, digits_onto, digit_glyph}
+use Rattle.std.specs.Int.{IsInRange}
+use Rattle.std.specs.List.{AllByRecursion, list_all}
+use Rattle.std.proofs.lemmas.Bool.{and_parts, cond_both, eq-eqb, false≢true, leb-true, lt-ltb}
+use Rattle.std.proofs.lemmas.List.Elements.{All-append, All-cons, All-from_recursion, All-nil, All-weaker, recursion_from_All}
+use Rattle.std.proofs.lemmas.List.Sums.{AllPass-from_list_all}
+use Rattle.nio_base.specs.declared.kind.Kind.{Kind}
+use Rattle.nio_base.specs.declared.kind.Kind.TheVariants.{Stream, Listener, Source, Sink}
+use Rattle.nio_base.specs.declared.numbers.CallerNo.{CallerNo}
+use Rattle.nio_base.specs.declared.numbers.ChanNo.{ChanNo}
+use Rattle.nio_base.specs.declared.numbers.SelNo.{SelNo}
+use Rattle.nio_event.specs.Calls.{attachment_words, call_words, elapsed_words, mode_word, waiting_words}
+use Rattle.nio_event.specs.Replies.{pairs_words, reply_words, why_word}
+use Rattle.nio_event.specs.Words.{caller_word, channel_word, key_word, kind_word, pair_word, selector_word}
+use Rattle.nio_event.specs.declared.call.Call.{Call}
+use Rattle.nio_event.specs.declared.call.Call.TheVariants.{Selector, Channel, Blocking, IsBlocking, IsOpen, IsRegistered, KeyFor, Register, Closec, Valid, Interest, Ready, Iset, Ior, Iand, Cancel, Unselect, Attach, Attachment, Begin, Told, Failed, Wakeup, Close, CloseEnd, Keys, Selected, Interrupt, Interrupted}
+use Rattle.nio_event.specs.declared.call.Waiting.{Waiting}
+use Rattle.nio_event.specs.declared.call.Waiting.TheVariants.{Now, Wait, For}
+use Rattle.nio_event.specs.declared.reply.Reply.{Reply}
+use Rattle.nio_event.specs.declared.reply.Reply.TheVariants as reply
+use Rattle.nio_event.specs.declared.reply.Why.{Why}
+use Rattle.nio_event.specs.declared.reply.Why.TheVariants as why
+use Rattle.nio_event.proofs.NameWords.{pair_word_cut}
+
+-- no space, no newline and no other byte below `-`, and no `>`
+abbrev pub IsPlainByte : ℕ → Type 0
+IsPlainByte b = (45 ≤ b) × (b ≢ 62)
+
+abbrev pub IsPlain : List ℕ → Type 0
+IsPlain word = All IsPlainByte word
+
+-- what holds of each plain byte holds of each byte of plain words
+pub words_weaker : (P : ℕ → Type 0) → ((b : ℕ) → IsPlainByte b → P b) → (words : List (List ℕ)) → AllByRecursion IsPlain words
+    → AllByRecursion (All P) words
+words_weaker P weaker words plain =
+    recursion_from_All (All P) words
+    (All-weaker IsPlain (All P) (λ word. All-weaker IsPlainByte P weaker word) words (All-from_recursion IsPlain words plain))
+
+-- a word that computes
+
+abbrev is_plain_byte : ℕ → Bool
+is_plain_byte b = nat_le 45 b && not (b == 62)
+
+plain_where_so : (b : ℕ) → is_plain_byte b ≡ true → IsPlainByte b
+plain_where_so b e =
+    let parts = and_parts (nat_le 45 b) (not (b == 62)) e in
+    (leb-true 45 b parts.0, λ arrow. false≢true (sym (ap not (eq-eqb b 62 arrow)) ∙ parts.1))
+
+literal : (word : List ℕ) → list_all is_plain_byte word ≡ true → IsPlain word
+literal word e =
+    All-weaker (λ b. is_plain_byte b ≡ true) IsPlainByte plain_where_so word (AllPass-from_list_all is_plain_byte word e)
+
+-- numbers, and letters with a number
+
+digit : (d : ℕ) → d < 10 → IsInRange 48 57 (digit_glyph false d)
+digit d h = subst (λ (b : Bool). IsInRange 48 57 (if b then 48 + d else 87 + d)) (sym (lt-ltb d 10 h)) (omega arith, omega arith)
+
+digits_before : (k n : ℕ) (after : List ℕ) → All (IsInRange 48 57) after → All (IsInRange 48 57) (digits_onto k 10 false n after)
+digits_before zero n after h = h
+digits_before (suc k) n after h =
+    let last = digit_glyph false (n % 10) in
+    let more = All-cons (IsInRange 48 57) last after (digit (n % 10) (omega arith)) h in
+    cond_both (n / 10 == 0) (last ∷ after) (digits_onto k 10 false (n / 10) (last ∷ after)) (All (IsInRange 48 57)) (λ _. more) (λ _. digits_before k (n / 10) (last ∷ after) more)
+
+-- the bytes of a decimal number are digits, however large it is
+pub decimal_digits : (n : ℕ) → All (IsInRange 48 57) (decimal n)
+unfolding digits
+decimal_digits n = digits_before 64 n [] (All-nil (IsInRange 48 57))
+
+decimal_plain : (n : ℕ) → IsPlain (decimal n)
+decimal_plain n =
+    All-weaker (IsInRange 48 57) IsPlainByte (λ b r. (omega (arith, r), omega (arith, r))) (decimal n) (decimal_digits n)
+
+pub numbered_plain : (letter n : ℕ) → IsPlainByte letter → IsPlain (letter ∷ decimal n)
+numbered_plain letter n plain = All-cons IsPlainByte letter (decimal n) plain (decimal_plain n)
+
+pub caller_plain : (t : CallerNo) → IsPlain (caller_word t)
+caller_plain t = numbered_plain 116 t.0 (omega arith, omega arith)
+
+selector_plain : (s : SelNo) → IsPlain (selector_word s)
+selector_plain s = numbered_plain 115 s.0 (omega arith, omega arith)
+
+channel_plain : (c : ChanNo) → IsPlain (channel_word c)
+channel_plain c = numbered_plain 99 c.0 (omega arith, omega arith)
+
+key_plain : (i : ℕ) → IsPlain (key_word i)
+key_plain i = numbered_plain 107 i (omega arith, omega arith)
+
+pair_plain : (p : ℕ × ℕ) → IsPlain (pair_word p)
+pair_plain p =
+    subst IsPlain (sym (pair_word_cut p))
+    (All-append IsPlainByte (key_word p.0) (58 ∷ decimal p.1) (key_plain p.0) (numbered_plain 58 p.1 (omega arith, omega arith)))
+
+time_plain : (ms : ℤ) → IsPlain (signed_decimal ms)
+time_plain (pos n) = decimal_plain n
+time_plain (negsuc n) = numbered_plain 45 (suc n) (omega arith, omega arith)
+
+-- the words of calls
+
+kind_plain : (kind : Kind) → IsPlain (kind_word kind)
+kind_plain Stream = literal (codes "stream") refl
+kind_plain Listener = literal (codes "listener") refl
+kind_plain Source = literal (codes "source") refl
+kind_plain Sink = literal (codes "sink") refl
+
+mode_plain : (on : Bool) → IsPlain (mode_word on)
+mode_plain true = literal (codes "on") refl
+mode_plain false = literal (codes "off") refl
+
+waiting_plain : (waiting : Waiting) → AllByRecursion IsPlain (waiting_words waiting)
+waiting_plain Now = (literal (codes "now") refl, tt)
+waiting_plain Wait = (literal (codes "wait") refl, tt)
+waiting_plain (For ms) = (literal (codes "for") refl, (time_plain ms, tt))
+
+attachment_plain : (att : Option ℕ) → AllByRecursion IsPlain (attachment_words att)
+attachment_plain None = tt
+attachment_plain (Some att) = (decimal_plain att, tt)
+
+pairs_plain : (pairs : List (ℕ × ℕ)) → AllByRecursion IsPlain (map pair_word pairs)
+pairs_plain [] = tt
+pairs_plain (p ∷ pairs) = (pair_plain p, pairs_plain pairs)
+
+told_plain : (elapsed : Bool) (pairs : List (ℕ × ℕ)) → AllByRecursion IsPlain (elapsed_words elapsed ++ map pair_word pairs)
+told_plain true pairs = (literal (codes "elapsed") refl, pairs_plain pairs)
+told_plain false pairs = pairs_plain pairs
+
+selector_key_plain : (s : SelNo) (k : ℕ) → AllByRecursion IsPlain (selector_word s ∷ key_word k ∷ [])
+selector_key_plain s k = (selector_plain s, (key_plain k, tt))
+
+key_number_plain : (s : SelNo) (k n : ℕ) → AllByRecursion IsPlain (selector_word s ∷ key_word k ∷ decimal n ∷ [])
+key_number_plain s k n = (selector_plain s, (key_plain k, (decimal_plain n, tt)))
+
+pub call_plain : (call : Call) → AllByRecursion IsPlain (call_words call)
+call_plain Selector = (literal (codes "selector") refl, tt)
+call_plain (Channel kind) = (literal (codes "channel") refl, (kind_plain kind, tt))
+call_plain (Blocking c on) = (literal (codes "blocking") refl, (channel_plain c, (mode_plain on, tt)))
+call_plain (IsBlocking c) = (literal (codes "is-blocking") refl, (channel_plain c, tt))
+call_plain (IsOpen c) = (literal (codes "is-open") refl, (channel_plain c, tt))
+call_plain (IsRegistered c) = (literal (codes "is-registered") refl, (channel_plain c, tt))
+call_plain (KeyFor c s) = (literal (codes "key-for") refl, (channel_plain c, (selector_plain s, tt)))
+call_plain (Register s c ops att) =
+    (literal (codes "register") refl, (selector_plain s, (channel_plain c, (decimal_plain ops, attachment_plain att))))
+call_plain (Closec c) = (literal (codes "closec") refl, (channel_plain c, tt))
+call_plain (Valid s k) = (literal (codes "valid") refl, selector_key_plain s k)
+call_plain (Interest s k) = (literal (codes "interest") refl, selector_key_plain s k)
+call_plain (Ready s k) = (literal (codes "ready") refl, selector_key_plain s k)
+call_plain (Iset s k ops) = (literal (codes "iset") refl, key_number_plain s k ops)
+call_plain (Ior s k ops) = (literal (codes "ior") refl, key_number_plain s k ops)
+call_plain (Iand s k ops) = (literal (codes "iand") refl, key_number_plain s k ops)
+call_plain (Cancel s k) = (literal (codes "cancel") refl, selector_key_plain s k)
+call_plain (Unselect s k) = (literal (codes "unselect") refl, selector_key_plain s k)
+call_plain (Attach s k att) = (literal (codes "attach") refl, key_number_plain s k att)
+call_plain (Attachment s k) = (literal (codes "attachment") refl, selector_key_plain s k)
+call_plain (Begin s waiting) = (literal (codes "begin") refl, (selector_plain s, waiting_plain waiting))
+call_plain (Told s elapsed pairs) = (literal (codes "told") refl, (selector_plain s, told_plain elapsed pairs))
+call_plain (Failed s) = (literal (codes "failed") refl, (selector_plain s, tt))
+call_plain (Wakeup s) = (literal (codes "wakeup") refl, (selector_plain s, tt))
+call_plain (Close s) = (literal (codes "close") refl, (selector_plain s, tt))
+call_plain (CloseEnd s) = (literal (codes "close-end") refl, (selector_plain s, tt))
+call_plain (Keys s) = (literal (codes "keys") refl, (selector_plain s, tt))
+call_plain (Selected s) = (literal (codes "selected") refl, (selector_plain s, tt))
+call_plain (Interrupt t) = (literal (codes "interrupt") refl, (caller_plain t, tt))
+call_plain Interrupted = (literal (codes "interrupted") refl, tt)
+
+-- the words of replies
+
+why_plain : (w : Why) → IsPlain (why_word w)
+why_plain why.Ready = literal (codes "ready") refl
+why_plain why.Closed = literal (codes "closed") refl
+why_plain why.Now = literal (codes "now") refl
+why_plain why.Woken = literal (codes "woken") refl
+why_plain why.Interrupted = literal (codes "interrupted") refl
+why_plain why.Elapsed = literal (codes "elapsed") refl
+
+keys_plain : (keys : List ℕ) → AllByRecursion IsPlain (map key_word keys)
+keys_plain [] = tt
+keys_plain (k ∷ keys) = (key_plain k, keys_plain keys)
+
+looked_plain : (pairs : List (ℕ × ℕ)) → AllByRecursion IsPlain (pairs_words pairs)
+looked_plain [] = (literal (codes "none") refl, tt)
+looked_plain (p ∷ pairs) = pairs_plain (p ∷ pairs)
+
+pub reply_words_plain : (r : Reply) → AllByRecursion IsPlain (reply_words r)
+reply_words_plain (reply.Selector s) = (selector_plain s, tt)
+reply_words_plain (reply.Channel c) = (channel_plain c, tt)
+reply_words_plain (reply.Key i) = (key_plain i, tt)
+reply_words_plain (reply.Number n) = (decimal_plain n, tt)
+reply_words_plain (reply.Names keys) = keys_plain keys
+reply_words_plain reply.«Ok» = (literal (codes "ok") refl, tt)
+reply_words_plain reply.Yes = (literal (codes "yes") refl, tt)
+reply_words_plain reply.No = (literal (codes "no") refl, tt)
+reply_words_plain reply.None = (literal (codes "none") refl, tt)
+reply_words_plain (reply.Looked pairs) = (literal (codes "looked") refl, looked_plain pairs)
+reply_words_plain (reply.Selected count w) = (literal (codes "selected") refl, (decimal_plain count, (why_plain w, tt)))
+reply_words_plain reply.Again = (literal (codes "again") refl, tt)
+reply_words_plain reply.Left = (literal (codes "left") refl, tt)
+reply_words_plain reply.Already = (literal (codes "already") refl, tt)
+reply_words_plain reply.Closing = (literal (codes "closing") refl, tt)
+reply_words_plain reply.Closed = (literal (codes "closed") refl, tt)
+reply_words_plain reply.SelectorsSpent = (literal (codes "selectors-spent") refl, tt)
+reply_words_plain reply.ChannelsSpent = (literal (codes "channels-spent") refl, tt)
+reply_words_plain reply.ClosedChannel = (literal (codes "closed-channel") refl, tt)
+reply_words_plain reply.IllegalBlockingMode = (literal (codes "illegal-blocking-mode") refl, tt)
+reply_words_plain reply.IllegalOps = (literal (codes "illegal-ops") refl, tt)
+reply_words_plain reply.CancelledKey = (literal (codes "cancelled-key") refl, tt)
+reply_words_plain reply.ClosedSelector = (literal (codes "closed-selector") refl, tt)
+reply_words_plain reply.Full = (literal (codes "full") refl, tt)
+reply_words_plain reply.Busy = (literal (codes "busy") refl, tt)
+reply_words_plain reply.NegativeTimeout = (literal (codes "negative-timeout") refl, tt)
+reply_words_plain reply.NotSelecting = (literal (codes "not-selecting") refl, tt)
+reply_words_plain reply.NotClosing = (literal (codes "not-closing") refl, tt)
+reply_words_plain reply.NoCaller = (literal (codes "no-caller") refl, tt)
+reply_words_plain reply.NoSelector = (literal (codes "no-selector") refl, tt)
+reply_words_plain reply.NoChannel = (literal (codes "no-channel") refl, tt)
+reply_words_plain reply.NoKey = (literal (codes "no-key") refl, tt)
