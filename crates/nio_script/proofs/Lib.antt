@@ -1,5 +1,7 @@
 pub mod Bytes
+pub mod EntryLemmas
 pub mod FirstBad
+pub mod FirstBadEntry
 pub mod Reading
 pub mod Running
 pub mod ScriptLemmas

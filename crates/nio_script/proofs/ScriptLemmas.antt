@@ -69,11 +69,11 @@ pub take_one_more : {A : Type 0} (xs : List A) (i : ℕ) (x : A) → i < length 
     → take (i + 1) xs ≡ take i xs ++ x ∷ []
 take_one_more xs i x within at = rw (add-one, take-suc xs i x within, at) refl
 
-drop_one : {A : Type 0} (xs : List A) (i : ℕ) (x : A) → i < length xs → get_or xs i x ≡ x
+pub drop_one : {A : Type 0} (xs : List A) (i : ℕ) (x : A) → i < length xs → get_or xs i x ≡ x
     → drop i xs ≡ x ∷ drop (i + 1) xs
 drop_one xs i x within at = rw (drop-cons xs i x within, at, add-one) refl
 
-drop_all : {A : Type 0} (xs : List A) (i : ℕ) → length xs ≤ i → drop i xs ≡ []
+pub drop_all : {A : Type 0} (xs : List A) (i : ℕ) → length xs ≤ i → drop i xs ≡ []
 drop_all xs i end = drop_of_length-le xs end
 
 pub parts : {A : Type 0} (xs : List A) (i : ℕ) (x : A) → i < length xs → get_or xs i x ≡ x

@@ -1,0 +1,183 @@
+-- How the entries of a history grow by a line.
+use Rattle.std.proofs.Common.{◌≡◌, ℕ, zero, suc, ◌+◌, ◌<◌, ◌≤◌, List, [], ◌∷◌, ◌++◌, length, drop, take, get_or, Option, Some, refl, sym, ◌∙◌, ap, subst, append_assoc, append-nil, length-append, codes, arith, All}
+use Rattle.std.specs.Prelude.{slice_get, inl, inr}
+use Rattle.std.specs.Fmt.{decimal}
+use Rattle.std.specs.Int.{IsInRange}
+use Rattle.std.proofs.lemmas.List.{take_all}
+use Rattle.std.proofs.lemmas.List.Elements.{All-head}
+use Rattle.nio_event.specs.Calls.{IsBlank}
+use Rattle.nio_event.specs.Script.{lines_of}
+use Rattle.nio_script.specs.Entries.{AddsEntry, IsNoEntry, HasReadEntries}
+use Rattle.nio_script.specs.History.{Entry, IsEntry, AreEntries, IsFirstBadEntry, no_lines, blank_line, entry_line, call_text}
+use Rattle.nio_script.proofs.ScriptLemmas.{take_one_more, drop_one, drop_all, parts, length_take_within}
+
+-- the number of the first entry may be told in another way
+renumbered : (m n : ℕ) {lines : List (List ℕ)} {entries : List Entry} → m ≡ n → AreEntries m lines entries → AreEntries n lines entries
+renumbered m n {lines = lines} {entries = entries} e = subst (λ k. AreEntries k lines entries) e
+
+-- lines behind others
+pub AreEntries-append : (n : ℕ) (first rest : List (List ℕ)) (front back : List Entry)
+    → AreEntries n first front → AreEntries (n + length front) rest back → AreEntries n (first ++ rest) (front ++ back)
+AreEntries-append n first rest front back no_lines more = renumbered (n + 0) n (omega arith) more
+AreEntries-append n first rest front back (blank_line {lines = lines} b others) more =
+    blank_line b (AreEntries-append n lines rest front back others more)
+AreEntries-append n first rest front back (entry_line {lines = lines} {e = e} {entries = entries} is others) more =
+    entry_line is (AreEntries-append (n + 1) lines rest entries back others (renumbered _ _ (omega arith) more))
+
+-- the entries of some lines, and those of the lines behind them
+pub record Split (n : ℕ) (first rest : List (List ℕ)) (entries : List Entry) : Type 0 where
+  pub front : List Entry
+  pub back : List Entry
+  pub reads : AreEntries n first front
+  pub left : AreEntries (n + length front) rest back
+  pub both : entries ≡ front ++ back
+
+pub AreEntries-split : (n : ℕ) (first rest : List (List ℕ)) (entries : List Entry)
+    → AreEntries n (first ++ rest) entries → Split n first rest entries
+AreEntries-split n [] rest entries are =
+    record { front = []; back = entries; reads = no_lines; left = renumbered n (n + 0) (omega arith) are; both = refl }
+AreEntries-split n (line ∷ first) rest entries (blank_line b others) =
+    let s = AreEntries-split n first rest entries others in
+    record { front = s.front; back = s.back; reads = blank_line b s.reads; left = s.left; both = s.both }
+AreEntries-split n (line ∷ first) rest entries (entry_line {e = e} {entries = more} is others) =
+    let s = AreEntries-split (n + 1) first rest more others in
+    record {
+      front = e ∷ s.front;
+      back = s.back;
+      reads = entry_line is s.reads;
+      left = renumbered _ _ (omega arith) s.left;
+      both = ap (λ es. e ∷ es) s.both;
+    }
+
+pub AreEntries-none : {n : ℕ} {entries : List Entry} → AreEntries n [] entries → entries ≡ []
+AreEntries-none no_lines = refl
+
+decimal_digits : (n : ℕ) → All (IsInRange 48 57) (decimal n)
+decimal_digits n = ?
+
+-- a number and a space are no blank line
+numbered_full : (digits rest : List ℕ) → All (IsInRange 48 57) digits → IsBlank (digits ++ 32 ∷ rest) → ⊥
+numbered_full [] rest all (inl e) = cc
+numbered_full [] rest all (inr e) = let same : 32 ≡ 35 = cc in omega arith
+numbered_full (d ∷ digits) rest all (inl e) = cc
+numbered_full (d ∷ digits) rest all (inr e) =
+    let range = All-head (IsInRange 48 57) d digits all in
+    let same : d ≡ 35 = cc in
+    omega (arith, range)
+
+-- an entry isn't blank
+pub entry_full : {n : ℕ} {e : Entry} {line : List ℕ} → IsEntry n e line → IsBlank line → ⊥
+entry_full {n = n} {e = e} {line = line} is blank =
+    numbered_full (decimal n) (call_text e ++ codes " -> " ++ e.reply) (decimal_digits n) (subst IsBlank is.text blank)
+
+-- so the same lines have as many entries, however they are numbered
+pub same_count : {m n : ℕ} {lines : List (List ℕ)} {entries others : List Entry}
+    → AreEntries m lines entries → AreEntries n lines others → length entries ≡ length others
+same_count no_lines no_lines = refl
+same_count (blank_line b more) (blank_line c rest) = same_count more rest
+same_count (blank_line b more) (entry_line is rest) = absurd (entry_full is b)
+same_count (entry_line is more) (blank_line b rest) = absurd (entry_full is b)
+same_count (entry_line is more) (entry_line same rest) = ap suc (same_count more rest)
+
+-- a line that is neither blank nor an entry isn't the first of lines that are entries
+no_entry_first : (n : ℕ) (line : List ℕ) (lines : List (List ℕ)) (entries : List Entry)
+    → IsNoEntry n line → AreEntries n (line ∷ lines) entries → ⊥
+no_entry_first n line lines entries none (blank_line b more) = none.full b
+no_entry_first n line lines entries none (entry_line {e = e} is more) = none.bad e is
+
+-- and doesn't stand where the next entry would
+pub no_entry_within : (lines before after : List (List ℕ)) (line : List ℕ) (all entries : List Entry)
+    → lines ≡ before ++ line ∷ after → AreEntries 1 before entries → IsNoEntry (length entries + 1) line
+    → AreEntries 1 lines all → ⊥
+no_entry_within lines before after line all entries parts good none are =
+    let s = AreEntries-split 1 before (line ∷ after) all (subst (λ ls. AreEntries 1 ls all) parts are) in
+    let same = same_count s.reads good in
+    no_entry_first (length entries + 1) line after s.back none (renumbered _ _ (omega arith) s.left)
+
+-- a blank line adds nothing
+blank_alone : (n : ℕ) (line : List ℕ) (other : List Entry) → IsBlank line → AreEntries n (line ∷ []) other → other ≡ []
+blank_alone n line other blank (blank_line b no_lines) = refl
+blank_alone n line other blank (entry_line is no_lines) = absurd (entry_full is blank)
+
+pub AddsEntry-blank : (line : List ℕ) (entries : List Entry) → IsBlank line → AddsEntry line entries entries
+AddsEntry-blank line entries blank = record {
+  added = [];
+  reads = blank_line blank no_lines;
+  only = λ other are. blank_alone (length entries + 1) line other blank are;
+  adds = sym (append-nil entries);
+}
+
+-- an entry adds itself
+entry_alone : (n : ℕ) (line : List ℕ) (other : List Entry) (e : Entry) → IsEntry n e line
+    → ((x : Entry) → IsEntry n x line → x ≡ e) → AreEntries n (line ∷ []) other → other ≡ e ∷ []
+entry_alone n line other e is only (blank_line b no_lines) = absurd (entry_full is b)
+entry_alone n line other e is only (entry_line {e = x} same no_lines) = ap (λ y. y ∷ []) (only x same)
+
+pub AddsEntry-entry : (line : List ℕ) (entries : List Entry) (e : Entry) → IsEntry (length entries + 1) e line
+    → ((x : Entry) → IsEntry (length entries + 1) x line → x ≡ e) → AddsEntry line entries (entries ++ e ∷ [])
+AddsEntry-entry line entries e is only = record {
+  added = e ∷ [];
+  reads = entry_line is no_lines;
+  only = λ other are. entry_alone (length entries + 1) line other e is only are;
+  adds = refl;
+}
+
+-- nothing read yet
+pub HasReadEntries-none : (lines : List (List ℕ)) → HasReadEntries lines 0 []
+HasReadEntries-none lines = record {
+  reads = no_lines;
+  only = λ all are. (all, are, refl);
+}
+
+module _ (lines : List (List ℕ)) (i : ℕ) (line : List ℕ) (entries : List Entry)
+    (within : i < length lines) (at : get_or lines i line ≡ line) (read : HasReadEntries lines i entries) where
+  -- a line more
+  pub HasReadEntries-more : (after : List Entry) → AddsEntry line entries after → HasReadEntries lines (i + 1) after
+  HasReadEntries-more after adds =
+      let count : length after ≡ length entries + length adds.added = ap length adds.adds ∙ length-append entries adds.added in
+      let more = AreEntries-append 1 (take i lines) (line ∷ []) entries adds.added read.reads (renumbered (length entries + 1) (1 + length entries) (omega arith) adds.reads) in
+      record {
+        reads =
+            subst (λ es. AreEntries 1 (take (i + 1) lines) es) (sym adds.adds)
+            (subst (λ ls. AreEntries 1 ls (entries ++ adds.added)) (sym (take_one_more lines i line within at)) more);
+        only = λ all are.
+            let so_far = read.only all are in
+            let s = AreEntries-split (length entries + 1) (line ∷ []) (drop (i + 1) lines) so_far.0 (subst (λ ls. AreEntries (length entries + 1) ls so_far.0) (drop_one lines i line within at) so_far.1) in
+            let same : s.front ≡ adds.added = adds.only s.front s.reads in
+            let fronts : length s.front ≡ length adds.added = ap length same in (
+              s.back,
+              renumbered (length entries + 1 + length s.front) (length after + 1) (omega arith) s.left,
+              so_far.2 ∙ ap (λ es. entries ++ es) (s.both ∙ ap (λ es. es ++ s.back) same) ∙ sym (append_assoc entries adds.added s.back)
+                  ∙ ap (λ es. es ++ s.back) (sym adds.adds),
+            );
+      }
+
+  -- the line is the first that isn't in the grammar
+  pub HasReadEntries-bad : (text : List ℕ) → lines ≡ lines_of text → IsNoEntry (length entries + 1) line → IsFirstBadEntry text (i + 1)
+  HasReadEntries-bad text are none = record {
+    line = line;
+    before = take i lines;
+    after = drop (i + 1) lines;
+    entries = entries;
+    lines = sym are ∙ parts lines i line within at;
+    number = ap (λ n. n + 1) (length_take_within lines i within);
+    good = read.reads;
+    full = none.full;
+    bad = none.bad;
+  }
+
+  -- and so the lines are no entries
+  pub HasReadEntries-bad_only : (all : List Entry) → IsNoEntry (length entries + 1) line → AreEntries 1 lines all → ⊥
+  HasReadEntries-bad_only all none =
+      no_entry_within lines (take i lines) (drop (i + 1) lines) line all entries (parts lines i line within at) read.reads none
+
+-- all lines are read
+module _ (lines : List (List ℕ)) (i : ℕ) (entries : List Entry) (end : length lines ≤ i) (read : HasReadEntries lines i entries) where
+  pub HasReadEntries-all : AreEntries 1 lines entries
+  HasReadEntries-all = subst (λ ls. AreEntries 1 ls entries) (take_all i lines end) read.reads
+
+  pub HasReadEntries-all_only : (all : List Entry) → AreEntries 1 lines all → entries ≡ all
+  HasReadEntries-all_only all are =
+      let left = read.only all are in
+      let nothing : left.0 ≡ [] = AreEntries-none (subst (λ ls. AreEntries (length entries + 1) ls left.0) (drop_all lines i end) left.1) in
+      sym (left.2 ∙ ap (λ es. entries ++ es) nothing ∙ append-nil entries)

@@ -1,0 +1,12 @@
+//! Laws of histories. Each is the contract of a function that does nothing.
+ghost use Rattle.std.specs.Prelude.{ℕ, List};
+ghost use Rattle.nio_base.specs.declared.limits.Limits.{Limits};
+ghost use Rattle.nio_event.specs.Script.{IsScript};
+ghost use Rattle.nio_event.specs.declared.call.ScriptCall.{ScriptCall};
+ghost use Rattle.nio_script.specs.Check.{HasLegalHistory};
+
+/// The history that `script` writes for a script is a legal history of its calls.
+pub fn history_law()
+    ensures { (l : Limits) (text : List ℕ) (calls : List ScriptCall) →
+        IsScript text calls → HasLegalHistory l calls }
+{}
