@@ -1,7 +1,9 @@
 pub mod Bytes
 pub mod EntryLemmas
+pub mod EntryTexts
 pub mod FirstBad
 pub mod FirstBadEntry
+pub mod LegalHistory
 pub mod Reading
 pub mod Running
 pub mod ScriptLemmas
