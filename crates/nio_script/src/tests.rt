@@ -231,6 +231,20 @@ fn a_script_ends_at_a_fault(rt: HostRuntime) -> Result<(), Fail> {
     Ok(())
 }
 
+#[test]
+fn a_reply_is_what_stands_behind_the_first_arrow(rt: HostRuntime) -> Result<(), Fail> {
+    let alloc = rt.alloc();
+    let text =
+        b"1 t1 selector -> s0\n\n# 2 t1 selector\n2 t2 interrupted -> no -> \xff\n3 t1 wakeup s0 -> ";
+    let calls = parse_history(alloc, text).expect(&rt, "a history");
+    let replies = [b"s0".as_slice(), b"no -> \xff".as_slice(), b"".as_slice()];
+    assert_eq!(rt; calls.len(), replies.len());
+    for (call, reply) in calls.iter().zip(replies.iter()) {
+        assert_eq!(rt; call.reply, *reply);
+    }
+    Ok(())
+}
+
 /// With a source that never fails, a script is answered unless memory lacks or the sink fails.
 fn answered<K: Sink, Y: System>(
     alloc: Global,
