@@ -1,19 +1,17 @@
 -- How the entries of a history grow by a line.
-use Rattle.std.proofs.Common.{◌≡◌, ℕ, zero, suc, ◌+◌, ◌<◌, ◌≤◌, List, [], ◌∷◌, ◌++◌, length, drop, take, get_or, Option, Some, refl, sym, ◌∙◌, ap, subst, append_assoc, append-nil, length-append, codes, inl, inr, arith, All}
-use Rattle.std.specs.Prelude.{slice_get}
+use Rattle.std.proofs.Common.{◌≡◌, ℕ, suc, ◌+◌, ◌<◌, List, [], ◌∷◌, ◌++◌, length, drop, take, get_or, refl, sym, ◌∙◌, ap, subst, append_assoc, append-nil, codes, inl, inr, arith, All}
 use Rattle.std.specs.Fmt.{decimal}
 use Rattle.std.specs.Int.{IsInRange}
-use Rattle.std.proofs.lemmas.List.{take_all}
 use Rattle.std.proofs.lemmas.List.Elements.{All-head}
 use Rattle.std.proofs.lemmas.Option.{same_Some}
 use Rattle.nio_event.specs.Calls.{IsBlank}
 use Rattle.nio_event.specs.Script.{lines_of}
 use Rattle.nio_event.proofs.PlainWords.{decimal_digits}
-use Rattle.nio_script.specs.Entries.{AddsEntry, IsNoEntry, HasReadEntries}
+use Rattle.nio_script.specs.Entries.{AddsEntry, IsNoEntry}
 use Rattle.nio_script.specs.History.{Entry, IsEntry, AreEntries, IsFirstBadEntry, no_lines, blank_line, entry_line, call_text}
 use Rattle.nio_script.specs.declared.script.ScriptError.{ScriptError}
 use Rattle.nio_script.specs.declared.script.ScriptError.TheVariants.{BadLine, Memory}
-use Rattle.nio_script.proofs.ScriptLemmas.{take_one_more, drop_one, drop_all, parts, length_take_within}
+use Rattle.nio_script.proofs.ScriptLemmas.{take_one_more, parts, length_take_within}
 
 -- the number of the first entry may be told in another way
 renumbered : (m n : ℕ) {lines : List (List ℕ)} {entries : List Entry} → m ≡ n → AreEntries m lines entries → AreEntries n lines entries
@@ -52,9 +50,6 @@ AreEntries-split n (line ∷ first) rest entries (entry_line {e = e} {entries = 
       left = renumbered _ _ (omega arith) s.left;
       both = ap (λ es. e ∷ es) s.both;
     }
-
-pub AreEntries-none : {n : ℕ} {entries : List Entry} → AreEntries n [] entries → entries ≡ []
-AreEntries-none no_lines = refl
 
 -- a number and a space are no blank line
 numbered_full : (digits rest : List ℕ) → All (IsInRange 48 57) digits → IsBlank (digits ++ 32 ∷ rest) → ⊥
@@ -102,93 +97,47 @@ no_entry_within lines before after line all entries parts good none are =
     no_entry_first (length entries + 1) line after s.back none (renumbered _ _ (omega arith) s.left)
 
 -- a blank line adds nothing
-blank_alone : (n : ℕ) (line : List ℕ) (other : List Entry) → IsBlank line → AreEntries n (line ∷ []) other → other ≡ []
-blank_alone n line other blank (blank_line b no_lines) = refl
-blank_alone n line other blank (entry_line is no_lines) = absurd (entry_full is blank)
-
 pub AddsEntry-blank : (line : List ℕ) (entries : List Entry) → IsBlank line → AddsEntry line entries entries
-AddsEntry-blank line entries blank = record {
-  added = [];
-  reads = blank_line blank no_lines;
-  only = λ other are. blank_alone (length entries + 1) line other blank are;
-  adds = sym (append-nil entries);
-}
+AddsEntry-blank line entries blank =
+    record { added = []; reads = blank_line blank no_lines; adds = sym (append-nil entries) }
 
 -- an entry adds itself
-entry_alone : (n : ℕ) (line : List ℕ) (other : List Entry) (e : Entry) → IsEntry n e line
-    → ((x : Entry) → IsEntry n x line → x ≡ e) → AreEntries n (line ∷ []) other → other ≡ e ∷ []
-entry_alone n line other e is only (blank_line b no_lines) = absurd (entry_full is b)
-entry_alone n line other e is only (entry_line {e = x} same no_lines) = ap (λ y. y ∷ []) (only x same)
+pub AddsEntry-entry : (line : List ℕ) (before after : List Entry) (n : ℕ) (e : Entry) → n ≡ length before + 1
+    → IsEntry n e line → after ≡ before ++ e ∷ [] → AddsEntry line before after
+AddsEntry-entry line before after n e next is adds =
+    record { added = e ∷ []; reads = entry_line (subst (λ m. IsEntry m e line) next is) no_lines; adds = adds }
 
-pub AddsEntry-entry : (line : List ℕ) (entries : List Entry) (e : Entry) → IsEntry (length entries + 1) e line
-    → ((x : Entry) → IsEntry (length entries + 1) x line → x ≡ e) → AddsEntry line entries (entries ++ e ∷ [])
-AddsEntry-entry line entries e is only = record {
-  added = e ∷ [];
-  reads = entry_line is no_lines;
-  only = λ other are. entry_alone (length entries + 1) line other e is only are;
-  adds = refl;
-}
-
--- nothing read yet
-pub HasReadEntries-none : (lines : List (List ℕ)) → HasReadEntries lines 0 []
-HasReadEntries-none lines = record {
-  reads = no_lines;
-  only = λ all are. (all, are, refl);
-}
-
+-- the first i lines are read as these entries
 module _ (lines : List (List ℕ)) (i : ℕ) (line : List ℕ) (entries : List Entry)
-    (within : i < length lines) (at : get_or lines i line ≡ line) (read : HasReadEntries lines i entries) where
+    (within : i < length lines) (at : get_or lines i line ≡ line) (read : AreEntries 1 (take i lines) entries) where
   -- a line more
-  pub HasReadEntries-more : (after : List Entry) → AddsEntry line entries after → HasReadEntries lines (i + 1) after
-  HasReadEntries-more after adds =
-      let count : length after ≡ length entries + length adds.added = ap length adds.adds ∙ length-append entries adds.added in
-      let more = AreEntries-append 1 (take i lines) (line ∷ []) entries adds.added read.reads (renumbered (length entries + 1) (1 + length entries) (omega arith) adds.reads) in
-      record {
-        reads =
-            subst (λ es. AreEntries 1 (take (i + 1) lines) es) (sym adds.adds)
-            (subst (λ ls. AreEntries 1 ls (entries ++ adds.added)) (sym (take_one_more lines i line within at)) more);
-        only = λ all are.
-            let so_far = read.only all are in
-            let s = AreEntries-split (length entries + 1) (line ∷ []) (drop (i + 1) lines) so_far.0 (subst (λ ls. AreEntries (length entries + 1) ls so_far.0) (drop_one lines i line within at) so_far.1) in
-            let same : s.front ≡ adds.added = adds.only s.front s.reads in
-            let fronts : length s.front ≡ length adds.added = ap length same in (
-              s.back,
-              renumbered (length entries + 1 + length s.front) (length after + 1) (omega arith) s.left,
-              so_far.2 ∙ ap (λ es. entries ++ es) (s.both ∙ ap (λ es. es ++ s.back) same) ∙ sym (append_assoc entries adds.added s.back)
-                  ∙ ap (λ es. es ++ s.back) (sym adds.adds),
-            );
-      }
+  pub AreEntries-more : (after : List Entry) → AddsEntry line entries after → AreEntries 1 (take (i + 1) lines) after
+  AreEntries-more after adds =
+      let added = renumbered (length entries + 1) (1 + length entries) (omega arith) adds.reads in
+      let more = AreEntries-append 1 (take i lines) (line ∷ []) entries adds.added read added in
+      subst (λ es. AreEntries 1 (take (i + 1) lines) es) (sym adds.adds)
+      (subst (λ ls. AreEntries 1 ls (entries ++ adds.added)) (sym (take_one_more lines i line within at)) more)
 
-  -- the line is the first that isn't in the grammar
-  pub HasReadEntries-bad : (text : List ℕ) (n : ℕ) → lines ≡ lines_of text → n ≡ length entries + 1 → IsNoEntry n line → IsFirstBadEntry text (i + 1)
-  HasReadEntries-bad text n are next none = record {
-    line = line;
-    before = take i lines;
-    after = drop (i + 1) lines;
-    entries = entries;
-    lines = sym are ∙ parts lines i line within at;
-    number = ap (λ n. n + 1) (length_take_within lines i within);
-    good = read.reads;
-    full = none.full;
-    bad = λ e is. none.bad e (subst (λ m. IsEntry m e line) (sym next) is);
-  }
+  module _ (n : ℕ) (next : n ≡ length entries + 1) (none : IsNoEntry n line) where
+    -- the line is the first that isn't in the grammar
+    pub IsFirstBadEntry-here : (text : List ℕ) → lines ≡ lines_of text → IsFirstBadEntry text (i + 1)
+    IsFirstBadEntry-here text are = record {
+      line = line;
+      before = take i lines;
+      after = drop (i + 1) lines;
+      entries = entries;
+      lines = sym are ∙ parts lines i line within at;
+      number = ap (λ m. m + 1) (length_take_within lines i within);
+      good = read;
+      full = none.full;
+      bad = λ e is. none.bad e (subst (λ m. IsEntry m e line) (sym next) is);
+    }
 
-  -- and so the lines are no entries
-  pub HasReadEntries-bad_only : (all : List Entry) (n : ℕ) → n ≡ length entries + 1 → IsNoEntry n line → AreEntries 1 lines all → ⊥
-  HasReadEntries-bad_only all n next none =
-      no_entry_within lines (take i lines) (drop (i + 1) lines) line all entries (parts lines i line within at) read.reads
-      (subst (λ m. IsNoEntry m line) next none)
-
--- all lines are read
-module _ (lines : List (List ℕ)) (i : ℕ) (entries : List Entry) (end : length lines ≤ i) (read : HasReadEntries lines i entries) where
-  pub HasReadEntries-all : AreEntries 1 lines entries
-  HasReadEntries-all = subst (λ ls. AreEntries 1 ls entries) (take_all i lines end) read.reads
-
-  pub HasReadEntries-all_only : (all : List Entry) → AreEntries 1 lines all → entries ≡ all
-  HasReadEntries-all_only all are =
-      let left = read.only all are in
-      let nothing : left.0 ≡ [] = AreEntries-none (subst (λ ls. AreEntries (length entries + 1) ls left.0) (drop_all lines i end) left.1) in
-      sym (left.2 ∙ ap (λ es. entries ++ es) nothing ∙ append-nil entries)
+    -- and so the lines are no entries
+    pub no_entries : (all : List Entry) → AreEntries 1 lines all → ⊥
+    no_entries all =
+        no_entry_within lines (take i lines) (drop (i + 1) lines) line all entries (parts lines i line within at) read
+        (subst (λ m. IsNoEntry m line) next none)
 
 -- an error that names no line is a want of memory
 pub only_memory : (e : ScriptError) → ((n : ℕ) → e ≡ BadLine n → ⊥) → e ≡ Memory

@@ -1,7 +1,6 @@
 -- From the parts of a line to its entry.
-use Rattle.std.proofs.Common.{◌≡◌, ◌≢◌, ℕ, ◌<◌, ◌≤◌, ◌^◌, ◌+◌, List, [], ◌∷◌, ◌++◌, length, Option, Some, None, Result, Ok, Err, codes, refl, sym, ◌∙◌, ap, subst, append_assoc, arith, All}
+use Rattle.std.proofs.Common.{◌≡◌, ◌≢◌, ℕ, ◌<◌, ◌≤◌, ◌^◌, ◌+◌, List, [], ◌∷◌, ◌++◌, length, Option, Some, None, Result, Ok, Err, codes, sym, ◌∙◌, ap, subst, append_assoc, arith, All}
 use Rattle.std.specs.Fmt.{decimal}
-use Rattle.std.proofs.lemmas.List.{append_cancel_right}
 use Rattle.std.proofs.lemmas.List.Elements.{All-append, All-cons, All-nil, All-weaker}
 use Rattle.std.proofs.lemmas.Option.{none-some, same_Some}
 use Rattle.nio_base.specs.declared.numbers.CallerNo.{CallerNo}
@@ -57,16 +56,16 @@ module _ (text : List ℕ) (number : ℕ) (small : number < 2 ^ 64) where
       only = λ xs e. ap Some (only (decimal number) xs lacks_space (number_cut xs e)).1;
     }
 
+pub lacks_arrow : (before : List ℕ) → All (λ b. b ≢ 62) before → All (λ b. b ≢ 62) (before ++ 32 ∷ 45 ∷ [])
+lacks_arrow before none =
+    let so = λ (b : ℕ). b ≢ 62 in
+    All-append so before (32 ∷ 45 ∷ []) none (All-cons so 32 (45 ∷ []) (omega arith) (All-cons so 45 [] (omega arith) (All-nil so)))
+
 -- the texts before and behind the first arrow
 module _ (text before after : List ℕ) where
   arrow_cut : text ≡ before ++ codes " -> " ++ after → text ≡ (before ++ 32 ∷ 45 ∷ []) ++ 62 ∷ 32 ∷ after
   arrow_cut e =
       e ∙ append_assoc before (32 ∷ 45 ∷ 62 ∷ 32 ∷ []) after ∙ sym (append_assoc before (32 ∷ 45 ∷ []) (62 ∷ 32 ∷ after))
-
-  lacks_arrow : All (λ b. b ≢ 62) before → All (λ b. b ≢ 62) (before ++ 32 ∷ 45 ∷ [])
-  lacks_arrow none =
-      let so = λ (b : ℕ). b ≢ 62 in
-      All-append so before (32 ∷ 45 ∷ []) none (All-cons so 32 (45 ∷ []) (omega arith) (All-cons so 45 [] (omega arith) (All-nil so)))
 
   pub arrow_found : (front back : List ℕ) → text ≡ front ++ 62 ∷ back → front ≡ before ++ 32 ∷ 45 ∷ [] → back ≡ 32 ∷ after
       → text ≡ before ++ codes " -> " ++ after
@@ -77,10 +76,10 @@ module _ (text before after : List ℕ) where
   -- where the text is cut at its first `>`
   pub arrow_parts : (front back : List ℕ) → OnlyCut 62 text front back → All (λ b. b ≢ 62) before → text ≡ before ++ codes " -> " ++ after
       → (front ≡ before ++ 32 ∷ 45 ∷ []) × (back ≡ 32 ∷ after)
-  arrow_parts front back only none e = only (before ++ 32 ∷ 45 ∷ []) (32 ∷ after) (lacks_arrow none) (arrow_cut e)
+  arrow_parts front back only none e = only (before ++ 32 ∷ 45 ∷ []) (32 ∷ after) (lacks_arrow before none) (arrow_cut e)
 
   pub arrow_uncut : NoCut 62 text → All (λ b. b ≢ 62) before → text ≡ before ++ codes " -> " ++ after → ⊥
-  arrow_uncut no_cut none e = no_cut (before ++ 32 ∷ 45 ∷ []) (32 ∷ after) (lacks_arrow none) (arrow_cut e)
+  arrow_uncut no_cut none e = no_cut (before ++ 32 ∷ 45 ∷ []) (32 ∷ after) (lacks_arrow before none) (arrow_cut e)
 
 -- the call that was read of a text
 pub call_found : (text : List ℕ) (r : Result Parsed ParseError) (caller : CallerNo) (call : Call) → r ≡ Ok (Line caller call)
@@ -101,7 +100,7 @@ module _ (number : ℕ) (line : List ℕ) where
   abbrev pub AreParts : List ℕ → List ℕ → Type 0
   AreParts call reply = line ≡ decimal number ++ codes " " ++ call ++ codes " -> " ++ reply
 
-  arrowless : (e : Entry) → IsEntry number e line → All (λ b. b ≢ 62) (call_text e)
+  pub arrowless : (e : Entry) → IsEntry number e line → All (λ b. b ≢ 62) (call_text e)
   arrowless e is = All-weaker (λ b. (b ≢ 10) × (b ≢ 62)) (λ b. b ≢ 62) (λ b both. both.1) (call_text e) (line_plain is.call)
 
   pub no_entry_unsplit : ((call reply : List ℕ) → All (λ b. b ≢ 62) call → AreParts call reply → ⊥) → (e : Entry) → IsEntry number e line → ⊥
@@ -132,7 +131,5 @@ module _ (number : ℕ) (line : List ℕ) where
 -- an entry that was found is added
 pub adds_found : (line : List ℕ) (before after : List Entry) (n : ℕ) (answer : Option Entry) (e : Entry) → n ≡ length before + 1
     → Finds (λ x. IsEntry n x line) answer → answer ≡ Some e → after ≡ before ++ e ∷ [] → AddsEntry line before after
-adds_found line before after n answer e count finds is adds =
-    let one : Finds (λ x. IsEntry (length before + 1) x line) (Some e) =
-    subst (Finds (λ x. IsEntry (length before + 1) x line)) is (subst (λ m. Finds (λ x. IsEntry m x line) answer) count finds) in
-    subst (AddsEntry line before) (sym adds) (AddsEntry-entry line before e one.found (λ x same. sym (same_Some e x (one.only x same))))
+adds_found line before after n answer e next finds is adds =
+    AddsEntry-entry line before after n e next (rw is at finds.found) adds

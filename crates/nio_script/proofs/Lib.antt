@@ -4,6 +4,7 @@ pub mod EntryTexts
 pub mod FirstBad
 pub mod FirstBadEntry
 pub mod LegalHistory
+pub mod OneHistory
 pub mod Reading
 pub mod Running
 pub mod ScriptLemmas

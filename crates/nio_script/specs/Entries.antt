@@ -1,5 +1,5 @@
 -- How the lines of a history become entries.
-use Rattle.std.specs.Prelude.{◌≡◌, ℕ, ◌+◌, Option, Some, IfSome, List, [], ◌∷◌, ◌++◌, length, drop, take}
+use Rattle.std.specs.Prelude.{◌≡◌, ℕ, ◌+◌, Option, Some, IfSome, List, [], ◌∷◌, ◌++◌, length}
 use Rattle.nio_event.specs.Calls.{IsBlank}
 use Rattle.nio_script.specs.History.{Entry, IsEntry, AreEntries}
 
@@ -8,22 +8,13 @@ pub record Finds {A : Type 0} (IsSo : A → Type 0) (answer : Option A) : Type 0
   pub found : IfSome answer IsSo
   pub only : (x : A) → IsSo x → answer ≡ Some x
 
--- a line adds the next entry, or nothing where it is blank, and is read in no other way
+-- a line adds the next entry, or nothing where it is blank
 pub record AddsEntry (line : List ℕ) (before after : List Entry) : Type 0 where
   pub added : List Entry
   pub reads : AreEntries (length before + 1) (line ∷ []) added
-  pub only : (other : List Entry) → AreEntries (length before + 1) (line ∷ []) other
-      → other ≡ added
   pub adds : after ≡ before ++ added
 
 -- a line is neither blank nor entry number n
 pub record IsNoEntry (n : ℕ) (line : List ℕ) : Type 0 where
   pub full : IsBlank line → ⊥
   pub bad : (e : Entry) → IsEntry n e line → ⊥
-
--- the first i lines are these entries, and those of all lines begin with these
-pub record HasReadEntries (lines : List (List ℕ)) (i : ℕ) (entries : List Entry) : Type 0 where
-  pub reads : AreEntries 1 (take i lines) entries
-  pub only : (all : List Entry) → AreEntries 1 lines all
-      → (rest : List Entry) × AreEntries (length entries + 1) (drop i lines) rest
-      × (all ≡ entries ++ rest)
