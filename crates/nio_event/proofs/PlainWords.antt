@@ -1,4 +1,4 @@
--- Plain words: those of a line and of a reply have no bytes but digits, small letters, `-` and `:`.
+-- Plain words, of which lines and replies are made: no byte below `-`, so no space and no newline, and no `>`.
 use Rattle.std.proofs.Common.{◌≡◌, ◌≢◌, ℕ, zero, suc, ◌+◌, ℤ, pos, negsuc, Bool, true, false, not, ◌&&◌, if◌then◌else◌, Option, None, Some, List, [], ◌∷◌, ◌++◌, ◌<◌, ◌≤◌, ◌/◌, ◌%◌, ◌==◌, nat_le, map, codes, refl, sym, subst, ap, ◌∙◌, arith, All}
 use Rattle.std.specs.Fmt.{decimal, signed_decimal, digits, digits_onto, digit_glyph}
 use Rattle.std.specs.Int.{IsInRange}
@@ -24,7 +24,7 @@ use Rattle.nio_event.specs.declared.reply.Why.{Why}
 use Rattle.nio_event.specs.declared.reply.Why.TheVariants as why
 use Rattle.nio_event.proofs.NameWords.{pair_word_cut}
 
--- no space, no newline and no other byte below `-`, and no `>`
+-- a digit, a small letter, `-` and `:` are plain
 abbrev pub IsPlainByte : ℕ → Type 0
 IsPlainByte b = (45 ≤ b) × (b ≢ 62)
 

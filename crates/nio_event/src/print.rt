@@ -1,4 +1,4 @@
-//! Writing the lines of a history.
+//! Writing the lines of a history, and replies alone.
 ghost use Rattle.std.specs.Prelude.{◌≡◌, IfOk};
 ghost use Rattle.nio_event.specs.Replies.{history_line, reply_text};
 

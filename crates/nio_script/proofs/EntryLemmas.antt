@@ -1,14 +1,18 @@
 -- How the entries of a history grow by a line.
-use Rattle.std.proofs.Common.{◌≡◌, ℕ, zero, suc, ◌+◌, ◌<◌, ◌≤◌, List, [], ◌∷◌, ◌++◌, length, drop, take, get_or, Option, Some, refl, sym, ◌∙◌, ap, subst, append_assoc, append-nil, length-append, codes, arith, All}
-use Rattle.std.specs.Prelude.{slice_get, inl, inr}
+use Rattle.std.proofs.Common.{◌≡◌, ℕ, zero, suc, ◌+◌, ◌<◌, ◌≤◌, List, [], ◌∷◌, ◌++◌, length, drop, take, get_or, Option, Some, refl, sym, ◌∙◌, ap, subst, append_assoc, append-nil, length-append, codes, inl, inr, arith, All}
+use Rattle.std.specs.Prelude.{slice_get}
 use Rattle.std.specs.Fmt.{decimal}
 use Rattle.std.specs.Int.{IsInRange}
 use Rattle.std.proofs.lemmas.List.{take_all}
 use Rattle.std.proofs.lemmas.List.Elements.{All-head}
+use Rattle.std.proofs.lemmas.Option.{same_Some}
 use Rattle.nio_event.specs.Calls.{IsBlank}
 use Rattle.nio_event.specs.Script.{lines_of}
+use Rattle.nio_event.proofs.PlainWords.{decimal_digits}
 use Rattle.nio_script.specs.Entries.{AddsEntry, IsNoEntry, HasReadEntries}
 use Rattle.nio_script.specs.History.{Entry, IsEntry, AreEntries, IsFirstBadEntry, no_lines, blank_line, entry_line, call_text}
+use Rattle.nio_script.specs.declared.script.ScriptError.{ScriptError}
+use Rattle.nio_script.specs.declared.script.ScriptError.TheVariants.{BadLine, Memory}
 use Rattle.nio_script.proofs.ScriptLemmas.{take_one_more, drop_one, drop_all, parts, length_take_within}
 
 -- the number of the first entry may be told in another way
@@ -52,23 +56,26 @@ AreEntries-split n (line ∷ first) rest entries (entry_line {e = e} {entries = 
 pub AreEntries-none : {n : ℕ} {entries : List Entry} → AreEntries n [] entries → entries ≡ []
 AreEntries-none no_lines = refl
 
-decimal_digits : (n : ℕ) → All (IsInRange 48 57) (decimal n)
-decimal_digits n = ?
-
 -- a number and a space are no blank line
 numbered_full : (digits rest : List ℕ) → All (IsInRange 48 57) digits → IsBlank (digits ++ 32 ∷ rest) → ⊥
 numbered_full [] rest all (inl e) = cc
-numbered_full [] rest all (inr e) = let same : 32 ≡ 35 = cc in omega arith
+numbered_full [] rest all (inr e) = omega (arith, same_Some 32 35 e)
 numbered_full (d ∷ digits) rest all (inl e) = cc
 numbered_full (d ∷ digits) rest all (inr e) =
     let range = All-head (IsInRange 48 57) d digits all in
     let same : d ≡ 35 = cc in
     omega (arith, range)
 
+-- a number, a space, a call, an arrow and a reply
+pub entry_flat : (number call reply : List ℕ)
+    → number ++ codes " " ++ call ++ codes " -> " ++ reply ≡ number ++ 32 ∷ (call ++ 32 ∷ 45 ∷ 62 ∷ 32 ∷ reply)
+entry_flat number call reply = simp append_assoc
+
 -- an entry isn't blank
 pub entry_full : {n : ℕ} {e : Entry} {line : List ℕ} → IsEntry n e line → IsBlank line → ⊥
 entry_full {n = n} {e = e} {line = line} is blank =
-    numbered_full (decimal n) (call_text e ++ codes " -> " ++ e.reply) (decimal_digits n) (subst IsBlank is.text blank)
+    numbered_full (decimal n) (call_text e ++ 32 ∷ 45 ∷ 62 ∷ 32 ∷ e.reply) (decimal_digits n)
+    (subst IsBlank (is.text ∙ entry_flat (decimal n) (call_text e) e.reply) blank)
 
 -- so the same lines have as many entries, however they are numbered
 pub same_count : {m n : ℕ} {lines : List (List ℕ)} {entries others : List Entry}
@@ -153,8 +160,8 @@ module _ (lines : List (List ℕ)) (i : ℕ) (line : List ℕ) (entries : List E
       }
 
   -- the line is the first that isn't in the grammar
-  pub HasReadEntries-bad : (text : List ℕ) → lines ≡ lines_of text → IsNoEntry (length entries + 1) line → IsFirstBadEntry text (i + 1)
-  HasReadEntries-bad text are none = record {
+  pub HasReadEntries-bad : (text : List ℕ) (n : ℕ) → lines ≡ lines_of text → n ≡ length entries + 1 → IsNoEntry n line → IsFirstBadEntry text (i + 1)
+  HasReadEntries-bad text n are next none = record {
     line = line;
     before = take i lines;
     after = drop (i + 1) lines;
@@ -163,13 +170,14 @@ module _ (lines : List (List ℕ)) (i : ℕ) (line : List ℕ) (entries : List E
     number = ap (λ n. n + 1) (length_take_within lines i within);
     good = read.reads;
     full = none.full;
-    bad = none.bad;
+    bad = λ e is. none.bad e (subst (λ m. IsEntry m e line) (sym next) is);
   }
 
   -- and so the lines are no entries
-  pub HasReadEntries-bad_only : (all : List Entry) → IsNoEntry (length entries + 1) line → AreEntries 1 lines all → ⊥
-  HasReadEntries-bad_only all none =
-      no_entry_within lines (take i lines) (drop (i + 1) lines) line all entries (parts lines i line within at) read.reads none
+  pub HasReadEntries-bad_only : (all : List Entry) (n : ℕ) → n ≡ length entries + 1 → IsNoEntry n line → AreEntries 1 lines all → ⊥
+  HasReadEntries-bad_only all n next none =
+      no_entry_within lines (take i lines) (drop (i + 1) lines) line all entries (parts lines i line within at) read.reads
+      (subst (λ m. IsNoEntry m line) next none)
 
 -- all lines are read
 module _ (lines : List (List ℕ)) (i : ℕ) (entries : List Entry) (end : length lines ≤ i) (read : HasReadEntries lines i entries) where
@@ -181,3 +189,8 @@ module _ (lines : List (List ℕ)) (i : ℕ) (entries : List Entry) (end : lengt
       let left = read.only all are in
       let nothing : left.0 ≡ [] = AreEntries-none (subst (λ ls. AreEntries (length entries + 1) ls left.0) (drop_all lines i end) left.1) in
       sym (left.2 ∙ ap (λ es. entries ++ es) nothing ∙ append-nil entries)
+
+-- an error that names no line is a want of memory
+pub only_memory : (e : ScriptError) → ((n : ℕ) → e ≡ BadLine n → ⊥) → e ≡ Memory
+only_memory (BadLine n) none = absurd (none n refl)
+only_memory Memory none = refl

@@ -16,10 +16,10 @@ history_not_bad text entries n history bad =
 between_places : {A : Type 0} (before after : List A) (x : A) (front back : List A) → before ++ x ∷ after ≡ front ++ back
     → length before < length front → (mid : List A) × (front ≡ before ++ x ∷ mid)
 between_places [] after x [] back e h = absurd (omega arith)
-between_places [] after x (y ∷ front) back e h = (front, cc)
+between_places [] after x (y ∷ front) back e h = (front, (cc))
 between_places (z ∷ before) after x [] back e h = absurd (omega arith)
 between_places (z ∷ before) after x (y ∷ front) back e h =
-    let rest = between_places before after x front back cc (omega arith) in
+    let rest = between_places before after x front back (cc) (omega arith) in
     let heads : z ≡ y = cc in
     (rest.0, ap (λ w. w ∷ front) (sym heads) ∙ ap (λ ys. z ∷ ys) rest.1)
 
