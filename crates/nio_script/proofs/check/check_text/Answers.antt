@@ -1,8 +1,7 @@
-use Rattle.std.proofs.Common.{◌≡◌, ◌⊎◌, List, map, length, sym, ap, subst, ◌∙◌}
+use Rattle.std.proofs.Common.{◌≡◌, ◌⊎◌, map, length, sym, ap, subst, ◌∙◌}
 use Rattle.std.specs.Prelude.{Err}
 use Rattle.std.proofs.lemmas.List.{length-map}
 use Rattle.nio_script.specs.Check.{EndsEntries, legal_text}
-use Rattle.nio_script.specs.History.{Entry}
 use Rattle.nio_script.specs.HistoryCall.{entry_of}
 use Rattle.nio_script.specs.Output.{IsWritten, WritesPrefix}
 use Rattle.nio_script.specs.declared.status.Status.TheVariants.{BadScript, Memory}
@@ -54,4 +53,4 @@ pub returns-in-Err-BadLine-clause-of_bad : goal.returns-in-Err-BadLine-clause-of
 returns-in-Err-BadLine-clause-of_bad g c = λ line bad.
     let read = c.in-Err-BadLine in
     let first = read.ensures.bad read.line (ap Err read.field-0-is) in
-    subst (λ n. (c.refuse.result ≡ BadScript n) ⊎ (c.refuse.result ≡ Memory)) (first_bad_entry_is_one c.args.text.now read.line line first bad) c.refuse.ensures.status
+    subst (λ n. (c.refuse.result ≡ BadScript n) ⊎ (c.refuse.result ≡ Memory)) (read.line-is ∙ first_bad_entry_is_one c.args.text.now read.line line first bad) c.refuse.ensures.status

@@ -1,4 +1,4 @@
-use Rattle.std.proofs.Common.{◌≡◌, map}
+use Rattle.std.proofs.Common.{map}
 use Rattle.nio_script.specs.HistoryCall.{entry_of}
 use Rattle.nio_script.proofs.Checking.{IsFollowed}
 use Rattle.nio_script.proofs.check.first_wrong.Given as goal
