@@ -26,7 +26,6 @@ pub record DoesScript {S K Y : Type 0} (s : source.Ghosts S) (k : sink.Ghosts K)
       ⊎ ReadsText s input input' (IsCutShort k y output output' run)
   pub unread : (status ≡ ReadFault) ⊎ (status ≡ TooLong) → IsUntouched output output' run run'
   pub ends : EndsScript status
-
   -- what comes of each text, where the source tells it
   pub of_script : IfSome (s.left input) (λ text. (calls : List ScriptCall)
       → length text ≤ LONGEST_INPUT → IsScript text calls
@@ -36,7 +35,6 @@ pub record DoesScript {S K Y : Type 0} (s : source.Ghosts S) (k : sink.Ghosts K)
       → (status ≡ BadScript line) ⊎ (status ≡ ReadFault) ⊎ (status ≡ Memory))
   pub of_long : IfSome (s.left input) (λ text. LONGEST_INPUT < length text
       → (status ≡ TooLong) ⊎ (status ≡ ReadFault) ⊎ (status ≡ Memory))
-
   -- a script is answered where no count of faults rises and there is memory
   pub complete : IfSome (s.left input) (λ text. (calls : List ScriptCall)
       → length text ≤ LONGEST_INPUT → IsScript text calls
@@ -57,7 +55,6 @@ pub record DoesCheck {S K Y : Type 0} (s : source.Ghosts S) (k : sink.Ghosts K) 
   pub unread : (status ≡ ReadFault) ⊎ (status ≡ TooLong) → output' ≡ output
   pub ends : EndsCheck status
   pub uncalled : run' ≡ run
-
   -- what comes of each text, where the source tells it
   pub of_legal : IfSome (s.left input) (λ text. (entries : List Entry)
       → length text ≤ LONGEST_INPUT → IsHistory text entries → IsLegalHistory limits entries
@@ -71,7 +68,6 @@ pub record DoesCheck {S K Y : Type 0} (s : source.Ghosts S) (k : sink.Ghosts K) 
       → (status ≡ BadScript line) ⊎ (status ≡ ReadFault) ⊎ (status ≡ Memory))
   pub of_long : IfSome (s.left input) (λ text. LONGEST_INPUT < length text
       → (status ≡ TooLong) ⊎ (status ≡ ReadFault) ⊎ (status ≡ Memory))
-
   -- a history is judged where no count of faults rises and there is memory
   pub complete : IfSome (s.left input) (λ text. (entries : List Entry)
       → length text ≤ LONGEST_INPUT → IsHistory text entries
