@@ -248,12 +248,7 @@ fn a_history_is_checked(rt: HostRuntime) -> Result<(), Fail> {
             Status::Done,
             "legal 2\n",
         ),
-        (
-            "1 t1 selector -> s0\n",
-            4,
-            Status::WriteFault,
-            "legal 1\n",
-        ),
+        ("1 t1 selector -> s0\n", 4, Status::WriteFault, "legal 1\n"),
         (
             "1 t1 selector -> s1\n",
             5,
@@ -271,6 +266,20 @@ fn a_history_is_checked(rt: HostRuntime) -> Result<(), Fail> {
             "{text:?}"
         );
         assert_eq!(rt; sink.bytes(), written.as_bytes(), "{text:?}");
+    }
+    Ok(())
+}
+
+#[test]
+fn a_reply_is_what_stands_behind_the_first_arrow(rt: HostRuntime) -> Result<(), Fail> {
+    let alloc = rt.alloc();
+    let text =
+        b"1 t1 selector -> s0\n\n# 2 t1 selector\n2 t2 interrupted -> no -> \xff\n3 t1 wakeup s0 -> ";
+    let calls = parse_history(alloc, text).expect(&rt, "a history");
+    let replies = [b"s0".as_slice(), b"no -> \xff".as_slice(), b"".as_slice()];
+    assert_eq!(rt; calls.len(), replies.len());
+    for (call, reply) in calls.iter().zip(replies.iter()) {
+        assert_eq!(rt; call.reply, *reply);
     }
     Ok(())
 }
