@@ -1,5 +1,5 @@
 -- A text is a history, or has one first line that isn't in its grammar, and not both.
-use Rattle.std.proofs.Common.{◌≡◌, ℕ, zero, suc, ◌+◌, ◌<◌, List, [], ◌∷◌, ◌++◌, length, refl, sym, ap, ◌∙◌, subst, arith}
+use Rattle.std.proofs.Common.{◌≡◌, ℕ, ◌+◌, ◌<◌, List, [], ◌∷◌, ◌++◌, length, sym, ap, ◌∙◌, arith}
 use Rattle.nio_event.specs.Script.{lines_of}
 use Rattle.nio_script.specs.Entries.{IsNoEntry}
 use Rattle.nio_script.specs.History.{Entry, IsHistory, IsFirstBadEntry}

@@ -1,9 +1,9 @@
 -- The history that is written for a script is a legal history of its calls.
-use Rattle.std.proofs.Common.{◌≡◌, ◌≢◌, ℕ, ◌+◌, ◌==◌, false, List, [], ◌∷◌, ◌++◌, length, map, codes, refl, sym, ◌∙◌, ap, subst, append_assoc, inl, arith, All}
+use Rattle.std.proofs.Common.{◌≡◌, ◌≢◌, ℕ, ◌+◌, ◌==◌, false, List, [], ◌∷◌, ◌++◌, refl, sym, ◌∙◌, ap, subst, append_assoc, inl, arith, All}
 use Rattle.std.specs.Fmt.{decimal}
 use Rattle.std.specs.Int.{IsInRange}
 use Rattle.std.proofs.lemmas.Bool.{ne_eqb}
-use Rattle.std.proofs.lemmas.List.Elements.{All-append, All-cons, All-nil, All-weaker}
+use Rattle.std.proofs.lemmas.List.Elements.{All-append, All-cons, All-weaker}
 use Rattle.std.proofs.lemmas.List.Splits.{slice_split_at}
 use Rattle.nio_base.specs.declared.limits.Limits.{Limits}
 use Rattle.nio_event.specs.Calls.{IsLine, line_text}
@@ -16,7 +16,7 @@ use Rattle.nio_plain.specs.Answer.{answer_from}
 use Rattle.nio_plain.specs.ScriptState.{ScriptState, script_opening}
 use Rattle.nio_plain.specs.Seq.{seq}
 use Rattle.nio_script.specs.Check.{calls_of, IsLegalFrom, HasLegalHistory}
-use Rattle.nio_script.specs.History.{Entry, IsEntry, AreEntries, call_text, entry_text}
+use Rattle.nio_script.specs.History.{Entry, AreEntries, call_text, entry_text}
 use Rattle.nio_script.proofs.EntryLemmas.{entry_flat}
 
 -- the entries of the history that is written for calls, from a state on

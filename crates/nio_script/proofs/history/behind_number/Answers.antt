@@ -1,4 +1,4 @@
-use Rattle.std.proofs.Common.{◌≡◌, Some, None, ap, arith, option_copied, refl, ◌∙◌}
+use Rattle.std.proofs.Common.{Some, None, ap, arith, option_copied, refl, ◌∙◌}
 use Rattle.std.specs.Fmt.{decimal}
 use Rattle.nio_script.proofs.EntryTexts.{finds_none, not_behind_uncut, not_behind_other, behind_same}
 use Rattle.nio_script.proofs.history.behind_number.Goals as goal

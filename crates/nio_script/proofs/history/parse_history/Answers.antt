@@ -4,7 +4,7 @@ use Rattle.std.proofs.lemmas.Result.{err_from_is_err_and}
 use Rattle.nio_script.specs.History.{AreEntries, IsFirstBadEntry}
 use Rattle.nio_script.specs.HistoryCall.{entry_of}
 use Rattle.nio_script.specs.declared.script.ScriptError.TheVariants.{BadLine}
-use Rattle.nio_script.proofs.EntryLemmas.{HasReadEntries-none, HasReadEntries-more, HasReadEntries-all, HasReadEntries-all_only, HasReadEntries-bad, HasReadEntries-bad_only, only_memory}
+use Rattle.nio_script.proofs.EntryLemmas.{HasReadEntries-none, HasReadEntries-more, HasReadEntries-all_only, HasReadEntries-bad, HasReadEntries-bad_only, only_memory}
 use Rattle.nio_script.proofs.ScriptLemmas.{now_at}
 use Rattle.nio_script.proofs.history.parse_history.Goals as goal
 use Rattle.nio_script.proofs.history.parse_history.Goals.{After-drop-lines}

@@ -1,4 +1,4 @@
-use Rattle.std.proofs.Common.{refl, Some, None}
+use Rattle.std.proofs.Common.{refl}
 use Rattle.nio_script.proofs.EntryTexts.{finds_none, no_entry_unsplit, no_entry_uncalled, finds_entry}
 use Rattle.nio_script.proofs.history.read_entry.Goals as goal
 

@@ -1,4 +1,4 @@
-use Rattle.std.proofs.Common.{◌≡◌, ◌+◌, ◌∷◌, [], ◌++◌, length, map, Some, refl, ap, ◌∙◌, arith, option_map}
+use Rattle.std.proofs.Common.{◌≡◌, ◌+◌, ◌∷◌, [], length, map, refl, ap, ◌∙◌, arith, option_map}
 use Rattle.std.proofs.lemmas.List.{length-map, map-append}
 use Rattle.nio_script.specs.HistoryCall.{entry_of}
 use Rattle.nio_script.proofs.EntryLemmas.{AddsEntry-blank}
