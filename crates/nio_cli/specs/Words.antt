@@ -1,8 +1,6 @@
 -- The words of the command line.
 use Rattle.std.specs.Prelude.{◌≡◌, List, [], ◌∷◌, ◌++◌, ℕ, codes}
 use Rattle.nio_bytes.specs.declared.sink.Sink as sink
-use Rattle.nio_cli.specs.declared.words.Command.{Command}
-use Rattle.nio_cli.specs.declared.words.Command.TheVariants.{Script, Check}
 use Rattle.nio_script.specs.Run.{Notes}
 
 -- the one word `script`
@@ -13,14 +11,9 @@ IsScriptCommand words = words ≡ codes "script" ∷ []
 abbrev pub IsCheckCommand : List (List ℕ) → Type 0
 IsCheckCommand words = words ≡ codes "check" ∷ []
 
--- these words are this command
-abbrev pub IsCommand : Command → List (List ℕ) → Type 0
-IsCommand Script words = IsScriptCommand words
-IsCommand Check words = IsCheckCommand words
-
 -- these words are no command
 abbrev pub IsNoCommand : List (List ℕ) → Type 0
-IsNoCommand words = (command : Command) → ¬ IsCommand command words
+IsNoCommand words = ¬ IsScriptCommand words × ¬ IsCheckCommand words
 
 -- what is said of words that say nothing that is known
 abbrev pub usage_line : List ℕ

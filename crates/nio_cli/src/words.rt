@@ -1,8 +1,7 @@
 //! The words of the command line.
 ghost use Rattle.std.specs.Prelude.{◌≡◌, ◌↔◌, [], ◌∷◌, map};
 ghost use Rattle.std.specs.String.{string_bytes};
-ghost use Rattle.nio_cli.specs.Words.{IsCommand};
-ghost use Rattle.nio_cli.specs.declared.words.Command.{Command};
+ghost use Rattle.nio_cli.specs.Words.{IsScriptCommand, IsCheckCommand};
 
 /// A command of the program. A new one wants its variant here, its word in `command_named`, what
 /// its words are in `specs/Words.antt`, what it does in `specs/Commands.antt`, and its arm in `run`.
@@ -16,7 +15,8 @@ pub enum Command {
 
 /// The command with this word.
 fn command_named(word: &str) -> Option<Command>
-    ensures { (command : Command) → (result ≡ Some command) ↔ IsCommand command (word.now ∷ []) }
+    ensures script { (result ≡ Some Command.Script) ↔ IsScriptCommand (word.now ∷ []) }
+    ensures check { (result ≡ Some Command.Check) ↔ IsCheckCommand (word.now ∷ []) }
 {
     match word {
         "script" => Some(Command::Script),
@@ -27,8 +27,10 @@ fn command_named(word: &str) -> Option<Command>
 
 /// The command that the words are.
 pub fn command_of(words: &[String]) -> Option<Command>
-    ensures { (command : Command) → (result ≡ Some command)
-        ↔ IsCommand command (map string_bytes words.now) }
+    ensures script { (result ≡ Some Command.Script)
+        ↔ IsScriptCommand (map string_bytes words.now) }
+    ensures check { (result ≡ Some Command.Check)
+        ↔ IsCheckCommand (map string_bytes words.now) }
 {
     match words {
         [word] => command_named(word.as_str()),

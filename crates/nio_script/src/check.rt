@@ -1,5 +1,5 @@
 //! Histories, checked against the documented system.
-ghost use Rattle.std.specs.Prelude.{◌≡◌, ◌≢◌, ℕ, ◌<◌, ◌≤◌, ◌⊎◌, ◌++◌, List, map, length, IfOk, IfNone, IfSome, OnOk};
+ghost use Rattle.std.specs.Prelude.{◌≡◌, ◌≢◌, ℕ, ◌<◌, ◌≤◌, ◌⊎◌, List, map, length, IfOk, IfNone, IfSome, OnOk};
 ghost use Rattle.nio_base.specs.Limits.{IsFit};
 ghost use Rattle.nio_bytes.specs.Cause.{Rose};
 ghost use Rattle.nio_event.specs.Replies.{reply_text};
@@ -34,16 +34,16 @@ struct Wrong {
 }
 
 /// Makes the call of an entry. Answers the right reply where the entry has another text.
-fn right_instead<Y: System>(
+fn correction<Y: System>(
     alloc: Global,
     call: &HistoryCall,
     system: &mut Y,
 ) -> Result<Option<Reply>, AllocError>
-    ensures right { IfOk result (λ instead. IfNone instead (call.now.reply.now
+    ensures same { IfOk result (λ found. IfNone found (call.now.reply.now
         ≡ reply_text (right_reply (Y.limits system.old) (Y.state system.old) (entry_of call.now)))) }
-    ensures instead { IfOk result (λ instead. IfSome instead (λ right.
+    ensures right { IfOk result (λ found. IfSome found (λ right.
         right ≡ right_reply (Y.limits system.old) (Y.state system.old) (entry_of call.now))) }
-    ensures wrong { IfOk result (λ instead. IfSome instead (λ right.
+    ensures wrong { IfOk result (λ found. IfSome found (λ right.
         call.now.reply.now ≢ reply_text right)) }
     ensures left { OnOk result (Y.state system.new
         ≡ left_by_call (Y.limits system.old) (Y.state system.old) call.now.line) }
@@ -59,7 +59,7 @@ fn right_instead<Y: System>(
 }
 
 /// Makes the calls in turn, up to the first whose reply is wrong.
-fn first_wrong<Y: System>(
+fn follow_calls<Y: System>(
     alloc: Global,
     calls: &[HistoryCall],
     system: &mut Y,
@@ -71,7 +71,7 @@ fn first_wrong<Y: System>(
         (Y.limits system.old) (map entry_of calls.now) wrong.number wrong.right)) }
 {
     for (index, call) in calls.iter().enumerate() {
-        if let Some(right) = right_instead(alloc, call, system)? {
+        if let Some(right) = correction(alloc, call, system)? {
             let number = index as u64 + 1;
             return Ok(Some(Wrong { number, right }));
         }
@@ -80,7 +80,7 @@ fn first_wrong<Y: System>(
 }
 
 /// Makes the calls on a new system, up to the first whose reply is wrong.
-fn find_wrong(
+fn first_wrong(
     alloc: Global,
     calls: &[HistoryCall],
     limits: Limits,
@@ -92,7 +92,7 @@ fn find_wrong(
         limits (map entry_of calls.now) wrong.number wrong.right)) }
 {
     let mut system = Plain::make(alloc, limits)?;
-    first_wrong(alloc, calls, &mut system)
+    follow_calls(alloc, calls, &mut system)
 }
 
 /// Says that a history of so many calls is legal.
@@ -163,7 +163,7 @@ fn check_calls<K: Sink>(
     ensures ends { EndsEntries limits (map entry_of calls.now) result }
     ensures later { K.faults output.old ≤ K.faults output.new }
 {
-    match find_wrong(alloc, calls, limits) {
+    match first_wrong(alloc, calls, limits) {
         Ok(None) => say_legal(alloc, calls.len() as u64, output),
         Ok(Some(wrong)) => say_illegal(alloc, &wrong, output),
         Err(_) => Status::Memory,

@@ -1,7 +1,7 @@
 use Rattle.std.proofs.Common.{map}
 use Rattle.nio_script.specs.HistoryCall.{entry_of}
 use Rattle.nio_script.proofs.Checking.{IsFollowed}
-use Rattle.nio_script.proofs.check.first_wrong.Given as goal
+use Rattle.nio_script.proofs.check.follow_calls.Given as goal
 
 abbrev pub invariant-loop-index : goal.invariant-loop-index
 invariant-loop-index g l = record {
