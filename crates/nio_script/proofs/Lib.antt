@@ -1,4 +1,5 @@
 pub mod Bytes
+pub mod Checking
 pub mod EntryLemmas
 pub mod EntryTexts
 pub mod FirstBad
