@@ -1,11 +1,10 @@
 //! The program nio: the selectors of `java.nio.channels`, driven by scripts.
 #![tactic(auto)]
 
-use nio_base::Limits;
 use nio_bytes::{StdSink, StdSource};
 use nio_plain::Plain;
 use nio_script::Status;
-use run::run;
+use run::{PROGRAM_LIMITS, run};
 use std::alloc::{AllocError, Global};
 use std::process::ExitCode;
 use std::rt::Env;
@@ -13,14 +12,6 @@ use std::{env, io};
 
 mod run;
 mod words;
-
-/// How much the program's system can hold.
-const PROGRAM_LIMITS: Limits = Limits {
-    callers: 64,
-    selectors: 16,
-    channels: 1_024,
-    keys: 1_024,
-};
 
 /// The words of the command line, after the program's name. Where one isn't text there are none,
 /// which is no command.

@@ -1,8 +1,7 @@
 //! The program as a whole, over sources and sinks in memory.
 ghost use Rattle.std.specs.Prelude.{◌≤◌};
 
-use crate::PROGRAM_LIMITS;
-use crate::run::run;
+use crate::run::{PROGRAM_LIMITS, run};
 use nio_bytes::{MemorySink, MemorySource};
 use nio_plain::Plain;
 use std::alloc::Global;
@@ -14,6 +13,9 @@ const ONE_SELECTION: &str =
 
 const ITS_HISTORY: &str =
     "1 t1 selector -> s0\n2 t1 channel source -> c0\n3 t1 blocking c0 off -> ok\n4 t1 register s0 c0 1 -> k0\n5 t1 begin s0 now -> looked k0:1\n6 t1 told s0 k0:1 -> selected 1 ready\n";
+
+const ANOTHER_HISTORY: &str =
+    "1 t1 selector -> s0\n2 t1 channel source -> c0\n3 t1 blocking c0 off -> ok\n4 t1 register s0 c0 1 -> k0\n5 t1 begin s0 now -> looked k0:1\n6 t1 told s0 k0:1 -> selected 0 now\n";
 
 const USAGE: &str =
     "usage: nio script | check | race | proxy --way select|group --listen ADDR --target ADDR --conns N [--workers W] | load N\n";
@@ -78,4 +80,44 @@ fn scripts_and_usage(rt: HostRuntime) -> Result<(), Fail> {
     ends(&rt, alloc, &["load", "0"], "", never(), 2, USAGE)?;
     ends(&rt, alloc, &["proxy"], "", never(), 2, USAGE)?;
     ends(&rt, alloc, &["script", "script"], "", never(), 2, USAGE)
+}
+
+#[test]
+fn histories_are_checked(rt: HostRuntime) -> Result<(), Fail> {
+    let alloc = rt.alloc();
+    let cases = [
+        (ITS_HISTORY, 0, "legal 6\n"),
+        (ANOTHER_HISTORY, 8, "illegal 6: selected 1 ready\n"),
+        ("", 0, "legal 0\n"),
+        ("1 t1 selector -> s0", 0, "legal 1\n"),
+        (
+            "# one selector\n1 t1 selector -> s0\n\n2 t1 wakeup s0 -> ok\n",
+            0,
+            "legal 2\n",
+        ),
+        (
+            "1 t1 selector -> s\n2 t1 wakeup s0 -> no\n",
+            8,
+            "illegal 1: s0\n",
+        ),
+        (
+            "1 t1 selector -> s0\n3 t1 wakeup s0 -> ok\n",
+            3,
+            "bad line 2\n",
+        ),
+        (
+            "1 t1 selector -> s0\n\n2 t1 wakeup s0 ok\n",
+            3,
+            "bad line 3\n",
+        ),
+        (
+            "1 t1 selector -> s1\n2 t1 wake s0 -> ok\n",
+            3,
+            "bad line 2\n",
+        ),
+    ];
+    for (text, code, written) in cases {
+        ends(&rt, alloc, &["check"], text, Vec::new(alloc), code, written)?;
+    }
+    Ok(())
 }

@@ -1,14 +1,39 @@
 //! The words of the command line.
-ghost use Rattle.std.specs.Prelude.{◌≡◌, ◌↔◌, IsTrue, map};
+ghost use Rattle.std.specs.Prelude.{◌≡◌, ◌↔◌, [], ◌∷◌, map};
 ghost use Rattle.std.specs.String.{string_bytes};
-ghost use Rattle.nio_cli.specs.Words.{IsScriptCommand};
+ghost use Rattle.nio_cli.specs.Words.{IsScriptCommand, IsCheckCommand};
 
-/// Whether the words are the command `script`.
-pub fn is_script(words: &[String]) -> bool
-    ensures { IsTrue result ↔ IsScriptCommand (map string_bytes words.now) }
+/// A command of the program. A new one wants its variant here, its word in `command_named`, what
+/// its words are in `specs/Words.antt`, what it does in `specs/Commands.antt`, and its arm in `run`.
+#[derive(Clone, Copy, Debug, PartialEq, Eq)]
+pub enum Command {
+    /// `script`: reads a script and writes its history.
+    Script,
+    /// `check`: reads a history and says whether it is legal.
+    Check,
+}
+
+/// The command with this word.
+fn command_named(word: &str) -> Option<Command>
+    ensures script { (result ≡ Some Command.Script) ↔ IsScriptCommand (word.now ∷ []) }
+    ensures check { (result ≡ Some Command.Check) ↔ IsCheckCommand (word.now ∷ []) }
+{
+    match word {
+        "script" => Some(Command::Script),
+        "check" => Some(Command::Check),
+        _ => None,
+    }
+}
+
+/// The command that the words are.
+pub fn command_of(words: &[String]) -> Option<Command>
+    ensures script { (result ≡ Some Command.Script)
+        ↔ IsScriptCommand (map string_bytes words.now) }
+    ensures check { (result ≡ Some Command.Check)
+        ↔ IsCheckCommand (map string_bytes words.now) }
 {
     match words {
-        [word] => word.as_str() == "script",
-        _ => false,
+        [word] => command_named(word.as_str()),
+        _ => None,
     }
 }

@@ -119,7 +119,7 @@ only_call (call.Selected s) args r h fits e = h.only s fits e
 only_call (call.Interrupt t) args r h fits e = h.only t fits e
 only_call call.Interrupted args r h fits e = h.only tt fits e
 
-reads_call : (word : List ℕ) (w : CallWord) (args words : List (List ℕ)) (r : Option Call)
+pub reads_call : (word : List ℕ) (w : CallWord) (args words : List (List ℕ)) (r : Option Call)
     → Reads (λ _. ⊤) call_word_text word (Some w) → words ≡ word ∷ args → ReadsArguments w args r
     → Reads IsCall call_words words r
 reads_call word w args words r read is h = record {

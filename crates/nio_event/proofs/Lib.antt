@@ -10,6 +10,7 @@ pub mod CallWordDispatch
 pub mod PlainWords
 pub mod Spaces
 pub mod LineTexts
+pub mod OneReading
 pub mod JoinedWords
 pub mod PlainTexts
 pub mod Legal

@@ -8,7 +8,7 @@ pub use event::Event;
 pub use found::{Chan, GateWord, Mark, Mode, Stage};
 pub use names::Names;
 pub use pairs::Pairs;
-pub use parse::{ParseError, Parsed, parse_line};
+pub use parse::{ParseError, Parsed, cut_at, is_blank, parse_line, read_number};
 pub use print::{print_line, print_reply};
 pub use reply::{Reply, Why};
 

@@ -4,8 +4,10 @@ ghost use Rattle.nio_event.specs.Calls.{IsBlank, IsLine};
 ghost use Rattle.nio_event.specs.Script.{IsInGrammar};
 
 use crate::call::Call;
+pub use cut::cut_at;
 use line::read_line;
 use nio_base::CallerNo;
+pub use number::read_number;
 use std::alloc::{AllocError, Global};
 use thiserror::Error;
 
@@ -69,7 +71,8 @@ pub fn parse_line(alloc: Global, line: &[u8]) -> Result<Parsed, ParseError>
     }
 }
 
-fn is_blank(line: &[u8]) -> bool
+/// Whether a line says nothing: it is empty, or a comment.
+pub fn is_blank(line: &[u8]) -> bool
     ensures { IsTrue result ↔ IsBlank line.now }
 {
     match line.first() {

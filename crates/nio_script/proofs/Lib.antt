@@ -1,5 +1,11 @@
 pub mod Bytes
+pub mod Checking
+pub mod EntryLemmas
+pub mod EntryTexts
 pub mod FirstBad
+pub mod FirstBadEntry
+pub mod LegalHistory
+pub mod OneHistory
 pub mod Reading
 pub mod Running
 pub mod ScriptLemmas

@@ -65,23 +65,23 @@ good_one : (line : List ℕ) → IsInGrammar line → All IsInGrammar (line ∷ 
 good_one line good zero d h = good
 good_one line good (suc k) d h = absurd (omega arith)
 
-take_one_more : {A : Type 0} (xs : List A) (i : ℕ) (x : A) → i < length xs → get_or xs i x ≡ x
+pub take_one_more : {A : Type 0} (xs : List A) (i : ℕ) (x : A) → i < length xs → get_or xs i x ≡ x
     → take (i + 1) xs ≡ take i xs ++ x ∷ []
 take_one_more xs i x within at = rw (add-one, take-suc xs i x within, at) refl
 
-drop_one : {A : Type 0} (xs : List A) (i : ℕ) (x : A) → i < length xs → get_or xs i x ≡ x
+pub drop_one : {A : Type 0} (xs : List A) (i : ℕ) (x : A) → i < length xs → get_or xs i x ≡ x
     → drop i xs ≡ x ∷ drop (i + 1) xs
 drop_one xs i x within at = rw (drop-cons xs i x within, at, add-one) refl
 
-drop_all : {A : Type 0} (xs : List A) (i : ℕ) → length xs ≤ i → drop i xs ≡ []
+pub drop_all : {A : Type 0} (xs : List A) (i : ℕ) → length xs ≤ i → drop i xs ≡ []
 drop_all xs i end = drop_of_length-le xs end
 
-parts : {A : Type 0} (xs : List A) (i : ℕ) (x : A) → i < length xs → get_or xs i x ≡ x
+pub parts : {A : Type 0} (xs : List A) (i : ℕ) (x : A) → i < length xs → get_or xs i x ≡ x
     → xs ≡ take i xs ++ x ∷ drop (i + 1) xs
 parts xs i x within at =
     sym (take-append-drop i xs) ∙ ap (λ ys. take i xs ++ ys) (drop_one xs i x within at)
 
-length_take_within : {A : Type 0} (xs : List A) (i : ℕ) → i < length xs → length (take i xs) ≡ i
+pub length_take_within : {A : Type 0} (xs : List A) (i : ℕ) → i < length xs → length (take i xs) ≡ i
 length_take_within xs i within = length-take-le i xs (omega arith)
 
 -- a line more

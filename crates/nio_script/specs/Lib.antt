@@ -1,3 +1,7 @@
+pub mod Check
+pub mod Entries
+pub mod History
+pub mod HistoryCall
 pub mod Input
 pub mod Output
 pub mod Run

@@ -72,7 +72,7 @@ fn run_calls<K: Sink, Y: System>(
 
 /// Says which line is the first that isn't in the grammar. That the sink fails meanwhile changes
 /// no status.
-fn refuse<K: Sink>(alloc: Global, line: u64, output: &mut K) -> Status
+pub fn refuse<K: Sink>(alloc: Global, line: u64, output: &mut K) -> Status
     ensures status { (result ≡ Status.BadScript line) ⊎ (result ≡ Status.Memory) }
     ensures said { result ≡ Status.BadScript line →
         Notes K.Sink output.old output.new (bad_line line) }

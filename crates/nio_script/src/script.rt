@@ -36,7 +36,7 @@ impl From<AllocFailed<ScriptCall>> for ScriptError {
 }
 
 /// The lines of a text.
-fn lines(alloc: Global, text: &[u8]) -> Result<Vec<&[u8]>, AllocError>
+pub fn lines(alloc: Global, text: &[u8]) -> Result<Vec<&[u8]>, AllocError>
     ensures { IfOk result (λ lines. map (λ line. line.now) lines.items ≡ lines_of text.entry.now) }
 {
     text.split(|byte| *byte == b'\n').collect(alloc)

@@ -21,7 +21,7 @@ pub enum Status {
     Memory,
     /// The poller or the listener failed.
     NetFault,
-    /// The line with this number, from 1, is the first whose reply isn't the right one.
+    /// The call with this number, from 1, is the first of a history whose reply isn't the right one.
     Illegal { line: u64 },
     /// The input is longer than a command reads.
     TooLong,

@@ -6,7 +6,7 @@ ghost use Rattle.nio_event.specs.declared.call.ScriptCall.{ScriptCall};
 ghost use Rattle.nio_plain.specs.ScriptState.{script_opening};
 
 use crate::*;
-use nio_base::CallerNo;
+use nio_base::{CallerNo, Limits};
 use nio_bytes::{Failed, MemorySink, MemorySource, Sink, SteadySource};
 use nio_event::{Call, Reply};
 use nio_plain::System;
@@ -228,6 +228,59 @@ fn a_script_ends_at_a_fault(rt: HostRuntime) -> Result<(), Fail> {
     let status = run_script(alloc, &mut source, &mut sink, &mut Deaf);
     assert_eq!(rt; status, Status::ReadFault);
     assert_eq!(rt; sink.bytes().len(), 0);
+    Ok(())
+}
+
+#[test]
+fn a_history_is_checked(rt: HostRuntime) -> Result<(), Fail> {
+    let alloc = rt.alloc();
+    let limits = Limits {
+        callers: 2,
+        selectors: 1,
+        channels: 1,
+        keys: 1,
+    };
+    // The sink fails at its third call: none, the flush, and a write of the illegal line.
+    let cases = [
+        (
+            "1 t1 selector -> s0\n2 t2 selector -> no-caller\n",
+            9,
+            Status::Done,
+            "legal 2\n",
+        ),
+        ("1 t1 selector -> s0\n", 4, Status::WriteFault, "legal 1\n"),
+        (
+            "1 t1 selector -> s1\n",
+            5,
+            Status::Illegal { line: 1 },
+            "illegal 1:",
+        ),
+    ];
+    for (text, piece, status, written) in cases {
+        let mut source = SteadySource::make(text.as_bytes().to_vec(alloc)?);
+        let third = vec![in alloc; 2]?;
+        let mut sink = MemorySink::make(alloc, piece, third, 100)?;
+        assert_eq!(rt;
+            run_check(alloc, &mut source, &mut sink, limits),
+            status,
+            "{text:?}"
+        );
+        assert_eq!(rt; sink.bytes(), written.as_bytes(), "{text:?}");
+    }
+    Ok(())
+}
+
+#[test]
+fn a_reply_is_what_stands_behind_the_first_arrow(rt: HostRuntime) -> Result<(), Fail> {
+    let alloc = rt.alloc();
+    let text =
+        b"1 t1 selector -> s0\n\n# 2 t1 selector\n2 t2 interrupted -> no -> \xff\n3 t1 wakeup s0 -> ";
+    let calls = parse_history(alloc, text).expect(&rt, "a history");
+    let replies = [b"s0".as_slice(), b"no -> \xff".as_slice(), b"".as_slice()];
+    assert_eq!(rt; calls.len(), replies.len());
+    for (call, reply) in calls.iter().zip(replies.iter()) {
+        assert_eq!(rt; call.reply, *reply);
+    }
     Ok(())
 }
 

@@ -1,0 +1,189 @@
+-- What is kept while the calls of a history are made; and that a history is legal, or has one first
+-- call whose reply is wrong, and not both.
+use Rattle.std.proofs.Common.{◌≡◌, ◌≢◌, inl, inr, ◌⊎◌, ℕ, suc, ◌+◌, ◌-◌, ◌<◌, ◌≤◌, List, [], ◌∷◌, ◌++◌, length, take, drop, get_or, refl, sym, ◌∙◌, ap, subst, arith}
+use Rattle.std.specs.Prelude.{Option, Some, None, IfSome, IfNone}
+use Rattle.std.proofs.Math.Seq.{take-append_seam, take-append-add}
+use Rattle.std.proofs.lemmas.List.{map-append, take_all}
+use Rattle.nio_base.specs.declared.limits.Limits.{Limits}
+use Rattle.nio_event.specs.Replies.{reply_text}
+use Rattle.nio_event.specs.declared.call.ScriptCall.{ScriptCall}
+use Rattle.nio_event.specs.declared.reply.Reply.{Reply}
+use Rattle.nio_plain.specs.Answer.{left_from, left_by_script}
+use Rattle.nio_plain.specs.ScriptState.{ScriptState, script_opening}
+use Rattle.nio_script.specs.Check.{calls_of, right_reply, IsLegalFrom, IsLegalHistory, IsFirstIllegal, IsVerdict, all_right, one_wrong, EndsEntries, EndsCheckText}
+use Rattle.nio_script.specs.History.{Entry}
+use Rattle.nio_script.specs.Run.{left_by_call}
+use Rattle.nio_script.specs.declared.status.Status.{Status}
+use Rattle.nio_script.specs.declared.status.Status.TheVariants.{Done, BadScript, ReadFault, WriteFault, Memory, Illegal}
+use Rattle.nio_script.proofs.ScriptLemmas.{take_one_more, parts, length_take_within}
+
+-- what is said of the value that there is
+pub if_some : {A : Type 0} (o : Option A) (x : A) (IsSo : A → Type 0) → o ≡ Some x → IfSome o IsSo → IsSo x
+if_some o x IsSo is so = subst (λ found. IfSome found IsSo) is so
+
+-- what is said where there is none
+pub if_none : {A P : Type 0} (o : Option A) → o ≡ None → IfNone o P → P
+if_none {P = P} o is so = subst (λ found. IfNone found P) is so
+
+-- what some calls leave, and then more
+left_from-append : (l : Limits) (st : ScriptState) (xs ys : List ScriptCall)
+    → left_from l st (xs ++ ys) ≡ left_from l (left_from l st xs) ys
+left_from-append l st [] ys = refl
+left_from-append l st (x ∷ xs) ys = left_from-append l (left_from l st (x ∷ [])) xs ys
+
+-- entries that are legal, and then more
+IsLegalFrom-append : (l : Limits) (st : ScriptState) (xs ys : List Entry) → IsLegalFrom l st xs
+    → IsLegalFrom l (left_from l st (calls_of xs)) ys → IsLegalFrom l st (xs ++ ys)
+IsLegalFrom-append l st [] ys first second = second
+IsLegalFrom-append l st (x ∷ xs) ys first second =
+    (first.0, IsLegalFrom-append l (left_from l st (x.line ∷ [])) xs ys first.1 second)
+
+-- what follows legal entries among legal ones is legal
+IsLegalFrom-after : (l : Limits) (st : ScriptState) (xs ys : List Entry) → IsLegalFrom l st (xs ++ ys)
+    → IsLegalFrom l (left_from l st (calls_of xs)) ys
+IsLegalFrom-after l st [] ys legal = legal
+IsLegalFrom-after l st (x ∷ xs) ys legal =
+    IsLegalFrom-after l (left_from l st (x.line ∷ [])) xs ys legal.1
+
+-- The first i entries are legal, and this is the state that their calls leave.
+pub record IsFollowed (l : Limits) (entries : List Entry) (i : ℕ) (st : ScriptState) : Type 0 where
+  pub legal : IsLegalHistory l (take i entries)
+  pub left : st ≡ left_by_script l (calls_of (take i entries))
+
+pub followed_none : (l : Limits) (entries : List Entry) (st : ScriptState) → st ≡ script_opening
+    → IsFollowed l entries 0 st
+followed_none l entries st opening = record { legal = tt; left = opening }
+
+module _ (l : Limits) (entries : List Entry) (i : ℕ) (st : ScriptState) (e : Entry) (within : i < length entries) (at : get_or entries i e ≡ e) (before : IsFollowed l entries i st) where
+  -- the next reply is right
+  pub followed_more : e.reply ≡ reply_text (right_reply l st e) → IsFollowed l entries (i + 1) (left_by_call l st e.line)
+  followed_more right =
+      let front = take i entries in
+      let more = take_one_more entries i e within at in
+      record {
+        legal =
+            subst (IsLegalHistory l) (sym more)
+            (IsLegalFrom-append l script_opening front (e ∷ []) before.legal (subst (λ s. IsLegalFrom l s (e ∷ [])) before.left (right, tt)));
+        left =
+            ap (λ s. left_by_call l s e.line) before.left
+            ∙ sym (left_from-append l script_opening (calls_of front) (e.line ∷ []))
+            ∙ ap (left_from l script_opening) (sym (map-append (λ (x : Entry). x.line) front (e ∷ [])))
+            ∙ ap (λ xs. left_by_script l (calls_of xs)) (sym more);
+      }
+
+  -- the next reply is wrong
+  pub followed_wrong : (right : Reply) → right ≡ right_reply l st e → e.reply ≢ reply_text right → IsFirstIllegal l entries (i + 1) right
+  followed_wrong right is wrong = record {
+    entry = e;
+    before = take i entries;
+    after = drop (i + 1) entries;
+    parts = parts entries i e within at;
+    number = ap (λ n. n + 1) (length_take_within entries i within);
+    legal = before.legal;
+    answer = is ∙ ap (λ s. right_reply l s e) before.left;
+    wrong = wrong;
+  }
+
+pub followed_all : (l : Limits) (entries : List Entry) (i : ℕ) (st : ScriptState) → length entries ≤ i
+    → IsFollowed l entries i st → IsLegalHistory l entries
+followed_all l entries i st end before = subst (IsLegalHistory l) (take_all i entries end) before.legal
+
+-- a wrong call among legal entries
+wrong_not_legal : (l : Limits) (entries : List Entry) (n : ℕ) (right : Reply) (bad : IsFirstIllegal l entries n right)
+    (rest : List Entry) → IsLegalHistory l (bad.before ++ bad.entry ∷ rest) → ⊥
+wrong_not_legal l entries n right bad rest legal =
+    let here = IsLegalFrom-after l script_opening bad.before (bad.entry ∷ rest) legal in
+    bad.wrong (here.0 ∙ ap reply_text (sym bad.answer))
+
+pub legal_not_illegal : (l : Limits) (entries : List Entry) (n : ℕ) (right : Reply)
+    → IsLegalHistory l entries → IsFirstIllegal l entries n right → ⊥
+legal_not_illegal l entries n right legal bad =
+    wrong_not_legal l entries n right bad bad.after (subst (IsLegalHistory l) bad.parts legal)
+
+-- no wrong call stands before the first
+not_before : (l : Limits) (entries : List Entry) (m n : ℕ) (p q : Reply) (x : IsFirstIllegal l entries m p)
+    (y : IsFirstIllegal l entries n q) → length x.before < length y.before → ⊥
+not_before l entries m n p q x y h =
+    let k = length y.before - length x.before - 1 in
+    let many : length y.before ≡ length x.before + suc k = omega arith in
+    let front : y.before ≡ x.before ++ x.entry ∷ take k x.after =
+    sym (take-append_seam y.before (y.entry ∷ y.after))
+    ∙ ap (take (length y.before)) (sym y.parts ∙ x.parts)
+    ∙ ap (λ n. take n (x.before ++ x.entry ∷ x.after)) many
+    ∙ take-append-add x.before (x.entry ∷ x.after) (suc k)
+    in
+    wrong_not_legal l entries m p x (take k x.after) (subst (IsLegalHistory l) front y.legal)
+
+pub first_illegal_is_one : (l : Limits) (entries : List Entry) (m n : ℕ) (p q : Reply)
+    → IsFirstIllegal l entries m p → IsFirstIllegal l entries n q → m ≡ n
+first_illegal_is_one l entries m n p q x y =
+    let below : length x.before < length y.before → ⊥ = not_before l entries m n p q x y in
+    let above : length y.before < length x.before → ⊥ = not_before l entries n m q p y x in
+    omega (arith, x.number, y.number)
+
+-- the verdict on legal entries
+pub verdict_of_legal : {l : Limits} {entries : List Entry} {status : Status} → IsVerdict l entries status
+    → IsLegalHistory l entries → status ≡ Done
+verdict_of_legal (all_right _) legal = refl
+verdict_of_legal {l = l} {entries = entries} (one_wrong n right first) legal =
+    absurd (legal_not_illegal l entries n right legal first)
+
+-- the verdict on entries with a wrong call
+pub verdict_of_illegal : {l : Limits} {entries : List Entry} {status : Status} (n : ℕ) (right : Reply)
+    → IsVerdict l entries status → IsFirstIllegal l entries n right → status ≡ Illegal n
+verdict_of_illegal {l = l} {entries = entries} n right (all_right legal) first =
+    absurd (legal_not_illegal l entries n right legal first)
+verdict_of_illegal {l = l} {entries = entries} n right (one_wrong m other x) first =
+    ap Illegal (first_illegal_is_one l entries m n other right x first)
+
+-- how the check of legal entries ends
+pub ends_legal : (l : Limits) (entries : List Entry) (status : Status) → IsLegalHistory l entries
+    → (status ≡ Done) ⊎ (status ≡ WriteFault) ⊎ (status ≡ Memory) → EndsEntries l entries status
+ends_legal l entries status legal (inl done) = inl (subst (IsVerdict l entries) (sym done) (all_right legal))
+ends_legal l entries status legal (inr (inl fault)) = inr (inl (legal, fault))
+ends_legal l entries status legal (inr (inr lacks)) = inr (inr lacks)
+
+-- how the check of entries with a wrong call ends
+pub ends_illegal : (l : Limits) (entries : List Entry) (status : Status) (n : ℕ) (right : Reply)
+    → IsFirstIllegal l entries n right → (status ≡ Illegal n) ⊎ (status ≡ Memory) → EndsEntries l entries status
+ends_illegal l entries status n right first (inl illegal) =
+    inl (subst (IsVerdict l entries) (sym illegal) (one_wrong n right first))
+ends_illegal l entries status n right first (inr lacks) = inr (inr lacks)
+
+-- a check that ended otherwise was of legal entries
+pub legal_otherwise : {l : Limits} {entries : List Entry} {status : Status} → EndsEntries l entries status
+    → ((n : ℕ) → status ≢ Illegal n) → status ≢ Memory → IsLegalHistory l entries
+legal_otherwise (inl (all_right legal)) not_illegal not_lacking = legal
+legal_otherwise (inl (one_wrong n right first)) not_illegal not_lacking = absurd (not_illegal n refl)
+legal_otherwise (inr (inl (legal, fault))) not_illegal not_lacking = legal
+legal_otherwise (inr (inr lacks)) not_illegal not_lacking = absurd (not_lacking lacks)
+
+-- entries that were parsed have no bad line
+pub never_bad : {l : Limits} {entries : List Entry} {status : Status} → EndsEntries l entries status
+    → (line : ℕ) → status ≢ BadScript line
+never_bad (inl (all_right legal)) line is = cc
+never_bad (inl (one_wrong n right first)) line is = cc
+never_bad (inr (inl (legal, fault))) line is = cc
+never_bad (inr (inr lacks)) line is = cc
+
+pub ends_text : (l : Limits) (entries : List Entry) (status : Status) → EndsEntries l entries status → EndsCheckText status
+ends_text l entries status (inl (all_right legal)) = tt
+ends_text l entries status (inl (one_wrong n right first)) = tt
+ends_text l entries status (inr (inl (legal, fault))) = subst EndsCheckText (sym fault) tt
+ends_text l entries status (inr (inr lacks)) = subst EndsCheckText (sym lacks) tt
+
+-- what comes of legal entries
+pub of_legal : (l : Limits) (entries : List Entry) (status : Status) → EndsEntries l entries status
+    → IsLegalHistory l entries
+    → (status ≡ Done) ⊎ (status ≡ ReadFault) ⊎ (status ≡ WriteFault) ⊎ (status ≡ Memory)
+of_legal l entries status (inl verdict) legal = inl (verdict_of_legal verdict legal)
+of_legal l entries status (inr (inl (_, fault))) legal = inr (inr (inl fault))
+of_legal l entries status (inr (inr lacks)) legal = inr (inr (inr lacks))
+
+-- what comes of entries with a wrong call
+pub of_illegal : (l : Limits) (entries : List Entry) (status : Status) (n : ℕ) (right : Reply)
+    → EndsEntries l entries status → IsFirstIllegal l entries n right
+    → (status ≡ Illegal n) ⊎ (status ≡ ReadFault) ⊎ (status ≡ Memory)
+of_illegal l entries status n right (inl verdict) first = inl (verdict_of_illegal n right verdict first)
+of_illegal l entries status n right (inr (inl (legal, _))) first = absurd (legal_not_illegal l entries n right legal first)
+of_illegal l entries status n right (inr (inr lacks)) first = inr (inr lacks)

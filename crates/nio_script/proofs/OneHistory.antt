@@ -1,0 +1,36 @@
+-- A text is a history of one list of entries.
+use Rattle.std.proofs.Common.{◌≡◌, ◌≢◌, ℕ, List, [], ◌∷◌, ◌++◌, drop, refl, sym, ap, ◌∙◌, subst, append_assoc, All}
+use Rattle.std.specs.Fmt.{decimal}
+use Rattle.std.proofs.lemmas.List.{append_cancel_left, append_cancel_right}
+use Rattle.nio_event.specs.Calls.{IsLine}
+use Rattle.nio_event.proofs.OneReading.{cut_one, line_one}
+use Rattle.nio_script.specs.History.{Entry, IsEntry, AreEntries, no_lines, blank_line, entry_line, call_text}
+use Rattle.nio_script.proofs.EntryLemmas.{entry_flat, entry_full}
+use Rattle.nio_script.proofs.EntryTexts.{arrowless, lacks_arrow}
+
+-- texts before and behind the first arrow
+arrow_one : (before after front back : List ℕ) → All (λ b. b ≢ 62) before → All (λ b. b ≢ 62) front
+    → before ++ 32 ∷ 45 ∷ 62 ∷ 32 ∷ after ≡ front ++ 32 ∷ 45 ∷ 62 ∷ 32 ∷ back → (before ≡ front) × (after ≡ back)
+arrow_one before after front back h k e =
+    let cut = λ (xs ys : List ℕ). append_assoc xs (32 ∷ 45 ∷ []) (62 ∷ 32 ∷ ys) in
+    let parts = cut_one 62 (before ++ 32 ∷ 45 ∷ []) (32 ∷ after) (front ++ 32 ∷ 45 ∷ []) (32 ∷ back) (lacks_arrow before h) (lacks_arrow front k) (cut before after ∙ e ∙ sym (cut front back)) in
+    (append_cancel_right before front (32 ∷ 45 ∷ []) parts.0, ap (drop 1) parts.1)
+
+-- a line is one entry
+entry_one : (n : ℕ) (line : List ℕ) (e f : Entry) → IsEntry n e line → IsEntry n f line → e ≡ f
+entry_one n line e f x y =
+    let flat = sym (entry_flat (decimal n) (call_text e) e.reply) ∙ sym x.text ∙ y.text ∙ entry_flat (decimal n) (call_text f) f.reply in
+    let parts = arrow_one (call_text e) e.reply (call_text f) f.reply (arrowless n line e x) (arrowless n line f y) (ap (drop 1) (append_cancel_left (decimal n) _ _ flat)) in
+    let one = line_one x.call (subst (IsLine f.line.caller f.line.call) (sym parts.0) y.call) in
+    ap (λ t. record { line = record { caller = t; call = e.line.call }; reply = e.reply }) one.0
+    ∙ ap (λ c. record { line = record { caller = f.line.caller; call = c }; reply = e.reply }) one.1
+    ∙ ap (λ r. record { line = f.line; reply = r }) parts.1
+
+pub entries_one : {n : ℕ} {lines : List (List ℕ)} {entries others : List Entry} → AreEntries n lines entries → AreEntries n lines others
+    → entries ≡ others
+entries_one no_lines no_lines = refl
+entries_one (blank_line b rest) (blank_line c more) = entries_one rest more
+entries_one (blank_line b rest) (entry_line is more) = absurd (entry_full is b)
+entries_one (entry_line is rest) (blank_line b more) = absurd (entry_full is b)
+entries_one (entry_line {n = n} {line = line} {e = e} {entries = entries} is rest) (entry_line {e = f} same more) =
+    ap (λ x. x ∷ entries) (entry_one n line e f is same) ∙ ap (λ es. f ∷ es) (entries_one rest more)

@@ -1,0 +1,125 @@
+-- Whether a history is legal, and what is said of it.
+use Rattle.std.specs.Prelude.{◌≡◌, ◌≢◌, ⊤, ◌⊎◌, ℕ, ◌+◌, List, [], ◌∷◌, ◌++◌, length, map, codes}
+use Rattle.std.specs.Fmt.{decimal}
+use Rattle.nio_base.specs.declared.limits.Limits.{Limits}
+use Rattle.nio_bytes.specs.declared.sink.Sink as sink
+use Rattle.nio_event.specs.Replies.{reply_text}
+use Rattle.nio_event.specs.declared.call.ScriptCall.{ScriptCall}
+use Rattle.nio_event.specs.declared.reply.Reply.{Reply}
+use Rattle.nio_plain.specs.Answer.{answer_to, left_from, left_by_script}
+use Rattle.nio_plain.specs.ScriptState.{ScriptState, script_opening}
+use Rattle.nio_plain.specs.Seq.{seq}
+use Rattle.nio_script.specs.History.{Entry, IsHistory, IsFirstBadEntry}
+use Rattle.nio_script.specs.Output.{IsWritten, WritesPrefix}
+use Rattle.nio_script.specs.Run.{bad_line, Notes, EndsText, EndsScript}
+use Rattle.nio_script.specs.declared.status.Status.{Status}
+use Rattle.nio_script.specs.declared.status.Status.TheVariants.{Done, WriteFault, Memory, Illegal}
+
+-- the calls of a history
+abbrev pub calls_of : List Entry → List ScriptCall
+calls_of entries = map (λ e. e.line) entries
+
+-- the sequential selector's reply to the call of an entry in this state
+abbrev pub right_reply : Limits → ScriptState → Entry → Reply
+right_reply l st e = (seq l st e.line.caller e.line.call).reply
+
+-- each reply, as text, is the one that the sequential selector gives, from a state on
+abbrev pub IsLegalFrom : Limits → ScriptState → List Entry → Type 0
+IsLegalFrom l st [] = ⊤
+IsLegalFrom l st (e ∷ entries) =
+    (e.reply ≡ reply_text (right_reply l st e))
+    × IsLegalFrom l (left_from l st (e.line ∷ [])) entries
+
+-- a history is legal where this is so from the opening state on
+abbrev pub IsLegalHistory : Limits → List Entry → Type 0
+IsLegalHistory l entries = IsLegalFrom l script_opening entries
+
+-- call number n is the first whose reply isn't the sequential selector's, which is this one
+pub record IsFirstIllegal (l : Limits) (entries : List Entry) (n : ℕ) (right : Reply)
+    : Type 0 where
+  pub entry : Entry
+  pub before : List Entry
+  pub after : List Entry
+  pub parts : entries ≡ before ++ entry ∷ after
+  pub number : length before + 1 ≡ n
+  pub legal : IsLegalHistory l before
+  pub answer : right ≡ right_reply l (left_by_script l (calls_of before)) entry
+  pub wrong : entry.reply ≢ reply_text right
+
+-- the status that these entries have: Done where they are legal, else Illegal with the first call
+-- whose reply is wrong
+pub data IsVerdict (l : Limits) (entries : List Entry) : Status → Type 0 where
+  all_right : IsLegalHistory l entries → IsVerdict l entries Done
+  one_wrong : (number : ℕ) (right : Reply) → IsFirstIllegal l entries number right
+      → IsVerdict l entries (Illegal number)
+
+-- how the check of these entries may end
+abbrev pub EndsEntries : Limits → List Entry → Status → Type 0
+EndsEntries l entries status =
+    IsVerdict l entries status
+    ⊎ (IsLegalHistory l entries × (status ≡ WriteFault))
+    ⊎ (status ≡ Memory)
+
+-- what is said of a legal history of n calls
+abbrev pub legal_text : ℕ → List ℕ
+legal_text n = codes "legal " ++ decimal n ++ 10 ∷ []
+
+-- what is said of call number n where its reply isn't the right one, which is this
+abbrev pub illegal_text : ℕ → Reply → List ℕ
+illegal_text n right = codes "illegal " ++ decimal n ++ codes ": " ++ reply_text right ++ 10 ∷ []
+
+-- This call of these entries is the first whose reply is wrong, which was said with the right reply.
+pub record IsSaidIllegal {K : Type 0} (k : sink.Ghosts K) (output output' : K) (l : Limits)
+    (number : ℕ) (entries : List Entry) : Type 0 where
+  pub right : Reply
+  pub first : IsFirstIllegal l entries number right
+  pub said : Notes k output output' (illegal_text number right)
+
+-- The text is a legal history, which was said and flushed, and no write failed.
+pub record IsFoundLegal {K : Type 0} (k : sink.Ghosts K) (output output' : K) (l : Limits)
+    (text : List ℕ) : Type 0 where
+  pub entries : List Entry
+  pub history : IsHistory text entries
+  pub legal : IsLegalHistory l entries
+  pub said : IsWritten k output output' (legal_text (length entries))
+  pub still : k.faults output' ≡ k.faults output
+
+-- The text is a legal history, and some of that was said, from its front.
+pub record IsHalfSaid {K : Type 0} (k : sink.Ghosts K) (output output' : K) (l : Limits)
+    (text : List ℕ) : Type 0 where
+  pub entries : List Entry
+  pub history : IsHistory text entries
+  pub legal : IsLegalHistory l entries
+  pub said : WritesPrefix k output output' (legal_text (length entries))
+
+-- The text is a history, and this call of it is the first whose reply is wrong, which was said with
+-- the right reply.
+pub record IsFoundIllegal {K : Type 0} (k : sink.Ghosts K) (output output' : K) (l : Limits)
+    (number : ℕ) (text : List ℕ) : Type 0 where
+  pub entries : List Entry
+  pub history : IsHistory text entries
+  pub found : IsSaidIllegal k output output' l number entries
+
+-- The line is the text's first that isn't in the grammar of histories, which was said.
+pub record IsNoHistory {K : Type 0} (k : sink.Ghosts K) (output output' : K) (line : ℕ)
+    (text : List ℕ) : Type 0 where
+  pub first : IsFirstBadEntry text line
+  pub said : Notes k output output' (bad_line line)
+
+-- The history that is written for a script is in the grammar of histories, has the script's calls,
+-- and is legal.
+pub record HasLegalHistory (l : Limits) (calls : List ScriptCall) : Type 0 where
+  pub entries : List Entry
+  pub history : IsHistory (answer_to l calls) entries
+  pub same : calls_of entries ≡ calls
+  pub legal : IsLegalHistory l entries
+
+-- the check of a text may end as the running of one does, and with Illegal
+abbrev pub EndsCheckText : Status → Type 0
+EndsCheckText (Illegal number) = Unit {0}
+EndsCheckText status = EndsText status
+
+-- a check may end as a script does, and with Illegal
+abbrev pub EndsCheck : Status → Type 0
+EndsCheck (Illegal number) = Unit {0}
+EndsCheck status = EndsScript status
