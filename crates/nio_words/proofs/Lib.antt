@@ -23,3 +23,5 @@ pub mod Notes
 pub mod Selectors
 pub mod Whole
 pub mod Seen
+pub mod GoingOn
+pub mod Standing

@@ -1,7 +1,47 @@
-//! What follows from the table's rule alone. The functions do nothing: their contracts are laws.
+//! What follows from the table's rule and from the laws of legal histories alone. The functions do
+//! nothing: their contracts are laws.
+ghost use Rattle.nio_words.specs.Laws.{CallsGoOn, JoinsGoOn, GoingOnChains, FactsStand, FoundStands, HoldStands, TurnStands, SelectionStands, ModeStands, FoundModeStands, NotedStands, OutsideStands, SelectsAlone, KeySetStands, MarksStand, WakeupStands};
 ghost use Rattle.nio_words.specs.Whole.{HoldersOfAllSeeAll};
 
 /// A pass that holds every number below the limit has seen the whole history.
 pub fn whole_law()
     ensures { HoldersOfAllSeeAll }
+{}
+
+/// What the other laws speak of, a caller that goes on from one pass to a later one, comes from each
+/// call and each joining, and one after another.
+pub fn going_on_law()
+    ensures calls { CallsGoOn }
+    ensures joins { JoinsGoOn }
+    ensures chains { GoingOnChains }
+{}
+
+/// What is drawn, made, claimed, published, cancelled, removed, closed or shut, and what is below a
+/// mark, is so in what every later pass has seen; so is what a caller found so by a look.
+pub fn found_law()
+    ensures facts { FactsStand }
+    ensures found { FoundStands }
+{}
+
+/// A hold, a turn and a selection last until the caller that has them gives them back.
+pub fn kept_law()
+    ensures hold { HoldStands }
+    ensures turn { TurnStands }
+    ensures selection { SelectionStands }
+{}
+
+/// Nobody but who holds a channel changes its mode, notes a key for it or publishes one of its keys.
+pub fn hold_law()
+    ensures mode { ModeStands }
+    ensures found_mode { FoundModeStands }
+    ensures noted { NotedStands }
+    ensures outside { OutsideStands }
+{}
+
+/// Nobody but who selects on a selector marks or removes one of its keys or ends its wakeup.
+pub fn selection_law()
+    ensures alone { SelectsAlone }
+    ensures key_set { KeySetStands }
+    ensures marks { MarksStand }
+    ensures wakeup { WakeupStands }
 {}

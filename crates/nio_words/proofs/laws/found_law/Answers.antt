@@ -1,0 +1,9 @@
+use Rattle.nio_words.proofs.GoingOn.{facts_stand}
+use Rattle.nio_words.proofs.Standing.{found_stands}
+use Rattle.nio_words.proofs.laws.found_law.Goals as goal
+
+pub returns-clause-facts : goal.returns-clause-facts
+returns-clause-facts c = facts_stand
+
+pub returns-clause-found : goal.returns-clause-found
+returns-clause-found c = found_stands

@@ -1,0 +1,14 @@
+use Rattle.nio_words.proofs.Standing.{mode_stands, found_mode_stands, noted_stands, outside_stands}
+use Rattle.nio_words.proofs.laws.hold_law.Goals as goal
+
+pub returns-clause-mode : goal.returns-clause-mode
+returns-clause-mode c = mode_stands
+
+pub returns-clause-found_mode : goal.returns-clause-found_mode
+returns-clause-found_mode c = found_mode_stands
+
+pub returns-clause-noted : goal.returns-clause-noted
+returns-clause-noted c = noted_stands
+
+pub returns-clause-outside : goal.returns-clause-outside
+returns-clause-outside c = outside_stands
