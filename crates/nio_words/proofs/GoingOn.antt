@@ -3,7 +3,6 @@
 use Rattle.std.proofs.Common.{◌≡◌, Bool, true, false, ◌&&◌, ◌||◌, List, [], ◌∷◌, ◌++◌, append_assoc, refl, ap, sym, ◌∙◌, subst}
 use Rattle.std.proofs.lemmas.Bool.{or_parts}
 use Rattle.std.proofs.lemmas.List.{append-nil, append_cancel_left}
-use Rattle.nio_base.specs.declared.limits.Limits.{Limits}
 use Rattle.nio_base.specs.declared.numbers.CallerNo.{CallerNo}
 use Rattle.nio_event.proofs.LastsAlone.{lasts_alone, without_from, has-mine}
 use Rattle.nio_event.proofs.OneMore.{state_after-more}
@@ -17,7 +16,7 @@ use Rattle.nio_event.specs.declared.act.Act.{Act}
 use Rattle.nio_event.specs.declared.event.Event.{Event}
 use Rattle.nio_words.proofs.Beginnings.{prefix_trans, mine-append}
 use Rattle.nio_words.specs.Laws.{IsLater, GoesOn, Keeps, CallsGoOn, JoinsGoOn, GoingOnChains, FactsStand, HoldStands, TurnStands, SelectionStands}
-use Rattle.nio_words.specs.Passes.{seen, state_seen, acts_seen, IsPassOf}
+use Rattle.nio_words.specs.Passes.{seen, state_seen, acts_seen}
 use Rattle.nio_words.specs.declared.words.Pass.{Pass}
 use Rattle.nio_words.specs.declared.words.Words.{Words}
 

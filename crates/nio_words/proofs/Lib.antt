@@ -25,3 +25,4 @@ pub mod Whole
 pub mod Seen
 pub mod GoingOn
 pub mod Standing
+pub mod Following

@@ -1,5 +1,5 @@
 -- What a caller found, what stands under its hold, and what stands during its selection.
-use Rattle.std.proofs.Common.{◌≡◌, ℕ, ◌==◌, ◌<◌, ◌≤◌, ◌^◌, Bool, true, false, not, ◌&&◌, ◌||◌, inl, inr, Option, List, [], ◌∷◌, ◌++◌, append_assoc, refl, ap, sym, ◌∙◌, subst, eqb-true, eq-eqb}
+use Rattle.std.proofs.Common.{◌≡◌, ℕ, ◌==◌, Bool, true, false, not, ◌&&◌, ◌||◌, inl, inr, Option, List, [], ◌∷◌, ◌++◌, append_assoc, refl, ap, sym, ◌∙◌, subst, eqb-true, eq-eqb}
 use Rattle.std.specs.Prelude.{nat_lt}
 use Rattle.std.specs.Int.{bit_at}
 use Rattle.std.proofs.lemmas.Bool.{and_parts, and_from, or_parts, ltb-true, ltb-false}
@@ -23,7 +23,7 @@ use Rattle.nio_event.specs.Acts.{effect}
 use Rattle.nio_event.specs.Answers.{Answers, bits_below}
 use Rattle.nio_event.specs.Conditions.{Condition, is_held_by, has_turn, has_begun, is_closer, has_entered}
 use Rattle.nio_event.specs.Histories.{state_after, is_by, mine, IsStep, IsLegal}
-use Rattle.nio_event.specs.Lasting.{LastingFact, selector_made, selector_shut, channel_made, channel_closed, key_claimed, key_published, key_cancelled, key_removed, below_keys_mark, below_channels_mark, stands, the_turn, a_selection, the_hold}
+use Rattle.nio_event.specs.Lasting.{LastingFact, selector_made, selector_shut, channel_made, channel_closed, key_claimed, key_published, key_cancelled, key_removed, below_keys_mark, below_channels_mark, stands, a_selection, the_hold}
 use Rattle.nio_event.specs.OwnEvents.{has, sets_mode, gives_turn}
 use Rattle.nio_event.specs.Sets.{in_key_set}
 use Rattle.nio_event.specs.Sound.{IsSound}
@@ -39,7 +39,7 @@ use Rattle.nio_words.proofs.Bits.{reads_bit, bits_below-lt}
 use Rattle.nio_words.proofs.GoingOn.{facts_stand, did_between, stands_while}
 use Rattle.nio_words.specs.Decodings.{is_set}
 use Rattle.nio_words.specs.Laws.{finds, FoundStands, notes, publishes, ModeStands, FoundModeStands, NotedStands, OutsideStands, removes, marks, ends_wakeup, SelectsAlone, KeySetStands, IsAtMostUnselected, MarksStand, WakeupStands}
-use Rattle.nio_words.specs.Passes.{seen, state_seen, acts_seen}
+use Rattle.nio_words.specs.Passes.{seen, state_seen}
 
 -- ---- found by a look
 

@@ -13,3 +13,4 @@ pub mod Owed
 pub mod Drawing
 pub mod Whole
 pub mod Laws
+pub mod Following
