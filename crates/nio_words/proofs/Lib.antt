@@ -24,5 +24,6 @@ pub mod Selectors
 pub mod Whole
 pub mod Seen
 pub mod GoingOn
+pub mod NotedKeys
 pub mod Standing
 pub mod Following

@@ -13,7 +13,7 @@ use Rattle.nio_event.proofs.Holder.{holder_knows_mode}
 use Rattle.nio_event.proofs.LastsAlone.{one_holder}
 use Rattle.nio_event.proofs.LastsOnceSound.{lasting_stands}
 use Rattle.nio_event.proofs.Legal.{legal_beginning, legal_next, legal_more, legal_induction}
-use Rattle.nio_event.proofs.OneMore.{mine-own, mine-other, has-more}
+use Rattle.nio_event.proofs.OneMore.{state_after-more, mine-own, mine-other, has-more}
 use Rattle.nio_event.proofs.Put.{put_keeps, put_at_keeps}
 use Rattle.nio_event.proofs.Soundness.{legal-sound, held_some, both_ways}
 use Rattle.nio_event.proofs.Stays.{only_itself_gives_back}
@@ -22,7 +22,7 @@ use Rattle.nio_event.proofs.TurnLaws.{only_who_may_selects}
 use Rattle.nio_event.specs.Acts.{effect}
 use Rattle.nio_event.specs.Answers.{Answers, bits_below}
 use Rattle.nio_event.specs.Conditions.{Condition, is_held_by, has_turn, has_begun, is_closer, has_entered}
-use Rattle.nio_event.specs.Histories.{state_after, is_by, mine, IsStep, IsLegal}
+use Rattle.nio_event.specs.Histories.{state_after, event_of, is_by, mine, IsStep, IsLegal, HistoryClause, StepClause}
 use Rattle.nio_event.specs.Lasting.{LastingFact, selector_made, selector_shut, channel_made, channel_closed, key_claimed, key_published, key_cancelled, key_removed, below_keys_mark, below_channels_mark, stands, a_selection, the_hold}
 use Rattle.nio_event.specs.OwnEvents.{has, sets_mode, gives_turn}
 use Rattle.nio_event.specs.Sets.{in_key_set}
@@ -30,18 +30,51 @@ use Rattle.nio_event.specs.Sound.{IsSound}
 use Rattle.nio_event.specs.State.{State}
 use Rattle.nio_event.specs.Turns.{selects_on, may_select}
 use Rattle.nio_event.specs.declared.act.Act.{Act}
-use Rattle.nio_event.specs.declared.act.Act.TheVariants.{LookSelectors, Wake, LookGate, LookKey, CancelKey, MakeChannel, LookChannel, Claim, LookKeys, Publish, Enrol, BeginLook, Remove, Mark, UnselectBit, EndWake, LookChannels, SetMode, CloseBit, ShutBit}
+use Rattle.nio_event.specs.declared.act.Act.TheVariants.{DrawBit, LookSelectors, Wake, LookGate, LookInterrupt, LookKey, CancelKey, LookInterest, LookNote, MakeChannel, LookChannel, Claim, LookKeys, Publish, LookReg, Enrol, BeginLook, Remove, LookMark, Mark, UnselectBit, EndWake, LookChannels, SetMode, CloseBit, ShutBit, Enter}
 use Rattle.nio_event.specs.declared.event.Event.{Event}
 use Rattle.nio_event.specs.declared.found.Mark.{Mark as KeyMark}
 use Rattle.nio_event.specs.declared.found.Stage.{Stage}
 use Rattle.nio_words.proofs.Beginnings.{mine-append, same_number}
 use Rattle.nio_words.proofs.Bits.{reads_bit, bits_below-lt}
 use Rattle.nio_words.proofs.GoingOn.{facts_stand, did_between, stands_while}
+use Rattle.nio_words.proofs.Seen.{last_event}
 use Rattle.nio_words.specs.Decodings.{is_set}
-use Rattle.nio_words.specs.Laws.{finds, FoundStands, notes, publishes, ModeStands, FoundModeStands, NotedStands, OutsideStands, removes, marks, ends_wakeup, SelectsAlone, KeySetStands, IsAtMostUnselected, MarksStand, WakeupStands}
-use Rattle.nio_words.specs.Passes.{seen, state_seen}
+use Rattle.nio_words.specs.Laws.{is_look, LooksTell, finds, FoundStands, notes, publishes, ModeStands, FoundModeStands, NotedStands, OutsideStands, removes, marks, ends_wakeup, SelectsAlone, KeySetStands, IsAtMostUnselected, MarksStand, WakeupStands}
+use Rattle.nio_words.specs.Passes.{seen, state_seen, Holds}
 
 -- ---- found by a look
+
+-- where a look doesn't change what it looks at, what it found stands after it
+look_keeps : (st : State) (me : CallerNo) (act : Act) → is_look act ≡ true → Answers st me act → Answers (effect st me act) me act
+look_keeps st me (LookSelectors found) looks answers = answers
+look_keeps st me (LookGate s found) looks answers = answers
+look_keeps st me (LookInterrupt found) looks answers = answers
+look_keeps st me (LookKey s i found) looks answers = answers
+look_keeps st me (LookInterest s i found) looks answers = answers
+look_keeps st me (LookNote s i found) looks answers = answers
+look_keeps st me (LookChannel c found) looks answers = answers
+look_keeps st me (LookKeys s found) looks answers = answers
+look_keeps st me (LookReg c s found) looks answers = answers
+look_keeps st me (BeginLook s found) looks answers = answers
+look_keeps st me (LookMark s i found) looks answers = answers
+look_keeps st me (LookChannels found) looks answers = answers
+look_keeps st me (Enter s found) looks answers = answers
+look_keeps st me act looks answers = absurd (cc looks)
+
+looks_in : (l : Limits) (me : CallerNo) (act : Act) (before after : List Event) (Holds : CallerNo → Type 0) → HistoryClause l Holds me (act ∷ []) before after
+    → is_look act ≡ true → Answers (state_after after) me act
+looks_in l me act before after Holds clause looks =
+    let last = last_event after (event_of me act) clause.ends in
+    let step = legal_next l last.0 (event_of me act) [] (subst (IsLegal l) last.1 clause.legal) in
+    subst (λ st. Answers st me act) (sym (ap state_after last.1 ∙ state_after-more last.0 (event_of me act))) (look_keeps (state_after last.0) me act looks step.answers)
+
+-- a look that isn't a draw has the history clause
+pub looks_tell : LooksTell
+looks_tell w p q me act steps looks = looks_in w.limits me act (seen p) (seen q) (Holds p) (clause_of act looks steps.clause) looks
+  where
+    clause_of : (act : Act) → is_look act ≡ true → StepClause w.limits (Holds p) me act (seen p) (seen q) → HistoryClause w.limits (Holds p) me (act ∷ []) (seen p) (seen q)
+    clause_of (DrawBit n true) looks clause = absurd (cc looks)
+    clause_of act looks clause = clause
 
 -- what is found of a part is found of the part that is named
 found_at : {A : Type 0} (f : ℕ → A) (P : A → Bool) (k n : ℕ) (found : A) → ((k == n) && P found) ≡ true → found ≡ f k → P (f n) ≡ true

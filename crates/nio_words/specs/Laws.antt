@@ -1,10 +1,11 @@
 -- Laws of passes, as a caller needs them: what was seen to stand, and what a caller has, stands in what
 -- is seen later too, whatever others do in between.
-use Rattle.std.specs.Prelude.{◌≡◌, ◌≢◌, ℕ, ◌==◌, nat_lt, Bool, false, ◌&&◌, IsTrue, IsFalse, List, [], ◌∷◌, ◌++◌}
+use Rattle.std.specs.Prelude.{◌≡◌, ◌≢◌, ℕ, ◌==◌, nat_lt, Bool, true, false, ◌&&◌, Some, IsTrue, IsFalse, List, [], ◌∷◌, ◌++◌}
 use mathlib.Core.List.{IsPrefix}
 use Rattle.nio_base.specs.declared.numbers.CallerNo.{CallerNo}
 use Rattle.nio_base.specs.declared.numbers.ChanNo.{ChanNo}
 use Rattle.nio_base.specs.declared.numbers.SelNo.{SelNo}
+use Rattle.nio_event.specs.Answers.{Answers}
 use Rattle.nio_event.specs.Conditions.{is_claimed, channel_of, holds, has_turn, has_begun}
 use Rattle.nio_event.specs.Histories.{HistoryClause}
 use Rattle.nio_event.specs.Lasting.{LastingFact, selector_made, selector_shut, channel_made, channel_closed, key_claimed, key_published, key_cancelled, key_removed, below_keys_mark, below_channels_mark, stands, OwnFact, the_turn, a_selection, the_hold, is_had_by, gives_back}
@@ -12,12 +13,13 @@ use Rattle.nio_event.specs.OwnEvents.{has, under, finds_unblocked, sets_mode}
 use Rattle.nio_event.specs.Sets.{in_key_set}
 use Rattle.nio_event.specs.Turns.{selects_on}
 use Rattle.nio_event.specs.declared.act.Act.{Act}
-use Rattle.nio_event.specs.declared.act.Act.TheVariants.{LookSelectors, LookGate, LookKey, LookChannel, LookKeys, Publish, Enrol, BeginLook, Remove, Mark, EndWake, LookChannels}
+use Rattle.nio_event.specs.declared.act.Act.TheVariants.{LookSelectors, LookGate, LookInterrupt, LookKey, LookInterest, LookNote, LookChannel, LookKeys, Publish, LookReg, Enrol, BeginLook, Remove, LookMark, Mark, EndWake, LookChannels, Enter}
 use Rattle.nio_event.specs.declared.event.Event.{Event}
 use Rattle.nio_event.specs.declared.found.Mark.{Mark as KeyMark}
 use Rattle.nio_words.specs.Decodings.{is_set}
 use Rattle.nio_words.specs.Passes.{seen, state_seen, acts_seen, Holds, IsPassOf, limits_of}
 use Rattle.nio_words.specs.Sharing.{Joins}
+use Rattle.nio_words.specs.Steps.{Steps}
 use Rattle.nio_words.specs.declared.words.Pass.{Pass}
 use Rattle.nio_words.specs.declared.words.Words.{Words}
 
@@ -56,6 +58,29 @@ JoinsGoOn = (w : Words) (before other after : Pass) → IsPassOf w before → Is
 abbrev pub GoingOnChains : Type 0
 GoingOnChains = (w : Words) (me : CallerNo) (acts more : List Act) (p q r : Pass) → GoesOn w me acts p q → GoesOn w me more q r
     → GoesOn w me (acts ++ more) p r
+
+-- ---- what a look finds
+
+-- the step finds what stands there after it too
+abbrev pub is_look : Act → Bool
+is_look (LookSelectors found) = true
+is_look (LookGate s found) = true
+is_look (LookInterrupt found) = true
+is_look (LookKey s i found) = true
+is_look (LookInterest s i found) = true
+is_look (LookNote s i found) = true
+is_look (LookChannel c found) = true
+is_look (LookKeys s found) = true
+is_look (LookReg c s found) = true
+is_look (BeginLook s found) = true
+is_look (LookMark s i found) = true
+is_look (LookChannels found) = true
+is_look (Enter s found) = true
+is_look act = false
+
+-- just after a look what it found is what the state gives that the pass has seen
+abbrev pub LooksTell : Type 0
+LooksTell = (w : Words) (p q : Pass) (me : CallerNo) (act : Act) → Steps w p q me act → IsTrue (is_look act) → Answers (state_seen q) me act
 
 -- ---- what never goes back
 
@@ -129,6 +154,11 @@ abbrev pub NotedStands : Type 0
 NotedStands = (w : Words) (me : CallerNo) (c : ChanNo) (acts : List Act) (before after : Pass) → Keeps w me (the_hold c) acts before after
     → (s : SelNo) → IsFalse (has (notes c.0 s.0) acts)
     → (state_seen after).noted c.0 s.0 ≡ (state_seen before).noted c.0 s.0
+
+-- a key that is noted for a channel was claimed for it
+abbrev pub NotedIsOfChannel : Type 0
+NotedIsOfChannel = (w : Words) (p : Pass) → IsPassOf w p → (c : ChanNo) (s : SelNo) (i : ℕ) → (state_seen p).noted c.0 s.0 ≡ Some i
+    → IsTrue (is_claimed (state_seen p) s i) × (channel_of (state_seen p) s i ≡ c)
 
 -- a key of a channel that is outside the key set stays outside while a caller holds the channel and
 -- doesn't publish the key itself

@@ -1,6 +1,6 @@
 //! What follows from the table's rule and from the laws of legal histories alone. The functions do
 //! nothing: their contracts are laws.
-ghost use Rattle.nio_words.specs.Laws.{CallsGoOn, JoinsGoOn, GoingOnChains, FactsStand, FoundStands, HoldStands, TurnStands, SelectionStands, ModeStands, FoundModeStands, NotedStands, OutsideStands, SelectsAlone, KeySetStands, MarksStand, WakeupStands};
+ghost use Rattle.nio_words.specs.Laws.{CallsGoOn, JoinsGoOn, GoingOnChains, LooksTell, FactsStand, FoundStands, HoldStands, TurnStands, SelectionStands, ModeStands, FoundModeStands, NotedStands, NotedIsOfChannel, OutsideStands, SelectsAlone, KeySetStands, MarksStand, WakeupStands};
 ghost use Rattle.nio_words.specs.Whole.{HoldersOfAllSeeAll};
 
 /// A pass that holds every number below the limit has seen the whole history.
@@ -16,9 +16,11 @@ pub fn going_on_law()
     ensures chains { GoingOnChains }
 {}
 
-/// What is drawn, made, claimed, published, cancelled, removed, closed or shut, and what is below a
-/// mark, is so in what every later pass has seen; so is what a caller found so by a look.
+/// What a look found stands just after it. What is drawn, made, claimed, published, cancelled, removed,
+/// closed or shut, and what is below a mark, is so in what every later pass has seen; so is what a
+/// caller once found so by a look.
 pub fn found_law()
+    ensures looks { LooksTell }
     ensures facts { FactsStand }
     ensures found { FoundStands }
 {}
@@ -30,15 +32,18 @@ pub fn kept_law()
     ensures selection { SelectionStands }
 {}
 
-/// Nobody but who holds a channel changes its mode, notes a key for it or publishes one of its keys.
+/// Nobody but who holds a channel changes its mode, notes a key for it or publishes one of its keys. So
+/// what its holder found of these stands until it changes it or gives the hold back.
 pub fn hold_law()
     ensures mode { ModeStands }
     ensures found_mode { FoundModeStands }
     ensures noted { NotedStands }
+    ensures of_channel { NotedIsOfChannel }
     ensures outside { OutsideStands }
 {}
 
-/// Nobody but who selects on a selector marks or removes one of its keys or ends its wakeup.
+/// Nobody but who selects on a selector marks or removes one of its keys or ends its wakeup. So what
+/// it found of these stands until it changes it or gives the turn back.
 pub fn selection_law()
     ensures alone { SelectsAlone }
     ensures key_set { KeySetStands }

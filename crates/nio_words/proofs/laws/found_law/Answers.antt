@@ -1,6 +1,9 @@
 use Rattle.nio_words.proofs.GoingOn.{facts_stand}
-use Rattle.nio_words.proofs.Standing.{found_stands}
+use Rattle.nio_words.proofs.Standing.{looks_tell, found_stands}
 use Rattle.nio_words.proofs.laws.found_law.Goals as goal
+
+pub returns-clause-looks : goal.returns-clause-looks
+returns-clause-looks c = looks_tell
 
 pub returns-clause-facts : goal.returns-clause-facts
 returns-clause-facts c = facts_stand

@@ -1,3 +1,4 @@
+use Rattle.nio_words.proofs.NotedKeys.{noted_is_of_channel}
 use Rattle.nio_words.proofs.Standing.{mode_stands, found_mode_stands, noted_stands, outside_stands}
 use Rattle.nio_words.proofs.laws.hold_law.Goals as goal
 
@@ -12,3 +13,6 @@ returns-clause-noted c = noted_stands
 
 pub returns-clause-outside : goal.returns-clause-outside
 returns-clause-outside c = outside_stands
+
+pub returns-clause-of_channel : goal.returns-clause-of_channel
+returns-clause-of_channel c = noted_is_of_channel
