@@ -26,4 +26,5 @@ pub mod Seen
 pub mod GoingOn
 pub mod NotedKeys
 pub mod Standing
+pub mod Clear
 pub mod Following

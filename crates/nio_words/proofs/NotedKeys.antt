@@ -31,7 +31,7 @@ still_for l past e legal step c s i was =
     let legal' : IsLegal l (past ++ e ∷ []) = legal_more l past e legal step in
     (lasting_stands l past (e ∷ []) legal' (key_claimed s i) was.0, channel_stands l past (e ∷ []) legal' s i was.0 ∙ was.1)
 
-some_if : {A : Type 0} (b : Bool) (x y : A) → (if b then Some x else None) ≡ Some y → (b ≡ true) × (x ≡ y)
+pub some_if : {A : Type 0} (b : Bool) (x y : A) → (if b then Some x else None) ≡ Some y → (b ≡ true) × (x ≡ y)
 some_if true x y e = (refl, cc)
 some_if false x y e = absurd cc
 

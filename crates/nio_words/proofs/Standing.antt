@@ -11,7 +11,7 @@ use Rattle.nio_base.specs.declared.numbers.ChanNo.{ChanNo}
 use Rattle.nio_base.specs.declared.numbers.SelNo.{SelNo}
 use Rattle.nio_event.proofs.Holder.{holder_knows_mode}
 use Rattle.nio_event.proofs.LastsAlone.{one_holder}
-use Rattle.nio_event.proofs.LastsOnceSound.{lasting_stands}
+use Rattle.nio_event.proofs.LastsOnceSound.{lasting_stands, channel_stands}
 use Rattle.nio_event.proofs.Legal.{legal_beginning, legal_next, legal_more, legal_induction}
 use Rattle.nio_event.proofs.OneMore.{state_after-more, mine-own, mine-other, has-more}
 use Rattle.nio_event.proofs.Put.{put_keeps, put_at_keeps}
@@ -36,7 +36,7 @@ use Rattle.nio_event.specs.declared.found.Mark.{Mark as KeyMark}
 use Rattle.nio_event.specs.declared.found.Stage.{Stage}
 use Rattle.nio_words.proofs.Beginnings.{mine-append, same_number}
 use Rattle.nio_words.proofs.Bits.{reads_bit, bits_below-lt}
-use Rattle.nio_words.proofs.GoingOn.{facts_stand, did_between, stands_while}
+use Rattle.nio_words.proofs.GoingOn.{facts_stand, legal_behind, did_between, and_not, stands_while}
 use Rattle.nio_words.proofs.Seen.{last_event}
 use Rattle.nio_words.specs.Decodings.{is_set}
 use Rattle.nio_words.specs.Laws.{is_look, LooksTell, finds, FoundStands, notes, publishes, ModeStands, FoundModeStands, NotedStands, OutsideStands, removes, marks, ends_wakeup, SelectsAlone, KeySetStands, IsAtMostUnselected, MarksStand, WakeupStands}
@@ -83,7 +83,7 @@ found_at f P k n found told is =
     let same : k ≡ n = eqb-true k n both.0 in
     subst (λ (m : ℕ). P (f m) ≡ true) same (subst (λ x. P x ≡ true) is both.1)
 
-key_found_at : (f : ℕ → ℕ → Stage) (P : Stage → Bool) (k j s i : ℕ) (found : Stage) → ((k == s) && (j == i) && P found) ≡ true → found ≡ f k j → P (f s i) ≡ true
+pub key_found_at : (f : ℕ → ℕ → Stage) (P : Stage → Bool) (k j s i : ℕ) (found : Stage) → ((k == s) && (j == i) && P found) ≡ true → found ≡ f k j → P (f s i) ≡ true
 key_found_at f P k j s i found told is =
     let parts = and_parts ((k == s) && (j == i)) (P found) told in
     let both = and_parts (k == s) (j == i) parts.0 in
@@ -172,7 +172,7 @@ mode_stands w me c acts before after keeps spared =
 pub found_mode_stands : FoundModeStands
 found_mode_stands w p me c pass held found spared = holder_knows_mode w.limits me c (seen p) pass.legal held found spared
 
-noted_kept : (l : Limits) (own : List Act) (st : State) (me n : CallerNo) (act : Act) (c s : ℕ) (o : Option ℕ) → Condition l own st me act
+pub noted_kept : (l : Limits) (own : List Act) (st : State) (me n : CallerNo) (act : Act) (c s : ℕ) (o : Option ℕ) → Condition l own st me act
     → is_held_by n (st.hold c) ≡ true → ((me.0 == n.0) && notes c s act) ≡ false → st.noted c s ≡ o → (effect st me act).noted c s ≡ o
 noted_kept l own st me n (Enrol k s' i found) c s o may held spared = λ now.
     put_at_keeps (λ m t x. is_held_by n (st.hold m) ≡ true → ((me.0 == n.0) && ((k.0 == m) && (s'.0 == t))) ≡ false → x ≡ o) st.noted k.0 s'.0 _
@@ -186,37 +186,34 @@ noted_stands w me c acts before after keeps s spared =
     (λ past e legal step had spared'. noted_kept w.limits (mine e.caller past) (state_after past) e.caller me e.act c.0 s.0 _ step.condition had spared')
     acts before after keeps spared refl
 
--- an index that is claimed for the channel and outside the key set
-abbrev pub IsOutside : ChanNo → Stage → Type 0
-IsOutside c k = (k.claimed ≡ true) × (k.chan ≡ c) × (in_key_set k ≡ false)
+-- a key of the channel is outside the key set
+abbrev pub IsOutsideFor : ChanNo → Stage → Type 0
+IsOutsideFor c k = k.chan ≡ c → in_key_set k ≡ false
 
-and_not : (b : Bool) → (b && false) ≡ false
-and_not true = refl
-and_not false = refl
-
-outside_kept : (l : Limits) (own : List Act) (st : State) (me n : CallerNo) (act : Act) (c : ChanNo) (s i : ℕ) → Condition l own st me act → Answers st me act
-    → is_held_by n (st.hold c.0) ≡ true → ((me.0 == n.0) && publishes s i act) ≡ false → IsOutside c (st.key s i) → IsOutside c ((effect st me act).key s i)
-outside_kept l own st me n (CancelKey s' i' found) c s i may answers held spared = put_at_keeps (λ _ _ k. IsOutside c k) st.key s'.0 i' _ (λ e. e) s i
-outside_kept l own st me n (Claim s' i' c' true) c s i may answers held spared = put_at_keeps (λ _ _ k. IsOutside c k) st.key s'.0 i' _ (λ e. e) s i
-outside_kept l own st me n (Claim s' i' c' false) c s i may answers held spared =
-    let unclaimed : (st.key s'.0 i').claimed ≡ false = cc in
-    put_at_keeps (λ _ _ k. IsOutside c k) st.key s'.0 i' _ (λ e. absurd (both_ways (st.key s'.0 i').claimed e.0 unclaimed)) s i
-outside_kept l own st me n (Publish s' i' found) c s i may answers held spared = λ now.
-    put_at_keeps (λ m t k. ((me.0 == n.0) && ((s'.0 == m) && (i' == t))) ≡ false → IsOutside c k) st.key s'.0 i' _
-    (λ old spared'. absurd (again (old spared') spared')) s i (λ _. now) spared
+pub outside_kept : (l : Limits) (own : List Act) (st : State) (me n : CallerNo) (act : Act) (c : ChanNo) (s i : ℕ) → Condition l own st me act
+    → is_held_by n (st.hold c.0) ≡ true → ((me.0 == n.0) && publishes s i act) ≡ false → IsOutsideFor c (st.key s i) → IsOutsideFor c ((effect st me act).key s i)
+outside_kept l own st me n (CancelKey s' i' found) c s i may held spared = put_at_keeps (λ _ _ k. IsOutsideFor c k) st.key s'.0 i' _ (λ e. e) s i
+outside_kept l own st me n (Claim s' i' c' true) c s i may held spared = put_at_keeps (λ _ _ k. IsOutsideFor c k) st.key s'.0 i' _ (λ e. e) s i
+outside_kept l own st me n (Claim s' i' c' false) c s i may held spared = put_at_keeps (λ _ _ k. IsOutsideFor c k) st.key s'.0 i' _ (λ _ _. refl) s i
+outside_kept l own st me n (Publish s' i' found) c s i may held spared = λ now.
+    put_at_keeps (λ m t k. ((me.0 == n.0) && ((s'.0 == m) && (i' == t))) ≡ false → IsOutsideFor c k) st.key s'.0 i' _
+    (λ _ spared' its. absurd (again its spared')) s i (λ _. now) spared
   where
-    again : IsOutside c (st.key s'.0 i') → ((me.0 == n.0) && ((s'.0 == s'.0) && (i' == i'))) ≡ false → ⊥
-    again old spared' =
-        let its : is_held_by me (st.hold c.0) ≡ true = subst (λ (x : ChanNo). is_held_by me (st.hold x.0) ≡ true) old.1 may.2 in
-        spares_not me n ((s'.0 == s'.0) && (i' == i')) (one_holder me n (st.hold c.0) its held) (same_two s'.0 i') spared'
-outside_kept l own st me n (Remove s' i' found) c s i may answers held spared = put_at_keeps (λ _ _ k. IsOutside c k) st.key s'.0 i' _ (λ e. (e.0, e.1, and_not (st.key s'.0 i').published)) s i
-outside_kept l own st me n act c s i may answers held spared = λ now. now
+    again : (st.key s'.0 i').chan ≡ c → ((me.0 == n.0) && ((s'.0 == s'.0) && (i' == i'))) ≡ false → ⊥
+    again its spared' =
+        let holds_too : is_held_by me (st.hold c.0) ≡ true = subst (λ (x : ChanNo). is_held_by me (st.hold x.0) ≡ true) its may.2 in
+        spares_not me n ((s'.0 == s'.0) && (i' == i')) (one_holder me n (st.hold c.0) holds_too held) (same_two s'.0 i') spared'
+outside_kept l own st me n (Remove s' i' found) c s i may held spared = put_at_keeps (λ _ _ k. IsOutsideFor c k) st.key s'.0 i' _ (λ _ _. and_not (st.key s'.0 i').published) s i
+outside_kept l own st me n act c s i may held spared = λ now. now
 
 pub outside_stands : OutsideStands
 outside_stands w me c acts before after keeps s i spared claimed channel outside =
-    (stands_while w me (the_hold c) (publishes s.0 i) (λ st. IsOutside c (st.key s.0 i))
-    (λ past e legal step had spared'. outside_kept w.limits (mine e.caller past) (state_after past) e.caller me e.act c s.0 i step.condition step.answers had spared')
-    acts before after keeps spared (claimed, channel, outside)).2
+    let later = keeps.goes_on.later in
+    let its : ((state_seen after).key s.0 i).chan ≡ c =
+    ap (λ es. ((state_after es).key s.0 i).chan) (sym later.begins.1) ∙ (channel_stands w.limits (seen before) later.begins.0 (legal_behind w before after later) s.0 i claimed ∙ channel) in
+    stands_while w me (the_hold c) (publishes s.0 i) (λ st. IsOutsideFor c (st.key s.0 i))
+    (λ past e legal step had spared'. outside_kept w.limits (mine e.caller past) (state_after past) e.caller me e.act c s.0 i step.condition had spared')
+    acts before after keeps spared (λ _. outside) its
 
 -- ---- during a selection
 

@@ -1,6 +1,7 @@
 -- Laws of passes, as a caller needs them: what was seen to stand, and what a caller has, stands in what
 -- is seen later too, whatever others do in between.
-use Rattle.std.specs.Prelude.{◌≡◌, ◌≢◌, ℕ, ◌==◌, nat_lt, Bool, true, false, ◌&&◌, Some, IsTrue, IsFalse, List, [], ◌∷◌, ◌++◌}
+use Rattle.std.specs.Prelude.{◌≡◌, ◌≢◌, ℕ, ◌==◌, nat_lt, Bool, true, false, ◌&&◌, Option, Some, IsTrue, IsFalse, List, [], ◌∷◌, ◌++◌}
+use Rattle.std.specs.Option.{ForSome}
 use mathlib.Core.List.{IsPrefix}
 use Rattle.nio_base.specs.declared.numbers.CallerNo.{CallerNo}
 use Rattle.nio_base.specs.declared.numbers.ChanNo.{ChanNo}
@@ -9,7 +10,7 @@ use Rattle.nio_event.specs.Answers.{Answers}
 use Rattle.nio_event.specs.Conditions.{is_claimed, channel_of, holds, has_turn, has_begun}
 use Rattle.nio_event.specs.Histories.{HistoryClause}
 use Rattle.nio_event.specs.Lasting.{LastingFact, selector_made, selector_shut, channel_made, channel_closed, key_claimed, key_published, key_cancelled, key_removed, below_keys_mark, below_channels_mark, stands, OwnFact, the_turn, a_selection, the_hold, is_had_by, gives_back}
-use Rattle.nio_event.specs.OwnEvents.{has, under, finds_unblocked, sets_mode}
+use Rattle.nio_event.specs.OwnEvents.{has, last, under, finds_unblocked, sets_mode, noted_found, is_clear_by}
 use Rattle.nio_event.specs.Sets.{in_key_set}
 use Rattle.nio_event.specs.Turns.{selects_on}
 use Rattle.nio_event.specs.declared.act.Act.{Act}
@@ -167,6 +168,18 @@ OutsideStands = (w : Words) (me : CallerNo) (c : ChanNo) (acts : List Act) (befo
     → (s : SelNo) (i : ℕ) → IsFalse (has (publishes s.0 i) acts)
     → IsTrue (is_claimed (state_seen before) s i) → channel_of (state_seen before) s i ≡ c
     → IsFalse (in_key_set ((state_seen before).key s.0 i)) → IsFalse (in_key_set ((state_seen after).key s.0 i))
+
+-- the key that a caller has last found noted, or noted, since it held the channel is noted there
+abbrev pub FoundNotedStands : Type 0
+FoundNotedStands = (w : Words) (me : CallerNo) (c : ChanNo) (acts : List Act) (before after : Pass) → Keeps w me (the_hold c) acts before after
+    → (s : SelNo) (o : Option ℕ) → last (noted_found c.0 s.0) acts ≡ Some o → (state_seen after).noted c.0 s.0 ≡ o
+
+-- where a caller knows from what it did since it held the channel that no key of the key set is noted
+-- for it in a selector, and published none there, none is
+abbrev pub FoundClearStands : Type 0
+FoundClearStands = (w : Words) (me : CallerNo) (c : ChanNo) (acts : List Act) (before after : Pass) → Keeps w me (the_hold c) acts before after
+    → (s : SelNo) → ((i : ℕ) → IsFalse (has (publishes s.0 i) acts)) → IsTrue (is_clear_by s.0 acts (last (noted_found c.0 s.0) acts))
+    → ForSome ((state_seen after).noted c.0 s.0) (λ i. IsFalse (in_key_set ((state_seen after).key s.0 i)))
 
 -- ---- what stands during a selection
 

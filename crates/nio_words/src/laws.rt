@@ -1,6 +1,6 @@
 //! What follows from the table's rule and from the laws of legal histories alone. The functions do
 //! nothing: their contracts are laws.
-ghost use Rattle.nio_words.specs.Laws.{CallsGoOn, JoinsGoOn, GoingOnChains, LooksTell, FactsStand, FoundStands, HoldStands, TurnStands, SelectionStands, ModeStands, FoundModeStands, NotedStands, NotedIsOfChannel, OutsideStands, SelectsAlone, KeySetStands, MarksStand, WakeupStands};
+ghost use Rattle.nio_words.specs.Laws.{CallsGoOn, JoinsGoOn, GoingOnChains, LooksTell, FactsStand, FoundStands, HoldStands, TurnStands, SelectionStands, ModeStands, FoundModeStands, NotedStands, NotedIsOfChannel, OutsideStands, FoundNotedStands, FoundClearStands, SelectsAlone, KeySetStands, MarksStand, WakeupStands};
 ghost use Rattle.nio_words.specs.Whole.{HoldersOfAllSeeAll};
 
 /// A pass that holds every number below the limit has seen the whole history.
@@ -40,6 +40,8 @@ pub fn hold_law()
     ensures noted { NotedStands }
     ensures of_channel { NotedIsOfChannel }
     ensures outside { OutsideStands }
+    ensures found_noted { FoundNotedStands }
+    ensures found_clear { FoundClearStands }
 {}
 
 /// Nobody but who selects on a selector marks or removes one of its keys or ends its wakeup. So what
