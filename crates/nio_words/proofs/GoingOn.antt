@@ -6,7 +6,7 @@ use Rattle.std.proofs.lemmas.List.{append-nil, append_cancel_left}
 use Rattle.nio_base.specs.declared.numbers.CallerNo.{CallerNo}
 use Rattle.nio_event.proofs.LastsAlone.{lasts_alone, without_from, has-mine}
 use Rattle.nio_event.proofs.OneMore.{state_after-more, mine-own, mine-other}
-use Rattle.nio_event.proofs.Stays.{nothing_goes_back, only_itself_gives_back}
+use Rattle.nio_event.proofs.Stays.{nothing_goes_back, invalid_keys_stay_invalid, only_itself_gives_back}
 use Rattle.nio_event.specs.Acts.{effect}
 use Rattle.nio_event.specs.Histories.{state_after, is_by, mine, IsStep, IsLegal}
 use Rattle.nio_event.specs.Lasting.{OwnFact, is_had_by, gives_back}
@@ -15,8 +15,8 @@ use Rattle.nio_event.specs.State.{State}
 use Rattle.nio_event.specs.declared.act.Act.{Act}
 use Rattle.nio_event.specs.declared.event.Event.{Event}
 use Rattle.nio_words.proofs.Beginnings.{prefix_trans, mine-append}
-use Rattle.nio_words.specs.Laws.{IsLater, GoesOn, Keeps, CallsGoOn, JoinsGoOn, GoingOnChains, FactsStand, HoldStands, TurnStands, SelectionStands}
-use Rattle.nio_words.specs.Passes.{seen, state_seen, acts_seen}
+use Rattle.nio_words.specs.Laws.{IsLater, GoesOn, Keeps, CallsGoOn, DrawsGoOn, SplitsGoOn, JoinsGoOn, GoingOnChains, FactsStand, InvalidStands, HoldStands, TurnStands, SelectionStands}
+use Rattle.nio_words.specs.Passes.{seen, state_seen, acts_seen, IsPassOf}
 use Rattle.nio_words.specs.declared.words.Pass.{Pass}
 use Rattle.nio_words.specs.declared.words.Words.{Words}
 
@@ -26,6 +26,22 @@ calls_go_on w p q me acts pass later_pass clause =
       record { later = later; own = clause.own },
       λ n held other. record { later = later; own = clause.others n held other ∙ sym (append-nil (acts_seen p n)) },
     )
+
+pub draws_go_on : DrawsGoOn
+draws_go_on w p q number true pass draws n held other = record {
+  later = record { earlier_pass = pass; later_pass = draws.pass; begins = draws.clause.goes_on };
+  own = draws.clause.own n held ∙ sym (append-nil (acts_seen p n));
+}
+draws_go_on w p q number false pass draws n held other = (calls_go_on w p q number _ pass draws.pass draws.clause).1 n held other
+
+sees_on : (w : Words) (before after : Pass) → IsPassOf w before → IsPassOf w after → seen after ≡ seen before → (n : CallerNo) → GoesOn w n [] before after
+sees_on w before after pass later_pass same n = record {
+  later = record { earlier_pass = pass; later_pass = later_pass; begins = ([], append-nil (seen before) ∙ sym same) };
+  own = ap (mine n) same ∙ sym (append-nil (acts_seen before n));
+}
+
+pub splits_go_on : SplitsGoOn
+splits_go_on w before after given pass sees n = (sees_on w before after pass sees.pass sees.sight n, sees_on w before given pass sees.given_pass sees.given_sight n)
 
 pub joins_go_on : JoinsGoOn
 joins_go_on w before other after pass other_pass joins n = (
@@ -51,6 +67,9 @@ going_on_chains w me acts more p q r first second = record {
 
 pub facts_stand : FactsStand
 facts_stand w before after later f here = nothing_goes_back w.limits (seen before) (seen after) later.begins later.later_pass.legal f here
+
+pub invalid_stands : InvalidStands
+invalid_stands w before after later s i = invalid_keys_stay_invalid w.limits (seen before) (seen after) later.begins later.later_pass.legal s.0 i
 
 -- ---- what a caller keeps
 

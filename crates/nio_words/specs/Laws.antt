@@ -11,15 +11,16 @@ use Rattle.nio_event.specs.Conditions.{is_claimed, channel_of, holds, has_turn, 
 use Rattle.nio_event.specs.Histories.{HistoryClause}
 use Rattle.nio_event.specs.Lasting.{LastingFact, selector_made, selector_shut, channel_made, channel_closed, key_claimed, key_published, key_cancelled, key_removed, below_keys_mark, below_channels_mark, stands, OwnFact, the_turn, a_selection, the_hold, is_had_by, gives_back}
 use Rattle.nio_event.specs.OwnEvents.{has, last, under, finds_unblocked, sets_mode, noted_found, is_clear_by}
-use Rattle.nio_event.specs.Sets.{in_key_set}
+use Rattle.nio_event.specs.Sets.{in_key_set, is_valid}
 use Rattle.nio_event.specs.Turns.{selects_on}
 use Rattle.nio_event.specs.declared.act.Act.{Act}
 use Rattle.nio_event.specs.declared.act.Act.TheVariants.{LookSelectors, LookGate, LookInterrupt, LookKey, LookInterest, LookNote, LookChannel, LookKeys, Publish, LookReg, Enrol, BeginLook, Remove, LookMark, Mark, EndWake, LookChannels, Enter}
 use Rattle.nio_event.specs.declared.event.Event.{Event}
 use Rattle.nio_event.specs.declared.found.Mark.{Mark as KeyMark}
 use Rattle.nio_words.specs.Decodings.{is_set}
+use Rattle.nio_words.specs.Drawing.{Draws}
 use Rattle.nio_words.specs.Passes.{seen, state_seen, acts_seen, Holds, IsPassOf, limits_of}
-use Rattle.nio_words.specs.Sharing.{Joins}
+use Rattle.nio_words.specs.Sharing.{SeesSame, Joins}
 use Rattle.nio_words.specs.Steps.{Steps}
 use Rattle.nio_words.specs.declared.words.Pass.{Pass}
 use Rattle.nio_words.specs.declared.words.Words.{Words}
@@ -49,6 +50,16 @@ abbrev pub CallsGoOn : Type 0
 CallsGoOn = (w : Words) (p q : Pass) (me : CallerNo) (acts : List Act) → IsPassOf w p → IsPassOf w q
     → HistoryClause (limits_of w) (Holds p) me acts (seen p) (seen q)
     → GoesOn w me acts p q × ((n : CallerNo) → Holds p n → n ≢ me → GoesOn w n [] p q)
+
+-- so have they after a draw of a number that is none of theirs
+abbrev pub DrawsGoOn : Type 0
+DrawsGoOn = (w : Words) (p q : Pass) (number : CallerNo) (found : Bool) → IsPassOf w p → Draws w p q number found
+    → (n : CallerNo) → Holds p n → n ≢ number → GoesOn w n [] p q
+
+-- a pass that is split, or hands a number over, and the one that comes from it have both gone on by no act
+abbrev pub SplitsGoOn : Type 0
+SplitsGoOn = (w : Words) (before after given : Pass) → IsPassOf w before → SeesSame w before after given
+    → (n : CallerNo) → GoesOn w n [] before after × GoesOn w n [] before given
 
 -- after two passes are joined, each number of either has gone on by no act
 abbrev pub JoinsGoOn : Type 0
@@ -105,7 +116,12 @@ abbrev pub FactsStand : Type 0
 FactsStand = (w : Words) (before after : Pass) → IsLater w before after
     → (f : LastingFact) → IsTrue (stands f (state_seen before)) → IsTrue (stands f (state_seen after))
 
--- whatever a caller found so by a look, whenever it looked, stands in what a pass has seen that saw the look
+-- so does it stand that a published key is invalid
+abbrev pub InvalidStands : Type 0
+InvalidStands = (w : Words) (before after : Pass) → IsLater w before after → (s : SelNo) (i : ℕ) → IsTrue ((state_seen before).key s.0 i).published
+    → IsFalse (is_valid ((state_seen before).key s.0 i)) → IsFalse (is_valid ((state_seen after).key s.0 i))
+
+-- whatever a caller found so by a look, whenever that was, stands in what a pass has seen with that look
 abbrev pub FoundStands : Type 0
 FoundStands = (w : Words) (p : Pass) (me : CallerNo) → IsPassOf w p
     → (f : LastingFact) → IsTrue (has (λ act. finds act f) (acts_seen p me)) → IsTrue (stands f (state_seen p))
@@ -144,7 +160,7 @@ ModeStands = (w : Words) (me : CallerNo) (c : ChanNo) (acts : List Act) (before 
     → IsFalse (has (sets_mode c.0) acts)
     → ((state_seen after).chan c.0).blocking ≡ ((state_seen before).chan c.0).blocking
 
--- so a channel is non-blocking which its holder found so under this hold, and whose mode it didn't set
+-- and a channel is non-blocking that its holder found so under this hold and whose mode it didn't set
 abbrev pub FoundModeStands : Type 0
 FoundModeStands = (w : Words) (p : Pass) (me : CallerNo) (c : ChanNo) → IsPassOf w p → IsTrue (holds (state_seen p) me c)
     → IsTrue (has (finds_unblocked c.0) (under c.0 (acts_seen p me))) → IsFalse (has (sets_mode c.0) (under c.0 (acts_seen p me)))
@@ -169,13 +185,14 @@ OutsideStands = (w : Words) (me : CallerNo) (c : ChanNo) (acts : List Act) (befo
     → IsTrue (is_claimed (state_seen before) s i) → channel_of (state_seen before) s i ≡ c
     → IsFalse (in_key_set ((state_seen before).key s.0 i)) → IsFalse (in_key_set ((state_seen after).key s.0 i))
 
--- the key that a caller has last found noted, or noted, since it held the channel is noted there
+-- what a caller last found noted for a channel, or noted itself, while it held the channel is noted there
 abbrev pub FoundNotedStands : Type 0
 FoundNotedStands = (w : Words) (me : CallerNo) (c : ChanNo) (acts : List Act) (before after : Pass) → Keeps w me (the_hold c) acts before after
     → (s : SelNo) (o : Option ℕ) → last (noted_found c.0 s.0) acts ≡ Some o → (state_seen after).noted c.0 s.0 ≡ o
 
--- where a caller knows from what it did since it held the channel that no key of the key set is noted
--- for it in a selector, and published none there, none is
+-- where a caller knows from what it found while it held a channel that no key of the key set is noted
+-- for it in a selector, and published none there, none is: so the condition of noting a key and of
+-- blocking mode asks for what is true
 abbrev pub FoundClearStands : Type 0
 FoundClearStands = (w : Words) (me : CallerNo) (c : ChanNo) (acts : List Act) (before after : Pass) → Keeps w me (the_hold c) acts before after
     → (s : SelNo) → ((i : ℕ) → IsFalse (has (publishes s.0 i) acts)) → IsTrue (is_clear_by s.0 acts (last (noted_found c.0 s.0) acts))

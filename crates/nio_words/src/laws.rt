@@ -1,6 +1,6 @@
 //! What follows from the table's rule and from the laws of legal histories alone. The functions do
 //! nothing: their contracts are laws.
-ghost use Rattle.nio_words.specs.Laws.{CallsGoOn, JoinsGoOn, GoingOnChains, LooksTell, FactsStand, FoundStands, HoldStands, TurnStands, SelectionStands, ModeStands, FoundModeStands, NotedStands, NotedIsOfChannel, OutsideStands, FoundNotedStands, FoundClearStands, SelectsAlone, KeySetStands, MarksStand, WakeupStands};
+ghost use Rattle.nio_words.specs.Laws.{CallsGoOn, DrawsGoOn, SplitsGoOn, JoinsGoOn, GoingOnChains, LooksTell, FactsStand, InvalidStands, FoundStands, HoldStands, TurnStands, SelectionStands, ModeStands, FoundModeStands, NotedStands, NotedIsOfChannel, OutsideStands, FoundNotedStands, FoundClearStands, SelectsAlone, KeySetStands, MarksStand, WakeupStands};
 ghost use Rattle.nio_words.specs.Whole.{HoldersOfAllSeeAll};
 
 /// A pass that holds every number below the limit has seen the whole history.
@@ -8,20 +8,23 @@ pub fn whole_law()
     ensures { HoldersOfAllSeeAll }
 {}
 
-/// What the other laws speak of, a caller that goes on from one pass to a later one, comes from each
-/// call and each joining, and one after another.
+/// A caller goes on from a pass to a later one, of which the other laws speak, by each call, draw,
+/// split and joining, and by one after another.
 pub fn going_on_law()
     ensures calls { CallsGoOn }
+    ensures draws { DrawsGoOn }
+    ensures splits { SplitsGoOn }
     ensures joins { JoinsGoOn }
     ensures chains { GoingOnChains }
 {}
 
 /// What a look found stands just after it. What is drawn, made, claimed, published, cancelled, removed,
-/// closed or shut, and what is below a mark, is so in what every later pass has seen; so is what a
-/// caller once found so by a look.
+/// closed or shut, and what is below a mark, is so in what every later pass has seen, and an invalid key
+/// is invalid there; so is what a caller once found so by a look.
 pub fn found_law()
     ensures looks { LooksTell }
     ensures facts { FactsStand }
+    ensures invalid { InvalidStands }
     ensures found { FoundStands }
 {}
 
@@ -32,8 +35,8 @@ pub fn kept_law()
     ensures selection { SelectionStands }
 {}
 
-/// Nobody but who holds a channel changes its mode, notes a key for it or publishes one of its keys. So
-/// what its holder found of these stands until it changes it or gives the hold back.
+/// While a caller holds a channel nobody else changes its mode, notes a key for it or publishes one of
+/// its keys. So what the caller found of these stands until it changes it or gives the hold back.
 pub fn hold_law()
     ensures mode { ModeStands }
     ensures found_mode { FoundModeStands }
@@ -44,8 +47,8 @@ pub fn hold_law()
     ensures found_clear { FoundClearStands }
 {}
 
-/// Nobody but who selects on a selector marks or removes one of its keys or ends its wakeup. So what
-/// it found of these stands until it changes it or gives the turn back.
+/// While a caller selects nobody else marks or removes a key of the selector or ends its wakeup. So what
+/// the caller found of these stands until it changes it or gives the turn back.
 pub fn selection_law()
     ensures alone { SelectsAlone }
     ensures key_set { KeySetStands }
