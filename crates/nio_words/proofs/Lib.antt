@@ -23,3 +23,8 @@ pub mod Notes
 pub mod Selectors
 pub mod Whole
 pub mod Seen
+pub mod GoingOn
+pub mod NotedKeys
+pub mod Standing
+pub mod Clear
+pub mod Following

@@ -7,7 +7,7 @@ use Rattle.nio_event.specs.Histories.{state_after, event_of}
 use Rattle.nio_event.specs.declared.act.Act.TheVariants.{TryHoldBit}
 use Rattle.nio_words.proofs.Seen.{still_ready, holds_just_now}
 use Rattle.nio_words.specs.Passes.{seen, state_seen, IsReady}
-use Rattle.nio_words.proofs.tests.two_threads_claim.Goals as goal
+use Rattle.nio_words.proofs.tests.threads.two_threads_claim.Goals as goal
 
 pub make_channel-requires-clause-ready : goal.make_channel-requires-clause-ready
 make_channel-requires-clause-ready g c =
@@ -56,11 +56,13 @@ join-p-requires-after_bounds g c κs within =
       (
         record { pass = over.sees.pass; number = (over.numbers zero).1 (ready.number, λ same. let clash : 0 ≡ 1 = ap (λ n. n.0) same in absurd (omega arith)) },
         (search rules),
+        (search rules),
         search rules,
         ap (λ es. holds (state_after es) zero left) over.sees.sight ∙ still_left,
       ),
       (
         record { pass = over.sees.given_pass; number = (over.given_number one).1 refl },
+        (search rules),
         (search rules),
         search rules,
         ap (λ es. holds (state_after es) one right) over.sees.given_sight ∙ holds_right,

@@ -1,6 +1,6 @@
 use Rattle.std.proofs.Common.{refl}
 use Rattle.nio_base.specs.declared.numbers.CallerNo.{CallerNo}
-use Rattle.nio_words.proofs.tests.two_threads_wake.Goals as goal
+use Rattle.nio_words.proofs.tests.threads.two_threads_wake.Goals as goal
 
 pub make_selector-requires-clause-ready : goal.make_selector-requires-clause-ready
 make_selector-requires-clause-ready g c =
