@@ -1,5 +1,5 @@
 -- The words of the command line.
-use Rattle.std.specs.Prelude.{◌≡◌, List, [], ◌∷◌, ◌++◌, ℕ, codes}
+use Rattle.std.specs.Prelude.{◌≡◌, ◌⊎◌, List, [], ◌∷◌, ◌++◌, ℕ, codes}
 use Rattle.nio_bytes.specs.declared.sink.Sink as sink
 use Rattle.nio_script.specs.Run.{Notes}
 
@@ -11,9 +11,9 @@ IsScriptCommand words = words ≡ codes "script" ∷ []
 abbrev pub IsCheckCommand : List (List ℕ) → Type 0
 IsCheckCommand words = words ≡ codes "check" ∷ []
 
--- these words are no command
-abbrev pub IsNoCommand : List (List ℕ) → Type 0
-IsNoCommand words = ¬ IsScriptCommand words × ¬ IsCheckCommand words
+-- words that say what to do
+abbrev pub IsCommand : List (List ℕ) → Type 0
+IsCommand words = IsScriptCommand words ⊎ IsCheckCommand words
 
 -- what is said of words that say nothing that is known
 abbrev pub usage_line : List ℕ

@@ -1,12 +1,12 @@
 //! All that the program does, from its words and its input to its output and its status.
-ghost use Rattle.std.specs.Prelude.{◌≡◌, ◌≤◌, ◌↔◌, map};
+ghost use Rattle.std.specs.Prelude.{◌≡◌, ◌≤◌, ◌⊎◌, ◌↔◌, map};
 ghost use Rattle.std.specs.String.{string_bytes};
 ghost use Rattle.nio_bytes.specs.Cause.{Rose};
 ghost use Rattle.nio_plain.specs.ScriptState.{script_opening};
 ghost use Rattle.nio_script.specs.Input.{CausesFault, StopsPastLongest};
 ghost use Rattle.nio_script.specs.Run.{Notes};
 ghost use Rattle.nio_cli.specs.Commands.{DoesScript, DoesCheck};
-ghost use Rattle.nio_cli.specs.Words.{IsScriptCommand, IsCheckCommand, IsNoCommand, IsUsage, usage_line};
+ghost use Rattle.nio_cli.specs.Words.{IsScriptCommand, IsCheckCommand, IsCommand, IsUsage, usage_line};
 
 use crate::words::{Command, command_of};
 use nio_base::Limits;
@@ -47,7 +47,8 @@ pub fn run<S: Source, K: Sink, Y: System>(
     requires { Y.state system.old ≡ script_opening }
 
     // The words are looked at first.
-    ensures usage { (result ≡ Status.Usage) ↔ IsNoCommand (map string_bytes words.now) }
+    ensures usage { (result ≡ Status.Usage) ↔ ¬ IsCommand (map string_bytes words.now) }
+    ensures known { (result ≡ Status.Usage) ⊎ IsCommand (map string_bytes words.now) }
     ensures usage_said { result ≡ Status.Usage →
         IsUsage K.Sink input.old input.new output.old output.new system.old system.new }
 
