@@ -1,4 +1,4 @@
--- What a pass may do that follows the worked history, and that each step takes it one event further.
+-- Each step of the worked history takes a pass that follows it one event further.
 use Rattle.std.proofs.Common.{◌≡◌, ℕ, List, [], ◌∷◌, ◌++◌, take, ap, sym, ◌∙◌, subst}
 use Rattle.nio_base.specs.declared.numbers.CallerNo.{CallerNo}
 use Rattle.nio_event.proofs.Asked.{act_from-question_of}
@@ -6,21 +6,15 @@ use Rattle.nio_event.proofs.Legal.{legal_next}
 use Rattle.nio_event.specs.Answers.{act_from}
 use Rattle.nio_event.specs.Histories.{state_after, event_of, IsLegal}
 use Rattle.nio_event.specs.Questions.{question_of}
-use Rattle.nio_event.specs.Worked.{u, v, worked_history}
+use Rattle.nio_event.specs.Worked.{worked_history}
 use Rattle.nio_event.specs.declared.act.Act.{Act}
 use Rattle.nio_event.specs.declared.event.Event.{Event}
 use Rattle.nio_words.specs.Following.{Follows}
-use Rattle.nio_words.specs.Passes.{seen, IsReady}
+use Rattle.nio_words.specs.Passes.{seen}
 use Rattle.nio_words.specs.Rule.{HasBit}
 use Rattle.nio_words.specs.Steps.{Steps}
 use Rattle.nio_words.specs.declared.words.Pass.{Pass}
 use Rattle.nio_words.specs.declared.words.Words.{Words}
-
-pub first_ready : (w : Words) (count : ℕ) (p : Pass) → Follows w count p → IsReady w p u
-first_ready w count p follows = record { pass = follows.pass; number = follows.first }
-
-pub second_ready : (w : Words) (count : ℕ) (p : Pass) → Follows w count p → IsReady w p v
-second_ready w count p follows = record { pass = follows.pass; number = follows.second }
 
 -- A step finds what the state gives. So where the worked history goes on by the same question of the
 -- same caller, it goes on by this step.

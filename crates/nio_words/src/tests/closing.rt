@@ -10,10 +10,10 @@ pub(super) fn set_blocking(rt: &impl Abort, w: &Words, p: &mut Pass)
     requires { Follows w.now 53 p.old }
     ensures { Follows w.now 58 p.new }
 {
-    assert_eq!(rt; w.try_hold_bit(p, ONE, C), None);
-    assert_eq!(rt; w.look_reg(p, ONE, C, S), Some(0));
-    assert_eq!(rt; w.look_key(p, ONE, S, 0), stage(true, true, true));
-    assert_eq!(rt; w.set_mode(p, ONE, C, true), channel(false, false));
+    assert!(rt; w.try_hold_bit(p, ONE, C) == None);
+    assert!(rt; w.look_reg(p, ONE, C, S) == Some(0));
+    assert!(rt; w.look_key(p, ONE, S, 0) == stage(true, true, true));
+    assert!(rt; w.set_mode(p, ONE, C, true) == channel(false, false));
     w.release(p, ONE, C);
 }
 
@@ -22,7 +22,7 @@ pub(super) fn close_channel(rt: &impl Abort, w: &Words, p: &mut Pass)
     ensures { Follows w.now 60 p.new }
 {
     assert!(rt; !w.close_bit(p, ONE, C));
-    assert_eq!(rt; w.look_channel(p, ONE, C), channel(true, true));
+    assert!(rt; w.look_channel(p, ONE, C) == channel(true, true));
 }
 
 /// Caller 0 shuts the selector too, and isn't its closer.
@@ -31,7 +31,7 @@ pub(super) fn shut(rt: &impl Abort, w: &Words, p: &mut Pass)
     ensures { Follows w.now 63 p.new }
 {
     assert!(rt; !w.shut_bit(p, ONE, S));
-    assert_eq!(rt; w.look_gate(p, ONE, S), gate(false, true));
+    assert!(rt; w.look_gate(p, ONE, S) == gate(false, true));
     assert!(rt; w.shut_bit(p, ZERO, S));
 }
 
@@ -39,9 +39,9 @@ pub(super) fn clear_out(rt: &impl Abort, w: &Words, p: &mut Pass)
     requires { Follows w.now 63 p.old }
     ensures { Follows w.now 66 p.new }
 {
-    assert_eq!(rt; w.enter(p, ONE, S), None);
-    assert_eq!(rt; w.look_keys(p, ONE, S), 1);
-    assert_eq!(rt; w.remove(p, ONE, S, 0), stage(true, true, true));
+    assert!(rt; w.enter(p, ONE, S) == None);
+    assert!(rt; w.look_keys(p, ONE, S) == 1);
+    assert!(rt; w.remove(p, ONE, S, 0) == stage(true, true, true));
 }
 
 pub(super) fn interrupt(rt: &impl Abort, w: &Words, p: &mut Pass)

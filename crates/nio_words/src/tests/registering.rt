@@ -11,11 +11,11 @@ pub(super) fn open(rt: &impl Abort, w: &Words, p: &mut Pass)
     ensures { Follows w.now 8 p.new }
 {
     assert!(rt; !w.make_selector(p, ZERO, S));
-    assert_eq!(rt; w.look_selectors(p, ZERO), 1);
-    assert_eq!(rt; w.look_channels(p, ZERO), 0);
+    assert!(rt; w.look_selectors(p, ZERO) == 1);
+    assert!(rt; w.look_channels(p, ZERO) == 0);
     assert!(rt; !w.make_channel(p, ZERO, C, Kind::Source));
-    assert_eq!(rt; w.raise_channels(p, ZERO, 1), 0);
-    assert_eq!(rt; w.look_channels(p, ZERO), 1);
+    assert!(rt; w.raise_channels(p, ZERO, 1) == 0);
+    assert!(rt; w.look_channels(p, ZERO) == 1);
 }
 
 /// Caller 1 finds the hold taken.
@@ -23,11 +23,11 @@ pub(super) fn set_non_blocking(rt: &impl Abort, w: &Words, p: &mut Pass)
     requires { Follows w.now 8 p.old }
     ensures { Follows w.now 14 p.new }
 {
-    assert_eq!(rt; w.look_channel(p, ZERO, C), channel(false, true));
-    assert_eq!(rt; w.try_hold_bit(p, ZERO, C), None);
-    assert_eq!(rt; w.try_hold_bit(p, ONE, C), Some(ZERO));
-    assert_eq!(rt; w.look_channel(p, ZERO, C), channel(false, true));
-    assert_eq!(rt; w.set_mode(p, ZERO, C, false), channel(false, true));
+    assert!(rt; w.look_channel(p, ZERO, C) == channel(false, true));
+    assert!(rt; w.try_hold_bit(p, ZERO, C) == None);
+    assert!(rt; w.try_hold_bit(p, ONE, C) == Some(ZERO));
+    assert!(rt; w.look_channel(p, ZERO, C) == channel(false, true));
+    assert!(rt; w.set_mode(p, ZERO, C, false) == channel(false, true));
     w.release(p, ZERO, C);
 }
 
@@ -35,11 +35,11 @@ pub(super) fn begin_registering(rt: &impl Abort, w: &Words, p: &mut Pass)
     requires { Follows w.now 14 p.old }
     ensures { Follows w.now 19 p.new }
 {
-    assert_eq!(rt; w.try_hold_bit(p, ZERO, C), None);
-    assert_eq!(rt; w.look_channel(p, ZERO, C), channel(false, false));
-    assert_eq!(rt; w.look_reg(p, ZERO, C, S), None);
-    assert_eq!(rt; w.look_gate(p, ZERO, S), gate(false, false));
-    assert_eq!(rt; w.look_keys(p, ZERO, S), 0);
+    assert!(rt; w.try_hold_bit(p, ZERO, C) == None);
+    assert!(rt; w.look_channel(p, ZERO, C) == channel(false, false));
+    assert!(rt; w.look_reg(p, ZERO, C, S) == None);
+    assert!(rt; w.look_gate(p, ZERO, S) == gate(false, false));
+    assert!(rt; w.look_keys(p, ZERO, S) == 0);
 }
 
 pub(super) fn make_key(rt: &impl Abort, w: &Words, p: &mut Pass)
@@ -47,19 +47,19 @@ pub(super) fn make_key(rt: &impl Abort, w: &Words, p: &mut Pass)
     ensures { Follows w.now 24 p.new }
 {
     assert!(rt; !w.claim(p, ZERO, S, 0, C));
-    assert_eq!(rt; w.raise_keys(p, ZERO, S, 1), 0);
-    assert_eq!(rt; w.look_gate(p, ZERO, S), gate(false, false));
-    assert_eq!(rt; w.swap_interest(p, ZERO, S, 0, Ops::READ), Ops::NONE);
-    assert_eq!(rt; w.swap_note(p, ZERO, S, 0, 7), 0);
+    assert!(rt; w.raise_keys(p, ZERO, S, 1) == 0);
+    assert!(rt; w.look_gate(p, ZERO, S) == gate(false, false));
+    assert!(rt; w.swap_interest(p, ZERO, S, 0, Ops::READ) == Ops::NONE);
+    assert!(rt; w.swap_note(p, ZERO, S, 0, 7) == 0);
 }
 
 pub(super) fn publish_key(rt: &impl Abort, w: &Words, p: &mut Pass)
     requires { Follows w.now 24 p.old }
     ensures { Follows w.now 28 p.new }
 {
-    assert_eq!(rt; w.enrol(p, ZERO, C, S, 0), None);
-    assert_eq!(rt; w.publish(p, ZERO, S, 0), stage(false, false, false));
-    assert_eq!(rt; w.look_channel(p, ZERO, C), channel(false, false));
+    assert!(rt; w.enrol(p, ZERO, C, S, 0) == None);
+    assert!(rt; w.publish(p, ZERO, S, 0) == stage(false, false, false));
+    assert!(rt; w.look_channel(p, ZERO, C) == channel(false, false));
     w.release(p, ZERO, C);
 }
 
@@ -68,10 +68,7 @@ pub(super) fn change_interest(rt: &impl Abort, w: &Words, p: &mut Pass)
     requires { Follows w.now 28 p.old }
     ensures { Follows w.now 31 p.new }
 {
-    assert_eq!(rt; w.or_interest(p, ZERO, S, 0, Ops::WRITE), Ops::READ);
-    assert_eq!(rt;
-        w.and_interest(p, ZERO, S, 0, Ops::READ),
-        Ops::READ.union(Ops::WRITE)
-    );
-    assert_eq!(rt; w.look_note(p, ZERO, S, 0), 7);
+    assert!(rt; w.or_interest(p, ZERO, S, 0, Ops::WRITE) == Ops::READ);
+    assert!(rt; w.and_interest(p, ZERO, S, 0, Ops::READ) == Ops::READ.union(Ops::WRITE));
+    assert!(rt; w.look_note(p, ZERO, S, 0) == 7);
 }

@@ -30,12 +30,12 @@ pub(super) fn begin_selection(rt: &impl Abort, w: &Words, p: &mut Pass)
     requires { Follows w.now 31 p.old }
     ensures { Follows w.now 37 p.new }
 {
-    assert_eq!(rt; w.take_turn(p, ZERO, S), None);
-    assert_eq!(rt; w.take_turn(p, ONE, S), Some(ZERO));
-    assert_eq!(rt; w.begin_look(p, ZERO, S), gate(false, false));
-    assert_eq!(rt; w.look_keys(p, ZERO, S), 1);
-    assert_eq!(rt; w.look_key(p, ZERO, S, 0), stage(true, false, false));
-    assert_eq!(rt; w.look_interest(p, ZERO, S, 0), Ops::READ);
+    assert!(rt; w.take_turn(p, ZERO, S) == None);
+    assert!(rt; w.take_turn(p, ONE, S) == Some(ZERO));
+    assert!(rt; w.begin_look(p, ZERO, S) == gate(false, false));
+    assert!(rt; w.look_keys(p, ZERO, S) == 1);
+    assert!(rt; w.look_key(p, ZERO, S, 0) == stage(true, false, false));
+    assert!(rt; w.look_interest(p, ZERO, S, 0) == Ops::READ);
 }
 
 pub(super) fn wake_and_cancel(rt: &impl Abort, w: &Words, p: &mut Pass)
@@ -43,7 +43,7 @@ pub(super) fn wake_and_cancel(rt: &impl Abort, w: &Words, p: &mut Pass)
     ensures { Follows w.now 39 p.new }
 {
     assert!(rt; !w.wake(p, ONE, S));
-    assert_eq!(rt; w.cancel_key(p, ONE, S, 0), stage(true, false, false));
+    assert!(rt; w.cancel_key(p, ONE, S, 0) == stage(true, false, false));
 }
 
 /// The second time from a mark that stands there no longer.
@@ -51,11 +51,11 @@ pub(super) fn mark_key(rt: &impl Abort, w: &Words, p: &mut Pass)
     requires { Follows w.now 39 p.old }
     ensures { Follows w.now 44 p.new }
 {
-    assert_eq!(rt; w.look_mark(p, ZERO, S, 0), UNMARKED);
-    assert_eq!(rt; w.mark(p, ZERO, S, 0, UNMARKED, Ops::READ), Ok(()));
-    assert_eq!(rt; w.mark(p, ZERO, S, 0, UNMARKED, Ops::READ), Err(READABLE));
-    assert_eq!(rt; w.mark(p, ZERO, S, 0, READABLE, Ops::WRITE), Ok(()));
-    assert_eq!(rt; w.look_mark(p, ZERO, S, 0), both(true));
+    assert!(rt; w.look_mark(p, ZERO, S, 0) == UNMARKED);
+    assert!(rt; w.mark(p, ZERO, S, 0, UNMARKED, Ops::READ) == Ok(()));
+    assert!(rt; w.mark(p, ZERO, S, 0, UNMARKED, Ops::READ) == Err(READABLE));
+    assert!(rt; w.mark(p, ZERO, S, 0, READABLE, Ops::WRITE) == Ok(()));
+    assert!(rt; w.look_mark(p, ZERO, S, 0) == both(true));
 }
 
 /// With the removal of the cancelled key.
@@ -63,11 +63,11 @@ pub(super) fn end_selection(rt: &impl Abort, w: &Words, p: &mut Pass)
     requires { Follows w.now 44 p.old }
     ensures { Follows w.now 50 p.new }
 {
-    assert_eq!(rt; w.look_gate(p, ZERO, S), gate(true, false));
+    assert!(rt; w.look_gate(p, ZERO, S) == gate(true, false));
     assert!(rt; !w.look_interrupt(p, ZERO));
-    assert_eq!(rt; w.look_key(p, ZERO, S, 0), stage(true, true, false));
-    assert_eq!(rt; w.remove(p, ZERO, S, 0), stage(true, true, false));
-    assert_eq!(rt; w.end_wake(p, ZERO, S), gate(true, false));
+    assert!(rt; w.look_key(p, ZERO, S, 0) == stage(true, true, false));
+    assert!(rt; w.remove(p, ZERO, S, 0) == stage(true, true, false));
+    assert!(rt; w.end_wake(p, ZERO, S) == gate(true, false));
     w.give_turn(p, ZERO, S);
 }
 
@@ -75,7 +75,7 @@ pub(super) fn unselect_key(rt: &impl Abort, w: &Words, p: &mut Pass)
     requires { Follows w.now 50 p.old }
     ensures { Follows w.now 53 p.new }
 {
-    assert_eq!(rt; w.look_gate(p, ZERO, S), gate(false, false));
+    assert!(rt; w.look_gate(p, ZERO, S) == gate(false, false));
     assert!(rt; w.unselect_bit(p, ZERO, S, 0));
-    assert_eq!(rt; w.look_mark(p, ZERO, S, 0), both(false));
+    assert!(rt; w.look_mark(p, ZERO, S, 0) == both(false));
 }
