@@ -1,7 +1,7 @@
 -- The words of the command line.
 use Rattle.std.specs.Prelude.{◌≡◌, ◌⊎◌, List, [], ◌∷◌, ◌++◌, ℕ, codes}
 use Rattle.nio_bytes.specs.declared.sink.Sink as sink
-use Rattle.nio_script.specs.Run.{Notes}
+use Rattle.nio_script.specs.Output.{Notes}
 
 -- the one word `script`
 abbrev pub IsScriptCommand : List (List ℕ) → Type 0

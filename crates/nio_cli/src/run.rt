@@ -4,15 +4,14 @@ ghost use Rattle.std.specs.String.{string_bytes};
 ghost use Rattle.nio_bytes.specs.Cause.{Rose};
 ghost use Rattle.nio_plain.specs.ScriptState.{script_opening};
 ghost use Rattle.nio_script.specs.Input.{CausesFault, StopsPastLongest};
-ghost use Rattle.nio_script.specs.Run.{Notes};
 ghost use Rattle.nio_cli.specs.Commands.{DoesScript, DoesCheck};
-ghost use Rattle.nio_cli.specs.Words.{IsScriptCommand, IsCheckCommand, IsCommand, IsUsage, usage_line};
+ghost use Rattle.nio_cli.specs.Words.{IsScriptCommand, IsCheckCommand, IsCommand, IsUsage};
 
 use crate::words::{Command, command_of};
 use nio_base::Limits;
 use nio_bytes::{Sink, Source};
 use nio_plain::System;
-use nio_script::{Status, run_check, run_script, write_out};
+use nio_script::{Status, note, run_check, run_script};
 use std::alloc::Global;
 
 /// How much a system of the program can hold.
@@ -26,14 +25,6 @@ pub const PROGRAM_LIMITS: Limits = Limits {
 /// What is said of words that say nothing that is known.
 const USAGE: &str =
     "usage: nio script | check | race | proxy --way select|group --listen ADDR --target ADDR --conns N [--workers W] | load N\n";
-
-/// Says what the words may be. That the sink fails meanwhile changes no status.
-fn say_usage<K: Sink>(output: &mut K)
-    ensures said { Notes K.Sink output.old output.new usage_line }
-    ensures later { K.faults output.old ≤ K.faults output.new }
-{
-    let _ = write_out(output, USAGE.as_bytes());
-}
 
 /// Does what the words say: all that the program does. `script` makes its calls on this system, and
 /// `check` on one of its own.
@@ -73,7 +64,7 @@ pub fn run<S: Source, K: Sink, Y: System>(
         Some(Command::Script) => run_script(alloc, input, output, system),
         Some(Command::Check) => run_check(alloc, input, output, PROGRAM_LIMITS),
         None => {
-            say_usage(output);
+            note(output, USAGE.as_bytes());
             Status::Usage
         }
     }

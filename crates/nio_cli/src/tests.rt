@@ -1,6 +1,4 @@
 //! The program as a whole, over sources and sinks in memory.
-ghost use Rattle.std.specs.Prelude.{◌≤◌};
-
 use crate::run::{PROGRAM_LIMITS, run};
 use nio_bytes::{MemorySink, MemorySource};
 use nio_plain::Plain;

@@ -10,8 +10,8 @@ use Rattle.nio_plain.specs.Answer.{answer_to, left_from, left_by_script}
 use Rattle.nio_plain.specs.ScriptState.{ScriptState, script_opening}
 use Rattle.nio_plain.specs.Seq.{seq}
 use Rattle.nio_script.specs.History.{Entry, IsHistory, IsFirstBadEntry}
-use Rattle.nio_script.specs.Output.{IsWritten, WritesPrefix}
-use Rattle.nio_script.specs.Run.{bad_line, Notes, EndsText, EndsScript}
+use Rattle.nio_script.specs.Output.{IsWritten, Notes, WritesPrefix}
+use Rattle.nio_script.specs.Run.{bad_line, EndsText, EndsScript}
 use Rattle.nio_script.specs.declared.status.Status.{Status}
 use Rattle.nio_script.specs.declared.status.Status.TheVariants.{Done, WriteFault, Memory, Illegal}
 

@@ -1,6 +1,7 @@
 -- What the writing of output does to its sink.
-use Rattle.std.specs.Prelude.{◌≡◌, ℕ, List, ◌++◌, take, IfSome, IsTrue}
+use Rattle.std.specs.Prelude.{◌≡◌, ◌⊎◌, ℕ, List, ◌++◌, take, IfSome, IsTrue}
 use Rattle.std.specs.Io.KnownBytes.{append_known}
+use Rattle.nio_bytes.specs.Cause.{Rose}
 use Rattle.nio_bytes.specs.declared.sink.Sink as sink
 
 -- The sink took exactly these bytes, where it tells its bytes.
@@ -16,6 +17,12 @@ pub record IsWritten {K : Type 0} (k : sink.Ghosts K) (old new : K) (bytes : Lis
     : Type 0 where
   pub taken : Writes k old new bytes
   pub flushed : IfSome (k.flushed new) IsTrue
+
+-- These bytes were written and flushed, or some from their front and the sink failed.
+abbrev pub Notes : {K : Type 0} → sink.Ghosts K → K → K → List ℕ → Type 0
+Notes k output output' bytes =
+    IsWritten k output output' bytes
+    ⊎ (WritesPrefix k output output' bytes × Rose (k.faults output) (k.faults output'))
 
 -- Some bytes were written; with what is kept back now they are what was kept back and the line.
 pub record Gathers {K : Type 0} (k : sink.Ghosts K) (old new : K)

@@ -1,8 +1,7 @@
 -- What running a script does to its sink and its system.
-use Rattle.std.specs.Prelude.{◌≡◌, ◌⊎◌, ℕ, ◌++◌, List, [], ◌∷◌, codes}
+use Rattle.std.specs.Prelude.{◌≡◌, ℕ, ◌++◌, List, [], ◌∷◌, codes}
 use Rattle.std.specs.Fmt.{decimal}
 use Rattle.nio_base.specs.declared.limits.Limits.{Limits}
-use Rattle.nio_bytes.specs.Cause.{Rose}
 use Rattle.nio_bytes.specs.declared.source.Source as source
 use Rattle.nio_bytes.specs.declared.sink.Sink as sink
 use Rattle.nio_event.specs.Replies.{history_line}
@@ -13,7 +12,7 @@ use Rattle.nio_plain.specs.ScriptState.{ScriptState}
 use Rattle.nio_plain.specs.Seq.{seq}
 use Rattle.nio_plain.specs.declared.system.System as system
 use Rattle.nio_script.specs.Input.{IsReadWhole}
-use Rattle.nio_script.specs.Output.{IsWritten, WritesPrefix}
+use Rattle.nio_script.specs.Output.{IsWritten, Notes, WritesPrefix}
 use Rattle.nio_script.specs.declared.status.Status.{Status}
 use Rattle.nio_script.specs.declared.status.Status.TheVariants.{Done, Usage, BadScript, ReadFault, WriteFault, Memory, NetFault, Illegal, TooLong}
 
@@ -49,12 +48,6 @@ pub record IsCutShort {K Y : Type 0} (k : sink.Ghosts K) (y : system.Ghosts Y)
 -- what is said of a line that isn't in the grammar
 abbrev pub bad_line : ℕ → List ℕ
 bad_line line = codes "bad line " ++ decimal line ++ 10 ∷ []
-
--- These bytes were written and flushed, or some from their front and the sink failed.
-abbrev pub Notes : {K : Type 0} → sink.Ghosts K → K → K → List ℕ → Type 0
-Notes k output output' bytes =
-    IsWritten k output output' bytes
-    ⊎ (WritesPrefix k output output' bytes × Rose (k.faults output) (k.faults output'))
 
 -- The line is the text's first that isn't in the grammar, which was said, and no call was made.
 pub record IsRefused {K Y : Type 0} (k : sink.Ghosts K) (output output' : K)

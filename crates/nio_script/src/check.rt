@@ -9,12 +9,12 @@ ghost use Rattle.nio_script.specs.Check.{right_reply, IsLegalHistory, IsFirstIll
 ghost use Rattle.nio_script.specs.History.{Entry, IsHistory, IsFirstBadEntry};
 ghost use Rattle.nio_script.specs.HistoryCall.{entry_of};
 ghost use Rattle.nio_script.specs.Input.{CausesFault, StopsPastLongest};
-ghost use Rattle.nio_script.specs.Output.{WritesPrefix, IsWritten};
-ghost use Rattle.nio_script.specs.Run.{left_by_call, Notes, ReadsText};
+ghost use Rattle.nio_script.specs.Output.{WritesPrefix, IsWritten, Notes};
+ghost use Rattle.nio_script.specs.Run.{left_by_call, ReadsText};
 
 use crate::history::{HistoryCall, parse_history};
 use crate::input::{LONGEST_INPUT, read_input};
-use crate::output::write_out;
+use crate::output::{note, write_out};
 use crate::run::refuse;
 use crate::script::ScriptError;
 use crate::status::Status;
@@ -138,7 +138,7 @@ fn say_illegal<K: Sink>(alloc: Global, wrong: &Wrong, output: &mut K) -> Status
     let Ok(text) = illegal_line(alloc, wrong) else {
         return Status::Memory;
     };
-    let _ = write_out(output, &text);
+    note(output, &text);
     Status::Illegal { line: wrong.number }
 }
 

@@ -1,9 +1,9 @@
 //! The output of a command.
-ghost use Rattle.std.specs.Prelude.{◌≡◌, ◌<◌, ◌⊎◌, ◌++◌, [], false, length, IfErr, IsErrOf, OnOk, OnErr};
+ghost use Rattle.std.specs.Prelude.{◌≡◌, ◌<◌, ◌≤◌, ◌⊎◌, ◌++◌, [], false, length, IfErr, IsErrOf, OnOk, OnErr};
 ghost use Rattle.nio_bytes.specs.Cause.{HasCause};
 ghost use Rattle.nio_bytes.specs.Sink.{told};
 ghost use Rattle.nio_script.specs.Input.{CausesFault};
-ghost use Rattle.nio_script.specs.Output.{Writes, WritesPrefix, IsWritten, Gathers};
+ghost use Rattle.nio_script.specs.Output.{Writes, WritesPrefix, IsWritten, Notes, Gathers};
 
 use crate::status::Status;
 use nio_bytes::Sink;
@@ -42,6 +42,14 @@ pub fn write_out<K: Sink>(sink: &mut K, bytes: &[u8]) -> Result<(), Status>
         return Err(Status::WriteFault);
     };
     Ok(())
+}
+
+/// Writes all the bytes, and then flushes once. That the sink fails meanwhile is told to nobody.
+pub fn note<K: Sink>(output: &mut K, bytes: &[u8])
+    ensures said { Notes K.Sink output.old output.new bytes.now }
+    ensures later { K.faults output.old ≤ K.faults output.new }
+{
+    let _ = write_out(output, bytes);
 }
 
 /// How many bytes are kept back before they are written.

@@ -6,11 +6,11 @@ ghost use Rattle.nio_event.specs.declared.call.ScriptCall.{ScriptCall};
 ghost use Rattle.nio_plain.specs.Answer.{answer_from, left_from};
 ghost use Rattle.nio_plain.specs.ScriptState.{script_opening};
 ghost use Rattle.nio_script.specs.Input.{CausesFault, StopsPastLongest};
-ghost use Rattle.nio_script.specs.Output.{WritesPrefix, IsWritten, Gathers};
-ghost use Rattle.nio_script.specs.Run.{line_for, left_by_call, bad_line, Notes, ReadsText, IsAnswered, IsCutShort, IsRefused, IsUntouched, EndsText, EndsScript};
+ghost use Rattle.nio_script.specs.Output.{WritesPrefix, IsWritten, Notes, Gathers};
+ghost use Rattle.nio_script.specs.Run.{line_for, left_by_call, bad_line, ReadsText, IsAnswered, IsCutShort, IsRefused, IsUntouched, EndsText, EndsScript};
 
 use crate::input::{LONGEST_INPUT, read_input};
-use crate::output::{put_line, write_out};
+use crate::output::{note, put_line, write_out};
 use crate::script::{ScriptError, parse_script};
 use crate::status::Status;
 use nio_bytes::{Sink, Source};
@@ -82,7 +82,7 @@ pub fn refuse<K: Sink>(alloc: Global, line: u64, output: &mut K) -> Status
     let Ok(text) = format!(in alloc; "bad line {line}\n") else {
         return Status::Memory;
     };
-    let _ = write_out(output, text.as_bytes());
+    note(output, text.as_bytes());
     Status::BadScript { line }
 }
 

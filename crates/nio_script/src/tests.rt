@@ -1,5 +1,5 @@
 //! Reading and writing at their limits, and scripts over a system that knows no caller.
-ghost use Rattle.std.specs.Prelude.{◌≡◌, ℕ, ◌-◌, ◌^◌, ◌≤◌, ◌⊎◌, ⊤, List, None, length};
+ghost use Rattle.std.specs.Prelude.{◌≡◌, ◌-◌, ◌^◌, ◌≤◌, ◌⊎◌, ⊤, List, None, length};
 ghost use Rattle.nio_bytes.specs.Cause.{Rose};
 ghost use Rattle.nio_event.specs.Script.{IsScript};
 ghost use Rattle.nio_event.specs.declared.call.ScriptCall.{ScriptCall};
