@@ -1,8 +1,7 @@
 -- What is kept while the calls of a history are made; and that a history is legal, or has one first
 -- call whose reply is wrong, and not both.
-use Rattle.std.proofs.Common.{◌≡◌, ◌≢◌, inl, inr, ◌⊎◌, ℕ, suc, ◌+◌, ◌-◌, ◌<◌, ◌≤◌, List, [], ◌∷◌, ◌++◌, length, take, drop, get_or, refl, sym, ◌∙◌, ap, subst, arith}
+use Rattle.std.proofs.Common.{◌≡◌, ◌≢◌, inl, inr, ◌⊎◌, ℕ, ◌+◌, ◌≤◌, List, [], ◌∷◌, ◌++◌, length, take, drop, refl, sym, ◌∙◌, ap, subst}
 use Rattle.std.specs.Prelude.{Option, Some, None, IfSome, IfNone}
-use Rattle.std.proofs.Math.Seq.{take-append_seam, take-append-add}
 use Rattle.std.proofs.lemmas.List.{map-append, take_all}
 use Rattle.nio_base.specs.declared.limits.Limits.{Limits}
 use Rattle.nio_event.specs.Replies.{reply_text}
@@ -15,7 +14,8 @@ use Rattle.nio_script.specs.History.{Entry}
 use Rattle.nio_script.specs.Run.{left_by_call}
 use Rattle.nio_script.specs.declared.status.Status.{Status}
 use Rattle.nio_script.specs.declared.status.Status.TheVariants.{Done, BadScript, ReadFault, WriteFault, Memory, Illegal}
-use Rattle.nio_script.proofs.ScriptLemmas.{take_one_more, parts, length_take_within}
+use Rattle.nio_script.proofs.FirstBreak.{IsBreak, unbroken, one_break}
+use Rattle.nio_script.proofs.Lines.{IsNext, take_one_more, parts, number_of_next}
 
 -- what is said of the value that there is
 pub if_some : {A : Type 0} (o : Option A) (x : A) (IsSo : A → Type 0) → o ≡ Some x → IfSome o IsSo → IsSo x
@@ -54,12 +54,12 @@ pub followed_none : (l : Limits) (entries : List Entry) (st : ScriptState) → s
     → IsFollowed l entries 0 st
 followed_none l entries st opening = record { legal = tt; left = opening }
 
-module _ (l : Limits) (entries : List Entry) (i : ℕ) (st : ScriptState) (e : Entry) (within : i < length entries) (at : get_or entries i e ≡ e) (before : IsFollowed l entries i st) where
+module _ (l : Limits) (entries : List Entry) (i : ℕ) (st : ScriptState) (e : Entry) (next : IsNext entries i e) (before : IsFollowed l entries i st) where
   -- the next reply is right
   pub followed_more : e.reply ≡ reply_text (right_reply l st e) → IsFollowed l entries (i + 1) (left_by_call l st e.line)
   followed_more right =
       let front = take i entries in
-      let more = take_one_more entries i e within at in
+      let more = take_one_more next in
       record {
         legal =
             subst (IsLegalHistory l) (sym more)
@@ -77,8 +77,8 @@ module _ (l : Limits) (entries : List Entry) (i : ℕ) (st : ScriptState) (e : E
     entry = e;
     before = take i entries;
     after = drop (i + 1) entries;
-    parts = parts entries i e within at;
-    number = ap (λ n. n + 1) (length_take_within entries i within);
+    parts = parts next;
+    number = number_of_next next;
     legal = before.legal;
     answer = is ∙ ap (λ s. right_reply l s e) before.left;
     wrong = wrong;
@@ -88,38 +88,23 @@ pub followed_all : (l : Limits) (entries : List Entry) (i : ℕ) (st : ScriptSta
     → IsFollowed l entries i st → IsLegalHistory l entries
 followed_all l entries i st end before = subst (IsLegalHistory l) (take_all i entries end) before.legal
 
--- a wrong call among legal entries
-wrong_not_legal : (l : Limits) (entries : List Entry) (n : ℕ) (right : Reply) (bad : IsFirstIllegal l entries n right)
-    (rest : List Entry) → IsLegalHistory l (bad.before ++ bad.entry ∷ rest) → ⊥
-wrong_not_legal l entries n right bad rest legal =
-    let here = IsLegalFrom-after l script_opening bad.before (bad.entry ∷ rest) legal in
-    bad.wrong (here.0 ∙ ap reply_text (sym bad.answer))
+-- the first wrong call ends what is legal
+break_of : (l : Limits) (entries : List Entry) (n : ℕ) (right : Reply) → IsFirstIllegal l entries n right
+    → IsBreak (IsLegalHistory l) entries n
+break_of l entries n right first = record {
+  item = first.entry;
+  before = first.before;
+  after = first.after;
+  parts = first.parts;
+  number = first.number;
+  good = first.legal;
+  bad = λ rest legal.
+      first.wrong ((IsLegalFrom-after l script_opening first.before (first.entry ∷ rest) legal).0 ∙ ap reply_text (sym first.answer));
+}
 
-pub legal_not_illegal : (l : Limits) (entries : List Entry) (n : ℕ) (right : Reply)
+legal_not_illegal : (l : Limits) (entries : List Entry) (n : ℕ) (right : Reply)
     → IsLegalHistory l entries → IsFirstIllegal l entries n right → ⊥
-legal_not_illegal l entries n right legal bad =
-    wrong_not_legal l entries n right bad bad.after (subst (IsLegalHistory l) bad.parts legal)
-
--- no wrong call stands before the first
-not_before : (l : Limits) (entries : List Entry) (m n : ℕ) (p q : Reply) (x : IsFirstIllegal l entries m p)
-    (y : IsFirstIllegal l entries n q) → length x.before < length y.before → ⊥
-not_before l entries m n p q x y h =
-    let k = length y.before - length x.before - 1 in
-    let many : length y.before ≡ length x.before + suc k = omega arith in
-    let front : y.before ≡ x.before ++ x.entry ∷ take k x.after =
-    sym (take-append_seam y.before (y.entry ∷ y.after))
-    ∙ ap (take (length y.before)) (sym y.parts ∙ x.parts)
-    ∙ ap (λ n. take n (x.before ++ x.entry ∷ x.after)) many
-    ∙ take-append-add x.before (x.entry ∷ x.after) (suc k)
-    in
-    wrong_not_legal l entries m p x (take k x.after) (subst (IsLegalHistory l) front y.legal)
-
-pub first_illegal_is_one : (l : Limits) (entries : List Entry) (m n : ℕ) (p q : Reply)
-    → IsFirstIllegal l entries m p → IsFirstIllegal l entries n q → m ≡ n
-first_illegal_is_one l entries m n p q x y =
-    let below : length x.before < length y.before → ⊥ = not_before l entries m n p q x y in
-    let above : length y.before < length x.before → ⊥ = not_before l entries n m q p y x in
-    omega (arith, x.number, y.number)
+legal_not_illegal l entries n right legal first = unbroken (IsLegalHistory l) entries n legal (break_of l entries n right first)
 
 -- the verdict on legal entries
 pub verdict_of_legal : {l : Limits} {entries : List Entry} {status : Status} → IsVerdict l entries status
@@ -134,7 +119,7 @@ pub verdict_of_illegal : {l : Limits} {entries : List Entry} {status : Status} (
 verdict_of_illegal {l = l} {entries = entries} n right (all_right legal) first =
     absurd (legal_not_illegal l entries n right legal first)
 verdict_of_illegal {l = l} {entries = entries} n right (one_wrong m other x) first =
-    ap Illegal (first_illegal_is_one l entries m n other right x first)
+    ap Illegal (one_break (IsLegalHistory l) entries m n (break_of l entries m other x) (break_of l entries n right first))
 
 -- how the check of legal entries ends
 pub ends_legal : (l : Limits) (entries : List Entry) (status : Status) → IsLegalHistory l entries

@@ -1,5 +1,5 @@
 -- From the parts of a line to its entry.
-use Rattle.std.proofs.Common.{◌≡◌, ◌≢◌, ℕ, ◌<◌, ◌≤◌, ◌^◌, ◌+◌, List, [], ◌∷◌, ◌++◌, length, Option, Some, None, Result, Ok, Err, codes, sym, ◌∙◌, ap, subst, append_assoc, arith, All}
+use Rattle.std.proofs.Common.{◌≡◌, ◌≢◌, ℕ, ◌<◌, ◌≤◌, ◌^◌, List, [], ◌∷◌, ◌++◌, Option, Some, None, Result, Ok, Err, codes, sym, ◌∙◌, ap, subst, append_assoc, arith, All}
 use Rattle.std.specs.Fmt.{decimal}
 use Rattle.std.proofs.lemmas.List.Elements.{All-append, All-cons, All-nil, All-weaker}
 use Rattle.std.proofs.lemmas.Option.{none-some, same_Some}
@@ -14,9 +14,9 @@ use Rattle.nio_event.specs.declared.parse.Parsed.{Parsed}
 use Rattle.nio_event.specs.declared.parse.Parsed.TheVariants.{Line}
 use Rattle.nio_event.proofs.NameWords.{decimal_lacks}
 use Rattle.nio_event.proofs.PlainTexts.{line_plain}
-use Rattle.nio_script.specs.Entries.{Finds, AddsEntry}
+use Rattle.nio_script.specs.Entries.{Finds}
 use Rattle.nio_script.specs.History.{Entry, IsEntry, call_text}
-use Rattle.nio_script.proofs.EntryLemmas.{AddsEntry-entry}
+use Rattle.nio_script.proofs.EntryLemmas.{same_entry, same_line}
 
 -- a text is cut at its first byte of a value into these parts, if it can be cut there at all
 abbrev pub OnlyCut : ℕ → List ℕ → List ℕ → List ℕ → Type 0
@@ -92,7 +92,7 @@ call_found text r caller call e found only = record {
       let same = only line.caller line.call is (λ lacks. cc) in
       let callers : caller ≡ line.caller = cc in
       let calls : call ≡ line.call = cc in
-      ap (λ x. Some (record { caller = x; call = call })) callers ∙ ap (λ x. Some (record { caller = line.caller; call = x })) calls;
+      ap Some (same_line _ line callers calls);
 }
 
 -- the texts of a line's call and reply, and the entry
@@ -125,11 +125,5 @@ module _ (number : ℕ) (line : List ℕ) where
       };
       only = λ e is.
           let same : c ≡ e.line = same_Some c e.line (read.only e.line (called e is)) in
-          ap (λ x. Some (record { line = x; reply = reply })) same ∙ ap (λ r. Some (record { line = e.line; reply = r })) (entry_parts e is).1;
+          ap Some (same_entry _ e same (entry_parts e is).1);
     }
-
--- an entry that was found is added
-pub adds_found : (line : List ℕ) (before after : List Entry) (n : ℕ) (answer : Option Entry) (e : Entry) → n ≡ length before + 1
-    → Finds (λ x. IsEntry n x line) answer → answer ≡ Some e → after ≡ before ++ e ∷ [] → AddsEntry line before after
-adds_found line before after n answer e next finds is adds =
-    AddsEntry-entry line before after n e next (rw is at finds.found) adds

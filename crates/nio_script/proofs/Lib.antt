@@ -4,9 +4,10 @@ pub mod EntryLemmas
 pub mod EntryTexts
 pub mod FirstBad
 pub mod FirstBadEntry
+pub mod FirstBreak
 pub mod LegalHistory
+pub mod Lines
 pub mod OneHistory
 pub mod Reading
 pub mod Running
-pub mod ScriptLemmas
 pub mod Writing

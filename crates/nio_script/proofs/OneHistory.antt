@@ -5,7 +5,7 @@ use Rattle.std.proofs.lemmas.List.{append_cancel_left, append_cancel_right}
 use Rattle.nio_event.specs.Calls.{IsLine}
 use Rattle.nio_event.proofs.OneReading.{cut_one, line_one}
 use Rattle.nio_script.specs.History.{Entry, IsEntry, AreEntries, no_lines, blank_line, entry_line, call_text}
-use Rattle.nio_script.proofs.EntryLemmas.{entry_flat, entry_full}
+use Rattle.nio_script.proofs.EntryLemmas.{entry_flat, entry_full, same_entry, same_line}
 use Rattle.nio_script.proofs.EntryTexts.{arrowless, lacks_arrow}
 
 -- texts before and behind the first arrow
@@ -22,9 +22,7 @@ entry_one n line e f x y =
     let flat = sym (entry_flat (decimal n) (call_text e) e.reply) ∙ sym x.text ∙ y.text ∙ entry_flat (decimal n) (call_text f) f.reply in
     let parts = arrow_one (call_text e) e.reply (call_text f) f.reply (arrowless n line e x) (arrowless n line f y) (ap (drop 1) (append_cancel_left (decimal n) _ _ flat)) in
     let one = line_one x.call (subst (IsLine f.line.caller f.line.call) (sym parts.0) y.call) in
-    ap (λ t. record { line = record { caller = t; call = e.line.call }; reply = e.reply }) one.0
-    ∙ ap (λ c. record { line = record { caller = f.line.caller; call = c }; reply = e.reply }) one.1
-    ∙ ap (λ r. record { line = f.line; reply = r }) parts.1
+    same_entry e f (same_line e.line f.line one.0 one.1) parts.1
 
 pub entries_one : {n : ℕ} {lines : List (List ℕ)} {entries others : List Entry} → AreEntries n lines entries → AreEntries n lines others
     → entries ≡ others

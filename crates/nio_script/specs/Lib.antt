@@ -5,5 +5,4 @@ pub mod HistoryCall
 pub mod Input
 pub mod Output
 pub mod Run
-pub mod Script
 pub mod Status

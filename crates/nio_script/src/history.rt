@@ -1,9 +1,9 @@
 //! A whole text, read as a history.
-ghost use Rattle.std.specs.Prelude.{◌≡◌, ◌≢◌, ◌++◌, ◌+◌, ℕ, List, All, codes, map, option_map, option_copied, vec_len, IfOk, IfSome, IsSomeAnd, OnOk, MatchResult};
+ghost use Rattle.std.specs.Prelude.{◌≡◌, ◌≢◌, ◌++◌, ◌+◌, ◌∷◌, [], ℕ, List, All, codes, map, option_map, option_copied, vec_len, IfOk, IfSome, IsSomeAnd, OnOk, MatchResult};
 ghost use Rattle.std.specs.Fmt.{decimal};
 ghost use Rattle.nio_event.specs.Calls.{IsLine};
-ghost use Rattle.nio_script.specs.Entries.{Finds, AddsEntry, IsNoEntry};
-ghost use Rattle.nio_script.specs.History.{Entry, IsEntry, IsHistory, IsFirstBadEntry};
+ghost use Rattle.nio_script.specs.Entries.{Finds, Adds, IsNoEntry};
+ghost use Rattle.nio_script.specs.History.{Entry, IsEntry, AreEntries, IsHistory, IsFirstBadEntry};
 ghost use Rattle.nio_script.specs.HistoryCall.{entry_of};
 
 use crate::script::{ScriptError, lines};
@@ -101,7 +101,8 @@ fn read_history_line<'a>(
     calls: &mut Vec<HistoryCall<'a>>,
 ) -> Result<(), ScriptError>
     ensures read { OnOk result
-        (AddsEntry line.now (map entry_of calls.old.items) (map entry_of calls.new.items)) }
+        (Adds (AreEntries (vec_len calls.old + 1) (line.now ∷ []))
+        (map entry_of calls.old.items) (map entry_of calls.new.items)) }
     ensures bad { (n : ℕ) → result ≡ Err (ScriptError.BadLine n)
         → (n ≡ number) × IsNoEntry (vec_len calls.old + 1) line.now }
 {

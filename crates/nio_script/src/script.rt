@@ -1,8 +1,8 @@
 //! A whole text, read as a script.
-ghost use Rattle.std.specs.Prelude.{◌≡◌, ◌++◌, ◌∷◌, [], ℕ, List, map, IfOk, OnOk, MatchResult};
+ghost use Rattle.std.specs.Prelude.{◌≡◌, ◌∷◌, [], ℕ, List, map, IfOk, OnOk, MatchResult};
 ghost use Rattle.nio_event.specs.Script.{lines_of, AreCalls, IsScript, IsFirstBad, IsInGrammar};
 ghost use Rattle.nio_event.specs.declared.call.ScriptCall.{ScriptCall};
-ghost use Rattle.nio_script.specs.Script.{AddsLine};
+ghost use Rattle.nio_script.specs.Entries.{Adds};
 
 use nio_event::{ParseError, Parsed, ScriptCall, parse_line};
 use std::alloc::{AllocError, AllocFailed, Global};
@@ -49,10 +49,7 @@ fn read_line(
     number: u64,
     calls: &mut Vec<ScriptCall>,
 ) -> Result<(), ScriptError>
-    ensures read { OnOk result (AddsLine line.now calls.old.items calls.new.items) }
-    ensures only { (added : List ScriptCall) → AreCalls (line.now ∷ []) added →
-        MatchResult result (λ _. calls.new.items ≡ calls.old.items ++ added) (λ e. e ≡ ScriptError.Memory) }
-    ensures good { OnOk result (IsInGrammar line.now) }
+    ensures read { OnOk result (Adds (AreCalls (line.now ∷ [])) calls.old.items calls.new.items) }
     ensures bad { (n : ℕ) → result ≡ Err (ScriptError.BadLine n) → (n ≡ number) × (IsInGrammar line.now → ⊥) }
 {
     match parse_line(alloc, line) {

@@ -1,4 +1,4 @@
-use Rattle.std.proofs.Common.{◌≡◌, ◌+◌, ◌<◌, map, length, get_or, sym, ◌∙◌, ap, subst}
+use Rattle.std.proofs.Common.{◌+◌, map, sym, ◌∙◌, ap, subst}
 use Rattle.std.proofs.Math.ListN.{get_or-map}
 use Rattle.std.proofs.lemmas.List.{length-map}
 use Rattle.nio_event.specs.Replies.{reply_text}
@@ -6,15 +6,16 @@ use Rattle.nio_script.specs.Check.{right_reply}
 use Rattle.nio_script.specs.HistoryCall.{entry_of}
 use Rattle.nio_script.specs.Run.{left_by_call}
 use Rattle.nio_script.proofs.Checking.{IsFollowed, followed_more, followed_wrong, if_some, if_none}
+use Rattle.nio_script.proofs.Lines.{IsNext}
 use Rattle.nio_script.proofs.check.follow_calls.Goals as goal
 use Rattle.nio_script.proofs.check.follow_calls.Goals.{After-correction}
 
 -- the entry of the next call
-within : (g : _) (c : After-correction g) → c.loop-index.index < length (map entry_of c.args.calls.now)
-within g c = simp length-map c.loop-index-test.true
-
-here : (g : _) (c : After-correction g) → get_or (map entry_of c.args.calls.now) c.loop-index.index (entry_of c.index-calls-index.result) ≡ entry_of c.index-calls-index.result
-here g c = get_or-map entry_of c.args.calls.now c.loop-index.index c.index-calls-index.result ∙ ap entry_of (sym c.index-calls-index.is)
+next : (g : _) (c : After-correction g) → IsNext (map entry_of c.args.calls.now) c.loop-index.index (entry_of c.index-calls-index.result)
+next g c = record {
+  within = simp length-map c.loop-index-test.true;
+  at = get_or-map entry_of c.args.calls.now c.loop-index.index c.index-calls-index.result ∙ ap entry_of (sym c.index-calls-index.is);
+}
 
 pub returns-in-Some-clause-illegal : goal.returns-in-Some-clause-illegal
 returns-in-Some-clause-illegal g c =
@@ -23,7 +24,7 @@ returns-in-Some-clause-illegal g c =
     let e = entry_of c.index-calls-index.result in
     let is = if_some _ _ _ c.in-Some.is c.in_ok-right.ensures.right in
     let wrong = if_some _ _ _ c.in-Some.is c.in_ok-right.ensures.wrong in
-    followed_wrong _ _ _ _ e (within g after) (here g after) c.loop-index.invariant.followed c.in-Some.right
+    followed_wrong _ _ _ _ e (next g after) c.loop-index.invariant.followed c.in-Some.right
     (is ∙ ap (λ l. right_reply l (g.Y.System.state c.loop-index.system) e) limits) wrong
 
 pub loop-index-preserved : goal.loop-index-preserved
@@ -34,7 +35,7 @@ loop-index-preserved g c =
     let e = entry_of c.index-calls-index.result in
     let entries = map entry_of c.args.calls.now in
     let right = if_none _ c.in_default.is c.in_ok-right.ensures.same in
-    let more = followed_more _ entries _ _ e (within g after) (here g after) c.loop-index.invariant.followed
+    let more = followed_more _ entries _ _ e (next g after) c.loop-index.invariant.followed
     (right ∙ ap (λ l. reply_text (right_reply l (g.Y.System.state c.loop-index.system) e)) limits) in
     record {
       followed =

@@ -1,15 +1,16 @@
-use Rattle.std.proofs.Common.{◌≡◌, ◌+◌, Err, vec_len, length, map, refl, sym, ◌∙◌, ap, subst, arith}
+use Rattle.std.proofs.Common.{◌≡◌, ◌+◌, Err, Global, Vec, vec_len, length, map, refl, sym, ◌∙◌, ap, subst, arith}
 use Rattle.std.proofs.lemmas.List.{length-map, take_all}
 use Rattle.std.proofs.lemmas.Result.{err_from_is_err_and}
 use Rattle.nio_event.specs.Script.{lines_of}
 use Rattle.nio_script.specs.History.{no_lines, AreEntries, IsFirstBadEntry}
 use Rattle.nio_script.specs.HistoryCall.{entry_of}
+use Rattle.nio_script.specs.declared.history.HistoryCall.{HistoryCall}
 use Rattle.nio_script.specs.declared.script.ScriptError.TheVariants.{BadLine}
-use Rattle.nio_script.proofs.EntryLemmas.{AreEntries-more, IsFirstBadEntry-here, no_entries, only_memory}
+use Rattle.nio_script.proofs.EntryLemmas.{AreEntries-append, IsFirstBadEntry-here, none_renumbered, renumbered}
+use Rattle.nio_script.proofs.FirstBadEntry.{history_not_bad}
+use Rattle.nio_script.proofs.Lines.{next_now, only_memory, reads_more}
 use Rattle.nio_script.proofs.OneHistory.{entries_one}
-use Rattle.nio_script.proofs.ScriptLemmas.{now_at}
 use Rattle.nio_script.proofs.history.parse_history.Goals as goal
-use Rattle.nio_script.proofs.history.parse_history.Goals.{After-drop-lines}
 
 pub loop-line-init : goal.loop-line-init
 loop-line-init c = (refl, rw c.new-calls.ensures.items no_lines)
@@ -17,31 +18,32 @@ loop-line-init c = (refl, rw c.new-calls.ensures.items no_lines)
 pub overflow_add-number : goal.overflow_add-number
 overflow_add-number c = omega (arith, c.loop-line.invariant.0, c.deref-line-items.type_inv.0)
 
-pub loop-line-preserved : goal.loop-line-preserved
-loop-line-preserved c =
-    (omega arith, AreEntries-more _ _ _ _ (simp length-map c.loop-line-test.true) (now_at c.deref-line-items.result.now c.loop-line.line-index _ c.loop-line-test.true) c.loop-line.invariant.1 _ c.in_ok-read_history_line.ensures.read)
-
 -- the number of the next entry
-next_number : (c : After-drop-lines) → vec_len c.loop-line.calls + 1 ≡ length (map entry_of c.loop-line.calls.items) + 1
-next_number c = simp length-map (omega (arith, c.loop-line.calls.ok.0))
+next_number : (calls : Vec HistoryCall Global) → vec_len calls + 1 ≡ length (map entry_of calls.items) + 1
+next_number calls = simp length-map (omega (arith, calls.ok.0))
 
-pub returns-in_err-read_history_line-clause-only : goal.returns-in_err-read_history_line-clause-only
-returns-in_err-read_history_line-clause-only c entries are =
-    let p = err_from_is_err_and c.from_residual-in_err-read_history_line.result c.from_residual-in_err-read_history_line.ensures.1 in
-    rw p.1 (only_memory p.0 (λ n named.
-    no_entries _ _ _ _ (simp length-map c.loop-line-test.true)
-    (now_at c.deref-line-items.result.now c.loop-line.line-index _ c.loop-line-test.true) c.loop-line.invariant.1
-    _ (next_number c) (c.in_err-read_history_line.ensures.bad n (ap Err (sym p.2 ∙ named))).1
-    entries (subst (λ lines. AreEntries 1 lines entries) (sym (ap (map (λ r. r.now)) c.deref-line-items.ensures.value ∙ c.in_ok-lines.ensures)) are)))
+pub loop-line-preserved : goal.loop-line-preserved
+loop-line-preserved c = (
+  omega arith,
+  reads_more (AreEntries 1) (next_now c.deref-line-items.result.now c.loop-line.line-index _ c.loop-line-test.true) c.in_ok-read_history_line.ensures.read
+      (λ added so. AreEntries-append c.loop-line.invariant.1 (renumbered (next_number c.loop-line.calls ∙ omega arith) so)),
+)
 
 pub returns-in_err-read_history_line-clause-bad : goal.returns-in_err-read_history_line-clause-bad
 returns-in_err-read_history_line-clause-bad c line is =
     let p = err_from_is_err_and c.from_residual-in_err-read_history_line.result c.from_residual-in_err-read_history_line.ensures.1 in
     let named : p.0 ≡ BadLine line = cc in
     let b = c.in_err-read_history_line.ensures.bad line (ap Err (sym p.2 ∙ named)) in
-    subst (λ n. IsFirstBadEntry c.args.text.now n) (sym (b.0 ∙ ap (λ n. n + 1) c.loop-line.invariant.0))
-    (IsFirstBadEntry-here _ _ _ _ (simp length-map c.loop-line-test.true) (now_at c.deref-line-items.result.now c.loop-line.line-index _ c.loop-line-test.true) c.loop-line.invariant.1
-    _ (next_number c) b.1 c.args.text.now (ap (map (λ r. r.now)) c.deref-line-items.ensures.value ∙ c.in_ok-lines.ensures))
+    subst (IsFirstBadEntry c.args.text.now) (sym (b.0 ∙ ap (λ n. n + 1) c.loop-line.invariant.0))
+    (IsFirstBadEntry-here (ap (map (λ r. r.now)) c.deref-line-items.ensures.value ∙ c.in_ok-lines.ensures)
+    (next_now c.deref-line-items.result.now c.loop-line.line-index _ c.loop-line-test.true) c.loop-line.invariant.1
+    (none_renumbered (next_number c.loop-line.calls) b.1))
+
+pub returns-in_err-read_history_line-clause-only : goal.returns-in_err-read_history_line-clause-only
+returns-in_err-read_history_line-clause-only c entries are =
+    let p = err_from_is_err_and c.from_residual-in_err-read_history_line.result c.from_residual-in_err-read_history_line.ensures.1 in
+    rw p.1 (only_memory p.0 (λ n named.
+    history_not_bad _ entries n are (returns-in_err-read_history_line-clause-bad c n (p.1 ∙ ap Err named))))
 
 pub returns-clause-ok : goal.returns-clause-ok
 returns-clause-ok c =
@@ -51,8 +53,4 @@ returns-clause-ok c =
     c.loop-line.invariant.1
 
 pub returns-clause-only : goal.returns-clause-only
-returns-clause-only c all are =
-    let lines = map (λ r. r.now) c.deref-line-items.result.now in
-    let text : lines ≡ lines_of c.args.text.now = ap (map (λ r. r.now)) c.deref-line-items.ensures.value ∙ c.in_ok-lines.ensures in
-    entries_one (subst (λ ls. AreEntries 1 ls (map entry_of c.loop-line.calls.items)) (take_all c.loop-line.line-index lines (simp length-map c.loop-line-test.false) ∙ text)
-    c.loop-line.invariant.1) are
+returns-clause-only c all are = entries_one (returns-clause-ok c) are

@@ -1,0 +1,52 @@
+-- Lists that are gone over from the front, and the lines of a text among them.
+use Rattle.std.proofs.Common.{◌≡◌, ℕ, ◌+◌, ◌<◌, List, ◌∷◌, [], ◌++◌, length, drop, take, get_or, refl, sym, ◌∙◌, ap, subst, append-nil, arith, add-one, drop-cons}
+use Rattle.std.specs.Prelude.{map}
+use Rattle.std.specs.Borrow.{Bor}
+use Rattle.std.proofs.Math.ListN.{get_or-map}
+use Rattle.std.proofs.Math.Seq.{take-suc}
+use Rattle.std.proofs.lemmas.List.{take-append-drop, length-map, length-take-le, get_or_default}
+use Rattle.nio_script.specs.Entries.{Adds}
+use Rattle.nio_script.specs.declared.script.ScriptError.{ScriptError}
+use Rattle.nio_script.specs.declared.script.ScriptError.TheVariants.{BadLine, Memory}
+
+-- Behind the first i items stands this one.
+pub record IsNext {A : Type 0} (xs : List A) (i : ℕ) (x : A) : Type 0 where
+  pub within : i < length xs
+  pub at : get_or xs i x ≡ x
+
+module _ {A : Type 0} {xs : List A} {i : ℕ} {x : A} (next : IsNext xs i x) where
+  pub take_one_more : take (i + 1) xs ≡ take i xs ++ x ∷ []
+  take_one_more = rw (add-one, take-suc xs i x next.within, next.at) refl
+
+  pub parts : xs ≡ take i xs ++ x ∷ drop (i + 1) xs
+  parts = sym (take-append-drop i xs) ∙ ap (λ ys. take i xs ++ ys) (rw (drop-cons xs i x next.within, next.at, add-one) refl)
+
+  pub number_of_next : length (take i xs) + 1 ≡ i + 1
+  number_of_next = ap (λ n. n + 1) (length-take-le i xs (omega (arith, next.within)))
+
+-- the item of a slice of references
+pub next_now : (items : List (Bor (List ℕ))) (i : ℕ) (d : Bor (List ℕ)) → i < length items
+    → IsNext (map (λ r. r.now) items) i (get_or items i d).now
+next_now items i d within = record {
+  within = simp length-map within;
+  at =
+      get_or-map (λ r. r.now) items i (get_or items i d)
+      ∙ ap (λ r. r.now) (get_or_default items i (get_or items i d) d within);
+}
+
+-- what is read of the first i lines, and of the next
+pub reads_more : {A : Type 0} (Are : List (List ℕ) → List A → Type 0) {AreSo : List A → Type 0} {lines : List (List ℕ)} {i : ℕ} {line : List ℕ} {before after : List A}
+    → IsNext lines i line → Adds AreSo before after
+    → ((added : List A) → AreSo added → Are (take i lines ++ line ∷ []) (before ++ added)) → Are (take (i + 1) lines) after
+reads_more Are {lines = lines} {i = i} {before = before} next adds append =
+    subst (Are (take (i + 1) lines)) (sym adds.adds)
+    (subst (λ ls. Are ls (before ++ adds.added)) (sym (take_one_more next)) (append adds.added adds.so))
+
+-- nothing is added
+pub adds_nothing : {A : Type 0} {AreSo : List A → Type 0} (before : List A) → AreSo [] → Adds AreSo before before
+adds_nothing before reads = record { added = []; so = reads; adds = sym (append-nil before) }
+
+-- an error that names no line is a want of memory
+pub only_memory : (e : ScriptError) → ((n : ℕ) → e ≡ BadLine n → ⊥) → e ≡ Memory
+only_memory (BadLine n) none = absurd (none n refl)
+only_memory Memory none = refl
