@@ -34,8 +34,8 @@ pub fn soundness_law()
     ensures within { StatesAreWithin }
 {}
 
-/// Nobody takes a turn or a hold before whoever has it gives it back, and nobody else changes the mode
-/// of a channel that is held.
+/// Nobody takes a turn or a hold before whoever has it gives it back; and a holder that found its channel
+/// non-blocking under its hold, and set no mode since, is right.
 pub fn one_holder_law()
     ensures turn { TurnHasOneHolder }
     ensures hold { HoldHasOneHolder }

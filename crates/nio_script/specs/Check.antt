@@ -19,11 +19,11 @@ use Rattle.nio_script.specs.declared.status.Status.TheVariants.{Done, WriteFault
 abbrev pub calls_of : List Entry → List ScriptCall
 calls_of entries = map (λ e. e.line) entries
 
--- the sequential selector's reply to the call of an entry in this state
+-- the documented system's reply to the call of an entry in this state
 abbrev pub right_reply : Limits → ScriptState → Entry → Reply
 right_reply l st e = (seq l st e.line.caller e.line.call).reply
 
--- each reply, as text, is the one that the sequential selector gives, from a state on
+-- each reply, as text, is the one that the documented system gives, from a state on
 abbrev pub IsLegalFrom : Limits → ScriptState → List Entry → Type 0
 IsLegalFrom l st [] = ⊤
 IsLegalFrom l st (e ∷ entries) =
@@ -34,7 +34,7 @@ IsLegalFrom l st (e ∷ entries) =
 abbrev pub IsLegalHistory : Limits → List Entry → Type 0
 IsLegalHistory l entries = IsLegalFrom l script_opening entries
 
--- call number n is the first whose reply isn't the sequential selector's, which is this one
+-- call number n is the first whose reply isn't the documented system's, which is this one
 pub record IsFirstIllegal (l : Limits) (entries : List Entry) (n : ℕ) (right : Reply)
     : Type 0 where
   pub entry : Entry

@@ -47,8 +47,9 @@ pub fn hold_law()
     ensures found_clear { FoundClearStands }
 {}
 
-/// While a caller selects nobody else marks or removes a key of the selector or ends its wakeup. So what
-/// the caller found of these stands until it changes it or gives the turn back.
+/// While a caller selects nobody else marks or removes a key of the selector or ends its wakeup. So until
+/// the caller itself does so or gives the turn back, a key stays in the key set, a pending wakeup stays
+/// pending, and a key's mark changes at most by being taken out of the selected set.
 pub fn selection_law()
     ensures alone { SelectsAlone }
     ensures key_set { KeySetStands }
