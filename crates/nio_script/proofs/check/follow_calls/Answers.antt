@@ -1,4 +1,4 @@
-use Rattle.std.proofs.Common.{◌+◌, map, sym, ◌∙◌, ap, subst}
+use Rattle.std.proofs.Common.{◌≡◌, ◌+◌, map, sym, ◌∙◌, ap, subst}
 use Rattle.std.proofs.Math.ListN.{get_or-map}
 use Rattle.std.proofs.lemmas.List.{length-map}
 use Rattle.nio_event.specs.Replies.{reply_text}
@@ -25,7 +25,7 @@ returns-in-Some-clause-illegal g c =
     let is = if_some _ _ _ c.in-Some.is c.in_ok-right.ensures.right in
     let wrong = if_some _ _ _ c.in-Some.is c.in_ok-right.ensures.wrong in
     followed_wrong _ _ _ _ e (next g after) c.loop-index.invariant.followed c.in-Some.right
-    (is ∙ ap (λ l. right_reply l (g.Y.System.state c.loop-index.system) e) limits) wrong
+    (subst (λ l. c.in-Some.right ≡ right_reply l (g.Y.System.state c.loop-index.system) e) limits is) wrong
 
 pub loop-index-preserved : goal.loop-index-preserved
 loop-index-preserved g c =
@@ -36,7 +36,7 @@ loop-index-preserved g c =
     let entries = map entry_of c.args.calls.now in
     let right = if_none _ c.in_default.is c.in_ok-right.ensures.same in
     let more = followed_more _ entries _ _ e (next g after) c.loop-index.invariant.followed
-    (right ∙ ap (λ l. reply_text (right_reply l (g.Y.System.state c.loop-index.system) e)) limits) in
+    (subst (λ l. e.reply ≡ reply_text (right_reply l (g.Y.System.state c.loop-index.system) e)) limits right) in
     record {
       followed =
           subst (IsFollowed (g.Y.System.limits c.args.system.now) entries (c.loop-index.index + 1))
