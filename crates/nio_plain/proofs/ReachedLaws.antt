@@ -1,6 +1,6 @@
 -- The laws of the states that scripts leave.
 use Rattle.std.proofs.Common.{◌≡◌, ℕ, true, false, not, ◌||◌, nat_lt, Option, Some, None, is_some, List, [], ◌∷◌, ◌++◌, refl, sym, ap, ◌∙◌, subst}
-use Rattle.std.proofs.lemmas.Bool.{and_left, both_ways, false_from_ne_true, cond-false}
+use Rattle.std.proofs.lemmas.Bool.{and_left, and_parts, both_ways, false_from_ne_true, cond-false}
 use Rattle.nio_base.specs.declared.limits.Limits.{Limits}
 use Rattle.nio_base.specs.declared.numbers.CallerNo.{CallerNo}
 use Rattle.nio_base.specs.declared.numbers.SelNo.{SelNo}
@@ -15,7 +15,7 @@ use Rattle.nio_plain.proofs.ReachedChannels.{in_set-registered}
 use Rattle.nio_plain.proofs.ReachedSound.{Sound, sound-opening, some_same, by_test}
 use Rattle.nio_plain.proofs.Registered.{key_of-some, key_of-is, registered-key}
 use Rattle.nio_plain.specs.Answer.{left_from, left_by_script}
-use Rattle.nio_plain.specs.ReachedLaws.{SetsAreWithinKeySet, InvalidKeysStayInvalid, KeyOfAChannelIsFound, OneKeyOfAChannel, RegisteredIsInAKeySet, RegisteredIsNonBlocking, ClosedChannelHasNoValidKey, IsEmptied, ClosedSelectorIsEmpty}
+use Rattle.nio_plain.specs.ReachedLaws.{SetsAreWithinKeySet, KeysAreBelowTheMark, InvalidKeysStayInvalid, KeyOfAChannelIsFound, OneKeyOfAChannel, RegisteredIsInAKeySet, RegisteredIsNonBlocking, ClosedChannelHasNoValidKey, IsEmptied, ClosedSelectorIsEmpty}
 use Rattle.nio_plain.specs.ScriptState.{ScriptState, script_opening}
 use Rattle.nio_plain.specs.Seq.{call_of, seq}
 use Rattle.nio_plain.specs.Seq.Answers.{Answered, refused}
@@ -36,6 +36,10 @@ sets_are_within_key_set l calls = record {
   cancelled = (reached l calls).keys.cancelled;
   selected = (reached l calls).selected;
 }
+
+pub keys_are_below_the_mark : KeysAreBelowTheMark
+keys_are_below_the_mark l calls s i in_set =
+    (reached l calls).keys.indexes.below s i (and_parts ((left_by_script l calls).shared.key s i).published _ in_set).0
 
 pub invalid_keys_stay_invalid : InvalidKeysStayInvalid
 invalid_keys_stay_invalid l calls more s i published invalid =

@@ -1,6 +1,6 @@
 -- Laws of the documented system, over every list of calls from the opening state: what holds of the
 -- sets of a selector, of channels, of keys that are invalid, and of what is closed.
-use Rattle.std.specs.Prelude.{◌≡◌, ℕ, IsTrue, IsFalse, ◌↔◌, Some, None, List, ◌∷◌, ◌++◌}
+use Rattle.std.specs.Prelude.{◌≡◌, ℕ, ◌<◌, IsTrue, IsFalse, ◌↔◌, Some, None, List, ◌∷◌, ◌++◌}
 use Rattle.nio_base.specs.declared.limits.Limits.{Limits}
 use Rattle.nio_base.specs.declared.numbers.CallerNo.{CallerNo}
 use Rattle.nio_base.specs.declared.numbers.SelNo.{SelNo}
@@ -23,6 +23,13 @@ pub record AreWithinKeySet (st : State) : Type 0 where
 -- the cancelled set and the selected set are within the key set, and nothing outside it is marked so
 abbrev pub SetsAreWithinKeySet : Type 0
 SetsAreWithinKeySet = (l : Limits) (calls : List ScriptCall) → AreWithinKeySet (left_by_script l calls).shared
+
+-- each key of a key set is below its selector's mark, so that a selection that begins looks at all keys
+-- of the key set
+abbrev pub KeysAreBelowTheMark : Type 0
+KeysAreBelowTheMark = (l : Limits) (calls : List ScriptCall) (s i : ℕ)
+    → let st = (left_by_script l calls).shared in
+    IsTrue (in_key_set (st.key s i)) → i < st.keys_mark s
 
 -- a key that isn't valid stays so, whatever is called
 abbrev pub InvalidKeysStayInvalid : Type 0

@@ -90,6 +90,24 @@ fn calls_on_keys_and_channels(rt: HostRuntime) -> Result<(), Fail> {
             ("t1 register s0 c0 4", "illegal-ops"),
         ],
     )?;
+    row(
+        &rt,
+        alloc,
+        "new_channel_and_key",
+        &[
+            ("t1 selector", "s0"),
+            ("t1 channel source", "c0"),
+            ("t1 is-open c0", "yes"),
+            ("t1 is-blocking c0", "yes"),
+            ("t1 is-registered c0", "no"),
+            ("t1 blocking c0 off", "ok"),
+            ("t1 register s0 c0 1", "k0"),
+            ("t1 ready s0 k0", "0"),
+            ("t1 is-registered c0", "yes"),
+            ("t1 blocking c0 on", "illegal-blocking-mode"),
+            ("t1 is-blocking c0", "no"),
+        ],
+    )?;
     registered(
         &rt,
         alloc,

@@ -1,5 +1,5 @@
--- Wakeups and interrupts. A wakeup stays until a selection ends that it woke or that didn't wait;
--- several act as one. Telling the own interrupt status clears it.
+-- Wakeups and interrupts. A wakeup stays until a `told` ends a selection of its selector; a failed poll
+-- leaves it; several act as one. Telling the own interrupt status clears it.
 use Rattle.std.specs.Prelude.{nat_lt, true, false, if◌then◌else◌}
 use Rattle.nio_base.specs.declared.limits.Limits.{Limits}
 use Rattle.nio_base.specs.declared.numbers.CallerNo.{CallerNo}

@@ -1,9 +1,11 @@
 //! Laws of the states that scripts leave, whatever is called and within whatever limits.
-ghost use Rattle.nio_plain.specs.ReachedLaws.{SetsAreWithinKeySet, InvalidKeysStayInvalid, KeyOfAChannelIsFound, OneKeyOfAChannel, RegisteredIsInAKeySet, RegisteredIsNonBlocking, ClosedChannelHasNoValidKey, ClosedSelectorIsEmpty};
+ghost use Rattle.nio_plain.specs.ReachedLaws.{SetsAreWithinKeySet, KeysAreBelowTheMark, InvalidKeysStayInvalid, KeyOfAChannelIsFound, OneKeyOfAChannel, RegisteredIsInAKeySet, RegisteredIsNonBlocking, ClosedChannelHasNoValidKey, ClosedSelectorIsEmpty};
 
-/// The cancelled set and the selected set are within the key set.
+/// The cancelled set and the selected set are within the key set, and each key of the key set is below
+/// its selector's mark, so that a selection that begins looks at all of them.
 pub fn sets_law()
-    ensures { SetsAreWithinKeySet }
+    ensures within { SetsAreWithinKeySet }
+    ensures below { KeysAreBelowTheMark }
 {}
 
 /// A key that isn't valid stays so.

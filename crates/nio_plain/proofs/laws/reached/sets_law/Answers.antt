@@ -1,5 +1,8 @@
-use Rattle.nio_plain.proofs.ReachedLaws.{sets_are_within_key_set}
+use Rattle.nio_plain.proofs.ReachedLaws.{sets_are_within_key_set, keys_are_below_the_mark}
 use Rattle.nio_plain.proofs.laws.reached.sets_law.Goals as goal
 
-pub returns : goal.returns
-returns c = sets_are_within_key_set
+pub returns-clause-within : goal.returns-clause-within
+returns-clause-within c = sets_are_within_key_set
+
+pub returns-clause-below : goal.returns-clause-below
+returns-clause-below c = keys_are_below_the_mark
