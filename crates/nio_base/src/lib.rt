@@ -6,7 +6,7 @@
 pub use gate::{Gate, NoGate};
 pub use kind::Kind;
 pub use limits::Limits;
-pub use numbers::{Addr, CallerNo, ChanNo, GChan, KeyNo, OpNo, SelNo};
+pub use numbers::{Addr, CallerNo, ChanNo, GChan, KeyId, KeyNo, OpNo, SelNo};
 pub use ops::Ops;
 
 mod gate;

@@ -2,7 +2,7 @@
 ghost use Rattle.std.specs.Prelude.{◌↔◌, IsTrue};
 
 /// How many callers, selectors and channels a system has at most, and how many key indexes each
-/// of its selectors.
+/// of its selectors: 1 to 64 callers, 1 to 16 selectors, 1 to 262,144 channels and as many indexes.
 #[derive(Clone, Copy, Debug, PartialEq, Eq, Hash)]
 pub struct Limits {
     pub callers: u32,
@@ -20,7 +20,7 @@ impl Limits {
     {
         (1..=64).contains(&self.callers)
             && (1..=16).contains(&self.selectors)
-            && (1..=65_536).contains(&self.channels)
-            && (1..=65_536).contains(&self.keys)
+            && (1..=262_144).contains(&self.channels)
+            && (1..=262_144).contains(&self.keys)
     }
 }

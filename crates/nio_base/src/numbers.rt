@@ -12,8 +12,15 @@ pub struct SelNo(pub u32);
 #[derive(Clone, Copy, Debug, PartialEq, Eq, Hash, PartialOrd, Ord)]
 pub struct ChanNo(pub u32);
 
-/// A key: its selector and its index there. `serial` tells apart the keys that an index had one
-/// after another; it is 0, since no index is used again.
+/// A key of a selector that is known: its index there, and its serial. The index of a removed key can be
+/// given to a new key, whose serial is then one higher; an index's first key has serial 0.
+#[derive(Clone, Copy, Debug, PartialEq, Eq, Hash, PartialOrd, Ord)]
+pub struct KeyId {
+    pub index: u32,
+    pub serial: u32,
+}
+
+/// A key: its selector, its index there, and its serial.
 #[derive(Clone, Copy, Debug, PartialEq, Eq, Hash, PartialOrd, Ord)]
 pub struct KeyNo {
     pub sel: SelNo,

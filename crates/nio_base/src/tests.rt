@@ -44,8 +44,8 @@ fn limits_fit_at_their_ends(rt: HostRuntime) {
     let most = Limits {
         callers: 64,
         selectors: 16,
-        channels: 65_536,
-        keys: 65_536,
+        channels: 262_144,
+        keys: 262_144,
     };
     let least = Limits {
         callers: 1,
