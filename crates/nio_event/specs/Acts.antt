@@ -1,13 +1,15 @@
--- What each kind of step does to the state. A step changes the part that it names; taking and giving
--- a turn, beginning, shutting and entering also keep who has begun, closes and has entered. Nothing
--- else is changed. The lines stand in the order in which `Act` lists the kinds.
-use Rattle.std.specs.Prelude.{ℕ, max, true, false, not, ◌&&◌, ◌||◌, if◌then◌else◌, Option, Some, None, is_some, is_none, Result, Ok, Err, bit_and, bit_or}
+-- What each kind of step does to the state. A step changes the part that it names. Claiming an index also
+-- pins it; taking and giving a turn, beginning, shutting and entering also keep who has begun, closes and
+-- has entered; taking, putting, claiming again and removing also keep who took an index and what the
+-- selection in progress dropped. Nothing else is changed. The lines stand in the order in which `Act` lists
+-- the kinds.
+use Rattle.std.specs.Prelude.{ℕ, suc, max, nat_lt, Bool, true, false, not, ◌&&◌, ◌||◌, if◌then◌else◌, Option, Some, None, is_some, is_none, Result, Ok, Err, bit_and, bit_or}
 use Rattle.nio_base.specs.declared.kind.Kind.{Kind}
 use Rattle.nio_base.specs.declared.numbers.CallerNo.{CallerNo}
 use Rattle.nio_base.specs.declared.numbers.ChanNo.{ChanNo}
-use Rattle.nio_event.specs.State.{State, with_drawn, with_interrupted, with_selector, with_channels_mark, with_chan, with_hold, with_noted, with_gate, with_turn, with_keys_mark, with_key, with_interest, with_mark, with_note, with_begun, with_closer, with_entered}
+use Rattle.nio_event.specs.State.{State, with_drawn, with_interrupted, with_selector, with_channels_mark, with_chan, with_hold, with_noted, with_gate, with_turn, with_keys_mark, with_key, with_interest, with_mark, with_note, with_pin, with_free, with_begun, with_closer, with_entered, with_taker, with_dropped, with_none_dropped, unmarked, last_serial}
 use Rattle.nio_event.specs.declared.act.Act.{Act}
-use Rattle.nio_event.specs.declared.act.Act.TheVariants.{DrawBit, MakeSelector, LookSelectors, Wake, LookGate, SetInterrupt, TakeInterrupt, LookInterrupt, LookKey, CancelKey, LookInterest, SwapInterest, OrInterest, AndInterest, SwapNote, LookNote, MakeChannel, LookChannel, Claim, RaiseKeys, LookKeys, Publish, LookReg, Enrol, TakeTurn, BeginLook, GiveTurn, Remove, LookMark, Mark, UnselectBit, EndWake, LookChannels, RaiseChannels, TryHoldBit, Release, SetMode, CloseBit, ShutBit, Enter}
+use Rattle.nio_event.specs.declared.act.Act.TheVariants.{DrawBit, MakeSelector, LookSelectors, Wake, LookGate, SetInterrupt, TakeInterrupt, LookInterrupt, LookKey, CancelKey, LookInterest, SwapInterest, OrInterest, AndInterest, SwapNote, LookNote, MakeChannel, LookChannel, Claim, RaiseKeys, LookKeys, Publish, LookReg, Enrol, TakeTurn, BeginLook, GiveTurn, Remove, LookMark, Mark, UnselectBit, EndWake, LookChannels, RaiseChannels, TryHoldBit, Release, SetMode, CloseBit, ShutBit, Enter, Pin, Unpin, ClearMark, ClaimAgain, LookFree, PutFree, TakeFree}
 use Rattle.nio_event.specs.declared.found.Chan.{Chan}
 use Rattle.nio_event.specs.declared.found.Mark.{Mark as KeyMark}
 use Rattle.nio_event.specs.declared.found.Stage.{Stage}
@@ -16,9 +18,13 @@ use Rattle.nio_event.specs.declared.found.Stage.{Stage}
 abbrev pub new_channel : Kind → Chan
 new_channel kind = record { made = true; kind = kind; closed = false; blocking = true }
 
--- an index that is claimed for a channel, and no more
-abbrev pub new_key : ChanNo → Stage
-new_key c = record { claimed = true; published = false; cancelled = false; removed = false; chan = c }
+-- an index that is claimed for a key of a channel with this serial, and no more
+abbrev pub new_key : ChanNo → ℕ → Stage
+new_key c q = record { claimed = true; published = false; cancelled = false; removed = false; chan = c; serial = q }
+
+-- a removal that found the key not removed, and with a serial below the last: its index may become free
+abbrev pub frees_index : Stage → Bool
+frees_index found = not found.removed && nat_lt found.serial last_serial
 
 -- who has a turn or a hold after `me` tried to take it: `me` where nobody had it
 abbrev pub taken_by : CallerNo → Option CallerNo → Option CallerNo
@@ -72,8 +78,9 @@ effect st me (LookNote s i found) = st
 effect st me (MakeChannel c kind found) = with_chan st c.0 (if found then st.chan c.0 else new_channel kind)
 -- looks
 effect st me (LookChannel c found) = st
--- where the index wasn't claimed, it is claimed for the channel
-effect st me (Claim s i c found) = with_key st s.0 i (if found then st.key s.0 i else new_key c)
+-- where the index wasn't claimed, it is claimed for the channel with serial 0, and the caller has a pin on it
+effect st me (Claim s i c found) =
+    with_pin (with_key st s.0 i (if found then st.key s.0 i else new_key c 0)) s.0 i me.0 (st.pinned s.0 i me.0 || not found)
 -- the keys' mark is at least n
 effect st me (RaiseKeys s n found) = with_keys_mark st s.0 (max (st.keys_mark s.0) n)
 -- looks
@@ -82,16 +89,17 @@ effect st me (LookKeys s found) = st
 effect st me (Publish s i found) = with_key st s.0 i (record (st.key s.0 i) { published = true })
 -- looks
 effect st me (LookReg c s found) = st
--- the index is noted for the channel in the selector
-effect st me (Enrol c s i found) = with_noted st c.0 s.0 (Some i)
+-- the key is noted for the channel in the selector
+effect st me (Enrol c s i serial found) = with_noted st c.0 s.0 (Some (record { index = i; serial = serial }))
 -- where the turn was free, the caller has it, and hasn't begun
 effect st me (TakeTurn s found) = with_begun (with_turn st s.0 (taken_by me found)) s.0 (is_some found && st.begun s.0)
 -- where the gate isn't shut, the caller has begun
 effect st me (BeginLook s found) = with_begun st s.0 (st.begun s.0 || not found.shut)
--- the turn is free, and nobody has begun
-effect st me (GiveTurn s) = with_begun (with_turn st s.0 None) s.0 false
--- the key is removed
-effect st me (Remove s i found) = with_key st s.0 i (record (st.key s.0 i) { removed = true })
+-- the turn is free, nobody has begun, and no selection has dropped anything
+effect st me (GiveTurn s) = with_none_dropped (with_begun (with_turn st s.0 None) s.0 false) s.0
+-- the key is removed; where a selection removes it and its index may become free, the selection dropped it
+effect st me (Remove s i found) =
+    with_dropped (with_key st s.0 i (record (st.key s.0 i) { removed = true })) s.0 i (st.dropped s.0 i || (st.begun s.0 && frees_index found))
 -- looks
 effect st me (LookMark s i found) = st
 -- where the mark is the one that is named, the key becomes selected with what is told
@@ -116,3 +124,20 @@ effect st me (CloseBit c found) = with_chan st c.0 (record (st.chan c.0) { close
 effect st me (ShutBit s found) = with_closer (with_gate st s.0 (record (st.gate s.0) { shut = true })) s.0 (if found then st.closer s.0 else Some me)
 -- where the turn is free, the closer has entered
 effect st me (Enter s found) = with_entered st s.0 (st.entered s.0 || is_none found)
+-- the caller has a pin on the index
+effect st me (Pin s i found) = with_pin st s.0 i me.0 true
+-- the caller has no pin on it
+effect st me (Unpin s i) = with_pin st s.0 i me.0 false
+-- the key isn't selected, and its ready set is empty
+effect st me (ClearMark s i found) = with_mark st s.0 i unmarked
+-- where nobody has a pin on the index, it is claimed for the channel with the next serial, the caller has a
+-- pin on it, and it isn't taken any more
+effect st me (ClaimAgain s i c from found) =
+    with_taker (with_pin (with_key st s.0 i (if found then st.key s.0 i else new_key c (suc (st.key s.0 i).serial))) s.0 i me.0 (st.pinned s.0 i me.0 || not found))
+    s.0 i (if found then st.taker s.0 i else None)
+-- looks
+effect st me (LookFree s j found) = st
+-- the index is free, and nobody has taken or dropped it
+effect st me (PutFree s i) = with_dropped (with_taker (with_free st s.0 i true) s.0 i None) s.0 i false
+-- the index isn't free; where it was, the caller has taken it
+effect st me (TakeFree s i found) = with_taker (with_free st s.0 i false) s.0 i (if found then Some me else st.taker s.0 i)

@@ -1,19 +1,36 @@
 -- What each kind of step finds in the state. The lines stand in the order in which `Act` lists the
 -- kinds.
-use Rattle.std.specs.Prelude.{◌≡◌, ℕ, zero, suc, ◌^◌, bit_or, ◌==◌, Bool, ◌&&◌, if◌then◌else◌, Result, Ok, Err}
+use Rattle.std.specs.Prelude.{◌≡◌, ℕ, zero, suc, ◌+◌, ◌*◌, ◌^◌, not, bit_or, ◌==◌, Bool, ◌&&◌, if◌then◌else◌, Result, Ok, Err}
 use Rattle.std.specs.Bool.{beq}
 use Rattle.nio_base.specs.declared.numbers.CallerNo.{CallerNo}
 use Rattle.nio_event.specs.State.{State}
-use Rattle.nio_event.specs.Questions.{Question, draw_bit, make_selector, look_selectors, wake, look_gate, set_interrupt, take_interrupt, look_interrupt, look_key, cancel_key, look_interest, swap_interest, or_interest, and_interest, swap_note, look_note, make_channel, look_channel, claim, raise_keys, look_keys, publish, look_reg, enrol, take_turn, begin_look, give_turn, remove, look_mark, mark, unselect_bit, end_wake, look_channels, raise_channels, try_hold_bit, release, set_mode, close_bit, shut_bit, enter}
+use Rattle.nio_event.specs.Questions.{Question, draw_bit, make_selector, look_selectors, wake, look_gate, set_interrupt, take_interrupt, look_interrupt, look_key, cancel_key, look_interest, swap_interest, or_interest, and_interest, swap_note, look_note, make_channel, look_channel, claim, raise_keys, look_keys, publish, look_reg, enrol, take_turn, begin_look, give_turn, remove, look_mark, mark, unselect_bit, end_wake, look_channels, raise_channels, try_hold_bit, release, set_mode, close_bit, shut_bit, enter, pin, unpin, clear_mark, claim_again, look_free, put_free, take_free}
 use Rattle.nio_event.specs.Questions.{Answer, question_of, answer_of}
 use Rattle.nio_event.specs.declared.act.Act.{Act}
-use Rattle.nio_event.specs.declared.act.Act.TheVariants.{DrawBit, MakeSelector, LookSelectors, Wake, LookGate, SetInterrupt, TakeInterrupt, LookInterrupt, LookKey, CancelKey, LookInterest, SwapInterest, OrInterest, AndInterest, SwapNote, LookNote, MakeChannel, LookChannel, Claim, RaiseKeys, LookKeys, Publish, LookReg, Enrol, TakeTurn, BeginLook, GiveTurn, Remove, LookMark, Mark, UnselectBit, EndWake, LookChannels, RaiseChannels, TryHoldBit, Release, SetMode, CloseBit, ShutBit, Enter}
+use Rattle.nio_event.specs.declared.act.Act.TheVariants.{DrawBit, MakeSelector, LookSelectors, Wake, LookGate, SetInterrupt, TakeInterrupt, LookInterrupt, LookKey, CancelKey, LookInterest, SwapInterest, OrInterest, AndInterest, SwapNote, LookNote, MakeChannel, LookChannel, Claim, RaiseKeys, LookKeys, Publish, LookReg, Enrol, TakeTurn, BeginLook, GiveTurn, Remove, LookMark, Mark, UnselectBit, EndWake, LookChannels, RaiseChannels, TryHoldBit, Release, SetMode, CloseBit, ShutBit, Enter, Pin, Unpin, ClearMark, ClaimAgain, LookFree, PutFree, TakeFree}
 use Rattle.nio_event.specs.declared.found.Mark.{Mark as KeyMark}
 
 -- the number whose bit k is set where `test` passes at k, for each k below n
 unfoldable pub bits_below : ℕ → (ℕ → Bool) → ℕ
 bits_below zero test = 0
 bits_below (suc n) test = bit_or (bits_below n test) (if test n then 2 ^ n else 0)
+
+-- how many numbers below n pass the test
+unfoldable pub count_below : ℕ → (ℕ → Bool) → ℕ
+count_below zero test = 0
+count_below (suc n) test = count_below n test + (if test n then 1 else 0)
+
+-- how many pins are on an index: as many as callers have one
+abbrev pub pins : State → ℕ → ℕ → ℕ
+pins st s i = count_below 64 (st.pinned s i)
+
+-- the index is pinned: somebody has a pin on it
+abbrev pub is_pinned : State → ℕ → ℕ → Bool
+is_pinned st s i = not (pins st s i == 0)
+
+-- which of the 64 indexes from 64 times j on are free, as one number
+abbrev pub free_word : State → ℕ → ℕ → ℕ
+free_word st s j = bits_below 64 (λ b. st.free s (64 * j + b))
 
 -- all selectors that are made, as one number
 abbrev pub selectors_word : State → ℕ
@@ -72,10 +89,10 @@ act_from st me (raise_keys s n) = RaiseKeys s n (st.keys_mark s.0)
 act_from st me (look_keys s) = LookKeys s (st.keys_mark s.0)
 -- the stage before
 act_from st me (publish s i) = Publish s i (st.key s.0 i)
--- the noted index, if any
+-- the noted key, if any
 act_from st me (look_reg c s) = LookReg c s (st.noted c.0 s.0)
--- the index that was noted before, if any
-act_from st me (enrol c s i) = Enrol c s i (st.noted c.0 s.0)
+-- the key that was noted before, if any
+act_from st me (enrol c s i serial) = Enrol c s i serial (st.noted c.0 s.0)
 -- who had the turn
 act_from st me (take_turn s) = TakeTurn s (st.turn s.0)
 -- the gate
@@ -108,6 +125,20 @@ act_from st me (close_bit c) = CloseBit c (st.chan c.0).closed
 act_from st me (shut_bit s) = ShutBit s (st.gate s.0).shut
 -- who has the turn
 act_from st me (enter s) = Enter s (st.turn s.0)
+-- the stage
+act_from st me (pin s i) = Pin s i (st.key s.0 i)
+-- nothing
+act_from st me (unpin s i) = Unpin s i
+-- the mark before
+act_from st me (clear_mark s i) = ClearMark s i (st.mark s.0 i)
+-- whether somebody had a pin on the index
+act_from st me (claim_again s i c from) = ClaimAgain s i c from (is_pinned st s.0 i)
+-- which of the 64 indexes are free
+act_from st me (look_free s j) = LookFree s j (free_word st s.0 j)
+-- nothing
+act_from st me (put_free s i) = PutFree s i
+-- whether it was free
+act_from st me (take_free s i) = TakeFree s i (st.free s.0 i)
 
 -- what the state answers
 abbrev pub answer_from : State → CallerNo → Question → Answer

@@ -4,19 +4,22 @@
 -- The numbers of a step are below the table's limits; operations and attachments are of their types
 -- in `Act`, below 256 and below 2 ^ 64, of which no condition speaks.
 --
--- Read in the state: what never goes back (made, claimed, published, cancelled), who has a turn or a
--- hold, who has begun, closes or has entered, and the channel of a claimed index.
--- Read in the caller's own acts: that it claimed an index itself; what it found under its present
--- hold, among it that a noted key is outside the key set; what a closer found since it entered.
-use Rattle.std.specs.Prelude.{◌≡◌, ℕ, ◌==◌, ◌<◌, ◌≤◌, Bool, false, not, ◌&&◌, ◌||◌, Option, Some, None, is_some, List, IsTrue, ⊤}
+-- Read in the state: what is permanent (made, claimed); who has a turn, a hold, a pin or a taken index; who
+-- has begun, closes or has entered; that a key is in the cancelled set, where the caller selects, since then
+-- nobody else removes it; what the selection in progress dropped.
+-- Read in the caller's own acts: its claim of an index, while it has the pin of that claim, and whether it
+-- published the key since; what it found under its present hold, among it that a noted key is outside the
+-- key set; what it found of an index since it took it; what a closer found since it entered.
+use Rattle.std.specs.Prelude.{◌≡◌, ℕ, ◌==◌, ◌<◌, ◌≤◌, ◌*◌, Bool, false, not, ◌&&◌, ◌||◌, Option, Some, None, List, IsTrue, ⊤}
 use Rattle.nio_base.specs.declared.limits.Limits.{Limits}
 use Rattle.nio_base.specs.declared.numbers.CallerNo.{CallerNo}
 use Rattle.nio_base.specs.declared.numbers.ChanNo.{ChanNo}
 use Rattle.nio_base.specs.declared.numbers.SelNo.{SelNo}
-use Rattle.nio_event.specs.OwnEvents.{has, last, under, since_entered, finds_unblocked, finds_below, claimed_for, is_clear}
-use Rattle.nio_event.specs.State.{State}
+use Rattle.nio_event.specs.OwnEvents.{OwnClaim, has, last, under, since_entered, since_taken, stage_found, finds_unblocked, finds_below, own_claim, is_unpublished, is_clear}
+use Rattle.nio_event.specs.Sets.{in_cancelled_set}
+use Rattle.nio_event.specs.State.{State, last_serial}
 use Rattle.nio_event.specs.declared.act.Act.{Act}
-use Rattle.nio_event.specs.declared.act.Act.TheVariants.{DrawBit, MakeSelector, LookSelectors, Wake, LookGate, SetInterrupt, TakeInterrupt, LookInterrupt, LookKey, CancelKey, LookInterest, SwapInterest, OrInterest, AndInterest, SwapNote, LookNote, MakeChannel, LookChannel, Claim, RaiseKeys, LookKeys, Publish, LookReg, Enrol, TakeTurn, BeginLook, GiveTurn, Remove, LookMark, Mark, UnselectBit, EndWake, LookChannels, RaiseChannels, TryHoldBit, Release, SetMode, CloseBit, ShutBit, Enter}
+use Rattle.nio_event.specs.declared.act.Act.TheVariants.{DrawBit, MakeSelector, LookSelectors, Wake, LookGate, SetInterrupt, TakeInterrupt, LookInterrupt, LookKey, CancelKey, LookInterest, SwapInterest, OrInterest, AndInterest, SwapNote, LookNote, MakeChannel, LookChannel, Claim, RaiseKeys, LookKeys, Publish, LookReg, Enrol, TakeTurn, BeginLook, GiveTurn, Remove, LookMark, Mark, UnselectBit, EndWake, LookChannels, RaiseChannels, TryHoldBit, Release, SetMode, CloseBit, ShutBit, Enter, Pin, Unpin, ClearMark, ClaimAgain, LookFree, PutFree, TakeFree}
 
 -- ---- the numbers: below the limit, whether there is such a thing or not
 
@@ -73,13 +76,27 @@ is_closer st me s = is_held_by me (st.closer s.0)
 abbrev pub has_entered : State → CallerNo → SelNo → Bool
 has_entered st me s = is_closer st me s && st.entered s.0
 
--- the channel that the index was claimed for
-abbrev pub channel_of : State → SelNo → ℕ → ChanNo
-channel_of st s i = (st.key s.0 i).chan
+-- `me` has a pin on the index
+abbrev pub has_pin : State → CallerNo → SelNo → ℕ → Bool
+has_pin st me s i = st.pinned s.0 i me.0
 
--- a selecting caller removes a key that is published and cancelled
+-- `me` took the index when it was free, and neither put it back nor claimed it since
+abbrev pub has_taken : State → CallerNo → SelNo → ℕ → Bool
+has_taken st me s i = is_held_by me (st.taker s.0 i)
+
+-- a selecting caller removes a key of the cancelled set
 abbrev pub may_sweep : State → CallerNo → SelNo → ℕ → Bool
-may_sweep st me s i = has_begun st me s && (st.key s.0 i).published && (st.key s.0 i).cancelled
+may_sweep st me s i = has_begun st me s && in_cancelled_set (st.key s.0 i)
+
+-- a selecting caller puts an index whose key its selection removed
+abbrev pub may_put_dropped : State → CallerNo → SelNo → ℕ → Bool
+may_put_dropped st me s i = has_begun st me s && st.dropped s.0 i
+
+-- `me` holds the channel of its claim, and found it non-blocking under this hold
+abbrev pub may_publish : State → List Act → CallerNo → Option OwnClaim → Bool
+may_publish st own me None = false
+may_publish st own me (Some claim) =
+    holds st me claim.channel && has (finds_unblocked claim.channel.0) (under claim.channel.0 own)
 
 -- a closer that has entered removes an index that it found below the mark since
 abbrev pub may_clear_out : State → List Act → CallerNo → SelNo → ℕ → Bool
@@ -100,14 +117,20 @@ Condition l own st me (SetInterrupt n found) = IsCaller l n
 Condition l own st me (TakeInterrupt found) = ⊤
 Condition l own st me (LookInterrupt found) = ⊤
 Condition l own st me (LookKey s i found) = IsKey l s i
--- i is claimed
-Condition l own st me (CancelKey s i found) = IsKey l s i × IsTrue (is_claimed st s i)
-Condition l own st me (LookInterest s i found) = IsKey l s i
-Condition l own st me (SwapInterest s i ops found) = IsKey l s i
-Condition l own st me (OrInterest s i ops found) = IsKey l s i
-Condition l own st me (AndInterest s i ops found) = IsKey l s i
-Condition l own st me (SwapNote s i att found) = IsKey l s i
-Condition l own st me (LookNote s i found) = IsKey l s i
+-- i is claimed; the caller has a pin on it
+Condition l own st me (CancelKey s i found) = IsKey l s i × IsTrue (is_claimed st s i) × IsTrue (has_pin st me s i)
+-- the caller has a pin on i, or has begun on s
+Condition l own st me (LookInterest s i found) = IsKey l s i × IsTrue (has_pin st me s i || has_begun st me s)
+-- the caller has a pin on i
+Condition l own st me (SwapInterest s i ops found) = IsKey l s i × IsTrue (has_pin st me s i)
+-- the caller has a pin on i
+Condition l own st me (OrInterest s i ops found) = IsKey l s i × IsTrue (has_pin st me s i)
+-- the caller has a pin on i
+Condition l own st me (AndInterest s i ops found) = IsKey l s i × IsTrue (has_pin st me s i)
+-- the caller has a pin on i
+Condition l own st me (SwapNote s i att found) = IsKey l s i × IsTrue (has_pin st me s i)
+-- the caller has a pin on i
+Condition l own st me (LookNote s i found) = IsKey l s i × IsTrue (has_pin st me s i)
 -- all channels below c are made
 Condition l own st me (MakeChannel c kind found) = IsChannel l c × AllMade st c.0
 Condition l own st me (LookChannel c found) = IsChannel l c
@@ -116,27 +139,29 @@ Condition l own st me (Claim s i c found) = IsKey l s i × IsChannel l c × IsTr
 -- all indexes below n are claimed
 Condition l own st me (RaiseKeys s n found) = IsSelector l s × (n ≤ l.keys) × AllClaimed st s n
 Condition l own st me (LookKeys s found) = IsSelector l s
--- the caller claimed i and holds its channel, which it found non-blocking under this hold
-Condition l own st me (Publish s i found) =
-    let c = channel_of st s i in
-    IsKey l s i × IsTrue (is_some (last (claimed_for s.0 i) own)) × IsTrue (holds st me c) × IsTrue (has (finds_unblocked c.0) (under c.0 own))
+-- the caller claimed i and still has the pin of that claim; it holds the channel that it claimed i for, which
+-- it found non-blocking under this hold
+Condition l own st me (Publish s i found) = IsKey l s i × IsTrue (may_publish st own me (own_claim s.0 i own))
 Condition l own st me (LookReg c s found) = IsChannel l c × IsSelector l s
--- the caller claimed i for c and holds c; the key that was noted till now, if any, it found outside
--- the key set
-Condition l own st me (Enrol c s i found) =
-    IsChannel l c × IsKey l s i × (last (claimed_for s.0 i) own ≡ Some c) × IsTrue (holds st me c) × IsTrue (is_clear c.0 s.0 own)
+-- the caller claimed i for c with this serial, still has the pin of that claim, and holds c; the key that was
+-- noted till now, if any, it found outside the key set
+Condition l own st me (Enrol c s i serial found) =
+    IsChannel l c × IsKey l s i × (own_claim s.0 i own ≡ Some (record { channel = c; serial = serial })) × IsTrue (holds st me c)
+    × IsTrue (is_clear c.0 s.0 own)
 Condition l own st me (TakeTurn s found) = IsSelector l s
 -- the caller has the turn
 Condition l own st me (BeginLook s found) = IsSelector l s × IsTrue (has_turn st me s)
 -- the caller has the turn
 Condition l own st me (GiveTurn s) = IsSelector l s × IsTrue (has_turn st me s)
--- either the caller has begun on s and the key is published and cancelled, or it has entered s and
--- found i below its mark
+-- either the caller has begun on s and the key is in the cancelled set, or it has entered s and found i below
+-- its mark
 Condition l own st me (Remove s i found) = IsKey l s i × IsTrue (may_sweep st me s i || may_clear_out st own me s i)
-Condition l own st me (LookMark s i found) = IsKey l s i
+-- the caller has a pin on i, or has begun on s
+Condition l own st me (LookMark s i found) = IsKey l s i × IsTrue (has_pin st me s i || has_begun st me s)
 -- the caller has begun on s; what is told isn't empty
 Condition l own st me (Mark s i from told found) = IsKey l s i × IsTrue (has_begun st me s) × IsTrue (not (told == 0))
-Condition l own st me (UnselectBit s i found) = IsKey l s i
+-- the caller has a pin on i
+Condition l own st me (UnselectBit s i found) = IsKey l s i × IsTrue (has_pin st me s i)
 -- the caller has begun on s
 Condition l own st me (EndWake s found) = IsSelector l s × IsTrue (has_begun st me s)
 Condition l own st me (LookChannels found) = ⊤
@@ -155,3 +180,19 @@ Condition l own st me (CloseBit c found) = IsChannel l c × IsTrue (is_made st c
 Condition l own st me (ShutBit s found) = IsSelector l s
 -- the caller is the closer
 Condition l own st me (Enter s found) = IsSelector l s × IsTrue (is_closer st me s)
+-- i is claimed; the caller has no pin on it
+Condition l own st me (Pin s i found) = IsKey l s i × IsTrue (is_claimed st s i) × IsTrue (not (has_pin st me s i))
+-- the caller has a pin on i
+Condition l own st me (Unpin s i) = IsKey l s i × IsTrue (has_pin st me s i)
+-- the caller claimed i, and hasn't published the key since
+Condition l own st me (ClearMark s i found) = IsKey l s i × IsTrue (is_unpublished s.0 i own)
+-- the caller holds c and has taken i; `from` is what it found of i since it took it, with a serial below the
+-- last
+Condition l own st me (ClaimAgain s i c from found) =
+    IsKey l s i × IsChannel l c × IsTrue (holds st me c) × IsTrue (has_taken st me s i) × (last (stage_found s.0 i) (since_taken s.0 i own) ≡ Some from)
+    × (from.serial < last_serial)
+-- there are indexes in these 64
+Condition l own st me (LookFree s j found) = IsSelector l s × (64 * j < l.keys)
+-- the caller has taken i; or it has begun on s, and its selection removed the key of i and hasn't put i yet
+Condition l own st me (PutFree s i) = IsKey l s i × IsTrue (has_taken st me s i || may_put_dropped st me s i)
+Condition l own st me (TakeFree s i found) = IsKey l s i

@@ -1,15 +1,16 @@
--- Facts of the state that last: those that nobody's act ends, and those of a caller that only its
--- own acts end.
+-- Facts of the state that last: those that are permanent, and those of a caller that only its own acts
+-- end.
 use Rattle.std.specs.Prelude.{ℕ, nat_lt, Bool}
 use Rattle.nio_base.specs.declared.numbers.CallerNo.{CallerNo}
 use Rattle.nio_base.specs.declared.numbers.ChanNo.{ChanNo}
 use Rattle.nio_base.specs.declared.numbers.SelNo.{SelNo}
-use Rattle.nio_event.specs.Conditions.{holds, has_turn, has_begun, is_closer}
-use Rattle.nio_event.specs.OwnEvents.{gives_turn, releases}
+use Rattle.nio_event.specs.Conditions.{holds, has_turn, has_begun, is_closer, has_pin, has_taken}
+use Rattle.nio_event.specs.OwnEvents.{gives_turn, releases, unpins, gives_index}
+use Rattle.nio_event.specs.Sets.{was_claimed, was_published, was_cancelled, was_removed}
 use Rattle.nio_event.specs.State.{State}
 use Rattle.nio_event.specs.declared.act.Act.{Act}
 
--- what never goes back
+-- what is permanent. A key is named by its selector, its index and its serial
 pub data LastingFact : Type 0 where
   caller_drawn : ℕ → LastingFact
   selector_made : ℕ → LastingFact
@@ -18,10 +19,11 @@ pub data LastingFact : Type 0 where
   selector_entered : ℕ → LastingFact
   channel_made : ℕ → LastingFact
   channel_closed : ℕ → LastingFact
-  key_claimed : ℕ → ℕ → LastingFact
-  key_published : ℕ → ℕ → LastingFact
-  key_cancelled : ℕ → ℕ → LastingFact
-  key_removed : ℕ → ℕ → LastingFact
+  index_claimed : ℕ → ℕ → LastingFact
+  key_claimed : ℕ → ℕ → ℕ → LastingFact
+  key_published : ℕ → ℕ → ℕ → LastingFact
+  key_cancelled : ℕ → ℕ → ℕ → LastingFact
+  key_removed : ℕ → ℕ → ℕ → LastingFact
   below_keys_mark : ℕ → ℕ → LastingFact
   below_channels_mark : ℕ → LastingFact
 
@@ -33,10 +35,11 @@ stands (selector_closed_by s n) st = is_closer st n s
 stands (selector_entered s) st = st.entered s
 stands (channel_made c) st = (st.chan c).made
 stands (channel_closed c) st = (st.chan c).closed
-stands (key_claimed s i) st = (st.key s i).claimed
-stands (key_published s i) st = (st.key s i).published
-stands (key_cancelled s i) st = (st.key s i).cancelled
-stands (key_removed s i) st = (st.key s i).removed
+stands (index_claimed s i) st = (st.key s i).claimed
+stands (key_claimed s i serial) st = was_claimed (st.key s i) serial
+stands (key_published s i serial) st = was_published (st.key s i) serial
+stands (key_cancelled s i serial) st = was_cancelled (st.key s i) serial
+stands (key_removed s i serial) st = was_removed (st.key s i) serial
 stands (below_keys_mark s i) st = nat_lt i (st.keys_mark s)
 stands (below_channels_mark c) st = nat_lt c st.channels_mark
 
@@ -45,14 +48,20 @@ pub data OwnFact : Type 0 where
   the_turn : SelNo → OwnFact
   a_selection : SelNo → OwnFact
   the_hold : ChanNo → OwnFact
+  a_pin : SelNo → ℕ → OwnFact
+  a_taken_index : SelNo → ℕ → OwnFact
 
 abbrev pub is_had_by : CallerNo → OwnFact → State → Bool
 is_had_by n (the_turn s) st = has_turn st n s
 is_had_by n (a_selection s) st = has_begun st n s
 is_had_by n (the_hold c) st = holds st n c
+is_had_by n (a_pin s i) st = has_pin st n s i
+is_had_by n (a_taken_index s i) st = has_taken st n s i
 
 -- the act by which it gives that back
 abbrev pub gives_back : OwnFact → Act → Bool
 gives_back (the_turn s) act = gives_turn s.0 act
 gives_back (a_selection s) act = gives_turn s.0 act
 gives_back (the_hold c) act = releases c.0 act
+gives_back (a_pin s i) act = unpins s.0 i act
+gives_back (a_taken_index s i) act = gives_index s.0 i act

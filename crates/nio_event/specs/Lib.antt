@@ -11,6 +11,7 @@ pub mod Sound
 pub mod Staying
 pub mod OneProof
 pub mod Turns
+pub mod Pins
 pub mod Worked
 pub mod Words
 pub mod Calls

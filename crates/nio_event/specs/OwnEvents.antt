@@ -1,13 +1,15 @@
 -- What a caller knows from its own acts: general words over the list of its acts, oldest first, and
 -- small tests of one act. What is "found" is what a look found; of the key that is noted for a channel
 -- a caller knows too what it noted itself.
-use Rattle.std.specs.Prelude.{ℕ, ◌==◌, nat_lt, Bool, true, false, not, ◌&&◌, if◌then◌else◌, Option, Some, None, List, [], ◌∷◌, ◌++◌, fold, count_by}
+use Rattle.std.specs.Prelude.{ℕ, suc, ◌==◌, nat_lt, Bool, true, false, not, ◌&&◌, if◌then◌else◌, Option, Some, None, List, [], ◌∷◌, ◌++◌, fold, count_by}
 use Rattle.std.specs.List.{list_any}
 use Rattle.std.specs.Option.{option_or}
 use Rattle.nio_base.specs.declared.numbers.ChanNo.{ChanNo}
-use Rattle.nio_event.specs.Sets.{in_key_set}
+use Rattle.nio_base.specs.declared.numbers.KeyId.{KeyId}
+use Rattle.nio_event.specs.Sets.{is_in_key_set}
 use Rattle.nio_event.specs.declared.act.Act.{Act}
-use Rattle.nio_event.specs.declared.act.Act.TheVariants.{LookKey, LookChannel, Claim, LookKeys, LookReg, Enrol, GiveTurn, TryHoldBit, Release, SetMode, Enter}
+use Rattle.nio_event.specs.declared.act.Act.TheVariants.{LookKey, LookChannel, Claim, LookKeys, LookReg, Enrol, GiveTurn, TryHoldBit, Release, SetMode, Enter, Publish, Pin, Unpin, ClaimAgain, PutFree, TakeFree}
+use Rattle.nio_event.specs.declared.found.Stage.{Stage}
 
 -- ---- general words
 
@@ -32,6 +34,11 @@ abbrev pub since_first : (Act → Bool) → List Act → List Act
 since_first opens [] = []
 since_first opens (act ∷ later) = if opens act then later else since_first opens later
 
+-- it is known, and so
+abbrev pub is_yes : Option Bool → Bool
+is_yes None = false
+is_yes (Some b) = b
+
 -- ---- spans
 
 -- it took the hold of channel c
@@ -52,6 +59,15 @@ enters s _ = false
 abbrev pub since_entered : ℕ → List Act → List Act
 since_entered s own = since_first (enters s) own
 
+-- it took index i of selector s out of the free ones
+abbrev pub takes_free : ℕ → ℕ → Act → Bool
+takes_free s i (TakeFree s' i' true) = (s'.0 == s) && (i' == i)
+takes_free s i _ = false
+
+-- what it did since it took the index last
+abbrev pub since_taken : ℕ → ℕ → List Act → List Act
+since_taken s i own = since_from (takes_free s i) own
+
 -- ---- tests of one act
 
 -- it found channel c in non-blocking mode
@@ -64,25 +80,29 @@ abbrev pub sets_mode : ℕ → Act → Bool
 sets_mode c (SetMode c' blocking found) = c'.0 == c
 sets_mode c _ = false
 
--- it found the key outside the key set: removed, or not published
-abbrev pub finds_outside : ℕ → ℕ → Act → Bool
-finds_outside s i (LookKey s' i' found) = (s'.0 == s) && (i' == i) && not (in_key_set found)
-finds_outside s i _ = false
+-- the stage that it found at index i of selector s
+abbrev pub stage_found : ℕ → ℕ → Act → Option Stage
+stage_found s i (LookKey s' i' found) = if (s'.0 == s) && (i' == i) then Some found else None
+stage_found s i (Pin s' i' found) = if (s'.0 == s) && (i' == i) then Some found else None
+stage_found s i _ = None
+
+abbrev pub is_outside : ℕ → Option Stage → Bool
+is_outside serial None = false
+is_outside serial (Some found) = not (is_in_key_set found serial)
+
+-- it found the key outside the key set: removed, not published, or of another serial
+abbrev pub finds_outside : ℕ → KeyId → Act → Bool
+finds_outside s k act = is_outside k.serial (stage_found s k.index act)
 
 -- it found the keys' mark of selector s above index i
 abbrev pub finds_below : ℕ → ℕ → Act → Bool
 finds_below s i (LookKeys s' found) = (s'.0 == s) && nat_lt i found
 finds_below s i _ = false
 
--- the channel for which it claimed the key's index
-abbrev pub claimed_for : ℕ → ℕ → Act → Option ChanNo
-claimed_for s i (Claim s' i' c false) = if (s'.0 == s) && (i' == i) then Some c else None
-claimed_for s i _ = None
-
 -- which key it found noted for channel c in selector s, or noted there
-abbrev pub noted_found : ℕ → ℕ → Act → Option (Option ℕ)
+abbrev pub noted_found : ℕ → ℕ → Act → Option (Option KeyId)
 noted_found c s (LookReg c' s' found) = if (c'.0 == c) && (s'.0 == s) then Some found else None
-noted_found c s (Enrol c' s' i _) = if (c'.0 == c) && (s'.0 == s) then Some (Some i) else None
+noted_found c s (Enrol c' s' i serial _) = if (c'.0 == c) && (s'.0 == s) then Some (Some (record { index = i; serial = serial })) else None
 noted_found c s _ = None
 
 -- it gave back the turn of selector s
@@ -95,14 +115,60 @@ abbrev pub releases : ℕ → Act → Bool
 releases c (Release c') = c'.0 == c
 releases c _ = false
 
+-- it took its pin off index i of selector s
+abbrev pub unpins : ℕ → ℕ → Act → Bool
+unpins s i (Unpin s' i') = (s'.0 == s) && (i' == i)
+unpins s i _ = false
+
+-- it put index i of selector s among the free ones, or claimed it again
+abbrev pub gives_index : ℕ → ℕ → Act → Bool
+gives_index s i (PutFree s' i') = (s'.0 == s) && (i' == i)
+gives_index s i (ClaimAgain s' i' c from false) = (s'.0 == s) && (i' == i)
+gives_index s i _ = false
+
+-- ---- its claim of an index
+
+-- a claim of an index: for which channel, and with which serial
+pub record OwnClaim : Type 0 where
+  pub channel : ChanNo
+  pub serial : ℕ
+
+-- what an act does to the caller's claim of index i: it makes one, or it takes the pin off, and then there
+-- is none
+abbrev pub claim_changed : ℕ → ℕ → Act → Option (Option OwnClaim)
+claim_changed s i (Claim s' i' c false) = if (s'.0 == s) && (i' == i) then Some (Some (record { channel = c; serial = 0 })) else None
+claim_changed s i (ClaimAgain s' i' c from false) =
+    if (s'.0 == s) && (i' == i) then Some (Some (record { channel = c; serial = suc from.serial })) else None
+claim_changed s i (Unpin s' i') = if (s'.0 == s) && (i' == i) then Some None else None
+claim_changed s i _ = None
+
+abbrev pub or_none : {A : Type 0} → Option (Option A) → Option A
+or_none None = None
+or_none (Some x) = x
+
+-- its claim of index i of selector s, while it still has the pin of that claim
+abbrev pub own_claim : ℕ → ℕ → List Act → Option OwnClaim
+own_claim s i own = or_none (last (claim_changed s i) own)
+
+-- whether an act claims index i, or publishes its key
+abbrev pub leaves_unpublished : ℕ → ℕ → Act → Option Bool
+leaves_unpublished s i (Claim s' i' c false) = if (s'.0 == s) && (i' == i) then Some true else None
+leaves_unpublished s i (ClaimAgain s' i' c from false) = if (s'.0 == s) && (i' == i) then Some true else None
+leaves_unpublished s i (Publish s' i' found) = if (s'.0 == s) && (i' == i) then Some false else None
+leaves_unpublished s i _ = None
+
+-- it claimed index i, and hasn't published the key since
+abbrev pub is_unpublished : ℕ → ℕ → List Act → Bool
+is_unpublished s i own = is_yes (last (leaves_unpublished s i) own)
+
 -- ---- a channel's noted key
 
 -- by what it did under its hold, none was noted, or the key that was it found outside the key set. A
 -- key that it found not published it might publish itself after that look: no call does
-abbrev pub is_clear_by : ℕ → List Act → Option (Option ℕ) → Bool
+abbrev pub is_clear_by : ℕ → List Act → Option (Option KeyId) → Bool
 is_clear_by s held None = false
 is_clear_by s held (Some None) = true
-is_clear_by s held (Some (Some i)) = has (finds_outside s i) held
+is_clear_by s held (Some (Some k)) = has (finds_outside s k) held
 
 -- the same of channel c in selector s, under its present hold of c
 abbrev pub is_clear : ℕ → ℕ → List Act → Bool

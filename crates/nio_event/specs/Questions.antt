@@ -4,9 +4,10 @@ use Rattle.std.specs.Prelude.{ℕ, Bool, Option, Result}
 use Rattle.nio_base.specs.declared.kind.Kind.{Kind}
 use Rattle.nio_base.specs.declared.numbers.CallerNo.{CallerNo}
 use Rattle.nio_base.specs.declared.numbers.ChanNo.{ChanNo}
+use Rattle.nio_base.specs.declared.numbers.KeyId.{KeyId}
 use Rattle.nio_base.specs.declared.numbers.SelNo.{SelNo}
 use Rattle.nio_event.specs.declared.act.Act.{Act}
-use Rattle.nio_event.specs.declared.act.Act.TheVariants.{DrawBit, MakeSelector, LookSelectors, Wake, LookGate, SetInterrupt, TakeInterrupt, LookInterrupt, LookKey, CancelKey, LookInterest, SwapInterest, OrInterest, AndInterest, SwapNote, LookNote, MakeChannel, LookChannel, Claim, RaiseKeys, LookKeys, Publish, LookReg, Enrol, TakeTurn, BeginLook, GiveTurn, Remove, LookMark, Mark, UnselectBit, EndWake, LookChannels, RaiseChannels, TryHoldBit, Release, SetMode, CloseBit, ShutBit, Enter}
+use Rattle.nio_event.specs.declared.act.Act.TheVariants.{DrawBit, MakeSelector, LookSelectors, Wake, LookGate, SetInterrupt, TakeInterrupt, LookInterrupt, LookKey, CancelKey, LookInterest, SwapInterest, OrInterest, AndInterest, SwapNote, LookNote, MakeChannel, LookChannel, Claim, RaiseKeys, LookKeys, Publish, LookReg, Enrol, TakeTurn, BeginLook, GiveTurn, Remove, LookMark, Mark, UnselectBit, EndWake, LookChannels, RaiseChannels, TryHoldBit, Release, SetMode, CloseBit, ShutBit, Enter, Pin, Unpin, ClearMark, ClaimAgain, LookFree, PutFree, TakeFree}
 use Rattle.nio_event.specs.declared.found.Chan.{Chan}
 use Rattle.nio_event.specs.declared.found.GateWord.{GateWord}
 use Rattle.nio_event.specs.declared.found.Mark.{Mark as KeyMark}
@@ -37,7 +38,7 @@ pub data Question : Type 0 where
   look_keys : SelNo → Question
   publish : SelNo → ℕ → Question
   look_reg : ChanNo → SelNo → Question
-  enrol : ChanNo → SelNo → ℕ → Question
+  enrol : ChanNo → SelNo → ℕ → ℕ → Question
   take_turn : SelNo → Question
   begin_look : SelNo → Question
   give_turn : SelNo → Question
@@ -54,6 +55,13 @@ pub data Question : Type 0 where
   close_bit : ChanNo → Question
   shut_bit : SelNo → Question
   enter : SelNo → Question
+  pin : SelNo → ℕ → Question
+  unpin : SelNo → ℕ → Question
+  clear_mark : SelNo → ℕ → Question
+  claim_again : SelNo → ℕ → ChanNo → Stage → Question
+  look_free : SelNo → ℕ → Question
+  put_free : SelNo → ℕ → Question
+  take_free : SelNo → ℕ → Question
 
 -- what a step finds: one constructor for each type of answer
 pub data Answer : Type 0 where
@@ -64,7 +72,7 @@ pub data Answer : Type 0 where
   operations : ℕ → Answer
   channel : Chan → Answer
   number : ℕ → Answer
-  key_index : Option ℕ → Answer
+  noted_key : Option KeyId → Answer
   holder : Option CallerNo → Answer
   key_mark : KeyMark → Answer
   exchange : Result (Unit {0}) KeyMark → Answer
@@ -96,7 +104,7 @@ question_of (RaiseKeys s n found) = raise_keys s n
 question_of (LookKeys s found) = look_keys s
 question_of (Publish s i found) = publish s i
 question_of (LookReg c s found) = look_reg c s
-question_of (Enrol c s i found) = enrol c s i
+question_of (Enrol c s i serial found) = enrol c s i serial
 question_of (TakeTurn s found) = take_turn s
 question_of (BeginLook s found) = begin_look s
 question_of (GiveTurn s) = give_turn s
@@ -113,6 +121,13 @@ question_of (SetMode c blocking found) = set_mode c blocking
 question_of (CloseBit c found) = close_bit c
 question_of (ShutBit s found) = shut_bit s
 question_of (Enter s found) = enter s
+question_of (Pin s i found) = pin s i
+question_of (Unpin s i) = unpin s i
+question_of (ClearMark s i found) = clear_mark s i
+question_of (ClaimAgain s i c from found) = claim_again s i c from
+question_of (LookFree s j found) = look_free s j
+question_of (PutFree s i) = put_free s i
+question_of (TakeFree s i found) = take_free s i
 
 -- what a step found
 abbrev pub answer_of : Act → Answer
@@ -138,8 +153,8 @@ answer_of (Claim s i c found) = flag found
 answer_of (RaiseKeys s n found) = number found
 answer_of (LookKeys s found) = number found
 answer_of (Publish s i found) = stage found
-answer_of (LookReg c s found) = key_index found
-answer_of (Enrol c s i found) = key_index found
+answer_of (LookReg c s found) = noted_key found
+answer_of (Enrol c s i serial found) = noted_key found
 answer_of (TakeTurn s found) = holder found
 answer_of (BeginLook s found) = gate_word found
 answer_of (GiveTurn s) = nothing
@@ -156,3 +171,10 @@ answer_of (SetMode c blocking found) = channel found
 answer_of (CloseBit c found) = flag found
 answer_of (ShutBit s found) = flag found
 answer_of (Enter s found) = holder found
+answer_of (Pin s i found) = stage found
+answer_of (Unpin s i) = nothing
+answer_of (ClearMark s i found) = key_mark found
+answer_of (ClaimAgain s i c from found) = flag found
+answer_of (LookFree s j found) = word found
+answer_of (PutFree s i) = nothing
+answer_of (TakeFree s i found) = flag found

@@ -1,9 +1,10 @@
 -- What holds of the state after every legal history.
-use Rattle.std.specs.Prelude.{◌≡◌, ℕ, ◌<◌, ◌≤◌, IsTrue, IsFalse, is_some}
+use Rattle.std.specs.Prelude.{◌≡◌, ℕ, ◌<◌, ◌≤◌, IsTrue, IsFalse, Option, None, is_some}
 use Rattle.std.specs.Option.{ForSome}
 use Rattle.nio_base.specs.declared.limits.Limits.{Limits}
 use Rattle.nio_event.specs.Conditions.{IsCaller, IsChannel}
-use Rattle.nio_event.specs.State.{State, unmade_channel, unclaimed}
+use Rattle.nio_event.specs.Sets.{can_come_back}
+use Rattle.nio_event.specs.State.{State, unmade_channel, unclaimed, last_serial}
 
 pub record IsSound (st : State) : Type 0 where
   -- every channel below the channels' mark is made
@@ -21,6 +22,19 @@ pub record IsSound (st : State) : Type 0 where
   -- where a selection has begun somebody has the turn, and no closer has entered
   pub begun_turn : (s : ℕ) → IsTrue (st.begun s) → IsTrue (is_some (st.turn s))
   pub begun_open : (s : ℕ) → IsTrue (st.begun s) → IsFalse (st.entered s)
+  -- an index that isn't claimed has no pin
+  pub unclaimed_unpinned : (s i n : ℕ) → IsFalse (st.key s i).claimed → IsFalse (st.pinned s i n)
+  -- an index that is free, that a caller has taken, or that the selection in progress dropped, is in no set:
+  -- its key was published, cancelled and removed, and there is a next serial
+  pub free_back : (s i : ℕ) → IsTrue (st.free s i) → IsTrue (can_come_back (st.key s i))
+  pub taken_back : (s i : ℕ) → IsTrue (is_some (st.taker s i)) → IsTrue (can_come_back (st.key s i))
+  pub dropped_back : (s i : ℕ) → IsTrue (st.dropped s i) → IsTrue (can_come_back (st.key s i))
+  -- it is only one of the three, and nobody has a free index
+  pub free_untaken : (s i : ℕ) → IsTrue (st.free s i) → st.taker s i ≡ None
+  pub free_undropped : (s i : ℕ) → IsTrue (st.free s i) → IsFalse (st.dropped s i)
+  pub taken_undropped : (s i : ℕ) → IsTrue (is_some (st.taker s i)) → IsFalse (st.dropped s i)
+  -- an index is dropped while the selection that dropped it is in progress
+  pub dropped_begun : (s i : ℕ) → IsTrue (st.dropped s i) → IsTrue (st.begun s)
 
 -- every number that the state speaks of is within the limits
 pub record IsWithin (l : Limits) (st : State) : Type 0 where
@@ -36,4 +50,9 @@ pub record IsWithin (l : Limits) (st : State) : Type 0 where
   pub holds : (c : ℕ) → ForSome (st.hold c) (IsCaller l)
   pub turns : (s : ℕ) → ForSome (st.turn s) (IsCaller l)
   pub closers : (s : ℕ) → ForSome (st.closer s) (IsCaller l)
-  pub noted : (c s : ℕ) → ForSome (st.noted c s) (λ i. i < l.keys)
+  pub noted : (c s : ℕ) → ForSome (st.noted c s) (λ k. (k.index < l.keys) × (k.serial ≤ last_serial))
+  -- serials
+  pub serials : (s i : ℕ) → (st.key s i).serial ≤ last_serial
+  -- who has a pin, or has taken an index
+  pub pins : (s i n : ℕ) → IsTrue (st.pinned s i n) → n < l.callers
+  pub takers : (s i : ℕ) → ForSome (st.taker s i) (IsCaller l)

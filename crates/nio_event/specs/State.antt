@@ -7,6 +7,7 @@
 use Rattle.std.specs.Prelude.{ℕ, ◌==◌, Bool, false, ◌&&◌, if◌then◌else◌, Option, None}
 use Rattle.nio_base.specs.declared.kind.Kind.TheVariants.{Stream}
 use Rattle.nio_base.specs.declared.numbers.CallerNo.{CallerNo}
+use Rattle.nio_base.specs.declared.numbers.KeyId.{KeyId}
 use Rattle.nio_event.specs.declared.found.Chan.{Chan}
 use Rattle.nio_event.specs.declared.found.GateWord.{GateWord}
 use Rattle.nio_event.specs.declared.found.Mark.{Mark}
@@ -23,24 +24,33 @@ pub record State : Type 0 where
   -- a channel, and the caller that holds it while it registers it or sets its mode
   pub chan : ℕ → Chan
   pub hold : ℕ → Option CallerNo
-  -- the key that is noted for a channel in a selector
-  pub noted : ℕ → ℕ → Option ℕ
-  -- a selector: its gate, the caller that selects on it, and the mark below which every index of
-  -- a key is claimed
+  -- the key that is noted for a channel in a selector, by the channel and the selector
+  pub noted : ℕ → ℕ → Option KeyId
+  -- a selector: its gate, the caller that selects on it, and the mark below which every index was
+  -- claimed
   pub gate : ℕ → GateWord
   pub turn : ℕ → Option CallerNo
   pub keys_mark : ℕ → ℕ
-  -- a key, by its selector and its index: its stage, interest set, mark and attachment
+  -- an index, by its selector and its number: the stage of its key, and the key's interest set, mark
+  -- and attachment
   pub key : ℕ → ℕ → Stage
   pub interest : ℕ → ℕ → ℕ
   pub mark : ℕ → ℕ → Mark
   pub note : ℕ → ℕ → ℕ
-  -- three facts that stand in no word of a table: whether the selecting caller found the gate not
+  -- which callers have a pin on an index, by its selector, its number and the caller's
+  pub pinned : ℕ → ℕ → ℕ → Bool
+  -- whether an index is free: it can be given to a new key
+  pub free : ℕ → ℕ → Bool
+  -- What stands in no word of a table. Of a selector: whether the selecting caller found the gate not
   -- shut after it took its turn, the caller whose step shut the selector, and whether that caller
-  -- found the turn free after that
+  -- found the turn free after that.
   pub begun : ℕ → Bool
   pub closer : ℕ → Option CallerNo
   pub entered : ℕ → Bool
+  -- Of an index: the caller that took it when it was free, and neither put it back nor claimed it
+  -- since; and whether the selection in progress removed its key, and didn't put the index yet.
+  pub taker : ℕ → ℕ → Option CallerNo
+  pub dropped : ℕ → ℕ → Bool
 
 -- what isn't there yet
 
@@ -52,10 +62,14 @@ open_gate = record { woken = false; shut = false }
 
 abbrev pub unclaimed : Stage
 unclaimed =
-    record { claimed = false; published = false; cancelled = false; removed = false; chan = record { 0 = 0 } }
+    record { claimed = false; published = false; cancelled = false; removed = false; chan = record { 0 = 0 }; serial = 0 }
 
 abbrev pub unmarked : Mark
 unmarked = record { selected = false; ready = 0 }
+
+-- the last serial that a key can have: its index doesn't become free
+abbrev pub last_serial : ℕ
+last_serial = 4294967295
 
 -- the opening state: nothing is drawn, made, shut, claimed or interrupted
 abbrev pub opening : State
@@ -74,9 +88,13 @@ opening = record {
   interest = λ _ _. 0;
   mark = λ _ _. unmarked;
   note = λ _ _. 0;
+  pinned = λ _ _ _. false;
+  free = λ _ _. false;
   begun = λ _. false;
   closer = λ _. None;
   entered = λ _. false;
+  taker = λ _ _. None;
+  dropped = λ _ _. false;
 }
 
 -- a function that is changed at one number, or at one pair of numbers
@@ -107,7 +125,7 @@ with_chan st c x = record st { chan = put st.chan c x }
 abbrev pub with_hold : State → ℕ → Option CallerNo → State
 with_hold st c x = record st { hold = put st.hold c x }
 
-abbrev pub with_noted : State → ℕ → ℕ → Option ℕ → State
+abbrev pub with_noted : State → ℕ → ℕ → Option KeyId → State
 with_noted st c s x = record st { noted = put_at st.noted c s x }
 
 abbrev pub with_gate : State → ℕ → GateWord → State
@@ -131,6 +149,12 @@ with_mark st s i x = record st { mark = put_at st.mark s i x }
 abbrev pub with_note : State → ℕ → ℕ → ℕ → State
 with_note st s i x = record st { note = put_at st.note s i x }
 
+abbrev pub with_pin : State → ℕ → ℕ → ℕ → Bool → State
+with_pin st s i n x = record st { pinned = put_at st.pinned s i (put (st.pinned s i) n x) }
+
+abbrev pub with_free : State → ℕ → ℕ → Bool → State
+with_free st s i x = record st { free = put_at st.free s i x }
+
 abbrev pub with_begun : State → ℕ → Bool → State
 with_begun st s x = record st { begun = put st.begun s x }
 
@@ -139,3 +163,13 @@ with_closer st s x = record st { closer = put st.closer s x }
 
 abbrev pub with_entered : State → ℕ → Bool → State
 with_entered st s x = record st { entered = put st.entered s x }
+
+abbrev pub with_taker : State → ℕ → ℕ → Option CallerNo → State
+with_taker st s i x = record st { taker = put_at st.taker s i x }
+
+abbrev pub with_dropped : State → ℕ → ℕ → Bool → State
+with_dropped st s i x = record st { dropped = put_at st.dropped s i x }
+
+-- the selection on the selector is over, or a new one begins: it has dropped nothing
+abbrev pub with_none_dropped : State → ℕ → State
+with_none_dropped st s = record st { dropped = λ t i. if t == s then false else st.dropped t i }

@@ -1,5 +1,5 @@
--- Laws of legal histories: what never goes back doesn't, what a caller has stays its own, and so a
--- condition that is true where a caller's pass has seen a history stays true while others go on.
+-- Laws of legal histories: what is permanent stays, what a caller has stays its own, and so a condition
+-- that is true where a caller's pass has seen a history stays true while others go on.
 use Rattle.std.specs.Prelude.{◌≡◌, ℕ, IsTrue, IsFalse, List, ◌++◌}
 use mathlib.Core.List.{IsPrefix}
 use Rattle.nio_base.specs.declared.limits.Limits.{Limits}
@@ -8,7 +8,7 @@ use Rattle.nio_event.specs.Conditions.{Condition}
 use Rattle.nio_event.specs.Histories.{state_after, mine, IsLegal}
 use Rattle.nio_event.specs.Lasting.{LastingFact, stands, OwnFact, is_had_by, gives_back}
 use Rattle.nio_event.specs.OwnEvents.{has}
-use Rattle.nio_event.specs.Sets.{is_valid}
+use Rattle.nio_event.specs.Sets.{was_published, is_valid_key}
 use Rattle.nio_event.specs.Sound.{IsSound, IsWithin}
 use Rattle.nio_event.specs.declared.act.Act.{Act}
 use Rattle.nio_event.specs.declared.event.Event.{Event}
@@ -17,16 +17,16 @@ use Rattle.nio_event.specs.declared.event.Event.{Event}
 abbrev pub BeginningsAreLegal : Type 0
 BeginningsAreLegal = (l : Limits) (before after : List Event) → IsPrefix before after → IsLegal l after → IsLegal l before
 
--- what never goes back stands after every legal longer history
-abbrev pub NothingGoesBack : Type 0
-NothingGoesBack = (l : Limits) (before after : List Event) → IsPrefix before after → IsLegal l after
+-- what is permanent stands after every legal longer history
+abbrev pub FactsArePermanent : Type 0
+FactsArePermanent = (l : Limits) (before after : List Event) → IsPrefix before after → IsLegal l after
     → (f : LastingFact) → IsTrue (stands f (state_after before)) → IsTrue (stands f (state_after after))
 
--- a published key that isn't valid stays so
+-- a published key that isn't valid stays so, also where its index is given to a new key
 abbrev pub InvalidKeysStayInvalid : Type 0
 InvalidKeysStayInvalid = (l : Limits) (before after : List Event) → IsPrefix before after → IsLegal l after
-    → (s i : ℕ) → IsTrue ((state_after before).key s i).published
-    → IsFalse (is_valid ((state_after before).key s i)) → IsFalse (is_valid ((state_after after).key s i))
+    → (s i serial : ℕ) → IsTrue (was_published ((state_after before).key s i) serial)
+    → IsFalse (is_valid_key ((state_after before).key s i) serial) → IsFalse (is_valid_key ((state_after after).key s i) serial)
 
 -- what a caller has it has after every legal longer history in which it doesn't give it back itself,
 -- whatever others do

@@ -1,5 +1,5 @@
 -- Laws of turns and holds: each has one holder at a time, and only the holder of a turn selects.
-use Rattle.std.specs.Prelude.{◌≡◌, ℕ, ◌==◌, Bool, false, ◌||◌, IsTrue, IsFalse, None, List, [], ◌∷◌, ◌++◌}
+use Rattle.std.specs.Prelude.{◌≡◌, ℕ, ◌==◌, Bool, false, ◌&&◌, ◌||◌, IsTrue, IsFalse, None, List, [], ◌∷◌, ◌++◌}
 use Rattle.nio_base.specs.declared.limits.Limits.{Limits}
 use Rattle.nio_base.specs.declared.numbers.CallerNo.{CallerNo}
 use Rattle.nio_base.specs.declared.numbers.ChanNo.{ChanNo}
@@ -7,23 +7,65 @@ use Rattle.nio_base.specs.declared.numbers.SelNo.{SelNo}
 use Rattle.nio_event.specs.Conditions.{holds, has_begun, has_entered}
 use Rattle.nio_event.specs.Histories.{state_after, event_of, mine, IsLegal}
 use Rattle.nio_event.specs.OwnEvents.{has, under, finds_unblocked, sets_mode, gives_turn, releases}
-use Rattle.nio_event.specs.State.{State}
 use Rattle.nio_event.specs.declared.act.Act.{Act}
-use Rattle.nio_event.specs.declared.act.Act.TheVariants.{TakeTurn, BeginLook, Remove, Mark, EndWake, TryHoldBit}
+use Rattle.nio_event.specs.declared.act.Act.TheVariants.{DrawBit, MakeSelector, LookSelectors, Wake, LookGate, SetInterrupt, TakeInterrupt, LookInterrupt, LookKey, CancelKey, LookInterest, SwapInterest, OrInterest, AndInterest, SwapNote, LookNote, MakeChannel, LookChannel, Claim, RaiseKeys, LookKeys, Publish, LookReg, Enrol, TakeTurn, BeginLook, GiveTurn, Remove, LookMark, Mark, UnselectBit, EndWake, LookChannels, RaiseChannels, TryHoldBit, Release, SetMode, CloseBit, ShutBit, Enter, Pin, Unpin, ClearMark, ClaimAgain, LookFree, PutFree, TakeFree}
 use Rattle.nio_event.specs.declared.event.Event.{Event}
 use Rattle.nio_event.specs.declared.found.GateWord.{GateWord}
 
 -- what only the selecting caller does to selector s: it marks and removes keys and ends the wakeup
 abbrev pub selects_on : ℕ → Act → Bool
+selects_on s (DrawBit n found) = false
+selects_on s (MakeSelector s' found) = false
+selects_on s (LookSelectors found) = false
+selects_on s (Wake s' found) = false
+selects_on s (LookGate s' found) = false
+selects_on s (SetInterrupt n found) = false
+selects_on s (TakeInterrupt found) = false
+selects_on s (LookInterrupt found) = false
+selects_on s (LookKey s' i found) = false
+selects_on s (CancelKey s' i found) = false
+selects_on s (LookInterest s' i found) = false
+selects_on s (SwapInterest s' i ops found) = false
+selects_on s (OrInterest s' i ops found) = false
+selects_on s (AndInterest s' i ops found) = false
+selects_on s (SwapNote s' i att found) = false
+selects_on s (LookNote s' i found) = false
+selects_on s (MakeChannel c kind found) = false
+selects_on s (LookChannel c found) = false
+selects_on s (Claim s' i c found) = false
+selects_on s (RaiseKeys s' n found) = false
+selects_on s (LookKeys s' found) = false
+selects_on s (Publish s' i found) = false
+selects_on s (LookReg c s' found) = false
+selects_on s (Enrol c s' i serial found) = false
+selects_on s (TakeTurn s' found) = false
+selects_on s (BeginLook s' found) = false
+selects_on s (GiveTurn s') = false
 selects_on s (Remove s' i found) = s'.0 == s
+selects_on s (LookMark s' i found) = false
 selects_on s (Mark s' i from told found) = s'.0 == s
+selects_on s (UnselectBit s' i found) = false
 selects_on s (EndWake s' found) = s'.0 == s
-selects_on s _ = false
+selects_on s (LookChannels found) = false
+selects_on s (RaiseChannels n found) = false
+selects_on s (TryHoldBit c found) = false
+selects_on s (Release c) = false
+selects_on s (SetMode c blocking found) = false
+selects_on s (CloseBit c found) = false
+selects_on s (ShutBit s' found) = false
+selects_on s (Enter s' found) = false
+selects_on s (Pin s' i found) = false
+selects_on s (Unpin s' i) = false
+selects_on s (ClearMark s' i found) = false
+selects_on s (ClaimAgain s' i c from found) = false
+selects_on s (LookFree s' j found) = false
+selects_on s (PutFree s' i) = false
+selects_on s (TakeFree s' i found) = false
 
--- the caller has begun on the selector; to remove a key it may have entered it as its closer too
-abbrev pub may_select : State → CallerNo → SelNo → Act → Bool
-may_select st me s (Remove s' i found) = has_begun st me s || has_entered st me s
-may_select st me s act = has_begun st me s
+-- it removes a key of selector s
+abbrev pub removes_on : ℕ → Act → Bool
+removes_on s (Remove s' i found) = s'.0 == s
+removes_on s _ = false
 
 -- whoever took the turn of a selector gives it back before anybody takes it again
 abbrev pub TurnHasOneHolder : Type 0
@@ -57,4 +99,5 @@ OneSelectionAtATime = (l : Limits) (s : SelNo) (n : CallerNo) (found : GateWord)
 -- selector's closer once it has entered, removes a key
 abbrev pub OnlyWhoMaySelects : Type 0
 OnlyWhoMaySelects = (l : Limits) (s : SelNo) (past : List Event) (e : Event) (later : List Event) → IsLegal l (past ++ e ∷ later)
-    → IsTrue (selects_on s.0 e.act) → IsTrue (may_select (state_after past) e.caller s e.act)
+    → IsTrue (selects_on s.0 e.act)
+    → IsTrue (has_begun (state_after past) e.caller s || (removes_on s.0 e.act && has_entered (state_after past) e.caller s))

@@ -1,13 +1,14 @@
--- A worked history, in which each kind of step stands: two callers register a channel, select,
--- cancel its key in the middle of the selection, and close the channel and the selector.
+-- A worked history, in which each kind of step stands: two callers register a channel, select, cancel its
+-- key in the middle of the selection, give its index again, and close the channel and the selector.
 use Rattle.std.specs.Prelude.{ℕ, Bool, true, false, Some, None, Ok, Err, List, [], ◌∷◌, take, ⊤}
 use Rattle.nio_base.specs.declared.kind.Kind.TheVariants.{Source}
 use Rattle.nio_base.specs.declared.limits.Limits.{Limits}
 use Rattle.nio_base.specs.declared.numbers.CallerNo.{CallerNo}
 use Rattle.nio_base.specs.declared.numbers.ChanNo.{ChanNo}
+use Rattle.nio_base.specs.declared.numbers.KeyId.{KeyId}
 use Rattle.nio_base.specs.declared.numbers.SelNo.{SelNo}
 use Rattle.nio_event.specs.Histories.{event_of, IsStep, IsLegal}
-use Rattle.nio_event.specs.declared.act.Act.TheVariants.{DrawBit, MakeSelector, LookSelectors, Wake, LookGate, SetInterrupt, TakeInterrupt, LookInterrupt, LookKey, CancelKey, LookInterest, SwapInterest, OrInterest, AndInterest, SwapNote, LookNote, MakeChannel, LookChannel, Claim, RaiseKeys, LookKeys, Publish, LookReg, Enrol, TakeTurn, BeginLook, GiveTurn, Remove, LookMark, Mark, UnselectBit, EndWake, LookChannels, RaiseChannels, TryHoldBit, Release, SetMode, CloseBit, ShutBit, Enter}
+use Rattle.nio_event.specs.declared.act.Act.TheVariants.{DrawBit, MakeSelector, LookSelectors, Wake, LookGate, SetInterrupt, TakeInterrupt, LookInterrupt, LookKey, CancelKey, LookInterest, SwapInterest, OrInterest, AndInterest, SwapNote, LookNote, MakeChannel, LookChannel, Claim, RaiseKeys, LookKeys, Publish, LookReg, Enrol, TakeTurn, BeginLook, GiveTurn, Remove, LookMark, Mark, UnselectBit, EndWake, LookChannels, RaiseChannels, TryHoldBit, Release, SetMode, CloseBit, ShutBit, Enter, Pin, Unpin, ClearMark, ClaimAgain, LookFree, PutFree, TakeFree}
 use Rattle.nio_event.specs.declared.event.Event.{Event}
 use Rattle.nio_event.specs.declared.found.Chan.{Chan}
 use Rattle.nio_event.specs.declared.found.GateWord.{GateWord}
@@ -36,8 +37,18 @@ chan closed blocking = record { made = true; kind = Source; closed = closed; blo
 abbrev pub gate : Bool → Bool → GateWord
 gate woken shut = record { woken = woken; shut = shut }
 
-abbrev pub stage : Bool → Bool → Bool → Stage
-stage published cancelled removed = record { claimed = true; published = published; cancelled = cancelled; removed = removed; chan = c }
+abbrev pub stage : ℕ → Bool → Bool → Bool → Stage
+stage serial published cancelled removed = record {
+  claimed = true;
+  published = published;
+  cancelled = cancelled;
+  removed = removed;
+  chan = c;
+  serial = serial;
+}
+
+abbrev pub noted : ℕ → ℕ → KeyId
+noted index serial = record { index = index; serial = serial }
 
 abbrev pub mark : Bool → ℕ → KeyMark
 mark selected ready = record { selected = selected; ready = ready }
@@ -61,7 +72,7 @@ worked_history =
     event_of u (LookChannel c (chan false true)) ∷
     event_of u (SetMode c false (chan false true)) ∷
     event_of u (Release c) ∷
-    -- it registers the channel
+    -- it registers the channel: no index was claimed yet, so it claims index 0, which pins it
     event_of u (TryHoldBit c None) ∷
     event_of u (LookChannel c (chan false false)) ∷
     event_of u (LookReg c s None) ∷
@@ -72,25 +83,30 @@ worked_history =
     event_of u (LookGate s (gate false false)) ∷
     event_of u (SwapInterest s 0 1 0) ∷
     event_of u (SwapNote s 0 7 0) ∷
-    event_of u (Enrol c s 0 None) ∷
-    event_of u (Publish s 0 (stage false false false)) ∷
+    event_of u (Enrol c s 0 0 None) ∷
+    event_of u (Publish s 0 (stage 0 false false false)) ∷
     event_of u (LookChannel c (chan false false)) ∷
+    event_of u (Unpin s 0) ∷
     event_of u (Release c) ∷
-    -- it changes the interest set to and fro
+    -- under a pin it changes the interest set to and fro
+    event_of u (Pin s 0 (stage 0 true false false)) ∷
     event_of u (OrInterest s 0 4 1) ∷
     event_of u (AndInterest s 0 1 5) ∷
     event_of u (LookNote s 0 7) ∷
+    event_of u (Unpin s 0) ∷
     -- it begins a selection; caller 1 finds the turn taken
     event_of u (TakeTurn s None) ∷
     event_of v (TakeTurn s (Some u)) ∷
     event_of u (BeginLook s (gate false false)) ∷
     event_of u (LookKeys s 1) ∷
-    event_of u (LookKey s 0 (stage true false false)) ∷
+    event_of u (LookFree s 0 0) ∷
+    event_of u (LookKey s 0 (stage 0 true false false)) ∷
     event_of u (LookInterest s 0 1) ∷
-    -- caller 1 wakes it and cancels the key
+    -- caller 1 wakes it, and cancels the key under a pin, which it keeps
     event_of v (Wake s false) ∷
-    event_of v (CancelKey s 0 (stage true false false)) ∷
-    -- it is told of the key twice, and ends the selection
+    event_of v (Pin s 0 (stage 0 true false false)) ∷
+    event_of v (CancelKey s 0 (stage 0 true false false)) ∷
+    -- it is told of the key twice, and ends the selection: the key is removed, and its index becomes free
     event_of u (LookMark s 0 (mark false 0)) ∷
     event_of u (Mark s 0 (mark false 0) 1 (Ok tt)) ∷
     event_of u (Mark s 0 (mark false 0) 1 (Err (mark true 1))) ∷
@@ -98,17 +114,60 @@ worked_history =
     event_of u (LookMark s 0 (mark true 5)) ∷
     event_of u (LookGate s (gate true false)) ∷
     event_of u (LookInterrupt false) ∷
-    event_of u (LookKey s 0 (stage true true false)) ∷
-    event_of u (Remove s 0 (stage true true false)) ∷
+    event_of u (LookKey s 0 (stage 0 true true false)) ∷
+    event_of u (Remove s 0 (stage 0 true true false)) ∷
+    event_of u (PutFree s 0) ∷
     event_of u (EndWake s (gate true false)) ∷
     event_of u (GiveTurn s) ∷
+    -- it registers the channel again: index 0 is free, but caller 1 still has its pin on it
+    event_of u (LookChannel c (chan false false)) ∷
+    event_of u (TryHoldBit c None) ∷
+    event_of u (LookChannel c (chan false false)) ∷
+    event_of u (LookReg c s (Some (noted 0 0))) ∷
+    event_of u (Pin s 0 (stage 0 true true true)) ∷
+    event_of u (Unpin s 0) ∷
     event_of u (LookGate s (gate false false)) ∷
-    event_of u (UnselectBit s 0 true) ∷
-    event_of u (LookMark s 0 (mark false 5)) ∷
+    event_of u (LookKeys s 1) ∷
+    event_of u (LookFree s 0 1) ∷
+    event_of u (TakeFree s 0 true) ∷
+    event_of v (TakeFree s 0 false) ∷
+    event_of u (LookKey s 0 (stage 0 true true true)) ∷
+    event_of u (ClaimAgain s 0 c (stage 0 true true true) true) ∷
+    event_of u (PutFree s 0) ∷
+    -- caller 1 takes its pin off: now the index is given again, to a key with serial 1
+    event_of v (UnselectBit s 0 true) ∷
+    event_of v (Unpin s 0) ∷
+    event_of u (LookFree s 0 1) ∷
+    event_of u (TakeFree s 0 true) ∷
+    event_of u (LookKey s 0 (stage 0 true true true)) ∷
+    event_of u (ClaimAgain s 0 c (stage 0 true true true) false) ∷
+    event_of u (ClearMark s 0 (mark false 5)) ∷
+    event_of u (LookGate s (gate false false)) ∷
+    event_of u (SwapInterest s 0 1 1) ∷
+    event_of u (SwapNote s 0 0 7) ∷
+    event_of u (Enrol c s 0 1 (Some (noted 0 0))) ∷
+    event_of u (Publish s 0 (stage 1 false false false)) ∷
+    event_of u (LookChannel c (chan false false)) ∷
+    event_of u (Unpin s 0) ∷
+    event_of u (Release c) ∷
+    -- it cancels this key too, and a selection removes it
+    event_of u (Pin s 0 (stage 1 true false false)) ∷
+    event_of u (LookMark s 0 (mark false 0)) ∷
+    event_of u (CancelKey s 0 (stage 1 true false false)) ∷
+    event_of u (Unpin s 0) ∷
+    event_of u (TakeTurn s None) ∷
+    event_of u (BeginLook s (gate false false)) ∷
+    event_of u (LookKeys s 1) ∷
+    event_of u (LookFree s 0 0) ∷
+    event_of u (LookKey s 0 (stage 1 true true false)) ∷
+    event_of u (Remove s 0 (stage 1 true true false)) ∷
+    event_of u (PutFree s 0) ∷
+    event_of u (EndWake s (gate false false)) ∷
+    event_of u (GiveTurn s) ∷
     -- caller 1 sets blocking mode again: the noted key is removed
     event_of v (TryHoldBit c None) ∷
-    event_of v (LookReg c s (Some 0)) ∷
-    event_of v (LookKey s 0 (stage true true true)) ∷
+    event_of v (LookReg c s (Some (noted 0 1))) ∷
+    event_of v (LookKey s 0 (stage 1 true true true)) ∷
     event_of v (SetMode c true (chan false false)) ∷
     event_of v (Release c) ∷
     -- it closes the channel and the selector, and interrupts caller 0
@@ -119,7 +178,7 @@ worked_history =
     event_of u (ShutBit s true) ∷
     event_of v (Enter s None) ∷
     event_of v (LookKeys s 1) ∷
-    event_of v (Remove s 0 (stage true true true)) ∷
+    event_of v (Remove s 0 (stage 1 true true true)) ∷
     event_of v (SetInterrupt u false) ∷
     event_of u (TakeInterrupt true) ∷
     event_of u (LookInterrupt false) ∷ []
@@ -141,24 +200,40 @@ refused_events =
     (14, event_of u (Claim s 0 c false)) ∷
     -- what a step finds is what stands there
     (19, event_of u (Claim s 0 c true)) ∷
-    -- only who claimed an index publishes it
-    (25, event_of v (Publish s 0 (stage false false false))) ∷
+    -- only who claimed an index publishes its key, and only with the pin of that claim
+    (25, event_of v (Publish s 0 (stage 0 false false false))) ∷
+    (28, event_of u (Publish s 0 (stage 0 true false false))) ∷
+    -- a caller has one pin on an index at most, and takes off only its own
+    (30, event_of u (Pin s 0 (stage 0 true false false))) ∷
+    (30, event_of v (Unpin s 0)) ∷
+    -- a step on a key is made under a pin
+    (34, event_of u (OrInterest s 0 4 1)) ∷
+    (34, event_of u (CancelKey s 0 (stage 0 true false false))) ∷
     -- only the holder of the turn begins a selection
-    (33, event_of v (BeginLook s (gate false false))) ∷
+    (36, event_of v (BeginLook s (gate false false))) ∷
     -- a selection removes no key that is not cancelled
-    (37, event_of u (Remove s 0 (stage true false false))) ∷
+    (41, event_of u (Remove s 0 (stage 0 true false false))) ∷
     -- only the selecting caller marks, and only what it is told of and finds
-    (40, event_of v (Mark s 0 (mark false 0) 1 (Ok tt))) ∷
-    (40, event_of u (Mark s 0 (mark false 0) 0 (Ok tt))) ∷
-    (40, event_of u (Mark s 0 (mark true 1) 4 (Ok tt))) ∷
+    (45, event_of v (Mark s 0 (mark false 0) 1 (Ok tt))) ∷
+    (45, event_of u (Mark s 0 (mark false 0) 0 (Ok tt))) ∷
+    (45, event_of u (Mark s 0 (mark true 1) 4 (Ok tt))) ∷
+    -- an index is put by the caller whose selection dropped it, or that has taken it, and once
+    (53, event_of v (PutFree s 0)) ∷
+    (54, event_of u (PutFree s 0)) ∷
+    (66, event_of v (PutFree s 0)) ∷
+    -- an index is claimed again from what the caller found since it took it, and not while it is pinned
+    (66, event_of u (ClaimAgain s 0 c (stage 0 true true true) true)) ∷
+    (68, event_of u (ClaimAgain s 0 c (stage 0 true true true) false)) ∷
+    -- a mark is cleared before the key is published
+    (82, event_of u (ClearMark s 0 (mark false 0))) ∷
     -- a channel goes back to blocking mode only after a look at its noted keys
-    (54, event_of v (SetMode c true (chan false false))) ∷
-    (55, event_of v (SetMode c true (chan false false))) ∷
+    (99, event_of v (SetMode c true (chan false false))) ∷
+    (100, event_of v (SetMode c true (chan false false))) ∷
     -- a closer removes after it has entered, and what it has found below the mark since
-    (63, event_of v (Remove s 0 (stage true true true))) ∷
-    (64, event_of v (Remove s 0 (stage true true true))) ∷
+    (108, event_of v (Remove s 0 (stage 1 true true true))) ∷
+    (109, event_of v (Remove s 0 (stage 1 true true true))) ∷
     -- only the closer enters
-    (63, event_of u (Enter s None)) ∷ []
+    (108, event_of u (Enter s None)) ∷ []
 
 abbrev pub AreNoSteps : List (ℕ × Event) → Type 0
 AreNoSteps [] = ⊤

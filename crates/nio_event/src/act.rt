@@ -1,6 +1,6 @@
 //! The kinds of atomic step. Each step reads or changes one word of the shared table, at one moment.
 use crate::found::{Chan, GateWord, Mark, Stage};
-use nio_base::{CallerNo, ChanNo, Kind, Ops, SelNo};
+use nio_base::{CallerNo, ChanNo, KeyId, Kind, Ops, SelNo};
 
 /// A step: its kind, its parameters in their order, and last what it found, which is its answer.
 /// A step that changes a part of the state finds what stood there before; giving a turn or a hold back
@@ -43,7 +43,8 @@ pub enum Act {
     MakeChannel(ChanNo, Kind, bool),
     /// Looks at a channel.
     LookChannel(ChanNo, Chan),
-    /// Claims an index of a selector for a key of this channel: whether it was claimed.
+    /// Claims an index of a selector for its first key, a key of this channel, and pins it: whether it
+    /// was claimed.
     Claim(SelNo, u32, ChanNo, bool),
     /// Raises a selector's keys' mark to this number, unless it is as high or higher.
     RaiseKeys(SelNo, u32, u32),
@@ -52,9 +53,9 @@ pub enum Act {
     /// Publishes a key: its registration is complete.
     Publish(SelNo, u32, Stage),
     /// Looks at which key is noted for a channel in a selector.
-    LookReg(ChanNo, SelNo, Option<u32>),
-    /// Notes a key for a channel in a selector.
-    Enrol(ChanNo, SelNo, u32, Option<u32>),
+    LookReg(ChanNo, SelNo, Option<KeyId>),
+    /// Notes a key, by its index and its serial, for a channel in a selector.
+    Enrol(ChanNo, SelNo, u32, u32, Option<KeyId>),
     /// Takes the turn to select on a selector, where nobody has it: who had it.
     TakeTurn(SelNo, Option<CallerNo>),
     /// Looks at a selector's gate as the holder of its turn, and begins a selection where it isn't
@@ -89,4 +90,20 @@ pub enum Act {
     ShutBit(SelNo, bool),
     /// Looks at the turn as the selector's closer, and enters where nobody has it: who has it.
     Enter(SelNo, Option<CallerNo>),
+    /// Pins an index: until the caller unpins it, it isn't claimed again.
+    Pin(SelNo, u32, Stage),
+    /// Takes the caller's pin off an index.
+    Unpin(SelNo, u32),
+    /// Clears the mark of a key that isn't published yet.
+    ClearMark(SelNo, u32, Mark),
+    /// Claims an index again, from the stage of its removed key, for a new key of this channel with the
+    /// next serial, and pins it, where nobody has a pin on it: whether somebody had one.
+    ClaimAgain(SelNo, u32, ChanNo, Stage, bool),
+    /// Looks at which of 64 indexes of a selector are free, the first of which is 64 times the number:
+    /// bit b of the answer is set where index 64 times the number plus b is free.
+    LookFree(SelNo, u32, u64),
+    /// Makes an index free.
+    PutFree(SelNo, u32),
+    /// Takes an index out of the free ones: whether it was free.
+    TakeFree(SelNo, u32, bool),
 }

@@ -8,8 +8,9 @@ pub struct GateWord {
     pub shut: bool,
 }
 
-/// How far a key's index has come, and the channel that it was claimed for. A key is published
-/// when its registration is complete.
+/// How far the key of an index has come, the channel that the index was claimed for, and the serial of
+/// the key. A key is published when its registration is complete. The index of a removed key can be
+/// claimed again, for a new key with the next serial.
 #[derive(Clone, Copy, Debug, PartialEq, Eq)]
 pub struct Stage {
     pub claimed: bool,
@@ -17,6 +18,7 @@ pub struct Stage {
     pub cancelled: bool,
     pub removed: bool,
     pub chan: ChanNo,
+    pub serial: u32,
 }
 
 /// A channel: whether it is made, its kind, whether it is closed, and whether it is in blocking

@@ -1,5 +1,6 @@
 //! Laws of legal histories. Each is the contract of a function that does nothing.
-ghost use Rattle.nio_event.specs.Staying.{BeginningsAreLegal, NothingGoesBack, InvalidKeysStayInvalid, OnlyItselfGivesBack, ConditionsStay, StatesAreSound, StatesAreWithin};
+ghost use Rattle.nio_event.specs.Staying.{BeginningsAreLegal, FactsArePermanent, InvalidKeysStayInvalid, OnlyItselfGivesBack, ConditionsStay, StatesAreSound, StatesAreWithin};
+ghost use Rattle.nio_event.specs.Pins.{PinnedKeysStay, ClaimsAgainWhereUnpinned, ClaimsAgainTheRemoved, OwnClaimsStand, NotedKeysAreClaimed, SelectionsKeepKeys};
 ghost use Rattle.nio_event.specs.Turns.{TurnHasOneHolder, HoldHasOneHolder, HolderKnowsMode, OneSelectionAtATime, OnlyWhoMaySelects};
 ghost use Rattle.nio_event.specs.Worked.{WorkedHistoryIsLegal, RefusedEventsAreNoSteps};
 
@@ -8,14 +9,15 @@ pub fn beginnings_law()
     ensures { BeginningsAreLegal }
 {}
 
-/// What never goes back doesn't: what is drawn, made, claimed, published, cancelled, removed, closed
-/// or shut stays so, marks don't fall, and a closer stays the closer. So an invalid key stays invalid.
+/// What is drawn, made, claimed, published, cancelled, removed, closed or shut stays so, the high-water
+/// marks don't fall, and a closer stays the closer. So an invalid key stays invalid, also where its index is
+/// given to a new key.
 pub fn lasting_law()
-    ensures lasts { NothingGoesBack }
+    ensures permanent { FactsArePermanent }
     ensures invalid { InvalidKeysStayInvalid }
 {}
 
-/// A turn, a selection and a hold last until their caller itself gives them back.
+/// A turn, a selection, a hold, a pin and a taken index last until their caller itself gives them back.
 pub fn own_law()
     ensures { OnlyItselfGivesBack }
 {}
@@ -43,10 +45,27 @@ pub fn one_holder_law()
 {}
 
 /// One selection at a time: while a caller selects, nobody else marks or removes a key of the
-/// selector or ends its wakeup. And only who may does.
+/// selector or ends its wakeup. Only a caller that has begun does so; the selector's closer, once it has
+/// entered, removes keys too.
 pub fn one_selection_law()
     ensures at_a_time { OneSelectionAtATime }
     ensures allowed { OnlyWhoMaySelects }
+{}
+
+/// A pinned index keeps its key until the pin is taken off, so it is claimed again exactly where nobody has
+/// a pin on it, and then from a key that was removed. While a caller has the pin of its claim, the key is the
+/// one that it claimed. A key that is noted for a channel was claimed for it.
+pub fn pins_law()
+    ensures stays { PinnedKeysStay }
+    ensures where_unpinned { ClaimsAgainWhereUnpinned }
+    ensures removed_before { ClaimsAgainTheRemoved }
+    ensures own_claim { OwnClaimsStand }
+    ensures noted { NotedKeysAreClaimed }
+{}
+
+/// While a caller selects, a key that it doesn't remove stays and keeps its index and its serial.
+pub fn selected_keys_law()
+    ensures { SelectionsKeepKeys }
 {}
 
 /// There are legal histories in which every kind of step stands, and events that can't follow.
