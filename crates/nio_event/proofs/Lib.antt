@@ -29,3 +29,4 @@ pub mod Bits
 pub mod Clauses
 pub mod Asked
 pub mod Holder
+pub mod OwnPins

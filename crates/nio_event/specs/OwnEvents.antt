@@ -126,6 +126,20 @@ gives_index s i (PutFree s' i') = (s'.0 == s) && (i' == i)
 gives_index s i (ClaimAgain s' i' c from false) = (s'.0 == s) && (i' == i)
 gives_index s i _ = false
 
+-- ---- its pin on an index
+
+-- whether an act puts a pin on index i, or takes it off
+abbrev pub pin_changed : ℕ → ℕ → Act → Option Bool
+pin_changed s i (Pin s' i' found) = if (s'.0 == s) && (i' == i) then Some true else None
+pin_changed s i (Claim s' i' c false) = if (s'.0 == s) && (i' == i) then Some true else None
+pin_changed s i (ClaimAgain s' i' c from false) = if (s'.0 == s) && (i' == i) then Some true else None
+pin_changed s i (Unpin s' i') = if (s'.0 == s) && (i' == i) then Some false else None
+pin_changed s i _ = None
+
+-- it pinned or claimed index i of selector s, and didn't take the pin off since
+abbrev pub keeps_pin : ℕ → ℕ → List Act → Bool
+keeps_pin s i own = is_yes (last (pin_changed s i) own)
+
 -- ---- its claim of an index
 
 -- a claim of an index: for which channel, and with which serial

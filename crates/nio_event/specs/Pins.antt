@@ -9,7 +9,7 @@ use Rattle.nio_base.specs.declared.numbers.KeyId.{KeyId}
 use Rattle.nio_base.specs.declared.numbers.SelNo.{SelNo}
 use Rattle.nio_event.specs.Conditions.{has_pin, has_begun}
 use Rattle.nio_event.specs.Histories.{state_after, event_of, mine, IsLegal}
-use Rattle.nio_event.specs.OwnEvents.{OwnClaim, has, own_claim, unpins, gives_turn}
+use Rattle.nio_event.specs.OwnEvents.{OwnClaim, has, own_claim, keeps_pin, unpins, gives_turn}
 use Rattle.nio_event.specs.Sets.{was_claimed, can_come_back}
 use Rattle.nio_event.specs.declared.act.Act.{Act}
 use Rattle.nio_event.specs.declared.act.Act.TheVariants.{ClaimAgain, Remove}
@@ -21,6 +21,11 @@ pub record IsSameKey (was now : Stage) : Type 0 where
   pub claimed : IsTrue now.claimed
   pub serial : now.serial ≡ was.serial
   pub channel : now.chan ≡ was.chan
+
+-- a caller has a pin on an index where it pinned or claimed it, and didn't take the pin off since
+abbrev pub PinsAreOwn : Type 0
+PinsAreOwn = (l : Limits) (n : CallerNo) (s : SelNo) (i : ℕ) (events : List Event) → IsLegal l events
+    → has_pin (state_after events) n s i ≡ keeps_pin s.0 i (mine n events)
 
 -- from a pin until the same caller takes it off the index keeps its key, whatever others do
 abbrev pub PinnedKeysStay : Type 0

@@ -1,6 +1,6 @@
 //! Laws of legal histories. Each is the contract of a function that does nothing.
 ghost use Rattle.nio_event.specs.Staying.{BeginningsAreLegal, FactsArePermanent, InvalidKeysStayInvalid, OnlyItselfGivesBack, ConditionsStay, StatesAreSound, StatesAreWithin};
-ghost use Rattle.nio_event.specs.Pins.{PinnedKeysStay, ClaimsAgainWhereUnpinned, ClaimsAgainTheRemoved, OwnClaimsStand, NotedKeysAreClaimed, SelectionsKeepKeys};
+ghost use Rattle.nio_event.specs.Pins.{PinsAreOwn, PinnedKeysStay, ClaimsAgainWhereUnpinned, ClaimsAgainTheRemoved, OwnClaimsStand, NotedKeysAreClaimed, SelectionsKeepKeys};
 ghost use Rattle.nio_event.specs.Turns.{TurnHasOneHolder, HoldHasOneHolder, HolderKnowsMode, OneSelectionAtATime, OnlyWhoMaySelects};
 ghost use Rattle.nio_event.specs.Worked.{WorkedHistoryIsLegal, RefusedEventsAreNoSteps};
 
@@ -50,6 +50,11 @@ pub fn one_holder_law()
 pub fn one_selection_law()
     ensures at_a_time { OneSelectionAtATime }
     ensures allowed { OnlyWhoMaySelects }
+{}
+
+/// A caller has a pin on an index where it pinned or claimed it and didn't take the pin off since.
+pub fn own_pins_law()
+    ensures { PinsAreOwn }
 {}
 
 /// A pinned index keeps its key until the pin is taken off, so it is claimed again exactly where nobody has
