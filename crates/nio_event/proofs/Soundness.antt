@@ -43,7 +43,7 @@ taken_some : (me : CallerNo) (o : Option CallerNo) → is_some (taken_by me o) �
 taken_some me None = refl
 taken_some me (Some n) = refl
 
-not_true : (b : Bool) → (b ≡ true → ⊥) → b ≡ false
+pub not_true : (b : Bool) → (b ≡ true → ⊥) → b ≡ false
 not_true true no_way = absurd (no_way refl)
 not_true false no_way = refl
 
