@@ -17,6 +17,8 @@ pub mod Legal
 pub mod Put
 pub mod OneMore
 pub mod Lasts
+pub mod KeyChanges
+pub mod Claims
 pub mod Told
 pub mod Soundness
 pub mod LastsOnceSound
