@@ -112,7 +112,7 @@ now_pinned st me s' i' s i here =
     or_true false = refl
 
 -- a step by which a caller claims an index gives it a pin
-claim_pins : (st : State) (me : CallerNo) (act : Act) (s i : ℕ) (claim : OwnClaim) → claim_changed s i act ≡ Some (Some claim) → (effect st me act).pinned s i me.0 ≡ true
+pub claim_pins : (st : State) (me : CallerNo) (act : Act) (s i : ℕ) (claim : OwnClaim) → claim_changed s i act ≡ Some (Some claim) → (effect st me act).pinned s i me.0 ≡ true
 claim_pins st me (Claim s' i' c false) s i claim changed = now_pinned st me s'.0 i' s i (if_some ((s'.0 == s) && (i' == i)) _ _ changed).0
 claim_pins st me (ClaimAgain s' i' c from false) s i claim changed = now_pinned st me s'.0 i' s i (if_some ((s'.0 == s) && (i' == i)) _ _ changed).0
 claim_pins st me (Unpin s' i') s i claim changed =

@@ -3,49 +3,44 @@
 use Rattle.std.proofs.Common.{◌≡◌, ℕ, Bool, true, false, suc, ◌&&◌, List, refl, ap, sym, subst}
 use Rattle.std.specs.Prelude.{nat_lt}
 use Rattle.std.proofs.lemmas.Bool.{and_parts}
-use Rattle.nio_base.specs.declared.limits.Limits.{Limits}
 use Rattle.nio_base.specs.declared.numbers.CallerNo.{CallerNo}
 use Rattle.nio_base.specs.declared.numbers.ChanNo.{ChanNo}
 use Rattle.nio_base.specs.declared.numbers.SelNo.{SelNo}
 use Rattle.nio_event.proofs.Put.{put_at_keeps}
 use Rattle.nio_event.specs.Acts.{effect, new_key}
 use Rattle.nio_event.specs.Answers.{Answers, is_pinned}
-use Rattle.nio_event.specs.Conditions.{Condition}
 use Rattle.nio_event.specs.Sets.{can_come_back}
 use Rattle.nio_event.specs.State.{State, last_serial}
 use Rattle.nio_event.specs.declared.act.Act.{Act}
 use Rattle.nio_event.specs.declared.act.Act.TheVariants.{CancelKey, Claim, Publish, Remove, ClaimAgain}
 use Rattle.nio_event.specs.declared.found.Stage.{Stage}
 
--- what stands of the stage of an index stays at a step of `me` that changes the stage
-pub record KeepsStages (l : Limits) (own : List Act) (st : State) (me : CallerNo) (R : ℕ → ℕ → Stage → Type 0) : Type 0 where
+-- what stands of the stage of each index, `R`, stays at the steps that `May` allows and that change a stage
+pub record KeepsStages (May : Act → Type 0) (st : State) (R : ℕ → ℕ → Stage → Type 0) : Type 0 where
   pub claimed : (s : SelNo) (i : ℕ) (c : ChanNo) → (st.key s.0 i).claimed ≡ false → R s.0 i (st.key s.0 i) → R s.0 i (new_key c 0)
-  pub published : (s : SelNo) (i : ℕ) (found : Stage) → Condition l own st me (Publish s i found) → R s.0 i (st.key s.0 i)
-      → R s.0 i (record (st.key s.0 i) { published = true })
-  pub cancelled : (s : SelNo) (i : ℕ) (found : Stage) → Condition l own st me (CancelKey s i found) → R s.0 i (st.key s.0 i)
-      → R s.0 i (record (st.key s.0 i) { cancelled = true })
-  pub removed : (s : SelNo) (i : ℕ) (found : Stage) → Condition l own st me (Remove s i found) → R s.0 i (st.key s.0 i)
-      → R s.0 i (record (st.key s.0 i) { removed = true })
-  pub again : (s : SelNo) (i : ℕ) (c : ChanNo) (from : Stage) → Condition l own st me (ClaimAgain s i c from false) → is_pinned st s.0 i ≡ false
+  pub published : (s : SelNo) (i : ℕ) (found : Stage) → May (Publish s i found) → R s.0 i (st.key s.0 i) → R s.0 i (record (st.key s.0 i) { published = true })
+  pub cancelled : (s : SelNo) (i : ℕ) (found : Stage) → May (CancelKey s i found) → R s.0 i (st.key s.0 i) → R s.0 i (record (st.key s.0 i) { cancelled = true })
+  pub removed : (s : SelNo) (i : ℕ) (found : Stage) → May (Remove s i found) → R s.0 i (st.key s.0 i) → R s.0 i (record (st.key s.0 i) { removed = true })
+  pub again : (s : SelNo) (i : ℕ) (c : ChanNo) (from : Stage) → May (ClaimAgain s i c from false) → is_pinned st s.0 i ≡ false
       → R s.0 i (st.key s.0 i) → R s.0 i (new_key c (suc (st.key s.0 i).serial))
 
-pub stages_keep : (l : Limits) (own : List Act) (st : State) (me : CallerNo) (R : ℕ → ℕ → Stage → Type 0) → KeepsStages l own st me R
-    → (act : Act) → Condition l own st me act → Answers st me act → (s i : ℕ) → R s i (st.key s i) → R s i ((effect st me act).key s i)
-stages_keep l own st me R keeps (CancelKey s' i' found) may answers s i =
+pub stages_keep : (May : Act → Type 0) (st : State) (me : CallerNo) (R : ℕ → ℕ → Stage → Type 0) → KeepsStages May st R
+    → (act : Act) → May act → Answers st me act → (s i : ℕ) → R s i (st.key s i) → R s i ((effect st me act).key s i)
+stages_keep May st me R keeps (CancelKey s' i' found) may answers s i =
     put_at_keeps R st.key s'.0 i' (record (st.key s'.0 i') { cancelled = true }) (keeps.cancelled s' i' found may) s i
-stages_keep l own st me R keeps (Claim s' i' c true) may answers s i = put_at_keeps R st.key s'.0 i' (st.key s'.0 i') (λ old. old) s i
-stages_keep l own st me R keeps (Claim s' i' c false) may answers s i =
+stages_keep May st me R keeps (Claim s' i' c true) may answers s i = put_at_keeps R st.key s'.0 i' (st.key s'.0 i') (λ old. old) s i
+stages_keep May st me R keeps (Claim s' i' c false) may answers s i =
     let unclaimed_yet : (st.key s'.0 i').claimed ≡ false = cc in
     put_at_keeps R st.key s'.0 i' (new_key c 0) (keeps.claimed s' i' c unclaimed_yet) s i
-stages_keep l own st me R keeps (Publish s' i' found) may answers s i =
+stages_keep May st me R keeps (Publish s' i' found) may answers s i =
     put_at_keeps R st.key s'.0 i' (record (st.key s'.0 i') { published = true }) (keeps.published s' i' found may) s i
-stages_keep l own st me R keeps (Remove s' i' found) may answers s i =
+stages_keep May st me R keeps (Remove s' i' found) may answers s i =
     put_at_keeps R st.key s'.0 i' (record (st.key s'.0 i') { removed = true }) (keeps.removed s' i' found may) s i
-stages_keep l own st me R keeps (ClaimAgain s' i' c from true) may answers s i = put_at_keeps R st.key s'.0 i' (st.key s'.0 i') (λ old. old) s i
-stages_keep l own st me R keeps (ClaimAgain s' i' c from false) may answers s i =
+stages_keep May st me R keeps (ClaimAgain s' i' c from true) may answers s i = put_at_keeps R st.key s'.0 i' (st.key s'.0 i') (λ old. old) s i
+stages_keep May st me R keeps (ClaimAgain s' i' c from false) may answers s i =
     let unpinned : is_pinned st s'.0 i' ≡ false = cc in
     put_at_keeps R st.key s'.0 i' (new_key c (suc (st.key s'.0 i').serial)) (keeps.again s' i' c from may unpinned) s i
-stages_keep l own st me R keeps act may answers s i = λ h. h
+stages_keep May st me R keeps act may answers s i = λ h. h
 
 -- ---- a stage from which an index can come back
 

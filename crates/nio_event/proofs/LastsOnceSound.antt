@@ -75,7 +75,7 @@ reached_before bit k serial reached =
 reached_keeps : (bit : Stage → Bool) → ((k : Stage) → bit k ≡ true → bit (record k { published = true }) ≡ true)
     → ((k : Stage) → bit k ≡ true → bit (record k { cancelled = true }) ≡ true)
     → ((k : Stage) → bit k ≡ true → bit (record k { removed = true }) ≡ true)
-    → (l : Limits) (own : List Act) (st : State) (me : CallerNo) (serial : ℕ) → IsSound st → KeepsStages l own st me (λ _ _ k. is_reached bit k serial ≡ true)
+    → (l : Limits) (own : List Act) (st : State) (me : CallerNo) (serial : ℕ) → IsSound st → KeepsStages (Condition l own st me) st (λ _ _ k. is_reached bit k serial ≡ true)
 reached_keeps bit published cancelled removed l own st me serial sound = record {
   claimed = λ s i c unclaimed_yet old. absurd (unclaimed_reached bit (st.key s.0 i) serial (sound.unclaimed_bare s.0 i unclaimed_yet) old);
   published = λ s i found may old. reached_still bit (st.key s.0 i) (record (st.key s.0 i) { published = true }) serial refl refl (published (st.key s.0 i)) old;
@@ -85,7 +85,7 @@ reached_keeps bit published cancelled removed l own st me serial sound = record 
       ap (λ b. b || (fits (new_key c (suc (st.key s.0 i).serial)) serial && bit (new_key c (suc (st.key s.0 i).serial)))) (reached_before bit (st.key s.0 i) serial old);
 }
 
-not_below_next : (a q : ℕ) → not (nat_lt a q) ≡ true → not (nat_lt (suc a) q) ≡ true
+pub not_below_next : (a q : ℕ) → not (nat_lt a q) ≡ true → not (nat_lt (suc a) q) ≡ true
 not_below_next a q e = by_test (nat_lt (suc a) q) refl
   where
     both_ways' : (b : Bool) → b ≡ true → not b ≡ true → ⊥
@@ -99,7 +99,7 @@ not_below_next a q e = by_test (nat_lt (suc a) q) refl
     by_test false below = refl
 
 -- an index that was claimed for a key was so ever after
-was_claimed_keeps : (l : Limits) (own : List Act) (st : State) (me : CallerNo) (serial : ℕ) → KeepsStages l own st me (λ _ _ k. was_claimed k serial ≡ true)
+was_claimed_keeps : (l : Limits) (own : List Act) (st : State) (me : CallerNo) (serial : ℕ) → KeepsStages (Condition l own st me) st (λ _ _ k. was_claimed k serial ≡ true)
 was_claimed_keeps l own st me serial = record {
   claimed = λ s i c unclaimed_yet old.
       absurd (both_ways (st.key s.0 i).claimed (and_parts (st.key s.0 i).claimed (not (nat_lt (st.key s.0 i).serial serial)) old).0 unclaimed_yet);
@@ -146,15 +146,15 @@ lasts l own st me act may answers sound (channel_made c) h = made_lasts st me ac
 lasts l own st me act may answers sound (channel_closed c) h = closed_lasts st me act answers sound c h
 lasts l own st me act may answers sound (index_claimed s i) h = claimed_lasts st me act s i h
 lasts l own st me act may answers sound (key_claimed s i serial) h =
-    stages_keep l own st me (λ _ _ k. was_claimed k serial ≡ true) (was_claimed_keeps l own st me serial) act may answers s i h
+    stages_keep (Condition l own st me) st me (λ _ _ k. was_claimed k serial ≡ true) (was_claimed_keeps l own st me serial) act may answers s i h
 lasts l own st me act may answers sound (key_published s i serial) h =
-    stages_keep l own st me (λ _ _ k. was_published k serial ≡ true)
+    stages_keep (Condition l own st me) st me (λ _ _ k. was_published k serial ≡ true)
     (reached_keeps (λ k. k.published) (λ k e. refl) (λ k e. e) (λ k e. e) l own st me serial sound) act may answers s i h
 lasts l own st me act may answers sound (key_cancelled s i serial) h =
-    stages_keep l own st me (λ _ _ k. was_cancelled k serial ≡ true)
+    stages_keep (Condition l own st me) st me (λ _ _ k. was_cancelled k serial ≡ true)
     (reached_keeps (λ k. k.cancelled) (λ k e. e) (λ k e. refl) (λ k e. e) l own st me serial sound) act may answers s i h
 lasts l own st me act may answers sound (key_removed s i serial) h =
-    stages_keep l own st me (λ _ _ k. was_removed k serial ≡ true)
+    stages_keep (Condition l own st me) st me (λ _ _ k. was_removed k serial ≡ true)
     (reached_keeps (λ k. k.removed) (λ k e. e) (λ k e. e) (λ k e. refl) l own st me serial sound) act may answers s i h
 lasts l own st me act may answers sound (below_keys_mark s i) h = lt-ltb i _ (keys_mark_lasts st me act s i (ltb-true i _ h))
 lasts l own st me act may answers sound (below_channels_mark c) h = lt-ltb c _ (channels_mark_lasts st me act c (ltb-true c _ h))

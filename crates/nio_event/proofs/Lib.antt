@@ -27,6 +27,9 @@ pub mod Stays
 pub mod TurnLaws
 pub mod WorkedSteps
 pub mod Within
+pub mod Counts
+pub mod PinLaws
+pub mod SelectedKeys
 pub mod Bits
 pub mod Clauses
 pub mod Asked

@@ -210,7 +210,7 @@ publish_claimed l past me s i legal sound may = by_claim (own_claim s.0 i (mine 
 unclaimed_bare_step : (l : Limits) (past : List Event) (e : Event) → IsLegal l past → IsStep l past e → IsSound (state_after past)
     → (s i : ℕ) → ((effect (state_after past) e.caller e.act).key s i).claimed ≡ false → (effect (state_after past) e.caller e.act).key s i ≡ unclaimed
 unclaimed_bare_step l past e legal step sound s i =
-    stages_keep l (mine e.caller past) st e.caller (λ _ _ k. k.claimed ≡ false → k ≡ unclaimed) (record {
+    stages_keep (Condition l (mine e.caller past) st e.caller) st e.caller (λ _ _ k. k.claimed ≡ false → k ≡ unclaimed) (record {
       claimed = λ s' i' c _ _ e'. absurd cc;
       published = λ s' i' found may _ e'. absurd (both_ways (st.key s'.0 i').claimed (publish_claimed l past e.caller s' i' legal sound may.1) e');
       cancelled = λ s' i' found may _ e'. absurd (both_ways (st.key s'.0 i').claimed may.1 e');
@@ -268,12 +268,12 @@ again_removed : (k : Stage) → can_come_back k ≡ true → can_come_back (reco
 again_removed k back = subst (λ x. can_come_back x ≡ true) (sym (removed_already k (back_parts k back).removed)) back
 
 -- an index that can come back is claimed
-back_not_unclaimed : (k : Stage) → can_come_back k ≡ true → k.claimed ≡ false → ⊥
+pub back_not_unclaimed : (k : Stage) → can_come_back k ≡ true → k.claimed ≡ false → ⊥
 back_not_unclaimed k back e = both_ways k.claimed (back_parts k back).claimed e
 
 -- where no step claims an index again of which `F` stands, an index of which it stands can come back after the step too
 back_keeps : (l : Limits) (own : List Act) (st : State) (me : CallerNo) (F : ℕ → ℕ → Type 0)
-    → ((s : SelNo) (i : ℕ) → has_taken st me s i ≡ true → F s.0 i → ⊥) → KeepsStages l own st me (λ s i k. F s i → can_come_back k ≡ true)
+    → ((s : SelNo) (i : ℕ) → has_taken st me s i ≡ true → F s.0 i → ⊥) → KeepsStages (Condition l own st me) st (λ s i k. F s i → can_come_back k ≡ true)
 back_keeps l own st me F untaken = record {
   claimed = λ s i c unclaimed_yet old here. absurd (back_not_unclaimed (st.key s.0 i) (old here) unclaimed_yet);
   published = λ s i found may old here. again_published (st.key s.0 i) (old here);
@@ -299,7 +299,7 @@ free_back_step l own st me (PutFree s' i') may answers sound s i =
 free_back_step l own st me (TakeFree s' i' found) may answers sound s i =
     put_at_keeps (λ a b x. x ≡ true → can_come_back (st.key a b) ≡ true) st.free s'.0 i' false (λ _ e. absurd cc) s i (sound.free_back s i)
 free_back_step l own st me act may answers sound s i =
-    stages_keep l own st me (λ a b k. st.free a b ≡ true → can_come_back k ≡ true)
+    stages_keep (Condition l own st me) st me (λ a b k. st.free a b ≡ true → can_come_back k ≡ true)
     (back_keeps l own st me (λ a b. st.free a b ≡ true) (λ s' i' taken free. free_not_taken st sound s'.0 i' free (held_some me (st.taker s'.0 i') taken)))
     act may answers s i (sound.free_back s i)
 
@@ -361,7 +361,7 @@ dropped_back_step l own st me (PutFree s' i') may answers sound s i =
 dropped_back_step l own st me (GiveTurn k) may answers sound s i =
     put_keeps (λ a x. x ≡ true → can_come_back (st.key a i) ≡ true) (λ a. st.dropped a i) k.0 false (λ _ e. absurd cc) s (sound.dropped_back s i)
 dropped_back_step l own st me act may answers sound s i =
-    stages_keep l own st me (λ a b k. st.dropped a b ≡ true → can_come_back k ≡ true)
+    stages_keep (Condition l own st me) st me (λ a b k. st.dropped a b ≡ true → can_come_back k ≡ true)
     (back_keeps l own st me (λ a b. st.dropped a b ≡ true) (λ s' i' taken dropped. taken_not_dropped st sound me s' i' taken dropped))
     act may answers s i (sound.dropped_back s i)
 

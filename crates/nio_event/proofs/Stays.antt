@@ -113,7 +113,7 @@ has_begun_on st n s = is_held_by n (st.turn s) && st.begun s
 
 -- a key of the cancelled set stays in it while a caller has begun, at the steps of others
 cancelled_set_keeps : (l : Limits) (own : List Act) (st : State) (me n : CallerNo) → IsSound st → (me.0 == n.0) ≡ false
-    → KeepsStages l own st me (λ s i k. has_begun_on st n s ≡ true → in_cancelled_set k ≡ true)
+    → KeepsStages (Condition l own st me) st (λ s i k. has_begun_on st n s ≡ true → in_cancelled_set k ≡ true)
 cancelled_set_keeps l own st me n sound other = record {
   claimed = λ s i c unclaimed_yet old begun. absurd (
       let in_set = cancelled_parts (st.key s.0 i) (old begun) in
@@ -254,7 +254,7 @@ conditions_stay l n before after begins legal same act may =
           let both = and_parts (has_begun st n s) (in_cancelled_set (st.key s.0 i)) here in
           and_from (has_begun (effect st e.caller e.act) n s) (in_cancelled_set ((effect st e.caller e.act).key s.0 i))
           (begun_still l past e sound step other s both.0)
-          (stages_keep l (mine e.caller past) st e.caller (λ a _ k. has_begun_on st n a ≡ true → in_cancelled_set k ≡ true)
+          (stages_keep (Condition l (mine e.caller past) st e.caller) st e.caller (λ a _ k. has_begun_on st n a ≡ true → in_cancelled_set k ≡ true)
           (cancelled_set_keeps l (mine e.caller past) st e.caller n sound other) e.act step.condition step.answers s.0 i (λ _. both.1) both.0));
       put_dropped = λ s i. by_others l n before later legal' nothing (λ st. may_put_dropped st n s i)
           (λ past e past_legal step other here.

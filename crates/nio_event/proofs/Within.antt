@@ -80,7 +80,7 @@ keys_within l own st me act may here s i = here.keys s i
 -- a serial that is given again is below the last
 serials_within : (l : Limits) (own : List Act) (st : State) (me : CallerNo) (act : Act) → Condition l own st me act → Answers st me act → IsSound st → IsWithin l st
     → (s i : ℕ) → ((effect st me act).key s i).serial ≤ last_serial
-serials_within l own st me act may answers sound here s i = stages_keep l own st me (λ _ _ k. k.serial ≤ last_serial) (record {
+serials_within l own st me act may answers sound here s i = stages_keep (Condition l own st me) st me (λ _ _ k. k.serial ≤ last_serial) (record {
   claimed = λ s' i' c _ _. omega arith;
   published = λ s' i' found _ old. old;
   cancelled = λ s' i' found _ old. old;
