@@ -13,7 +13,7 @@ use Rattle.nio_event.proofs.Soundness.{legal-sound, held_some, both_ways}
 use Rattle.nio_event.proofs.Told.{either}
 use Rattle.nio_event.specs.Acts.{effect, taken_by}
 use Rattle.nio_event.specs.Answers.{Answers}
-use Rattle.nio_event.specs.Conditions.{Condition, is_held_by, has_turn, has_begun, has_taken, may_put_dropped}
+use Rattle.nio_event.specs.Conditions.{Condition, is_held_by, has_turn, has_begun, has_taken, may_put_due}
 use Rattle.nio_event.specs.Histories.{state_after, is_by, mine, IsStep, IsLegal}
 use Rattle.nio_event.specs.Lasting.{OwnFact, the_turn, a_selection, the_hold, a_pin, a_taken_index, is_had_by, gives_back}
 use Rattle.nio_event.specs.OwnEvents.{has, gives_turn, releases, unpins, gives_index}
@@ -111,9 +111,9 @@ taken_stays l own st me n (PutFree k j) sound may answers s i spared = λ h.
   where
     given : is_held_by n (st.taker k.0 j) ≡ true → ((me.0 == n.0) && ((k.0 == k.0) && (j == j))) ≡ false → ⊥
     given held spared' =
-        elim (either (has_taken st me k j) (may_put_dropped st me k j) may.1) [
+        elim (either (has_taken st me k j) (may_put_due st me k j) may.1) [
           | inl taken ↦ not_spared me n (st.taker k.0 j) ((k.0 == k.0) && (j == j)) (both_itself k.0 j) taken held spared'
-          | inr dropped ↦ both_ways (st.dropped k.0 j) (and_parts (has_begun st me k) (st.dropped k.0 j) dropped).1 (sound.taken_undropped k.0 j (held_some n (st.taker k.0 j) held))
+          | inr dropped ↦ both_ways (st.put_due k.0 j) (and_parts (has_begun st me k) (st.put_due k.0 j) dropped).1 (sound.taken_not_due k.0 j (held_some n (st.taker k.0 j) held))
         ]
 taken_stays l own st me n (TakeFree k j true) sound may answers s i spared = put_at_keeps (λ _ _ o. is_held_by n o ≡ true) st.taker k.0 j (Some me)
     (λ held. let is_free : st.free k.0 j ≡ true = cc in absurd (not_taken n (st.taker k.0 j) held (sound.free_untaken k.0 j is_free))) s i

@@ -14,7 +14,7 @@ use Rattle.nio_event.proofs.Put.{put_keeps, put_at_keeps, put_both, put_at_both,
 use Rattle.nio_event.proofs.Told.{either, below_told}
 use Rattle.nio_event.specs.Acts.{effect, taken_by, frees_index}
 use Rattle.nio_event.specs.Answers.{Answers}
-use Rattle.nio_event.specs.Conditions.{Condition, is_held_by, is_closer, has_begun, has_entered, has_taken, may_sweep, may_put_dropped, may_publish, may_clear_out}
+use Rattle.nio_event.specs.Conditions.{Condition, is_held_by, is_closer, has_begun, has_entered, has_taken, may_sweep, may_put_due, may_publish, may_clear_out}
 use Rattle.nio_event.specs.Histories.{state_after, mine, IsStep, IsLegal}
 use Rattle.nio_event.specs.OwnEvents.{OwnClaim, has, enters, finds_below, since_entered, own_claim}
 use Rattle.nio_event.specs.Sets.{in_cancelled_set, can_come_back}
@@ -251,11 +251,11 @@ unclaimed_unpinned_step l own st me act may sound s i n = sound.unclaimed_unpinn
 -- ---- free, taken and dropped indexes
 
 -- who may put an index puts one that can come back
-put_back : (st : State) (me : CallerNo) (s : SelNo) (i : ℕ) → IsSound st → (has_taken st me s i || may_put_dropped st me s i) ≡ true → can_come_back (st.key s.0 i) ≡ true
+put_back : (st : State) (me : CallerNo) (s : SelNo) (i : ℕ) → IsSound st → (has_taken st me s i || may_put_due st me s i) ≡ true → can_come_back (st.key s.0 i) ≡ true
 put_back st me s i sound may =
-    elim (either (has_taken st me s i) (may_put_dropped st me s i) may) [
+    elim (either (has_taken st me s i) (may_put_due st me s i) may) [
       | inl taken ↦ sound.taken_back s.0 i (held_some me (st.taker s.0 i) taken)
-      | inr dropped ↦ sound.dropped_back s.0 i (and_parts (has_begun st me s) (st.dropped s.0 i) dropped).1
+      | inr dropped ↦ sound.due_back s.0 i (and_parts (has_begun st me s) (st.put_due s.0 i) dropped).1
     ]
 
 again_published : (k : Stage) → can_come_back k ≡ true → can_come_back (record k { published = true }) ≡ true
@@ -289,8 +289,8 @@ free_not_taken st sound s i free taken =
     cc
 
 -- what is taken isn't dropped
-pub taken_not_dropped : (st : State) → IsSound st → (me : CallerNo) (s : SelNo) (i : ℕ) → has_taken st me s i ≡ true → st.dropped s.0 i ≡ true → ⊥
-taken_not_dropped st sound me s i taken dropped = both_ways (st.dropped s.0 i) dropped (sound.taken_undropped s.0 i (held_some me (st.taker s.0 i) taken))
+pub taken_not_dropped : (st : State) → IsSound st → (me : CallerNo) (s : SelNo) (i : ℕ) → has_taken st me s i ≡ true → st.put_due s.0 i ≡ true → ⊥
+taken_not_dropped st sound me s i taken dropped = both_ways (st.put_due s.0 i) dropped (sound.taken_not_due s.0 i (held_some me (st.taker s.0 i) taken))
 
 free_back_step : (l : Limits) (own : List Act) (st : State) (me : CallerNo) (act : Act) → Condition l own st me act → Answers st me act → IsSound st
     → (s i : ℕ) → (effect st me act).free s i ≡ true → can_come_back ((effect st me act).key s i) ≡ true
@@ -348,22 +348,22 @@ removed_back l own st me s i found sound may found_is begun_frees =
     ]
 
 dropped_back_step : (l : Limits) (own : List Act) (st : State) (me : CallerNo) (act : Act) → Condition l own st me act → Answers st me act → IsSound st
-    → (s i : ℕ) → (effect st me act).dropped s i ≡ true → can_come_back ((effect st me act).key s i) ≡ true
+    → (s i : ℕ) → (effect st me act).put_due s i ≡ true → can_come_back ((effect st me act).key s i) ≡ true
 dropped_back_step l own st me (Remove s' i' found) may answers sound s i =
     let found_is : found ≡ st.key s'.0 i' = cc in
-    put_at_both (λ _ _ k x. x ≡ true → can_come_back k ≡ true) st.key st.dropped s'.0 i' _ _
-    (λ old e. elim (either (st.dropped s'.0 i') (st.begun s'.0 && frees_index found) e) [
+    put_at_both (λ _ _ k x. x ≡ true → can_come_back k ≡ true) st.key st.put_due s'.0 i' _ _
+    (λ old e. elim (either (st.put_due s'.0 i') (st.begun s'.0 && frees_index found) e) [
       | inl before ↦ again_removed (st.key s'.0 i') (old before)
       | inr now ↦ removed_back l own st me s' i' found sound may found_is now
-    ]) s i (sound.dropped_back s i)
+    ]) s i (sound.due_back s i)
 dropped_back_step l own st me (PutFree s' i') may answers sound s i =
-    put_at_keeps (λ a b x. x ≡ true → can_come_back (st.key a b) ≡ true) st.dropped s'.0 i' false (λ _ e. absurd cc) s i (sound.dropped_back s i)
+    put_at_keeps (λ a b x. x ≡ true → can_come_back (st.key a b) ≡ true) st.put_due s'.0 i' false (λ _ e. absurd cc) s i (sound.due_back s i)
 dropped_back_step l own st me (GiveTurn k) may answers sound s i =
-    put_keeps (λ a x. x ≡ true → can_come_back (st.key a i) ≡ true) (λ a. st.dropped a i) k.0 false (λ _ e. absurd cc) s (sound.dropped_back s i)
+    put_keeps (λ a x. x ≡ true → can_come_back (st.key a i) ≡ true) (λ a. st.put_due a i) k.0 false (λ _ e. absurd cc) s (sound.due_back s i)
 dropped_back_step l own st me act may answers sound s i =
-    stages_keep (Condition l own st me) st me (λ a b k. st.dropped a b ≡ true → can_come_back k ≡ true)
-    (back_keeps l own st me (λ a b. st.dropped a b ≡ true) (λ s' i' taken dropped. taken_not_dropped st sound me s' i' taken dropped))
-    act may answers s i (sound.dropped_back s i)
+    stages_keep (Condition l own st me) st me (λ a b k. st.put_due a b ≡ true → can_come_back k ≡ true)
+    (back_keeps l own st me (λ a b. st.put_due a b ≡ true) (λ s' i' taken dropped. taken_not_dropped st sound me s' i' taken dropped))
+    act may answers s i (sound.due_back s i)
 
 free_untaken_step : (st : State) (me : CallerNo) (act : Act) → IsSound st → (s i : ℕ) → (effect st me act).free s i ≡ true → (effect st me act).taker s i ≡ None
 free_untaken_step st me (PutFree s' i') sound s i =
@@ -387,59 +387,59 @@ not_dropped_now dropped begun found k found_is back undropped =
     and_false false = refl
 
 free_undropped_step : (st : State) (me : CallerNo) (act : Act) → Answers st me act → IsSound st
-    → (s i : ℕ) → (effect st me act).free s i ≡ true → (effect st me act).dropped s i ≡ false
+    → (s i : ℕ) → (effect st me act).free s i ≡ true → (effect st me act).put_due s i ≡ false
 free_undropped_step st me (PutFree s' i') answers sound s i =
-    put_at_both (λ _ _ x y. x ≡ true → y ≡ false) st.free st.dropped s'.0 i' true false (λ _ _. refl) s i (sound.free_undropped s i)
+    put_at_both (λ _ _ x y. x ≡ true → y ≡ false) st.free st.put_due s'.0 i' true false (λ _ _. refl) s i (sound.free_not_due s i)
 free_undropped_step st me (TakeFree s' i' found) answers sound s i =
-    put_at_keeps (λ a b x. x ≡ true → st.dropped a b ≡ false) st.free s'.0 i' false (λ _ e. absurd cc) s i (sound.free_undropped s i)
+    put_at_keeps (λ a b x. x ≡ true → st.put_due a b ≡ false) st.free s'.0 i' false (λ _ e. absurd cc) s i (sound.free_not_due s i)
 free_undropped_step st me (Remove s' i' found) answers sound s i =
     let found_is : found ≡ st.key s'.0 i' = cc in
-    put_at_keeps (λ a b y. st.free a b ≡ true → y ≡ false) st.dropped s'.0 i' _
-    (λ old e. not_dropped_now (st.dropped s'.0 i') (st.begun s'.0) found (st.key s'.0 i') found_is (sound.free_back s'.0 i' e) (old e)) s i (sound.free_undropped s i)
+    put_at_keeps (λ a b y. st.free a b ≡ true → y ≡ false) st.put_due s'.0 i' _
+    (λ old e. not_dropped_now (st.put_due s'.0 i') (st.begun s'.0) found (st.key s'.0 i') found_is (sound.free_back s'.0 i' e) (old e)) s i (sound.free_not_due s i)
 free_undropped_step st me (GiveTurn k) answers sound s i =
-    put_keeps (λ a y. st.free a i ≡ true → y ≡ false) (λ a. st.dropped a i) k.0 false (λ _ _. refl) s (sound.free_undropped s i)
-free_undropped_step st me act answers sound s i = sound.free_undropped s i
+    put_keeps (λ a y. st.free a i ≡ true → y ≡ false) (λ a. st.put_due a i) k.0 false (λ _ _. refl) s (sound.free_not_due s i)
+free_undropped_step st me act answers sound s i = sound.free_not_due s i
 
 taken_undropped_step : (st : State) (me : CallerNo) (act : Act) → Answers st me act → IsSound st
-    → (s i : ℕ) → is_some ((effect st me act).taker s i) ≡ true → (effect st me act).dropped s i ≡ false
+    → (s i : ℕ) → is_some ((effect st me act).taker s i) ≡ true → (effect st me act).put_due s i ≡ false
 taken_undropped_step st me (PutFree s' i') answers sound s i =
-    put_at_both (λ _ _ o y. is_some o ≡ true → y ≡ false) st.taker st.dropped s'.0 i' None false (λ _ _. refl) s i (sound.taken_undropped s i)
+    put_at_both (λ _ _ o y. is_some o ≡ true → y ≡ false) st.taker st.put_due s'.0 i' None false (λ _ _. refl) s i (sound.taken_not_due s i)
 taken_undropped_step st me (TakeFree s' i' true) answers sound s i =
     let was_free : st.free s'.0 i' ≡ true = cc in
-    put_at_keeps (λ a b o. is_some o ≡ true → st.dropped a b ≡ false) st.taker s'.0 i' (Some me) (λ _ _. sound.free_undropped s'.0 i' was_free) s i (sound.taken_undropped s i)
+    put_at_keeps (λ a b o. is_some o ≡ true → st.put_due a b ≡ false) st.taker s'.0 i' (Some me) (λ _ _. sound.free_not_due s'.0 i' was_free) s i (sound.taken_not_due s i)
 taken_undropped_step st me (TakeFree s' i' false) answers sound s i =
-    put_at_keeps (λ a b o. is_some o ≡ true → st.dropped a b ≡ false) st.taker s'.0 i' (st.taker s'.0 i') (λ old. old) s i (sound.taken_undropped s i)
+    put_at_keeps (λ a b o. is_some o ≡ true → st.put_due a b ≡ false) st.taker s'.0 i' (st.taker s'.0 i') (λ old. old) s i (sound.taken_not_due s i)
 taken_undropped_step st me (ClaimAgain s' i' c from true) answers sound s i =
-    put_at_keeps (λ a b o. is_some o ≡ true → st.dropped a b ≡ false) st.taker s'.0 i' (st.taker s'.0 i') (λ old. old) s i (sound.taken_undropped s i)
+    put_at_keeps (λ a b o. is_some o ≡ true → st.put_due a b ≡ false) st.taker s'.0 i' (st.taker s'.0 i') (λ old. old) s i (sound.taken_not_due s i)
 taken_undropped_step st me (ClaimAgain s' i' c from false) answers sound s i =
-    put_at_keeps (λ a b o. is_some o ≡ true → st.dropped a b ≡ false) st.taker s'.0 i' None (λ _ e. absurd cc) s i (sound.taken_undropped s i)
+    put_at_keeps (λ a b o. is_some o ≡ true → st.put_due a b ≡ false) st.taker s'.0 i' None (λ _ e. absurd cc) s i (sound.taken_not_due s i)
 taken_undropped_step st me (Remove s' i' found) answers sound s i =
     let found_is : found ≡ st.key s'.0 i' = cc in
-    put_at_keeps (λ a b y. is_some (st.taker a b) ≡ true → y ≡ false) st.dropped s'.0 i' _
-    (λ old e. not_dropped_now (st.dropped s'.0 i') (st.begun s'.0) found (st.key s'.0 i') found_is (sound.taken_back s'.0 i' e) (old e)) s i (sound.taken_undropped s i)
+    put_at_keeps (λ a b y. is_some (st.taker a b) ≡ true → y ≡ false) st.put_due s'.0 i' _
+    (λ old e. not_dropped_now (st.put_due s'.0 i') (st.begun s'.0) found (st.key s'.0 i') found_is (sound.taken_back s'.0 i' e) (old e)) s i (sound.taken_not_due s i)
 taken_undropped_step st me (GiveTurn k) answers sound s i =
-    put_keeps (λ a y. is_some (st.taker a i) ≡ true → y ≡ false) (λ a. st.dropped a i) k.0 false (λ _ _. refl) s (sound.taken_undropped s i)
-taken_undropped_step st me act answers sound s i = sound.taken_undropped s i
+    put_keeps (λ a y. is_some (st.taker a i) ≡ true → y ≡ false) (λ a. st.put_due a i) k.0 false (λ _ _. refl) s (sound.taken_not_due s i)
+taken_undropped_step st me act answers sound s i = sound.taken_not_due s i
 
 dropped_begun_step : (st : State) (me : CallerNo) (act : Act) → Answers st me act → IsSound st
-    → (s i : ℕ) → (effect st me act).dropped s i ≡ true → (effect st me act).begun s ≡ true
+    → (s i : ℕ) → (effect st me act).put_due s i ≡ true → (effect st me act).begun s ≡ true
 dropped_begun_step st me (Remove s' i' found) answers sound s i =
-    put_at_keeps (λ a b x. x ≡ true → st.begun a ≡ true) st.dropped s'.0 i' _
-    (λ old e. elim (either (st.dropped s'.0 i') (st.begun s'.0 && frees_index found) e) [
+    put_at_keeps (λ a b x. x ≡ true → st.begun a ≡ true) st.put_due s'.0 i' _
+    (λ old e. elim (either (st.put_due s'.0 i') (st.begun s'.0 && frees_index found) e) [
       | inl before ↦ old before
       | inr now ↦ (and_parts (st.begun s'.0) (frees_index found) now).0
-    ]) s i (sound.dropped_begun s i)
+    ]) s i (sound.due_begun s i)
 dropped_begun_step st me (PutFree s' i') answers sound s i =
-    put_at_keeps (λ a b x. x ≡ true → st.begun a ≡ true) st.dropped s'.0 i' false (λ _ e. absurd cc) s i (sound.dropped_begun s i)
+    put_at_keeps (λ a b x. x ≡ true → st.begun a ≡ true) st.put_due s'.0 i' false (λ _ e. absurd cc) s i (sound.due_begun s i)
 dropped_begun_step st me (GiveTurn k) answers sound s i =
-    put_both (λ _ x b. x ≡ true → b ≡ true) (λ a. st.dropped a i) st.begun k.0 false false (λ e. e) s (sound.dropped_begun s i)
+    put_both (λ _ x b. x ≡ true → b ≡ true) (λ a. st.put_due a i) st.begun k.0 false false (λ e. e) s (sound.due_begun s i)
 dropped_begun_step st me (TakeTurn k found) answers sound s i =
     let found_is : found ≡ st.turn k.0 = cc in
-    put_keeps (λ a b. st.dropped a i ≡ true → b ≡ true) st.begun k.0 _
-    (λ old e. and_from (is_some found) (st.begun k.0) (ap is_some found_is ∙ sound.begun_turn k.0 (old e)) (old e)) s (sound.dropped_begun s i)
+    put_keeps (λ a b. st.put_due a i ≡ true → b ≡ true) st.begun k.0 _
+    (λ old e. and_from (is_some found) (st.begun k.0) (ap is_some found_is ∙ sound.begun_turn k.0 (old e)) (old e)) s (sound.due_begun s i)
 dropped_begun_step st me (BeginLook k found) answers sound s i =
-    put_keeps (λ a b. st.dropped a i ≡ true → b ≡ true) st.begun k.0 _ (λ old e. ap (λ b. b || not found.shut) (old e)) s (sound.dropped_begun s i)
-dropped_begun_step st me act answers sound s i = sound.dropped_begun s i
+    put_keeps (λ a b. st.put_due a i ≡ true → b ≡ true) st.begun k.0 _ (λ old e. ap (λ b. b || not found.shut) (old e)) s (sound.due_begun s i)
+dropped_begun_step st me act answers sound s i = sound.due_begun s i
 
 sound_opening : IsSound opening
 sound_opening = record {
@@ -455,11 +455,11 @@ sound_opening = record {
   unclaimed_unpinned = λ s i n h. refl;
   free_back = λ s i h. absurd cc;
   taken_back = λ s i h. absurd cc;
-  dropped_back = λ s i h. absurd cc;
+  due_back = λ s i h. absurd cc;
   free_untaken = λ s i h. refl;
-  free_undropped = λ s i h. refl;
-  taken_undropped = λ s i h. refl;
-  dropped_begun = λ s i h. absurd cc;
+  free_not_due = λ s i h. refl;
+  taken_not_due = λ s i h. refl;
+  due_begun = λ s i h. absurd cc;
 }
 
 sound_step : (l : Limits) (past : List Event) (e : Event) → IsLegal l past → IsStep l past e → IsSound (state_after past) → IsSound (effect (state_after past) e.caller e.act)
@@ -476,11 +476,11 @@ sound_step l past e legal step sound = record {
   unclaimed_unpinned = unclaimed_unpinned_step l (mine e.caller past) (state_after past) e.caller e.act step.condition sound;
   free_back = free_back_step l (mine e.caller past) (state_after past) e.caller e.act step.condition step.answers sound;
   taken_back = taken_back_step (state_after past) e.caller e.act step.answers sound;
-  dropped_back = dropped_back_step l (mine e.caller past) (state_after past) e.caller e.act step.condition step.answers sound;
+  due_back = dropped_back_step l (mine e.caller past) (state_after past) e.caller e.act step.condition step.answers sound;
   free_untaken = free_untaken_step (state_after past) e.caller e.act sound;
-  free_undropped = free_undropped_step (state_after past) e.caller e.act step.answers sound;
-  taken_undropped = taken_undropped_step (state_after past) e.caller e.act step.answers sound;
-  dropped_begun = dropped_begun_step (state_after past) e.caller e.act step.answers sound;
+  free_not_due = free_undropped_step (state_after past) e.caller e.act step.answers sound;
+  taken_not_due = taken_undropped_step (state_after past) e.caller e.act step.answers sound;
+  due_begun = dropped_begun_step (state_after past) e.caller e.act step.answers sound;
 }
 
 pub legal-sound : (l : Limits) (events : List Event) → IsLegal l events → IsSound (state_after events)

@@ -15,7 +15,7 @@ use Rattle.nio_event.proofs.Put.{put_keeps, put_at_keeps, put_pin_keeps}
 use Rattle.nio_event.proofs.Soundness.{legal-sound, held_some, both_ways, not_true, beyond-claimed, cancelled_parts, may_remove, taken_not_dropped}
 use Rattle.nio_event.proofs.Told.{either, or_right}
 use Rattle.nio_event.specs.Acts.{effect, frees_index}
-use Rattle.nio_event.specs.Conditions.{Condition, is_held_by, holds, has_turn, has_begun, has_entered, is_closer, has_pin, has_taken, may_sweep, may_put_dropped, may_publish, may_clear_out}
+use Rattle.nio_event.specs.Conditions.{Condition, is_held_by, holds, has_turn, has_begun, has_entered, is_closer, has_pin, has_taken, may_sweep, may_put_due, may_publish, may_clear_out}
 use Rattle.nio_event.specs.Histories.{state_after, is_by, mine, IsStep, IsLegal}
 use Rattle.nio_event.specs.Lasting.{LastingFact, selector_made, selector_closed_by, selector_entered, channel_made, index_claimed, key_cancelled, key_removed, stands, OwnFact, the_turn, a_selection, the_hold, a_pin, a_taken_index, is_had_by}
 use Rattle.nio_event.specs.OwnEvents.{OwnClaim, has, under, since_entered, finds_below, finds_unblocked, own_claim, gives_turn}
@@ -33,7 +33,7 @@ record StandsFor (n : CallerNo) (st st' : State) : Type 0 where
   lasting : (f : LastingFact) → stands f st ≡ true → stands f st' ≡ true
   had : (f : OwnFact) → is_had_by n f st ≡ true → is_had_by n f st' ≡ true
   sweep : (s : SelNo) (i : ℕ) → may_sweep st n s i ≡ true → may_sweep st' n s i ≡ true
-  put_dropped : (s : SelNo) (i : ℕ) → may_put_dropped st n s i ≡ true → may_put_dropped st' n s i ≡ true
+  put_dropped : (s : SelNo) (i : ℕ) → may_put_due st n s i ≡ true → may_put_due st' n s i ≡ true
   unpinned : (s : SelNo) (i : ℕ) → not (has_pin st n s i) ≡ true → not (has_pin st' n s i) ≡ true
 
 or_stays : (a b a' b' : Bool) → (a ≡ true → a' ≡ true) → (b ≡ true → b' ≡ true) → (a || b) ≡ true → (a' || b') ≡ true
@@ -94,7 +94,7 @@ condition_stays l n own st st' stays (Unpin s i) may = (may.0, stays.had (a_pin 
 condition_stays l n own st st' stays (ClaimAgain s i c from found) may = (may.0, may.1, stays.had (the_hold c) may.2, stays.had (a_taken_index s i) may.3, may.4, may.5)
 condition_stays l n own st st' stays (PutFree s i) may = (
   may.0,
-  or_stays (has_taken st n s i) (may_put_dropped st n s i) (has_taken st' n s i) (may_put_dropped st' n s i) (stays.had (a_taken_index s i)) (stays.put_dropped s i) may.1,
+  or_stays (has_taken st n s i) (may_put_due st n s i) (has_taken st' n s i) (may_put_due st' n s i) (stays.had (a_taken_index s i)) (stays.put_dropped s i) may.1,
 )
 condition_stays l n own st st' stays act may = may
 
@@ -134,19 +134,19 @@ cancelled_set_keeps l own st me n sound other = record {
 
 -- what a selection dropped stays so at the steps of others
 dropped_stays : (l : Limits) (own : List Act) (st : State) (me n : CallerNo) (act : Act) → IsSound st → Condition l own st me act → (me.0 == n.0) ≡ false
-    → (s i : ℕ) → has_begun_on st n s ≡ true → st.dropped s i ≡ true → (effect st me act).dropped s i ≡ true
-dropped_stays l own st me n (Remove s' i' found) sound may other s i begun = put_at_keeps (λ _ _ x. x ≡ true) st.dropped s'.0 i' _ (λ e. ap (λ b. b || (st.begun s'.0 && frees_index found)) e) s i
+    → (s i : ℕ) → has_begun_on st n s ≡ true → st.put_due s i ≡ true → (effect st me act).put_due s i ≡ true
+dropped_stays l own st me n (Remove s' i' found) sound may other s i begun = put_at_keeps (λ _ _ x. x ≡ true) st.put_due s'.0 i' _ (λ e. ap (λ b. b || (st.begun s'.0 && frees_index found)) e) s i
 dropped_stays l own st me n (PutFree s' i') sound may other s i begun = λ h.
-    put_at_keeps (λ a _ x. has_begun_on st n a ≡ true → x ≡ true) st.dropped s'.0 i' false (λ old begun'. absurd (not_put (old begun') begun')) s i (λ _. h) begun
+    put_at_keeps (λ a _ x. has_begun_on st n a ≡ true → x ≡ true) st.put_due s'.0 i' false (λ old begun'. absurd (not_put (old begun') begun')) s i (λ _. h) begun
   where
-    not_put : st.dropped s'.0 i' ≡ true → has_begun_on st n s'.0 ≡ true → ⊥
+    not_put : st.put_due s'.0 i' ≡ true → has_begun_on st n s'.0 ≡ true → ⊥
     not_put dropped begun' =
-        elim (either (has_taken st me s' i') (may_put_dropped st me s' i') may.1) [
+        elim (either (has_taken st me s' i') (may_put_due st me s' i') may.1) [
           | inl taken ↦ taken_not_dropped st sound me s' i' taken dropped
-          | inr its ↦ not_other me n (st.turn s'.0) other (begun_holder st me s' (and_parts (has_begun st me s') (st.dropped s'.0 i') its).0) (begun_holder st n s' begun')
+          | inr its ↦ not_other me n (st.turn s'.0) other (begun_holder st me s' (and_parts (has_begun st me s') (st.put_due s'.0 i') its).0) (begun_holder st n s' begun')
         ]
 dropped_stays l own st me n (GiveTurn k) sound may other s i begun = λ h.
-    put_keeps (λ a x. has_begun_on st n a ≡ true → x ≡ true) (λ a. st.dropped a i) k.0 false
+    put_keeps (λ a x. has_begun_on st n a ≡ true → x ≡ true) (λ a. st.put_due a i) k.0 false
     (λ _ begun'. absurd (not_other me n (st.turn k.0) other may.1 (begun_holder st n k begun'))) s (λ _. h) begun
 dropped_stays l own st me n act sound may other s i begun = λ h. h
 
@@ -256,12 +256,12 @@ conditions_stay l n before after begins legal same act may =
           (begun_still l past e sound step other s both.0)
           (stages_keep (Condition l (mine e.caller past) st e.caller) st e.caller (λ a _ k. has_begun_on st n a ≡ true → in_cancelled_set k ≡ true)
           (cancelled_set_keeps l (mine e.caller past) st e.caller n sound other) e.act step.condition step.answers s.0 i (λ _. both.1) both.0));
-      put_dropped = λ s i. by_others l n before later legal' nothing (λ st. may_put_dropped st n s i)
+      put_dropped = λ s i. by_others l n before later legal' nothing (λ st. may_put_due st n s i)
           (λ past e past_legal step other here.
           let st : State = state_after past in
           let sound : IsSound st = legal-sound l past past_legal in
-          let both = and_parts (has_begun st n s) (st.dropped s.0 i) here in
-          and_from (has_begun (effect st e.caller e.act) n s) ((effect st e.caller e.act).dropped s.0 i)
+          let both = and_parts (has_begun st n s) (st.put_due s.0 i) here in
+          and_from (has_begun (effect st e.caller e.act) n s) ((effect st e.caller e.act).put_due s.0 i)
           (begun_still l past e sound step other s both.0)
           (dropped_stays l (mine e.caller past) st e.caller n e.act sound step.condition other s.0 i both.0 both.1));
       unpinned = λ s i. by_others l n before later legal' nothing (λ st. not (has_pin st n s i))

@@ -1,11 +1,11 @@
 -- Each event of the worked history is a step.
-use Rattle.std.proofs.Common.{◌≡◌, ℕ, ◌<◌, true, false, Some, None, List, [], ◌∷◌, ◌++◌, take, drop, append_assoc, ap, refl, sym, subst, arith, lit<, lit≤}
+use Rattle.std.proofs.Common.{◌≡◌, ℕ, ◌<◌, true, false, Option, Some, None, List, [], ◌∷◌, ◌++◌, take, drop, append_assoc, ap, refl, sym, subst, arith, lit<, lit≤}
 use Rattle.std.proofs.lemmas.List.{append-nil}
 use Rattle.nio_base.specs.declared.limits.Limits.{Limits}
 use Rattle.nio_event.proofs.Legal.{legal_empty, legal_more}
 use Rattle.nio_event.specs.Histories.{state_after, mine, IsStep, IsLegal}
 use Rattle.nio_event.specs.Answers.{bits_below, count_below}
-use Rattle.nio_event.specs.OwnEvents.{is_clear}
+use Rattle.nio_event.specs.OwnEvents.{OwnClaim, is_clear}
 use Rattle.nio_event.specs.Worked.{v, small_limits, worked_history, WorkedHistoryIsLegal, RefusedEventsAreNoSteps}
 use Rattle.nio_event.specs.declared.event.Event.{Event}
 
@@ -210,6 +210,13 @@ not_so e = cc
 nothing_known : {A : Type 0} (x : A) → None ≡ Some x → ⊥
 nothing_known x e = cc
 
+abbrev claimed_serial : Option OwnClaim → ℕ
+claimed_serial None = 0
+claimed_serial (Some claim) = claim.serial
+
+other_serial : ◌≡◌ {A = ℕ} 1 0 → ⊥
+other_serial e = cc e
+
 pub refused_events_are_no_steps : RefusedEventsAreNoSteps
 unfolding bits_below count_below
 refused_events_are_no_steps =
@@ -235,22 +242,29 @@ refused_events_are_no_steps =
     (λ step. not_so step.condition.2) ▸
     -- only the holder of the turn begins a selection
     (λ step. not_so step.condition.1) ▸
-    -- a selection removes no key that is not cancelled
+    -- a selection removes no key that is not cancelled, and none twice
+    (λ step. not_so step.condition.1) ▸
     (λ step. not_so step.condition.1) ▸
     -- only the selecting caller marks, and only what it is told of and finds
     (λ step. not_so step.condition.1) ▸
     (λ step. not_so step.condition.2) ▸
     (λ step. cc step.answers) ▸
-    -- an index is put by the caller whose selection dropped it, or that has taken it, and once
+    -- an index is put by the caller whose selection removed its key, or that has taken it, and once
+    (λ step. not_so step.condition.1) ▸
     (λ step. not_so step.condition.1) ▸
     (λ step. not_so step.condition.1) ▸
     (λ step. not_so step.condition.1) ▸
     -- an index is claimed again from what the caller found since it took it, and not while it is pinned
     (λ step. nothing_known _ step.condition.4) ▸
     (λ step. cc step.answers) ▸
-    -- a mark is cleared before the key is published
+    (λ step. not_so step.condition.2) ▸
+    -- a mark is cleared by who claimed the index, before the key is published
     (λ step. not_so step.condition.1) ▸
-    -- a channel goes back to blocking mode only after a look at its noted keys
+    (λ step. not_so step.condition.1) ▸
+    -- a key is noted with the serial of the claim
+    (λ step. other_serial (ap claimed_serial step.condition.2)) ▸
+    -- a channel goes back to blocking mode only after a look at its noted keys, since it noted one itself
+    (λ step. not_so (step.condition.2 refl 0 (lit< tt))) ▸
     (λ step. not_so (step.condition.2 refl 0 (lit< tt))) ▸
     (λ step. not_so (step.condition.2 refl 0 (lit< tt))) ▸
     -- a closer removes after it has entered, and what it has found below the mark since

@@ -1,7 +1,7 @@
 -- What a caller knows from its own acts: general words over the list of its acts, oldest first, and
--- small tests of one act. What is "found" is what a look found; of the key that is noted for a channel
--- a caller knows too what it noted itself.
-use Rattle.std.specs.Prelude.{ℕ, suc, ◌==◌, nat_lt, Bool, true, false, not, ◌&&◌, if◌then◌else◌, Option, Some, None, List, [], ◌∷◌, ◌++◌, fold, count_by}
+-- small tests of one act. What is "found" is what a look found, of a key also what pinning its index found;
+-- of the key that is noted for a channel a caller knows too what it noted itself.
+use Rattle.std.specs.Prelude.{ℕ, suc, ◌==◌, nat_lt, Bool, true, false, not, ◌&&◌, ◌||◌, if◌then◌else◌, Option, Some, None, List, [], ◌∷◌, ◌++◌, fold, count_by}
 use Rattle.std.specs.List.{list_any}
 use Rattle.std.specs.Option.{option_or}
 use Rattle.nio_base.specs.declared.numbers.ChanNo.{ChanNo}
@@ -175,15 +175,29 @@ leaves_unpublished s i _ = None
 abbrev pub is_unpublished : ℕ → ℕ → List Act → Bool
 is_unpublished s i own = is_yes (last (leaves_unpublished s i) own)
 
+-- it noted a key for channel c in selector s
+abbrev pub notes : ℕ → ℕ → Act → Bool
+notes c s (Enrol c' s' i serial found) = (c'.0 == c) && (s'.0 == s)
+notes c s _ = false
+
+-- it published the key of index i of selector s
+abbrev pub publishes : ℕ → ℕ → Act → Bool
+publishes s i (Publish s' i' found) = (s'.0 == s) && (i' == i)
+publishes s i _ = false
+
 -- ---- a channel's noted key
 
--- by what it did under its hold, none was noted, or the key that was it found outside the key set. A
--- key that it found not published it might publish itself after that look: no call does
-abbrev pub is_clear_by : ℕ → List Act → Option (Option KeyId) → Bool
-is_clear_by s held None = false
-is_clear_by s held (Some None) = true
-is_clear_by s held (Some (Some k)) = has (finds_outside s k) held
+-- what it did under its hold since it last noted a key for the channel or published the key of index i
+abbrev pub since_noted : ℕ → ℕ → ℕ → List Act → List Act
+since_noted c s i held = since_from (λ act. notes c s act || publishes s i act) held
+
+-- by what it did under its hold, none was noted, or the key that was it found outside the key set; a look
+-- that is older than its own noting or publishing there doesn't count
+abbrev pub is_clear_by : ℕ → ℕ → List Act → Option (Option KeyId) → Bool
+is_clear_by c s held None = false
+is_clear_by c s held (Some None) = true
+is_clear_by c s held (Some (Some k)) = has (finds_outside s k) (since_noted c s k.index held)
 
 -- the same of channel c in selector s, under its present hold of c
 abbrev pub is_clear : ℕ → ℕ → List Act → Bool
-is_clear c s own = is_clear_by s (under c own) (last (noted_found c s) (under c own))
+is_clear c s own = is_clear_by c s (under c own) (last (noted_found c s) (under c own))

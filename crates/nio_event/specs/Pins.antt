@@ -1,5 +1,6 @@
 -- Laws of indexes that come back: a pinned index keeps its key; an index is claimed again only after its key
--- was removed, and only while nobody has a pin on it; a key that a selection found and didn't remove stays.
+-- was removed, and only while nobody has a pin on it; while a caller selects, keys that it doesn't remove
+-- stay.
 use Rattle.std.specs.Prelude.{◌≡◌, ◌↔◌, ℕ, ◌==◌, ◌&&◌, Bool, false, Some, IsTrue, IsFalse, List, ◌∷◌, ◌++◌}
 use Rattle.nio_base.specs.Limits.{IsFit}
 use Rattle.nio_base.specs.declared.limits.Limits.{Limits}
@@ -75,8 +76,8 @@ pub record IsKeptInSelection (was now : Stage) : Type 0 where
   pub removed : IsFalse now.removed
   pub published : IsTrue was.published → IsTrue now.published
 
--- a key that isn't removed stays and keeps its index while a caller selects and doesn't remove it itself; so
--- does its index not become free
+-- a key that isn't removed stays and keeps its index while a caller selects and doesn't remove it itself; nor
+-- does its index become free
 abbrev pub SelectionsKeepKeys : Type 0
 SelectionsKeepKeys = (l : Limits) (n : CallerNo) (s : SelNo) (i : ℕ) (before later : List Event) → IsLegal l (before ++ later)
     → IsTrue (has_begun (state_after before) n s) → IsFalse (has (gives_turn s.0) (mine n later)) → IsFalse (has (removes s.0 i) (mine n later))

@@ -57,9 +57,9 @@ pub fn own_pins_law()
     ensures { PinsAreOwn }
 {}
 
-/// A pinned index keeps its key until the pin is taken off, so it is claimed again exactly where nobody has
-/// a pin on it, and then from a key that was removed. While a caller has the pin of its claim, the key is the
-/// one that it claimed. A key that is noted for a channel was claimed for it.
+/// A `claim_again` succeeds exactly where nobody has a pin on the index, and only from a key that was removed.
+/// So an index keeps its key until a pin on it is taken off, and while a caller has the pin of its claim, the
+/// key is the one that it claimed. A key that is noted for a channel was claimed for it.
 pub fn pins_law()
     ensures stays { PinnedKeysStay }
     ensures where_unpinned { ClaimsAgainWhereUnpinned }
@@ -68,7 +68,8 @@ pub fn pins_law()
     ensures noted { NotedKeysAreClaimed }
 {}
 
-/// While a caller selects, a key that it doesn't remove stays and keeps its index and its serial.
+/// While a caller selects, a key that isn't removed yet, and that the caller doesn't remove, keeps its index
+/// and its serial.
 pub fn selected_keys_law()
     ensures { SelectionsKeepKeys }
 {}
