@@ -75,7 +75,7 @@ found_call Attach args r h = found_behind Attach args r h (λ x fits. (fits, ref
 found_call Attachment args r h = found_behind Attachment args r h (λ x fits. (fits, refl))
 found_call Begin args r h = found_behind Begin args r h (λ x fits. (fits, refl))
 found_call Told args r h =
-    found_behind Told args r h (λ x fits. ((fits.0, fits.1.0, fits.1.1), refl))
+    found_behind Told args r h (λ x fits. (fits, refl))
 found_call Failed args r h = found_behind Failed args r h (λ x fits. (fits, refl))
 found_call Wakeup args r h = found_behind Wakeup args r h (λ x fits. (fits, refl))
 found_call Close args r h = found_behind Close args r h (λ x fits. (fits, refl))
@@ -109,7 +109,7 @@ only_call (call.Unselect s k) args r h fits e = h.only (s, k) fits e
 only_call (call.Attach s k n) args r h fits e = h.only (s, k, n) fits e
 only_call (call.Attachment s k) args r h fits e = h.only (s, k) fits e
 only_call (call.Begin s waiting) args r h fits e = h.only (s, waiting) fits e
-only_call (call.Told s elapsed pairs) args r h fits e = h.only (s, elapsed, pairs) (fits.0, (fits.1, fits.2)) e
+only_call (call.Told s elapsed pairs) args r h fits e = h.only (s, elapsed, pairs) fits e
 only_call (call.Failed s) args r h fits e = h.only s fits e
 only_call (call.Wakeup s) args r h fits e = h.only s fits e
 only_call (call.Close s) args r h fits e = h.only s fits e

@@ -11,9 +11,10 @@ use Rattle.nio_base.specs.declared.kind.Kind.{Kind}
 use Rattle.nio_base.specs.declared.kind.Kind.TheVariants.{Stream, Listener, Source, Sink}
 use Rattle.nio_base.specs.declared.numbers.CallerNo.{CallerNo}
 use Rattle.nio_base.specs.declared.numbers.ChanNo.{ChanNo}
+use Rattle.nio_base.specs.declared.numbers.KeyId.{KeyId}
 use Rattle.nio_base.specs.declared.numbers.SelNo.{SelNo}
 use Rattle.nio_event.specs.Arguments.{arguments, no_words, kind_words, mode_words, ModeFits, channel_words, ChannelFits, channel_selector_words, ChannelSelectorFits, registration_words, RegistrationFits, selector_key_words, SelectorKeyFits, key_ops_words, KeyOpsFits, key_number_words, KeyNumberFits, wait_words, WaitFits, told_words, ToldFits, selector_words, SelectorFits, caller_words, CallerFits}
-use Rattle.nio_event.specs.Calls.{IsAttachment, IsBlank, IsCall, IsLine, IsMilliseconds, IsNumber, IsPair, IsTime, attachment_words, call_words, elapsed_words, mode_word, waiting_words}
+use Rattle.nio_event.specs.Calls.{IsAttachment, IsBlank, IsCall, IsKey, IsLine, IsMilliseconds, IsNumber, IsPair, IsTime, attachment_words, call_words, elapsed_words, mode_word, waiting_words}
 use Rattle.nio_event.specs.CallWords.{call_word, call_word_text}
 use Rattle.nio_event.specs.Dispatch.{ReadsArguments}
 use Rattle.nio_event.specs.Printing.{spaced}
@@ -29,7 +30,7 @@ use Rattle.nio_event.proofs.CallWordDispatch.{reads_call, words_of}
 use Rattle.nio_event.proofs.CallWordTable.{reads_call_word}
 use Rattle.nio_event.proofs.Cuts.{position-cut, parts-cut}
 use Rattle.nio_event.proofs.JoinedWords.{join_spaced}
-use Rattle.nio_event.proofs.NameWords.{decimal_lacks, key_word_lacks_colon, pair_word_cut}
+use Rattle.nio_event.proofs.NameWords.{KeyForm, first, later, decimal_lacks, index_word, index_word_lacks, key_form, key_same, key_word_lacks_colon, lacks_none, pair_word_cut}
 use Rattle.nio_event.proofs.Spaces.{split_join, caller_spaceless, call_spaceless}
 
 -- what fits and is printed alike is the same
@@ -65,8 +66,33 @@ selector_one x y f g e = ap selector_no (numbered_one 115 x.0 y.0 (omega arith) 
 channel_one : IsOne ChannelFits channel_word
 channel_one x y f g e = ap channel_no (numbered_one 99 x.0 y.0 (omega arith) (omega arith) e)
 
-key_one : IsOne IsNumber key_word
-key_one x y f g e = numbered_one 107 x y (omega arith) (omega arith) e
+-- parts before and behind the first byte of a value
+pub cut_one : (byte : ℕ) (before after front back : List ℕ) → All (λ b. b ≢ byte) before → All (λ b. b ≢ byte) front
+    → before ++ byte ∷ after ≡ front ++ byte ∷ back → (before ≡ front) × (after ≡ back)
+cut_one byte before after front back h k e =
+    let text : List ℕ = before ++ byte ∷ after in
+    let first = position-cut byte text before after h refl in
+    let second = position-cut byte text front back k e in
+    let own = parts-cut byte text before after (length before) refl refl in
+    let other = parts-cut byte text front back (length before) (sym first ∙ second) e in
+    (sym own.0 ∙ other.0, sym own.1 ∙ other.1)
+
+key_one : IsOne IsKey key_word
+key_one x y f g e = by_forms (key_form x) (key_form y)
+  where
+    lacks : (k : KeyId) → IsKey k → All (λ b. b ≢ 46) (index_word k.index)
+    lacks k fits = index_word_lacks k.index 46 fits.index_fits (λ q. omega (arith, q)) (λ r. omega (arith, r))
+    by_forms : KeyForm x → KeyForm y → x ≡ y
+    by_forms (first zeroth is) (first also that) =
+        key_same x y (numbered_one 107 x.index y.index (omega (arith, f.index_fits)) (omega (arith, g.index_fits)) (sym is ∙ (e ∙ that))) (zeroth ∙ sym also)
+    by_forms (first zeroth is) (later some that) =
+        absurd (lacks_none 46 (index_word y.index) (decimal y.serial) (subst (All (λ b. b ≢ 46)) (sym is ∙ (e ∙ that)) (lacks x f)))
+    by_forms (later some is) (first zeroth that) =
+        absurd (lacks_none 46 (index_word x.index) (decimal x.serial) (subst (All (λ b. b ≢ 46)) (sym that ∙ (sym e ∙ is)) (lacks y g)))
+    by_forms (later some is) (later more that) =
+        let parts = cut_one 46 (index_word x.index) (decimal x.serial) (index_word y.index) (decimal y.serial) (lacks x f) (lacks y g) (sym is ∙ (e ∙ that)) in
+        key_same x y (numbered_one 107 x.index y.index (omega (arith, f.index_fits)) (omega (arith, g.index_fits)) parts.0)
+        (decimal_injective x.serial y.serial (omega (arith, f.serial_fits)) (omega (arith, g.serial_fits)) parts.1)
 
 kind_one : (x y : Kind) → kind_word x ≡ kind_word y → x ≡ y
 kind_one Stream Stream e = refl
@@ -122,21 +148,10 @@ waiting_one Wait (For y) f g e = absurd (omega (arith, byte_at 0 (word_at 0 e)))
 waiting_one (For x) Now f g e = absurd (omega (arith, byte_at 0 (word_at 0 e)))
 waiting_one (For x) Wait f g e = absurd (omega (arith, byte_at 0 (word_at 0 e)))
 
--- parts before and behind the first byte of a value
-pub cut_one : (byte : ℕ) (before after front back : List ℕ) → All (λ b. b ≢ byte) before → All (λ b. b ≢ byte) front
-    → before ++ byte ∷ after ≡ front ++ byte ∷ back → (before ≡ front) × (after ≡ back)
-cut_one byte before after front back h k e =
-    let text : List ℕ = before ++ byte ∷ after in
-    let first = position-cut byte text before after h refl in
-    let second = position-cut byte text front back k e in
-    let own = parts-cut byte text before after (length before) refl refl in
-    let other = parts-cut byte text front back (length before) (sym first ∙ second) e in
-    (sym own.0 ∙ other.0, sym own.1 ∙ other.1)
-
 pair_one : IsOne IsPair pair_word
 pair_one x y f g e =
     let parts = cut_one 58 (key_word x.0) (decimal x.1) (key_word y.0) (decimal y.1) (key_word_lacks_colon x.0 f.key_fits) (key_word_lacks_colon y.0 g.key_fits) (sym (pair_word_cut x) ∙ e ∙ pair_word_cut y) in
-    ap (λ (k : ℕ). (k, x.1)) (key_one x.0 y.0 f.key_fits g.key_fits parts.0)
+    ap (λ (k : KeyId). (k, x.1)) (key_one x.0 y.0 f.key_fits g.key_fits parts.0)
     ∙ ap (λ (o : ℕ). (y.0, o)) (decimal_injective x.1 y.1 (omega (arith, f.ops_fit)) (omega (arith, g.ops_fit)) parts.1)
 
 pairs_one : IsOne (All IsPair) (map pair_word)
@@ -148,11 +163,11 @@ pairs_one (x ∷ xs) (y ∷ ys) f g e =
     ∙ ap (λ ps. y ∷ ps) (pairs_one xs ys (All-tail IsPair x xs f) (All-tail IsPair y ys g) (ap (drop 1) e))
 
 -- the word elapsed isn't a pair
-not_elapsed : (pairs others : List (ℕ × ℕ)) → elapsed_words true ++ map pair_word pairs ≡ map pair_word others → ⊥
+not_elapsed : (pairs others : List (KeyId × ℕ)) → elapsed_words true ++ map pair_word pairs ≡ map pair_word others → ⊥
 not_elapsed pairs [] e = cc e
 not_elapsed pairs (p ∷ others) e = omega (arith, byte_at 0 (word_at 0 e))
 
-told_one : (a b : Bool) (xs ys : List (ℕ × ℕ)) → All IsPair xs → All IsPair ys
+told_one : (a b : Bool) (xs ys : List (KeyId × ℕ)) → All IsPair xs → All IsPair ys
     → elapsed_words a ++ map pair_word xs ≡ elapsed_words b ++ map pair_word ys → (a ≡ b) × (xs ≡ ys)
 told_one true true xs ys f g e = (refl, pairs_one xs ys f g (ap (drop 1) e))
 told_one false false xs ys f g e = (refl, pairs_one xs ys f g e)
@@ -248,7 +263,7 @@ reads_itself (call.Unselect s k) fits = made_of SelectorKeyFits selector_key_wor
 reads_itself (call.Attach s k n) fits = made_of KeyNumberFits key_number_words (λ p. call.Attach p.0 p.1 p.2) (s, k, n) key_number_words_one fits
 reads_itself (call.Attachment s k) fits = made_of SelectorKeyFits selector_key_words (λ p. call.Attachment p.0 p.1) (s, k) selector_key_words_one fits
 reads_itself (call.Begin s waiting) fits = made_of WaitFits wait_words (λ p. call.Begin p.0 p.1) (s, waiting) wait_words_one fits
-reads_itself (call.Told s elapsed pairs) fits = made_of ToldFits told_words (λ p. call.Told p.0 p.1 p.2) (s, elapsed, pairs) told_words_one (fits.0, (fits.1, fits.2))
+reads_itself (call.Told s elapsed pairs) fits = made_of ToldFits told_words (λ p. call.Told p.0 p.1 p.2) (s, elapsed, pairs) told_words_one fits
 reads_itself (call.Failed s) fits = made_of SelectorFits selector_words call.Failed s selector_words_one fits
 reads_itself (call.Wakeup s) fits = made_of SelectorFits selector_words call.Wakeup s selector_words_one fits
 reads_itself (call.Close s) fits = made_of SelectorFits selector_words call.Close s selector_words_one fits

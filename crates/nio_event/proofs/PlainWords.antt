@@ -10,6 +10,7 @@ use Rattle.nio_base.specs.declared.kind.Kind.{Kind}
 use Rattle.nio_base.specs.declared.kind.Kind.TheVariants.{Stream, Listener, Source, Sink}
 use Rattle.nio_base.specs.declared.numbers.CallerNo.{CallerNo}
 use Rattle.nio_base.specs.declared.numbers.ChanNo.{ChanNo}
+use Rattle.nio_base.specs.declared.numbers.KeyId.{KeyId}
 use Rattle.nio_base.specs.declared.numbers.SelNo.{SelNo}
 use Rattle.nio_event.specs.Calls.{attachment_words, call_words, elapsed_words, mode_word, waiting_words}
 use Rattle.nio_event.specs.Replies.{pairs_words, reply_words, why_word}
@@ -22,9 +23,9 @@ use Rattle.nio_event.specs.declared.reply.Reply.{Reply}
 use Rattle.nio_event.specs.declared.reply.Reply.TheVariants as reply
 use Rattle.nio_event.specs.declared.reply.Why.{Why}
 use Rattle.nio_event.specs.declared.reply.Why.TheVariants as why
-use Rattle.nio_event.proofs.NameWords.{pair_word_cut}
+use Rattle.nio_event.proofs.NameWords.{KeyForm, first, later, index_word, key_form, pair_word_cut}
 
--- a digit, a small letter, `-` and `:` are plain
+-- a digit, a small letter, `-`, `.` and `:` are plain
 abbrev pub IsPlainByte : ℕ → Type 0
 IsPlainByte b = (45 ≤ b) × (b ≢ 62)
 
@@ -85,10 +86,18 @@ selector_plain s = numbered_plain 115 s.0 (omega arith, omega arith)
 channel_plain : (c : ChanNo) → IsPlain (channel_word c)
 channel_plain c = numbered_plain 99 c.0 (omega arith, omega arith)
 
-key_plain : (i : ℕ) → IsPlain (key_word i)
-key_plain i = numbered_plain 107 i (omega arith, omega arith)
+key_plain : (k : KeyId) → IsPlain (key_word k)
+key_plain k = by_form (key_form k)
+  where
+    index : IsPlain (index_word k.index)
+    index = numbered_plain 107 k.index (omega arith, omega arith)
+    by_form : KeyForm k → IsPlain (key_word k)
+    by_form (first zeroth is) = subst IsPlain (sym is) index
+    by_form (later some is) =
+        subst IsPlain (sym is)
+        (All-append IsPlainByte (index_word k.index) (46 ∷ decimal k.serial) index (numbered_plain 46 k.serial (omega arith, omega arith)))
 
-pair_plain : (p : ℕ × ℕ) → IsPlain (pair_word p)
+pair_plain : (p : KeyId × ℕ) → IsPlain (pair_word p)
 pair_plain p =
     subst IsPlain (sym (pair_word_cut p))
     (All-append IsPlainByte (key_word p.0) (58 ∷ decimal p.1) (key_plain p.0) (numbered_plain 58 p.1 (omega arith, omega arith)))
@@ -118,18 +127,18 @@ attachment_plain : (att : Option ℕ) → AllByRecursion IsPlain (attachment_wor
 attachment_plain None = tt
 attachment_plain (Some att) = (decimal_plain att, tt)
 
-pairs_plain : (pairs : List (ℕ × ℕ)) → AllByRecursion IsPlain (map pair_word pairs)
+pairs_plain : (pairs : List (KeyId × ℕ)) → AllByRecursion IsPlain (map pair_word pairs)
 pairs_plain [] = tt
 pairs_plain (p ∷ pairs) = (pair_plain p, pairs_plain pairs)
 
-told_plain : (elapsed : Bool) (pairs : List (ℕ × ℕ)) → AllByRecursion IsPlain (elapsed_words elapsed ++ map pair_word pairs)
+told_plain : (elapsed : Bool) (pairs : List (KeyId × ℕ)) → AllByRecursion IsPlain (elapsed_words elapsed ++ map pair_word pairs)
 told_plain true pairs = (literal (codes "elapsed") refl, pairs_plain pairs)
 told_plain false pairs = pairs_plain pairs
 
-selector_key_plain : (s : SelNo) (k : ℕ) → AllByRecursion IsPlain (selector_word s ∷ key_word k ∷ [])
+selector_key_plain : (s : SelNo) (k : KeyId) → AllByRecursion IsPlain (selector_word s ∷ key_word k ∷ [])
 selector_key_plain s k = (selector_plain s, (key_plain k, tt))
 
-key_number_plain : (s : SelNo) (k n : ℕ) → AllByRecursion IsPlain (selector_word s ∷ key_word k ∷ decimal n ∷ [])
+key_number_plain : (s : SelNo) (k : KeyId) (n : ℕ) → AllByRecursion IsPlain (selector_word s ∷ key_word k ∷ decimal n ∷ [])
 key_number_plain s k n = (selector_plain s, (key_plain k, (decimal_plain n, tt)))
 
 pub call_plain : (call : Call) → AllByRecursion IsPlain (call_words call)
@@ -174,18 +183,18 @@ why_plain why.Woken = literal (codes "woken") refl
 why_plain why.Interrupted = literal (codes "interrupted") refl
 why_plain why.Elapsed = literal (codes "elapsed") refl
 
-keys_plain : (keys : List ℕ) → AllByRecursion IsPlain (map key_word keys)
+keys_plain : (keys : List KeyId) → AllByRecursion IsPlain (map key_word keys)
 keys_plain [] = tt
 keys_plain (k ∷ keys) = (key_plain k, keys_plain keys)
 
-looked_plain : (pairs : List (ℕ × ℕ)) → AllByRecursion IsPlain (pairs_words pairs)
+looked_plain : (pairs : List (KeyId × ℕ)) → AllByRecursion IsPlain (pairs_words pairs)
 looked_plain [] = (literal (codes "none") refl, tt)
 looked_plain (p ∷ pairs) = pairs_plain (p ∷ pairs)
 
 pub reply_words_plain : (r : Reply) → AllByRecursion IsPlain (reply_words r)
 reply_words_plain (reply.Selector s) = (selector_plain s, tt)
 reply_words_plain (reply.Channel c) = (channel_plain c, tt)
-reply_words_plain (reply.Key i) = (key_plain i, tt)
+reply_words_plain (reply.Key k) = (key_plain k, tt)
 reply_words_plain (reply.Number n) = (decimal_plain n, tt)
 reply_words_plain (reply.Names keys) = keys_plain keys
 reply_words_plain reply.«Ok» = (literal (codes "ok") refl, tt)

@@ -32,7 +32,10 @@ pub fn read_key(word: &[u8]) -> Option<KeyId>
     ensures { Reads IsKey key_word word.now result }
 {
     match cut_at(word, b'.') {
-        None => read_index(word).map(|index| KeyId { index, serial: 0 }),
+        None => {
+            let index = read_index(word)?;
+            Some(KeyId { index, serial: 0 })
+        }
         Some((index, serial)) => {
             let index = read_index(index)?;
             let serial = read_serial(serial)?;
