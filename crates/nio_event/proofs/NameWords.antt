@@ -84,6 +84,7 @@ later_key word front back k cut only fits e = by_form (key_form k)
   where
     lacks : All (λ b. b ≢ 46) (index_word k.index)
     lacks = index_word_lacks k.index 46 fits.index_fits (λ q. omega (arith, q)) (λ r. omega (arith, r))
+
     by_form : KeyForm k → (front ≡ index_word k.index) × (back ≡ decimal k.serial) × IsSerial k.serial
     by_form (first zeroth is) =
         absurd (lacks_none 46 front back (subst (All (λ b. b ≢ 46)) (sym is ∙ (sym e ∙ cut)) lacks))
@@ -146,6 +147,7 @@ key_word_lacks_colon k fits = by_form (key_form k)
   where
     lacks : All (λ b. b ≢ 58) (index_word k.index)
     lacks = index_word_lacks k.index 58 fits.index_fits (λ q. omega (arith, q)) (λ r. omega (arith, r))
+
     by_form : KeyForm k → All (λ b. b ≢ 58) (key_word k)
     by_form (first zeroth is) = subst (All (λ b. b ≢ 58)) (sym is) lacks
     by_form (later some is) =

@@ -82,6 +82,7 @@ key_one x y f g e = by_forms (key_form x) (key_form y)
   where
     lacks : (k : KeyId) → IsKey k → All (λ b. b ≢ 46) (index_word k.index)
     lacks k fits = index_word_lacks k.index 46 fits.index_fits (λ q. omega (arith, q)) (λ r. omega (arith, r))
+
     by_forms : KeyForm x → KeyForm y → x ≡ y
     by_forms (first zeroth is) (first also that) =
         key_same x y (numbered_one 107 x.index y.index (omega (arith, f.index_fits)) (omega (arith, g.index_fits)) (sym is ∙ (e ∙ that))) (zeroth ∙ sym also)

@@ -66,11 +66,10 @@ fits_push : (pairs : List (KeyId × ℕ)) (p : KeyId × ℕ) → ArePairs pairs 
 fits_push pairs p fits is_pair new =
     let key = λ (q : KeyId × ℕ). q.0 in
     let others : (k : ℕ) (d : KeyId) → k < length (map key pairs) → get_or (map key pairs) k d ≢ p.0 =
-        λ k d lt e.
-        let within : k < length pairs = omega (arith, lt, length-map pairs key) in
-        let at = Contains-get_or pairs k p within in
-        new (at.0, get_or pairs k p, at.1, at.2, sym (get_or-map key pairs k p d within) ∙ e) in
-    (
+    λ k d lt e.
+    let within : k < length pairs = omega (arith, lt, length-map pairs key) in
+    let at = Contains-get_or pairs k p within in
+    new (at.0, get_or pairs k p, at.1, at.2, sym (get_or-map key pairs k p d within) ∙ e) in (
       All-push IsPair pairs p fits.0 is_pair,
       rw (map-append key pairs (p ∷ [])) (all_pairs_push (λ k m. k ≢ m) (map key pairs) p.0 fits.1 others),
     )

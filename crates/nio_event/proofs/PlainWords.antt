@@ -91,6 +91,7 @@ key_plain k = by_form (key_form k)
   where
     index : IsPlain (index_word k.index)
     index = numbered_plain 107 k.index (omega arith, omega arith)
+
     by_form : KeyForm k → IsPlain (key_word k)
     by_form (first zeroth is) = subst IsPlain (sym is) index
     by_form (later some is) =

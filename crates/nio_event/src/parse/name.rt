@@ -55,7 +55,11 @@ fn read_serial(digits: &[u8]) -> Option<u32>
     ensures { Reads IsSerial decimal digits.now result }
 {
     let serial = read_number(digits, u64::from(u32::MAX))?;
-    if serial == 0 { None } else { Some(serial as u32) }
+    if serial == 0 {
+        None
+    } else {
+        Some(serial as u32)
+    }
 }
 
 pub fn read_ops(word: &[u8]) -> Option<Ops>

@@ -6,7 +6,9 @@ ghost use Rattle.nio_event.specs.Calls.{attachment_words, elapsed_words, mode_wo
 ghost use Rattle.nio_event.specs.Printing.{spaced};
 ghost use Rattle.nio_event.specs.Words.{kind_word};
 
-use super::piece::{push_key_word, push_name, push_number_word, push_ops, push_pairs, push_time, push_word};
+use super::piece::{
+    push_key_word, push_name, push_number_word, push_ops, push_pairs, push_time, push_word,
+};
 use crate::call::Waiting;
 use nio_base::{ChanNo, KeyId, Kind, Ops, SelNo};
 use std::alloc::AllocError;
