@@ -3,7 +3,7 @@ use Rattle.std.proofs.Common.{◌≡◌, ℕ, ◌≤◌, ◌-◌, Bool, true, fa
 use denote.Ref.{Bor}
 use Rattle.std.proofs.lemmas.List.{take_all}
 use Rattle.nio_base.specs.declared.numbers.KeyId.{KeyId}
-use Rattle.nio_event.specs.Calls.{elapsed_words}
+use Rattle.nio_event.specs.Arguments.{elapsed_words}
 use Rattle.nio_event.specs.Words.{pair_word}
 
 pub behind_elapsed : (words : List (Bor (List ℕ))) (d : Bor (List ℕ)) → 1 ≤ length words

@@ -9,7 +9,7 @@ use Rattle.std.proofs.lemmas.List.Elements.{All-append, All-from_get_or, All-con
 use Rattle.std.proofs.lemmas.Option.{same_Some}
 use Rattle.std.proofs.lemmas.Str.Parse.{not_in_digits}
 use Rattle.nio_base.specs.declared.numbers.KeyId.{KeyId}
-use Rattle.nio_event.specs.Calls.{IsKey, IsNumber, IsPair, IsSerial}
+use Rattle.nio_event.specs.Arguments.{IsKey, IsNumber, IsPair, IsSerial}
 use Rattle.nio_event.specs.Reading.{Reads}
 use Rattle.nio_event.specs.Words.{key_word, pair_word, serial_text}
 use Rattle.nio_event.proofs.Numbers.{own}

@@ -6,7 +6,7 @@ use Rattle.std.proofs.lemmas.List.Elements.{All-push, All-get_or, All-nil, Conta
 use Rattle.std.proofs.lemmas.List.Quantifiers.{all_pairs_push}
 use Rattle.std.proofs.lemmas.Option.{same_Some, none-some}
 use Rattle.nio_base.specs.declared.numbers.KeyId.{KeyId}
-use Rattle.nio_event.specs.Calls.{ArePairs, IsPair}
+use Rattle.nio_event.specs.Arguments.{ArePairs, IsPair}
 use Rattle.nio_event.specs.Reading.{Reads}
 use Rattle.nio_event.specs.Words.{pair_word}
 use Rattle.nio_event.proofs.Readers.{reads_none}

@@ -12,13 +12,12 @@ pub mod Staying
 pub mod OneProof
 pub mod Turns
 pub mod Worked
+pub mod Reading
 pub mod Words
+pub mod Arguments
+pub mod CallWords
 pub mod Calls
 pub mod Replies
 pub mod Script
-pub mod Reading
-pub mod CallWords
-pub mod Arguments
-pub mod Dispatch
 pub mod Lines
 pub mod Printing

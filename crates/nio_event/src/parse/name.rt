@@ -1,7 +1,7 @@
 //! The words of a line that name something: `t1`, `s0`, `c2`, `k3`, `k3.1`, and `k3:5`.
 ghost use Rattle.std.specs.Prelude.{◌≡◌, ℕ, ◌<◌, ◌≤◌, ◌^◌, ◌∷◌, ◌++◌, All, ◌≢◌, IfSome};
 ghost use Rattle.std.specs.Fmt.{decimal};
-ghost use Rattle.nio_event.specs.Calls.{IsKey, IsNumber, IsPair, IsSerial};
+ghost use Rattle.nio_event.specs.Arguments.{IsKey, IsNumber, IsPair, IsSerial};
 ghost use Rattle.nio_event.specs.Reading.{Reads};
 ghost use Rattle.nio_event.specs.Words.{caller_word, selector_word, channel_word, key_word, pair_word};
 
