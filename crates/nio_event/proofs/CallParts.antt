@@ -2,8 +2,6 @@
 use Rattle.std.proofs.Common.{◌≡◌, ℕ, List, ◌∷◌, Bool, Option, Some, None, IfSome, IsSomeAnd, MatchOption, Result, Ok, Err, IfOk, refl, sym, ap, subst, ◌∙◌}
 use Rattle.std.specs.Prelude.{⊤}
 use Rattle.std.proofs.lemmas.Option.{same_Some, none-some}
-use Rattle.nio_base.specs.declared.kind.Kind.{Kind}
-use Rattle.nio_base.specs.declared.numbers.CallerNo.{CallerNo}
 use Rattle.nio_base.specs.declared.numbers.ChanNo.{ChanNo}
 use Rattle.nio_base.specs.declared.numbers.KeyId.{KeyId}
 use Rattle.nio_base.specs.declared.numbers.SelNo.{SelNo}
@@ -80,34 +78,7 @@ call_from _ _ = None
 
 call_from-parts : (c : Call) → call_from (call_word c) (arguments c) ≡ Some c
 call_from-parts call.Selector = refl
-call_from-parts (call.Channel kind) = refl
-call_from-parts (call.Blocking c on) = refl
-call_from-parts (call.IsBlocking c) = refl
-call_from-parts (call.IsOpen c) = refl
-call_from-parts (call.IsRegistered c) = refl
-call_from-parts (call.KeyFor c s) = refl
-call_from-parts (call.Register s c ops att) = refl
-call_from-parts (call.Closec c) = refl
-call_from-parts (call.Valid s k) = refl
-call_from-parts (call.Interest s k) = refl
-call_from-parts (call.Ready s k) = refl
-call_from-parts (call.Iset s k ops) = refl
-call_from-parts (call.Ior s k ops) = refl
-call_from-parts (call.Iand s k ops) = refl
-call_from-parts (call.Cancel s k) = refl
-call_from-parts (call.Unselect s k) = refl
-call_from-parts (call.Attach s k att) = refl
-call_from-parts (call.Attachment s k) = refl
-call_from-parts (call.Begin s waiting) = refl
-call_from-parts (call.Told s elapsed pairs) = refl
-call_from-parts (call.Failed s) = refl
-call_from-parts (call.Wakeup s) = refl
-call_from-parts (call.Close s) = refl
-call_from-parts (call.CloseEnd s) = refl
-call_from-parts (call.Keys s) = refl
-call_from-parts (call.Selected s) = refl
-call_from-parts (call.Interrupt t) = refl
-call_from-parts call.Interrupted = refl
+call_from-parts _ = refl
 
 -- two calls with one word and the same arguments are one
 pub parts_one : (c d : Call) → call_word c ≡ call_word d → arguments c ≡ arguments d → c ≡ d
@@ -183,7 +154,7 @@ made_call w shape of_word words (Some x) (Some c) read cases says =
           ap Some (parts_one c d (parts.0 ∙ sym fits.1) (parts.1 ∙ (ap shape same ∙ sym own.1)));
     }
 
-pub reads_call : (word : List ℕ) (w : CallWord) (args words : List (List ℕ)) (r : Option Call)
+reads_call : (word : List ℕ) (w : CallWord) (args words : List (List ℕ)) (r : Option Call)
     → Reads (λ _. ⊤) call_word_text word (Some w) → words ≡ word ∷ args → ReadsCall w args r
     → Reads IsCall call_words words r
 reads_call word w args words r read is h = record {

@@ -19,34 +19,16 @@ use Rattle.nio_event.specs.declared.call_word.TheConstants.{CALL_WORDS}
 
 pub in_table : (w : CallWord) → find (λ v. bytes_eq (call_word_text v) (call_word_text w)) CALL_WORDS ≡ Some w
 in_table (word.Alone alone.Selector) = refl
-in_table word.Channel = refl
-in_table word.Blocking = refl
-in_table (word.OnChannel on_channel.IsBlocking) = refl
-in_table (word.OnChannel on_channel.IsOpen) = refl
-in_table (word.OnChannel on_channel.IsRegistered) = refl
-in_table word.KeyFor = refl
-in_table word.Register = refl
-in_table (word.OnChannel on_channel.Closec) = refl
-in_table (word.OnKey on_key.Valid) = refl
-in_table (word.OnKey on_key.Interest) = refl
-in_table (word.OnKey on_key.Ready) = refl
-in_table (word.OnKeyOps on_key_ops.Iset) = refl
-in_table (word.OnKeyOps on_key_ops.Ior) = refl
-in_table (word.OnKeyOps on_key_ops.Iand) = refl
-in_table (word.OnKey on_key.Cancel) = refl
-in_table (word.OnKey on_key.Unselect) = refl
-in_table word.Attach = refl
-in_table (word.OnKey on_key.Attachment) = refl
-in_table word.Begin = refl
-in_table word.Told = refl
+in_table (word.Alone _) = refl
 in_table (word.OnSelector on_selector.Failed) = refl
-in_table (word.OnSelector on_selector.Wakeup) = refl
-in_table (word.OnSelector on_selector.Close) = refl
-in_table (word.OnSelector on_selector.CloseEnd) = refl
-in_table (word.OnSelector on_selector.Keys) = refl
-in_table (word.OnSelector on_selector.Selected) = refl
-in_table word.Interrupt = refl
-in_table (word.Alone alone.Interrupted) = refl
+in_table (word.OnSelector _) = refl
+in_table (word.OnChannel on_channel.IsBlocking) = refl
+in_table (word.OnChannel _) = refl
+in_table (word.OnKey on_key.Valid) = refl
+in_table (word.OnKey _) = refl
+in_table (word.OnKeyOps on_key_ops.Iset) = refl
+in_table (word.OnKeyOps _) = refl
+in_table _ = refl
 
 -- what is found is the first element or behind it
 found_at : {X : Type 0} (q : X → Bool) (y x : X) (rest : Option X) (b : Bool) → (b ≡ true → q y ≡ true)

@@ -1,5 +1,5 @@
 -- The words that name something.
-use Rattle.std.proofs.Common.{◌≡◌, ◌≢◌, ℕ, zero, suc, ◌<◌, ◌≤◌, ◌^◌, List, [], ◌∷◌, ◌++◌, if◌then◌else◌, Option, Some, None, ◌⊎◌, inl, inr, sym, ap, subst, ◌∙◌, arith, All, append_assoc, refl}
+use Rattle.std.proofs.Common.{◌≡◌, ◌≢◌, ℕ, zero, suc, ◌<◌, ◌^◌, List, [], ◌∷◌, ◌++◌, if◌then◌else◌, Some, None, sym, ap, subst, ◌∙◌, arith, All, append_assoc, refl}
 use Rattle.std.specs.Fmt.{decimal}
 use Rattle.std.specs.Int.{IsInRange}
 use Rattle.std.proofs.lemmas.Bool.{ne_eqb}
@@ -11,7 +11,7 @@ use Rattle.std.proofs.lemmas.Str.Parse.{not_in_digits}
 use Rattle.nio_base.specs.declared.numbers.KeyId.{KeyId}
 use Rattle.nio_event.specs.Arguments.{IsKey, IsNumber, IsPair, IsSerial}
 use Rattle.nio_event.specs.Reading.{Reads}
-use Rattle.nio_event.specs.Words.{key_word, pair_word, serial_text}
+use Rattle.nio_event.specs.Words.{key_word, pair_word}
 use Rattle.nio_event.proofs.Numbers.{own}
 use Rattle.nio_event.proofs.Readers.{reads_none}
 

@@ -17,7 +17,6 @@ use Rattle.nio_event.specs.Arguments.{Arguments, nothing, one_caller, one_select
 use Rattle.nio_event.specs.Calls.{IsBlank, IsCall, IsLine, call_words}
 use Rattle.nio_event.specs.CallWords.{arguments, call_word, call_word_text}
 use Rattle.nio_event.specs.Printing.{spaced}
-use Rattle.nio_event.specs.Reading.{Reads}
 use Rattle.nio_event.specs.Script.{AreCalls, no_lines, blank_line, call_line}
 use Rattle.nio_event.specs.Words.{caller_word, selector_word, channel_word, key_word, pair_word, kind_word}
 use Rattle.nio_event.specs.declared.call.Call.{Call}
@@ -289,7 +288,7 @@ line_one {caller = caller} {other = other} {c = c} {d = d} x y =
     (caller_one caller other x.caller_fits y.caller_fits (word_at 0 words), call_one c d x.call_fits y.call_fits (ap (drop 1) words))
 
 -- a call of a caller isn't blank
-pub line_full : {caller : CallerNo} {c : Call} {line : List ℕ} → IsLine caller c line → IsBlank line → ⊥
+line_full : {caller : CallerNo} {c : Call} {line : List ℕ} → IsLine caller c line → IsBlank line → ⊥
 line_full {caller = caller} {c = c} is blank =
     named_full (decimal caller.0 ++ spaced (call_words c)) (subst IsBlank (is.text ∙ join_spaced (caller_word caller) (call_words c)) blank)
   where

@@ -1,5 +1,5 @@
 -- Readers that find something, and readers that find nothing.
-use Rattle.std.proofs.Common.{◌≡◌, Option, Some, None, sym, ◌∙◌, ap}
+use Rattle.std.proofs.Common.{◌≡◌, Some, None, sym, ◌∙◌, ap}
 use Rattle.nio_event.specs.Reading.{Reads}
 
 pub reads_none : {A T : Type 0} (Fits : A → Type 0) (print : A → T) (text : T)

@@ -7,9 +7,9 @@ ghost use Rattle.nio_event.specs.Reading.{Reads};
 use crate::call::Call;
 use nio_base::{ChanNo, KeyId, Ops, SelNo};
 
-/// A call without its arguments. Words whose calls have arguments of the same shape have a type of
-/// their own. A new word needs a variant here, a line in `CALL_WORDS`, in `of`, in `text` and in the
-/// `call` of its type; with a new shape, an arm in `read_arguments` and in `push_arguments`.
+/// A call without its arguments. Words whose calls have the same arguments have a type of their own.
+/// A new word needs a variant there or here, and a line in `CALL_WORDS`, in `of`, in `text` and in the
+/// `call` of its type.
 #[derive(Clone, Copy)]
 pub enum CallWord {
     Alone(LoneWord),
