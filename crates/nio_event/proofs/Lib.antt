@@ -6,7 +6,7 @@ pub mod Times
 pub mod CallWordTable
 pub mod PairLists
 pub mod Elapsed
-pub mod CallWordDispatch
+pub mod CallParts
 pub mod PlainWords
 pub mod Spaces
 pub mod LineTexts

@@ -13,13 +13,12 @@ pub mod OneProof
 pub mod Turns
 pub mod Pins
 pub mod Worked
+pub mod Reading
 pub mod Words
+pub mod Arguments
+pub mod CallWords
 pub mod Calls
 pub mod Replies
 pub mod Script
-pub mod Reading
-pub mod CallWords
-pub mod Arguments
-pub mod Dispatch
 pub mod Lines
 pub mod Printing
