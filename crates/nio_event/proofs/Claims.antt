@@ -1,19 +1,17 @@
 -- What a caller's own claim of an index tells: while it has the pin of that claim, what each step keeps from
 -- the claim on stands.
-use Rattle.std.proofs.Common.{◌≡◌, ℕ, ◌==◌, ◌<◌, ◌≤◌, Bool, true, false, cond, ◌&&◌, ◌||◌, ◌⊎◌, inl, inr, suc, Option, Some, None, List, [], ◌∷◌, ◌++◌, if◌then◌else◌, refl, ap, sym, ◌∙◌, subst, eqb-true, eq-eqb, arith}
+use Rattle.std.proofs.Common.{◌≡◌, ℕ, ◌==◌, Bool, true, false, ◌&&◌, ◌||◌, Option, Some, None, List, [], ◌∷◌, ◌++◌, if◌then◌else◌, refl, ap, sym, ◌∙◌, subst, eqb-true, eq-eqb}
 use Rattle.std.specs.Option.{option_or}
-use Rattle.std.proofs.lemmas.Bool.{and_parts, and_from}
+use Rattle.std.proofs.lemmas.Bool.{and_from}
 use Rattle.nio_base.specs.declared.limits.Limits.{Limits}
 use Rattle.nio_base.specs.declared.numbers.CallerNo.{CallerNo}
-use Rattle.nio_base.specs.declared.numbers.SelNo.{SelNo}
 use Rattle.nio_event.proofs.Legal.{legal_induction}
 use Rattle.nio_event.proofs.OneMore.{state_after-more, mine-own, mine-other, last-more}
 use Rattle.nio_event.proofs.Put.{put-same, put_at-there, put_pin_keeps}
 use Rattle.nio_event.specs.Acts.{effect}
-use Rattle.nio_event.specs.Conditions.{Condition}
 use Rattle.nio_event.specs.Histories.{state_after, is_by, mine, IsStep, IsLegal}
 use Rattle.nio_event.specs.OwnEvents.{OwnClaim, last, claim_changed, or_none, own_claim, unpins}
-use Rattle.nio_event.specs.State.{State, last_serial, put, put_at}
+use Rattle.nio_event.specs.State.{State, put, put_at}
 use Rattle.nio_event.specs.declared.act.Act.{Act}
 use Rattle.nio_event.specs.declared.act.Act.TheVariants.{Claim, Unpin, ClaimAgain, Pin}
 use Rattle.nio_event.specs.declared.event.Event.{Event}
@@ -80,10 +78,6 @@ pub if_some : {A : Type 0} (b : Bool) (x y : A) → (if b then Some x else None)
 if_some true x y e = (refl, cc)
 if_some false x y e = absurd cc
 
-both_ways : (b : Bool) → b ≡ true → b ≡ false → ⊥
-both_ways true e f = cc
-both_ways false e f = cc
-
 -- a pin lasts until its caller takes it off
 pub pin_stays : (st : State) (me n : CallerNo) (act : Act) (s i : ℕ) → ((me.0 == n.0) && unpins s i act) ≡ false → st.pinned s i n.0 ≡ true
     → (effect st me act).pinned s i n.0 ≡ true
@@ -94,7 +88,7 @@ pin_stays st me n (ClaimAgain s' i' c from false) s i spared = put_pin_keeps (λ
 pin_stays st me n (Pin s' i' found) s i spared = put_pin_keeps (λ _ _ _ b. b ≡ true) st.pinned s'.0 i' me.0 true (λ _. refl) s i n.0
 pin_stays st me n (Unpin s' i') s i spared = λ h.
     put_pin_keeps (λ a b m x. ((me.0 == m) && ((s'.0 == a) && (i' == b))) ≡ false → x ≡ true) st.pinned s'.0 i' me.0 false
-    (λ _ spared'. absurd (both_ways ((me.0 == me.0) && ((s'.0 == s'.0) && (i' == i'))) itself spared')) s i n.0 (λ _. h) spared
+    (λ _ spared'. let clash : true ≡ false = sym itself ∙ spared' in absurd cc) s i n.0 (λ _. h) spared
   where
     itself : ((me.0 == me.0) && ((s'.0 == s'.0) && (i' == i'))) ≡ true
     itself = and_from (me.0 == me.0) ((s'.0 == s'.0) && (i' == i')) (eq-eqb me.0 me.0 refl)

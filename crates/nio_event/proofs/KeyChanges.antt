@@ -1,6 +1,6 @@
 -- How the stages of indexes change: five kinds of step change one, and what each of them keeps every step
 -- keeps.
-use Rattle.std.proofs.Common.{◌≡◌, ℕ, Bool, true, false, suc, ◌&&◌, List, refl, ap, sym, subst}
+use Rattle.std.proofs.Common.{◌≡◌, ℕ, true, false, suc, ◌&&◌, ap, sym}
 use Rattle.std.specs.Prelude.{nat_lt}
 use Rattle.std.proofs.lemmas.Bool.{and_parts}
 use Rattle.nio_base.specs.declared.numbers.CallerNo.{CallerNo}

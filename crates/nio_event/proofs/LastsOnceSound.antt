@@ -11,7 +11,7 @@ use Rattle.nio_event.proofs.Legal.{legal_from}
 use Rattle.nio_event.proofs.OneMore.{state_after-more}
 use Rattle.nio_event.proofs.Put.{put_keeps}
 use Rattle.nio_event.proofs.Soundness.{legal-sound, held_some, both_ways, closed-made}
-use Rattle.nio_event.proofs.Told.{either}
+use Rattle.nio_event.proofs.Told.{either, or_right}
 use Rattle.nio_event.specs.Acts.{effect, new_key}
 use Rattle.nio_event.specs.Answers.{Answers}
 use Rattle.nio_event.specs.Conditions.{Condition, is_held_by}
@@ -27,11 +27,7 @@ use Rattle.nio_event.specs.declared.found.Stage.{Stage}
 
 -- ---- keys, by their serials
 
-or_right : (a b : Bool) → b ≡ true → (a || b) ≡ true
-or_right true b e = refl
-or_right false b e = e
-
--- the key of an index with this serial came as far as `bit` says: a later serial came, or it is the present key and has the bit
+-- the key of an index with this serial has had the bit: the index has a later serial, or this one and the bit
 abbrev is_reached : (Stage → Bool) → Stage → ℕ → Bool
 is_reached bit k serial = nat_lt serial k.serial || (fits k serial && bit k)
 

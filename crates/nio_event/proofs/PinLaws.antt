@@ -1,5 +1,5 @@
 -- The laws of pins and of indexes that are claimed again.
-use Rattle.std.proofs.Common.{◌≡◌, ℕ, ◌==◌, ◌<◌, ◌≤◌, Bool, true, false, not, ◌&&◌, ◌||◌, if◌then◌else◌, suc, inl, inr, Option, Some, None, List, [], ◌∷◌, ◌++◌, refl, ap, sym, ◌∙◌, subst, eqb-true, eq-eqb, arith}
+use Rattle.std.proofs.Common.{◌≡◌, ℕ, ◌==◌, ◌<◌, ◌≤◌, Bool, true, false, not, ◌&&◌, if◌then◌else◌, suc, Option, Some, None, List, [], ◌∷◌, ◌++◌, refl, ap, sym, ◌∙◌, subst, eqb-true, eq-eqb, arith}
 use Rattle.std.specs.Prelude.{nat_lt}
 use Rattle.std.specs.Option.{option_or}
 use Rattle.std.proofs.lemmas.Bool.{and_parts, and_from, ltb-true, lt-ltb}
@@ -8,22 +8,21 @@ use Rattle.nio_base.specs.declared.limits.Limits.{Limits}
 use Rattle.nio_base.specs.declared.numbers.CallerNo.{CallerNo}
 use Rattle.nio_base.specs.declared.numbers.ChanNo.{ChanNo}
 use Rattle.nio_base.specs.declared.numbers.KeyId.{KeyId}
-use Rattle.nio_base.specs.declared.numbers.SelNo.{SelNo}
-use Rattle.nio_event.proofs.Claims.{claim_told, pin_stays, claim_pinned, if_some, claim_pins}
+use Rattle.nio_event.proofs.Claims.{claim_told, pin_stays, if_some, claim_pins}
 use Rattle.nio_event.proofs.Counts.{pinned_by, pinned_by_nobody}
 use Rattle.nio_event.proofs.KeyChanges.{KeepsStages, stages_keep, back_parts, published_already, cancelled_already, removed_already}
-use Rattle.nio_event.proofs.LastsAlone.{one_holder, without_from, has-mine}
+use Rattle.nio_event.proofs.LastsAlone.{without_from, has-mine}
 use Rattle.nio_event.proofs.LastsOnceSound.{not_below_next}
 use Rattle.nio_event.proofs.Legal.{legal_beginning, legal_next, legal_induction}
 use Rattle.nio_event.proofs.OneMore.{state_after-more, mine-own, mine-other, last-more, since_from-more}
 use Rattle.nio_event.proofs.Put.{put_at_keeps, put_at_both, put_at-there}
-use Rattle.nio_event.proofs.Soundness.{legal-sound, held_some, both_ways, pinned-claimed, back_not_unclaimed, taken_not_dropped}
+use Rattle.nio_event.proofs.Soundness.{legal-sound, held_some, both_ways, pinned-claimed, back_not_unclaimed}
 use Rattle.nio_event.proofs.Within.{legal-within}
 use Rattle.nio_event.specs.Acts.{effect, new_key}
 use Rattle.nio_event.specs.Answers.{Answers, is_pinned}
-use Rattle.nio_event.specs.Conditions.{Condition, is_held_by, has_pin, has_taken}
+use Rattle.nio_event.specs.Conditions.{Condition, is_held_by}
 use Rattle.nio_event.specs.Histories.{state_after, event_of, is_by, mine, IsStep, IsLegal}
-use Rattle.nio_event.specs.OwnEvents.{OwnClaim, has, last, since_taken, takes_free, stage_found, claim_changed, own_claim, unpins}
+use Rattle.nio_event.specs.OwnEvents.{OwnClaim, last, since_taken, takes_free, stage_found, claim_changed, unpins}
 use Rattle.nio_event.specs.Pins.{IsSameKey, PinnedKeysStay, ClaimsAgainWhereUnpinned, ClaimsAgainTheRemoved, IsOfClaim, OwnClaimsStand, NotedKeysAreClaimed}
 use Rattle.nio_event.specs.Sets.{was_claimed, can_come_back}
 use Rattle.nio_event.specs.Sound.{IsSound}

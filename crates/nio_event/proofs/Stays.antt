@@ -1,6 +1,6 @@
 -- A condition stays true while others go on: one line for each kind whose condition says more than
 -- the ranges of numbers.
-use Rattle.std.proofs.Common.{not, ◌≡◌, ℕ, ◌==◌, ◌<◌, Bool, true, false, ◌&&◌, ◌||◌, inl, inr, Option, Some, None, List, [], ◌∷◌, ◌++◌, refl, ap, sym, ◌∙◌, subst, eqb-true, eq-eqb, arith}
+use Rattle.std.proofs.Common.{not, ◌≡◌, ℕ, ◌==◌, ◌<◌, Bool, true, false, ◌&&◌, ◌||◌, inl, inr, Option, Some, None, List, [], ◌++◌, refl, ap, sym, ◌∙◌, subst, eqb-true, eq-eqb, arith}
 use Rattle.std.specs.Prelude.{nat_lt}
 use Rattle.std.proofs.lemmas.Bool.{and_parts, and_from, ltb-true}
 use Rattle.nio_base.specs.declared.limits.Limits.{Limits}

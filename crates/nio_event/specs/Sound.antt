@@ -1,5 +1,5 @@
 -- What holds of the state after every legal history.
-use Rattle.std.specs.Prelude.{◌≡◌, ℕ, ◌<◌, ◌≤◌, IsTrue, IsFalse, Option, None, is_some}
+use Rattle.std.specs.Prelude.{◌≡◌, ℕ, ◌<◌, ◌≤◌, IsTrue, IsFalse, None, is_some}
 use Rattle.std.specs.Option.{ForSome}
 use Rattle.nio_base.specs.declared.limits.Limits.{Limits}
 use Rattle.nio_event.specs.Conditions.{IsCaller, IsChannel}
