@@ -1,4 +1,4 @@
--- What is read: behind a call word its call, and of a line a caller and a call.
+-- What the words behind a call word, and a whole line, are read as.
 use Rattle.std.specs.Prelude.{◌≡◌, ℕ, ◌<◌, List, ◌∷◌, Option, Some, IfSome}
 use Rattle.nio_base.specs.declared.numbers.CallerNo.{CallerNo}
 use Rattle.nio_event.specs.Arguments.{argument_words}
