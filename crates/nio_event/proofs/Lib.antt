@@ -32,6 +32,7 @@ pub mod PinLaws
 pub mod SelectedKeys
 pub mod Bits
 pub mod Clauses
+pub mod PassViews
 pub mod Asked
 pub mod Holder
 pub mod OwnPins

@@ -6,6 +6,7 @@ pub mod Answers
 pub mod OwnEvents
 pub mod Conditions
 pub mod Histories
+pub mod PassViews
 pub mod Lasting
 pub mod Sound
 pub mod Staying
