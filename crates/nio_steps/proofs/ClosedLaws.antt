@@ -1,134 +1,124 @@
--- A finished closing removed each index below the mark that it found.
-use Rattle.std.proofs.Common.{◌≡◌, ℕ, ◌<◌, ◌==◌, Bool, true, false, ◌||◌, if◌then◌else◌, List, [], ◌∷◌, ◌++◌, refl, ap, sym, ◌∙◌, subst, append_assoc, eqb-true, eq-eqb, arith}
-use Rattle.std.specs.Prelude.{⊤, is_some, nat_lt}
-use Rattle.std.proofs.lemmas.Bool.{and_parts, and_from, ltb-true}
-use Rattle.std.proofs.lemmas.List.Elements.{All-weaker}
-use Rattle.std.proofs.lemmas.List.Folds.{list_any-append, list_any_none}
+-- A finished closing removed each key below the mark that it found, where the key was claimed before.
+use Rattle.std.proofs.Common.{◌≡◌, ℕ, ◌+◌, ◌<◌, ◌==◌, Bool, true, false, if◌then◌else◌, List, [], ◌∷◌, ◌++◌, refl, ap, sym, ◌∙◌, subst, append_assoc, eqb-true, eq-eqb, arith, IsTrue}
+use Rattle.std.specs.Prelude.{⊤, is_some}
+use Rattle.std.specs.List.{All, Contains}
+use Rattle.std.proofs.lemmas.Bool.{eqb-false}
+use Rattle.std.proofs.lemmas.List.{append-nil}
+use Rattle.std.proofs.lemmas.List.Elements.{All-contains, Contains-append_left, Contains-append_right}
+use mathlib.Core.List.{IsPrefix}
 use Rattle.nio_base.specs.declared.limits.Limits.{Limits}
 use Rattle.nio_base.specs.declared.numbers.CallerNo.{CallerNo}
 use Rattle.nio_base.specs.declared.numbers.SelNo.{SelNo}
-use Rattle.nio_event.proofs.OneMore.{state_after-more}
-use Rattle.nio_event.proofs.Put.{put_at-same}
-use Rattle.nio_event.proofs.Stays.{nothing_goes_back}
-use Rattle.nio_event.specs.Acts.{effect}
+use Rattle.nio_event.proofs.Stays.{facts_are_permanent}
 use Rattle.nio_event.specs.Histories.{state_after, mine, event_of, IsLegal}
-use Rattle.nio_event.specs.Lasting.{key_removed}
-use Rattle.nio_event.specs.OwnEvents.{has, finds_below}
+use Rattle.nio_event.specs.Lasting.{key_claimed}
 use Rattle.nio_event.specs.Questions.{Question, question_of, answer_of}
-use Rattle.nio_event.specs.State.{State, put_at}
-use Rattle.nio_event.specs.declared.event.Event.{Event}
+use Rattle.nio_event.specs.Sets.{was_claimed, was_removed}
 use Rattle.nio_event.specs.declared.act.Act.{Act}
 use Rattle.nio_event.specs.declared.act.Act.TheVariants.{LookKeys, Remove}
-use Rattle.nio_steps.proofs.Either.{by_second, then_first, then_second}
-use Rattle.nio_steps.proofs.EachLaws.{each_bind, each_sweep, each_run, split}
-use Rattle.nio_steps.proofs.StandLaws.{cut_at, find_act}
-use Rattle.nio_steps.proofs.TurnLaws.{sweep-turns}
-use Rattle.nio_steps.specs.Laws.{ClosedRemovesAll}
+use Rattle.nio_event.specs.declared.event.Event.{Event}
+use Rattle.nio_event.specs.declared.found.Stage.{Stage}
+use Rattle.nio_steps.proofs.EachLaws.{each_sweep, each_run}
+use Rattle.nio_steps.proofs.GoneLaws.{claimed_removed, removal_stands}
+use Rattle.nio_steps.proofs.Lists.{contains-middle}
+use Rattle.nio_steps.proofs.LookedLaws.{removal}
+use Rattle.nio_steps.proofs.OwnActs.{mine-own_first, mine-append}
+use Rattle.nio_steps.proofs.Walks.{Always, always_if, always_bind, always_itself, always_sweep, always_run}
+use Rattle.nio_steps.specs.Laws.{ClosedRemovesKeys}
 use Rattle.nio_steps.specs.Plan.{reply, ◌>>=◌}
 use Rattle.nio_steps.specs.Runs.{Completes}
-use Rattle.nio_steps.specs.SelectCalls.{closed, busy, remove_key, finish_plan}
-use Rattle.nio_steps.specs.Selections.{removes}
-use Rattle.nio_steps.specs.Steps.{number_in, holder_in, look_keys}
+use Rattle.nio_steps.specs.SelectCalls.{FinishReply, closed, busy, remove_key, finish_plan}
+use Rattle.nio_steps.specs.Steps.{number_in, holder_in, stage_in}
 use Rattle.nio_steps.specs.Sweeps.{sweep_to}
 
--- ---- looks at the mark, and removals
+-- ---- the parts of a run that answers Closed
+
+module _ (s : SelNo) where
+  -- the look at the turn and the look at the mark, and then the removal of each index below the mark
+  record Finished (acts : List Act) : Type 0 where
+    enters : Act
+    look : Act
+    rest : List Act
+    parts : acts ≡ enters ∷ look ∷ rest
+    asks_enter : question_of enters ≡ Question.enter s
+    asks_look : question_of look ≡ Question.look_keys s
+    runs_rest : Completes (sweep_to (number_in (answer_of look)) 0 (λ i _. remove_key s i) tt) rest tt
+
+  abbrev IsFinishedBy : List Act → FinishReply → Type 0
+  IsFinishedBy acts closed = Finished acts
+  IsFinishedBy acts busy = ⊤
+
+  finish-finished : Always IsFinishedBy (finish_plan s)
+  unfolding finish_plan
+  finish-finished = λ enters asks. always_if (λ xs r. IsFinishedBy (enters ∷ xs) r) (is_some (holder_in (answer_of enters))) (reply busy) _ (λ _. tt)
+      (λ _ look asks'. always_bind (Completes (sweep_to (number_in (answer_of look)) 0 (λ i _. remove_key s i) tt)) (λ xs r. IsFinishedBy (enters ∷ look ∷ xs) r)
+      (sweep_to (number_in (answer_of look)) 0 (λ i _. remove_key s i) tt) (λ _. reply closed)
+      (always_itself (sweep_to (number_in (answer_of look)) 0 (λ i _. remove_key s i) tt))
+      (λ xs u run. record {
+        enters = enters;
+        look = look;
+        rest = xs;
+        parts = ap (λ acts. enters ∷ look ∷ acts) (append-nil xs);
+        asks_enter = asks;
+        asks_look = asks';
+        runs_rest = run;
+      }))
+
+  -- the acts have a removal of each of the first indexes
+  record IsRemoval (i : ℕ) (acts : List Act) : Type 0 where
+    found : Stage
+    there : Contains acts (Remove s i found)
+
+  abbrev AreRemoved : ℕ → List Act → Type 0
+  AreRemoved k acts = (i : ℕ) → i < k → IsRemoval i acts
+
+  sweep-removes : (bound : ℕ) → Always (λ acts _. AreRemoved bound acts) (sweep_to bound 0 (λ i _. remove_key s i) tt)
+  sweep-removes bound =
+      always_sweep (λ k acts _. AreRemoved k acts) bound 0 (λ i _. remove_key s i) tt (omega arith) (λ i low. absurd (omega arith))
+      (λ k acts _ _ _ here act asks i low. by_place k acts here act asks i low (i == k) refl)
+    where
+      by_place : (k : ℕ) (acts : List Act) → AreRemoved k acts → (act : Act) → question_of act ≡ Question.remove s k → (i : ℕ) → i < k + 1 → (b : Bool) → (i == k) ≡ b → IsRemoval i (acts ++ act ∷ [])
+      by_place k acts here act asks i low true is =
+          let same : i ≡ k = eqb-true i k is in
+          subst (λ (m : ℕ). IsRemoval m (acts ++ act ∷ [])) (sym same)
+          (record { found = stage_in (answer_of act); there = subst (Contains (acts ++ act ∷ [])) (removal s k act asks) (contains-middle acts act []) })
+      by_place k acts here act asks i low false is =
+          let earlier = here i (omega (arith, eqb-false i k is)) in
+          record { found = earlier.found; there = Contains-append_left acts (act ∷ []) (Remove s i earlier.found) earlier.there }
+
+-- ---- the one look at the mark
 
 abbrev asks_keys : Question → Bool
 asks_keys (Question.look_keys s) = true
 asks_keys _ = false
 
-not-finds : (s i : ℕ) (act : Act) → asks_keys (question_of act) ≡ false → finds_below s i act ≡ false
-not-finds s i (LookKeys s' found) e = absurd (cc e)
-not-finds s i _ e = refl
+-- what stands before and after it
+look-place : (mark : ℕ) (s : SelNo) (xs ys : List Act) (enters look : Act) (rest : List Act) → asks_keys (question_of enters) ≡ false → All (λ act. asks_keys (question_of act) ≡ false) rest
+    → xs ++ LookKeys s mark ∷ ys ≡ enters ∷ look ∷ rest → (look ≡ LookKeys s mark) × (ys ≡ rest)
+look-place mark s [] ys enters look rest not_it not_later same = let is : LookKeys s mark ≡ enters = cc same in absurd (cc (ap (λ act. asks_keys (question_of act)) is ∙ not_it))
+look-place mark s (x ∷ []) ys enters look rest not_it not_later same = (sym (cc same), cc same)
+look-place mark s (x ∷ y ∷ xs) ys enters look rest not_it not_later same =
+    let is : xs ++ LookKeys s mark ∷ ys ≡ rest = cc same in
+    absurd (cc (All-contains (λ act. asks_keys (question_of act) ≡ false) rest (LookKeys s mark) not_later (subst (λ acts. Contains acts (LookKeys s mark)) is (contains-middle xs (LookKeys s mark) ys))))
 
-look-finds : (s : SelNo) (i : ℕ) (act : Act) → question_of act ≡ Question.look_keys s → finds_below s.0 i act ≡ true → i < number_in (answer_of act)
-look-finds s i (LookKeys s' found) asks finds = ltb-true i found (and_parts (s'.0 == s.0) (nat_lt i found) finds).1
-look-finds s i _ asks finds = absurd (cc asks)
-
-pub remove-removes : (s : SelNo) (i : ℕ) (act : Act) → question_of act ≡ Question.remove s i → removes s.0 i act ≡ true
-remove-removes s i (Remove s' i' found) asks =
-    let first : s' ≡ s = cc asks in
-    let second : i' ≡ i = cc asks in
-    and_from (s'.0 == s.0) (i' == i) (eq-eqb s'.0 s.0 (ap (λ (x : SelNo). x.0) first)) (eq-eqb i' i second)
-remove-removes s i _ asks = absurd (cc asks)
-
--- ---- a run that finished
-
-turn-removes : (s : SelNo) (i : ℕ) (acts : List Act) (y : Unit {0}) → Completes (remove_key s i) acts y → has (removes s.0 i) acts ≡ true
-turn-removes s i [] y run = absurd (cc run)
-turn-removes s i (act ∷ acts) y run = ap (λ b. b || has (removes s.0 i) acts) (remove-removes s i act run.0)
-
-pub has-between : (p : Act → Bool) (before turn after : List Act) → has p turn ≡ true → has p (before ++ (turn ++ after)) ≡ true
-has-between p before turn after there =
-    list_any-append p before (turn ++ after) ∙ (ap (λ b. has p before || b) (list_any-append p turn after ∙ ap (λ b. b || has p after) there) ∙ or-true (has p before))
-  where
-    or-true : (b : Bool) → (b || true) ≡ true
-    or-true true = refl
-    or-true false = refl
-
--- the sweep below the bound removes each index, and looks at no mark
-sweep-removes : (s : SelNo) (bound i : ℕ) (acts : List Act) → Completes (sweep_to bound 0 (λ k _. remove_key s k) tt >>= λ _. reply closed) acts closed → i < bound
-    → has (removes s.0 i) acts ≡ true
-sweep-removes s bound i acts run below =
-    let parts = split (sweep_to bound 0 (λ k _. remove_key s k) tt) (λ _. reply closed) acts closed run in
-    let turn = sweep-turns bound 0 (λ k _. remove_key s k) tt parts.first parts.answer parts.runs_first i (omega arith) below in
-    let here = has-between (removes s.0 i) turn.has_turn.before turn.has_turn.turn turn.has_turn.after (turn-removes s i turn.has_turn.turn turn.to turn.has_turn.runs) in
-    ap (has (removes s.0 i)) parts.parts ∙ (list_any-append (removes s.0 i) parts.first parts.second
-    ∙ ap (λ b. b || has (removes s.0 i) parts.second) (ap (has (removes s.0 i)) turn.has_turn.parts ∙ here))
-
-sweep-no_look : (s : SelNo) (bound i : ℕ) (acts : List Act) → Completes (sweep_to bound 0 (λ k _. remove_key s k) tt >>= λ _. reply closed) acts closed
-    → has (finds_below s.0 i) acts ≡ false
-sweep-no_look s bound i acts run =
-    list_any_none (finds_below s.0 i) acts (All-weaker (λ act. asks_keys (question_of act) ≡ false) (λ act. finds_below s.0 i act ≡ false) (not-finds s.0 i) acts
-    (each_run (λ q. asks_keys q ≡ false) (λ _. ⊤) (sweep_to bound 0 (λ k _. remove_key s k) tt >>= λ _. reply closed) acts closed
-    (each_bind (λ q. asks_keys q ≡ false) (λ _. ⊤) (λ _. ⊤) (sweep_to bound 0 (λ k _. remove_key s k) tt) (λ _. reply closed)
-    (each_sweep (λ q. asks_keys q ≡ false) (λ _. ⊤) bound 0 (λ k _. remove_key s k) tt tt (λ k x _ _ _. (refl, λ _. tt)))
-    (λ _ _. tt))
-    run).0)
-
-run-removes : (s : SelNo) (i : ℕ) (acts : List Act) → Completes (finish_plan s) acts closed → has (finds_below s.0 i) acts ≡ true → has (removes s.0 i) acts ≡ true
-unfolding finish_plan
-run-removes s i [] run finds = absurd (cc run)
-run-removes s i (enters ∷ acts) run finds =
-    let none = not-finds s.0 i enters (ap asks_keys run.0) in
-    by_second (removes s.0 i enters) (has (removes s.0 i) acts) (by_holder (is_some (holder_in (answer_of enters))) acts run.1 (then_second (finds_below s.0 i enters) (has (finds_below s.0 i) acts) none finds))
-  where
-    by_holder : (b : Bool) (rest : List Act)
-        → Completes (if b then reply busy else (look_keys s >>= λ bound. (sweep_to bound 0 (λ k _. remove_key s k) tt >>= λ _. reply closed))) rest closed
-        → has (finds_below s.0 i) rest ≡ true → has (removes s.0 i) rest ≡ true
-    by_holder true [] went found = absurd (cc found)
-    by_holder true (act ∷ rest) went found = absurd went
-    by_holder false [] went found = absurd (cc found)
-    by_holder false (look ∷ rest) went found =
-        let no_more = sweep-no_look s (number_in (answer_of look)) i rest went.1 in
-        let below = look-finds s i look went.0 (then_first (finds_below s.0 i look) (has (finds_below s.0 i) rest) no_more found) in
-        by_second (removes s.0 i look) (has (removes s.0 i) rest) (sweep-removes s (number_in (answer_of look)) i rest went.1 below)
-
--- ---- what was removed stays so
-
-removes-removed : (st : State) (n : CallerNo) (s i : ℕ) (act : Act) → removes s i act ≡ true → ((effect st n act).key s i).removed ≡ true
-removes-removed st n s i (Remove s' i' found) is =
-    let both = and_parts (s'.0 == s) (i' == i) is in
-    let first : s'.0 ≡ s = eqb-true s'.0 s both.0 in
-    let second : i' ≡ i = eqb-true i' i both.1 in
-    let here = ap (λ k. k.removed) (put_at-same st.key s'.0 i' (record (st.key s'.0 i') { removed = true })) in
-    subst (λ (k : ℕ). ((put_at st.key s'.0 i' (record (st.key s'.0 i') { removed = true })) k i).removed ≡ true) first
-    (subst (λ (k : ℕ). ((put_at st.key s'.0 i' (record (st.key s'.0 i') { removed = true })) s'.0 k).removed ≡ true) second here)
-removes-removed st n s i _ is = absurd (cc is)
-
--- who removed a key once leaves it removed
-pub removed_stands : (l : Limits) (n : CallerNo) (events : List Event) (s i : ℕ) → IsLegal l events → has (removes s i) (mine n events) ≡ true
-    → ((state_after events).key s i).removed ≡ true
-removed_stands l n events s i legal there =
-    let found = find_act (removes s i) (mine n events) there in
-    let cut = cut_at n events found.before found.act found.later found.parts in
-    let e = event_of n found.act in
-    let joined : (cut.past ++ e ∷ []) ++ cut.later ≡ events = append_assoc cut.past (e ∷ []) cut.later ∙ sym cut.parts in
-    let here : ((state_after (cut.past ++ e ∷ [])).key s i).removed ≡ true
-    = ap (λ x. (x.key s i).removed) (state_after-more cut.past e) ∙ removes-removed (state_after cut.past) n s i found.act found.passes in
-    nothing_goes_back l (cut.past ++ e ∷ []) events (cut.later, joined) legal (key_removed s i) here
-
-pub closed_removes_all : ClosedRemovesAll
-closed_removes_all l n events s own acts later legal parts run i finds =
-    removed_stands l n events s.0 i legal
-    (ap (has (removes s.0 i)) parts ∙ has-between (removes s.0 i) own acts later (run-removes s i acts run finds))
+pub closed_removes_keys : ClosedRemovesKeys
+closed_removes_keys l n before looked later s mark i serial legal run claimed below =
+    let e = event_of n (LookKeys s mark) in
+    let call = looked ++ e ∷ later in
+    let finished = always_run (IsFinishedBy s) (finish_plan s) (mine n call) closed (finish-finished s) run in
+    let bound = number_in (answer_of finished.look) in
+    let sweep = sweep_to bound 0 (λ k _. remove_key s k) tt in
+    let none_later = (each_run (λ q. asks_keys q ≡ false) (λ _. ⊤) sweep finished.rest tt
+    (each_sweep (λ q. asks_keys q ≡ false) (λ _. ⊤) bound 0 (λ k _. remove_key s k) tt tt (λ k x _ _ _. (refl, λ _. tt))) finished.runs_rest).0 in
+    let own : mine n call ≡ mine n looked ++ LookKeys s mark ∷ mine n later = mine-append n looked (e ∷ later) ∙ ap (λ acts. mine n looked ++ acts) (mine-own_first n e later (eq-eqb n.0 n.0 refl)) in
+    let place = look-place mark s (mine n looked) (mine n later) finished.enters finished.look finished.rest (ap asks_keys finished.asks_enter) none_later (sym own ∙ finished.parts) in
+    let is : bound ≡ mark = ap (λ act. number_in (answer_of act)) place.0 in
+    let removes = always_run (λ acts _. AreRemoved s bound acts) sweep finished.rest tt (sweep-removes s bound) finished.runs_rest i (omega arith) in
+    let there : Contains (mine n (e ∷ later)) (Remove s i removes.found) =
+    subst (λ acts. Contains acts (Remove s i removes.found)) (sym (mine-own_first n e later (eq-eqb n.0 n.0 refl) ∙ ap (λ acts. LookKeys s mark ∷ acts) place.1))
+    (Contains-append_right (LookKeys s mark ∷ []) finished.rest (Remove s i removes.found) removes.there) in
+    let joined : before ++ call ≡ (before ++ looked) ++ e ∷ later = sym (append_assoc before looked (e ∷ later)) in
+    subst (λ events. was_removed ((state_after events).key s.0 i) serial ≡ true) (sym joined)
+    (removal_stands l n (before ++ looked) (e ∷ later) s i serial removes.found (subst (IsLegal l) joined legal) there
+    (λ past begins legal' k is'. claimed_removed (record k { removed = true }) serial
+    (subst (λ (x : Stage). was_claimed x serial ≡ true) (sym is') (facts_are_permanent l (before ++ looked) past begins legal' (key_claimed s.0 i serial) claimed)) refl))

@@ -1,14 +1,16 @@
 -- What holds of each question and each reply of a plan holds of what follows it.
-use Rattle.std.proofs.Common.{◌≡◌, ℕ, zero, suc, ◌+◌, ◌-◌, ◌<◌, ◌≤◌, Bool, true, false, if◌then◌else◌, Option, Some, None, List, [], ◌∷◌, ◌++◌, refl, ap, sym, subst, add-zero, arith}
+use Rattle.std.proofs.Common.{◌≡◌, ℕ, zero, suc, ◌+◌, ◌-◌, ◌<◌, ◌≤◌, Bool, true, false, if◌then◌else◌, Option, Some, None, List, [], ◌∷◌, ◌++◌, refl, ap, sym, ◌∙◌, subst, append_assoc, add-zero, arith}
 use Rattle.std.specs.Prelude.{⊤}
 use Rattle.std.specs.List.{All}
+use Rattle.std.proofs.lemmas.List.{append-nil}
 use Rattle.std.proofs.lemmas.List.Elements.{All-nil, All-cons, All-head, All-tail}
 use Rattle.nio_event.specs.Questions.{Question, question_of, answer_of}
 use Rattle.nio_event.specs.declared.act.Act.{Act}
 use Rattle.nio_steps.specs.Each.{Each}
 use Rattle.nio_steps.specs.Plan.{Plan, reply, ask, ◌>>=◌, when}
 use Rattle.nio_steps.specs.Runs.{Follows, Completes}
-use Rattle.nio_steps.specs.Sweeps.{sweep, sweep_to, seek, seek_to, sweep_over}
+use Rattle.nio_steps.specs.Sweeps.{sweep, sweep_to, found_or, seek, seek_to, sweep_over}
+use Rattle.nio_steps.specs.Waiting.{Then}
 
 -- ---- of plans after one another
 
@@ -59,19 +61,21 @@ pub each_sweep : {A : Type 0} (Asks : Question → Type 0) (Left : A → Type 0)
     → Left x → ((k : ℕ) (y : A) → i ≤ k → k < b → Left y → Each Asks Left (f k y)) → Each Asks Left (sweep_to b i f x)
 each_sweep Asks Left b i f x here each = by_count Asks (λ _. Left) (b - i) i f x here (λ k y low high. each k y low (omega arith))
 
-by_count_to_first : (Asks : Question → Type 0) (Found : Option ℕ → Type 0) (n i : ℕ) (f : ℕ → Plan Bool)
-    → Found None → ((k : ℕ) → i ≤ k → k < i + n → Found (Some k)) → ((k : ℕ) → i ≤ k → k < i + n → Each Asks (λ _. ⊤) (f k)) → Each Asks Found (seek n i f)
+by_count_to_first : {A : Type 0} (Asks : Question → Type 0) (Found : Option A → Type 0) (n i : ℕ) (f : ℕ → Plan (Option A))
+    → Found None → ((k : ℕ) → i ≤ k → k < i + n → Each Asks Found (f k)) → Each Asks Found (seek n i f)
 unfolding seek
-by_count_to_first Asks Found zero i f none_at some_at each = none_at
-by_count_to_first Asks Found (suc n) i f none_at some_at each =
-    each_bind Asks (λ _. ⊤) Found (f i) (λ here. if here then reply (Some i) else seek n (i + 1) f) (each i (omega arith) (omega arith))
-    (λ here _. each_if Asks Found here (reply (Some i)) (seek n (i + 1) f) (λ _. some_at i (omega arith) (omega arith))
-    (λ _. by_count_to_first Asks Found n (i + 1) f none_at (λ k low high. some_at k (omega arith) (omega arith)) (λ k low high. each k (omega arith) (omega arith))))
+by_count_to_first Asks Found zero i f none_at each = none_at
+by_count_to_first Asks Found (suc n) i f none_at each =
+    each_bind Asks Found Found (f i) (found_or (seek n (i + 1) f)) (each i (omega arith) (omega arith))
+    (by_found (by_count_to_first Asks Found n (i + 1) f none_at (λ k low high. each k (omega arith) (omega arith))))
+  where
+    by_found : Each Asks Found (seek n (i + 1) f) → (here : Option _) → Found here → Each Asks Found (found_or (seek n (i + 1) f) here)
+    by_found later (Some x) found = found
+    by_found later None found = later
 
-pub each_seek : (Asks : Question → Type 0) (Found : Option ℕ → Type 0) (b i : ℕ) (f : ℕ → Plan Bool)
-    → Found None → ((k : ℕ) → i ≤ k → k < b → Found (Some k)) → ((k : ℕ) → i ≤ k → k < b → Each Asks (λ _. ⊤) (f k)) → Each Asks Found (seek_to b i f)
-each_seek Asks Found b i f none_at some_at each =
-    by_count_to_first Asks Found (b - i) i f none_at (λ k low high. some_at k low (omega arith)) (λ k low high. each k low (omega arith))
+pub each_seek : {A : Type 0} (Asks : Question → Type 0) (Found : Option A → Type 0) (b i : ℕ) (f : ℕ → Plan (Option A))
+    → Found None → ((k : ℕ) → i ≤ k → k < b → Each Asks Found (f k)) → Each Asks Found (seek_to b i f)
+each_seek Asks Found b i f none_at each = by_count_to_first Asks Found (b - i) i f none_at (λ k low high. each k low (omega arith))
 
 -- at each element of a list that passes `Fits`
 pub each_over : {X A : Type 0} (Asks : Question → Type 0) (Fits : X → Type 0) (Left : A → Type 0) (xs : List X) (f : X → A → Plan A) (x : A)
@@ -81,6 +85,20 @@ each_over Asks Fits Left [] f x fit here each = here
 each_over Asks Fits Left (e ∷ later) f x fit here each =
     each_bind Asks Left Left (f e x) (λ y. sweep_over later f y) (each e x (All-head Fits e later fit) here)
     (λ y left. each_over Asks Fits Left later f y (All-tail Fits e later fit) left each)
+
+-- the same, where `Left past` is what is left after the turns of these elements
+pub each_over_at : {X A : Type 0} (Asks : Question → Type 0) (Left : List X → A → Type 0) (xs : List X) (f : X → A → Plan A) (x : A)
+    → Left [] x → ((past : List X) (e : X) (later : List X) (y : A) → xs ≡ past ++ e ∷ later → Left past y → Each Asks (Left (past ++ e ∷ [])) (f e y)) → Each Asks (Left xs) (sweep_over xs f x)
+unfolding sweep_over
+each_over_at {X = X} {A = A} Asks Left xs f x here each = from_here [] xs x refl here
+  where
+    from_here : (past later : List X) (y : A) → xs ≡ past ++ later → Left past y → Each Asks (Left xs) (sweep_over later f y)
+    from_here past [] y parts left =
+        let same : past ≡ xs = sym (append-nil past) ∙ sym parts in
+        subst (λ done. Left done y) same left
+    from_here past (e ∷ later) y parts left =
+        each_bind Asks (Left (past ++ e ∷ [])) (Left xs) (f e y) (λ z. sweep_over later f z) (each past e later y parts left)
+        (λ z left'. from_here (past ++ e ∷ []) later z (parts ∙ sym (append_assoc past (e ∷ []) later)) left')
 
 -- ---- of what follows them
 
@@ -99,22 +117,14 @@ each_run Asks Replies plan acts r here run = each_part Asks Replies plan acts (r
 
 -- ---- a run of one plan and then another
 
-pub record Split {A B : Type 0} (plan : Plan A) (f : A → Plan B) (acts : List Act) (r : B) : Type 0 where
-  pub first : List Act
-  pub answer : A
-  pub second : List Act
-  pub parts : acts ≡ first ++ second
-  pub runs_first : Completes plan first answer
-  pub runs_second : Completes (f answer) second r
-
-pub split : {A B : Type 0} (plan : Plan A) (f : A → Plan B) (acts : List Act) (r : B) → Completes (plan >>= f) acts r → Split plan f acts r
-split (reply a) f acts r run = record { first = []; answer = a; second = acts; parts = refl; runs_first = refl; runs_second = run }
+pub split : {A B : Type 0} (plan : Plan A) (f : A → Plan B) (acts : List Act) (r : B) → Completes (plan >>= f) acts r → Then (Completes plan) (λ a. Completes (f a)) acts r
+split (reply a) f acts r run = record { first = []; middle = a; second = acts; parts = refl; runs_first = refl; runs_second = run }
 split (ask q next) f [] r run = absurd (cc run)
 split (ask q next) f (act ∷ acts) r run =
     let later = split (next (answer_of act)) f acts r run.1 in
     record {
       first = act ∷ later.first;
-      answer = later.answer;
+      middle = later.middle;
       second = later.second;
       parts = ap (λ xs. act ∷ xs) later.parts;
       runs_first = (run.0, later.runs_first);

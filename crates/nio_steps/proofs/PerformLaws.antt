@@ -1,6 +1,6 @@
 -- Plans performed on a state: one after another, sweeps by a closed form of the state after so many
 -- turns, and that a run in a legal history is what is performed.
-use Rattle.std.proofs.Common.{◌≡◌, ℕ, zero, suc, ◌+◌, ◌-◌, ◌<◌, ◌≤◌, Bool, true, false, if◌then◌else◌, Some, None, List, [], ◌∷◌, ◌++◌, map, refl, ap, sym, ◌∙◌, subst, append_assoc, arith}
+use Rattle.std.proofs.Common.{◌≡◌, ℕ, zero, suc, ◌+◌, ◌-◌, ◌<◌, ◌≤◌, Bool, true, false, if◌then◌else◌, Option, Some, None, List, [], ◌∷◌, ◌++◌, map, refl, ap, sym, ◌∙◌, subst, append_assoc, arith}
 use Rattle.std.proofs.lemmas.List.{append-nil}
 use Rattle.nio_base.specs.declared.limits.Limits.{Limits}
 use Rattle.nio_base.specs.declared.numbers.CallerNo.{CallerNo}
@@ -10,16 +10,17 @@ use Rattle.nio_event.proofs.OneMore.{state_after-more}
 use Rattle.nio_event.specs.Acts.{effect}
 use Rattle.nio_event.specs.Answers.{act_from}
 use Rattle.nio_event.specs.Histories.{state_after, event_of, IsStep, IsLegal}
+use Rattle.nio_event.specs.PassViews.{PassView, known, done_between}
 use Rattle.nio_event.specs.Questions.{Question, Answer, question_of, answer_of}
 use Rattle.nio_event.specs.State.{State}
 use Rattle.nio_event.specs.declared.act.Act.{Act}
 use Rattle.nio_event.specs.declared.event.Event.{Event}
 use Rattle.nio_steps.proofs.SweepLaws.{sweep_to-turn, sweep_to-done, seek_to-turn, seek_to-done, sweep_over-turn, sweep_over-done}
-use Rattle.nio_steps.specs.Calls.{done_between, CallClause}
+use Rattle.nio_steps.specs.Calls.{CallClause}
 use Rattle.nio_steps.specs.Perform.{perform}
 use Rattle.nio_steps.specs.Plan.{Plan, reply, ask, ◌>>=◌}
 use Rattle.nio_steps.specs.Runs.{Completes}
-use Rattle.nio_steps.specs.Sweeps.{sweep_to, seek_to, sweep_over}
+use Rattle.nio_steps.specs.Sweeps.{sweep_to, found_or, seek_to, sweep_over}
 
 -- ---- plans after one another
 
@@ -59,52 +60,56 @@ pub perform_sweep : {A : Type 0} (me : CallerNo) (b i : ℕ) (f : ℕ → A → 
     → perform me (sweep_to b i f (left i)) (stands i) ≡ record { answer = left b; state = stands b }
 perform_sweep me b i f left stands within each = from_closed me b i (b - i) f left stands (omega arith) each
 
--- the steps say no at each index from i below j, and yes at j
-pub perform_seek_yes : (me : CallerNo) (b i j : ℕ) (f : ℕ → Plan Bool) (stands : ℕ → State) → i ≤ j → j < b
-    → ((k : ℕ) → i ≤ k → k < j → perform me (f k) (stands k) ≡ record { answer = false; state = stands (k + 1) })
-    → perform me (f j) (stands j) ≡ record { answer = true; state = stands (j + 1) }
-    → perform me (seek_to b i f) (stands i) ≡ record { answer = Some j; state = stands (j + 1) }
-perform_seek_yes me b i j f stands low high each there = by_count (j - i) i (omega arith) (λ k from below. each k from below)
+-- the steps give nothing at each index from i below j, and something at j
+pub perform_seek_yes : {A : Type 0} (me : CallerNo) (b i j : ℕ) (f : ℕ → Plan (Option A)) (x : A) (stands : ℕ → State) → i ≤ j → j < b
+    → ((k : ℕ) → i ≤ k → k < j → perform me (f k) (stands k) ≡ record { answer = None; state = stands (k + 1) })
+    → perform me (f j) (stands j) ≡ record { answer = Some x; state = stands (j + 1) }
+    → perform me (seek_to b i f) (stands i) ≡ record { answer = Some x; state = stands (j + 1) }
+perform_seek_yes {A = A} me b i j f x stands low high each there = by_count (j - i) i (omega arith) (λ k from below. each k from below)
   where
-    by_count : (n i' : ℕ) → i' + n ≡ j → ((k : ℕ) → i' ≤ k → k < j → perform me (f k) (stands k) ≡ record { answer = false; state = stands (k + 1) })
-        → perform me (seek_to b i' f) (stands i') ≡ record { answer = Some j; state = stands (j + 1) }
+    by_count : (n i' : ℕ) → i' + n ≡ j → ((k : ℕ) → i' ≤ k → k < j → perform me (f k) (stands k) ≡ record { answer = None; state = stands (k + 1) })
+        → perform me (seek_to b i' f) (stands i') ≡ record { answer = Some x; state = stands (j + 1) }
     by_count zero i' total each' =
         let here : i' ≡ j = omega arith in
-        let go_on = λ (x : ℕ) (y : Bool). if y then reply (Some x) else seek_to b (x + 1) f in
-        subst (λ (x : ℕ). perform me (seek_to b x f) (stands x) ≡ record { answer = Some j; state = stands (j + 1) }) (sym here)
-        (ap (λ p. perform me p (stands j)) (seek_to-turn b j f high) ∙ perform_then_on me (f j) (go_on j) (stands j) true (stands (j + 1)) there)
+        subst (λ (k : ℕ). perform me (seek_to b k f) (stands k) ≡ record { answer = Some x; state = stands (j + 1) }) (sym here)
+        (ap (λ p. perform me p (stands j)) (seek_to-turn b j f high) ∙ perform_then_on me (f j) (found_or (seek_to b (j + 1) f)) (stands j) (Some x) (stands (j + 1)) there)
     by_count (suc n) i' total each' =
-        let go_on = λ (y : Bool). if y then reply (Some i') else seek_to b (i' + 1) f in
         ap (λ p. perform me p (stands i')) (seek_to-turn b i' f (omega arith))
-        ∙ (perform_then_on me (f i') go_on (stands i') false (stands (i' + 1)) (each' i' (omega arith) (omega arith))
+        ∙ (perform_then_on me (f i') (found_or (seek_to b (i' + 1) f)) (stands i') None (stands (i' + 1)) (each' i' (omega arith) (omega arith))
         ∙ by_count n (i' + 1) (omega arith) (λ k from below. each' k (omega arith) below))
 
--- the steps say no at each index
-pub perform_seek_no : (me : CallerNo) (b i : ℕ) (f : ℕ → Plan Bool) (stands : ℕ → State) → i ≤ b
-    → ((k : ℕ) → i ≤ k → k < b → perform me (f k) (stands k) ≡ record { answer = false; state = stands (k + 1) })
+-- the steps give nothing at each index
+pub perform_seek_no : {A : Type 0} (me : CallerNo) (b i : ℕ) (f : ℕ → Plan (Option A)) (stands : ℕ → State) → i ≤ b
+    → ((k : ℕ) → i ≤ k → k < b → perform me (f k) (stands k) ≡ record { answer = None; state = stands (k + 1) })
     → perform me (seek_to b i f) (stands i) ≡ record { answer = None; state = stands b }
 perform_seek_no me b i f stands within each = by_count (b - i) i (omega arith) (λ k from below. each k from below)
   where
-    by_count : (n i' : ℕ) → i' + n ≡ b → ((k : ℕ) → i' ≤ k → k < b → perform me (f k) (stands k) ≡ record { answer = false; state = stands (k + 1) })
+    by_count : (n i' : ℕ) → i' + n ≡ b → ((k : ℕ) → i' ≤ k → k < b → perform me (f k) (stands k) ≡ record { answer = None; state = stands (k + 1) })
         → perform me (seek_to b i' f) (stands i') ≡ record { answer = None; state = stands b }
     by_count zero i' total each' =
         let here : i' ≡ b = omega arith in
         ap (λ p. perform me p (stands i')) (seek_to-done b i' f (omega arith)) ∙ ap (λ (k : ℕ). record { answer = None; state = stands k }) here
     by_count (suc n) i' total each' =
-        let go_on = λ (y : Bool). if y then reply (Some i') else seek_to b (i' + 1) f in
         ap (λ p. perform me p (stands i')) (seek_to-turn b i' f (omega arith))
-        ∙ (perform_then_on me (f i') go_on (stands i') false (stands (i' + 1)) (each' i' (omega arith) (omega arith))
+        ∙ (perform_then_on me (f i') (found_or (seek_to b (i' + 1) f)) (stands i') None (stands (i' + 1)) (each' i' (omega arith) (omega arith))
         ∙ by_count n (i' + 1) (omega arith) (λ k from below. each' k (omega arith) below))
 
--- over a list: `stands` and `left` by the elements that are still to come
+-- over a list: `stands` and `left` by the elements that are done
 pub perform_over : {X A : Type 0} (me : CallerNo) (xs : List X) (f : X → A → Plan A) (left : List X → A) (stands : List X → State)
-    → ((e : X) (later : List X) → perform me (f e (left (e ∷ later))) (stands (e ∷ later)) ≡ record { answer = left later; state = stands later })
-    → perform me (sweep_over xs f (left xs)) (stands xs) ≡ record { answer = left []; state = stands [] }
-perform_over me [] f left stands each = ap (λ p. perform me p (stands [])) (sweep_over-done f (left []))
-perform_over me (e ∷ later) f left stands each =
-    ap (λ p. perform me p (stands (e ∷ later))) (sweep_over-turn e later f (left (e ∷ later)))
-    ∙ (perform_then_on me (f e (left (e ∷ later))) (λ y. sweep_over later f y) (stands (e ∷ later)) (left later) (stands later) (each e later)
-    ∙ perform_over me later f left stands each)
+    → ((past : List X) (e : X) (later : List X) → xs ≡ past ++ e ∷ later
+    → perform me (f e (left past)) (stands past) ≡ record { answer = left (past ++ e ∷ []); state = stands (past ++ e ∷ []) })
+    → perform me (sweep_over xs f (left [])) (stands []) ≡ record { answer = left xs; state = stands xs }
+perform_over {X = X} me xs f left stands each = from_here [] xs refl
+  where
+    from_here : (past later : List X) → xs ≡ past ++ later → perform me (sweep_over later f (left past)) (stands past) ≡ record { answer = left xs; state = stands xs }
+    from_here past [] parts =
+        let same : past ≡ xs = sym (append-nil past) ∙ sym parts in
+        ap (λ p. perform me p (stands past)) (sweep_over-done f (left past)) ∙ ap (λ (ys : List X). record { answer = left ys; state = stands ys }) same
+    from_here past (e ∷ later) parts =
+        let past' = past ++ e ∷ [] in
+        ap (λ p. perform me p (stands past)) (sweep_over-turn e later f (left past))
+        ∙ (perform_then_on me (f e (left past)) (λ y. sweep_over later f y) (stands past) (left past') (stands past') (each past e later parts)
+        ∙ from_here past' later (parts ∙ sym (append_assoc past (e ∷ []) later)))
 
 -- ---- runs in a legal history
 
@@ -133,10 +138,11 @@ perform_ran l me (ask q next) past (act ∷ acts) r legal whole =
     ∙ (perform_ran l me (next (answer_of act)) (past ++ e ∷ []) acts r (subst (IsLegal l) (sym joined) legal) whole.1
     ∙ ap (λ x. record { answer = r; state = state_after x }) joined)
 
--- so a call between whose steps nobody came, as where the pass has all that happens
-pub perform_call : {R : Type 0} (l : Limits) (Holds : CallerNo → Type 0) (me : CallerNo) (plan : Plan R) (before after : List Event) (r : R)
-    → CallClause l Holds me plan before after r → after ≡ before ++ map (event_of me) (done_between me before after)
-    → perform me plan (state_after before) ≡ record { answer = r; state = state_after after }
-perform_call l Holds me plan before after r call alone =
-    perform_ran l me plan before (done_between me before after) r (subst (IsLegal l) alone call.history.legal) call.follows
-    ∙ ap (λ x. record { answer = r; state = state_after x }) (sym alone)
+-- so a call on a table's only pass
+pub perform_call : {R : Type 0} (me : CallerNo) (plan : Plan R) (old new : PassView) (answer : R)
+    → CallClause me (Completes plan) old new answer → old.only ≡ true
+    → perform me plan (known old) ≡ record { answer = answer; state = known new }
+perform_call me plan old new answer call only =
+    let grown = (call.acts.only only).1 in
+    perform_ran old.limits me plan old.seen (done_between me old new) answer (subst (IsLegal old.limits) grown call.acts.history.legal) call.shape
+    ∙ ap (λ x. record { answer = answer; state = state_after x }) (sym grown)

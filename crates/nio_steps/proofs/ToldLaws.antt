@@ -2,30 +2,24 @@
 use Rattle.std.proofs.Common.{◌≡◌, ℕ, ◌==◌, Bool, true, false, not, Result, Ok, Err, List, refl, IsTrue}
 use Rattle.std.specs.Prelude.{⊤}
 use Rattle.std.specs.List.{Contains}
-use Rattle.std.proofs.lemmas.List.Elements.{All-weaker, All-contains_itself}
+use Rattle.std.proofs.lemmas.List.Elements.{All-contains, All-contains_itself}
 use Rattle.nio_event.specs.Questions.{Question, question_of}
-use Rattle.nio_event.specs.Sets.{in_cancelled_set}
-use Rattle.nio_event.specs.declared.act.Act.{Act}
 use Rattle.nio_event.specs.declared.act.Act.TheVariants.{Mark}
 use Rattle.nio_event.specs.declared.found.Mark.{Mark as KeyMark}
-use Rattle.nio_steps.proofs.EachLaws.{each_bind, each_if, each_when, each_sweep, each_over, each_run}
+use Rattle.nio_steps.proofs.EachLaws.{each_bind, each_if, each_over, each_run}
+use Rattle.nio_steps.proofs.SelectionAsks.{each_end}
 use Rattle.nio_steps.specs.Each.{Each}
-use Rattle.nio_steps.specs.Laws.{MarksAsTold, IsAsTold, MarksOnlyAsTold}
+use Rattle.nio_steps.specs.Laws.{MarksAsTold, MarksOnlyAsTold}
 use Rattle.nio_steps.specs.Plan.{reply, ◌>>=◌}
+use Rattle.nio_steps.specs.SelectCalls.{Selection, told_plan, told_bits, mark_entry, mark_told, mark_looked, mark_again, gains_nothing, end_selection, again}
+use Rattle.nio_steps.specs.Steps.{mark, mark_in, exchange_in}
+use Rattle.nio_steps.specs.Sweeps.{sweep_over}
 use Rattle.nio_steps.specs.declared.looked.LookedKey.{LookedKey}
-use Rattle.nio_steps.specs.SelectCalls.{Selection, told_plan, told_bits, mark_entry, mark_told, mark_looked, mark_again, gains_nothing, sweep_key, end_selection, again}
-use Rattle.nio_steps.specs.Steps.{mark, remove, mark_in, stage_in, exchange_in}
-use Rattle.nio_steps.specs.declared.selected.Selected.{Selected}
-use Rattle.nio_steps.specs.Sweeps.{sweep_to, sweep_over}
 
 -- a question for a mark is such a one
 abbrev AsksAsTold : Selection → List (ℕ × ℕ) → Question → Type 0
 AsksAsTold selection pairs (Question.mark s i from told) = MarksAsTold selection pairs s i told
 AsksAsTold selection pairs _ = ⊤
-
-act-as_told : (selection : Selection) (pairs : List (ℕ × ℕ)) (act : Act) → AsksAsTold selection pairs (question_of act) → IsAsTold selection pairs act
-act-as_told selection pairs (Mark s i from told found) asks = asks
-act-as_told selection pairs _ asks = tt
 
 module _ (selection : Selection) (pairs : List (ℕ × ℕ)) where
   abbrev Asks : Question → Type 0
@@ -55,24 +49,22 @@ module _ (selection : Selection) (pairs : List (ℕ × ℕ)) where
       (record { entry = entry; looked = looked; on_selector = refl; at_index = refl; bits = refl; some = not_false _ some })))
       (λ marked _. tt)
 
-  sweep-as_told : (i : ℕ) → Each Asks (λ _. ⊤) (sweep_key selection.selector i)
-  sweep-as_told i = (tt, λ found. each_when Asks (in_cancelled_set (stage_in found)) (remove selection.selector i) (tt, λ _. tt))
-
-  end-as_told : (answer : Selected) → Each Asks (λ _. ⊤) (end_selection selection answer)
-  end-as_told answer =
-      each_bind Asks (λ _. ⊤) (λ _. ⊤) (sweep_to selection.bound 0 (λ i _. sweep_key selection.selector i) tt) _
-      (each_sweep Asks (λ _. ⊤) selection.bound 0 (λ i _. sweep_key selection.selector i) tt tt (λ i x _ _ _. sweep-as_told i))
-      (λ _ _. (tt, λ _. (tt, λ _. tt)))
-
   told-as_told : (elapsed : Bool) → Each Asks (λ _. ⊤) (told_plan selection pairs elapsed)
   unfolding told_plan
   told-as_told elapsed =
       each_bind Asks (λ _. ⊤) (λ _. ⊤) (sweep_over selection.looked (mark_entry selection.selector pairs) 0) _
       (each_over Asks (Contains selection.looked) (λ _. ⊤) selection.looked (mark_entry selection.selector pairs) 0
       (All-contains_itself selection.looked) tt (λ entry count looked _. entry-as_told entry count looked))
-      (λ count _. (tt, λ gate. (tt, λ interrupted. each_if Asks (λ _. ⊤) _ (reply (again selection)) (end_selection selection _) (λ _. tt) (λ _. end-as_told _))))
+      (λ count _. (
+        tt,
+        λ gate. (
+          tt,
+          λ interrupted. each_if Asks (λ _. ⊤) _ (reply (again selection)) (end_selection selection _) (λ _. tt)
+              (λ _. each_end Asks (λ _. ⊤) selection _ (record { looks_free = λ _. tt; looks = λ _. tt; looks_interest = λ _. tt; removes = λ _. tt; puts = λ _. tt }) tt tt tt),
+        ),
+      ))
 
 pub marks_only_as_told : MarksOnlyAsTold
-marks_only_as_told selection pairs elapsed acts answer run =
-    All-weaker (λ act. AsksAsTold selection pairs (question_of act)) (IsAsTold selection pairs) (act-as_told selection pairs) acts
-    (each_run (AsksAsTold selection pairs) (λ _. ⊤) (told_plan selection pairs elapsed) acts answer (told-as_told selection pairs elapsed) run).0
+marks_only_as_told selection poll acts answer run s i told from found there =
+    let asks = (each_run (AsksAsTold selection poll.pairs) (λ _. ⊤) (told_plan selection poll.pairs poll.elapsed) acts answer (told-as_told selection poll.pairs poll.elapsed) run).0 in
+    All-contains (λ act. AsksAsTold selection poll.pairs (question_of act)) acts (Mark s i from told found) asks there

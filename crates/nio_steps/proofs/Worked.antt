@@ -1,5 +1,5 @@
 -- Worked cases: calls one after the other, from the opening state, and what each of them answers.
-use Rattle.std.proofs.Common.{◌≡◌, ℕ, true, false, Some, None, Ok, Err, [], ◌∷◌, refl}
+use Rattle.std.proofs.Common.{◌≡◌, ℕ, true, false, Some, None, Result, Ok, Err, [], ◌∷◌, refl}
 use Rattle.nio_base.specs.declared.kind.Kind.{Kind}
 use Rattle.nio_base.specs.declared.kind.Kind.TheVariants.{Stream, Source}
 use Rattle.nio_base.specs.declared.limits.Limits.{Limits}
@@ -7,26 +7,31 @@ use Rattle.nio_base.specs.declared.numbers.CallerNo.{CallerNo}
 use Rattle.nio_base.specs.declared.numbers.ChanNo.{ChanNo}
 use Rattle.nio_base.specs.declared.numbers.KeyNo.{KeyNo}
 use Rattle.nio_base.specs.declared.numbers.SelNo.{SelNo}
-use Rattle.nio_event.specs.Answers.{bits_below}
+use Rattle.nio_event.specs.Answers.{bits_below, count_below}
 use Rattle.nio_event.specs.State.{State, opening}
 use Rattle.nio_event.specs.declared.found.Mode.{Mode}
 use Rattle.nio_event.specs.declared.found.Mode.TheVariants.{Now as WithoutWaiting, Wait, For}
+use Rattle.nio_event.specs.declared.found.Stage.{Stage}
 use Rattle.nio_event.specs.declared.reply.Why.TheVariants.{Ready, Closed, Now, Woken, Interrupted, Elapsed}
 use Rattle.nio_steps.specs.ChannelCalls.{open_channel_plan, is_open_plan, is_blocking_plan, is_registered_plan, key_for_plan, set_blocking_plan, register_plan, close_channel_plan}
 use Rattle.nio_steps.specs.KeyCalls.{find_selector_plan, find_channel_plan, find_plan, is_valid_plan, interest_plan, set_interest_plan, interest_or_plan, interest_and_plan, ready_plan, cancel_plan, unselect_plan, attach_plan, attachment_plan}
-use Rattle.nio_steps.specs.Names.{selector, channel, key}
+use Rattle.nio_steps.specs.Names.{selector, channel}
 use Rattle.nio_steps.specs.Perform.{perform}
+use Rattle.nio_steps.specs.PipeCalls.{PipeEnds, pipe_plan, try_read_plan, try_write_plan}
 use Rattle.nio_steps.specs.Plan.{Plan}
-use Rattle.nio_steps.specs.SelectCalls.{open_selector_plan, begin_plan, told_plan, leave_plan, shut_plan, finish_plan, keys_plan, selected_keys_plan, wakeup_plan, interrupt_plan, interrupted_plan, done, again, closing, already_closed, closed, busy, Selection}
+use Rattle.nio_steps.specs.SelectCalls.{open_selector_plan, begin_plan, told_plan, leave_plan, shut_plan, finish_plan, keys_plan, selected_keys_plan, wakeup_plan, interrupt_plan, interrupted_plan, done, again, closing, already_closed, closed, busy, Selection, not_free}
+use Rattle.nio_steps.specs.Steps.{pin, unpin}
 use Rattle.nio_steps.specs.Sweeps.{sweep, seek, sweep_over}
 use Rattle.nio_steps.specs.declared.refusal.BeginError.{BeginError}
 use Rattle.nio_steps.specs.declared.refusal.ChannelError.{ChannelError}
 use Rattle.nio_steps.specs.declared.refusal.KeyError.{KeyError}
 use Rattle.nio_steps.specs.declared.refusal.ListError.{ListError}
+use Rattle.nio_steps.specs.declared.refusal.PipeError.{PipeError}
+use Rattle.nio_steps.specs.declared.refusal.PipeMakeError.{PipeMakeError}
 
 -- all that the cases compute with
 plans : Unit {0}
-unfolding open_channel_plan is_open_plan is_blocking_plan is_registered_plan key_for_plan set_blocking_plan register_plan close_channel_plan find_selector_plan find_channel_plan find_plan is_valid_plan interest_plan set_interest_plan interest_or_plan interest_and_plan ready_plan cancel_plan unselect_plan attach_plan attachment_plan open_selector_plan begin_plan told_plan leave_plan shut_plan finish_plan keys_plan selected_keys_plan wakeup_plan interrupt_plan interrupted_plan sweep seek sweep_over bits_below
+unfolding not_free count_below pipe_plan try_read_plan try_write_plan open_channel_plan is_open_plan is_blocking_plan is_registered_plan key_for_plan set_blocking_plan register_plan close_channel_plan find_selector_plan find_channel_plan find_plan is_valid_plan interest_plan set_interest_plan interest_or_plan interest_and_plan ready_plan cancel_plan unselect_plan attach_plan attachment_plan open_selector_plan begin_plan told_plan leave_plan shut_plan finish_plan keys_plan selected_keys_plan wakeup_plan interrupt_plan interrupted_plan sweep seek sweep_over bits_below
 plans = tt
 
 -- ---- names
@@ -46,8 +51,12 @@ s0 = selector 0
 abbrev c0 : ChanNo
 c0 = channel 0
 
+-- the key of selector 0 with this index and serial
+abbrev k : ℕ → ℕ → KeyNo
+k i serial = record { sel = s0; index = i; serial = serial }
+
 abbrev k0 : KeyNo
-k0 = key s0 0
+k0 = k 0 0
 
 -- the call answers so, and after it goes what is said later
 abbrev Says : {R : Type 0} → CallerNo → Plan R → R → (State → Type 0) → State → Type 0
@@ -64,10 +73,10 @@ Setup kind ops later =
 
 -- a selection that looks at key 0, or at no key
 abbrev sel : Mode → ℕ → Selection
-sel mode ops = record { selector = s0; mode = mode; bound = 1; looked = record { index = 0; channel = c0; interest = ops } ∷ [] }
+sel mode ops = record { selector = s0; mode = mode; bound = 1; looked = record { index = 0; serial = 0; channel = c0; interest = ops } ∷ []; kept = 0 ∷ [] }
 
 abbrev no_key : Mode → Selection
-no_key mode = record { selector = s0; mode = mode; bound = 1; looked = [] }
+no_key mode = record { selector = s0; mode = mode; bound = 1; looked = []; kept = [] }
 
 abbrev Begins : CallerNo → Mode → ℕ → (State → Type 0) → State → Type 0
 Begins me mode ops = Says me (begin_plan s0 mode false) (Ok (sel mode ops))
@@ -123,7 +132,7 @@ cancel_during_selection = (refl, (refl, (refl, (refl, (refl, (refl, (refl, (refl
 cancelled_key_until_selection : Setup Source 1 (Says t1 (cancel_plan k0) tt (Says t1 (key_for_plan c0 s0) (Some k0)
     (Says t1 (register_plan limits s0 c0 1 0) (Err ChannelError.CancelledKey) (Says t1 (begin_plan s0 WithoutWaiting false) (Ok (no_key WithoutWaiting))
     (Says t1 (told_plan (no_key WithoutWaiting) [] false) (done (record { count = 0; why = Now })) (Says t1 (key_for_plan c0 s0) None
-    (Says t1 (register_plan limits s0 c0 1 0) (Ok (key s0 1)) End))))))) opening
+    (Says t1 (register_plan limits s0 c0 1 0) (Ok (k 0 1)) End))))))) opening
 unfolding plans
 cancelled_key_until_selection = (refl, (refl, (refl, (refl, (refl, (refl, (refl, (refl, (refl, (refl, (refl, tt)))))))))))
 
@@ -188,7 +197,7 @@ Unblocks n = Says t1 (set_blocking_plan few (channel n) false) (Ok tt)
 
 small_limits : Says t1 (open_selector_plan few) (Ok s0) (Says t1 (open_selector_plan few) (Err (record {}))
     (Opens 0 (Opens 1 (Opens 2 (Opens 3 (Says t1 (open_channel_plan few Source) (Err ChannelError.ChannelsSpent)
-    (Unblocks 0 (Unblocks 1 (Unblocks 2 (Says t1 (register_plan few s0 (channel 0) 1 0) (Ok k0) (Says t1 (register_plan few s0 (channel 1) 1 0) (Ok (key s0 1))
+    (Unblocks 0 (Unblocks 1 (Unblocks 2 (Says t1 (register_plan few s0 (channel 0) 1 0) (Ok k0) (Says t1 (register_plan few s0 (channel 1) 1 0) (Ok (k 1 0))
     (Says t1 (register_plan few s0 (channel 2) 1 0) (Err ChannelError.Full) (Says t1 (register_plan few s0 (channel 0) 0 0) (Ok k0) End))))))))))))) opening
 unfolding plans
 small_limits = (refl, (refl, (refl, (refl, (refl, (refl, (refl, (refl, (refl, (refl, (refl, (refl, (refl, (refl, tt))))))))))))))
@@ -201,8 +210,42 @@ no_memory = (refl, (refl, (refl, (refl, (refl, (refl, (refl, (refl, tt))))))))
 
 -- names that are made or not, and a channel's mode
 names : Setup Source 1 (Says t1 (find_selector_plan limits 0) (Some s0) (Says t1 (find_selector_plan limits 1) None (Says t1 (find_selector_plan limits 2) None
-    (Says t1 (find_channel_plan limits 0) (Some c0) (Says t1 (find_channel_plan limits 1) None (Says t1 (find_plan limits s0 0) (Some k0) (Says t1 (find_plan limits s0 1) None
-    (Says t1 (find_plan limits s0 4) None (Says t1 (is_blocking_plan c0) false (Says t1 (set_blocking_plan limits c0 true) (Err ChannelError.IllegalBlockingMode)
+    (Says t1 (find_channel_plan limits 0) (Some c0) (Says t1 (find_channel_plan limits 1) None (Says t1 (find_plan limits s0 0 0) (Some k0) (Says t1 (find_plan limits s0 1 0) None
+    (Says t1 (find_plan limits s0 4 0) None (Says t1 (is_blocking_plan c0) false (Says t1 (set_blocking_plan limits c0 true) (Err ChannelError.IllegalBlockingMode)
     (Says t1 (keys_plan s0 false) (Ok (k0 ∷ [])) (Says t1 (selected_keys_plan s0 false) (Ok []) End)))))))))))) opening
 unfolding plans
 names = (refl, (refl, (refl, (refl, (refl, (refl, (refl, (refl, (refl, (refl, (refl, (refl, (refl, (refl, (refl, (refl, tt))))))))))))))))
+
+-- ---- an index that is given again
+
+abbrev one_key : Limits
+one_key = record { callers = 4; selectors = 1; channels = 2; keys = 1 }
+
+-- a removed key, on which another caller has a pin
+abbrev removed : Stage
+removed = record { claimed = true; published = true; cancelled = true; removed = true; chan = c0; serial = 0 }
+
+abbrev Registers : ChanNo → ℕ → Result KeyNo ChannelError → (State → Type 0) → State → Type 0
+Registers c att = Says t1 (register_plan one_key s0 c 1 att)
+
+index_given_again : Says t1 (open_selector_plan one_key) (Ok s0) (Opens 0 (Opens 1 (Unblocks 0 (Unblocks 1 (Registers c0 5 (Ok k0)
+    (Says t1 (cancel_plan k0) tt (Says t1 (begin_plan s0 WithoutWaiting false) (Ok (no_key WithoutWaiting))
+    (Says t1 (told_plan (no_key WithoutWaiting) [] false) (done (record { count = 0; why = Now }))
+    (Says t2 (pin s0 0) removed (Registers (channel 1) 0 (Err ChannelError.Full) (Says t2 (unpin s0 0) tt (Registers (channel 1) 0 (Ok (k 0 1))
+    (Says t1 (is_valid_plan k0) false (Says t1 (attachment_plan k0) 0 (Says t1 (ready_plan (k 0 1)) (Ok 0) (Says t1 (find_plan one_key s0 0 0) (Some k0)
+    (Says t1 (find_plan one_key s0 0 2) None End))))))))))))))))) opening
+unfolding plans
+index_given_again = (refl, (refl, (refl, (refl, (refl, (refl, (refl, (refl, (refl, (refl, (refl, (refl, (refl, (refl, (refl, (refl, (refl, (refl, tt))))))))))))))))))
+
+-- ---- pipes
+
+abbrev ends : PipeEnds
+ends = record { source = channel 0; sink = channel 1 }
+
+pipes : Says t1 (pipe_plan few false) (Ok ends) (Says t1 (try_read_plan few (channel 0)) (Ok true) (Says t1 (set_blocking_plan few (channel 1) false) (Ok tt)
+    (Says t1 (try_write_plan few (channel 0) (channel 1)) (Ok false) (Says t2 (interrupt_plan t1) tt (Says t1 (try_read_plan few (channel 0)) (Err PipeError.ClosedByInterrupt)
+    (Says t1 (try_read_plan few (channel 0)) (Err PipeError.ClosedChannel) (Says t1 (try_write_plan few (channel 0) (channel 1)) (Err PipeError.BrokenPipe)
+    (Opens 2 (Says t1 (pipe_plan few true) (Err PipeMakeError.Memory) (Says t1 (pipe_plan few false) (Err PipeMakeError.ChannelsSpent)
+    (Says t1 (is_open_plan (channel 3)) false End))))))))))) opening
+unfolding plans
+pipes = (refl, (refl, (refl, (refl, (refl, (refl, (refl, (refl, (refl, (refl, (refl, (refl, tt))))))))))))

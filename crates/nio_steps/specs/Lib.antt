@@ -1,5 +1,6 @@
 pub mod Plan
 pub mod Runs
+pub mod Waiting
 pub mod Calls
 pub mod Sweeps
 pub mod Steps
@@ -8,6 +9,7 @@ pub mod Names
 pub mod KeyCalls
 pub mod ChannelCalls
 pub mod SelectCalls
+pub mod PipeCalls
 pub mod Selections
 pub mod Laws
 pub mod Each

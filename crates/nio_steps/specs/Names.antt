@@ -1,6 +1,7 @@
 -- What numbers name.
 use Rattle.std.specs.Prelude.{ℕ}
 use Rattle.nio_base.specs.declared.numbers.ChanNo.{ChanNo}
+use Rattle.nio_base.specs.declared.numbers.KeyId.{KeyId}
 use Rattle.nio_base.specs.declared.numbers.KeyNo.{KeyNo}
 use Rattle.nio_base.specs.declared.numbers.SelNo.{SelNo}
 
@@ -10,6 +11,6 @@ selector n = record { 0 = n }
 abbrev pub channel : ℕ → ChanNo
 channel n = record { 0 = n }
 
--- the key with this index
-abbrev pub key : SelNo → ℕ → KeyNo
-key s i = record { sel = s; index = i; serial = 0 }
+-- the key of a selector
+abbrev pub key : SelNo → KeyId → KeyNo
+key s k = record { sel = s; index = k.index; serial = k.serial }

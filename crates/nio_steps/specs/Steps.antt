@@ -3,8 +3,9 @@ use Rattle.std.specs.Prelude.{ℕ, Bool, false, Option, None, Result, Ok}
 use Rattle.nio_base.specs.declared.kind.Kind.{Kind}
 use Rattle.nio_base.specs.declared.numbers.CallerNo.{CallerNo}
 use Rattle.nio_base.specs.declared.numbers.ChanNo.{ChanNo}
+use Rattle.nio_base.specs.declared.numbers.KeyId.{KeyId}
 use Rattle.nio_base.specs.declared.numbers.SelNo.{SelNo}
-use Rattle.nio_event.specs.Questions.{Question, Answer, flag, word, gate_word, stage, operations, channel, number, key_index, holder, key_mark, exchange}
+use Rattle.nio_event.specs.Questions.{Question, Answer, flag, word, gate_word, stage, operations, channel, number, noted_key, holder, key_mark, exchange}
 use Rattle.nio_event.specs.State.{open_gate, unclaimed, unmade_channel, unmarked}
 use Rattle.nio_event.specs.declared.found.Chan.{Chan}
 use Rattle.nio_event.specs.declared.found.GateWord.{GateWord}
@@ -44,9 +45,9 @@ abbrev pub number_in : Answer → ℕ
 number_in (number found) = found
 number_in _ = 0
 
-abbrev pub key_index_in : Answer → Option ℕ
-key_index_in (key_index found) = found
-key_index_in _ = None
+abbrev pub noted_in : Answer → Option KeyId
+noted_in (noted_key found) = found
+noted_in _ = None
 
 abbrev pub holder_in : Answer → Option CallerNo
 holder_in (holder found) = found
@@ -128,11 +129,11 @@ look_keys s = ask (Question.look_keys s) (λ answer. reply (number_in answer))
 abbrev pub publish : SelNo → ℕ → Plan Stage
 publish s i = ask (Question.publish s i) (λ answer. reply (stage_in answer))
 
-abbrev pub look_reg : ChanNo → SelNo → Plan (Option ℕ)
-look_reg c s = ask (Question.look_reg c s) (λ answer. reply (key_index_in answer))
+abbrev pub look_reg : ChanNo → SelNo → Plan (Option KeyId)
+look_reg c s = ask (Question.look_reg c s) (λ answer. reply (noted_in answer))
 
-abbrev pub enrol : ChanNo → SelNo → ℕ → Plan (Option ℕ)
-enrol c s i = ask (Question.enrol c s i) (λ answer. reply (key_index_in answer))
+abbrev pub enrol : ChanNo → SelNo → ℕ → ℕ → Plan (Option KeyId)
+enrol c s i serial = ask (Question.enrol c s i serial) (λ answer. reply (noted_in answer))
 
 abbrev pub take_turn : SelNo → Plan (Option CallerNo)
 take_turn s = ask (Question.take_turn s) (λ answer. reply (holder_in answer))
@@ -181,3 +182,24 @@ shut_bit s = ask (Question.shut_bit s) (λ answer. reply (flag_in answer))
 
 abbrev pub enter : SelNo → Plan (Option CallerNo)
 enter s = ask (Question.enter s) (λ answer. reply (holder_in answer))
+
+abbrev pub pin : SelNo → ℕ → Plan Stage
+pin s i = ask (Question.pin s i) (λ answer. reply (stage_in answer))
+
+abbrev pub unpin : SelNo → ℕ → Plan (Unit {0})
+unpin s i = ask (Question.unpin s i) (λ _. reply tt)
+
+abbrev pub clear_mark : SelNo → ℕ → Plan Mark
+clear_mark s i = ask (Question.clear_mark s i) (λ answer. reply (mark_in answer))
+
+abbrev pub claim_again : SelNo → ℕ → ChanNo → Stage → Plan Bool
+claim_again s i c from = ask (Question.claim_again s i c from) (λ answer. reply (flag_in answer))
+
+abbrev pub look_free : SelNo → ℕ → Plan ℕ
+look_free s j = ask (Question.look_free s j) (λ answer. reply (word_in answer))
+
+abbrev pub put_free : SelNo → ℕ → Plan (Unit {0})
+put_free s i = ask (Question.put_free s i) (λ _. reply tt)
+
+abbrev pub take_free : SelNo → ℕ → Plan Bool
+take_free s i = ask (Question.take_free s i) (λ answer. reply (flag_in answer))

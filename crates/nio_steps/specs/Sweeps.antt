@@ -1,5 +1,5 @@
 -- Plans that go over indexes, or over a list, in rising order.
-use Rattle.std.specs.Prelude.{ℕ, zero, suc, ◌+◌, ◌-◌, Bool, if◌then◌else◌, Option, Some, None, List, [], ◌∷◌}
+use Rattle.std.specs.Prelude.{ℕ, zero, suc, ◌+◌, ◌-◌, Option, Some, None, List, [], ◌∷◌}
 use Rattle.nio_steps.specs.Plan.{Plan, reply, ◌>>=◌}
 
 -- the steps `f` of each of n indexes from i on, each with what the one before left
@@ -13,15 +13,21 @@ sweep (suc n) i f x = do
 abbrev pub sweep_to : {A : Type 0} → ℕ → ℕ → (ℕ → A → Plan A) → A → Plan A
 sweep_to b i f x = sweep (b - i) i f x
 
--- the first of n indexes from i on at which the steps `f` say yes; no step is made after it
-unfoldable pub seek : ℕ → ℕ → (ℕ → Plan Bool) → Plan (Option ℕ)
+-- how a search goes on after the steps of an index
+abbrev pub found_or : {A : Type 0} → Plan (Option A) → Option A → Plan (Option A)
+found_or later (Some x) = reply (Some x)
+found_or later None = later
+
+-- what the steps `f` of the first of n indexes from i on give that give anything; no step is made after
+-- them
+unfoldable pub seek : {A : Type 0} → ℕ → ℕ → (ℕ → Plan (Option A)) → Plan (Option A)
 seek zero i f = reply None
 seek (suc n) i f = do
   here ← f i
-  if here then reply (Some i) else seek n (i + 1) f
+  found_or (seek n (i + 1) f) here
 
--- the first index from i, below b
-abbrev pub seek_to : ℕ → ℕ → (ℕ → Plan Bool) → Plan (Option ℕ)
+-- the same of the indexes from i, below b
+abbrev pub seek_to : {A : Type 0} → ℕ → ℕ → (ℕ → Plan (Option A)) → Plan (Option A)
 seek_to b i f = seek (b - i) i f
 
 -- the steps `f` of each element of a list, each with what the one before left

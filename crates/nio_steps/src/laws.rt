@@ -1,5 +1,5 @@
 //! What the plans promise, as the contracts of functions that do nothing.
-ghost use Rattle.nio_steps.specs.Laws.{RunsArePerformed, BeginsSelection, LooksInOrder, CancelledKeysGo, MarksOnlyAsTold, AgainGoesOn, CountsSelection, SelectionsStand, ClosingsStand, ClosedRemovesAll};
+ghost use Rattle.nio_steps.specs.Laws.{RunsArePerformed, BeginsSelection, ListsInOrder, LooksAtValidKeys, CancelledKeysGo, MarksOnlyAsTold, AgainGoesOn, CountsSelection, SelectionsStand, ClosingsStand, ClosedRemovesKeys};
 
 /// A call between whose steps nobody comes answers, and leaves, what its plan says of the state
 /// before it.
@@ -8,11 +8,13 @@ pub fn run_law<R>()
 {}
 
 /// What `try_begin` answers is the selection that it began, until the turn is given back or a key
-/// is marked. Its keys are in rising order, and none of them was cancelled before; a key below its
-/// bound that was is removed.
+/// is marked. Its lists are in rising order. Each looked key was found valid by a look of that call, with
+/// the channel, the serial and the interest set of its entry. A key with an index below the bound that was
+/// cancelled before is removed, and isn't looked at.
 pub fn begin_law()
     ensures begins { BeginsSelection }
-    ensures in_order { LooksInOrder }
+    ensures in_order { ListsInOrder }
+    ensures valid { LooksAtValidKeys }
     ensures cancelled { CancelledKeysGo }
 {}
 
@@ -31,7 +33,8 @@ pub fn progress_law()
     ensures closings { ClosingsStand }
 {}
 
-/// A selector whose closing has finished keeps no key of those below the mark that the closing found.
+/// A closing that has finished has removed each key with an index below the mark that it found, where the
+/// key was claimed before it looked at the mark.
 pub fn close_law()
-    ensures { ClosedRemovesAll }
+    ensures { ClosedRemovesKeys }
 {}

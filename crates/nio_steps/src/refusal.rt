@@ -94,3 +94,41 @@ impl From<AllocError> for ListError {
         ListError::Memory
     }
 }
+
+/// Why a pipe isn't made.
+#[derive(Clone, Copy, Debug, PartialEq, Eq, Error)]
+pub enum PipeMakeError {
+    /// As many channels are made as may be. A pipe needs two; the one that was made is closed.
+    #[error("ChannelsSpent")]
+    ChannelsSpent,
+    /// There is no memory for the pipe.
+    #[error("Memory")]
+    Memory,
+}
+
+impl From<AllocError> for PipeMakeError {
+    ghost use Rattle.nio_steps.specs.declared.refusal.PipeMakeError.TheVariants.{Memory};
+
+    ghost from_gives = { λ _ e. e ≡ Memory };
+
+    fn from(_error: AllocError) -> PipeMakeError {
+        PipeMakeError::Memory
+    }
+}
+
+/// Why nothing is read from a pipe or written to it.
+#[derive(Clone, Copy, Debug, PartialEq, Eq, Error)]
+pub enum PipeError {
+    /// The channel is closed: Java's `ClosedChannelException`.
+    #[error("ClosedChannel")]
+    ClosedChannel,
+    /// The caller is interrupted, and its call closed the channel: Java's `ClosedByInterruptException`.
+    #[error("ClosedByInterrupt")]
+    ClosedByInterrupt,
+    /// Another caller closed the channel while this one waited: Java's `AsynchronousCloseException`.
+    #[error("AsynchronousClose")]
+    AsynchronousClose,
+    /// The pipe's source is closed, so that nobody will read: Java's `IOException` of a broken pipe.
+    #[error("BrokenPipe")]
+    BrokenPipe,
+}
