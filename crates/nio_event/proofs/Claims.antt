@@ -17,7 +17,7 @@ use Rattle.nio_event.specs.declared.act.Act.TheVariants.{Claim, Unpin, ClaimAgai
 use Rattle.nio_event.specs.declared.event.Event.{Event}
 
 -- the claim after an act, by the claim before
-abbrev claim_after : Option (Option OwnClaim) → Option OwnClaim → Option OwnClaim
+abbrev pub claim_after : Option (Option OwnClaim) → Option OwnClaim → Option OwnClaim
 claim_after None before = before
 claim_after (Some claim) before = claim
 
@@ -25,7 +25,7 @@ or_none-or : (x y : Option (Option OwnClaim)) → or_none (option_or x y) ≡ cl
 or_none-or None y = refl
 or_none-or (Some x) y = refl
 
-own_claim-more : (s i : ℕ) (own : List Act) (act : Act) → own_claim s i (own ++ act ∷ []) ≡ claim_after (claim_changed s i act) (own_claim s i own)
+pub own_claim-more : (s i : ℕ) (own : List Act) (act : Act) → own_claim s i (own ++ act ∷ []) ≡ claim_after (claim_changed s i act) (own_claim s i own)
 own_claim-more s i own act = ap or_none (last-more (claim_changed s i) own act) ∙ or_none-or (claim_changed s i act) (last (claim_changed s i) own)
 
 -- an act that takes the pin off ends the claim

@@ -1,5 +1,5 @@
--- What lasts: no step ends what stands in `LastingFact`. Of the kinds of step only those that change
--- a fact's part of the state are looked at; of the others the last line of each lemma speaks.
+-- What is permanent, from any state: no step ends it. Each lemma has a line for each kind of step that changes
+-- the fact's part of the state; its last line is for all the others.
 use Rattle.std.proofs.Common.{◌≡◌, ℕ, ◌<◌, Bool, true, false, ◌||◌, refl, ap, arith}
 use Rattle.nio_base.specs.declared.numbers.CallerNo.{CallerNo}
 use Rattle.nio_event.proofs.Put.{put_keeps, put_at_keeps}

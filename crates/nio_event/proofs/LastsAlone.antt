@@ -6,6 +6,7 @@ use Rattle.std.proofs.lemmas.List.Elements.{filter-append}
 use Rattle.std.specs.List.{filter, list_any}
 use Rattle.nio_base.specs.declared.limits.Limits.{Limits}
 use Rattle.nio_base.specs.declared.numbers.CallerNo.{CallerNo}
+use Rattle.nio_event.proofs.Claims.{pin_stays}
 use Rattle.nio_event.proofs.Legal.{legal_beginning, legal_next}
 use Rattle.nio_event.proofs.OneMore.{state_after-more}
 use Rattle.nio_event.proofs.Put.{put_keeps, put_at_keeps}
@@ -16,34 +17,33 @@ use Rattle.nio_event.specs.Answers.{Answers}
 use Rattle.nio_event.specs.Conditions.{Condition, is_held_by, has_turn, has_begun, has_taken, may_put_due}
 use Rattle.nio_event.specs.Histories.{state_after, is_by, mine, IsStep, IsLegal}
 use Rattle.nio_event.specs.Lasting.{OwnFact, the_turn, a_selection, the_hold, a_pin, a_taken_index, is_had_by, gives_back}
-use Rattle.nio_event.specs.OwnEvents.{has, gives_turn, releases, unpins, gives_index}
+use Rattle.nio_event.specs.OwnEvents.{has, gives_turn, releases, gives_index}
 use Rattle.nio_event.specs.Sound.{IsSound}
-use Rattle.nio_event.specs.State.{State, put, with_pin}
+use Rattle.nio_event.specs.State.{State}
 use Rattle.nio_event.specs.declared.act.Act.{Act}
-use Rattle.nio_event.specs.declared.act.Act.TheVariants.{Claim, TakeTurn, BeginLook, GiveTurn, TryHoldBit, Release, Pin, Unpin, ClaimAgain, PutFree, TakeFree}
+use Rattle.nio_event.specs.declared.act.Act.TheVariants.{TakeTurn, BeginLook, GiveTurn, TryHoldBit, Release, ClaimAgain, PutFree, TakeFree}
 use Rattle.nio_event.specs.declared.event.Event.{Event}
 
--- a place has one holder
+-- a place has one holder: two that hold it are one caller
 pub one_holder : (m n : CallerNo) (o : Option CallerNo) → is_held_by m o ≡ true → is_held_by n o ≡ true → m.0 ≡ n.0
 one_holder m n None h k = absurd cc
 one_holder m n (Some x) h k = sym (eqb-true x.0 m.0 h) ∙ eqb-true x.0 n.0 k
 
--- whoever tries to take what another has leaves it to it
+-- trying to take what another has changes nothing
 taken_keeps : (me n : CallerNo) (o : Option CallerNo) → is_held_by n o ≡ true → is_held_by n (taken_by me o) ≡ true
 taken_keeps me n None h = absurd cc
 taken_keeps me n (Some x) h = h
 
--- a step by which n itself gives back what it had isn't one that spares it
+-- an act of the caller's own isn't one of another caller or of another kind
+pub spares_not : (me n : CallerNo) (b : Bool) → me.0 ≡ n.0 → b ≡ true → ((me.0 == n.0) && b) ≡ false → ⊥
+spares_not me n b same such spared = both_ways ((me.0 == n.0) && b) (and_from (me.0 == n.0) b (eq-eqb me.0 n.0 same) such) spared
+
+pub same_two : (a b : ℕ) → ((a == a) && (b == b)) ≡ true
+same_two a b = and_from (a == a) (b == b) (eq-eqb a a refl) (eq-eqb b b refl)
+
+-- a step of the holder that gives the place back isn't one of another caller or of another kind
 not_spared : (me n : CallerNo) (o : Option CallerNo) (there : Bool) → there ≡ true → is_held_by me o ≡ true → is_held_by n o ≡ true → ((me.0 == n.0) && there) ≡ false → ⊥
-not_spared me n o there is_there mine' has_it spared =
-    both_ways ((me.0 == n.0) && there) (and_from (me.0 == n.0) there (eq-eqb me.0 n.0 (one_holder me n o mine' has_it)) is_there) spared
-
--- a number, and a pair of numbers, is itself
-itself : (k : ℕ) → (k == k) ≡ true
-itself k = eq-eqb k k refl
-
-both_itself : (j k : ℕ) → ((j == j) && (k == k)) ≡ true
-both_itself j k = and_from (j == j) (k == k) (itself j) (itself k)
+not_spared me n o there is_there mine' has_it spared = spares_not me n there (one_holder me n o mine' has_it) is_there spared
 
 turn_stays : (l : Limits) (own : List Act) (st : State) (me n : CallerNo) (act : Act) → Condition l own st me act → Answers st me act
     → (s : ℕ) → ((me.0 == n.0) && gives_turn s act) ≡ false → is_held_by n (st.turn s) ≡ true → is_held_by n ((effect st me act).turn s) ≡ true
@@ -51,7 +51,7 @@ turn_stays l own st me n (TakeTurn k found) may answers s spared = put_keeps (λ
     (λ h. let found_is : found ≡ st.turn k.0 = cc in subst (λ o. is_held_by n (taken_by me o) ≡ true) (sym found_is) (taken_keeps me n (st.turn k.0) h)) s
 turn_stays l own st me n (GiveTurn k) may answers s spared = λ h.
     put_keeps (λ m o. ((me.0 == n.0) && (k.0 == m)) ≡ false → is_held_by n o ≡ true) st.turn k.0 None
-    (λ old spared'. absurd (not_spared me n (st.turn k.0) (k.0 == k.0) (itself k.0) may.1 (old spared') spared')) s (λ _. h) spared
+    (λ old spared'. absurd (not_spared me n (st.turn k.0) (k.0 == k.0) (eq-eqb k.0 k.0 refl) may.1 (old spared') spared')) s (λ _. h) spared
 turn_stays l own st me n act may answers s spared = λ h. h
 
 hold_stays : (l : Limits) (own : List Act) (st : State) (me n : CallerNo) (act : Act) → Condition l own st me act → Answers st me act
@@ -60,7 +60,7 @@ hold_stays l own st me n (TryHoldBit k found) may answers c spared = put_keeps (
     (λ h. let found_is : found ≡ st.hold k.0 = cc in subst (λ o. is_held_by n (taken_by me o) ≡ true) (sym found_is) (taken_keeps me n (st.hold k.0) h)) c
 hold_stays l own st me n (Release k) may answers c spared = λ h.
     put_keeps (λ m o. ((me.0 == n.0) && (k.0 == m)) ≡ false → is_held_by n o ≡ true) st.hold k.0 None
-    (λ old spared'. absurd (not_spared me n (st.hold k.0) (k.0 == k.0) (itself k.0) may.1 (old spared') spared')) c (λ _. h) spared
+    (λ old spared'. absurd (not_spared me n (st.hold k.0) (k.0 == k.0) (eq-eqb k.0 k.0 refl) may.1 (old spared') spared')) c (λ _. h) spared
 hold_stays l own st me n act may answers c spared = λ h. h
 
 begun_stays : (l : Limits) (own : List Act) (st : State) (me n : CallerNo) (act : Act) → Condition l own st me act → Answers st me act
@@ -75,27 +75,10 @@ begun_stays l own st me n (TakeTurn k found) may answers s spared turn begun =
 begun_stays l own st me n (BeginLook k found) may answers s spared turn begun = put_keeps (λ _ b. b ≡ true) st.begun k.0 _ (λ e. ap (λ b. b || not found.shut) e) s begun
 begun_stays l own st me n (GiveTurn k) may answers s spared turn begun =
     put_keeps (λ m b. is_held_by n (st.turn m) ≡ true → ((me.0 == n.0) && (k.0 == m)) ≡ false → b ≡ true) st.begun k.0 false
-    (λ old h spared'. absurd (not_spared me n (st.turn k.0) (k.0 == k.0) (itself k.0) may.1 h spared')) s (λ _ _. begun) turn spared
+    (λ old h spared'. absurd (not_spared me n (st.turn k.0) (k.0 == k.0) (eq-eqb k.0 k.0 refl) may.1 h spared')) s (λ _ _. begun) turn spared
 begun_stays l own st me n act may answers s spared turn begun = begun
 
--- what is said of a caller's pin on an index stays where the new value has it
-pin_keeps : (R : ℕ → ℕ → ℕ → Bool → Type 0) (st : State) (s i n : ℕ) (x : Bool) → (R s i n (st.pinned s i n) → R s i n x)
-    → (s' i' n' : ℕ) → R s' i' n' (st.pinned s' i' n') → R s' i' n' ((with_pin st s i n x).pinned s' i' n')
-pin_keeps R st s i n x new s' i' n' =
-    put_at_keeps (λ s'' i'' f. R s'' i'' n' (f n')) st.pinned s i (put (st.pinned s i) n x) (put_keeps (R s i) (st.pinned s i) n x new n') s' i'
-
-pin_stays : (l : Limits) (own : List Act) (st : State) (me n : CallerNo) (act : Act) → Condition l own st me act
-    → (s i : ℕ) → ((me.0 == n.0) && unpins s i act) ≡ false → st.pinned s i n.0 ≡ true → (effect st me act).pinned s i n.0 ≡ true
-pin_stays l own st me n (Claim k j c found) may s i spared = pin_keeps (λ _ _ _ b. b ≡ true) st k.0 j me.0 _ (λ h. ap (λ b. b || not found) h) s i n.0
-pin_stays l own st me n (Pin k j found) may s i spared = pin_keeps (λ _ _ _ b. b ≡ true) st k.0 j me.0 true (λ _. refl) s i n.0
-pin_stays l own st me n (Unpin k j) may s i spared = λ h.
-    pin_keeps (λ s' i' m b. ((me.0 == n.0) && ((k.0 == s') && (j == i'))) ≡ false → m ≡ n.0 → b ≡ true) st k.0 j me.0 false
-    (λ _ spared' same. absurd (both_ways ((me.0 == n.0) && ((k.0 == k.0) && (j == j))) (and_from (me.0 == n.0) ((k.0 == k.0) && (j == j)) (eq-eqb me.0 n.0 same) (both_itself k.0 j)) spared'))
-    s i n.0 (λ _ _. h) spared refl
-pin_stays l own st me n (ClaimAgain k j c from found) may s i spared = pin_keeps (λ _ _ _ b. b ≡ true) st k.0 j me.0 _ (λ h. ap (λ b. b || not found) h) s i n.0
-pin_stays l own st me n act may s i spared = λ h. h
-
--- nobody has taken an index that is free, or that a selection dropped
+-- a caller that has taken an index stands as its taker
 not_taken : (n : CallerNo) (o : Option CallerNo) → is_held_by n o ≡ true → o ≡ None → ⊥
 not_taken n o held none' = both_ways (is_held_by n o) held (ap (is_held_by n) none')
 
@@ -104,7 +87,7 @@ taken_stays : (l : Limits) (own : List Act) (st : State) (me n : CallerNo) (act 
 taken_stays l own st me n (ClaimAgain k j c from true) sound may answers s i spared = put_at_keeps (λ _ _ o. is_held_by n o ≡ true) st.taker k.0 j (st.taker k.0 j) (λ h. h) s i
 taken_stays l own st me n (ClaimAgain k j c from false) sound may answers s i spared = λ h.
     put_at_keeps (λ s' i' o. ((me.0 == n.0) && ((k.0 == s') && (j == i'))) ≡ false → is_held_by n o ≡ true) st.taker k.0 j None
-    (λ old spared'. absurd (not_spared me n (st.taker k.0 j) ((k.0 == k.0) && (j == j)) (both_itself k.0 j) may.3 (old spared') spared')) s i (λ _. h) spared
+    (λ old spared'. absurd (not_spared me n (st.taker k.0 j) ((k.0 == k.0) && (j == j)) (same_two k.0 j) may.3 (old spared') spared')) s i (λ _. h) spared
 taken_stays l own st me n (PutFree k j) sound may answers s i spared = λ h.
     put_at_keeps (λ s' i' o. ((me.0 == n.0) && ((k.0 == s') && (j == i'))) ≡ false → is_held_by n o ≡ true) st.taker k.0 j None
     (λ old spared'. absurd (given (old spared') spared')) s i (λ _. h) spared
@@ -112,7 +95,7 @@ taken_stays l own st me n (PutFree k j) sound may answers s i spared = λ h.
     given : is_held_by n (st.taker k.0 j) ≡ true → ((me.0 == n.0) && ((k.0 == k.0) && (j == j))) ≡ false → ⊥
     given held spared' =
         elim (either (has_taken st me k j) (may_put_due st me k j) may.1) [
-          | inl taken ↦ not_spared me n (st.taker k.0 j) ((k.0 == k.0) && (j == j)) (both_itself k.0 j) taken held spared'
+          | inl taken ↦ not_spared me n (st.taker k.0 j) ((k.0 == k.0) && (j == j)) (same_two k.0 j) taken held spared'
           | inr dropped ↦ both_ways (st.put_due k.0 j) (and_parts (has_begun st me k) (st.put_due k.0 j) dropped).1 (sound.taken_not_due k.0 j (held_some n (st.taker k.0 j) held))
         ]
 taken_stays l own st me n (TakeFree k j true) sound may answers s i spared = put_at_keeps (λ _ _ o. is_held_by n o ≡ true) st.taker k.0 j (Some me)
@@ -129,17 +112,17 @@ lasts_alone l own st me n act sound may answers (a_selection s) spared h =
     and_from (has_turn (effect st me act) n s) ((effect st me act).begun s.0) (turn_stays l own st me n act may answers s.0 spared both.0)
     (begun_stays l own st me n act may answers s.0 spared both.0 both.1)
 lasts_alone l own st me n act sound may answers (the_hold c) spared h = hold_stays l own st me n act may answers c.0 spared h
-lasts_alone l own st me n act sound may answers (a_pin s i) spared h = pin_stays l own st me n act may s.0 i spared h
+lasts_alone l own st me n act sound may answers (a_pin s i) spared h = pin_stays st me n act s.0 i spared h
 lasts_alone l own st me n act sound may answers (a_taken_index s i) spared h = taken_stays l own st me n act sound may answers s.0 i spared h
 
 -- ---- over histories
 
--- a list of events none of which passes the test: neither the first nor a later one does
+-- where neither of two holds, each of them fails
 any_parts : (a b : Bool) → (a || b) ≡ false → (a ≡ false) × (b ≡ false)
 any_parts true b e = absurd cc
 any_parts false b e = (refl, e)
 
--- what each step keeps that isn't such an event holds of every legal longer history without one
+-- what each step keeps, but for some events, stands after every legal longer history without such an event
 pub without_from : (l : Limits) (such : Event → Bool) (P : List Event → Type 0)
     → ((past : List Event) (e : Event) → IsLegal l past → IsStep l past e → such e ≡ false → P past → P (past ++ e ∷ []))
     → (past later : List Event) → IsLegal l (past ++ later) → list_any such later ≡ false → P past → P (past ++ later)

@@ -35,4 +35,9 @@ pub mod Clauses
 pub mod PassViews
 pub mod Asked
 pub mod Holder
+pub mod Keeping
+pub mod Holds
+pub mod Unpublished
+pub mod Selections
+pub mod Finds
 pub mod OwnPins

@@ -34,7 +34,7 @@ below_max a b c h = by_test (nat_lt c a) refl
         let not_below : a ≤ c = ltb-false c a e in
         inr (omega arith)
 
--- whoever is there is there
+-- a place that a caller holds isn't free
 pub held_some : (me : CallerNo) (o : Option CallerNo) → is_held_by me o ≡ true → is_some o ≡ true
 held_some me None h = absurd cc
 held_some me (Some n) h = refl
@@ -67,7 +67,7 @@ beyond-claimed st sound s i beyond = by_test (st.key s i).claimed refl
     by_test true e = e
     by_test false e = absurd (both_ways ((st.key s i).published || (st.key s i).cancelled || (st.key s i).removed) beyond (ap (λ k. k.published || k.cancelled || k.removed) (sound.unclaimed_bare s i e)))
 
--- who has a pin on an index has it on a claimed one
+-- an index that a caller has a pin on is claimed
 pub pinned-claimed : (st : State) → IsSound st → (s i n : ℕ) → st.pinned s i n ≡ true → (st.key s i).claimed ≡ true
 pinned-claimed st sound s i n pinned = by_test (st.key s i).claimed refl
   where
@@ -248,7 +248,7 @@ unclaimed_unpinned_step l own st me (Unpin s' i') may sound s i n =
     put_pin_keeps (λ a b _ x. (st.key a b).claimed ≡ false → x ≡ false) st.pinned s'.0 i' me.0 false (λ _ _. refl) s i n (sound.unclaimed_unpinned s i n)
 unclaimed_unpinned_step l own st me act may sound s i n = sound.unclaimed_unpinned s i n
 
--- ---- free, taken and dropped indexes
+-- ---- indexes that are free, taken, or still to be put
 
 -- who may put an index puts one that can come back
 put_back : (st : State) (me : CallerNo) (s : SelNo) (i : ℕ) → IsSound st → (has_taken st me s i || may_put_due st me s i) ≡ true → can_come_back (st.key s.0 i) ≡ true
@@ -288,7 +288,7 @@ free_not_taken st sound s i free taken =
     let clash : true ≡ false = sym taken ∙ ap is_some (sound.free_untaken s i free) in
     cc
 
--- what is taken isn't dropped
+-- a selection hasn't to put an index that a caller has taken
 pub taken_not_dropped : (st : State) → IsSound st → (me : CallerNo) (s : SelNo) (i : ℕ) → has_taken st me s i ≡ true → st.put_due s.0 i ≡ true → ⊥
 taken_not_dropped st sound me s i taken dropped = both_ways (st.put_due s.0 i) dropped (sound.taken_not_due s.0 i (held_some me (st.taker s.0 i) taken))
 
@@ -376,7 +376,7 @@ free_untaken_step st me (ClaimAgain s' i' c from false) sound s i =
     put_at_keeps (λ a b o. st.free a b ≡ true → o ≡ None) st.taker s'.0 i' None (λ _ _. refl) s i (sound.free_untaken s i)
 free_untaken_step st me act sound s i = sound.free_untaken s i
 
--- a removal drops no index whose key was removed before
+-- after the removal of a key that was removed before, no index more is to be put
 not_dropped_now : (dropped begun : Bool) (found k : Stage) → found ≡ k → can_come_back k ≡ true → dropped ≡ false → (dropped || (begun && frees_index found)) ≡ false
 not_dropped_now dropped begun found k found_is back undropped =
     let stays : frees_index found ≡ false = ap (λ x. not x.removed && nat_lt x.serial last_serial) found_is ∙ ap (λ b. not b && nat_lt k.serial last_serial) (back_parts k back).removed in

@@ -100,7 +100,7 @@ condition_stays l n own st st' stays act may = may
 
 -- ---- the steps of others
 
--- another caller than n has no turn that n has
+-- where n has a turn, no other caller has it
 not_other : (me n : CallerNo) (o : Option CallerNo) → (me.0 == n.0) ≡ false → is_held_by me o ≡ true → is_held_by n o ≡ true → ⊥
 not_other me n o other its own_number = both_ways (me.0 == n.0) (eq-eqb me.0 n.0 (one_holder me n o its own_number)) other
 
@@ -132,7 +132,7 @@ cancelled_set_keeps l own st me n sound other = record {
       (cancelled_parts (st.key s.0 i) (old begun)).not_removed);
 }
 
--- what a selection dropped stays so at the steps of others
+-- at the steps of others an index that a selection has still to put stays one
 dropped_stays : (l : Limits) (own : List Act) (st : State) (me n : CallerNo) (act : Act) → IsSound st → Condition l own st me act → (me.0 == n.0) ≡ false
     → (s i : ℕ) → has_begun_on st n s ≡ true → st.put_due s i ≡ true → (effect st me act).put_due s i ≡ true
 dropped_stays l own st me n (Remove s' i' found) sound may other s i begun = put_at_keeps (λ _ _ x. x ≡ true) st.put_due s'.0 i' _ (λ e. ap (λ b. b || (st.begun s'.0 && frees_index found)) e) s i
@@ -165,7 +165,7 @@ unpinned_stays st me n act other s i h = by_act act
     by_act (Unpin s' i') = keeps s'.0 i' false
     by_act act' = h
 
--- what no step of another ends stands while caller n has no event
+-- what no step of another caller ends stands while caller n has no event
 by_others : (l : Limits) (n : CallerNo) (before later : List Event) → IsLegal l (before ++ later) → mine n later ≡ [] → (fact : State → Bool)
     → ((past : List Event) (e : Event) → IsLegal l past → IsStep l past e → (e.caller.0 == n.0) ≡ false → fact (state_after past) ≡ true → fact (effect (state_after past) e.caller e.act) ≡ true)
     → fact (state_after before) ≡ true → fact (state_after (before ++ later)) ≡ true

@@ -1,4 +1,4 @@
--- A turn, a hold and a selection last until their caller gives them back.
+-- The laws of turns: each turn and each hold has one holder, and one selection is in progress at a time.
 use Rattle.std.proofs.Common.{◌≡◌, ℕ, ◌==◌, Bool, true, false, ◌&&◌, ◌||◌, not, inl, inr, Option, Some, None, List, [], ◌∷◌, ◌++◌, append_assoc, refl, ap, sym, ◌∙◌, subst, eqb-true, eq-eqb}
 use Rattle.std.proofs.lemmas.Bool.{and_parts, and_from}
 use Rattle.nio_base.specs.declared.limits.Limits.{Limits}
@@ -23,7 +23,7 @@ use Rattle.nio_event.specs.declared.act.Act.{Act}
 use Rattle.nio_event.specs.declared.act.Act.TheVariants.{TakeTurn, BeginLook, Remove, Mark, EndWake, TryHoldBit}
 use Rattle.nio_event.specs.declared.event.Event.{Event}
 
--- what a caller has after an event it has until it gives it back: at the step that follows
+-- what a caller has after an event it still has at a later step, where it didn't give it back in between
 until_given_back : (l : Limits) (n : CallerNo) (f : OwnFact) (past : List Event) (first : Event) (between : List Event) (e : Event)
     → IsLegal l (past ++ first ∷ (between ++ e ∷ []))
     → (IsStep l past first → is_had_by n f (effect (state_after past) first.caller first.act) ≡ true)
@@ -43,7 +43,7 @@ until_given_back l n f past first between e legal begins kept =
 held_by_self : (n : CallerNo) → is_held_by n (Some n) ≡ true
 held_by_self n = eq-eqb n.0 n.0 refl
 
--- whoever finds a place free doesn't find a holder there
+-- a place that is free has no holder
 not_free : (n : CallerNo) (o : Option CallerNo) → is_held_by n o ≡ true → None ≡ o → ⊥
 not_free n None held free = absurd cc
 not_free n (Some m) held free = absurd cc
@@ -72,15 +72,15 @@ hold_has_one_holder l c m n past between legal = true_unless (has (releases c.0)
         let free : None ≡ (state_after then.0).hold c.0 = cc (then.2.answers) in
         not_free m ((state_after then.0).hold c.0) then.3 free
 
--- whoever has begun beside n is n
+-- two callers that have begun on one selector are one caller
 begun_is : (st : State) (me n : CallerNo) (s s' : SelNo) → has_begun st n s ≡ true → s'.0 ≡ s.0 → has_begun st me s' ≡ true → me.0 ≡ n.0
 begun_is st me n s s' has_it same begun =
     let mine' : is_held_by me (st.turn s'.0) ≡ true = (and_parts (has_turn st me s') (st.begun s'.0) begun).0 in
     let its : is_held_by n (st.turn s.0) ≡ true = (and_parts (has_turn st n s) (st.begun s.0) has_it).0 in
     one_holder me n (st.turn s.0) (subst (λ (k : ℕ). is_held_by me (st.turn k) ≡ true) same mine') its
 
--- who does what only the selecting caller does is that caller
-selecting_is : (l : Limits) (own : List Act) (st : State) (me n : CallerNo) (s : SelNo) (act : Act) → IsSound st → has_begun st n s ≡ true
+-- while caller n selects, whoever does what only the selecting caller does is n
+pub selecting_is : (l : Limits) (own : List Act) (st : State) (me n : CallerNo) (s : SelNo) (act : Act) → IsSound st → has_begun st n s ≡ true
     → Condition l own st me act → selects_on s.0 act ≡ true → me.0 ≡ n.0
 selecting_is l own st me n s (Remove s' i found) sound has_it may on =
     let same : s'.0 ≡ s.0 = eqb-true s'.0 s.0 on in
@@ -114,7 +114,7 @@ one_selection_at_a_time l s n found past between e legal open_gate kept on =
         now_begun true = refl
         now_begun false = ap not open_gate
 
--- what is said of a selector is said of it under its number
+-- what is true of a selector is true of a selector with the same number
 moved : (P : SelNo → Bool) (s' s : SelNo) → s'.0 ≡ s.0 → P s' ≡ true → P s ≡ true
 moved P s' s same h =
     let whole : s' ≡ s = ap (λ (k : ℕ). selector k) same in

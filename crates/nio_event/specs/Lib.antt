@@ -13,6 +13,8 @@ pub mod Staying
 pub mod OneProof
 pub mod Turns
 pub mod Pins
+pub mod Holders
+pub mod Found
 pub mod Worked
 pub mod Reading
 pub mod Words

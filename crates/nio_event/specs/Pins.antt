@@ -10,7 +10,7 @@ use Rattle.nio_base.specs.declared.numbers.KeyId.{KeyId}
 use Rattle.nio_base.specs.declared.numbers.SelNo.{SelNo}
 use Rattle.nio_event.specs.Conditions.{has_pin, has_begun}
 use Rattle.nio_event.specs.Histories.{state_after, event_of, mine, IsLegal}
-use Rattle.nio_event.specs.OwnEvents.{OwnClaim, has, own_claim, keeps_pin, unpins, gives_turn}
+use Rattle.nio_event.specs.OwnEvents.{OwnClaim, has, own_claim, is_unpublished, keeps_pin, unpins, gives_turn}
 use Rattle.nio_event.specs.Sets.{was_claimed, can_come_back}
 use Rattle.nio_event.specs.declared.act.Act.{Act}
 use Rattle.nio_event.specs.declared.act.Act.TheVariants.{ClaimAgain, Remove}
@@ -57,6 +57,11 @@ abbrev pub OwnClaimsStand : Type 0
 OwnClaimsStand = (l : Limits) (n : CallerNo) (s : SelNo) (i : ℕ) (claim : OwnClaim) (events : List Event) → IsFit l → IsLegal l events
     → own_claim s.0 i (mine n events) ≡ Some claim
     → IsTrue (has_pin (state_after events) n s i) × IsOfClaim claim ((state_after events).key s.0 i)
+
+-- a key that its caller claimed and hasn't published since isn't published: nobody else publishes it
+abbrev pub UnpublishedKeysStay : Type 0
+UnpublishedKeysStay = (l : Limits) (n : CallerNo) (s : SelNo) (i : ℕ) (events : List Event) → IsFit l → IsLegal l events
+    → IsTrue (is_unpublished s.0 i (mine n events)) → IsFalse ((state_after events).key s.0 i).published
 
 -- a key that is noted for a channel was claimed for it; while the index has this key, it is of this channel
 abbrev pub NotedKeysAreClaimed : Type 0
