@@ -10,7 +10,6 @@ pub mod PassViews
 pub mod Lasting
 pub mod Sound
 pub mod Staying
-pub mod OneProof
 pub mod Turns
 pub mod Pins
 pub mod Holders
