@@ -1,50 +1,36 @@
 -- What stands while a caller holds a channel.
-use Rattle.std.proofs.Common.{◌≡◌, ℕ, ◌==◌, Bool, true, false, not, ◌&&◌, ◌||◌, inl, inr, suc, Option, Some, None, if◌then◌else◌, List, [], ◌∷◌, ◌++◌, refl, ap, sym, ◌∙◌, subst, eqb-true, eq-eqb}
+use Rattle.std.proofs.Common.{◌≡◌, ℕ, ◌==◌, Bool, true, false, not, ◌&&◌, ◌||◌, inl, inr, suc, Option, Some, None, if◌then◌else◌, List, [], ◌∷◌, ◌++◌, refl, ap, sym, ◌∙◌, subst, eqb-true}
 use Rattle.std.proofs.lemmas.Bool.{and_parts, or_parts}
-use Rattle.std.specs.Option.{option_or}
+use Rattle.std.specs.Option.{option_or, ForSome}
 use Rattle.nio_base.specs.Limits.{IsFit}
 use Rattle.nio_base.specs.declared.limits.Limits.{Limits}
 use Rattle.nio_base.specs.declared.numbers.CallerNo.{CallerNo}
 use Rattle.nio_base.specs.declared.numbers.ChanNo.{ChanNo}
 use Rattle.nio_base.specs.declared.numbers.KeyId.{KeyId}
 use Rattle.nio_event.proofs.Claims.{if_some}
+use Rattle.nio_event.proofs.Holder.{mode_kept, held_since}
 use Rattle.nio_event.proofs.Keeping.{and_not, knows_while, stands_while}
 use Rattle.nio_event.proofs.LastsAlone.{one_holder, spares_not, same_two}
 use Rattle.nio_event.proofs.OneMore.{has-more, last-more, since_from-more}
 use Rattle.nio_event.proofs.PinLaws.{own_claims_stand, noted_keys_are_claimed}
-use Rattle.nio_event.proofs.Put.{put_keeps, put_at_keeps, put_at-there}
-use Rattle.nio_event.proofs.Soundness.{legal-sound, held_some, both_ways}
+use Rattle.nio_event.proofs.Put.{put_at_keeps, put_at-there}
+use Rattle.nio_event.proofs.Soundness.{legal-sound}
 use Rattle.nio_event.proofs.Told.{either}
 use Rattle.nio_event.specs.Acts.{effect, new_key}
 use Rattle.nio_event.specs.Answers.{Answers}
 use Rattle.nio_event.specs.Conditions.{Condition, is_held_by, holds, may_publish}
 use Rattle.nio_event.specs.Histories.{state_after, mine, IsStep, IsLegal}
-use Rattle.nio_event.specs.Holders.{ModeStays, NotedStays, FoundNotedStays, OutsideStays, FoundClearStays}
+use Rattle.nio_event.specs.Holders.{ModeStays, NotedStays, FoundNotedStays, OutsideStays, FoundClearStays, ClearIsTrue}
 use Rattle.nio_event.specs.Lasting.{the_hold}
 use Rattle.nio_event.specs.OwnEvents.{OwnClaim, has, last, under, own_claim, sets_mode, notes, publishes, stage_found, is_outside, finds_outside, finds_unblocked, noted_found, since_noted, is_clear_by}
 use Rattle.nio_event.specs.Sets.{is_in_key_set}
-use Rattle.nio_event.specs.Sound.{IsSound}
 use Rattle.nio_event.specs.State.{State}
 use Rattle.nio_event.specs.declared.act.Act.{Act}
-use Rattle.nio_event.specs.declared.act.Act.TheVariants.{CancelKey, MakeChannel, LookKey, Claim, Publish, LookReg, Enrol, Remove, SetMode, CloseBit, Pin, ClaimAgain}
+use Rattle.nio_event.specs.declared.act.Act.TheVariants.{CancelKey, LookKey, Claim, Publish, LookReg, Enrol, Remove, Pin, ClaimAgain}
 use Rattle.nio_event.specs.declared.event.Event.{Event}
 use Rattle.nio_event.specs.declared.found.Stage.{Stage}
 
 -- ---- the mode of the channel
-
-mode_kept : (l : Limits) (own : List Act) (st : State) (me n : CallerNo) (act : Act) (c : ℕ) (b : Bool) → IsSound st → Condition l own st me act → Answers st me act
-    → is_held_by n (st.hold c) ≡ true → ((me.0 == n.0) && sets_mode c act) ≡ false → (st.chan c).blocking ≡ b → ((effect st me act).chan c).blocking ≡ b
-mode_kept l own st me n (MakeChannel k kind true) c b sound may answers held spared = put_keeps (λ _ x. x.blocking ≡ b) st.chan k.0 _ (λ e. e) c
-mode_kept l own st me n (MakeChannel k kind false) c b sound may answers held spared = λ now.
-    let unmade : (st.chan k.0).made ≡ false = cc in
-    put_keeps (λ m x. is_held_by n (st.hold m) ≡ true → x.blocking ≡ b) st.chan k.0 _
-    (λ _ held'. absurd (both_ways (st.chan k.0).made (sound.held_made k.0 (held_some n (st.hold k.0) held')) unmade)) c (λ _. now) held
-mode_kept l own st me n (SetMode k blocking found) c b sound may answers held spared = λ now.
-    put_keeps (λ m x. is_held_by n (st.hold m) ≡ true → ((me.0 == n.0) && (k.0 == m)) ≡ false → x.blocking ≡ b) st.chan k.0 _
-    (λ _ held' spared'. absurd (spares_not me n (k.0 == k.0) (one_holder me n (st.hold k.0) may.1 held') (eq-eqb k.0 k.0 refl) spared'))
-    c (λ _ _. now) held spared
-mode_kept l own st me n (CloseBit k found) c b sound may answers held spared = put_keeps (λ _ x. x.blocking ≡ b) st.chan k.0 _ (λ e. e) c
-mode_kept l own st me n act c b sound may answers held spared = λ now. now
 
 pub mode_stays : ModeStays
 mode_stays l n c before later keeps spared =
@@ -243,3 +229,10 @@ found_clear_stays l n c before later fit keeps s clear = by_noted (last (noted_f
         let its : after.noted c.0 s.0 ≡ Some j = found_noted_stays l n c before later keeps s (Some j) told in
         let same : j ≡ k = cc in
         by_serial k noted (outside k (subst (λ (x : KeyId). has (finds_outside s.0 x) (span x (mine n later)) ≡ true) same clear')) ((after.key s.0 k.index).serial == k.serial) refl
+
+pub clear_is_true : ClearIsTrue
+clear_is_true l n c events fit legal held s clear =
+    let since = held_since l n c events legal held in
+    let there = found_clear_stays l n c since.before since.later fit since.keeps s
+    (subst (λ acts. is_clear_by c.0 s.0 acts (last (noted_found c.0 s.0) acts) ≡ true) since.own clear) in
+    subst (λ evs. ForSome ((state_after evs).noted c.0 s.0) (λ k. is_in_key_set ((state_after evs).key s.0 k.index) k.serial ≡ false)) (sym since.whole) there

@@ -34,7 +34,7 @@ acts_then me first second v0 v1 v2 p q = record {
       let there = q.only here.0 in (
         there.0,
         there.1 ∙ (ap (λ events. events ++ map (event_of me) second) here.1
-        ∙ (append_assoc v0.seen (map (event_of me) first) (map (event_of me) second)
-        ∙ ap (λ events. v0.seen ++ events) (sym (map-append (event_of me) first second)))),
+            ∙ (append_assoc v0.seen (map (event_of me) first) (map (event_of me) second)
+            ∙ ap (λ events. v0.seen ++ events) (sym (map-append (event_of me) first second)))),
       );
 }

@@ -8,9 +8,10 @@ use Rattle.nio_base.specs.declared.numbers.CallerNo.{CallerNo}
 use Rattle.nio_base.specs.declared.numbers.ChanNo.{ChanNo}
 use Rattle.nio_base.specs.declared.numbers.KeyId.{KeyId}
 use Rattle.nio_base.specs.declared.numbers.SelNo.{SelNo}
+use Rattle.nio_event.specs.Conditions.{holds}
 use Rattle.nio_event.specs.Histories.{state_after, mine, IsLegal}
 use Rattle.nio_event.specs.Lasting.{OwnFact, a_selection, the_hold, is_had_by, gives_back}
-use Rattle.nio_event.specs.OwnEvents.{has, last, sets_mode, notes, publishes, noted_found, is_clear_by}
+use Rattle.nio_event.specs.OwnEvents.{has, last, sets_mode, notes, publishes, noted_found, is_clear_by, is_clear}
 use Rattle.nio_event.specs.Pins.{removes}
 use Rattle.nio_event.specs.Sets.{is_in_key_set}
 use Rattle.nio_event.specs.Turns.{selects_on}
@@ -55,12 +56,19 @@ OutsideStays = (l : Limits) (n : CallerNo) (c : ChanNo) (before later : List Eve
     → ((state_after (before ++ later)).key s.0 k.index).chan ≡ c
     → IsFalse (is_in_key_set ((state_after (before ++ later)).key s.0 k.index) k.serial)
 
--- Where the caller knows from its own acts meanwhile that no key of the key set is noted for the channel in a
--- selector, none is. So the condition of noting a key, and that of blocking mode, ask for what is true.
+-- where the caller knows from its own acts meanwhile that no key of the key set is noted for the channel in a
+-- selector, none is
 abbrev pub FoundClearStays : Type 0
 FoundClearStays = (l : Limits) (n : CallerNo) (c : ChanNo) (before later : List Event) → IsFit l → Keeps l n (the_hold c) before later
     → (s : SelNo) → IsTrue (is_clear_by c.0 s.0 (mine n later) (last (noted_found c.0 s.0) (mine n later)))
     → ForSome ((state_after (before ++ later)).noted c.0 s.0) (λ k. IsFalse (is_in_key_set ((state_after (before ++ later)).key s.0 k.index) k.serial))
+
+-- none is where it knows so from its acts under its present hold: what the condition of noting a key asks for,
+-- and that of blocking mode, is true
+abbrev pub ClearIsTrue : Type 0
+ClearIsTrue = (l : Limits) (n : CallerNo) (c : ChanNo) (events : List Event) → IsFit l → IsLegal l events → IsTrue (holds (state_after events) n c)
+    → (s : SelNo) → IsTrue (is_clear c.0 s.0 (mine n events))
+    → ForSome ((state_after events).noted c.0 s.0) (λ k. IsFalse (is_in_key_set ((state_after events).key s.0 k.index) k.serial))
 
 -- ---- while a caller selects
 

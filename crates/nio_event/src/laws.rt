@@ -1,7 +1,7 @@
 //! Laws of legal histories. Each is the contract of a function that does nothing.
 ghost use Rattle.nio_event.specs.Staying.{BeginningsAreLegal, FactsArePermanent, InvalidKeysStayInvalid, OnlyItselfGivesBack, ConditionsStay, StatesAreSound, StatesAreWithin};
 ghost use Rattle.nio_event.specs.Found.{StepsLeave, LooksTell, FoundStands};
-ghost use Rattle.nio_event.specs.Holders.{ModeStays, NotedStays, FoundNotedStays, OutsideStays, FoundClearStays, SelectsAlone, KeySetStays, MarksStay, WakeupStays};
+ghost use Rattle.nio_event.specs.Holders.{ModeStays, NotedStays, FoundNotedStays, OutsideStays, FoundClearStays, ClearIsTrue, SelectsAlone, KeySetStays, MarksStay, WakeupStays};
 ghost use Rattle.nio_event.specs.Pins.{PinsAreOwn, PinnedKeysStay, ClaimsAgainWhereUnpinned, ClaimsAgainTheRemoved, OwnClaimsStand, UnpublishedKeysStay, NotedKeysAreClaimed, SelectionsKeepKeys};
 ghost use Rattle.nio_event.specs.Turns.{TurnHasOneHolder, HoldHasOneHolder, HolderKnowsMode, OneSelectionAtATime, OnlyWhoMaySelects};
 ghost use Rattle.nio_event.specs.Worked.{WorkedHistoryIsLegal, RefusedEventsAreNoSteps};
@@ -99,6 +99,7 @@ pub fn hold_law()
     ensures found_noted { FoundNotedStays }
     ensures outside { OutsideStays }
     ensures found_clear { FoundClearStays }
+    ensures clear { ClearIsTrue }
 {}
 
 /// While a caller selects, nobody else marks or removes a key of the selector or ends its wakeup; all that
