@@ -41,3 +41,4 @@ pub mod Unpublished
 pub mod Selections
 pub mod Finds
 pub mod OwnPins
+pub mod OwnTaken

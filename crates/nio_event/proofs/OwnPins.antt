@@ -14,7 +14,7 @@ use Rattle.nio_event.specs.declared.act.Act.{Act}
 use Rattle.nio_event.specs.declared.act.Act.TheVariants.{Claim, Pin, Unpin, ClaimAgain}
 use Rattle.nio_event.specs.declared.event.Event.{Event}
 
-swapped : (m n : ℕ) → (m == n) ≡ (n == m)
+pub swapped : (m n : ℕ) → (m == n) ≡ (n == m)
 swapped m n = by_tests (m == n) (n == m) refl refl
   where
     by_tests : (a b : Bool) → (m == n) ≡ a → (n == m) ≡ b → a ≡ b

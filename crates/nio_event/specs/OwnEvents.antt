@@ -140,6 +140,19 @@ pin_changed s i _ = None
 abbrev pub keeps_pin : ℕ → ℕ → List Act → Bool
 keeps_pin s i own = is_yes (last (pin_changed s i) own)
 
+-- ---- a free index that it took
+
+-- whether an act takes index i out of the free ones, or gives it away: it puts it back, or claims it again
+abbrev pub taken_changed : ℕ → ℕ → Act → Option Bool
+taken_changed s i (TakeFree s' i' true) = if (s'.0 == s) && (i' == i) then Some true else None
+taken_changed s i (PutFree s' i') = if (s'.0 == s) && (i' == i) then Some false else None
+taken_changed s i (ClaimAgain s' i' c from false) = if (s'.0 == s) && (i' == i) then Some false else None
+taken_changed s i _ = None
+
+-- it took index i of selector s when it was free, and neither put it back nor claimed it since
+abbrev pub keeps_taken : ℕ → ℕ → List Act → Bool
+keeps_taken s i own = is_yes (last (taken_changed s i) own)
+
 -- ---- its claim of an index
 
 -- a claim of an index: for which channel, and with which serial

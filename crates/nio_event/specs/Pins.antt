@@ -8,9 +8,9 @@ use Rattle.nio_base.specs.declared.numbers.CallerNo.{CallerNo}
 use Rattle.nio_base.specs.declared.numbers.ChanNo.{ChanNo}
 use Rattle.nio_base.specs.declared.numbers.KeyId.{KeyId}
 use Rattle.nio_base.specs.declared.numbers.SelNo.{SelNo}
-use Rattle.nio_event.specs.Conditions.{has_pin, has_begun}
+use Rattle.nio_event.specs.Conditions.{has_pin, has_taken, has_begun}
 use Rattle.nio_event.specs.Histories.{state_after, event_of, mine, IsLegal}
-use Rattle.nio_event.specs.OwnEvents.{OwnClaim, has, own_claim, is_unpublished, keeps_pin, unpins, gives_turn}
+use Rattle.nio_event.specs.OwnEvents.{OwnClaim, has, own_claim, is_unpublished, keeps_pin, keeps_taken, unpins, gives_turn}
 use Rattle.nio_event.specs.Sets.{was_claimed, can_come_back}
 use Rattle.nio_event.specs.declared.act.Act.{Act}
 use Rattle.nio_event.specs.declared.act.Act.TheVariants.{ClaimAgain, Remove}
@@ -27,6 +27,11 @@ pub record IsSameKey (was now : Stage) : Type 0 where
 abbrev pub PinsAreOwn : Type 0
 PinsAreOwn = (l : Limits) (n : CallerNo) (s : SelNo) (i : ℕ) (events : List Event) → IsLegal l events
     → has_pin (state_after events) n s i ≡ keeps_pin s.0 i (mine n events)
+
+-- a caller has taken an index where it took it when it was free, and neither put it back nor claimed it since
+abbrev pub TakenIsOwn : Type 0
+TakenIsOwn = (l : Limits) (n : CallerNo) (s : SelNo) (i : ℕ) (events : List Event) → IsLegal l events
+    → has_taken (state_after events) n s i ≡ keeps_taken s.0 i (mine n events)
 
 -- from a pin until the same caller takes it off the index keeps its key, whatever others do
 abbrev pub PinnedKeysStay : Type 0

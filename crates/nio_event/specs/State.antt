@@ -1,8 +1,8 @@
 -- The state of the sequential selector: what a table of selectors, keys and channels holds.
 --
--- Each part is a function of the numbers that name it, so that there are no lengths to speak of: a
--- channel that isn't made and a key that isn't claimed hold the opening value. A part has one setter,
--- below, which changes it at one number and nowhere else. `docs/READING.md` says how to read the
+-- Each part is a function of the numbers that name it, so that there are no lengths to speak of: what
+-- nothing was done to holds the opening value. A part has one setter, below, which changes it at one
+-- number and nowhere else. `docs/READING.md` says how to read the
 -- definitions of this folder, and in which order.
 use Rattle.std.specs.Prelude.{ℕ, ◌==◌, Bool, false, ◌&&◌, if◌then◌else◌, Option, None}
 use Rattle.nio_base.specs.declared.kind.Kind.TheVariants.{Stream}

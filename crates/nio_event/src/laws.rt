@@ -2,7 +2,7 @@
 ghost use Rattle.nio_event.specs.Staying.{BeginningsAreLegal, FactsArePermanent, InvalidKeysStayInvalid, OnlyItselfGivesBack, ConditionsStay, StatesAreSound, StatesAreWithin};
 ghost use Rattle.nio_event.specs.Found.{StepsLeave, LooksTell, FoundStands};
 ghost use Rattle.nio_event.specs.Holders.{ModeStays, NotedStays, FoundNotedStays, OutsideStays, FoundClearStays, ClearIsTrue, SelectsAlone, KeySetStays, MarksStay, WakeupStays};
-ghost use Rattle.nio_event.specs.Pins.{PinsAreOwn, PinnedKeysStay, ClaimsAgainWhereUnpinned, ClaimsAgainTheRemoved, OwnClaimsStand, UnpublishedKeysStay, NotedKeysAreClaimed, SelectionsKeepKeys};
+ghost use Rattle.nio_event.specs.Pins.{PinsAreOwn, TakenIsOwn, PinnedKeysStay, ClaimsAgainWhereUnpinned, ClaimsAgainTheRemoved, OwnClaimsStand, UnpublishedKeysStay, NotedKeysAreClaimed, SelectionsKeepKeys};
 ghost use Rattle.nio_event.specs.Turns.{TurnHasOneHolder, HoldHasOneHolder, HolderKnowsMode, OneSelectionAtATime, OnlyWhoMaySelects};
 ghost use Rattle.nio_event.specs.Worked.{WorkedHistoryIsLegal, RefusedEventsAreNoSteps};
 
@@ -31,8 +31,8 @@ pub fn condition_law()
 {}
 
 /// The state after a legal history is sound: an index below a selector's mark is claimed, what is
-/// held is made, a channel that isn't made and a key that isn't claimed are as they were at the
-/// opening, and more. And every number that it speaks of is within the limits.
+/// held is made, a channel that isn't made and the stage of an index that isn't claimed are as they were
+/// at the opening, and more. And every number that it speaks of is within the limits.
 pub fn soundness_law()
     ensures sound { StatesAreSound }
     ensures within { StatesAreWithin }
@@ -54,9 +54,12 @@ pub fn one_selection_law()
     ensures allowed { OnlyWhoMaySelects }
 {}
 
-/// A caller has a pin on an index where it pinned or claimed it and didn't take the pin off since.
+/// A caller has a pin on an index where it pinned or claimed it and didn't take the pin off since, and has
+/// taken an index where it took it when it was free and neither put it back nor claimed it since. So the state
+/// says of both what the caller's own acts say.
 pub fn own_pins_law()
-    ensures { PinsAreOwn }
+    ensures pins { PinsAreOwn }
+    ensures taken { TakenIsOwn }
 {}
 
 /// A `claim_again` succeeds exactly where nobody has a pin on the index, and only from a key that was removed.
