@@ -4,8 +4,8 @@ use Rattle.std.proofs.lemmas.Bool.{false≢true}
 use Rattle.std.proofs.lemmas.List.{length-set, length-map, get_or_read}
 use Rattle.std.proofs.lemmas.List.Sums.{sum_by-append}
 use Rattle.nio_group.specs.declared.channel.Channel.{Channel}
-use Rattle.nio_group.specs.declared.operation.OpKind.{OpKind}
-use Rattle.nio_group.specs.declared.operation.OpKind.TheVariants.{Connect}
+use Rattle.nio_base.specs.declared.group.OpKind.{OpKind}
+use Rattle.nio_base.specs.declared.group.OpKind.TheVariants.{Connect}
 use Rattle.nio_group.specs.declared.operation.Stage.{Stage}
 use Rattle.nio_group.specs.declared.operation.Stage.TheVariants.{Pending, Queued, Running}
 use Rattle.nio_group.specs.declared.operation.Operation.{Operation}
@@ -282,16 +282,6 @@ kept-closed {f} {cs} {ps} {o} {r} {r'} {sh} {l} c x kept within read was_open =
           rw (get_or-set_other ps c d nothing_pending nothing_pending old.0) (kept.is_listed.all d kind n old.1);
     }))
 
--- some channel is open where this one is
-pub open-some : {f : Flight} {cs : List Channel} {ps : List slots.Pending} {o r r' : ℕ} {sh : Bool} {l : GroupLimits} (c : ℕ) (x : Channel) → IsGroupKept f cs ps o sh l r r' → c < length cs → x ≡ get_or cs c x → x.is_open ≡ true → 1 ≤ o
-open-some {f} {cs} c x kept within read was_open =
-    let is : x ≡ get_or cs c no_channel = get_or_read cs c x within read no_channel in
-    let open_there : (get_or cs c no_channel).is_open ≡ true = ap (λ (y : Channel). y.is_open) (sym is) ∙ was_open in
-    let one : cond {A = ℕ} (is_open (get_or cs c no_channel)) 1 0 ≡ 1 = ap {B = ℕ} (λ (b : Bool). cond b 1 0) open_there in
-    let counts = count_by-set is_open cs c no_channel no_channel within in
-    let counted = kept.opened_is in
-    omega (arith, counts, one)
-
 pub not-false : (b : Bool) → not b ≡ false → b ≡ true
 not-false true h = refl
 not-false false h = sym h
@@ -303,9 +293,3 @@ job-pending {f} {cs} {ps} c kind p n op kept within read slot is =
     let is_slot : p ≡ get_or ps c nothing_pending = get_or_read ps c p (omega arith) read nothing_pending in
     let listed = kept.is_listed.listed c kind n (ap (λ (q : slots.Pending). slot_of q kind) (sym is_slot) ∙ slot) in
     pending-parts c kind op (rw is at listed)
-
-pub length-after_close : (g : Group) (c : ℕ) → length (after_close g c).channels ≡ length g.channels
-length-after_close g c =
-    by_test (channel_at g c).is_open
-    (λ t. rw t (length-set g.channels c (record (channel_at g c) { is_open = false })))
-    (λ f. rw f refl)

@@ -95,10 +95,6 @@ none_has_number n (Some e ∷ xs) h =
     let here : eqb e.number n ≡ false = h 0 in
     rw here (none_has_number n xs (λ i. h (suc i)))
 
-pub home_of_small : (n limit : ℕ) → 1 ≤ limit → home_of n limit < 2 * limit
-unfolding home_of
-home_of_small n limit some = omega arith
-
 -- a search for a vacant slot that passes a full one stays in the window
 pub vacant-passes : (xs : List (Option Entry)) (home at limit : ℕ) → count_by is_some xs < limit → home + limit ≤ length xs → home ≤ at → at < home + limit → ((i : ℕ) → home ≤ i → i < at → is_some (get_or xs i None) ≡ true) → is_some (get_or xs at None) ≡ true → (home ≤ at + 1) × (at + 1 < home + limit) × ((i : ℕ) → home ≤ i → i < at + 1 → is_some (get_or xs i None) ≡ true)
 vacant-passes xs home at limit room size from before full here =

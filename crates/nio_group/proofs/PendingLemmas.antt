@@ -1,8 +1,8 @@
 -- Pending operations, by their channels and kinds.
 use Rattle.std.proofs.Common.{◌≡◌, ◌≢◌, ℕ, ◌+◌, Bool, true, false, eqb, ◌&&◌, Option, Some, None, refl, arith, ◌⊎◌, inl, inr}
 use Rattle.std.proofs.lemmas.Bool.{false≢true}
-use Rattle.nio_group.specs.declared.operation.OpKind.{OpKind}
-use Rattle.nio_group.specs.declared.operation.OpKind.TheVariants.{Accept, Connect, Read, Write}
+use Rattle.nio_base.specs.declared.group.OpKind.{OpKind}
+use Rattle.nio_base.specs.declared.group.OpKind.TheVariants.{Accept, Connect, Read, Write}
 use Rattle.nio_group.specs.declared.operation.Stage.{Stage}
 use Rattle.nio_group.specs.declared.operation.Stage.TheVariants.{Pending, Queued, Running}
 use Rattle.nio_group.specs.declared.operation.Operation.{Operation}
@@ -80,10 +80,6 @@ pending-parts c kind op h =
       chan = same_number op.chan.0 c (and-right (stage_is_pending op.stage) (eqb op.chan.0 c) on);
       same = same_kind-true op.kind kind (and-right (stage_is_pending op.stage && eqb op.chan.0 c) (same_kind op.kind kind) h);
     }
-
-pub pending-some : (c : ℕ) (kind : OpKind) (slot : Option Operation) → is_pending_as c kind slot ≡ true → (op : Operation) × (slot ≡ Some op)
-pending-some c kind None h = absurd (false≢true h)
-pending-some c kind (Some op) h = (op, refl)
 
 pub not_pending-as : (c : ℕ) (kind : OpKind) (slot : Option Operation) → is_pending slot ≡ false → is_pending_as c kind slot ≡ false
 not_pending-as c kind None h = refl

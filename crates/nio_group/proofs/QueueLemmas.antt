@@ -22,10 +22,6 @@ count_by-queued_after : (queued : Bool) (queue : List ℕ) (n m : ℕ) → count
 count_by-queued_after true queue n m = count_by-push (λ k. eqb k m) queue n
 count_by-queued_after false queue n m = omega arith
 
-queued-cond : (b : Bool) (x y : Option Operation) → is_queued (cond b x y) ≡ cond b (is_queued x) (is_queued y)
-queued-cond true x y = refl
-queued-cond false x y = refl
-
 pub queue-push : (xs : List (Option Operation)) (queue : List ℕ) (slot : Option Operation) → QueueHolds xs queue → QueueHolds (xs ++ slot ∷ []) (queued_after (is_queued slot) queue (length xs))
 queue-push xs queue slot holds n =
     let had = holds n in

@@ -4,7 +4,7 @@ use Rattle.std.specs.Option.{option_map}
 use Rattle.std.proofs.lemmas.Bool.{false≢true}
 use Rattle.std.proofs.lemmas.Bool.Decides.{nat_tests}
 use Rattle.std.proofs.lemmas.List.{get_or_append_left, length_push, length-set, length-map}
-use Rattle.nio_group.specs.declared.operation.Outcome.{Outcome}
+use Rattle.nio_base.specs.declared.group.Outcome.{Outcome}
 use Rattle.nio_group.specs.declared.operation.Stage.{Stage}
 use Rattle.nio_group.specs.declared.operation.Stage.TheVariants.{Queued, Running}
 use Rattle.nio_group.specs.declared.operation.Operation.{Operation}

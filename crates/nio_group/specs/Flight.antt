@@ -2,10 +2,10 @@
 -- of them.
 use Rattle.std.specs.Prelude.{ℕ, ◌+◌, if◌then◌else◌, ◌==◌, List, [], ◌∷◌, ◌++◌, length, Option, Some, None, is_some, count_by, map, drop, slice_index_or, slice_set, IsTrue}
 use Rattle.std.specs.Option.{option_map}
-use Rattle.nio_group.specs.declared.operation.OpKind.{OpKind}
-use Rattle.nio_group.specs.declared.operation.Finished.{Finished}
-use Rattle.nio_group.specs.declared.operation.Finished.TheVariants.{Failed}
-use Rattle.nio_group.specs.declared.operation.Why.TheVariants.{AsynchronousClose}
+use Rattle.nio_base.specs.declared.group.OpKind.{OpKind}
+use Rattle.nio_base.specs.declared.group.Finished.{Finished}
+use Rattle.nio_base.specs.declared.group.Finished.TheVariants.{Failed}
+use Rattle.nio_base.specs.declared.group.Why.TheVariants.{AsynchronousClose}
 use Rattle.nio_group.specs.declared.operation.Stage.{Stage}
 use Rattle.nio_group.specs.declared.operation.Stage.TheVariants.{Queued, Running}
 use Rattle.nio_group.specs.declared.operation.Operation.{Operation}

@@ -1,14 +1,14 @@
 -- The state of an asynchronous channel group.
 use Rattle.std.specs.Prelude.{◌≡◌, ℕ, ◌≤◌, Bool, true, false, if◌then◌else◌, not, ◌&&◌, ◌||◌, List, [], length, slice_index_or, IsTrue}
 use Rattle.std.specs.List.{list_any, list_all}
-use Rattle.nio_group.specs.declared.channel.GKind.{GKind}
-use Rattle.nio_group.specs.declared.channel.GKind.TheVariants as kind
+use Rattle.nio_base.specs.declared.group.GKind.{GKind}
+use Rattle.nio_base.specs.declared.group.GKind.TheVariants as kind
 use Rattle.nio_group.specs.declared.channel.Channel.{Channel}
 use Rattle.nio_group.specs.declared.channel.Endpoint.{Endpoint}
 use Rattle.nio_group.specs.declared.channel.Endpoint.TheVariants.{Stream, Listener}
 use Rattle.nio_group.specs.declared.channel.Link.TheVariants.{Unconnected, Connecting, Connected}
-use Rattle.nio_group.specs.declared.operation.OpKind.{OpKind}
-use Rattle.nio_group.specs.declared.operation.OpKind.TheVariants.{Accept, Connect, Read, Write}
+use Rattle.nio_base.specs.declared.group.OpKind.{OpKind}
+use Rattle.nio_base.specs.declared.group.OpKind.TheVariants.{Accept, Connect, Read, Write}
 use Rattle.nio_group.specs.declared.limits.GroupLimits.{GroupLimits}
 use Rattle.nio_group.specs.Stages.{is_queued, is_running}
 use Rattle.nio_group.specs.Flight.{Flight, op_at, accepted, in_flight, times_queued, IsPendingAs, no_flight}

@@ -1,7 +1,7 @@
 -- Which operations are pending on a channel.
 use Rattle.std.specs.Prelude.{ℕ, min, Option, Some, None}
-use Rattle.nio_group.specs.declared.operation.OpKind.{OpKind}
-use Rattle.nio_group.specs.declared.operation.OpKind.TheVariants.{Accept, Connect, Read, Write}
+use Rattle.nio_base.specs.declared.group.OpKind.{OpKind}
+use Rattle.nio_base.specs.declared.group.OpKind.TheVariants.{Accept, Connect, Read, Write}
 use Rattle.nio_group.specs.declared.pending.Pending.{Pending}
 
 abbrev pub nothing_pending : Pending

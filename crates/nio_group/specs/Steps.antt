@@ -3,18 +3,18 @@
 use Rattle.std.specs.Prelude.{◌≡◌, ℕ, Bool, true, false, if◌then◌else◌, ◌==◌, List, [], ◌∷◌, ◌++◌, length, Option, Some, None, Result, Ok, Err, slice_set, suc, zero}
 use Rattle.nio_base.specs.declared.numbers.OpNo.{OpNo}
 use Rattle.nio_base.specs.declared.numbers.GChan.{GChan}
-use Rattle.nio_group.specs.declared.channel.GKind.{GKind}
+use Rattle.nio_base.specs.declared.group.GKind.{GKind}
 use Rattle.nio_group.specs.declared.channel.Channel.{Channel}
 use Rattle.nio_group.specs.declared.channel.Endpoint.{Endpoint}
 use Rattle.nio_group.specs.declared.channel.Endpoint.TheVariants.{Stream, Listener}
 use Rattle.nio_group.specs.declared.channel.Link.TheVariants.{Connecting, Connected}
-use Rattle.nio_group.specs.declared.operation.OpKind.{OpKind}
-use Rattle.nio_group.specs.declared.operation.OpKind.TheVariants.{Accept, Connect, Read, Write}
-use Rattle.nio_group.specs.declared.operation.Outcome.{Outcome}
-use Rattle.nio_group.specs.declared.operation.Outcome.TheVariants as outcome
-use Rattle.nio_group.specs.declared.operation.Finished.{Finished}
-use Rattle.nio_group.specs.declared.operation.Finished.TheVariants as finished
-use Rattle.nio_group.specs.declared.operation.Why.TheVariants as why
+use Rattle.nio_base.specs.declared.group.OpKind.{OpKind}
+use Rattle.nio_base.specs.declared.group.OpKind.TheVariants.{Accept, Connect, Read, Write}
+use Rattle.nio_base.specs.declared.group.Outcome.{Outcome}
+use Rattle.nio_base.specs.declared.group.Outcome.TheVariants as outcome
+use Rattle.nio_base.specs.declared.group.Finished.{Finished}
+use Rattle.nio_base.specs.declared.group.Finished.TheVariants as finished
+use Rattle.nio_base.specs.declared.group.Why.TheVariants as why
 use Rattle.nio_group.specs.declared.operation.Stage.{Stage}
 use Rattle.nio_group.specs.declared.operation.Stage.TheVariants.{Pending, Queued, Running}
 use Rattle.nio_group.specs.declared.operation.Operation.{Operation}

@@ -2,8 +2,7 @@
 //! makes them, each one once, and neither can be copied.
 ghost use Rattle.std.specs.Prelude.{◌≡◌};
 
-use crate::operation::{Finished, OpKind};
-use nio_base::{GChan, OpNo};
+use nio_base::{Finished, GChan, OpKind, OpNo};
 use std::marker::Model;
 
 /// A pending operation, for whoever does its work.

@@ -3,8 +3,9 @@ ghost use Rattle.std.specs.Prelude.{◌≡◌, Some};
 ghost use Rattle.nio_group.specs.Refusals.{bind_refusal, channel_refusal, stream_refusal, report_refusal, is_allowed};
 
 use crate::channel::{Endpoint, Link};
-use crate::operation::{OpKind, Operation, Outcome, Stage};
+use crate::operation::{Operation, Stage};
 use crate::refusal::{ReportError, StartError};
+use nio_base::{OpKind, Outcome};
 
 /// Why a channel can't be bound.
 pub(crate) fn bind(is_open: bool, endpoint: Endpoint) -> Option<StartError>

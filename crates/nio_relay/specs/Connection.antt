@@ -3,14 +3,6 @@ use Rattle.std.specs.Prelude.{◌≡◌, ℕ, ◌+◌, ◌*◌, List, Bool, IsTr
 use mathlib.Core.List.{IsPrefix}
 use Rattle.nio_relay.specs.Flow.{Flow, IsLawful}
 
--- the channel numbers of the two links of the k-th accepted connection, from 0 on; the listener has
--- the number 0
-abbrev pub client_link : ℕ → ℕ
-client_link k = 2 * k + 1
-
-abbrev pub target_link : ℕ → ℕ
-target_link k = 2 * k + 2
-
 -- what a link has carried: the bytes that it gave, in order, and whether they have ended; the bytes
 -- that were put on it, in order, and whether that side is shut
 pub record Carried : Type 0 where

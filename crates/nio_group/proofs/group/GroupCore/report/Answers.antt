@@ -1,8 +1,8 @@
 use Rattle.std.proofs.Common.{◌≡◌, ◌∙◌, ap, sym, subst, arith, None, Bool, true, false, refl, get_or, cond, ◌+◌, ◌-◌, ℕ}
 use Rattle.std.proofs.lemmas.Bool.{false≢true}
-use Rattle.nio_group.specs.declared.operation.OpKind.{OpKind}
-use Rattle.nio_group.specs.declared.operation.Outcome.{Outcome}
-use Rattle.nio_group.specs.declared.operation.Outcome.TheVariants as outcome
+use Rattle.nio_base.specs.declared.group.OpKind.{OpKind}
+use Rattle.nio_base.specs.declared.group.Outcome.{Outcome}
+use Rattle.nio_base.specs.declared.group.Outcome.TheVariants as outcome
 use Rattle.nio_group.specs.declared.channel.Endpoint.TheVariants.{Stream}
 use Rattle.nio_group.specs.declared.channel.Link.TheVariants.{Connected}
 use Rattle.std.proofs.lemmas.List.{get_or_read}
@@ -73,11 +73,11 @@ invariant_of-self c =
     let slot : c.with.result ≡ with_slot c.index.result.now c.in-Some.operation.kind None = c.with.ensures in
     let read : c.index.result.now ≡ get_or i.pending.items c.in-Some.operation.chan.0 c.index.result.now = c.index.ensures in
     rw (c.complete.ensures, slot)
-    (kept-connected c.args.op.0 c.in-Some.operation c.result_of-finished.result c.index.result.now (record { is_open = c.index-channel.result.now.is_open; endpoint = Stream Connected }) i.open c.self.invariant is facts.0 read
+    (kept-connected c.args.op.0 c.in-Some.operation c.result_of-finished.result c.index.result.now (record { is_open = c.index-channel.result.now.is_open; endpoint = Stream Connected }) i.open_channels c.self.invariant is facts.0 read
     (connected-connect c.in-Some.operation.kind c.in-Some.operation.len (allowed_as c.in-Some.operation.kind c.in-Some.operation.len c.args.outcome outcome.Connected c.in-Connected.is facts.1)) (λ o e. cc)
     (let made = pending-made c.args.op.0 c.in-Some.operation c.self.invariant is facts.0 in
     let x_is : c.index-channel.result.now ≡ get_or i.channels.items c.in-Some.operation.chan.0 no_channel = get_or_read i.channels.items c.in-Some.operation.chan.0 c.index-channel.result.now made.0 c.index-channel.ensures no_channel in
-    ap {B = ℕ} (λ (b : Bool). i.open + cond b 1 0) (sym (ap (λ (y : Channel). y.is_open) x_is ∙ made.2))))
+    ap {B = ℕ} (λ (b : Bool). i.open_channels + cond b 1 0) (sym (ap (λ (y : Channel). y.is_open) x_is ∙ made.2))))
 
 pub invariant_of-self-in-Connect : goal.invariant_of-self-in-Connect
 invariant_of-self-in-Connect c =
@@ -87,7 +87,7 @@ invariant_of-self-in-Connect c =
     let slot : c.with.result ≡ with_slot c.index.result.now c.in-Some.operation.kind None = c.with.ensures in
     let read : c.index.result.now ≡ get_or i.pending.items c.in-Some.operation.chan.0 c.index.result.now = c.index.ensures in
     rw (c.complete.ensures, slot)
-    (kept-connected c.args.op.0 c.in-Some.operation c.result_of-finished.result c.index.result.now (record { is_open = false; endpoint = c.index-channel.result.now.endpoint }) (i.open - 1) c.self.invariant is facts.0 read
+    (kept-connected c.args.op.0 c.in-Some.operation c.result_of-finished.result c.index.result.now (record { is_open = false; endpoint = c.index-channel.result.now.endpoint }) (i.open_channels - 1) c.self.invariant is facts.0 read
     c.in-Connect.is (λ o e. false≢true o)
     (let some = some-open c.args.op.0 c.in-Some.operation c.self.invariant is facts.0 in omega (arith, some)))
 
