@@ -16,7 +16,6 @@ use Rattle.nio_group.specs.Flight.{Flight, op_at, IsPendingAs, flight_after_take
 use Rattle.nio_group.specs.Pending.{slot_of, nothing_pending}
 use Rattle.nio_group.specs.Group.{Group, IsLawful, channel_at, no_channel}
 use Rattle.nio_group.specs.GroupKept.{IsGroupKept, IsListed, group_of, is_open}
-use Rattle.nio_group.specs.Steps.{after_close}
 use Rattle.nio_group.proofs.TableLemmas.{by_test, same_number, other_number, count_by-set}
 use Rattle.nio_group.proofs.IndexLemmas.{count_by-cons}
 use Rattle.nio_group.proofs.ListLemmas.{eqb-same, eqb-other}

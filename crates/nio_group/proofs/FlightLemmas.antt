@@ -11,7 +11,7 @@ use Rattle.nio_group.specs.Operations.{Accepted, with_operation}
 use Rattle.nio_group.specs.FlightKept.{IsFlightKept}
 use Rattle.nio_group.proofs.TableLemmas.{count_by-set}
 use Rattle.nio_group.proofs.ListLemmas.{count_by-push}
-use Rattle.nio_group.proofs.QueueLemmas.{queued_after, queue-push, queue-set, queue-taken, front-queued}
+use Rattle.nio_group.proofs.QueueLemmas.{queued_after, queue-push, queue-taken, front-queued}
 
 bit : (b : Bool) → cond b 1 0 ≤ 1
 bit true = omega arith

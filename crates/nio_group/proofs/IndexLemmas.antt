@@ -1,9 +1,9 @@
 -- What a write to a table of entries does to the keys that it holds.
-use Rattle.std.proofs.Common.{◌≡◌, ◌≢◌, ℕ, ◌+◌, ◌-◌, ◌*◌, ◌<◌, ◌≤◌, zero, suc, Bool, true, false, cond, eqb, List, [], ◌∷◌, Option, Some, None, is_some, count_by, get_or, set, length, replicate, refl, sym, ◌∙◌, below_more, arith}
+use Rattle.std.proofs.Common.{◌≡◌, ◌≢◌, ℕ, ◌+◌, ◌-◌, ◌<◌, ◌≤◌, zero, suc, Bool, true, false, cond, eqb, List, [], ◌∷◌, Option, Some, None, is_some, count_by, get_or, set, length, replicate, refl, sym, ◌∙◌, below_more, arith}
 use Rattle.std.proofs.lemmas.List.Sums.{sum_by-cons}
 use Rattle.std.proofs.lemmas.Bool.Decides.{nat_tests}
 use Rattle.nio_group.specs.declared.index.Entry.{Entry}
-use Rattle.nio_group.specs.Index.{has_number, key_in, home_of}
+use Rattle.nio_group.specs.Index.{has_number, key_in}
 
 pub count_by-cons : {X : Type 0} (p : X → Bool) (x : X) (xs : List X) → count_by p (x ∷ xs) ≡ cond (p x) 1 0 + count_by p xs
 count_by-cons p x xs = sum_by-cons (λ y. cond (p y) 1 0) x xs
