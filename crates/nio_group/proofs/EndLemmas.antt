@@ -27,7 +27,7 @@ use Rattle.nio_group.proofs.CloseLemmas.{none_some, pending-after, pending-befor
 use Rattle.nio_group.proofs.FlightLemmas.{some-within, not_queued-running}
 use Rattle.nio_group.proofs.ReportLemmas.{flight-changes}
 
--- an operation that isn't pending goes on to where it isn't either
+-- an operation changes from one stage to another, neither of them pending
 pub lawful-unpending : (g : Group) (n : ℕ) (slot : Option Operation) (queue : List ℕ) → IsLawful g → n < length g.flight.operations → is_pending (op_at g.flight n) ≡ false → is_pending slot ≡ false → IsFlightLawful (record g.flight { operations = set g.flight.operations n slot; queue = queue }) g.op_limit → IsLawful (record g { flight = record g.flight { operations = set g.flight.operations n slot; queue = queue } })
 lawful-unpending g n slot queue lawful l was will flight =
     let xs = g.flight.operations in

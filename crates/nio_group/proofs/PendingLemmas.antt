@@ -90,7 +90,7 @@ pending-as-pending c kind None h = h
 pending-as-pending c kind (Some op) h =
     and-left (stage_is_pending op.stage) (eqb op.chan.0 c) (and-left (stage_is_pending op.stage && eqb op.chan.0 c) (same_kind op.kind kind) h)
 
--- an operation that is pending on a channel is so as of its kind
+-- an operation that is pending on a channel is pending there as one of its kind
 pub pending_on-as : (c : ℕ) (op : Operation) → is_pending_on c (Some op) ≡ true → is_pending_as c op.kind (Some op) ≡ true
 pending_on-as c op h = rw (h, same_kind-refl op.kind) refl
 

@@ -18,7 +18,7 @@ pub record Flight : Type 0 where
   pub queue : List ℕ
   pub limit : ℕ
 
--- the operation with this number; what was never accepted reads as ended
+-- the operation with this number; `None` where it has ended, or was never accepted
 abbrev pub op_at : Flight → ℕ → Option Operation
 op_at f n = slice_index_or f.operations n None
 

@@ -40,7 +40,7 @@ new_endpoint kind.Listener = Listener false
 abbrev pub new_channel : GKind → Channel
 new_channel k = record { is_open = true; endpoint = new_endpoint k }
 
--- what a number that isn't made reads as
+-- what `channel_at` gives for a number that no channel has
 abbrev pub no_channel : Channel
 no_channel = record { is_open = false; endpoint = Listener false }
 
@@ -68,8 +68,8 @@ is_ready_for (Stream Connected) Connect = false
 is_ready_for (Stream Connected) Read = true
 is_ready_for (Stream Connected) Write = true
 
--- each number below the accepted count is that of one operation, which has one stage, by what a
--- group is; the rest of what makes it lawful:
+-- what holds of every group. (That each number below the accepted count names one operation, which
+-- has one stage, holds by the type of the state.)
 pub record IsLawful (g : Group) : Type 0 where
   -- the queue lists each queued number once, and no other number
   pub queued_once : (n : ℕ) → times_queued g.flight n ≡ (if is_queued (op_at g.flight n) then 1 else 0)

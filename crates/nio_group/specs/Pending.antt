@@ -20,7 +20,7 @@ with_slot p Connect n = record p { connect = n }
 with_slot p Read n = record p { read = n }
 with_slot p Write n = record p { write = n }
 
--- the lesser of two numbers, of which there may be one or none
+-- the lesser of two numbers, each of which may be missing
 abbrev pub lesser_of : Option ℕ → Option ℕ → Option ℕ
 lesser_of None b = b
 lesser_of (Some m) None = Some m

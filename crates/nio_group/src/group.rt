@@ -64,7 +64,7 @@ impl GroupCore {
         })
     }
 
-    /// That the group is lawful, for whoever got it where that isn't known.
+    /// A group is lawful. Call it where a proof needs that.
     pub fn law(&self)
         ensures { IsLawful self.now }
     {
@@ -159,7 +159,7 @@ impl GroupCore {
         None
     }
 
-    /// The pending operation of this kind on this channel, for whoever does its work.
+    /// The pending operation of this kind on this channel, for the caller who does its work.
     pub fn job(&self, chan: GChan, kind: OpKind) -> Option<Job>
         requires { chan.0 < length self.now.channels }
         ensures some { IfSome result (λ job. IsJobOf self.now chan.0 kind job) }
@@ -170,7 +170,7 @@ impl GroupCore {
         Some(Job::make(OpNo(number), operation.chan, operation.kind, operation.len))
     }
 
-    /// Takes what came of a pending operation, whose completion is queued.
+    /// Reports what came of a pending operation, and queues its completion.
     pub fn report(&mut self, op: OpNo, outcome: Outcome) -> Result<(), ReportError>
         ensures answer { result ≡ answer_to_report self.old op.0 outcome }
         ensures after { self.new ≡ after_report self.old op.0 outcome }
@@ -318,7 +318,7 @@ impl GroupCore {
         self.shut && self.open_channels == 0 && self.flight.in_flight() == 0
     }
 
-    /// How many channels were made. A channel below it is made.
+    /// How many channels were made. They have the numbers from 0 on.
     pub fn channels(&self) -> u32
         ensures { result ≡ length self.now.channels }
     {

@@ -19,7 +19,8 @@ pub fn stage_law()
     ensures { StagesGoForward }
 {}
 
-/// In a run from the empty group an accepted operation completes once, and is pending until then.
+/// In a run from the empty group an operation that was accepted and isn't pending any more has
+/// completed exactly once; no other operation has completed.
 pub fn completion_law()
     ensures { CompletesOnce }
 {}

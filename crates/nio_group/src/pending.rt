@@ -64,7 +64,7 @@ impl Pending {
     }
 }
 
-/// The lesser of two numbers, of which there may be one or none.
+/// The lesser of two numbers, each of which may be missing.
 fn lesser(a: Option<u64>, b: Option<u64>) -> Option<u64>
     ensures { result ≡ lesser_of a b }
 {

@@ -68,7 +68,7 @@ fn stream(link: Link, pending: bool, kind: OpKind) -> Option<StartError>
     }
 }
 
-/// Why this outcome of this operation isn't taken.
+/// Why a report of this outcome of this operation is refused.
 pub(crate) fn report(operation: Operation, outcome: Outcome) -> Option<ReportError>
     ensures { result ≡ report_refusal (Some operation) outcome }
 {

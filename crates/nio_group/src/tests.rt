@@ -1,4 +1,4 @@
-//! Whole runs of a group, call by call.
+//! Worked runs of a group as tables of calls and replies.
 use crate::*;
 use nio_base::{GChan, OpNo};
 use std::test::Fail;

@@ -1,5 +1,4 @@
-//! What no clause says: that the calls do what is meant by them, over one table of calls, and that
-//! memory is found where there is some.
+//! Worked runs of a direction as tables, its size, and plans at their ends.
 use crate::*;
 use circular_buffer::HeapCircularBuffer;
 use nio_base::Addr;
