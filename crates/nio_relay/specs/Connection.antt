@@ -1,5 +1,5 @@
 -- A relayed connection, by what its two links have carried.
-use Rattle.std.specs.Prelude.{◌≡◌, ℕ, ◌+◌, ◌*◌, List, Bool, IsTrue}
+use Rattle.std.specs.Prelude.{◌≡◌, ℕ, List, Bool, IsTrue}
 use mathlib.Core.List.{IsPrefix}
 use Rattle.nio_relay.specs.Flow.{Flow, IsLawful}
 
