@@ -99,7 +99,7 @@ TerminatedStays =
 abbrev pub has_completed : Group → ℕ → Bool
 has_completed g n = nat_lt n (accepted g.flight) && not (is_pending (op_at g.flight n))
 
--- an operation whose handler has been given its completion
+-- an operation whose completion has been taken
 abbrev pub was_taken : Group → ℕ → Bool
 was_taken g n = has_completed g n && not (is_queued (op_at g.flight n))
 
@@ -114,14 +114,13 @@ GoesOn Pending op next = (result : Finished) × (next ≡ Some (at_stage (Queued
 GoesOn (Queued result) op next = next ≡ Some (at_stage Running op)
 GoesOn Running op next = next ≡ None
 
--- an accepted operation stays as it was, or goes on to the stage that follows; one that has ended
--- stays so
+-- an operation stays as it was, or goes on to the stage that follows; one that has ended stays so
 abbrev pub IsNext : Option Operation → Option Operation → Type 0
 IsNext None next = next ≡ None
 IsNext (Some op) next = (next ≡ Some op) ⊎ GoesOn op.stage op next
 
--- what a call makes of the operation with this number: accepted, it goes one stage forward at most;
--- accepted by this call, it is pending or queued
+-- what a call makes of the operation with this number. One that was accepted before the call stays as
+-- it was or goes one stage on; one that the call accepts is pending or queued
 pub record IsForward (g left : Group) (n : ℕ) : Type 0 where
   pub accepts : accepted g.flight ≤ accepted left.flight
   pub goes_on : n < accepted g.flight → IsNext (op_at g.flight n) (op_at left.flight n)
@@ -155,7 +154,7 @@ abbrev pub CompletesOnce : Type 0
 CompletesOnce =
     (limits : GroupLimits) (calls : List Call) (n : ℕ) → IsRunOf (empty_group limits) calls → completions n (empty_group limits) calls ≡ once_where (has_completed (left_by (empty_group limits) calls) n)
 
--- the reply hands out the completion of this operation
+-- the reply is the completion of this operation
 abbrev pub hands_out : ℕ → Reply → Bool
 hands_out n (opened answer) = false
 hands_out n (bound answer) = false
@@ -167,12 +166,12 @@ hands_out n (finished answer) = false
 hands_out n (closed was_open) = false
 hands_out n done = false
 
--- how often a run hands out the completion of this operation
+-- how often the completion of this operation is taken in a run
 abbrev pub times_taken : ℕ → Group → List Call → ℕ
 times_taken n g [] = 0
 times_taken n g (call ∷ calls) = once_where (hands_out n (reply_to g call)) + times_taken n (after g call) calls
 
--- a run from a lawful group hands out each completion at most once
+-- in a run from a lawful group the completion of each operation is taken at most once
 abbrev pub TakesOnce : Type 0
 TakesOnce = (g : Group) (calls : List Call) (n : ℕ) → IsLawful g → IsRunOf g calls → times_taken n g calls ≤ 1
 

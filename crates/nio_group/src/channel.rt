@@ -1,5 +1,4 @@
 //! The channels of a group.
-
 ghost use Rattle.std.specs.Prelude.{◌≡◌};
 
 use nio_base::GKind;

@@ -25,7 +25,7 @@ pub fn completion_law()
     ensures { CompletesOnce }
 {}
 
-/// In a run `take` hands out the completion of an operation at most once.
+/// In a run the completion of an operation is taken at most once.
 pub fn take_law()
     ensures { TakesOnce }
 {}
