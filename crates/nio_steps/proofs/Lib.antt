@@ -18,3 +18,5 @@ pub mod StandLaws
 pub mod LookedLaws
 pub mod GoneLaws
 pub mod ClosedLaws
+pub mod PinBack
+pub mod PinLaws

@@ -12,4 +12,5 @@ pub mod SelectCalls
 pub mod PipeCalls
 pub mod Selections
 pub mod Laws
+pub mod PinLaws
 pub mod Each

@@ -1,5 +1,6 @@
 //! What the plans promise, as the contracts of functions that do nothing.
 ghost use Rattle.nio_steps.specs.Laws.{RunsArePerformed, BeginsSelection, ListsInOrder, LooksAtValidKeys, CancelledKeysGo, MarksOnlyAsTold, AgainGoesOn, CountsSelection, SelectionsStand, ClosingsStand, ClosedRemovesKeys};
+ghost use Rattle.nio_steps.specs.PinLaws.{PinsAreGivenBack};
 
 /// A call between whose steps nobody comes answers, and leaves, what its plan says of the state
 /// before it.
@@ -37,4 +38,9 @@ pub fn progress_law()
 /// key was claimed before it looked at the mark.
 pub fn close_law()
     ensures { ClosedRemovesKeys }
+{}
+
+/// Each call gives back the pins that it takes.
+pub fn given_back_law()
+    ensures { PinsAreGivenBack }
 {}
