@@ -27,3 +27,4 @@ pub mod Selectors
 pub mod Whole
 pub mod Following
 pub mod Seen
+pub mod GoingOn

@@ -12,4 +12,5 @@ pub mod Telling
 pub mod Owed
 pub mod Drawing
 pub mod Whole
+pub mod Laws
 pub mod Following
