@@ -3,18 +3,14 @@ use Rattle.std.proofs.Common.{◌≡◌, ℕ, Bool, true, false, Option, Some, N
 use Rattle.std.specs.Prelude.{fold}
 use Rattle.nio_base.specs.declared.limits.Limits.{Limits}
 use Rattle.nio_base.specs.declared.numbers.CallerNo.{CallerNo}
-use Rattle.nio_base.specs.declared.numbers.ChanNo.{ChanNo}
 use Rattle.nio_base.specs.declared.numbers.SelNo.{SelNo}
-use Rattle.nio_event.proofs.Legal.{legal_next}
 use Rattle.nio_event.proofs.OneMore.{state_after-more}
 use Rattle.nio_event.proofs.Put.{put-same, put_at-same}
-use Rattle.nio_event.specs.Acts.{effect, taken_by, new_key}
-use Rattle.nio_event.specs.Answers.{Answers}
-use Rattle.nio_event.specs.Conditions.{is_held_by, holds}
-use Rattle.nio_event.specs.Histories.{state_after, event_of, last_of, IsLegal, HistoryClause}
-use Rattle.nio_event.specs.State.{State}
+use Rattle.nio_event.specs.Acts.{effect}
+use Rattle.nio_event.specs.Conditions.{is_held_by, has_taken}
+use Rattle.nio_event.specs.Histories.{state_after, event_of, last_of, HistoryClause}
 use Rattle.nio_event.specs.declared.act.Act.{Act}
-use Rattle.nio_event.specs.declared.act.Act.TheVariants.{MakeSelector, Claim, TryHoldBit}
+use Rattle.nio_event.specs.declared.act.Act.TheVariants.{MakeSelector, TakeFree}
 use Rattle.nio_event.specs.declared.event.Event.{Event}
 use Rattle.nio_words.specs.Passes.{seen, IsReady, state_seen}
 use Rattle.nio_words.specs.Rule.{HasBit}
@@ -48,23 +44,8 @@ made_just_now w p q me s found steps =
 pub still_ready : (w : Words) (p q : Pass) (me n : CallerNo) (act : Act) → Steps w p q me act → IsReady w p n → IsReady w q n
 still_ready w p q me n act steps ready = record { pass = steps.pass; number = subst (λ (k : ℕ). HasBit k n.0) (sym steps.numbers) ready.number }
 
--- who just took the hold, which was free, has it
-pub holds_just_now : (past : List Event) (me : CallerNo) (c : ChanNo) (found : Option CallerNo) → found ≡ None
-    → holds (state_after (past ++ event_of me (TryHoldBit c found) ∷ [])) me c ≡ true
-holds_just_now past me c found free =
-    ap (λ st. holds st me c) (state_after-more past (event_of me (TryHoldBit c found)))
-    ∙ (ap (is_held_by me) (put-same (state_after past).hold c.0 (taken_by me found))
-    ∙ (ap (λ o. is_held_by me (taken_by me o)) free ∙ eq-eqb me.0 me.0 refl))
-
--- an index is claimed whose claiming was just tried
-pub claimed_just_now : (w : Words) (p q : Pass) (me : CallerNo) (s : SelNo) (i : ℕ) (c : ChanNo) (found : Bool) → Steps w p q me (Claim s i c found)
-    → ((state_seen q).key s.0 i).claimed ≡ true
-claimed_just_now w p q me s i c found steps =
-    let last = last_event (seen q) (event_of me (Claim s i c found)) steps.clause.ends in
-    let step = legal_next w.limits last.0 (event_of me (Claim s i c found)) [] (subst (IsLegal w.limits) last.1 steps.pass.legal) in
-    ap (λ es. ((state_after es).key s.0 i).claimed) last.1 ∙ (ap (λ st. (st.key s.0 i).claimed) (state_after-more last.0 (event_of me (Claim s i c found)))
-    ∙ by_answer (state_after last.0) found step.answers)
-  where
-    by_answer : (st : State) (b : Bool) → Answers st me (Claim s i c b) → ((effect st me (Claim s i c b)).key s.0 i).claimed ≡ true
-    by_answer st true answers = let claimed : true ≡ (st.key s.0 i).claimed = cc in ap (λ k. k.claimed) (put_at-same st.key s.0 i (st.key s.0 i)) ∙ sym claimed
-    by_answer st false answers = ap (λ k. k.claimed) (put_at-same st.key s.0 i (new_key c))
+-- who just took an index that was free has it
+pub taken_just_now : (w : Words) (p q : Pass) (me : CallerNo) (s : SelNo) (i : ℕ) → Steps w p q me (TakeFree s i true) → has_taken (state_seen q) me s i ≡ true
+taken_just_now w p q me s i steps =
+    let now = state_just_after _ _ me (TakeFree s i true) _ _ steps.clause in
+    ap (λ st. has_taken st me s i) now.1 ∙ (ap (is_held_by me) (put_at-same (state_after now.0).taker s.0 i (Some me)) ∙ eq-eqb me.0 me.0 refl)
