@@ -1,12 +1,12 @@
 -- The arguments of calls: one definition for each shape that the arguments of a call may have.
-use Rattle.std.specs.Prelude.{ℕ, ◌<◌, ◌^◌, Bool, Option, List, [], ◌∷◌, ◌++◌, drop, map, ⊤, All, nat_eq}
+use Rattle.std.specs.Prelude.{ℕ, ◌<◌, ◌^◌, Bool, Option, List, [], ◌∷◌, ◌++◌, drop, map, ⊤}
 use Rattle.std.specs.Fmt.{decimal}
-use Rattle.std.specs.List.{IsDistinct}
 use Rattle.nio_base.specs.declared.kind.Kind.{Kind}
 use Rattle.nio_base.specs.declared.numbers.CallerNo.{CallerNo}
 use Rattle.nio_base.specs.declared.numbers.ChanNo.{ChanNo}
+use Rattle.nio_base.specs.declared.numbers.KeyId.{KeyId}
 use Rattle.nio_base.specs.declared.numbers.SelNo.{SelNo}
-use Rattle.nio_event.specs.Calls.{IsAttachment, IsNumber, IsPair, IsTime, attachment_words, call_words, elapsed_words, mode_word, waiting_words}
+use Rattle.nio_event.specs.Calls.{ArePairs, IsAttachment, IsKey, IsNumber, IsTime, attachment_words, call_words, elapsed_words, mode_word, waiting_words}
 use Rattle.nio_event.specs.Words.{caller_word, selector_word, channel_word, key_word, kind_word, pair_word}
 use Rattle.nio_event.specs.declared.call.Call.{Call}
 use Rattle.nio_event.specs.declared.call.Waiting.{Waiting}
@@ -66,25 +66,25 @@ abbrev pub RegistrationFits : SelNo × ChanNo × ℕ × Option ℕ → Type 0
 RegistrationFits p = IsNumber p.0.0 × IsNumber p.1.0 × (p.2 < 256) × IsAttachment p.3
 
 -- a selector and a key
-abbrev pub selector_key_words : SelNo × ℕ → List (List ℕ)
+abbrev pub selector_key_words : SelNo × KeyId → List (List ℕ)
 selector_key_words p = selector_word p.0 ∷ key_word p.1 ∷ []
 
-abbrev pub SelectorKeyFits : SelNo × ℕ → Type 0
-SelectorKeyFits p = IsNumber p.0.0 × IsNumber p.1
+abbrev pub SelectorKeyFits : SelNo × KeyId → Type 0
+SelectorKeyFits p = IsNumber p.0.0 × IsKey p.1
 
 -- a selector, a key and operations
-abbrev pub key_ops_words : SelNo × ℕ × ℕ → List (List ℕ)
+abbrev pub key_ops_words : SelNo × KeyId × ℕ → List (List ℕ)
 key_ops_words p = selector_word p.0 ∷ key_word p.1 ∷ decimal p.2 ∷ []
 
-abbrev pub KeyOpsFits : SelNo × ℕ × ℕ → Type 0
-KeyOpsFits p = IsNumber p.0.0 × IsNumber p.1 × (p.2 < 256)
+abbrev pub KeyOpsFits : SelNo × KeyId × ℕ → Type 0
+KeyOpsFits p = IsNumber p.0.0 × IsKey p.1 × (p.2 < 256)
 
 -- a selector, a key and a number
-abbrev pub key_number_words : SelNo × ℕ × ℕ → List (List ℕ)
+abbrev pub key_number_words : SelNo × KeyId × ℕ → List (List ℕ)
 key_number_words p = selector_word p.0 ∷ key_word p.1 ∷ decimal p.2 ∷ []
 
-abbrev pub KeyNumberFits : SelNo × ℕ × ℕ → Type 0
-KeyNumberFits p = IsNumber p.0.0 × IsNumber p.1 × (p.2 < 2 ^ 64)
+abbrev pub KeyNumberFits : SelNo × KeyId × ℕ → Type 0
+KeyNumberFits p = IsNumber p.0.0 × IsKey p.1 × (p.2 < 2 ^ 64)
 
 -- a selector, and how long to wait
 abbrev pub wait_words : SelNo × Waiting → List (List ℕ)
@@ -94,11 +94,8 @@ abbrev pub WaitFits : SelNo × Waiting → Type 0
 WaitFits p = IsNumber p.0.0 × IsTime p.1
 
 -- a selector, whether its time is over, and keys with operations, each key at most once
-abbrev pub told_words : SelNo × Bool × List (ℕ × ℕ) → List (List ℕ)
+abbrev pub told_words : SelNo × Bool × List (KeyId × ℕ) → List (List ℕ)
 told_words p = selector_word p.0 ∷ (elapsed_words p.1 ++ map pair_word p.2)
 
-abbrev pub PairsFit : List (ℕ × ℕ) → Type 0
-PairsFit pairs = All IsPair pairs × IsDistinct nat_eq (map (λ p. p.0) pairs)
-
-abbrev pub ToldFits : SelNo × Bool × List (ℕ × ℕ) → Type 0
-ToldFits p = IsNumber p.0.0 × PairsFit p.2
+abbrev pub ToldFits : SelNo × Bool × List (KeyId × ℕ) → Type 0
+ToldFits p = IsNumber p.0.0 × ArePairs p.2

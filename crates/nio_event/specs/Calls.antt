@@ -1,8 +1,9 @@
 -- The lines of a script: which bytes are a call of which caller, and which are blank.
-use Rattle.std.specs.Prelude.{◌≡◌, ℕ, ◌<◌, ◌≤◌, ℤ, nat_abs, ◌^◌, ⊤, Bool, true, false, Option, None, Some, List, [], ◌∷◌, ◌++◌, ◌⊎◌, nat_eq, length, map, codes, slice_get, All}
+use Rattle.std.specs.Prelude.{◌≡◌, ℕ, ◌<◌, ◌≤◌, ℤ, nat_abs, ◌^◌, ⊤, Bool, true, false, Option, None, Some, List, [], ◌∷◌, ◌++◌, ◌≢◌, ◌⊎◌, length, map, codes, slice_get, All, Any}
 use Rattle.std.specs.Fmt.{decimal, signed_decimal}
-use Rattle.std.specs.List.{IsDistinct, join_with_byte}
+use Rattle.std.specs.List.{AllPairs, join_with_byte}
 use Rattle.nio_base.specs.declared.numbers.CallerNo.{CallerNo}
+use Rattle.nio_base.specs.declared.numbers.KeyId.{KeyId}
 use Rattle.nio_event.specs.Words.{caller_word, selector_word, channel_word, key_word, pair_word, kind_word}
 use Rattle.nio_event.specs.declared.call.Call.{Call}
 use Rattle.nio_event.specs.declared.call.Call.TheVariants.{Selector, Channel, Blocking, IsBlocking, IsOpen, IsRegistered, KeyFor, Register, Closec, Valid, Interest, Ready, Iset, Ior, Iand, Cancel, Unselect, Attach, Attachment, Begin, Told, Failed, Wakeup, Close, CloseEnd, Keys, Selected, Interrupt, Interrupted}
@@ -61,11 +62,6 @@ call_words (Selected s) = codes "selected" ∷ selector_word s ∷ []
 call_words (Interrupt t) = codes "interrupt" ∷ caller_word t ∷ []
 call_words Interrupted = codes "interrupted" ∷ []
 
--- a key's index with operations, as a line may name them
-pub record IsPair (p : ℕ × ℕ) : Type 0 where
-  pub key_fits : p.0 < 2 ^ 32
-  pub ops_fit : p.1 < 256
-
 -- a number of milliseconds, less than 2 ^ 63 either way
 abbrev pub IsMilliseconds : ℤ → Type 0
 IsMilliseconds ms = nat_abs ms < 2 ^ 63
@@ -82,6 +78,25 @@ IsAttachment (Some att) = att < 2 ^ 64
 abbrev pub IsNumber : ℕ → Type 0
 IsNumber n = n < 2 ^ 32
 
+-- a serial that stands behind a point
+pub record IsSerial (m : ℕ) : Type 0 where
+  pub some : m ≢ 0
+  pub fits : IsNumber m
+
+-- a key, as a line may name it
+pub record IsKey (k : KeyId) : Type 0 where
+  pub index_fits : IsNumber k.index
+  pub serial_fits : IsNumber k.serial
+
+-- a key with operations, as a line may name them
+pub record IsPair (p : KeyId × ℕ) : Type 0 where
+  pub key_fits : IsKey p.0
+  pub ops_fit : p.1 < 256
+
+-- keys with operations, each key at most once
+abbrev pub ArePairs : List (KeyId × ℕ) → Type 0
+ArePairs pairs = All IsPair pairs × AllPairs (λ k m. k ≢ m) (map (λ p. p.0) pairs)
+
 -- a call that a line can say: its numbers fit, and it names each key at most once
 abbrev pub IsCall : Call → Type 0
 IsCall Selector = ⊤
@@ -93,18 +108,18 @@ IsCall (IsRegistered c) = IsNumber c.0
 IsCall (KeyFor c s) = IsNumber c.0 × IsNumber s.0
 IsCall (Register s c ops att) = IsNumber s.0 × IsNumber c.0 × (ops < 256) × IsAttachment att
 IsCall (Closec c) = IsNumber c.0
-IsCall (Valid s k) = IsNumber s.0 × IsNumber k
-IsCall (Interest s k) = IsNumber s.0 × IsNumber k
-IsCall (Ready s k) = IsNumber s.0 × IsNumber k
-IsCall (Iset s k ops) = IsNumber s.0 × IsNumber k × (ops < 256)
-IsCall (Ior s k ops) = IsNumber s.0 × IsNumber k × (ops < 256)
-IsCall (Iand s k ops) = IsNumber s.0 × IsNumber k × (ops < 256)
-IsCall (Cancel s k) = IsNumber s.0 × IsNumber k
-IsCall (Unselect s k) = IsNumber s.0 × IsNumber k
-IsCall (Attach s k att) = IsNumber s.0 × IsNumber k × (att < 2 ^ 64)
-IsCall (Attachment s k) = IsNumber s.0 × IsNumber k
+IsCall (Valid s k) = IsNumber s.0 × IsKey k
+IsCall (Interest s k) = IsNumber s.0 × IsKey k
+IsCall (Ready s k) = IsNumber s.0 × IsKey k
+IsCall (Iset s k ops) = IsNumber s.0 × IsKey k × (ops < 256)
+IsCall (Ior s k ops) = IsNumber s.0 × IsKey k × (ops < 256)
+IsCall (Iand s k ops) = IsNumber s.0 × IsKey k × (ops < 256)
+IsCall (Cancel s k) = IsNumber s.0 × IsKey k
+IsCall (Unselect s k) = IsNumber s.0 × IsKey k
+IsCall (Attach s k att) = IsNumber s.0 × IsKey k × (att < 2 ^ 64)
+IsCall (Attachment s k) = IsNumber s.0 × IsKey k
 IsCall (Begin s waiting) = IsNumber s.0 × IsTime waiting
-IsCall (Told s elapsed pairs) = IsNumber s.0 × All IsPair pairs × IsDistinct nat_eq (map (λ p. p.0) pairs)
+IsCall (Told s elapsed pairs) = IsNumber s.0 × ArePairs pairs
 IsCall (Failed s) = IsNumber s.0
 IsCall (Wakeup s) = IsNumber s.0
 IsCall (Close s) = IsNumber s.0
@@ -113,6 +128,38 @@ IsCall (Keys s) = IsNumber s.0
 IsCall (Selected s) = IsNumber s.0
 IsCall (Interrupt t) = t.0 < 64
 IsCall Interrupted = ⊤
+
+-- the call names a key whose serial isn't 0
+abbrev pub NamesSerial : Call → Type 0
+NamesSerial Selector = ⊥
+NamesSerial (Channel kind) = ⊥
+NamesSerial (Blocking c on) = ⊥
+NamesSerial (IsBlocking c) = ⊥
+NamesSerial (IsOpen c) = ⊥
+NamesSerial (IsRegistered c) = ⊥
+NamesSerial (KeyFor c s) = ⊥
+NamesSerial (Register s c ops att) = ⊥
+NamesSerial (Closec c) = ⊥
+NamesSerial (Valid s k) = k.serial ≢ 0
+NamesSerial (Interest s k) = k.serial ≢ 0
+NamesSerial (Ready s k) = k.serial ≢ 0
+NamesSerial (Iset s k ops) = k.serial ≢ 0
+NamesSerial (Ior s k ops) = k.serial ≢ 0
+NamesSerial (Iand s k ops) = k.serial ≢ 0
+NamesSerial (Cancel s k) = k.serial ≢ 0
+NamesSerial (Unselect s k) = k.serial ≢ 0
+NamesSerial (Attach s k att) = k.serial ≢ 0
+NamesSerial (Attachment s k) = k.serial ≢ 0
+NamesSerial (Begin s waiting) = ⊥
+NamesSerial (Told s elapsed pairs) = Any (λ p. p.0.serial ≢ 0) pairs
+NamesSerial (Failed s) = ⊥
+NamesSerial (Wakeup s) = ⊥
+NamesSerial (Close s) = ⊥
+NamesSerial (CloseEnd s) = ⊥
+NamesSerial (Keys s) = ⊥
+NamesSerial (Selected s) = ⊥
+NamesSerial (Interrupt t) = ⊥
+NamesSerial Interrupted = ⊥
 
 -- a caller and its call, each word after one space
 abbrev pub line_text : CallerNo → Call → List ℕ

@@ -3,6 +3,7 @@ use Rattle.std.specs.Prelude.{ℕ, List, [], ◌∷◌, ◌++◌, map, codes}
 use Rattle.std.specs.Fmt.{decimal}
 use Rattle.std.specs.List.{join_with_byte}
 use Rattle.nio_base.specs.declared.numbers.CallerNo.{CallerNo}
+use Rattle.nio_base.specs.declared.numbers.KeyId.{KeyId}
 use Rattle.nio_event.specs.Calls.{line_text}
 use Rattle.nio_event.specs.Words.{selector_word, channel_word, key_word, pair_word}
 use Rattle.nio_event.specs.declared.call.Call.{Call}
@@ -20,14 +21,14 @@ why_word why.Interrupted = codes "interrupted"
 why_word why.Elapsed = codes "elapsed"
 
 -- pairs, or the word none
-abbrev pub pairs_words : List (ℕ × ℕ) → List (List ℕ)
+abbrev pub pairs_words : List (KeyId × ℕ) → List (List ℕ)
 pairs_words [] = codes "none" ∷ []
 pairs_words (p ∷ ps) = map pair_word (p ∷ ps)
 
 abbrev pub reply_words : Reply → List (List ℕ)
 reply_words (reply.Selector s) = selector_word s ∷ []
 reply_words (reply.Channel c) = channel_word c ∷ []
-reply_words (reply.Key i) = key_word i ∷ []
+reply_words (reply.Key k) = key_word k ∷ []
 reply_words (reply.Number n) = decimal n ∷ []
 reply_words (reply.Names keys) = map key_word keys
 reply_words reply.«Ok» = codes "ok" ∷ []

@@ -1,13 +1,14 @@
 -- The words of a script that name something.
-use Rattle.std.specs.Prelude.{ℕ, List, ◌++◌, codes}
+use Rattle.std.specs.Prelude.{ℕ, ◌==◌, List, [], ◌++◌, codes, if◌then◌else◌}
 use Rattle.std.specs.Fmt.{decimal}
 use Rattle.nio_base.specs.declared.kind.Kind.{Kind}
 use Rattle.nio_base.specs.declared.kind.Kind.TheVariants.{Stream, Listener, Source, Sink}
 use Rattle.nio_base.specs.declared.numbers.CallerNo.{CallerNo}
 use Rattle.nio_base.specs.declared.numbers.ChanNo.{ChanNo}
+use Rattle.nio_base.specs.declared.numbers.KeyId.{KeyId}
 use Rattle.nio_base.specs.declared.numbers.SelNo.{SelNo}
 
--- a letter and a decimal number: t1, s0, c2, k3
+-- a letter and a decimal number: t1, s0, c2
 abbrev pub caller_word : CallerNo → List ℕ
 caller_word t = codes "t" ++ decimal t.0
 
@@ -17,11 +18,16 @@ selector_word s = codes "s" ++ decimal s.0
 abbrev pub channel_word : ChanNo → List ℕ
 channel_word c = codes "c" ++ decimal c.0
 
-abbrev pub key_word : ℕ → List ℕ
-key_word i = codes "k" ++ decimal i
+-- a key's serial behind a point; nothing where it is 0
+abbrev pub serial_text : ℕ → List ℕ
+serial_text m = if m == 0 then [] else codes "." ++ decimal m
 
--- a key with operations: k3:5
-abbrev pub pair_word : ℕ × ℕ → List ℕ
+-- a key's index, and its serial where that isn't 0: k3, k3.1
+abbrev pub key_word : KeyId → List ℕ
+key_word k = codes "k" ++ decimal k.index ++ serial_text k.serial
+
+-- a key with operations: k3:5, k3.1:5
+abbrev pub pair_word : KeyId × ℕ → List ℕ
 pair_word p = key_word p.0 ++ codes ":" ++ decimal p.1
 
 abbrev pub kind_word : Kind → List ℕ

@@ -1,6 +1,6 @@
 //! The calls of a script: one variant for each call word, its arguments in the order of the line.
 use crate::pairs::Pairs;
-use nio_base::{CallerNo, ChanNo, Kind, Ops, SelNo};
+use nio_base::{CallerNo, ChanNo, KeyId, Kind, Ops, SelNo};
 
 /// A call as a line of a script gives it.
 #[derive(Debug, Drop)]
@@ -25,25 +25,25 @@ pub enum Call {
     /// `closec C`: closes the channel.
     Closec(ChanNo),
     /// `valid S K`: whether the key is valid.
-    Valid(SelNo, u32),
+    Valid(SelNo, KeyId),
     /// `interest S K`: the key's interest set.
-    Interest(SelNo, u32),
+    Interest(SelNo, KeyId),
     /// `ready S K`: the key's ready set.
-    Ready(SelNo, u32),
+    Ready(SelNo, KeyId),
     /// `iset S K OPS`: sets the interest set.
-    Iset(SelNo, u32, Ops),
+    Iset(SelNo, KeyId, Ops),
     /// `ior S K OPS`: adds to the interest set, and gives the one before.
-    Ior(SelNo, u32, Ops),
+    Ior(SelNo, KeyId, Ops),
     /// `iand S K OPS`: keeps of the interest set what is in OPS, and gives the one before.
-    Iand(SelNo, u32, Ops),
+    Iand(SelNo, KeyId, Ops),
     /// `cancel S K`: cancels the key.
-    Cancel(SelNo, u32),
+    Cancel(SelNo, KeyId),
     /// `unselect S K`: takes the key out of the selected set.
-    Unselect(SelNo, u32),
+    Unselect(SelNo, KeyId),
     /// `attach S K ATT`: sets the key's attachment, and gives the one before.
-    Attach(SelNo, u32, u64),
+    Attach(SelNo, KeyId, u64),
     /// `attachment S K`: the key's attachment, 0 for none.
-    Attachment(SelNo, u32),
+    Attachment(SelNo, KeyId),
     /// `begin S now`, `wait` or `for MS`: begins a selection.
     Begin(SelNo, Waiting),
     /// `told S` and pairs `K:OPS`, or `told S elapsed` and pairs: tells the caller's selection what
@@ -65,6 +65,48 @@ pub enum Call {
     Interrupt(CallerNo),
     /// `interrupted`: whether the own interrupt status was set, which it clears.
     Interrupted,
+}
+
+impl Call {
+    ghost use Rattle.std.specs.Prelude.{◌↔◌, IsTrue};
+    ghost use Rattle.nio_event.specs.Calls.{NamesSerial};
+
+    /// Whether the call names a key whose serial isn't 0.
+    pub fn names_serial(&self) -> bool
+        ensures { IsTrue result ↔ NamesSerial self.now }
+    {
+        match self {
+            Call::Selector
+            | Call::Channel(..)
+            | Call::Blocking(..)
+            | Call::IsBlocking(..)
+            | Call::IsOpen(..)
+            | Call::IsRegistered(..)
+            | Call::KeyFor(..)
+            | Call::Register(..)
+            | Call::Closec(..)
+            | Call::Begin(..)
+            | Call::Failed(..)
+            | Call::Wakeup(..)
+            | Call::Close(..)
+            | Call::CloseEnd(..)
+            | Call::Keys(..)
+            | Call::Selected(..)
+            | Call::Interrupt(..)
+            | Call::Interrupted => false,
+            Call::Valid(_, key)
+            | Call::Interest(_, key)
+            | Call::Ready(_, key)
+            | Call::Iset(_, key, _)
+            | Call::Ior(_, key, _)
+            | Call::Iand(_, key, _)
+            | Call::Cancel(_, key)
+            | Call::Unselect(_, key)
+            | Call::Attach(_, key, _)
+            | Call::Attachment(_, key) => key.serial != 0,
+            Call::Told(_, _, pairs) => pairs.as_slice().iter().any(|pair| pair.0.serial != 0),
+        }
+    }
 }
 
 /// How a line says how long its selection waits.

@@ -1,38 +1,40 @@
 //! The names of keys, as a reply lists them.
-ghost use Rattle.std.specs.Prelude.{◌≡◌, ℕ, List};
+ghost use Rattle.std.specs.Prelude.{◌≡◌, List};
+ghost use Rattle.nio_base.specs.declared.numbers.KeyId.{KeyId as Key};
 
+use nio_base::KeyId;
 use std::marker::Model;
 
-/// Key indexes, in the order in which they are printed. Contracts see the list.
+/// Keys of one selector, in the order in which they are printed. Contracts see the list.
 #[derive(Debug, Drop)]
 pub struct Names {
-    indexes: Vec<u32>,
+    keys: Vec<KeyId>,
 }
 
 impl Model for Names {
-    ghost Value = { List ℕ };
+    ghost Value = { List Key };
 
-    ghost view = { λ n. n.indexes.items };
+    ghost view = { λ n. n.keys.items };
 }
 
 impl Names {
-    /// The names of the vector's indexes. Takes no memory.
-    pub fn from_vec(indexes: Vec<u32>) -> Names
-        ensures { result ≡ indexes.items }
+    /// The names of the vector's keys. Takes no memory.
+    pub fn from_vec(keys: Vec<KeyId>) -> Names
+        ensures { result ≡ keys.items }
     {
-        Names { indexes }
+        Names { keys }
     }
 
-    /// The vector of the indexes. Takes no memory.
-    pub fn into_vec(self) -> Vec<u32>
+    /// The vector of the keys. Takes no memory.
+    pub fn into_vec(self) -> Vec<KeyId>
         ensures { result.items ≡ self }
     {
-        self.indexes
+        self.keys
     }
 
-    pub fn as_slice(&self) -> &[u32]
+    pub fn as_slice(&self) -> &[KeyId]
         ensures { result.now ≡ self.now }
     {
-        self.indexes.as_slice()
+        self.keys.as_slice()
     }
 }

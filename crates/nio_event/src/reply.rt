@@ -1,7 +1,7 @@
 //! The replies to the calls of a script: one variant for each reply.
 use crate::names::Names;
 use crate::pairs::Pairs;
-use nio_base::{ChanNo, SelNo};
+use nio_base::{ChanNo, KeyId, SelNo};
 
 /// What a call of a script answers.
 #[derive(Debug, Drop)]
@@ -10,18 +10,18 @@ pub enum Reply {
     Selector(SelNo),
     /// `cN`: the channel that was opened.
     Channel(ChanNo),
-    /// `kN`: the index of the key.
-    Key(u32),
+    /// `kN`, or `kN.M`: a key by its index and, where that isn't 0, its serial.
+    Key(KeyId),
     /// A number: a set of operations or an attachment.
     Number(u64),
-    /// The names of keys, at least one, in rising order.
+    /// The names of keys, at least one, their indexes rising.
     Names(Names),
     Ok,
     Yes,
     No,
     /// There is no such key.
     None,
-    /// `looked` and the pairs `kN:OPS`, or `looked none`: each key with the interest looked at.
+    /// `looked` and pairs of a key and operations, or `looked none`: each key with the interest looked at.
     Looked(Pairs),
     /// `selected N why`: how many keys were updated, and why the selection ended.
     Selected(u32, Why),

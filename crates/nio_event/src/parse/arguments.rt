@@ -7,7 +7,7 @@ ghost use Rattle.nio_event.specs.Words.{kind_word};
 
 use super::name::{read_caller, read_channel, read_key, read_ops, read_selector};
 use super::number::read_number;
-use nio_base::{CallerNo, ChanNo, Kind, Ops, SelNo};
+use nio_base::{CallerNo, ChanNo, KeyId, Kind, Ops, SelNo};
 
 pub fn read_none(args: &[&[u8]]) -> Option<()>
     ensures { Reads (λ _. ⊤) no_words (map (λ w. w.now) args.now) result }
@@ -121,7 +121,8 @@ fn read_attachment(args: &[&[u8]]) -> Option<Option<u64>>
     }
 }
 
-pub fn read_selector_key(args: &[&[u8]]) -> Option<(SelNo, u32)>
+/// A selector and a key.
+pub fn read_selector_key(args: &[&[u8]]) -> Option<(SelNo, KeyId)>
     ensures { Reads SelectorKeyFits selector_key_words (map (λ w. w.now) args.now) result }
 {
     let [selector, key] = args else {
@@ -133,7 +134,7 @@ pub fn read_selector_key(args: &[&[u8]]) -> Option<(SelNo, u32)>
 }
 
 /// A selector, a key and operations.
-pub fn read_key_ops(args: &[&[u8]]) -> Option<(SelNo, u32, Ops)>
+pub fn read_key_ops(args: &[&[u8]]) -> Option<(SelNo, KeyId, Ops)>
     ensures { Reads KeyOpsFits key_ops_words (map (λ w. w.now) args.now) result }
 {
     let [selector, key, ops] = args else {
@@ -146,7 +147,7 @@ pub fn read_key_ops(args: &[&[u8]]) -> Option<(SelNo, u32, Ops)>
 }
 
 /// A selector, a key and a number.
-pub fn read_key_number(args: &[&[u8]]) -> Option<(SelNo, u32, u64)>
+pub fn read_key_number(args: &[&[u8]]) -> Option<(SelNo, KeyId, u64)>
     ensures { Reads KeyNumberFits key_number_words (map (λ w. w.now) args.now) result }
 {
     let [selector, key, number] = args else {

@@ -1,13 +1,13 @@
-//! The words of a line that name something: `t1`, `s0`, `c2`, `k3`, and `k3:5`.
+//! The words of a line that name something: `t1`, `s0`, `c2`, `k3`, `k3.1`, and `k3:5`.
 ghost use Rattle.std.specs.Prelude.{◌≡◌, ℕ, ◌<◌, ◌≤◌, ◌^◌, ◌∷◌, ◌++◌, All, ◌≢◌, IfSome};
 ghost use Rattle.std.specs.Fmt.{decimal};
-ghost use Rattle.nio_event.specs.Calls.{IsPair};
+ghost use Rattle.nio_event.specs.Calls.{IsKey, IsNumber, IsPair, IsSerial};
 ghost use Rattle.nio_event.specs.Reading.{Reads};
 ghost use Rattle.nio_event.specs.Words.{caller_word, selector_word, channel_word, key_word, pair_word};
 
 use super::cut::cut_at;
 use super::number::read_number;
-use nio_base::{CallerNo, ChanNo, Ops, SelNo};
+use nio_base::{CallerNo, ChanNo, KeyId, Ops, SelNo};
 
 pub fn read_caller(word: &[u8]) -> Option<CallerNo>
     ensures { Reads (λ t. t.0 < 64) caller_word word.now result }
@@ -27,10 +27,32 @@ pub fn read_channel(word: &[u8]) -> Option<ChanNo>
     read_numbered(word, b'c', u32::MAX).map(ChanNo)
 }
 
-pub fn read_key(word: &[u8]) -> Option<u32>
-    ensures { Reads (λ i. i < 2 ^ 32) key_word word.now result }
+/// A key's index, and its serial behind a point, where that isn't 0.
+pub fn read_key(word: &[u8]) -> Option<KeyId>
+    ensures { Reads IsKey key_word word.now result }
+{
+    match cut_at(word, b'.') {
+        None => read_index(word).map(|index| KeyId { index, serial: 0 }),
+        Some((index, serial)) => {
+            let index = read_index(index)?;
+            let serial = read_serial(serial)?;
+            Some(KeyId { index, serial })
+        }
+    }
+}
+
+fn read_index(word: &[u8]) -> Option<u32>
+    ensures { Reads IsNumber (λ i. 107 ∷ decimal i) word.now result }
 {
     read_numbered(word, b'k', u32::MAX)
+}
+
+/// A serial that isn't 0.
+fn read_serial(digits: &[u8]) -> Option<u32>
+    ensures { Reads IsSerial decimal digits.now result }
+{
+    let serial = read_number(digits, u64::from(u32::MAX))?;
+    if serial == 0 { None } else { Some(serial as u32) }
 }
 
 pub fn read_ops(word: &[u8]) -> Option<Ops>
@@ -52,7 +74,8 @@ fn read_numbered(word: &[u8], letter: u8, max: u32) -> Option<u32>
     Some(number as u32)
 }
 
-pub fn read_pair(word: &[u8]) -> Option<(u32, Ops)>
+/// A key with operations.
+pub fn read_pair(word: &[u8]) -> Option<(KeyId, Ops)>
     ensures { Reads IsPair pair_word word.now result }
 {
     let (key, ops) = cut_at(word, b':')?;

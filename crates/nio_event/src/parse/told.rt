@@ -1,14 +1,15 @@
 //! Reading what a selection is told: a selector, `elapsed` or not, and pairs of keys and operations,
 //! as many as there are.
 ghost use Rattle.std.specs.Prelude.{◌≡◌, ℕ, ◌==◌, ◌↔◌, ◌<◌, ◌^◌, ◌++◌, Bool, List, IsTrue, Any, IfOk, codes, map, option_map};
-ghost use Rattle.nio_event.specs.Arguments.{PairsFit, ToldFits, told_words};
-ghost use Rattle.nio_event.specs.Calls.{elapsed_words};
+ghost use Rattle.nio_base.specs.declared.numbers.KeyId.{KeyId as Key};
+ghost use Rattle.nio_event.specs.Arguments.{ToldFits, told_words};
+ghost use Rattle.nio_event.specs.Calls.{ArePairs, elapsed_words};
 ghost use Rattle.nio_event.specs.Reading.{Reads};
 ghost use Rattle.nio_event.specs.Words.{pair_word};
 
 use super::name::{read_pair, read_selector};
 use crate::pairs::Pairs;
-use nio_base::{Ops, SelNo};
+use nio_base::{KeyId, Ops, SelNo};
 use std::alloc::{AllocError, Global};
 
 /// A selector, `elapsed` or not, and pairs that name each key at most once.
@@ -31,7 +32,7 @@ pub fn read_told(alloc: Global, args: &[&[u8]]) -> Result<Option<(SelNo, bool, P
 /// Whether the first word is `elapsed`, and the words behind it.
 fn split_elapsed<'a, 'b>(words: &'a [&'b [u8]]) -> (bool, &'a [&'b [u8]])
     ensures text { map (λ w. w.now) words.now ≡ elapsed_words result.0 ++ map (λ w. w.now) result.1.now }
-    ensures only { (elapsed : Bool) (pairs : List (ℕ × ℕ))
+    ensures only { (elapsed : Bool) (pairs : List (Key × ℕ))
         → map (λ w. w.now) words.now ≡ elapsed_words elapsed ++ map pair_word pairs
         → (elapsed ≡ result.0) × (map (λ w. w.now) result.1.now ≡ map pair_word pairs) }
 {
@@ -47,8 +48,8 @@ fn is_elapsed(word: &[u8]) -> bool
     word == b"elapsed".as_slice()
 }
 
-fn read_pairs(alloc: Global, words: &[&[u8]]) -> Result<Option<Vec<(u32, Ops)>>, AllocError>
-    ensures { IfOk result (λ r. Reads PairsFit (map pair_word) (map (λ w. w.now) words.now) (option_map (λ v. v.items) r)) }
+fn read_pairs(alloc: Global, words: &[&[u8]]) -> Result<Option<Vec<(KeyId, Ops)>>, AllocError>
+    ensures { IfOk result (λ r. Reads ArePairs (map pair_word) (map (λ w. w.now) words.now) (option_map (λ v. v.items) r)) }
 {
     let mut pairs = Vec::with_capacity(alloc, words.len())?;
     for word in words {
@@ -63,7 +64,7 @@ fn read_pairs(alloc: Global, words: &[&[u8]]) -> Result<Option<Vec<(u32, Ops)>>,
     Ok(Some(pairs))
 }
 
-fn has_key(pairs: &[(u32, Ops)], key: u32) -> bool
+fn has_key(pairs: &[(KeyId, Ops)], key: KeyId) -> bool
     ensures { IsTrue result ↔ Any (λ p. p.0 ≡ key) pairs.now }
 {
     pairs.iter().any(|pair| pair.0 == key)

@@ -6,9 +6,9 @@ ghost use Rattle.nio_event.specs.Calls.{attachment_words, elapsed_words, mode_wo
 ghost use Rattle.nio_event.specs.Printing.{spaced};
 ghost use Rattle.nio_event.specs.Words.{kind_word};
 
-use super::piece::{push_name, push_number_word, push_ops, push_pairs, push_time, push_word};
+use super::piece::{push_key_word, push_name, push_number_word, push_ops, push_pairs, push_time, push_word};
 use crate::call::Waiting;
-use nio_base::{ChanNo, Kind, Ops, SelNo};
+use nio_base::{ChanNo, KeyId, Kind, Ops, SelNo};
 use std::alloc::AllocError;
 
 pub fn push_kind(line: &mut Vec<u8>, kind: Kind) -> Result<(), AllocError>
@@ -61,39 +61,39 @@ fn push_attachment(line: &mut Vec<u8>, attachment: Option<u64>) -> Result<(), Al
     }
 }
 
-pub fn push_selector_key(line: &mut Vec<u8>, selector: SelNo, key: u32) -> Result<(), AllocError>
+pub fn push_selector_key(line: &mut Vec<u8>, selector: SelNo, key: KeyId) -> Result<(), AllocError>
     ensures { OnOk result
         (line.new.items ≡ line.old.items ++ spaced (selector_key_words (selector, key))) }
 {
     push_name(line, b's', selector.0)?;
-    push_name(line, b'k', key)
+    push_key_word(line, key)
 }
 
 pub fn push_key_ops(
     line: &mut Vec<u8>,
     selector: SelNo,
-    key: u32,
+    key: KeyId,
     ops: Ops,
 ) -> Result<(), AllocError>
     ensures { OnOk result
         (line.new.items ≡ line.old.items ++ spaced (key_ops_words (selector, key, ops))) }
 {
     push_name(line, b's', selector.0)?;
-    push_name(line, b'k', key)?;
+    push_key_word(line, key)?;
     push_ops(line, ops)
 }
 
 pub fn push_key_number(
     line: &mut Vec<u8>,
     selector: SelNo,
-    key: u32,
+    key: KeyId,
     number: u64,
 ) -> Result<(), AllocError>
     ensures { OnOk result
         (line.new.items ≡ line.old.items ++ spaced (key_number_words (selector, key, number))) }
 {
     push_name(line, b's', selector.0)?;
-    push_name(line, b'k', key)?;
+    push_key_word(line, key)?;
     push_number_word(line, number)
 }
 
@@ -121,7 +121,7 @@ pub fn push_told(
     line: &mut Vec<u8>,
     selector: SelNo,
     elapsed: bool,
-    pairs: &[(u32, Ops)],
+    pairs: &[(KeyId, Ops)],
 ) -> Result<(), AllocError>
     ensures { OnOk result
         (line.new.items ≡ line.old.items ++ spaced (told_words (selector, elapsed, pairs.now))) }

@@ -2,10 +2,10 @@
 ghost use Rattle.std.specs.Prelude.{◌≡◌, ◌∷◌, ◌++◌, OnOk, map};
 ghost use Rattle.std.specs.Fmt.{decimal, signed_decimal};
 ghost use Rattle.nio_event.specs.Printing.{spaced};
-ghost use Rattle.nio_event.specs.Words.{key_word, pair_word};
+ghost use Rattle.nio_event.specs.Words.{key_word, pair_word, serial_text};
 
 use itoa::Buffer;
-use nio_base::Ops;
+use nio_base::{KeyId, Ops};
 use std::alloc::AllocError;
 
 pub fn push_bytes(line: &mut Vec<u8>, bytes: &[u8]) -> Result<(), AllocError>
@@ -67,18 +67,45 @@ pub fn push_ops(line: &mut Vec<u8>, ops: Ops) -> Result<(), AllocError>
     push_number_word(line, u64::from(ops.bits()))
 }
 
-/// Names of keys, each after a space.
-pub fn push_keys(line: &mut Vec<u8>, indexes: &[u32]) -> Result<(), AllocError>
-    ensures { OnOk result (line.new.items ≡ line.old.items ++ spaced (map key_word indexes.now)) }
+/// A key's name.
+pub fn push_key(line: &mut Vec<u8>, key: KeyId) -> Result<(), AllocError>
+    ensures { OnOk result (line.new.items ≡ line.old.items ++ key_word key) }
 {
-    for index in indexes {
-        push_name(line, b'k', *index)?;
+    push_numbered(line, b'k', key.index)?;
+    push_serial(line, key.serial)
+}
+
+/// A point and a serial; nothing where it is 0.
+fn push_serial(line: &mut Vec<u8>, serial: u32) -> Result<(), AllocError>
+    ensures { OnOk result (line.new.items ≡ line.old.items ++ serial_text serial) }
+{
+    if serial == 0 {
+        Ok(())
+    } else {
+        push_numbered(line, b'.', serial)
+    }
+}
+
+/// A space and a key's name.
+pub fn push_key_word(line: &mut Vec<u8>, key: KeyId) -> Result<(), AllocError>
+    ensures { OnOk result (line.new.items ≡ line.old.items ++ 32 ∷ key_word key) }
+{
+    line.push(b' ')?;
+    push_key(line, key)
+}
+
+/// Names of keys, each after a space.
+pub fn push_keys(line: &mut Vec<u8>, keys: &[KeyId]) -> Result<(), AllocError>
+    ensures { OnOk result (line.new.items ≡ line.old.items ++ spaced (map key_word keys.now)) }
+{
+    for key in keys {
+        push_key_word(line, *key)?;
     }
     Ok(())
 }
 
 /// Keys with operations, each after a space.
-pub fn push_pairs(line: &mut Vec<u8>, pairs: &[(u32, Ops)]) -> Result<(), AllocError>
+pub fn push_pairs(line: &mut Vec<u8>, pairs: &[(KeyId, Ops)]) -> Result<(), AllocError>
     ensures { OnOk result (line.new.items ≡ line.old.items ++ spaced (map pair_word pairs.now)) }
 {
     for pair in pairs {
@@ -87,10 +114,10 @@ pub fn push_pairs(line: &mut Vec<u8>, pairs: &[(u32, Ops)]) -> Result<(), AllocE
     Ok(())
 }
 
-fn push_pair(line: &mut Vec<u8>, pair: (u32, Ops)) -> Result<(), AllocError>
+fn push_pair(line: &mut Vec<u8>, pair: (KeyId, Ops)) -> Result<(), AllocError>
     ensures { OnOk result (line.new.items ≡ line.old.items ++ 32 ∷ pair_word pair) }
 {
-    push_name(line, b'k', pair.0)?;
+    push_key_word(line, pair.0)?;
     line.push(b':')?;
     push_number(line, u64::from(pair.1.bits()))
 }

@@ -5,9 +5,9 @@ ghost use Rattle.nio_event.specs.Printing.{spaced};
 ghost use Rattle.nio_event.specs.Replies.{pairs_words, reply_text, why_word};
 ghost use Rattle.nio_event.specs.Words.{key_word};
 
-use super::piece::{push_bytes, push_keys, push_number, push_numbered, push_pairs, push_word};
+use super::piece::{push_bytes, push_key, push_keys, push_number, push_numbered, push_pairs, push_word};
 use crate::reply::{Reply, Why};
-use nio_base::Ops;
+use nio_base::{KeyId, Ops};
 use std::alloc::AllocError;
 
 pub fn push_reply(line: &mut Vec<u8>, reply: &Reply) -> Result<(), AllocError>
@@ -16,7 +16,7 @@ pub fn push_reply(line: &mut Vec<u8>, reply: &Reply) -> Result<(), AllocError>
     match reply {
         Reply::Selector(selector) => push_numbered(line, b's', selector.0),
         Reply::Channel(channel) => push_numbered(line, b'c', channel.0),
-        Reply::Key(index) => push_numbered(line, b'k', *index),
+        Reply::Key(key) => push_key(line, *key),
         Reply::Number(number) => push_number(line, *number),
         Reply::Names(names) => push_names(line, names.as_slice()),
         Reply::Ok => push_bytes(line, b"ok"),
@@ -57,21 +57,21 @@ pub fn push_reply(line: &mut Vec<u8>, reply: &Reply) -> Result<(), AllocError>
 }
 
 /// Names of keys, with a space between each two.
-fn push_names(line: &mut Vec<u8>, indexes: &[u32]) -> Result<(), AllocError>
+fn push_names(line: &mut Vec<u8>, keys: &[KeyId]) -> Result<(), AllocError>
     ensures { OnOk result
-        (line.new.items ≡ line.old.items ++ join_with_byte 32 (map key_word indexes.now)) }
+        (line.new.items ≡ line.old.items ++ join_with_byte 32 (map key_word keys.now)) }
 {
-    match indexes.split_first() {
+    match keys.split_first() {
         None => Ok(()),
         Some((first, others)) => {
-            push_numbered(line, b'k', *first)?;
+            push_key(line, *first)?;
             push_keys(line, others)
         }
     }
 }
 
 /// Keys with operations, or `none`, each after a space.
-fn push_pairs_or_none(line: &mut Vec<u8>, pairs: &[(u32, Ops)]) -> Result<(), AllocError>
+fn push_pairs_or_none(line: &mut Vec<u8>, pairs: &[(KeyId, Ops)]) -> Result<(), AllocError>
     ensures { OnOk result (line.new.items ≡ line.old.items ++ spaced (pairs_words pairs.now)) }
 {
     if pairs.is_empty() {
