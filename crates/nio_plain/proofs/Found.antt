@@ -12,12 +12,12 @@ find-push p [] y = refl
 find-push p (x ∷ xs) y =
     elim (p x) as (λ b. cond {A = Option ℕ} b (Some x) (find p (xs ++ y ∷ [])) ≡ or_else (cond {A = Option ℕ} b (Some x) (find p xs)) (cond {A = Option ℕ} (p y) (Some y) None)) [ true ↦ refl | false ↦ find-push p xs y ]
 
-find_none : (p : ℕ → Bool) (m : ℕ) → ((k : ℕ) → k < m → p k ≡ false) → find p (below m) ≡ None
+pub find_none : (p : ℕ → Bool) (m : ℕ) → ((k : ℕ) → k < m → p k ≡ false) → find p (below m) ≡ None
 find_none p zero h = refl
 find_none p (suc m) h =
     (find-push p (below m) m ∙ ap (λ o. or_else o (cond (p m) (Some m) None)) (find_none p m (λ k l. h k (omega arith)))) ∙ cond-false (p m) (Some m) None (h m (omega arith))
 
-find_first : (p : ℕ → Bool) (m n : ℕ) → n < m → p n ≡ true → ((k : ℕ) → k < n → p k ≡ false) → find p (below m) ≡ Some n
+pub find_first : (p : ℕ → Bool) (m n : ℕ) → n < m → p n ≡ true → ((k : ℕ) → k < n → p k ≡ false) → find p (below m) ≡ Some n
 find_first p zero n l t h = absurd (omega arith)
 find_first p (suc m) n l t h =
     ⊎_elim

@@ -2,10 +2,13 @@
 #![tactic(auto)]
 
 pub use plain::Plain;
+pub use rules::Rules;
 pub use system::System;
 
 pub mod laws;
 mod plain;
+mod probe;
+mod rules;
 mod system;
 #[cfg(test)]
 mod tests;
