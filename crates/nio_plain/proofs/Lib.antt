@@ -19,3 +19,15 @@ pub mod Telling
 pub mod Registering
 pub mod RegisteringAt
 pub mod TellingAt
+pub mod CallLawsCases
+pub mod CallLawsRefusals
+pub mod CallLawsWakeups
+pub mod CallLawsMarks
+pub mod CallLawsSelections
+pub mod ReachedSound
+pub mod ReachedRemoving
+pub mod ReachedChanges
+pub mod ReachedChannels
+pub mod ReachedRegistering
+pub mod ReachedCalls
+pub mod ReachedLaws

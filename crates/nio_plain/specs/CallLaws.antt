@@ -8,7 +8,7 @@ use Rattle.nio_base.specs.declared.limits.Limits.{Limits}
 use Rattle.nio_base.specs.declared.numbers.CallerNo.{CallerNo}
 use Rattle.nio_base.specs.declared.numbers.KeyId.{KeyId}
 use Rattle.nio_base.specs.declared.numbers.SelNo.{SelNo}
-use Rattle.nio_event.specs.Sets.{in_key_set, is_valid_key}
+use Rattle.nio_event.specs.Sets.{in_key_set, is_valid}
 use Rattle.nio_event.specs.declared.call.Call.{Call}
 use Rattle.nio_event.specs.declared.call.Call.TheVariants as call
 use Rattle.nio_event.specs.declared.call.ScriptCall.{ScriptCall}
@@ -149,8 +149,8 @@ BitsAreToldAndLookedFor = (st : ScriptState) (me : CallerNo) (c : Call) (s i bit
     → HasBit (newly_told st me c s i) bit → IsToldAndLookedFor st me c s (key_at st.shared s i) bit
 
 -- SELECTIONS IN PROGRESS. A call began the selection: it is a `begin` there, the selection is the
--- caller's own, and what it looks at is what was answered: the keys of the key set that is left, which
--- are all valid, with their interests.
+-- caller's own, and what it looks at is what was answered: the keys of the key set that is left, each the
+-- present one of its index, which are all valid, with their interests.
 pub record IsBegunBy (me : CallerNo) (c : Call) (done : Answered) (s : ℕ) (selection : Selection) : Type 0 where
   pub name : SelNo
   pub waiting : Waiting
@@ -158,7 +158,8 @@ pub record IsBegunBy (me : CallerNo) (c : Call) (done : Answered) (s : ℕ) (sel
   pub there : name.0 ≡ s
   pub own : own_selection done.left me s ≡ Some selection
   pub answered : done.reply ≡ reply.Looked selection.looked
-  pub valid : All (λ p. IsTrue (is_valid_key (done.left.shared.key s p.0.index) p.0.serial) × (p.1 ≡ done.left.shared.interest s p.0.index)) selection.looked
+  pub present : All (λ p. p.0 ≡ key_at done.left.shared s p.0.index) selection.looked
+  pub valid : All (λ p. IsTrue (is_valid (done.left.shared.key s p.0.index)) × (p.1 ≡ done.left.shared.interest s p.0.index)) selection.looked
   pub all : (i : ℕ) → i < done.left.shared.keys_mark s → IsTrue (in_key_set (done.left.shared.key s i))
       → Contains selection.looked (key_at done.left.shared s i, done.left.shared.interest s i)
 

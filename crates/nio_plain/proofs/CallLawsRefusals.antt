@@ -1,0 +1,47 @@
+-- A refused call changes nothing.
+use Rattle.std.proofs.Common.{◌≡◌, Bool, true, false, refl}
+use Rattle.nio_base.specs.declared.numbers.CallerNo.{CallerNo}
+use Rattle.nio_event.specs.declared.call.Call.{Call}
+use Rattle.nio_plain.proofs.CallLawsCases.{HoldsOfChanges, holds_of_calls}
+use Rattle.nio_plain.specs.CallLaws.{refuses, is_without_effect, RefusalsChangeNothing}
+use Rattle.nio_plain.specs.ScriptState.{ScriptState}
+use Rattle.nio_plain.specs.Seq.Answers.{Answered, yes_or_no}
+use Rattle.nio_plain.specs.declared.rules.Rules.{Rules}
+
+abbrev Keeps : ScriptState → Call → Answered → Type 0
+Keeps st c done = is_without_effect c done.reply ≡ true → done.left ≡ st
+
+no_refusal : {P : Type 0} → false ≡ true → P
+no_refusal e = absurd cc
+
+said : {P : Type 0} (b : Bool) → refuses (yes_or_no b) ≡ true → P
+said true e = no_refusal e
+said false e = no_refusal e
+
+changes : (rules : Rules) (st : ScriptState) (me : CallerNo) → HoldsOfChanges rules st me (Keeps st)
+changes rules st me = record {
+  nothing = λ c r _ e. refl;
+  selector = λ s. no_refusal;
+  channel = λ kind c. no_refusal;
+  blocking = λ c on. no_refusal;
+  register = λ s c ops att k note. no_refusal;
+  register_again = λ s c ops att k note. no_refusal;
+  closec = λ c. no_refusal;
+  cancel = λ s i. no_refusal;
+  iset = λ s i ops. no_refusal;
+  ior = λ s i ops. no_refusal;
+  iand = λ s i ops. no_refusal;
+  unselect = λ s i. no_refusal;
+  attach = λ s i att. no_refusal;
+  begin = λ s waiting how free. no_refusal;
+  told = λ s elapsed pairs selection count why own. no_refusal;
+  failed = λ s selection own. no_refusal;
+  wakeup = λ s. no_refusal;
+  close = λ s. no_refusal;
+  close_end = λ s. no_refusal;
+  interrupt = λ target. no_refusal;
+  interrupted = said (st.shared.interrupted me.0);
+}
+
+pub refusals_change_nothing : RefusalsChangeNothing
+refusals_change_nothing rules l st me c = holds_of_calls rules l st me (Keeps st) (changes rules st me) c

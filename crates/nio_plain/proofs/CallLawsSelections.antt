@@ -1,0 +1,255 @@
+-- A selection in progress was begun by a `begin`, looks at what was answered, and stays so until its
+-- own caller ends it.
+use Rattle.std.proofs.Common.{◌≡◌, ◌⊎◌, ℕ, zero, suc, ◌<◌, ◌==◌, nat_lt, Bool, true, false, cond, not, ◌&&◌, Option, Some, None, is_some, List, [], ◌∷◌, ◌++◌, map, length, get_or, refl, sym, ap, subst, ◌∙◌, inl, inr, ⊎_elim, arith, eq-eqb, eqb-true, lt-ltb}
+use Rattle.std.proofs.lemmas.Bool.{cases_eq, cond-true, true≢false, both_ways}
+use Rattle.std.proofs.lemmas.List.{get_or-map, length-map}
+use Rattle.std.proofs.lemmas.List.Elements.{All-map, All-filter, All-push, All-nil, All-weaker, filter_passes, Contains-push, Contains-append_left}
+use Rattle.std.specs.List.{All, Contains, filter}
+use Rattle.nio_base.specs.declared.numbers.CallerNo.{CallerNo}
+use Rattle.nio_base.specs.declared.numbers.KeyId.{KeyId}
+use Rattle.nio_base.specs.declared.numbers.SelNo.{SelNo}
+use Rattle.nio_event.proofs.Put.{put-same, put_gave}
+use Rattle.nio_event.specs.Sets.{in_key_set, in_cancelled_set, is_valid}
+use Rattle.nio_event.specs.State.{State, put}
+use Rattle.nio_event.specs.declared.call.Call.{Call}
+use Rattle.nio_event.specs.declared.call.Call.TheVariants as call
+use Rattle.nio_event.specs.declared.call.Waiting.{Waiting}
+use Rattle.nio_event.specs.declared.found.Mode.{Mode}
+use Rattle.nio_event.specs.declared.found.Stage.{Stage}
+use Rattle.nio_plain.proofs.Found.{below_contains}
+use Rattle.nio_plain.proofs.CallLawsCases.{HoldsOfChanges, holds_of_calls}
+use Rattle.nio_plain.proofs.Places.{put-elsewhere}
+use Rattle.nio_plain.specs.CallLaws.{IsBegunBy, LookedIsAnswered, is_over, OnlyItselfEndsASelection}
+use Rattle.nio_plain.specs.ScriptState.{ScriptState, Selection}
+use Rattle.nio_plain.specs.Seq.Answers.{Answered}
+use Rattle.nio_plain.specs.Seq.Names.{below, key_at}
+use Rattle.nio_plain.specs.Seq.Removing.{removed_key}
+use Rattle.nio_plain.specs.declared.rules.Rules.{Rules}
+use Rattle.nio_plain.specs.Seq.Selections.{without_cancelled, looked_keys, selection_begun, is_caller, own_selection}
+
+-- an element that passes is kept, and so is its image
+contains_later : {X : Type 0} (y : X) (xs : List X) (x : X) → Contains xs x → Contains (y ∷ xs) x
+contains_later y xs x c = (suc c.0, omega arith, c.2)
+
+filter-contains : {X : Type 0} (p : X → Bool) (xs : List X) (x : X) (k : ℕ) → k < length xs → get_or xs k x ≡ x → p x ≡ true → Contains (filter p xs) x
+filter-contains p [] x k l e passes = absurd (omega arith)
+filter-contains {X} p (y ∷ xs) x zero l e passes =
+    subst (λ (ys : List X). Contains ys x) (sym (cond-true (p y) (y ∷ filter p xs) (filter p xs) (ap p e ∙ passes))) (0, omega arith, e)
+filter-contains {X} p (y ∷ xs) x (suc k) l e passes =
+    let rest = filter-contains p xs x k (omega arith) e passes in
+    at (p y) rest
+  where
+    at : (b : Bool) → Contains (filter p xs) x → Contains (cond b (y ∷ filter p xs) (filter p xs)) x
+    at true c = contains_later y (filter p xs) x c
+    at false c = c
+
+map-contains : {X Y : Type 0} (f : X → Y) (xs : List X) (x : X) → Contains xs x → Contains (map f xs) (f x)
+map-contains f xs x c =
+    (c.0, omega (arith, length-map xs f, c.1), get_or-map f xs c.0 x (f x) c.1 ∙ ap f c.2)
+
+-- a key that a sweep leaves in the key set is valid
+not_removed : (p : Bool) → (p && false) ≡ true → ⊥
+not_removed true e = true≢false (sym e)
+not_removed false e = true≢false (sym e)
+
+still_valid : (k : Stage) → in_key_set k ≡ true → in_cancelled_set k ≡ false → is_valid k ≡ true
+still_valid k set out = by (in_key_set k) k.cancelled set out
+  where
+    by : (a b : Bool) → a ≡ true → (a && b) ≡ false → (a && not b) ≡ true
+    by true false e o = refl
+    by true true e o = absurd (true≢false o)
+    by false b e o = absurd (true≢false (sym e))
+
+swept_valid : (k : Stage) (b : Bool) → b ≡ true → in_key_set (cond (b && in_cancelled_set k) (removed_key k) k) ≡ true → is_valid (cond (b && in_cancelled_set k) (removed_key k) k) ≡ true
+swept_valid k false e set = absurd (true≢false (sym e))
+swept_valid k true e set = by (in_cancelled_set k) refl set
+  where
+    by : (c : Bool) → in_cancelled_set k ≡ c → in_key_set (cond c (removed_key k) k) ≡ true → is_valid (cond c (removed_key k) k) ≡ true
+    by true o set' = absurd (not_removed k.published set')
+    by false o set' = still_valid k set' o
+
+-- a selection that begins
+module _ (rules : Rules) (st : ScriptState) (me : CallerNo) (t : SelNo) (how : Mode) where
+  abbrev bound : ℕ
+  bound = st.shared.keys_mark t.0
+
+  abbrev swept : State
+  swept = without_cancelled rules st.shared t.0
+
+  abbrev in_set : ℕ → Bool
+  in_set i = in_key_set (swept.key t.0 i)
+
+  abbrev begun : Selection
+  begun = record { mode = how; bound = bound; looked = looked_keys swept t.0 }
+
+  valid_in : (i : ℕ) → in_set i ≡ true → is_valid (swept.key t.0 i) ≡ true
+  valid_in i set = swept_valid (st.shared.key t.0 i) (t.0 == t.0) (eq-eqb t.0 t.0 refl) set
+
+  abbrev pair : ℕ → KeyId × ℕ
+  pair i = (key_at swept t.0 i, st.shared.interest t.0 i)
+
+  abbrev IsLooked : KeyId × ℕ → Type 0
+  IsLooked p = (is_valid (swept.key t.0 p.0.index) ≡ true) × (p.1 ≡ st.shared.interest t.0 p.0.index)
+
+  looked_valid : All IsLooked (looked_keys swept t.0)
+  looked_valid =
+      let kept = filter in_set (below bound) in
+      let passes = filter_passes in_set (below bound) in
+      All-map IsLooked pair kept (λ k d l. (valid_in (get_or kept k d) (passes k d l), refl))
+
+  looked_present : All (λ (p : KeyId × ℕ). p.0 ≡ key_at swept t.0 p.0.index) (looked_keys swept t.0)
+  looked_present = All-map (λ (p : KeyId × ℕ). p.0 ≡ key_at swept t.0 p.0.index) pair (filter in_set (below bound)) (λ k d l. refl)
+
+  looked_all : (i : ℕ) → i < bound → in_set i ≡ true → Contains (looked_keys swept t.0) (pair i)
+  looked_all i l set =
+      let there = below_contains bound i l in
+      map-contains pair (filter in_set (below bound)) i (filter-contains in_set (below bound) i there.0 there.1 there.2 set)
+
+  own_begun : cond (is_caller me (put st.shared.turn t.0 (Some me) t.0)) (put st.selection t.0 (Some begun) t.0) None ≡ Some begun
+  own_begun =
+      cond-true (is_caller me (put st.shared.turn t.0 (Some me) t.0)) (put st.selection t.0 (Some begun) t.0) None
+      (ap (is_caller me) (put-same st.shared.turn t.0 (Some me)) ∙ eq-eqb me.0 me.0 refl)
+      ∙ put-same st.selection t.0 (Some begun)
+
+  is_begun : (waiting : Waiting) → IsBegunBy me (call.Begin t waiting) (selection_begun rules st me t.0 how) t.0 begun
+  is_begun waiting = record {
+    name = t;
+    waiting = waiting;
+    called = refl;
+    there = refl;
+    own = own_begun;
+    answered = refl;
+    present = looked_present;
+    valid = looked_valid;
+    all = looked_all;
+  }
+
+some_is : {A : Type 0} {x y : A} → Some x ≡ Some y → x ≡ y
+some_is e = cc
+
+module _ (rules : Rules) (st : ScriptState) (me : CallerNo) (s : ℕ) (selection : Selection) where
+  abbrev Begun : Call → Answered → Type 0
+  Begun c done = done.left.selection s ≡ Some selection → (st.selection s ≡ Some selection) ⊎ IsBegunBy me c done s selection
+
+  before : {c : Call} {done : Answered} → st.selection s ≡ Some selection → (st.selection s ≡ Some selection) ⊎ IsBegunBy me c done s selection
+  before e = inl e
+
+  -- where a selection is over none is left
+  over : (t : ℕ) → put st.selection t None s ≡ Some selection → st.selection s ≡ Some selection
+  over t e = put_gave (λ _ o. o ≡ Some selection) st.selection t None (λ none. absurd cc) s e
+
+  by_begin : (t : SelNo) (waiting : Waiting) (how : Mode) → Begun (call.Begin t waiting) (selection_begun rules st me t.0 how)
+  by_begin t waiting how now =
+      let new = begun rules st me t how in
+      let done = selection_begun rules st me t.0 how in
+      ⊎_elim
+      (λ (e : s ≡ t.0).
+      let same : new ≡ selection = some_is (sym (put-same st.selection t.0 (Some new)) ∙ (ap (put st.selection t.0 (Some new)) (sym e) ∙ now)) in
+      inr (subst (λ (n : ℕ). IsBegunBy me (call.Begin t waiting) done n selection) (sym e)
+      (subst (λ (x : Selection). IsBegunBy me (call.Begin t waiting) done t.0 x) same (is_begun rules st me t how waiting))))
+      (λ (ne : s ≡ t.0 → ⊥). inl (sym (put-elsewhere st.selection t.0 s (Some new) ne) ∙ now))
+      (cases_eq s t.0)
+
+  changes : HoldsOfChanges rules st me Begun
+  changes = record {
+    nothing = λ _ _ _. before;
+    selector = λ _. before;
+    channel = λ _ _. before;
+    blocking = λ _ _. before;
+    register = λ _ _ _ _ _ _. before;
+    register_again = λ _ _ _ _ _ _. before;
+    closec = λ _. before;
+    cancel = λ _ _. before;
+    iset = λ _ _ _. before;
+    ior = λ _ _ _. before;
+    iand = λ _ _ _. before;
+    unselect = λ _ _. before;
+    attach = λ _ _ _. before;
+    begin = λ t waiting how _. by_begin t waiting how;
+    told = λ t _ _ _ _ _ _ e. inl (over t.0 e);
+    failed = λ t _ _ e. inl (over t.0 e);
+    wakeup = λ _. before;
+    close = λ _. before;
+    close_end = λ _. before;
+    interrupt = λ _. before;
+    interrupted = before;
+  }
+
+pub looked_is_answered : LookedIsAnswered
+looked_is_answered rules l st me c s selection = holds_of_calls rules l st me (Begun rules st me s selection) (changes rules st me s selection) c
+
+-- whoever has the turn
+some_caller : (me : CallerNo) (o : Option CallerNo) → is_caller me o ≡ true → is_some o ≡ true
+some_caller me None h = absurd cc
+some_caller me (Some x) h = refl
+
+one_caller : (me other : CallerNo) (o : Option CallerNo) → is_caller me o ≡ true → is_caller other o ≡ true → other.0 ≡ me.0
+one_caller me other None h k = absurd cc
+one_caller me other (Some x) h k = sym (eqb-true x.0 other.0 k) ∙ eqb-true x.0 me.0 h
+
+-- the caller of an own selection has the turn
+has_turn : {selection : Selection} (b : Bool) (o : Option Selection) → cond b o None ≡ Some selection → b ≡ true
+has_turn true o e = refl
+has_turn false o e = absurd cc
+
+module _ (rules : Rules) (st : ScriptState) (me other : CallerNo) (s : ℕ) (selection : Selection) (own : own_selection st me s ≡ Some selection) where
+  abbrev Stays : Call → Answered → Type 0
+  Stays c done = (own_selection done.left me s ≡ Some selection) ⊎ ((other.0 ≡ me.0) × (is_over s c done.reply ≡ true))
+
+  turn : is_caller me (st.shared.turn s) ≡ true
+  turn = has_turn (is_caller me (st.shared.turn s)) (st.selection s) own
+
+  stays : {A : Type 0} → (own_selection st me s ≡ Some selection) ⊎ A
+  stays = inl own
+
+  -- what changes at another selector
+  elsewhere : (t : ℕ) (o : Option CallerNo) (x : Option Selection) → (s ≡ t → ⊥) → cond (is_caller me (put st.shared.turn t o s)) (put st.selection t x s) None ≡ Some selection
+  elsewhere t o x ne =
+      ap (λ (c : Option CallerNo). cond (is_caller me c) (put st.selection t x s) None) (put-elsewhere st.shared.turn t s o ne)
+      ∙ (ap (λ (y : Option Selection). cond (is_caller me (st.shared.turn s)) y None) (put-elsewhere st.selection t s x ne) ∙ own)
+
+  begins : (t : SelNo) (waiting : Waiting) (how : Mode) → is_some (st.shared.turn t.0) ≡ false → Stays (call.Begin t waiting) (selection_begun rules st other t.0 how)
+  begins t waiting how free =
+      ⊎_elim
+      (λ (e : s ≡ t.0). absurd (both_ways (is_some (st.shared.turn t.0)) free (some_caller me (st.shared.turn t.0) (ap (λ k. is_caller me (st.shared.turn k)) (sym e) ∙ turn))))
+      (λ (ne : s ≡ t.0 → ⊥). inl (elsewhere t.0 (Some other) (Some (begun rules st other t how)) ne))
+      (cases_eq s t.0)
+
+  -- a call that ends the selection of the caller that has the turn
+  ends : {x : Selection} (t : ℕ) → own_selection st other t ≡ Some x → (cond (is_caller me (put st.shared.turn t None s)) (put st.selection t None s) None ≡ Some selection) ⊎ ((other.0 ≡ me.0) × ((t == s) ≡ true))
+  ends t theirs =
+      ⊎_elim
+      (λ (e : s ≡ t).
+      let their_turn = has_turn (is_caller other (st.shared.turn t)) (st.selection t) theirs in
+      inr (one_caller me other (st.shared.turn s) turn (ap (λ k. is_caller other (st.shared.turn k)) e ∙ their_turn), eq-eqb t s (sym e)))
+      (λ (ne : s ≡ t → ⊥). inl (elsewhere t None None ne))
+      (cases_eq s t)
+
+  changes_stay : HoldsOfChanges rules st other Stays
+  changes_stay = record {
+    nothing = λ _ _ _. stays;
+    selector = λ _. stays;
+    channel = λ _ _. stays;
+    blocking = λ _ _. stays;
+    register = λ _ _ _ _ _ _. stays;
+    register_again = λ _ _ _ _ _ _. stays;
+    closec = λ _. stays;
+    cancel = λ _ _. stays;
+    iset = λ _ _ _. stays;
+    ior = λ _ _ _. stays;
+    iand = λ _ _ _. stays;
+    unselect = λ _ _. stays;
+    attach = λ _ _ _. stays;
+    begin = begins;
+    told = λ t _ _ _ _ _ theirs. ends t.0 theirs;
+    failed = λ t _ theirs. ends t.0 theirs;
+    wakeup = λ _. stays;
+    close = λ _. stays;
+    close_end = λ _. stays;
+    interrupt = λ _. stays;
+    interrupted = stays;
+  }
+
+pub only_itself_ends_a_selection : OnlyItselfEndsASelection
+only_itself_ends_a_selection rules l st me other c s selection own =
+    holds_of_calls rules l st other (Stays rules st me other s selection own) (changes_stay rules st me other s selection own) c
