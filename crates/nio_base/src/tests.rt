@@ -93,7 +93,7 @@ fn limits_fit_at_their_ends(rt: HostRuntime) {
         ),
         (
             Limits {
-                channels: 65_537,
+                channels: 262_145,
                 ..most
             },
             false,
@@ -101,7 +101,7 @@ fn limits_fit_at_their_ends(rt: HostRuntime) {
         (Limits { keys: 0, ..least }, false),
         (
             Limits {
-                keys: 65_537,
+                keys: 262_145,
                 ..most
             },
             false,

@@ -1,4 +1,4 @@
--- The calls of an end in memory, of which some fail.
+-- The calls of a source or sink in memory, some of which fail.
 use Rattle.std.specs.Prelude.{ℕ, List, Contains}
 use Rattle.nio_bytes.specs.Cause.{count_after}
 

@@ -1,7 +1,7 @@
 -- Why a call of a source or a sink fails: its count of faults rises.
 use Rattle.std.specs.Prelude.{◌≡◌, ℕ, ◌+◌, ◌-◌, ◌^◌, ◌<◌, ◌≤◌, ◌⊎◌, min, Result, OnOk, OnErr}
 
--- A count of faults rose, or stands at the last number of a `u64`, where it stays.
+-- A count of faults rose, or is the greatest `u64`, where it stops.
 abbrev pub Rose : ℕ → ℕ → Type 0
 Rose before now = (before < now) ⊎ (now ≡ 2 ^ 64 - 1)
 
@@ -11,6 +11,6 @@ pub record HasCause {T E : Type 0} (before now : ℕ) (result : Result T E) : Ty
   pub still : OnOk result (now ≡ before)
   pub failed : OnErr result (Rose before now)
 
--- the next number of a count in a `u64`, which stands still at its end
+-- one more, where a count stops at the greatest `u64`
 abbrev pub count_after : ℕ → ℕ
 count_after n = min (n + 1) (2 ^ 64 - 1)

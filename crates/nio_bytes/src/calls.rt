@@ -1,4 +1,4 @@
-//! The calls of an end in memory, of which some fail.
+//! The calls of a source or sink in memory, some of which fail.
 ghost use Rattle.std.specs.Prelude.{◌≡◌, ◌↔◌, ◌⊎◌, false, IsErr, OnOk, OnErr};
 ghost use Rattle.nio_bytes.specs.Cause.{HasCause};
 
@@ -6,7 +6,7 @@ use crate::failed::Failed;
 use crate::fault_count::FaultCount;
 use std::marker::Model;
 
-/// Counts calls, and makes those fail whose numbers were given.
+/// Counts calls from 0, and fails those whose numbers were given.
 #[derive(Drop)]
 pub struct Calls {
     fail_at: Vec<u64>,
@@ -35,7 +35,7 @@ impl Calls {
         }
     }
 
-    /// Counts a call, and fails where it is one of those that do, or unable to succeed.
+    /// Counts a call. It fails where its number was given to `new`, or where `able` is false.
     pub fn next(&mut self, able: bool) -> Result<(), Failed>
         ensures fails { IsErr result ↔ (FailsNext self.old ⊎ (able ≡ false)) }
         ensures ok { OnOk result (self.new ≡ after_success self.old) }

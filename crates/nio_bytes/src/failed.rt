@@ -1,8 +1,8 @@
 //! The one way in which a source or a sink fails.
 use thiserror::Error;
 
-/// A read, a write or a flush failed. The end's count of faults tells that it did, so this has
-/// nothing to say.
+/// A read, a write or a flush failed, and the count of faults of its source or sink rose. It has no
+/// other contents.
 #[derive(Clone, Copy, Debug, PartialEq, Eq, Error)]
 #[error("Failed")]
 pub struct Failed;

@@ -5,7 +5,7 @@ ghost use Rattle.nio_bytes.specs.Cause.{Rose, count_after};
 use crate::failed::Failed;
 use std::marker::Model;
 
-/// How often an end has failed. At the last number of a `u64` the count stands still.
+/// How often a source or sink has failed. The count stops at the greatest `u64`.
 #[derive(Drop)]
 pub struct FaultCount {
     faults: u64,
@@ -26,7 +26,7 @@ impl FaultCount {
         FaultCount { faults: 0 }
     }
 
-    /// Counts a fault, and gives it.
+    /// Counts a fault, and returns it.
     pub fn fail(&mut self) -> Failed
         ensures count { self.new ≡ count_after self.old }
         ensures later { self.old ≤ self.new }

@@ -1,6 +1,6 @@
-//! Where bytes come from and where they go: the traits `Source` and `Sink`, ends in memory for
-//! tests, and adapters of std's `Read` and `Write`. Each end counts its faults, so that a caller
-//! can prove that it reports a fault only where there was one.
+//! Where bytes come from and where they go: the traits `Source` and `Sink`, sources and sinks in
+//! memory for tests, and adapters of std's `Read` and `Write`. Each counts its faults, so that a
+//! caller can prove that it reports a fault only where there was one.
 #![tactic(auto)]
 
 pub use failed::Failed;

@@ -95,7 +95,7 @@ impl Sink for MemorySink {
         ensures unflushed { Some self.new.flushed ≡ told (Some self.old.flushed) false }
         ensures cause { HasCause self.old.calls.faults self.new.calls.faults result }
 
-        // As this one was told.
+        // By its piece, its room and the failures that it was made with.
         ensures fails { IsErr result ↔ (FailsNext self.old.calls
             ⊎ ((0 < length from.now) × (self.old.room ≤ length self.old.taken))) }
         ensures count { IfOk result (λ count. count ≡ min (length from.now)
@@ -125,7 +125,7 @@ impl Sink for MemorySink {
         ensures failed { OnErr result (Some self.new.flushed ≡ Some self.old.flushed) }
         ensures cause { HasCause self.old.calls.faults self.new.calls.faults result }
 
-        // As this one was told.
+        // By its piece, its room and the failures that it was made with.
         ensures fails { IsErr result ↔ FailsNext self.old.calls }
         ensures ok { OnOk result (self.new ≡ record self.old {
           flushed = true;

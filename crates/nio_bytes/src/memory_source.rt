@@ -66,7 +66,7 @@ impl Source for MemorySource {
         ensures kept { OnErr result (Some self.new.left ≡ Some self.old.left) }
         ensures cause { HasCause self.old.reads.faults self.new.reads.faults result }
 
-        // As this one was told.
+        // By its piece and the failures that it was made with.
         ensures fails { IsErr result ↔ FailsNext self.old.reads }
         ensures count { IfOk result (λ count.
             count ≡ min (length into.new) (min self.old.piece (length self.old.left))) }

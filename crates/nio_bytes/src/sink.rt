@@ -17,7 +17,8 @@ pub trait Sink {
     /// How often a write or a flush has failed.
     ghost faults: { Self → ℕ };
 
-    /// Takes bytes from the front of `from`, and says how many: at least one, where there is one.
+    /// Takes bytes from the front of `from`, and returns how many: at least 1, unless `from` is
+    /// empty.
     fn write(&mut self, from: &[u8]) -> Result<usize, Failed>
         ensures within { IfOk result (λ count. count ≤ length from.now) }
         ensures some { IfOk result (λ count. 0 < length from.now → 0 < count) }
@@ -27,7 +28,7 @@ pub trait Sink {
         ensures unflushed { flushed self.new ≡ told (flushed self.old) false }
         ensures cause { HasCause (faults self.old) (faults self.new) result };
 
-    /// Passes on what was taken, where the sink keeps it back.
+    /// Passes on the bytes that the sink has buffered.
     fn flush(&mut self) -> Result<(), Failed>
         ensures kept { taken self.new ≡ taken self.old }
         ensures flushed { OnOk result (flushed self.new ≡ told (flushed self.old) true) }

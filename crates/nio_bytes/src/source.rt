@@ -13,8 +13,8 @@ pub trait Source {
     /// How often a read has failed.
     ghost faults: { Self → ℕ };
 
-    /// Puts the next bytes at the front of `into`, and says how many they are: none only at the
-    /// end, or where `into` has no room. Behind them `into` may hold anything.
+    /// Copies the next bytes to the front of `into`, and returns how many: 0 only at the end, or
+    /// where `into` is empty. The rest of `into` may be overwritten with any bytes.
     fn read(&mut self, into: &mut [u8]) -> Result<usize, Failed>
         ensures within { IfOk result (λ count. count ≤ length into.new) }
         ensures next { IfOk result (λ count.

@@ -8,9 +8,9 @@ use crate::fault_count::FaultCount;
 use crate::sink::Sink;
 use std::io::{ErrorKind, Write};
 
-/// Writes to a writer, as a file or standard output. It tells no content, and not whether it was
-/// flushed. A call that is interrupted is tried again; every other error is a fault, and so is a
-/// write that takes nothing of what it was given.
+/// Writes to a writer, as a file or standard output. Its clauses as a `Sink` tell neither the bytes
+/// that it took nor whether it was flushed. A call that is interrupted is tried again; every other
+/// error is a fault, and so is a write that takes nothing of what it was given.
 #[derive(Drop)]
 pub struct StdSink<T> {
     inner: T,

@@ -8,8 +8,8 @@ use crate::fault_count::FaultCount;
 use crate::source::Source;
 use std::io::{ErrorKind, Read};
 
-/// Reads from a reader, as a file or standard input. It tells no content. A read that is
-/// interrupted is tried again; every other error is a fault.
+/// Reads from a reader, as a file or standard input. Its clauses as a `Source` don't tell the bytes
+/// that are still to come. A read that is interrupted is tried again; every other error is a fault.
 #[derive(Drop)]
 pub struct StdSource<R> {
     inner: R,

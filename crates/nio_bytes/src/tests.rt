@@ -1,59 +1,11 @@
-//! Each end on its happy path, and failing once.
+//! Each source and sink, succeeding and failing once.
 ghost use Rattle.std.specs.Prelude.{◌≤◌, IfOk};
 
 use crate::*;
 use std::io;
 use std::io::{ErrorKind, Read, Write};
+use std::process::Abort;
 use std::test::Fail;
-
-#[test]
-fn a_memory_source_gives_pieces_and_fails_where_told(rt: HostRuntime) -> Result<(), Fail> {
-    let bytes = b"hello".to_vec(rt.alloc())?;
-    let fail_at = vec![in rt.alloc(); 1, 4]?;
-    let mut source = MemorySource::make(bytes, 3, fail_at);
-    let mut into = [0; 4];
-    let steps = [
-        (Ok(3), "hel"),
-        (Err(Failed), "hel"),
-        (Ok(2), "lo"),
-        (Ok(0), ""),
-        (Err(Failed), ""),
-        (Ok(0), ""),
-    ];
-    for (count, text) in steps {
-        assert_eq!(rt; source.read(&mut into), count, "before {text:?}");
-        assert!(rt; into.starts_with(text.as_bytes()), "not {text:?}");
-    }
-    Ok(())
-}
-
-#[test]
-fn a_steady_source_gives_what_fits(rt: HostRuntime) -> Result<(), Fail> {
-    let mut source = SteadySource::make(b"hello".to_vec(rt.alloc())?);
-    let mut into = [0; 4];
-    for (count, text) in [(4, "hell"), (1, "o"), (0, "")] {
-        assert_eq!(rt; source.read(&mut into), Ok(count), "before {text:?}");
-        assert!(rt; into.starts_with(text.as_bytes()), "not {text:?}");
-    }
-    Ok(())
-}
-
-#[test]
-fn a_memory_sink_takes_pieces_and_fails_where_told(rt: HostRuntime) -> Result<(), Fail> {
-    let fail_at = vec![in rt.alloc(); 2, 3]?;
-    let mut sink = MemorySink::make(rt.alloc(), 5, fail_at, 11)?;
-    assert_eq!(rt; sink.write(b"hello you"), Ok(5));
-    assert_eq!(rt; sink.write(b" you"), Ok(4));
-    assert_eq!(rt; sink.write(b"!!!"), Err(Failed));
-    assert_eq!(rt; sink.flush(), Err(Failed));
-    assert_eq!(rt; sink.bytes(), b"hello you".as_slice());
-    assert_eq!(rt; sink.write(b"!!!"), Ok(2), "what fits");
-    assert_eq!(rt; sink.write(b"!"), Err(Failed), "no room");
-    assert_eq!(rt; sink.write(b""), Ok(0));
-    assert_eq!(rt; sink.flush(), Ok(()));
-    assert_eq!(rt; sink.bytes(), b"hello you!!".as_slice());
-    Ok(())
-}
 
 /// A reader and a writer that does what its steps say, and then passes nothing.
 #[derive(Drop)]
@@ -93,14 +45,37 @@ impl Write for Scripted<'_> {
     }
 }
 
-#[test]
-fn a_std_source_reads_and_passes_faults_on(rt: HostRuntime) -> Result<(), Fail> {
+/// Reads four bytes a call. A step is a call's result, and the bytes in front of the buffer then.
+fn assert_reads<S: Source>(
+    rt: &impl Abort,
+    source: &mut S,
+    steps: &[(Result<usize, Failed>, &str)],
+) {
     let mut into = [0; 4];
-    let mut source = StdSource::over(b"hello".as_slice());
-    for (count, text) in [(4, "hell"), (1, "o"), (0, "")] {
-        assert_eq!(rt; source.read(&mut into), Ok(count), "before {text:?}");
+    for (count, text) in steps {
+        assert_eq!(rt; source.read(&mut into), *count, "before {text:?}");
         assert!(rt; into.starts_with(text.as_bytes()), "not {text:?}");
     }
+}
+
+#[test]
+fn sources_give_bytes_and_faults(rt: HostRuntime) -> Result<(), Fail> {
+    let bytes = b"hello".to_vec(rt.alloc())?;
+    let fail_at = vec![in rt.alloc(); 1, 4]?;
+    let pieces = [
+        (Ok(3), "hel"),
+        (Err(Failed), "hel"),
+        (Ok(2), "lo"),
+        (Ok(0), ""),
+        (Err(Failed), ""),
+        (Ok(0), ""),
+    ];
+    assert_reads(&rt, &mut MemorySource::make(bytes, 3, fail_at), &pieces);
+
+    let whole = [(Ok(4), "hell"), (Ok(1), "o"), (Ok(0), "")];
+    let bytes = b"hello".to_vec(rt.alloc())?;
+    assert_reads(&rt, &mut SteadySource::make(bytes), &whole);
+    assert_reads(&rt, &mut StdSource::over(b"hello".as_slice()), &whole);
 
     let steps = [
         Ok(3),
@@ -109,19 +84,56 @@ fn a_std_source_reads_and_passes_faults_on(rt: HostRuntime) -> Result<(), Fail> 
         Err(ErrorKind::ConnectionReset),
         Ok(1),
     ];
-    let mut source = StdSource::over(Scripted { steps: &steps });
-    for count in [Ok(3), Ok(2), Err(Failed), Ok(1), Ok(0)] {
-        assert_eq!(rt; source.read(&mut into), count);
-    }
+    let counts = [
+        (Ok(3), ""),
+        (Ok(2), ""),
+        (Err(Failed), ""),
+        (Ok(1), ""),
+        (Ok(0), ""),
+    ];
+    assert_reads(
+        &rt,
+        &mut StdSource::over(Scripted { steps: &steps }),
+        &counts,
+    );
     Ok(())
 }
 
+/// A step is a write's bytes, or none for a flush, and the call's result, 0 for a flush.
+fn assert_writes<S: Sink>(
+    rt: &impl Abort,
+    sink: &mut S,
+    steps: &[(Option<&str>, Result<usize, Failed>)],
+) {
+    for (text, count) in steps {
+        let result = match text {
+            Some(text) => sink.write(text.as_bytes()),
+            None => sink.flush().map(|()| 0),
+        };
+        assert_eq!(rt; result, *count, "{text:?}");
+    }
+}
+
 #[test]
-fn a_std_sink_writes_and_passes_faults_on(rt: HostRuntime) -> Result<(), Fail> {
+fn sinks_take_bytes_and_pass_faults_on(rt: HostRuntime) -> Result<(), Fail> {
+    let fail_at = vec![in rt.alloc(); 2, 3]?;
+    let mut sink = MemorySink::make(rt.alloc(), 5, fail_at, 11)?;
+    let pieces = [
+        (Some("hello you"), Ok(5)),
+        (Some(" you"), Ok(4)),
+        (Some("!!!"), Err(Failed)),
+        (None, Err(Failed)),
+        (Some("!!!"), Ok(2)),
+        (Some("!"), Err(Failed)),
+        (Some(""), Ok(0)),
+        (None, Ok(0)),
+    ];
+    assert_writes(&rt, &mut sink, &pieces);
+    assert_eq!(rt; sink.bytes(), b"hello you!!".as_slice());
+
     let mut written = Vec::new(rt.alloc());
-    let mut sink = StdSink::over(&mut written);
-    assert_eq!(rt; sink.write(b"hello"), Ok(5));
-    assert_eq!(rt; sink.flush(), Ok(()));
+    let whole = [(Some("hello"), Ok(5)), (None, Ok(0))];
+    assert_writes(&rt, &mut StdSink::over(&mut written), &whole);
     assert_eq!(rt; written.as_slice(), b"hello".as_slice());
 
     let steps = [
@@ -133,11 +145,18 @@ fn a_std_sink_writes_and_passes_faults_on(rt: HostRuntime) -> Result<(), Fail> {
         Err(ErrorKind::Interrupted),
         Err(ErrorKind::StorageFull),
     ];
-    let mut sink = StdSink::over(Scripted { steps: &steps });
-    for count in [Ok(3), Ok(2), Err(Failed), Err(Failed)] {
-        assert_eq!(rt; sink.write(b"hello"), count);
-    }
-    assert_eq!(rt; sink.flush(), Err(Failed), "interrupted, and then full");
-    assert_eq!(rt; sink.flush(), Ok(()));
+    let results = [
+        (Some("hello"), Ok(3)),
+        (Some("hello"), Ok(2)),
+        (Some("hello"), Err(Failed)),
+        (Some("hello"), Err(Failed)),
+        (None, Err(Failed)),
+        (None, Ok(0)),
+    ];
+    assert_writes(
+        &rt,
+        &mut StdSink::over(Scripted { steps: &steps }),
+        &results,
+    );
     Ok(())
 }

@@ -1,9 +1,9 @@
--- The number of a set of bits: which bit it has, and that a number with these bits is that number.
-use Rattle.std.proofs.Common.{◌≡◌, ◌≢◌, ℕ, zero, suc, ◌<◌, ◌≤◌, ◌^◌, max, Bool, true, false, cond, if◌then◌else◌, refl, ap, sym, ◌∙◌, subst, arith}
+-- The number of a set of bits: which bits it has.
+use Rattle.std.proofs.Common.{◌≡◌, ◌≢◌, ℕ, zero, suc, ◌<◌, ◌≤◌, ◌^◌, max, Bool, true, false, cond, if◌then◌else◌, refl, ap, ◌∙◌, subst, arith}
 use Rattle.std.specs.Prelude.{nat_lt}
 use Rattle.std.specs.Int.{bit_at}
 use Rattle.std.proofs.lemmas.Bool.{ltb-true, ltb-false}
-use Rattle.std.proofs.lemmas.Nat.Bits.{bit_at-zero, bit_at_or, bit_at-pow_same, bit_at-pow_other, bit_at_above, same_from_bits}
+use Rattle.std.proofs.lemmas.Nat.Bits.{bit_at-zero, bit_at_or, bit_at-pow_same, bit_at-pow_other}
 use Rattle.nio_event.specs.Answers.{bits_below}
 
 one_bit-same : (b : Bool) (n : ℕ) → bit_at (cond b (2 ^ n) 0) n ≡ (if b then 1 else 0)
@@ -46,18 +46,3 @@ bits_below-at (suc n) test i below = bit_at_or (bits_below n test) (cond (test n
         let bit : ℕ → ℕ = λ k. if test k then 1 else 0 in
         let tests = ap bit same in
         omega (arith, rest, last, tests)
-
--- a number of n bits that has these bits is that number
-pub bits_below-is : (n : ℕ) (test : ℕ → Bool) (word : ℕ) → word < 2 ^ n → ((i : ℕ) → i < n → bit_at word i ≡ (if test i then 1 else 0)) → word ≡ bits_below n test
-bits_below-is n test word small same = same_from_bits word (bits_below n test) each
-  where
-    each : (i : ℕ) → bit_at word i ≡ bit_at (bits_below n test) i
-    each i = by_test (nat_lt i n) refl
-      where
-        by_test : (b : Bool) → nat_lt i n ≡ b → bit_at word i ≡ bit_at (bits_below n test) i
-        by_test true e =
-            let below : i < n = ltb-true i n e in
-            same i below ∙ sym (bits_below-at n test i below)
-        by_test false e =
-            let above : n ≤ i = ltb-false i n e in
-            bit_at_above word n i small above ∙ sym (bits_below-above n test i above)

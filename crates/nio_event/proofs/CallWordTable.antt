@@ -1,55 +1,51 @@
 -- The table of call words has each word, under its own text alone.
 use Rattle.std.proofs.Common.{◌≡◌, ℕ, List, [], ◌∷◌, Bool, true, false, cond, Option, Some, None, IfSome, refl, sym, subst, ◌∙◌, find}
 use Rattle.std.specs.Prelude.{⊤}
+use Rattle.std.specs.List.{list_all}
 use Rattle.std.specs.Str.{bytes_eq}
+use Rattle.std.proofs.lemmas.Bool.{and_parts}
 use Rattle.std.proofs.lemmas.Option.{none-some, same_Some}
 use Rattle.std.proofs.lemmas.Slice.Eq.{bytes_eq-Decides}
 use Rattle.nio_event.specs.CallWords.{call_word_text}
 use Rattle.nio_event.specs.Reading.{Reads}
 use Rattle.nio_event.specs.declared.call_word.CallWord.{CallWord}
-use Rattle.nio_event.specs.declared.call_word.CallWord.TheVariants.{Selector, Channel, Blocking, IsBlocking, IsOpen, IsRegistered, KeyFor, Register, Closec, Valid, Interest, Ready, Iset, Ior, Iand, Cancel, Unselect, Attach, Attachment, Begin, Told, Failed, Wakeup, Close, CloseEnd, Keys, Selected, Interrupt, Interrupted}
+use Rattle.nio_event.specs.declared.call_word.CallWord.TheVariants as word
+use Rattle.nio_event.specs.declared.call_word.ChannelWord.TheVariants as on_channel
+use Rattle.nio_event.specs.declared.call_word.KeyOpsWord.TheVariants as on_key_ops
+use Rattle.nio_event.specs.declared.call_word.KeyWord.TheVariants as on_key
+use Rattle.nio_event.specs.declared.call_word.LoneWord.TheVariants as alone
+use Rattle.nio_event.specs.declared.call_word.SelectorWord.TheVariants as on_selector
 use Rattle.nio_event.specs.declared.call_word.TheConstants.{CALL_WORDS}
 
-in_table : (w : CallWord) → find (λ v. bytes_eq (call_word_text v) (call_word_text w)) CALL_WORDS ≡ Some w
-in_table Selector = refl
-in_table Channel = refl
-in_table Blocking = refl
-in_table IsBlocking = refl
-in_table IsOpen = refl
-in_table IsRegistered = refl
-in_table KeyFor = refl
-in_table Register = refl
-in_table Closec = refl
-in_table Valid = refl
-in_table Interest = refl
-in_table Ready = refl
-in_table Iset = refl
-in_table Ior = refl
-in_table Iand = refl
-in_table Cancel = refl
-in_table Unselect = refl
-in_table Attach = refl
-in_table Attachment = refl
-in_table Begin = refl
-in_table Told = refl
-in_table Failed = refl
-in_table Wakeup = refl
-in_table Close = refl
-in_table CloseEnd = refl
-in_table Keys = refl
-in_table Selected = refl
-in_table Interrupt = refl
-in_table Interrupted = refl
+pub in_table : (w : CallWord) → find (λ v. bytes_eq (call_word_text v) (call_word_text w)) CALL_WORDS ≡ Some w
+in_table (word.Alone alone.Selector) = refl
+in_table (word.Alone _) = refl
+in_table (word.OnSelector on_selector.Failed) = refl
+in_table (word.OnSelector _) = refl
+in_table (word.OnChannel on_channel.IsBlocking) = refl
+in_table (word.OnChannel _) = refl
+in_table (word.OnKey on_key.Valid) = refl
+in_table (word.OnKey _) = refl
+in_table (word.OnKeyOps on_key_ops.Iset) = refl
+in_table (word.OnKeyOps _) = refl
+in_table _ = refl
 
-found_passes_at : {X : Type 0} (p : X → Bool) (y x : X) (rest : Option X) (b : Bool) → p y ≡ b
-    → (rest ≡ Some x → p x ≡ true) → cond b (Some y) rest ≡ Some x → p x ≡ true
-found_passes_at p y x rest true is later e = subst (λ z. p z ≡ true) (same_Some y x e) is
-found_passes_at p y x rest false is later e = later e
+-- what is found is the first element or behind it
+found_at : {X : Type 0} (q : X → Bool) (y x : X) (rest : Option X) (b : Bool) → (b ≡ true → q y ≡ true)
+    → (rest ≡ Some x → q x ≡ true) → cond b (Some y) rest ≡ Some x → q x ≡ true
+found_at q y x rest true here later e = subst (λ z. q z ≡ true) (same_Some y x e) (here refl)
+found_at q y x rest false here later e = later e
 
 found_passes : {X : Type 0} (p : X → Bool) (xs : List X) (x : X) → find p xs ≡ Some x → p x ≡ true
 found_passes p [] x e = absurd (none-some x e)
-found_passes p (y ∷ ys) x e =
-    found_passes_at p y x (find p ys) (p y) refl (found_passes p ys x) e
+found_passes p (y ∷ ys) x e = found_at p y x (find p ys) (p y) (λ is. is) (found_passes p ys x) e
+
+-- what holds of each word of the table holds of one that is found
+pub found_has : {X : Type 0} (q p : X → Bool) (xs : List X) (x : X) → list_all q xs ≡ true → find p xs ≡ Some x → q x ≡ true
+found_has q p [] x all e = absurd (none-some x e)
+found_has q p (y ∷ ys) x all e =
+    let parts = and_parts (q y) (list_all q ys) all in
+    found_at q y x (find p ys) (p y) (λ _. parts.0) (found_has q p ys x parts.1) e
 
 found_text : (text : List ℕ) (r : Option CallWord)
     → find (λ w. bytes_eq (call_word_text w) text) CALL_WORDS ≡ r

@@ -23,7 +23,7 @@ clause_nothing l Holds me events legal = record {
   ends = refl;
 }
 
-last_of-later : {A : Type 0} (xs : List A) (y : A) (ys : List A) → last_of (xs ++ y ∷ ys) ≡ last_of (y ∷ ys)
+pub last_of-later : {A : Type 0} (xs : List A) (y : A) (ys : List A) → last_of (xs ++ y ∷ ys) ≡ last_of (y ∷ ys)
 last_of-later xs y ys = fold-append (λ _ x. Some x) None xs (y ∷ ys)
 
 ends_then : (me : CallerNo) (before middle after : List Event) (first second : List Act) → EndsWith me before first middle → EndsWith me middle second after → EndsWith me before (first ++ second) after

@@ -10,7 +10,7 @@ use Rattle.std.proofs.lemmas.Bool.{ne_eqb, eq-eqb, eqb-true}
 use Rattle.std.proofs.lemmas.Bool.Decides.{nat_tests}
 use Rattle.std.proofs.lemmas.Grind.{common_steps}
 
-pub position_or_len-cut : (byte : ℕ) (before after : List ℕ) → All (λ b. b ≢ byte) before
+position_or_len-cut : (byte : ℕ) (before after : List ℕ) → All (λ b. b ≢ byte) before
     → position_or_len (λ b. b == byte) (before ++ byte ∷ after) ≡ length before
 position_or_len-cut byte before after others =
     position_or_len_is (λ b. b == byte) (before ++ byte ∷ after) (length before) 0 (omega (arith, length-append {A = ℕ}))

@@ -2,11 +2,12 @@
 use Rattle.std.proofs.Common.{◌≡◌, ℕ, ◌≤◌, ◌-◌, Bool, true, false, List, [], ◌∷◌, ◌++◌, length, get_or, take, drop, map, codes, refl, sym, ap, ◌∙◌, arith}
 use denote.Ref.{Bor}
 use Rattle.std.proofs.lemmas.List.{take_all}
-use Rattle.nio_event.specs.Calls.{elapsed_words}
+use Rattle.nio_base.specs.declared.numbers.KeyId.{KeyId}
+use Rattle.nio_event.specs.Arguments.{elapsed_words}
 use Rattle.nio_event.specs.Words.{pair_word}
 
 pub behind_elapsed : (words : List (Bor (List ℕ))) (d : Bor (List ℕ)) → 1 ≤ length words
-    → (get_or words 0 d).now ≡ codes "elapsed" → (elapsed : Bool) (pairs : List (ℕ × ℕ))
+    → (get_or words 0 d).now ≡ codes "elapsed" → (elapsed : Bool) (pairs : List (KeyId × ℕ))
     → map (λ w. w.now) words ≡ elapsed_words elapsed ++ map pair_word pairs
     → (elapsed ≡ true)
     × (map (λ w. w.now) (take (length words - 1) (drop 1 words)) ≡ map pair_word pairs)

@@ -1,12 +1,12 @@
--- What lasts: no step ends what stands in `LastingFact`. Of the kinds of step only those that change
--- a fact's part of the state are looked at; of the others the last line of each lemma speaks.
+-- What is permanent, from any state: no step ends it. Each lemma has a line for each kind of step that changes
+-- the fact's part of the state; its last line is for all the others.
 use Rattle.std.proofs.Common.{◌≡◌, ℕ, ◌<◌, Bool, true, false, ◌||◌, refl, ap, arith}
 use Rattle.nio_base.specs.declared.numbers.CallerNo.{CallerNo}
 use Rattle.nio_event.proofs.Put.{put_keeps, put_at_keeps}
 use Rattle.nio_event.specs.Acts.{effect}
 use Rattle.nio_event.specs.State.{State}
 use Rattle.nio_event.specs.declared.act.Act.{Act}
-use Rattle.nio_event.specs.declared.act.Act.TheVariants.{DrawBit, MakeSelector, Wake, CancelKey, MakeChannel, Claim, RaiseKeys, Publish, Remove, EndWake, RaiseChannels, SetMode, CloseBit, ShutBit, Enter}
+use Rattle.nio_event.specs.declared.act.Act.TheVariants.{DrawBit, MakeSelector, Wake, CancelKey, MakeChannel, Claim, RaiseKeys, Publish, Remove, EndWake, RaiseChannels, SetMode, CloseBit, ShutBit, Enter, ClaimAgain}
 
 or_left : (a b : Bool) → a ≡ true → (a || b) ≡ true
 or_left a b e = ap (λ x. x || b) e
@@ -42,6 +42,8 @@ claimed_lasts st me (Claim s' i' c true) s i h = put_at_keeps (λ _ _ k. k.claim
 claimed_lasts st me (Claim s' i' c false) s i h = put_at_keeps (λ _ _ k. k.claimed ≡ true) st.key s'.0 i' _ (λ _. refl) s i h
 claimed_lasts st me (Publish s' i' found) s i h = put_at_keeps (λ _ _ k. k.claimed ≡ true) st.key s'.0 i' _ (λ e. e) s i h
 claimed_lasts st me (Remove s' i' found) s i h = put_at_keeps (λ _ _ k. k.claimed ≡ true) st.key s'.0 i' _ (λ e. e) s i h
+claimed_lasts st me (ClaimAgain s' i' c from true) s i h = put_at_keeps (λ _ _ k. k.claimed ≡ true) st.key s'.0 i' _ (λ e. e) s i h
+claimed_lasts st me (ClaimAgain s' i' c from false) s i h = put_at_keeps (λ _ _ k. k.claimed ≡ true) st.key s'.0 i' _ (λ _. refl) s i h
 claimed_lasts st me act s i h = h
 
 pub keys_mark_lasts : (st : State) (me : CallerNo) (act : Act) (s i : ℕ) → i < st.keys_mark s → i < (effect st me act).keys_mark s

@@ -5,7 +5,7 @@ use Rattle.nio_base.specs.declared.limits.Limits.{Limits}
 use Rattle.nio_event.specs.Histories.{IsStep, IsLegal}
 use Rattle.nio_event.specs.declared.event.Event.{Event}
 
-not_empty : {A : Type 0} (xs : List A) (y : A) (ys : List A) → [] ≡ xs ++ y ∷ ys → ⊥
+pub not_empty : {A : Type 0} (xs : List A) (y : A) (ys : List A) → [] ≡ xs ++ y ∷ ys → ⊥
 not_empty [] y ys eq = cc
 not_empty (x ∷ xs) y ys eq = cc
 

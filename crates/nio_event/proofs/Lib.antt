@@ -6,7 +6,7 @@ pub mod Times
 pub mod CallWordTable
 pub mod PairLists
 pub mod Elapsed
-pub mod CallWordDispatch
+pub mod CallParts
 pub mod PlainWords
 pub mod Spaces
 pub mod LineTexts
@@ -17,6 +17,8 @@ pub mod Legal
 pub mod Put
 pub mod OneMore
 pub mod Lasts
+pub mod KeyChanges
+pub mod Claims
 pub mod Told
 pub mod Soundness
 pub mod LastsOnceSound
@@ -25,7 +27,18 @@ pub mod Stays
 pub mod TurnLaws
 pub mod WorkedSteps
 pub mod Within
+pub mod Counts
+pub mod PinLaws
+pub mod SelectedKeys
 pub mod Bits
 pub mod Clauses
+pub mod PassViews
 pub mod Asked
 pub mod Holder
+pub mod Keeping
+pub mod Holds
+pub mod Unpublished
+pub mod Selections
+pub mod Finds
+pub mod OwnPins
+pub mod OwnTaken

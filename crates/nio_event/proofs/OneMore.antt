@@ -1,16 +1,16 @@
 -- What one event more does to a history's state, to a caller's own events, and to each general word
 -- over them.
-use Rattle.std.proofs.Common.{zero-add, ◌+◌, ◌≡◌, Bool, true, false, cond, ◌||◌, if◌then◌else◌, Option, None, List, [], ◌∷◌, ◌++◌, map, refl, ap, ◌∙◌}
+use Rattle.std.proofs.Common.{◌≡◌, Bool, true, false, cond, ◌||◌, if◌then◌else◌, Option, None, List, [], ◌∷◌, ◌++◌, map, refl, ap, ◌∙◌}
 use Rattle.std.specs.List.{filter}
 use Rattle.std.specs.Option.{option_or}
 use Rattle.std.proofs.lemmas.List.{map-append, append-nil}
 use Rattle.std.proofs.lemmas.List.Elements.{filter-append}
 use Rattle.std.proofs.lemmas.List.Folds.{list_any-append}
-use Rattle.std.proofs.lemmas.List.Sums.{fold-append, sum_by-append}
+use Rattle.std.proofs.lemmas.List.Sums.{fold-append}
 use Rattle.nio_base.specs.declared.numbers.CallerNo.{CallerNo}
 use Rattle.nio_event.specs.Acts.{effect}
 use Rattle.nio_event.specs.Histories.{state_after, is_by, mine}
-use Rattle.nio_event.specs.OwnEvents.{has, count, last, since_from, since_first}
+use Rattle.nio_event.specs.OwnEvents.{has, last, since_from, since_first}
 use Rattle.nio_event.specs.State.{opening}
 use Rattle.nio_event.specs.declared.act.Act.{Act}
 use Rattle.nio_event.specs.declared.event.Event.{Event}
@@ -35,9 +35,6 @@ has-more p own act = list_any-append p own (act ∷ []) ∙ ap (λ b. has p own 
     or-false true = refl
     or-false false = refl
 
-pub count-more : (p : Act → Bool) (own : List Act) (act : Act) → count p (own ++ act ∷ []) ≡ count p own + (if p act then 1 else 0)
-count-more p own act = sum_by-append (λ a. cond (p a) 1 0) own (act ∷ []) ∙ ap (λ k. count p own + k) (zero-add (cond (p act) 1 0))
-
 pub last-more : {A : Type 0} (tells : Act → Option A) (own : List Act) (act : Act) → last tells (own ++ act ∷ []) ≡ option_or (tells act) (last tells own)
 last-more tells own act = fold-append (λ told act'. option_or (tells act') told) None own (act ∷ [])
 
@@ -45,21 +42,7 @@ pub since_from-more : (opens : Act → Bool) (own : List Act) (act : Act)
     → since_from opens (own ++ act ∷ []) ≡ (if opens act then [] else since_from opens own ++ act ∷ [])
 since_from-more opens own act = fold-append (λ since act'. if opens act' then [] else since ++ act' ∷ []) [] own (act ∷ [])
 
-pub since_first-more : (opens : Act → Bool) (own : List Act) (act : Act)
-    → since_first opens (own ++ act ∷ []) ≡ (if has opens own then since_first opens own ++ act ∷ [] else [])
-since_first-more opens [] act = by_test (opens act)
-  where
-    by_test : (b : Bool) → cond {A = List Act} b [] [] ≡ []
-    by_test true = refl
-    by_test false = refl
-since_first-more opens (x ∷ own) act = by_test (opens x) (since_first-more opens own act)
-  where
-    by_test : (b : Bool) → since_first opens (own ++ act ∷ []) ≡ (if has opens own then since_first opens own ++ act ∷ [] else [])
-        → (if b then own ++ act ∷ [] else since_first opens (own ++ act ∷ [])) ≡ (if b || has opens own then (if b then own else since_first opens own) ++ act ∷ [] else [])
-    by_test true more = refl
-    by_test false more = more
-
--- what was done in a span was done
+-- an act of a span is one of all acts
 pub has-since_first : (p opens : Act → Bool) (own : List Act) → has p (since_first opens own) ≡ true → has p own ≡ true
 has-since_first p opens [] h = h
 has-since_first p opens (x ∷ own) h = or_right (p x) (has p own) (by_test (opens x) h (has-since_first p opens own))

@@ -3,6 +3,7 @@ use Rattle.std.proofs.Common.{◌≡◌, ◌≢◌, ℕ, zero, suc, ◌+◌, ℤ
 use Rattle.std.specs.Fmt.{decimal, signed_decimal, digits, digits_onto, digit_glyph}
 use Rattle.std.specs.Int.{IsInRange}
 use Rattle.std.specs.List.{AllByRecursion, list_all}
+use Rattle.std.specs.Str.{bytes_eq}
 use Rattle.std.proofs.lemmas.Bool.{and_parts, cond_both, eq-eqb, false≢true, leb-true, lt-ltb}
 use Rattle.std.proofs.lemmas.List.Elements.{All-append, All-cons, All-from_recursion, All-nil, All-weaker, recursion_from_All}
 use Rattle.std.proofs.lemmas.List.Sums.{AllPass-from_list_all}
@@ -10,21 +11,26 @@ use Rattle.nio_base.specs.declared.kind.Kind.{Kind}
 use Rattle.nio_base.specs.declared.kind.Kind.TheVariants.{Stream, Listener, Source, Sink}
 use Rattle.nio_base.specs.declared.numbers.CallerNo.{CallerNo}
 use Rattle.nio_base.specs.declared.numbers.ChanNo.{ChanNo}
+use Rattle.nio_base.specs.declared.numbers.KeyId.{KeyId}
 use Rattle.nio_base.specs.declared.numbers.SelNo.{SelNo}
-use Rattle.nio_event.specs.Calls.{attachment_words, call_words, elapsed_words, mode_word, waiting_words}
+use Rattle.nio_event.specs.Arguments.{Arguments, nothing, one_caller, one_selector, one_channel, one_kind, channel_mode, channel_selector, registration, selector_key, key_ops, key_number, selector_wait, selector_told, argument_words, attachment_words, elapsed_words, mode_word, waiting_words}
+use Rattle.nio_event.specs.Calls.{call_words}
+use Rattle.nio_event.specs.CallWords.{arguments, call_word, call_word_text}
 use Rattle.nio_event.specs.Replies.{pairs_words, reply_words, why_word}
 use Rattle.nio_event.specs.Words.{caller_word, channel_word, key_word, kind_word, pair_word, selector_word}
 use Rattle.nio_event.specs.declared.call.Call.{Call}
-use Rattle.nio_event.specs.declared.call.Call.TheVariants.{Selector, Channel, Blocking, IsBlocking, IsOpen, IsRegistered, KeyFor, Register, Closec, Valid, Interest, Ready, Iset, Ior, Iand, Cancel, Unselect, Attach, Attachment, Begin, Told, Failed, Wakeup, Close, CloseEnd, Keys, Selected, Interrupt, Interrupted}
 use Rattle.nio_event.specs.declared.call.Waiting.{Waiting}
 use Rattle.nio_event.specs.declared.call.Waiting.TheVariants.{Now, Wait, For}
 use Rattle.nio_event.specs.declared.reply.Reply.{Reply}
 use Rattle.nio_event.specs.declared.reply.Reply.TheVariants as reply
 use Rattle.nio_event.specs.declared.reply.Why.{Why}
 use Rattle.nio_event.specs.declared.reply.Why.TheVariants as why
-use Rattle.nio_event.proofs.NameWords.{pair_word_cut}
+use Rattle.nio_event.specs.declared.call_word.CallWord.{CallWord}
+use Rattle.nio_event.specs.declared.call_word.TheConstants.{CALL_WORDS}
+use Rattle.nio_event.proofs.CallWordTable.{found_has, in_table}
+use Rattle.nio_event.proofs.NameWords.{KeyForm, first, later, index_word, key_form, pair_word_cut}
 
--- a digit, a small letter, `-` and `:` are plain
+-- a digit, a small letter, `-`, `.` and `:` are plain
 abbrev pub IsPlainByte : ℕ → Type 0
 IsPlainByte b = (45 ≤ b) × (b ≢ 62)
 
@@ -85,10 +91,19 @@ selector_plain s = numbered_plain 115 s.0 (omega arith, omega arith)
 channel_plain : (c : ChanNo) → IsPlain (channel_word c)
 channel_plain c = numbered_plain 99 c.0 (omega arith, omega arith)
 
-key_plain : (i : ℕ) → IsPlain (key_word i)
-key_plain i = numbered_plain 107 i (omega arith, omega arith)
+key_plain : (k : KeyId) → IsPlain (key_word k)
+key_plain k = by_form (key_form k)
+  where
+    index : IsPlain (index_word k.index)
+    index = numbered_plain 107 k.index (omega arith, omega arith)
 
-pair_plain : (p : ℕ × ℕ) → IsPlain (pair_word p)
+    by_form : KeyForm k → IsPlain (key_word k)
+    by_form (first zeroth is) = subst IsPlain (sym is) index
+    by_form (later some is) =
+        subst IsPlain (sym is)
+        (All-append IsPlainByte (index_word k.index) (46 ∷ decimal k.serial) index (numbered_plain 46 k.serial (omega arith, omega arith)))
+
+pair_plain : (p : KeyId × ℕ) → IsPlain (pair_word p)
 pair_plain p =
     subst IsPlain (sym (pair_word_cut p))
     (All-append IsPlainByte (key_word p.0) (58 ∷ decimal p.1) (key_plain p.0) (numbered_plain 58 p.1 (omega arith, omega arith)))
@@ -118,51 +133,38 @@ attachment_plain : (att : Option ℕ) → AllByRecursion IsPlain (attachment_wor
 attachment_plain None = tt
 attachment_plain (Some att) = (decimal_plain att, tt)
 
-pairs_plain : (pairs : List (ℕ × ℕ)) → AllByRecursion IsPlain (map pair_word pairs)
+pairs_plain : (pairs : List (KeyId × ℕ)) → AllByRecursion IsPlain (map pair_word pairs)
 pairs_plain [] = tt
 pairs_plain (p ∷ pairs) = (pair_plain p, pairs_plain pairs)
 
-told_plain : (elapsed : Bool) (pairs : List (ℕ × ℕ)) → AllByRecursion IsPlain (elapsed_words elapsed ++ map pair_word pairs)
+told_plain : (elapsed : Bool) (pairs : List (KeyId × ℕ)) → AllByRecursion IsPlain (elapsed_words elapsed ++ map pair_word pairs)
 told_plain true pairs = (literal (codes "elapsed") refl, pairs_plain pairs)
 told_plain false pairs = pairs_plain pairs
 
-selector_key_plain : (s : SelNo) (k : ℕ) → AllByRecursion IsPlain (selector_word s ∷ key_word k ∷ [])
-selector_key_plain s k = (selector_plain s, (key_plain k, tt))
+arguments_plain : (args : Arguments) → AllByRecursion IsPlain (argument_words args)
+arguments_plain nothing = tt
+arguments_plain (one_caller t) = (caller_plain t, tt)
+arguments_plain (one_selector s) = (selector_plain s, tt)
+arguments_plain (one_channel c) = (channel_plain c, tt)
+arguments_plain (one_kind kind) = (kind_plain kind, tt)
+arguments_plain (channel_mode c on) = (channel_plain c, (mode_plain on, tt))
+arguments_plain (channel_selector c s) = (channel_plain c, (selector_plain s, tt))
+arguments_plain (registration s c ops att) =
+    (selector_plain s, (channel_plain c, (decimal_plain ops, attachment_plain att)))
+arguments_plain (selector_key s k) = (selector_plain s, (key_plain k, tt))
+arguments_plain (key_ops s k ops) = (selector_plain s, (key_plain k, (decimal_plain ops, tt)))
+arguments_plain (key_number s k n) = (selector_plain s, (key_plain k, (decimal_plain n, tt)))
+arguments_plain (selector_wait s waiting) = (selector_plain s, waiting_plain waiting)
+arguments_plain (selector_told s elapsed pairs) = (selector_plain s, told_plain elapsed pairs)
 
-key_number_plain : (s : SelNo) (k n : ℕ) → AllByRecursion IsPlain (selector_word s ∷ key_word k ∷ decimal n ∷ [])
-key_number_plain s k n = (selector_plain s, (key_plain k, (decimal_plain n, tt)))
+-- each word of the table is plain
+word_plain : (w : CallWord) → IsPlain (call_word_text w)
+word_plain w =
+    literal (call_word_text w)
+    (found_has (λ v. list_all is_plain_byte (call_word_text v)) (λ v. bytes_eq (call_word_text v) (call_word_text w)) CALL_WORDS w refl (in_table w))
 
 pub call_plain : (call : Call) → AllByRecursion IsPlain (call_words call)
-call_plain Selector = (literal (codes "selector") refl, tt)
-call_plain (Channel kind) = (literal (codes "channel") refl, (kind_plain kind, tt))
-call_plain (Blocking c on) = (literal (codes "blocking") refl, (channel_plain c, (mode_plain on, tt)))
-call_plain (IsBlocking c) = (literal (codes "is-blocking") refl, (channel_plain c, tt))
-call_plain (IsOpen c) = (literal (codes "is-open") refl, (channel_plain c, tt))
-call_plain (IsRegistered c) = (literal (codes "is-registered") refl, (channel_plain c, tt))
-call_plain (KeyFor c s) = (literal (codes "key-for") refl, (channel_plain c, (selector_plain s, tt)))
-call_plain (Register s c ops att) =
-    (literal (codes "register") refl, (selector_plain s, (channel_plain c, (decimal_plain ops, attachment_plain att))))
-call_plain (Closec c) = (literal (codes "closec") refl, (channel_plain c, tt))
-call_plain (Valid s k) = (literal (codes "valid") refl, selector_key_plain s k)
-call_plain (Interest s k) = (literal (codes "interest") refl, selector_key_plain s k)
-call_plain (Ready s k) = (literal (codes "ready") refl, selector_key_plain s k)
-call_plain (Iset s k ops) = (literal (codes "iset") refl, key_number_plain s k ops)
-call_plain (Ior s k ops) = (literal (codes "ior") refl, key_number_plain s k ops)
-call_plain (Iand s k ops) = (literal (codes "iand") refl, key_number_plain s k ops)
-call_plain (Cancel s k) = (literal (codes "cancel") refl, selector_key_plain s k)
-call_plain (Unselect s k) = (literal (codes "unselect") refl, selector_key_plain s k)
-call_plain (Attach s k att) = (literal (codes "attach") refl, key_number_plain s k att)
-call_plain (Attachment s k) = (literal (codes "attachment") refl, selector_key_plain s k)
-call_plain (Begin s waiting) = (literal (codes "begin") refl, (selector_plain s, waiting_plain waiting))
-call_plain (Told s elapsed pairs) = (literal (codes "told") refl, (selector_plain s, told_plain elapsed pairs))
-call_plain (Failed s) = (literal (codes "failed") refl, (selector_plain s, tt))
-call_plain (Wakeup s) = (literal (codes "wakeup") refl, (selector_plain s, tt))
-call_plain (Close s) = (literal (codes "close") refl, (selector_plain s, tt))
-call_plain (CloseEnd s) = (literal (codes "close-end") refl, (selector_plain s, tt))
-call_plain (Keys s) = (literal (codes "keys") refl, (selector_plain s, tt))
-call_plain (Selected s) = (literal (codes "selected") refl, (selector_plain s, tt))
-call_plain (Interrupt t) = (literal (codes "interrupt") refl, (caller_plain t, tt))
-call_plain Interrupted = (literal (codes "interrupted") refl, tt)
+call_plain call = (word_plain (call_word call), arguments_plain (arguments call))
 
 -- the words of replies
 
@@ -174,18 +176,18 @@ why_plain why.Woken = literal (codes "woken") refl
 why_plain why.Interrupted = literal (codes "interrupted") refl
 why_plain why.Elapsed = literal (codes "elapsed") refl
 
-keys_plain : (keys : List ℕ) → AllByRecursion IsPlain (map key_word keys)
+keys_plain : (keys : List KeyId) → AllByRecursion IsPlain (map key_word keys)
 keys_plain [] = tt
 keys_plain (k ∷ keys) = (key_plain k, keys_plain keys)
 
-looked_plain : (pairs : List (ℕ × ℕ)) → AllByRecursion IsPlain (pairs_words pairs)
+looked_plain : (pairs : List (KeyId × ℕ)) → AllByRecursion IsPlain (pairs_words pairs)
 looked_plain [] = (literal (codes "none") refl, tt)
 looked_plain (p ∷ pairs) = pairs_plain (p ∷ pairs)
 
 pub reply_words_plain : (r : Reply) → AllByRecursion IsPlain (reply_words r)
 reply_words_plain (reply.Selector s) = (selector_plain s, tt)
 reply_words_plain (reply.Channel c) = (channel_plain c, tt)
-reply_words_plain (reply.Key i) = (key_plain i, tt)
+reply_words_plain (reply.Key k) = (key_plain k, tt)
 reply_words_plain (reply.Number n) = (decimal_plain n, tt)
 reply_words_plain (reply.Names keys) = keys_plain keys
 reply_words_plain reply.«Ok» = (literal (codes "ok") refl, tt)

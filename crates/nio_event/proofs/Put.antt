@@ -44,6 +44,14 @@ put-same f i x = ap (λ b. cond b x (f i)) (eq-eqb i i refl)
 pub put_at-same : {A : Type 0} (f : ℕ → ℕ → A) (i j : ℕ) (x : A) → put_at f i j x i j ≡ x
 put_at-same f i j x = ap (λ b. cond b x (f i j)) (and_from (i == i) (j == j) (eq-eqb i i refl) (eq-eqb j j refl))
 
+-- what is put at a pair of numbers stands there
+pub put_at-there : {A : Type 0} (f : ℕ → ℕ → A) (i j : ℕ) (x : A) (m n : ℕ) → ((i == m) && (j == n)) ≡ true → put_at f i j x m n ≡ x
+put_at-there f i j x m n here =
+    let both = and_parts (i == m) (j == n) here in
+    let first : i ≡ m = eqb-true i m both.0 in
+    let second : j ≡ n = eqb-true j n both.1 in
+    subst (λ (k : ℕ). put_at f i j x k n ≡ x) first (subst (λ (k : ℕ). put_at f i j x i k ≡ x) second (put_at-same f i j x))
+
 -- a fact of what stands at a number in two functions stays where both new values have it
 pub put_both : {A B : Type 0} (R : ℕ → A → B → Type 0) (f : ℕ → A) (g : ℕ → B) (i : ℕ) (x : A) (y : B) → R i x y
     → (n : ℕ) → R n (f n) (g n) → R n (put f i x n) (put g i y n)
@@ -52,3 +60,23 @@ put_both {A = A} {B = B} R f g i x y new n here = by_test (n == i) refl
     by_test : (b : Bool) → (n == i) ≡ b → R n (cond b x (f n)) (cond b y (g n))
     by_test true e = subst (λ (k : ℕ). R k x y) (sym (eqb-true n i e)) new
     by_test false e = here
+
+-- the same at a pair of numbers; the two facts of old values may be used
+pub put_at_both : {A B : Type 0} (R : ℕ → ℕ → A → B → Type 0) (f : ℕ → ℕ → A) (g : ℕ → ℕ → B) (i j : ℕ) (x : A) (y : B) → (R i j (f i j) (g i j) → R i j x y)
+    → (m n : ℕ) → R m n (f m n) (g m n) → R m n (put_at f i j x m n) (put_at g i j y m n)
+put_at_both {A = A} {B = B} R f g i j x y new m n here = by_test ((m == i) && (n == j)) refl
+  where
+    by_test : (b : Bool) → ((m == i) && (n == j)) ≡ b → R m n (cond b x (f m n)) (cond b y (g m n))
+    by_test true e =
+        let both = and_parts (m == i) (n == j) e in
+        let first : m ≡ i = eqb-true m i both.0 in
+        let second : n ≡ j = eqb-true n j both.1 in
+        let there : R i j (f i j) (g i j) = subst (λ (k : ℕ). R i k (f i k) (g i k)) second (subst (λ (k : ℕ). R k n (f k n) (g k n)) first here) in
+        subst (λ (k : ℕ). R k n x y) (sym first) (subst (λ (k : ℕ). R i k x y) (sym second) (new there))
+    by_test false e = here
+
+-- a fact of what stands at three numbers, of which the last is changed alone
+pub put_pin_keeps : {A : Type 0} (R : ℕ → ℕ → ℕ → A → Type 0) (f : ℕ → ℕ → ℕ → A) (i j k : ℕ) (x : A) → (R i j k (f i j k) → R i j k x)
+    → (m n o : ℕ) → R m n o (f m n o) → R m n o (put_at f i j (put (f i j) k x) m n o)
+put_pin_keeps {A = A} R f i j k x new m n o = put_at_keeps (λ m' n' g. R m' n' o (g o)) f i j (put (f i j) k x)
+    (put_keeps (R i j) (f i j) k x new o) m n

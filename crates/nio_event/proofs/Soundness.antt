@@ -1,24 +1,27 @@
 -- The state after every legal history is sound: each step keeps each fact.
 use Rattle.std.proofs.Common.{◌≡◌, ℕ, ◌<◌, ◌≤◌, max, Bool, true, false, ◌&&◌, ◌||◌, not, ◌⊎◌, inl, inr, Option, Some, None, is_some, is_none, List, refl, ap, sym, ◌∙◌, subst, arith}
 use Rattle.std.specs.Prelude.{nat_lt}
-use Rattle.std.proofs.lemmas.Bool.{and_parts, ltb-true, ltb-false}
+use Rattle.std.proofs.lemmas.Bool.{and_parts, and_from, ltb-true, ltb-false}
 use Rattle.nio_base.specs.declared.limits.Limits.{Limits}
 use Rattle.nio_base.specs.declared.numbers.CallerNo.{CallerNo}
 use Rattle.nio_base.specs.declared.numbers.SelNo.{SelNo}
+use Rattle.nio_event.proofs.Claims.{claim_pinned}
+use Rattle.nio_event.proofs.KeyChanges.{KeepsStages, stages_keep, back_parts, published_already, cancelled_already, removed_already}
 use Rattle.nio_event.proofs.Lasts.{shut_lasts, made_lasts, claimed_lasts}
 use Rattle.nio_event.proofs.Legal.{legal_induction}
 use Rattle.nio_event.proofs.OneMore.{state_after-more, has-since_first}
-use Rattle.nio_event.proofs.Put.{put_keeps, put_at_keeps, put_both}
-use Rattle.nio_event.proofs.Told.{either, claimed_told, below_told}
-use Rattle.nio_event.specs.Acts.{effect, new_key, taken_by}
+use Rattle.nio_event.proofs.Put.{put_keeps, put_at_keeps, put_both, put_at_both, put_pin_keeps}
+use Rattle.nio_event.proofs.Told.{either, below_told}
+use Rattle.nio_event.specs.Acts.{effect, taken_by, frees_index}
 use Rattle.nio_event.specs.Answers.{Answers}
-use Rattle.nio_event.specs.Conditions.{Condition, is_held_by, has_begun, has_entered, may_sweep, may_clear_out}
+use Rattle.nio_event.specs.Conditions.{Condition, is_held_by, is_closer, has_begun, has_entered, has_taken, may_sweep, may_put_due, may_publish, may_clear_out}
 use Rattle.nio_event.specs.Histories.{state_after, mine, IsStep, IsLegal}
-use Rattle.nio_event.specs.OwnEvents.{has, enters, finds_below, since_entered}
+use Rattle.nio_event.specs.OwnEvents.{OwnClaim, has, enters, finds_below, since_entered, own_claim}
+use Rattle.nio_event.specs.Sets.{in_cancelled_set, can_come_back}
 use Rattle.nio_event.specs.Sound.{IsSound}
-use Rattle.nio_event.specs.State.{State, opening, unmade_channel, unclaimed, put_at}
+use Rattle.nio_event.specs.State.{State, opening, unmade_channel, unclaimed, last_serial}
 use Rattle.nio_event.specs.declared.act.Act.{Act}
-use Rattle.nio_event.specs.declared.act.Act.TheVariants.{CancelKey, MakeChannel, Claim, RaiseKeys, Publish, TakeTurn, BeginLook, GiveTurn, Remove, RaiseChannels, TryHoldBit, Release, SetMode, CloseBit, ShutBit, Enter}
+use Rattle.nio_event.specs.declared.act.Act.TheVariants.{CancelKey, MakeChannel, Claim, RaiseKeys, Publish, TakeTurn, BeginLook, GiveTurn, Remove, RaiseChannels, TryHoldBit, Release, SetMode, CloseBit, ShutBit, Enter, Pin, Unpin, ClaimAgain, PutFree, TakeFree}
 use Rattle.nio_event.specs.declared.event.Event.{Event}
 use Rattle.nio_event.specs.declared.found.Stage.{Stage}
 
@@ -31,7 +34,7 @@ below_max a b c h = by_test (nat_lt c a) refl
         let not_below : a ≤ c = ltb-false c a e in
         inr (omega arith)
 
--- whoever is there is there
+-- a place that a caller holds isn't free
 pub held_some : (me : CallerNo) (o : Option CallerNo) → is_held_by me o ≡ true → is_some o ≡ true
 held_some me None h = absurd cc
 held_some me (Some n) h = refl
@@ -40,7 +43,7 @@ taken_some : (me : CallerNo) (o : Option CallerNo) → is_some (taken_by me o) �
 taken_some me None = refl
 taken_some me (Some n) = refl
 
-not_true : (b : Bool) → (b ≡ true → ⊥) → b ≡ false
+pub not_true : (b : Bool) → (b ≡ true → ⊥) → b ≡ false
 not_true true no_way = absurd (no_way refl)
 not_true false no_way = refl
 
@@ -63,6 +66,14 @@ beyond-claimed st sound s i beyond = by_test (st.key s i).claimed refl
     by_test : (b : Bool) → (st.key s i).claimed ≡ b → (st.key s i).claimed ≡ true
     by_test true e = e
     by_test false e = absurd (both_ways ((st.key s i).published || (st.key s i).cancelled || (st.key s i).removed) beyond (ap (λ k. k.published || k.cancelled || k.removed) (sound.unclaimed_bare s i e)))
+
+-- an index that a caller has a pin on is claimed
+pub pinned-claimed : (st : State) → IsSound st → (s i n : ℕ) → st.pinned s i n ≡ true → (st.key s i).claimed ≡ true
+pinned-claimed st sound s i n pinned = by_test (st.key s i).claimed refl
+  where
+    by_test : (b : Bool) → (st.key s i).claimed ≡ b → (st.key s i).claimed ≡ true
+    by_test true e = e
+    by_test false e = absurd (both_ways (st.pinned s i n) pinned (sound.unclaimed_unpinned s i n e))
 
 channels_below_step : (l : Limits) (own : List Act) (st : State) (me : CallerNo) (act : Act) → Condition l own st me act → IsSound st
     → (c : ℕ) → c < (effect st me act).channels_mark → ((effect st me act).chan c).made ≡ true
@@ -145,6 +156,36 @@ begun_open_step st me act answers sound s = sound.begun_open s
 
 -- ---- the stages of keys
 
+-- a key of the cancelled set
+pub record IsCancelled (k : Stage) : Type 0 where
+  pub published : k.published ≡ true
+  pub not_removed : k.removed ≡ false
+  pub cancelled : k.cancelled ≡ true
+
+pub cancelled_parts : (k : Stage) → in_cancelled_set k ≡ true → IsCancelled k
+cancelled_parts k in_set =
+    let both = and_parts (k.published && not k.removed) k.cancelled in_set in
+    let first_two = and_parts k.published (not k.removed) both.0 in
+    record { published = first_two.0; not_removed = not_true k.removed (λ e. unless k.removed e first_two.1); cancelled = both.1 }
+  where
+    unless : (b : Bool) → b ≡ true → not b ≡ true → ⊥
+    unless true e f = cc
+    unless false e f = cc
+
+-- who may remove a key: a selecting caller a key of the cancelled set, and a closer that has entered an index that
+-- it found below the mark
+pub may_remove : (st : State) (own : List Act) (me : CallerNo) (s : SelNo) (i : ℕ) → (may_sweep st me s i || may_clear_out st own me s i) ≡ true
+    → ((has_begun st me s ≡ true) × IsCancelled (st.key s.0 i)) ⊎ ((st.entered s.0 ≡ true) × (has (finds_below s.0 i) (since_entered s.0 own) ≡ true))
+may_remove st own me s i may =
+    elim (either (may_sweep st me s i) (may_clear_out st own me s i) may) [
+      | inl sweep ↦
+          let both = and_parts (has_begun st me s) (in_cancelled_set (st.key s.0 i)) sweep in
+          inl (both.0, cancelled_parts (st.key s.0 i) both.1)
+      | inr clear ↦
+          let both = and_parts (has_entered st me s) (has (finds_below s.0 i) (since_entered s.0 own)) clear in
+          inr ((and_parts (is_closer st me s) (st.entered s.0) both.0).1, both.1)
+    ]
+
 -- what may be removed is claimed
 remove_claimed : (l : Limits) (past : List Event) (me : CallerNo) (s : SelNo) (i : ℕ) → IsLegal l past → IsSound (state_after past)
     → (may_sweep (state_after past) me s i || may_clear_out (state_after past) (mine me past) me s i) ≡ true
@@ -152,36 +193,253 @@ remove_claimed : (l : Limits) (past : List Event) (me : CallerNo) (s : SelNo) (i
 remove_claimed l past me s i legal sound may =
     let st : State = state_after past in
     let key : Stage = st.key s.0 i in
-    elim (either (may_sweep st me s i) (may_clear_out st (mine me past) me s i) may) [
-      | inl sweep ↦
-          let published = (and_parts (has_begun st me s) key.published (and_parts (has_begun st me s && key.published) key.cancelled sweep).0).1 in
-          beyond-claimed st sound s.0 i (ap (λ b. b || key.cancelled || key.removed) published)
-      | inr clear ↦
-          let below = (and_parts (has_entered st me s) (has (finds_below s.0 i) (since_entered s.0 (mine me past))) clear).1 in
-          sound.keys_below s.0 i (below_told l me past s.0 i legal (has-since_first (finds_below s.0 i) (enters s.0) (mine me past) below))
+    elim (may_remove st (mine me past) me s i may) [
+      | inl sweep ↦ beyond-claimed st sound s.0 i (ap (λ b. b || key.cancelled || key.removed) sweep.1.published)
+      | inr clear ↦ sound.keys_below s.0 i (below_told l me past s.0 i legal (has-since_first (finds_below s.0 i) (enters s.0) (mine me past) clear.1))
     ]
+
+-- who may publish the key of an index has a claim of it, and a pin on it
+publish_claimed : (l : Limits) (past : List Event) (me : CallerNo) (s : SelNo) (i : ℕ) → IsLegal l past → IsSound (state_after past)
+    → may_publish (state_after past) (mine me past) me (own_claim s.0 i (mine me past)) ≡ true → ((state_after past).key s.0 i).claimed ≡ true
+publish_claimed l past me s i legal sound may = by_claim (own_claim s.0 i (mine me past)) refl may
+  where
+    by_claim : (x : Option OwnClaim) → own_claim s.0 i (mine me past) ≡ x → may_publish (state_after past) (mine me past) me x ≡ true → ((state_after past).key s.0 i).claimed ≡ true
+    by_claim None is may' = absurd cc
+    by_claim (Some claim) is may' = pinned-claimed (state_after past) sound s.0 i me.0 (claim_pinned l me past s.0 i claim legal is)
 
 unclaimed_bare_step : (l : Limits) (past : List Event) (e : Event) → IsLegal l past → IsStep l past e → IsSound (state_after past)
     → (s i : ℕ) → ((effect (state_after past) e.caller e.act).key s i).claimed ≡ false → (effect (state_after past) e.caller e.act).key s i ≡ unclaimed
-unclaimed_bare_step l past e legal step sound s i = by_act e.act step.condition
+unclaimed_bare_step l past e legal step sound s i =
+    stages_keep (Condition l (mine e.caller past) st e.caller) st e.caller (λ _ _ k. k.claimed ≡ false → k ≡ unclaimed) (record {
+      claimed = λ s' i' c _ _ e'. absurd cc;
+      published = λ s' i' found may _ e'. absurd (both_ways (st.key s'.0 i').claimed (publish_claimed l past e.caller s' i' legal sound may.1) e');
+      cancelled = λ s' i' found may _ e'. absurd (both_ways (st.key s'.0 i').claimed may.1 e');
+      removed = λ s' i' found may _ e'. absurd (both_ways (st.key s'.0 i').claimed (remove_claimed l past e.caller s' i' legal sound may.1) e');
+      again = λ s' i' c from may _ _ e'. absurd cc;
+    }) e.act step.condition step.answers s i (sound.unclaimed_bare s i)
   where
-    keeps : (s' : SelNo) (i' : ℕ) (k : Stage) → ((((state_after past).key s'.0 i').claimed ≡ false → (state_after past).key s'.0 i' ≡ unclaimed) → k.claimed ≡ false → k ≡ unclaimed)
-        → (put_at (state_after past).key s'.0 i' k s i).claimed ≡ false → put_at (state_after past).key s'.0 i' k s i ≡ unclaimed
-    keeps s' i' k new = put_at_keeps (λ _ _ x. x.claimed ≡ false → x ≡ unclaimed) (state_after past).key s'.0 i' k new s i (sound.unclaimed_bare s i)
+    st : State
+    st = state_after past
 
-    by_act : (act : Act) → Condition l (mine e.caller past) (state_after past) e.caller act
-        → ((effect (state_after past) e.caller act).key s i).claimed ≡ false → (effect (state_after past) e.caller act).key s i ≡ unclaimed
-    by_act (CancelKey s' i' found) may =
-        keeps s' i' (record ((state_after past).key s'.0 i') { cancelled = true }) (λ _ e'. absurd (both_ways ((state_after past).key s'.0 i').claimed may.1 e'))
-    by_act (Claim s' i' c true) may = keeps s' i' ((state_after past).key s'.0 i') (λ old. old)
-    by_act (Claim s' i' c false) may = keeps s' i' (new_key c) (λ _ e'. absurd cc)
-    by_act (Publish s' i' found) may =
-        keeps s' i' (record ((state_after past).key s'.0 i') { published = true })
-        (λ _ e'. absurd (both_ways ((state_after past).key s'.0 i').claimed (claimed_told l e.caller past s'.0 i' legal may.1) e'))
-    by_act (Remove s' i' found) may =
-        keeps s' i' (record ((state_after past).key s'.0 i') { removed = true })
-        (λ _ e'. absurd (both_ways ((state_after past).key s'.0 i').claimed (remove_claimed l past e.caller s' i' legal sound may.1) e'))
-    by_act act may = sound.unclaimed_bare s i
+-- ---- pins
+
+unclaimed_unpinned_step : (l : Limits) (own : List Act) (st : State) (me : CallerNo) (act : Act) → Condition l own st me act → IsSound st
+    → (s i n : ℕ) → ((effect st me act).key s i).claimed ≡ false → (effect st me act).pinned s i n ≡ false
+unclaimed_unpinned_step l own st me (CancelKey s' i' found) may sound s i n =
+    put_at_keeps (λ a b k. k.claimed ≡ false → st.pinned a b n ≡ false) st.key s'.0 i' _ (λ old. old) s i (sound.unclaimed_unpinned s i n)
+unclaimed_unpinned_step l own st me (Publish s' i' found) may sound s i n =
+    put_at_keeps (λ a b k. k.claimed ≡ false → st.pinned a b n ≡ false) st.key s'.0 i' _ (λ old. old) s i (sound.unclaimed_unpinned s i n)
+unclaimed_unpinned_step l own st me (Remove s' i' found) may sound s i n =
+    put_at_keeps (λ a b k. k.claimed ≡ false → st.pinned a b n ≡ false) st.key s'.0 i' _ (λ old. old) s i (sound.unclaimed_unpinned s i n)
+unclaimed_unpinned_step l own st me (Claim s' i' c true) may sound s i n =
+    put_at_both (λ _ _ k g. k.claimed ≡ false → g n ≡ false) st.key st.pinned s'.0 i' _ _
+    (λ old e. put_keeps (λ _ b. b ≡ false) (st.pinned s'.0 i') me.0 _ (λ e'. ap (λ b. b || false) e') n (old e)) s i (sound.unclaimed_unpinned s i n)
+unclaimed_unpinned_step l own st me (Claim s' i' c false) may sound s i n =
+    put_at_both (λ _ _ k g. k.claimed ≡ false → g n ≡ false) st.key st.pinned s'.0 i' _ _ (λ _ e. absurd cc) s i (sound.unclaimed_unpinned s i n)
+unclaimed_unpinned_step l own st me (ClaimAgain s' i' c from true) may sound s i n =
+    put_at_both (λ _ _ k g. k.claimed ≡ false → g n ≡ false) st.key st.pinned s'.0 i' _ _
+    (λ old e. put_keeps (λ _ b. b ≡ false) (st.pinned s'.0 i') me.0 _ (λ e'. ap (λ b. b || false) e') n (old e)) s i (sound.unclaimed_unpinned s i n)
+unclaimed_unpinned_step l own st me (ClaimAgain s' i' c from false) may sound s i n =
+    put_at_both (λ _ _ k g. k.claimed ≡ false → g n ≡ false) st.key st.pinned s'.0 i' _ _ (λ _ e. absurd cc) s i (sound.unclaimed_unpinned s i n)
+unclaimed_unpinned_step l own st me (Pin s' i' found) may sound s i n =
+    put_pin_keeps (λ a b _ x. (st.key a b).claimed ≡ false → x ≡ false) st.pinned s'.0 i' me.0 true
+    (λ _ e. absurd (both_ways (st.key s'.0 i').claimed may.1 e)) s i n (sound.unclaimed_unpinned s i n)
+unclaimed_unpinned_step l own st me (Unpin s' i') may sound s i n =
+    put_pin_keeps (λ a b _ x. (st.key a b).claimed ≡ false → x ≡ false) st.pinned s'.0 i' me.0 false (λ _ _. refl) s i n (sound.unclaimed_unpinned s i n)
+unclaimed_unpinned_step l own st me act may sound s i n = sound.unclaimed_unpinned s i n
+
+-- ---- indexes that are free, taken, or still to be put
+
+-- who may put an index puts one that can come back
+put_back : (st : State) (me : CallerNo) (s : SelNo) (i : ℕ) → IsSound st → (has_taken st me s i || may_put_due st me s i) ≡ true → can_come_back (st.key s.0 i) ≡ true
+put_back st me s i sound may =
+    elim (either (has_taken st me s i) (may_put_due st me s i) may) [
+      | inl taken ↦ sound.taken_back s.0 i (held_some me (st.taker s.0 i) taken)
+      | inr dropped ↦ sound.due_back s.0 i (and_parts (has_begun st me s) (st.put_due s.0 i) dropped).1
+    ]
+
+again_published : (k : Stage) → can_come_back k ≡ true → can_come_back (record k { published = true }) ≡ true
+again_published k back = subst (λ x. can_come_back x ≡ true) (sym (published_already k (back_parts k back).published)) back
+
+again_cancelled : (k : Stage) → can_come_back k ≡ true → can_come_back (record k { cancelled = true }) ≡ true
+again_cancelled k back = subst (λ x. can_come_back x ≡ true) (sym (cancelled_already k (back_parts k back).cancelled)) back
+
+again_removed : (k : Stage) → can_come_back k ≡ true → can_come_back (record k { removed = true }) ≡ true
+again_removed k back = subst (λ x. can_come_back x ≡ true) (sym (removed_already k (back_parts k back).removed)) back
+
+-- an index that can come back is claimed
+pub back_not_unclaimed : (k : Stage) → can_come_back k ≡ true → k.claimed ≡ false → ⊥
+back_not_unclaimed k back e = both_ways k.claimed (back_parts k back).claimed e
+
+-- where no step claims an index again of which `F` stands, an index of which it stands can come back after the step too
+back_keeps : (l : Limits) (own : List Act) (st : State) (me : CallerNo) (F : ℕ → ℕ → Type 0)
+    → ((s : SelNo) (i : ℕ) → has_taken st me s i ≡ true → F s.0 i → ⊥) → KeepsStages (Condition l own st me) st (λ s i k. F s i → can_come_back k ≡ true)
+back_keeps l own st me F untaken = record {
+  claimed = λ s i c unclaimed_yet old here. absurd (back_not_unclaimed (st.key s.0 i) (old here) unclaimed_yet);
+  published = λ s i found may old here. again_published (st.key s.0 i) (old here);
+  cancelled = λ s i found may old here. again_cancelled (st.key s.0 i) (old here);
+  removed = λ s i found may old here. again_removed (st.key s.0 i) (old here);
+  again = λ s i c from may unpinned old here. absurd (untaken s i may.3 here);
+}
+
+-- nobody has taken a free index
+pub free_not_taken : (st : State) → IsSound st → (s i : ℕ) → st.free s i ≡ true → is_some (st.taker s i) ≡ true → ⊥
+free_not_taken st sound s i free taken =
+    let clash : true ≡ false = sym taken ∙ ap is_some (sound.free_untaken s i free) in
+    cc
+
+-- a selection hasn't to put an index that a caller has taken
+pub taken_not_dropped : (st : State) → IsSound st → (me : CallerNo) (s : SelNo) (i : ℕ) → has_taken st me s i ≡ true → st.put_due s.0 i ≡ true → ⊥
+taken_not_dropped st sound me s i taken dropped = both_ways (st.put_due s.0 i) dropped (sound.taken_not_due s.0 i (held_some me (st.taker s.0 i) taken))
+
+free_back_step : (l : Limits) (own : List Act) (st : State) (me : CallerNo) (act : Act) → Condition l own st me act → Answers st me act → IsSound st
+    → (s i : ℕ) → (effect st me act).free s i ≡ true → can_come_back ((effect st me act).key s i) ≡ true
+free_back_step l own st me (PutFree s' i') may answers sound s i =
+    put_at_keeps (λ a b x. x ≡ true → can_come_back (st.key a b) ≡ true) st.free s'.0 i' true (λ _ _. put_back st me s' i' sound may.1) s i (sound.free_back s i)
+free_back_step l own st me (TakeFree s' i' found) may answers sound s i =
+    put_at_keeps (λ a b x. x ≡ true → can_come_back (st.key a b) ≡ true) st.free s'.0 i' false (λ _ e. absurd cc) s i (sound.free_back s i)
+free_back_step l own st me act may answers sound s i =
+    stages_keep (Condition l own st me) st me (λ a b k. st.free a b ≡ true → can_come_back k ≡ true)
+    (back_keeps l own st me (λ a b. st.free a b ≡ true) (λ s' i' taken free. free_not_taken st sound s'.0 i' free (held_some me (st.taker s'.0 i') taken)))
+    act may answers s i (sound.free_back s i)
+
+taken_back_step : (st : State) (me : CallerNo) (act : Act) → Answers st me act → IsSound st
+    → (s i : ℕ) → is_some ((effect st me act).taker s i) ≡ true → can_come_back ((effect st me act).key s i) ≡ true
+taken_back_step st me (CancelKey s' i' found) answers sound s i =
+    put_at_keeps (λ a b k. is_some (st.taker a b) ≡ true → can_come_back k ≡ true) st.key s'.0 i' _ (λ old e. again_cancelled (st.key s'.0 i') (old e)) s i (sound.taken_back s i)
+taken_back_step st me (Publish s' i' found) answers sound s i =
+    put_at_keeps (λ a b k. is_some (st.taker a b) ≡ true → can_come_back k ≡ true) st.key s'.0 i' _ (λ old e. again_published (st.key s'.0 i') (old e)) s i (sound.taken_back s i)
+taken_back_step st me (Remove s' i' found) answers sound s i =
+    put_at_keeps (λ a b k. is_some (st.taker a b) ≡ true → can_come_back k ≡ true) st.key s'.0 i' _ (λ old e. again_removed (st.key s'.0 i') (old e)) s i (sound.taken_back s i)
+taken_back_step st me (Claim s' i' c true) answers sound s i =
+    put_at_keeps (λ a b k. is_some (st.taker a b) ≡ true → can_come_back k ≡ true) st.key s'.0 i' _ (λ old. old) s i (sound.taken_back s i)
+taken_back_step st me (Claim s' i' c false) answers sound s i =
+    let unclaimed_yet : (st.key s'.0 i').claimed ≡ false = cc in
+    put_at_keeps (λ a b k. is_some (st.taker a b) ≡ true → can_come_back k ≡ true) st.key s'.0 i' _
+    (λ old e. absurd (back_not_unclaimed (st.key s'.0 i') (old e) unclaimed_yet)) s i (sound.taken_back s i)
+taken_back_step st me (ClaimAgain s' i' c from true) answers sound s i =
+    put_at_both (λ _ _ k o. is_some o ≡ true → can_come_back k ≡ true) st.key st.taker s'.0 i' _ _ (λ old. old) s i (sound.taken_back s i)
+taken_back_step st me (ClaimAgain s' i' c from false) answers sound s i =
+    put_at_both (λ _ _ k o. is_some o ≡ true → can_come_back k ≡ true) st.key st.taker s'.0 i' _ None (λ _ e. absurd cc) s i (sound.taken_back s i)
+taken_back_step st me (PutFree s' i') answers sound s i =
+    put_at_keeps (λ a b o. is_some o ≡ true → can_come_back (st.key a b) ≡ true) st.taker s'.0 i' None (λ _ e. absurd cc) s i (sound.taken_back s i)
+taken_back_step st me (TakeFree s' i' true) answers sound s i =
+    let was_free : st.free s'.0 i' ≡ true = cc in
+    put_at_keeps (λ a b o. is_some o ≡ true → can_come_back (st.key a b) ≡ true) st.taker s'.0 i' (Some me) (λ _ _. sound.free_back s'.0 i' was_free) s i (sound.taken_back s i)
+taken_back_step st me (TakeFree s' i' false) answers sound s i =
+    put_at_keeps (λ a b o. is_some o ≡ true → can_come_back (st.key a b) ≡ true) st.taker s'.0 i' (st.taker s'.0 i') (λ old. old) s i (sound.taken_back s i)
+taken_back_step st me act answers sound s i = sound.taken_back s i
+
+-- what a selection removes can come back, where its serial is below the last
+removed_back : (l : Limits) (own : List Act) (st : State) (me : CallerNo) (s : SelNo) (i : ℕ) (found : Stage) → IsSound st → Condition l own st me (Remove s i found)
+    → found ≡ st.key s.0 i → (st.begun s.0 && frees_index found) ≡ true → can_come_back (record (st.key s.0 i) { removed = true }) ≡ true
+removed_back l own st me s i found sound may found_is begun_frees =
+    let both = and_parts (st.begun s.0) (frees_index found) begun_frees in
+    let below : nat_lt (st.key s.0 i).serial last_serial ≡ true =
+    ap (λ k. nat_lt k.serial last_serial) (sym found_is) ∙ (and_parts (not found.removed) (nat_lt found.serial last_serial) both.1).1 in
+    elim (may_remove st own me s i may.1) [
+      | inl sweep ↦
+          let k : Stage = st.key s.0 i in
+          let claimed : k.claimed ≡ true = beyond-claimed st sound s.0 i (ap (λ b. b || k.cancelled || k.removed) sweep.1.published) in
+          and_from (k.claimed && k.published && k.cancelled && true) (nat_lt k.serial last_serial)
+          (and_from (k.claimed && k.published && k.cancelled) true
+          (and_from (k.claimed && k.published) k.cancelled (and_from k.claimed k.published claimed sweep.1.published) sweep.1.cancelled) refl) below
+      | inr clear ↦ absurd (both_ways (st.entered s.0) clear.0 (sound.begun_open s.0 both.0))
+    ]
+
+dropped_back_step : (l : Limits) (own : List Act) (st : State) (me : CallerNo) (act : Act) → Condition l own st me act → Answers st me act → IsSound st
+    → (s i : ℕ) → (effect st me act).put_due s i ≡ true → can_come_back ((effect st me act).key s i) ≡ true
+dropped_back_step l own st me (Remove s' i' found) may answers sound s i =
+    let found_is : found ≡ st.key s'.0 i' = cc in
+    put_at_both (λ _ _ k x. x ≡ true → can_come_back k ≡ true) st.key st.put_due s'.0 i' _ _
+    (λ old e. elim (either (st.put_due s'.0 i') (st.begun s'.0 && frees_index found) e) [
+      | inl before ↦ again_removed (st.key s'.0 i') (old before)
+      | inr now ↦ removed_back l own st me s' i' found sound may found_is now
+    ]) s i (sound.due_back s i)
+dropped_back_step l own st me (PutFree s' i') may answers sound s i =
+    put_at_keeps (λ a b x. x ≡ true → can_come_back (st.key a b) ≡ true) st.put_due s'.0 i' false (λ _ e. absurd cc) s i (sound.due_back s i)
+dropped_back_step l own st me (GiveTurn k) may answers sound s i =
+    put_keeps (λ a x. x ≡ true → can_come_back (st.key a i) ≡ true) (λ a. st.put_due a i) k.0 false (λ _ e. absurd cc) s (sound.due_back s i)
+dropped_back_step l own st me act may answers sound s i =
+    stages_keep (Condition l own st me) st me (λ a b k. st.put_due a b ≡ true → can_come_back k ≡ true)
+    (back_keeps l own st me (λ a b. st.put_due a b ≡ true) (λ s' i' taken dropped. taken_not_dropped st sound me s' i' taken dropped))
+    act may answers s i (sound.due_back s i)
+
+free_untaken_step : (st : State) (me : CallerNo) (act : Act) → IsSound st → (s i : ℕ) → (effect st me act).free s i ≡ true → (effect st me act).taker s i ≡ None
+free_untaken_step st me (PutFree s' i') sound s i =
+    put_at_both (λ _ _ x o. x ≡ true → o ≡ None) st.free st.taker s'.0 i' true None (λ _ _. refl) s i (sound.free_untaken s i)
+free_untaken_step st me (TakeFree s' i' found) sound s i =
+    put_at_both (λ _ _ x o. x ≡ true → o ≡ None) st.free st.taker s'.0 i' false _ (λ _ e. absurd cc) s i (sound.free_untaken s i)
+free_untaken_step st me (ClaimAgain s' i' c from true) sound s i =
+    put_at_keeps (λ a b o. st.free a b ≡ true → o ≡ None) st.taker s'.0 i' (st.taker s'.0 i') (λ old. old) s i (sound.free_untaken s i)
+free_untaken_step st me (ClaimAgain s' i' c from false) sound s i =
+    put_at_keeps (λ a b o. st.free a b ≡ true → o ≡ None) st.taker s'.0 i' None (λ _ _. refl) s i (sound.free_untaken s i)
+free_untaken_step st me act sound s i = sound.free_untaken s i
+
+-- after the removal of a key that was removed before, no index more is to be put
+not_dropped_now : (dropped begun : Bool) (found k : Stage) → found ≡ k → can_come_back k ≡ true → dropped ≡ false → (dropped || (begun && frees_index found)) ≡ false
+not_dropped_now dropped begun found k found_is back undropped =
+    let stays : frees_index found ≡ false = ap (λ x. not x.removed && nat_lt x.serial last_serial) found_is ∙ ap (λ b. not b && nat_lt k.serial last_serial) (back_parts k back).removed in
+    ap (λ b. b || (begun && frees_index found)) undropped ∙ (ap (λ b. begun && b) stays ∙ and_false begun)
+  where
+    and_false : (b : Bool) → (b && false) ≡ false
+    and_false true = refl
+    and_false false = refl
+
+free_undropped_step : (st : State) (me : CallerNo) (act : Act) → Answers st me act → IsSound st
+    → (s i : ℕ) → (effect st me act).free s i ≡ true → (effect st me act).put_due s i ≡ false
+free_undropped_step st me (PutFree s' i') answers sound s i =
+    put_at_both (λ _ _ x y. x ≡ true → y ≡ false) st.free st.put_due s'.0 i' true false (λ _ _. refl) s i (sound.free_not_due s i)
+free_undropped_step st me (TakeFree s' i' found) answers sound s i =
+    put_at_keeps (λ a b x. x ≡ true → st.put_due a b ≡ false) st.free s'.0 i' false (λ _ e. absurd cc) s i (sound.free_not_due s i)
+free_undropped_step st me (Remove s' i' found) answers sound s i =
+    let found_is : found ≡ st.key s'.0 i' = cc in
+    put_at_keeps (λ a b y. st.free a b ≡ true → y ≡ false) st.put_due s'.0 i' _
+    (λ old e. not_dropped_now (st.put_due s'.0 i') (st.begun s'.0) found (st.key s'.0 i') found_is (sound.free_back s'.0 i' e) (old e)) s i (sound.free_not_due s i)
+free_undropped_step st me (GiveTurn k) answers sound s i =
+    put_keeps (λ a y. st.free a i ≡ true → y ≡ false) (λ a. st.put_due a i) k.0 false (λ _ _. refl) s (sound.free_not_due s i)
+free_undropped_step st me act answers sound s i = sound.free_not_due s i
+
+taken_undropped_step : (st : State) (me : CallerNo) (act : Act) → Answers st me act → IsSound st
+    → (s i : ℕ) → is_some ((effect st me act).taker s i) ≡ true → (effect st me act).put_due s i ≡ false
+taken_undropped_step st me (PutFree s' i') answers sound s i =
+    put_at_both (λ _ _ o y. is_some o ≡ true → y ≡ false) st.taker st.put_due s'.0 i' None false (λ _ _. refl) s i (sound.taken_not_due s i)
+taken_undropped_step st me (TakeFree s' i' true) answers sound s i =
+    let was_free : st.free s'.0 i' ≡ true = cc in
+    put_at_keeps (λ a b o. is_some o ≡ true → st.put_due a b ≡ false) st.taker s'.0 i' (Some me) (λ _ _. sound.free_not_due s'.0 i' was_free) s i (sound.taken_not_due s i)
+taken_undropped_step st me (TakeFree s' i' false) answers sound s i =
+    put_at_keeps (λ a b o. is_some o ≡ true → st.put_due a b ≡ false) st.taker s'.0 i' (st.taker s'.0 i') (λ old. old) s i (sound.taken_not_due s i)
+taken_undropped_step st me (ClaimAgain s' i' c from true) answers sound s i =
+    put_at_keeps (λ a b o. is_some o ≡ true → st.put_due a b ≡ false) st.taker s'.0 i' (st.taker s'.0 i') (λ old. old) s i (sound.taken_not_due s i)
+taken_undropped_step st me (ClaimAgain s' i' c from false) answers sound s i =
+    put_at_keeps (λ a b o. is_some o ≡ true → st.put_due a b ≡ false) st.taker s'.0 i' None (λ _ e. absurd cc) s i (sound.taken_not_due s i)
+taken_undropped_step st me (Remove s' i' found) answers sound s i =
+    let found_is : found ≡ st.key s'.0 i' = cc in
+    put_at_keeps (λ a b y. is_some (st.taker a b) ≡ true → y ≡ false) st.put_due s'.0 i' _
+    (λ old e. not_dropped_now (st.put_due s'.0 i') (st.begun s'.0) found (st.key s'.0 i') found_is (sound.taken_back s'.0 i' e) (old e)) s i (sound.taken_not_due s i)
+taken_undropped_step st me (GiveTurn k) answers sound s i =
+    put_keeps (λ a y. is_some (st.taker a i) ≡ true → y ≡ false) (λ a. st.put_due a i) k.0 false (λ _ _. refl) s (sound.taken_not_due s i)
+taken_undropped_step st me act answers sound s i = sound.taken_not_due s i
+
+dropped_begun_step : (st : State) (me : CallerNo) (act : Act) → Answers st me act → IsSound st
+    → (s i : ℕ) → (effect st me act).put_due s i ≡ true → (effect st me act).begun s ≡ true
+dropped_begun_step st me (Remove s' i' found) answers sound s i =
+    put_at_keeps (λ a b x. x ≡ true → st.begun a ≡ true) st.put_due s'.0 i' _
+    (λ old e. elim (either (st.put_due s'.0 i') (st.begun s'.0 && frees_index found) e) [
+      | inl before ↦ old before
+      | inr now ↦ (and_parts (st.begun s'.0) (frees_index found) now).0
+    ]) s i (sound.due_begun s i)
+dropped_begun_step st me (PutFree s' i') answers sound s i =
+    put_at_keeps (λ a b x. x ≡ true → st.begun a ≡ true) st.put_due s'.0 i' false (λ _ e. absurd cc) s i (sound.due_begun s i)
+dropped_begun_step st me (GiveTurn k) answers sound s i =
+    put_both (λ _ x b. x ≡ true → b ≡ true) (λ a. st.put_due a i) st.begun k.0 false false (λ e. e) s (sound.due_begun s i)
+dropped_begun_step st me (TakeTurn k found) answers sound s i =
+    let found_is : found ≡ st.turn k.0 = cc in
+    put_keeps (λ a b. st.put_due a i ≡ true → b ≡ true) st.begun k.0 _
+    (λ old e. and_from (is_some found) (st.begun k.0) (ap is_some found_is ∙ sound.begun_turn k.0 (old e)) (old e)) s (sound.due_begun s i)
+dropped_begun_step st me (BeginLook k found) answers sound s i =
+    put_keeps (λ a b. st.put_due a i ≡ true → b ≡ true) st.begun k.0 _ (λ old e. ap (λ b. b || not found.shut) (old e)) s (sound.due_begun s i)
+dropped_begun_step st me act answers sound s i = sound.due_begun s i
 
 sound_opening : IsSound opening
 sound_opening = record {
@@ -194,6 +452,14 @@ sound_opening = record {
   entered_closer = λ s h. absurd cc;
   begun_turn = λ s h. absurd cc;
   begun_open = λ s h. absurd cc;
+  unclaimed_unpinned = λ s i n h. refl;
+  free_back = λ s i h. absurd cc;
+  taken_back = λ s i h. absurd cc;
+  due_back = λ s i h. absurd cc;
+  free_untaken = λ s i h. refl;
+  free_not_due = λ s i h. refl;
+  taken_not_due = λ s i h. refl;
+  due_begun = λ s i h. absurd cc;
 }
 
 sound_step : (l : Limits) (past : List Event) (e : Event) → IsLegal l past → IsStep l past e → IsSound (state_after past) → IsSound (effect (state_after past) e.caller e.act)
@@ -207,6 +473,14 @@ sound_step l past e legal step sound = record {
   entered_closer = entered_closer_step l (mine e.caller past) (state_after past) e.caller e.act step.condition sound;
   begun_turn = begun_turn_step l (mine e.caller past) (state_after past) e.caller e.act step.condition sound;
   begun_open = begun_open_step (state_after past) e.caller e.act step.answers sound;
+  unclaimed_unpinned = unclaimed_unpinned_step l (mine e.caller past) (state_after past) e.caller e.act step.condition sound;
+  free_back = free_back_step l (mine e.caller past) (state_after past) e.caller e.act step.condition step.answers sound;
+  taken_back = taken_back_step (state_after past) e.caller e.act step.answers sound;
+  due_back = dropped_back_step l (mine e.caller past) (state_after past) e.caller e.act step.condition step.answers sound;
+  free_untaken = free_untaken_step (state_after past) e.caller e.act sound;
+  free_not_due = free_undropped_step (state_after past) e.caller e.act step.answers sound;
+  taken_not_due = taken_undropped_step (state_after past) e.caller e.act step.answers sound;
+  due_begun = dropped_begun_step (state_after past) e.caller e.act step.answers sound;
 }
 
 pub legal-sound : (l : Limits) (events : List Event) → IsLegal l events → IsSound (state_after events)

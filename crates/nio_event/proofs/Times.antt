@@ -3,7 +3,7 @@ use Rattle.std.proofs.Common.{◌≡◌, ℕ, zero, suc, ℤ, pos, negsuc, neg_�
 use Rattle.std.specs.Fmt.{decimal, signed_decimal}
 use Rattle.std.proofs.lemmas.Fmt.{decimal_nonempty}
 use Rattle.std.proofs.lemmas.Option.{none-some, same_Some}
-use Rattle.nio_event.specs.Calls.{IsMilliseconds}
+use Rattle.nio_event.specs.Arguments.{IsMilliseconds}
 use Rattle.nio_event.specs.Reading.{Reads}
 use Rattle.nio_event.proofs.NameWords.{decimal_lacks}
 use Rattle.nio_event.proofs.Readers.{reads_none}

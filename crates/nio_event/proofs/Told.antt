@@ -1,26 +1,28 @@
--- What a caller's own acts told of what lasts holds ever after.
-use Rattle.std.proofs.Common.{◌≡◌, ℕ, ◌==◌, ◌<◌, Bool, true, false, ◌||◌, if◌then◌else◌, ◌⊎◌, inl, inr, Option, Some, None, is_some, List, [], ◌∷◌, ◌++◌, refl, ap, sym, ◌∙◌, subst, eqb-true}
-use Rattle.std.specs.Prelude.{nat_lt, fold}
+-- What a caller once found or did, and no step ends, stands in every later state.
+use Rattle.std.proofs.Common.{◌≡◌, ℕ, ◌==◌, ◌<◌, Bool, true, false, ◌||◌, ◌⊎◌, inl, inr, List, [], ◌∷◌, ◌++◌, refl, ap, sym, ◌∙◌, subst, eqb-true}
+use Rattle.std.specs.Prelude.{nat_lt}
 use Rattle.std.proofs.lemmas.Bool.{and_parts, ltb-true, lt-ltb}
-use Rattle.std.specs.Option.{option_or}
 use Rattle.nio_base.specs.declared.limits.Limits.{Limits}
 use Rattle.nio_base.specs.declared.numbers.CallerNo.{CallerNo}
-use Rattle.nio_event.proofs.Lasts.{claimed_lasts, keys_mark_lasts}
+use Rattle.nio_event.proofs.Lasts.{keys_mark_lasts}
 use Rattle.nio_event.proofs.Legal.{legal_induction}
 use Rattle.nio_event.proofs.OneMore.{state_after-more, mine-own, mine-other, has-more}
-use Rattle.nio_event.proofs.Put.{put_at-same}
-use Rattle.nio_event.specs.Acts.{effect, new_key}
+use Rattle.nio_event.specs.Acts.{effect}
 use Rattle.nio_event.specs.Answers.{Answers}
 use Rattle.nio_event.specs.Histories.{state_after, is_by, mine, IsStep, IsLegal}
-use Rattle.nio_event.specs.OwnEvents.{has, last, finds_below, claimed_for}
-use Rattle.nio_event.specs.State.{State, put_at}
+use Rattle.nio_event.specs.OwnEvents.{has, finds_below}
+use Rattle.nio_event.specs.State.{State}
 use Rattle.nio_event.specs.declared.act.Act.{Act}
-use Rattle.nio_event.specs.declared.act.Act.TheVariants.{Claim, LookKeys}
+use Rattle.nio_event.specs.declared.act.Act.TheVariants.{LookKeys}
 use Rattle.nio_event.specs.declared.event.Event.{Event}
 
 pub either : (a b : Bool) → (a || b) ≡ true → (a ≡ true) ⊎ (b ≡ true)
 either true b e = inl refl
 either false b e = inr e
+
+pub or_right : (a b : Bool) → b ≡ true → (a || b) ≡ true
+or_right true b e = refl
+or_right false b e = e
 
 -- A fact that each step keeps, and that stands after each step at which an act passes the test,
 -- stands once a caller did such an act.
@@ -41,45 +43,6 @@ has_told l p fact lasts tells n events legal = legal_induction l (λ evs. has p 
               | inr tells' ↦ tells past e step tells'
             ]
         by_test false by = lasts past e step (before (sym (ap (has p) (mine-other n past e by)) ∙ now))
-
--- ---- claimed
-
-is_some-if : {A : Type 0} (b : Bool) (x : A) → is_some (if b then Some x else None) ≡ true → b ≡ true
-is_some-if true x e = refl
-is_some-if false x e = absurd cc
-
-claim_tells : (st : State) (me : CallerNo) (act : Act) (s i : ℕ) → is_some (claimed_for s i act) ≡ true → ((effect st me act).key s i).claimed ≡ true
-claim_tells st me (Claim s' i' c false) s i h =
-    let both = and_parts (s'.0 == s) (i' == i) (is_some-if _ c h) in
-    let first : s'.0 ≡ s = eqb-true s'.0 s both.0 in
-    let second : i' ≡ i = eqb-true i' i both.1 in
-    let here = ap (λ k. k.claimed) (put_at-same st.key s'.0 i' (new_key c)) in
-    subst (λ (k : ℕ). (put_at st.key s'.0 i' (new_key c) k i).claimed ≡ true) first (subst (λ (k : ℕ). (put_at st.key s'.0 i' (new_key c) s'.0 k).claimed ≡ true) second here)
-claim_tells st me act s i h = absurd (cc h)
-
-or_either : {A : Type 0} (x y : Option A) (b : Bool) → (is_some (option_or x y) || b) ≡ (is_some y || (is_some x || b))
-or_either None None b = refl
-or_either None (Some y) b = refl
-or_either (Some x) None b = refl
-or_either (Some x) (Some y) b = refl
-
-from_told : {A : Type 0} (tells : Act → Option A) (told : Option A) (acts : List Act)
-    → is_some (fold (λ told' act. option_or (tells act) told') told acts) ≡ (is_some told || has (λ act. is_some (tells act)) acts)
-from_told tells None [] = refl
-from_told tells (Some x) [] = refl
-from_told tells told (act ∷ acts) = from_told tells (option_or (tells act) told) acts ∙ or_either (tells act) told (has (λ a. is_some (tells a)) acts)
-
--- a word tells something where there was an act that does
-last-is_some : {A : Type 0} (tells : Act → Option A) (own : List Act) → is_some (last tells own) ≡ has (λ act. is_some (tells act)) own
-last-is_some tells own = from_told tells None own
-
--- what a caller claimed is claimed
-pub claimed_told : (l : Limits) (n : CallerNo) (events : List Event) (s i : ℕ) → IsLegal l events → is_some (last (claimed_for s i) (mine n events)) ≡ true → ((state_after events).key s i).claimed ≡ true
-claimed_told l n events s i legal h =
-    has_told l (λ act. is_some (claimed_for s i act)) (λ st. (st.key s i).claimed)
-    (λ past e step. claimed_lasts (state_after past) e.caller e.act s i)
-    (λ past e step. claim_tells (state_after past) e.caller e.act s i)
-    n events legal (sym (last-is_some (claimed_for s i) (mine n events)) ∙ h)
 
 -- ---- below the keys' mark
 

@@ -1,5 +1,5 @@
--- A turn, a hold and a selection last until their caller gives them back.
-use Rattle.std.proofs.Common.{◌≡◌, ℕ, Bool, true, false, ◌&&◌, ◌||◌, not, inl, inr, Option, Some, None, List, [], ◌∷◌, ◌++◌, append_assoc, refl, ap, sym, ◌∙◌, subst, eqb-true, eq-eqb}
+-- The laws of turns: each turn and each hold has one holder, and one selection is in progress at a time.
+use Rattle.std.proofs.Common.{◌≡◌, ℕ, ◌==◌, Bool, true, false, ◌&&◌, ◌||◌, not, inl, inr, Option, Some, None, List, [], ◌∷◌, ◌++◌, append_assoc, refl, ap, sym, ◌∙◌, subst, eqb-true, eq-eqb}
 use Rattle.std.proofs.lemmas.Bool.{and_parts, and_from}
 use Rattle.nio_base.specs.declared.limits.Limits.{Limits}
 use Rattle.nio_base.specs.declared.numbers.CallerNo.{CallerNo}
@@ -9,20 +9,21 @@ use Rattle.nio_event.proofs.Legal.{legal_beginning, legal_next}
 use Rattle.nio_event.proofs.OneMore.{state_after-more}
 use Rattle.nio_event.proofs.Put.{put-same}
 use Rattle.nio_event.proofs.Soundness.{legal-sound}
-use Rattle.nio_event.proofs.Told.{either}
+use Rattle.nio_event.proofs.Told.{either, or_right}
 use Rattle.nio_event.specs.Acts.{effect}
 use Rattle.nio_event.specs.Conditions.{Condition, is_held_by, has_turn, has_begun, is_closer, has_entered, may_sweep, may_clear_out}
 use Rattle.nio_event.specs.Histories.{state_after, event_of, mine, IsStep, IsLegal}
 use Rattle.nio_event.specs.Lasting.{OwnFact, the_turn, a_selection, the_hold, is_had_by, gives_back}
 use Rattle.nio_event.specs.OwnEvents.{has, finds_below, since_entered, gives_turn, releases}
+use Rattle.nio_event.specs.Sets.{in_cancelled_set}
 use Rattle.nio_event.specs.Sound.{IsSound}
 use Rattle.nio_event.specs.State.{State}
-use Rattle.nio_event.specs.Turns.{selects_on, may_select, TurnHasOneHolder, HoldHasOneHolder, OneSelectionAtATime, OnlyWhoMaySelects}
+use Rattle.nio_event.specs.Turns.{selects_on, removes_on, TurnHasOneHolder, HoldHasOneHolder, OneSelectionAtATime, OnlyWhoMaySelects}
 use Rattle.nio_event.specs.declared.act.Act.{Act}
 use Rattle.nio_event.specs.declared.act.Act.TheVariants.{TakeTurn, BeginLook, Remove, Mark, EndWake, TryHoldBit}
 use Rattle.nio_event.specs.declared.event.Event.{Event}
 
--- what a caller has after an event it has until it gives it back: at the step that follows
+-- what a caller has after an event it still has at a later step, where it didn't give it back in between
 until_given_back : (l : Limits) (n : CallerNo) (f : OwnFact) (past : List Event) (first : Event) (between : List Event) (e : Event)
     → IsLegal l (past ++ first ∷ (between ++ e ∷ []))
     → (IsStep l past first → is_had_by n f (effect (state_after past) first.caller first.act) ≡ true)
@@ -42,7 +43,7 @@ until_given_back l n f past first between e legal begins kept =
 held_by_self : (n : CallerNo) → is_held_by n (Some n) ≡ true
 held_by_self n = eq-eqb n.0 n.0 refl
 
--- whoever finds a place free doesn't find a holder there
+-- a place that is free has no holder
 not_free : (n : CallerNo) (o : Option CallerNo) → is_held_by n o ≡ true → None ≡ o → ⊥
 not_free n None held free = absurd cc
 not_free n (Some m) held free = absurd cc
@@ -71,20 +72,20 @@ hold_has_one_holder l c m n past between legal = true_unless (has (releases c.0)
         let free : None ≡ (state_after then.0).hold c.0 = cc (then.2.answers) in
         not_free m ((state_after then.0).hold c.0) then.3 free
 
--- whoever has begun beside n is n
+-- two callers that have begun on one selector are one caller
 begun_is : (st : State) (me n : CallerNo) (s s' : SelNo) → has_begun st n s ≡ true → s'.0 ≡ s.0 → has_begun st me s' ≡ true → me.0 ≡ n.0
 begun_is st me n s s' has_it same begun =
     let mine' : is_held_by me (st.turn s'.0) ≡ true = (and_parts (has_turn st me s') (st.begun s'.0) begun).0 in
     let its : is_held_by n (st.turn s.0) ≡ true = (and_parts (has_turn st n s) (st.begun s.0) has_it).0 in
     one_holder me n (st.turn s.0) (subst (λ (k : ℕ). is_held_by me (st.turn k) ≡ true) same mine') its
 
--- who does what only the selecting caller does is that caller
-selecting_is : (l : Limits) (own : List Act) (st : State) (me n : CallerNo) (s : SelNo) (act : Act) → IsSound st → has_begun st n s ≡ true
+-- while caller n selects, whoever does what only the selecting caller does is n
+pub selecting_is : (l : Limits) (own : List Act) (st : State) (me n : CallerNo) (s : SelNo) (act : Act) → IsSound st → has_begun st n s ≡ true
     → Condition l own st me act → selects_on s.0 act ≡ true → me.0 ≡ n.0
 selecting_is l own st me n s (Remove s' i found) sound has_it may on =
     let same : s'.0 ≡ s.0 = eqb-true s'.0 s.0 on in
     elim (either (may_sweep st me s' i) (may_clear_out st own me s' i) may.1) [
-      | inl sweep ↦ begun_is st me n s s' has_it same (and_parts (has_begun st me s') (st.key s'.0 i).published (and_parts (has_begun st me s' && (st.key s'.0 i).published) (st.key s'.0 i).cancelled sweep).0).0
+      | inl sweep ↦ begun_is st me n s s' has_it same (and_parts (has_begun st me s') (in_cancelled_set (st.key s'.0 i)) sweep).0
       | inr clear ↦
           let entered : st.entered s'.0 ≡ true = (and_parts (is_closer st me s') (st.entered s'.0) (and_parts (has_entered st me s') (has (finds_below s'.0 i) (since_entered s'.0 own)) clear).0).1 in
           let not_entered : st.entered s.0 ≡ false = sound.begun_open s.0 (and_parts (has_turn st n s) (st.begun s.0) has_it).1 in
@@ -113,7 +114,7 @@ one_selection_at_a_time l s n found past between e legal open_gate kept on =
         now_begun true = refl
         now_begun false = ap not open_gate
 
--- what is said of a selector is said of it under its number
+-- what is true of a selector is true of a selector with the same number
 moved : (P : SelNo → Bool) (s' s : SelNo) → s'.0 ≡ s.0 → P s' ≡ true → P s ≡ true
 moved P s' s same h =
     let whole : s' ≡ s = ap (λ (k : ℕ). selector k) same in
@@ -122,23 +123,19 @@ moved P s' s same h =
     selector : ℕ → SelNo
     selector k = record { 0 = k }
 
-may_select_by : (l : Limits) (own : List Act) (st : State) (me : CallerNo) (s : SelNo) (act : Act) → Condition l own st me act → selects_on s.0 act ≡ true → may_select st me s act ≡ true
+may_select_by : (l : Limits) (own : List Act) (st : State) (me : CallerNo) (s : SelNo) (act : Act) → Condition l own st me act → selects_on s.0 act ≡ true
+    → (has_begun st me s || (removes_on s.0 act && has_entered st me s)) ≡ true
 may_select_by l own st me s (Remove s' i found) may on =
     let same : s'.0 ≡ s.0 = eqb-true s'.0 s.0 on in
     elim (either (may_sweep st me s' i) (may_clear_out st own me s' i) may.1) [
       | inl sweep ↦
-          let begun = (and_parts (has_begun st me s') (st.key s'.0 i).published (and_parts (has_begun st me s' && (st.key s'.0 i).published) (st.key s'.0 i).cancelled sweep).0).0 in
-          ap (λ b. b || has_entered st me s) (moved (has_begun st me) s' s same begun)
+          ap (λ b. b || ((s'.0 == s.0) && has_entered st me s)) (moved (has_begun st me) s' s same (and_parts (has_begun st me s') (in_cancelled_set (st.key s'.0 i)) sweep).0)
       | inr clear ↦
           let entered = (and_parts (has_entered st me s') (has (finds_below s'.0 i) (since_entered s'.0 own)) clear).0 in
-          or_right (has_begun st me s) (has_entered st me s) (moved (has_entered st me) s' s same entered)
+          or_right (has_begun st me s) ((s'.0 == s.0) && has_entered st me s) (and_from (s'.0 == s.0) (has_entered st me s) on (moved (has_entered st me) s' s same entered))
     ]
-  where
-    or_right : (a b : Bool) → b ≡ true → (a || b) ≡ true
-    or_right true b e = refl
-    or_right false b e = e
-may_select_by l own st me s (Mark s' i from told found) may on = moved (has_begun st me) s' s (eqb-true s'.0 s.0 on) may.1
-may_select_by l own st me s (EndWake s' found) may on = moved (has_begun st me) s' s (eqb-true s'.0 s.0 on) may.1
+may_select_by l own st me s (Mark s' i from told found) may on = ap (λ b. b || false) (moved (has_begun st me) s' s (eqb-true s'.0 s.0 on) may.1)
+may_select_by l own st me s (EndWake s' found) may on = ap (λ b. b || false) (moved (has_begun st me) s' s (eqb-true s'.0 s.0 on) may.1)
 may_select_by l own st me s act may on = absurd (cc on)
 
 pub only_who_may_selects : OnlyWhoMaySelects

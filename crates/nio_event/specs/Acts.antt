@@ -1,13 +1,13 @@
 -- What each kind of step does to the state. A step changes the part that it names. Claiming an index also
 -- pins it; taking and giving a turn, beginning, shutting and entering also keep who has begun, closes and
--- has entered; taking, putting, claiming again and removing also keep who took an index and what the
--- selection in progress dropped. Nothing else is changed. The lines stand in the order in which `Act` lists
--- the kinds.
+-- has entered; taking an index, putting it, claiming it again, removing its key and giving the turn also keep
+-- who took it, and whether the selection in progress has still to put it. Nothing else is changed. The lines
+-- stand in the order in which `Act` lists the kinds.
 use Rattle.std.specs.Prelude.{ℕ, suc, max, nat_lt, Bool, true, false, not, ◌&&◌, ◌||◌, if◌then◌else◌, Option, Some, None, is_some, is_none, Result, Ok, Err, bit_and, bit_or}
 use Rattle.nio_base.specs.declared.kind.Kind.{Kind}
 use Rattle.nio_base.specs.declared.numbers.CallerNo.{CallerNo}
 use Rattle.nio_base.specs.declared.numbers.ChanNo.{ChanNo}
-use Rattle.nio_event.specs.State.{State, with_drawn, with_interrupted, with_selector, with_channels_mark, with_chan, with_hold, with_noted, with_gate, with_turn, with_keys_mark, with_key, with_interest, with_mark, with_note, with_pin, with_free, with_begun, with_closer, with_entered, with_taker, with_dropped, with_none_dropped, unmarked, last_serial}
+use Rattle.nio_event.specs.State.{State, with_drawn, with_interrupted, with_selector, with_channels_mark, with_chan, with_hold, with_noted, with_gate, with_turn, with_keys_mark, with_key, with_interest, with_mark, with_note, with_pin, with_free, with_begun, with_closer, with_entered, with_taker, with_put_due, with_no_put_due, unmarked, last_serial}
 use Rattle.nio_event.specs.declared.act.Act.{Act}
 use Rattle.nio_event.specs.declared.act.Act.TheVariants.{DrawBit, MakeSelector, LookSelectors, Wake, LookGate, SetInterrupt, TakeInterrupt, LookInterrupt, LookKey, CancelKey, LookInterest, SwapInterest, OrInterest, AndInterest, SwapNote, LookNote, MakeChannel, LookChannel, Claim, RaiseKeys, LookKeys, Publish, LookReg, Enrol, TakeTurn, BeginLook, GiveTurn, Remove, LookMark, Mark, UnselectBit, EndWake, LookChannels, RaiseChannels, TryHoldBit, Release, SetMode, CloseBit, ShutBit, Enter, Pin, Unpin, ClearMark, ClaimAgain, LookFree, PutFree, TakeFree}
 use Rattle.nio_event.specs.declared.found.Chan.{Chan}
@@ -95,11 +95,11 @@ effect st me (Enrol c s i serial found) = with_noted st c.0 s.0 (Some (record { 
 effect st me (TakeTurn s found) = with_begun (with_turn st s.0 (taken_by me found)) s.0 (is_some found && st.begun s.0)
 -- where the gate isn't shut, the caller has begun
 effect st me (BeginLook s found) = with_begun st s.0 (st.begun s.0 || not found.shut)
--- the turn is free, nobody has begun, and no selection has dropped anything
-effect st me (GiveTurn s) = with_none_dropped (with_begun (with_turn st s.0 None) s.0 false) s.0
--- the key is removed; where a selection removes it and its index may become free, the selection dropped it
+-- the turn is free, nobody has begun, and no index is to be put by a selection
+effect st me (GiveTurn s) = with_no_put_due (with_begun (with_turn st s.0 None) s.0 false) s.0
+-- the key is removed; where a selection removes it, at a serial below the last, it has still to put the index
 effect st me (Remove s i found) =
-    with_dropped (with_key st s.0 i (record (st.key s.0 i) { removed = true })) s.0 i (st.dropped s.0 i || (st.begun s.0 && frees_index found))
+    with_put_due (with_key st s.0 i (record (st.key s.0 i) { removed = true })) s.0 i (st.put_due s.0 i || (st.begun s.0 && frees_index found))
 -- looks
 effect st me (LookMark s i found) = st
 -- where the mark is the one that is named, the key becomes selected with what is told
@@ -137,7 +137,7 @@ effect st me (ClaimAgain s i c from found) =
     s.0 i (if found then st.taker s.0 i else None)
 -- looks
 effect st me (LookFree s j found) = st
--- the index is free, and nobody has taken or dropped it
-effect st me (PutFree s i) = with_dropped (with_taker (with_free st s.0 i true) s.0 i None) s.0 i false
+-- the index is free: nobody has taken it, and no selection has still to put it
+effect st me (PutFree s i) = with_put_due (with_taker (with_free st s.0 i true) s.0 i None) s.0 i false
 -- the index isn't free; where it was, the caller has taken it
 effect st me (TakeFree s i found) = with_taker (with_free st s.0 i false) s.0 i (if found then Some me else st.taker s.0 i)

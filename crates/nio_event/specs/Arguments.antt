@@ -1,101 +1,142 @@
--- The arguments of calls: one definition for each shape that the arguments of a call may have.
-use Rattle.std.specs.Prelude.{ℕ, ◌<◌, ◌^◌, Bool, Option, List, [], ◌∷◌, ◌++◌, drop, map, ⊤}
-use Rattle.std.specs.Fmt.{decimal}
+-- The arguments of calls: the shapes that they may have, and for each its words and its ranges.
+use Rattle.std.specs.Prelude.{◌≢◌, ℕ, ◌<◌, ℤ, nat_abs, ◌^◌, ⊤, Bool, true, false, Option, None, Some, List, [], ◌∷◌, ◌++◌, map, codes, All, Any}
+use Rattle.std.specs.Fmt.{decimal, signed_decimal}
+use Rattle.std.specs.List.{AllPairs}
 use Rattle.nio_base.specs.declared.kind.Kind.{Kind}
 use Rattle.nio_base.specs.declared.numbers.CallerNo.{CallerNo}
 use Rattle.nio_base.specs.declared.numbers.ChanNo.{ChanNo}
 use Rattle.nio_base.specs.declared.numbers.KeyId.{KeyId}
 use Rattle.nio_base.specs.declared.numbers.SelNo.{SelNo}
-use Rattle.nio_event.specs.Calls.{ArePairs, IsAttachment, IsKey, IsNumber, IsTime, attachment_words, call_words, elapsed_words, mode_word, waiting_words}
+use Rattle.nio_event.specs.Reading.{Reads}
 use Rattle.nio_event.specs.Words.{caller_word, selector_word, channel_word, key_word, kind_word, pair_word}
-use Rattle.nio_event.specs.declared.call.Call.{Call}
 use Rattle.nio_event.specs.declared.call.Waiting.{Waiting}
+use Rattle.nio_event.specs.declared.call.Waiting.TheVariants.{Now, Wait, For}
 
--- the words behind the call word
-abbrev pub arguments : Call → List (List ℕ)
-arguments call = drop 1 (call_words call)
+-- the arguments of a call, by their shape, in the order of the line
+pub data Arguments : Type 0 where
+  nothing : Arguments
+  one_caller : CallerNo → Arguments
+  one_selector : SelNo → Arguments
+  one_channel : ChanNo → Arguments
+  one_kind : Kind → Arguments
+  channel_mode : ChanNo → Bool → Arguments
+  channel_selector : ChanNo → SelNo → Arguments
+  registration : SelNo → ChanNo → ℕ → Option ℕ → Arguments
+  selector_key : SelNo → KeyId → Arguments
+  key_ops : SelNo → KeyId → ℕ → Arguments
+  key_number : SelNo → KeyId → ℕ → Arguments
+  selector_wait : SelNo → Waiting → Arguments
+  selector_told : SelNo → Bool → List (KeyId × ℕ) → Arguments
 
--- none
-abbrev pub no_words : ⊤ → List (List ℕ)
-no_words _ = []
+-- ---- their words
 
--- a caller
-abbrev pub caller_words : CallerNo → List (List ℕ)
-caller_words t = caller_word t ∷ []
+abbrev pub waiting_words : Waiting → List (List ℕ)
+waiting_words Now = codes "now" ∷ []
+waiting_words Wait = codes "wait" ∷ []
+waiting_words (For ms) = codes "for" ∷ signed_decimal ms ∷ []
 
-abbrev pub CallerFits : CallerNo → Type 0
-CallerFits t = t.0 < 64
+abbrev pub mode_word : Bool → List ℕ
+mode_word true = codes "on"
+mode_word false = codes "off"
 
--- a selector
-abbrev pub selector_words : SelNo → List (List ℕ)
-selector_words s = selector_word s ∷ []
+-- an attachment, where one is given
+abbrev pub attachment_words : Option ℕ → List (List ℕ)
+attachment_words None = []
+attachment_words (Some att) = decimal att ∷ []
 
-abbrev pub SelectorFits : SelNo → Type 0
-SelectorFits s = IsNumber s.0
+abbrev pub elapsed_words : Bool → List (List ℕ)
+elapsed_words true = codes "elapsed" ∷ []
+elapsed_words false = []
 
--- a channel
-abbrev pub channel_words : ChanNo → List (List ℕ)
-channel_words c = channel_word c ∷ []
+abbrev pub argument_words : Arguments → List (List ℕ)
+argument_words nothing = []
+argument_words (one_caller t) = caller_word t ∷ []
+argument_words (one_selector s) = selector_word s ∷ []
+argument_words (one_channel c) = channel_word c ∷ []
+argument_words (one_kind kind) = kind_word kind ∷ []
+argument_words (channel_mode c on) = channel_word c ∷ mode_word on ∷ []
+argument_words (channel_selector c s) = channel_word c ∷ selector_word s ∷ []
+argument_words (registration s c ops att) = selector_word s ∷ channel_word c ∷ decimal ops ∷ attachment_words att
+argument_words (selector_key s k) = selector_word s ∷ key_word k ∷ []
+argument_words (key_ops s k ops) = selector_word s ∷ key_word k ∷ decimal ops ∷ []
+argument_words (key_number s k n) = selector_word s ∷ key_word k ∷ decimal n ∷ []
+argument_words (selector_wait s waiting) = selector_word s ∷ waiting_words waiting
+argument_words (selector_told s elapsed pairs) = selector_word s ∷ (elapsed_words elapsed ++ map pair_word pairs)
 
-abbrev pub ChannelFits : ChanNo → Type 0
-ChannelFits c = IsNumber c.0
+-- ---- their ranges
 
--- a kind of channel
-abbrev pub kind_words : Kind → List (List ℕ)
-kind_words kind = kind_word kind ∷ []
+abbrev pub IsNumber : ℕ → Type 0
+IsNumber n = n < 2 ^ 32
 
--- a channel, and on or off
-abbrev pub mode_words : ChanNo × Bool → List (List ℕ)
-mode_words p = channel_word p.0 ∷ mode_word p.1 ∷ []
+-- a serial that stands behind a point
+pub record IsSerial (m : ℕ) : Type 0 where
+  pub some : m ≢ 0
+  pub fits : IsNumber m
 
-abbrev pub ModeFits : ChanNo × Bool → Type 0
-ModeFits p = IsNumber p.0.0
+-- a key, as a line may name it
+pub record IsKey (k : KeyId) : Type 0 where
+  pub index_fits : IsNumber k.index
+  pub serial_fits : IsNumber k.serial
 
--- a channel and a selector
-abbrev pub channel_selector_words : ChanNo × SelNo → List (List ℕ)
-channel_selector_words p = channel_word p.0 ∷ selector_word p.1 ∷ []
+-- a key with operations, as a line may name them
+pub record IsPair (p : KeyId × ℕ) : Type 0 where
+  pub key_fits : IsKey p.0
+  pub ops_fit : p.1 < 256
 
-abbrev pub ChannelSelectorFits : ChanNo × SelNo → Type 0
-ChannelSelectorFits p = IsNumber p.0.0 × IsNumber p.1.0
+-- keys with operations, each key at most once
+abbrev pub ArePairs : List (KeyId × ℕ) → Type 0
+ArePairs pairs = All IsPair pairs × AllPairs (λ k m. k ≢ m) (map (λ p. p.0) pairs)
 
--- a selector, a channel, operations, and an attachment or none
-abbrev pub registration_words : SelNo × ChanNo × ℕ × Option ℕ → List (List ℕ)
-registration_words p = selector_word p.0 ∷ channel_word p.1 ∷ decimal p.2 ∷ attachment_words p.3
+-- a number of milliseconds, less than 2 ^ 63 either way
+abbrev pub IsMilliseconds : ℤ → Type 0
+IsMilliseconds ms = nat_abs ms < 2 ^ 63
 
-abbrev pub RegistrationFits : SelNo × ChanNo × ℕ × Option ℕ → Type 0
-RegistrationFits p = IsNumber p.0.0 × IsNumber p.1.0 × (p.2 < 256) × IsAttachment p.3
+abbrev pub IsTime : Waiting → Type 0
+IsTime Now = ⊤
+IsTime Wait = ⊤
+IsTime (For ms) = IsMilliseconds ms
 
--- a selector and a key
-abbrev pub selector_key_words : SelNo × KeyId → List (List ℕ)
-selector_key_words p = selector_word p.0 ∷ key_word p.1 ∷ []
+abbrev pub IsAttachment : Option ℕ → Type 0
+IsAttachment None = ⊤
+IsAttachment (Some att) = att < 2 ^ 64
 
-abbrev pub SelectorKeyFits : SelNo × KeyId → Type 0
-SelectorKeyFits p = IsNumber p.0.0 × IsKey p.1
+-- arguments that a line can say
+abbrev pub ArgumentsFit : Arguments → Type 0
+ArgumentsFit nothing = ⊤
+ArgumentsFit (one_caller t) = t.0 < 64
+ArgumentsFit (one_selector s) = IsNumber s.0
+ArgumentsFit (one_channel c) = IsNumber c.0
+ArgumentsFit (one_kind kind) = ⊤
+ArgumentsFit (channel_mode c on) = IsNumber c.0
+ArgumentsFit (channel_selector c s) = IsNumber c.0 × IsNumber s.0
+ArgumentsFit (registration s c ops att) = IsNumber s.0 × IsNumber c.0 × (ops < 256) × IsAttachment att
+ArgumentsFit (selector_key s k) = IsNumber s.0 × IsKey k
+ArgumentsFit (key_ops s k ops) = IsNumber s.0 × IsKey k × (ops < 256)
+ArgumentsFit (key_number s k n) = IsNumber s.0 × IsKey k × (n < 2 ^ 64)
+ArgumentsFit (selector_wait s waiting) = IsNumber s.0 × IsTime waiting
+ArgumentsFit (selector_told s elapsed pairs) = IsNumber s.0 × ArePairs pairs
 
--- a selector, a key and operations
-abbrev pub key_ops_words : SelNo × KeyId × ℕ → List (List ℕ)
-key_ops_words p = selector_word p.0 ∷ key_word p.1 ∷ decimal p.2 ∷ []
+-- ---- their keys
 
-abbrev pub KeyOpsFits : SelNo × KeyId × ℕ → Type 0
-KeyOpsFits p = IsNumber p.0.0 × IsKey p.1 × (p.2 < 256)
+-- the arguments name a key whose serial isn't 0
+abbrev pub HaveSerial : Arguments → Type 0
+HaveSerial nothing = ⊥
+HaveSerial (one_caller t) = ⊥
+HaveSerial (one_selector s) = ⊥
+HaveSerial (one_channel c) = ⊥
+HaveSerial (one_kind kind) = ⊥
+HaveSerial (channel_mode c on) = ⊥
+HaveSerial (channel_selector c s) = ⊥
+HaveSerial (registration s c ops att) = ⊥
+HaveSerial (selector_key s k) = k.serial ≢ 0
+HaveSerial (key_ops s k ops) = k.serial ≢ 0
+HaveSerial (key_number s k n) = k.serial ≢ 0
+HaveSerial (selector_wait s waiting) = ⊥
+HaveSerial (selector_told s elapsed pairs) = Any (λ p. p.0.serial ≢ 0) pairs
 
--- a selector, a key and a number
-abbrev pub key_number_words : SelNo × KeyId × ℕ → List (List ℕ)
-key_number_words p = selector_word p.0 ∷ key_word p.1 ∷ decimal p.2 ∷ []
+-- ---- reading them
 
-abbrev pub KeyNumberFits : SelNo × KeyId × ℕ → Type 0
-KeyNumberFits p = IsNumber p.0.0 × IsKey p.1 × (p.2 < 2 ^ 64)
-
--- a selector, and how long to wait
-abbrev pub wait_words : SelNo × Waiting → List (List ℕ)
-wait_words p = selector_word p.0 ∷ waiting_words p.1
-
-abbrev pub WaitFits : SelNo × Waiting → Type 0
-WaitFits p = IsNumber p.0.0 × IsTime p.1
-
--- a selector, whether its time is over, and keys with operations, each key at most once
-abbrev pub told_words : SelNo × Bool × List (KeyId × ℕ) → List (List ℕ)
-told_words p = selector_word p.0 ∷ (elapsed_words p.1 ++ map pair_word p.2)
-
-abbrev pub ToldFits : SelNo × Bool × List (KeyId × ℕ) → Type 0
-ToldFits p = IsNumber p.0.0 × ArePairs p.2
+-- the answer is the arguments of this shape that these words are, where there are any
+abbrev pub ReadsArguments : {A : Type 0} → (A → Arguments) → List (List ℕ) → Option A → Type 0
+ReadsArguments shape words result =
+    Reads (λ x. ArgumentsFit (shape x)) (λ x. argument_words (shape x)) words result

@@ -1,69 +1,81 @@
--- The words with which calls begin.
+-- A call is a word and its arguments.
 use Rattle.std.specs.Prelude.{ℕ, List, codes}
+use Rattle.nio_event.specs.Arguments.{Arguments, nothing, one_caller, one_selector, one_channel, one_kind, channel_mode, channel_selector, registration, selector_key, key_ops, key_number, selector_wait, selector_told}
 use Rattle.nio_event.specs.declared.call.Call.{Call}
 use Rattle.nio_event.specs.declared.call.Call.TheVariants as call
 use Rattle.nio_event.specs.declared.call_word.CallWord.{CallWord}
-use Rattle.nio_event.specs.declared.call_word.CallWord.TheVariants.{Selector, Channel, Blocking, IsBlocking, IsOpen, IsRegistered, KeyFor, Register, Closec, Valid, Interest, Ready, Iset, Ior, Iand, Cancel, Unselect, Attach, Attachment, Begin, Told, Failed, Wakeup, Close, CloseEnd, Keys, Selected, Interrupt, Interrupted}
+use Rattle.nio_event.specs.declared.call_word.CallWord.TheVariants as word
+use Rattle.nio_event.specs.declared.call_word.ChannelWord.TheVariants as on_channel
+use Rattle.nio_event.specs.declared.call_word.KeyOpsWord.TheVariants as on_key_ops
+use Rattle.nio_event.specs.declared.call_word.KeyWord.TheVariants as on_key
+use Rattle.nio_event.specs.declared.call_word.LoneWord.TheVariants as alone
+use Rattle.nio_event.specs.declared.call_word.SelectorWord.TheVariants as on_selector
 
 abbrev pub call_word_text : CallWord → List ℕ
-call_word_text Selector = codes "selector"
-call_word_text Channel = codes "channel"
-call_word_text Blocking = codes "blocking"
-call_word_text IsBlocking = codes "is-blocking"
-call_word_text IsOpen = codes "is-open"
-call_word_text IsRegistered = codes "is-registered"
-call_word_text KeyFor = codes "key-for"
-call_word_text Register = codes "register"
-call_word_text Closec = codes "closec"
-call_word_text Valid = codes "valid"
-call_word_text Interest = codes "interest"
-call_word_text Ready = codes "ready"
-call_word_text Iset = codes "iset"
-call_word_text Ior = codes "ior"
-call_word_text Iand = codes "iand"
-call_word_text Cancel = codes "cancel"
-call_word_text Unselect = codes "unselect"
-call_word_text Attach = codes "attach"
-call_word_text Attachment = codes "attachment"
-call_word_text Begin = codes "begin"
-call_word_text Told = codes "told"
-call_word_text Failed = codes "failed"
-call_word_text Wakeup = codes "wakeup"
-call_word_text Close = codes "close"
-call_word_text CloseEnd = codes "close-end"
-call_word_text Keys = codes "keys"
-call_word_text Selected = codes "selected"
-call_word_text Interrupt = codes "interrupt"
-call_word_text Interrupted = codes "interrupted"
+call_word_text (word.Alone alone.Selector) = codes "selector"
+call_word_text word.Channel = codes "channel"
+call_word_text word.Blocking = codes "blocking"
+call_word_text (word.OnChannel on_channel.IsBlocking) = codes "is-blocking"
+call_word_text (word.OnChannel on_channel.IsOpen) = codes "is-open"
+call_word_text (word.OnChannel on_channel.IsRegistered) = codes "is-registered"
+call_word_text word.KeyFor = codes "key-for"
+call_word_text word.Register = codes "register"
+call_word_text (word.OnChannel on_channel.Closec) = codes "closec"
+call_word_text (word.OnKey on_key.Valid) = codes "valid"
+call_word_text (word.OnKey on_key.Interest) = codes "interest"
+call_word_text (word.OnKey on_key.Ready) = codes "ready"
+call_word_text (word.OnKeyOps on_key_ops.Iset) = codes "iset"
+call_word_text (word.OnKeyOps on_key_ops.Ior) = codes "ior"
+call_word_text (word.OnKeyOps on_key_ops.Iand) = codes "iand"
+call_word_text (word.OnKey on_key.Cancel) = codes "cancel"
+call_word_text (word.OnKey on_key.Unselect) = codes "unselect"
+call_word_text word.Attach = codes "attach"
+call_word_text (word.OnKey on_key.Attachment) = codes "attachment"
+call_word_text word.Begin = codes "begin"
+call_word_text word.Told = codes "told"
+call_word_text (word.OnSelector on_selector.Failed) = codes "failed"
+call_word_text (word.OnSelector on_selector.Wakeup) = codes "wakeup"
+call_word_text (word.OnSelector on_selector.Close) = codes "close"
+call_word_text (word.OnSelector on_selector.CloseEnd) = codes "close-end"
+call_word_text (word.OnSelector on_selector.Keys) = codes "keys"
+call_word_text (word.OnSelector on_selector.Selected) = codes "selected"
+call_word_text word.Interrupt = codes "interrupt"
+call_word_text (word.Alone alone.Interrupted) = codes "interrupted"
 
--- the word of a call
+-- a call's word and its arguments
+abbrev pub call_parts : Call → CallWord × Arguments
+call_parts call.Selector = (word.Alone alone.Selector, nothing)
+call_parts (call.Channel kind) = (word.Channel, one_kind kind)
+call_parts (call.Blocking c on) = (word.Blocking, channel_mode c on)
+call_parts (call.IsBlocking c) = (word.OnChannel on_channel.IsBlocking, one_channel c)
+call_parts (call.IsOpen c) = (word.OnChannel on_channel.IsOpen, one_channel c)
+call_parts (call.IsRegistered c) = (word.OnChannel on_channel.IsRegistered, one_channel c)
+call_parts (call.KeyFor c s) = (word.KeyFor, channel_selector c s)
+call_parts (call.Register s c ops att) = (word.Register, registration s c ops att)
+call_parts (call.Closec c) = (word.OnChannel on_channel.Closec, one_channel c)
+call_parts (call.Valid s k) = (word.OnKey on_key.Valid, selector_key s k)
+call_parts (call.Interest s k) = (word.OnKey on_key.Interest, selector_key s k)
+call_parts (call.Ready s k) = (word.OnKey on_key.Ready, selector_key s k)
+call_parts (call.Iset s k ops) = (word.OnKeyOps on_key_ops.Iset, key_ops s k ops)
+call_parts (call.Ior s k ops) = (word.OnKeyOps on_key_ops.Ior, key_ops s k ops)
+call_parts (call.Iand s k ops) = (word.OnKeyOps on_key_ops.Iand, key_ops s k ops)
+call_parts (call.Cancel s k) = (word.OnKey on_key.Cancel, selector_key s k)
+call_parts (call.Unselect s k) = (word.OnKey on_key.Unselect, selector_key s k)
+call_parts (call.Attach s k att) = (word.Attach, key_number s k att)
+call_parts (call.Attachment s k) = (word.OnKey on_key.Attachment, selector_key s k)
+call_parts (call.Begin s waiting) = (word.Begin, selector_wait s waiting)
+call_parts (call.Told s elapsed pairs) = (word.Told, selector_told s elapsed pairs)
+call_parts (call.Failed s) = (word.OnSelector on_selector.Failed, one_selector s)
+call_parts (call.Wakeup s) = (word.OnSelector on_selector.Wakeup, one_selector s)
+call_parts (call.Close s) = (word.OnSelector on_selector.Close, one_selector s)
+call_parts (call.CloseEnd s) = (word.OnSelector on_selector.CloseEnd, one_selector s)
+call_parts (call.Keys s) = (word.OnSelector on_selector.Keys, one_selector s)
+call_parts (call.Selected s) = (word.OnSelector on_selector.Selected, one_selector s)
+call_parts (call.Interrupt t) = (word.Interrupt, one_caller t)
+call_parts call.Interrupted = (word.Alone alone.Interrupted, nothing)
+
 abbrev pub call_word : Call → CallWord
-call_word call.Selector = Selector
-call_word (call.Channel kind) = Channel
-call_word (call.Blocking c on) = Blocking
-call_word (call.IsBlocking c) = IsBlocking
-call_word (call.IsOpen c) = IsOpen
-call_word (call.IsRegistered c) = IsRegistered
-call_word (call.KeyFor c s) = KeyFor
-call_word (call.Register s c ops att) = Register
-call_word (call.Closec c) = Closec
-call_word (call.Valid s k) = Valid
-call_word (call.Interest s k) = Interest
-call_word (call.Ready s k) = Ready
-call_word (call.Iset s k ops) = Iset
-call_word (call.Ior s k ops) = Ior
-call_word (call.Iand s k ops) = Iand
-call_word (call.Cancel s k) = Cancel
-call_word (call.Unselect s k) = Unselect
-call_word (call.Attach s k n) = Attach
-call_word (call.Attachment s k) = Attachment
-call_word (call.Begin s waiting) = Begin
-call_word (call.Told s elapsed pairs) = Told
-call_word (call.Failed s) = Failed
-call_word (call.Wakeup s) = Wakeup
-call_word (call.Close s) = Close
-call_word (call.CloseEnd s) = CloseEnd
-call_word (call.Keys s) = Keys
-call_word (call.Selected s) = Selected
-call_word (call.Interrupt t) = Interrupt
-call_word call.Interrupted = Interrupted
+call_word call = (call_parts call).0
+
+abbrev pub arguments : Call → Arguments
+arguments call = (call_parts call).1

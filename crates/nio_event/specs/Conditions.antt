@@ -6,7 +6,7 @@
 --
 -- Read in the state: what is permanent (made, claimed); who has a turn, a hold, a pin or a taken index; who
 -- has begun, closes or has entered; that a key is in the cancelled set, where the caller selects, since then
--- nobody else removes it; what the selection in progress dropped.
+-- nobody else removes it; which indexes the selection in progress has still to put.
 -- Read in the caller's own acts: its claim of an index, while it has the pin of that claim, and whether it
 -- published the key since; what it found under its present hold, among it that a noted key is outside the
 -- key set; what it found of an index since it took it; what a closer found since it entered.
@@ -88,9 +88,9 @@ has_taken st me s i = is_held_by me (st.taker s.0 i)
 abbrev pub may_sweep : State → CallerNo → SelNo → ℕ → Bool
 may_sweep st me s i = has_begun st me s && in_cancelled_set (st.key s.0 i)
 
--- a selecting caller puts an index whose key its selection removed
-abbrev pub may_put_dropped : State → CallerNo → SelNo → ℕ → Bool
-may_put_dropped st me s i = has_begun st me s && st.dropped s.0 i
+-- a selecting caller puts an index whose key its selection removed, at a serial below the last
+abbrev pub may_put_due : State → CallerNo → SelNo → ℕ → Bool
+may_put_due st me s i = has_begun st me s && st.put_due s.0 i
 
 -- `me` holds the channel of its claim, and found it non-blocking under this hold
 abbrev pub may_publish : State → List Act → CallerNo → Option OwnClaim → Bool
@@ -184,7 +184,7 @@ Condition l own st me (Enter s found) = IsSelector l s × IsTrue (is_closer st m
 Condition l own st me (Pin s i found) = IsKey l s i × IsTrue (is_claimed st s i) × IsTrue (not (has_pin st me s i))
 -- the caller has a pin on i
 Condition l own st me (Unpin s i) = IsKey l s i × IsTrue (has_pin st me s i)
--- the caller claimed i, and hasn't published the key since
+-- the caller claimed i, and hasn't published the key since: so the key that it claimed is the one that i has
 Condition l own st me (ClearMark s i found) = IsKey l s i × IsTrue (is_unpublished s.0 i own)
 -- the caller holds c and has taken i; `from` is what it found of i since it took it, with a serial below the
 -- last
@@ -193,6 +193,7 @@ Condition l own st me (ClaimAgain s i c from found) =
     × (from.serial < last_serial)
 -- there are indexes in these 64
 Condition l own st me (LookFree s j found) = IsSelector l s × (64 * j < l.keys)
--- the caller has taken i; or it has begun on s, and its selection removed the key of i and hasn't put i yet
-Condition l own st me (PutFree s i) = IsKey l s i × IsTrue (has_taken st me s i || may_put_dropped st me s i)
+-- the caller has taken i; or it has begun on s, and its selection removed the key of i, at a serial below the
+-- last, and hasn't put i yet
+Condition l own st me (PutFree s i) = IsKey l s i × IsTrue (has_taken st me s i || may_put_due st me s i)
 Condition l own st me (TakeFree s i found) = IsKey l s i

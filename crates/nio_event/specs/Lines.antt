@@ -1,9 +1,18 @@
--- What a line is read as: a caller and a call.
+-- What the words behind a call word, and a whole line, are read as.
 use Rattle.std.specs.Prelude.{◌≡◌, ℕ, ◌<◌, List, ◌∷◌, Option, Some, IfSome}
 use Rattle.nio_base.specs.declared.numbers.CallerNo.{CallerNo}
+use Rattle.nio_event.specs.Arguments.{argument_words}
+use Rattle.nio_event.specs.CallWords.{arguments, call_word}
 use Rattle.nio_event.specs.Calls.{IsCall, IsLine, call_words}
+use Rattle.nio_event.specs.Reading.{Reads}
 use Rattle.nio_event.specs.Words.{caller_word}
 use Rattle.nio_event.specs.declared.call.Call.{Call}
+use Rattle.nio_event.specs.declared.call_word.CallWord.{CallWord}
+
+-- the answer is the call with this word whose arguments these words are, where there is one
+abbrev pub ReadsCall : CallWord → List (List ℕ) → Option Call → Type 0
+ReadsCall word args result =
+    Reads (λ c. IsCall c × (call_word c ≡ word)) (λ c. argument_words (arguments c)) args result
 
 pub record FitsLine (p : CallerNo × Call) : Type 0 where
   pub caller : p.0.0 < 64

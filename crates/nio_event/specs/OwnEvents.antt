@@ -1,7 +1,7 @@
 -- What a caller knows from its own acts: general words over the list of its acts, oldest first, and
--- small tests of one act. What is "found" is what a look found; of the key that is noted for a channel
--- a caller knows too what it noted itself.
-use Rattle.std.specs.Prelude.{ℕ, suc, ◌==◌, nat_lt, Bool, true, false, not, ◌&&◌, if◌then◌else◌, Option, Some, None, List, [], ◌∷◌, ◌++◌, fold, count_by}
+-- small tests of one act. What is "found" is what a look found, of a key also what pinning its index found;
+-- of the key that is noted for a channel a caller knows too what it noted itself.
+use Rattle.std.specs.Prelude.{ℕ, suc, ◌==◌, nat_lt, Bool, true, false, not, ◌&&◌, ◌||◌, if◌then◌else◌, Option, Some, None, List, [], ◌∷◌, ◌++◌, fold, count_by}
 use Rattle.std.specs.List.{list_any}
 use Rattle.std.specs.Option.{option_or}
 use Rattle.nio_base.specs.declared.numbers.ChanNo.{ChanNo}
@@ -126,6 +126,33 @@ gives_index s i (PutFree s' i') = (s'.0 == s) && (i' == i)
 gives_index s i (ClaimAgain s' i' c from false) = (s'.0 == s) && (i' == i)
 gives_index s i _ = false
 
+-- ---- its pin on an index
+
+-- whether an act puts a pin on index i, or takes it off
+abbrev pub pin_changed : ℕ → ℕ → Act → Option Bool
+pin_changed s i (Pin s' i' found) = if (s'.0 == s) && (i' == i) then Some true else None
+pin_changed s i (Claim s' i' c false) = if (s'.0 == s) && (i' == i) then Some true else None
+pin_changed s i (ClaimAgain s' i' c from false) = if (s'.0 == s) && (i' == i) then Some true else None
+pin_changed s i (Unpin s' i') = if (s'.0 == s) && (i' == i) then Some false else None
+pin_changed s i _ = None
+
+-- it pinned or claimed index i of selector s, and didn't take the pin off since
+abbrev pub keeps_pin : ℕ → ℕ → List Act → Bool
+keeps_pin s i own = is_yes (last (pin_changed s i) own)
+
+-- ---- a free index that it took
+
+-- whether an act takes index i out of the free ones, or gives it away: it puts it back, or claims it again
+abbrev pub taken_changed : ℕ → ℕ → Act → Option Bool
+taken_changed s i (TakeFree s' i' true) = if (s'.0 == s) && (i' == i) then Some true else None
+taken_changed s i (PutFree s' i') = if (s'.0 == s) && (i' == i) then Some false else None
+taken_changed s i (ClaimAgain s' i' c from false) = if (s'.0 == s) && (i' == i) then Some false else None
+taken_changed s i _ = None
+
+-- it took index i of selector s when it was free, and neither put it back nor claimed it since
+abbrev pub keeps_taken : ℕ → ℕ → List Act → Bool
+keeps_taken s i own = is_yes (last (taken_changed s i) own)
+
 -- ---- its claim of an index
 
 -- a claim of an index: for which channel, and with which serial
@@ -161,15 +188,29 @@ leaves_unpublished s i _ = None
 abbrev pub is_unpublished : ℕ → ℕ → List Act → Bool
 is_unpublished s i own = is_yes (last (leaves_unpublished s i) own)
 
+-- it noted a key for channel c in selector s
+abbrev pub notes : ℕ → ℕ → Act → Bool
+notes c s (Enrol c' s' i serial found) = (c'.0 == c) && (s'.0 == s)
+notes c s _ = false
+
+-- it published the key of index i of selector s
+abbrev pub publishes : ℕ → ℕ → Act → Bool
+publishes s i (Publish s' i' found) = (s'.0 == s) && (i' == i)
+publishes s i _ = false
+
 -- ---- a channel's noted key
 
--- by what it did under its hold, none was noted, or the key that was it found outside the key set. A
--- key that it found not published it might publish itself after that look: no call does
-abbrev pub is_clear_by : ℕ → List Act → Option (Option KeyId) → Bool
-is_clear_by s held None = false
-is_clear_by s held (Some None) = true
-is_clear_by s held (Some (Some k)) = has (finds_outside s k) held
+-- what it did under its hold since it last noted a key for the channel or published the key of index i
+abbrev pub since_noted : ℕ → ℕ → ℕ → List Act → List Act
+since_noted c s i held = since_from (λ act. notes c s act || publishes s i act) held
+
+-- by what it did under its hold, none was noted, or the key that was it found outside the key set; a look
+-- that is older than its own noting or publishing there doesn't count
+abbrev pub is_clear_by : ℕ → ℕ → List Act → Option (Option KeyId) → Bool
+is_clear_by c s held None = false
+is_clear_by c s held (Some None) = true
+is_clear_by c s held (Some (Some k)) = has (finds_outside s k) (since_noted c s k.index held)
 
 -- the same of channel c in selector s, under its present hold of c
 abbrev pub is_clear : ℕ → ℕ → List Act → Bool
-is_clear c s own = is_clear_by s (under c own) (last (noted_found c s) (under c own))
+is_clear c s own = is_clear_by c s (under c own) (last (noted_found c s) (under c own))

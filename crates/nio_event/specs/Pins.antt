@@ -1,5 +1,6 @@
 -- Laws of indexes that come back: a pinned index keeps its key; an index is claimed again only after its key
--- was removed, and only while nobody has a pin on it; a key that a selection found and didn't remove stays.
+-- was removed, and only while nobody has a pin on it; while a caller selects, keys that it doesn't remove
+-- stay.
 use Rattle.std.specs.Prelude.{◌≡◌, ◌↔◌, ℕ, ◌==◌, ◌&&◌, Bool, false, Some, IsTrue, IsFalse, List, ◌∷◌, ◌++◌}
 use Rattle.nio_base.specs.Limits.{IsFit}
 use Rattle.nio_base.specs.declared.limits.Limits.{Limits}
@@ -7,9 +8,9 @@ use Rattle.nio_base.specs.declared.numbers.CallerNo.{CallerNo}
 use Rattle.nio_base.specs.declared.numbers.ChanNo.{ChanNo}
 use Rattle.nio_base.specs.declared.numbers.KeyId.{KeyId}
 use Rattle.nio_base.specs.declared.numbers.SelNo.{SelNo}
-use Rattle.nio_event.specs.Conditions.{has_pin, has_begun}
+use Rattle.nio_event.specs.Conditions.{has_pin, has_taken, has_begun}
 use Rattle.nio_event.specs.Histories.{state_after, event_of, mine, IsLegal}
-use Rattle.nio_event.specs.OwnEvents.{OwnClaim, has, own_claim, unpins, gives_turn}
+use Rattle.nio_event.specs.OwnEvents.{OwnClaim, has, own_claim, is_unpublished, keeps_pin, keeps_taken, unpins, gives_turn}
 use Rattle.nio_event.specs.Sets.{was_claimed, can_come_back}
 use Rattle.nio_event.specs.declared.act.Act.{Act}
 use Rattle.nio_event.specs.declared.act.Act.TheVariants.{ClaimAgain, Remove}
@@ -21,6 +22,16 @@ pub record IsSameKey (was now : Stage) : Type 0 where
   pub claimed : IsTrue now.claimed
   pub serial : now.serial ≡ was.serial
   pub channel : now.chan ≡ was.chan
+
+-- a caller has a pin on an index where it pinned or claimed it, and didn't take the pin off since
+abbrev pub PinsAreOwn : Type 0
+PinsAreOwn = (l : Limits) (n : CallerNo) (s : SelNo) (i : ℕ) (events : List Event) → IsLegal l events
+    → has_pin (state_after events) n s i ≡ keeps_pin s.0 i (mine n events)
+
+-- a caller has taken an index where it took it when it was free, and neither put it back nor claimed it since
+abbrev pub TakenIsOwn : Type 0
+TakenIsOwn = (l : Limits) (n : CallerNo) (s : SelNo) (i : ℕ) (events : List Event) → IsLegal l events
+    → has_taken (state_after events) n s i ≡ keeps_taken s.0 i (mine n events)
 
 -- from a pin until the same caller takes it off the index keeps its key, whatever others do
 abbrev pub PinnedKeysStay : Type 0
@@ -52,6 +63,11 @@ OwnClaimsStand = (l : Limits) (n : CallerNo) (s : SelNo) (i : ℕ) (claim : OwnC
     → own_claim s.0 i (mine n events) ≡ Some claim
     → IsTrue (has_pin (state_after events) n s i) × IsOfClaim claim ((state_after events).key s.0 i)
 
+-- a key that its caller claimed and hasn't published since isn't published: nobody else publishes it
+abbrev pub UnpublishedKeysStay : Type 0
+UnpublishedKeysStay = (l : Limits) (n : CallerNo) (s : SelNo) (i : ℕ) (events : List Event) → IsFit l → IsLegal l events
+    → IsTrue (is_unpublished s.0 i (mine n events)) → IsFalse ((state_after events).key s.0 i).published
+
 -- a key that is noted for a channel was claimed for it; while the index has this key, it is of this channel
 abbrev pub NotedKeysAreClaimed : Type 0
 NotedKeysAreClaimed = (l : Limits) (c : ChanNo) (s : SelNo) (k : KeyId) (events : List Event) → IsFit l → IsLegal l events
@@ -70,8 +86,8 @@ pub record IsKeptInSelection (was now : Stage) : Type 0 where
   pub removed : IsFalse now.removed
   pub published : IsTrue was.published → IsTrue now.published
 
--- a key that isn't removed stays and keeps its index while a caller selects and doesn't remove it itself; so
--- does its index not become free
+-- a key that isn't removed stays and keeps its index while a caller selects and doesn't remove it itself; nor
+-- does its index become free
 abbrev pub SelectionsKeepKeys : Type 0
 SelectionsKeepKeys = (l : Limits) (n : CallerNo) (s : SelNo) (i : ℕ) (before later : List Event) → IsLegal l (before ++ later)
     → IsTrue (has_begun (state_after before) n s) → IsFalse (has (gives_turn s.0) (mine n later)) → IsFalse (has (removes s.0 i) (mine n later))

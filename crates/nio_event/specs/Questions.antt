@@ -77,7 +77,6 @@ pub data Answer : Type 0 where
   key_mark : KeyMark → Answer
   exchange : Result (Unit {0}) KeyMark → Answer
   nothing : Answer
-  deriving IsSet as Answer-set
 
 -- the kind of a step and its parameters
 abbrev pub question_of : Act → Question

@@ -6,8 +6,3 @@ use Rattle.std.specs.Prelude.{◌≡◌, Option, Some, IfSome}
 pub record Reads {A T : Type 0} (Fits : A → Type 0) (print : A → T) (text : T) (result : Option A) : Type 0 where
   pub found : IfSome result (λ x. Fits x × (text ≡ print x))
   pub only : (x : A) → Fits x → text ≡ print x → result ≡ Some x
-
--- the same of what is made of what is read
-pub record MadeFrom {A C T : Type 0} (Fits : A → Type 0) (print : A → T) (make : A → C) (text : T) (result : Option C) : Type 0 where
-  pub found : IfSome result (λ c. (x : A) × Fits x × (text ≡ print x) × (c ≡ make x))
-  pub only : (x : A) → Fits x → text ≡ print x → result ≡ Some (make x)

@@ -26,6 +26,11 @@ is_valid k = in_key_set k && not k.cancelled
 abbrev pub in_selected_set : State → ℕ → ℕ → Bool
 in_selected_set st s i = in_key_set (st.key s i) && (st.mark s i).selected
 
+-- nothing in the stage forbids that the index is given to a new key: its key was published, cancelled and
+-- removed, and there is a next serial
+abbrev pub can_come_back : Stage → Bool
+can_come_back k = k.claimed && k.published && k.cancelled && k.removed && nat_lt k.serial last_serial
+
 -- ---- a key, by the stage of its index and by its serial
 
 -- the key is the present one of its index
@@ -49,11 +54,6 @@ was_removed k serial = nat_lt serial k.serial || (fits k serial && k.removed)
 -- the key is in the key set
 abbrev pub is_in_key_set : Stage → ℕ → Bool
 is_in_key_set k serial = fits k serial && in_key_set k
-
--- the key that the index has was published, cancelled and removed, and its serial isn't the last: the index
--- can be given to a new key
-abbrev pub can_come_back : Stage → Bool
-can_come_back k = k.claimed && k.published && k.cancelled && k.removed && nat_lt k.serial last_serial
 
 -- the key is valid
 abbrev pub is_valid_key : Stage → ℕ → Bool

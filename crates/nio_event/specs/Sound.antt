@@ -1,5 +1,5 @@
 -- What holds of the state after every legal history.
-use Rattle.std.specs.Prelude.{◌≡◌, ℕ, ◌<◌, ◌≤◌, IsTrue, IsFalse, Option, None, is_some}
+use Rattle.std.specs.Prelude.{◌≡◌, ℕ, ◌<◌, ◌≤◌, IsTrue, IsFalse, None, is_some}
 use Rattle.std.specs.Option.{ForSome}
 use Rattle.nio_base.specs.declared.limits.Limits.{Limits}
 use Rattle.nio_event.specs.Conditions.{IsCaller, IsChannel}
@@ -24,17 +24,17 @@ pub record IsSound (st : State) : Type 0 where
   pub begun_open : (s : ℕ) → IsTrue (st.begun s) → IsFalse (st.entered s)
   -- an index that isn't claimed has no pin
   pub unclaimed_unpinned : (s i n : ℕ) → IsFalse (st.key s i).claimed → IsFalse (st.pinned s i n)
-  -- an index that is free, that a caller has taken, or that the selection in progress dropped, is in no set:
-  -- its key was published, cancelled and removed, and there is a next serial
+  -- the key of an index that is free, that a caller has taken, or that the selection in progress has still to
+  -- put, is in no set: it was published, cancelled and removed; and there is a next serial
   pub free_back : (s i : ℕ) → IsTrue (st.free s i) → IsTrue (can_come_back (st.key s i))
   pub taken_back : (s i : ℕ) → IsTrue (is_some (st.taker s i)) → IsTrue (can_come_back (st.key s i))
-  pub dropped_back : (s i : ℕ) → IsTrue (st.dropped s i) → IsTrue (can_come_back (st.key s i))
-  -- it is only one of the three, and nobody has a free index
+  pub due_back : (s i : ℕ) → IsTrue (st.put_due s i) → IsTrue (can_come_back (st.key s i))
+  -- an index is at most one of: free, taken, still to be put
   pub free_untaken : (s i : ℕ) → IsTrue (st.free s i) → st.taker s i ≡ None
-  pub free_undropped : (s i : ℕ) → IsTrue (st.free s i) → IsFalse (st.dropped s i)
-  pub taken_undropped : (s i : ℕ) → IsTrue (is_some (st.taker s i)) → IsFalse (st.dropped s i)
-  -- an index is dropped while the selection that dropped it is in progress
-  pub dropped_begun : (s i : ℕ) → IsTrue (st.dropped s i) → IsTrue (st.begun s)
+  pub free_not_due : (s i : ℕ) → IsTrue (st.free s i) → IsFalse (st.put_due s i)
+  pub taken_not_due : (s i : ℕ) → IsTrue (is_some (st.taker s i)) → IsFalse (st.put_due s i)
+  -- an index is still to be put while the selection that removed its key is in progress
+  pub due_begun : (s i : ℕ) → IsTrue (st.put_due s i) → IsTrue (st.begun s)
 
 -- every number that the state speaks of is within the limits
 pub record IsWithin (l : Limits) (st : State) : Type 0 where

@@ -1,8 +1,8 @@
 -- The state of the sequential selector: what a table of selectors, keys and channels holds.
 --
--- Each part is a function of the numbers that name it, so that there are no lengths to speak of: a
--- channel that isn't made and a key that isn't claimed hold the opening value. A part has one setter,
--- below, which changes it at one number and nowhere else. `docs/READING.md` says how to read the
+-- Each part is a function of the numbers that name it, so that there are no lengths to speak of: what
+-- nothing was done to holds the opening value. A part has one setter, below, which changes it at one
+-- number and nowhere else. `docs/READING.md` says how to read the
 -- definitions of this folder, and in which order.
 use Rattle.std.specs.Prelude.{ℕ, ◌==◌, Bool, false, ◌&&◌, if◌then◌else◌, Option, None}
 use Rattle.nio_base.specs.declared.kind.Kind.TheVariants.{Stream}
@@ -48,9 +48,10 @@ pub record State : Type 0 where
   pub closer : ℕ → Option CallerNo
   pub entered : ℕ → Bool
   -- Of an index: the caller that took it when it was free, and neither put it back nor claimed it
-  -- since; and whether the selection in progress removed its key, and didn't put the index yet.
+  -- since; and whether the selection in progress removed its key, whose serial is below the last, and
+  -- hasn't put the index yet.
   pub taker : ℕ → ℕ → Option CallerNo
-  pub dropped : ℕ → ℕ → Bool
+  pub put_due : ℕ → ℕ → Bool
 
 -- what isn't there yet
 
@@ -94,7 +95,7 @@ opening = record {
   closer = λ _. None;
   entered = λ _. false;
   taker = λ _ _. None;
-  dropped = λ _ _. false;
+  put_due = λ _ _. false;
 }
 
 -- a function that is changed at one number, or at one pair of numbers
@@ -167,9 +168,9 @@ with_entered st s x = record st { entered = put st.entered s x }
 abbrev pub with_taker : State → ℕ → ℕ → Option CallerNo → State
 with_taker st s i x = record st { taker = put_at st.taker s i x }
 
-abbrev pub with_dropped : State → ℕ → ℕ → Bool → State
-with_dropped st s i x = record st { dropped = put_at st.dropped s i x }
+abbrev pub with_put_due : State → ℕ → ℕ → Bool → State
+with_put_due st s i x = record st { put_due = put_at st.put_due s i x }
 
--- the selection on the selector is over, or a new one begins: it has dropped nothing
-abbrev pub with_none_dropped : State → ℕ → State
-with_none_dropped st s = record st { dropped = λ t i. if t == s then false else st.dropped t i }
+-- the selection on the selector is over: no index is to be put by it any more
+abbrev pub with_no_put_due : State → ℕ → State
+with_no_put_due st s = record st { put_due = λ t i. if t == s then false else st.put_due t i }

@@ -1,5 +1,5 @@
 -- A worked history, in which each kind of step stands: two callers register a channel, select, cancel its
--- key in the middle of the selection, give its index again, and close the channel and the selector.
+-- key in the middle of the selection, claim its index again, and close the channel and the selector.
 use Rattle.std.specs.Prelude.{ℕ, Bool, true, false, Some, None, Ok, Err, List, [], ◌∷◌, take, ⊤}
 use Rattle.nio_base.specs.declared.kind.Kind.TheVariants.{Source}
 use Rattle.nio_base.specs.declared.limits.Limits.{Limits}
@@ -119,7 +119,7 @@ worked_history =
     event_of u (PutFree s 0) ∷
     event_of u (EndWake s (gate true false)) ∷
     event_of u (GiveTurn s) ∷
-    -- it registers the channel again: index 0 is free, but caller 1 still has its pin on it
+    -- it registers the channel again: it takes index 0, which is free, but caller 1 still has its pin on it
     event_of u (LookChannel c (chan false false)) ∷
     event_of u (TryHoldBit c None) ∷
     event_of u (LookChannel c (chan false false)) ∷
@@ -134,7 +134,7 @@ worked_history =
     event_of u (LookKey s 0 (stage 0 true true true)) ∷
     event_of u (ClaimAgain s 0 c (stage 0 true true true) true) ∷
     event_of u (PutFree s 0) ∷
-    -- caller 1 takes its pin off: now the index is given again, to a key with serial 1
+    -- caller 1 takes the key out of the selected set and its pin off: now the index is given to a key with serial 1
     event_of v (UnselectBit s 0 true) ∷
     event_of v (Unpin s 0) ∷
     event_of u (LookFree s 0 1) ∷
@@ -211,24 +211,31 @@ refused_events =
     (34, event_of u (CancelKey s 0 (stage 0 true false false))) ∷
     -- only the holder of the turn begins a selection
     (36, event_of v (BeginLook s (gate false false))) ∷
-    -- a selection removes no key that is not cancelled
+    -- a selection removes no key that is not cancelled, and none twice
     (41, event_of u (Remove s 0 (stage 0 true false false))) ∷
+    (53, event_of u (Remove s 0 (stage 0 true true true))) ∷
     -- only the selecting caller marks, and only what it is told of and finds
     (45, event_of v (Mark s 0 (mark false 0) 1 (Ok tt))) ∷
     (45, event_of u (Mark s 0 (mark false 0) 0 (Ok tt))) ∷
     (45, event_of u (Mark s 0 (mark true 1) 4 (Ok tt))) ∷
-    -- an index is put by the caller whose selection dropped it, or that has taken it, and once
+    -- an index is put by the caller whose selection removed its key, or that has taken it, and once
     (53, event_of v (PutFree s 0)) ∷
     (54, event_of u (PutFree s 0)) ∷
     (66, event_of v (PutFree s 0)) ∷
+    (76, event_of u (PutFree s 0)) ∷
     -- an index is claimed again from what the caller found since it took it, and not while it is pinned
     (66, event_of u (ClaimAgain s 0 c (stage 0 true true true) true)) ∷
     (68, event_of u (ClaimAgain s 0 c (stage 0 true true true) false)) ∷
-    -- a mark is cleared before the key is published
+    (75, event_of v (ClaimAgain s 0 c (stage 0 true true true) false)) ∷
+    -- a mark is cleared by who claimed the index, before the key is published
+    (76, event_of v (ClearMark s 0 (mark false 5))) ∷
     (82, event_of u (ClearMark s 0 (mark false 0))) ∷
-    -- a channel goes back to blocking mode only after a look at its noted keys
+    -- a key is noted with the serial of the claim
+    (80, event_of u (Enrol c s 0 0 (Some (noted 0 0)))) ∷
+    -- a channel goes back to blocking mode only after a look at its noted keys, since it noted one itself
     (99, event_of v (SetMode c true (chan false false))) ∷
     (100, event_of v (SetMode c true (chan false false))) ∷
+    (82, event_of u (SetMode c true (chan false false))) ∷
     -- a closer removes after it has entered, and what it has found below the mark since
     (108, event_of v (Remove s 0 (stage 1 true true true))) ∷
     (109, event_of v (Remove s 0 (stage 1 true true true))) ∷

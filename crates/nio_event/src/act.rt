@@ -3,8 +3,8 @@ use crate::found::{Chan, GateWord, Mark, Stage};
 use nio_base::{CallerNo, ChanNo, KeyId, Kind, Ops, SelNo};
 
 /// A step: its kind, its parameters in their order, and last what it found, which is its answer.
-/// A step that changes a part of the state finds what stood there before; giving a turn or a hold back
-/// finds nothing.
+/// A step that changes a part of the state finds what stood there before; giving back a turn, a hold or a
+/// pin, and putting an index, find nothing.
 #[derive(Clone, Copy, Debug)]
 pub enum Act {
     /// Draws a caller's number: whether it was drawn.

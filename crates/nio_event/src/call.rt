@@ -71,7 +71,7 @@ impl Call {
     ghost use Rattle.std.specs.Prelude.{◌↔◌, IsTrue};
     ghost use Rattle.nio_event.specs.Calls.{NamesSerial};
 
-    /// Whether the call names a key whose serial isn't 0.
+    /// Whether the call names a key whose serial isn't 0. No line did before indexes came back.
     pub fn names_serial(&self) -> bool
         ensures { IsTrue result ↔ NamesSerial self.now }
     {

@@ -1,75 +1,108 @@
 //! The words with which calls begin, found by their texts.
 ghost use Rattle.std.specs.Prelude.{◌≡◌, ⊤};
-ghost use Rattle.nio_event.specs.CallWords.{call_word, call_word_text};
+ghost use Rattle.nio_event.specs.Arguments.{nothing, one_channel, one_selector, selector_key, key_ops};
+ghost use Rattle.nio_event.specs.CallWords.{arguments, call_word, call_word_text};
 ghost use Rattle.nio_event.specs.Reading.{Reads};
 
 use crate::call::Call;
+use nio_base::{ChanNo, KeyId, Ops, SelNo};
 
-/// A call without its arguments. A new call needs a variant here, a line in `CALL_WORDS`, in `of`
-/// and in `text`, a line in `read_arguments`, and its shape in `push_arguments`.
-#[derive(Clone, Copy, Debug, PartialEq, Eq)]
+/// A call without its arguments. Words whose calls have the same arguments have a type of their own.
+/// A new word needs a variant there or here, and a line in `CALL_WORDS`, in `of`, in `text` and in the
+/// `call` of its type.
+#[derive(Clone, Copy)]
 pub enum CallWord {
-    Selector,
+    Alone(LoneWord),
+    OnSelector(SelectorWord),
+    OnChannel(ChannelWord),
+    OnKey(KeyWord),
+    OnKeyOps(KeyOpsWord),
     Channel,
     Blocking,
-    IsBlocking,
-    IsOpen,
-    IsRegistered,
     KeyFor,
     Register,
-    Closec,
-    Valid,
-    Interest,
-    Ready,
-    Iset,
-    Ior,
-    Iand,
-    Cancel,
-    Unselect,
     Attach,
-    Attachment,
     Begin,
     Told,
+    Interrupt,
+}
+
+/// The words without arguments.
+#[derive(Clone, Copy)]
+pub enum LoneWord {
+    Selector,
+    Interrupted,
+}
+
+/// The words of calls on a selector.
+#[derive(Clone, Copy)]
+pub enum SelectorWord {
     Failed,
     Wakeup,
     Close,
     CloseEnd,
     Keys,
     Selected,
-    Interrupt,
-    Interrupted,
+}
+
+/// The words of calls on a channel.
+#[derive(Clone, Copy)]
+pub enum ChannelWord {
+    IsBlocking,
+    IsOpen,
+    IsRegistered,
+    Closec,
+}
+
+/// The words of calls on a key.
+#[derive(Clone, Copy)]
+pub enum KeyWord {
+    Valid,
+    Interest,
+    Ready,
+    Cancel,
+    Unselect,
+    Attachment,
+}
+
+/// The words of calls on a key with operations.
+#[derive(Clone, Copy)]
+pub enum KeyOpsWord {
+    Iset,
+    Ior,
+    Iand,
 }
 
 const CALL_WORDS: [CallWord; 29] = [
-    CallWord::Selector,
+    CallWord::Alone(LoneWord::Selector),
     CallWord::Channel,
     CallWord::Blocking,
-    CallWord::IsBlocking,
-    CallWord::IsOpen,
-    CallWord::IsRegistered,
+    CallWord::OnChannel(ChannelWord::IsBlocking),
+    CallWord::OnChannel(ChannelWord::IsOpen),
+    CallWord::OnChannel(ChannelWord::IsRegistered),
     CallWord::KeyFor,
     CallWord::Register,
-    CallWord::Closec,
-    CallWord::Valid,
-    CallWord::Interest,
-    CallWord::Ready,
-    CallWord::Iset,
-    CallWord::Ior,
-    CallWord::Iand,
-    CallWord::Cancel,
-    CallWord::Unselect,
+    CallWord::OnChannel(ChannelWord::Closec),
+    CallWord::OnKey(KeyWord::Valid),
+    CallWord::OnKey(KeyWord::Interest),
+    CallWord::OnKey(KeyWord::Ready),
+    CallWord::OnKeyOps(KeyOpsWord::Iset),
+    CallWord::OnKeyOps(KeyOpsWord::Ior),
+    CallWord::OnKeyOps(KeyOpsWord::Iand),
+    CallWord::OnKey(KeyWord::Cancel),
+    CallWord::OnKey(KeyWord::Unselect),
     CallWord::Attach,
-    CallWord::Attachment,
+    CallWord::OnKey(KeyWord::Attachment),
     CallWord::Begin,
     CallWord::Told,
-    CallWord::Failed,
-    CallWord::Wakeup,
-    CallWord::Close,
-    CallWord::CloseEnd,
-    CallWord::Keys,
-    CallWord::Selected,
+    CallWord::OnSelector(SelectorWord::Failed),
+    CallWord::OnSelector(SelectorWord::Wakeup),
+    CallWord::OnSelector(SelectorWord::Close),
+    CallWord::OnSelector(SelectorWord::CloseEnd),
+    CallWord::OnSelector(SelectorWord::Keys),
+    CallWord::OnSelector(SelectorWord::Selected),
     CallWord::Interrupt,
-    CallWord::Interrupted,
+    CallWord::Alone(LoneWord::Interrupted),
 ];
 
 impl CallWord {
@@ -78,35 +111,35 @@ impl CallWord {
         ensures { result ≡ call_word call.now }
     {
         match call {
-            Call::Selector => CallWord::Selector,
+            Call::Selector => CallWord::Alone(LoneWord::Selector),
             Call::Channel(..) => CallWord::Channel,
             Call::Blocking(..) => CallWord::Blocking,
-            Call::IsBlocking(..) => CallWord::IsBlocking,
-            Call::IsOpen(..) => CallWord::IsOpen,
-            Call::IsRegistered(..) => CallWord::IsRegistered,
+            Call::IsBlocking(..) => CallWord::OnChannel(ChannelWord::IsBlocking),
+            Call::IsOpen(..) => CallWord::OnChannel(ChannelWord::IsOpen),
+            Call::IsRegistered(..) => CallWord::OnChannel(ChannelWord::IsRegistered),
             Call::KeyFor(..) => CallWord::KeyFor,
             Call::Register(..) => CallWord::Register,
-            Call::Closec(..) => CallWord::Closec,
-            Call::Valid(..) => CallWord::Valid,
-            Call::Interest(..) => CallWord::Interest,
-            Call::Ready(..) => CallWord::Ready,
-            Call::Iset(..) => CallWord::Iset,
-            Call::Ior(..) => CallWord::Ior,
-            Call::Iand(..) => CallWord::Iand,
-            Call::Cancel(..) => CallWord::Cancel,
-            Call::Unselect(..) => CallWord::Unselect,
+            Call::Closec(..) => CallWord::OnChannel(ChannelWord::Closec),
+            Call::Valid(..) => CallWord::OnKey(KeyWord::Valid),
+            Call::Interest(..) => CallWord::OnKey(KeyWord::Interest),
+            Call::Ready(..) => CallWord::OnKey(KeyWord::Ready),
+            Call::Iset(..) => CallWord::OnKeyOps(KeyOpsWord::Iset),
+            Call::Ior(..) => CallWord::OnKeyOps(KeyOpsWord::Ior),
+            Call::Iand(..) => CallWord::OnKeyOps(KeyOpsWord::Iand),
+            Call::Cancel(..) => CallWord::OnKey(KeyWord::Cancel),
+            Call::Unselect(..) => CallWord::OnKey(KeyWord::Unselect),
             Call::Attach(..) => CallWord::Attach,
-            Call::Attachment(..) => CallWord::Attachment,
+            Call::Attachment(..) => CallWord::OnKey(KeyWord::Attachment),
             Call::Begin(..) => CallWord::Begin,
             Call::Told(..) => CallWord::Told,
-            Call::Failed(..) => CallWord::Failed,
-            Call::Wakeup(..) => CallWord::Wakeup,
-            Call::Close(..) => CallWord::Close,
-            Call::CloseEnd(..) => CallWord::CloseEnd,
-            Call::Keys(..) => CallWord::Keys,
-            Call::Selected(..) => CallWord::Selected,
+            Call::Failed(..) => CallWord::OnSelector(SelectorWord::Failed),
+            Call::Wakeup(..) => CallWord::OnSelector(SelectorWord::Wakeup),
+            Call::Close(..) => CallWord::OnSelector(SelectorWord::Close),
+            Call::CloseEnd(..) => CallWord::OnSelector(SelectorWord::CloseEnd),
+            Call::Keys(..) => CallWord::OnSelector(SelectorWord::Keys),
+            Call::Selected(..) => CallWord::OnSelector(SelectorWord::Selected),
             Call::Interrupt(..) => CallWord::Interrupt,
-            Call::Interrupted => CallWord::Interrupted,
+            Call::Interrupted => CallWord::Alone(LoneWord::Interrupted),
         }
     }
 
@@ -114,35 +147,35 @@ impl CallWord {
         ensures { result.now ≡ call_word_text self }
     {
         match self {
-            CallWord::Selector => b"selector",
+            CallWord::Alone(LoneWord::Selector) => b"selector",
             CallWord::Channel => b"channel",
             CallWord::Blocking => b"blocking",
-            CallWord::IsBlocking => b"is-blocking",
-            CallWord::IsOpen => b"is-open",
-            CallWord::IsRegistered => b"is-registered",
+            CallWord::OnChannel(ChannelWord::IsBlocking) => b"is-blocking",
+            CallWord::OnChannel(ChannelWord::IsOpen) => b"is-open",
+            CallWord::OnChannel(ChannelWord::IsRegistered) => b"is-registered",
             CallWord::KeyFor => b"key-for",
             CallWord::Register => b"register",
-            CallWord::Closec => b"closec",
-            CallWord::Valid => b"valid",
-            CallWord::Interest => b"interest",
-            CallWord::Ready => b"ready",
-            CallWord::Iset => b"iset",
-            CallWord::Ior => b"ior",
-            CallWord::Iand => b"iand",
-            CallWord::Cancel => b"cancel",
-            CallWord::Unselect => b"unselect",
+            CallWord::OnChannel(ChannelWord::Closec) => b"closec",
+            CallWord::OnKey(KeyWord::Valid) => b"valid",
+            CallWord::OnKey(KeyWord::Interest) => b"interest",
+            CallWord::OnKey(KeyWord::Ready) => b"ready",
+            CallWord::OnKeyOps(KeyOpsWord::Iset) => b"iset",
+            CallWord::OnKeyOps(KeyOpsWord::Ior) => b"ior",
+            CallWord::OnKeyOps(KeyOpsWord::Iand) => b"iand",
+            CallWord::OnKey(KeyWord::Cancel) => b"cancel",
+            CallWord::OnKey(KeyWord::Unselect) => b"unselect",
             CallWord::Attach => b"attach",
-            CallWord::Attachment => b"attachment",
+            CallWord::OnKey(KeyWord::Attachment) => b"attachment",
             CallWord::Begin => b"begin",
             CallWord::Told => b"told",
-            CallWord::Failed => b"failed",
-            CallWord::Wakeup => b"wakeup",
-            CallWord::Close => b"close",
-            CallWord::CloseEnd => b"close-end",
-            CallWord::Keys => b"keys",
-            CallWord::Selected => b"selected",
+            CallWord::OnSelector(SelectorWord::Failed) => b"failed",
+            CallWord::OnSelector(SelectorWord::Wakeup) => b"wakeup",
+            CallWord::OnSelector(SelectorWord::Close) => b"close",
+            CallWord::OnSelector(SelectorWord::CloseEnd) => b"close-end",
+            CallWord::OnSelector(SelectorWord::Keys) => b"keys",
+            CallWord::OnSelector(SelectorWord::Selected) => b"selected",
             CallWord::Interrupt => b"interrupt",
-            CallWord::Interrupted => b"interrupted",
+            CallWord::Alone(LoneWord::Interrupted) => b"interrupted",
         }
     }
 
@@ -150,5 +183,76 @@ impl CallWord {
         ensures { Reads (λ _. ⊤) call_word_text text.now result }
     {
         CALL_WORDS.iter().copied().find(|word| word.text() == text)
+    }
+}
+
+impl LoneWord {
+    pub fn call(self) -> Call
+        ensures word { call_word result ≡ CallWord.Alone self }
+        ensures arguments { arguments result ≡ nothing }
+    {
+        match self {
+            LoneWord::Selector => Call::Selector,
+            LoneWord::Interrupted => Call::Interrupted,
+        }
+    }
+}
+
+impl SelectorWord {
+    pub fn call(self, selector: SelNo) -> Call
+        ensures word { call_word result ≡ CallWord.OnSelector self }
+        ensures arguments { arguments result ≡ one_selector selector }
+    {
+        match self {
+            SelectorWord::Failed => Call::Failed(selector),
+            SelectorWord::Wakeup => Call::Wakeup(selector),
+            SelectorWord::Close => Call::Close(selector),
+            SelectorWord::CloseEnd => Call::CloseEnd(selector),
+            SelectorWord::Keys => Call::Keys(selector),
+            SelectorWord::Selected => Call::Selected(selector),
+        }
+    }
+}
+
+impl ChannelWord {
+    pub fn call(self, channel: ChanNo) -> Call
+        ensures word { call_word result ≡ CallWord.OnChannel self }
+        ensures arguments { arguments result ≡ one_channel channel }
+    {
+        match self {
+            ChannelWord::IsBlocking => Call::IsBlocking(channel),
+            ChannelWord::IsOpen => Call::IsOpen(channel),
+            ChannelWord::IsRegistered => Call::IsRegistered(channel),
+            ChannelWord::Closec => Call::Closec(channel),
+        }
+    }
+}
+
+impl KeyWord {
+    pub fn call(self, selector: SelNo, key: KeyId) -> Call
+        ensures word { call_word result ≡ CallWord.OnKey self }
+        ensures arguments { arguments result ≡ selector_key selector key }
+    {
+        match self {
+            KeyWord::Valid => Call::Valid(selector, key),
+            KeyWord::Interest => Call::Interest(selector, key),
+            KeyWord::Ready => Call::Ready(selector, key),
+            KeyWord::Cancel => Call::Cancel(selector, key),
+            KeyWord::Unselect => Call::Unselect(selector, key),
+            KeyWord::Attachment => Call::Attachment(selector, key),
+        }
+    }
+}
+
+impl KeyOpsWord {
+    pub fn call(self, selector: SelNo, key: KeyId, ops: Ops) -> Call
+        ensures word { call_word result ≡ CallWord.OnKeyOps self }
+        ensures arguments { arguments result ≡ key_ops selector key ops }
+    {
+        match self {
+            KeyOpsWord::Iset => Call::Iset(selector, key, ops),
+            KeyOpsWord::Ior => Call::Ior(selector, key, ops),
+            KeyOpsWord::Iand => Call::Iand(selector, key, ops),
+        }
     }
 }

@@ -1,6 +1,8 @@
 //! Laws of legal histories. Each is the contract of a function that does nothing.
 ghost use Rattle.nio_event.specs.Staying.{BeginningsAreLegal, FactsArePermanent, InvalidKeysStayInvalid, OnlyItselfGivesBack, ConditionsStay, StatesAreSound, StatesAreWithin};
-ghost use Rattle.nio_event.specs.Pins.{PinnedKeysStay, ClaimsAgainWhereUnpinned, ClaimsAgainTheRemoved, OwnClaimsStand, NotedKeysAreClaimed, SelectionsKeepKeys};
+ghost use Rattle.nio_event.specs.Found.{StepsLeave, LooksTell, FoundStands};
+ghost use Rattle.nio_event.specs.Holders.{ModeStays, NotedStays, FoundNotedStays, OutsideStays, FoundClearStays, ClearIsTrue, SelectsAlone, KeySetStays, MarksStay, WakeupStays};
+ghost use Rattle.nio_event.specs.Pins.{PinsAreOwn, TakenIsOwn, PinnedKeysStay, ClaimsAgainWhereUnpinned, ClaimsAgainTheRemoved, OwnClaimsStand, UnpublishedKeysStay, NotedKeysAreClaimed, SelectionsKeepKeys};
 ghost use Rattle.nio_event.specs.Turns.{TurnHasOneHolder, HoldHasOneHolder, HolderKnowsMode, OneSelectionAtATime, OnlyWhoMaySelects};
 ghost use Rattle.nio_event.specs.Worked.{WorkedHistoryIsLegal, RefusedEventsAreNoSteps};
 
@@ -29,8 +31,8 @@ pub fn condition_law()
 {}
 
 /// The state after a legal history is sound: an index below a selector's mark is claimed, what is
-/// held is made, a channel that isn't made and a key that isn't claimed are as they were at the
-/// opening, and more. And every number that it speaks of is within the limits.
+/// held is made, a channel that isn't made and the stage of an index that isn't claimed are as they were
+/// at the opening, and more. And every number that it speaks of is within the limits.
 pub fn soundness_law()
     ensures sound { StatesAreSound }
     ensures within { StatesAreWithin }
@@ -52,20 +54,64 @@ pub fn one_selection_law()
     ensures allowed { OnlyWhoMaySelects }
 {}
 
-/// A pinned index keeps its key until the pin is taken off, so it is claimed again exactly where nobody has
-/// a pin on it, and then from a key that was removed. While a caller has the pin of its claim, the key is the
-/// one that it claimed. A key that is noted for a channel was claimed for it.
+/// A caller has a pin on an index where it pinned or claimed it and didn't take the pin off since, and has
+/// taken an index where it took it when it was free and neither put it back nor claimed it since. So the state
+/// says of both what the caller's own acts say.
+pub fn own_pins_law()
+    ensures pins { PinsAreOwn }
+    ensures taken { TakenIsOwn }
+{}
+
+/// A `claim_again` succeeds exactly where nobody has a pin on the index, and only from a key that was removed.
+/// So an index keeps its key until a pin on it is taken off, and while a caller has the pin of its claim, the
+/// key is the one that it claimed; nobody else publishes that key. A key that is noted for a channel was
+/// claimed for it.
 pub fn pins_law()
     ensures stays { PinnedKeysStay }
     ensures where_unpinned { ClaimsAgainWhereUnpinned }
     ensures removed_before { ClaimsAgainTheRemoved }
     ensures own_claim { OwnClaimsStand }
+    ensures unpublished { UnpublishedKeysStay }
     ensures noted { NotedKeysAreClaimed }
 {}
 
-/// While a caller selects, a key that it doesn't remove stays and keeps its index and its serial.
+/// While a caller selects, a key that isn't removed yet, and that the caller doesn't remove, keeps its index
+/// and its serial.
 pub fn selected_keys_law()
     ensures { SelectionsKeepKeys }
+{}
+
+/// What one step leaves: what was seen before, then events of others alone, then the step. It found what
+/// the state before it gives, and the state after it is its effect.
+pub fn step_law()
+    ensures { StepsLeave }
+{}
+
+/// What a look found is what the state gives just after it. And what is permanent and was found stands ever
+/// after.
+pub fn found_law()
+    ensures looks { LooksTell }
+    ensures stands { FoundStands }
+{}
+
+/// While a caller holds a channel, nobody else sets its mode, notes a key for it or publishes a key of it.
+/// So what the caller last found noted is noted, and a key that it found outside the key set is outside.
+pub fn hold_law()
+    ensures mode { ModeStays }
+    ensures noted { NotedStays }
+    ensures found_noted { FoundNotedStays }
+    ensures outside { OutsideStays }
+    ensures found_clear { FoundClearStays }
+    ensures clear { ClearIsTrue }
+{}
+
+/// While a caller selects, nobody else marks or removes a key of the selector or ends its wakeup; all that
+/// can happen to the mark of a key is that the key is taken out of the selected set.
+pub fn selection_law()
+    ensures alone { SelectsAlone }
+    ensures key_set { KeySetStays }
+    ensures marks { MarksStay }
+    ensures wakeup { WakeupStays }
 {}
 
 /// There are legal histories in which every kind of step stands, and events that can't follow.

@@ -14,7 +14,7 @@ pub enum Reply {
     Key(KeyId),
     /// A number: a set of operations or an attachment.
     Number(u64),
-    /// The names of keys, at least one, their indexes rising.
+    /// Keys by their names, at least one, in rising order of their indexes.
     Names(Names),
     Ok,
     Yes,

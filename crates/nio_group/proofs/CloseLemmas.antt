@@ -2,9 +2,9 @@
 use Rattle.std.proofs.Common.{◌≡◌, ◌≢◌, ℕ, ◌+◌, ◌<◌, ◌≤◌, zero, suc, true, false, eqb, List, [], ◌∷◌, ◌++◌, Option, Some, None, get_or, set, map, length, refl, sym, ap, ◌∙◌, subst, arith, inl, inr, append_assoc, get_or-set_same, get_or-set_other}
 use Rattle.std.proofs.lemmas.Bool.{false≢true}
 use Rattle.std.proofs.lemmas.List.{append-nil}
-use Rattle.nio_group.specs.declared.operation.OpKind.{OpKind}
-use Rattle.nio_group.specs.declared.operation.Finished.TheVariants.{Failed}
-use Rattle.nio_group.specs.declared.operation.Why.TheVariants.{AsynchronousClose}
+use Rattle.nio_base.specs.declared.group.OpKind.{OpKind}
+use Rattle.nio_base.specs.declared.group.Finished.TheVariants.{Failed}
+use Rattle.nio_base.specs.declared.group.Why.TheVariants.{AsynchronousClose}
 use Rattle.nio_group.specs.declared.operation.Stage.TheVariants.{Queued}
 use Rattle.nio_group.specs.declared.operation.Operation.{Operation}
 use Rattle.nio_group.specs.Stages.{is_pending, is_pending_on, is_pending_as, at_stage}

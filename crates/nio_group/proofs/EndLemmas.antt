@@ -4,8 +4,8 @@ use Rattle.std.proofs.lemmas.Bool.{false≢true}
 use Rattle.std.proofs.lemmas.List.{length-set, length-map, get_or_read}
 use Rattle.std.proofs.lemmas.List.Sums.{sum_by-append}
 use Rattle.nio_group.specs.declared.channel.Channel.{Channel}
-use Rattle.nio_group.specs.declared.operation.OpKind.{OpKind}
-use Rattle.nio_group.specs.declared.operation.OpKind.TheVariants.{Connect}
+use Rattle.nio_base.specs.declared.group.OpKind.{OpKind}
+use Rattle.nio_base.specs.declared.group.OpKind.TheVariants.{Connect}
 use Rattle.nio_group.specs.declared.operation.Stage.{Stage}
 use Rattle.nio_group.specs.declared.operation.Stage.TheVariants.{Pending, Queued, Running}
 use Rattle.nio_group.specs.declared.operation.Operation.{Operation}
@@ -16,7 +16,6 @@ use Rattle.nio_group.specs.Flight.{Flight, op_at, IsPendingAs, flight_after_take
 use Rattle.nio_group.specs.Pending.{slot_of, nothing_pending}
 use Rattle.nio_group.specs.Group.{Group, IsLawful, channel_at, no_channel}
 use Rattle.nio_group.specs.GroupKept.{IsGroupKept, IsListed, group_of, is_open}
-use Rattle.nio_group.specs.Steps.{after_close}
 use Rattle.nio_group.proofs.TableLemmas.{by_test, same_number, other_number, count_by-set}
 use Rattle.nio_group.proofs.IndexLemmas.{count_by-cons}
 use Rattle.nio_group.proofs.ListLemmas.{eqb-same, eqb-other}
@@ -28,7 +27,7 @@ use Rattle.nio_group.proofs.CloseLemmas.{none_some, pending-after, pending-befor
 use Rattle.nio_group.proofs.FlightLemmas.{some-within, not_queued-running}
 use Rattle.nio_group.proofs.ReportLemmas.{flight-changes}
 
--- an operation that isn't pending goes on to where it isn't either
+-- an operation changes from one stage to another, neither of them pending
 pub lawful-unpending : (g : Group) (n : ℕ) (slot : Option Operation) (queue : List ℕ) → IsLawful g → n < length g.flight.operations → is_pending (op_at g.flight n) ≡ false → is_pending slot ≡ false → IsFlightLawful (record g.flight { operations = set g.flight.operations n slot; queue = queue }) g.op_limit → IsLawful (record g { flight = record g.flight { operations = set g.flight.operations n slot; queue = queue } })
 lawful-unpending g n slot queue lawful l was will flight =
     let xs = g.flight.operations in
@@ -282,16 +281,6 @@ kept-closed {f} {cs} {ps} {o} {r} {r'} {sh} {l} c x kept within read was_open =
           rw (get_or-set_other ps c d nothing_pending nothing_pending old.0) (kept.is_listed.all d kind n old.1);
     }))
 
--- some channel is open where this one is
-pub open-some : {f : Flight} {cs : List Channel} {ps : List slots.Pending} {o r r' : ℕ} {sh : Bool} {l : GroupLimits} (c : ℕ) (x : Channel) → IsGroupKept f cs ps o sh l r r' → c < length cs → x ≡ get_or cs c x → x.is_open ≡ true → 1 ≤ o
-open-some {f} {cs} c x kept within read was_open =
-    let is : x ≡ get_or cs c no_channel = get_or_read cs c x within read no_channel in
-    let open_there : (get_or cs c no_channel).is_open ≡ true = ap (λ (y : Channel). y.is_open) (sym is) ∙ was_open in
-    let one : cond {A = ℕ} (is_open (get_or cs c no_channel)) 1 0 ≡ 1 = ap {B = ℕ} (λ (b : Bool). cond b 1 0) open_there in
-    let counts = count_by-set is_open cs c no_channel no_channel within in
-    let counted = kept.opened_is in
-    omega (arith, counts, one)
-
 pub not-false : (b : Bool) → not b ≡ false → b ≡ true
 not-false true h = refl
 not-false false h = sym h
@@ -303,9 +292,3 @@ job-pending {f} {cs} {ps} c kind p n op kept within read slot is =
     let is_slot : p ≡ get_or ps c nothing_pending = get_or_read ps c p (omega arith) read nothing_pending in
     let listed = kept.is_listed.listed c kind n (ap (λ (q : slots.Pending). slot_of q kind) (sym is_slot) ∙ slot) in
     pending-parts c kind op (rw is at listed)
-
-pub length-after_close : (g : Group) (c : ℕ) → length (after_close g c).channels ≡ length g.channels
-length-after_close g c =
-    by_test (channel_at g c).is_open
-    (λ t. rw t (length-set g.channels c (record (channel_at g c) { is_open = false })))
-    (λ f. rw f refl)

@@ -3,7 +3,7 @@ use Rattle.std.proofs.Common.{◌≡◌, ℕ, ◌+◌, ◌<◌, ◌≤◌, zero,
 use Rattle.std.proofs.lemmas.List.Sums.{sum_by-le-sum_by}
 use Rattle.nio_group.specs.declared.operation.Operation.{Operation}
 use Rattle.std.proofs.lemmas.Bool.{false≢true}
-use Rattle.nio_group.specs.declared.operation.Finished.{Finished}
+use Rattle.nio_base.specs.declared.group.Finished.{Finished}
 use Rattle.nio_group.specs.declared.operation.Stage.{Stage}
 use Rattle.nio_group.specs.declared.operation.Stage.TheVariants.{Pending, Queued, Running}
 use Rattle.nio_group.specs.Stages.{is_queued, is_pending, is_running, stage_is_queued, stage_is_pending, stage_is_running}
@@ -11,7 +11,7 @@ use Rattle.nio_group.specs.Operations.{Accepted, with_operation}
 use Rattle.nio_group.specs.FlightKept.{IsFlightKept}
 use Rattle.nio_group.proofs.TableLemmas.{count_by-set}
 use Rattle.nio_group.proofs.ListLemmas.{count_by-push}
-use Rattle.nio_group.proofs.QueueLemmas.{queued_after, queue-push, queue-set, queue-taken, front-queued}
+use Rattle.nio_group.proofs.QueueLemmas.{queued_after, queue-push, queue-taken, front-queued}
 
 bit : (b : Bool) → cond b 1 0 ≤ 1
 bit true = omega arith
@@ -49,20 +49,6 @@ kept-push a queue len capacity op kept room =
       queue_length = ap (λ n. n + cond (is_queued (Some op)) 1 0) was ∙ sym (count_by-push is_queued a.operations (Some op));
       within = omega (arith, count_by-push is_some a.operations (Some op));
       room = has_room;
-    }
-
-pub kept-changed : (a : Accepted) (queue : List ℕ) (len capacity i : ℕ) (op : Operation) (slot : Option Operation) → IsFlightKept a queue len capacity → get_or a.operations i None ≡ Some op → is_queued (Some op) ≡ false → IsFlightKept (with_operation a i slot) (queued_after (is_queued slot) queue i) (len + cond (is_queued slot) 1 0) capacity
-kept-changed a queue len capacity i op slot kept is not_queued =
-    let was = kept.queue_length in
-    let was_within = kept.within in
-    let l = some-within a.operations i op is in
-    let queued = rw (is, not_queued) at (count_by-set is_queued a.operations i slot None l) in
-    let some = rw is at (count_by-set is_some a.operations i slot None l) in
-    record {
-      queued_once = queue-set a.operations queue i slot l (rw is not_queued) kept.queued_once;
-      queue_length = omega (arith, queued, was);
-      within = omega (arith, some, was_within, bit (is_some slot));
-      room = kept.room;
     }
 
 pub kept-taken : (a : Accepted) (queue : List ℕ) (len len' capacity i : ℕ) (rest : List ℕ) (op op' : Operation) → queue ≡ i ∷ rest → len' + 1 ≡ len → IsFlightKept a queue len capacity → get_or a.operations i None ≡ Some op → is_queued (Some op') ≡ false → IsFlightKept (with_operation a i (Some op')) rest len' capacity

@@ -2,12 +2,12 @@
 use Rattle.std.proofs.Common.{◌≡◌, ◌≢◌, ℕ, ◌+◌, ◌<◌, Bool, true, cond, eqb, List, [], ◌∷◌, ◌++◌, Option, Some, None, get_or, set, length, refl, sym, ap, ◌∙◌, subst, arith, ◌⊎◌, inl, inr, get_or-set_same, get_or-set_other}
 use Rattle.std.proofs.lemmas.Bool.{false≢true, cases_lt}
 use Rattle.std.proofs.lemmas.List.{get_or_past, get_or_append_left, get_or_push, length-set, length_push}
-use Rattle.nio_group.specs.declared.channel.GKind.{GKind}
-use Rattle.nio_group.specs.declared.channel.GKind.TheVariants as gkind
+use Rattle.nio_base.specs.declared.group.GKind.{GKind}
+use Rattle.nio_base.specs.declared.group.GKind.TheVariants as gkind
 use Rattle.nio_group.specs.declared.channel.Channel.{Channel}
 use Rattle.nio_group.specs.declared.channel.Endpoint.TheVariants.{Stream}
 use Rattle.nio_group.specs.declared.channel.Link.TheVariants.{Connecting}
-use Rattle.nio_group.specs.declared.operation.OpKind.{OpKind}
+use Rattle.nio_base.specs.declared.group.OpKind.{OpKind}
 use Rattle.nio_group.specs.declared.operation.Operation.{Operation}
 use Rattle.nio_group.specs.declared.limits.GroupLimits.{GroupLimits}
 use Rattle.nio_group.specs.declared.pending.Pending as slots

@@ -1,9 +1,9 @@
 -- What a write to a table of entries does to the keys that it holds.
-use Rattle.std.proofs.Common.{◌≡◌, ◌≢◌, ℕ, ◌+◌, ◌-◌, ◌*◌, ◌<◌, ◌≤◌, zero, suc, Bool, true, false, cond, eqb, List, [], ◌∷◌, Option, Some, None, is_some, count_by, get_or, set, length, replicate, refl, sym, ◌∙◌, below_more, arith}
+use Rattle.std.proofs.Common.{◌≡◌, ◌≢◌, ℕ, ◌+◌, ◌-◌, ◌<◌, ◌≤◌, zero, suc, Bool, true, false, cond, eqb, List, [], ◌∷◌, Option, Some, None, is_some, count_by, get_or, set, length, replicate, refl, sym, ◌∙◌, below_more, arith}
 use Rattle.std.proofs.lemmas.List.Sums.{sum_by-cons}
 use Rattle.std.proofs.lemmas.Bool.Decides.{nat_tests}
 use Rattle.nio_group.specs.declared.index.Entry.{Entry}
-use Rattle.nio_group.specs.Index.{has_number, key_in, home_of}
+use Rattle.nio_group.specs.Index.{has_number, key_in}
 
 pub count_by-cons : {X : Type 0} (p : X → Bool) (x : X) (xs : List X) → count_by p (x ∷ xs) ≡ cond (p x) 1 0 + count_by p xs
 count_by-cons p x xs = sum_by-cons (λ y. cond (p y) 1 0) x xs
@@ -94,10 +94,6 @@ none_has_number n (None ∷ xs) h = none_has_number n xs (λ i. h (suc i))
 none_has_number n (Some e ∷ xs) h =
     let here : eqb e.number n ≡ false = h 0 in
     rw here (none_has_number n xs (λ i. h (suc i)))
-
-pub home_of_small : (n limit : ℕ) → 1 ≤ limit → home_of n limit < 2 * limit
-unfolding home_of
-home_of_small n limit some = omega arith
 
 -- a search for a vacant slot that passes a full one stays in the window
 pub vacant-passes : (xs : List (Option Entry)) (home at limit : ℕ) → count_by is_some xs < limit → home + limit ≤ length xs → home ≤ at → at < home + limit → ((i : ℕ) → home ≤ i → i < at → is_some (get_or xs i None) ≡ true) → is_some (get_or xs at None) ≡ true → (home ≤ at + 1) × (at + 1 < home + limit) × ((i : ℕ) → home ≤ i → i < at + 1 → is_some (get_or xs i None) ≡ true)

@@ -13,7 +13,7 @@ use Rattle.nio_group.specs.Index.{Index, key_of, entries, ChangesKey}
 use Rattle.nio_group.specs.Kept.{operation_in, operation_of, kept_operations, IsKept}
 use Rattle.nio_group.proofs.TableLemmas.{by_test, same_number, other_number, count_by-set}
 
--- what a fact of a value that is there says
+-- the value that is there, and the fact of it
 some_and : {T : Type 0} (o : Option T) (P : T → Type 0) → IsSomeAnd o P → (x : T) × (o ≡ Some x) × P x
 some_and None P h = absurd h
 some_and (Some x) P h = (x, refl, h)
@@ -87,14 +87,14 @@ map-same f f' n same =
     (λ k d l. let within : k < n = omega (arith, length-map-range_with_len f' 0 n) in
     get_or-map-range_with_len f' 0 n k k d within (omega arith) ∙ same k within ∙ sym (get_or-map-range_with_len f 0 n k k d within (omega arith)))
 
--- what has a key has another than a vacant one
+-- no number has a vacant key
 not_vacant : {slab : Slab Numbered} {index : Index} {accepted limit : ℕ} → IsKept slab index accepted limit → (key : ℕ) → get slab key ≡ None → (m k : ℕ) → key_of index m ≡ Some k → k ≢ key
 not_vacant {slab} kept key vacant m k at same =
     let there = some_and (get slab k) (λ x. x.number ≡ m) (kept.leads m k at) in
     let none : get slab k ≡ None = subst (λ (j : ℕ). get slab j ≡ None) (sym same) vacant in
     cc
 
--- what a number with a key has
+-- a number with a key was accepted, and its operation is the one at that key
 had_by : {slab : Slab Numbered} {index : Index} {accepted limit : ℕ} (n key : ℕ) (x : Numbered) → IsKept slab index accepted limit → key_of index n ≡ Some key → get slab key ≡ Some x → (n < accepted) × (get_or (kept_operations slab index accepted) n None ≡ Some x.operation)
 had_by {slab} {index} {accepted} n key x kept at is = (
   by_lt n accepted (λ l. l) (λ g. absurd (none_some key (sym (kept.below n g) ∙ at))),
@@ -104,7 +104,7 @@ had_by {slab} {index} {accepted} n key x kept at is = (
     none_some : (k : ℕ) → None ≡ Some k → ⊥
     none_some k e = cc
 
--- one number's key leads to an operation
+-- the key of a number leads to an operation
 pub kept-has : {slab : Slab Numbered} {index : Index} {accepted limit : ℕ} (n key : ℕ) → IsKept slab index accepted limit → key_of index n ≡ Some key → IsSome (get slab key)
 kept-has {slab} n key kept at =
     let there = some_and (get slab key) (λ x. x.number ≡ n) (kept.leads n key at) in

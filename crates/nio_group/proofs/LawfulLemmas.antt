@@ -5,8 +5,8 @@ use Rattle.std.proofs.lemmas.List.{get_or_past, get_or_append_left, length-set, 
 use Rattle.nio_group.specs.declared.channel.Channel.{Channel}
 use Rattle.nio_group.specs.declared.channel.Endpoint.TheVariants.{Stream}
 use Rattle.nio_group.specs.declared.channel.Link.TheVariants.{Connecting}
-use Rattle.nio_group.specs.declared.operation.OpKind.{OpKind}
-use Rattle.nio_group.specs.declared.operation.OpKind.TheVariants.{Connect}
+use Rattle.nio_base.specs.declared.group.OpKind.{OpKind}
+use Rattle.nio_base.specs.declared.group.OpKind.TheVariants.{Connect}
 use Rattle.nio_group.specs.Flight.{Flight, accepted, in_flight, IsPendingAs}
 use Rattle.nio_group.specs.Group.{Group, IsLawful, no_channel, is_ready_for}
 use Rattle.nio_group.proofs.TableLemmas.{by_test, same_number, other_number}

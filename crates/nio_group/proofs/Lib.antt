@@ -14,4 +14,5 @@ pub mod RunLemmas
 pub mod StageLemmas
 pub mod StartLemmas
 pub mod TableLemmas
+pub mod TakenLemmas
 pub mod TerminatedLemmas

@@ -1,8 +1,8 @@
 -- Pending operations, by their channels and kinds.
 use Rattle.std.proofs.Common.{◌≡◌, ◌≢◌, ℕ, ◌+◌, Bool, true, false, eqb, ◌&&◌, Option, Some, None, refl, arith, ◌⊎◌, inl, inr}
 use Rattle.std.proofs.lemmas.Bool.{false≢true}
-use Rattle.nio_group.specs.declared.operation.OpKind.{OpKind}
-use Rattle.nio_group.specs.declared.operation.OpKind.TheVariants.{Accept, Connect, Read, Write}
+use Rattle.nio_base.specs.declared.group.OpKind.{OpKind}
+use Rattle.nio_base.specs.declared.group.OpKind.TheVariants.{Accept, Connect, Read, Write}
 use Rattle.nio_group.specs.declared.operation.Stage.{Stage}
 use Rattle.nio_group.specs.declared.operation.Stage.TheVariants.{Pending, Queued, Running}
 use Rattle.nio_group.specs.declared.operation.Operation.{Operation}
@@ -81,10 +81,6 @@ pending-parts c kind op h =
       same = same_kind-true op.kind kind (and-right (stage_is_pending op.stage && eqb op.chan.0 c) (same_kind op.kind kind) h);
     }
 
-pub pending-some : (c : ℕ) (kind : OpKind) (slot : Option Operation) → is_pending_as c kind slot ≡ true → (op : Operation) × (slot ≡ Some op)
-pending-some c kind None h = absurd (false≢true h)
-pending-some c kind (Some op) h = (op, refl)
-
 pub not_pending-as : (c : ℕ) (kind : OpKind) (slot : Option Operation) → is_pending slot ≡ false → is_pending_as c kind slot ≡ false
 not_pending-as c kind None h = refl
 not_pending-as c kind (Some op) h = rw h refl
@@ -94,7 +90,7 @@ pending-as-pending c kind None h = h
 pending-as-pending c kind (Some op) h =
     and-left (stage_is_pending op.stage) (eqb op.chan.0 c) (and-left (stage_is_pending op.stage && eqb op.chan.0 c) (same_kind op.kind kind) h)
 
--- an operation that is pending on a channel is so as of its kind
+-- an operation that is pending on a channel is pending there as one of its kind
 pub pending_on-as : (c : ℕ) (op : Operation) → is_pending_on c (Some op) ≡ true → is_pending_as c op.kind (Some op) ≡ true
 pending_on-as c op h = rw (h, same_kind-refl op.kind) refl
 

@@ -6,19 +6,19 @@ use Rattle.nio_group.specs.declared.channel.Channel.{Channel}
 use Rattle.nio_group.specs.declared.channel.Endpoint.{Endpoint}
 use Rattle.nio_group.specs.declared.channel.Endpoint.TheVariants.{Stream, Listener}
 use Rattle.nio_group.specs.declared.channel.Link.TheVariants.{Unconnected, Connecting, Connected}
-use Rattle.nio_group.specs.declared.operation.OpKind.{OpKind}
-use Rattle.nio_group.specs.declared.operation.OpKind.TheVariants.{Accept, Connect, Read, Write}
+use Rattle.nio_base.specs.declared.group.OpKind.{OpKind}
+use Rattle.nio_base.specs.declared.group.OpKind.TheVariants.{Accept, Connect, Read, Write}
 use Rattle.nio_base.specs.declared.numbers.GChan.{GChan}
-use Rattle.nio_group.specs.declared.operation.Why.{Why}
-use Rattle.nio_group.specs.declared.operation.Finished.{Finished}
-use Rattle.nio_group.specs.declared.operation.Finished.TheVariants as done
+use Rattle.nio_base.specs.declared.group.Why.{Why}
+use Rattle.nio_base.specs.declared.group.Finished.{Finished}
+use Rattle.nio_base.specs.declared.group.Finished.TheVariants as done
 use Rattle.nio_group.specs.Steps.{result_of, no_number_left}
 use Rattle.nio_group.specs.declared.operation.Stage.TheVariants.{Queued}
 use Rattle.nio_group.specs.declared.operation.Operation.{Operation}
 use Rattle.nio_group.specs.declared.limits.GroupLimits.{GroupLimits}
 use Rattle.nio_group.specs.declared.pending.Pending as slots
-use Rattle.nio_group.specs.declared.operation.Outcome.{Outcome}
-use Rattle.nio_group.specs.declared.operation.Outcome.TheVariants as outcome
+use Rattle.nio_base.specs.declared.group.Outcome.{Outcome}
+use Rattle.nio_base.specs.declared.group.Outcome.TheVariants as outcome
 use Rattle.nio_group.specs.Refusals.{report_refusal, is_allowed}
 use Rattle.nio_group.proofs.StartLemmas.{some_none}
 use Rattle.nio_group.specs.Stages.{is_pending, is_pending_as, is_queued, stage_is_pending, at_stage}

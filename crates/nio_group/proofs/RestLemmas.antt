@@ -1,5 +1,5 @@
 -- A terminated group is at rest, and each operation completes once.
-use Rattle.std.proofs.Common.{◌≡◌, ℕ, ◌+◌, zero, suc, Bool, true, false, ltb, not, ◌&&◌, ◌||◌, List, [], ◌∷◌, Option, Some, None, length, refl, sym, ap, ◌∙◌, subst, arith}
+use Rattle.std.proofs.Common.{◌≡◌, ℕ, ◌+◌, ◌<◌, zero, suc, Bool, true, false, ltb, not, ◌&&◌, ◌||◌, List, [], ◌∷◌, Option, Some, None, length, refl, sym, ap, ◌∙◌, subst, arith}
 use Rattle.std.specs.List.{list_any}
 use Rattle.std.proofs.lemmas.Bool.{false≢true}
 use Rattle.std.proofs.lemmas.List.Folds.{list_any_at, list_all_at}
@@ -23,7 +23,7 @@ use Rattle.nio_group.proofs.PendingLemmas.{and-left, and-right, same_kind-refl}
 use Rattle.nio_group.proofs.LawfulLemmas.{open-within}
 use Rattle.nio_group.proofs.StartLemmas.{some_none}
 use Rattle.nio_group.proofs.RunLemmas.{unless-refused, lawful-after}
-use Rattle.nio_group.proofs.StageLemmas.{stages-forward, not-true, true-not, both, lt-true, true-lt}
+use Rattle.nio_group.proofs.StageLemmas.{stepped-after, next-not_pending, not-true, true-not, both, lt-true, true-lt}
 
 -- what is known of a terminated group
 pub record IsResting (g : Group) : Type 0 where
@@ -163,12 +163,20 @@ step-count true b h = rw (h refl) refl
 step-count false true h = refl
 step-count false false h = refl
 
+completed-stays : (g : Group) (call : Call) (n : ℕ) → IsLawful g → has_completed g n ≡ true → has_completed (after g call) n ≡ true
+completed-stays g call n lawful is =
+    let step = stepped-after g call lawful in
+    let more = step.accepts in
+    let within : n < accepted g.flight = true-lt n (accepted g.flight) (and-left (ltb n (accepted g.flight)) (not (is_pending (op_at g.flight n))) is) in
+    let past = not-true (is_pending (op_at g.flight n)) (and-right (ltb n (accepted g.flight)) (not (is_pending (op_at g.flight n))) is) in
+    both (ltb n (accepted (after g call).flight)) (not (is_pending (op_at (after g call).flight n))) (lt-true n (accepted (after g call).flight) (omega arith))
+    (true-not (is_pending (op_at (after g call).flight n)) (next-not_pending (op_at g.flight n) (op_at (after g call).flight n) (step.next n within) past))
+
 counted : (n : ℕ) (g : Group) (calls : List Call) → IsLawful g → IsRunOf g calls → completions n g calls + once_where (has_completed g n) ≡ once_where (has_completed (left_by g calls) n)
 counted n g [] lawful run = omega arith
 counted n g (call ∷ calls) lawful run =
     let later = counted n (after g call) calls (lawful-after g call lawful run.0) run.1 in
-    let forward = stages-forward g call n lawful run.0 in
-    let here = step-count (has_completed g n) (has_completed (after g call) n) forward.completes in
+    let here = step-count (has_completed g n) (has_completed (after g call) n) (completed-stays g call n lawful) in
     omega (arith, later, here)
 
 pub lawful-empty : (limits : GroupLimits) → IsLawful (empty_group limits)

@@ -3,15 +3,15 @@ use Rattle.std.proofs.Common.{◌≡◌, ◌≢◌, ℕ, ◌<◌, ◌≤◌, zer
 use Rattle.std.proofs.lemmas.Bool.{false≢true}
 use Rattle.std.proofs.lemmas.List.{set-get_or, length-set}
 use Rattle.nio_base.specs.declared.numbers.GChan.{GChan}
-use Rattle.nio_group.specs.declared.channel.GKind.{GKind}
+use Rattle.nio_base.specs.declared.group.GKind.{GKind}
 use Rattle.nio_group.specs.declared.channel.Channel.{Channel}
 use Rattle.nio_group.specs.declared.channel.Endpoint.{Endpoint}
 use Rattle.nio_group.specs.declared.channel.Endpoint.TheVariants.{Stream, Listener}
 use Rattle.nio_group.specs.declared.channel.Link.TheVariants.{Connecting, Connected}
-use Rattle.nio_group.specs.declared.operation.OpKind.{OpKind}
-use Rattle.nio_group.specs.declared.operation.OpKind.TheVariants.{Accept, Connect, Read, Write}
-use Rattle.nio_group.specs.declared.operation.Outcome.{Outcome}
-use Rattle.nio_group.specs.declared.operation.Outcome.TheVariants as outcome
+use Rattle.nio_base.specs.declared.group.OpKind.{OpKind}
+use Rattle.nio_base.specs.declared.group.OpKind.TheVariants.{Accept, Connect, Read, Write}
+use Rattle.nio_base.specs.declared.group.Outcome.{Outcome}
+use Rattle.nio_base.specs.declared.group.Outcome.TheVariants as outcome
 use Rattle.nio_group.specs.declared.operation.Stage.{Stage}
 use Rattle.nio_group.specs.declared.operation.Stage.TheVariants.{Pending, Queued, Running}
 use Rattle.nio_group.specs.declared.operation.Operation.{Operation}
@@ -152,9 +152,6 @@ pub lawful-after_start : (g : Group) (chan : GChan) (kind : OpKind) (len : ℕ) 
 lawful-after_start g chan kind len lawful within =
     unless-refused IsLawful (start_refusal g chan.0 kind) g (started g chan kind len) lawful
     (λ free. lawful-started_now g chan kind len (channel_at g chan.0).is_open lawful within (startable g chan.0 kind free) refl)
-
-some_refused : {T : Type 0} (x : T) → Some x ≡ None → ⊥
-some_refused x e = cc
 
 pub cond-holds : {X : Type 0} (P : X → Type 0) (b : Bool) (x y : X) → (b ≡ true → P x) → (b ≡ false → P y) → P (cond b x y)
 cond-holds P true x y chosen other = chosen refl

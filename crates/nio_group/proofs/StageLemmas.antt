@@ -1,169 +1,221 @@
--- Stages go forward, and a terminated group is at rest.
-use Rattle.std.proofs.Common.{◌≡◌, ℕ, ◌<◌, ◌≤◌, zero, suc, Bool, true, false, eqb, ltb, not, ◌&&◌, List, [], ◌∷◌, ◌++◌, Option, Some, None, length, get_or, set, map, refl, sym, ◌∙◌, subst, arith, get_or-set_same, get_or-set_other}
+-- Each call leaves an operation as it is, or takes it to its next stage.
+use Rattle.std.proofs.Common.{◌≡◌, ◌⊎◌, inl, inr, ℕ, ◌<◌, ◌≤◌, zero, suc, Bool, true, false, eqb, ltb, not, ◌&&◌, ◌||◌, List, [], ◌∷◌, ◌++◌, Option, Some, None, length, get_or, set, map, refl, sym, ap, ◌∙◌, subst, arith, get_or-set_same, get_or-set_other}
 use Rattle.std.specs.Option.{option_map}
 use Rattle.std.proofs.lemmas.Bool.{false≢true}
 use Rattle.std.proofs.lemmas.Bool.Decides.{nat_tests}
-use Rattle.std.proofs.lemmas.List.{get_or_append_left, length_push, length-set, length-map}
-use Rattle.nio_group.specs.declared.operation.Outcome.{Outcome}
+use Rattle.std.proofs.lemmas.List.{get_or_append_left, get_or_push, length_push, length-set, length-map}
+use Rattle.nio_base.specs.declared.group.OpKind.{OpKind}
+use Rattle.nio_base.specs.declared.group.OpKind.TheVariants.{Accept, Connect, Read, Write}
+use Rattle.nio_base.specs.declared.group.Outcome.{Outcome}
+use Rattle.nio_base.specs.declared.group.Finished.{Finished}
+use Rattle.nio_base.specs.declared.group.Finished.TheVariants.{Failed}
+use Rattle.nio_base.specs.declared.group.Why.TheVariants.{AsynchronousClose}
 use Rattle.nio_group.specs.declared.operation.Stage.{Stage}
-use Rattle.nio_group.specs.declared.operation.Stage.TheVariants.{Queued, Running}
+use Rattle.nio_group.specs.declared.operation.Stage.TheVariants.{Pending, Queued, Running}
 use Rattle.nio_group.specs.declared.operation.Operation.{Operation}
-use Rattle.nio_group.specs.Stages.{is_pending, is_pending_on, is_queued, is_running, stage_is_pending, at_stage}
+use Rattle.nio_group.specs.Stages.{is_pending, is_pending_on, is_queued, is_running, stage_is_pending, stage_is_queued, stage_is_running, at_stage}
 use Rattle.nio_group.specs.Flight.{Flight, op_at, accepted, with_accepted, flight_after_take, with_channel_closed, closed_on}
 use Rattle.nio_group.specs.Group.{Group, IsLawful, channel_at}
 use Rattle.nio_group.specs.Refusals.{open_refusal, bind_refusal, start_refusal, report_refusal}
-use Rattle.nio_group.specs.Steps.{kept_if_refused, started, after_report, reported, result_of, after_take, finish_refusal, after_close, after_shutdown, closed_below, with_closed}
-use Rattle.nio_group.specs.Run.{Call, open_channel, bind, start, report, take, finish, close_channel, shutdown, shutdown_now, after, has_completed, was_taken, IsForward, StagesGoForward}
+use Rattle.nio_group.specs.Steps.{kept_if_refused, started, first_stage, after_report, reported, result_of, after_take, finish_refusal, after_close, after_shutdown, closed_below, with_closed}
+use Rattle.nio_group.specs.Run.{Call, open_channel, bind, start, report, take, finish, close_channel, shutdown, shutdown_now, after, GoesOn, IsNext, StagesGoForward}
 use Rattle.nio_group.proofs.TableLemmas.{by_test, same_number, other_number}
 use Rattle.nio_group.proofs.QueueLemmas.{QueueHolds, front-queued}
-use Rattle.nio_group.proofs.PendingLemmas.{and-left, and-right}
+use Rattle.nio_group.proofs.PendingLemmas.{and-left}
 use Rattle.nio_group.proofs.RunLemmas.{unless-refused, cond-holds}
 
--- a slot that has come no less far than another
-pub record IsMoved (slot slot' : Option Operation) : Type 0 where
-  pub done : is_pending slot ≡ false → is_pending slot' ≡ false
-  pub taken : is_pending slot ≡ false → is_queued slot ≡ false → is_queued slot' ≡ false
-  pub ended : is_pending slot ≡ false → is_queued slot ≡ false → is_running slot ≡ false → is_running slot' ≡ false
+next-same : (slot : Option Operation) → IsNext slot slot
+next-same None = refl
+next-same (Some op) = inl refl
 
-pub moved-same : (slot : Option Operation) → IsMoved slot slot
-moved-same slot = record { done = λ p. p; taken = λ p q. q; ended = λ p q r. r }
+-- a pending operation completes
+goes-completed : (stage : Stage) (op : Operation) (result : Finished) → stage_is_pending stage ≡ true → GoesOn stage op (Some (at_stage (Queued result) op))
+goes-completed Pending op result pending = (result, refl)
+goes-completed (Queued r) op result pending = absurd (false≢true pending)
+goes-completed Running op result pending = absurd (false≢true pending)
 
-pub moved-trans : (a b c : Option Operation) → IsMoved a b → IsMoved b c → IsMoved a c
-moved-trans a b c ab bc =
-    record {
-      done = λ p. bc.done (ab.done p);
-      taken = λ p q. bc.taken (ab.done p) (ab.taken p q);
-      ended = λ p q r. bc.ended (ab.done p) (ab.taken p q) (ab.ended p q r);
-    }
+next-completed : (slot : Option Operation) (result : Finished) → is_pending slot ≡ true → IsNext slot (option_map (at_stage (Queued result)) slot)
+next-completed None result pending = refl
+next-completed (Some op) result pending = inr (goes-completed op.stage op result pending)
 
--- the operations of a flight have come no less far than before
-pub record IsOnward (f f' : Flight) : Type 0 where
+-- a queued operation runs
+goes-taken : (stage : Stage) (op : Operation) → stage_is_queued stage ≡ true → GoesOn stage op (Some (at_stage Running op))
+goes-taken Pending op queued = absurd (false≢true queued)
+goes-taken (Queued r) op queued = refl
+goes-taken Running op queued = absurd (false≢true queued)
+
+next-taken : (slot : Option Operation) → is_queued slot ≡ true → IsNext slot (option_map (at_stage Running) slot)
+next-taken None queued = refl
+next-taken (Some op) queued = inr (goes-taken op.stage op queued)
+
+-- a running operation ends
+goes-ended : (stage : Stage) (op : Operation) → stage_is_running stage ≡ true → GoesOn stage op None
+goes-ended Pending op running = absurd (false≢true running)
+goes-ended (Queued r) op running = absurd (false≢true running)
+goes-ended Running op running = refl
+
+next-ended : (slot : Option Operation) → is_running slot ≡ true → IsNext slot None
+next-ended None running = refl
+next-ended (Some op) running = inr (goes-ended op.stage op running)
+
+-- what a call makes of the operations of a flight
+pub record IsStepped (f f' : Flight) : Type 0 where
   pub accepts : accepted f ≤ accepted f'
-  pub moved : (n : ℕ) → n < accepted f → IsMoved (op_at f n) (op_at f' n)
+  pub next : (n : ℕ) → n < accepted f → IsNext (op_at f n) (op_at f' n)
+  pub begun : (n : ℕ) → accepted f ≤ n → n < accepted f' → (is_pending (op_at f' n) || is_queued (op_at f' n)) ≡ true
 
-pub onward-same : (f : Flight) → IsOnward f f
-onward-same f = record { accepts = omega arith; moved = λ n l. moved-same (op_at f n) }
+none-between : {P : Type 0} (a b n : ℕ) → a ≡ b → a ≤ n → n < b → P
+none-between a b n same from below = absurd (let never : ⊥ = omega arith in never)
 
-pub onward-trans : (a b c : Flight) → IsOnward a b → IsOnward b c → IsOnward a c
-onward-trans a b c ab bc =
-    let first = ab.accepts in
-    let second = bc.accepts in
-    record {
-      accepts = omega arith;
-      moved = λ n l. moved-trans (op_at a n) (op_at b n) (op_at c n) (ab.moved n l) (bc.moved n (omega arith));
-    }
+stepped-same : (f : Flight) → IsStepped f f
+stepped-same f = record { accepts = omega arith; next = λ n l. next-same (op_at f n); begun = λ n from l. none-between (accepted f) (accepted f) n refl from l }
 
-pub onward-accepted : (f : Flight) (op : Operation) → IsOnward f (with_accepted f op)
-onward-accepted f op =
+stepped-accepted : (f : Flight) (op : Operation) → (stage_is_pending op.stage || stage_is_queued op.stage) ≡ true → IsStepped f (with_accepted f op)
+stepped-accepted f op begins =
     record {
       accepts = omega (arith, length_push f.operations (Some op));
-      moved = λ n l. rw (get_or_append_left f.operations (Some op ∷ []) None n l) (moved-same (op_at f n));
+      next = λ n l. rw (get_or_append_left f.operations (Some op ∷ []) None n l) (next-same (op_at f n));
+      begun = λ n from l.
+          let last : n ≡ length f.operations = omega (arith, length_push f.operations (Some op)) in
+          rw (get_or_push f.operations (Some op) None n (sym last)) begins;
     }
 
-onward-set : (f : Flight) (i : ℕ) (slot : Option Operation) (queue : List ℕ) → IsMoved (op_at f i) slot → IsOnward f (record f { operations = set f.operations i slot; queue = queue })
-onward-set f i slot queue moves =
+stepped-set : (f : Flight) (i : ℕ) (slot : Option Operation) (queue : List ℕ) → IsNext (op_at f i) slot → IsStepped f (record f { operations = set f.operations i slot; queue = queue })
+stepped-set f i slot queue moves =
     record {
       accepts = omega (arith, length-set f.operations i slot);
-      moved = λ n l.
+      next = λ n l.
           by_test (eqb n i)
           (λ t. let same = same_number n i t in
           let put : get_or (set f.operations i slot) n None ≡ slot =
           subst (λ (k : ℕ). get_or (set f.operations i slot) k None ≡ slot) (sym same) (get_or-set_same f.operations i slot None (subst (λ (k : ℕ). k < length f.operations) same l)) in
-          rw put (subst (λ (k : ℕ). IsMoved (op_at f k) slot) (sym same) moves))
-          (λ e. rw (get_or-set_other f.operations i n slot None (other_number n i e)) (moved-same (op_at f n)));
+          rw put (subst (λ (k : ℕ). IsNext (op_at f k) slot) (sym same) moves))
+          (λ e. rw (get_or-set_other f.operations i n slot None (other_number n i e)) (next-same (op_at f n)));
+      begun = λ n from l. none-between (length f.operations) (length (set f.operations i slot)) n (sym (length-set f.operations i slot)) from l;
     }
 
--- a pending operation completes
-moved-completed : (slot : Option Operation) (stage : Stage) → is_pending slot ≡ true → IsMoved slot (option_map (at_stage stage) slot)
-moved-completed slot stage pending =
-    record {
-      done = λ p. absurd (false≢true (sym p ∙ pending));
-      taken = λ p q. absurd (false≢true (sym p ∙ pending));
-      ended = λ p q r. absurd (false≢true (sym p ∙ pending));
-    }
+-- the slot as it was, or completed since its channel was closed
+abbrev pub IsClosed : Option Operation → Option Operation → Type 0
+IsClosed slot slot' = (slot' ≡ slot) ⊎ ((is_pending slot ≡ true) × (slot' ≡ option_map (at_stage (Queued (Failed AsynchronousClose))) slot))
 
--- a queued operation runs
-moved-taken : (slot : Option Operation) → is_queued slot ≡ true → IsMoved slot (option_map (at_stage Running) slot)
-moved-taken None queued = absurd (false≢true queued)
-moved-taken (Some op) queued =
-    record {
-      done = λ p. refl;
-      taken = λ p q. refl;
-      ended = λ p q r. absurd (false≢true (sym q ∙ queued));
-    }
+completed-not_pending : (slot : Option Operation) (result : Finished) → is_pending (option_map (at_stage (Queued result)) slot) ≡ false
+completed-not_pending None result = refl
+completed-not_pending (Some op) result = refl
 
-moved-ended : (slot : Option Operation) → IsMoved slot None
-moved-ended slot = record { done = λ p. refl; taken = λ p q. refl; ended = λ p q r. refl }
+closed-trans : (a b c : Option Operation) → IsClosed a b → IsClosed b c → IsClosed a c
+closed-trans a b c (inl same) second = subst (λ (x : Option Operation). IsClosed x c) same second
+closed-trans a b c (inr closed) (inl same) = inr (closed.0, same ∙ closed.1)
+closed-trans a b c (inr closed) (inr again) =
+    absurd (false≢true (sym (ap is_pending closed.1 ∙ completed-not_pending a (Failed AsynchronousClose)) ∙ again.0))
 
-moved-closed : (c : ℕ) (slot : Option Operation) → IsMoved slot (closed_on c slot)
-moved-closed c None = moved-same None
-moved-closed c (Some op) =
+closed-next : (a b : Option Operation) → IsClosed a b → IsNext a b
+closed-next a b (inl same) = subst (IsNext a) (sym same) (next-same a)
+closed-next a b (inr closed) = subst (IsNext a) (sym closed.1) (next-completed a (Failed AsynchronousClose) closed.0)
+
+closed_on-closed : (c : ℕ) (slot : Option Operation) → IsClosed slot (closed_on c slot)
+closed_on-closed c None = inl refl
+closed_on-closed c (Some op) =
     by_test (is_pending_on c (Some op))
-    (λ t. rw t (moved-completed (Some op) _ (and-left (stage_is_pending op.stage) (eqb op.chan.0 c) t)))
-    (λ f. rw f (moved-same (Some op)))
+    (λ t. rw t (inr (and-left (stage_is_pending op.stage) (eqb op.chan.0 c) t, refl)))
+    (λ f. rw f (inl refl))
 
 get_or-map_closed : (c n : ℕ) (xs : List (Option Operation)) → get_or (map (closed_on c) xs) n None ≡ closed_on c (get_or xs n None)
 get_or-map_closed c n [] = refl
 get_or-map_closed c zero (x ∷ xs) = refl
 get_or-map_closed c (suc n) (x ∷ xs) = get_or-map_closed c n xs
 
-onward-closed : (f : Flight) (c : ℕ) → IsOnward f (with_channel_closed f c)
-onward-closed f c =
+-- what closing channels makes of the operations of a flight
+pub record IsClosing (f f' : Flight) : Type 0 where
+  pub accepts : accepted f' ≡ accepted f
+  pub slots : (n : ℕ) → IsClosed (op_at f n) (op_at f' n)
+
+closing-same : (f : Flight) → IsClosing f f
+closing-same f = record { accepts = refl; slots = λ n. inl refl }
+
+closing-after_close : (g : Group) (c : ℕ) → IsClosing g.flight (after_close g c).flight
+closing-after_close g c =
+    cond-holds (λ (h : Group). IsClosing g.flight h.flight) (channel_at g c).is_open (record (with_closed g c) { flight = with_channel_closed g.flight c }) g
+    (λ t. record {
+      accepts = length-map g.flight.operations (closed_on c);
+      slots = λ n. rw (get_or-map_closed c n g.flight.operations) (closed_on-closed c (op_at g.flight n));
+    })
+    (λ f. closing-same g.flight)
+
+closing-closed_below : (c : ℕ) (g : Group) → IsClosing g.flight (closed_below c g).flight
+closing-closed_below zero g = closing-same g.flight
+closing-closed_below (suc c) g =
+    let before = closing-closed_below c g in
+    let here = closing-after_close (closed_below c g) c in
     record {
-      accepts = omega (arith, length-map f.operations (closed_on c));
-      moved = λ n l. rw (get_or-map_closed c n f.operations) (moved-closed c (op_at f n));
+      accepts = here.accepts ∙ before.accepts;
+      slots = λ n. closed-trans (op_at g.flight n) (op_at (closed_below c g).flight n) (op_at (after_close (closed_below c g) c).flight n) (before.slots n) (here.slots n);
     }
 
-pub onward-after_close : (g : Group) (c : ℕ) → IsOnward g.flight (after_close g c).flight
-onward-after_close g c =
-    cond-holds (λ (h : Group). IsOnward g.flight h.flight) (channel_at g c).is_open (record (with_closed g c) { flight = with_channel_closed g.flight c }) g
-    (λ t. onward-closed g.flight c) (λ f. onward-same g.flight)
-
-onward-closed_below : (c : ℕ) (g : Group) → IsOnward g.flight (closed_below c g).flight
-onward-closed_below zero g = onward-same g.flight
-onward-closed_below (suc c) g =
-    onward-trans g.flight (closed_below c g).flight (after_close (closed_below c g) c).flight (onward-closed_below c g) (onward-after_close (closed_below c g) c)
+stepped-closing : (f f' : Flight) → IsClosing f f' → IsStepped f f'
+stepped-closing f f' closing =
+    record {
+      accepts = omega (arith, closing.accepts);
+      next = λ n l. closed-next (op_at f n) (op_at f' n) (closing.slots n);
+      begun = λ n from l. none-between (accepted f) (accepted f') n (sym closing.accepts) from l;
+    }
 
 reportable : (slot : Option Operation) (o : Outcome) → report_refusal slot o ≡ None → is_pending slot ≡ true
 reportable None o h = cc
 reportable (Some op) o h =
     by_test (stage_is_pending op.stage) (λ t. t) (λ f. let no_refusal = rw f at h in cc)
 
-onward-report : (g : Group) (n : ℕ) (o : Outcome) → IsOnward g.flight (after_report g n o).flight
-onward-report g n o = by_slot (op_at g.flight n) refl
+stepped-report : (g : Group) (n : ℕ) (o : Outcome) → IsStepped g.flight (after_report g n o).flight
+stepped-report g n o = by_slot (op_at g.flight n) refl
   where
-    by_slot : (slot : Option Operation) → op_at g.flight n ≡ slot → IsOnward g.flight (kept_if_refused (report_refusal slot o) g (reported g n o slot)).flight
-    by_slot None is = onward-same g.flight
+    by_slot : (slot : Option Operation) → op_at g.flight n ≡ slot → IsStepped g.flight (kept_if_refused (report_refusal slot o) g (reported g n o slot)).flight
+    by_slot None is = stepped-same g.flight
     by_slot (Some op) is =
-        unless-refused (λ (h : Group). IsOnward g.flight h.flight) (report_refusal (Some op) o) g (reported g n o (Some op)) (onward-same g.flight)
+        unless-refused (λ (h : Group). IsStepped g.flight h.flight) (report_refusal (Some op) o) g (reported g n o (Some op)) (stepped-same g.flight)
         (λ free.
         let pending : is_pending (op_at g.flight n) ≡ true = rw is (reportable (Some op) o free) in
-        onward-set g.flight n (option_map (at_stage (Queued (result_of g o))) (op_at g.flight n)) (g.flight.queue ++ n ∷ []) (moved-completed (op_at g.flight n) (Queued (result_of g o)) pending))
+        stepped-set g.flight n (option_map (at_stage (Queued (result_of g o))) (op_at g.flight n)) (g.flight.queue ++ n ∷ []) (next-completed (op_at g.flight n) (result_of g o) pending))
 
-onward-take : (g : Group) → IsLawful g → IsOnward g.flight (after_take g).flight
-onward-take g lawful = by_queue g.flight.queue refl
+stepped-take : (g : Group) → IsLawful g → IsStepped g.flight (after_take g).flight
+stepped-take g lawful = by_queue g.flight.queue refl
   where
-    by_queue : (queue : List ℕ) → g.flight.queue ≡ queue → IsOnward g.flight (flight_after_take g.flight queue)
-    by_queue [] is = onward-same g.flight
+    by_queue : (queue : List ℕ) → g.flight.queue ≡ queue → IsStepped g.flight (flight_after_take g.flight queue)
+    by_queue [] is = stepped-same g.flight
     by_queue (n ∷ rest) is =
         let holds : QueueHolds g.flight.operations (n ∷ rest) = rw is at lawful.queued_once in
-        onward-set g.flight n (option_map (at_stage Running) (op_at g.flight n)) _ (moved-taken (op_at g.flight n) (front-queued g.flight.operations n rest holds))
+        stepped-set g.flight n (option_map (at_stage Running) (op_at g.flight n)) _ (next-taken (op_at g.flight n) (front-queued g.flight.operations n rest holds))
 
-pub onward-after : (g : Group) (call : Call) → IsLawful g → IsOnward g.flight (after g call).flight
-onward-after g (open_channel kind) lawful =
-    unless-refused (λ (h : Group). IsOnward g.flight h.flight) (open_refusal g) g _ (onward-same g.flight) (λ free. onward-same g.flight)
-onward-after g (bind chan) lawful =
-    unless-refused (λ (h : Group). IsOnward g.flight h.flight) (bind_refusal (channel_at g chan.0).is_open (channel_at g chan.0).endpoint) g _ (onward-same g.flight) (λ free. onward-same g.flight)
-onward-after g (start chan kind len) lawful =
-    unless-refused (λ (h : Group). IsOnward g.flight h.flight) (start_refusal g chan.0 kind) g (started g chan kind len) (onward-same g.flight) (λ free. onward-accepted g.flight _)
-onward-after g (report op o) lawful = onward-report g op.0 o
-onward-after g take lawful = onward-take g lawful
-onward-after g (finish op) lawful =
-    unless-refused (λ (h : Group). IsOnward g.flight h.flight) (finish_refusal (is_running (op_at g.flight op.0))) g _ (onward-same g.flight)
-    (λ free. onward-set g.flight op.0 None g.flight.queue (moved-ended (op_at g.flight op.0)))
-onward-after g (close_channel chan) lawful = onward-after_close g chan.0
-onward-after g shutdown lawful = onward-same g.flight
-onward-after g shutdown_now lawful = onward-closed_below (length g.channels) (after_shutdown g)
+first_stage-begins : (is_open : Bool) (kind : OpKind) (len : ℕ) → (stage_is_pending (first_stage is_open kind len) || stage_is_queued (first_stage is_open kind len)) ≡ true
+first_stage-begins false kind len = refl
+first_stage-begins true Accept len = refl
+first_stage-begins true Connect len = refl
+first_stage-begins true Read len = by_test (eqb len 0) (λ t. rw t refl) (λ f. rw f refl)
+first_stage-begins true Write len = by_test (eqb len 0) (λ t. rw t refl) (λ f. rw f refl)
+
+finishable : (running : Bool) → finish_refusal running ≡ None → running ≡ true
+finishable true free = refl
+finishable false free = cc
+
+pub stepped-after : (g : Group) (call : Call) → IsLawful g → IsStepped g.flight (after g call).flight
+stepped-after g (open_channel kind) lawful =
+    unless-refused (λ (h : Group). IsStepped g.flight h.flight) (open_refusal g) g _ (stepped-same g.flight) (λ free. stepped-same g.flight)
+stepped-after g (bind chan) lawful =
+    unless-refused (λ (h : Group). IsStepped g.flight h.flight) (bind_refusal (channel_at g chan.0).is_open (channel_at g chan.0).endpoint) g _ (stepped-same g.flight) (λ free. stepped-same g.flight)
+stepped-after g (start chan kind len) lawful =
+    unless-refused (λ (h : Group). IsStepped g.flight h.flight) (start_refusal g chan.0 kind) g (started g chan kind len) (stepped-same g.flight)
+    (λ free. stepped-accepted g.flight _ (first_stage-begins (channel_at g chan.0).is_open kind len))
+stepped-after g (report op o) lawful = stepped-report g op.0 o
+stepped-after g take lawful = stepped-take g lawful
+stepped-after g (finish op) lawful =
+    unless-refused (λ (h : Group). IsStepped g.flight h.flight) (finish_refusal (is_running (op_at g.flight op.0))) g _ (stepped-same g.flight)
+    (λ free. stepped-set g.flight op.0 None g.flight.queue (next-ended (op_at g.flight op.0) (finishable (is_running (op_at g.flight op.0)) free)))
+stepped-after g (close_channel chan) lawful = stepped-closing g.flight (after_close g chan.0).flight (closing-after_close g chan.0)
+stepped-after g shutdown lawful = stepped-same g.flight
+stepped-after g shutdown_now lawful =
+    stepped-closing g.flight (closed_below (length g.channels) (after_shutdown g)).flight (closing-closed_below (length g.channels) (after_shutdown g))
+
+pub stages-forward : StagesGoForward
+stages-forward g call n lawful made =
+    let step = stepped-after g call lawful in record { accepts = step.accepts; goes_on = step.next n; begins = step.begun n }
 
 pub not-true : (b : Bool) → not b ≡ true → b ≡ false
 not-true true h = absurd (false≢true h)
@@ -183,40 +235,24 @@ lt-true m n l = grind (arith, nat_tests)
 pub true-lt : (m n : ℕ) → ltb m n ≡ true → m < n
 true-lt m n h = grind (arith, nat_tests)
 
-pub forward-from : (g left : Group) (n : ℕ) → IsOnward g.flight left.flight → IsForward g left n
-forward-from g left n onward =
-    record {
-      accepts = onward.accepts;
-      completes = completes;
-      takes = takes;
-      ends = λ h.
-          let took = and-left (was_taken g n) (not (is_running (op_at g.flight n))) h in
-          let running = not-true (is_running (op_at g.flight n)) (and-right (was_taken g n) (not (is_running (op_at g.flight n))) h) in
-          let done = and-left (has_completed g n) (not (is_queued (op_at g.flight n))) took in
-          let queued = not-true (is_queued (op_at g.flight n)) (and-right (has_completed g n) (not (is_queued (op_at g.flight n))) took) in
-          let moved = onward.moved n (within done) in
-          both (was_taken left n) (not (is_running (op_at left.flight n))) (takes took) (true-not (is_running (op_at left.flight n)) (moved.ended (pending done) queued running));
-    }
-  where
-    within : has_completed g n ≡ true → n < accepted g.flight
-    within h = true-lt n (accepted g.flight) (and-left (ltb n (accepted g.flight)) (not (is_pending (op_at g.flight n))) h)
+-- an operation that isn't pending any more never is again
+goes-not_pending : (stage : Stage) (op : Operation) (next : Option Operation) → GoesOn stage op next → is_pending next ≡ false
+goes-not_pending Pending op next goes = ap is_pending goes.1
+goes-not_pending (Queued r) op next goes = ap is_pending goes
+goes-not_pending Running op next goes = ap is_pending goes
 
-    pending : has_completed g n ≡ true → is_pending (op_at g.flight n) ≡ false
-    pending h = not-true (is_pending (op_at g.flight n)) (and-right (ltb n (accepted g.flight)) (not (is_pending (op_at g.flight n))) h)
+pub next-not_pending : (a b : Option Operation) → IsNext a b → is_pending a ≡ false → is_pending b ≡ false
+next-not_pending None b next past = ap is_pending next
+next-not_pending (Some op) b (inl same) past = ap is_pending same ∙ past
+next-not_pending (Some op) b (inr goes) past = goes-not_pending op.stage op b goes
 
-    completes : has_completed g n ≡ true → has_completed left n ≡ true
-    completes h =
-        let more = onward.accepts in
-        let l = within h in
-        both (ltb n (accepted left.flight)) (not (is_pending (op_at left.flight n))) (lt-true n (accepted left.flight) (omega arith))
-        (true-not (is_pending (op_at left.flight n)) ((onward.moved n l).done (pending h)))
+-- an operation that was taken is never queued again
+goes-not_queued : (stage : Stage) (op : Operation) (next : Option Operation) → GoesOn stage op next → stage_is_pending stage ≡ false → is_queued next ≡ false
+goes-not_queued Pending op next goes past = absurd (false≢true (sym past))
+goes-not_queued (Queued r) op next goes past = ap is_queued goes
+goes-not_queued Running op next goes past = ap is_queued goes
 
-    takes : was_taken g n ≡ true → was_taken left n ≡ true
-    takes h =
-        let done = and-left (has_completed g n) (not (is_queued (op_at g.flight n))) h in
-        let queued = not-true (is_queued (op_at g.flight n)) (and-right (has_completed g n) (not (is_queued (op_at g.flight n))) h) in
-        let moved = onward.moved n (within done) in
-        both (has_completed left n) (not (is_queued (op_at left.flight n))) (completes done) (true-not (is_queued (op_at left.flight n)) (moved.taken (pending done) queued))
-
-pub stages-forward : StagesGoForward
-stages-forward g call n lawful made = forward-from g (after g call) n (onward-after g call lawful)
+pub next-not_queued : (a b : Option Operation) → IsNext a b → is_pending a ≡ false → is_queued a ≡ false → is_queued b ≡ false
+next-not_queued None b next past taken = ap is_queued next
+next-not_queued (Some op) b (inl same) past taken = ap is_queued same ∙ taken
+next-not_queued (Some op) b (inr goes) past taken = goes-not_queued op.stage op b goes past

@@ -8,8 +8,8 @@ use Rattle.nio_group.specs.declared.channel.Channel.{Channel}
 use Rattle.nio_group.specs.declared.channel.Endpoint.{Endpoint}
 use Rattle.nio_group.specs.declared.channel.Endpoint.TheVariants.{Stream, Listener}
 use Rattle.nio_group.specs.declared.channel.Link.TheVariants.{Unconnected, Connecting, Connected}
-use Rattle.nio_group.specs.declared.operation.OpKind.{OpKind}
-use Rattle.nio_group.specs.declared.operation.OpKind.TheVariants.{Accept, Connect, Read, Write}
+use Rattle.nio_base.specs.declared.group.OpKind.{OpKind}
+use Rattle.nio_base.specs.declared.group.OpKind.TheVariants.{Accept, Connect, Read, Write}
 use Rattle.nio_group.specs.declared.operation.Stage.{Stage}
 use Rattle.nio_group.specs.declared.operation.Stage.TheVariants.{Pending, Queued, Running}
 use Rattle.nio_group.specs.declared.operation.Operation.{Operation}
@@ -46,6 +46,12 @@ pub record IsAllowed (e : Endpoint) (pending : Bool) (kind : OpKind) : Type 0 wh
   pub free : is_ready_for e kind ≡ true → pending ≡ false
   pub connects : endpoint_after e kind ≡ Stream Connecting → kind ≡ Connect
 
+unconnected : (kind : OpKind) → is_ready_for (Stream Unconnected) kind ≡ true → ⊥
+unconnected Accept ready = false≢true ready
+unconnected Connect ready = false≢true ready
+unconnected Read ready = false≢true ready
+unconnected Write ready = false≢true ready
+
 pub allowed : (e : Endpoint) (pending : Bool) (kind : OpKind) → channel_refusal true e pending kind ≡ None → IsAllowed e pending kind
 allowed (Listener true) true Accept h = absurd (some_none _ h)
 allowed (Listener true) false Accept h = record { ready = refl; others = λ k r. r; free = λ r. refl; connects = λ c. cc }
@@ -54,7 +60,7 @@ allowed (Listener bound) pending Connect h = absurd (some_none _ h)
 allowed (Listener bound) pending Read h = absurd (some_none _ h)
 allowed (Listener bound) pending Write h = absurd (some_none _ h)
 allowed (Stream link) pending Accept h = absurd (some_none _ h)
-allowed (Stream Unconnected) pending Connect h = record { ready = refl; others = λ k r. absurd (false≢true r); free = λ r. absurd (false≢true r); connects = λ c. refl }
+allowed (Stream Unconnected) pending Connect h = record { ready = refl; others = λ k r. absurd (unconnected k r); free = λ r. absurd (false≢true r); connects = λ c. refl }
 allowed (Stream Connecting) pending Connect h = absurd (some_none _ h)
 allowed (Stream Connected) pending Connect h = absurd (some_none _ h)
 allowed (Stream Unconnected) pending Read h = absurd (some_none _ h)

@@ -6,7 +6,7 @@ use Rattle.std.proofs.lemmas.Bool.{false≢true}
 use Rattle.std.proofs.lemmas.List.{get_or_read}
 use Rattle.std.proofs.lemmas.List.Folds.{list_any_at}
 use Rattle.nio_group.specs.declared.channel.Channel.{Channel}
-use Rattle.nio_group.specs.declared.operation.OpKind.{OpKind}
+use Rattle.nio_base.specs.declared.group.OpKind.{OpKind}
 use Rattle.nio_group.specs.declared.operation.Stage.{Stage}
 use Rattle.nio_group.specs.declared.operation.Stage.TheVariants.{Pending, Queued, Running}
 use Rattle.nio_group.specs.declared.operation.Operation.{Operation}

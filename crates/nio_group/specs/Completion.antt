@@ -2,8 +2,8 @@
 use Rattle.std.specs.Prelude.{ℕ}
 use Rattle.nio_base.specs.declared.numbers.OpNo.{OpNo}
 use Rattle.nio_base.specs.declared.numbers.GChan.{GChan}
-use Rattle.nio_group.specs.declared.operation.OpKind.{OpKind}
-use Rattle.nio_group.specs.declared.operation.Finished.{Finished}
+use Rattle.nio_base.specs.declared.group.OpKind.{OpKind}
+use Rattle.nio_base.specs.declared.group.Finished.{Finished}
 
 -- a pending operation: its number, its channel, its kind and its length
 pub record JobFields : Type 0 where

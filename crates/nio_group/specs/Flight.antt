@@ -2,10 +2,10 @@
 -- of them.
 use Rattle.std.specs.Prelude.{ℕ, ◌+◌, if◌then◌else◌, ◌==◌, List, [], ◌∷◌, ◌++◌, length, Option, Some, None, is_some, count_by, map, drop, slice_index_or, slice_set, IsTrue}
 use Rattle.std.specs.Option.{option_map}
-use Rattle.nio_group.specs.declared.operation.OpKind.{OpKind}
-use Rattle.nio_group.specs.declared.operation.Finished.{Finished}
-use Rattle.nio_group.specs.declared.operation.Finished.TheVariants.{Failed}
-use Rattle.nio_group.specs.declared.operation.Why.TheVariants.{AsynchronousClose}
+use Rattle.nio_base.specs.declared.group.OpKind.{OpKind}
+use Rattle.nio_base.specs.declared.group.Finished.{Finished}
+use Rattle.nio_base.specs.declared.group.Finished.TheVariants.{Failed}
+use Rattle.nio_base.specs.declared.group.Why.TheVariants.{AsynchronousClose}
 use Rattle.nio_group.specs.declared.operation.Stage.{Stage}
 use Rattle.nio_group.specs.declared.operation.Stage.TheVariants.{Queued, Running}
 use Rattle.nio_group.specs.declared.operation.Operation.{Operation}
@@ -18,7 +18,7 @@ pub record Flight : Type 0 where
   pub queue : List ℕ
   pub limit : ℕ
 
--- the operation with this number; what was never accepted reads as ended
+-- the operation with this number; `None` where it has ended, or was never accepted
 abbrev pub op_at : Flight → ℕ → Option Operation
 op_at f n = slice_index_or f.operations n None
 

@@ -1,14 +1,14 @@
 -- The state of an asynchronous channel group.
 use Rattle.std.specs.Prelude.{◌≡◌, ℕ, ◌≤◌, Bool, true, false, if◌then◌else◌, not, ◌&&◌, ◌||◌, List, [], length, slice_index_or, IsTrue}
 use Rattle.std.specs.List.{list_any, list_all}
-use Rattle.nio_group.specs.declared.channel.GKind.{GKind}
-use Rattle.nio_group.specs.declared.channel.GKind.TheVariants as kind
+use Rattle.nio_base.specs.declared.group.GKind.{GKind}
+use Rattle.nio_base.specs.declared.group.GKind.TheVariants as kind
 use Rattle.nio_group.specs.declared.channel.Channel.{Channel}
 use Rattle.nio_group.specs.declared.channel.Endpoint.{Endpoint}
 use Rattle.nio_group.specs.declared.channel.Endpoint.TheVariants.{Stream, Listener}
 use Rattle.nio_group.specs.declared.channel.Link.TheVariants.{Unconnected, Connecting, Connected}
-use Rattle.nio_group.specs.declared.operation.OpKind.{OpKind}
-use Rattle.nio_group.specs.declared.operation.OpKind.TheVariants.{Accept, Connect, Read, Write}
+use Rattle.nio_base.specs.declared.group.OpKind.{OpKind}
+use Rattle.nio_base.specs.declared.group.OpKind.TheVariants.{Accept, Connect, Read, Write}
 use Rattle.nio_group.specs.declared.limits.GroupLimits.{GroupLimits}
 use Rattle.nio_group.specs.Stages.{is_queued, is_running}
 use Rattle.nio_group.specs.Flight.{Flight, op_at, accepted, in_flight, times_queued, IsPendingAs, no_flight}
@@ -40,7 +40,7 @@ new_endpoint kind.Listener = Listener false
 abbrev pub new_channel : GKind → Channel
 new_channel k = record { is_open = true; endpoint = new_endpoint k }
 
--- what a number that isn't made reads as
+-- what `channel_at` gives for a number that no channel has
 abbrev pub no_channel : Channel
 no_channel = record { is_open = false; endpoint = Listener false }
 
@@ -55,7 +55,10 @@ is_ready_for (Listener bound) Accept = bound
 is_ready_for (Listener bound) Connect = false
 is_ready_for (Listener bound) Read = false
 is_ready_for (Listener bound) Write = false
-is_ready_for (Stream Unconnected) kind = false
+is_ready_for (Stream Unconnected) Accept = false
+is_ready_for (Stream Unconnected) Connect = false
+is_ready_for (Stream Unconnected) Read = false
+is_ready_for (Stream Unconnected) Write = false
 is_ready_for (Stream Connecting) Accept = false
 is_ready_for (Stream Connecting) Connect = true
 is_ready_for (Stream Connecting) Read = false
@@ -65,8 +68,8 @@ is_ready_for (Stream Connected) Connect = false
 is_ready_for (Stream Connected) Read = true
 is_ready_for (Stream Connected) Write = true
 
--- each number below the accepted count is that of one operation, which has one stage, by what a
--- group is; the rest of what makes it lawful:
+-- what holds of every group. (That each number below the accepted count names one operation, which
+-- has one stage, holds by the type of the state.)
 pub record IsLawful (g : Group) : Type 0 where
   -- the queue lists each queued number once, and no other number
   pub queued_once : (n : ℕ) → times_queued g.flight n ≡ (if is_queued (op_at g.flight n) then 1 else 0)

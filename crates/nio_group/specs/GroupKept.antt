@@ -1,7 +1,7 @@
 -- How a group is kept.
 use Rattle.std.specs.Prelude.{◌≡◌, ℕ, ◌≤◌, Bool, List, length, Some, count_by, slice_index_or}
 use Rattle.nio_group.specs.declared.channel.Channel.{Channel}
-use Rattle.nio_group.specs.declared.operation.OpKind.{OpKind}
+use Rattle.nio_base.specs.declared.group.OpKind.{OpKind}
 use Rattle.nio_group.specs.declared.limits.GroupLimits.{GroupLimits}
 use Rattle.nio_group.specs.declared.pending.Pending.{Pending}
 use Rattle.nio_group.specs.Limits.{IsFit}

@@ -29,7 +29,7 @@ pub record ChangesKey (old new : Index) (n : ℕ) (key : Option ℕ) : Type 0 wh
   pub changed : key_of new n ≡ key
   pub others : (m : ℕ) → m ≢ n → key_of new m ≡ key_of old m
 
--- the slot that a number is looked for from: Knuth's multiplicative hash, below twice the limit
+-- the slot at which the search for a number begins: Knuth's multiplicative hash, below twice the limit
 unfoldable pub home_of : ℕ → ℕ → ℕ
 home_of number limit = number * 11400714819323198485 % 2 ^ 64 / 2 ^ 32 % (2 * limit)
 

@@ -1,7 +1,7 @@
 -- Which operations are pending on a channel.
 use Rattle.std.specs.Prelude.{ℕ, min, Option, Some, None}
-use Rattle.nio_group.specs.declared.operation.OpKind.{OpKind}
-use Rattle.nio_group.specs.declared.operation.OpKind.TheVariants.{Accept, Connect, Read, Write}
+use Rattle.nio_base.specs.declared.group.OpKind.{OpKind}
+use Rattle.nio_base.specs.declared.group.OpKind.TheVariants.{Accept, Connect, Read, Write}
 use Rattle.nio_group.specs.declared.pending.Pending.{Pending}
 
 abbrev pub nothing_pending : Pending
@@ -20,7 +20,7 @@ with_slot p Connect n = record p { connect = n }
 with_slot p Read n = record p { read = n }
 with_slot p Write n = record p { write = n }
 
--- the lesser of two numbers, of which there may be one or none
+-- the lesser of two numbers, each of which may be missing
 abbrev pub lesser_of : Option ℕ → Option ℕ → Option ℕ
 lesser_of None b = b
 lesser_of (Some m) None = Some m

@@ -6,10 +6,10 @@ use Rattle.nio_group.specs.declared.channel.Endpoint.{Endpoint}
 use Rattle.nio_group.specs.declared.channel.Endpoint.TheVariants.{Stream, Listener}
 use Rattle.nio_group.specs.declared.channel.Link.{Link}
 use Rattle.nio_group.specs.declared.channel.Link.TheVariants.{Unconnected, Connecting, Connected}
-use Rattle.nio_group.specs.declared.operation.OpKind.{OpKind}
-use Rattle.nio_group.specs.declared.operation.OpKind.TheVariants.{Accept, Connect, Read, Write}
-use Rattle.nio_group.specs.declared.operation.Outcome.{Outcome}
-use Rattle.nio_group.specs.declared.operation.Outcome.TheVariants as outcome
+use Rattle.nio_base.specs.declared.group.OpKind.{OpKind}
+use Rattle.nio_base.specs.declared.group.OpKind.TheVariants.{Accept, Connect, Read, Write}
+use Rattle.nio_base.specs.declared.group.Outcome.{Outcome}
+use Rattle.nio_base.specs.declared.group.Outcome.TheVariants as outcome
 use Rattle.nio_group.specs.declared.operation.Operation.{Operation}
 use Rattle.nio_group.specs.declared.refusal.StartError.{StartError}
 use Rattle.nio_group.specs.declared.refusal.StartError.TheVariants as refused
@@ -91,13 +91,26 @@ start_refusal g c kind =
 
 -- which outcomes an operation of this kind and length may have
 abbrev pub is_allowed : OpKind → ℕ → Outcome → Bool
+is_allowed Accept len (outcome.Count k) = false
+is_allowed Accept len outcome.End = false
+is_allowed Accept len outcome.Connected = false
+is_allowed Accept len outcome.Accepted = true
+is_allowed Accept len outcome.Fault = true
+is_allowed Connect len (outcome.Count k) = false
+is_allowed Connect len outcome.End = false
+is_allowed Connect len outcome.Connected = true
+is_allowed Connect len outcome.Accepted = false
+is_allowed Connect len outcome.Fault = true
 is_allowed Read len (outcome.Count k) = nat_le 1 k && nat_le k len
 is_allowed Read len outcome.End = true
+is_allowed Read len outcome.Connected = false
+is_allowed Read len outcome.Accepted = false
+is_allowed Read len outcome.Fault = true
 is_allowed Write len (outcome.Count k) = nat_le 1 k && nat_le k len
-is_allowed Connect len outcome.Connected = true
-is_allowed Accept len outcome.Accepted = true
-is_allowed kind len outcome.Fault = true
-is_allowed kind len other = false
+is_allowed Write len outcome.End = false
+is_allowed Write len outcome.Connected = false
+is_allowed Write len outcome.Accepted = false
+is_allowed Write len outcome.Fault = true
 
 -- an outcome is reported of a pending operation alone, and only one that it may have
 abbrev pub report_refusal : Option Operation → Outcome → Option ReportError

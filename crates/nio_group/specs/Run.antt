@@ -1,16 +1,20 @@
 -- The calls that change a group, one group step for each, runs of them, and their laws.
-use Rattle.std.specs.Prelude.{◌≡◌, ℕ, ◌+◌, ◌<◌, ◌≤◌, Bool, if◌then◌else◌, not, ◌&&◌, List, [], ◌∷◌, length, Option, Result, IsTrue, nat_lt}
+use Rattle.std.specs.Prelude.{◌≡◌, ℕ, ◌+◌, ◌<◌, ◌≤◌, ◌⊎◌, ◌==◌, Bool, false, if◌then◌else◌, not, ◌&&◌, ◌||◌, List, [], ◌∷◌, length, Option, Some, None, Result, IsTrue, nat_lt}
 use Rattle.nio_base.specs.declared.numbers.OpNo.{OpNo}
 use Rattle.nio_base.specs.declared.numbers.GChan.{GChan}
-use Rattle.nio_group.specs.declared.channel.GKind.{GKind}
-use Rattle.nio_group.specs.declared.operation.OpKind.{OpKind}
-use Rattle.nio_group.specs.declared.operation.Outcome.{Outcome}
+use Rattle.nio_base.specs.declared.group.GKind.{GKind}
+use Rattle.nio_base.specs.declared.group.OpKind.{OpKind}
+use Rattle.nio_base.specs.declared.group.Outcome.{Outcome}
+use Rattle.nio_base.specs.declared.group.Finished.{Finished}
+use Rattle.nio_group.specs.declared.operation.Stage.{Stage}
+use Rattle.nio_group.specs.declared.operation.Stage.TheVariants.{Pending, Queued, Running}
+use Rattle.nio_group.specs.declared.operation.Operation.{Operation}
 use Rattle.nio_group.specs.declared.refusal.StartError.{StartError}
 use Rattle.nio_group.specs.declared.refusal.ReportError.{ReportError}
 use Rattle.nio_group.specs.declared.refusal.NotRunning.{NotRunning}
 use Rattle.nio_group.specs.declared.limits.GroupLimits.{GroupLimits}
 use Rattle.nio_group.specs.Completion.{CompletionFields}
-use Rattle.nio_group.specs.Stages.{is_pending, is_queued, is_running}
+use Rattle.nio_group.specs.Stages.{is_pending, is_queued, is_running, at_stage}
 use Rattle.nio_group.specs.Flight.{op_at, accepted}
 use Rattle.nio_group.specs.Group.{Group, IsLawful, is_terminated, channel_at, empty_group}
 use Rattle.nio_group.specs.Steps.{answer_to_open, after_open, answer_to_bind, after_bind, answer_to_start, after_start, answer_to_report, after_report, answer_to_take, after_take, answer_to_finish, after_finish, after_close, after_shutdown, after_shutdown_now}
@@ -95,7 +99,7 @@ TerminatedStays =
 abbrev pub has_completed : Group → ℕ → Bool
 has_completed g n = nat_lt n (accepted g.flight) && not (is_pending (op_at g.flight n))
 
--- an operation whose handler has been given its completion
+-- an operation whose completion has been taken
 abbrev pub was_taken : Group → ℕ → Bool
 was_taken g n = has_completed g n && not (is_queued (op_at g.flight n))
 
@@ -103,12 +107,24 @@ was_taken g n = has_completed g n && not (is_queued (op_at g.flight n))
 abbrev pub has_ended : Group → ℕ → Bool
 has_ended g n = was_taken g n && not (is_running (op_at g.flight n))
 
--- no call takes back an acceptance, a completion, a taking or an end: stages go forward alone
+-- the stage that follows: a pending operation is queued with its result, a queued one runs, and a
+-- running one ends. Its channel, kind and length stay
+abbrev pub GoesOn : Stage → Operation → Option Operation → Type 0
+GoesOn Pending op next = (result : Finished) × (next ≡ Some (at_stage (Queued result) op))
+GoesOn (Queued result) op next = next ≡ Some (at_stage Running op)
+GoesOn Running op next = next ≡ None
+
+-- an operation stays as it was, or goes on to the stage that follows; one that has ended stays so
+abbrev pub IsNext : Option Operation → Option Operation → Type 0
+IsNext None next = next ≡ None
+IsNext (Some op) next = (next ≡ Some op) ⊎ GoesOn op.stage op next
+
+-- what a call makes of the operation with this number. One that was accepted before the call stays as
+-- it was or goes one stage on; one that the call accepts is pending or queued
 pub record IsForward (g left : Group) (n : ℕ) : Type 0 where
   pub accepts : accepted g.flight ≤ accepted left.flight
-  pub completes : IsTrue (has_completed g n) → IsTrue (has_completed left n)
-  pub takes : IsTrue (was_taken g n) → IsTrue (was_taken left n)
-  pub ends : IsTrue (has_ended g n) → IsTrue (has_ended left n)
+  pub goes_on : n < accepted g.flight → IsNext (op_at g.flight n) (op_at left.flight n)
+  pub begins : accepted g.flight ≤ n → n < accepted left.flight → IsTrue (is_pending (op_at left.flight n) || is_queued (op_at left.flight n))
 
 abbrev pub StagesGoForward : Type 0
 StagesGoForward = (g : Group) (call : Call) (n : ℕ) → IsLawful g → IsCallOf g call → IsForward g (after g call) n
@@ -137,6 +153,27 @@ completions n g (call ∷ calls) =
 abbrev pub CompletesOnce : Type 0
 CompletesOnce =
     (limits : GroupLimits) (calls : List Call) (n : ℕ) → IsRunOf (empty_group limits) calls → completions n (empty_group limits) calls ≡ once_where (has_completed (left_by (empty_group limits) calls) n)
+
+-- the reply is the completion of this operation
+abbrev pub hands_out : ℕ → Reply → Bool
+hands_out n (opened answer) = false
+hands_out n (bound answer) = false
+hands_out n (started answer) = false
+hands_out n (reported answer) = false
+hands_out n (taken None) = false
+hands_out n (taken (Some completion)) = completion.op.0 == n
+hands_out n (finished answer) = false
+hands_out n (closed was_open) = false
+hands_out n done = false
+
+-- how often the completion of this operation is taken in a run
+abbrev pub times_taken : ℕ → Group → List Call → ℕ
+times_taken n g [] = 0
+times_taken n g (call ∷ calls) = once_where (hands_out n (reply_to g call)) + times_taken n (after g call) calls
+
+-- in a run from a lawful group the completion of each operation is taken at most once
+abbrev pub TakesOnce : Type 0
+TakesOnce = (g : Group) (calls : List Call) (n : ℕ) → IsLawful g → IsRunOf g calls → times_taken n g calls ≤ 1
 
 -- where a group has terminated every accepted operation has ended, and none completes from then on
 pub record IsAtRest (g : Group) : Type 0 where

@@ -1,18 +1,29 @@
 -- The stages of an operation. Each accepted operation is pending, queued, running or ended; an
 -- operation that has ended is `None`, since nothing more is known of it.
 use Rattle.std.specs.Prelude.{ℕ, Bool, true, false, ◌&&◌, ◌==◌, Option, Some, None}
-use Rattle.nio_group.specs.declared.operation.OpKind.{OpKind}
-use Rattle.nio_group.specs.declared.operation.OpKind.TheVariants.{Accept, Connect, Read, Write}
+use Rattle.nio_base.specs.declared.group.OpKind.{OpKind}
+use Rattle.nio_base.specs.declared.group.OpKind.TheVariants.{Accept, Connect, Read, Write}
 use Rattle.nio_group.specs.declared.operation.Stage.{Stage}
 use Rattle.nio_group.specs.declared.operation.Stage.TheVariants.{Pending, Queued, Running}
 use Rattle.nio_group.specs.declared.operation.Operation.{Operation}
 
 abbrev pub same_kind : OpKind → OpKind → Bool
 same_kind Accept Accept = true
+same_kind Accept Connect = false
+same_kind Accept Read = false
+same_kind Accept Write = false
+same_kind Connect Accept = false
 same_kind Connect Connect = true
+same_kind Connect Read = false
+same_kind Connect Write = false
+same_kind Read Accept = false
+same_kind Read Connect = false
 same_kind Read Read = true
+same_kind Read Write = false
+same_kind Write Accept = false
+same_kind Write Connect = false
+same_kind Write Read = false
 same_kind Write Write = true
-same_kind _ _ = false
 
 abbrev pub stage_is_pending : Stage → Bool
 stage_is_pending Pending = true

@@ -3,18 +3,18 @@
 use Rattle.std.specs.Prelude.{◌≡◌, ℕ, Bool, true, false, if◌then◌else◌, ◌==◌, List, [], ◌∷◌, ◌++◌, length, Option, Some, None, Result, Ok, Err, slice_set, suc, zero}
 use Rattle.nio_base.specs.declared.numbers.OpNo.{OpNo}
 use Rattle.nio_base.specs.declared.numbers.GChan.{GChan}
-use Rattle.nio_group.specs.declared.channel.GKind.{GKind}
+use Rattle.nio_base.specs.declared.group.GKind.{GKind}
 use Rattle.nio_group.specs.declared.channel.Channel.{Channel}
 use Rattle.nio_group.specs.declared.channel.Endpoint.{Endpoint}
 use Rattle.nio_group.specs.declared.channel.Endpoint.TheVariants.{Stream, Listener}
 use Rattle.nio_group.specs.declared.channel.Link.TheVariants.{Connecting, Connected}
-use Rattle.nio_group.specs.declared.operation.OpKind.{OpKind}
-use Rattle.nio_group.specs.declared.operation.OpKind.TheVariants.{Accept, Connect, Read, Write}
-use Rattle.nio_group.specs.declared.operation.Outcome.{Outcome}
-use Rattle.nio_group.specs.declared.operation.Outcome.TheVariants as outcome
-use Rattle.nio_group.specs.declared.operation.Finished.{Finished}
-use Rattle.nio_group.specs.declared.operation.Finished.TheVariants as finished
-use Rattle.nio_group.specs.declared.operation.Why.TheVariants as why
+use Rattle.nio_base.specs.declared.group.OpKind.{OpKind}
+use Rattle.nio_base.specs.declared.group.OpKind.TheVariants.{Accept, Connect, Read, Write}
+use Rattle.nio_base.specs.declared.group.Outcome.{Outcome}
+use Rattle.nio_base.specs.declared.group.Outcome.TheVariants as outcome
+use Rattle.nio_base.specs.declared.group.Finished.{Finished}
+use Rattle.nio_base.specs.declared.group.Finished.TheVariants as finished
+use Rattle.nio_base.specs.declared.group.Why.TheVariants as why
 use Rattle.nio_group.specs.declared.operation.Stage.{Stage}
 use Rattle.nio_group.specs.declared.operation.Stage.TheVariants.{Pending, Queued, Running}
 use Rattle.nio_group.specs.declared.operation.Operation.{Operation}
@@ -67,8 +67,11 @@ first_stage true Read len = if len == 0 then Queued (finished.Count 0) else Pend
 first_stage true Write len = if len == 0 then Queued (finished.Count 0) else Pending
 
 abbrev pub channels_after_start : Group → ℕ → OpKind → Bool → Group
+channels_after_start g c Accept is_open = g
 channels_after_start g c Connect true = with_endpoint g c (Stream Connecting)
-channels_after_start g c kind is_open = g
+channels_after_start g c Connect false = g
+channels_after_start g c Read is_open = g
+channels_after_start g c Write is_open = g
 
 abbrev pub started : Group → GChan → OpKind → ℕ → Group
 started g chan kind len =
@@ -106,12 +109,16 @@ abbrev pub connected_stream : Channel
 connected_stream = record { is_open = true; endpoint = Stream Connected }
 
 abbrev pub channels_after_report : Group → ℕ → OpKind → Outcome → Group
+channels_after_report g c kind (outcome.Count k) = g
+channels_after_report g c kind outcome.End = g
 channels_after_report g c kind outcome.Connected = with_endpoint g c (Stream Connected)
-channels_after_report g c Connect outcome.Fault = with_closed g c
 channels_after_report g c kind outcome.Accepted =
     if g.is_shut then g else if no_number_left g then g
     else record g { channels = g.channels ++ connected_stream ∷ [] }
-channels_after_report g c kind other = g
+channels_after_report g c Accept outcome.Fault = g
+channels_after_report g c Connect outcome.Fault = with_closed g c
+channels_after_report g c Read outcome.Fault = g
+channels_after_report g c Write outcome.Fault = g
 
 abbrev pub reported : Group → ℕ → Outcome → Option Operation → Group
 reported g n outcome None = g

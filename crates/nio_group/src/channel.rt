@@ -1,15 +1,7 @@
 //! The channels of a group.
-
 ghost use Rattle.std.specs.Prelude.{◌≡◌};
 
-/// What a channel of a group is.
-#[derive(Clone, Copy, Debug, PartialEq, Eq, Hash)]
-pub enum GKind {
-    /// A stream connection, as Java's `AsynchronousSocketChannel`.
-    Stream,
-    /// What accepts stream connections, as Java's `AsynchronousServerSocketChannel`.
-    Listener,
-}
+use nio_base::GKind;
 
 /// How far a stream has come.
 #[derive(Clone, Copy, Debug, PartialEq, Eq, Hash)]

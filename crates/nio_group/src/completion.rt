@@ -1,12 +1,11 @@
-//! What a group hands out: jobs, which name pending operations, and completions. Only the group
-//! makes them, each one once, and neither can be copied.
+//! What a group hands out: jobs, which name pending operations, and completions, each of which it
+//! hands out once. Only the group makes them, and neither can be copied.
 ghost use Rattle.std.specs.Prelude.{◌≡◌};
 
-use crate::operation::{Finished, OpKind};
-use nio_base::{GChan, OpNo};
+use nio_base::{Finished, GChan, OpKind, OpNo};
 use std::marker::Model;
 
-/// A pending operation, for whoever does its work.
+/// A pending operation, for the caller who does its work.
 #[derive(Debug, Drop)]
 pub struct Job {
     op: OpNo,

@@ -1,13 +1,14 @@
 //! The operations of a group from their start to their end, and the queue of their completions.
 ghost use Rattle.std.specs.Prelude.{◌≡◌, ℕ, ◌+◌, ◌<◌, ◌≤◌, ◌^◌, IfOk, IsTrue, is_some, count_by, length, Some, None, true};
 ghost use Rattle.nio_group.specs.Stages.{is_running, is_pending};
-ghost use Rattle.nio_group.specs.declared.operation.OpKind.{OpKind};
+ghost use Rattle.nio_base.specs.declared.group.OpKind.{OpKind};
 ghost use Rattle.nio_group.specs.Pending.{slot_of};
 ghost use Rattle.nio_group.specs.Flight.{IsPendingAs, op_at, accepted, in_flight, no_flight, with_accepted, with_completed, flight_after_take, next_taken, with_ended, with_channel_closed};
 
-use crate::operation::{Finished, Operation, Stage, Why};
+use crate::operation::{Operation, Stage};
 use crate::operations::Operations;
 use crate::pending::Pending;
+use nio_base::{Finished, Why};
 use std::alloc::{AllocError, Global};
 use std::collections::VecDeque;
 use std::marker::Model;

@@ -7,15 +7,15 @@ ghost use Rattle.nio_group.specs.Group.{empty_group, channel_at, is_terminated, 
 ghost use Rattle.nio_group.specs.Refusals.{start_refusal as refusal_of_start};
 ghost use Rattle.nio_group.specs.Steps.{answer_to_open, after_open, answer_to_bind, after_bind, answer_to_start, after_start, answer_to_report, after_report, answer_to_take, after_take, answer_to_finish, after_finish, after_close, after_shutdown, after_shutdown_now, IsJobOf, result_of as finished_as, first_stage as stage_at_start};
 
-use crate::channel::{Channel, Endpoint, GKind, Link};
+use crate::channel::{Channel, Endpoint, Link};
 use crate::completion::{Completion, Job};
 use crate::flight::{Flight, complete_all};
 use crate::limits::GroupLimits;
-use crate::operation::{Finished, OpKind, Operation, Outcome, Stage, Why};
+use crate::operation::{Operation, Stage};
 use crate::pending::Pending;
 use crate::refusal::{NotRunning, ReportError, StartError};
 use crate::refuse;
-use nio_base::{GChan, OpNo};
+use nio_base::{Finished, GChan, GKind, OpKind, OpNo, Outcome, Why};
 use std::alloc::{AllocError, Global};
 use std::marker::Model;
 
@@ -26,7 +26,7 @@ pub struct GroupCore {
     flight: Flight,
     channels: Vec<Channel>,
     pending: Vec<Pending>,
-    open: u32,
+    open_channels: u32,
     shut: bool,
     limits: GroupLimits,
 }
@@ -42,7 +42,7 @@ impl Model for GroupCore {
 
     ghost use Rattle.std.specs.Vec.{vec_capacity};
 
-    ghost invariant = { λ g. IsGroupKept g.flight g.channels.items g.pending.items g.open g.shut g.limits (vec_capacity g.channels) (vec_capacity g.pending) };
+    ghost invariant = { λ g. IsGroupKept g.flight g.channels.items g.pending.items g.open_channels g.shut g.limits (vec_capacity g.channels) (vec_capacity g.pending) };
 }
 
 impl GroupCore {
@@ -58,13 +58,13 @@ impl GroupCore {
             flight,
             channels,
             pending,
-            open: 0,
+            open_channels: 0,
             shut: false,
             limits,
         })
     }
 
-    /// That the group is lawful, for whoever got it where that isn't known.
+    /// A group is lawful. Call it where a proof needs that.
     pub fn law(&self)
         ensures { IsLawful self.now }
     {
@@ -85,7 +85,7 @@ impl GroupCore {
         let number = self.channels.len() as u32;
         self.channels.push_reserved(Channel::new(kind));
         self.pending.push_reserved(Pending::none());
-        self.open += 1;
+        self.open_channels += 1;
         Ok(GChan(number))
     }
 
@@ -159,7 +159,7 @@ impl GroupCore {
         None
     }
 
-    /// The pending operation of this kind on this channel, for whoever does its work.
+    /// The pending operation of this kind on this channel, for the caller who does its work.
     pub fn job(&self, chan: GChan, kind: OpKind) -> Option<Job>
         requires { chan.0 < length self.now.channels }
         ensures some { IfSome result (λ job. IsJobOf self.now chan.0 kind job) }
@@ -170,7 +170,7 @@ impl GroupCore {
         Some(Job::make(OpNo(number), operation.chan, operation.kind, operation.len))
     }
 
-    /// Takes what came of a pending operation, whose completion is queued.
+    /// Reports what came of a pending operation, and queues its completion.
     pub fn report(&mut self, op: OpNo, outcome: Outcome) -> Result<(), ReportError>
         ensures answer { result ≡ answer_to_report self.old op.0 outcome }
         ensures after { self.new ≡ after_report self.old op.0 outcome }
@@ -200,7 +200,7 @@ impl GroupCore {
                         is_open: false,
                         ..channel
                     };
-                    self.open -= 1;
+                    self.open_channels -= 1;
                 }
             }
             Outcome::Accepted => {
@@ -210,7 +210,7 @@ impl GroupCore {
                         endpoint: Endpoint::Stream(Link::Connected),
                     });
                     self.pending.push_reserved(Pending::none());
-                    self.open += 1;
+                    self.open_channels += 1;
                 }
             }
             _ => {}
@@ -284,7 +284,7 @@ impl GroupCore {
             is_open: false,
             ..channel
         };
-        self.open -= 1;
+        self.open_channels -= 1;
         true
     }
 
@@ -315,10 +315,10 @@ impl GroupCore {
     pub fn is_terminated(&self) -> bool
         ensures { result ≡ is_terminated self.now }
     {
-        self.shut && self.open == 0 && self.flight.in_flight() == 0
+        self.shut && self.open_channels == 0 && self.flight.in_flight() == 0
     }
 
-    /// How many channels were made. A channel below it is made.
+    /// How many channels were made. They have the numbers from 0 on.
     pub fn channels(&self) -> u32
         ensures { result ≡ length self.now.channels }
     {

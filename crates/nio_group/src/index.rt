@@ -13,8 +13,8 @@ pub(crate) struct Entry {
     pub(crate) key: usize,
 }
 
-/// The keys of at most `limit` numbers. A number is looked for from its home on, and never further
-/// than `reach` slots, which is as far as any number had to go.
+/// The keys of at most `limit` numbers. The search for a number begins at its home, and ends `reach`
+/// slots after it: no number was ever put further from its home.
 #[derive(Drop)]
 pub(crate) struct Index {
     slots: Vec<Option<Entry>>,
@@ -32,8 +32,8 @@ impl Model for Index {
     ghost invariant = { λ index. spec.IsTable index.slots.items index.limit index.reach };
 }
 
-/// The slot that a number is looked for from: Knuth's multiplicative hash, which spreads numbers
-/// that follow one another.
+/// The slot at which the search for a number begins: Knuth's multiplicative hash, which spreads
+/// numbers that follow one another.
 fn home(number: u64, limit: usize) -> usize
     requires some { 1 ≤ limit }
     requires few { limit ≤ 65536 }

@@ -1,5 +1,5 @@
-//! The laws of a group. Each is the contract of a function that does nothing.
-ghost use Rattle.nio_group.specs.Run.{StepsAreLawful, TerminatedStays, StagesGoForward, CompletesOnce, TerminatedIsAtRest};
+//! The laws of a group, each the contract of a function with an empty body.
+ghost use Rattle.nio_group.specs.Run.{StepsAreLawful, TerminatedStays, StagesGoForward, CompletesOnce, TakesOnce, TerminatedIsAtRest};
 
 /// For each lawful state of a group and each call there are one reply and one next state, and that
 /// state is lawful.
@@ -12,14 +12,22 @@ pub fn terminated_law()
     ensures { TerminatedStays }
 {}
 
-/// An operation's stage only goes forward: from pending to queued, to running, to ended.
+/// An operation begins pending or queued. A call leaves it as it was, or takes it one stage on: from
+/// pending to queued, from queued to running, from running to ended; its channel, kind and length
+/// stay.
 pub fn stage_law()
     ensures { StagesGoForward }
 {}
 
-/// In a run from the empty group an accepted operation completes once, and is pending until then.
+/// In a run from the empty group an operation that was accepted and isn't pending any more has
+/// completed exactly once; no other operation has completed.
 pub fn completion_law()
     ensures { CompletesOnce }
+{}
+
+/// In a run the completion of an operation is taken at most once.
+pub fn take_law()
+    ensures { TakesOnce }
 {}
 
 /// Where a group has terminated no accepted operation is lost: each has ended, and none completes

@@ -3,12 +3,13 @@
 //! until the group has shut down and terminated.
 #![tactic(auto)]
 
-pub use channel::{Channel, Endpoint, GKind, Link};
+pub use channel::{Channel, Endpoint, Link};
 pub use completion::{Completion, Job};
 pub use group::GroupCore;
-pub use laws::{completion_law, rest_law, stage_law, step_law, terminated_law};
+pub use laws::{completion_law, rest_law, stage_law, step_law, take_law, terminated_law};
 pub use limits::GroupLimits;
-pub use operation::{Finished, OpKind, Operation, Outcome, Stage, Why};
+pub use nio_base::{Finished, GKind, OpKind, Outcome, Why};
+pub use operation::{Operation, Stage};
 pub use refusal::{NotRunning, ReportError, StartError};
 
 mod channel;

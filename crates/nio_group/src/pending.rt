@@ -1,9 +1,9 @@
 //! Which operations are pending on a channel.
 ghost use Rattle.std.specs.Prelude.{◌≡◌, ℕ, ◌≤◌, Some, None, IfSome, IfNone, Option};
-ghost use Rattle.nio_group.specs.declared.operation.OpKind.{OpKind};
+ghost use Rattle.nio_base.specs.declared.group.OpKind.{OpKind};
 ghost use Rattle.nio_group.specs.Pending.{slot_of, with_slot, nothing_pending, lesser_of};
 
-use crate::operation::OpKind;
+use nio_base::OpKind;
 
 /// The number of the operation of each kind that is pending on a channel, if there is one.
 #[derive(Clone, Copy, Debug)]
@@ -64,7 +64,7 @@ impl Pending {
     }
 }
 
-/// The lesser of two numbers, of which there may be one or none.
+/// The lesser of two numbers, each of which may be missing.
 fn lesser(a: Option<u64>, b: Option<u64>) -> Option<u64>
     ensures { result ≡ lesser_of a b }
 {

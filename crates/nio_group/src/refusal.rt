@@ -48,7 +48,7 @@ pub enum StartError {
     ChannelsSpent,
 }
 
-/// Why an outcome isn't taken.
+/// Why a report is refused.
 #[derive(Clone, Copy, Debug, PartialEq, Eq, Error)]
 pub enum ReportError {
     /// The operation isn't pending.

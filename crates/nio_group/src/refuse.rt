@@ -3,8 +3,9 @@ ghost use Rattle.std.specs.Prelude.{◌≡◌, Some};
 ghost use Rattle.nio_group.specs.Refusals.{bind_refusal, channel_refusal, stream_refusal, report_refusal, is_allowed};
 
 use crate::channel::{Endpoint, Link};
-use crate::operation::{OpKind, Operation, Outcome, Stage};
+use crate::operation::{Operation, Stage};
 use crate::refusal::{ReportError, StartError};
+use nio_base::{OpKind, Outcome};
 
 /// Why a channel can't be bound.
 pub(crate) fn bind(is_open: bool, endpoint: Endpoint) -> Option<StartError>
@@ -67,7 +68,7 @@ fn stream(link: Link, pending: bool, kind: OpKind) -> Option<StartError>
     }
 }
 
-/// Why this outcome of this operation isn't taken.
+/// Why a report of this outcome of this operation is refused.
 pub(crate) fn report(operation: Operation, outcome: Outcome) -> Option<ReportError>
     ensures { result ≡ report_refusal (Some operation) outcome }
 {

@@ -1,14 +1,7 @@
-//! Whole runs of a group, call by call.
+//! Worked runs of a group as tables of calls and replies.
 use crate::*;
 use nio_base::{GChan, OpNo};
-use std::process::Abort;
 use std::test::Fail;
-
-const LIMITS: GroupLimits = GroupLimits {
-    channels: 4,
-    flight: 4,
-    ops: 16,
-};
 
 #[derive(Clone, Copy, Debug)]
 enum Call {
@@ -41,52 +34,26 @@ enum Reply {
     NoChannel,
 }
 
-fn start(group: &mut GroupCore, chan: u32, kind: OpKind, len: u64) -> Reply {
-    if chan >= group.channels() {
-        return Reply::NoChannel;
-    }
-    match group.start(GChan(chan), kind, len) {
-        Ok(op) => Reply::Started(op.0),
-        Err(refused) => Reply::Refused(refused),
-    }
-}
-
-fn bind(group: &mut GroupCore, chan: u32) -> Reply {
-    if chan >= group.channels() {
-        return Reply::NoChannel;
-    }
-    match group.bind(GChan(chan)) {
-        Ok(()) => Reply::Done,
-        Err(refused) => Reply::Refused(refused),
-    }
-}
-
-fn close(group: &mut GroupCore, chan: u32) -> Reply {
-    if chan >= group.channels() {
-        return Reply::NoChannel;
-    }
-    Reply::Is(group.close_channel(GChan(chan)))
-}
-
-fn job(group: &GroupCore, chan: u32, kind: OpKind) -> Reply {
-    if chan >= group.channels() {
-        return Reply::NoChannel;
-    }
-    match group.job(GChan(chan), kind) {
-        Some(job) => Reply::Working(job.op().0, job.len()),
-        None => Reply::Nothing,
-    }
-}
-
+/// The reply to a call, where its channel is made.
 fn reply_to(group: &mut GroupCore, call: Call) -> Reply {
+    let made = group.channels();
     match call {
         Call::Open(kind) => match group.open_channel(kind) {
             Ok(chan) => Reply::Opened(chan.0),
             Err(refused) => Reply::Refused(refused),
         },
-        Call::Bind(chan) => bind(group, chan),
-        Call::Start(chan, kind, len) => start(group, chan, kind, len),
-        Call::Job(chan, kind) => job(group, chan, kind),
+        Call::Bind(chan) if chan < made => match group.bind(GChan(chan)) {
+            Ok(()) => Reply::Done,
+            Err(refused) => Reply::Refused(refused),
+        },
+        Call::Start(chan, kind, len) if chan < made => match group.start(GChan(chan), kind, len) {
+            Ok(op) => Reply::Started(op.0),
+            Err(refused) => Reply::Refused(refused),
+        },
+        Call::Job(chan, kind) if chan < made => match group.job(GChan(chan), kind) {
+            Some(job) => Reply::Working(job.op().0, job.len()),
+            None => Reply::Nothing,
+        },
         Call::Report(op, outcome) => match group.report(OpNo(op), outcome) {
             Ok(()) => Reply::Done,
             Err(refused) => Reply::NotReported(refused),
@@ -99,7 +66,7 @@ fn reply_to(group: &mut GroupCore, call: Call) -> Reply {
             Ok(()) => Reply::Done,
             Err(NotRunning) => Reply::NotRunning,
         },
-        Call::Close(chan) => close(group, chan),
+        Call::Close(chan) if chan < made => Reply::Is(group.close_channel(GChan(chan))),
         Call::Shutdown => {
             group.shutdown();
             Reply::Done
@@ -110,12 +77,7 @@ fn reply_to(group: &mut GroupCore, call: Call) -> Reply {
         }
         Call::IsShutdown => Reply::Is(group.is_shutdown()),
         Call::IsTerminated => Reply::Is(group.is_terminated()),
-    }
-}
-
-fn run(rt: &impl Abort, name: &str, group: &mut GroupCore, calls: &[(Call, Reply)]) {
-    for (call, reply) in calls {
-        assert_eq!(rt; reply_to(group, *call), *reply, "{name}: {call:?}");
+        Call::Bind(_) | Call::Start(_, _, _) | Call::Job(_, _) | Call::Close(_) => Reply::NoChannel,
     }
 }
 
@@ -127,164 +89,156 @@ const READ: OpKind = OpKind::Read;
 
 const WRITE: OpKind = OpKind::Write;
 
-#[test]
-fn runs_of_a_group(rt: HostRuntime) -> Result<(), Fail> {
-    let mut group = GroupCore::make(rt.alloc(), LIMITS)?;
-    run(
-        &rt,
-        "group_shutdown_now",
-        &mut group,
-        &[
-            (Call::Open(GKind::Stream), Reply::Opened(0)),
-            (
-                Call::Start(0, READ, 10),
-                Reply::Refused(StartError::NotYetConnected),
-            ),
-            (Call::Start(0, CONNECT, 0), Reply::Started(0)),
-            (Call::Job(0, CONNECT), Reply::Working(0, 0)),
-            (Call::Report(0, Outcome::Connected), Reply::Done),
-            (Call::Job(0, CONNECT), Reply::Nothing),
-            (Call::Take, Reply::Completed(0, Finished::Connected)),
-            (Call::Finish(0), Reply::Done),
-            (Call::Start(0, READ, 10), Reply::Started(1)),
-            (
-                Call::Start(0, READ, 10),
-                Reply::Refused(StartError::ReadPending),
-            ),
-            (Call::IsShutdown, Reply::Is(false)),
-            (Call::ShutdownNow, Reply::Done),
-            (Call::IsShutdown, Reply::Is(true)),
-            (Call::IsTerminated, Reply::Is(false)),
-            (
-                Call::Take,
-                Reply::Completed(1, Finished::Failed(Why::AsynchronousClose)),
-            ),
-            (Call::IsTerminated, Reply::Is(false)),
-            (Call::Finish(1), Reply::Done),
-            (Call::IsTerminated, Reply::Is(true)),
-            (
-                Call::Start(0, READ, 1),
-                Reply::Refused(StartError::ShutdownGroup),
-            ),
-            (Call::Take, Reply::Nothing),
-            (
-                Call::Open(GKind::Stream),
-                Reply::Refused(StartError::ShutdownGroup),
-            ),
-        ],
-    );
-    let mut group = GroupCore::make(rt.alloc(), LIMITS)?;
-    run(
-        &rt,
-        "accept_after_shutdown",
-        &mut group,
-        &[
-            (Call::Open(GKind::Listener), Reply::Opened(0)),
-            (
-                Call::Start(0, ACCEPT, 0),
-                Reply::Refused(StartError::NotYetBound),
-            ),
-            (Call::Bind(0), Reply::Done),
-            (Call::Bind(0), Reply::Refused(StartError::AlreadyBound)),
-            (Call::Start(0, ACCEPT, 0), Reply::Started(0)),
-            (
-                Call::Start(0, ACCEPT, 0),
-                Reply::Refused(StartError::AcceptPending),
-            ),
-            (Call::Shutdown, Reply::Done),
-            (Call::Report(0, Outcome::Accepted), Reply::Done),
-            (
-                Call::Take,
-                Reply::Completed(0, Finished::Failed(Why::ShutdownGroup)),
-            ),
-            (
-                Call::Report(0, Outcome::Accepted),
-                Reply::NotReported(ReportError::NotPending),
-            ),
-        ],
-    );
-    let mut group = GroupCore::make(rt.alloc(), LIMITS)?;
-    run(
-        &rt,
-        "accepted_stream",
-        &mut group,
-        &[
-            (Call::Open(GKind::Listener), Reply::Opened(0)),
-            (
-                Call::Start(0, ACCEPT, 0),
-                Reply::Refused(StartError::NotYetBound),
-            ),
-            (Call::Bind(0), Reply::Done),
-            (Call::Start(0, ACCEPT, 0), Reply::Started(0)),
-            (Call::Report(0, Outcome::Accepted), Reply::Done),
-            (
-                Call::Take,
-                Reply::Completed(0, Finished::Accepted(GChan(1))),
-            ),
-            (Call::Start(1, READ, 0), Reply::Started(1)),
-            (Call::Take, Reply::Completed(1, Finished::Count(0))),
-            (Call::Start(1, READ, 5), Reply::Started(2)),
-            (
-                Call::Report(2, Outcome::Count(6)),
-                Reply::NotReported(ReportError::WrongOutcome),
-            ),
-            (Call::Report(2, Outcome::End), Reply::Done),
-            (Call::Take, Reply::Completed(2, Finished::End)),
-            (Call::Close(1), Reply::Is(true)),
-            (Call::Close(1), Reply::Is(false)),
-            (Call::Start(1, WRITE, 3), Reply::Started(3)),
-            (
-                Call::Take,
-                Reply::Completed(3, Finished::Failed(Why::ClosedChannel)),
-            ),
-        ],
-    );
-    Ok(())
-}
+const GROUP_SHUTDOWN_NOW: &[(Call, Reply)] = &[
+    (Call::Open(GKind::Stream), Reply::Opened(0)),
+    (
+        Call::Start(0, READ, 10),
+        Reply::Refused(StartError::NotYetConnected),
+    ),
+    (Call::Start(0, CONNECT, 0), Reply::Started(0)),
+    (Call::Job(0, CONNECT), Reply::Working(0, 0)),
+    (Call::Report(0, Outcome::Connected), Reply::Done),
+    (Call::Job(0, CONNECT), Reply::Nothing),
+    (Call::Take, Reply::Completed(0, Finished::Connected)),
+    (Call::Finish(0), Reply::Done),
+    (Call::Start(0, READ, 10), Reply::Started(1)),
+    (
+        Call::Start(0, READ, 10),
+        Reply::Refused(StartError::ReadPending),
+    ),
+    (Call::IsShutdown, Reply::Is(false)),
+    (Call::ShutdownNow, Reply::Done),
+    (Call::IsShutdown, Reply::Is(true)),
+    (Call::IsTerminated, Reply::Is(false)),
+    (
+        Call::Take,
+        Reply::Completed(1, Finished::Failed(Why::AsynchronousClose)),
+    ),
+    (Call::IsTerminated, Reply::Is(false)),
+    (Call::Finish(1), Reply::Done),
+    (Call::IsTerminated, Reply::Is(true)),
+    (
+        Call::Start(0, READ, 1),
+        Reply::Refused(StartError::ShutdownGroup),
+    ),
+    (Call::Take, Reply::Nothing),
+    (
+        Call::Open(GKind::Stream),
+        Reply::Refused(StartError::ShutdownGroup),
+    ),
+];
+
+const ACCEPT_AFTER_SHUTDOWN: &[(Call, Reply)] = &[
+    (Call::Open(GKind::Listener), Reply::Opened(0)),
+    (
+        Call::Start(0, ACCEPT, 0),
+        Reply::Refused(StartError::NotYetBound),
+    ),
+    (Call::Bind(0), Reply::Done),
+    (Call::Bind(0), Reply::Refused(StartError::AlreadyBound)),
+    (Call::Start(0, ACCEPT, 0), Reply::Started(0)),
+    (
+        Call::Start(0, ACCEPT, 0),
+        Reply::Refused(StartError::AcceptPending),
+    ),
+    (Call::Shutdown, Reply::Done),
+    (Call::Report(0, Outcome::Accepted), Reply::Done),
+    (
+        Call::Take,
+        Reply::Completed(0, Finished::Failed(Why::ShutdownGroup)),
+    ),
+    (
+        Call::Report(0, Outcome::Accepted),
+        Reply::NotReported(ReportError::NotPending),
+    ),
+];
+
+const ACCEPTED_STREAM: &[(Call, Reply)] = &[
+    (Call::Open(GKind::Listener), Reply::Opened(0)),
+    (
+        Call::Start(0, ACCEPT, 0),
+        Reply::Refused(StartError::NotYetBound),
+    ),
+    (Call::Bind(0), Reply::Done),
+    (Call::Start(0, ACCEPT, 0), Reply::Started(0)),
+    (Call::Report(0, Outcome::Accepted), Reply::Done),
+    (
+        Call::Take,
+        Reply::Completed(0, Finished::Accepted(GChan(1))),
+    ),
+    (Call::Start(1, READ, 0), Reply::Started(1)),
+    (Call::Take, Reply::Completed(1, Finished::Count(0))),
+    (Call::Start(1, READ, 5), Reply::Started(2)),
+    (
+        Call::Report(2, Outcome::Count(6)),
+        Reply::NotReported(ReportError::WrongOutcome),
+    ),
+    (Call::Report(2, Outcome::End), Reply::Done),
+    (Call::Take, Reply::Completed(2, Finished::End)),
+    (Call::Close(1), Reply::Is(true)),
+    (Call::Close(1), Reply::Is(false)),
+    (Call::Start(1, WRITE, 3), Reply::Started(3)),
+    (
+        Call::Take,
+        Reply::Completed(3, Finished::Failed(Why::ClosedChannel)),
+    ),
+];
+
+const GROUP_LIMITS: &[(Call, Reply)] = &[
+    (Call::Open(GKind::Listener), Reply::Opened(0)),
+    (
+        Call::Open(GKind::Listener),
+        Reply::Refused(StartError::ChannelsSpent),
+    ),
+    (Call::Bind(0), Reply::Done),
+    (Call::Start(0, ACCEPT, 0), Reply::Started(0)),
+    (Call::Report(0, Outcome::Accepted), Reply::Done),
+    (
+        Call::Take,
+        Reply::Completed(0, Finished::Failed(Why::ChannelsSpent)),
+    ),
+    (
+        Call::Start(0, ACCEPT, 0),
+        Reply::Refused(StartError::FlightFull),
+    ),
+    (Call::Finish(0), Reply::Done),
+    (Call::Finish(0), Reply::NotRunning),
+    (Call::Start(0, ACCEPT, 0), Reply::Started(1)),
+    (Call::Close(0), Reply::Is(true)),
+    (
+        Call::Take,
+        Reply::Completed(1, Finished::Failed(Why::AsynchronousClose)),
+    ),
+    (Call::Finish(1), Reply::Done),
+    (
+        Call::Start(0, ACCEPT, 0),
+        Reply::Refused(StartError::OpsSpent),
+    ),
+];
 
 #[test]
-fn group_limits(rt: HostRuntime) -> Result<(), Fail> {
+fn runs_of_a_group(rt: HostRuntime) -> Result<(), Fail> {
     let limits = GroupLimits {
+        channels: 4,
+        flight: 4,
+        ops: 16,
+    };
+    let narrow = GroupLimits {
         channels: 1,
         flight: 1,
         ops: 2,
     };
-    let mut group = GroupCore::make(rt.alloc(), limits)?;
-    run(
-        &rt,
-        "group_limits",
-        &mut group,
-        &[
-            (Call::Open(GKind::Listener), Reply::Opened(0)),
-            (
-                Call::Open(GKind::Listener),
-                Reply::Refused(StartError::ChannelsSpent),
-            ),
-            (Call::Bind(0), Reply::Done),
-            (Call::Start(0, ACCEPT, 0), Reply::Started(0)),
-            (Call::Report(0, Outcome::Accepted), Reply::Done),
-            (
-                Call::Take,
-                Reply::Completed(0, Finished::Failed(Why::ChannelsSpent)),
-            ),
-            (
-                Call::Start(0, ACCEPT, 0),
-                Reply::Refused(StartError::FlightFull),
-            ),
-            (Call::Finish(0), Reply::Done),
-            (Call::Finish(0), Reply::NotRunning),
-            (Call::Start(0, ACCEPT, 0), Reply::Started(1)),
-            (Call::Close(0), Reply::Is(true)),
-            (
-                Call::Take,
-                Reply::Completed(1, Finished::Failed(Why::AsynchronousClose)),
-            ),
-            (Call::Finish(1), Reply::Done),
-            (
-                Call::Start(0, ACCEPT, 0),
-                Reply::Refused(StartError::OpsSpent),
-            ),
-        ],
-    );
+    let rows = [
+        ("group_shutdown_now", limits, GROUP_SHUTDOWN_NOW),
+        ("accept_after_shutdown", limits, ACCEPT_AFTER_SHUTDOWN),
+        ("accepted_stream", limits, ACCEPTED_STREAM),
+        ("group_limits", narrow, GROUP_LIMITS),
+    ];
+    for (name, limits, calls) in rows {
+        let mut group = GroupCore::make(rt.alloc(), limits)?;
+        for (call, reply) in calls {
+            assert_eq!(rt; reply_to(&mut group, *call), *reply, "{name}: {call:?}");
+        }
+    }
     Ok(())
 }

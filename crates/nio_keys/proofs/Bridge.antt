@@ -6,9 +6,9 @@ use Rattle.nio_event.specs.Histories.{HistoryClause}
 use Rattle.nio_event.specs.Questions.{Answer, question_of, answer_of}
 use Rattle.nio_event.specs.declared.act.Act.{Act}
 use Rattle.nio_keys.specs.Calls.{view, ComesTo}
-use Rattle.nio_plan.proofs.CallLaws.{left_start, left_ask as ask_on, left_then as then_on, left_else as else_on}
-use Rattle.nio_plan.specs.Calls.{StepTold}
-use Rattle.nio_plan.specs.Plan.{Plan, ask}
+use Rattle.nio_steps.proofs.CallLaws.{left_start, left_ask as ask_on, left_then as then_on, left_else as else_on}
+use Rattle.nio_steps.specs.Calls.{StepTold}
+use Rattle.nio_steps.specs.Plan.{Plan, ask}
 use Rattle.nio_words.specs.Passes.{seen, numbers_of, Holds, limits_of}
 use Rattle.nio_words.specs.Steps.{Steps}
 use Rattle.nio_words.specs.declared.words.Pass.{Pass}

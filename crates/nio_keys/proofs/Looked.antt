@@ -22,9 +22,9 @@ use Rattle.nio_event.specs.declared.event.Event.{Event}
 use Rattle.nio_event.specs.declared.found.Chan.{Chan}
 use Rattle.nio_event.specs.declared.found.Stage.{Stage}
 use Rattle.nio_keys.specs.Calls.{HasKey}
-use Rattle.nio_plan.specs.KeyCalls.{has_bit}
-use Rattle.nio_plan.specs.Names.{key}
-use Rattle.nio_plan.specs.Steps.{stage_in, channel_in, word_in}
+use Rattle.nio_steps.specs.KeyCalls.{has_bit}
+use Rattle.nio_steps.specs.Names.{key}
+use Rattle.nio_steps.specs.Steps.{stage_in, channel_in, word_in}
 use Rattle.nio_words.proofs.Seen.{last_event}
 use Rattle.nio_words.specs.Passes.{seen, state_seen, Holds, limits_of}
 use Rattle.nio_words.specs.Steps.{Steps}

@@ -8,7 +8,7 @@ use Rattle.nio_base.specs.declared.numbers.SelNo.{SelNo}
 use Rattle.nio_event.proofs.Stays.{nothing_goes_back}
 use Rattle.nio_event.specs.Lasting.{LastingFact, stands, selector_made, channel_made, key_claimed}
 use Rattle.nio_keys.specs.Calls.{ComesTo, HasSelector, HasChannel, HasKey}
-use Rattle.nio_plan.specs.Plan.{Plan}
+use Rattle.nio_steps.specs.Plan.{Plan}
 use Rattle.nio_words.specs.Passes.{seen, state_seen, limits_of, IsReady}
 use Rattle.nio_words.specs.declared.words.Pass.{Pass}
 use Rattle.nio_words.specs.declared.words.Words.{Words}

@@ -11,10 +11,10 @@ use Rattle.nio_event.specs.declared.found.Chan.{Chan}
 use Rattle.nio_event.specs.declared.found.Stage.{Stage}
 use Rattle.nio_keys.proofs.Bridge.{left_ask, left_then, left_else, left_after}
 use Rattle.nio_keys.specs.Calls.{ComesTo, Calls}
-use Rattle.nio_plan.specs.KeyCalls.{is_within, if_supported}
-use Rattle.nio_plan.specs.Plan.{Plan}
-use Rattle.nio_plan.specs.declared.refusal.KeyError.{KeyError}
-use Rattle.nio_plan.specs.declared.refusal.KeyError.TheVariants.{IllegalOps}
+use Rattle.nio_steps.specs.KeyCalls.{is_within, if_supported}
+use Rattle.nio_steps.specs.Plan.{Plan}
+use Rattle.nio_steps.specs.declared.refusal.KeyError.{KeyError}
+use Rattle.nio_steps.specs.declared.refusal.KeyError.TheVariants.{IllegalOps}
 use Rattle.nio_words.specs.Steps.{Steps}
 use Rattle.nio_words.specs.declared.words.Pass.{Pass}
 use Rattle.nio_words.specs.declared.words.Words.{Words}

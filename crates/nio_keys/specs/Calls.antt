@@ -6,8 +6,8 @@ use Rattle.nio_base.specs.declared.numbers.ChanNo.{ChanNo}
 use Rattle.nio_base.specs.declared.numbers.KeyNo.{KeyNo}
 use Rattle.nio_base.specs.declared.numbers.SelNo.{SelNo}
 use Rattle.nio_event.specs.Conditions.{IsSelector, IsChannel, IsKey, is_made, is_claimed}
-use Rattle.nio_plan.specs.Calls.{View, PartTold}
-use Rattle.nio_plan.specs.Plan.{Plan, reply}
+use Rattle.nio_steps.specs.Calls.{View, PartTold}
+use Rattle.nio_steps.specs.Plan.{Plan, reply}
 use Rattle.nio_words.specs.Passes.{seen, state_seen, numbers_of, HoldSame, IsOnly, IsPassOf, limits_of}
 use Rattle.nio_words.specs.declared.words.Pass.{Pass}
 use Rattle.nio_words.specs.declared.words.Words.{Words}

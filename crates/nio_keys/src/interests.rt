@@ -1,15 +1,15 @@
 //! Calls on a key's interest set.
 ghost use Rattle.nio_keys.specs.Calls.{Calls, HasKey};
-ghost use Rattle.nio_plan.specs.KeyCalls.{interest_plan, set_interest_plan, interest_or_plan, interest_and_plan};
+ghost use Rattle.nio_steps.specs.KeyCalls.{interest_plan, set_interest_plan, interest_or_plan, interest_and_plan};
 ghost use Rattle.nio_words.specs.Passes.{IsReady};
 
 use crate::valid::{supports, valid};
 use nio_base::{CallerNo, KeyNo, Ops};
-use nio_plan::KeyError;
+use nio_steps::KeyError;
 use nio_words::{Pass, Words};
 
 /// The key's interest set: Java's `interestOps()`.
-#[tactic(auto, unfolding(nio_plan::specs::KeyCalls::interest_plan))]
+#[tactic(auto, unfolding(nio_steps::specs::KeyCalls::interest_plan))]
 pub fn interest(w: &Words, p: &mut Pass, me: CallerNo, key: KeyNo) -> Result<Ops, KeyError>
     requires ready { IsReady w.now p.old me }
     requires key { HasKey w.now p.old key }
@@ -23,7 +23,7 @@ pub fn interest(w: &Words, p: &mut Pass, me: CallerNo, key: KeyNo) -> Result<Ops
 
 /// Keeps of the key's interest set only what `ops` has too, which may be any operations. Answers the
 /// set before: Java's `interestOpsAnd`.
-#[tactic(auto, unfolding(nio_plan::specs::KeyCalls::interest_and_plan))]
+#[tactic(auto, unfolding(nio_steps::specs::KeyCalls::interest_and_plan))]
 pub fn interest_and(
     w: &Words,
     p: &mut Pass,
@@ -43,7 +43,7 @@ pub fn interest_and(
 }
 
 /// Puts `ops` in the place of the key's interest set: Java's `interestOps(int)`.
-#[tactic(auto, unfolding(nio_plan::specs::KeyCalls::set_interest_plan))]
+#[tactic(auto, unfolding(nio_steps::specs::KeyCalls::set_interest_plan))]
 pub fn set_interest(
     w: &Words,
     p: &mut Pass,
@@ -68,7 +68,7 @@ pub fn set_interest(
 }
 
 /// Adds `ops` to the key's interest set. Answers the set before: Java's `interestOpsOr`.
-#[tactic(auto, unfolding(nio_plan::specs::KeyCalls::interest_or_plan))]
+#[tactic(auto, unfolding(nio_steps::specs::KeyCalls::interest_or_plan))]
 pub fn interest_or(
     w: &Words,
     p: &mut Pass,

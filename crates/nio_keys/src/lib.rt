@@ -7,7 +7,7 @@
 
 pub use finds::{find, find_channel, find_selector};
 pub use interests::{interest, interest_and, interest_or, set_interest};
-pub use nio_plan::KeyError;
+pub use nio_steps::KeyError;
 pub use selected::{ready, unselect};
 pub use simple::{attach, attachment, cancel, is_valid};
 

@@ -2,7 +2,7 @@
 ghost use Rattle.std.specs.Prelude.{◌≡◌, ◌<◌};
 ghost use Rattle.nio_event.specs.Sets.{in_key_set, is_valid};
 ghost use Rattle.nio_base.specs.Kind.{valid_operations};
-ghost use Rattle.nio_plan.specs.KeyCalls.{has_bit as bit_of, is_within};
+ghost use Rattle.nio_steps.specs.KeyCalls.{has_bit as bit_of, is_within};
 
 use nio_base::{Kind, Ops};
 use nio_event::Stage;

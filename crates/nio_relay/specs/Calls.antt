@@ -1,4 +1,4 @@
--- What the calls on a direction lead to, in whatever order they may be made.
+-- Runs of calls on a direction, in any order in which they may be made.
 use Rattle.std.specs.Prelude.{◌≡◌, ℕ, ◌≤◌, List, [], ◌∷◌, ◌++◌, length, IsTrue}
 use mathlib.Core.List.{IsPrefix}
 use Rattle.nio_relay.specs.Flow.{Flow, fresh, held, MayTake, WantsShut, takes, writes, ends, shuts, fails}
@@ -50,7 +50,7 @@ abbrev pub bytes_read : List Call → List ℕ
 bytes_read [] = []
 bytes_read (c ∷ calls) = bytes_given c ++ bytes_read calls
 
--- the flow f carries these bytes: it has taken them all, holds few of them, has written a beginning
+-- the flow f carries these bytes: it has taken them all, holds few of them, has written a prefix
 -- of them, and once its output is shut it has written them all
 pub record Carries (f : Flow) (bytes : List ℕ) : Type 0 where
   pub all_taken : f.taken ≡ bytes

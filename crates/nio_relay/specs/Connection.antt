@@ -1,15 +1,7 @@
--- A relayed connection, told from what its two links have carried.
-use Rattle.std.specs.Prelude.{◌≡◌, ℕ, ◌+◌, ◌*◌, List, Bool, IsTrue}
+-- A relayed connection, by what its two links have carried.
+use Rattle.std.specs.Prelude.{◌≡◌, ℕ, List, Bool, IsTrue}
 use mathlib.Core.List.{IsPrefix}
 use Rattle.nio_relay.specs.Flow.{Flow, IsLawful}
-
--- the channel numbers of the two links of the k-th accepted connection, from 0 on; the listener has
--- the number 0
-abbrev pub client_link : ℕ → ℕ
-client_link k = 2 * k + 1
-
-abbrev pub target_link : ℕ → ℕ
-target_link k = 2 * k + 2
 
 -- what a link has carried: the bytes that it gave, in order, and whether they have ended; the bytes
 -- that were put on it, in order, and whether that side is shut
@@ -19,17 +11,17 @@ pub record Carried : Type 0 where
   pub put : List ℕ
   pub shut : Bool
 
--- what was put on b begins what a gave
+-- what was put on b is a prefix of what a gave
 abbrev pub IsBegun : Carried → Carried → Type 0
 IsBegun a b = IsPrefix b.put a.got
 
--- all that a gave was put on b, up to its end
+-- a has ended, all that it gave was put on b, and b is shut
 pub record IsWhole (a b : Carried) : Type 0 where
   pub bytes : b.put ≡ a.got
   pub ended : IsTrue a.ended
   pub shut : IsTrue b.shut
 
--- both ways all of it was relayed
+-- all of it was relayed, in both directions
 pub record IsClean (client target : Carried) : Type 0 where
   pub there : IsWhole client target
   pub back : IsWhole target client
@@ -41,8 +33,8 @@ pub record IsFlowOf (f : Flow) (a b : Carried) : Type 0 where
   pub ended : f.ended ≡ a.ended
   pub shut : f.shut ≡ b.shut
 
--- at any time a direction has relayed a beginning of its bytes, and once it is shut all of them: so
--- a connection with both directions shut is clean
+-- at any time a direction has relayed a prefix of its bytes, and once it is shut all of them; so a
+-- connection with both directions shut is clean
 pub record ConnectionLaw : Type 0 where
   pub begun : (f : Flow) (a b : Carried) → IsLawful f → IsFlowOf f a b → IsBegun a b
   pub whole : (f : Flow) (a b : Carried) → IsLawful f → IsFlowOf f a b → IsTrue f.shut → IsWhole a b

@@ -23,7 +23,7 @@ held f = drop (length f.written) f.taken
 abbrev pub room_of : Flow → ℕ
 room_of f = 16384 - length (held f)
 
--- what was written begins what was taken, at most 16,384 bytes are held, and the output is shut
+-- what was written is a prefix of what was taken, at most 16,384 bytes are held, and the output is shut
 -- only after the end of the input, with all of it written
 pub record IsLawful (f : Flow) : Type 0 where
   pub in_order : IsPrefix f.written f.taken

@@ -144,7 +144,7 @@ impl Direction {
         self.failed = true;
     }
 
-    /// What holds of every direction, for a proof that has one.
+    /// A direction is lawful. Call it where a proof needs that.
     pub fn law(&self)
         ensures { IsLawful self.now }
     {

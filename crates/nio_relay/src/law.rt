@@ -1,4 +1,4 @@
-//! What holds of directions whatever is called on them.
+//! The laws of directions, each the contract of a function with an empty body.
 ghost use Rattle.nio_relay.specs.Calls.{RelayLaw};
 ghost use Rattle.nio_relay.specs.Connection.{ConnectionLaw};
 

@@ -1,5 +1,5 @@
 //! One direction of a relayed connection: the bytes that were taken from the one end and are to be
-//! written to the other. Beside it what every serving crate is told, and what it answers.
+//! written to the other. Also the plan that a proxy serves, and what it has served.
 #![tactic(auto)]
 
 pub use direction::{CAPACITY, Direction, Want};

@@ -1,5 +1,4 @@
-//! What no clause says: that the calls do what is meant by them, over one table of calls, and that
-//! memory is found where there is some.
+//! Worked runs of a direction as tables, its size, and plans at their ends.
 use crate::*;
 use circular_buffer::HeapCircularBuffer;
 use nio_base::Addr;
@@ -41,6 +40,7 @@ enum Step {
     WriteTo(usize),
     End,
     Shut,
+    Fault,
 }
 
 /// A direction, what is still to be read by it, and all that it wrote.
@@ -61,6 +61,7 @@ impl Run<'_> {
                 assert!(rt; self.direction.want().shut);
                 self.direction.on_shut();
             }
+            Step::Fault => self.direction.on_fault(),
         }
         Ok(())
     }
@@ -89,68 +90,56 @@ impl Run<'_> {
     }
 }
 
+/// Each step, the room after it, and what is wanted then.
+const FILLS_WRAPS_ENDS_AND_SHUTS: &[(Step, usize, Want)] = &[
+    (Step::Read(0), 16_384, READ),
+    (Step::Read(16_384), 0, WRITE),
+    (Step::WriteTo(6_384), 10_000, READ_WRITE),
+    (Step::Read(9_999), 1, READ_WRITE),
+    (Step::Read(1), 0, WRITE),
+    (Step::WriteTo(16_383), 1, READ_WRITE),
+    (Step::WriteTo(0), 16_384, READ),
+    (Step::Read(15), 16_369, READ_WRITE),
+    (Step::End, 16_369, WRITE),
+    (Step::WriteTo(1), 16_383, WRITE),
+    (Step::WriteTo(0), 16_384, SHUT),
+    (Step::End, 16_384, SHUT),
+    (Step::Shut, 16_384, NOTHING),
+    (Step::End, 16_384, NOTHING),
+];
+
+const FAILS_WITH_BYTES_HELD: &[(Step, usize, Want)] = &[
+    (Step::Read(100), 16_284, READ_WRITE),
+    (Step::Fault, 16_284, NOTHING),
+    (Step::End, 16_284, NOTHING),
+];
+
 #[test]
-fn a_direction_fills_wraps_ends_and_shuts(rt: HostRuntime) -> Result<(), Fail> {
+fn directions_take_write_end_and_fail(rt: HostRuntime) -> Result<(), Fail> {
     let bytes: Vec<u8> = (0..26_399_u32)
         .map(|i| (i % 251) as u8)
         .collect(rt.alloc())?;
-    let mut run = Run {
-        direction: Direction::make(rt.alloc())?,
-        unread: &bytes,
-        written: Vec::new(rt.alloc()),
-    };
-    assert_eq!(rt; run.direction.want(), READ);
-    let steps = [
-        (Step::Read(0), 16_384, READ),
-        (Step::Read(16_384), 0, WRITE),
-        (Step::WriteTo(6_384), 10_000, READ_WRITE),
-        (Step::Read(9_999), 1, READ_WRITE),
-        (Step::Read(1), 0, WRITE),
-        (Step::WriteTo(16_383), 1, READ_WRITE),
-        (Step::WriteTo(0), 16_384, READ),
-        (Step::Read(15), 16_369, READ_WRITE),
-        (Step::End, 16_369, WRITE),
-        (Step::WriteTo(1), 16_383, WRITE),
-        (Step::WriteTo(0), 16_384, SHUT),
-        (Step::End, 16_384, SHUT),
-        (Step::Shut, 16_384, NOTHING),
-        (Step::End, 16_384, NOTHING),
-    ];
-    for (step, room, want) in steps {
-        run.take(&rt, step)?;
-        assert_eq!(rt; run.direction.room(), room, "after {step:?}");
-        assert_eq!(rt; run.direction.want(), want, "after {step:?}");
-    }
-    assert!(rt; run.direction.is_ended() && run.direction.is_shut());
-    assert!(rt; !run.direction.has_failed());
-    assert!(rt; run.unread.is_empty());
-    assert_eq!(rt; run.written.as_slice(), bytes.as_slice());
-    Ok(())
-}
-
-#[test]
-fn after_a_fault_nothing_is_wanted(rt: HostRuntime) -> Result<(), Fail> {
-    let steps = [
-        Step::Read(16_384),
-        Step::WriteTo(100),
-        Step::End,
-        Step::WriteTo(0),
-        Step::Shut,
-    ];
-    let bytes = [7; 16_384].to_vec(rt.alloc())?;
-    for before in 0..=steps.len() {
+    for (name, steps, written) in [
+        (
+            "fills, wraps, ends and shuts",
+            FILLS_WRAPS_ENDS_AND_SHUTS,
+            26_399,
+        ),
+        ("fails with bytes held", FAILS_WITH_BYTES_HELD, 0),
+    ] {
         let mut run = Run {
             direction: Direction::make(rt.alloc())?,
             unread: &bytes,
             written: Vec::new(rt.alloc()),
         };
-        for step in &steps[..before] {
+        assert_eq!(rt; run.direction.want(), READ, "{name}");
+        for (step, room, want) in steps {
             run.take(&rt, *step)?;
+            assert_eq!(rt; run.direction.room(), *room, "{name}: after {step:?}");
+            assert_eq!(rt; run.direction.want(), *want, "{name}: after {step:?}");
         }
-        let held = run.direction.front().len();
-        run.direction.on_fault();
-        assert_eq!(rt; run.direction.want(), NOTHING, "after {before} steps");
-        assert_eq!(rt; run.direction.front().len(), held, "after {before} steps");
+        assert_eq!(rt; run.written.len(), written, "{name}");
+        assert!(rt; bytes.starts_with(&run.written), "{name}");
     }
     Ok(())
 }

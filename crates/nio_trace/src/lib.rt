@@ -2,7 +2,7 @@
 //! thread had seen when it began. A program holds no byte of it.
 //!
 //! A clause on a trace alone says nothing of the program, since a body that does nothing could meet
-//! it too. It begins to say something where an invariant ties the trace to what the program holds.
+//! it too. It says something only where an invariant ties the trace to what the program holds.
 #![tactic(auto)]
 
 pub use trace::{Reading, Trace};

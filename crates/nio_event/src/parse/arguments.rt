@@ -1,7 +1,6 @@
 //! The arguments of calls: one reader for each shape that the arguments of a call may have.
-ghost use Rattle.std.specs.Prelude.{◌≡◌, ℕ, ◌<◌, ◌^◌, map, ⊤};
-ghost use Rattle.nio_event.specs.Arguments.{no_words, caller_words, CallerFits, selector_words, SelectorFits, channel_words, ChannelFits, kind_words, mode_words, ModeFits, channel_selector_words, ChannelSelectorFits, registration_words, RegistrationFits, selector_key_words, SelectorKeyFits, key_ops_words, KeyOpsFits, key_number_words, KeyNumberFits};
-ghost use Rattle.nio_event.specs.Calls.{IsAttachment, attachment_words, mode_word};
+ghost use Rattle.std.specs.Prelude.{map, ⊤};
+ghost use Rattle.nio_event.specs.Arguments.{IsAttachment, ReadsArguments, attachment_words, channel_mode, channel_selector, key_number, key_ops, mode_word, nothing, one_caller, one_channel, one_kind, one_selector, registration, selector_key};
 ghost use Rattle.nio_event.specs.Reading.{Reads};
 ghost use Rattle.nio_event.specs.Words.{kind_word};
 
@@ -10,13 +9,13 @@ use super::number::read_number;
 use nio_base::{CallerNo, ChanNo, KeyId, Kind, Ops, SelNo};
 
 pub fn read_none(args: &[&[u8]]) -> Option<()>
-    ensures { Reads (λ _. ⊤) no_words (map (λ w. w.now) args.now) result }
+    ensures { ReadsArguments (λ _. nothing) (map (λ w. w.now) args.now) result }
 {
     args.is_empty().then_some(())
 }
 
 pub fn read_one_caller(args: &[&[u8]]) -> Option<CallerNo>
-    ensures { Reads CallerFits caller_words (map (λ w. w.now) args.now) result }
+    ensures { ReadsArguments one_caller (map (λ w. w.now) args.now) result }
 {
     let [caller] = args else {
         return None;
@@ -25,7 +24,7 @@ pub fn read_one_caller(args: &[&[u8]]) -> Option<CallerNo>
 }
 
 pub fn read_one_selector(args: &[&[u8]]) -> Option<SelNo>
-    ensures { Reads SelectorFits selector_words (map (λ w. w.now) args.now) result }
+    ensures { ReadsArguments one_selector (map (λ w. w.now) args.now) result }
 {
     let [selector] = args else {
         return None;
@@ -34,7 +33,7 @@ pub fn read_one_selector(args: &[&[u8]]) -> Option<SelNo>
 }
 
 pub fn read_one_channel(args: &[&[u8]]) -> Option<ChanNo>
-    ensures { Reads ChannelFits channel_words (map (λ w. w.now) args.now) result }
+    ensures { ReadsArguments one_channel (map (λ w. w.now) args.now) result }
 {
     let [channel] = args else {
         return None;
@@ -44,7 +43,7 @@ pub fn read_one_channel(args: &[&[u8]]) -> Option<ChanNo>
 
 /// A kind of channel.
 pub fn read_kind(args: &[&[u8]]) -> Option<Kind>
-    ensures { Reads (λ _. ⊤) kind_words (map (λ w. w.now) args.now) result }
+    ensures { ReadsArguments one_kind (map (λ w. w.now) args.now) result }
 {
     let [kind] = args else {
         return None;
@@ -66,7 +65,7 @@ fn read_kind_word(word: &[u8]) -> Option<Kind>
 
 /// A channel, and `on` or `off`.
 pub fn read_mode(args: &[&[u8]]) -> Option<(ChanNo, bool)>
-    ensures { Reads ModeFits mode_words (map (λ w. w.now) args.now) result }
+    ensures { ReadsArguments (λ p. channel_mode p.0 p.1) (map (λ w. w.now) args.now) result }
 {
     let [channel, mode] = args else {
         return None;
@@ -87,7 +86,7 @@ fn read_mode_word(word: &[u8]) -> Option<bool>
 }
 
 pub fn read_channel_selector(args: &[&[u8]]) -> Option<(ChanNo, SelNo)>
-    ensures { Reads ChannelSelectorFits channel_selector_words (map (λ w. w.now) args.now) result }
+    ensures { ReadsArguments (λ p. channel_selector p.0 p.1) (map (λ w. w.now) args.now) result }
 {
     let [channel, selector] = args else {
         return None;
@@ -99,7 +98,7 @@ pub fn read_channel_selector(args: &[&[u8]]) -> Option<(ChanNo, SelNo)>
 
 /// A selector, a channel, operations, and an attachment or none.
 pub fn read_registration(args: &[&[u8]]) -> Option<(SelNo, ChanNo, Ops, Option<u64>)>
-    ensures { Reads RegistrationFits registration_words (map (λ w. w.now) args.now) result }
+    ensures { ReadsArguments (λ p. registration p.0 p.1 p.2 p.3) (map (λ w. w.now) args.now) result }
 {
     let [selector, channel, ops, attachment @ ..] = args else {
         return None;
@@ -123,7 +122,7 @@ fn read_attachment(args: &[&[u8]]) -> Option<Option<u64>>
 
 /// A selector and a key.
 pub fn read_selector_key(args: &[&[u8]]) -> Option<(SelNo, KeyId)>
-    ensures { Reads SelectorKeyFits selector_key_words (map (λ w. w.now) args.now) result }
+    ensures { ReadsArguments (λ p. selector_key p.0 p.1) (map (λ w. w.now) args.now) result }
 {
     let [selector, key] = args else {
         return None;
@@ -135,7 +134,7 @@ pub fn read_selector_key(args: &[&[u8]]) -> Option<(SelNo, KeyId)>
 
 /// A selector, a key and operations.
 pub fn read_key_ops(args: &[&[u8]]) -> Option<(SelNo, KeyId, Ops)>
-    ensures { Reads KeyOpsFits key_ops_words (map (λ w. w.now) args.now) result }
+    ensures { ReadsArguments (λ p. key_ops p.0 p.1 p.2) (map (λ w. w.now) args.now) result }
 {
     let [selector, key, ops] = args else {
         return None;
@@ -148,7 +147,7 @@ pub fn read_key_ops(args: &[&[u8]]) -> Option<(SelNo, KeyId, Ops)>
 
 /// A selector, a key and a number.
 pub fn read_key_number(args: &[&[u8]]) -> Option<(SelNo, KeyId, u64)>
-    ensures { Reads KeyNumberFits key_number_words (map (λ w. w.now) args.now) result }
+    ensures { ReadsArguments (λ p. key_number p.0 p.1 p.2) (map (λ w. w.now) args.now) result }
 {
     let [selector, key, number] = args else {
         return None;

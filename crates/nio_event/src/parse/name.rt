@@ -1,7 +1,7 @@
 //! The words of a line that name something: `t1`, `s0`, `c2`, `k3`, `k3.1`, and `k3:5`.
 ghost use Rattle.std.specs.Prelude.{◌≡◌, ℕ, ◌<◌, ◌≤◌, ◌^◌, ◌∷◌, ◌++◌, All, ◌≢◌, IfSome};
 ghost use Rattle.std.specs.Fmt.{decimal};
-ghost use Rattle.nio_event.specs.Calls.{IsKey, IsNumber, IsPair, IsSerial};
+ghost use Rattle.nio_event.specs.Arguments.{IsKey, IsNumber, IsPair, IsSerial};
 ghost use Rattle.nio_event.specs.Reading.{Reads};
 ghost use Rattle.nio_event.specs.Words.{caller_word, selector_word, channel_word, key_word, pair_word};
 
@@ -32,7 +32,10 @@ pub fn read_key(word: &[u8]) -> Option<KeyId>
     ensures { Reads IsKey key_word word.now result }
 {
     match cut_at(word, b'.') {
-        None => read_index(word).map(|index| KeyId { index, serial: 0 }),
+        None => {
+            let index = read_index(word)?;
+            Some(KeyId { index, serial: 0 })
+        }
         Some((index, serial)) => {
             let index = read_index(index)?;
             let serial = read_serial(serial)?;
@@ -52,7 +55,11 @@ fn read_serial(digits: &[u8]) -> Option<u32>
     ensures { Reads IsSerial decimal digits.now result }
 {
     let serial = read_number(digits, u64::from(u32::MAX))?;
-    if serial == 0 { None } else { Some(serial as u32) }
+    if serial == 0 {
+        None
+    } else {
+        Some(serial as u32)
+    }
 }
 
 pub fn read_ops(word: &[u8]) -> Option<Ops>

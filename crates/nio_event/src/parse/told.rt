@@ -2,8 +2,7 @@
 //! as many as there are.
 ghost use Rattle.std.specs.Prelude.{◌≡◌, ℕ, ◌==◌, ◌↔◌, ◌<◌, ◌^◌, ◌++◌, Bool, List, IsTrue, Any, IfOk, codes, map, option_map};
 ghost use Rattle.nio_base.specs.declared.numbers.KeyId.{KeyId as Key};
-ghost use Rattle.nio_event.specs.Arguments.{ToldFits, told_words};
-ghost use Rattle.nio_event.specs.Calls.{ArePairs, elapsed_words};
+ghost use Rattle.nio_event.specs.Arguments.{ArePairs, ReadsArguments, elapsed_words, selector_told};
 ghost use Rattle.nio_event.specs.Reading.{Reads};
 ghost use Rattle.nio_event.specs.Words.{pair_word};
 
@@ -14,7 +13,7 @@ use std::alloc::{AllocError, Global};
 
 /// A selector, `elapsed` or not, and pairs that name each key at most once.
 pub fn read_told(alloc: Global, args: &[&[u8]]) -> Result<Option<(SelNo, bool, Pairs)>, AllocError>
-    ensures { IfOk result (Reads ToldFits told_words (map (λ w. w.now) args.now)) }
+    ensures { IfOk result (ReadsArguments (λ p. selector_told p.0 p.1 p.2) (map (λ w. w.now) args.now)) }
 {
     let Some((selector, rest)) = args.split_first() else {
         return Ok(None);

@@ -1,8 +1,7 @@
 //! How long a selection waits: `now`, `wait`, or `for` a time in milliseconds.
 ghost use Rattle.std.specs.Prelude.{◌≡◌, ◌↔◌, ◌<◌, ◌^◌, ◌∷◌, IsTrue, map, neg_ℤ, pos};
 ghost use Rattle.std.specs.Fmt.{signed_decimal};
-ghost use Rattle.nio_event.specs.Arguments.{wait_words, WaitFits};
-ghost use Rattle.nio_event.specs.Calls.{IsMilliseconds, IsTime, waiting_words};
+ghost use Rattle.nio_event.specs.Arguments.{IsMilliseconds, IsTime, ReadsArguments, selector_wait, waiting_words};
 ghost use Rattle.nio_event.specs.Reading.{Reads};
 
 use super::name::read_selector;
@@ -12,7 +11,7 @@ use nio_base::SelNo;
 
 /// A selector, and how long to wait.
 pub fn read_wait(args: &[&[u8]]) -> Option<(SelNo, Waiting)>
-    ensures { Reads WaitFits wait_words (map (λ w. w.now) args.now) result }
+    ensures { ReadsArguments (λ p. selector_wait p.0 p.1) (map (λ w. w.now) args.now) result }
 {
     let (selector, waiting) = args.split_first()?;
     let selector = read_selector(selector)?;

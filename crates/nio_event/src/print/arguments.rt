@@ -1,24 +1,25 @@
 //! Writing the arguments of calls, each after a space: one function for each shape that has more than
 //! one argument, or more than one form.
 ghost use Rattle.std.specs.Prelude.{◌≡◌, ◌++◌, OnOk};
-ghost use Rattle.nio_event.specs.Arguments.{channel_selector_words, key_number_words, key_ops_words, kind_words, mode_words, registration_words, selector_key_words, told_words, wait_words};
-ghost use Rattle.nio_event.specs.Calls.{attachment_words, elapsed_words, mode_word, waiting_words};
+ghost use Rattle.nio_event.specs.Arguments.{argument_words, attachment_words, channel_mode, channel_selector, elapsed_words, key_number, key_ops, mode_word, one_kind, registration, selector_key, selector_told, selector_wait, waiting_words};
 ghost use Rattle.nio_event.specs.Printing.{spaced};
 ghost use Rattle.nio_event.specs.Words.{kind_word};
 
-use super::piece::{push_key_word, push_name, push_number_word, push_ops, push_pairs, push_time, push_word};
+use super::piece::{
+    push_key_word, push_name, push_number_word, push_ops, push_pairs, push_time, push_word,
+};
 use crate::call::Waiting;
 use nio_base::{ChanNo, KeyId, Kind, Ops, SelNo};
 use std::alloc::AllocError;
 
 pub fn push_kind(line: &mut Vec<u8>, kind: Kind) -> Result<(), AllocError>
-    ensures { OnOk result (line.new.items ≡ line.old.items ++ spaced (kind_words kind)) }
+    ensures { OnOk result (line.new.items ≡ line.old.items ++ spaced (argument_words (one_kind kind))) }
 {
     push_word(line, kind_text(kind))
 }
 
 pub fn push_mode(line: &mut Vec<u8>, channel: ChanNo, on: bool) -> Result<(), AllocError>
-    ensures { OnOk result (line.new.items ≡ line.old.items ++ spaced (mode_words (channel, on))) }
+    ensures { OnOk result (line.new.items ≡ line.old.items ++ spaced (argument_words (channel_mode channel on))) }
 {
     push_name(line, b'c', channel.0)?;
     push_word(line, mode_text(on))
@@ -30,7 +31,7 @@ pub fn push_channel_selector(
     selector: SelNo,
 ) -> Result<(), AllocError>
     ensures { OnOk result
-        (line.new.items ≡ line.old.items ++ spaced (channel_selector_words (channel, selector))) }
+        (line.new.items ≡ line.old.items ++ spaced (argument_words (channel_selector channel selector))) }
 {
     push_name(line, b'c', channel.0)?;
     push_name(line, b's', selector.0)
@@ -44,7 +45,7 @@ pub fn push_registration(
     attachment: Option<u64>,
 ) -> Result<(), AllocError>
     ensures { OnOk result
-        (line.new.items ≡ line.old.items ++ spaced (registration_words (selector, channel, ops, attachment))) }
+        (line.new.items ≡ line.old.items ++ spaced (argument_words (registration selector channel ops attachment))) }
 {
     push_name(line, b's', selector.0)?;
     push_name(line, b'c', channel.0)?;
@@ -63,7 +64,7 @@ fn push_attachment(line: &mut Vec<u8>, attachment: Option<u64>) -> Result<(), Al
 
 pub fn push_selector_key(line: &mut Vec<u8>, selector: SelNo, key: KeyId) -> Result<(), AllocError>
     ensures { OnOk result
-        (line.new.items ≡ line.old.items ++ spaced (selector_key_words (selector, key))) }
+        (line.new.items ≡ line.old.items ++ spaced (argument_words (selector_key selector key))) }
 {
     push_name(line, b's', selector.0)?;
     push_key_word(line, key)
@@ -76,7 +77,7 @@ pub fn push_key_ops(
     ops: Ops,
 ) -> Result<(), AllocError>
     ensures { OnOk result
-        (line.new.items ≡ line.old.items ++ spaced (key_ops_words (selector, key, ops))) }
+        (line.new.items ≡ line.old.items ++ spaced (argument_words (key_ops selector key ops))) }
 {
     push_name(line, b's', selector.0)?;
     push_key_word(line, key)?;
@@ -90,7 +91,7 @@ pub fn push_key_number(
     number: u64,
 ) -> Result<(), AllocError>
     ensures { OnOk result
-        (line.new.items ≡ line.old.items ++ spaced (key_number_words (selector, key, number))) }
+        (line.new.items ≡ line.old.items ++ spaced (argument_words (key_number selector key number))) }
 {
     push_name(line, b's', selector.0)?;
     push_key_word(line, key)?;
@@ -98,7 +99,7 @@ pub fn push_key_number(
 }
 
 pub fn push_wait(line: &mut Vec<u8>, selector: SelNo, waiting: Waiting) -> Result<(), AllocError>
-    ensures { OnOk result (line.new.items ≡ line.old.items ++ spaced (wait_words (selector, waiting))) }
+    ensures { OnOk result (line.new.items ≡ line.old.items ++ spaced (argument_words (selector_wait selector waiting))) }
 {
     push_name(line, b's', selector.0)?;
     push_waiting(line, waiting)
@@ -124,7 +125,7 @@ pub fn push_told(
     pairs: &[(KeyId, Ops)],
 ) -> Result<(), AllocError>
     ensures { OnOk result
-        (line.new.items ≡ line.old.items ++ spaced (told_words (selector, elapsed, pairs.now))) }
+        (line.new.items ≡ line.old.items ++ spaced (argument_words (selector_told selector elapsed pairs.now))) }
 {
     push_name(line, b's', selector.0)?;
     push_elapsed(line, elapsed)?;

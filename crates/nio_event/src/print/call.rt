@@ -1,6 +1,7 @@
 //! Writing a call.
 ghost use Rattle.std.specs.Prelude.{◌≡◌, ◌++◌, OnOk};
-ghost use Rattle.nio_event.specs.Arguments.{arguments};
+ghost use Rattle.nio_event.specs.Arguments.{argument_words};
+ghost use Rattle.nio_event.specs.CallWords.{arguments};
 ghost use Rattle.nio_event.specs.Calls.{call_words, line_text};
 ghost use Rattle.nio_event.specs.Printing.{spaced};
 
@@ -31,7 +32,7 @@ fn push_call(line: &mut Vec<u8>, call: &Call) -> Result<(), AllocError>
 }
 
 fn push_arguments(line: &mut Vec<u8>, call: &Call) -> Result<(), AllocError>
-    ensures { OnOk result (line.new.items ≡ line.old.items ++ spaced (arguments call.now)) }
+    ensures { OnOk result (line.new.items ≡ line.old.items ++ spaced (argument_words (arguments call.now))) }
 {
     match call {
         Call::Selector | Call::Interrupted => Ok(()),

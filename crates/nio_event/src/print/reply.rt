@@ -5,7 +5,9 @@ ghost use Rattle.nio_event.specs.Printing.{spaced};
 ghost use Rattle.nio_event.specs.Replies.{pairs_words, reply_text, why_word};
 ghost use Rattle.nio_event.specs.Words.{key_word};
 
-use super::piece::{push_bytes, push_key, push_keys, push_number, push_numbered, push_pairs, push_word};
+use super::piece::{
+    push_bytes, push_key, push_keys, push_number, push_numbered, push_pairs, push_word,
+};
 use crate::reply::{Reply, Why};
 use nio_base::{KeyId, Ops};
 use std::alloc::AllocError;

@@ -3,25 +3,40 @@ use super::*;
 use crate::names::Names;
 use crate::pairs::Pairs;
 use crate::reply::Why;
-use nio_base::{ChanNo, Ops, SelNo};
+use nio_base::{ChanNo, KeyId, Ops, SelNo};
 use std::test::Fail;
 
 #[test]
 fn prints_each_reply(rt: HostRuntime) -> Result<(), Fail> {
-    let some = vec![in rt.alloc(); (3, Ops::READ), (10, Ops::of(21))]?;
+    let first = KeyId {
+        index: 3,
+        serial: 0,
+    };
+    let last = KeyId {
+        index: 4294967295,
+        serial: 4294967295,
+    };
+    let some = vec![in rt.alloc(); (first, Ops::READ), (last, Ops::of(21))]?;
     let none = Vec::new(rt.alloc());
-    let names = vec![in rt.alloc(); 3, 10]?;
+    let names = vec![in rt.alloc(); first, last]?;
     let replies = [
         (Reply::Selector(SelNo(0)), "s0"),
         (Reply::Channel(ChanNo(12)), "c12"),
-        (Reply::Key(4294967295), "k4294967295"),
+        (Reply::Key(first), "k3"),
+        (Reply::Key(last), "k4294967295.4294967295"),
         (Reply::Number(18446744073709551615), "18446744073709551615"),
-        (Reply::Names(Names::from_vec(names)), "k3 k10"),
+        (
+            Reply::Names(Names::from_vec(names)),
+            "k3 k4294967295.4294967295",
+        ),
         (Reply::Ok, "ok"),
         (Reply::Yes, "yes"),
         (Reply::No, "no"),
         (Reply::None, "none"),
-        (Reply::Looked(Pairs::from_vec(some)), "looked k3:1 k10:21"),
+        (
+            Reply::Looked(Pairs::from_vec(some)),
+            "looked k3:1 k4294967295.4294967295:21",
+        ),
         (Reply::Looked(Pairs::from_vec(none)), "looked none"),
         (Reply::Selected(2, Why::Ready), "selected 2 ready"),
         (Reply::Selected(0, Why::Closed), "selected 0 closed"),

@@ -1,8 +1,8 @@
-use Rattle.nio_event.proofs.Stays.{nothing_goes_back, invalid_keys_stay_invalid}
+use Rattle.nio_event.proofs.Stays.{facts_are_permanent, invalid_keys_stay_invalid}
 use Rattle.nio_event.proofs.laws.lasting_law.Goals as goal
 
-pub returns-clause-lasts : goal.returns-clause-lasts
-returns-clause-lasts c = nothing_goes_back
+pub returns-clause-permanent : goal.returns-clause-permanent
+returns-clause-permanent c = facts_are_permanent
 
 pub returns-clause-invalid : goal.returns-clause-invalid
 returns-clause-invalid c = invalid_keys_stay_invalid

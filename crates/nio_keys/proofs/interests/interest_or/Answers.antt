@@ -2,7 +2,7 @@ use Rattle.std.proofs.Common.{rules}
 use Rattle.nio_keys.proofs.Bridge.{left_ask, left_after}
 use Rattle.nio_keys.proofs.Looked.{valid_channel}
 use Rattle.nio_keys.proofs.Supported.{left_supported, left_unsupported}
-use Rattle.nio_plan.specs.KeyCalls.{interest_or_plan}
+use Rattle.nio_steps.specs.KeyCalls.{interest_or_plan}
 use Rattle.nio_keys.proofs.interests.interest_or.Goals as goal
 
 pub look_channel-found-requires-clause-channel : goal.look_channel-found-requires-clause-channel

@@ -1,6 +1,6 @@
 use Rattle.std.proofs.Common.{ℕ, List, map, ap}
 use denote.Ref.{Bor}
-use Rattle.nio_event.proofs.CallWordDispatch.{reads_call_where_ok, no_word}
+use Rattle.nio_event.proofs.CallParts.{reads_call_where_ok, no_word}
 use Rattle.nio_event.proofs.parse.call.read_call.Goals as goal
 
 pub returns-in-Some-read : goal.returns-in-Some-read

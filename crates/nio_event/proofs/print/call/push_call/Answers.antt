@@ -1,16 +1,15 @@
-use Rattle.std.proofs.Common.{◌∷◌, ap, refl, sym, ◌∙◌}
-use Rattle.nio_event.specs.Arguments.{arguments}
+use Rattle.std.proofs.Common.{◌∷◌, refl, ◌∙◌}
+use Rattle.nio_event.specs.Arguments.{argument_words}
 use Rattle.nio_event.specs.Calls.{call_words}
-use Rattle.nio_event.specs.CallWords.{call_word, call_word_text}
+use Rattle.nio_event.specs.CallWords.{arguments, call_word, call_word_text}
 use Rattle.nio_event.specs.Printing.{spaced}
-use Rattle.nio_event.proofs.CallWordDispatch.{words_of}
 use Rattle.nio_event.proofs.JoinedWords.{both_pushed}
 use Rattle.nio_event.proofs.print.call.push_call.Goals as goal
 
 pub returns : goal.returns
 returns c =
     let call = c.args.call.now in
-    both_pushed c.args.line.now.items c.push_word.new.line.items c.push_arguments.new.line.items (32 ∷ call_word_text (call_word call)) (spaced (arguments call)) (spaced (call_words call)) c.push_arguments.result
+    both_pushed c.args.line.now.items c.push_word.new.line.items c.push_arguments.new.line.items (32 ∷ call_word_text (call_word call)) (spaced (argument_words (arguments call))) (spaced (call_words call)) c.push_arguments.result
     (c.in_ok-push_word.ensures ∙ rw (c.text.ensures, c.of.ensures) refl)
     c.push_arguments.ensures
-    (ap spaced (sym (words_of call)))
+    refl

@@ -3,6 +3,6 @@ use Rattle.nio_event.specs.Printing.{spaced}
 use Rattle.nio_event.specs.Words.{key_word}
 use Rattle.nio_event.proofs.print.piece.push_keys.Given as goal
 
-abbrev pub invariant-loop-index : goal.invariant-loop-index
-invariant-loop-index l =
-    l.line.items ≡ l.initial.line.items ++ spaced (map key_word (take l.index-index l.indexes))
+abbrev pub invariant-loop-key : goal.invariant-loop-key
+invariant-loop-key l =
+    l.line.items ≡ l.initial.line.items ++ spaced (map key_word (take l.key-index l.keys))

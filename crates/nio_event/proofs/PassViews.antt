@@ -1,0 +1,40 @@
+-- What one call did with a pass, and then another.
+use Rattle.std.proofs.Common.{◌≡◌, IsTrue, List, [], ◌++◌, map, length, drop, refl, ap, sym, ◌∙◌, subst, append_assoc}
+use Rattle.std.proofs.lemmas.List.{append-nil, map-append, drop_at}
+use Rattle.nio_base.specs.declared.limits.Limits.{Limits}
+use Rattle.nio_base.specs.declared.numbers.CallerNo.{CallerNo}
+use Rattle.nio_event.proofs.Clauses.{clause_nothing, clause_then}
+use Rattle.nio_event.specs.Histories.{mine, event_of, HistoryClause, IsLegal}
+use Rattle.nio_event.specs.PassViews.{PassView, Holds, done_between, ActsClause}
+use Rattle.nio_event.specs.declared.act.Act.{Act}
+
+-- these acts are what was done
+pub done-is : (me : CallerNo) (acts : List Act) (old new : PassView) → ActsClause me acts old new → done_between me old new ≡ acts
+done-is me acts old new clause =
+    ap (drop (length (mine me old.seen))) clause.history.own ∙ drop_at (mine me old.seen) acts (length (mine me old.seen)) refl
+
+-- nothing was done
+pub acts_nothing : (me : CallerNo) (pass : PassView) → IsLegal pass.limits pass.seen → ActsClause me [] pass pass
+acts_nothing me pass legal = record {
+  history = clause_nothing pass.limits (Holds pass) me pass.seen legal;
+  limits = refl;
+  held = refl;
+  only = λ alone. (alone, sym (append-nil pass.seen));
+}
+
+pub acts_then : (me : CallerNo) (first second : List Act) (v0 v1 v2 : PassView) → ActsClause me first v0 v1 → ActsClause me second v1 v2 → ActsClause me (first ++ second) v0 v2
+acts_then me first second v0 v1 v2 p q = record {
+  history = clause_then v0.limits (Holds v0) me first second v0.seen v1.seen v2.seen p.history
+      (subst (λ held. HistoryClause v0.limits (λ n. IsTrue (held n)) me second v1.seen v2.seen) p.held
+      (subst (λ (l : Limits). HistoryClause l (Holds v1) me second v1.seen v2.seen) p.limits q.history));
+  limits = q.limits ∙ p.limits;
+  held = q.held ∙ p.held;
+  only = λ alone.
+      let here = p.only alone in
+      let there = q.only here.0 in (
+        there.0,
+        there.1 ∙ (ap (λ events. events ++ map (event_of me) second) here.1
+            ∙ (append_assoc v0.seen (map (event_of me) first) (map (event_of me) second)
+            ∙ ap (λ events. v0.seen ++ events) (sym (map-append (event_of me) first second)))),
+      );
+}

@@ -1,0 +1,20 @@
+use Rattle.nio_event.proofs.Holds.{mode_stays, noted_stays, found_noted_stays, outside_stays, found_clear_stays, clear_is_true}
+use Rattle.nio_event.proofs.laws.hold_law.Goals as goal
+
+pub returns-clause-mode : goal.returns-clause-mode
+returns-clause-mode c = mode_stays
+
+pub returns-clause-noted : goal.returns-clause-noted
+returns-clause-noted c = noted_stays
+
+pub returns-clause-found_noted : goal.returns-clause-found_noted
+returns-clause-found_noted c = found_noted_stays
+
+pub returns-clause-outside : goal.returns-clause-outside
+returns-clause-outside c = outside_stays
+
+pub returns-clause-found_clear : goal.returns-clause-found_clear
+returns-clause-found_clear c = found_clear_stays
+
+pub returns-clause-clear : goal.returns-clause-clear
+returns-clause-clear c = clear_is_true

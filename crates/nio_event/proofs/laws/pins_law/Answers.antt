@@ -1,0 +1,21 @@
+use Rattle.nio_event.proofs.PinLaws.{pinned_keys_stay, claims_again_where_unpinned, claims_again_the_removed, own_claims_stand, noted_keys_are_claimed}
+use Rattle.nio_event.proofs.Unpublished.{unpublished_keys_stay}
+use Rattle.nio_event.proofs.laws.pins_law.Goals as goal
+
+pub returns-clause-stays : goal.returns-clause-stays
+returns-clause-stays c = pinned_keys_stay
+
+pub returns-clause-where_unpinned : goal.returns-clause-where_unpinned
+returns-clause-where_unpinned c = claims_again_where_unpinned
+
+pub returns-clause-removed_before : goal.returns-clause-removed_before
+returns-clause-removed_before c = claims_again_the_removed
+
+pub returns-clause-own_claim : goal.returns-clause-own_claim
+returns-clause-own_claim c = own_claims_stand
+
+pub returns-clause-unpublished : goal.returns-clause-unpublished
+returns-clause-unpublished c = unpublished_keys_stay
+
+pub returns-clause-noted : goal.returns-clause-noted
+returns-clause-noted c = noted_keys_are_claimed

@@ -1,7 +1,0 @@
-use Rattle.nio_plan.proofs.GoneLaws.{cancelled_keys_go}
-use Rattle.nio_plan.proofs.OrderLaws.{looks_in_order}
-use Rattle.nio_plan.proofs.SelectionLaws.{begins_selection}
-use Rattle.nio_plan.proofs.laws.begin_law.Goals as goal
-
-pub returns : goal.returns
-returns c = record { begins = begins_selection; in_order = looks_in_order; cancelled = cancelled_keys_go }

@@ -1,5 +1,0 @@
-use Rattle.nio_plan.proofs.ClosedLaws.{closed_removes_all}
-use Rattle.nio_plan.proofs.laws.close_law.Goals as goal
-
-pub returns : goal.returns
-returns c = closed_removes_all

@@ -1,5 +1,0 @@
-use Rattle.nio_plan.proofs.PerformLaws.{perform_ran}
-use Rattle.nio_plan.proofs.laws.run_law.Goals as goal
-
-pub returns : goal.returns
-returns g c = perform_ran

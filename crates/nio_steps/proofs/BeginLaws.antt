@@ -1,0 +1,79 @@
+-- The parts of a `try_begin` that answers Ok.
+use Rattle.std.proofs.Common.{◌≡◌, ℕ, Bool, true, false, if◌then◌else◌, Result, Ok, Err, List, [], ◌∷◌, ◌++◌, refl, ap, sym}
+use Rattle.std.specs.Prelude.{⊤, is_some}
+use Rattle.std.proofs.lemmas.List.{append-nil}
+use Rattle.nio_base.specs.declared.numbers.SelNo.{SelNo}
+use Rattle.nio_event.specs.Questions.{Question, question_of, answer_of}
+use Rattle.nio_event.specs.declared.act.Act.{Act}
+use Rattle.nio_event.specs.declared.found.Mode.{Mode}
+use Rattle.nio_steps.proofs.Walks.{Always, always_if, always_bind, always_itself, always_run}
+use Rattle.nio_steps.specs.Plan.{reply, ◌>>=◌}
+use Rattle.nio_steps.specs.Runs.{Completes}
+use Rattle.nio_steps.specs.SelectCalls.{Selection, LookedOver, Begins, begin_plan, begin_with_turn, begin_below, given_back, list_below, look_over}
+use Rattle.nio_steps.specs.Steps.{look_keys, take_turn, gate_in, number_in, holder_in}
+use Rattle.nio_steps.specs.Sweeps.{sweep_over}
+use Rattle.nio_steps.specs.declared.refusal.BeginError.{BeginError}
+
+abbrev pub none_yet : LookedOver
+none_yet = record { looked = []; kept = [] }
+
+-- the look at the gate and the taking of the turn, the look by which the selection begins, the look at the
+-- mark, the looks at which indexes are free, and what is done at each listed index
+pub record Begun (s : SelNo) (mode : Mode) (acts : List Act) (selection : Selection) : Type 0 where
+  pub gate : Act
+  pub take : Act
+  pub look : Act
+  pub keys : Act
+  pub lists : List Act
+  pub listed : List ℕ
+  pub over : List Act
+  pub parts : acts ≡ gate ∷ take ∷ look ∷ keys ∷ (lists ++ over)
+  pub asks_look : question_of look ≡ Question.begin_look s
+  pub opens : (gate_in (answer_of look)).shut ≡ false
+  pub asks_keys : question_of keys ≡ Question.look_keys s
+  pub bound : selection.bound ≡ number_in (answer_of keys)
+  pub runs_lists : Completes (list_below s selection.bound) lists listed
+  pub runs_over : Completes (sweep_over listed (look_over s) none_yet) over (record { looked = selection.looked; kept = selection.kept })
+  pub selector : selection.selector ≡ s
+  pub mode_is : selection.mode ≡ mode
+
+module _ (s : SelNo) (mode : Mode) where
+  abbrev IsBegunBy : List Act → Result Selection BeginError → Type 0
+  IsBegunBy acts (Ok selection) = Begun s mode acts selection
+  IsBegunBy acts (Err refusal) = ⊤
+
+  below-begun : (gate take look keys : Act) → question_of look ≡ Question.begin_look s → (gate_in (answer_of look)).shut ≡ false → question_of keys ≡ Question.look_keys s
+      → Always (λ acts r. IsBegunBy (gate ∷ take ∷ look ∷ keys ∷ acts) r) (begin_below s mode (number_in (answer_of keys)) false)
+  below-begun gate take look keys asks_look opens asks_keys =
+      let bound = number_in (answer_of keys) in
+      always_bind (Completes (list_below s bound)) (λ acts r. IsBegunBy (gate ∷ take ∷ look ∷ keys ∷ acts) r) (list_below s bound) _ (always_itself (list_below s bound))
+      (λ xs listed lists. always_bind (Completes (sweep_over listed (look_over s) none_yet)) (λ acts r. IsBegunBy (gate ∷ take ∷ look ∷ keys ∷ (xs ++ acts)) r)
+      (sweep_over listed (look_over s) none_yet) _ (always_itself (sweep_over listed (look_over s) none_yet))
+      (λ ys found over. record {
+        gate = gate;
+        take = take;
+        look = look;
+        keys = keys;
+        lists = xs;
+        listed = listed;
+        over = ys;
+        parts = ap (λ acts. gate ∷ take ∷ look ∷ keys ∷ (xs ++ acts)) (append-nil ys);
+        asks_look = asks_look;
+        opens = opens;
+        asks_keys = asks_keys;
+        bound = refl;
+        runs_lists = lists;
+        runs_over = over;
+        selector = refl;
+        mode_is = refl;
+      }))
+
+  begin-begun : Always IsBegunBy (begin_plan s mode false)
+  unfolding begin_plan
+  begin-begun = λ gate _. always_if _ (gate_in (answer_of gate)).shut (reply (Err BeginError.ClosedSelector)) _ (λ _. tt)
+      (λ _ take _. always_if _ (is_some (holder_in (answer_of take))) (reply (Err BeginError.Busy)) (begin_with_turn s mode false) (λ _. tt)
+      (λ _ look asks_look. always_if _ (gate_in (answer_of look)).shut (given_back s (Err BeginError.ClosedSelector)) _ (λ _ give _. tt)
+      (λ opens keys asks_keys. below-begun gate take look keys asks_look opens asks_keys)))
+
+pub begin-parts : (s : SelNo) (mode : Mode) (acts : List Act) (selection : Selection) → Begins s mode acts (Ok selection) → Begun s mode acts selection
+begin-parts s mode acts selection run = always_run (IsBegunBy s mode) (begin_plan s mode false) acts (Ok selection) (begin-begun s mode) run

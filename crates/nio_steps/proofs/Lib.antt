@@ -1,0 +1,20 @@
+pub mod RunLaws
+pub mod CallLaws
+pub mod WaitingLaws
+pub mod SweepLaws
+pub mod PerformLaws
+pub mod EachLaws
+pub mod Walks
+pub mod Lists
+pub mod Either
+mod Worked
+mod SelectionAsks
+pub mod ToldLaws
+pub mod BeginLaws
+pub mod SelectionLaws
+pub mod OrderLaws
+pub mod OwnActs
+pub mod StandLaws
+pub mod LookedLaws
+pub mod GoneLaws
+pub mod ClosedLaws

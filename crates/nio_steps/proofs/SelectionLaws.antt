@@ -1,0 +1,263 @@
+-- To which selection a `told` belongs, and what it counts.
+use Rattle.std.proofs.Common.{◌≡◌, ℕ, ◌+◌, ◌==◌, Bool, true, false, cond, ◌&&◌, ◌||◌, if◌then◌else◌, Result, Ok, Err, List, [], ◌∷◌, ◌++◌, refl, ap, sym, ◌∙◌, subst, eq-eqb, eqb-true, append_assoc, zero-add, arith}
+use Rattle.std.specs.Prelude.{⊤, is_ok}
+use Rattle.std.specs.List.{All}
+use Rattle.std.proofs.lemmas.List.Elements.{All-weaker}
+use Rattle.std.proofs.lemmas.List.Folds.{list_any-append, list_any_none}
+use Rattle.std.proofs.lemmas.List.Sums.{sum_by-append}
+use Rattle.std.proofs.lemmas.List.{append-nil}
+use Rattle.nio_base.specs.declared.numbers.SelNo.{SelNo}
+use Rattle.nio_event.specs.OwnEvents.{has, count, gives_turn}
+use Rattle.nio_event.specs.Questions.{Question, question_of, answer_of}
+use Rattle.nio_event.specs.declared.act.Act.{Act}
+use Rattle.nio_event.specs.declared.act.Act.TheVariants.{Mark, GiveTurn}
+use Rattle.nio_event.specs.declared.found.Mark.{Mark as KeyMark}
+use Rattle.nio_event.specs.declared.found.Mode.{Mode}
+use Rattle.nio_steps.proofs.BeginLaws.{begin-parts}
+use Rattle.nio_steps.proofs.EachLaws.{each_bind, each_if, each_over, each_run, split}
+use Rattle.nio_steps.proofs.Either.{neither, not_first, not_second}
+use Rattle.nio_steps.proofs.SelectionAsks.{each_end}
+use Rattle.nio_steps.proofs.Walks.{Always, always_weaker, always_bind, always_if, always_any, always_over, always_run}
+use Rattle.nio_steps.specs.Each.{Each}
+use Rattle.nio_steps.specs.Laws.{BeginsSelection, AgainGoesOn, CountsSelection}
+use Rattle.nio_steps.specs.Plan.{reply, ◌>>=◌}
+use Rattle.nio_steps.specs.Runs.{Completes}
+use Rattle.nio_steps.specs.SelectCalls.{Selection, ToldReply, Begins, Poll, told_plan, told_bits, mark_entry, mark_told, mark_looked, mark_again, one_if, gains_nothing, is_again, sweep_key, end_selection, after_marks, again, done}
+use Rattle.nio_steps.specs.Selections.{marks_on, IsBegun}
+use Rattle.nio_steps.specs.Steps.{mark, flag_in, gate_in, mark_in, exchange_in}
+use Rattle.nio_steps.specs.Sweeps.{sweep_over}
+use Rattle.nio_steps.specs.declared.looked.LookedKey.{LookedKey}
+use Rattle.nio_steps.specs.declared.selected.Selected.{Selected}
+
+-- ---- questions that are no mark, and that don't give the turn back
+
+abbrev asks_mark : ℕ → Question → Bool
+asks_mark s (Question.mark s' i from told) = s'.0 == s
+asks_mark s _ = false
+
+abbrev pub asks_give : ℕ → Question → Bool
+asks_give s (Question.give_turn s') = s'.0 == s
+asks_give s _ = false
+
+not-marks : (s : ℕ) (act : Act) → asks_mark s (question_of act) ≡ false → marks_on s act ≡ false
+not-marks s (Mark s' i from told (Ok u)) e = e
+not-marks s (Mark s' i from told (Err found)) e = refl
+not-marks s _ e = refl
+
+pub not-gives : (s : ℕ) (act : Act) → asks_give s (question_of act) ≡ false → gives_turn s act ≡ false
+not-gives s (GiveTurn s') e = e
+not-gives s _ e = refl
+
+no_marks : (s : ℕ) (acts : List Act) → All (λ act. asks_mark s (question_of act) ≡ false) acts → has (marks_on s) acts ≡ false
+no_marks s acts each =
+    list_any_none (marks_on s) acts (All-weaker (λ act. asks_mark s (question_of act) ≡ false) (λ act. marks_on s act ≡ false) (not-marks s) acts each)
+
+pub no_gives : (s : ℕ) (acts : List Act) → All (λ act. asks_give s (question_of act) ≡ false) acts → has (gives_turn s) acts ≡ false
+no_gives s acts each =
+    list_any_none (gives_turn s) acts (All-weaker (λ act. asks_give s (question_of act) ≡ false) (λ act. gives_turn s act ≡ false) (not-gives s) acts each)
+
+count-append : (p : Act → Bool) (acts later : List Act) → count p (acts ++ later) ≡ count p acts + count p later
+count-append p acts later = sum_by-append (λ act. cond (p act) 1 0) acts later
+
+count-cons : (p : Act → Bool) (act : Act) (acts : List Act) → count p (act ∷ acts) ≡ cond (p act) 1 0 + count p acts
+count-cons p act acts = count-append p (act ∷ []) acts ∙ ap (λ (n : ℕ). n + count p acts) (zero-add (cond (p act) 1 0))
+
+-- what has no such act counts none, and the other way round
+count-none : (p : Act → Bool) (acts : List Act) → has p acts ≡ false → count p acts ≡ 0
+count-none p [] none = refl
+count-none p (act ∷ acts) none =
+    let here : cond {A = ℕ} (p act) 1 0 ≡ 0 = ap (λ (b : Bool). cond {A = ℕ} b 1 0) (not_first (p act) (has p acts) none) in
+    let later = count-none p acts (not_second (p act) (has p acts) none) in
+    let all = count-cons p act acts in
+    omega (arith, here, later, all)
+
+none-count : (p : Act → Bool) (acts : List Act) → count p acts ≡ 0 → has p acts ≡ false
+none-count p [] none = refl
+none-count p (act ∷ acts) none = by_test (p act) (sym (count-cons p act acts) ∙ none) (none-count p acts)
+  where
+    by_test : (b : Bool) → cond {A = ℕ} b 1 0 + count p acts ≡ 0 → (count p acts ≡ 0 → has p acts ≡ false) → (b || has p acts) ≡ false
+    by_test true total later = absurd (omega arith)
+    by_test false total later = later (omega arith)
+
+-- ---- how many marks succeed
+
+mark-counts : (s : SelNo) (i : ℕ) (from : KeyMark) (told : ℕ) (act : Act) → question_of act ≡ Question.mark s i from told
+    → cond (marks_on s.0 act) 1 0 ≡ one_if (is_ok (exchange_in (answer_of act)))
+mark-counts s i from told (Mark s' i' from' told' (Ok u)) asks =
+    let same : s'.0 ≡ s.0 = ap (λ (x : SelNo). x.0) (cc asks) in
+    ap (λ (b : Bool). cond {A = ℕ} b 1 0) (eq-eqb s'.0 s.0 same)
+mark-counts s i from told (Mark s' i' from' told' (Err found)) asks = refl
+mark-counts s i from told _ asks = absurd (cc asks)
+
+again-counts : (s : SelNo) (i told : ℕ) (found : Result (Unit {0}) KeyMark) → Always (λ acts n. one_if (is_ok found) + count (marks_on s.0) acts ≡ n) (mark_again s i told found)
+again-counts s i told (Ok u) = refl
+again-counts s i told (Err found) = λ act asks.
+    let here = mark-counts s i found told act asks in
+    let all = count-cons (marks_on s.0) act [] in
+    omega (arith, here, all)
+
+mark_looked-counts : (s : SelNo) (i told : ℕ) → Always (λ acts n. count (marks_on s.0) acts ≡ n) (mark_looked s i told)
+mark_looked-counts s i told = λ look asks_look.
+    let no_mark : marks_on s.0 look ≡ false = not-marks s.0 look (ap (asks_mark s.0) asks_look) in
+    let first : (acts : List Act) → count (marks_on s.0) (look ∷ acts) ≡ count (marks_on s.0) acts =
+    λ acts. count-cons (marks_on s.0) look acts ∙ (ap (λ (b : Bool). cond {A = ℕ} b 1 0 + count (marks_on s.0) acts) no_mark ∙ zero-add (count (marks_on s.0) acts)) in
+    let was = mark_in (answer_of look) in
+    always_if (λ acts n. count (marks_on s.0) (look ∷ acts) ≡ n) (gains_nothing was told) (reply 0) (mark s i was told >>= mark_again s i told) (λ _. first [])
+    (λ _ act asks. always_weaker (λ acts n. one_if (is_ok (exchange_in (answer_of act))) + count (marks_on s.0) acts ≡ n) (λ acts n. count (marks_on s.0) (look ∷ act ∷ acts) ≡ n)
+    (mark_again s i told (exchange_in (answer_of act)))
+    (λ acts n rest.
+    let here = mark-counts s i was told act asks in
+    let all = count-cons (marks_on s.0) act acts in
+    let both = first (act ∷ acts) in
+    omega (arith, here, rest, all, both))
+    (again-counts s i told (exchange_in (answer_of act))))
+
+mark_told-counts : (s : SelNo) (i told : ℕ) → Always (λ acts n. count (marks_on s.0) acts ≡ n) (mark_told s i told)
+mark_told-counts s i told = always_if (λ acts n. count (marks_on s.0) acts ≡ n) (told == 0) (reply 0) (mark_looked s i told) (λ _. refl) (λ _. mark_looked-counts s i told)
+
+entry-counts : (s : SelNo) (pairs : List (ℕ × ℕ)) (entry : LookedKey) (before : ℕ) → Always (λ acts n. before + count (marks_on s.0) acts ≡ n) (mark_entry s pairs entry before)
+entry-counts s pairs entry before =
+    let told = told_bits pairs entry in
+    always_bind (λ acts n. count (marks_on s.0) acts ≡ n) (λ acts n. before + count (marks_on s.0) acts ≡ n) (mark_told s entry.index told) (λ marked. reply (before + marked))
+    (mark_told-counts s entry.index told)
+    (λ acts marked counted. let same = ap (count (marks_on s.0)) (append-nil acts) in omega (arith, counted, same))
+
+over-counts : (s : SelNo) (pairs : List (ℕ × ℕ)) (entries : List LookedKey) → Always (λ acts n. count (marks_on s.0) acts ≡ n) (sweep_over entries (mark_entry s pairs) 0)
+over-counts s pairs entries =
+    always_over (λ _ acts n. count (marks_on s.0) acts ≡ n) entries (mark_entry s pairs) 0 refl
+    (λ past entry later acts n _ counted. always_weaker (λ xs m. n + count (marks_on s.0) xs ≡ m) (λ xs m. count (marks_on s.0) (acts ++ xs) ≡ m) (mark_entry s pairs entry n)
+    (λ xs m here. let all = count-append (marks_on s.0) acts xs in omega (arith, counted, here, all)) (entry-counts s pairs entry n))
+
+-- ---- giving the turn back
+
+abbrev pub NoGive : ℕ → Question → Type 0
+NoGive s q = asks_give s q ≡ false
+
+again-no_give : (s : SelNo) (i told : ℕ) (found : Result (Unit {0}) KeyMark) → Each (NoGive s.0) (λ _. ⊤) (mark_again s i told found)
+again-no_give s i told (Ok u) = tt
+again-no_give s i told (Err stands) = (refl, λ _. tt)
+
+entry-no_give : (s : SelNo) (pairs : List (ℕ × ℕ)) (entry : LookedKey) (before : ℕ) → Each (NoGive s.0) (λ _. ⊤) (mark_entry s pairs entry before)
+entry-no_give s pairs entry before =
+    let told = told_bits pairs entry in
+    each_bind (NoGive s.0) (λ _. ⊤) (λ _. ⊤) (mark_told s entry.index told) _
+    (each_if {R = ℕ} (NoGive s.0) (λ _. ⊤) (told == 0) (reply 0) (mark_looked s entry.index told) (λ _. tt)
+    (λ _. (
+      refl,
+      λ was. each_if {R = ℕ} (NoGive s.0) (λ _. ⊤) (gains_nothing (mark_in was) told) (reply 0) (mark s entry.index (mark_in was) told >>= mark_again s entry.index told)
+          (λ _. tt) (λ _. (refl, λ first. again-no_give s entry.index told (exchange_in first))),
+    )))
+    (λ _ _. tt)
+
+over-no_give : (s : SelNo) (pairs : List (ℕ × ℕ)) (entries : List LookedKey) (acts : List Act) (n : ℕ)
+    → Completes (sweep_over entries (mark_entry s pairs) 0) acts n → has (gives_turn s.0) acts ≡ false
+over-no_give s pairs entries acts n run =
+    no_gives s.0 acts (each_run (NoGive s.0) (λ _. ⊤) (sweep_over entries (mark_entry s pairs) 0) acts n
+    (each_over (NoGive s.0) (λ _. ⊤) (λ _. ⊤) entries (mark_entry s pairs) 0 (λ k d _. tt) tt (λ entry before _ _. entry-no_give s pairs entry before))
+    run).0
+
+-- ---- after the marks
+
+abbrev NoMark : ℕ → Question → Type 0
+NoMark s q = asks_mark s q ≡ false
+
+-- the count of what is over; what goes on is this selection, and nothing was marked
+abbrev Replies : Selection → ℕ → ToldReply → Type 0
+Replies selection n (done answer) = answer.count ≡ n
+Replies selection n (again next) = (next ≡ selection) × (n ≡ 0)
+
+second_of : (a b c d e f : Bool) → (a && b && c && d && e && f) ≡ true → b ≡ true
+second_of a true c d e f all = refl
+second_of true false c d e f all = absurd (cc all)
+second_of false false c d e f all = absurd (cc all)
+
+after-replies : (selection : Selection) (elapsed : Bool) (n : ℕ) → Each (NoMark selection.selector.0) (Replies selection n) (after_marks selection elapsed n)
+after-replies selection elapsed n = (
+  refl,
+  λ gate. (
+    refl,
+    λ interrupted. each_if (NoMark selection.selector.0) (Replies selection n)
+        (is_again selection.mode n (gate_in gate) (flag_in interrupted) elapsed) (reply (again selection)) (end_selection selection _)
+        (λ goes_on. (refl, eqb-true n 0 (second_of _ _ _ _ _ _ goes_on)))
+        (λ _. each_end (NoMark selection.selector.0) (Replies selection n) selection _
+        (record { looks_free = λ _. refl; looks = λ _. refl; looks_interest = λ _. refl; removes = λ _. refl; puts = λ _. refl }) refl refl refl),
+  ),
+)
+
+-- where it goes on, the caller keeps the turn
+abbrev KeepsTurn : ℕ → List Act → ToldReply → Type 0
+KeepsTurn s acts (done answer) = ⊤
+KeepsTurn s acts (again next) = has (gives_turn s) acts ≡ false
+
+any-done : (s : ℕ) (xs : List Act) (selection : Selection) (answer : Selected) → Always (λ acts r. KeepsTurn s (xs ++ acts) r) (end_selection selection answer)
+any-done s xs selection answer =
+    always_bind (λ _ _. ⊤) (λ acts r. KeepsTurn s (xs ++ acts) r) (sweep_over selection.kept (λ i _. sweep_key selection.selector i) tt) _
+    (always_any (sweep_over selection.kept (λ i _. sweep_key selection.selector i) tt)) (λ _ _ _ _ _ _ _. tt)
+
+after-keeps : (selection : Selection) (elapsed : Bool) (n : ℕ) → Always (KeepsTurn selection.selector.0) (after_marks selection elapsed n)
+after-keeps selection elapsed n = λ look asks look' asks'.
+    let s = selection.selector.0 in
+    always_if (λ acts r. KeepsTurn s (look ∷ look' ∷ acts) r) (is_again selection.mode n (gate_in (answer_of look)) (flag_in (answer_of look')) elapsed)
+    (reply (again selection)) (end_selection selection _)
+    (λ _. neither _ _ (not-gives s look (ap (asks_give s) asks)) (neither _ _ (not-gives s look' (ap (asks_give s) asks')) refl))
+    (λ _. any-done s (look ∷ look' ∷ []) selection _)
+
+-- ---- the laws
+
+none_of-append : (p : Act → Bool) (acts later : List Act) → has p acts ≡ false → has p later ≡ false → has p (acts ++ later) ≡ false
+none_of-append p acts later first second = list_any-append p acts later ∙ neither _ _ first second
+
+-- the selection that was begun, after acts that neither mark a key nor give the turn back
+longer : (own : List Act) (selection : Selection) (acts : List Act) → IsBegun own selection
+    → has (gives_turn selection.selector.0) acts ≡ false → has (marks_on selection.selector.0) acts ≡ false → IsBegun (own ++ acts) selection
+longer own selection acts begun no_give no_mark = record {
+  earlier = begun.earlier;
+  beginning = begun.beginning;
+  since = begun.since ++ acts;
+  parts = ap (λ xs. xs ++ acts) begun.parts ∙ (append_assoc begun.earlier (begun.beginning ++ begun.since) acts ∙ ap (λ xs. begun.earlier ++ xs) (append_assoc begun.beginning begun.since acts));
+  begins = begun.begins;
+  goes_on = none_of-append (gives_turn selection.selector.0) begun.since acts begun.goes_on no_give;
+  unmarked = none_of-append (marks_on selection.selector.0) begun.since acts begun.unmarked no_mark;
+}
+
+-- what a run of `told` marks, and how it goes on or ends
+pub again_goes_on : AgainGoesOn
+unfolding told_plan
+again_goes_on own selection next poll acts begun run =
+    let s = selection.selector in
+    let parts = split (sweep_over selection.looked (mark_entry s poll.pairs) 0) (after_marks selection poll.elapsed) acts (again next) run in
+    let counted = always_run (λ xs n. count (marks_on s.0) xs ≡ n) _ parts.first parts.middle (over-counts s poll.pairs selection.looked) parts.runs_first in
+    let after = each_run (NoMark s.0) (Replies selection parts.middle) (after_marks selection poll.elapsed parts.middle) parts.second (again next) (after-replies selection poll.elapsed parts.middle) parts.runs_second in
+    let keeps = always_run (KeepsTurn s.0) _ parts.second (again next) (after-keeps selection poll.elapsed parts.middle) parts.runs_second in
+    let none_first = none-count (marks_on s.0) parts.first (counted ∙ after.1.1) in
+    let no_mark = ap (has (marks_on s.0)) parts.parts ∙ none_of-append (marks_on s.0) parts.first parts.second none_first (no_marks s.0 parts.second after.0) in
+    let no_give = ap (has (gives_turn s.0)) parts.parts ∙ none_of-append (gives_turn s.0) parts.first parts.second (over-no_give s poll.pairs selection.looked parts.first parts.middle parts.runs_first) keeps in
+    subst (IsBegun (own ++ acts)) (sym after.1.0) (longer own selection acts begun no_give no_mark)
+
+pub counts_selection : CountsSelection
+unfolding told_plan
+counts_selection own selection poll acts answer begun run =
+    let s = selection.selector in
+    let parts = split (sweep_over selection.looked (mark_entry s poll.pairs) 0) (after_marks selection poll.elapsed) acts (done answer) run in
+    let counted = always_run (λ xs n. count (marks_on s.0) xs ≡ n) _ parts.first parts.middle (over-counts s poll.pairs selection.looked) parts.runs_first in
+    let after = each_run (NoMark s.0) (Replies selection parts.middle) (after_marks selection poll.elapsed parts.middle) parts.second (done answer) (after-replies selection poll.elapsed parts.middle) parts.runs_second in
+    let none_before = count-none (marks_on s.0) begun.since begun.unmarked in
+    let none_after = count-none (marks_on s.0) parts.second (no_marks s.0 parts.second after.0) in
+    let here = ap (count (marks_on s.0)) parts.parts ∙ count-append (marks_on s.0) parts.first parts.second in
+    let all = count-append (marks_on s.0) begun.since acts in
+    let is : answer.count ≡ parts.middle = after.1 in
+    omega (arith, counted, none_before, none_after, here, all, is)
+
+pub begins_selection : BeginsSelection
+begins_selection s mode own acts selection run =
+    let begun = begin-parts s mode acts selection run in
+    record {
+      earlier = own;
+      beginning = acts;
+      since = [];
+      parts = ap (λ xs. own ++ xs) (sym (append-nil acts));
+      begins = subst (λ (x : SelNo). Begins x selection.mode acts (Ok selection)) (sym begun.selector)
+          (subst (λ (m : Mode). Begins s m acts (Ok selection)) (sym begun.mode_is) run);
+      goes_on = refl;
+      unmarked = refl;
+    }

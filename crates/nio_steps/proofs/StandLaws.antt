@@ -1,0 +1,90 @@
+-- What a caller began and hasn't ended stands in the state, whatever others did.
+use Rattle.std.proofs.Common.{◌≡◌, ℕ, Bool, true, false, not, ◌||◌, Ok, List, [], ◌∷◌, ◌++◌, Some, refl, ap, sym, ◌∙◌, subst, append_assoc, eq-eqb, IsTrue}
+use Rattle.std.specs.Prelude.{⊤}
+use Rattle.std.proofs.lemmas.Bool.{and_from}
+use Rattle.std.proofs.lemmas.List.Folds.{list_any-append}
+use Rattle.nio_base.specs.declared.numbers.CallerNo.{CallerNo}
+use Rattle.nio_base.specs.declared.numbers.SelNo.{SelNo}
+use Rattle.nio_event.proofs.Legal.{legal_next}
+use Rattle.nio_event.proofs.OneMore.{state_after-more}
+use Rattle.nio_event.proofs.Put.{put-same}
+use Rattle.nio_event.proofs.Stays.{facts_are_permanent, only_itself_gives_back}
+use Rattle.nio_event.specs.Acts.{effect}
+use Rattle.nio_event.specs.Conditions.{has_turn, has_begun, is_held_by, is_closer}
+use Rattle.nio_event.specs.Histories.{state_after, mine, event_of, IsLegal}
+use Rattle.nio_event.specs.Lasting.{a_selection, selector_closed_by}
+use Rattle.nio_event.specs.OwnEvents.{has, gives_turn}
+use Rattle.nio_event.specs.Questions.{Question, question_of, answer_of}
+use Rattle.nio_event.specs.State.{put}
+use Rattle.nio_event.specs.declared.act.Act.{Act}
+use Rattle.nio_event.specs.declared.act.Act.TheVariants.{BeginLook, ShutBit}
+use Rattle.nio_event.specs.declared.event.Event.{Event}
+use Rattle.nio_steps.proofs.BeginLaws.{none_yet, begin-parts}
+use Rattle.nio_steps.proofs.EachLaws.{each_over, each_run}
+use Rattle.nio_steps.proofs.Either.{neither, by_second}
+use Rattle.nio_steps.proofs.OwnActs.{cut_at, at_own}
+use Rattle.nio_steps.proofs.SelectionAsks.{AsksOver, each_list, each_look}
+use Rattle.nio_steps.proofs.SelectionLaws.{NoGive, asks_give, no_gives, not-gives}
+use Rattle.nio_steps.proofs.Lists.{all_any}
+use Rattle.nio_steps.specs.Laws.{SelectionsStand, ClosingsStand}
+use Rattle.nio_steps.specs.SelectCalls.{list_below, look_over}
+use Rattle.nio_steps.specs.Steps.{gate_in}
+use Rattle.nio_steps.specs.Sweeps.{sweep_over}
+
+-- ---- a beginning of a selection
+
+look-act : (s : SelNo) (act : Act) → question_of act ≡ Question.begin_look s → act ≡ BeginLook s (gate_in (answer_of act))
+look-act s (BeginLook s' found) asks = cc asks
+look-act s _ asks = absurd (cc asks)
+
+-- nothing that a selection asks of the indexes gives the turn back
+gives_none : (s : SelNo) → AsksOver (NoGive s.0) s
+gives_none s = record { looks_free = λ _. refl; looks = λ _. refl; looks_interest = λ _. refl; removes = λ _. refl; puts = λ _. refl }
+
+-- who began a selection has begun on its selector, in every legal history
+pub selections_stand : SelectionsStand
+selections_stand l n events selection legal begun =
+    let s = selection.selector in
+    let first = begin-parts s selection.mode begun.beginning selection begun.begins in
+    let found = gate_in (answer_of first.look) in
+    let before = first.gate ∷ first.take ∷ [] in
+    let rest = first.keys ∷ (first.lists ++ first.over) in
+    let keeps_lists = no_gives s.0 first.lists (each_run (NoGive s.0) (λ _. ⊤) (list_below s selection.bound) first.lists first.listed
+    (each_list (NoGive s.0) s (gives_none s) selection.bound) first.runs_lists).0 in
+    let keeps_over = no_gives s.0 first.over (each_run (NoGive s.0) (λ _. ⊤) (sweep_over first.listed (look_over s) none_yet) first.over _
+    (each_over (NoGive s.0) (λ _. ⊤) (λ _. ⊤) first.listed (look_over s) none_yet (all_any first.listed) tt (λ i over _ _. each_look (NoGive s.0) s (gives_none s) i over)) first.runs_over).0 in
+    let keeps_rest : has (gives_turn s.0) rest ≡ false
+    = neither _ _ (not-gives s.0 first.keys (ap (asks_give s.0) first.asks_keys)) (list_any-append (gives_turn s.0) first.lists first.over ∙ neither _ _ keeps_lists keeps_over) in
+    let acts : begun.beginning ≡ before ++ BeginLook s found ∷ rest
+    = first.parts ∙ ap (λ x. first.gate ∷ first.take ∷ x ∷ rest) (look-act s first.look first.asks_look) in
+    let own : mine n events ≡ (begun.earlier ++ before) ++ BeginLook s found ∷ (rest ++ begun.since)
+    = begun.parts ∙ (ap (λ xs. begun.earlier ++ (xs ++ begun.since)) acts
+    ∙ sym (append_assoc begun.earlier before (BeginLook s found ∷ (rest ++ begun.since)))) in
+    let cut = cut_at n events (begun.earlier ++ before) (BeginLook s found) (rest ++ begun.since) own in
+    let e = event_of n (BeginLook s found) in
+    let legal' = subst (IsLegal l) cut.parts legal in
+    let step = legal_next l cut.past e cut.later legal' in
+    let st = state_after cut.past in
+    let begins : (st.begun s.0 || not found.shut) ≡ true = by_second (st.begun s.0) (not found.shut) (ap not first.opens) in
+    let here : has_begun (effect st n (BeginLook s found)) n s ≡ true
+    = and_from (has_turn st n s) (put st.begun s.0 (st.begun s.0 || not found.shut) s.0) step.condition.1 (put-same st.begun s.0 (st.begun s.0 || not found.shut) ∙ begins) in
+    let there : has_begun (state_after (cut.past ++ e ∷ [])) n s ≡ true = ap (λ x. has_begun x n s) (state_after-more cut.past e) ∙ here in
+    let joined : (cut.past ++ e ∷ []) ++ cut.later ≡ events = append_assoc cut.past (e ∷ []) cut.later ∙ sym cut.parts in
+    let keeps : has (gives_turn s.0) (mine n cut.later) ≡ false
+    = ap (has (gives_turn s.0)) cut.mine_later ∙ (list_any-append (gives_turn s.0) rest begun.since ∙ neither _ _ keeps_rest begun.goes_on) in
+    subst (λ evs. IsTrue (has_begun (state_after evs) n s)) joined
+    (only_itself_gives_back l n (cut.past ++ e ∷ []) cut.later (subst (IsLegal l) (sym joined) legal) (a_selection s) keeps there)
+
+-- ---- closing
+
+-- who shut a selector is its closer, in every legal history
+pub closings_stand : ClosingsStand
+closings_stand l n events s legal closing =
+    let act = ShutBit s false in
+    let at = at_own n events act closing in
+    let e = event_of n act in
+    let joined : (at.past ++ e ∷ []) ++ at.later ≡ events = append_assoc at.past (e ∷ []) at.later ∙ sym at.parts in
+    let st = state_after at.past in
+    let closes : is_closer (effect st n act) n s ≡ true = ap (is_held_by n) (put-same st.closer s.0 (Some n)) ∙ eq-eqb n.0 n.0 refl in
+    let here : is_closer (state_after (at.past ++ e ∷ [])) n s ≡ true = ap (λ x. is_closer x n s) (state_after-more at.past e) ∙ closes in
+    facts_are_permanent l (at.past ++ e ∷ []) events (at.later, joined) legal (selector_closed_by s n) here

@@ -1,0 +1,277 @@
+-- The steps of the calls on channels.
+use Rattle.std.specs.Prelude.{ℕ, suc, ◌+◌, ◌*◌, ◌/◌, ◌==◌, nat_lt, Bool, true, false, not, ◌&&◌, ◌||◌, if◌then◌else◌, Option, Some, None, is_some, Result, Ok, Err, List}
+use Rattle.nio_base.specs.Kind.{valid_operations}
+use Rattle.nio_base.specs.declared.kind.Kind.{Kind}
+use Rattle.nio_base.specs.declared.limits.Limits.{Limits}
+use Rattle.nio_base.specs.declared.numbers.ChanNo.{ChanNo}
+use Rattle.nio_base.specs.declared.numbers.KeyId.{KeyId}
+use Rattle.nio_base.specs.declared.numbers.KeyNo.{KeyNo}
+use Rattle.nio_base.specs.declared.numbers.SelNo.{SelNo}
+use Rattle.nio_event.specs.Sets.{is_in_key_set, is_valid_key}
+use Rattle.nio_event.specs.declared.act.Act.{Act}
+use Rattle.nio_event.specs.declared.found.Stage.{Stage}
+use Rattle.nio_steps.specs.KeyCalls.{has_bit, is_within, under_pin, cancel_plan}
+use Rattle.nio_steps.specs.Names.{selector, channel, key}
+use Rattle.nio_steps.specs.Plan.{Plan, reply, ◌>>=◌, ◌>>◌, when}
+use Rattle.nio_steps.specs.Runs.{Completes}
+use Rattle.nio_steps.specs.Steps.{look_key, cancel_key, swap_interest, swap_note, make_channel, look_channel, claim, raise_keys, look_keys, publish, look_reg, enrol, look_channels, raise_channels, look_gate, try_hold_bit, release, set_mode, close_bit, pin, unpin, clear_mark, claim_again, look_free, put_free, take_free}
+use Rattle.nio_steps.specs.Sweeps.{sweep_to, seek_to}
+use Rattle.nio_steps.specs.Waiting.{Retries}
+use Rattle.nio_steps.specs.declared.refusal.ChannelError.{ChannelError}
+use Rattle.nio_steps.specs.declared.refusal.ChannelError.TheVariants.{ChannelsSpent, IllegalOps, ClosedChannel, Busy, IllegalBlockingMode, CancelledKey, ClosedSelector, Full}
+
+-- ---- opening
+
+-- makes the channel, unless it was made
+abbrev pub makes_channel : Kind → ChanNo → Plan (Option ChanNo)
+makes_channel kind c = do
+  was ← make_channel c kind
+  reply (if was then None else Some c)
+
+abbrev pub opened : Option ChanNo → Plan (Result ChanNo ChannelError)
+opened None = reply (Err ChannelsSpent)
+opened (Some c) = do
+  raise_channels (c.0 + 1)
+  reply (Ok c)
+
+unfoldable pub open_channel_plan : Limits → Kind → Plan (Result ChanNo ChannelError)
+open_channel_plan l kind = do
+  mark ← look_channels
+  made ← seek_to l.channels mark (λ n. makes_channel kind (channel n))
+  opened made
+
+-- ---- one look
+
+unfoldable pub is_open_plan : ChanNo → Plan Bool
+is_open_plan c = do
+  found ← look_channel c
+  reply (not found.closed)
+
+unfoldable pub is_blocking_plan : ChanNo → Plan Bool
+is_blocking_plan c = do
+  found ← look_channel c
+  reply found.blocking
+
+-- ---- a channel's keys
+
+-- the noted key, where it was found in the key set
+abbrev pub noted_in_set : SelNo → Option KeyId → Plan (Option KeyNo)
+noted_in_set s None = reply None
+noted_in_set s (Some k) = do
+  stage ← look_key s k.index
+  reply (if is_in_key_set stage k.serial then Some (key s k) else None)
+
+-- the channel's key in the selector: the one that is noted for it there, where that is in the key set
+unfoldable pub key_for_plan : ChanNo → SelNo → Plan (Option KeyNo)
+key_for_plan c s = do
+  noted ← look_reg c s
+  noted_in_set s noted
+
+unfoldable pub is_registered_plan : Limits → ChanNo → Plan Bool
+is_registered_plan l c = sweep_to l.selectors 0 (λ s registered. do
+  here ← key_for_plan c (selector s)
+  reply (registered || is_some here)) false
+
+-- ---- the mode
+
+-- what is done under the hold of a channel, unless another caller has it
+abbrev pub under_hold : {A : Type 0} → ChanNo → Plan (Result A ChannelError) → Plan (Result A ChannelError)
+under_hold c steps = do
+  holder ← try_hold_bit c
+  if is_some holder then reply (Err Busy) else do
+    answer ← steps
+    release c
+    reply answer
+
+-- a key of the channel, in the first selector in which it has one
+abbrev pub first_key : Limits → ChanNo → Plan (Option KeyNo)
+first_key l c = seek_to l.selectors 0 (λ s. key_for_plan c (selector s))
+
+abbrev pub set_mode_held : Limits → ChanNo → Bool → Plan (Result (Unit {0}) ChannelError)
+set_mode_held l c on = do
+  found ← look_channel c
+  if found.closed then reply (Err ClosedChannel) else do
+    registered ← (if on then first_key l c else reply None)
+    if is_some registered then reply (Err IllegalBlockingMode) else do
+      set_mode c on
+      reply (Ok tt)
+
+unfoldable pub set_blocking_plan : Limits → ChanNo → Bool → Plan (Result (Unit {0}) ChannelError)
+set_blocking_plan l c on = do
+  found ← look_channel c
+  if found.closed then reply (Err ClosedChannel) else under_hold c (set_mode_held l c on)
+
+-- ---- registering: a key that the channel has
+
+-- the channel has a valid key: its interest set is set, and its attachment where one is given
+abbrev pub update_key : SelNo → KeyId → ℕ → ℕ → Plan (Result KeyNo ChannelError)
+update_key s k ops att = do
+  swap_interest s k.index ops
+  when (not (att == 0)) (swap_note s k.index att)
+  reply (Ok (key s k))
+
+-- What a registration found of the noted key: the answer with which it ends, or none where the channel has
+-- no key there and a new one is to be made.
+abbrev pub register_noted : SelNo → ℕ → ℕ → KeyId → Stage → Plan (Option (Result KeyNo ChannelError))
+register_noted s ops att k stage =
+    if is_in_key_set stage k.serial && stage.cancelled then reply (Some (Err CancelledKey)) else do
+      gate ← look_gate s
+      if gate.shut then reply (Some (Err ClosedSelector)) else
+          (if is_valid_key stage k.serial then (do
+            answer ← update_key s k ops att
+            reply (Some answer)) else reply None)
+
+-- the same where no key is noted
+abbrev pub register_unnoted : SelNo → Plan (Option (Result KeyNo ChannelError))
+register_unnoted s = do
+  gate ← look_gate s
+  reply (if gate.shut then Some (Err ClosedSelector) else None)
+
+abbrev pub register_over : SelNo → ℕ → ℕ → Option KeyId → Plan (Option (Result KeyNo ChannelError))
+register_over s ops att None = register_unnoted s
+register_over s ops att (Some k) = under_pin s k.index (register_noted s ops att k)
+
+-- ---- registering: an index for a new key
+
+-- an index that was free is claimed again for the channel, unless somebody has a pin on it; then it is free
+-- again
+abbrev pub claim_taken : SelNo → ChanNo → ℕ → Plan (Option KeyId)
+claim_taken s c i = do
+  stage ← look_key s i
+  pinned ← claim_again s i c stage
+  if pinned then (do
+    put_free s i
+    reply None) else reply (Some (record { index = i; serial = suc stage.serial }))
+
+-- the index is taken, and claimed again where it was free
+abbrev pub claim_free : SelNo → ChanNo → ℕ → Plan (Option KeyId)
+claim_free s c i = do
+  was ← take_free s i
+  if was then claim_taken s c i else reply None
+
+-- the first of the 64 indexes from 64 times j on that can be claimed again, of those below the mark that the
+-- look shows as free
+abbrev pub claim_in_word : SelNo → ChanNo → ℕ → ℕ → Plan (Option KeyId)
+claim_in_word s c mark j = do
+  word ← look_free s j
+  seek_to 64 0 (λ b. if has_bit word b && nat_lt (64 * j + b) mark then claim_free s c (64 * j + b) else reply None)
+
+-- how many times 64 indexes there are below n, the last ones counted too
+abbrev pub words_below : ℕ → ℕ
+words_below n = (n + 63) / 64
+
+abbrev pub search_free : SelNo → ChanNo → ℕ → Plan (Option KeyId)
+search_free s c mark = seek_to (words_below mark) 0 (claim_in_word s c mark)
+
+-- claims the index for its first key, unless it was claimed
+abbrev pub claim_new : SelNo → ChanNo → ℕ → Plan (Option KeyId)
+claim_new s c i = do
+  was ← claim s i c
+  reply (if was then None else Some (record { index = i; serial = 0 }))
+
+-- ---- registering: a new key
+
+-- The new key's parts are set before it is noted, and it is noted before it is published; where the channel
+-- was closed meanwhile the key is cancelled. The pin is that of the claim.
+abbrev pub make_key : SelNo → ChanNo → ℕ → ℕ → KeyId → Plan (Result KeyNo ChannelError)
+make_key s c ops att k = do
+  gate ← look_gate s
+  if gate.shut then reply (Err ClosedSelector) else do
+    swap_interest s k.index ops
+    swap_note s k.index att
+    enrol c s k.index k.serial
+    before ← publish s k.index
+    if before.removed then reply (Err ClosedSelector) else do
+      found ← look_channel c
+      when found.closed (cancel_key s k.index)
+      reply (Ok (key s k))
+
+-- with the pin of the claim, which is given back
+abbrev pub make_claimed : SelNo → ChanNo → ℕ → ℕ → KeyId → Plan (Result KeyNo ChannelError)
+make_claimed s c ops att k = do
+  answer ← make_key s c ops att k
+  unpin s k.index
+  reply answer
+
+-- with an index that never had a key
+abbrev pub register_first : SelNo → ChanNo → ℕ → ℕ → Option KeyId → Plan (Result KeyNo ChannelError)
+register_first s c ops att None = reply (Err Full)
+register_first s c ops att (Some k) = do
+  raise_keys s (k.index + 1)
+  make_claimed s c ops att k
+
+-- with an index that had a key before; where none was found, with one that never had one
+abbrev pub register_next : Limits → SelNo → ChanNo → ℕ → ℕ → ℕ → Option KeyId → Plan (Result KeyNo ChannelError)
+register_next l s c ops att mark None = do
+  claimed ← seek_to l.keys mark (claim_new s c)
+  register_first s c ops att claimed
+register_next l s c ops att mark (Some k) = do
+  clear_mark s k.index
+  make_claimed s c ops att k
+
+abbrev pub register_new : Limits → SelNo → ChanNo → ℕ → ℕ → Plan (Result KeyNo ChannelError)
+register_new l s c ops att = do
+  mark ← look_keys s
+  claimed ← search_free s c mark
+  register_next l s c ops att mark claimed
+
+abbrev pub register_rest : Limits → SelNo → ChanNo → ℕ → ℕ → Option (Result KeyNo ChannelError) → Plan (Result KeyNo ChannelError)
+register_rest l s c ops att None = register_new l s c ops att
+register_rest l s c ops att (Some answer) = reply answer
+
+-- what is done under the hold
+abbrev pub register_held : Limits → SelNo → ChanNo → ℕ → ℕ → Plan (Result KeyNo ChannelError)
+register_held l s c ops att = do
+  found ← look_channel c
+  if found.closed then reply (Err ClosedChannel) else
+      (if found.blocking then reply (Err IllegalBlockingMode) else do
+        noted ← look_reg c s
+        over ← register_over s ops att noted
+        register_rest l s c ops att over)
+
+unfoldable pub register_plan : Limits → SelNo → ChanNo → ℕ → ℕ → Plan (Result KeyNo ChannelError)
+register_plan l s c ops att = do
+  found ← look_channel c
+  if not (is_within ops (valid_operations found.kind)) then reply (Err IllegalOps) else
+      (if found.closed then reply (Err ClosedChannel) else under_hold c (register_held l s c ops att))
+
+-- ---- closing
+
+abbrev pub cancel_at : SelNo → Option KeyId → Plan (Unit {0})
+cancel_at s None = reply tt
+cancel_at s (Some k) = cancel_plan (key s k)
+
+-- the channel's key in the selector is cancelled, where one is noted
+abbrev pub cancel_noted : ChanNo → ℕ → Plan (Unit {0})
+cancel_noted c s = do
+  noted ← look_reg c (selector s)
+  cancel_at (selector s) noted
+
+-- whether this call closed it
+unfoldable pub close_channel_plan : Limits → ChanNo → Plan Bool
+close_channel_plan l c = do
+  was ← close_bit c
+  if was then reply false else do
+    sweep_to l.selectors 0 (λ s _. cancel_noted c s) tt
+    reply true
+
+-- ---- calls that wait
+
+-- another caller has the hold of the channel
+abbrev pub finds_held : {A : Type 0} → Result A ChannelError → Bool
+finds_held (Ok answer) = false
+finds_held (Err ChannelsSpent) = false
+finds_held (Err IllegalOps) = false
+finds_held (Err ClosedChannel) = false
+finds_held (Err Busy) = true
+finds_held (Err IllegalBlockingMode) = false
+finds_held (Err CancelledKey) = false
+finds_held (Err ClosedSelector) = false
+finds_held (Err Full) = false
+
+-- setting a channel's mode, and registering, until nobody else has the hold
+abbrev pub SetsBlocking : Limits → ChanNo → Bool → List Act → Result (Unit {0}) ChannelError → Type 0
+SetsBlocking l c on = Retries (Completes (set_blocking_plan l c on)) finds_held
+
+abbrev pub Registers : Limits → SelNo → ChanNo → ℕ → ℕ → List Act → Result KeyNo ChannelError → Type 0
+Registers l s c ops att = Retries (Completes (register_plan l s c ops att)) finds_held

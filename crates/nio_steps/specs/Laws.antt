@@ -1,0 +1,134 @@
+-- What the plans promise.
+use Rattle.std.specs.Prelude.{◌≡◌, ℕ, ◌==◌, ◌<◌, not, Result, Ok, List, [], ◌∷◌, ◌++◌, map, IsTrue}
+use Rattle.std.specs.List.{All, AllPairs, Contains}
+use Rattle.nio_base.specs.declared.limits.Limits.{Limits}
+use Rattle.nio_base.specs.declared.numbers.CallerNo.{CallerNo}
+use Rattle.nio_base.specs.declared.numbers.SelNo.{SelNo}
+use Rattle.nio_event.specs.Conditions.{has_begun, is_closer}
+use Rattle.nio_event.specs.Histories.{state_after, mine, event_of, IsLegal}
+use Rattle.nio_event.specs.OwnEvents.{count}
+use Rattle.nio_event.specs.Sets.{is_valid, was_claimed, was_published, was_cancelled, was_removed}
+use Rattle.nio_event.specs.declared.act.Act.{Act}
+use Rattle.nio_event.specs.declared.act.Act.TheVariants.{LookKey, LookInterest, LookKeys, Mark}
+use Rattle.nio_event.specs.declared.event.Event.{Event}
+use Rattle.nio_event.specs.declared.found.Mark.{Mark as KeyMark}
+use Rattle.nio_event.specs.declared.found.Mode.{Mode}
+use Rattle.nio_event.specs.declared.found.Stage.{Stage}
+use Rattle.nio_steps.specs.Perform.{perform}
+use Rattle.nio_steps.specs.Plan.{Plan}
+use Rattle.nio_steps.specs.Runs.{Completes}
+use Rattle.nio_steps.specs.SelectCalls.{Selection, Begins, Poll, Tells, ToldReply, done, again, told_bits, closed, finish_plan}
+use Rattle.nio_steps.specs.Selections.{marks_on, IsBegun, IsClosing}
+use Rattle.nio_steps.specs.declared.looked.LookedKey.{LookedKey}
+use Rattle.nio_steps.specs.declared.selected.Selected.{Selected}
+
+-- A run of a plan that is legal after a history, with no event of another caller between, has just
+-- the reply and leaves just the state of the plan performed on the state that the history left.
+abbrev pub RunsArePerformed : Type 0 → Type 0
+RunsArePerformed R =
+    (l : Limits) (me : CallerNo) (plan : Plan R) (past : List Event) (acts : List Act) (answer : R)
+    → IsLegal l (past ++ map (event_of me) acts) → Completes plan acts answer
+    → perform me plan (state_after past) ≡ record { answer = answer; state = state_after (past ++ map (event_of me) acts) }
+
+-- ---- selections
+
+-- A `try_begin` that answers Ok begins the selection that it answers.
+abbrev pub BeginsSelection : Type 0
+BeginsSelection =
+    (s : SelNo) (mode : Mode) (own acts : List Act) (selection : Selection)
+    → Begins s mode acts (Ok selection) → IsBegun (own ++ acts) selection
+
+-- the looked list has each key once, and the kept list each index, in rising order, all below the bound; a
+-- looked key has a kept index
+pub record IsInOrder (selection : Selection) : Type 0 where
+  pub looked_rise : AllPairs (λ x y. x.index < y.index) selection.looked
+  pub kept_rise : AllPairs (λ i j. i < j) selection.kept
+  pub below : All (λ i. i < selection.bound) selection.kept
+  pub kept : All (λ entry. Contains selection.kept entry.index) selection.looked
+
+abbrev pub ListsInOrder : Type 0
+ListsInOrder =
+    (s : SelNo) (mode : Mode) (acts : List Act) (selection : Selection)
+    → Begins s mode acts (Ok selection) → IsInOrder selection
+
+-- a looked key was found valid by a look among these acts, with its channel and serial, and its interest set
+-- by another
+pub record IsLookedAt (s : SelNo) (acts : List Act) (entry : LookedKey) : Type 0 where
+  pub stage : Stage
+  pub look : Contains acts (LookKey s entry.index stage)
+  pub valid : IsTrue (is_valid stage)
+  pub serial : stage.serial ≡ entry.serial
+  pub channel : stage.chan ≡ entry.channel
+  pub interest : Contains acts (LookInterest s entry.index entry.interest)
+
+-- Each key of the looked list was found so in the call that begins the selection.
+abbrev pub LooksAtValidKeys : Type 0
+LooksAtValidKeys =
+    (s : SelNo) (mode : Mode) (acts : List Act) (selection : Selection)
+    → Begins s mode acts (Ok selection) → All (IsLookedAt s acts) selection.looked
+
+-- A key that was published and cancelled before a `try_begin` that answers Ok with a bound above its index
+-- is removed after it, and isn't in the looked list. What the caller did after `before` is this call.
+abbrev pub CancelledKeysGo : Type 0
+CancelledKeysGo =
+    (l : Limits) (n : CallerNo) (before later : List Event) (s : SelNo) (mode : Mode) (selection : Selection) (i serial : ℕ)
+    → IsLegal l (before ++ later) → Begins s mode (mine n later) (Ok selection)
+    → IsTrue (was_published ((state_after before).key s.0 i) serial) → IsTrue (was_cancelled ((state_after before).key s.0 i) serial)
+    → i < selection.bound
+    → IsTrue (was_removed ((state_after (before ++ later)).key s.0 i) serial) × All (λ entry. ¬ ((entry.index ≡ i) × (entry.serial ≡ serial))) selection.looked
+
+-- Key i of selector s is marked with exactly its told bits, of which there are some: the bits that the
+-- poller told of a looked key, met with the interest set that the selection found.
+pub record MarksAsTold (selection : Selection) (pairs : List (ℕ × ℕ)) (s : SelNo) (i told : ℕ) : Type 0 where
+  pub entry : LookedKey
+  pub looked : Contains selection.looked entry
+  pub on_selector : s ≡ selection.selector
+  pub at_index : entry.index ≡ i
+  pub bits : told ≡ told_bits pairs entry
+  pub some : IsTrue (not (told == 0))
+
+-- A key is selected only for what the poller told of it in that selection, and only where it was
+-- looked at and looked for.
+abbrev pub MarksOnlyAsTold : Type 0
+MarksOnlyAsTold =
+    (selection : Selection) (poll : Poll) (acts : List Act) (answer : ToldReply) → Tells selection poll acts answer
+    → (s : SelNo) (i told : ℕ) (from : KeyMark) (found : Result (Unit {0}) KeyMark)
+    → Contains acts (Mark s i from told found) → MarksAsTold selection poll.pairs s i told
+
+-- A `told` that answers Again goes on with the selection that was begun, and has marked nothing.
+abbrev pub AgainGoesOn : Type 0
+AgainGoesOn =
+    (own : List Act) (selection next : Selection) (poll : Poll) (acts : List Act)
+    → IsBegun own selection → Tells selection poll acts (again next) → IsBegun (own ++ acts) next
+
+-- The count is the number of marks that succeeded since the selection began.
+abbrev pub CountsSelection : Type 0
+CountsSelection =
+    (own : List Act) (selection : Selection) (poll : Poll) (acts : List Act) (answer : Selected)
+    → (begun : IsBegun own selection) → Tells selection poll acts (done answer)
+    → answer.count ≡ count (marks_on selection.selector.0) (begun.since ++ acts)
+
+-- ---- what is in progress
+
+-- Who began a selection and hasn't left it has begun on its selector, in every legal history.
+abbrev pub SelectionsStand : Type 0
+SelectionsStand =
+    (l : Limits) (n : CallerNo) (events : List Event) (selection : Selection)
+    → IsLegal l events → IsBegun (mine n events) selection → IsTrue (has_begun (state_after events) n selection.selector)
+
+-- Who is closing a selector is its closer, in every legal history.
+abbrev pub ClosingsStand : Type 0
+ClosingsStand =
+    (l : Limits) (n : CallerNo) (events : List Event) (s : SelNo)
+    → IsLegal l events → IsClosing (mine n events) s → IsTrue (is_closer (state_after events) n s)
+
+-- After a `try_finish` that answers Closed each key is removed whose index is below the mark that it found,
+-- and that was claimed before that look. What the caller did after `before` is this call, and the look stands
+-- after `looked`.
+abbrev pub ClosedRemovesKeys : Type 0
+ClosedRemovesKeys =
+    (l : Limits) (n : CallerNo) (before looked later : List Event) (s : SelNo) (mark i serial : ℕ)
+    → let call = looked ++ event_of n (LookKeys s mark) ∷ later in
+    IsLegal l (before ++ call) → Completes (finish_plan s) (mine n call) closed
+    → IsTrue (was_claimed ((state_after (before ++ looked)).key s.0 i) serial) → i < mark
+    → IsTrue (was_removed ((state_after (before ++ call)).key s.0 i) serial)

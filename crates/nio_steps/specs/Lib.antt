@@ -1,0 +1,15 @@
+pub mod Plan
+pub mod Runs
+pub mod Waiting
+pub mod Calls
+pub mod Sweeps
+pub mod Steps
+pub mod Perform
+pub mod Names
+pub mod KeyCalls
+pub mod ChannelCalls
+pub mod SelectCalls
+pub mod PipeCalls
+pub mod Selections
+pub mod Laws
+pub mod Each

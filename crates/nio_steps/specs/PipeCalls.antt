@@ -1,0 +1,108 @@
+-- The steps of the calls on pipes. What a pipe holds stands in no part of the state: a plan says which looks
+-- a call makes, and with which refusal it ends.
+use Rattle.std.specs.Prelude.{◌≡◌, Bool, true, false, ◌&&◌, if◌then◌else◌, Result, Ok, Err, List, [], ◌∷◌}
+use Rattle.nio_base.specs.declared.kind.Kind.TheVariants.{Source, Sink}
+use Rattle.nio_base.specs.declared.limits.Limits.{Limits}
+use Rattle.nio_base.specs.declared.numbers.ChanNo.{ChanNo}
+use Rattle.nio_event.specs.declared.act.Act.{Act}
+use Rattle.nio_event.specs.declared.found.Chan.{Chan}
+use Rattle.nio_steps.specs.ChannelCalls.{open_channel_plan, close_channel_plan}
+use Rattle.nio_steps.specs.Plan.{Plan, reply, ◌>>=◌, ◌>>◌}
+use Rattle.nio_steps.specs.Runs.{Completes}
+use Rattle.nio_steps.specs.Steps.{look_channel, look_interrupt}
+use Rattle.nio_steps.specs.Waiting.{Run, Repeats}
+use Rattle.nio_steps.specs.declared.refusal.ChannelError.{ChannelError}
+use Rattle.nio_steps.specs.declared.refusal.PipeError.{PipeError}
+use Rattle.nio_steps.specs.declared.refusal.PipeError.TheVariants.{ClosedChannel, ClosedByInterrupt, AsynchronousClose, BrokenPipe}
+use Rattle.nio_steps.specs.declared.refusal.PipeMakeError.{PipeMakeError}
+
+-- ---- making a pipe
+
+-- the channels of a pipe
+pub record PipeEnds : Type 0 where
+  pub source : ChanNo
+  pub sink : ChanNo
+
+-- a sink for the source; where there is none, the source is closed
+abbrev pub with_sink : Limits → ChanNo → Result ChanNo ChannelError → Plan (Result PipeEnds PipeMakeError)
+with_sink l source (Ok sink) = reply (Ok (record { source = source; sink = sink }))
+with_sink l source (Err refusal) = do
+  close_channel_plan l source
+  reply (Err PipeMakeError.ChannelsSpent)
+
+abbrev pub with_source : Limits → Result ChanNo ChannelError → Plan (Result PipeEnds PipeMakeError)
+with_source l (Ok source) = open_channel_plan l Sink >>= with_sink l source
+with_source l (Err refusal) = reply (Err PipeMakeError.ChannelsSpent)
+
+-- `lacks` says whether there is no memory for the pipe
+unfoldable pub pipe_plan : Limits → Bool → Plan (Result PipeEnds PipeMakeError)
+pipe_plan l lacks = if lacks then reply (Err PipeMakeError.Memory) else (open_channel_plan l Source >>= with_source l)
+
+abbrev pub pipe_lacks_memory : {A : Type 0} → Result A PipeMakeError → Bool
+pipe_lacks_memory (Ok ends) = false
+pipe_lacks_memory (Err PipeMakeError.ChannelsSpent) = false
+pipe_lacks_memory (Err PipeMakeError.Memory) = true
+
+-- the call with this answer
+abbrev pub MakesPipe : Limits → List Act → Result PipeEnds PipeMakeError → Type 0
+MakesPipe l acts answer = Completes (pipe_plan l (pipe_lacks_memory answer)) acts answer
+
+-- ---- reading and writing
+--
+-- The answer of these plans is a refusal, or the channel's mode that was found: true for blocking.
+
+-- an interrupted caller closes the channel
+abbrev pub if_interrupted : Limits → ChanNo → Bool → Plan (Result Bool PipeError)
+if_interrupted l c interrupted = if interrupted then (do
+  close_channel_plan l c
+  reply (Err ClosedByInterrupt)) else reply (Ok true)
+
+-- in blocking mode the caller looks whether it is interrupted
+abbrev pub if_open : Limits → ChanNo → Chan → Plan (Result Bool PipeError)
+if_open l c found =
+    if found.closed then reply (Err ClosedChannel) else
+    (if found.blocking then (look_interrupt >>= if_interrupted l c) else reply (Ok false))
+
+unfoldable pub try_read_plan : Limits → ChanNo → Plan (Result Bool PipeError)
+try_read_plan l source = look_channel source >>= if_open l source
+
+-- a write needs that the source isn't closed
+abbrev pub if_unbroken : ChanNo → Result Bool PipeError → Plan (Result Bool PipeError)
+if_unbroken source (Ok blocking) = do
+  found ← look_channel source
+  reply (if found.closed then Err BrokenPipe else Ok blocking)
+if_unbroken source (Err refusal) = reply (Err refusal)
+
+unfoldable pub try_write_plan : Limits → ChanNo → ChanNo → Plan (Result Bool PipeError)
+try_write_plan l source sink = look_channel sink >>= if_open l sink >>= if_unbroken source
+
+-- ---- calls that wait
+
+-- A run of such a call is given whether there was nothing to read, or no room. In blocking mode it is then
+-- made again.
+abbrev pub waits_for_bytes : Bool → Result Bool PipeError → Bool
+waits_for_bytes none (Ok blocking) = none && blocking
+waits_for_bytes none (Err refusal) = false
+
+-- A channel that was found closed after it was found open was closed by another caller meanwhile.
+abbrev pub as_waited : {X : Type 0} → List X → Result Bool PipeError → Result Bool PipeError
+as_waited [] found = found
+as_waited (run ∷ later) (Ok blocking) = Ok blocking
+as_waited (run ∷ later) (Err ClosedChannel) = Err AsynchronousClose
+as_waited (run ∷ later) (Err ClosedByInterrupt) = Err ClosedByInterrupt
+as_waited (run ∷ later) (Err AsynchronousClose) = Err AsynchronousClose
+as_waited (run ∷ later) (Err BrokenPipe) = Err BrokenPipe
+
+-- reading or writing until there are bytes or room, with this plan; `none` says whether there were none at
+-- the end
+pub record Waits (plan : Plan (Result Bool PipeError)) (none : Bool) (acts : List Act) (answer : Result Bool PipeError) : Type 0 where
+  pub found : Result Bool PipeError
+  pub runs : Repeats (λ (_ : Bool). Completes plan) waits_for_bytes acts found
+  pub none_is : runs.last.given ≡ none
+  pub answer_is : answer ≡ as_waited runs.tries.runs found
+
+abbrev pub Reads : Limits → ChanNo → Bool → List Act → Result Bool PipeError → Type 0
+Reads l source = Waits (try_read_plan l source)
+
+abbrev pub Writes : Limits → ChanNo → ChanNo → Bool → List Act → Result Bool PipeError → Type 0
+Writes l source sink = Waits (try_write_plan l source sink)

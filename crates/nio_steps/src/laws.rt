@@ -1,0 +1,40 @@
+//! What the plans promise, as the contracts of functions that do nothing.
+ghost use Rattle.nio_steps.specs.Laws.{RunsArePerformed, BeginsSelection, ListsInOrder, LooksAtValidKeys, CancelledKeysGo, MarksOnlyAsTold, AgainGoesOn, CountsSelection, SelectionsStand, ClosingsStand, ClosedRemovesKeys};
+
+/// A call between whose steps nobody comes answers, and leaves, what its plan says of the state
+/// before it.
+pub fn run_law<R>()
+    ensures { RunsArePerformed R }
+{}
+
+/// What `try_begin` answers is the selection that it began, until the turn is given back or a key
+/// is marked. Its lists are in rising order. Each looked key was found valid by a look of that call, with
+/// the channel, the serial and the interest set of its entry. A key with an index below the bound that was
+/// cancelled before is removed, and isn't looked at.
+pub fn begin_law()
+    ensures begins { BeginsSelection }
+    ensures in_order { ListsInOrder }
+    ensures valid { LooksAtValidKeys }
+    ensures cancelled { CancelledKeysGo }
+{}
+
+/// A selection updates keys only for what the poller told of them, counts each update, and ends with
+/// the first `told` that makes one.
+pub fn told_law()
+    ensures only_as_told { MarksOnlyAsTold }
+    ensures goes_on { AgainGoesOn }
+    ensures counts { CountsSelection }
+{}
+
+/// A selection and a closing that a caller's own steps show in progress stand in the state, whatever
+/// other callers did.
+pub fn progress_law()
+    ensures selections { SelectionsStand }
+    ensures closings { ClosingsStand }
+{}
+
+/// A closing that has finished has removed each key with an index below the mark that it found, where the
+/// key was claimed before it looked at the mark.
+pub fn close_law()
+    ensures { ClosedRemovesKeys }
+{}

@@ -1,0 +1,21 @@
+//! The steps of each call on selectors, keys, channels and pipes, as plans, and the laws about plans;
+//! and what these calls answer.
+//!
+//! A plan is a reply, or a question to the shared state and how the call goes on with each answer.
+//! `specs/KeyCalls`, `specs/ChannelCalls`, `specs/SelectCalls` and `specs/PipeCalls` have the plan of each
+//! call, and what a call that waits does: runs of a plan, one after the other. A call ensures
+//! `CallClause`: what its pass has seen grew by acts of the caller that have the call's shape, as a whole
+//! run of its plan, and by what other callers did. `specs/Laws` has what follows from the plans alone.
+#![tactic(auto)]
+
+pub use laws::{begin_law, close_law, progress_law, run_law, told_law};
+pub use looked::LookedKey;
+pub use refusal::{
+    BeginError, ChannelError, KeyError, ListError, PipeError, PipeMakeError, SelectorsSpent,
+};
+pub use selected::Selected;
+
+mod laws;
+mod looked;
+mod refusal;
+mod selected;

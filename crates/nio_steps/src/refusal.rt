@@ -1,0 +1,134 @@
+//! Why a call is refused: one error for the calls of each crate that stands on the plans.
+ghost use Rattle.std.specs.Prelude.{◌≡◌};
+
+use std::alloc::AllocError;
+use thiserror::Error;
+
+/// Why a call on a key is refused.
+#[derive(Clone, Copy, Debug, PartialEq, Eq, Error)]
+pub enum KeyError {
+    /// The key isn't valid: Java's `CancelledKeyException`.
+    #[error("CancelledKey")]
+    CancelledKey,
+    /// A channel of this kind doesn't support the operations: Java's `IllegalArgumentException`.
+    #[error("IllegalOps")]
+    IllegalOps,
+}
+
+/// Why a channel isn't opened, registered or set to a mode.
+#[derive(Clone, Copy, Debug, PartialEq, Eq, Error)]
+pub enum ChannelError {
+    /// As many channels are made as may be.
+    #[error("ChannelsSpent")]
+    ChannelsSpent,
+    /// A channel of this kind doesn't support the operations: Java's `IllegalArgumentException`.
+    #[error("IllegalOps")]
+    IllegalOps,
+    /// The channel is closed: Java's `ClosedChannelException`.
+    #[error("ClosedChannel")]
+    ClosedChannel,
+    /// Another caller registers the channel, or sets its mode.
+    #[error("Busy")]
+    Busy,
+    /// The channel is in blocking mode and can't be registered, or is registered and can't go back
+    /// to it: Java's `IllegalBlockingModeException`.
+    #[error("IllegalBlockingMode")]
+    IllegalBlockingMode,
+    /// The channel's key is cancelled and not yet deregistered: Java's `CancelledKeyException`.
+    #[error("CancelledKey")]
+    CancelledKey,
+    /// The selector is closed: Java's `ClosedSelectorException`.
+    #[error("ClosedSelector")]
+    ClosedSelector,
+    /// The selector has as many keys as it may.
+    #[error("Full")]
+    Full,
+}
+
+/// As many selectors are made as may be.
+#[derive(Clone, Copy, Debug, PartialEq, Eq, Error)]
+#[error("SelectorsSpent")]
+pub struct SelectorsSpent;
+
+/// Why a selection doesn't begin.
+#[derive(Clone, Copy, Debug, PartialEq, Eq, Error)]
+pub enum BeginError {
+    /// The selector is closed: Java's `ClosedSelectorException`.
+    #[error("ClosedSelector")]
+    ClosedSelector,
+    /// Another selection is in progress on the selector.
+    #[error("Busy")]
+    Busy,
+    /// There is no memory for the list of keys. The turn is free again.
+    #[error("Memory")]
+    Memory,
+}
+
+impl From<AllocError> for BeginError {
+    ghost use Rattle.nio_steps.specs.declared.refusal.BeginError.TheVariants.{Memory};
+
+    ghost from_gives = { λ _ e. e ≡ Memory };
+
+    fn from(_error: AllocError) -> BeginError {
+        BeginError::Memory
+    }
+}
+
+/// Why a selector's keys aren't listed.
+#[derive(Clone, Copy, Debug, PartialEq, Eq, Error)]
+pub enum ListError {
+    /// The selector is closed: Java's `ClosedSelectorException`.
+    #[error("ClosedSelector")]
+    ClosedSelector,
+    /// There is no memory for the list.
+    #[error("Memory")]
+    Memory,
+}
+
+impl From<AllocError> for ListError {
+    ghost use Rattle.nio_steps.specs.declared.refusal.ListError.TheVariants.{Memory};
+
+    ghost from_gives = { λ _ e. e ≡ Memory };
+
+    fn from(_error: AllocError) -> ListError {
+        ListError::Memory
+    }
+}
+
+/// Why a pipe isn't made.
+#[derive(Clone, Copy, Debug, PartialEq, Eq, Error)]
+pub enum PipeMakeError {
+    /// As many channels are made as may be. A pipe needs two; the one that was made is closed.
+    #[error("ChannelsSpent")]
+    ChannelsSpent,
+    /// There is no memory for the pipe.
+    #[error("Memory")]
+    Memory,
+}
+
+impl From<AllocError> for PipeMakeError {
+    ghost use Rattle.nio_steps.specs.declared.refusal.PipeMakeError.TheVariants.{Memory};
+
+    ghost from_gives = { λ _ e. e ≡ Memory };
+
+    fn from(_error: AllocError) -> PipeMakeError {
+        PipeMakeError::Memory
+    }
+}
+
+/// Why nothing is read from a pipe or written to it.
+#[derive(Clone, Copy, Debug, PartialEq, Eq, Error)]
+pub enum PipeError {
+    /// The channel is closed: Java's `ClosedChannelException`.
+    #[error("ClosedChannel")]
+    ClosedChannel,
+    /// The caller is interrupted, and its call closed the channel: Java's `ClosedByInterruptException`.
+    #[error("ClosedByInterrupt")]
+    ClosedByInterrupt,
+    /// Another caller closed the channel while this one waited: Java's `AsynchronousCloseException`.
+    #[error("AsynchronousClose")]
+    AsynchronousClose,
+    /// The pipe's source is closed, so that nobody will read: Java's `IOException` of a broken pipe.
+    #[error("BrokenPipe")]
+    BrokenPipe,
+}
