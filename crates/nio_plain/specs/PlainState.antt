@@ -271,7 +271,7 @@ state_from interrupted channels_mark chan selector = record {
     closer = λ s. (selector s).closer;
     entered = λ s. (selector s).entered;
     taker = λ _ _. None;
-    dropped = λ _ _. false;
+    put_due = λ _ _. false;
   };
   selection = λ s. (selector s).selection;
 }

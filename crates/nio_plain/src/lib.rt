@@ -7,7 +7,6 @@ pub use system::System;
 
 pub mod laws;
 mod plain;
-mod probe;
 mod rules;
 mod system;
 #[cfg(test)]
