@@ -1,5 +1,5 @@
 -- How a call of a plain system is shown to answer as the documented one, at each of its returns.
-use Rattle.std.proofs.Common.{◌≡◌, ℕ, ◌+◌, ◌<◌, ◌≤◌, Option, None, Some, is_some, arith, Bool, true, false, Result, Ok, Err, List, [], ◌∷◌, ◌++◌, length, get_or, set, refl, sym, ap, ◌∙◌}
+use Rattle.std.proofs.Common.{◌≡◌, ℕ, ◌+◌, ◌<◌, ◌≤◌, Option, None, Some, is_some, arith, Bool, true, false, Result, Ok, Err, List, [], ◌∷◌, ◌++◌, length, get_or, set, refl, sym, ap, subst, ◌∙◌}
 use Rattle.std.proofs.lemmas.List.{length-set, length_push}
 use Rattle.std.proofs.lemmas.Result.{IfOk-from_err}
 use Rattle.std.specs.Result.{IsErr, OnErr}
@@ -8,29 +8,33 @@ use lib.ListN.{replicate}
 use Rattle.nio_event.specs.State.{unmade_channel, put, with_interrupted}
 use Rattle.nio_event.specs.declared.reply.Reply.{Reply}
 use Rattle.nio_plain.proofs.Places.{places-nil, places-replicate, places_all, places_past, places-set, places-push, places_at, part_kept}
-use Rattle.nio_plain.specs.Plain.{Answers, AnswersAs}
-use Rattle.nio_plain.specs.PlainState.{places, key_row, no_key, caller_of, channel_row, selector_row, SelectorRow, no_selector, state_from, state_of, limits_of}
-use Rattle.nio_plain.specs.ScriptState.{ScriptState, script_opening}
-use Rattle.nio_plain.specs.Seq.Answers.{Answered, refused}
+use Rattle.nio_plain.specs.Plain.{Answers, AnswersAs, Kept}
+use Rattle.nio_plain.specs.PlainState.{places, key_row, no_key, caller_of, channel_row, selector_row, SelectorRow, no_selector, state_from, state_of}
+use Rattle.nio_plain.specs.ScriptState.{ScriptState, script_opening, with_shared}
+use Rattle.nio_plain.specs.Seq.Answers.{Answered, unchanged}
 use Rattle.nio_plain.specs.declared.plain.Plain.{Plain}
 use Rattle.nio_plain.specs.declared.plain.channel.Channel.{Channel}
 use Rattle.nio_plain.specs.declared.plain.selector.Selecting.{Selecting}
 use Rattle.nio_plain.specs.declared.plain.selector.Selector.{Selector}
 
-pub refused_as : (p : Plain) (r : Reply) (a : Answered) → a ≡ refused (state_of p) r → AnswersAs p p (Ok r) a
-refused_as p r a e = record {
+-- a call that keeps the limits and the rules
+pub kept_same : (p : Plain) → Kept p p
+kept_same p = record { limits = refl; rules = refl }
+
+pub unchanged_as : (p : Plain) (r : Reply) (a : Answered) → a ≡ unchanged (state_of p) r → AnswersAs p p (Ok r) a
+unchanged_as p r a e = record {
   reply = sym (ap (λ (x : Answered). x.reply) e);
   left = sym (ap (λ (x : Answered). x.left) e);
   memory = tt;
-  limits = refl;
+  kept = kept_same p;
 }
 
-pub answered_as : (p q : Plain) (r : Reply) (a b : Answered) → a ≡ b → r ≡ b.reply → state_of q ≡ b.left → limits_of q ≡ limits_of p → AnswersAs p q (Ok r) a
-answered_as p q r a b e same left limits = record {
+pub answered_as : (p q : Plain) (r : Reply) (a b : Answered) → a ≡ b → r ≡ b.reply → state_of q ≡ b.left → Kept p q → AnswersAs p q (Ok r) a
+answered_as p q r a b e same left kept = record {
   reply = same ∙ sym (ap (λ (x : Answered). x.reply) e);
   left = left ∙ sym (ap (λ (x : Answered). x.left) e);
   memory = tt;
-  limits = limits;
+  kept = kept;
 }
 
 -- selectors and channels are made below the length, and not from there on
@@ -88,18 +92,18 @@ state-set_channel interrupted row xs ys c x h e =
     λ i. state_from interrupted (len i) (chan i) row
 
 -- the same of a call that takes no memory
-pub refused_without_memory : (p : Plain) (r : Reply) (a : Answered) → a ≡ refused (state_of p) r → Answers p p r a
-refused_without_memory p r a e = record {
+pub unchanged_without_memory : (p : Plain) (r : Reply) (a : Answered) → a ≡ unchanged (state_of p) r → Answers p p r a
+unchanged_without_memory p r a e = record {
   reply = sym (ap (λ (x : Answered). x.reply) e);
   left = sym (ap (λ (x : Answered). x.left) e);
-  limits = refl;
+  kept = kept_same p;
 }
 
-pub answered_without_memory : (p q : Plain) (r : Reply) (a b : Answered) → a ≡ b → r ≡ b.reply → state_of q ≡ b.left → limits_of q ≡ limits_of p → Answers p q r a
-answered_without_memory p q r a b e same left limits = record {
+pub answered_without_memory : (p q : Plain) (r : Reply) (a b : Answered) → a ≡ b → r ≡ b.reply → state_of q ≡ b.left → Kept p q → Answers p q r a
+answered_without_memory p q r a b e same left kept = record {
   reply = same ∙ sym (ap (λ (x : Answered). x.reply) e);
   left = left ∙ sym (ap (λ (x : Answered). x.left) e);
-  limits = limits;
+  kept = kept;
 }
 
 on_err : {X E P : Type 0} (r : Result X E) → P → OnErr r P
@@ -107,12 +111,12 @@ on_err (Ok x) h = tt
 on_err (Err e) h = h
 
 -- a call that lacked memory
-pub failed_as : (p q : Plain) (r : Result Reply AllocError) (a : Answered) → IsErr r → state_of q ≡ state_of p → limits_of q ≡ limits_of p → AnswersAs p q r a
-failed_as p q r a e same limits = record {
+pub failed_as : (p q : Plain) (r : Result Reply AllocError) (a : Answered) → IsErr r → state_of q ≡ state_of p → Kept p q → AnswersAs p q r a
+failed_as p q r a e same kept = record {
   reply = IfOk-from_err r (λ x. x ≡ a.reply) e;
   left = IfOk-from_err r (λ _. state_of q ≡ a.left) e;
   memory = on_err r same;
-  limits = limits;
+  kept = kept;
 }
 
 -- a write of a selector that leaves its parts as they were
@@ -139,6 +143,14 @@ is_some-caller_of None = refl
 is_some-caller_of (Some x) = refl
 
 -- the state after a write of a caller's interrupt status
-pub interrupted-set : (p : Plain) (n : ℕ) (b : Bool) → n < length p.interrupted.items → state_from (places (λ (x : Bool). x) false (set p.interrupted.items n b)) (length p.channels.items) (places channel_row unmade_channel p.channels.items) (rows_of p) ≡ record (state_of p) { shared = with_interrupted (state_of p).shared n b }
+pub interrupted-set : (p : Plain) (n : ℕ) (b : Bool) → n < length p.interrupted.items → state_from (places (λ (x : Bool). x) false (set p.interrupted.items n b)) (length p.channels.items) (places channel_row unmade_channel p.channels.items) (rows_of p) ≡ with_shared (state_of p) (with_interrupted (state_of p).shared n b)
 interrupted-set p n b h =
     ap (λ f. state_from f (length p.channels.items) (places channel_row unmade_channel p.channels.items) (rows_of p)) (places-set (λ (x : Bool). x) false p.interrupted.items n b h)
+
+-- a call without want of memory, as one that may lack it
+pub without_memory : (p q : Plain) (r : Reply) (a : Answered) → Answers p q r a → AnswersAs p q (Ok r) a
+without_memory p q r a h = record { reply = h.reply; left = h.left; memory = tt; kept = h.kept }
+
+-- a call by its word
+pub of_word : (p q : Plain) (r : Result Reply AllocError) (a b : Answered) → b ≡ a → AnswersAs p q r a → AnswersAs p q r b
+of_word p q r a b e h = subst (λ (x : Answered). AnswersAs p q r x) (sym e) h

@@ -1,13 +1,14 @@
 -- What holds of every call: a call refuses or only tells, or it makes the one change of its word. So a
 -- fact of all calls is shown once for each change.
-use Rattle.std.proofs.Common.{◌≡◌, ℕ, Bool, true, false, not, ◌&&◌, ◌||◌, cond, nat_lt, Option, Some, None, is_some, List, [], ◌∷◌, filter, find, refl, bit_and, bit_or}
+use Rattle.std.proofs.Common.{◌≡◌, ℕ, Bool, true, false, not, ◌&&◌, ◌||◌, cond, nat_lt, Option, Some, None, is_some, List, [], ◌∷◌, filter, map, find, refl, bit_and, bit_or}
 use Rattle.nio_base.specs.declared.kind.Kind.{Kind}
 use Rattle.nio_base.specs.declared.limits.Limits.{Limits}
 use Rattle.nio_base.specs.declared.numbers.CallerNo.{CallerNo}
 use Rattle.nio_base.specs.declared.numbers.ChanNo.{ChanNo}
+use Rattle.nio_base.specs.declared.numbers.KeyId.{KeyId}
 use Rattle.nio_base.specs.declared.numbers.SelNo.{SelNo}
-use Rattle.nio_event.specs.Sets.{in_key_set, in_selected_set, is_valid}
-use Rattle.nio_event.specs.State.{put, with_interrupted, with_chan, with_gate, with_key, with_interest, with_mark, with_note, with_closer, with_entered}
+use Rattle.nio_event.specs.Sets.{fits, in_key_set, in_selected_set, was_published, is_valid_key}
+use Rattle.nio_event.specs.State.{with_interrupted, with_chan, with_gate, with_key, with_interest, with_mark, with_note, with_closer, with_entered}
 use Rattle.nio_event.specs.declared.call.Call.{Call}
 use Rattle.nio_event.specs.declared.call.Call.TheVariants as call
 use Rattle.nio_event.specs.declared.call.Waiting.{Waiting}
@@ -15,28 +16,27 @@ use Rattle.nio_event.specs.declared.found.Mode.{Mode}
 use Rattle.nio_event.specs.declared.reply.Reply.{Reply}
 use Rattle.nio_event.specs.declared.reply.Reply.TheVariants as reply
 use Rattle.nio_event.specs.declared.reply.Why.{Why}
-use Rattle.nio_plain.specs.ScriptState.{ScriptState, Selection}
+use Rattle.nio_plain.specs.ScriptState.{ScriptState, Selection, with_shared, with_selection}
 use Rattle.nio_plain.specs.Seq.{call_of, seq}
-use Rattle.nio_plain.specs.Seq.Answers.{Answered, refused, answered, yes_or_no}
-use Rattle.nio_plain.specs.Seq.Cancelling.{channel_closed, cancelled_key, closec_call, cancel_call}
+use Rattle.nio_plain.specs.Seq.Answers.{Answered, unchanged, answered, yes_or_no}
+use Rattle.nio_plain.specs.Seq.Cancelling.{channel_closed, cancelled_in_set, closec_call, cancel_call}
 use Rattle.nio_plain.specs.Seq.Closing.{without_keys, close_call, close_end_call}
-use Rattle.nio_plain.specs.Seq.Keys.{are_legal_at, valid_call, interest_call, ready_call, iset_call, ior_call, iand_call, unselect_call, attach_call, attachment_call}
+use Rattle.nio_plain.specs.Seq.Keys.{are_legal_at, is_in_selected_set, valid_call, interest_call, ready_call, iset_call, ior_call, iand_call, unselect_call, attach_call, attachment_call}
 use Rattle.nio_plain.specs.Seq.Listing.{names_or_none, keys_call, selected_call}
 use Rattle.nio_plain.specs.Seq.Modes.{name_or_none, key_of, is_registered, blocking_call, is_blocking_call, is_open_call, is_registered_call, key_for_call}
-use Rattle.nio_plain.specs.Seq.Names.{below}
+use Rattle.nio_plain.specs.Seq.Names.{below, key_at}
 use Rattle.nio_plain.specs.Seq.Opening.{channel_made, selector_made, selector_call, channel_call}
-use Rattle.nio_plain.specs.Seq.Registering.{given_or_none, given_or_kept, new_key, are_legal, registered, register_call}
-use Rattle.nio_plain.specs.Seq.Selections.{unselected, mode_of, selection_begun, updated_count, is_again, why_ended, selection_ended, own_selection, left_selection, is_caller, begun_with, told_selection, begin_call, told_call, failed_call}
+use Rattle.nio_plain.specs.Seq.Registering.{given_or_none, given_or_kept, next_key, with_new_key, are_legal, registered, registered_new, register_call}
+use Rattle.nio_plain.specs.Seq.Removing.{unselected}
+use Rattle.nio_plain.specs.Seq.Selections.{mode_of, selection_begun, updated_count, is_again, why_ended, selection_ended, own_selection, left_selection, is_caller, begun_with, told_selection, begin_call, told_call, failed_call}
 use Rattle.nio_plain.specs.Seq.Wakeups.{wakeup_call, interrupt_call, interrupted_call}
+use Rattle.nio_plain.specs.declared.rules.Rules.{Rules}
 
 -- a selection that ended in a `told`
-abbrev pub told_ended : ScriptState → ℕ → List (ℕ × ℕ) → Selection → ℕ → Why → Answered
-told_ended st s pairs selection count why = record {
+abbrev pub told_ended : Rules → ScriptState → ℕ → List (KeyId × ℕ) → Selection → ℕ → Why → Answered
+told_ended rules st s pairs selection count why = record {
   reply = reply.Selected count why;
-  left = record {
-    shared = selection_ended st.shared s selection pairs;
-    selection = put st.selection s None;
-  };
+  left = with_selection (with_shared st (selection_ended rules st.shared s selection pairs)) s None;
 }
 
 -- the replies of calls that change nothing; some of them are also those of calls that do
@@ -52,22 +52,22 @@ may_keep reply.Closed = false
 may_keep _ = true
 
 -- what is to be shown of each change
-pub record HoldsOfChanges (st : ScriptState) (me : CallerNo) (P : Call → Answered → Type 0) : Type 0 where
-  pub nothing : (c : Call) (r : Reply) → may_keep r ≡ true → P c (refused st r)
+pub record HoldsOfChanges (rules : Rules) (st : ScriptState) (me : CallerNo) (P : Call → Answered → Type 0) : Type 0 where
+  pub nothing : (c : Call) (r : Reply) → may_keep r ≡ true → P c (unchanged st r)
   pub selector : (s : ℕ) → P call.Selector (selector_made st (Some s))
   pub channel : (kind : Kind) (c : ℕ) → P (call.Channel kind) (channel_made st kind (Some c))
   pub blocking : (c : ChanNo) (on : Bool) → P (call.Blocking c on) (answered st reply.«Ok» (with_chan st.shared c.0 (record (st.shared.chan c.0) { blocking = on })))
-  pub register : (s : SelNo) (c : ChanNo) (ops : ℕ) (att : Option ℕ) (i note : ℕ) → P (call.Register s c ops att) (answered st (reply.Key i) (new_key st.shared s.0 c.0 i ops note))
-  pub register_again : (s : SelNo) (c : ChanNo) (ops : ℕ) (att : Option ℕ) (i note : ℕ) → P (call.Register s c ops att) (answered st (reply.Key i) (with_note (with_interest st.shared s.0 i ops) s.0 i note))
+  pub register : (s : SelNo) (c : ChanNo) (ops : ℕ) (att : Option ℕ) (k : KeyId) (note : ℕ) → P (call.Register s c ops att) (answered st (reply.Key k) (with_new_key st.shared s.0 c.0 k ops note))
+  pub register_again : (s : SelNo) (c : ChanNo) (ops : ℕ) (att : Option ℕ) (k : KeyId) (note : ℕ) → P (call.Register s c ops att) (answered st (reply.Key k) (with_note (with_interest st.shared s.0 k.index ops) s.0 k.index note))
   pub closec : (c : ChanNo) → P (call.Closec c) (answered st reply.«Ok» (channel_closed st.shared c.0))
-  pub cancel : (s : SelNo) (i : ℕ) → P (call.Cancel s i) (answered st reply.«Ok» (with_key st.shared s.0 i (cond (in_key_set (st.shared.key s.0 i)) (cancelled_key (st.shared.key s.0 i)) (st.shared.key s.0 i))))
-  pub iset : (s : SelNo) (i ops : ℕ) → P (call.Iset s i ops) (answered st reply.«Ok» (with_interest st.shared s.0 i ops))
-  pub ior : (s : SelNo) (i ops : ℕ) → P (call.Ior s i ops) (answered st (reply.Number (st.shared.interest s.0 i)) (with_interest st.shared s.0 i (bit_or (st.shared.interest s.0 i) ops)))
-  pub iand : (s : SelNo) (i ops : ℕ) → P (call.Iand s i ops) (answered st (reply.Number (st.shared.interest s.0 i)) (with_interest st.shared s.0 i (bit_and (st.shared.interest s.0 i) ops)))
-  pub unselect : (s : SelNo) (i : ℕ) → P (call.Unselect s i) (answered st reply.Yes (with_mark st.shared s.0 i (unselected (st.shared.mark s.0 i))))
-  pub attach : (s : SelNo) (i att : ℕ) → P (call.Attach s i att) (answered st (reply.Number (st.shared.note s.0 i)) (with_note st.shared s.0 i att))
-  pub begin : (s : SelNo) (waiting : Waiting) (how : Mode) → is_some (st.shared.turn s.0) ≡ false → P (call.Begin s waiting) (selection_begun st me s.0 how)
-  pub told : (s : SelNo) (elapsed : Bool) (pairs : List (ℕ × ℕ)) (selection : Selection) (count : ℕ) (why : Why) → own_selection st me s.0 ≡ Some selection → P (call.Told s elapsed pairs) (told_ended st s.0 pairs selection count why)
+  pub cancel : (s : SelNo) (k : KeyId) → P (call.Cancel s k) (answered st reply.«Ok» (with_key st.shared s.0 k.index (cancelled_in_set (st.shared.key s.0 k.index) k.serial)))
+  pub iset : (s : SelNo) (k : KeyId) (ops : ℕ) → P (call.Iset s k ops) (answered st reply.«Ok» (with_interest st.shared s.0 k.index ops))
+  pub ior : (s : SelNo) (k : KeyId) (ops : ℕ) → P (call.Ior s k ops) (answered st (reply.Number (st.shared.interest s.0 k.index)) (with_interest st.shared s.0 k.index (bit_or (st.shared.interest s.0 k.index) ops)))
+  pub iand : (s : SelNo) (k : KeyId) (ops : ℕ) → P (call.Iand s k ops) (answered st (reply.Number (st.shared.interest s.0 k.index)) (with_interest st.shared s.0 k.index (bit_and (st.shared.interest s.0 k.index) ops)))
+  pub unselect : (s : SelNo) (k : KeyId) → P (call.Unselect s k) (answered st reply.Yes (with_mark st.shared s.0 k.index (unselected (st.shared.mark s.0 k.index))))
+  pub attach : (s : SelNo) (k : KeyId) (att : ℕ) → P (call.Attach s k att) (answered st (reply.Number (st.shared.note s.0 k.index)) (with_note st.shared s.0 k.index att))
+  pub begin : (s : SelNo) (waiting : Waiting) (how : Mode) → is_some (st.shared.turn s.0) ≡ false → P (call.Begin s waiting) (selection_begun rules st me s.0 how)
+  pub told : (s : SelNo) (elapsed : Bool) (pairs : List (KeyId × ℕ)) (selection : Selection) (count : ℕ) (why : Why) → own_selection st me s.0 ≡ Some selection → P (call.Told s elapsed pairs) (told_ended rules st s.0 pairs selection count why)
   pub failed : (s : SelNo) (selection : Selection) → own_selection st me s.0 ≡ Some selection → P (call.Failed s) (left_selection st s.0 (Some selection))
   pub wakeup : (s : SelNo) → P (call.Wakeup s) (answered st reply.«Ok» (with_gate st.shared s.0 (record (st.shared.gate s.0) { woken = true })))
   pub close : (s : SelNo) → P (call.Close s) (answered st reply.Closing (with_closer (with_gate st.shared s.0 (record (st.shared.gate s.0) { shut = true })) s.0 (Some me)))
@@ -75,7 +75,7 @@ pub record HoldsOfChanges (st : ScriptState) (me : CallerNo) (P : Call → Answe
   pub interrupt : (target : CallerNo) → P (call.Interrupt target) (answered st reply.«Ok» (with_interrupted st.shared target.0 true))
   pub interrupted : P call.Interrupted (answered st (yes_or_no (st.shared.interrupted me.0)) (with_interrupted st.shared me.0 false))
 
-module _ (l : Limits) (st : ScriptState) (me : CallerNo) (P : Call → Answered → Type 0) (h : HoldsOfChanges st me P) where
+module _ (rules : Rules) (l : Limits) (st : ScriptState) (me : CallerNo) (P : Call → Answered → Type 0) (h : HoldsOfChanges rules st me P) where
   -- both ways of a test
   either : {c : Call} {x y : Answered} (b : Bool) → P c x → P c y → P c (cond b x y)
   either true p q = p
@@ -85,21 +85,21 @@ module _ (l : Limits) (st : ScriptState) (me : CallerNo) (P : Call → Answered 
   either_where true p q = p refl
   either_where false p q = q refl
 
-  -- a call that changes nothing: it is refused, or it tells something
-  says : (c : Call) (r : Reply) → may_keep r ≡ true → P c (refused st r)
+  -- a call that changes nothing: it is unchanged, or it tells something
+  says : (c : Call) (r : Reply) → may_keep r ≡ true → P c (unchanged st r)
   says c r keeps = h.nothing c r keeps
 
-  says_whether : (c : Call) (b : Bool) → P c (refused st (yes_or_no b))
+  says_whether : (c : Call) (b : Bool) → P c (unchanged st (yes_or_no b))
   says_whether c true = says c reply.Yes refl
   says_whether c false = says c reply.No refl
 
-  says_name : (c : Call) (name : Option ℕ) → P c (refused st (name_or_none name))
+  says_name : (c : Call) (name : Option KeyId) → P c (unchanged st (name_or_none name))
   says_name c None = says c reply.None refl
-  says_name c (Some i) = says c (reply.Key i) refl
+  says_name c (Some k) = says c (reply.Key k) refl
 
-  says_names : (c : Call) (names : List ℕ) → P c (refused st (names_or_none names))
+  says_names : (c : Call) (names : List KeyId) → P c (unchanged st (names_or_none names))
   says_names c [] = says c reply.None refl
-  says_names c (i ∷ is) = says c (reply.Names (i ∷ is)) refl
+  says_names c (k ∷ ks) = says c (reply.Names (k ∷ ks)) refl
 
   of_selector : (made : Option ℕ) → P call.Selector (selector_made st made)
   of_selector None = says call.Selector reply.SelectorsSpent refl
@@ -109,23 +109,25 @@ module _ (l : Limits) (st : ScriptState) (me : CallerNo) (P : Call → Answered 
   of_channel kind None = says (call.Channel kind) reply.ChannelsSpent refl
   of_channel kind (Some c) = h.channel kind c
 
-  of_register : (s : SelNo) (c : ChanNo) (ops : ℕ) (att : Option ℕ) (key : Option ℕ) → P (call.Register s c ops att) (registered l st s.0 c.0 ops att key)
-  of_register s c ops att None =
-      let word = call.Register s c ops att in
-      either (st.shared.gate s.0).shut (says word reply.ClosedSelector refl)
-      (either (nat_lt (st.shared.keys_mark s.0) l.keys) (h.register s c ops att (st.shared.keys_mark s.0) (given_or_none att)) (says word reply.Full refl))
-  of_register s c ops att (Some i) =
-      let word = call.Register s c ops att in
-      either (st.shared.key s.0 i).cancelled (says word reply.CancelledKey refl)
-      (either (st.shared.gate s.0).shut (says word reply.ClosedSelector refl) (h.register_again s c ops att i (given_or_kept att (st.shared.note s.0 i))))
+  of_new : (s : SelNo) (c : ChanNo) (ops : ℕ) (att : Option ℕ) (note : ℕ) (next : Option KeyId) → P (call.Register s c ops att) (registered_new st s.0 c.0 ops note next)
+  of_new s c ops att note None = says (call.Register s c ops att) reply.Full refl
+  of_new s c ops att note (Some k) = h.register s c ops att k note
 
-  of_begin : (s : SelNo) (waiting : Waiting) (how : Option Mode) → P (call.Begin s waiting) (begun_with st me s.0 how)
+  of_register : (s : SelNo) (c : ChanNo) (ops : ℕ) (att : Option ℕ) (key : Option KeyId) → P (call.Register s c ops att) (registered l st s.0 c.0 ops att key)
+  of_register s c ops att None =
+      either (st.shared.gate s.0).shut (says (call.Register s c ops att) reply.ClosedSelector refl) (of_new s c ops att (given_or_none att) (next_key l st.shared s.0))
+  of_register s c ops att (Some k) =
+      let word = call.Register s c ops att in
+      either (st.shared.key s.0 k.index).cancelled (says word reply.CancelledKey refl)
+      (either (st.shared.gate s.0).shut (says word reply.ClosedSelector refl) (h.register_again s c ops att k (given_or_kept att (st.shared.note s.0 k.index))))
+
+  of_begin : (s : SelNo) (waiting : Waiting) (how : Option Mode) → P (call.Begin s waiting) (begun_with rules st me s.0 how)
   of_begin s waiting None = says (call.Begin s waiting) reply.NegativeTimeout refl
   of_begin s waiting (Some how) =
       let word = call.Begin s waiting in
       either (st.shared.gate s.0).shut (says word reply.ClosedSelector refl) (either_where (is_some (st.shared.turn s.0)) (λ _. says word reply.Busy refl) (h.begin s waiting how))
 
-  of_told : (s : SelNo) (elapsed : Bool) (pairs : List (ℕ × ℕ)) (own : Option Selection) → own_selection st me s.0 ≡ own → P (call.Told s elapsed pairs) (told_selection st me s.0 pairs elapsed own)
+  of_told : (s : SelNo) (elapsed : Bool) (pairs : List (KeyId × ℕ)) (own : Option Selection) → own_selection st me s.0 ≡ own → P (call.Told s elapsed pairs) (told_selection rules st me s.0 pairs elapsed own)
   of_told s elapsed pairs None e = says (call.Told s elapsed pairs) reply.NotSelecting refl
   of_told s elapsed pairs (Some selection) e =
       let count = updated_count st.shared s.0 selection.looked pairs in
@@ -139,19 +141,19 @@ module _ (l : Limits) (st : ScriptState) (me : CallerNo) (P : Call → Answered 
   of_failed s (Some selection) e = h.failed s selection e
 
   -- the tests of the names of a line
-  channel_named : {c : Call} {x : Answered} (k : ChanNo) → P c x → P c (cond (st.shared.chan k.0).made x (refused st reply.NoChannel))
+  channel_named : {c : Call} {x : Answered} (k : ChanNo) → P c x → P c (cond (st.shared.chan k.0).made x (unchanged st reply.NoChannel))
   channel_named {c = c} k done = either (st.shared.chan k.0).made done (says c reply.NoChannel refl)
 
-  selector_named : {c : Call} {x : Answered} (s : SelNo) → P c x → P c (cond (st.shared.selector s.0) x (refused st reply.NoSelector))
+  selector_named : {c : Call} {x : Answered} (s : SelNo) → P c x → P c (cond (st.shared.selector s.0) x (unchanged st reply.NoSelector))
   selector_named {c = c} s done = either (st.shared.selector s.0) done (says c reply.NoSelector refl)
 
-  key_named : {c : Call} {x : Answered} (s : SelNo) (i : ℕ) → P c x → P c (cond (st.shared.selector s.0) (cond (st.shared.key s.0 i).published x (refused st reply.NoKey)) (refused st reply.NoSelector))
-  key_named {c = c} s i done = selector_named s (either (st.shared.key s.0 i).published done (says c reply.NoKey refl))
+  key_named : {c : Call} {x : Answered} (s : SelNo) (k : KeyId) → P c x → P c (cond (st.shared.selector s.0) (cond (was_published (st.shared.key s.0 k.index) k.serial) x (unchanged st reply.NoKey)) (unchanged st reply.NoSelector))
+  key_named {c = c} s k done = selector_named s (either (was_published (st.shared.key s.0 k.index) k.serial) done (says c reply.NoKey refl))
 
-  valid_named : {c : Call} {x : Answered} (s : SelNo) (i : ℕ) → P c x → P c (cond (st.shared.selector s.0) (cond (st.shared.key s.0 i).published (cond (is_valid (st.shared.key s.0 i)) x (refused st reply.CancelledKey)) (refused st reply.NoKey)) (refused st reply.NoSelector))
-  valid_named {c = c} s i done = key_named s i (either (is_valid (st.shared.key s.0 i)) done (says c reply.CancelledKey refl))
+  valid_named : {c : Call} {x : Answered} (s : SelNo) (k : KeyId) → P c x → P c (cond (st.shared.selector s.0) (cond (was_published (st.shared.key s.0 k.index) k.serial) (cond (is_valid_key (st.shared.key s.0 k.index) k.serial) x (unchanged st reply.CancelledKey)) (unchanged st reply.NoKey)) (unchanged st reply.NoSelector))
+  valid_named {c = c} s k done = key_named s k (either (is_valid_key (st.shared.key s.0 k.index) k.serial) done (says c reply.CancelledKey refl))
 
-  pub each_call : (c : Call) → P c (call_of l st me c)
+  pub each_call : (c : Call) → P c (call_of rules l st me c)
   unfolding call_of selector_call channel_call blocking_call is_blocking_call is_open_call is_registered_call key_for_call register_call closec_call cancel_call valid_call interest_call ready_call iset_call ior_call iand_call unselect_call attach_call attachment_call begin_call told_call failed_call wakeup_call interrupt_call interrupted_call close_call close_end_call keys_call selected_call
   each_call call.Selector = of_selector (find (λ s. not (st.shared.selector s)) (below l.selectors))
   each_call (call.Channel kind) = of_channel kind (find (λ c. not (st.shared.chan c).made) (below l.channels))
@@ -173,16 +175,16 @@ module _ (l : Limits) (st : ScriptState) (me : CallerNo) (P : Call → Answered 
       (either (st.shared.chan c.0).blocking (says word reply.IllegalBlockingMode refl)
       (of_register s c ops att (key_of st.shared c.0 s.0))))))
   each_call (call.Closec c) = channel_named c (either (st.shared.chan c.0).closed (says (call.Closec c) reply.Already refl) (h.closec c))
-  each_call (call.Valid s i) = key_named s i (says_whether (call.Valid s i) (is_valid (st.shared.key s.0 i)))
-  each_call (call.Interest s i) = valid_named s i (says (call.Interest s i) (reply.Number (st.shared.interest s.0 i)) refl)
-  each_call (call.Ready s i) = valid_named s i (says (call.Ready s i) (reply.Number (st.shared.mark s.0 i).ready) refl)
-  each_call (call.Iset s i ops) = valid_named s i (either (are_legal_at st.shared s.0 i ops) (h.iset s i ops) (says (call.Iset s i ops) reply.IllegalOps refl))
-  each_call (call.Ior s i ops) = valid_named s i (either (are_legal_at st.shared s.0 i ops) (h.ior s i ops) (says (call.Ior s i ops) reply.IllegalOps refl))
-  each_call (call.Iand s i ops) = valid_named s i (h.iand s i ops)
-  each_call (call.Cancel s i) = key_named s i (h.cancel s i)
-  each_call (call.Unselect s i) = key_named s i (either (in_selected_set st.shared s.0 i) (h.unselect s i) (says (call.Unselect s i) reply.No refl))
-  each_call (call.Attach s i att) = key_named s i (h.attach s i att)
-  each_call (call.Attachment s i) = key_named s i (says (call.Attachment s i) (reply.Number (st.shared.note s.0 i)) refl)
+  each_call (call.Valid s k) = key_named s k (says_whether (call.Valid s k) (is_valid_key (st.shared.key s.0 k.index) k.serial))
+  each_call (call.Interest s k) = valid_named s k (says (call.Interest s k) (reply.Number (st.shared.interest s.0 k.index)) refl)
+  each_call (call.Ready s k) = valid_named s k (says (call.Ready s k) (reply.Number (st.shared.mark s.0 k.index).ready) refl)
+  each_call (call.Iset s k ops) = valid_named s k (either (are_legal_at st.shared s.0 k.index ops) (h.iset s k ops) (says (call.Iset s k ops) reply.IllegalOps refl))
+  each_call (call.Ior s k ops) = valid_named s k (either (are_legal_at st.shared s.0 k.index ops) (h.ior s k ops) (says (call.Ior s k ops) reply.IllegalOps refl))
+  each_call (call.Iand s k ops) = valid_named s k (h.iand s k ops)
+  each_call (call.Cancel s k) = key_named s k (h.cancel s k)
+  each_call (call.Unselect s k) = key_named s k (either (is_in_selected_set st.shared s.0 k) (h.unselect s k) (says (call.Unselect s k) reply.No refl))
+  each_call (call.Attach s k att) = key_named s k (either (fits (st.shared.key s.0 k.index) k.serial) (h.attach s k att) (says (call.Attach s k att) (reply.Number 0) refl))
+  each_call (call.Attachment s k) = key_named s k (says (call.Attachment s k) (reply.Number (cond (fits (st.shared.key s.0 k.index) k.serial) (st.shared.note s.0 k.index) 0)) refl)
   each_call (call.Begin s waiting) = selector_named s (of_begin s waiting (mode_of waiting))
   each_call (call.Told s elapsed pairs) = selector_named s (of_told s elapsed pairs (own_selection st me s.0) refl)
   each_call (call.Failed s) = selector_named s (of_failed s (own_selection st me s.0) refl)
@@ -193,12 +195,12 @@ module _ (l : Limits) (st : ScriptState) (me : CallerNo) (P : Call → Answered 
       selector_named s
       (either (not (is_caller me (st.shared.closer s.0)) || st.shared.entered s.0) (says word reply.NotClosing refl)
       (either (is_some (st.shared.turn s.0)) (says word reply.Busy refl) (h.close_end s)))
-  each_call (call.Keys s) = selector_named s (either (st.shared.gate s.0).shut (says (call.Keys s) reply.ClosedSelector refl) (says_names (call.Keys s) (filter (λ i. in_key_set (st.shared.key s.0 i)) (below (st.shared.keys_mark s.0)))))
-  each_call (call.Selected s) = selector_named s (either (st.shared.gate s.0).shut (says (call.Selected s) reply.ClosedSelector refl) (says_names (call.Selected s) (filter (λ i. in_selected_set st.shared s.0 i) (below (st.shared.keys_mark s.0)))))
+  each_call (call.Keys s) = selector_named s (either (st.shared.gate s.0).shut (says (call.Keys s) reply.ClosedSelector refl) (says_names (call.Keys s) (map (key_at st.shared s.0) (filter (λ i. in_key_set (st.shared.key s.0 i)) (below (st.shared.keys_mark s.0))))))
+  each_call (call.Selected s) = selector_named s (either (st.shared.gate s.0).shut (says (call.Selected s) reply.ClosedSelector refl) (says_names (call.Selected s) (map (key_at st.shared s.0) (filter (λ i. in_selected_set st.shared s.0 i) (below (st.shared.keys_mark s.0))))))
   each_call (call.Interrupt target) = either (nat_lt target.0 l.callers) (h.interrupt target) (says (call.Interrupt target) reply.NoCaller refl)
   each_call call.Interrupted = h.interrupted
 
   -- what holds of the change of each word holds of each call
-  pub holds_of_calls : (c : Call) → P c (seq l st me c)
+  pub holds_of_calls : (c : Call) → P c (seq rules l st me c)
   unfolding seq
   holds_of_calls c = either (nat_lt me.0 l.callers) (each_call c) (says c reply.NoCaller refl)

@@ -4,8 +4,10 @@ use Rattle.std.proofs.lemmas.Bool.{both_ways, cases_eq, cond-true, cond-false, c
 use Rattle.std.proofs.lemmas.Nat.Bits.{bit_at-zero, bit_at_and, bit_at_or, bit_at-lt}
 use Rattle.std.specs.Int.{bit_at}
 use Rattle.nio_base.specs.declared.numbers.CallerNo.{CallerNo}
+use Rattle.nio_base.specs.declared.numbers.KeyId.{KeyId}
 use Rattle.nio_base.specs.declared.numbers.SelNo.{SelNo}
 use Rattle.nio_event.proofs.Put.{put_at_keeps}
+use Rattle.nio_event.specs.State.{unmarked}
 use Rattle.nio_event.specs.declared.call.Call.{Call}
 use Rattle.nio_event.specs.declared.call.Call.TheVariants as call
 use Rattle.nio_event.specs.declared.found.Mark.{Mark}
@@ -13,7 +15,11 @@ use Rattle.nio_plain.proofs.CallLawsCases.{HoldsOfChanges, holds_of_calls}
 use Rattle.nio_plain.specs.CallLaws.{told_of, newly_told, HasBit, GainsOnly, OnlyToldBitsAreSelected, IsGiven, IsToldAndLookedFor, BitsAreToldAndLookedFor}
 use Rattle.nio_plain.specs.ScriptState.{ScriptState, Selection}
 use Rattle.nio_plain.specs.Seq.Answers.{Answered}
-use Rattle.nio_plain.specs.Seq.Selections.{own_selection, all_told, looked_interest, told_bits, marked, unselected}
+use Rattle.nio_plain.specs.Seq.Selections.{own_selection, all_told, looked_interest, told_bits, marked}
+use Rattle.nio_plain.specs.Seq.Names.{key_at, is_same_key}
+use Rattle.nio_plain.specs.Seq.Removing.{unselected}
+use Rattle.nio_plain.specs.declared.rules.Rules.{Rules}
+use Rattle.nio_plain.proofs.Lists.{same-is}
 
 -- bits of a union and of a meet
 one_of_max : (x y : ℕ) → x ≢ 1 → x < 2 → max x y ≡ 1 → y ≡ 1
@@ -61,45 +67,49 @@ after_marking m bits =
     })
     (λ _. record { ready = λ bit has. inr has; selected = λ _ _. (eqb-false bits 0 some, refl) }))
 
+-- the mark of a new key
+cleared : (m : Mark) → GainsOnly m unmarked 0
+cleared m = record { ready = λ bit has. no_bit bit has; selected = λ was is. absurd cc }
+
 -- a mark of the selector t by what its own selection was told, seen from each selector
-after_told : (m : Mark) (s t : ℕ) (own : ℕ → Option Selection) (selection : Selection) (pairs : List (ℕ × ℕ)) (i : ℕ) → own t ≡ Some selection → GainsOnly m (cond (s == t) (marked m (told_bits selection.looked pairs i)) m) (cond (t == s) (told_of (own s) pairs i) 0)
-after_told m s t own selection pairs i h =
-    let bits = told_bits selection.looked pairs i in
+after_told : (m : Mark) (s t : ℕ) (own : ℕ → Option Selection) (selection : Selection) (pairs : List (KeyId × ℕ)) (k : KeyId) → own t ≡ Some selection → GainsOnly m (cond (s == t) (marked m (told_bits selection.looked pairs k)) m) (cond (t == s) (told_of (own s) pairs k) 0)
+after_told m s t own selection pairs k h =
+    let bits = told_bits selection.looked pairs k in
     ⊎_elim
     (λ (e : s ≡ t).
     let now = cond-true (s == t) (marked m bits) m (eq-eqb s t e) in
-    let told = cond-true (t == s) (told_of (own s) pairs i) 0 (eq-eqb t s (sym e)) ∙ (ap (λ k. told_of (own k) pairs i) e ∙ ap (λ o. told_of o pairs i) h) in
-    subst (λ (n : Mark). GainsOnly m n (cond (t == s) (told_of (own s) pairs i) 0)) (sym now)
+    let told = cond-true (t == s) (told_of (own s) pairs k) 0 (eq-eqb t s (sym e)) ∙ (ap (λ n. told_of (own n) pairs k) e ∙ ap (λ o. told_of o pairs k) h) in
+    subst (λ (n : Mark). GainsOnly m n (cond (t == s) (told_of (own s) pairs k) 0)) (sym now)
     (subst (λ (b : ℕ). GainsOnly m (marked m bits) b) (sym told) (after_marking m bits)))
     (λ (ne : s ≡ t → ⊥).
     let now = cond-false (s == t) (marked m bits) m (ne_eqb s t ne) in
-    subst (λ (n : Mark). GainsOnly m n (cond (t == s) (told_of (own s) pairs i) 0)) (sym now) (same m (cond (t == s) (told_of (own s) pairs i) 0)))
+    subst (λ (n : Mark). GainsOnly m n (cond (t == s) (told_of (own s) pairs k) 0)) (sym now) (same m (cond (t == s) (told_of (own s) pairs k) 0)))
     (cases_eq s t)
 
-module _ (st : ScriptState) (me : CallerNo) (s i : ℕ) where
+module _ (rules : Rules) (st : ScriptState) (me : CallerNo) (s i : ℕ) where
   abbrev Gains : Call → Answered → Type 0
   Gains c done = GainsOnly (st.shared.mark s i) (done.left.shared.mark s i) (newly_told st me c s i)
 
   abbrev m : Mark
   m = st.shared.mark s i
 
-  changes : HoldsOfChanges st me Gains
+  changes : HoldsOfChanges rules st me Gains
   changes = record {
     nothing = λ c r _. same m (newly_told st me c s i);
     selector = λ _. same m 0;
     channel = λ _ _. same m 0;
     blocking = λ _ _. same m 0;
-    register = λ _ _ _ _ _ _. same m 0;
+    register = λ t _ _ _ k _. put_at_keeps (λ s' i' n. GainsOnly (st.shared.mark s' i') n 0) st.shared.mark t.0 k.index unmarked (λ _. cleared (st.shared.mark t.0 k.index)) s i (same m 0);
     register_again = λ _ _ _ _ _ _. same m 0;
     closec = λ _. same m 0;
     cancel = λ _ _. same m 0;
     iset = λ _ _ _. same m 0;
     ior = λ _ _ _. same m 0;
     iand = λ _ _ _. same m 0;
-    unselect = λ t j. put_at_keeps (λ s' i' n. GainsOnly (st.shared.mark s' i') n 0) st.shared.mark t.0 j (unselected (st.shared.mark t.0 j)) after_unselecting s i (same m 0);
+    unselect = λ t k. put_at_keeps (λ s' i' n. GainsOnly (st.shared.mark s' i') n 0) st.shared.mark t.0 k.index (unselected (st.shared.mark t.0 k.index)) after_unselecting s i (same m 0);
     attach = λ _ _ _. same m 0;
     begin = λ t _ _ _. after_sweep _ (same m 0);
-    told = λ t elapsed pairs selection count why own. after_sweep _ (after_told m s t.0 (own_selection st me) selection pairs i own);
+    told = λ t elapsed pairs selection count why own. after_sweep _ (after_told m s t.0 (own_selection st me) selection pairs (key_at st.shared s i) own);
     failed = λ _ _ _. same m 0;
     wakeup = λ _. same m 0;
     close = λ _. same m 0;
@@ -109,40 +119,40 @@ module _ (st : ScriptState) (me : CallerNo) (s i : ℕ) where
   }
 
 pub only_told_bits_are_selected : OnlyToldBitsAreSelected
-only_told_bits_are_selected l st me c s i = holds_of_calls l st me (Gains st me s i) (changes st me s i) c
+only_told_bits_are_selected rules l st me c s i = holds_of_calls rules l st me (Gains rules st me s i) (changes rules st me s i) c
 
 -- where the bits come from
-later : {pairs : List (ℕ × ℕ)} {i bit : ℕ} (p : ℕ × ℕ) → IsGiven pairs i bit → IsGiven (p ∷ pairs) i bit
+later : {pairs : List (KeyId × ℕ)} {k : KeyId} {bit : ℕ} (p : KeyId × ℕ) → IsGiven pairs k bit → IsGiven (p ∷ pairs) k bit
 later p given = record { ops = given.ops; pair = (suc given.pair.0, omega arith, given.pair.2); has = given.has }
 
-first : (p : ℕ × ℕ) (pairs : List (ℕ × ℕ)) (i bit : ℕ) → p.0 ≡ i → HasBit p.1 bit → IsGiven (p ∷ pairs) i bit
-first p pairs i bit e has = record { ops = p.1; pair = (0, omega arith, λ j. (e j, p.1)); has = has }
+first : (p : KeyId × ℕ) (pairs : List (KeyId × ℕ)) (k : KeyId) (bit : ℕ) → p.0 ≡ k → HasBit p.1 bit → IsGiven (p ∷ pairs) k bit
+first p pairs k bit e has = record { ops = p.1; pair = (0, omega arith, λ j. (e j, p.1)); has = has }
 
-all_told-given : (pairs : List (ℕ × ℕ)) (i bit : ℕ) → HasBit (all_told pairs i) bit → IsGiven pairs i bit
-all_told-given [] i bit has = no_bit bit has
-all_told-given (p ∷ pairs) i bit has =
+all_told-given : (pairs : List (KeyId × ℕ)) (k : KeyId) (bit : ℕ) → HasBit (all_told pairs k) bit → IsGiven pairs k bit
+all_told-given [] k bit has = no_bit bit has
+all_told-given (p ∷ pairs) k bit has =
     ⊎_elim
-    (here (p.0 == i) refl)
-    (λ more. later p (all_told-given pairs i bit more))
-    (or_bit (cond (p.0 == i) p.1 0) (all_told pairs i) bit has)
+    (here (is_same_key p.0 k) refl)
+    (λ more. later p (all_told-given pairs k bit more))
+    (or_bit (cond (is_same_key p.0 k) p.1 0) (all_told pairs k) bit has)
   where
-    here : (b : Bool) → (p.0 == i) ≡ b → HasBit (cond b p.1 0) bit → IsGiven (p ∷ pairs) i bit
-    here true e h = first p pairs i bit (eqb-true p.0 i e) h
+    here : (b : Bool) → is_same_key p.0 k ≡ b → HasBit (cond b p.1 0) bit → IsGiven (p ∷ pairs) k bit
+    here true e h = first p pairs k bit (same-is p.0 k e) h
     here false e h = no_bit bit h
 
-looked_interest-given : (looked : List (ℕ × ℕ)) (i bit : ℕ) → HasBit (looked_interest looked i) bit → IsGiven looked i bit
-looked_interest-given [] i bit has = no_bit bit has
-looked_interest-given (p ∷ looked) i bit has = here (p.0 == i) refl (looked_interest-given looked i bit) has
+looked_interest-given : (looked : List (KeyId × ℕ)) (k : KeyId) (bit : ℕ) → HasBit (looked_interest looked k) bit → IsGiven looked k bit
+looked_interest-given [] k bit has = no_bit bit has
+looked_interest-given (p ∷ looked) k bit has = here (is_same_key p.0 k) refl (looked_interest-given looked k bit) has
   where
-    here : (b : Bool) → (p.0 == i) ≡ b → (HasBit (looked_interest looked i) bit → IsGiven looked i bit) → HasBit (cond b p.1 (looked_interest looked i)) bit → IsGiven (p ∷ looked) i bit
-    here true e rest h = first p looked i bit (eqb-true p.0 i e) h
+    here : (b : Bool) → is_same_key p.0 k ≡ b → (HasBit (looked_interest looked k) bit → IsGiven looked k bit) → HasBit (cond b p.1 (looked_interest looked k)) bit → IsGiven (p ∷ looked) k bit
+    here true e rest h = first p looked k bit (same-is p.0 k e) h
     here false e rest h = later p (rest h)
 
-told-given : (st : ScriptState) (me : CallerNo) (t : SelNo) (elapsed : Bool) (pairs : List (ℕ × ℕ)) (s i bit : ℕ) (b : Bool) (own : Option Selection) → (t.0 == s) ≡ b → own_selection st me s ≡ own → HasBit (cond b (told_of own pairs i) 0) bit → IsToldAndLookedFor st me (call.Told t elapsed pairs) s i bit
-told-given st me t elapsed pairs s i bit false own e o has = no_bit bit has
-told-given st me t elapsed pairs s i bit true None e o has = no_bit bit has
-told-given st me t elapsed pairs s i bit true (Some selection) e o has =
-    let both = and_bit (all_told pairs i) (looked_interest selection.looked i) bit has in
+told-given : (st : ScriptState) (me : CallerNo) (t : SelNo) (elapsed : Bool) (pairs : List (KeyId × ℕ)) (s : ℕ) (k : KeyId) (bit : ℕ) (b : Bool) (own : Option Selection) → (t.0 == s) ≡ b → own_selection st me s ≡ own → HasBit (cond b (told_of own pairs k) 0) bit → IsToldAndLookedFor st me (call.Told t elapsed pairs) s k bit
+told-given st me t elapsed pairs s k bit false own e o has = no_bit bit has
+told-given st me t elapsed pairs s k bit true None e o has = no_bit bit has
+told-given st me t elapsed pairs s k bit true (Some selection) e o has =
+    let both = and_bit (all_told pairs k) (looked_interest selection.looked k) bit has in
     record {
       name = t;
       elapsed = elapsed;
@@ -151,11 +161,11 @@ told-given st me t elapsed pairs s i bit true (Some selection) e o has =
       called = refl;
       there = eqb-true t.0 s e;
       own = o;
-      told = all_told-given pairs i bit both.0;
-      looked_for = looked_interest-given selection.looked i bit both.1;
+      told = all_told-given pairs k bit both.0;
+      looked_for = looked_interest-given selection.looked k bit both.1;
     }
 
 pub bits_are_told_and_looked_for : BitsAreToldAndLookedFor
 bits_are_told_and_looked_for st me (call.Told t elapsed pairs) s i bit has =
-    told-given st me t elapsed pairs s i bit (t.0 == s) (own_selection st me s) refl refl has
+    told-given st me t elapsed pairs s (key_at st.shared s i) bit (t.0 == s) (own_selection st me s) refl refl has
 bits_are_told_and_looked_for st me _ s i bit has = no_bit bit has

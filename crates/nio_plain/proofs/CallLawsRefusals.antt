@@ -3,28 +3,29 @@ use Rattle.std.proofs.Common.{◌≡◌, Bool, true, false, refl}
 use Rattle.nio_base.specs.declared.numbers.CallerNo.{CallerNo}
 use Rattle.nio_event.specs.declared.call.Call.{Call}
 use Rattle.nio_plain.proofs.CallLawsCases.{HoldsOfChanges, holds_of_calls}
-use Rattle.nio_plain.specs.CallLaws.{is_refusal, RefusalsChangeNothing}
+use Rattle.nio_plain.specs.CallLaws.{refuses, is_without_effect, RefusalsChangeNothing}
 use Rattle.nio_plain.specs.ScriptState.{ScriptState}
 use Rattle.nio_plain.specs.Seq.Answers.{Answered, yes_or_no}
+use Rattle.nio_plain.specs.declared.rules.Rules.{Rules}
 
 abbrev Keeps : ScriptState → Call → Answered → Type 0
-Keeps st c done = is_refusal done.reply ≡ true → done.left ≡ st
+Keeps st c done = is_without_effect c done.reply ≡ true → done.left ≡ st
 
 no_refusal : {P : Type 0} → false ≡ true → P
 no_refusal e = absurd cc
 
-said : {P : Type 0} (b : Bool) → is_refusal (yes_or_no b) ≡ true → P
+said : {P : Type 0} (b : Bool) → refuses (yes_or_no b) ≡ true → P
 said true e = no_refusal e
 said false e = no_refusal e
 
-changes : (st : ScriptState) (me : CallerNo) → HoldsOfChanges st me (Keeps st)
-changes st me = record {
+changes : (rules : Rules) (st : ScriptState) (me : CallerNo) → HoldsOfChanges rules st me (Keeps st)
+changes rules st me = record {
   nothing = λ c r _ e. refl;
   selector = λ s. no_refusal;
   channel = λ kind c. no_refusal;
   blocking = λ c on. no_refusal;
-  register = λ s c ops att i note. no_refusal;
-  register_again = λ s c ops att i note. no_refusal;
+  register = λ s c ops att k note. no_refusal;
+  register_again = λ s c ops att k note. no_refusal;
   closec = λ c. no_refusal;
   cancel = λ s i. no_refusal;
   iset = λ s i ops. no_refusal;
@@ -43,4 +44,4 @@ changes st me = record {
 }
 
 pub refusals_change_nothing : RefusalsChangeNothing
-refusals_change_nothing l st me c = holds_of_calls l st me (Keeps st) (changes st me) c
+refusals_change_nothing rules l st me c = holds_of_calls rules l st me (Keeps st) (changes rules st me) c

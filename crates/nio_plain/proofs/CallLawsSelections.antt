@@ -6,6 +6,7 @@ use Rattle.std.proofs.lemmas.List.{get_or-map, length-map}
 use Rattle.std.proofs.lemmas.List.Elements.{All-map, All-filter, All-push, All-nil, All-weaker, filter_passes, Contains-push, Contains-append_left}
 use Rattle.std.specs.List.{All, Contains, filter}
 use Rattle.nio_base.specs.declared.numbers.CallerNo.{CallerNo}
+use Rattle.nio_base.specs.declared.numbers.KeyId.{KeyId}
 use Rattle.nio_base.specs.declared.numbers.SelNo.{SelNo}
 use Rattle.nio_event.proofs.Put.{put-same, put_gave}
 use Rattle.nio_event.specs.Sets.{in_key_set, in_cancelled_set, is_valid}
@@ -15,27 +16,16 @@ use Rattle.nio_event.specs.declared.call.Call.TheVariants as call
 use Rattle.nio_event.specs.declared.call.Waiting.{Waiting}
 use Rattle.nio_event.specs.declared.found.Mode.{Mode}
 use Rattle.nio_event.specs.declared.found.Stage.{Stage}
+use Rattle.nio_plain.proofs.Found.{below_contains}
 use Rattle.nio_plain.proofs.CallLawsCases.{HoldsOfChanges, holds_of_calls}
 use Rattle.nio_plain.proofs.Places.{put-elsewhere}
 use Rattle.nio_plain.specs.CallLaws.{IsBegunBy, LookedIsAnswered, is_over, OnlyItselfEndsASelection}
 use Rattle.nio_plain.specs.ScriptState.{ScriptState, Selection}
 use Rattle.nio_plain.specs.Seq.Answers.{Answered}
-use Rattle.nio_plain.specs.Seq.Names.{below}
-use Rattle.nio_plain.specs.Seq.Selections.{removed_key, without_cancelled, looked_keys, selection_begun, is_caller, own_selection}
-
--- the numbers below n
-below_all : (n : ℕ) → All (λ i. i < n) (below n)
-below_all zero = All-nil (λ i. i < 0)
-below_all (suc n) =
-    All-push (λ i. i < suc n) (below n) n (All-weaker (λ i. i < n) (λ i. i < suc n) (λ i l. omega arith) (below n) (below_all n)) (omega arith)
-
-below_contains : (n i : ℕ) → i < n → Contains (below n) i
-below_contains zero i l = absurd (omega arith)
-below_contains (suc n) i l =
-    ⊎_elim
-    (λ (e : i ≡ n). subst (λ k. Contains (below n ++ n ∷ []) k) (sym e) (Contains-push (below n) n))
-    (λ (ne : i ≡ n → ⊥). Contains-append_left (below n) (n ∷ []) i (below_contains n i (omega arith)))
-    (cases_eq i n)
+use Rattle.nio_plain.specs.Seq.Names.{below, key_at}
+use Rattle.nio_plain.specs.Seq.Removing.{removed_key}
+use Rattle.nio_plain.specs.declared.rules.Rules.{Rules}
+use Rattle.nio_plain.specs.Seq.Selections.{without_cancelled, looked_keys, selection_begun, is_caller, own_selection}
 
 -- an element that passes is kept, and so is its image
 contains_later : {X : Type 0} (y : X) (xs : List X) (x : X) → Contains xs x → Contains (y ∷ xs) x
@@ -70,22 +60,21 @@ still_valid k set out = by (in_key_set k) k.cancelled set out
     by true true e o = absurd (true≢false o)
     by false b e o = absurd (true≢false (sym e))
 
-swept_valid : (k : Stage) (a b : Bool) → a ≡ true → b ≡ true → in_key_set (cond ((a && b) && in_cancelled_set k) (removed_key k) k) ≡ true → is_valid (cond ((a && b) && in_cancelled_set k) (removed_key k) k) ≡ true
-swept_valid k false b e f set = absurd (true≢false (sym e))
-swept_valid k true false e f set = absurd (true≢false (sym f))
-swept_valid k true true e f set = by (in_cancelled_set k) refl set
+swept_valid : (k : Stage) (b : Bool) → b ≡ true → in_key_set (cond (b && in_cancelled_set k) (removed_key k) k) ≡ true → is_valid (cond (b && in_cancelled_set k) (removed_key k) k) ≡ true
+swept_valid k false e set = absurd (true≢false (sym e))
+swept_valid k true e set = by (in_cancelled_set k) refl set
   where
     by : (c : Bool) → in_cancelled_set k ≡ c → in_key_set (cond c (removed_key k) k) ≡ true → is_valid (cond c (removed_key k) k) ≡ true
     by true o set' = absurd (not_removed k.published set')
     by false o set' = still_valid k set' o
 
 -- a selection that begins
-module _ (st : ScriptState) (me : CallerNo) (t : SelNo) (how : Mode) where
+module _ (rules : Rules) (st : ScriptState) (me : CallerNo) (t : SelNo) (how : Mode) where
   abbrev bound : ℕ
   bound = st.shared.keys_mark t.0
 
   abbrev swept : State
-  swept = without_cancelled st.shared t.0 bound
+  swept = without_cancelled rules st.shared t.0
 
   abbrev in_set : ℕ → Bool
   in_set i = in_key_set (swept.key t.0 i)
@@ -93,24 +82,28 @@ module _ (st : ScriptState) (me : CallerNo) (t : SelNo) (how : Mode) where
   abbrev begun : Selection
   begun = record { mode = how; bound = bound; looked = looked_keys swept t.0 }
 
-  valid_below : (i : ℕ) → i < bound → in_set i ≡ true → is_valid (swept.key t.0 i) ≡ true
-  valid_below i l set =
-      swept_valid (st.shared.key t.0 i) (t.0 == t.0) (nat_lt i bound) (eq-eqb t.0 t.0 refl) (lt-ltb i bound l) set
+  valid_in : (i : ℕ) → in_set i ≡ true → is_valid (swept.key t.0 i) ≡ true
+  valid_in i set = swept_valid (st.shared.key t.0 i) (t.0 == t.0) (eq-eqb t.0 t.0 refl) set
 
-  abbrev IsLooked : ℕ × ℕ → Type 0
-  IsLooked p = (is_valid (swept.key t.0 p.0) ≡ true) × (p.1 ≡ st.shared.interest t.0 p.0)
+  abbrev pair : ℕ → KeyId × ℕ
+  pair i = (key_at swept t.0 i, st.shared.interest t.0 i)
+
+  abbrev IsLooked : KeyId × ℕ → Type 0
+  IsLooked p = (is_valid (swept.key t.0 p.0.index) ≡ true) × (p.1 ≡ st.shared.interest t.0 p.0.index)
 
   looked_valid : All IsLooked (looked_keys swept t.0)
   looked_valid =
       let kept = filter in_set (below bound) in
-      let low = All-filter in_set (λ i. i < bound) (below bound) (below_all bound) in
       let passes = filter_passes in_set (below bound) in
-      All-map IsLooked (λ i. (i, st.shared.interest t.0 i)) kept (λ k d l. (valid_below (get_or kept k d) (low k d l) (passes k d l), refl))
+      All-map IsLooked pair kept (λ k d l. (valid_in (get_or kept k d) (passes k d l), refl))
 
-  looked_all : (i : ℕ) → i < bound → in_set i ≡ true → Contains (looked_keys swept t.0) (i, st.shared.interest t.0 i)
+  looked_present : All (λ (p : KeyId × ℕ). p.0 ≡ key_at swept t.0 p.0.index) (looked_keys swept t.0)
+  looked_present = All-map (λ (p : KeyId × ℕ). p.0 ≡ key_at swept t.0 p.0.index) pair (filter in_set (below bound)) (λ k d l. refl)
+
+  looked_all : (i : ℕ) → i < bound → in_set i ≡ true → Contains (looked_keys swept t.0) (pair i)
   looked_all i l set =
       let there = below_contains bound i l in
-      map-contains (λ i. (i, st.shared.interest t.0 i)) (filter in_set (below bound)) i (filter-contains in_set (below bound) i there.0 there.1 there.2 set)
+      map-contains pair (filter in_set (below bound)) i (filter-contains in_set (below bound) i there.0 there.1 there.2 set)
 
   own_begun : cond (is_caller me (put st.shared.turn t.0 (Some me) t.0)) (put st.selection t.0 (Some begun) t.0) None ≡ Some begun
   own_begun =
@@ -118,7 +111,7 @@ module _ (st : ScriptState) (me : CallerNo) (t : SelNo) (how : Mode) where
       (ap (is_caller me) (put-same st.shared.turn t.0 (Some me)) ∙ eq-eqb me.0 me.0 refl)
       ∙ put-same st.selection t.0 (Some begun)
 
-  is_begun : (waiting : Waiting) → IsBegunBy me (call.Begin t waiting) (selection_begun st me t.0 how) t.0 begun
+  is_begun : (waiting : Waiting) → IsBegunBy me (call.Begin t waiting) (selection_begun rules st me t.0 how) t.0 begun
   is_begun waiting = record {
     name = t;
     waiting = waiting;
@@ -126,6 +119,7 @@ module _ (st : ScriptState) (me : CallerNo) (t : SelNo) (how : Mode) where
     there = refl;
     own = own_begun;
     answered = refl;
+    present = looked_present;
     valid = looked_valid;
     all = looked_all;
   }
@@ -133,7 +127,7 @@ module _ (st : ScriptState) (me : CallerNo) (t : SelNo) (how : Mode) where
 some_is : {A : Type 0} {x y : A} → Some x ≡ Some y → x ≡ y
 some_is e = cc
 
-module _ (st : ScriptState) (me : CallerNo) (s : ℕ) (selection : Selection) where
+module _ (rules : Rules) (st : ScriptState) (me : CallerNo) (s : ℕ) (selection : Selection) where
   abbrev Begun : Call → Answered → Type 0
   Begun c done = done.left.selection s ≡ Some selection → (st.selection s ≡ Some selection) ⊎ IsBegunBy me c done s selection
 
@@ -144,19 +138,19 @@ module _ (st : ScriptState) (me : CallerNo) (s : ℕ) (selection : Selection) wh
   over : (t : ℕ) → put st.selection t None s ≡ Some selection → st.selection s ≡ Some selection
   over t e = put_gave (λ _ o. o ≡ Some selection) st.selection t None (λ none. absurd cc) s e
 
-  by_begin : (t : SelNo) (waiting : Waiting) (how : Mode) → Begun (call.Begin t waiting) (selection_begun st me t.0 how)
+  by_begin : (t : SelNo) (waiting : Waiting) (how : Mode) → Begun (call.Begin t waiting) (selection_begun rules st me t.0 how)
   by_begin t waiting how now =
-      let new = begun st me t how in
-      let done = selection_begun st me t.0 how in
+      let new = begun rules st me t how in
+      let done = selection_begun rules st me t.0 how in
       ⊎_elim
       (λ (e : s ≡ t.0).
       let same : new ≡ selection = some_is (sym (put-same st.selection t.0 (Some new)) ∙ (ap (put st.selection t.0 (Some new)) (sym e) ∙ now)) in
       inr (subst (λ (n : ℕ). IsBegunBy me (call.Begin t waiting) done n selection) (sym e)
-      (subst (λ (x : Selection). IsBegunBy me (call.Begin t waiting) done t.0 x) same (is_begun st me t how waiting))))
+      (subst (λ (x : Selection). IsBegunBy me (call.Begin t waiting) done t.0 x) same (is_begun rules st me t how waiting))))
       (λ (ne : s ≡ t.0 → ⊥). inl (sym (put-elsewhere st.selection t.0 s (Some new) ne) ∙ now))
       (cases_eq s t.0)
 
-  changes : HoldsOfChanges st me Begun
+  changes : HoldsOfChanges rules st me Begun
   changes = record {
     nothing = λ _ _ _. before;
     selector = λ _. before;
@@ -182,7 +176,7 @@ module _ (st : ScriptState) (me : CallerNo) (s : ℕ) (selection : Selection) wh
   }
 
 pub looked_is_answered : LookedIsAnswered
-looked_is_answered l st me c s selection = holds_of_calls l st me (Begun st me s selection) (changes st me s selection) c
+looked_is_answered rules l st me c s selection = holds_of_calls rules l st me (Begun rules st me s selection) (changes rules st me s selection) c
 
 -- whoever has the turn
 some_caller : (me : CallerNo) (o : Option CallerNo) → is_caller me o ≡ true → is_some o ≡ true
@@ -198,7 +192,7 @@ has_turn : {selection : Selection} (b : Bool) (o : Option Selection) → cond b 
 has_turn true o e = refl
 has_turn false o e = absurd cc
 
-module _ (st : ScriptState) (me other : CallerNo) (s : ℕ) (selection : Selection) (own : own_selection st me s ≡ Some selection) where
+module _ (rules : Rules) (st : ScriptState) (me other : CallerNo) (s : ℕ) (selection : Selection) (own : own_selection st me s ≡ Some selection) where
   abbrev Stays : Call → Answered → Type 0
   Stays c done = (own_selection done.left me s ≡ Some selection) ⊎ ((other.0 ≡ me.0) × (is_over s c done.reply ≡ true))
 
@@ -214,11 +208,11 @@ module _ (st : ScriptState) (me other : CallerNo) (s : ℕ) (selection : Selecti
       ap (λ (c : Option CallerNo). cond (is_caller me c) (put st.selection t x s) None) (put-elsewhere st.shared.turn t s o ne)
       ∙ (ap (λ (y : Option Selection). cond (is_caller me (st.shared.turn s)) y None) (put-elsewhere st.selection t s x ne) ∙ own)
 
-  begins : (t : SelNo) (waiting : Waiting) (how : Mode) → is_some (st.shared.turn t.0) ≡ false → Stays (call.Begin t waiting) (selection_begun st other t.0 how)
+  begins : (t : SelNo) (waiting : Waiting) (how : Mode) → is_some (st.shared.turn t.0) ≡ false → Stays (call.Begin t waiting) (selection_begun rules st other t.0 how)
   begins t waiting how free =
       ⊎_elim
       (λ (e : s ≡ t.0). absurd (both_ways (is_some (st.shared.turn t.0)) free (some_caller me (st.shared.turn t.0) (ap (λ k. is_caller me (st.shared.turn k)) (sym e) ∙ turn))))
-      (λ (ne : s ≡ t.0 → ⊥). inl (elsewhere t.0 (Some other) (Some (begun st other t how)) ne))
+      (λ (ne : s ≡ t.0 → ⊥). inl (elsewhere t.0 (Some other) (Some (begun rules st other t how)) ne))
       (cases_eq s t.0)
 
   -- a call that ends the selection of the caller that has the turn
@@ -231,7 +225,7 @@ module _ (st : ScriptState) (me other : CallerNo) (s : ℕ) (selection : Selecti
       (λ (ne : s ≡ t → ⊥). inl (elsewhere t None None ne))
       (cases_eq s t)
 
-  changes_stay : HoldsOfChanges st other Stays
+  changes_stay : HoldsOfChanges rules st other Stays
   changes_stay = record {
     nothing = λ _ _ _. stays;
     selector = λ _. stays;
@@ -257,5 +251,5 @@ module _ (st : ScriptState) (me other : CallerNo) (s : ℕ) (selection : Selecti
   }
 
 pub only_itself_ends_a_selection : OnlyItselfEndsASelection
-only_itself_ends_a_selection l st me other c s selection own =
-    holds_of_calls l st other (Stays st me other s selection own) (changes_stay st me other s selection own) c
+only_itself_ends_a_selection rules l st me other c s selection own =
+    holds_of_calls rules l st other (Stays rules st me other s selection own) (changes_stay rules st me other s selection own) c

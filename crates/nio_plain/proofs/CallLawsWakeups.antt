@@ -18,7 +18,8 @@ use Rattle.nio_plain.specs.Answer.{left_from}
 use Rattle.nio_plain.specs.CallLaws.{is_woken, is_wakeup, is_end, WakeupsArePending, FurtherWakeupsChangeNothing, WakeupsAreAnswered, NoneEnds, WakeupsActAsOne}
 use Rattle.nio_plain.specs.ScriptState.{ScriptState}
 use Rattle.nio_plain.specs.Seq.{call_of, seq}
-use Rattle.nio_plain.specs.Seq.Answers.{Answered, answered, refused}
+use Rattle.nio_plain.specs.Seq.Answers.{Answered, answered, unchanged}
+use Rattle.nio_plain.specs.declared.rules.Rules.{Rules}
 use Rattle.nio_plain.specs.Seq.Wakeups.{wakeup_call}
 
 -- no wakeup and no end
@@ -39,7 +40,7 @@ no_end : (s : ℕ) (c : Call) (r : Reply) → may_keep r ≡ true → is_end s c
 no_end s (call.Told t elapsed pairs) (reply.Selected count why) keeps = absurd cc
 no_end s _ _ keeps = refl
 
-module _ (st : ScriptState) (me : CallerNo) (s : ℕ) where
+module _ (rules : Rules) (st : ScriptState) (me : CallerNo) (s : ℕ) where
   abbrev Pending : Call → Answered → Type 0
   Pending c done = is_woken done.left s ≡ (is_wakeup s c done.reply || (is_woken st s && not (is_end s c done.reply)))
 
@@ -49,7 +50,7 @@ module _ (st : ScriptState) (me : CallerNo) (s : ℕ) where
   same : w ≡ (false || (w && not false))
   same = kept w
 
-  nothing : (c : Call) (r : Reply) → may_keep r ≡ true → Pending c (refused st r)
+  nothing : (c : Call) (r : Reply) → may_keep r ≡ true → Pending c (unchanged st r)
   nothing c r keeps =
       same ∙ (ap (λ b. b || (w && not false)) (sym (no_wakeup s c r keeps)) ∙ ap (λ b. is_wakeup s c r || (w && not b)) (sym (no_end s c r keeps)))
 
@@ -78,7 +79,7 @@ module _ (st : ScriptState) (me : CallerNo) (s : ℕ) where
   by_close t =
       put_kept (λ (g : GateWord). g.woken) st.shared.gate t (record (st.shared.gate t) { shut = true }) s refl ∙ same
 
-  changes : HoldsOfChanges st me Pending
+  changes : HoldsOfChanges rules st me Pending
   changes = record {
     nothing = nothing;
     selector = λ _. same;
@@ -104,7 +105,7 @@ module _ (st : ScriptState) (me : CallerNo) (s : ℕ) where
   }
 
 pub wakeups_are_pending : WakeupsArePending
-wakeups_are_pending l st me c s = holds_of_calls l st me (Pending st me s) (changes st me s) c
+wakeups_are_pending rules l st me c s = holds_of_calls rules l st me (Pending rules st me s) (changes rules st me s) c
 
 -- a wakeup, by whether there are its caller and its selector
 module _ (st : ScriptState) (s : SelNo) where
@@ -112,11 +113,11 @@ module _ (st : ScriptState) (s : SelNo) where
   done = answered st reply.«Ok» (with_gate st.shared s.0 (record (st.shared.gate s.0) { woken = true }))
 
   abbrev by_names : Bool → Bool → Answered
-  by_names caller selector = cond caller (cond selector done (refused st reply.NoSelector)) (refused st reply.NoCaller)
+  by_names caller selector = cond caller (cond selector done (unchanged st reply.NoSelector)) (unchanged st reply.NoCaller)
 
-  wakeup-is : (l : Limits) (me : CallerNo) → seq l st me (call.Wakeup s) ≡ by_names (nat_lt me.0 l.callers) (st.shared.selector s.0)
+  wakeup-is : (rules : Rules) (l : Limits) (me : CallerNo) → seq rules l st me (call.Wakeup s) ≡ by_names (nat_lt me.0 l.callers) (st.shared.selector s.0)
   unfolding seq call_of wakeup_call
-  wakeup-is l me = refl
+  wakeup-is rules l me = refl
 
   woken_as_before : is_woken st s.0 ≡ true → (a b : Bool) → (by_names a b).left ≡ st
   woken_as_before h true true =
@@ -131,31 +132,31 @@ module _ (st : ScriptState) (s : SelNo) where
   answered_where false b e f = absurd cc
 
 pub wakeups_are_answered : WakeupsAreAnswered
-wakeups_are_answered l st me s below made =
-    ap (λ (a : Answered). a.reply) (wakeup-is st s l me) ∙ answered_where st s (nat_lt me.0 l.callers) (st.shared.selector s.0) (lt-ltb me.0 l.callers below) made
+wakeups_are_answered rules l st me s below made =
+    ap (λ (a : Answered). a.reply) (wakeup-is st s rules l me) ∙ answered_where st s (nat_lt me.0 l.callers) (st.shared.selector s.0) (lt-ltb me.0 l.callers below) made
 
 pub further_wakeups_change_nothing : FurtherWakeupsChangeNothing
-further_wakeups_change_nothing l st me s h =
-    ap (λ (a : Answered). a.left) (wakeup-is st s l me) ∙ woken_as_before st s h (nat_lt me.0 l.callers) (st.shared.selector s.0)
+further_wakeups_change_nothing rules l st me s h =
+    ap (λ (a : Answered). a.left) (wakeup-is st s rules l me) ∙ woken_as_before st s h (nat_lt me.0 l.callers) (st.shared.selector s.0)
 
 -- over lists of calls
-left_from-append : (l : Limits) (st : ScriptState) (xs ys : List ScriptCall) → left_from l st (xs ++ ys) ≡ left_from l (left_from l st xs) ys
-left_from-append l st [] ys = refl
-left_from-append l st (x ∷ xs) ys = left_from-append l (seq l st x.caller x.call).left xs ys
+left_from-append : (rules : Rules) (l : Limits) (st : ScriptState) (xs ys : List ScriptCall) → left_from rules l st (xs ++ ys) ≡ left_from rules l (left_from rules l st xs) ys
+left_from-append rules l st [] ys = refl
+left_from-append rules l st (x ∷ xs) ys = left_from-append rules l (seq rules l st x.caller x.call).left xs ys
 
-stays_through : (l : Limits) (st : ScriptState) (s : ℕ) (calls : List ScriptCall) → NoneEnds l st s calls → is_woken st s ≡ true → is_woken (left_from l st calls) s ≡ true
-stays_through l st s [] none h = h
-stays_through l st s (c ∷ calls) none h =
-    let done = seq l st c.caller c.call in
+stays_through : (rules : Rules) (l : Limits) (st : ScriptState) (s : ℕ) (calls : List ScriptCall) → NoneEnds rules l st s calls → is_woken st s ≡ true → is_woken (left_from rules l st calls) s ≡ true
+stays_through rules l st s [] none h = h
+stays_through rules l st s (c ∷ calls) none h =
+    let done = seq rules l st c.caller c.call in
     let stays : (is_woken st s && not (is_end s c.call done.reply)) ≡ true = and_from (is_woken st s) (not (is_end s c.call done.reply)) h (ap not none.0) in
-    stays_through l done.left s calls none.1
-    (wakeups_are_pending l st c.caller c.call s ∙ or_right (is_wakeup s c.call done.reply) (is_woken st s && not (is_end s c.call done.reply)) stays)
+    stays_through rules l done.left s calls none.1
+    (wakeups_are_pending rules l st c.caller c.call s ∙ or_right (is_wakeup s c.call done.reply) (is_woken st s && not (is_end s c.call done.reply)) stays)
 
 pub wakeups_act_as_one : WakeupsActAsOne
-wakeups_act_as_one l st s first further between later wakeup none called =
-    let done = seq l st first.caller first.call in
-    let mid = left_from l done.left between in
-    let woken : is_woken done.left s.0 ≡ true = wakeups_are_pending l st first.caller first.call s.0 ∙ or_left (is_wakeup s.0 first.call done.reply) (is_woken st s.0 && not (is_end s.0 first.call done.reply)) wakeup in
-    let pending = stays_through l done.left s.0 between none.1 woken in
-    let same : (seq l mid further.caller further.call).left ≡ mid = ap (λ c. (seq l mid further.caller c).left) called ∙ further_wakeups_change_nothing l mid further.caller s pending in
-    left_from-append l done.left between (further ∷ later) ∙ (ap (λ x. left_from l x later) same ∙ sym (left_from-append l done.left between later))
+wakeups_act_as_one rules l st s first further between later wakeup none called =
+    let done = seq rules l st first.caller first.call in
+    let mid = left_from rules l done.left between in
+    let woken : is_woken done.left s.0 ≡ true = wakeups_are_pending rules l st first.caller first.call s.0 ∙ or_left (is_wakeup s.0 first.call done.reply) (is_woken st s.0 && not (is_end s.0 first.call done.reply)) wakeup in
+    let pending = stays_through rules l done.left s.0 between none.1 woken in
+    let same : (seq rules l mid further.caller further.call).left ≡ mid = ap (λ c. (seq rules l mid further.caller c).left) called ∙ further_wakeups_change_nothing rules l mid further.caller s pending in
+    left_from-append rules l done.left between (further ∷ later) ∙ (ap (λ x. left_from rules l x later) same ∙ sym (left_from-append rules l done.left between later))

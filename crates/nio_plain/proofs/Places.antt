@@ -1,5 +1,5 @@
 -- What a vector holds by the place, after a write and after a push.
-use Rattle.std.proofs.Common.{◌≡◌, ℕ, zero, suc, ◌<◌, ◌≤◌, eqb, ◌&&◌, List, [], ◌∷◌, ◌++◌, map, length, get_or, set, refl, sym, ap, ◌∙◌, arith, ⊎_elim}
+use Rattle.std.proofs.Common.{◌≡◌, ℕ, Bool, true, false, zero, suc, ◌<◌, ◌≤◌, eqb, ◌&&◌, List, [], ◌∷◌, ◌++◌, map, length, get_or, set, refl, sym, ap, ◌∙◌, arith, ⊎_elim}
 use Rattle.std.proofs.lemmas.Bool.{cases_eq, cond-true, cond-false, eq-eqb, ne_eqb, cases_lt, and_from, and_left, and_right}
 use Rattle.std.proofs.lemmas.List.{get_or-set_same, get_or-set_other, get_or-map, map-set, map_push, get_or_push, get_or_past, length_push, get_or_append_left, length-map as map_length, map-id, get_or-replicate, length-replicate}
 use mathlib.Core.Path.{fun_ext}
@@ -116,3 +116,10 @@ places-id none xs n = ap (λ ys. get_or ys n none) (map-id xs)
 -- what stands there already is put there
 pub put_at_same : {A : Type 0} (f : ℕ → ℕ → A) (s i : ℕ) (x : A) → f s i ≡ x → put_at f s i x ≡ f
 put_at_same f s i x e = sym (put_at_is f f s i x e (λ t j h. refl))
+
+-- a function that is put at one number: by what it is there and elsewhere
+pub put_by : {B : Type 0} (f : ℕ → B) (s : ℕ) (h : Bool → ℕ → B) → ((t : ℕ) → h false t ≡ f t) → put f s (h true s) ≡ (λ t. h (eqb t s) t)
+put_by f s h other =
+    sym (put_is (λ t. h (eqb t s) t) f s (h true s)
+    (ap (λ b. h b s) (eq-eqb s s refl))
+    (λ t ne. ap (λ b. h b t) (ne_eqb t s ne) ∙ other t))

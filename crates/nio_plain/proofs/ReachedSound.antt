@@ -1,32 +1,39 @@
 -- What holds of every state that a script leaves, part by part, and what the changes of a state keep
 -- of it.
-use Rattle.std.proofs.Common.{◌≡◌, ℕ, ◌==◌, ◌<◌, Bool, true, false, cond, Option, Some, is_some, refl, sym, ap, ◌∙◌, subst, eqb-true}
-use Rattle.std.proofs.lemmas.Bool.{and_parts, both_ways, false_from_ne_true}
+use Rattle.std.proofs.Common.{◌≡◌, ℕ, ◌==◌, ◌<◌, ◌≤◌, nat_lt, ◌&&◌, ◌||◌, Bool, true, false, cond, Option, Some, is_some, refl, sym, ap, ◌∙◌, subst, eqb-true}
+use Rattle.std.proofs.lemmas.Bool.{and_parts, and_from, both_ways, false_from_ne_true}
 use Rattle.nio_base.specs.declared.limits.Limits.{Limits}
 use Rattle.nio_base.specs.declared.numbers.CallerNo.{CallerNo}
-use Rattle.nio_event.specs.Sets.{in_key_set, is_valid}
+use Rattle.nio_base.specs.declared.numbers.KeyId.{KeyId}
+use Rattle.nio_event.specs.Sets.{fits, in_key_set, is_valid, was_published, is_in_key_set, is_valid_key}
 use Rattle.nio_event.specs.declared.found.Chan.{Chan}
 use Rattle.nio_event.specs.declared.found.Mark.{Mark}
 use Rattle.nio_event.specs.declared.found.Stage.{Stage}
 use Rattle.nio_event.specs.declared.reply.Reply.{Reply}
-use Rattle.nio_plain.specs.ScriptState.{ScriptState, Selection, script_opening}
+use Rattle.nio_plain.specs.ScriptState.{ScriptState, Selection, script_opening, with_shared}
 use Rattle.nio_plain.specs.Seq.Answers.{Answered}
 use Rattle.nio_plain.specs.Seq.Cancelling.{cancelled_key}
-use Rattle.nio_plain.specs.Seq.Selections.{removed_key, looked_interest}
+use Rattle.nio_plain.specs.Seq.Removing.{removed_key}
+use Rattle.nio_plain.specs.Seq.Selections.{is_looked}
+use Rattle.nio_plain.specs.declared.rules.Rules.{Rules}
+use Rattle.nio_plain.specs.declared.rules.Rules.TheVariants.{First}
 
 -- ---- the parts
 
--- a published key is claimed, stands below its selector's mark, and its selector is made
+-- a published key is claimed, stands below its selector's mark, and its selector is made; an index with no
+-- published key has serial 0
 pub record IndexesSound (selector : ℕ → Bool) (keys_mark : ℕ → ℕ) (key : ℕ → ℕ → Stage) : Type 0 where
   pub claimed : (s i : ℕ) → (key s i).published ≡ true → (key s i).claimed ≡ true
   pub below : (s i : ℕ) → (key s i).published ≡ true → i < keys_mark s
   pub made : (s i : ℕ) → (key s i).published ≡ true → selector s ≡ true
+  pub fresh : (s i : ℕ) → (key s i).published ≡ false → (key s i).serial ≡ 0
 
--- what is noted for a channel is a key of it, and each key of a key set is noted for its channel
-pub record NotesSound (noted : ℕ → ℕ → Option ℕ) (key : ℕ → ℕ → Stage) : Type 0 where
-  pub published : (c s i : ℕ) → noted c s ≡ Some i → (key s i).published ≡ true
-  pub channel : (c s i : ℕ) → noted c s ≡ Some i → (key s i).chan.0 ≡ c
-  pub in_set : (s i : ℕ) → in_key_set (key s i) ≡ true → noted (key s i).chan.0 s ≡ Some i
+-- what is noted for a channel was published, and is a key of it while it is in the key set; and each key
+-- of a key set is noted for its channel
+pub record NotesSound (noted : ℕ → ℕ → Option KeyId) (key : ℕ → ℕ → Stage) : Type 0 where
+  pub published : (c s : ℕ) (k : KeyId) → noted c s ≡ Some k → was_published (key s k.index) k.serial ≡ true
+  pub channel : (c s : ℕ) (k : KeyId) → noted c s ≡ Some k → is_in_key_set (key s k.index) k.serial ≡ true → (key s k.index).chan.0 ≡ c
+  pub in_set : (s i : ℕ) → in_key_set (key s i) ≡ true → noted (key s i).chan.0 s ≡ Some (record { index = i; serial = (key s i).serial })
 
 -- the channel of a published key is made, it is non-blocking while the key is in the key set, and open
 -- while the key is valid
@@ -51,34 +58,49 @@ pub record ClosingSound (shut : Bool) (closer : Option CallerNo) (entered : Bool
 -- of one selector: a selection in progress has the turn, and what it looks at is in the key set
 pub record LookSound (selection : Option Selection) (turn : Option CallerNo) (key : ℕ → Stage) : Type 0 where
   pub has_turn : is_some selection ≡ true → is_some turn ≡ true
-  pub in_set : (x : Selection) → selection ≡ Some x → (i : ℕ) → (looked_interest x.looked i ≡ 0 → ⊥) → in_key_set (key i) ≡ true
+  pub in_set : (x : Selection) → selection ≡ Some x → (k : KeyId) → is_looked x.looked k ≡ true → is_in_key_set (key k.index) k.serial ≡ true
+
+-- of one selector: what a selection in progress looks at is below its bound, and by the first rules it looks
+-- at each key of the key set there
+pub record BoundSound (rules : Rules) (selection : Option Selection) (keys_mark : ℕ) (key : ℕ → Stage) : Type 0 where
+  pub within : (x : Selection) → selection ≡ Some x → x.bound ≤ keys_mark
+  pub below : (x : Selection) → selection ≡ Some x → (k : KeyId) → is_looked x.looked k ≡ true → k.index < x.bound
+  pub all : rules ≡ First → (x : Selection) → selection ≡ Some x → (i : ℕ) → i < x.bound → in_key_set (key i) ≡ true → is_looked x.looked (record { index = i; serial = (key i).serial }) ≡ true
+
+-- of all indexes: a free one has no key in the key set, and by the first rules none is free
+pub record FreeSound (rules : Rules) (free : ℕ → ℕ → Bool) (key : ℕ → ℕ → Stage) : Type 0 where
+  pub out : (s i : ℕ) → free s i ≡ true → in_key_set (key s i) ≡ false
+  pub none : rules ≡ First → (s i : ℕ) → free s i ≡ false
 
 -- of all keys
-pub record KeysSound (l : Limits) (selector : ℕ → Bool) (keys_mark : ℕ → ℕ) (noted : ℕ → ℕ → Option ℕ) (chan : ℕ → Chan) (key : ℕ → ℕ → Stage) : Type 0 where
+pub record KeysSound (l : Limits) (selector : ℕ → Bool) (keys_mark : ℕ → ℕ) (noted : ℕ → ℕ → Option KeyId) (chan : ℕ → Chan) (key : ℕ → ℕ → Stage) : Type 0 where
   pub selectors : (s : ℕ) → selector s ≡ true → s < l.selectors
   pub indexes : IndexesSound selector keys_mark key
   pub notes : NotesSound noted key
   pub channels : ChannelsSound chan key
   pub cancelled : CancelledSound key
 
-pub record Sound (l : Limits) (st : ScriptState) : Type 0 where
+pub record Sound (rules : Rules) (l : Limits) (st : ScriptState) : Type 0 where
   pub keys : KeysSound l st.shared.selector st.shared.keys_mark st.shared.noted st.shared.chan st.shared.key
+  pub free : FreeSound rules st.shared.free st.shared.key
   pub selected : SelectedSound st.shared.key st.shared.mark
   pub closings : (s : ℕ) → ClosingSound (st.shared.gate s).shut (st.shared.closer s) (st.shared.entered s) (st.shared.key s)
   pub looks : (s : ℕ) → LookSound (st.selection s) (st.shared.turn s) (st.shared.key s)
+  pub bounds : (s : ℕ) → BoundSound rules (st.selection s) (st.shared.keys_mark s) (st.shared.key s)
 
-pub sound-opening : (l : Limits) → Sound l script_opening
-sound-opening l = record {
+pub sound-opening : (rules : Rules) (l : Limits) → Sound rules l script_opening
+sound-opening rules l = record {
   keys = record {
     selectors = λ s h. absurd cc;
     indexes = record {
       claimed = λ s i h. absurd cc;
       below = λ s i h. absurd cc;
       made = λ s i h. absurd cc;
+      fresh = λ s i h. refl;
     };
     notes = record {
-      published = λ c s i h. absurd cc;
-      channel = λ c s i h. absurd cc;
+      published = λ c s k h. absurd cc;
+      channel = λ c s k h. absurd cc;
       in_set = λ s i h. absurd cc;
     };
     channels = record {
@@ -88,6 +110,7 @@ sound-opening l = record {
     };
     cancelled = λ s i h. absurd cc;
   };
+  free = record { out = λ s i h. refl; none = λ e s i. refl };
   selected = λ s i h. absurd cc;
   closings = λ s. record {
     closer_shut = λ h. absurd cc;
@@ -96,33 +119,39 @@ sound-opening l = record {
   };
   looks = λ s. record {
     has_turn = λ h. absurd cc;
-    in_set = λ x h i l. absurd cc;
+    in_set = λ x h k l. absurd cc;
+  };
+  bounds = λ s. record {
+    within = λ x h. absurd cc;
+    below = λ x h k l. absurd cc;
+    all = λ e x h i l k. absurd cc;
   };
 }
 
 -- ---- what stays
 
--- a published key that isn't valid
-pub record IsInvalid (k : Stage) : Type 0 where
-  pub published : k.published ≡ true
-  pub invalid : is_valid k ≡ false
+-- a key that was published and isn't valid
+pub record IsInvalid (k : Stage) (serial : ℕ) : Type 0 where
+  pub published : was_published k serial ≡ true
+  pub invalid : is_valid_key k serial ≡ false
 
--- an invalid key stays so, and so does a selector whose closing has ended
+-- a published key stays so, an invalid one stays invalid, and so does a selector whose closing has ended
 pub record Stays (key after : ℕ → ℕ → Stage) (entered ended : ℕ → Bool) : Type 0 where
-  pub invalid : (s i : ℕ) → IsInvalid (key s i) → IsInvalid (after s i)
+  pub published : (s i serial : ℕ) → was_published (key s i) serial ≡ true → was_published (after s i) serial ≡ true
+  pub invalid : (s i serial : ℕ) → IsInvalid (key s i) serial → IsInvalid (after s i) serial
   pub closed : (s : ℕ) → entered s ≡ true → ended s ≡ true
 
 -- a call leaves a sound state, and ends nothing of what stays
-pub record Keeps (l : Limits) (st : ScriptState) (a : Answered) : Type 0 where
-  pub sound : Sound l a.left
+pub record Keeps (rules : Rules) (l : Limits) (st : ScriptState) (a : Answered) : Type 0 where
+  pub sound : Sound rules l a.left
   pub stays : Stays st.shared.key a.left.shared.key st.shared.entered a.left.shared.entered
 
 pub same_stays : (key : ℕ → ℕ → Stage) (entered : ℕ → Bool) → Stays key key entered entered
-same_stays key entered = record { invalid = λ s i h. h; closed = λ s h. h }
+same_stays key entered = record { published = λ s i q h. h; invalid = λ s i q h. h; closed = λ s h. h }
 
--- a refusal changes nothing
-pub keeps_refused : (l : Limits) (st : ScriptState) (r : Reply) → Sound l st → Keeps l st (record { reply = r; left = st })
-keeps_refused l st r sound = record { sound = sound; stays = same_stays st.shared.key st.shared.entered }
+-- a call that changes nothing
+pub keeps_unchanged : (rules : Rules) (l : Limits) (st : ScriptState) (r : Reply) → Sound rules l st → Keeps rules l st (record { reply = r; left = st })
+keeps_unchanged rules l st r sound = record { sound = sound; stays = same_stays st.shared.key st.shared.entered }
 
 pub some_same : {A : Type 0} (x y : A) → ◌≡◌ {A = Option A} (Some x) (Some y) → x ≡ y
 some_same x y e = cc
@@ -146,6 +175,7 @@ here_or_there s P here there t = at (t == s) refl
 pub record Aged (k after : Stage) : Type 0 where
   pub claimed : after.claimed ≡ k.claimed
   pub published : after.published ≡ k.published
+  pub serial : after.serial ≡ k.serial
   pub chan : after.chan ≡ k.chan
   pub in_set : in_key_set after ≡ true → in_key_set k ≡ true
   pub valid : is_valid after ≡ true → is_valid k ≡ true
@@ -155,6 +185,7 @@ pub aged-same : (k : Stage) → Aged k k
 aged-same k = record {
   claimed = refl;
   published = refl;
+  serial = refl;
   chan = refl;
   in_set = λ h. h;
   valid = λ h. h;
@@ -171,6 +202,7 @@ pub aged-cancelled : (k : Stage) → in_key_set k ≡ true → Aged k (cancelled
 aged-cancelled k in_set = record {
   claimed = refl;
   published = refl;
+  serial = refl;
   chan = refl;
   in_set = λ h. h;
   valid = λ h. absurd (not_valid_cancelled k h);
@@ -186,6 +218,7 @@ pub aged-removed : (k : Stage) → Aged k (removed_key k)
 aged-removed k = record {
   claimed = refl;
   published = refl;
+  serial = refl;
   chan = refl;
   in_set = λ h. absurd (not_in_set_removed k h);
   valid = λ h. absurd (not_in_set_removed k (and_parts (in_key_set (removed_key k)) true h).0);
@@ -196,11 +229,25 @@ aged-removed k = record {
 pub aged-out : (k after : Stage) → Aged k after → in_key_set k ≡ false → in_key_set after ≡ false
 aged-out k after aged out = false_from_ne_true (in_key_set after) (λ h. both_ways (in_key_set k) out (aged.in_set h))
 
-pub aged-invalid : (k after : Stage) → Aged k after → IsInvalid k → IsInvalid after
-aged-invalid k after aged h = record {
-  published = aged.published ∙ h.published;
-  invalid = false_from_ne_true (is_valid after) (λ v. both_ways (is_valid k) h.invalid (aged.valid v));
-}
+module _ (k after : Stage) (aged : Aged k after) where
+  pub aged-fits : (q : ℕ) → fits after q ≡ fits k q
+  aged-fits q = λ j. aged.claimed j && (aged.serial j == q)
+
+  pub aged-was_published : (q : ℕ) → was_published after q ≡ was_published k q
+  aged-was_published q = λ j. nat_lt q (aged.serial j) || (aged-fits q j && aged.published j)
+
+  pub aged-in_set : (q : ℕ) → is_in_key_set after q ≡ true → is_in_key_set k q ≡ true
+  aged-in_set q h =
+      let both = and_parts (fits after q) (in_key_set after) h in
+      and_from (fits k q) (in_key_set k) (sym (aged-fits q) ∙ both.0) (aged.in_set both.1)
+
+  pub aged-invalid : (q : ℕ) → IsInvalid k q → IsInvalid after q
+  aged-invalid q h = record {
+    published = aged-was_published q ∙ h.published;
+    invalid = false_from_ne_true (is_valid_key after q) (λ v.
+        let both = and_parts (fits after q) (is_valid after) v in
+        both_ways (is_valid_key k q) h.invalid (and_from (fits k q) (is_valid k) (sym (aged-fits q) ∙ both.0) (aged.valid both.1)));
+  }
 
 -- every key has aged, each in its way
 module _ (key after : ℕ → ℕ → Stage) (aged : (s i : ℕ) → Aged (key s i) (after s i)) where
@@ -209,13 +256,14 @@ module _ (key after : ℕ → ℕ → Stage) (aged : (s i : ℕ) → Aged (key s
     claimed = λ s i h. (aged s i).claimed ∙ sound.claimed s i (sym (aged s i).published ∙ h);
     below = λ s i h. sound.below s i (sym (aged s i).published ∙ h);
     made = λ s i h. sound.made s i (sym (aged s i).published ∙ h);
+    fresh = λ s i h. (aged s i).serial ∙ sound.fresh s i (sym (aged s i).published ∙ h);
   }
 
-  notes-aged : (noted : ℕ → ℕ → Option ℕ) → NotesSound noted key → NotesSound noted after
+  notes-aged : (noted : ℕ → ℕ → Option KeyId) → NotesSound noted key → NotesSound noted after
   notes-aged noted sound = record {
-    published = λ c s i h. (aged s i).published ∙ sound.published c s i h;
-    channel = λ c s i h. ap (λ x. x.0) (aged s i).chan ∙ sound.channel c s i h;
-    in_set = λ s i h. ap (λ x. noted x.0 s) (aged s i).chan ∙ sound.in_set s i ((aged s i).in_set h);
+    published = λ c s k h. aged-was_published (key s k.index) (after s k.index) (aged s k.index) k.serial ∙ sound.published c s k h;
+    channel = λ c s k h in_set. ap (λ x. x.0) (aged s k.index).chan ∙ sound.channel c s k h (aged-in_set (key s k.index) (after s k.index) (aged s k.index) k.serial in_set);
+    in_set = λ s i h. (ap (λ x. noted x.0 s) (aged s i).chan ∙ sound.in_set s i ((aged s i).in_set h)) ∙ (λ j. Some (record { index = i; serial = sym (aged s i).serial j }));
   }
 
   channels-aged : (chan : ℕ → Chan) → ChannelsSound chan key → ChannelsSound chan after
@@ -225,7 +273,7 @@ module _ (key after : ℕ → ℕ → Stage) (aged : (s i : ℕ) → Aged (key s
     is_open = λ s i h. ap (λ x. (chan x.0).closed) (aged s i).chan ∙ sound.is_open s i ((aged s i).valid h);
   }
 
-  pub keys-aged : (l : Limits) (selector : ℕ → Bool) (keys_mark : ℕ → ℕ) (noted : ℕ → ℕ → Option ℕ) (chan : ℕ → Chan) → KeysSound l selector keys_mark noted chan key → KeysSound l selector keys_mark noted chan after
+  pub keys-aged : (l : Limits) (selector : ℕ → Bool) (keys_mark : ℕ → ℕ) (noted : ℕ → ℕ → Option KeyId) (chan : ℕ → Chan) → KeysSound l selector keys_mark noted chan key → KeysSound l selector keys_mark noted chan after
   keys-aged l selector keys_mark noted chan sound = record {
     selectors = sound.selectors;
     indexes = indexes-aged selector keys_mark sound.indexes;
@@ -241,24 +289,50 @@ module _ (key after : ℕ → ℕ → Stage) (aged : (s i : ℕ) → Aged (key s
     entered_empty = λ h i. aged-out (key s i) (after s i) (aged s i) (sound.entered_empty h i);
   }
 
-  pub invalid-aged : (s i : ℕ) → IsInvalid (key s i) → IsInvalid (after s i)
-  invalid-aged s i h = aged-invalid (key s i) (after s i) (aged s i) h
+  pub bound-aged : (rules : Rules) (s : ℕ) (selection : Option Selection) (keys_mark : ℕ) → BoundSound rules selection keys_mark (key s) → BoundSound rules selection keys_mark (after s)
+  bound-aged rules s selection keys_mark sound = record {
+    within = sound.within;
+    below = sound.below;
+    all = λ e x h i l in_set.
+        subst (λ (q : ℕ). is_looked x.looked (record { index = i; serial = q }) ≡ true) (sym (aged s i).serial) (sound.all e x h i l ((aged s i).in_set in_set));
+  }
+
+  pub free-aged : (rules : Rules) (free : ℕ → ℕ → Bool) → FreeSound rules free key → FreeSound rules free after
+  free-aged rules free sound = record {
+    out = λ s i h. aged-out (key s i) (after s i) (aged s i) (sound.out s i h);
+    none = sound.none;
+  }
+
+  pub stays-aged : (entered ended : ℕ → Bool) → ((s : ℕ) → entered s ≡ true → ended s ≡ true) → Stays key after entered ended
+  stays-aged entered ended closed = record {
+    published = λ s i q h. aged-was_published (key s i) (after s i) (aged s i) q ∙ h;
+    invalid = λ s i q h. aged-invalid (key s i) (after s i) (aged s i) q h;
+    closed = closed;
+  }
 
 -- what a selection looks at stays in the key set where no key of the selector leaves it
-pub look-kept : (selection : Option Selection) (turn : Option CallerNo) (key after : ℕ → Stage) → ((i : ℕ) → in_key_set (key i) ≡ true → in_key_set (after i) ≡ true) → LookSound selection turn key → LookSound selection turn after
+pub look-kept : (selection : Option Selection) (turn : Option CallerNo) (key after : ℕ → Stage) → ((i q : ℕ) → is_in_key_set (key i) q ≡ true → is_in_key_set (after i) q ≡ true) → LookSound selection turn key → LookSound selection turn after
 look-kept selection turn key after kept sound = record {
   has_turn = sound.has_turn;
-  in_set = λ x e i l. kept i (sound.in_set x e i l);
+  in_set = λ x e k l. kept k.index k.serial (sound.in_set x e k l);
 }
 
 -- keys that are cancelled, and so leave no set
-pub keeps_cancelled : (l : Limits) (st : ScriptState) (r : Reply) (after : ℕ → ℕ → Stage) → ((s i : ℕ) → Aged (st.shared.key s i) (after s i)) → ((s i : ℕ) → in_key_set (st.shared.key s i) ≡ true → in_key_set (after s i) ≡ true) → Sound l st → Keeps l st (record { reply = r; left = record st { shared = record st.shared { key = after } } })
-keeps_cancelled l st r after aged kept sound = record {
-  sound = record {
-    keys = keys-aged st.shared.key after aged l st.shared.selector st.shared.keys_mark st.shared.noted st.shared.chan sound.keys;
-    selected = λ s i h. kept s i (sound.selected s i h);
-    closings = λ s. closing-aged st.shared.key after aged s (st.shared.gate s).shut (st.shared.closer s) (st.shared.entered s) (sound.closings s);
-    looks = λ s. look-kept (st.selection s) (st.shared.turn s) (st.shared.key s) (after s) (kept s) (sound.looks s);
-  };
-  stays = record { invalid = invalid-aged st.shared.key after aged; closed = λ s h. h };
-}
+pub keeps_cancelled : (rules : Rules) (l : Limits) (st : ScriptState) (r : Reply) (after : ℕ → ℕ → Stage) → ((s i : ℕ) → Aged (st.shared.key s i) (after s i)) → ((s i : ℕ) → in_key_set (st.shared.key s i) ≡ true → in_key_set (after s i) ≡ true) → Sound rules l st → Keeps rules l st (record { reply = r; left = with_shared st (record st.shared { key = after }) })
+keeps_cancelled rules l st r after aged kept sound =
+    let key = st.shared.key in
+    record {
+      sound = record {
+        keys = keys-aged key after aged l st.shared.selector st.shared.keys_mark st.shared.noted st.shared.chan sound.keys;
+        free = free-aged key after aged rules st.shared.free sound.free;
+        selected = λ s i h. kept s i (sound.selected s i h);
+        closings = λ s. closing-aged key after aged s (st.shared.gate s).shut (st.shared.closer s) (st.shared.entered s) (sound.closings s);
+        looks = λ s. look-kept (st.selection s) (st.shared.turn s) (key s) (after s)
+            (λ i q h.
+            let both = and_parts (fits (key s i) q) (in_key_set (key s i)) h in
+            and_from (fits (after s i) q) (in_key_set (after s i)) (aged-fits (key s i) (after s i) (aged s i) q ∙ both.0) (kept s i both.1))
+            (sound.looks s);
+        bounds = λ s. bound-aged key after aged rules s (st.selection s) (st.shared.keys_mark s) (sound.bounds s);
+      };
+      stays = stays-aged key after aged st.shared.entered st.shared.entered (λ s h. h);
+    }

@@ -1,15 +1,17 @@
 -- A channel's key in a selector, and whether it is registered, over the parts of a state.
-use Rattle.std.proofs.Common.{◌≡◌, ℕ, zero, suc, ◌<◌, ◌≤◌, Bool, true, false, ◌||◌, Option, Some, None, is_some, List, [], ◌∷◌, ◌++◌, length, cond, refl, sym, ap, ◌∙◌, subst, arith, ⊎_elim}
+use Rattle.std.proofs.Common.{◌≡◌, ℕ, zero, suc, ◌<◌, ◌≤◌, Bool, true, false, ◌||◌, Option, Some, None, is_some, List, [], ◌∷◌, ◌++◌, length, get_or, cond, refl, sym, ap, ◌∙◌, subst, arith, ⊎_elim}
 use Rattle.std.proofs.lemmas.Bool.{cases_lt, or_right, or_cases, cond-true}
 use Rattle.std.specs.List.{list_any}
 use Rattle.nio_base.specs.declared.limits.Limits.{Limits}
-use Rattle.nio_event.specs.Sets.{in_key_set}
+use Rattle.nio_base.specs.declared.numbers.KeyId.{KeyId}
+use Rattle.nio_event.specs.Sets.{is_in_key_set}
 use Rattle.nio_event.specs.State.{State, unmade_channel}
 use Rattle.nio_event.specs.declared.found.Chan.{Chan}
 use Rattle.nio_plain.proofs.Answering.{rows_of}
-use Rattle.nio_plain.proofs.Places.{places_past}
+use Rattle.nio_plain.proofs.Places.{places_past, places_at}
 use Rattle.nio_plain.specs.PlainState.{SelectorRow, key_in, if_in_set, state_from, state_of, limits_of, places, selector_row, no_selector, channel_row}
 use Rattle.nio_plain.specs.declared.plain.Plain.{Plain}
+use Rattle.nio_plain.specs.declared.plain.selector.Selector.{Selector}
 use Rattle.nio_plain.specs.ScriptState.{ScriptState}
 use Rattle.nio_plain.specs.Seq.Modes.{key_of, if_in_key_set, is_registered}
 use Rattle.nio_plain.specs.Seq.Names.{below}
@@ -41,39 +43,39 @@ any-witness p (suc m) h = ⊎_elim (any-witness p m) (λ t. (m, t)) (or_cases (l
 -- over a state
 
 -- the key that is noted is the channel's, where it is in the key set
-pub key_of-some : (st : State) (c s i : ℕ) → st.noted c s ≡ Some i → in_key_set (st.key s i) ≡ true → key_of st c s ≡ Some i
-key_of-some st c s i e h = ap (if_in_key_set st s) e ∙ cond-true (in_key_set (st.key s i)) (Some i) None h
+pub key_of-some : (st : State) (c s : ℕ) (k : KeyId) → st.noted c s ≡ Some k → is_in_key_set (st.key s k.index) k.serial ≡ true → key_of st c s ≡ Some k
+key_of-some st c s k e h = ap (if_in_key_set st s) e ∙ cond-true (is_in_key_set (st.key s k.index) k.serial) (Some k) None h
 
-in_set-is : (st : State) (s i : ℕ) (o : Option ℕ) → if_in_key_set st s o ≡ Some i → (o ≡ Some i) × (in_key_set (st.key s i) ≡ true)
-in_set-is st s i None e = absurd cc
-in_set-is st s i (Some k) e = by_set (in_key_set (st.key s k)) refl e
+in_set-is : (st : State) (s : ℕ) (k : KeyId) (o : Option KeyId) → if_in_key_set st s o ≡ Some k → (o ≡ Some k) × (is_in_key_set (st.key s k.index) k.serial ≡ true)
+in_set-is st s k None e = absurd cc
+in_set-is st s k (Some m) e = by_set (is_in_key_set (st.key s m.index) m.serial) refl e
   where
-    by_set : (b : Bool) → in_key_set (st.key s k) ≡ b → cond {A = Option ℕ} b (Some k) None ≡ Some i → (◌≡◌ {A = Option ℕ} (Some k) (Some i)) × (in_key_set (st.key s i) ≡ true)
+    by_set : (b : Bool) → is_in_key_set (st.key s m.index) m.serial ≡ b → cond {A = Option KeyId} b (Some m) None ≡ Some k → (◌≡◌ {A = Option KeyId} (Some m) (Some k)) × (is_in_key_set (st.key s k.index) k.serial ≡ true)
     by_set true t now =
-        let same : k ≡ i = cc in
-        (now, subst (λ (n : ℕ). in_key_set (st.key s n) ≡ true) same t)
+        let same : m ≡ k = cc in
+        (now, subst (λ (n : KeyId). is_in_key_set (st.key s n.index) n.serial ≡ true) same t)
     by_set false t now = absurd cc
 
-pub key_of-is : (st : State) (c s i : ℕ) → key_of st c s ≡ Some i → (st.noted c s ≡ Some i) × (in_key_set (st.key s i) ≡ true)
-key_of-is st c s i e = in_set-is st s i (st.noted c s) e
+pub key_of-is : (st : State) (c s : ℕ) (k : KeyId) → key_of st c s ≡ Some k → (st.noted c s ≡ Some k) × (is_in_key_set (st.key s k.index) k.serial ≡ true)
+key_of-is st c s k e = in_set-is st s k (st.noted c s) e
 
 -- a channel that counts as registered has a key in a selector
-pub registered-key : (l : Limits) (st : State) (c : ℕ) → is_registered l st c ≡ true → (s : ℕ) × (i : ℕ) × (key_of st c s ≡ Some i)
+pub registered-key : (l : Limits) (st : State) (c : ℕ) → is_registered l st c ≡ true → (s : ℕ) × (k : KeyId) × (key_of st c s ≡ Some k)
 registered-key l st c h =
     let found = any-witness (λ s. is_some (key_of st c s)) l.selectors h in
     named found.0 (key_of st c found.0) refl found.1
   where
-    named : (s : ℕ) (o : Option ℕ) → key_of st c s ≡ o → is_some o ≡ true → (s : ℕ) × (i : ℕ) × (key_of st c s ≡ Some i)
+    named : (s : ℕ) (o : Option KeyId) → key_of st c s ≡ o → is_some o ≡ true → (s : ℕ) × (k : KeyId) × (key_of st c s ≡ Some k)
     named s None e t = absurd cc
-    named s (Some i) e t = (s, i, e)
+    named s (Some k) e t = (s, k, e)
 
 module _ (interrupted : ℕ → Bool) (mark : ℕ) (chan : ℕ → Chan) (row : ℕ → SelectorRow) where
   abbrev st : ScriptState
   st = state_from interrupted mark chan row
 
-  in_set-row : (s : ℕ) (o : Option ℕ) → if_in_key_set st.shared s o ≡ if_in_set (row s).keys o
+  in_set-row : (s : ℕ) (o : Option KeyId) → if_in_key_set st.shared s o ≡ if_in_set (row s).keys o
   in_set-row s None = refl
-  in_set-row s (Some i) = refl
+  in_set-row s (Some k) = refl
 
   pub key_of-row : (c s : ℕ) → key_of st.shared c s ≡ key_in (row s) c
   key_of-row c s = in_set-row s ((row s).noted c)
@@ -93,3 +95,9 @@ pub is_registered-some : (p : Plain) (c s : ℕ) → s < length p.selectors.item
 is_registered-some p c s h t =
     let at = key_of-row (places (λ b. b) false p.interrupted.items) (length p.channels.items) (places channel_row unmade_channel p.channels.items) (rows_of p) c in
     any-some (λ s. is_some (key_of (state_of p).shared c s)) p.limits.selectors s (omega (arith, p.selectors.ok.0, p.few_selectors)) (ap is_some (at s) ∙ t)
+
+-- the channel's key, as the selector answers it
+pub key_of-read : (p : Plain) (s c : ℕ) (x : Selector) (o : Option KeyId) → s < length p.selectors.items → x ≡ get_or p.selectors.items s x → o ≡ key_in (selector_row x) c → key_of (state_of p).shared c s ≡ o
+key_of-read p s c x o h e key =
+    let at = key_of-row (places (λ b. b) false p.interrupted.items) (length p.channels.items) (places channel_row unmade_channel p.channels.items) (rows_of p) c s in
+    (at ∙ ap (λ r. key_in r c) (places_at selector_row no_selector p.selectors.items s x h e)) ∙ sym key

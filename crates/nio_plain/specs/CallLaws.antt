@@ -1,11 +1,12 @@
--- Laws of one call, and of the calls between two wakeups: for all limits, from every state, also from
--- those that no script reaches. They follow from the documented system, and say what a reader may rely
+-- Laws of one call, and of the calls between two wakeups: by either of the rules, for all limits, from
+-- every state, also from those that no script reaches. They follow from the documented system, and say what a reader may rely
 -- on without going through its calls.
 use Rattle.std.specs.Prelude.{◌≡◌, ◌≢◌, ◌⊎◌, ℕ, ◌<◌, ◌==◌, Bool, true, false, not, ◌&&◌, ◌||◌, if◌then◌else◌, Option, Some, None, List, [], ◌∷◌, ◌++◌, IsTrue, IsFalse}
 use Rattle.std.specs.Int.{bit_at}
 use Rattle.std.specs.List.{All, Contains}
 use Rattle.nio_base.specs.declared.limits.Limits.{Limits}
 use Rattle.nio_base.specs.declared.numbers.CallerNo.{CallerNo}
+use Rattle.nio_base.specs.declared.numbers.KeyId.{KeyId}
 use Rattle.nio_base.specs.declared.numbers.SelNo.{SelNo}
 use Rattle.nio_event.specs.Sets.{in_key_set, is_valid}
 use Rattle.nio_event.specs.declared.call.Call.{Call}
@@ -19,45 +20,93 @@ use Rattle.nio_plain.specs.Answer.{left_from}
 use Rattle.nio_plain.specs.ScriptState.{ScriptState, Selection}
 use Rattle.nio_plain.specs.Seq.{seq}
 use Rattle.nio_plain.specs.Seq.Answers.{Answered}
+use Rattle.nio_plain.specs.Seq.Names.{key_at}
 use Rattle.nio_plain.specs.Seq.Selections.{own_selection, told_bits}
+use Rattle.nio_plain.specs.declared.rules.Rules.{Rules}
 
--- REFUSALS. `already` is counted with them, since what the call asks for was done before, and so is
--- `again`, since the selection goes on as it was.
-abbrev pub is_refusal : Reply → Bool
-is_refusal reply.Already = true
-is_refusal reply.Again = true
-is_refusal reply.SelectorsSpent = true
-is_refusal reply.ChannelsSpent = true
-is_refusal reply.ClosedChannel = true
-is_refusal reply.IllegalBlockingMode = true
-is_refusal reply.IllegalOps = true
-is_refusal reply.CancelledKey = true
-is_refusal reply.ClosedSelector = true
-is_refusal reply.Full = true
-is_refusal reply.Busy = true
-is_refusal reply.NegativeTimeout = true
-is_refusal reply.NotSelecting = true
-is_refusal reply.NotClosing = true
-is_refusal reply.NoCaller = true
-is_refusal reply.NoSelector = true
-is_refusal reply.NoChannel = true
-is_refusal reply.NoKey = true
-is_refusal _ = false
+-- REFUSALS. A reply that refuses: `already` is counted with them, since what the call asks for was done
+-- before, and so is `again`, since the selection goes on as it was.
+abbrev pub refuses : Reply → Bool
+refuses (reply.Selector s) = false
+refuses (reply.Channel c) = false
+refuses (reply.Key k) = false
+refuses (reply.Number n) = false
+refuses (reply.Names keys) = false
+refuses reply.«Ok» = false
+refuses reply.Yes = false
+refuses reply.No = false
+refuses reply.None = false
+refuses (reply.Looked pairs) = false
+refuses (reply.Selected count why) = false
+refuses reply.Again = true
+refuses reply.Left = false
+refuses reply.Already = true
+refuses reply.Closing = false
+refuses reply.Closed = false
+refuses reply.SelectorsSpent = true
+refuses reply.ChannelsSpent = true
+refuses reply.ClosedChannel = true
+refuses reply.IllegalBlockingMode = true
+refuses reply.IllegalOps = true
+refuses reply.CancelledKey = true
+refuses reply.ClosedSelector = true
+refuses reply.Full = true
+refuses reply.Busy = true
+refuses reply.NegativeTimeout = true
+refuses reply.NotSelecting = true
+refuses reply.NotClosing = true
+refuses reply.NoCaller = true
+refuses reply.NoSelector = true
+refuses reply.NoChannel = true
+refuses reply.NoKey = true
 
--- a refused call changes nothing
+-- a call with a reply that changes nothing: each call that is refused, and a call that only asks,
+-- whatever its reply
+abbrev pub is_without_effect : Call → Reply → Bool
+is_without_effect call.Selector r = refuses r
+is_without_effect (call.Channel kind) r = refuses r
+is_without_effect (call.Blocking c on) r = refuses r
+is_without_effect (call.IsBlocking c) r = true
+is_without_effect (call.IsOpen c) r = true
+is_without_effect (call.IsRegistered c) r = true
+is_without_effect (call.KeyFor c s) r = true
+is_without_effect (call.Register s c ops att) r = refuses r
+is_without_effect (call.Closec c) r = refuses r
+is_without_effect (call.Valid s k) r = true
+is_without_effect (call.Interest s k) r = true
+is_without_effect (call.Ready s k) r = true
+is_without_effect (call.Iset s k ops) r = refuses r
+is_without_effect (call.Ior s k ops) r = refuses r
+is_without_effect (call.Iand s k ops) r = refuses r
+is_without_effect (call.Cancel s k) r = refuses r
+is_without_effect (call.Unselect s k) r = refuses r
+is_without_effect (call.Attach s k att) r = refuses r
+is_without_effect (call.Attachment s k) r = true
+is_without_effect (call.Begin s waiting) r = refuses r
+is_without_effect (call.Told s elapsed pairs) r = refuses r
+is_without_effect (call.Failed s) r = refuses r
+is_without_effect (call.Wakeup s) r = refuses r
+is_without_effect (call.Close s) r = refuses r
+is_without_effect (call.CloseEnd s) r = refuses r
+is_without_effect (call.Keys s) r = true
+is_without_effect (call.Selected s) r = true
+is_without_effect (call.Interrupt target) r = refuses r
+is_without_effect call.Interrupted r = refuses r
+
+-- a refused call changes nothing, nor does one that only asks
 abbrev pub RefusalsChangeNothing : Type 0
-RefusalsChangeNothing = (l : Limits) (st : ScriptState) (me : CallerNo) (c : Call)
-    → IsTrue (is_refusal (seq l st me c).reply) → (seq l st me c).left ≡ st
+RefusalsChangeNothing = (rules : Rules) (l : Limits) (st : ScriptState) (me : CallerNo) (c : Call)
+    → IsTrue (is_without_effect c (seq rules l st me c).reply) → (seq rules l st me c).left ≡ st
 
--- READINESS. What a call may select: the bits that its poller told of a key and that the caller's own
--- selection looked for there. There is none but in a `told` of a selection in progress.
-abbrev pub told_of : Option Selection → List (ℕ × ℕ) → ℕ → ℕ
-told_of None pairs i = 0
-told_of (Some selection) pairs i = told_bits selection.looked pairs i
+-- READINESS. What a call may select: the bits that its poller told of the key that an index has, and
+-- that the caller's own selection looked for there. There is none but in a `told` of a selection in progress.
+abbrev pub told_of : Option Selection → List (KeyId × ℕ) → KeyId → ℕ
+told_of None pairs k = 0
+told_of (Some selection) pairs k = told_bits selection.looked pairs k
 
 abbrev pub newly_told : ScriptState → CallerNo → Call → ℕ → ℕ → ℕ
 newly_told st me (call.Told t elapsed pairs) s i =
-    if t.0 == s then told_of (own_selection st me s) pairs i else 0
+    if t.0 == s then told_of (own_selection st me s) pairs (key_at st.shared s i) else 0
 newly_told st me _ s i = 0
 
 abbrev pub HasBit : ℕ → ℕ → Type 0
@@ -72,35 +121,36 @@ pub record GainsOnly (before after : Mark) (bits : ℕ) : Type 0 where
 
 -- a call marks a key for these bits, and for nothing else
 abbrev pub OnlyToldBitsAreSelected : Type 0
-OnlyToldBitsAreSelected = (l : Limits) (st : ScriptState) (me : CallerNo) (c : Call) (s i : ℕ)
-    → GainsOnly (st.shared.mark s i) ((seq l st me c).left.shared.mark s i) (newly_told st me c s i)
+OnlyToldBitsAreSelected = (rules : Rules) (l : Limits) (st : ScriptState) (me : CallerNo) (c : Call) (s i : ℕ)
+    → GainsOnly (st.shared.mark s i) ((seq rules l st me c).left.shared.mark s i) (newly_told st me c s i)
 
--- a pair of the list gives the index a set that has the bit
-pub record IsGiven (pairs : List (ℕ × ℕ)) (i bit : ℕ) : Type 0 where
+-- a pair of the list gives the key a set that has the bit
+pub record IsGiven (pairs : List (KeyId × ℕ)) (k : KeyId) (bit : ℕ) : Type 0 where
   pub ops : ℕ
-  pub pair : Contains pairs (i, ops)
+  pub pair : Contains pairs (k, ops)
   pub has : HasBit ops bit
 
--- the call tells the bit of the key, and the caller's own selection looked for it there
-pub record IsToldAndLookedFor (st : ScriptState) (me : CallerNo) (c : Call) (s i bit : ℕ) : Type 0 where
+-- the call tells the bit of the key, by its index and serial, and the caller's own selection looked for it
+-- there
+pub record IsToldAndLookedFor (st : ScriptState) (me : CallerNo) (c : Call) (s : ℕ) (k : KeyId) (bit : ℕ) : Type 0 where
   pub name : SelNo
   pub elapsed : Bool
-  pub pairs : List (ℕ × ℕ)
+  pub pairs : List (KeyId × ℕ)
   pub selection : Selection
   pub called : c ≡ call.Told name elapsed pairs
   pub there : name.0 ≡ s
   pub own : own_selection st me s ≡ Some selection
-  pub told : IsGiven pairs i bit
-  pub looked_for : IsGiven selection.looked i bit
+  pub told : IsGiven pairs k bit
+  pub looked_for : IsGiven selection.looked k bit
 
 -- each of these bits was told in that call and looked for in that selection
 abbrev pub BitsAreToldAndLookedFor : Type 0
 BitsAreToldAndLookedFor = (st : ScriptState) (me : CallerNo) (c : Call) (s i bit : ℕ)
-    → HasBit (newly_told st me c s i) bit → IsToldAndLookedFor st me c s i bit
+    → HasBit (newly_told st me c s i) bit → IsToldAndLookedFor st me c s (key_at st.shared s i) bit
 
 -- SELECTIONS IN PROGRESS. A call began the selection: it is a `begin` there, the selection is the
--- caller's own, and what it looks at is what was answered: the keys of the key set that is left, which
--- are all valid, with their interests.
+-- caller's own, and what it looks at is what was answered: the keys of the key set that is left, each the
+-- present one of its index, which are all valid, with their interests.
 pub record IsBegunBy (me : CallerNo) (c : Call) (done : Answered) (s : ℕ) (selection : Selection) : Type 0 where
   pub name : SelNo
   pub waiting : Waiting
@@ -108,15 +158,16 @@ pub record IsBegunBy (me : CallerNo) (c : Call) (done : Answered) (s : ℕ) (sel
   pub there : name.0 ≡ s
   pub own : own_selection done.left me s ≡ Some selection
   pub answered : done.reply ≡ reply.Looked selection.looked
-  pub valid : All (λ p. IsTrue (is_valid (done.left.shared.key s p.0)) × (p.1 ≡ done.left.shared.interest s p.0)) selection.looked
+  pub present : All (λ p. p.0 ≡ key_at done.left.shared s p.0.index) selection.looked
+  pub valid : All (λ p. IsTrue (is_valid (done.left.shared.key s p.0.index)) × (p.1 ≡ done.left.shared.interest s p.0.index)) selection.looked
   pub all : (i : ℕ) → i < done.left.shared.keys_mark s → IsTrue (in_key_set (done.left.shared.key s i))
-      → Contains selection.looked (i, done.left.shared.interest s i)
+      → Contains selection.looked (key_at done.left.shared s i, done.left.shared.interest s i)
 
 -- a selection that is in progress after a call was so before, or the call began it
 abbrev pub LookedIsAnswered : Type 0
-LookedIsAnswered = (l : Limits) (st : ScriptState) (me : CallerNo) (c : Call) (s : ℕ) (selection : Selection)
-    → (seq l st me c).left.selection s ≡ Some selection
-    → (st.selection s ≡ Some selection) ⊎ IsBegunBy me c (seq l st me c) s selection
+LookedIsAnswered = (rules : Rules) (l : Limits) (st : ScriptState) (me : CallerNo) (c : Call) (s : ℕ) (selection : Selection)
+    → (seq rules l st me c).left.selection s ≡ Some selection
+    → (st.selection s ≡ Some selection) ⊎ IsBegunBy me c (seq rules l st me c) s selection
 
 -- a selection of the selector ended in the call
 abbrev pub is_end : ℕ → Call → Reply → Bool
@@ -130,8 +181,8 @@ is_over s c r = is_end s c r
 
 -- a caller's own selection stays so, as it is, until the caller itself makes the call in which it is over
 abbrev pub OnlyItselfEndsASelection : Type 0
-OnlyItselfEndsASelection = (l : Limits) (st : ScriptState) (me other : CallerNo) (c : Call) (s : ℕ) (selection : Selection)
-    → own_selection st me s ≡ Some selection → let done = seq l st other c in
+OnlyItselfEndsASelection = (rules : Rules) (l : Limits) (st : ScriptState) (me other : CallerNo) (c : Call) (s : ℕ) (selection : Selection)
+    → own_selection st me s ≡ Some selection → let done = seq rules l st other c in
     (own_selection done.left me s ≡ Some selection) ⊎ ((other.0 ≡ me.0) × IsTrue (is_over s c done.reply))
 
 -- WAKEUPS
@@ -147,31 +198,31 @@ is_wakeup s _ _ = false
 -- a wakeup is pending after a call exactly where the call was one, or where one was pending before and
 -- no selection of its selector ended in the call
 abbrev pub WakeupsArePending : Type 0
-WakeupsArePending = (l : Limits) (st : ScriptState) (me : CallerNo) (c : Call) (s : ℕ)
-    → let done = seq l st me c in
+WakeupsArePending = (rules : Rules) (l : Limits) (st : ScriptState) (me : CallerNo) (c : Call) (s : ℕ)
+    → let done = seq rules l st me c in
     is_woken done.left s ≡ (is_wakeup s c done.reply || (is_woken st s && not (is_end s c done.reply)))
 
 -- while one is pending a further wakeup, of any caller, leaves the state as it is
 abbrev pub FurtherWakeupsChangeNothing : Type 0
-FurtherWakeupsChangeNothing = (l : Limits) (st : ScriptState) (me : CallerNo) (s : SelNo)
-    → IsTrue (is_woken st s.0) → (seq l st me (call.Wakeup s)).left ≡ st
+FurtherWakeupsChangeNothing = (rules : Rules) (l : Limits) (st : ScriptState) (me : CallerNo) (s : SelNo)
+    → IsTrue (is_woken st s.0) → (seq rules l st me (call.Wakeup s)).left ≡ st
 
 -- a wakeup is answered `ok` by every selector that is made, whatever its state
 abbrev pub WakeupsAreAnswered : Type 0
-WakeupsAreAnswered = (l : Limits) (st : ScriptState) (me : CallerNo) (s : SelNo)
-    → me.0 < l.callers → IsTrue (st.shared.selector s.0) → (seq l st me (call.Wakeup s)).reply ≡ reply.«Ok»
+WakeupsAreAnswered = (rules : Rules) (l : Limits) (st : ScriptState) (me : CallerNo) (s : SelNo)
+    → me.0 < l.callers → IsTrue (st.shared.selector s.0) → (seq rules l st me (call.Wakeup s)).reply ≡ reply.«Ok»
 
 -- in none of the calls from a state on a selection of the selector ends
-abbrev pub NoneEnds : Limits → ScriptState → ℕ → List ScriptCall → Type 0
-NoneEnds l st s [] = Unit {0}
-NoneEnds l st s (c ∷ calls) =
-    let done = seq l st c.caller c.call in
-    IsFalse (is_end s c.call done.reply) × NoneEnds l done.left s calls
+abbrev pub NoneEnds : Rules → Limits → ScriptState → ℕ → List ScriptCall → Type 0
+NoneEnds rules l st s [] = Unit {0}
+NoneEnds rules l st s (c ∷ calls) =
+    let done = seq rules l st c.caller c.call in
+    IsFalse (is_end s c.call done.reply) × NoneEnds rules l done.left s calls
 
 -- several wakeups act as one: after a wakeup, and calls in which no selection of its selector ends, a
 -- further one may be left out, and all later calls leave the same state
 abbrev pub WakeupsActAsOne : Type 0
-WakeupsActAsOne = (l : Limits) (st : ScriptState) (s : SelNo) (first further : ScriptCall) (between later : List ScriptCall)
-    → IsTrue (is_wakeup s.0 first.call (seq l st first.caller first.call).reply) → NoneEnds l st s.0 (first ∷ between)
+WakeupsActAsOne = (rules : Rules) (l : Limits) (st : ScriptState) (s : SelNo) (first further : ScriptCall) (between later : List ScriptCall)
+    → IsTrue (is_wakeup s.0 first.call (seq rules l st first.caller first.call).reply) → NoneEnds rules l st s.0 (first ∷ between)
     → further.call ≡ call.Wakeup s
-    → left_from l st (first ∷ between ++ further ∷ later) ≡ left_from l st (first ∷ between ++ later)
+    → left_from rules l st (first ∷ between ++ further ∷ later) ≡ left_from rules l st (first ∷ between ++ later)

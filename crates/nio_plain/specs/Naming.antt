@@ -2,7 +2,7 @@
 use Rattle.std.specs.Prelude.{◌≡◌}
 use Rattle.nio_event.specs.declared.reply.Reply.{Reply}
 use Rattle.nio_plain.specs.ScriptState.{ScriptState}
-use Rattle.nio_plain.specs.Seq.Answers.{Answered, refused}
+use Rattle.nio_plain.specs.Seq.Answers.{Answered, unchanged}
 
 -- the test lets each call through
 abbrev pub LetsThrough : (Answered → Answered) → Type 0
@@ -10,4 +10,4 @@ LetsThrough test = (call : Answered) → test call ≡ call
 
 -- the test refuses each call with this reply
 abbrev pub Refuses : ScriptState → (Answered → Answered) → Reply → Type 0
-Refuses st test r = (call : Answered) → test call ≡ refused st r
+Refuses st test r = (call : Answered) → test call ≡ unchanged st r

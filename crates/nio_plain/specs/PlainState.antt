@@ -1,26 +1,30 @@
 -- The state that a plain system holds, read from its vectors.
-use Rattle.std.specs.Prelude.{ℕ, ◌+◌, Bool, true, false, not, ◌&&◌, ◌||◌, Option, Some, None, is_some, if◌then◌else◌, nat_lt, List, map, filter, length, get_or, bit_and}
+use Rattle.std.specs.Prelude.{ℕ, suc, max, Bool, true, false, not, ◌&&◌, ◌||◌, Option, Some, None, is_some, if◌then◌else◌, nat_lt, List, map, filter, find, length, get_or, bit_and}
 use Rattle.std.specs.BTreeMap.{get}
 use Rattle.std.specs.Ordering.{nat_cmp}
 use Rattle.nio_base.specs.declared.limits.Limits.{Limits}
 use Rattle.nio_base.specs.declared.numbers.CallerNo.{CallerNo}
-use Rattle.nio_event.specs.State.{unmade_channel, open_gate, unclaimed, unmarked, put, with_key, with_interest, with_mark, with_note}
-use Rattle.nio_event.specs.Sets.{in_key_set, in_cancelled_set, is_valid}
+use Rattle.nio_base.specs.declared.numbers.KeyId.{KeyId}
+use Rattle.nio_event.specs.State.{unmade_channel, open_gate, unclaimed, unmarked, last_serial, put, with_key, with_interest, with_mark, with_note, with_free}
+use Rattle.nio_event.specs.Sets.{in_key_set, in_cancelled_set, is_in_key_set, is_valid}
 use Rattle.nio_event.specs.declared.found.Mode.{Mode}
 use Rattle.nio_event.specs.declared.found.Chan.{Chan}
 use Rattle.nio_event.specs.declared.found.GateWord.{GateWord}
 use Rattle.nio_event.specs.declared.found.Mark.{Mark}
 use Rattle.nio_event.specs.declared.found.Stage.{Stage}
-use Rattle.nio_plain.specs.ScriptState.{ScriptState, Selection}
-use Rattle.nio_plain.specs.Seq.Cancelling.{cancelled_key, is_key}
+use Rattle.nio_plain.specs.ScriptState.{ScriptState, Selection, with_shared}
+use Rattle.nio_plain.specs.Seq.Cancelling.{cancelled_key, has_index}
 use Rattle.nio_plain.specs.Seq.Names.{below}
-use Rattle.nio_plain.specs.Seq.Selections.{removed_key, unselected, marked, looked_interest}
+use Rattle.nio_plain.specs.Seq.Registering.{new_stage}
+use Rattle.nio_plain.specs.Seq.Removing.{removed_key, unselected, comes_back}
+use Rattle.nio_plain.specs.Seq.Selections.{marked, looked_interest, is_looked}
 use Rattle.nio_plain.specs.declared.plain.Plain.{Plain}
 use Rattle.nio_plain.specs.declared.plain.channel.Channel.{Channel}
 use Rattle.nio_plain.specs.declared.plain.selector.Closing.{Closing}
 use Rattle.nio_plain.specs.declared.plain.selector.Key.{Key}
 use Rattle.nio_plain.specs.declared.plain.selector.Selecting.{Selecting}
 use Rattle.nio_plain.specs.declared.plain.selector.Selector.{Selector}
+use Rattle.nio_plain.specs.declared.rules.Rules.{Rules}
 
 -- what a vector holds, by the place: past its end the value of what isn't there
 unfoldable pub places : {X A : Type 0} → (X → A) → A → List X → ℕ → A
@@ -30,15 +34,16 @@ places f none xs = λ n. get_or (map f xs) n none
 abbrev pub channel_row : Channel → Chan
 channel_row c = record { made = true; kind = c.kind; closed = c.closed; blocking = c.blocking }
 
--- a key: its stage, interest set, mark and attachment
+-- an index: the stage of its key, the key's interest set, mark and attachment, and whether it is free
 pub record KeyRow : Type 0 where
   pub stage : Stage
   pub interest : ℕ
   pub mark : Mark
   pub note : ℕ
+  pub free : Bool
 
 abbrev pub no_key : KeyRow
-no_key = record { stage = unclaimed; interest = 0; mark = unmarked; note = 0 }
+no_key = record { stage = unclaimed; interest = 0; mark = unmarked; note = 0; free = false }
 
 abbrev pub key_row : Key → KeyRow
 key_row k = record {
@@ -48,11 +53,17 @@ key_row k = record {
     cancelled = k.cancelled;
     removed = k.removed;
     chan = k.chan;
+    serial = k.serial;
   };
   interest = k.interest;
   mark = k.mark;
   note = k.note;
+  free = k.released && nat_lt k.serial last_serial;
 }
+
+-- the present key of an index
+abbrev pub key_id : (ℕ → KeyRow) → ℕ → KeyId
+key_id keys i = record { index = i; serial = (keys i).stage.serial }
 
 -- a selector. The caller that selects has its turn, and the selection has begun
 pub record SelectorRow : Type 0 where
@@ -64,7 +75,7 @@ pub record SelectorRow : Type 0 where
   pub entered : Bool
   pub keys_mark : ℕ
   pub keys : ℕ → KeyRow
-  pub noted : ℕ → Option ℕ
+  pub noted : ℕ → Option KeyId
 
 abbrev pub no_selector : SelectorRow
 no_selector = record {
@@ -83,19 +94,31 @@ abbrev pub new_selector : SelectorRow
 new_selector = record no_selector { made = true }
 
 -- the channel's key in a selector: the one that is noted for it, where it is in the key set
-abbrev pub if_in_set : (ℕ → KeyRow) → Option ℕ → Option ℕ
+abbrev pub if_in_set : (ℕ → KeyRow) → Option KeyId → Option KeyId
 if_in_set keys None = None
-if_in_set keys (Some i) = if in_key_set (keys i).stage then Some i else None
+if_in_set keys (Some k) = if is_in_key_set (keys k.index).stage k.serial then Some k else None
 
-abbrev pub key_in : SelectorRow → ℕ → Option ℕ
+abbrev pub key_in : SelectorRow → ℕ → Option KeyId
 key_in r c = if_in_set r.keys (r.noted c)
 
--- a selector with a key more, and with another key in the place of one
-abbrev pub with_new_key : SelectorRow → ℕ → KeyRow → SelectorRow
-with_new_key r c key = record r {
-  keys_mark = r.keys_mark + 1;
-  keys = put r.keys r.keys_mark key;
-  noted = put r.noted c (Some r.keys_mark);
+-- the key that a selector with so many indexes gives next
+abbrev pub free_in : SelectorRow → Option ℕ
+free_in r = find (λ i. (r.keys i).free) (below r.keys_mark)
+
+abbrev pub next_by_row : ℕ → SelectorRow → Option ℕ → Option KeyId
+next_by_row limit r (Some i) = Some (record { index = i; serial = suc (r.keys i).stage.serial })
+next_by_row limit r None =
+    if nat_lt r.keys_mark limit then Some (record { index = r.keys_mark; serial = 0 }) else None
+
+abbrev pub next_in : ℕ → SelectorRow → Option KeyId
+next_in limit r = next_by_row limit r (free_in r)
+
+-- a selector with a new key, and with another key in the place of one
+abbrev pub with_key_added : SelectorRow → ℕ → KeyId → KeyRow → SelectorRow
+with_key_added r c k key = record r {
+  keys_mark = max r.keys_mark (suc k.index);
+  keys = put r.keys k.index key;
+  noted = put r.noted c (Some k);
 }
 
 abbrev pub with_key_at : SelectorRow → ℕ → KeyRow → SelectorRow
@@ -107,23 +130,35 @@ cancelled_row k = record k { stage = cancelled_key k.stage }
 
 abbrev pub with_cancelled_key : SelectorRow → ℕ → SelectorRow
 with_cancelled_key r c = record r {
-  keys = λ i. if is_key (key_in r c) i then cancelled_row (r.keys i) else r.keys i;
+  keys = λ i. if has_index (key_in r c) i then cancelled_row (r.keys i) else r.keys i;
 }
 
 -- what stands below the bound is changed
 abbrev pub changed : {A : Type 0} → (A → A) → (ℕ → A) → ℕ → ℕ → A
 changed change f bound = λ i. if nat_lt i bound then change (f i) else f i
 
--- a key that is removed; one that is removed where it is cancelled, and the keys after that was done
--- below the bound
-abbrev pub removed_row : KeyRow → KeyRow
-removed_row k = record k { stage = removed_key k.stage; mark = unselected k.mark }
+-- a key that is removed, and its index, which becomes free where it frees
+abbrev pub removed_row : (Stage → Bool) → KeyRow → KeyRow
+removed_row frees k = record k {
+  stage = removed_key k.stage;
+  mark = unselected k.mark;
+  free = frees k.stage || k.free;
+}
 
-abbrev pub swept_key : KeyRow → KeyRow
-swept_key k = if in_cancelled_set k.stage then removed_row k else k
+-- one that a selection removes where it is cancelled, the keys after that was done with all, and with
+-- those that the selection looks at
+abbrev pub swept_key : Rules → KeyRow → KeyRow
+swept_key rules k = if in_cancelled_set k.stage then removed_row (comes_back rules) k else k
 
-abbrev pub swept : (ℕ → KeyRow) → ℕ → ℕ → KeyRow
-swept keys bound = changed swept_key keys bound
+abbrev pub swept : Rules → (ℕ → KeyRow) → ℕ → KeyRow
+swept rules keys = λ i. swept_key rules (keys i)
+
+abbrev pub swept_looked : Rules → (ℕ → KeyRow) → List (KeyId × ℕ) → ℕ → KeyRow
+swept_looked rules keys looked = λ i. if is_looked looked (key_id keys i) then swept_key rules (keys i) else keys i
+
+-- the keys after each was removed where it is claimed
+abbrev pub emptied : (ℕ → KeyRow) → ℕ → KeyRow
+emptied keys = λ i. if (keys i).stage.claimed then removed_row (λ _. false) (keys i) else keys i
 
 -- a selector whose closing has ended
 abbrev pub with_closing_ended : SelectorRow → CallerNo → SelectorRow
@@ -131,57 +166,56 @@ with_closing_ended r closer = record r {
   gate = record r.gate { shut = true };
   closer = Some closer;
   entered = true;
-  keys = changed removed_row r.keys r.keys_mark;
+  keys = emptied r.keys;
 }
 
--- the valid keys below the bound with their interests, in rising order
-abbrev pub looked_below : (ℕ → KeyRow) → ℕ → List (ℕ × ℕ)
+-- the valid keys below the bound with their interests, in rising order of the indexes
+abbrev pub looked_below : (ℕ → KeyRow) → ℕ → List (KeyId × ℕ)
 looked_below keys bound =
-    map (λ i. (i, (keys i).interest)) (filter (λ i. is_valid (keys i).stage) (below bound))
+    map (λ i. (key_id keys i, (keys i).interest)) (filter (λ i. is_valid (keys i).stage) (below bound))
 
--- the indexes below the bound whose keys aren't removed, or of those among them that are selected
+-- the keys below the bound that aren't removed, or those among them that are selected
 abbrev pub is_listed : KeyRow → Bool → Bool
 is_listed k selected = in_key_set k.stage && (not selected || k.mark.selected)
 
-abbrev pub listed_below : (ℕ → KeyRow) → Bool → ℕ → List ℕ
-listed_below keys selected bound = filter (λ i. is_listed (keys i) selected) (below bound)
+abbrev pub listed_below : (ℕ → KeyRow) → Bool → ℕ → List KeyId
+listed_below keys selected bound = map (key_id keys) (filter (λ i. is_listed (keys i) selected) (below bound))
+
+-- the keys of the key set, or those among them that are selected
+abbrev pub in_set_of : ScriptState → ℕ → Bool → ℕ → Bool
+in_set_of st s selected = λ i. in_key_set (st.shared.key s i) && (not selected || (st.shared.mark s i).selected)
 
 -- a selector on which a selection has begun
-abbrev pub with_selection : SelectorRow → CallerNo → Mode → SelectorRow
-with_selection r me mode = record r {
+abbrev pub with_selection_begun : Rules → SelectorRow → CallerNo → Mode → SelectorRow
+with_selection_begun rules r me mode = record r {
   turn = Some me;
   selection =
       Some (record { mode = mode; bound = r.keys_mark; looked = looked_below r.keys r.keys_mark });
-  keys = swept r.keys r.keys_mark;
+  keys = swept rules r.keys;
 }
 
--- the keys after each looked key was marked with what was told of its interest
-abbrev pub marked_keys : (ℕ → KeyRow) → List (ℕ × ℕ) → (ℕ → ℕ) → ℕ → KeyRow
+-- the keys after each looked key was marked with what was told of its index and its interest
+abbrev pub marked_keys : (ℕ → KeyRow) → List (KeyId × ℕ) → (ℕ → ℕ) → ℕ → KeyRow
 marked_keys keys looked told =
-    λ i. record (keys i) { mark = marked (keys i).mark (bit_and (told i) (looked_interest looked i)) }
+    λ i. record (keys i) { mark = marked (keys i).mark (bit_and (told i) (looked_interest looked (key_id keys i))) }
 
 -- a selector on which a selection is over
-abbrev pub with_selection_ended : SelectorRow → List (ℕ × ℕ) → (ℕ → ℕ) → ℕ → SelectorRow
-with_selection_ended r looked told bound = record r {
+abbrev pub with_selection_ended : Rules → SelectorRow → List (KeyId × ℕ) → (ℕ → ℕ) → SelectorRow
+with_selection_ended rules r looked told = record r {
   gate = record r.gate { woken = false };
   turn = None;
   selection = None;
-  keys = swept (marked_keys r.keys looked told) bound;
+  keys = swept_looked rules (marked_keys r.keys looked told) looked;
 }
 
 -- a key that was just registered
-abbrev pub new_key_row : ℕ → ℕ → ℕ → KeyRow
-new_key_row c ops note = record {
-  stage = record {
-    claimed = true;
-    published = true;
-    cancelled = false;
-    removed = false;
-    chan = record { 0 = c };
-  };
+abbrev pub new_key_row : ℕ → ℕ → ℕ → ℕ → KeyRow
+new_key_row c serial ops note = record {
+  stage = new_stage c serial;
   interest = ops;
   mark = unmarked;
   note = note;
+  free = false;
 }
 
 abbrev pub caller_of : Option Selecting → Option CallerNo
@@ -231,9 +265,13 @@ state_from interrupted channels_mark chan selector = record {
     interest = λ s i. ((selector s).keys i).interest;
     mark = λ s i. ((selector s).keys i).mark;
     note = λ s i. ((selector s).keys i).note;
+    pinned = λ _ _ _. false;
+    free = λ s i. ((selector s).keys i).free;
     begun = λ s. is_some (selector s).turn;
     closer = λ s. (selector s).closer;
     entered = λ s. (selector s).entered;
+    taker = λ _ _. None;
+    put_due = λ _ _. false;
   };
   selection = λ s. (selector s).selection;
 }
@@ -250,8 +288,11 @@ state_of p =
 abbrev pub limits_of : Plain → Limits
 limits_of p = p.limits
 
+abbrev pub rules_of : Plain → Rules
+rules_of p = p.rules
+
 -- the state with another key in the place of one
 abbrev pub with_key_row : ScriptState → ℕ → ℕ → KeyRow → ScriptState
-with_key_row st s i k = record st {
-  shared = with_note (with_mark (with_interest (with_key st.shared s i k.stage) s i k.interest) s i k.mark) s i k.note;
-}
+with_key_row st s i k =
+    with_shared st
+    (with_free (with_note (with_mark (with_interest (with_key st.shared s i k.stage) s i k.interest) s i k.mark) s i k.note) s i k.free)

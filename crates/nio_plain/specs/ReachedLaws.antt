@@ -1,17 +1,24 @@
--- Laws of the documented system, over every list of calls from the opening state: what holds of the
--- sets of a selector, of channels, of keys that are invalid, and of what is closed.
-use Rattle.std.specs.Prelude.{◌≡◌, ℕ, ◌<◌, IsTrue, IsFalse, ◌↔◌, Some, None, List, ◌∷◌, ◌++◌}
+-- Laws of the documented system, by either of the rules, over every list of calls from the opening state:
+-- what holds of the sets of a selector, of keys and free indexes, of channels, and of what is closed.
+use Rattle.std.specs.Prelude.{◌≡◌, ◌≢◌, ℕ, ◌<◌, IsTrue, IsFalse, ◌↔◌, Option, Some, None, List, ◌∷◌, ◌++◌}
 use Rattle.nio_base.specs.declared.limits.Limits.{Limits}
 use Rattle.nio_base.specs.declared.numbers.CallerNo.{CallerNo}
+use Rattle.nio_base.specs.declared.numbers.ChanNo.{ChanNo}
+use Rattle.nio_base.specs.declared.numbers.KeyId.{KeyId}
 use Rattle.nio_base.specs.declared.numbers.SelNo.{SelNo}
-use Rattle.nio_event.specs.Sets.{in_key_set, is_valid, IsRegistered}
+use Rattle.nio_event.specs.Sets.{in_key_set, in_cancelled_set, in_selected_set, is_valid, was_published, is_in_key_set, is_valid_key, IsRegistered}
 use Rattle.nio_event.specs.State.{State}
 use Rattle.nio_event.specs.declared.call.Call.TheVariants as call
 use Rattle.nio_event.specs.declared.call.ScriptCall.{ScriptCall}
 use Rattle.nio_event.specs.declared.reply.Reply.TheVariants as reply
 use Rattle.nio_plain.specs.Answer.{left_by_script}
 use Rattle.nio_plain.specs.Seq.{seq}
+use Rattle.nio_plain.specs.ScriptState.{ScriptState, Selection}
 use Rattle.nio_plain.specs.Seq.Modes.{key_of, is_registered}
+use Rattle.nio_plain.specs.Seq.Names.{key_at}
+use Rattle.nio_plain.specs.Seq.Selections.{is_looked}
+use Rattle.nio_plain.specs.declared.rules.Rules.{Rules}
+use Rattle.nio_plain.specs.declared.rules.Rules.TheVariants.{First}
 
 -- THE SETS
 
@@ -22,52 +29,119 @@ pub record AreWithinKeySet (st : State) : Type 0 where
 
 -- the cancelled set and the selected set are within the key set, and nothing outside it is marked so
 abbrev pub SetsAreWithinKeySet : Type 0
-SetsAreWithinKeySet = (l : Limits) (calls : List ScriptCall) → AreWithinKeySet (left_by_script l calls).shared
+SetsAreWithinKeySet = (rules : Rules) (l : Limits) (calls : List ScriptCall) → AreWithinKeySet (left_by_script rules l calls).shared
 
 -- each key of a key set is below its selector's mark, so that a selection that begins looks at all keys
 -- of the key set
 abbrev pub KeysAreBelowTheMark : Type 0
-KeysAreBelowTheMark = (l : Limits) (calls : List ScriptCall) (s i : ℕ)
-    → let st = (left_by_script l calls).shared in
+KeysAreBelowTheMark = (rules : Rules) (l : Limits) (calls : List ScriptCall) (s i : ℕ)
+    → let st = (left_by_script rules l calls).shared in
     IsTrue (in_key_set (st.key s i)) → i < st.keys_mark s
 
--- a key that isn't valid stays so, whatever is called
+-- the keys that a selection in progress looks at are in the key set
+abbrev pub LookedAreInKeySet : Type 0
+LookedAreInKeySet = (rules : Rules) (l : Limits) (calls : List ScriptCall) (s : ℕ) (selection : Selection) (k : KeyId)
+    → let st = left_by_script rules l calls in
+    st.selection s ≡ Some selection → IsTrue (is_looked selection.looked k)
+    → IsTrue (is_in_key_set (st.shared.key s k.index) k.serial)
+
+-- KEYS AND FREE INDEXES
+
+-- a key that was published stays so, and one that isn't valid stays so, whatever is called
+abbrev pub PublishedStays : Type 0
+PublishedStays = (rules : Rules) (l : Limits) (calls more : List ScriptCall) (s : ℕ) (k : KeyId)
+    → IsTrue (was_published ((left_by_script rules l calls).shared.key s k.index) k.serial)
+    → IsTrue (was_published ((left_by_script rules l (calls ++ more)).shared.key s k.index) k.serial)
+
 abbrev pub InvalidKeysStayInvalid : Type 0
-InvalidKeysStayInvalid = (l : Limits) (calls more : List ScriptCall) (s i : ℕ)
-    → IsTrue ((left_by_script l calls).shared.key s i).published
-    → IsFalse (is_valid ((left_by_script l calls).shared.key s i))
-    → IsFalse (is_valid ((left_by_script l (calls ++ more)).shared.key s i))
+InvalidKeysStayInvalid = (rules : Rules) (l : Limits) (calls more : List ScriptCall) (s : ℕ) (k : KeyId)
+    → IsTrue (was_published ((left_by_script rules l calls).shared.key s k.index) k.serial)
+    → IsFalse (is_valid_key ((left_by_script rules l calls).shared.key s k.index) k.serial)
+    → IsFalse (is_valid_key ((left_by_script rules l (calls ++ more)).shared.key s k.index) k.serial)
+
+-- no key of the index is in a set, and none is valid
+pub record HasNoKey (st : State) (s i : ℕ) : Type 0 where
+  pub in_key_set : IsFalse (in_key_set (st.key s i))
+  pub in_selected_set : IsFalse (in_selected_set st s i)
+  pub in_cancelled_set : IsFalse (in_cancelled_set (st.key s i))
+  pub valid : (serial : ℕ) → IsFalse (is_valid_key (st.key s i) serial)
+
+-- a free index has no key in a set, and no valid one
+abbrev pub FreeIndexHasNoKey : Type 0
+FreeIndexHasNoKey = (rules : Rules) (l : Limits) (calls : List ScriptCall) (s i : ℕ)
+    → let st = (left_by_script rules l calls).shared in
+    IsTrue (st.free s i) → HasNoKey st s i
+
+-- by the first rules no index is free, so that no registration takes one
+abbrev pub FirstRulesFreeNone : Type 0
+FirstRulesFreeNone = (l : Limits) (calls : List ScriptCall) (s i : ℕ)
+    → IsFalse ((left_by_script First l calls).shared.free s i)
+
+-- by the first rules a `told` removes the cancelled keys below the number of indexes that were claimed when
+-- the selection began: they are the looked keys that are cancelled
+abbrev pub FirstRulesRemoveBelowTheBound : Type 0
+FirstRulesRemoveBelowTheBound = (l : Limits) (calls : List ScriptCall) (s : ℕ) (selection : Selection) (i : ℕ)
+    → let st = left_by_script First l calls in
+    st.selection s ≡ Some selection → IsTrue (in_cancelled_set (st.shared.key s i))
+    → IsTrue (is_looked selection.looked (key_at st.shared s i)) ↔ (i < selection.bound)
+
+-- the call registers a channel that has no key in the selector, and is answered with the key
+pub record IsNewKey (rules : Rules) (l : Limits) (st : ScriptState) (c : ScriptCall) (s : ℕ) (k : KeyId) : Type 0 where
+  pub name : SelNo
+  pub chan : ChanNo
+  pub ops : ℕ
+  pub att : Option ℕ
+  pub called : c.call ≡ call.Register name chan ops att
+  pub there : name.0 ≡ s
+  pub none : key_of st.shared chan.0 s ≡ None
+  pub answered : (seq rules l st c.caller c.call).reply ≡ reply.Key k
+
+-- a new key wasn't published before, so its serial is one that no earlier key of its index had; and it is
+-- valid
+abbrev pub NewKeyIsNew : Type 0
+NewKeyIsNew = (rules : Rules) (l : Limits) (calls : List ScriptCall) (c : ScriptCall) (s : ℕ) (k : KeyId)
+    → let st = left_by_script rules l calls in
+    IsNewKey rules l st c s k
+    → IsFalse (was_published (st.shared.key s k.index) k.serial)
+    × IsTrue (is_valid_key ((seq rules l st c.caller c.call).left.shared.key s k.index) k.serial)
+
+-- two keys of a selector have different names: those of one index have different serials
+abbrev pub NewKeysDiffer : Type 0
+NewKeysDiffer = (rules : Rules) (l : Limits) (calls more : List ScriptCall) (first second : ScriptCall) (s : ℕ) (k m : KeyId)
+    → IsNewKey rules l (left_by_script rules l calls) first s k
+    → IsNewKey rules l (left_by_script rules l (calls ++ first ∷ more)) second s m
+    → k ≢ m
 
 -- CHANNELS
 
 -- a channel's key in a selector, as the calls find it, is the one of the key set that has the channel
 abbrev pub KeyOfAChannelIsFound : Type 0
-KeyOfAChannelIsFound = (l : Limits) (calls : List ScriptCall) (c s i : ℕ)
-    → let st = (left_by_script l calls).shared in
-    (key_of st c s ≡ Some i) ↔ (IsTrue (in_key_set (st.key s i)) × ((st.key s i).chan.0 ≡ c))
+KeyOfAChannelIsFound = (rules : Rules) (l : Limits) (calls : List ScriptCall) (c s : ℕ) (k : KeyId)
+    → let st = (left_by_script rules l calls).shared in
+    (key_of st c s ≡ Some k) ↔ (IsTrue (is_in_key_set (st.key s k.index) k.serial) × ((st.key s k.index).chan.0 ≡ c))
 
 -- a channel has at most one key in a selector's key set
 abbrev pub OneKeyOfAChannel : Type 0
-OneKeyOfAChannel = (l : Limits) (calls : List ScriptCall) (s i j : ℕ)
-    → let st = (left_by_script l calls).shared in
+OneKeyOfAChannel = (rules : Rules) (l : Limits) (calls : List ScriptCall) (s i j : ℕ)
+    → let st = (left_by_script rules l calls).shared in
     IsTrue (in_key_set (st.key s i)) → IsTrue (in_key_set (st.key s j)) → (st.key s i).chan ≡ (st.key s j).chan → i ≡ j
 
 -- a channel counts as registered exactly where a key of it is in a key set
 abbrev pub RegisteredIsInAKeySet : Type 0
-RegisteredIsInAKeySet = (l : Limits) (calls : List ScriptCall) (c : ℕ)
-    → let st = (left_by_script l calls).shared in
+RegisteredIsInAKeySet = (rules : Rules) (l : Limits) (calls : List ScriptCall) (c : ℕ)
+    → let st = (left_by_script rules l calls).shared in
     IsTrue (is_registered l st c) ↔ IsRegistered st c
 
 -- a registered channel isn't in blocking mode
 abbrev pub RegisteredIsNonBlocking : Type 0
-RegisteredIsNonBlocking = (l : Limits) (calls : List ScriptCall) (c : ℕ)
-    → let st = (left_by_script l calls).shared in
+RegisteredIsNonBlocking = (rules : Rules) (l : Limits) (calls : List ScriptCall) (c : ℕ)
+    → let st = (left_by_script rules l calls).shared in
     IsRegistered st c → IsFalse (st.chan c).blocking
 
 -- no key of a closed channel is valid
 abbrev pub ClosedChannelHasNoValidKey : Type 0
-ClosedChannelHasNoValidKey = (l : Limits) (calls : List ScriptCall) (s i : ℕ)
-    → let st = (left_by_script l calls).shared in
+ClosedChannelHasNoValidKey = (rules : Rules) (l : Limits) (calls : List ScriptCall) (s i : ℕ)
+    → let st = (left_by_script rules l calls).shared in
     IsTrue (st.chan (st.key s i).chan.0).closed → IsFalse (is_valid (st.key s i))
 
 -- A CLOSED SELECTOR
@@ -80,6 +154,6 @@ pub record IsEmptied (st : State) (s : ℕ) : Type 0 where
 
 -- once the closing of a selector has ended, the selector is and stays empty, whatever is called
 abbrev pub ClosedSelectorIsEmpty : Type 0
-ClosedSelectorIsEmpty = (l : Limits) (calls more : List ScriptCall) (me : CallerNo) (s : SelNo)
-    → (seq l (left_by_script l calls) me (call.CloseEnd s)).reply ≡ reply.Closed
-    → IsEmptied (left_by_script l (calls ++ record { caller = me; call = call.CloseEnd s } ∷ more)).shared s.0
+ClosedSelectorIsEmpty = (rules : Rules) (l : Limits) (calls more : List ScriptCall) (me : CallerNo) (s : SelNo)
+    → (seq rules l (left_by_script rules l calls) me (call.CloseEnd s)).reply ≡ reply.Closed
+    → IsEmptied (left_by_script rules l (calls ++ record { caller = me; call = call.CloseEnd s } ∷ more)).shared s.0

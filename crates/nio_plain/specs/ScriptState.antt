@@ -1,18 +1,19 @@
 -- What a script's system holds: the shared state of selectors, keys and channels, and the selections
 -- in progress.
 --
--- A state of a script counts no caller as drawn, and counts a removed index as neither cancelled nor
--- selected: no call of a script tells these apart.
+-- A state of a script counts no caller as drawn, and counts a removed key as neither cancelled nor
+-- selected: no call of a script tells these apart. Between its calls nobody has a pin or uses an index.
 use Rattle.std.specs.Prelude.{ℕ, List, Option, None}
-use Rattle.nio_event.specs.State.{State, opening}
+use Rattle.nio_base.specs.declared.numbers.KeyId.{KeyId}
+use Rattle.nio_event.specs.State.{State, opening, put}
 use Rattle.nio_event.specs.declared.found.Mode.{Mode}
 
--- a selection in progress: how long it waits, the bound below which it looks at indexes, and the
--- keys that it looked at with the interest that each had then. Its caller has the selector's turn
+-- a selection in progress: how long it waits, the number of indexes that were claimed when it began,
+-- and the keys that it looked at with the interest that each had then. Its caller has the selector's turn
 pub record Selection : Type 0 where
   pub mode : Mode
   pub bound : ℕ
-  pub looked : List (ℕ × ℕ)
+  pub looked : List (KeyId × ℕ)
 
 pub record ScriptState : Type 0 where
   pub shared : State
@@ -22,3 +23,11 @@ pub record ScriptState : Type 0 where
 -- the state in which a script begins
 abbrev pub script_opening : ScriptState
 script_opening = record { shared = opening; selection = λ _. None }
+
+-- the setters
+
+abbrev pub with_shared : ScriptState → State → ScriptState
+with_shared st x = record st { shared = x }
+
+abbrev pub with_selection : ScriptState → ℕ → Option Selection → ScriptState
+with_selection st s x = record st { selection = put st.selection s x }

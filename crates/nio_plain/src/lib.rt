@@ -2,10 +2,12 @@
 #![tactic(auto)]
 
 pub use plain::Plain;
+pub use rules::Rules;
 pub use system::System;
 
 pub mod laws;
 mod plain;
+mod rules;
 mod system;
 #[cfg(test)]
 mod tests;

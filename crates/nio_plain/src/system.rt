@@ -8,11 +8,15 @@ use std::alloc::{AllocError, Global};
 /// A system of selectors, keys and channels, which answers as the documented one.
 pub trait System {
     ghost use Rattle.nio_base.specs.declared.limits.Limits.{Limits};
+    ghost use Rattle.nio_plain.specs.declared.rules.Rules.{Rules};
     ghost use Rattle.nio_plain.specs.ScriptState.{ScriptState};
     ghost use Rattle.nio_plain.specs.Seq.{seq};
 
     // How much the system can hold.
     ghost limits: { Self → Limits };
+
+    // The rules by which it answers.
+    ghost rules: { Self → Rules };
 
     // What it holds.
     ghost state: { Self → ScriptState };
@@ -22,8 +26,8 @@ pub trait System {
 
     /// Makes one call. Want of memory leaves all as it was.
     fn call(&mut self, alloc: Global, caller: CallerNo, call: &Call) -> Result<Reply, AllocError>
-        ensures reply { IfOk result (λ reply. reply ≡ (seq (limits self.old) (state self.old) caller call.now).reply) }
-        ensures left { IfOk result (λ _. state self.new ≡ (seq (limits self.old) (state self.old) caller call.now).left) }
+        ensures reply { IfOk result (λ reply. reply ≡ (seq (rules self.old) (limits self.old) (state self.old) caller call.now).reply) }
+        ensures left { IfOk result (λ _. state self.new ≡ (seq (rules self.old) (limits self.old) (state self.old) caller call.now).left) }
         ensures memory { OnErr result (state self.new ≡ state self.old) }
         ensures kept { kept self.old self.new };
 
@@ -32,4 +36,6 @@ pub trait System {
     ghost kept_on: { (x y z : Self) → kept x y → kept y z → kept x z };
 
     ghost kept_limits: { (y z : Self) → kept y z → limits z ≡ limits y };
+
+    ghost kept_rules: { (y z : Self) → kept y z → rules z ≡ rules y };
 }

@@ -3,19 +3,20 @@ use Rattle.std.specs.Prelude.{Bool, true, false}
 use Rattle.nio_event.specs.State.{State}
 use Rattle.nio_event.specs.declared.reply.Reply.{Reply}
 use Rattle.nio_event.specs.declared.reply.Reply.TheVariants as reply
-use Rattle.nio_plain.specs.ScriptState.{ScriptState}
+use Rattle.nio_plain.specs.ScriptState.{ScriptState, with_shared}
 
 -- a reply, and the state that the call leaves
 pub record Answered : Type 0 where
   pub reply : Reply
   pub left : ScriptState
 
-abbrev pub refused : ScriptState → Reply → Answered
-refused st reply = record { reply = reply; left = st }
+-- a call that changes nothing: it is refused, or it only tells something
+abbrev pub unchanged : ScriptState → Reply → Answered
+unchanged st reply = record { reply = reply; left = st }
 
 -- a call that changes the shared state alone
 abbrev pub answered : ScriptState → Reply → State → Answered
-answered st reply shared = record { reply = reply; left = record st { shared = shared } }
+answered st reply shared = record { reply = reply; left = with_shared st shared }
 
 -- the reply to a question
 abbrev pub yes_or_no : Bool → Reply

@@ -1,66 +1,77 @@
 -- Keys. What a key is interested in and ready for is told and set while it is valid. Setting and
 -- or-ing refuse bits outside the kind's operations; and-ing takes any. Or-ing and and-ing give the
--- set before.
-use Rattle.std.specs.Prelude.{ℕ, Bool, false, if◌then◌else◌, bit_and, bit_or}
+-- set before. A key whose index was given to a later key is never valid again, and has no attachment.
+use Rattle.std.specs.Prelude.{ℕ, Bool, ◌&&◌, if◌then◌else◌, bit_and, bit_or}
+use Rattle.nio_base.specs.declared.numbers.KeyId.{KeyId}
 use Rattle.nio_base.specs.declared.numbers.SelNo.{SelNo}
-use Rattle.nio_event.specs.Sets.{in_selected_set, is_valid}
+use Rattle.nio_event.specs.Sets.{fits, in_selected_set, is_valid_key}
 use Rattle.nio_event.specs.State.{State, with_interest, with_mark, with_note}
 use Rattle.nio_event.specs.declared.reply.Reply.TheVariants as reply
 use Rattle.nio_plain.specs.ScriptState.{ScriptState}
-use Rattle.nio_plain.specs.Seq.Answers.{Answered, refused, answered, yes_or_no}
+use Rattle.nio_plain.specs.Seq.Answers.{Answered, unchanged, answered, yes_or_no}
 use Rattle.nio_plain.specs.Seq.Names.{with_named_key}
 use Rattle.nio_plain.specs.Seq.Registering.{are_legal}
+use Rattle.nio_plain.specs.Seq.Removing.{unselected}
 
-unfoldable pub valid_call : ScriptState → SelNo → ℕ → Answered
-valid_call st s i = with_named_key st s i (refused st (yes_or_no (is_valid (st.shared.key s.0 i))))
+unfoldable pub valid_call : ScriptState → SelNo → KeyId → Answered
+valid_call st s k =
+    with_named_key st s k (unchanged st (yes_or_no (is_valid_key (st.shared.key s.0 k.index) k.serial)))
 
-abbrev pub with_valid_key : ScriptState → SelNo → ℕ → Answered → Answered
-with_valid_key st s i done =
-    with_named_key st s i (if is_valid (st.shared.key s.0 i) then done else refused st reply.CancelledKey)
+abbrev pub with_valid_key : ScriptState → SelNo → KeyId → Answered → Answered
+with_valid_key st s k done =
+    with_named_key st s k
+    (if is_valid_key (st.shared.key s.0 k.index) k.serial then done else unchanged st reply.CancelledKey)
 
-unfoldable pub interest_call : ScriptState → SelNo → ℕ → Answered
-interest_call st s i = with_valid_key st s i (refused st (reply.Number (st.shared.interest s.0 i)))
+unfoldable pub interest_call : ScriptState → SelNo → KeyId → Answered
+interest_call st s k = with_valid_key st s k (unchanged st (reply.Number (st.shared.interest s.0 k.index)))
 
-unfoldable pub ready_call : ScriptState → SelNo → ℕ → Answered
-ready_call st s i = with_valid_key st s i (refused st (reply.Number (st.shared.mark s.0 i).ready))
+unfoldable pub ready_call : ScriptState → SelNo → KeyId → Answered
+ready_call st s k = with_valid_key st s k (unchanged st (reply.Number (st.shared.mark s.0 k.index).ready))
 
 -- the operations of the key's channel
 abbrev pub are_legal_at : State → ℕ → ℕ → ℕ → Bool
 are_legal_at st s i ops = are_legal (st.chan (st.key s i).chan.0).kind ops
 
-unfoldable pub iset_call : ScriptState → SelNo → ℕ → ℕ → Answered
-iset_call st s i ops =
-    with_valid_key st s i
-    (if are_legal_at st.shared s.0 i ops then answered st reply.«Ok» (with_interest st.shared s.0 i ops)
-    else refused st reply.IllegalOps)
+unfoldable pub iset_call : ScriptState → SelNo → KeyId → ℕ → Answered
+iset_call st s k ops =
+    with_valid_key st s k
+    (if are_legal_at st.shared s.0 k.index ops then answered st reply.«Ok» (with_interest st.shared s.0 k.index ops)
+    else unchanged st reply.IllegalOps)
 
-unfoldable pub ior_call : ScriptState → SelNo → ℕ → ℕ → Answered
-ior_call st s i ops =
-    let before = st.shared.interest s.0 i in
-    with_valid_key st s i
-    (if are_legal_at st.shared s.0 i ops
-    then answered st (reply.Number before) (with_interest st.shared s.0 i (bit_or before ops))
-    else refused st reply.IllegalOps)
+unfoldable pub ior_call : ScriptState → SelNo → KeyId → ℕ → Answered
+ior_call st s k ops =
+    let before = st.shared.interest s.0 k.index in
+    with_valid_key st s k
+    (if are_legal_at st.shared s.0 k.index ops
+    then answered st (reply.Number before) (with_interest st.shared s.0 k.index (bit_or before ops))
+    else unchanged st reply.IllegalOps)
 
-unfoldable pub iand_call : ScriptState → SelNo → ℕ → ℕ → Answered
-iand_call st s i ops =
-    let before = st.shared.interest s.0 i in
-    with_valid_key st s i
-    (answered st (reply.Number before) (with_interest st.shared s.0 i (bit_and before ops)))
+unfoldable pub iand_call : ScriptState → SelNo → KeyId → ℕ → Answered
+iand_call st s k ops =
+    let before = st.shared.interest s.0 k.index in
+    with_valid_key st s k
+    (answered st (reply.Number before) (with_interest st.shared s.0 k.index (bit_and before ops)))
 
 -- a user may take a key out of the selected set, and can't add one
-unfoldable pub unselect_call : ScriptState → SelNo → ℕ → Answered
-unselect_call st s i =
-    with_named_key st s i
-    (if in_selected_set st.shared s.0 i
-    then answered st reply.Yes (with_mark st.shared s.0 i (record (st.shared.mark s.0 i) { selected = false }))
-    else refused st reply.No)
+abbrev pub is_in_selected_set : State → ℕ → KeyId → Bool
+is_in_selected_set st s k = fits (st.key s k.index) k.serial && in_selected_set st s k.index
+
+unfoldable pub unselect_call : ScriptState → SelNo → KeyId → Answered
+unselect_call st s k =
+    with_named_key st s k
+    (if is_in_selected_set st.shared s.0 k
+    then answered st reply.Yes (with_mark st.shared s.0 k.index (unselected (st.shared.mark s.0 k.index)))
+    else unchanged st reply.No)
 
 -- attaching gives the attachment before
-unfoldable pub attach_call : ScriptState → SelNo → ℕ → ℕ → Answered
-attach_call st s i att =
-    with_named_key st s i
-    (answered st (reply.Number (st.shared.note s.0 i)) (with_note st.shared s.0 i att))
+unfoldable pub attach_call : ScriptState → SelNo → KeyId → ℕ → Answered
+attach_call st s k att =
+    with_named_key st s k
+    (if fits (st.shared.key s.0 k.index) k.serial
+    then answered st (reply.Number (st.shared.note s.0 k.index)) (with_note st.shared s.0 k.index att)
+    else unchanged st (reply.Number 0))
 
-unfoldable pub attachment_call : ScriptState → SelNo → ℕ → Answered
-attachment_call st s i = with_named_key st s i (refused st (reply.Number (st.shared.note s.0 i)))
+unfoldable pub attachment_call : ScriptState → SelNo → KeyId → Answered
+attachment_call st s k =
+    with_named_key st s k
+    (unchanged st (reply.Number (if fits (st.shared.key s.0 k.index) k.serial then st.shared.note s.0 k.index else 0)))

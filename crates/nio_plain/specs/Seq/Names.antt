@@ -1,22 +1,35 @@
--- Names. A selector and a channel have to be made, and a key published.
-use Rattle.std.specs.Prelude.{ℕ, zero, suc, if◌then◌else◌, List, [], ◌∷◌, ◌++◌}
+-- Names. A selector and a channel have to be made, and a key published: with its serial, or before its
+-- index was given to a later key.
+use Rattle.std.specs.Prelude.{ℕ, zero, suc, ◌==◌, Bool, ◌&&◌, if◌then◌else◌, List, [], ◌∷◌, ◌++◌}
 use Rattle.nio_base.specs.declared.numbers.ChanNo.{ChanNo}
+use Rattle.nio_base.specs.declared.numbers.KeyId.{KeyId}
 use Rattle.nio_base.specs.declared.numbers.SelNo.{SelNo}
+use Rattle.nio_event.specs.Sets.{was_published}
+use Rattle.nio_event.specs.State.{State}
 use Rattle.nio_event.specs.declared.reply.Reply.TheVariants as reply
 use Rattle.nio_plain.specs.ScriptState.{ScriptState}
-use Rattle.nio_plain.specs.Seq.Answers.{Answered, refused}
+use Rattle.nio_plain.specs.Seq.Answers.{Answered, unchanged}
 
 -- the numbers below n, in rising order
 abbrev pub below : ℕ → List ℕ
 below zero = []
 below (suc n) = below n ++ n ∷ []
 
+-- the present key of an index
+abbrev pub key_at : State → ℕ → ℕ → KeyId
+key_at st s i = record { index = i; serial = (st.key s i).serial }
+
+-- two names of one key
+abbrev pub is_same_key : KeyId → KeyId → Bool
+is_same_key k m = (k.index == m.index) && (k.serial == m.serial)
+
 abbrev pub with_named_channel : ScriptState → ChanNo → Answered → Answered
-with_named_channel st c done = if (st.shared.chan c.0).made then done else refused st reply.NoChannel
+with_named_channel st c done = if (st.shared.chan c.0).made then done else unchanged st reply.NoChannel
 
 abbrev pub with_named_selector : ScriptState → SelNo → Answered → Answered
-with_named_selector st s done = if st.shared.selector s.0 then done else refused st reply.NoSelector
+with_named_selector st s done = if st.shared.selector s.0 then done else unchanged st reply.NoSelector
 
-abbrev pub with_named_key : ScriptState → SelNo → ℕ → Answered → Answered
-with_named_key st s i done =
-    with_named_selector st s (if (st.shared.key s.0 i).published then done else refused st reply.NoKey)
+abbrev pub with_named_key : ScriptState → SelNo → KeyId → Answered → Answered
+with_named_key st s k done =
+    with_named_selector st s
+    (if was_published (st.shared.key s.0 k.index) k.serial then done else unchanged st reply.NoKey)

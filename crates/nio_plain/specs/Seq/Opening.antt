@@ -6,11 +6,11 @@ use Rattle.nio_base.specs.declared.limits.Limits.{Limits}
 use Rattle.nio_event.specs.State.{with_selector, with_chan, with_channels_mark}
 use Rattle.nio_event.specs.declared.reply.Reply.TheVariants as reply
 use Rattle.nio_plain.specs.ScriptState.{ScriptState}
-use Rattle.nio_plain.specs.Seq.Answers.{Answered, refused, answered}
+use Rattle.nio_plain.specs.Seq.Answers.{Answered, unchanged, answered}
 use Rattle.nio_plain.specs.Seq.Names.{below}
 
 abbrev pub selector_made : ScriptState → Option ℕ → Answered
-selector_made st None = refused st reply.SelectorsSpent
+selector_made st None = unchanged st reply.SelectorsSpent
 selector_made st (Some s) =
     answered st (reply.Selector (record { 0 = s })) (with_selector st.shared s true)
 
@@ -19,7 +19,7 @@ selector_call l st =
     selector_made st (find (λ s. not (st.shared.selector s)) (below l.selectors))
 
 abbrev pub channel_made : ScriptState → Kind → Option ℕ → Answered
-channel_made st kind None = refused st reply.ChannelsSpent
+channel_made st kind None = unchanged st reply.ChannelsSpent
 channel_made st kind (Some c) =
     let opened = with_chan st.shared c
     (record { made = true; kind = kind; closed = false; blocking = true }) in

@@ -1,19 +1,21 @@
 -- Registering. A channel must be non-blocking, and no key of it there may be cancelled and still in
--- the key set. A valid key gets the new interest; else there is a new key, whose index is the number
--- of keys claimed in the selector.
-use Rattle.std.specs.Prelude.{ℕ, ◌+◌, ◌==◌, nat_lt, Bool, true, false, not, if◌then◌else◌, Option, Some, None, bit_and}
+-- the key set. A valid key gets the new interest; else there is a new key. Its index is the least free
+-- one, with the next serial; where none is free, it is the number of indexes claimed so far, with
+-- serial 0.
+use Rattle.std.specs.Prelude.{ℕ, suc, ◌==◌, max, nat_lt, Bool, true, false, not, if◌then◌else◌, Option, Some, None, bit_and, find}
 use Rattle.nio_base.specs.Kind.{valid_operations}
 use Rattle.nio_base.specs.declared.kind.Kind.{Kind}
 use Rattle.nio_base.specs.declared.limits.Limits.{Limits}
 use Rattle.nio_base.specs.declared.numbers.ChanNo.{ChanNo}
+use Rattle.nio_base.specs.declared.numbers.KeyId.{KeyId}
 use Rattle.nio_base.specs.declared.numbers.SelNo.{SelNo}
-use Rattle.nio_event.specs.State.{State, with_noted, with_keys_mark, with_key, with_interest, with_note}
+use Rattle.nio_event.specs.State.{State, unmarked, with_noted, with_keys_mark, with_key, with_interest, with_mark, with_note, with_free}
 use Rattle.nio_event.specs.declared.found.Stage.{Stage}
 use Rattle.nio_event.specs.declared.reply.Reply.TheVariants as reply
 use Rattle.nio_plain.specs.ScriptState.{ScriptState}
-use Rattle.nio_plain.specs.Seq.Answers.{Answered, refused, answered}
+use Rattle.nio_plain.specs.Seq.Answers.{Answered, unchanged, answered}
 use Rattle.nio_plain.specs.Seq.Modes.{key_of}
-use Rattle.nio_plain.specs.Seq.Names.{with_named_channel, with_named_selector}
+use Rattle.nio_plain.specs.Seq.Names.{below, with_named_channel, with_named_selector}
 
 -- the attachment that a new key gets
 abbrev pub given_or_none : Option ℕ → ℕ
@@ -25,29 +27,51 @@ abbrev pub given_or_kept : Option ℕ → ℕ → ℕ
 given_or_kept None kept = kept
 given_or_kept (Some att) kept = if att == 0 then kept else att
 
-abbrev pub new_key : State → ℕ → ℕ → ℕ → ℕ → ℕ → State
-new_key st s c i ops att =
-    let stage : Stage = record {
-      claimed = true;
-      published = true;
-      cancelled = false;
-      removed = false;
-      chan = record { 0 = c };
-    } in
-    let noted = with_noted (with_keys_mark (with_key st s i stage) s (i + 1)) c s (Some i) in
-    with_note (with_interest noted s i ops) s i att
+-- the least free index of a selector
+abbrev pub free_index : State → ℕ → Option ℕ
+free_index st s = find (λ i. st.free s i) (below (st.keys_mark s))
 
-abbrev pub registered : Limits → ScriptState → ℕ → ℕ → ℕ → Option ℕ → Option ℕ → Answered
+-- the key that a selector gives next, by the least free index; none where every index is claimed and
+-- none is free
+abbrev pub next_by : Limits → State → ℕ → Option ℕ → Option KeyId
+next_by l st s (Some i) = Some (record { index = i; serial = suc (st.key s i).serial })
+next_by l st s None =
+    if nat_lt (st.keys_mark s) l.keys then Some (record { index = st.keys_mark s; serial = 0 }) else None
+
+abbrev pub next_key : Limits → State → ℕ → Option KeyId
+next_key l st s = next_by l st s (free_index st s)
+
+abbrev pub new_stage : ℕ → ℕ → Stage
+new_stage c serial = record {
+  claimed = true;
+  published = true;
+  cancelled = false;
+  removed = false;
+  chan = record { 0 = c };
+  serial = serial;
+}
+
+-- a new key of a channel: it isn't selected and its ready set is empty, and its index isn't free any more
+abbrev pub with_new_key : State → ℕ → ℕ → KeyId → ℕ → ℕ → State
+with_new_key st s c k ops att =
+    let i = k.index in
+    let claimed = with_keys_mark (with_free (with_key st s i (new_stage c k.serial)) s i false) s (max (st.keys_mark s) (suc i)) in
+    with_note (with_mark (with_interest (with_noted claimed c s (Some k)) s i ops) s i unmarked) s i att
+
+abbrev pub registered_new : ScriptState → ℕ → ℕ → ℕ → ℕ → Option KeyId → Answered
+registered_new st s c ops att None = unchanged st reply.Full
+registered_new st s c ops att (Some k) = answered st (reply.Key k) (with_new_key st.shared s c k ops att)
+
+abbrev pub registered : Limits → ScriptState → ℕ → ℕ → ℕ → Option ℕ → Option KeyId → Answered
 registered l st s c ops att None =
-    let i = st.shared.keys_mark s in
-    if (st.shared.gate s).shut then refused st reply.ClosedSelector
-    else if nat_lt i l.keys then answered st (reply.Key i) (new_key st.shared s c i ops (given_or_none att))
-    else refused st reply.Full
-registered l st s c ops att (Some i) =
-    if (st.shared.key s i).cancelled then refused st reply.CancelledKey
-    else if (st.shared.gate s).shut then refused st reply.ClosedSelector
+    if (st.shared.gate s).shut then unchanged st reply.ClosedSelector
+    else registered_new st s c ops (given_or_none att) (next_key l st.shared s)
+registered l st s c ops att (Some k) =
+    let i = k.index in
+    if (st.shared.key s i).cancelled then unchanged st reply.CancelledKey
+    else if (st.shared.gate s).shut then unchanged st reply.ClosedSelector
     else
-    answered st (reply.Key i)
+    answered st (reply.Key k)
     (with_note (with_interest st.shared s i ops) s i (given_or_kept att (st.shared.note s i)))
 
 -- no bit is outside the kind's operations
@@ -59,7 +83,7 @@ register_call l st s c ops att =
     let chan = st.shared.chan c.0 in
     with_named_selector st s
     (with_named_channel st c
-    (if not (are_legal chan.kind ops) then refused st reply.IllegalOps
-    else if chan.closed then refused st reply.ClosedChannel
-    else if chan.blocking then refused st reply.IllegalBlockingMode
+    (if not (are_legal chan.kind ops) then unchanged st reply.IllegalOps
+    else if chan.closed then unchanged st reply.ClosedChannel
+    else if chan.blocking then unchanged st reply.IllegalBlockingMode
     else registered l st s.0 c.0 ops att (key_of st.shared c.0 s.0)))

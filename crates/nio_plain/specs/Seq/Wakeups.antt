@@ -7,7 +7,7 @@ use Rattle.nio_base.specs.declared.numbers.SelNo.{SelNo}
 use Rattle.nio_event.specs.State.{with_interrupted, with_gate}
 use Rattle.nio_event.specs.declared.reply.Reply.TheVariants as reply
 use Rattle.nio_plain.specs.ScriptState.{ScriptState}
-use Rattle.nio_plain.specs.Seq.Answers.{Answered, refused, answered, yes_or_no}
+use Rattle.nio_plain.specs.Seq.Answers.{Answered, unchanged, answered, yes_or_no}
 use Rattle.nio_plain.specs.Seq.Names.{with_named_selector}
 
 unfoldable pub wakeup_call : ScriptState → SelNo → Answered
@@ -18,7 +18,7 @@ wakeup_call st s =
 unfoldable pub interrupt_call : Limits → ScriptState → CallerNo → Answered
 interrupt_call l st target =
     if nat_lt target.0 l.callers then answered st reply.«Ok» (with_interrupted st.shared target.0 true)
-    else refused st reply.NoCaller
+    else unchanged st reply.NoCaller
 
 unfoldable pub interrupted_call : ScriptState → CallerNo → Answered
 interrupted_call st me =

@@ -1,7 +1,7 @@
 //! Laws of one call, and of the calls between two wakeups.
 ghost use Rattle.nio_plain.specs.CallLaws.{RefusalsChangeNothing, OnlyToldBitsAreSelected, BitsAreToldAndLookedFor, LookedIsAnswered, OnlyItselfEndsASelection, WakeupsArePending, FurtherWakeupsChangeNothing, WakeupsAreAnswered, WakeupsActAsOne};
 
-/// A refused call changes nothing.
+/// A refused call changes nothing, nor does one that only asks.
 pub fn refusals_law()
     ensures { RefusalsChangeNothing }
 {}

@@ -1,16 +1,39 @@
 //! Laws of the states that scripts leave, whatever is called and within whatever limits.
-ghost use Rattle.nio_plain.specs.ReachedLaws.{SetsAreWithinKeySet, KeysAreBelowTheMark, InvalidKeysStayInvalid, KeyOfAChannelIsFound, OneKeyOfAChannel, RegisteredIsInAKeySet, RegisteredIsNonBlocking, ClosedChannelHasNoValidKey, ClosedSelectorIsEmpty};
+ghost use Rattle.nio_plain.specs.ReachedLaws.{SetsAreWithinKeySet, KeysAreBelowTheMark, LookedAreInKeySet, PublishedStays, InvalidKeysStayInvalid, FreeIndexHasNoKey, FirstRulesFreeNone, FirstRulesRemoveBelowTheBound, NewKeyIsNew, NewKeysDiffer, KeyOfAChannelIsFound, OneKeyOfAChannel, RegisteredIsInAKeySet, RegisteredIsNonBlocking, ClosedChannelHasNoValidKey, ClosedSelectorIsEmpty};
 
 /// The cancelled set and the selected set are within the key set, and each key of the key set is below
-/// its selector's mark, so that a selection that begins looks at all of them.
+/// its selector's mark, so that a selection that begins looks at all of them. What a selection in
+/// progress looks at stays in the key set.
 pub fn sets_law()
     ensures within { SetsAreWithinKeySet }
     ensures below { KeysAreBelowTheMark }
+    ensures looked { LookedAreInKeySet }
 {}
 
-/// A key that isn't valid stays so.
+/// A key that was published stays so, and one that isn't valid stays so: also after its index was
+/// given to a later key.
 pub fn invalid_keys_law()
-    ensures { InvalidKeysStayInvalid }
+    ensures published { PublishedStays }
+    ensures invalid { InvalidKeysStayInvalid }
+{}
+
+/// A free index has no key in a set and no valid one.
+pub fn free_index_law()
+    ensures { FreeIndexHasNoKey }
+{}
+
+/// A registration's new key is valid, and was no key of its index before: two keys of one index have
+/// different serials.
+pub fn new_key_law()
+    ensures new { NewKeyIsNew }
+    ensures differ { NewKeysDiffer }
+{}
+
+/// By the first rules no index is ever free, so that a registration takes none, and what a selection
+/// removes at its end are the cancelled keys below the number of indexes that it began with.
+pub fn first_rules_law()
+    ensures free { FirstRulesFreeNone }
+    ensures removed { FirstRulesRemoveBelowTheBound }
 {}
 
 /// A channel has at most one key in a key set, and the calls find just that one.

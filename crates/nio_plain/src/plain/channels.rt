@@ -45,7 +45,7 @@ impl Plain {
         }
         match self.selector(sel) {
             Ok(place) => match self.selectors[place].key_of(chan) {
-                Some(index) => Reply::Key(index),
+                Some(key) => Reply::Key(key),
                 None => Reply::None,
             },
             Err(refusal) => refusal,

@@ -1,7 +1,8 @@
 //! Closing a selector, in two parts, and closing a channel.
 ghost use Rattle.std.specs.Prelude.{◌≡◌};
-ghost use Rattle.nio_plain.specs.Plain.{Answers};
-ghost use Rattle.nio_plain.specs.PlainState.{limits_of, state_of};
+ghost use Rattle.nio_plain.specs.Plain.{Answers, Kept};
+ghost use Rattle.nio_plain.specs.PlainState.{state_of};
+ghost use Rattle.nio_plain.specs.ScriptState.{with_shared};
 ghost use Rattle.nio_plain.specs.Seq.Cancelling.{closec_call, with_keys_cancelled};
 ghost use Rattle.nio_plain.specs.Seq.Closing.{close_call, close_end_call};
 
@@ -55,8 +56,8 @@ impl Plain {
     }
 
     /// Closes the channel, and cancels its key in each selector.
-    pub(super) fn close_channel(&mut self, chan: ChanNo) -> Reply
-        ensures { Answers self.old self.new result (closec_call (state_of self.old) chan) }
+    pub(super) fn close_channel(&mut self, me: CallerNo, chan: ChanNo) -> Reply
+        ensures { Answers self.old self.new result (closec_call (state_of self.old) me chan) }
     {
         let channel = match self.channel(chan) {
             Ok(channel) => channel,
@@ -72,8 +73,8 @@ impl Plain {
 
     /// Cancels the channel's key in each selector.
     fn cancel_keys_of(&mut self, chan: ChanNo)
-        ensures left { state_of self.new ≡ record (state_of self.old) { shared = with_keys_cancelled (state_of self.old).shared chan.0 } }
-        ensures limits { limits_of self.new ≡ limits_of self.old }
+        ensures left { state_of self.new ≡ with_shared (state_of self.old) (with_keys_cancelled (state_of self.old).shared chan.0) }
+        ensures kept { Kept self.old self.new }
     {
         for place in 0..self.selectors.len() {
             self.selectors[place].cancel_key_of(chan);

@@ -7,23 +7,23 @@ ghost use Rattle.nio_plain.specs.Seq.Registering.{are_legal};
 
 use super::Plain;
 use super::selector::Key;
-use nio_base::{ChanNo, Kind, Ops, SelNo};
+use nio_base::{ChanNo, KeyId, Kind, Ops, SelNo};
 use nio_event::Reply;
 
 impl Plain {
-    pub(super) fn interest(&self, sel: SelNo, index: u32) -> Reply
-        ensures { Answers self.now self.now result (interest_call (state_of self.now) sel index) }
+    pub(super) fn interest(&self, sel: SelNo, id: KeyId) -> Reply
+        ensures { Answers self.now self.now result (interest_call (state_of self.now) sel id) }
     {
-        match self.valid_key(sel, index) {
+        match self.valid_key(sel, id) {
             Ok(key) => Reply::Number(u64::from(key.interest.bits())),
             Err(refusal) => refusal,
         }
     }
 
-    pub(super) fn set_interest(&mut self, sel: SelNo, index: u32, ops: Ops) -> Reply
-        ensures { Answers self.old self.new result (iset_call (state_of self.old) sel index ops) }
+    pub(super) fn set_interest(&mut self, sel: SelNo, id: KeyId, ops: Ops) -> Reply
+        ensures { Answers self.old self.new result (iset_call (state_of self.old) sel id ops) }
     {
-        let key = match self.valid_key(sel, index) {
+        let key = match self.valid_key(sel, id) {
             Ok(key) => key,
             Err(refusal) => return refusal,
         };
@@ -32,7 +32,7 @@ impl Plain {
         }
         self.put_key(
             sel,
-            index,
+            id.index,
             Key {
                 interest: ops,
                 ..key
@@ -41,10 +41,10 @@ impl Plain {
         Reply::Ok
     }
 
-    pub(super) fn interest_or(&mut self, sel: SelNo, index: u32, ops: Ops) -> Reply
-        ensures { Answers self.old self.new result (ior_call (state_of self.old) sel index ops) }
+    pub(super) fn interest_or(&mut self, sel: SelNo, id: KeyId, ops: Ops) -> Reply
+        ensures { Answers self.old self.new result (ior_call (state_of self.old) sel id ops) }
     {
-        let key = match self.valid_key(sel, index) {
+        let key = match self.valid_key(sel, id) {
             Ok(key) => key,
             Err(refusal) => return refusal,
         };
@@ -53,20 +53,20 @@ impl Plain {
         }
         let before = key.interest;
         let interest = before.union(ops);
-        self.put_key(sel, index, Key { interest, ..key });
+        self.put_key(sel, id.index, Key { interest, ..key });
         Reply::Number(u64::from(before.bits()))
     }
 
-    pub(super) fn interest_and(&mut self, sel: SelNo, index: u32, ops: Ops) -> Reply
-        ensures { Answers self.old self.new result (iand_call (state_of self.old) sel index ops) }
+    pub(super) fn interest_and(&mut self, sel: SelNo, id: KeyId, ops: Ops) -> Reply
+        ensures { Answers self.old self.new result (iand_call (state_of self.old) sel id ops) }
     {
-        let key = match self.valid_key(sel, index) {
+        let key = match self.valid_key(sel, id) {
             Ok(key) => key,
             Err(refusal) => return refusal,
         };
         let before = key.interest;
         let interest = before.meet(ops);
-        self.put_key(sel, index, Key { interest, ..key });
+        self.put_key(sel, id.index, Key { interest, ..key });
         Reply::Number(u64::from(before.bits()))
     }
 

@@ -8,42 +8,42 @@ ghost use Rattle.nio_plain.specs.Seq.Keys.{attach_call, attachment_call, ready_c
 use super::Plain;
 use super::channels::yes_or_no;
 use super::selector::Key;
-use nio_base::SelNo;
+use nio_base::{KeyId, SelNo};
 use nio_event::{Mark, Reply};
 
 impl Plain {
-    pub(super) fn is_valid_key(&self, sel: SelNo, index: u32) -> Reply
-        ensures { Answers self.now self.now result (valid_call (state_of self.now) sel index) }
+    pub(super) fn is_valid_key(&self, sel: SelNo, id: KeyId) -> Reply
+        ensures { Answers self.now self.now result (valid_call (state_of self.now) sel id) }
     {
-        match self.key(sel, index) {
-            Ok(key) => yes_or_no(key.is_valid()),
+        match self.key(sel, id) {
+            Ok(key) => yes_or_no(key.is_valid_key(id.serial)),
             Err(refusal) => refusal,
         }
     }
 
-    pub(super) fn ready(&self, sel: SelNo, index: u32) -> Reply
-        ensures { Answers self.now self.now result (ready_call (state_of self.now) sel index) }
+    pub(super) fn ready(&self, sel: SelNo, id: KeyId) -> Reply
+        ensures { Answers self.now self.now result (ready_call (state_of self.now) sel id) }
     {
-        match self.valid_key(sel, index) {
+        match self.valid_key(sel, id) {
             Ok(key) => Reply::Number(u64::from(key.mark.ready.bits())),
             Err(refusal) => refusal,
         }
     }
 
-    /// Cancels the key, unless it is removed.
-    pub(super) fn cancel(&mut self, sel: SelNo, index: u32) -> Reply
-        ensures { Answers self.old self.new result (cancel_call (state_of self.old) sel index) }
+    /// Cancels the key, unless it is removed or its index was given to a later key.
+    pub(super) fn cancel(&mut self, sel: SelNo, id: KeyId) -> Reply
+        ensures { Answers self.old self.new result (cancel_call (state_of self.old) sel id) }
     {
-        let key = match self.key(sel, index) {
+        let key = match self.key(sel, id) {
             Ok(key) => key,
             Err(refusal) => return refusal,
         };
-        if key.removed {
+        if !key.is_in_key_set(id.serial) {
             return Reply::Ok;
         }
         self.put_key(
             sel,
-            index,
+            id.index,
             Key {
                 cancelled: true,
                 ..key
@@ -53,42 +53,48 @@ impl Plain {
     }
 
     /// Takes the key out of the selected set.
-    pub(super) fn unselect(&mut self, sel: SelNo, index: u32) -> Reply
-        ensures { Answers self.old self.new result (unselect_call (state_of self.old) sel index) }
+    pub(super) fn unselect(&mut self, sel: SelNo, id: KeyId) -> Reply
+        ensures { Answers self.old self.new result (unselect_call (state_of self.old) sel id) }
     {
-        let key = match self.key(sel, index) {
+        let key = match self.key(sel, id) {
             Ok(key) => key,
             Err(refusal) => return refusal,
         };
-        if key.removed || !key.mark.selected {
+        if !key.is_selected_key(id.serial) {
             return Reply::No;
         }
         let mark = Mark {
             selected: false,
             ..key.mark
         };
-        self.put_key(sel, index, Key { mark, ..key });
+        self.put_key(sel, id.index, Key { mark, ..key });
         Reply::Yes
     }
 
-    pub(super) fn attach(&mut self, sel: SelNo, index: u32, note: u64) -> Reply
-        ensures { Answers self.old self.new result (attach_call (state_of self.old) sel index note) }
+    pub(super) fn attach(&mut self, sel: SelNo, id: KeyId, note: u64) -> Reply
+        ensures { Answers self.old self.new result (attach_call (state_of self.old) sel id note) }
     {
-        match self.key(sel, index) {
-            Ok(key) => {
-                self.put_key(sel, index, Key { note, ..key });
-                Reply::Number(key.note)
-            }
-            Err(refusal) => refusal,
+        let key = match self.key(sel, id) {
+            Ok(key) => key,
+            Err(refusal) => return refusal,
+        };
+        if !key.fits(id.serial) {
+            return Reply::Number(0);
         }
+        self.put_key(sel, id.index, Key { note, ..key });
+        Reply::Number(key.note)
     }
 
-    pub(super) fn attachment(&self, sel: SelNo, index: u32) -> Reply
-        ensures { Answers self.now self.now result (attachment_call (state_of self.now) sel index) }
+    pub(super) fn attachment(&self, sel: SelNo, id: KeyId) -> Reply
+        ensures { Answers self.now self.now result (attachment_call (state_of self.now) sel id) }
     {
-        match self.key(sel, index) {
-            Ok(key) => Reply::Number(key.note),
-            Err(refusal) => refusal,
+        let key = match self.key(sel, id) {
+            Ok(key) => key,
+            Err(refusal) => return refusal,
+        };
+        if !key.fits(id.serial) {
+            return Reply::Number(0);
         }
+        Reply::Number(key.note)
     }
 }

@@ -1,14 +1,15 @@
 //! The names of a line: the channel, the selector or the key that each stands for, or the refusal.
 ghost use Rattle.std.specs.Prelude.{◌≡◌, ◌<◌, IfErr, IfOk, vec_len};
 ghost use Rattle.nio_plain.specs.Naming.{LetsThrough, Refuses};
-ghost use Rattle.nio_plain.specs.PlainState.{channel_row, key_row, limits_of, no_selector, places, selector_row, state_of, with_key_row};
+ghost use Rattle.nio_plain.specs.Plain.{Kept};
+ghost use Rattle.nio_plain.specs.PlainState.{channel_row, key_row, no_selector, places, selector_row, state_of, with_key_row};
 ghost use Rattle.nio_plain.specs.Seq.Keys.{with_valid_key};
 ghost use Rattle.nio_plain.specs.Seq.Names.{with_named_channel, with_named_key, with_named_selector};
 
 use super::Plain;
 use super::channel::Channel;
 use super::selector::Key;
-use nio_base::{ChanNo, SelNo};
+use nio_base::{ChanNo, KeyId, SelNo};
 use nio_event::Reply;
 
 impl Plain {
@@ -38,35 +39,39 @@ impl Plain {
         Ok(sel.0 as usize)
     }
 
-    /// The key of this name.
-    pub(super) fn key(&self, sel: SelNo, index: u32) -> Result<Key, Reply>
-        ensures through { IfOk result (λ _. LetsThrough (with_named_key (state_of self.now) sel index)) }
-        ensures row { IfOk result (λ key. (places selector_row no_selector self.now.selectors.items sel.0).keys index ≡ key_row key) }
-        ensures claimed { IfOk result (λ _. index < (state_of self.now).shared.keys_mark sel.0) }
-        ensures refused { IfErr result (Refuses (state_of self.now) (with_named_key (state_of self.now) sel index)) }
+    /// The present key of the index of this name, where the key of this name was published.
+    pub(super) fn key(&self, sel: SelNo, id: KeyId) -> Result<Key, Reply>
+        ensures through { IfOk result (λ _. LetsThrough (with_named_key (state_of self.now) sel id)) }
+        ensures row { IfOk result (λ key. (places selector_row no_selector self.now.selectors.items sel.0).keys id.index ≡ key_row key) }
+        ensures claimed { IfOk result (λ _. id.index < (state_of self.now).shared.keys_mark sel.0) }
+        ensures refused { IfErr result (Refuses (state_of self.now) (with_named_key (state_of self.now) sel id)) }
     {
         if sel.0 as usize >= self.selectors.len() {
             return Err(Reply::NoSelector);
         }
         let selector = &self.selectors[sel.0 as usize];
-        if index as usize >= selector.keys.len() {
+        if id.index as usize >= selector.keys.len() {
             return Err(Reply::NoKey);
         }
-        Ok(selector.keys[index as usize])
+        let key = selector.keys[id.index as usize];
+        if key.serial < id.serial {
+            return Err(Reply::NoKey);
+        }
+        Ok(key)
     }
 
     /// The key of this name, where it is valid.
-    pub(super) fn valid_key(&self, sel: SelNo, index: u32) -> Result<Key, Reply>
-        ensures through { IfOk result (λ _. LetsThrough (with_valid_key (state_of self.now) sel index)) }
-        ensures row { IfOk result (λ key. (places selector_row no_selector self.now.selectors.items sel.0).keys index ≡ key_row key) }
-        ensures claimed { IfOk result (λ _. index < (state_of self.now).shared.keys_mark sel.0) }
-        ensures refused { IfErr result (Refuses (state_of self.now) (with_valid_key (state_of self.now) sel index)) }
+    pub(super) fn valid_key(&self, sel: SelNo, id: KeyId) -> Result<Key, Reply>
+        ensures through { IfOk result (λ _. LetsThrough (with_valid_key (state_of self.now) sel id)) }
+        ensures row { IfOk result (λ key. (places selector_row no_selector self.now.selectors.items sel.0).keys id.index ≡ key_row key) }
+        ensures claimed { IfOk result (λ _. id.index < (state_of self.now).shared.keys_mark sel.0) }
+        ensures refused { IfErr result (Refuses (state_of self.now) (with_valid_key (state_of self.now) sel id)) }
     {
-        let key = match self.key(sel, index) {
+        let key = match self.key(sel, id) {
             Ok(key) => key,
             Err(refusal) => return Err(refusal),
         };
-        if !key.is_valid() {
+        if !key.is_valid_key(id.serial) {
             return Err(Reply::CancelledKey);
         }
         Ok(key)
@@ -76,7 +81,7 @@ impl Plain {
     pub(super) fn put_key(&mut self, sel: SelNo, index: u32, key: Key)
         requires { index < (state_of self.old).shared.keys_mark sel.0 }
         ensures left { state_of self.new ≡ with_key_row (state_of self.old) sel.0 index (key_row key) }
-        ensures limits { limits_of self.new ≡ limits_of self.old }
+        ensures kept { Kept self.old self.new }
     {
         self.selectors[sel.0 as usize].put_key(index, key);
     }

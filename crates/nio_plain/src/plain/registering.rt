@@ -3,7 +3,7 @@ ghost use Rattle.std.specs.Option.{IfNone};
 ghost use Rattle.std.specs.Prelude.{◌≡◌, ℕ, ◌<◌, IfSome, Option, vec_len};
 ghost use Rattle.nio_plain.specs.Plain.{AnswersAs};
 ghost use Rattle.nio_plain.specs.PlainState.{limits_of, state_of};
-ghost use Rattle.nio_plain.specs.Seq.Answers.{refused};
+ghost use Rattle.nio_plain.specs.Seq.Answers.{unchanged};
 ghost use Rattle.nio_plain.specs.Seq.Modes.{key_of};
 ghost use Rattle.nio_plain.specs.Seq.Registering.{given_or_kept, register_call, registered};
 
@@ -28,8 +28,8 @@ impl Plain {
         }
         let selector = &self.selectors[sel.0 as usize];
         match selector.key_of(chan) {
-            Some(index) => {
-                let key = selector.keys[index as usize];
+            Some(id) => {
+                let key = selector.keys[id.index as usize];
                 if key.cancelled {
                     return Ok(Reply::CancelledKey);
                 }
@@ -41,19 +41,19 @@ impl Plain {
                     note: given_or_kept(note, key.note),
                     ..key
                 };
-                self.selectors[sel.0 as usize].put_key(index, key);
-                Ok(Reply::Key(index))
+                self.selectors[sel.0 as usize].put_key(id.index, key);
+                Ok(Reply::Key(id))
             }
             None => {
                 if selector.is_shut() {
                     return Ok(Reply::ClosedSelector);
                 }
-                let index = selector.keys.len();
-                if index >= self.limits.keys as usize {
+                let Some(id) = selector.next_key(self.limits.keys) else {
                     return Ok(Reply::Full);
-                }
-                self.selectors[sel.0 as usize].add_key(Key::new(chan, ops, note.unwrap_or(0)))?;
-                Ok(Reply::Key(index as u32))
+                };
+                let key = Key::new(chan, id.serial, ops, note.unwrap_or(0));
+                self.selectors[sel.0 as usize].add_key(id, key)?;
+                Ok(Reply::Key(id))
             }
         }
     }
@@ -61,7 +61,7 @@ impl Plain {
     /// Why the channel can't be registered so with any selector, and first of all that a name of
     /// the call isn't made.
     fn refusal(&self, sel: SelNo, chan: ChanNo, ops: Ops) -> Option<Reply>
-        ensures refused { IfSome result (λ reply. (note : Option ℕ) → register_call (limits_of self.now) (state_of self.now) sel chan ops note ≡ refused (state_of self.now) reply) }
+        ensures refused { IfSome result (λ reply. (note : Option ℕ) → register_call (limits_of self.now) (state_of self.now) sel chan ops note ≡ unchanged (state_of self.now) reply) }
         ensures passed { IfNone result ((note : Option ℕ) → register_call (limits_of self.now) (state_of self.now) sel chan ops note
             ≡ registered (limits_of self.now) (state_of self.now) sel.0 chan.0 ops note (key_of (state_of self.now).shared chan.0 sel.0)) }
         ensures made { IfNone result (sel.0 < vec_len self.now.selectors) }

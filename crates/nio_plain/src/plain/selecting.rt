@@ -1,7 +1,7 @@
 //! Beginning a selection.
 ghost use Rattle.std.specs.Prelude.{◌≡◌};
 ghost use Rattle.nio_plain.specs.Plain.{AnswersAs};
-ghost use Rattle.nio_plain.specs.PlainState.{state_of};
+ghost use Rattle.nio_plain.specs.PlainState.{rules_of, state_of};
 ghost use Rattle.nio_plain.specs.Seq.Selections.{begin_call, mode_of};
 
 use super::Plain;
@@ -17,7 +17,7 @@ impl Plain {
         sel: SelNo,
         waiting: Waiting,
     ) -> Result<Reply, AllocError>
-        ensures { AnswersAs self.old self.new result (begin_call (state_of self.old) me sel waiting) }
+        ensures { AnswersAs self.old self.new result (begin_call (rules_of self.old) (state_of self.old) me sel waiting) }
     {
         if sel.0 as usize >= self.selectors.len() {
             return Ok(Reply::NoSelector);
@@ -32,7 +32,8 @@ impl Plain {
         if selector.selecting.is_some() {
             return Ok(Reply::Busy);
         }
-        let looked = self.selectors[sel.0 as usize].begin(alloc, me, mode)?;
+        let rules = self.rules;
+        let looked = self.selectors[sel.0 as usize].begin(alloc, rules, me, mode)?;
         Ok(Reply::Looked(looked))
     }
 }

@@ -1,11 +1,11 @@
 //! Telling a selection what is ready.
 ghost use Rattle.std.specs.Prelude.{◌≡◌, ◌==◌, false, slice_index};
 ghost use Rattle.nio_plain.specs.Plain.{Answers, AnswersAs};
-ghost use Rattle.nio_plain.specs.PlainState.{state_of};
+ghost use Rattle.nio_plain.specs.PlainState.{rules_of, state_of};
 ghost use Rattle.nio_plain.specs.Seq.Selections.{failed_call, goes_on, is_again, told_call, why_ended};
 
 use super::Plain;
-use super::marking::{all_told, updated_count};
+use super::marking::{all_told, looked_serials, updated_count};
 use nio_base::{CallerNo, SelNo};
 use nio_event::{GateWord, Mode, Pairs, Reply, Why};
 use std::alloc::{AllocError, Global};
@@ -19,7 +19,7 @@ impl Plain {
         elapsed: bool,
         pairs: &Pairs,
     ) -> Result<Reply, AllocError>
-        ensures { AnswersAs self.old self.new result (told_call (state_of self.old) me sel elapsed pairs.now) }
+        ensures { AnswersAs self.old self.new result (told_call (rules_of self.old) (state_of self.old) me sel elapsed pairs.now) }
     {
         if sel.0 as usize >= self.selectors.len() {
             return Ok(Reply::NoSelector);
@@ -31,7 +31,8 @@ impl Plain {
         if selecting.caller.0 != me.0 {
             return Ok(Reply::NotSelecting);
         }
-        let told = all_told(alloc, pairs.as_slice(), selecting.bound)?;
+        let serials = looked_serials(alloc, &selecting.looked, selecting.bound)?;
+        let told = all_told(alloc, pairs.as_slice(), &serials)?;
         let count = updated_count(&selector.keys, &selecting.looked, &told);
         let gate = selector.gate();
         let interrupted = self.is_interrupted(me);
@@ -39,7 +40,8 @@ impl Plain {
         if is_again(gate, interrupted, mode, elapsed, count) {
             return Ok(Reply::Again);
         }
-        self.selectors[sel.0 as usize].end_selection(&told);
+        let rules = self.rules;
+        self.selectors[sel.0 as usize].end_selection(rules, &told);
         Ok(Reply::Selected(count, why_ended(gate, interrupted, mode, count)))
     }
 

@@ -1,23 +1,39 @@
 use Rattle.std.proofs.Common.{sym, ap, ◌∙◌}
+use Rattle.std.proofs.lemmas.Bool.{cond-true, cond-false}
+use Rattle.nio_event.specs.Sets.{fits}
 use Rattle.nio_event.specs.declared.reply.Reply.TheVariants as reply
-use Rattle.nio_plain.proofs.Answering.{refused_without_memory, answered_without_memory}
+use Rattle.nio_plain.proofs.Answering.{unchanged_without_memory, answered_without_memory}
 use Rattle.nio_plain.proofs.KeyChange.{key-note}
-use Rattle.nio_plain.specs.PlainState.{KeyRow, key_row}
+use Rattle.nio_plain.specs.PlainState.{KeyRow, key_row, state_of}
+use Rattle.nio_plain.specs.Seq.Answers.{unchanged}
 use Rattle.nio_plain.specs.Seq.Keys.{attach_call}
 use Rattle.nio_plain.proofs.plain.Plain.attach.Goals as goal
 
-pub returns-in-Ok : goal.returns-in-Ok
+pub returns-then-not-fits : goal.returns-then-not-fits
 unfolding attach_call
-returns-in-Ok c =
+returns-then-not-fits c =
     let p = c.args.self.now in
+    let st = state_of p in
+    let id = c.args.id in
+    let other = ap (λ (k : KeyRow). fits k.stage id.serial) c.in-Ok.ensures.row ∙ sym c.if-not-fits.ensures in
+    unchanged_without_memory p _ _
+    (c.in-Ok.ensures.through _ ∙ cond-false (fits (st.shared.key c.args.sel.0 id.index) id.serial) _ (unchanged st (reply.Number 0)) other)
+
+pub returns : goal.returns
+unfolding attach_call
+returns c =
+    let p = c.args.self.now in
+    let st = state_of p in
+    let id = c.args.id in
     let row = c.in-Ok.ensures.row in
+    let same = ap (λ (k : KeyRow). fits k.stage id.serial) row ∙ sym c.if-not-fits.ensures in
     answered_without_memory p _ _ _ _
-    (c.in-Ok.ensures.through _)
+    (c.in-Ok.ensures.through _ ∙ cond-true (fits (st.shared.key c.args.sel.0 id.index) id.serial) _ (unchanged st (reply.Number 0)) same)
     (ap (λ (k : KeyRow). reply.Number k.note) (sym row))
-    (c.put_key.ensures.left ∙ key-note p c.args.sel.0 c.args.index (key_row c.in-Ok.key) row c.args.note)
-    c.put_key.ensures.limits
+    (c.put_key.ensures.left ∙ key-note p c.args.sel.0 id.index (key_row c.in-Ok.key) row c.args.note)
+    c.put_key.ensures.kept
 
 pub returns-in-Err : goal.returns-in-Err
 unfolding attach_call
 returns-in-Err c =
-    refused_without_memory c.args.self.now _ _ (c.in-Err.ensures.refused _)
+    unchanged_without_memory c.args.self.now _ _ (c.in-Err.ensures.refused _)

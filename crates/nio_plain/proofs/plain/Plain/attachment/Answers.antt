@@ -1,18 +1,35 @@
-use Rattle.std.proofs.Common.{ap, ◌∙◌}
+use Rattle.std.proofs.Common.{cond, sym, ap, ◌∙◌}
+use Rattle.std.proofs.lemmas.Bool.{cond-true, cond-false}
+use Rattle.nio_event.specs.Sets.{fits}
 use Rattle.nio_event.specs.declared.reply.Reply.TheVariants as reply
-use Rattle.nio_plain.proofs.Answering.{refused_without_memory}
+use Rattle.nio_plain.proofs.Answering.{unchanged_without_memory}
 use Rattle.nio_plain.specs.PlainState.{KeyRow, state_of}
-use Rattle.nio_plain.specs.Seq.Answers.{refused}
+use Rattle.nio_plain.specs.Seq.Answers.{unchanged}
 use Rattle.nio_plain.specs.Seq.Keys.{attachment_call}
 use Rattle.nio_plain.proofs.plain.Plain.attachment.Goals as goal
 
-pub returns-in-Ok : goal.returns-in-Ok
+pub returns-then-not-fits : goal.returns-then-not-fits
 unfolding attachment_call
-returns-in-Ok c =
-    refused_without_memory c.args.self.now _ _
-    (c.in-Ok.ensures.through _ ∙ ap (λ (k : KeyRow). refused (state_of c.args.self.now) (reply.Number k.note)) c.in-Ok.ensures.row)
+returns-then-not-fits c =
+    let p = c.args.self.now in
+    let st = state_of p in
+    let id = c.args.id in
+    let other = ap (λ (k : KeyRow). fits k.stage id.serial) c.in-Ok.ensures.row ∙ sym c.if-not-fits.ensures in
+    unchanged_without_memory p _ _
+    (c.in-Ok.ensures.through _ ∙ ap (λ n. unchanged st (reply.Number n)) (cond-false (fits (st.shared.key c.args.sel.0 id.index) id.serial) (st.shared.note c.args.sel.0 id.index) 0 other))
+
+pub returns : goal.returns
+unfolding attachment_call
+returns c =
+    let p = c.args.self.now in
+    let st = state_of p in
+    let id = c.args.id in
+    let row = c.in-Ok.ensures.row in
+    let same = ap (λ (k : KeyRow). fits k.stage id.serial) row ∙ sym c.if-not-fits.ensures in
+    unchanged_without_memory p _ _
+    (c.in-Ok.ensures.through _ ∙ ap (λ n. unchanged st (reply.Number n)) (cond-true (fits (st.shared.key c.args.sel.0 id.index) id.serial) (st.shared.note c.args.sel.0 id.index) 0 same ∙ ap (λ (k : KeyRow). k.note) row))
 
 pub returns-in-Err : goal.returns-in-Err
 unfolding attachment_call
 returns-in-Err c =
-    refused_without_memory c.args.self.now _ _ (c.in-Err.ensures.refused _)
+    unchanged_without_memory c.args.self.now _ _ (c.in-Err.ensures.refused _)

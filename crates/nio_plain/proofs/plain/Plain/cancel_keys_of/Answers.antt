@@ -16,6 +16,7 @@ loop-place-preserved c =
       cancelled = changed-step selector_row no_selector (λ r. with_cancelled_key r c.args.chan.0) (rows_of c.args.self.now) xs i c.index_mut.result.now c.cancel_key_of.new.self before.cancelled within c.index_mut.ensures.value c.cancel_key_of.ensures;
       long = before.long;
       limits = before.limits;
+      rules = before.rules;
       channels = before.channels;
       interrupted = before.interrupted;
     }

@@ -1,8 +1,8 @@
 use Rattle.std.proofs.Common.{sym, ap, ◌∙◌}
 use Rattle.nio_event.specs.declared.reply.Reply.TheVariants as reply
-use Rattle.nio_plain.proofs.Answering.{refused_without_memory}
+use Rattle.nio_plain.proofs.Answering.{unchanged_without_memory}
 use Rattle.nio_plain.specs.PlainState.{KeyRow, state_of}
-use Rattle.nio_plain.specs.Seq.Answers.{refused}
+use Rattle.nio_plain.specs.Seq.Answers.{unchanged}
 use Rattle.nio_plain.specs.Seq.Keys.{interest_call}
 use Rattle.nio_plain.proofs.plain.Plain.interest.Goals as goal
 
@@ -10,11 +10,11 @@ pub returns-in-Ok : goal.returns-in-Ok
 unfolding interest_call
 returns-in-Ok c =
     let st = state_of c.args.self.now in
-    let number = ap (λ n. refused st (reply.Number n)) (sym (c.from.ensures ∙ c.bits.ensures.bits)) in
-    refused_without_memory c.args.self.now _ _
-    (c.in-Ok.ensures.through _ ∙ (ap (λ (k : KeyRow). refused st (reply.Number k.interest)) c.in-Ok.ensures.row ∙ number))
+    let number = ap (λ n. unchanged st (reply.Number n)) (sym (c.from.ensures ∙ c.bits.ensures.bits)) in
+    unchanged_without_memory c.args.self.now _ _
+    (c.in-Ok.ensures.through _ ∙ (ap (λ (k : KeyRow). unchanged st (reply.Number k.interest)) c.in-Ok.ensures.row ∙ number))
 
 pub returns-in-Err : goal.returns-in-Err
 unfolding interest_call
 returns-in-Err c =
-    refused_without_memory c.args.self.now _ _ (c.in-Err.ensures.refused _)
+    unchanged_without_memory c.args.self.now _ _ (c.in-Err.ensures.refused _)

@@ -2,10 +2,11 @@ use Rattle.std.proofs.Common.{bit_or, sym, ap, ◌∙◌}
 use Rattle.std.proofs.lemmas.Bool.{cond-true, cond-false}
 use Rattle.nio_event.specs.State.{with_interest}
 use Rattle.nio_event.specs.declared.reply.Reply.TheVariants as reply
-use Rattle.nio_plain.proofs.Answering.{refused_without_memory, answered_without_memory}
+use Rattle.nio_plain.proofs.Answering.{unchanged_without_memory, answered_without_memory}
 use Rattle.nio_plain.proofs.KeyChange.{key-interest}
 use Rattle.nio_plain.specs.PlainState.{KeyRow, key_row, state_of}
-use Rattle.nio_plain.specs.Seq.Answers.{refused}
+use Rattle.nio_plain.specs.ScriptState.{with_shared}
+use Rattle.nio_plain.specs.Seq.Answers.{unchanged}
 use Rattle.nio_plain.specs.Seq.Keys.{ior_call, are_legal_at}
 use Rattle.nio_plain.specs.Seq.Registering.{are_legal}
 use Rattle.nio_plain.proofs.plain.Plain.interest_or.Goals as goal
@@ -16,8 +17,8 @@ returns-then-not-are_legal c =
     let p = c.args.self.now in
     let st = state_of p in
     let illegal = ap (λ (k : KeyRow). are_legal (st.shared.chan k.stage.chan.0).kind c.args.ops) c.in-Ok.ensures.row ∙ sym c.if-not-are_legal.ensures in
-    refused_without_memory p _ _
-    (c.in-Ok.ensures.through _ ∙ cond-false (are_legal_at st.shared c.args.sel.0 c.args.index c.args.ops) _ (refused st reply.IllegalOps) illegal)
+    unchanged_without_memory p _ _
+    (c.in-Ok.ensures.through _ ∙ cond-false (are_legal_at st.shared c.args.sel.0 c.args.id.index c.args.ops) _ (unchanged st reply.IllegalOps) illegal)
 
 pub returns : goal.returns
 unfolding ior_call
@@ -25,17 +26,17 @@ returns c =
     let p = c.args.self.now in
     let st = state_of p in
     let s = c.args.sel.0 in
-    let i = c.args.index in
+    let i = c.args.id.index in
     let row = c.in-Ok.ensures.row in
     let legal = ap (λ (k : KeyRow). are_legal (st.shared.chan k.stage.chan.0).kind c.args.ops) row ∙ sym c.if-not-are_legal.ensures in
     let changed = c.union-interest.ensures ∙ ap (λ (k : KeyRow). bit_or k.interest c.args.ops) (sym row) in
     answered_without_memory p _ _ _ _
-    (c.in-Ok.ensures.through _ ∙ cond-true (are_legal_at st.shared s i c.args.ops) _ (refused st reply.IllegalOps) legal)
+    (c.in-Ok.ensures.through _ ∙ cond-true (are_legal_at st.shared s i c.args.ops) _ (unchanged st reply.IllegalOps) legal)
     (ap reply.Number ((c.from.ensures ∙ c.bits.ensures.bits) ∙ ap (λ (k : KeyRow). k.interest) (sym row)))
-    ((c.put_key.ensures.left ∙ key-interest p s i (key_row c.in-Ok.key) row c.union-interest.result) ∙ ap (λ n. record st { shared = with_interest st.shared s i n }) changed)
-    c.put_key.ensures.limits
+    ((c.put_key.ensures.left ∙ key-interest p s i (key_row c.in-Ok.key) row c.union-interest.result) ∙ ap (λ n. with_shared st (with_interest st.shared s i n)) changed)
+    c.put_key.ensures.kept
 
 pub returns-in-Err : goal.returns-in-Err
 unfolding ior_call
 returns-in-Err c =
-    refused_without_memory c.args.self.now _ _ (c.in-Err.ensures.refused _)
+    unchanged_without_memory c.args.self.now _ _ (c.in-Err.ensures.refused _)

@@ -13,4 +13,4 @@ returns c =
     refl
     (c.yes_or_no.ensures ∙ ap yes_or_no c.is_interrupted-was.ensures)
     (interrupted-set p c.args.me.0 false within)
-    refl
+    (record { limits = refl; rules = refl })

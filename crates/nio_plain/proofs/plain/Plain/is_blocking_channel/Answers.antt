@@ -1,8 +1,8 @@
 use Rattle.std.proofs.Common.{sym, ap, ◌∙◌}
 use Rattle.nio_event.specs.declared.found.Chan.{Chan}
-use Rattle.nio_plain.proofs.Answering.{refused_without_memory}
+use Rattle.nio_plain.proofs.Answering.{unchanged_without_memory}
 use Rattle.nio_plain.specs.PlainState.{state_of}
-use Rattle.nio_plain.specs.Seq.Answers.{refused, yes_or_no}
+use Rattle.nio_plain.specs.Seq.Answers.{unchanged, yes_or_no}
 use Rattle.nio_plain.specs.Seq.Modes.{is_blocking_call}
 use Rattle.nio_plain.proofs.plain.Plain.is_blocking_channel.Goals as goal
 
@@ -10,10 +10,10 @@ pub returns-in-Ok : goal.returns-in-Ok
 unfolding is_blocking_call
 returns-in-Ok c =
     let st = state_of c.args.self.now in
-    refused_without_memory c.args.self.now _ _
-    (c.in-Ok.ensures.through _ ∙ (ap (λ (x : Chan). refused st (yes_or_no (x.blocking))) c.in-Ok.ensures.row ∙ ap (refused st) (sym c.yes_or_no.ensures)))
+    unchanged_without_memory c.args.self.now _ _
+    (c.in-Ok.ensures.through _ ∙ (ap (λ (x : Chan). unchanged st (yes_or_no (x.blocking))) c.in-Ok.ensures.row ∙ ap (unchanged st) (sym c.yes_or_no.ensures)))
 
 pub returns-in-Err : goal.returns-in-Err
 unfolding is_blocking_call
 returns-in-Err c =
-    refused_without_memory c.args.self.now _ _ (c.in-Err.ensures.refused _)
+    unchanged_without_memory c.args.self.now _ _ (c.in-Err.ensures.refused _)

@@ -1,20 +1,21 @@
-use Rattle.std.proofs.Common.{◌<◌, ℕ, Option, Some, None, get_or, length, ap, ◌∙◌, arith}
-use Rattle.nio_plain.proofs.Answering.{refused_without_memory}
-use Rattle.nio_plain.proofs.Registering.{key_of-read}
+use Rattle.std.proofs.Common.{◌<◌, Option, Some, None, get_or, length, ap, ◌∙◌, arith}
+use Rattle.nio_base.specs.declared.numbers.KeyId.{KeyId}
+use Rattle.nio_plain.proofs.Answering.{unchanged_without_memory}
+use Rattle.nio_plain.proofs.Registered.{key_of-read}
 use Rattle.nio_plain.specs.PlainState.{state_of}
-use Rattle.nio_plain.specs.Seq.Answers.{refused}
+use Rattle.nio_plain.specs.Seq.Answers.{unchanged}
 use Rattle.nio_plain.specs.Seq.Modes.{key_for_call, name_or_none}
 use Rattle.nio_plain.proofs.plain.Plain.key_for.Goals as goal
 
 pub returns-in-Err : goal.returns-in-Err
 unfolding key_for_call
 returns-in-Err c =
-    refused_without_memory c.args.self.now _ _ (c.in-Err.ensures.refused _)
+    unchanged_without_memory c.args.self.now _ _ (c.in-Err.ensures.refused _)
 
 pub returns-in-Err-selector : goal.returns-in-Err-selector
 unfolding key_for_call
 returns-in-Err-selector c =
-    refused_without_memory c.args.self.now _ _ (c.in_default.ensures.through _ ∙ c.in-Err-selector.ensures.refused _)
+    unchanged_without_memory c.args.self.now _ _ (c.in_default.ensures.through _ ∙ c.in-Err-selector.ensures.refused _)
 
 pub returns-in-Some : goal.returns-in-Some
 unfolding key_for_call
@@ -23,9 +24,9 @@ returns-in-Some c =
     let x = c.index.result.now in
     let within : c.args.sel.0 < length p.selectors.items = omega (arith, p.selectors.ok.0, c.in-Ok.ensures.made) in
     let read = c.index.ensures ∙ ap (λ n. get_or p.selectors.items n x) c.in-Ok.ensures.place in
-    let key = key_of-read p c.args.sel.0 c.args.chan.0 x (Some c.in-Some.index) within read c.in-Some.ensures.key in
-    refused_without_memory p _ _
-    (c.in_default.ensures.through _ ∙ (c.in-Ok.ensures.through _ ∙ ap (λ (o : Option ℕ). refused (state_of p) (name_or_none o)) key))
+    let key = key_of-read p c.args.sel.0 c.args.chan.0 x (Some c.in-Some.key) within read c.in-Some.ensures.key in
+    unchanged_without_memory p _ _
+    (c.in_default.ensures.through _ ∙ (c.in-Ok.ensures.through _ ∙ ap (λ (o : Option KeyId). unchanged (state_of p) (name_or_none o)) key))
 
 pub returns-in-None : goal.returns-in-None
 unfolding key_for_call
@@ -35,5 +36,5 @@ returns-in-None c =
     let within : c.args.sel.0 < length p.selectors.items = omega (arith, p.selectors.ok.0, c.in-Ok.ensures.made) in
     let read = c.index.ensures ∙ ap (λ n. get_or p.selectors.items n x) c.in-Ok.ensures.place in
     let key = key_of-read p c.args.sel.0 c.args.chan.0 x None within read c.in-None.ensures.key in
-    refused_without_memory p _ _
-    (c.in_default.ensures.through _ ∙ (c.in-Ok.ensures.through _ ∙ ap (λ (o : Option ℕ). refused (state_of p) (name_or_none o)) key))
+    unchanged_without_memory p _ _
+    (c.in_default.ensures.through _ ∙ (c.in-Ok.ensures.through _ ∙ ap (λ (o : Option KeyId). unchanged (state_of p) (name_or_none o)) key))

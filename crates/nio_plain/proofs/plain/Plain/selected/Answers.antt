@@ -1,45 +1,6 @@
-use Rattle.std.proofs.Common.{◌<◌, ℕ, List, true, ◌&&◌, filter, length, sym, ap, ◌∙◌, arith}
-use Rattle.std.proofs.lemmas.Bool.{cond-true, cond-false}
-use Rattle.nio_event.specs.Sets.{in_key_set}
-use Rattle.nio_event.specs.declared.reply.Reply.TheVariants as reply
-use Rattle.nio_plain.proofs.Answering.{refused_as}
-use Rattle.nio_plain.proofs.Closing.{read_row}
-use Rattle.nio_plain.specs.PlainState.{SelectorRow, state_of, places, key_row, no_key, listed_below}
-use Rattle.nio_plain.specs.Seq.Answers.{Answered, refused}
-use Rattle.nio_plain.specs.Seq.Listing.{selected_call, names_or_none}
-use Rattle.nio_plain.specs.Seq.Names.{below}
+use Rattle.nio_plain.specs.Seq.Listing.{selected_call}
 use Rattle.nio_plain.proofs.plain.Plain.selected.Goals as goal
-
-pub returns-in-Err : goal.returns-in-Err
-unfolding selected_call
-returns-in-Err c =
-    refused_as c.args.self.now _ _ (c.in-Err.ensures.refused _)
-
-pub returns-then-is_shut : goal.returns-then-is_shut
-unfolding selected_call
-returns-then-is_shut c =
-    let p = c.args.self.now in
-    let s = c.args.sel.0 in
-    let within : c.args.sel.0 < length p.selectors.items = omega (arith, p.selectors.ok.0, c.in-Ok.ensures.made) in
-    let row = read_row p s c.in-Ok.place c.index-selector.result.now c.in-Ok.ensures.place within c.index-selector.ensures in
-    let shut = ap (λ (r : SelectorRow). r.gate.shut) row ∙ sym c.if-is_shut.ensures in
-    refused_as p _ _
-    (c.in-Ok.ensures.through _ ∙ cond-true ((state_of p).shared.gate s).shut (refused (state_of p) reply.ClosedSelector) _ shut)
 
 pub returns : goal.returns
 unfolding selected_call
-returns c =
-    let p = c.args.self.now in
-    let s = c.args.sel.0 in
-    let x = c.index-selector.result.now in
-    let xs = x.keys.items in
-    let keys = places key_row no_key xs in
-    let within : c.args.sel.0 < length p.selectors.items = omega (arith, p.selectors.ok.0, c.in-Ok.ensures.made) in
-    let row = read_row p s c.in-Ok.place x c.in-Ok.ensures.place within c.index-selector.ensures in
-    let opened = ap (λ (r : SelectorRow). r.gate.shut) row ∙ sym c.if-is_shut.ensures in
-    let names : List ℕ → Answered = λ is. refused (state_of p) (names_or_none is) in
-    let of_row = ap (λ (r : SelectorRow). names (filter (λ i. in_key_set (r.keys i).stage && (r.keys i).mark.selected) (below r.keys_mark))) row in
-    let read = ap (λ ys. listed_below (places key_row no_key ys) true (length ys)) c.deref.ensures.value in
-    let told = c.names_or_none.ensures ∙ ap names_or_none (c.in_ok-indexes.ensures ∙ read) in
-    refused_as p _ _
-    (c.in-Ok.ensures.through _ ∙ (cond-false ((state_of p).shared.gate s).shut (refused (state_of p) reply.ClosedSelector) _ opened ∙ (of_row ∙ (ap (refused (state_of p)) (sym told)))))
+returns c = c.set_of.ensures

@@ -2,7 +2,7 @@ use Rattle.std.proofs.Common.{◌≡◌, ◌<◌, ◌≤◌, false, ◌&&◌, re
 use Rattle.std.proofs.lemmas.Bool.{and_from, and_left, and_right}
 use Rattle.nio_event.specs.State.{unmade_channel}
 use Rattle.nio_event.specs.declared.reply.Reply.TheVariants as reply
-use Rattle.nio_plain.proofs.Answering.{refused_without_memory, answered_without_memory, state-set_channel, rows_of}
+use Rattle.nio_plain.proofs.Answering.{unchanged_without_memory, answered_without_memory, state-set_channel, rows_of}
 use Rattle.nio_plain.proofs.Blocking.{blocking-no_channel, blocking-closed, blocking-registered, blocking-set}
 use Rattle.nio_plain.proofs.Places.{places_at, places_past}
 use Rattle.nio_plain.specs.PlainState.{state_of, limits_of, channel_row}
@@ -15,7 +15,7 @@ returns-then-number-len c =
     let p = c.args.self.now in
     let past : length p.channels.items ≤ c.args.chan.0 = omega (arith, p.channels.ok.0) in
     let none = places_past channel_row unmade_channel p.channels.items c.args.chan.0 past in
-    refused_without_memory p reply.NoChannel _
+    unchanged_without_memory p reply.NoChannel _
     (blocking-no_channel p.limits (state_of p) c.args.chan c.args.on unmade_channel none refl)
 
 pub returns-then-index : goal.returns-then-index
@@ -23,7 +23,7 @@ returns-then-index c =
     let p = c.args.self.now in
     let within : c.args.chan.0 < length p.channels.items = omega (arith, p.channels.ok.0) in
     let at = places_at channel_row unmade_channel p.channels.items c.args.chan.0 c.index.result.now within c.index.ensures in
-    refused_without_memory p reply.ClosedChannel _
+    unchanged_without_memory p reply.ClosedChannel _
     (blocking-closed p.limits (state_of p) c.args.chan c.args.on (channel_row c.index.result.now) at refl c.if-index.true)
 
 pub returns-then-is_registered : goal.returns-then-is_registered
@@ -32,7 +32,7 @@ returns-then-is_registered c =
     let within : c.args.chan.0 < length p.channels.items = omega (arith, p.channels.ok.0) in
     let at = places_at channel_row unmade_channel p.channels.items c.args.chan.0 c.index.result.now within c.index.ensures in
     let registered = and_from c.args.on (is_registered (limits_of p) (state_of p).shared c.args.chan.0) c.if-on.true (sym c.if-is_registered.ensures) in
-    refused_without_memory p reply.IllegalBlockingMode _
+    unchanged_without_memory p reply.IllegalBlockingMode _
     (blocking-registered p.limits (state_of p) c.args.chan c.args.on (channel_row c.index.result.now) at refl c.if-index.false registered)
 
 pub returns : goal.returns
@@ -49,4 +49,4 @@ returns c =
     (blocking-set p.limits (state_of p) c.args.chan c.args.on (channel_row x) at refl opened free)
     refl
     (state-set_channel _ (rows_of p) p.channels.items _ chan (record x { blocking = c.args.on }) within refl)
-    refl
+    (record { limits = refl; rules = refl })

@@ -1,10 +1,10 @@
 use Rattle.std.proofs.Common.{refl, sym, ap, ◌∙◌}
 use Rattle.std.proofs.lemmas.Bool.{cond-true, cond-false}
 use Rattle.nio_event.specs.declared.reply.Reply.TheVariants as reply
-use Rattle.nio_plain.proofs.Answering.{refused_without_memory, answered_without_memory}
+use Rattle.nio_plain.proofs.Answering.{unchanged_without_memory, answered_without_memory}
 use Rattle.nio_plain.proofs.KeyChange.{key-interest}
 use Rattle.nio_plain.specs.PlainState.{KeyRow, key_row, state_of}
-use Rattle.nio_plain.specs.Seq.Answers.{refused}
+use Rattle.nio_plain.specs.Seq.Answers.{unchanged}
 use Rattle.nio_plain.specs.Seq.Keys.{iset_call, are_legal_at}
 use Rattle.nio_plain.specs.Seq.Registering.{are_legal}
 use Rattle.nio_plain.proofs.plain.Plain.set_interest.Goals as goal
@@ -15,8 +15,8 @@ returns-then-not-are_legal c =
     let p = c.args.self.now in
     let st = state_of p in
     let illegal = ap (λ (k : KeyRow). are_legal (st.shared.chan k.stage.chan.0).kind c.args.ops) c.in-Ok.ensures.row ∙ sym c.if-not-are_legal.ensures in
-    refused_without_memory p _ _
-    (c.in-Ok.ensures.through _ ∙ cond-false (are_legal_at st.shared c.args.sel.0 c.args.index c.args.ops) _ (refused st reply.IllegalOps) illegal)
+    unchanged_without_memory p _ _
+    (c.in-Ok.ensures.through _ ∙ cond-false (are_legal_at st.shared c.args.sel.0 c.args.id.index c.args.ops) _ (unchanged st reply.IllegalOps) illegal)
 
 pub returns : goal.returns
 unfolding iset_call
@@ -26,12 +26,12 @@ returns c =
     let row = c.in-Ok.ensures.row in
     let legal = ap (λ (k : KeyRow). are_legal (st.shared.chan k.stage.chan.0).kind c.args.ops) row ∙ sym c.if-not-are_legal.ensures in
     answered_without_memory p _ _ _ _
-    (c.in-Ok.ensures.through _ ∙ cond-true (are_legal_at st.shared c.args.sel.0 c.args.index c.args.ops) _ (refused st reply.IllegalOps) legal)
+    (c.in-Ok.ensures.through _ ∙ cond-true (are_legal_at st.shared c.args.sel.0 c.args.id.index c.args.ops) _ (unchanged st reply.IllegalOps) legal)
     refl
-    (c.put_key.ensures.left ∙ key-interest p c.args.sel.0 c.args.index (key_row c.in-Ok.key) row c.args.ops)
-    c.put_key.ensures.limits
+    (c.put_key.ensures.left ∙ key-interest p c.args.sel.0 c.args.id.index (key_row c.in-Ok.key) row c.args.ops)
+    c.put_key.ensures.kept
 
 pub returns-in-Err : goal.returns-in-Err
 unfolding iset_call
 returns-in-Err c =
-    refused_without_memory c.args.self.now _ _ (c.in-Err.ensures.refused _)
+    unchanged_without_memory c.args.self.now _ _ (c.in-Err.ensures.refused _)

@@ -16,5 +16,5 @@ returns-clause-left c =
     ∙ (λ j. record (selector_row self) {
       turn = Some c.args.caller;
       selection = Some (record { mode = c.args.mode; bound = bound j; looked = looked j });
-      keys = swept keys (bound j);
+      keys = swept c.args.rules keys;
     })

@@ -1,5 +1,5 @@
 use Rattle.nio_plain.proofs.Answering.{state-opening}
-use Rattle.nio_plain.proofs.plain.Plain.make.Goals as goal
+use Rattle.nio_plain.proofs.plain.Plain.make_by.Goals as goal
 
 pub returns-clause-opening : goal.returns-clause-opening
 returns-clause-opening c =
