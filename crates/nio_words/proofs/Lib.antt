@@ -28,3 +28,5 @@ pub mod Whole
 pub mod Following
 pub mod Seen
 pub mod GoingOn
+pub mod Views
+pub mod Pins
