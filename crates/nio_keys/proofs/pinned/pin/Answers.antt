@@ -1,4 +1,4 @@
-use Rattle.std.proofs.Common.{◌≡◌, refl, sym, subst}
+use Rattle.std.proofs.Common.{◌≡◌, refl, subst}
 use Rattle.nio_event.proofs.Within.{legal-within}
 use Rattle.nio_event.specs.Conditions.{IsChannel}
 use Rattle.nio_event.specs.Questions.{stage}
@@ -6,7 +6,7 @@ use Rattle.nio_event.specs.declared.found.Stage.{Stage}
 use Rattle.nio_words.proofs.Pins.{only_pinned, pinned_claimed}
 use Rattle.nio_words.proofs.Seen.{still_ready}
 use Rattle.nio_words.proofs.Views.{key_claimed, look_tells, step_acts}
-use Rattle.nio_words.specs.Passes.{seen, state_seen, limits_of}
+use Rattle.nio_words.specs.Passes.{seen, limits_of}
 use Rattle.nio_keys.proofs.pinned.pin.Goals as goal
 
 pub pin-requires-clause-claimed : goal.pin-requires-clause-claimed
