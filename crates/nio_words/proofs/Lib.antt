@@ -26,5 +26,4 @@ pub mod Notes
 pub mod Selectors
 pub mod Whole
 pub mod Following
-pub mod Seen
 pub mod GoingOn
