@@ -1,20 +1,17 @@
 -- What the calls of a selection ask, part by part.
-use Rattle.std.proofs.Common.{◌≡◌, ℕ, ◌==◌, ◌*◌, nat_lt, Bool, true, false, if◌then◌else◌, Result, Ok, Err, List, [], ◌∷◌, refl}
+use Rattle.std.proofs.Common.{ℕ, nat_lt, []}
 use Rattle.std.specs.Prelude.{⊤}
-use Rattle.std.proofs.lemmas.List.Elements.{All-contains_itself}
 use Rattle.nio_base.specs.declared.numbers.SelNo.{SelNo}
 use Rattle.nio_event.specs.Questions.{Question}
 use Rattle.nio_event.specs.Sets.{in_cancelled_set, is_valid}
 use Rattle.nio_event.specs.State.{last_serial}
-use Rattle.nio_event.specs.declared.found.Mark.{Mark as KeyMark}
 use Rattle.nio_event.specs.declared.found.Stage.{Stage}
-use Rattle.nio_steps.proofs.EachLaws.{each_bind, each_if, each_when, each_sweep, each_over, each_any}
+use Rattle.nio_steps.proofs.EachLaws.{each_bind, each_if, each_when, each_sweep, each_over}
 use Rattle.nio_steps.specs.Each.{Each}
-use Rattle.nio_steps.specs.Plan.{reply, ◌>>=◌, ◌>>◌}
-use Rattle.nio_steps.specs.SelectCalls.{Selection, ToldReply, done, LookedOver, Poll, told_bits, list_word, list_below, look_over, look_on, look_valid, looked_key, remove_cancelled, mark_entry, mark_told, mark_looked, mark_again, gains_nothing, sweep_key, end_selection}
-use Rattle.nio_steps.specs.Steps.{put_free, look_interest, mark, mark_in, stage_in, exchange_in, operations_in}
-use Rattle.nio_steps.specs.Sweeps.{sweep_to, sweep_over}
-use Rattle.nio_steps.specs.declared.looked.LookedKey.{LookedKey}
+use Rattle.nio_steps.specs.Plan.{reply, ◌>>◌}
+use Rattle.nio_steps.specs.SelectCalls.{Selection, ToldReply, done, LookedOver, list_word, list_below, look_over, look_on, look_valid, remove_cancelled, sweep_key, end_selection}
+use Rattle.nio_steps.specs.Steps.{put_free, stage_in}
+use Rattle.nio_steps.specs.Sweeps.{sweep_over}
 use Rattle.nio_steps.specs.declared.selected.Selected.{Selected}
 
 -- what a selection asks of the indexes that it goes over

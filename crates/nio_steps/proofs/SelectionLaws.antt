@@ -1,5 +1,5 @@
 -- To which selection a `told` belongs, and what it counts.
-use Rattle.std.proofs.Common.{◌≡◌, ℕ, ◌+◌, ◌==◌, Bool, true, false, cond, ◌&&◌, ◌||◌, if◌then◌else◌, Result, Ok, Err, List, [], ◌∷◌, ◌++◌, refl, ap, sym, ◌∙◌, subst, eq-eqb, eqb-true, append_assoc, zero-add, arith}
+use Rattle.std.proofs.Common.{◌≡◌, ℕ, ◌+◌, ◌==◌, Bool, true, false, cond, ◌&&◌, ◌||◌, Result, Ok, Err, List, [], ◌∷◌, ◌++◌, refl, ap, sym, ◌∙◌, subst, eq-eqb, eqb-true, append_assoc, zero-add, arith}
 use Rattle.std.specs.Prelude.{⊤, is_ok}
 use Rattle.std.specs.List.{All}
 use Rattle.std.proofs.lemmas.List.Elements.{All-weaker}
@@ -22,7 +22,7 @@ use Rattle.nio_steps.specs.Each.{Each}
 use Rattle.nio_steps.specs.Laws.{BeginsSelection, AgainGoesOn, CountsSelection}
 use Rattle.nio_steps.specs.Plan.{reply, ◌>>=◌}
 use Rattle.nio_steps.specs.Runs.{Completes}
-use Rattle.nio_steps.specs.SelectCalls.{Selection, ToldReply, Begins, Poll, told_plan, told_bits, mark_entry, mark_told, mark_looked, mark_again, one_if, gains_nothing, is_again, sweep_key, end_selection, after_marks, again, done}
+use Rattle.nio_steps.specs.SelectCalls.{Selection, ToldReply, Begins, told_plan, told_bits, mark_entry, mark_told, mark_looked, mark_again, one_if, gains_nothing, is_again, sweep_key, end_selection, after_marks, again, done}
 use Rattle.nio_steps.specs.Selections.{marks_on, IsBegun}
 use Rattle.nio_steps.specs.Steps.{mark, flag_in, gate_in, mark_in, exchange_in}
 use Rattle.nio_steps.specs.Sweeps.{sweep_over}

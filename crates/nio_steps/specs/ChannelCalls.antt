@@ -14,7 +14,7 @@ use Rattle.nio_steps.specs.KeyCalls.{has_bit, is_within, under_pin, cancel_plan}
 use Rattle.nio_steps.specs.Names.{selector, channel, key}
 use Rattle.nio_steps.specs.Plan.{Plan, reply, ◌>>=◌, ◌>>◌, when}
 use Rattle.nio_steps.specs.Runs.{Completes}
-use Rattle.nio_steps.specs.Steps.{look_key, cancel_key, swap_interest, swap_note, make_channel, look_channel, claim, raise_keys, look_keys, publish, look_reg, enrol, look_channels, raise_channels, look_gate, try_hold_bit, release, set_mode, close_bit, pin, unpin, clear_mark, claim_again, look_free, put_free, take_free}
+use Rattle.nio_steps.specs.Steps.{look_key, cancel_key, swap_interest, swap_note, make_channel, look_channel, claim, raise_keys, look_keys, publish, look_reg, enrol, look_channels, raise_channels, look_gate, try_hold_bit, release, set_mode, close_bit, unpin, clear_mark, claim_again, look_free, put_free, take_free}
 use Rattle.nio_steps.specs.Sweeps.{sweep_to, seek_to}
 use Rattle.nio_steps.specs.Waiting.{Retries}
 use Rattle.nio_steps.specs.declared.refusal.ChannelError.{ChannelError}

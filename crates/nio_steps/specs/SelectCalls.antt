@@ -21,7 +21,7 @@ use Rattle.nio_steps.specs.Plan.{Plan, reply, ◌>>=◌, ◌>>◌, when}
 use Rattle.nio_steps.specs.Runs.{Completes}
 use Rattle.nio_steps.specs.Steps.{make_selector, wake, look_gate, set_interrupt, take_interrupt, look_interrupt, look_key, look_interest, look_keys, take_turn, begin_look, give_turn, remove, look_mark, mark, end_wake, shut_bit, enter, look_free, put_free}
 use Rattle.nio_steps.specs.Sweeps.{sweep_to, seek_to, sweep_over}
-use Rattle.nio_steps.specs.Waiting.{Then, Run, Tries, Repeats, Retries}
+use Rattle.nio_steps.specs.Waiting.{Then, Tries, Repeats, Retries}
 use Rattle.nio_steps.specs.declared.looked.LookedKey.{LookedKey}
 use Rattle.nio_steps.specs.declared.refusal.BeginError.{BeginError}
 use Rattle.nio_steps.specs.declared.refusal.ListError.{ListError}
