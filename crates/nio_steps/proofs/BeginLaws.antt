@@ -1,5 +1,5 @@
 -- The parts of a `try_begin` that answers Ok.
-use Rattle.std.proofs.Common.{◌≡◌, ℕ, Bool, true, false, if◌then◌else◌, Result, Ok, Err, List, [], ◌∷◌, ◌++◌, refl, ap, sym}
+use Rattle.std.proofs.Common.{◌≡◌, ℕ, false, Result, Ok, Err, List, [], ◌∷◌, ◌++◌, refl, ap}
 use Rattle.std.specs.Prelude.{⊤, is_some}
 use Rattle.std.proofs.lemmas.List.{append-nil}
 use Rattle.nio_base.specs.declared.numbers.SelNo.{SelNo}
@@ -7,10 +7,10 @@ use Rattle.nio_event.specs.Questions.{Question, question_of, answer_of}
 use Rattle.nio_event.specs.declared.act.Act.{Act}
 use Rattle.nio_event.specs.declared.found.Mode.{Mode}
 use Rattle.nio_steps.proofs.Walks.{Always, always_if, always_bind, always_itself, always_run}
-use Rattle.nio_steps.specs.Plan.{reply, ◌>>=◌}
+use Rattle.nio_steps.specs.Plan.{reply}
 use Rattle.nio_steps.specs.Runs.{Completes}
 use Rattle.nio_steps.specs.SelectCalls.{Selection, LookedOver, Begins, begin_plan, begin_with_turn, begin_below, given_back, list_below, look_over}
-use Rattle.nio_steps.specs.Steps.{look_keys, take_turn, gate_in, number_in, holder_in}
+use Rattle.nio_steps.specs.Steps.{gate_in, number_in, holder_in}
 use Rattle.nio_steps.specs.Sweeps.{sweep_over}
 use Rattle.nio_steps.specs.declared.refusal.BeginError.{BeginError}
 

@@ -1,5 +1,5 @@
 -- The lists of a selection rise.
-use Rattle.std.proofs.Common.{◌≡◌, ℕ, zero, suc, ◌+◌, ◌*◌, ◌<◌, ◌≤◌, nat_lt, Bool, true, false, not, ◌&&◌, if◌then◌else◌, List, [], ◌∷◌, ◌++◌, refl, sym, subst, length, arith}
+use Rattle.std.proofs.Common.{◌≡◌, ℕ, zero, suc, ◌+◌, ◌*◌, ◌<◌, ◌≤◌, nat_lt, Bool, true, false, not, ◌&&◌, if◌then◌else◌, List, [], ◌∷◌, ◌++◌, refl, sym, subst, arith}
 use Rattle.std.specs.Prelude.{⊤}
 use Rattle.std.specs.List.{All, AllPairs, Contains}
 use Rattle.std.proofs.lemmas.Bool.{and_parts, ltb-true}
@@ -13,8 +13,8 @@ use Rattle.nio_steps.proofs.Lists.{pairs-none, pairs-append, pairs-one, all-one,
 use Rattle.nio_steps.specs.ChannelCalls.{words_below}
 use Rattle.nio_steps.specs.Each.{Each}
 use Rattle.nio_steps.specs.KeyCalls.{has_bit}
-use Rattle.nio_steps.specs.Laws.{IsInOrder, ListsInOrder}
-use Rattle.nio_steps.specs.Plan.{reply, ◌>>=◌, ◌>>◌}
+use Rattle.nio_steps.specs.Laws.{ListsInOrder}
+use Rattle.nio_steps.specs.Plan.{reply, ◌>>◌}
 use Rattle.nio_steps.specs.SelectCalls.{LookedOver, not_free, list_word, list_below, look_over, look_on, look_valid, looked_key, remove_cancelled}
 use Rattle.nio_steps.specs.Steps.{stage_in, word_in, operations_in}
 use Rattle.nio_steps.specs.Sweeps.{sweep_over}

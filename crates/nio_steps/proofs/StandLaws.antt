@@ -1,9 +1,8 @@
 -- What a caller began and hasn't ended stands in the state, whatever others did.
-use Rattle.std.proofs.Common.{◌≡◌, ℕ, Bool, true, false, not, ◌||◌, Ok, List, [], ◌∷◌, ◌++◌, Some, refl, ap, sym, ◌∙◌, subst, append_assoc, eq-eqb, IsTrue}
+use Rattle.std.proofs.Common.{◌≡◌, true, false, not, ◌||◌, [], ◌∷◌, ◌++◌, Some, refl, ap, sym, ◌∙◌, subst, append_assoc, eq-eqb, IsTrue}
 use Rattle.std.specs.Prelude.{⊤}
 use Rattle.std.proofs.lemmas.Bool.{and_from}
 use Rattle.std.proofs.lemmas.List.Folds.{list_any-append}
-use Rattle.nio_base.specs.declared.numbers.CallerNo.{CallerNo}
 use Rattle.nio_base.specs.declared.numbers.SelNo.{SelNo}
 use Rattle.nio_event.proofs.Legal.{legal_next}
 use Rattle.nio_event.proofs.OneMore.{state_after-more}
@@ -18,7 +17,6 @@ use Rattle.nio_event.specs.Questions.{Question, question_of, answer_of}
 use Rattle.nio_event.specs.State.{put}
 use Rattle.nio_event.specs.declared.act.Act.{Act}
 use Rattle.nio_event.specs.declared.act.Act.TheVariants.{BeginLook, ShutBit}
-use Rattle.nio_event.specs.declared.event.Event.{Event}
 use Rattle.nio_steps.proofs.BeginLaws.{none_yet, begin-parts}
 use Rattle.nio_steps.proofs.EachLaws.{each_over, each_run}
 use Rattle.nio_steps.proofs.Either.{neither, by_second}
