@@ -1,48 +1,39 @@
-//! Calls of one step.
-ghost use Rattle.nio_keys.specs.Calls.{Calls, HasKey};
-ghost use Rattle.nio_steps.specs.KeyCalls.{attach_plan, attachment_plan, cancel_plan, is_valid_plan};
+//! Calls that are never refused.
+ghost use Rattle.nio_event.specs.PassViews.{HasKey, HasNoPin};
+ghost use Rattle.nio_keys.specs.Pinned.{IsPinned};
+ghost use Rattle.nio_steps.specs.Calls.{CallClause};
+ghost use Rattle.nio_steps.specs.KeyCalls.{cancel_plan, cancel_present};
+ghost use Rattle.nio_steps.specs.Runs.{Completes};
 ghost use Rattle.nio_words.specs.Passes.{IsReady};
+ghost use Rattle.nio_words.specs.Views.{view};
 
-use crate::valid::valid;
+use crate::pinned::{pin, unpin};
+use crate::stage::fits;
 use nio_base::{CallerNo, KeyNo};
+use nio_event::Stage;
 use nio_words::{Pass, Words};
 
-/// Whether the key is valid: Java's `isValid`.
-#[tactic(auto, unfolding(nio_steps::specs::KeyCalls::is_valid_plan))]
-pub fn is_valid(w: &Words, p: &mut Pass, me: CallerNo, key: KeyNo) -> bool
-    requires ready { IsReady w.now p.old me }
-    requires key { HasKey w.now p.old key }
-    ensures { Calls w.now p.old p.new me (is_valid_plan key) result }
-{
-    valid(w.look_key(p, me, key.sel, key.index))
-}
-
-/// Cancels the key, valid or not: Java's `cancel`.
+/// Cancels the key, where its index has it and it isn't removed yet: Java's `cancel`.
 #[tactic(auto, unfolding(nio_steps::specs::KeyCalls::cancel_plan))]
 pub fn cancel(w: &Words, p: &mut Pass, me: CallerNo, key: KeyNo)
     requires ready { IsReady w.now p.old me }
-    requires key { HasKey w.now p.old key }
-    ensures { Calls w.now p.old p.new me (cancel_plan key) result }
+    requires key { HasKey (view w.now p.old) key }
+    requires unpinned { HasNoPin (view w.now p.old) me }
+    ensures call { CallClause me (Completes (cancel_plan key)) (view w.now p.old) (view w.now p.new) result }
+    ensures ready { IsReady w.now p.new me }
+    ensures unpinned { HasNoPin (view w.now p.new) me }
 {
-    w.cancel_key(p, me, key.sel, key.index);
+    let stage = pin(w, p, me, key);
+    cancel_present(w, p, me, key, stage);
+    unpin(w, p, me, key);
 }
 
-/// Gives the key an attachment, 0 for none. Answers the one before: Java's `attach`.
-#[tactic(auto, unfolding(nio_steps::specs::KeyCalls::attach_plan))]
-pub fn attach(w: &Words, p: &mut Pass, me: CallerNo, key: KeyNo, att: u64) -> u64
-    requires ready { IsReady w.now p.old me }
-    requires key { HasKey w.now p.old key }
-    ensures { Calls w.now p.old p.new me (attach_plan key att) result }
+fn cancel_present(w: &Words, p: &mut Pass, me: CallerNo, key: KeyNo, stage: Stage)
+    requires { IsPinned w.now p.old me key }
+    ensures call { CallClause me (Completes (cancel_present key stage)) (view w.now p.old) (view w.now p.new) result }
+    ensures pinned { IsPinned w.now p.new me key }
 {
-    w.swap_note(p, me, key.sel, key.index, att)
-}
-
-/// The key's attachment, 0 for none: Java's `attachment`.
-#[tactic(auto, unfolding(nio_steps::specs::KeyCalls::attachment_plan))]
-pub fn attachment(w: &Words, p: &mut Pass, me: CallerNo, key: KeyNo) -> u64
-    requires ready { IsReady w.now p.old me }
-    requires key { HasKey w.now p.old key }
-    ensures { Calls w.now p.old p.new me (attachment_plan key) result }
-{
-    w.look_note(p, me, key.sel, key.index)
+    if fits(stage, key.serial) && !stage.removed {
+        w.cancel_key(p, me, key.sel, key.index);
+    }
 }
