@@ -8,6 +8,7 @@
 //! run of its plan, and by what other callers did. `specs/Laws` has what follows from the plans alone.
 #![tactic(auto)]
 
+pub use found::{has_bit, supports};
 pub use laws::{begin_law, bound_law, close_law, given_back_law, progress_law, run_law, told_law};
 pub use looked::LookedKey;
 pub use refusal::{
@@ -15,6 +16,7 @@ pub use refusal::{
 };
 pub use selected::Selected;
 
+mod found;
 mod laws;
 mod looked;
 mod refusal;
