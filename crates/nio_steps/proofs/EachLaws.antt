@@ -28,11 +28,6 @@ pub each_when : {A : Type 0} (Asks : Question → Type 0) (test : Bool) (plan : 
 each_when Asks true plan here = each_bind Asks (λ _. ⊤) (λ _. ⊤) plan (λ _. reply tt) here (λ _ _. tt)
 each_when Asks false plan here = tt
 
--- where nothing is asked of them
-pub each_any : {R : Type 0} (plan : Plan R) → Each (λ _. ⊤) (λ _. ⊤) plan
-each_any (reply r) = tt
-each_any (ask q next) = (tt, λ answer. each_any (next answer))
-
 -- ---- of sweeps
 
 -- `Left k` is what is left before the turn of index k

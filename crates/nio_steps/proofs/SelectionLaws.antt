@@ -69,14 +69,14 @@ no_removes : (s : ℕ) (acts : List Act) → All (λ act. asks_remove s (questio
 no_removes s acts each =
     list_any_none (removes_on s) acts (All-weaker (λ act. asks_remove s (question_of act) ≡ false) (λ act. removes_on s act ≡ false) (not-removes s) acts each)
 
-count-append : (p : Act → Bool) (acts later : List Act) → count p (acts ++ later) ≡ count p acts + count p later
+pub count-append : (p : Act → Bool) (acts later : List Act) → count p (acts ++ later) ≡ count p acts + count p later
 count-append p acts later = sum_by-append (λ act. cond (p act) 1 0) acts later
 
-count-cons : (p : Act → Bool) (act : Act) (acts : List Act) → count p (act ∷ acts) ≡ cond (p act) 1 0 + count p acts
+pub count-cons : (p : Act → Bool) (act : Act) (acts : List Act) → count p (act ∷ acts) ≡ cond (p act) 1 0 + count p acts
 count-cons p act acts = count-append p (act ∷ []) acts ∙ ap (λ (n : ℕ). n + count p acts) (zero-add (cond (p act) 1 0))
 
 -- what has no such act counts none, and the other way round
-count-none : (p : Act → Bool) (acts : List Act) → has p acts ≡ false → count p acts ≡ 0
+pub count-none : (p : Act → Bool) (acts : List Act) → has p acts ≡ false → count p acts ≡ 0
 count-none p [] none = refl
 count-none p (act ∷ acts) none =
     let here : cond {A = ℕ} (p act) 1 0 ≡ 0 = ap (λ (b : Bool). cond {A = ℕ} b 1 0) (not_first (p act) (has p acts) none) in
@@ -154,12 +154,12 @@ module _ (s : SelNo) (pairs : List (ℕ × ℕ)) (entries : List LookedKey) (act
   marks-no_give : has (gives_turn s.0) acts ≡ false
   marks-no_give =
       no_gives s.0 acts (each_run (NoGive s.0) (λ _. ⊤) (sweep_over entries (mark_entry s pairs) 0) acts n
-      (each_marks (NoGive s.0) s (record { looks = λ _. refl; marks = λ _ _ _. refl }) pairs entries) run).0
+      (each_marks (NoGive s.0) s pairs entries (λ k d _. record { looks = refl; marks = λ _ _. refl })) run).0
 
-  marks-no_remove : has (removes_on s.0) acts ≡ false
+  pub marks-no_remove : has (removes_on s.0) acts ≡ false
   marks-no_remove =
       no_removes s.0 acts (each_run (NoRemove s.0) (λ _. ⊤) (sweep_over entries (mark_entry s pairs) 0) acts n
-      (each_marks (NoRemove s.0) s (record { looks = λ _. refl; marks = λ _ _ _. refl }) pairs entries) run).0
+      (each_marks (NoRemove s.0) s pairs entries (λ k d _. record { looks = refl; marks = λ _ _. refl })) run).0
 
 -- ---- after the marks
 
@@ -185,7 +185,7 @@ after-replies selection elapsed n = (
         (is_again selection.mode n (gate_in gate) (flag_in interrupted) elapsed) (reply (again selection)) (end_selection selection _)
         (λ goes_on. (refl, eqb-true n 0 (second_of _ _ _ _ _ _ goes_on)))
         (λ _. each_end (NoMark selection.selector.0) (Replies selection n) selection _
-        (record { looks_free = λ _. refl; looks = λ _. refl; looks_interest = λ _. refl; removes = λ _. refl; puts = λ _. refl }) refl refl refl),
+        (λ k d _. record { looks = refl; looks_interest = refl; removes = refl; puts = refl }) refl refl refl),
   ),
 )
 
