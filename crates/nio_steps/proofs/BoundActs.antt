@@ -25,7 +25,7 @@ use Rattle.nio_steps.proofs.SelectionAsks.{AsksAt, AsksMark, each_look, each_swe
 use Rattle.nio_steps.proofs.SelectionLaws.{count-append, count-none}
 use Rattle.nio_steps.proofs.Visits.{OneVisit, Turns, visits_once}
 use Rattle.nio_steps.proofs.Walks.{Always, always_if, always_bind, always_weaker, always_itself}
-use Rattle.nio_steps.specs.Each.{Each}
+use Rattle.nio_steps.proofs.Each.{Each}
 use Rattle.nio_steps.specs.Plan.{Plan, reply, ◌>>=◌, ◌>>◌, when}
 use Rattle.nio_steps.specs.Runs.{Completes}
 use Rattle.nio_steps.specs.SelectCalls.{LookedOver, look_over, look_valid, remove_cancelled, mark_entry, mark_told, mark_looked, mark_again, told_bits, gains_nothing, sweep_key}

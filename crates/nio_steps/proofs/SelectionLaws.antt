@@ -19,7 +19,7 @@ use Rattle.nio_steps.proofs.EachLaws.{each_if, each_run, split}
 use Rattle.nio_steps.proofs.Either.{neither, not_first, not_second}
 use Rattle.nio_steps.proofs.SelectionAsks.{each_end, each_marks}
 use Rattle.nio_steps.proofs.Walks.{Always, always_weaker, always_bind, always_if, always_any, always_over, always_run}
-use Rattle.nio_steps.specs.Each.{Each}
+use Rattle.nio_steps.proofs.Each.{Each}
 use Rattle.nio_steps.specs.Laws.{BeginsSelection, AgainGoesOn, CountsSelection}
 use Rattle.nio_steps.specs.Plan.{reply, ◌>>=◌}
 use Rattle.nio_steps.specs.Runs.{Completes}

@@ -77,8 +77,8 @@ CancelledKeysGo =
     → i < selection.bound
     → IsTrue (was_removed ((state_after (before ++ later)).key s.0 i) serial) × All (λ entry. ¬ ((entry.index ≡ i) × (entry.serial ≡ serial))) selection.looked
 
--- Key i of selector s is marked with exactly its told bits, of which there are some: the bits that the
--- poller told of a looked key, met with the interest set that the selection found.
+-- Index i of selector s is marked with exactly its told bits, of which there are some: the bits that the
+-- poller told of the index of a looked key, met with the interest set that the selection found.
 pub record MarksAsTold (selection : Selection) (pairs : List (ℕ × ℕ)) (s : SelNo) (i told : ℕ) : Type 0 where
   pub entry : LookedKey
   pub looked : Contains selection.looked entry
@@ -87,8 +87,8 @@ pub record MarksAsTold (selection : Selection) (pairs : List (ℕ × ℕ)) (s : 
   pub bits : told ≡ told_bits pairs entry
   pub some : IsTrue (not (told == 0))
 
--- A key is selected only for what the poller told of it in that selection, and only where it was
--- looked at and looked for.
+-- A `told` marks an index only for what the poller told of it in that call, and only where the selection looked at
+-- it and looked for what was told.
 abbrev pub MarksOnlyAsTold : Type 0
 MarksOnlyAsTold =
     (selection : Selection) (poll : Poll) (acts : List Act) (answer : ToldReply) → Tells selection poll acts answer
