@@ -24,6 +24,7 @@ mod WaitingPins
 pub mod PinLaws
 mod Visits
 mod BoundActs
+mod MarkedLaws
 mod BoundEvents
 mod BoundSums
 mod BoundLaws

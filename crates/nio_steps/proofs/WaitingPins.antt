@@ -1,5 +1,5 @@
 -- Calls that wait give back the pins that the runs in them take.
-use Rattle.std.proofs.Common.{Bool, Result, Ok, Err, List, [], ◌∷◌, ◌++◌, sym, subst}
+use Rattle.std.proofs.Common.{Bool, Result, Ok, Err, List, [], ◌∷◌, sym, subst}
 use Rattle.std.specs.List.{All}
 use Rattle.std.proofs.lemmas.List.Elements.{All-head, All-tail}
 use Rattle.nio_base.specs.declared.numbers.SelNo.{SelNo}
@@ -10,7 +10,7 @@ use Rattle.nio_steps.specs.PinLaws.{GivesPinsBack}
 use Rattle.nio_steps.specs.PipeCalls.{Waits}
 use Rattle.nio_steps.specs.Plan.{Plan}
 use Rattle.nio_steps.specs.Runs.{Completes}
-use Rattle.nio_steps.specs.SelectCalls.{Selection, Begins, Poll, Tells, TellsAll, TellsAndLeaves, SelectReply, SelectsRest, Selects, selected, not_begun, left, leave_plan, finish_plan, shut_plan, ShutReply, closing, already_closed, ClosesRest, Closes}
+use Rattle.nio_steps.specs.SelectCalls.{Selection, Begins, Poll, Tells, SelectsRest, Selects, selected, not_begun, left, leave_plan, finish_plan, shut_plan, ShutReply, closing, already_closed, ClosesRest, Closes}
 use Rattle.nio_steps.specs.Waiting.{Then, Run, acts_of, Tries, Repeats, Retries}
 use Rattle.nio_steps.specs.declared.refusal.BeginError.{BeginError}
 

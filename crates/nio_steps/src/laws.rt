@@ -1,5 +1,5 @@
 //! What the plans promise, as the contracts of functions that do nothing.
-ghost use Rattle.nio_steps.specs.Laws.{RunsArePerformed, BeginsSelection, ListsInOrder, LooksAtValidKeys, CancelledKeysGo, MarksOnlyAsTold, AgainGoesOn, CountsSelection, SelectionsStand, ClosingsStand, ClosedRemovesKeys};
+ghost use Rattle.nio_steps.specs.Laws.{RunsArePerformed, BeginsSelection, ListsInOrder, LooksAtValidKeys, CancelledKeysGo, MarksOnlyAsTold, MarksLookedKeys, AgainGoesOn, CountsSelection, SelectionsStand, ClosingsStand, ClosedRemovesKeys};
 ghost use Rattle.nio_steps.specs.PinLaws.{PinsAreGivenBack};
 ghost use Rattle.nio_steps.specs.Bound.{SelectionIsBounded};
 
@@ -20,10 +20,11 @@ pub fn begin_law()
     ensures cancelled { CancelledKeysGo }
 {}
 
-/// A selection marks an index only for what the poller told of it, counts each mark that succeeded, and ends
-/// with the first `told` that makes one.
+/// A selection marks an index only for what the poller told of it, and the index has the key that the selection
+/// looked at then. It counts each mark that succeeded, and ends with the first `told` that makes one.
 pub fn told_law()
     ensures only_as_told { MarksOnlyAsTold }
+    ensures looked { MarksLookedKeys }
     ensures goes_on { AgainGoesOn }
     ensures counts { CountsSelection }
 {}
