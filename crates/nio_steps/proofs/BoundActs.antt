@@ -25,11 +25,11 @@ use Rattle.nio_steps.proofs.SelectionAsks.{AsksAt, AsksMark, each_look, each_swe
 use Rattle.nio_steps.proofs.SelectionLaws.{count-append, count-none}
 use Rattle.nio_steps.proofs.Visits.{OneVisit, Turns, visits_once}
 use Rattle.nio_steps.proofs.Walks.{Always, always_if, always_bind, always_weaker, always_itself}
-use Rattle.nio_steps.specs.Each.{Each}
+use Rattle.nio_steps.proofs.Each.{Each}
 use Rattle.nio_steps.specs.Plan.{Plan, reply, ◌>>=◌, ◌>>◌, when}
 use Rattle.nio_steps.specs.Runs.{Completes}
-use Rattle.nio_steps.specs.SelectCalls.{LookedOver, look_over, look_valid, remove_cancelled, mark_entry, mark_told, mark_looked, mark_again, told_bits, gains_nothing, sweep_key}
-use Rattle.nio_steps.specs.Steps.{put_free, mark, mark_in, stage_in, exchange_in}
+use Rattle.nio_steps.specs.SelectCalls.{LookedOver, look_over, look_valid, looked_key, remove_cancelled, mark_entry, mark_told, mark_looked, mark_again, told_bits, gains_nothing, sweep_key}
+use Rattle.nio_steps.specs.Steps.{put_free, mark, mark_in, stage_in, operations_in, exchange_in}
 use Rattle.nio_steps.specs.Sweeps.{sweep_over}
 use Rattle.nio_steps.specs.declared.looked.LookedKey.{LookedKey}
 
@@ -110,11 +110,19 @@ module _ (s : SelNo) (i : ℕ) where
     pub valid : is_valid stage ≡ true
     pub spared : has (removes s.0 i) later ≡ false
 
+  -- the entry of this index has the serial and the channel of the stage
+  pub record IsOf (stage : Stage) (entry : LookedKey) : Type 0 where
+    pub serial : stage.serial ≡ entry.serial
+    pub channel : stage.chan ≡ entry.channel
+
+  abbrev pub EntryOf : Stage → LookedOver → Type 0
+  EntryOf stage found = All (λ entry. entry.index ≡ i → IsOf stage entry) found.looked
+
   -- what came of it: its index is dropped, or it is kept without its key being looked at, or its key is looked at
   pub data Seen (acts : List Act) (found : LookedOver) : Type 0 where
     is_dropped : At acts ≤ 3 → NotLooked found → NotKept found → Seen acts found
     is_kept : At acts ≤ 1 → NotLooked found → Seen acts found
-    is_looked : At acts ≤ 2 → FoundValid acts → Seen acts found
+    is_looked : At acts ≤ 2 → (valid : FoundValid acts) → EntryOf valid.stage found → Seen acts found
 
   -- the turn of another index
   record Aside (found : LookedOver) (zs : List Act) (z : LookedOver) : Type 0 where
@@ -122,27 +130,33 @@ module _ (s : SelNo) (i : ℕ) where
     spares : has (removes s.0 i) zs ≡ false
     looked : NotLooked found → NotLooked z
     kept : NotKept found → NotKept z
+    entry : (stage : Stage) → EntryOf stage found → EntryOf stage z
 
   not-removes_at : (act : Act) → NotAt (question_of act) → removes s.0 i act ≡ false
   not-removes_at (Remove s' i' found) e = e
   not-removes_at _ e = refl
 
+  abbrev PassesOn : LookedOver → LookedOver → Type 0
+  PassesOn found z = (NotLooked found → NotLooked z) × (NotKept found → NotKept z) × ((stage : Stage) → EntryOf stage found → EntryOf stage z)
+
   turn-aside : (e : ℕ) (found : LookedOver) → (e ≡ i → ⊥) → Always (Aside found) (look_over s e found)
   turn-aside e found other =
-      runs_always NotAt (λ z. (NotLooked found → NotLooked z) × (NotKept found → NotKept z)) (Aside found) (look_over s e found)
-      (each_look NotAt s e (other-asks e other) (λ z. (NotLooked found → NotLooked z) × (NotKept found → NotKept z)) found (record {
-        dropped = (λ h. h, λ h. h);
+      runs_always NotAt (PassesOn found) (Aside found) (look_over s e found)
+      (each_look NotAt s e (other-asks e other) (PassesOn found) found (record {
+        dropped = (λ h. h, λ h. h, λ stage h. h);
         looked = λ entry is. (
           λ none. All-push (λ x. x.index ≡ i → ⊥) found.looked entry none (λ same. other (sym is ∙ same)),
           λ none there. by_place none (Contains-push_cases found.kept e i there),
+          λ stage each. All-push (λ x. x.index ≡ i → IsOf stage x) found.looked entry each (λ same. absurd (other (sym is ∙ same))),
         );
-        kept = (λ h. h, λ none there. by_place none (Contains-push_cases found.kept e i there));
+        kept = (λ h. h, λ none there. by_place none (Contains-push_cases found.kept e i there), λ stage h. h);
       }))
       (λ acts z each replies. record {
         none = none-counted (acts_at s.0 i) acts each;
         spares = list_any_none (removes s.0 i) acts (All-weaker (λ act. NotAt (question_of act)) (λ act. removes s.0 i act ≡ false) not-removes_at acts each);
         looked = replies.0;
         kept = replies.1;
+        entry = replies.2;
       })
     where
       by_place : NotKept found → Contains found.kept i ⊎ (e ≡ i) → ⊥
@@ -176,14 +190,17 @@ module _ (s : SelNo) (i : ℕ) where
             parts = ap (λ x. x ∷ act ∷ []) (key-look s i look asks);
             valid = valid;
             spared = no_removal act asks';
-          }))
+          })
+          (All-push (λ x. x.index ≡ i → IsOf stage x) found.looked (looked_key i stage (operations_in (answer_of act)))
+          (All-weaker (λ x. x.index ≡ i → ⊥) (λ x. x.index ≡ i → IsOf stage x) (λ x none same'. absurd (none same')) found.looked not_looked)
+          (λ _. record { serial = refl; channel = refl })))
           (λ _. always_if (λ xs r. Seen (look ∷ xs) r) stage.removed (reply found) _
           (λ _. is_dropped (short (look ∷ []) 3 (omega arith)) not_looked not_kept) (λ _. is_kept (short (look ∷ []) 1 (omega arith)) not_looked)))
 
   seen-on : (acts zs : List Act) (found z : LookedOver) → Aside found zs z → Seen acts found → Seen (acts ++ zs) z
   seen-on acts zs found z aside (is_dropped fits not_looked not_kept) = is_dropped (more acts zs 3 fits aside.none) (aside.looked not_looked) (aside.kept not_kept)
   seen-on acts zs found z aside (is_kept fits not_looked) = is_kept (more acts zs 1 fits aside.none) (aside.looked not_looked)
-  seen-on acts zs found z aside (is_looked fits valid) =
+  seen-on acts zs found z aside (is_looked fits valid of_stage) =
       is_looked (more acts zs 2 fits aside.none) (record {
         before = valid.before;
         stage = valid.stage;
@@ -191,13 +208,13 @@ module _ (s : SelNo) (i : ℕ) where
         parts = ap (λ xs. xs ++ zs) valid.parts ∙ append_assoc valid.before (LookKey s i valid.stage ∷ valid.later) zs;
         valid = valid.valid;
         spared = list_any-append (removes s.0 i) valid.later zs ∙ neither _ _ valid.spared aside.spares;
-      })
+      }) (aside.entry valid.stage of_stage)
 
   -- acts before, which made none at the index
   seen-later : (acts zs : List Act) (z : LookedOver) → At acts ≡ 0 → Seen zs z → Seen (acts ++ zs) z
   seen-later acts zs z none (is_dropped fits not_looked not_kept) = is_dropped (omega (arith, count-append (acts_at s.0 i) acts zs)) not_looked not_kept
   seen-later acts zs z none (is_kept fits not_looked) = is_kept (omega (arith, count-append (acts_at s.0 i) acts zs)) not_looked
-  seen-later acts zs z none (is_looked fits valid) =
+  seen-later acts zs z none (is_looked fits valid of_stage) =
       is_looked (omega (arith, count-append (acts_at s.0 i) acts zs)) (record {
         before = acts ++ valid.before;
         stage = valid.stage;
@@ -205,7 +222,7 @@ module _ (s : SelNo) (i : ℕ) where
         parts = ap (λ xs. acts ++ xs) valid.parts ∙ sym (append_assoc acts valid.before (LookKey s i valid.stage ∷ valid.later));
         valid = valid.valid;
         spared = valid.spared;
-      })
+      }) of_stage
 
   over-turns : Turns (λ k. k) i Unseen Seen (look_over s)
   over-turns = record {

@@ -141,7 +141,7 @@ counted p before e after is =
 pub has_first : (p : Act → Bool) (xs ys : List Act) → has p (xs ++ ys) ≡ false → has p xs ≡ false
 has_first p xs ys none = not_first (has p xs) (has p ys) (sym (list_any-append p xs ys) ∙ none)
 
-has_last : (p : Act → Bool) (xs ys : List Act) → has p (xs ++ ys) ≡ false → has p ys ≡ false
+pub has_last : (p : Act → Bool) (xs ys : List Act) → has p (xs ++ ys) ≡ false → has p ys ≡ false
 has_last p xs ys none = not_second (has p xs) (has p ys) (sym (list_any-append p xs ys) ∙ none)
 
 not_exchanged : (from stood found : KeyMark) → Err found ≡ exchange_from from stood → is_same_mark stood from ≡ false

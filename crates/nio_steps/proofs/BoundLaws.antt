@@ -16,9 +16,8 @@ use Rattle.nio_event.specs.Histories.{mine, event_of, IsLegal}
 use Rattle.nio_event.specs.OwnEvents.{has, count, gives_turn}
 use Rattle.nio_event.specs.Pins.{removes}
 use Rattle.nio_event.specs.Questions.{Question, question_of, answer_of}
-use Rattle.nio_event.specs.Turns.{removes_on}
 use Rattle.nio_event.specs.declared.act.Act.{Act}
-use Rattle.nio_event.specs.declared.act.Act.TheVariants.{LookKey, BeginLook, LookMark, Remove, Mark, EndWake, LookFree}
+use Rattle.nio_event.specs.declared.act.Act.TheVariants.{LookKey, BeginLook, LookMark, Mark, EndWake, LookFree}
 use Rattle.nio_event.specs.declared.event.Event.{Event}
 use Rattle.nio_event.specs.declared.found.GateWord.{GateWord}
 use Rattle.nio_steps.proofs.BeginLaws.{Begun, none_yet, begin-parts}
@@ -26,12 +25,12 @@ use Rattle.nio_steps.proofs.BoundActs.{asks_at, acts_at, FoundValid, FoundChange
 use Rattle.nio_steps.proofs.BoundEvents.{has_first, cancels_at, unselects_at, cancelled_meanwhile, unselected_meanwhile}
 use Rattle.nio_steps.proofs.BoundSums.{total, total-add, total-le, total-six, IsAmong, length-among, disturbed, rising-count}
 use Rattle.nio_steps.proofs.EachLaws.{each_over, each_run}
-use Rattle.nio_steps.proofs.Either.{neither, not_first, not_second, by_first, by_second}
+use Rattle.nio_steps.proofs.Either.{neither, by_first, by_second}
 use Rattle.nio_steps.proofs.Lists.{contains-middle}
 use Rattle.nio_steps.proofs.LookedLaws.{free-look}
 use Rattle.nio_steps.proofs.OrderLaws.{lists_in_order, list-rises, IsListed, Rises, over-rises}
 use Rattle.nio_steps.proofs.SelectionAsks.{AsksAt, AsksMark, each_list, each_look, each_marks, each_sweep_key, goes_any}
-use Rattle.nio_steps.proofs.SelectionLaws.{marks-no_remove, NoGive, asks_give, no_gives, not-gives}
+use Rattle.nio_steps.proofs.SelectionLaws.{marks-no_remove, removes_none, NoGive, asks_give, no_gives, not-gives}
 use Rattle.nio_steps.proofs.Visits.{OneVisit}
 use Rattle.nio_steps.proofs.Walks.{Always, always_if, always_bind, always_itself, always_run, always_sweep}
 use Rattle.nio_steps.specs.Bound.{finds_listed, disturbs, IsWhole, SelectionIsBounded}
@@ -158,15 +157,6 @@ module _ (s : SelNo) (bound : ℕ) where
       (not_free word j bound 64) (word-found j word 64 (omega arith))))
 
 -- ---- removals
-
-removes_none : (s i : ℕ) (acts : List Act) → has (removes_on s) acts ≡ false → has (removes s i) acts ≡ false
-removes_none s i [] none = refl
-removes_none s i (act ∷ acts) none =
-    neither (removes s i act) (has (removes s i) acts) (of_act act (not_first (removes_on s act) (has (removes_on s) acts) none)) (removes_none s i acts (not_second (removes_on s act) (has (removes_on s) acts) none))
-  where
-    of_act : (a : Act) → removes_on s a ≡ false → removes s i a ≡ false
-    of_act (Remove s' i' found) none' = ap (λ b. b && (i' == i)) none'
-    of_act _ none' = refl
 
 -- ---- a whole selection
 
@@ -424,7 +414,7 @@ module _ (selection : Selection) (poll : Poll) (answer : Selected) (found woken 
         by_seen : Seen s i begun.over (record { looked = selection.looked; kept = selection.kept }) → (At_i i begun.over + At_i i ended.marks) + At_i i ended.sweeps ≤ 6 + disturbs_at i
         by_seen (is_dropped fits not_looked not_kept) = omega (arith, fits, unmarked_in i not_looked, swept_none i not_kept)
         by_seen (is_kept fits not_looked) = omega (arith, fits, unmarked_in i not_looked, swept_any i)
-        by_seen (is_looked fits valid) = omega (arith, fits, marked_in i valid, swept_valid i valid)
+        by_seen (is_looked fits valid _) = omega (arith, fits, marked_in i valid, swept_valid i valid)
 
         by_over : OneVisit (λ k. k) i (Unseen s i) (Seen s i) begun.listed begun.over (record { looked = selection.looked; kept = selection.kept }) → (At_i i begun.over + At_i i ended.marks) + At_i i ended.sweeps ≤ 6 + disturbs_at i
         by_over (inl unvisited) = absurd (All-contains (λ k. k ≡ i → ⊥) begun.listed i unvisited.0 there refl)

@@ -10,7 +10,7 @@ use Rattle.nio_steps.proofs.EachLaws.{each_sweep_at, each_over_at, each_run}
 use Rattle.nio_steps.proofs.Lists.{pairs-none, pairs-append, pairs-one, all-one, pairs-push, pairs-before}
 use Rattle.nio_steps.specs.ChannelCalls.{words_below}
 use Rattle.nio_steps.proofs.SelectionAsks.{GoesOver, each_look}
-use Rattle.nio_steps.specs.Each.{Each}
+use Rattle.nio_steps.proofs.Each.{Each}
 use Rattle.nio_steps.specs.KeyCalls.{has_bit}
 use Rattle.nio_steps.specs.Laws.{ListsInOrder}
 use Rattle.nio_steps.specs.SelectCalls.{LookedOver, not_free, list_word, list_below, look_over}

@@ -9,7 +9,7 @@ use Rattle.nio_event.specs.State.{last_serial}
 use Rattle.nio_event.specs.declared.found.Mark.{Mark as KeyMark}
 use Rattle.nio_event.specs.declared.found.Stage.{Stage}
 use Rattle.nio_steps.proofs.EachLaws.{each_bind, each_if, each_when, each_sweep, each_over}
-use Rattle.nio_steps.specs.Each.{Each}
+use Rattle.nio_steps.proofs.Each.{Each}
 use Rattle.nio_steps.specs.Plan.{reply, ◌>>=◌, ◌>>◌}
 use Rattle.nio_steps.specs.SelectCalls.{Selection, ToldReply, done, LookedOver, told_bits, list_word, list_below, look_over, look_on, look_valid, looked_key, remove_cancelled, mark_entry, mark_told, mark_looked, mark_again, gains_nothing, sweep_key, end_selection}
 use Rattle.nio_steps.specs.Steps.{put_free, mark, mark_in, stage_in, operations_in, exchange_in}

@@ -8,6 +8,7 @@ use Rattle.std.proofs.lemmas.List.Sums.{sum_by-append}
 use Rattle.std.proofs.lemmas.List.{append-nil}
 use Rattle.nio_base.specs.declared.numbers.SelNo.{SelNo}
 use Rattle.nio_event.specs.OwnEvents.{has, count, gives_turn}
+use Rattle.nio_event.specs.Pins.{removes}
 use Rattle.nio_event.specs.Questions.{Question, question_of, answer_of}
 use Rattle.nio_event.specs.Turns.{removes_on}
 use Rattle.nio_event.specs.declared.act.Act.{Act}
@@ -19,7 +20,7 @@ use Rattle.nio_steps.proofs.EachLaws.{each_if, each_run, split}
 use Rattle.nio_steps.proofs.Either.{neither, not_first, not_second}
 use Rattle.nio_steps.proofs.SelectionAsks.{each_end, each_marks}
 use Rattle.nio_steps.proofs.Walks.{Always, always_weaker, always_bind, always_if, always_any, always_over, always_run}
-use Rattle.nio_steps.specs.Each.{Each}
+use Rattle.nio_steps.proofs.Each.{Each}
 use Rattle.nio_steps.specs.Laws.{BeginsSelection, AgainGoesOn, CountsSelection}
 use Rattle.nio_steps.specs.Plan.{reply, ◌>>=◌}
 use Rattle.nio_steps.specs.Runs.{Completes}
@@ -32,7 +33,7 @@ use Rattle.nio_steps.specs.declared.selected.Selected.{Selected}
 
 -- ---- questions that are no mark, and that don't give the turn back
 
-abbrev asks_mark : ℕ → Question → Bool
+abbrev pub asks_mark : ℕ → Question → Bool
 asks_mark s (Question.mark s' i from told) = s'.0 == s
 asks_mark s _ = false
 
@@ -68,6 +69,16 @@ not-removes s _ e = refl
 no_removes : (s : ℕ) (acts : List Act) → All (λ act. asks_remove s (question_of act) ≡ false) acts → has (removes_on s) acts ≡ false
 no_removes s acts each =
     list_any_none (removes_on s) acts (All-weaker (λ act. asks_remove s (question_of act) ≡ false) (λ act. removes_on s act ≡ false) (not-removes s) acts each)
+
+-- who removes no key of a selector removes none of an index of it
+pub removes_none : (s i : ℕ) (acts : List Act) → has (removes_on s) acts ≡ false → has (removes s i) acts ≡ false
+removes_none s i [] none = refl
+removes_none s i (act ∷ acts) none =
+    neither (removes s i act) (has (removes s i) acts) (of_act act (not_first (removes_on s act) (has (removes_on s) acts) none)) (removes_none s i acts (not_second (removes_on s act) (has (removes_on s) acts) none))
+  where
+    of_act : (a : Act) → removes_on s a ≡ false → removes s i a ≡ false
+    of_act (Remove s' i' found) none' = ap (λ b. b && (i' == i)) none'
+    of_act _ none' = refl
 
 pub count-append : (p : Act → Bool) (acts later : List Act) → count p (acts ++ later) ≡ count p acts + count p later
 count-append p acts later = sum_by-append (λ act. cond (p act) 1 0) acts later
@@ -151,7 +162,7 @@ abbrev NoRemove : ℕ → Question → Type 0
 NoRemove s q = asks_remove s q ≡ false
 
 module _ (s : SelNo) (pairs : List (ℕ × ℕ)) (entries : List LookedKey) (acts : List Act) (n : ℕ) (run : Completes (sweep_over entries (mark_entry s pairs) 0) acts n) where
-  marks-no_give : has (gives_turn s.0) acts ≡ false
+  pub marks-no_give : has (gives_turn s.0) acts ≡ false
   marks-no_give =
       no_gives s.0 acts (each_run (NoGive s.0) (λ _. ⊤) (sweep_over entries (mark_entry s pairs) 0) acts n
       (each_marks (NoGive s.0) s pairs entries (λ k d _. record { looks = refl; marks = λ _ _. refl })) run).0
@@ -163,11 +174,11 @@ module _ (s : SelNo) (pairs : List (ℕ × ℕ)) (entries : List LookedKey) (act
 
 -- ---- after the marks
 
-abbrev NoMark : ℕ → Question → Type 0
+abbrev pub NoMark : ℕ → Question → Type 0
 NoMark s q = asks_mark s q ≡ false
 
 -- the count of what is over; what goes on is this selection, and nothing was marked
-abbrev Replies : Selection → ℕ → ToldReply → Type 0
+abbrev pub Replies : Selection → ℕ → ToldReply → Type 0
 Replies selection n (done answer) = answer.count ≡ n
 Replies selection n (again next) = (next ≡ selection) × (n ≡ 0)
 
@@ -176,7 +187,7 @@ second_of a true c d e f all = refl
 second_of true false c d e f all = absurd (cc all)
 second_of false false c d e f all = absurd (cc all)
 
-after-replies : (selection : Selection) (elapsed : Bool) (n : ℕ) → Each (NoMark selection.selector.0) (Replies selection n) (after_marks selection elapsed n)
+pub after-replies : (selection : Selection) (elapsed : Bool) (n : ℕ) → Each (NoMark selection.selector.0) (Replies selection n) (after_marks selection elapsed n)
 after-replies selection elapsed n = (
   refl,
   λ gate. (

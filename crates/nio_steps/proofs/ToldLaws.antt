@@ -8,7 +8,7 @@ use Rattle.nio_event.specs.declared.act.Act.TheVariants.{Mark}
 use Rattle.nio_event.specs.declared.found.Mark.{Mark as KeyMark}
 use Rattle.nio_steps.proofs.EachLaws.{each_bind, each_if, each_over, each_run}
 use Rattle.nio_steps.proofs.SelectionAsks.{each_end}
-use Rattle.nio_steps.specs.Each.{Each}
+use Rattle.nio_steps.proofs.Each.{Each}
 use Rattle.nio_steps.specs.Laws.{MarksAsTold, MarksOnlyAsTold}
 use Rattle.nio_steps.specs.Plan.{reply, ◌>>=◌}
 use Rattle.nio_steps.specs.SelectCalls.{Selection, told_plan, told_bits, mark_entry, mark_told, mark_looked, mark_again, gains_nothing, end_selection, again}

@@ -14,4 +14,3 @@ pub mod Selections
 pub mod Laws
 pub mod PinLaws
 pub mod Bound
-pub mod Each
