@@ -1,15 +1,20 @@
 -- What puts steps and calls together: the promise of a call from those of its parts.
-use Rattle.std.proofs.Common.{◌≡◌, Bool, true, false, if◌then◌else◌, List, [], ◌∷◌, ◌++◌, refl, sym, subst}
+use Rattle.std.proofs.Common.{◌≡◌, ℕ, Bool, true, false, if◌then◌else◌, List, [], ◌∷◌, ◌++◌, refl, sym, subst}
 use Rattle.nio_base.specs.declared.numbers.CallerNo.{CallerNo}
+use Rattle.nio_base.specs.declared.numbers.SelNo.{SelNo}
 use Rattle.nio_event.proofs.PassViews.{done-is, acts_nothing, acts_then}
 use Rattle.nio_event.specs.Histories.{IsLegal}
 use Rattle.nio_event.specs.PassViews.{PassView, done_between, ActsClause}
 use Rattle.nio_event.specs.Questions.{Answer, question_of, answer_of}
 use Rattle.nio_event.specs.declared.act.Act.{Act}
+use Rattle.nio_event.specs.declared.act.Act.TheVariants.{Pin, Unpin}
+use Rattle.nio_event.specs.declared.found.Stage.{Stage}
 use Rattle.nio_steps.proofs.RunLaws.{bind-reply, follows_more, follows_bind}
 use Rattle.nio_steps.specs.Calls.{CallClause, PartClause}
-use Rattle.nio_steps.specs.Plan.{Plan, reply, ask, ◌>>=◌}
+use Rattle.nio_steps.specs.KeyCalls.{under_pin}
+use Rattle.nio_steps.specs.Plan.{Plan, reply, ask, ◌>>=◌, ◌>>◌}
 use Rattle.nio_steps.specs.Runs.{Follows, Completes}
+use Rattle.nio_steps.specs.Steps.{unpin, stage_in}
 
 -- acts of this shape, by which the history went on, are the call
 pub call_of_acts : {R : Type 0} {me : CallerNo} {v0 v1 : PassView} (Shape : List Act → R → Type 0) (acts : List Act) (answer : R)
@@ -97,3 +102,12 @@ left_reply {me = me} {whole = whole} {plan = plan} {v0 = v0} {v1 = v1} part = su
 pub ran_then : {A B : Type 0} {me : CallerNo} {plan : Plan A} {a : A} {v0 v1 v2 : PassView} {rest : Plan B} (f : A → Plan B)
     → CallClause me (Completes plan) v0 v1 a → PartClause me (f a) v1 v2 rest → PartClause me (plan >>= f) v0 v2 rest
 ran_then f call second = left_more (left_bind f (left_of_call call)) second
+
+-- ---- under a pin
+
+-- the pinning of an index, a whole call with the stage that was found, and the unpinning
+pub ran_pinned : {A : Type 0} {me : CallerNo} {s : SelNo} {i : ℕ} {stage : Stage} {a : A} {v0 v1 v2 v3 : PassView} (steps : Stage → Plan A)
+    → ActsClause me (Pin s i stage ∷ []) v0 v1 → CallClause me (Completes (steps stage)) v1 v2 a → ActsClause me (Unpin s i ∷ []) v2 v3
+    → CallClause me (Completes (under_pin s i steps)) v0 v3 a
+ran_pinned {s = s} {i = i} steps pins call unpins =
+    returned (left_ask (λ answer. steps (stage_in answer) >>= λ x. (unpin s i >> reply x)) pins (ran_then (λ x. unpin s i >> reply x) call (left_ask (λ _. reply _) unpins (left_after unpins))))

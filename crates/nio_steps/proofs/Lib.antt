@@ -18,3 +18,10 @@ pub mod StandLaws
 pub mod LookedLaws
 pub mod GoneLaws
 pub mod ClosedLaws
+pub mod PinBack
+pub mod PinLaws
+mod Visits
+mod BoundActs
+mod BoundEvents
+mod BoundSums
+mod BoundLaws

@@ -64,10 +64,13 @@ if_valid k steps stage = if not (is_valid_key stage k.serial) then reply (Err Ca
 abbrev pub on_valid : {A : Type 0} → KeyNo → (Stage → Plan (Result A KeyError)) → Plan (Result A KeyError)
 on_valid k steps = under_pin k.sel k.index (if_valid k steps)
 
-unfoldable pub interest_plan : KeyNo → Plan (Result ℕ KeyError)
-interest_plan k = on_valid k (λ _. do
+abbrev pub look_set : KeyNo → Plan (Result ℕ KeyError)
+look_set k = do
   ops ← look_interest k.sel k.index
-  reply (Ok ops))
+  reply (Ok ops)
+
+unfoldable pub interest_plan : KeyNo → Plan (Result ℕ KeyError)
+interest_plan k = on_valid k (λ _. look_set k)
 
 -- each of these operations is one of those
 abbrev pub is_within : ℕ → ℕ → Bool
@@ -77,30 +80,43 @@ is_within these those = bit_and these those == these
 abbrev pub if_supported : {A : Type 0} → ℕ → Plan (Result A KeyError) → Chan → Plan (Result A KeyError)
 if_supported ops steps found = if not (is_within ops (valid_operations found.kind)) then reply (Err IllegalOps) else steps
 
--- what is done with a valid key, and operations that the key's channel has
-abbrev pub on_supported : {A : Type 0} → KeyNo → ℕ → Plan (Result A KeyError) → Plan (Result A KeyError)
-on_supported k ops steps = on_valid k (λ stage. look_channel stage.chan >>= if_supported ops steps)
+-- what is done with operations that the key's channel has
+abbrev pub on_supported : {A : Type 0} → ℕ → Plan (Result A KeyError) → Stage → Plan (Result A KeyError)
+on_supported ops steps stage = look_channel stage.chan >>= if_supported ops steps
 
-unfoldable pub set_interest_plan : KeyNo → ℕ → Plan (Result (Unit {0}) KeyError)
-set_interest_plan k ops = on_supported k ops do
+abbrev pub put_set : KeyNo → ℕ → Plan (Result (Unit {0}) KeyError)
+put_set k ops = do
   swap_interest k.sel k.index ops
   reply (Ok tt)
 
-unfoldable pub interest_or_plan : KeyNo → ℕ → Plan (Result ℕ KeyError)
-interest_or_plan k ops = on_supported k ops do
+unfoldable pub set_interest_plan : KeyNo → ℕ → Plan (Result (Unit {0}) KeyError)
+set_interest_plan k ops = on_valid k (on_supported ops (put_set k ops))
+
+-- the set before
+abbrev pub add_set : KeyNo → ℕ → Plan (Result ℕ KeyError)
+add_set k ops = do
   before ← or_interest k.sel k.index ops
+  reply (Ok before)
+
+unfoldable pub interest_or_plan : KeyNo → ℕ → Plan (Result ℕ KeyError)
+interest_or_plan k ops = on_valid k (on_supported ops (add_set k ops))
+
+abbrev pub keep_set : KeyNo → ℕ → Plan (Result ℕ KeyError)
+keep_set k ops = do
+  before ← and_interest k.sel k.index ops
   reply (Ok before)
 
 -- any operations are accepted
 unfoldable pub interest_and_plan : KeyNo → ℕ → Plan (Result ℕ KeyError)
-interest_and_plan k ops = on_valid k (λ _. do
-  before ← and_interest k.sel k.index ops
-  reply (Ok before))
+interest_and_plan k ops = on_valid k (λ _. keep_set k ops)
+
+abbrev pub look_ready : KeyNo → Plan (Result ℕ KeyError)
+look_ready k = do
+  mark ← look_mark k.sel k.index
+  reply (Ok mark.ready)
 
 unfoldable pub ready_plan : KeyNo → Plan (Result ℕ KeyError)
-ready_plan k = on_valid k (λ _. do
-  mark ← look_mark k.sel k.index
-  reply (Ok mark.ready))
+ready_plan k = on_valid k (λ _. look_ready k)
 
 -- the key is cancelled where its index has it, and it isn't removed
 abbrev pub cancel_present : KeyNo → Stage → Plan (Unit {0})

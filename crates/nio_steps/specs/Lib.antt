@@ -12,4 +12,6 @@ pub mod SelectCalls
 pub mod PipeCalls
 pub mod Selections
 pub mod Laws
+pub mod PinLaws
+pub mod Bound
 pub mod Each

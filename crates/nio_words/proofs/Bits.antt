@@ -126,6 +126,14 @@ unfolding bits_below
 bits_below-none zero = refl
 bits_below-none (suc k) = or_comm (bits_below k (λ _. false)) 0 ∙ bits_below-none k
 
+-- the set of a test that gives the same answers
+pub bits_below-same : (k : ℕ) (f g : ℕ → Bool) → ((n : ℕ) → n < k → f n ≡ g n) → bits_below k f ≡ bits_below k g
+unfolding bits_below
+bits_below-same zero f g same = refl
+bits_below-same (suc k) f g same =
+    let rest = bits_below-same k f g (λ n below. same n (omega arith)) in
+    ap (λ m. bit_or m (if f k then 2 ^ k else 0)) rest ∙ ap (λ b. bit_or (bits_below k g) (if b then 2 ^ k else 0)) (same k (omega arith))
+
 pub bit_at-bits_below : (k : ℕ) (f : ℕ → Bool) (i : ℕ) → i < k → bit_at (bits_below k f) i ≡ bit (f i)
 unfolding bits_below
 bit_at-bits_below zero f i h = absurd (omega arith)

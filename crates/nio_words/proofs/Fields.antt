@@ -3,7 +3,9 @@ use Rattle.std.proofs.Common.{◌≡◌, ◌≢◌, ℕ, ◌+◌, ◌-◌, ◌*�
 use Rattle.std.specs.Prelude.{bit_and, bit_or}
 use Rattle.std.proofs.lemmas.Nat.{pow_pos, or_comm, or_block, and_block, and_mask}
 use prog.Atomic.{either}
+use Rattle.std.specs.Option.{IfSome}
 use Rattle.nio_base.specs.declared.numbers.CallerNo.{CallerNo}
+use Rattle.nio_base.specs.declared.numbers.KeyId.{KeyId}
 use Rattle.nio_event.specs.Acts.{taken_by}
 use Rattle.nio_words.specs.Decodings.{is_set, holder_of, noted_of, number_of}
 use Rattle.nio_words.specs.Encodings.{bit, holder_word, noted_word}
@@ -65,11 +67,14 @@ reads_holder (Some n) small =
     ap (λ b. if b then None else Some (record { 0 = number_of (n.0 + 1 - 1) })) (more_than n.0)
     ∙ ap (λ (k : ℕ). Some (record { 0 = k })) (less_again n.0 small)
 
-pub reads_noted : (o : Option ℕ) → noted_word o < 2 ^ 32 + 1 → noted_of (noted_word o) ≡ o
-reads_noted None small = refl
-reads_noted (Some i) small =
-    ap (λ b. if b then None else Some (number_of (i + 1 - 1))) (more_than i)
-    ∙ ap (λ (k : ℕ). Some k) (less_again i small)
+pub reads_noted : (o : Option KeyId) → IfSome o (λ k. k.index + 1 < 2 ^ 32) → noted_of (noted_word o) ≡ o
+reads_noted None fits = refl
+reads_noted (Some k) fits =
+    let index : number_of (noted_word (Some k) - 1) ≡ k.index = omega arith in
+    let serial : noted_word (Some k) / 2 ^ 32 ≡ k.serial = omega arith in
+    ap (λ b. if b then None else Some (record { index = number_of (noted_word (Some k) - 1); serial = noted_word (Some k) / 2 ^ 32 }))
+    (ne_eqb (noted_word (Some k)) 0 (λ e. omega arith))
+    ∙ (λ j. Some (record { index = index j; serial = serial j }))
 
 -- the exchange takes the hold or the turn where nobody has it
 pub takes : (me : CallerNo) (o : Option CallerNo) → applied (Exchange 0 (holder_word (Some me))) (holder_word o) ≡ holder_word (taken_by me o)

@@ -1,37 +1,96 @@
 -- Each step of the worked history takes a pass that follows it one event further.
-use Rattle.std.proofs.Common.{◌≡◌, ℕ, List, [], ◌∷◌, ◌++◌, take, ap, sym, ◌∙◌, subst}
+use Rattle.std.proofs.Common.{◌≡◌, ℕ, false, zero, suc, ◌+◌, ◌<◌, List, [], ◌∷◌, ◌++◌, take, drop, length, get_or, refl, ap, sym, ◌∙◌, subst, arith}
+use Rattle.std.proofs.Math.ListN.{get_or-map}
+use Rattle.std.proofs.Math.Seq.{take-suc, drop-cons}
+use Rattle.std.proofs.lemmas.List.{length-map, get_or-take, get_or-drop, length-take, length-drop, take-append-drop}
 use Rattle.nio_base.specs.declared.numbers.CallerNo.{CallerNo}
-use Rattle.nio_event.proofs.Asked.{act_from-question_of}
-use Rattle.nio_event.proofs.Legal.{legal_next}
-use Rattle.nio_event.specs.Answers.{act_from}
-use Rattle.nio_event.specs.Histories.{state_after, event_of, IsLegal}
-use Rattle.nio_event.specs.Questions.{question_of}
-use Rattle.nio_event.specs.Worked.{worked_history}
+use Rattle.nio_event.proofs.WorkedSteps.{worked_history_is_legal}
+use Rattle.nio_event.specs.Conditions.{Condition}
+use Rattle.nio_event.specs.Histories.{state_after, mine, event_of, IsStep}
+use Rattle.nio_event.specs.Worked.{small_limits, u, v, worked_history}
 use Rattle.nio_event.specs.declared.act.Act.{Act}
+use Rattle.nio_event.specs.declared.act.Act.TheVariants.{DrawBit}
 use Rattle.nio_event.specs.declared.event.Event.{Event}
-use Rattle.nio_words.specs.Following.{Follows}
-use Rattle.nio_words.specs.Passes.{seen}
+use Rattle.nio_words.specs.Drawing.{Draws}
+use Rattle.nio_words.specs.Following.{Follows, step_of, worked_steps, IsPart}
+use Rattle.nio_words.specs.Passes.{numbers_of, IsReady, IsFirstPass, limits_of, acts_seen, state_seen}
 use Rattle.nio_words.specs.Rule.{HasBit}
 use Rattle.nio_words.specs.Steps.{Steps}
 use Rattle.nio_words.specs.declared.words.Pass.{Pass}
 use Rattle.nio_words.specs.declared.words.Words.{Words}
 
--- A step finds what the state gives. So where the worked history goes on by the same question of the
--- same caller, it goes on by this step.
-pub follows_on : (w : Words) (p q : Pass) (me : CallerNo) (act : Act) (count next : ℕ) → Follows w count p → Steps w p q me act
-    → take count worked_history ++ event_of me (act_from (state_after (take count worked_history)) me (question_of act)) ∷ [] ≡ take next worked_history
-    → Follows w next q
-follows_on w p q me act count next follows steps goes_on =
-    let past : List Event = take count worked_history in
-    let grown = steps.only follows.only in
-    let now : seen q ≡ past ++ event_of me act ∷ [] = grown.1 ∙ ap (λ es. es ++ event_of me act ∷ []) follows.seen in
-    let step = legal_next w.limits past (event_of me act) [] (subst (IsLegal w.limits) now steps.pass.legal) in
-    let is : act ≡ act_from (state_after past) me (question_of act) = act_from-question_of (state_after past) me act step.answers in
+-- the worked history has this event after so many others
+pub record IsAt (count : ℕ) (e : Event) : Type 0 where
+  pub below : count < length worked_history
+  pub is : get_or worked_history count e ≡ e
+
+at : (from i : ℕ) (steps : List (CallerNo × Act)) (x : CallerNo × Act) → IsPart from steps → i < length steps → get_or steps i x ≡ x → IsAt (from + i) (event_of x.0 x.1)
+at from i steps x part below is =
+    let few = ap length part ∙ length-take (length steps) (drop from worked_steps) in
+    let left = length-drop from worked_steps in
+    let whole = length-map worked_history step_of in
+    let step : get_or worked_steps (from + i) x ≡ x =
+    sym (get_or-drop from worked_steps i x) ∙ (sym (get_or-take (length steps) (drop from worked_steps) i x below) ∙ (ap (λ xs. get_or xs i x) (sym part) ∙ is)) in
+    let pair : step_of (get_or worked_history (from + i) (event_of x.0 x.1)) ≡ x =
+    sym (get_or-map step_of worked_history (from + i) (event_of x.0 x.1)) ∙ step in
     record {
-      pass = steps.pass;
-      limits = follows.limits;
-      first = subst (λ (k : ℕ). HasBit k 0) (sym steps.numbers) follows.first;
-      second = subst (λ (k : ℕ). HasBit k 1) (sym steps.numbers) follows.second;
-      only = grown.0;
-      seen = now ∙ (ap (λ a. past ++ event_of me a ∷ []) is ∙ goes_on);
+      below = omega (arith, few, left, whole);
+      is = ap (λ y. event_of y.0 y.1) pair;
+    }
+
+-- its event is a step
+worked_step : (count : ℕ) (e : Event) → IsAt count e → IsStep small_limits (take count worked_history) e
+worked_step count e here =
+    worked_history_is_legal.steps (take count worked_history) e (drop (suc count) worked_history)
+    (sym (take-append-drop count worked_history) ∙ ap (λ es. take count worked_history ++ es) (drop-cons worked_history count e here.below ∙ ap (λ x. x ∷ drop (suc count) worked_history) here.is))
+
+same_count : (n : ℕ) → suc n ≡ n + 1
+same_count n = omega arith
+
+module _ (w : Words) (p : Pass) (from i : ℕ) (steps : List (CallerNo × Act)) (x : CallerNo × Act) (follows : Follows w (from + i) p) (part : IsPart from steps) (below : i < length steps) (is : get_or steps i x ≡ x) where
+  here : IsAt (from + i) (event_of x.0 x.1)
+  here = at from i steps x part below is
+
+  step : IsStep small_limits (take (from + i) worked_history) (event_of x.0 x.1)
+  step = worked_step (from + i) (event_of x.0 x.1) here
+
+  pub ready : IsReady w p x.0
+  ready = record { pass = follows.pass; number = by_number x.0.0 step.by_caller }
+    where
+      by_number : (n : ℕ) → n < 2 → HasBit (numbers_of p) n
+      by_number zero few = follows.first
+      by_number (suc zero) few = follows.second
+      by_number (suc (suc n)) few = absurd (omega arith)
+
+  pub may : Condition (limits_of w) (acts_seen p x.0) (state_seen p) x.0 x.1
+  may =
+      subst (λ l. Condition l (acts_seen p x.0) (state_seen p) x.0 x.1) (sym follows.limits)
+      (subst (λ es. Condition small_limits (mine x.0 es) (state_after es) x.0 x.1) (sym follows.seen) step.condition)
+
+  pub follows_on : (q : Pass) → Steps w p q x.0 x.1 → Follows w (from + i + 1) q
+  follows_on q steps' =
+      let grown = steps'.only follows.only in
+      let one_more : take (suc (from + i)) worked_history ≡ take (from + i) worked_history ++ event_of x.0 x.1 ∷ [] =
+      take-suc worked_history (from + i) (event_of x.0 x.1) here.below ∙ ap (λ e. take (from + i) worked_history ++ e ∷ []) here.is in
+      record {
+        pass = steps'.pass;
+        limits = follows.limits;
+        first = subst (λ (k : ℕ). HasBit k 0) (sym steps'.numbers) follows.first;
+        second = subst (λ (k : ℕ). HasBit k 1) (sym steps'.numbers) follows.second;
+        only = grown.0;
+        seen = grown.1 ∙ (ap (λ es. es ++ event_of x.0 x.1 ∷ []) follows.seen ∙ (sym one_more ∙ ap (λ (n : ℕ). take n worked_history) (same_count (from + i))));
+      }
+
+-- after both callers are drawn, the table's first pass follows the worked history
+pub draws_follow : (w : Words) (p q r : Pass) → limits_of w ≡ small_limits → IsFirstPass w p → Draws w p q u false → Draws w q r v false → Follows w 2 r
+draws_follow w p q r limits made first second =
+    let one = first.only made.only in
+    let two = second.only one.0 in
+    record {
+      pass = second.pass;
+      limits = limits;
+      first = second.keeps u (first.holds refl);
+      second = second.holds refl;
+      only = two.0;
+      seen = two.1 ∙ ap (λ es. es ++ event_of v (DrawBit v false) ∷ []) (one.1 ∙ ap (λ es. es ++ event_of u (DrawBit u false) ∷ []) made.unseen);
     }

@@ -1,21 +1,28 @@
--- How a caller goes on from one pass to a later one, and what stands meanwhile because the caller keeps
--- what it has.
-use Rattle.std.proofs.Common.{◌≡◌, Bool, true, false, ◌&&◌, ◌||◌, List, [], ◌∷◌, ◌++◌, append_assoc, refl, ap, sym, ◌∙◌, subst}
+-- How a caller goes on from one pass to a later one, and what stands meanwhile: the laws of histories, said
+-- of passes.
+use Rattle.std.proofs.Common.{◌≡◌, Bool, true, false, List, [], ◌∷◌, ◌++◌, append_assoc, ap, sym, ◌∙◌, subst}
 use Rattle.std.proofs.lemmas.Bool.{or_parts}
 use Rattle.std.proofs.lemmas.List.{append-nil, append_cancel_left}
+use Rattle.std.proofs.lemmas.List.Folds.{list_any-append}
+use Rattle.std.specs.Option.{ForSome}
 use Rattle.nio_base.specs.declared.numbers.CallerNo.{CallerNo}
-use Rattle.nio_event.proofs.LastsAlone.{lasts_alone, without_from, has-mine}
-use Rattle.nio_event.proofs.OneMore.{state_after-more, mine-own, mine-other}
-use Rattle.nio_event.proofs.Stays.{nothing_goes_back, invalid_keys_stay_invalid, only_itself_gives_back}
-use Rattle.nio_event.specs.Acts.{effect}
-use Rattle.nio_event.specs.Histories.{state_after, is_by, mine, IsStep, IsLegal}
-use Rattle.nio_event.specs.Lasting.{OwnFact, is_had_by, gives_back}
-use Rattle.nio_event.specs.OwnEvents.{has}
+use Rattle.nio_event.proofs.Holds.{mode_stays, noted_stays, found_noted_stays, outside_stays, found_clear_stays}
+use Rattle.nio_event.proofs.Legal.{legal_beginning}
+use Rattle.nio_event.proofs.PinLaws.{pinned_keys_stay}
+use Rattle.nio_event.proofs.SelectedKeys.{selections_keep_keys}
+use Rattle.nio_event.proofs.Selections.{selects_alone as selects_alone_there, key_set_stays, marks_stay, wakeup_stays}
+use Rattle.nio_event.proofs.Stays.{facts_are_permanent, invalid_keys_stay_invalid, only_itself_gives_back}
+use Rattle.nio_event.specs.Histories.{state_after, mine, IsLegal}
+use Rattle.nio_event.specs.Lasting.{OwnFact, a_selection, is_had_by, gives_back}
+use Rattle.nio_event.specs.Holders.{IsAtMostUnselected}
+use Rattle.nio_event.specs.OwnEvents.{has, last, noted_found, is_clear_by}
+use Rattle.nio_event.specs.Pins.{IsSameKey, IsKeptInSelection}
+use Rattle.nio_event.specs.Sets.{is_in_key_set}
 use Rattle.nio_event.specs.State.{State}
 use Rattle.nio_event.specs.declared.act.Act.{Act}
 use Rattle.nio_event.specs.declared.event.Event.{Event}
 use Rattle.nio_words.proofs.Beginnings.{prefix_trans, mine-append}
-use Rattle.nio_words.specs.Laws.{IsLater, GoesOn, Keeps, CallsGoOn, DrawsGoOn, SplitsGoOn, JoinsGoOn, GoingOnChains, FactsStand, InvalidStands, HoldStands, TurnStands, SelectionStands}
+use Rattle.nio_words.specs.Laws.{IsLater, GoesOn, KeepsBetween, CallsGoOn, DrawsGoOn, SplitsGoOn, JoinsGoOn, GoingOnChains, HistoriesGoOn, FactsStand, InvalidKeysStand, OwnStands, PinnedKeysStand, ModeStands, NotedStands, FoundNotedStands, OutsideStands, FoundClearStands, SelectsAlone, KeySetStands, SelectedKeysStand, MarksStand, WakeupStands}
 use Rattle.nio_words.specs.Passes.{seen, state_seen, acts_seen, IsPassOf}
 use Rattle.nio_words.specs.declared.words.Pass.{Pass}
 use Rattle.nio_words.specs.declared.words.Words.{Words}
@@ -65,124 +72,127 @@ going_on_chains w me acts more p q r first second = record {
   own = second.own ∙ (ap (λ own. own ++ more) first.own ∙ append_assoc (acts_seen p me) acts more);
 }
 
+pub histories_go_on : HistoriesGoOn
+histories_go_on w me what acts before after keeps =
+    let go = keeps.goes_on in
+    let later : List Event = go.later.begins.0 in
+    let parts : seen before ++ later ≡ seen after = go.later.begins.1 in
+    let own : mine me later ≡ acts =
+    append_cancel_left (acts_seen before me) (mine me later) acts (sym (mine-append me (seen before) later) ∙ (ap (mine me) parts ∙ go.own)) in
+    record {
+      later = later;
+      parts = parts;
+      own = own;
+      keeps = record {
+        legal = subst (IsLegal w.limits) (sym parts) go.later.later_pass.legal;
+        has_it = keeps.has_it;
+        kept = ap (has (gives_back what)) own ∙ keeps.kept;
+      };
+    }
+
+-- ---- what is permanent, and what a caller has
+
 pub facts_stand : FactsStand
-facts_stand w before after later f here = nothing_goes_back w.limits (seen before) (seen after) later.begins later.later_pass.legal f here
+facts_stand w before after later f here = facts_are_permanent w.limits (seen before) (seen after) later.begins later.later_pass.legal f here
 
-pub invalid_stands : InvalidStands
-invalid_stands w before after later s i = invalid_keys_stay_invalid w.limits (seen before) (seen after) later.begins later.later_pass.legal s.0 i
+pub invalid_keys_stand : InvalidKeysStand
+invalid_keys_stand w before after later s k = invalid_keys_stay_invalid w.limits (seen before) (seen after) later.begins later.later_pass.legal s.0 k.index k.serial
 
--- ---- what a caller keeps
+pub own_stands : OwnStands
+own_stands w me what acts before after keeps =
+    let there = histories_go_on w me what acts before after keeps in
+    subst (λ es. is_had_by me what (state_after es) ≡ true) there.parts
+    (only_itself_gives_back w.limits me (seen before) there.later there.keeps.legal what there.keeps.kept there.keeps.has_it)
 
--- what is seen besides is legal behind what was seen, and has of the caller what it did
-pub legal_behind : (w : Words) (before after : Pass) (later : IsLater w before after) → IsLegal w.limits (seen before ++ later.begins.0)
-legal_behind w before after later = subst (IsLegal w.limits) (sym later.begins.1) later.later_pass.legal
+pub pinned_keys_stand : PinnedKeysStand
+pinned_keys_stand w me s i acts before after keeps =
+    let there = histories_go_on w me _ acts before after keeps in
+    subst (λ es. IsSameKey ((state_seen before).key s.0 i) ((state_after es).key s.0 i)) there.parts
+    (pinned_keys_stay w.limits me s i (seen before) there.later w.fit there.keeps.legal there.keeps.has_it there.keeps.kept)
 
-pub did_between : (w : Words) (me : CallerNo) (acts : List Act) (before after : Pass) → GoesOn w me acts before after
-    → (between : List Event) → seen before ++ between ≡ seen after → mine me between ≡ acts
-did_between w me acts before after go between is =
-    append_cancel_left (acts_seen before me) (mine me between) acts (sym (mine-append me (seen before) between) ∙ (ap (mine me) is ∙ go.own))
+-- of two lists of acts of which none is such, none of the first is
+has-append : (p : Act → Bool) (first second : List Act) → has p (first ++ second) ≡ false → (has p first ≡ false) × (has p second ≡ false)
+has-append p first second nowhere = or_parts (has p first) (has p second) (sym (list_any-append p first second) ∙ nowhere)
 
-still_has : (w : Words) (me : CallerNo) (what : OwnFact) (acts : List Act) (before after : Pass) → Keeps w me what acts before after
-    → is_had_by me what (state_seen after) ≡ true
-still_has w me what acts before after keeps =
-    let later = keeps.goes_on.later in
-    let did = did_between w me acts before after keeps.goes_on later.begins.0 later.begins.1 in
-    subst (λ events. is_had_by me what (state_after events) ≡ true) later.begins.1
-    (only_itself_gives_back w.limits me (seen before) later.begins.0 (legal_behind w before after later) what (ap (has (gives_back what)) did ∙ keeps.kept) keeps.has_it)
+-- ---- what a law of histories says of what was seen in between, it says of the passes
 
-pub hold_stands : HoldStands
-hold_stands w me c acts before after keeps = still_has w me _ acts before after keeps
+module _ {w : Words} {me : CallerNo} {what : OwnFact} {acts : List Act} {before after : Pass} (there : KeepsBetween w me what acts before after) where
+  -- acts of which none is such
+  none_such : (p : Act → Bool) → has p acts ≡ false → has p (mine me there.later) ≡ false
+  none_such p nowhere = ap (has p) there.own ∙ nowhere
 
-pub turn_stands : TurnStands
-turn_stands w me s acts before after keeps = still_has w me _ acts before after keeps
+  -- the state that was seen at last
+  at_last : (P : State → Type 0) → P (state_after (seen before ++ there.later)) → P (state_seen after)
+  at_last P here = subst (λ es. P (state_after es)) there.parts here
 
-pub selection_stands : SelectionStands
-selection_stands w me s acts before after keeps = still_has w me _ acts before after keeps
+pub mode_stands : ModeStands
+mode_stands w me c acts before after keeps spared =
+    let there = histories_go_on w me _ acts before after keeps in
+    at_last there (λ st. (st.chan c.0).blocking ≡ ((state_seen before).chan c.0).blocking)
+    (mode_stays w.limits me c (seen before) there.later there.keeps (none_such there _ spared))
 
--- an event that isn't such an act of the caller's, of either sort
-of_no_sort : (by p q : Bool) → (by && (p || q)) ≡ false → ((by && p) ≡ false) × ((by && q) ≡ false)
-of_no_sort true p q e = or_parts p q e
-of_no_sort false p q e = (refl, refl)
+pub noted_stands : NotedStands
+noted_stands w me c acts before after keeps s spared =
+    let there = histories_go_on w me _ acts before after keeps in
+    at_last there (λ st. st.noted c.0 s.0 ≡ (state_seen before).noted c.0 s.0)
+    (noted_stays w.limits me c (seen before) there.later there.keeps s (none_such there _ spared))
 
-pub and_not : (b : Bool) → (b && false) ≡ false
-and_not true = refl
-and_not false = refl
+pub found_noted_stands : FoundNotedStands
+found_noted_stands w me c acts before after keeps s noted found =
+    let there = histories_go_on w me _ acts before after keeps in
+    at_last there (λ st. st.noted c.0 s.0 ≡ noted)
+    (found_noted_stays w.limits me c (seen before) there.later there.keeps s noted (ap (last (noted_found c.0 s.0)) there.own ∙ found))
 
--- acts that are of neither sort aren't of one or the other
-has_neither : (p q : Act → Bool) (own : List Act) → has p own ≡ false → has q own ≡ false → has (λ act. p act || q act) own ≡ false
-has_neither p q [] no_p no_q = refl
-has_neither p q (act ∷ own) no_p no_q =
-    let first = or_parts (p act) (has p own) no_p in
-    let second = or_parts (q act) (has q own) no_q in
-    neither (p act) (q act) (has (λ a. p a || q a) own) first.0 second.0 (has_neither p q own first.1 second.1)
-  where
-    neither : (a b c : Bool) → a ≡ false → b ≡ false → c ≡ false → ((a || b) || c) ≡ false
-    neither true b c e f g = absurd cc
-    neither false true c e f g = absurd cc
-    neither false false c e f g = g
+pub outside_stands : OutsideStands
+outside_stands w me c acts before after keeps s k spared =
+    let there = histories_go_on w me _ acts before after keeps in
+    λ was of_channel. at_last there (λ st. (st.key s.0 k.index).chan ≡ c → is_in_key_set (st.key s.0 k.index) k.serial ≡ false)
+    (outside_stays w.limits me c (seen before) there.later w.fit there.keeps s k (none_such there _ spared) was) of_channel
 
--- after a history that goes on from what a pass has seen: the caller did these acts besides, still has
--- it, and knows this
-record Knowing (me : CallerNo) (what : OwnFact) (Knows : List Act → State → Type 0) (before : Pass) (events : List Event) : Type 0 where
-  did : List Act
-  own : mine me events ≡ acts_seen before me ++ did
-  has_it : is_had_by me what (state_after events) ≡ true
-  knows : Knows did (state_after events)
+pub found_clear_stands : FoundClearStands
+found_clear_stands w me c acts before after keeps s clear =
+    let there = histories_go_on w me _ acts before after keeps in
+    at_last there (λ st. ForSome (st.noted c.0 s.0) (λ k. is_in_key_set (st.key s.0 k.index) k.serial ≡ false))
+    (found_clear_stays w.limits me c (seen before) there.later w.fit there.keeps s
+    (subst (λ own. is_clear_by c.0 s.0 own (last (noted_found c.0 s.0) own) ≡ true) (sym there.own) clear))
 
--- What a caller knows from what it did while it kept something: where each step of its own that isn't
--- one of some acts takes what it knew on, and each step of another too, it knows it of all it did.
-pub knows_while : (w : Words) (me : CallerNo) (what : OwnFact) (spoils : Act → Bool) (Knows : List Act → State → Type 0)
-    → ((past : List Event) (e : Event) → IsLegal w.limits past → IsStep w.limits past e → is_had_by me what (state_after past) ≡ true → is_by me e ≡ true → spoils e.act ≡ false
-    → (acts : List Act) → Knows acts (state_after past) → Knows (acts ++ e.act ∷ []) (effect (state_after past) e.caller e.act))
-    → ((past : List Event) (e : Event) → IsLegal w.limits past → IsStep w.limits past e → is_had_by me what (state_after past) ≡ true → is_by me e ≡ false
-    → (acts : List Act) → Knows acts (state_after past) → Knows acts (effect (state_after past) e.caller e.act))
-    → (acts : List Act) (before after : Pass) → Keeps w me what acts before after → has spoils acts ≡ false → Knows [] (state_seen before) → Knows acts (state_seen after)
-knows_while w me what spoils Knows own_step other_step acts before after keeps spared here =
-    let later = keeps.goes_on.later in
-    let did = did_between w me acts before after keeps.goes_on later.begins.0 later.begins.1 in
-    let none_such : has ends (mine me later.begins.0) ≡ false = ap (has ends) did ∙ has_neither (gives_back what) spoils acts keeps.kept spared in
-    let known : Known (seen before ++ later.begins.0) =
-    without_from w.limits (λ e. is_by me e && ends e.act) Known each
-    (seen before) later.begins.0 (legal_behind w before after later) (sym (has-mine ends me later.begins.0) ∙ none_such)
-    record { did = []; own = sym (append-nil (acts_seen before me)); has_it = keeps.has_it; knows = here } in
-    let same : known.did ≡ acts = append_cancel_left (acts_seen before me) known.did acts (sym known.own ∙ (ap (mine me) later.begins.1 ∙ keeps.goes_on.own)) in
-    subst (λ events. Knows acts (state_after events)) later.begins.1 (subst (λ own. Knows own (state_after (seen before ++ later.begins.0))) same known.knows)
-  where
-    ends : Act → Bool
-    ends act = gives_back what act || spoils act
+pub selects_alone : SelectsAlone
+selects_alone w me s acts before after keeps between e rest parts on =
+    let there = histories_go_on w me (a_selection s) acts before after keeps in
+    let is : there.later ≡ between ++ e ∷ rest = append_cancel_left (seen before) there.later (between ++ e ∷ rest) (there.parts ∙ parts) in
+    let whole : there.later ≡ (between ++ e ∷ []) ++ rest = is ∙ sym (append_assoc between (e ∷ []) rest) in
+    let legal : IsLegal w.limits ((seen before ++ (between ++ e ∷ [])) ++ rest) =
+    subst (IsLegal w.limits) (ap (λ es. seen before ++ es) whole ∙ sym (append_assoc (seen before) (between ++ e ∷ []) rest)) there.keeps.legal in
+    let kept : has (gives_back (a_selection s)) (mine me (between ++ e ∷ []) ++ mine me rest) ≡ false =
+    subst (λ own. has (gives_back (a_selection s)) own ≡ false) (ap (mine me) whole ∙ mine-append me (between ++ e ∷ []) rest) there.keeps.kept in
+    selects_alone_there w.limits me s (seen before) between e
+    record {
+      legal = legal_beginning w.limits (seen before ++ (between ++ e ∷ [])) rest legal;
+      has_it = keeps.has_it;
+      kept = (has-append (gives_back (a_selection s)) (mine me (between ++ e ∷ [])) (mine me rest) kept).0;
+    }
+    on
 
-    Known : List Event → Type 0
-    Known events = Knowing me what Knows before events
+pub key_set_stands : KeySetStands
+key_set_stands w me s acts before after keeps k spared here =
+    let there = histories_go_on w me _ acts before after keeps in
+    at_last there (λ st. is_in_key_set (st.key s.0 k.index) k.serial ≡ true)
+    (key_set_stays w.limits me s (seen before) there.later there.keeps k (none_such there _ spared) here)
 
-    each : (past : List Event) (e : Event) → IsLegal w.limits past → IsStep w.limits past e → (is_by me e && ends e.act) ≡ false → Known past → Known (past ++ e ∷ [])
-    each past e legal step none_such known = by_caller (is_by me e) refl
-      where
-        still : is_had_by me what (state_after (past ++ e ∷ [])) ≡ true
-        still = subst (λ st. is_had_by me what st ≡ true) (sym (state_after-more past e))
-            (lasts_alone w.limits (mine e.caller past) (state_after past) e.caller me e.act step.condition step.answers what (of_no_sort (is_by me e) (gives_back what e.act) (spoils e.act) none_such).0 known.has_it)
+pub selected_keys_stand : SelectedKeysStand
+selected_keys_stand w me s acts before after keeps i spared present =
+    let there = histories_go_on w me _ acts before after keeps in
+    at_last there (λ st. IsKeptInSelection ((state_seen before).key s.0 i) (st.key s.0 i) × (st.free s.0 i ≡ false))
+    (selections_keep_keys w.limits me s i (seen before) there.later there.keeps.legal there.keeps.has_it there.keeps.kept (none_such there _ spared) present)
 
-        by_caller : (b : Bool) → is_by me e ≡ b → Known (past ++ e ∷ [])
-        by_caller true by = record {
-          did = known.did ++ e.act ∷ [];
-          own = mine-own me past e by ∙ (ap (λ own. own ++ e.act ∷ []) known.own ∙ append_assoc (acts_seen before me) known.did (e.act ∷ []));
-          has_it = still;
-          knows = subst (Knows (known.did ++ e.act ∷ [])) (sym (state_after-more past e))
-              (own_step past e legal step known.has_it by (or_parts (gives_back what e.act) (spoils e.act) (sym (ap (λ b. b && ends e.act) by) ∙ none_such)).1 known.did known.knows);
-        }
-        by_caller false by = record {
-          did = known.did;
-          own = mine-other me past e by ∙ known.own;
-          has_it = still;
-          knows = subst (Knows known.did) (sym (state_after-more past e)) (other_step past e legal step known.has_it by known.did known.knows);
-        }
+pub marks_stand : MarksStand
+marks_stand w me s acts before after keeps k spared unmarked here =
+    let there = histories_go_on w me _ acts before after keeps in
+    at_last there (λ st. IsAtMostUnselected ((state_seen before).mark s.0 k.index) (st.mark s.0 k.index))
+    (marks_stay w.limits me s (seen before) there.later w.fit there.keeps k (none_such there _ spared) (none_such there _ unmarked) here)
 
--- Where no step ends a fact while the caller has something, but some acts of its own: the fact stands
--- while the caller keeps that and does no such act.
-pub stands_while : (w : Words) (me : CallerNo) (what : OwnFact) (spoils : Act → Bool) (P : State → Type 0)
-    → ((past : List Event) (e : Event) → IsLegal w.limits past → IsStep w.limits past e → is_had_by me what (state_after past) ≡ true → (is_by me e && spoils e.act) ≡ false
-    → P (state_after past) → P (effect (state_after past) e.caller e.act))
-    → (acts : List Act) (before after : Pass) → Keeps w me what acts before after → has spoils acts ≡ false → P (state_seen before) → P (state_seen after)
-stands_while w me what spoils P each =
-    knows_while w me what spoils (λ _ st. P st)
-    (λ past e legal step had by spared _. each past e legal step had (ap (λ b. is_by me e && b) spared ∙ and_not (is_by me e)))
-    (λ past e legal step had by _. each past e legal step had (ap (λ b. b && spoils e.act) by))
+pub wakeup_stands : WakeupStands
+wakeup_stands w me s acts before after keeps spared here =
+    let there = histories_go_on w me _ acts before after keeps in
+    at_last there (λ st. (st.gate s.0).woken ≡ true)
+    (wakeup_stays w.limits me s (seen before) there.later there.keeps (none_such there _ spared) here)

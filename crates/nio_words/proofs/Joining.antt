@@ -18,7 +18,7 @@ use Rattle.nio_words.proofs.Bits.{none_has, both_has, left_has, right_has}
 use Rattle.nio_words.proofs.Keeps.{set_at_own, its_own, not_alone, looked}
 use Rattle.nio_words.specs.Passes.{view_of, seen, numbers_of, Holds, IsPassOf}
 use Rattle.nio_words.specs.Sharing.{Joins as JoinsPasses}
-use Rattle.nio_words.specs.Rule.{HasBit, StandsIn, Knows, IsKept, longer, half, joined_view, spent_view}
+use Rattle.nio_words.specs.Rule.{HasBit, StandsIn, Knows, IsSeenWhole, IsKept, longer, half, joined_view, spent_view}
 use Rattle.nio_words.specs.Telling.{Recalls}
 use Rattle.nio_words.specs.declared.view.Half.{Half}
 use Rattle.nio_words.specs.declared.view.View.{View}
@@ -141,30 +141,26 @@ module _ (l : Limits) (s : Table (Unit {0}) View) (kept : IsKept l s) (id : ℕ)
   its_other : (j : ℕ) (u : View) → get_elem? s.views j ≡ some u → j ≡ from → u ≡ w
   its_other j u at e = some-injective u w (sym at ∙ (ap (get_elem? s.views) e ∙ there))
 
-  longest : (i : ℕ) × (u : View) × (get_elem? (set (set s.views id (joined_view v w)) from spent_view) i ≡ some u) × (u.seen ≡ kept.history)
-  longest = by_test (kept.longest.0 == id) (kept.longest.0 == from) refl refl
+  longest : IsSeenWhole (set (set s.views id (joined_view v w)) from spent_view) kept.history
+  longest = by_test (kept.longest.seat == id) (kept.longest.seat == from) refl refl
     where
-      by_test : (t t' : Bool) → (kept.longest.0 == id) ≡ t → (kept.longest.0 == from) ≡ t'
-          → (i : ℕ) × (u : View) × (get_elem? (set (set s.views id (joined_view v w)) from spent_view) i ≡ some u) × (u.seen ≡ kept.history)
-      by_test true t' e e' = (
-        id,
-        joined_view v w,
-        joined_at,
-        whole_of v.seen (ap (λ x. x.seen) (sym (its_own l s kept id v here unspent kept.longest.0 kept.longest.1 kept.longest.2 (eqb-true kept.longest.0 id e))) ∙ kept.longest.3) long.first,
-      )
-      by_test false true e e' = (
-        id,
-        joined_view v w,
-        joined_at,
-        whole_of w.seen (ap (λ x. x.seen) (sym (its_other kept.longest.0 kept.longest.1 kept.longest.2 (eqb-true kept.longest.0 from e'))) ∙ kept.longest.3) long.second,
-      )
-      by_test false false e e' = (
-        kept.longest.0,
-        kept.longest.1,
-        set_else (set s.views id (joined_view v w)) from kept.longest.0 spent_view (eqb-false kept.longest.0 from e')
-            ∙ (set_else s.views id kept.longest.0 (joined_view v w) (eqb-false kept.longest.0 id e) ∙ kept.longest.2),
-        kept.longest.3,
-      )
+      by_joined : (joined_view v w).seen ≡ kept.history → IsSeenWhole (set (set s.views id (joined_view v w)) from spent_view) kept.history
+      by_joined whole = record { seat = id; view = joined_view v w; there = joined_at; unspent = unspent; whole = whole }
+
+      by_test : (t t' : Bool) → (kept.longest.seat == id) ≡ t → (kept.longest.seat == from) ≡ t' → IsSeenWhole (set (set s.views id (joined_view v w)) from spent_view) kept.history
+      by_test true t' e e' =
+          by_joined (whole_of v.seen (ap (λ x. x.seen) (sym (its_own l s kept id v here unspent kept.longest.seat kept.longest.view kept.longest.there (eqb-true kept.longest.seat id e))) ∙ kept.longest.whole) long.first)
+      by_test false true e e' =
+          by_joined (whole_of w.seen (ap (λ x. x.seen) (sym (its_other kept.longest.seat kept.longest.view kept.longest.there (eqb-true kept.longest.seat from e'))) ∙ kept.longest.whole) long.second)
+      by_test false false e e' = record {
+        seat = kept.longest.seat;
+        view = kept.longest.view;
+        there =
+            set_else (set s.views id (joined_view v w)) from kept.longest.seat spent_view (eqb-false kept.longest.seat from e')
+            ∙ (set_else s.views id kept.longest.seat (joined_view v w) (eqb-false kept.longest.seat id e) ∙ kept.longest.there);
+        unspent = kept.longest.unspent;
+        whole = kept.longest.whole;
+      }
 
   pub brought_together : IsKept l record { words = s.words; homes = s.homes; views = set (set s.views id (joined_view v w)) from spent_view }
   brought_together = record {

@@ -21,7 +21,7 @@ use Rattle.nio_words.proofs.Places.{place_inside, same_part, place-limits}
 use Rattle.nio_words.specs.Encodings.{encoding, bound, IsProper}
 use Rattle.nio_words.specs.Parts.{part_of}
 use Rattle.nio_words.specs.Places.{IsWithin, place}
-use Rattle.nio_words.specs.Rule.{HasBit, StandsIn, Knows, IsEncoded, IsKept}
+use Rattle.nio_words.specs.Rule.{HasBit, StandsIn, Knows, IsEncoded, IsSeenWhole, IsKept}
 use Rattle.nio_words.specs.declared.part.Part.{Part}
 use Rattle.nio_words.specs.declared.view.View.{View}
 
@@ -56,9 +56,6 @@ module _ (l : Limits) (s : Table (Unit {0}) View) (kept : IsKept l s) (id : ℕ)
   -- the seat's own view
   pub its_own : (j : ℕ) (u : View) → get_elem? s.views j ≡ some u → j ≡ id → u ≡ v
   its_own j u at e = some-injective u v (sym at ∙ (ap (get_elem? s.views) e ∙ here))
-
-  pub knows_here : Knows l kept.history v
-  knows_here = kept.each id v here unspent
 
   -- a number that the seat has is nowhere else
   pub held_here : (n : ℕ) → HasBit v.numbers n → Elsewhere s.views id n
@@ -185,7 +182,7 @@ module _ (l : Limits) (s : Table (Unit {0}) View) (kept : IsKept l s) (id : ℕ)
       fit = kept.fit;
       history = kept.history ++ e ∷ [];
       legal = legal;
-      longest = (id, w, set_here', adds.seen);
+      longest = record { seat = id; view = w; there = set_here'; unspent = adds.unspent; whole = adds.seen };
       wide = length-set s.words (place l p) new ∙ kept.wide;
       encoded = encoded;
       limits = get_or-set_other s.words (place l p) 1 new 0 (λ same. place-limits l p within (sym same)) ∙ kept.limits;
@@ -205,12 +202,24 @@ module _ (l : Limits) (s : Table (Unit {0}) View) (kept : IsKept l s) (id : ℕ)
     seen_whole : v.seen ≡ kept.history → w.seen ≡ kept.history
     seen_whole whole = sym (prefix_both kept.history w.seen (subst (λ es. IsPrefix es w.seen) whole further) knows.begins)
 
-    longest_seen : (i : ℕ) × (u : View) × (get_elem? (set s.views id w) i ≡ some u) × (u.seen ≡ kept.history)
-    longest_seen = by_test (kept.longest.0 == id) refl
+    longest_seen : IsSeenWhole (set s.views id w) kept.history
+    longest_seen = by_test (kept.longest.seat == id) refl
       where
-        by_test : (b : Bool) → (kept.longest.0 == id) ≡ b → (i : ℕ) × (u : View) × (get_elem? (set s.views id w) i ≡ some u) × (u.seen ≡ kept.history)
-        by_test true e = (id, w, set_at_own s.views id v w here, seen_whole (ap (λ x. x.seen) (sym (its_own kept.longest.0 kept.longest.1 kept.longest.2 (eqb-true kept.longest.0 id e))) ∙ kept.longest.3))
-        by_test false e = (kept.longest.0, kept.longest.1, set_else s.views id kept.longest.0 w (eqb-false kept.longest.0 id e) ∙ kept.longest.2, kept.longest.3)
+        by_test : (b : Bool) → (kept.longest.seat == id) ≡ b → IsSeenWhole (set s.views id w) kept.history
+        by_test true e = record {
+          seat = id;
+          view = w;
+          there = set_at_own s.views id v w here;
+          unspent = live;
+          whole = seen_whole (ap (λ x. x.seen) (sym (its_own kept.longest.seat kept.longest.view kept.longest.there (eqb-true kept.longest.seat id e))) ∙ kept.longest.whole);
+        }
+        by_test false e = record {
+          seat = kept.longest.seat;
+          view = kept.longest.view;
+          there = set_else s.views id kept.longest.seat w (eqb-false kept.longest.seat id e) ∙ kept.longest.there;
+          unspent = kept.longest.unspent;
+          whole = kept.longest.whole;
+        }
 
     pub looked : (words : List ℕ) → words ≡ s.words → (homes : _) → IsKept l record { words = words; homes = homes; views = set s.views id w }
     looked words same_words homes = record {

@@ -1,6 +1,7 @@
 pub mod Beginnings
 pub mod Bits
 pub mod Fields
+pub mod Counting
 pub mod Places
 pub mod Apart
 pub mod Keeps
@@ -18,13 +19,13 @@ pub mod HighMarks
 pub mod Marks
 pub mod Interests
 pub mod Interrupts
+pub mod Stages
 pub mod Keys
+pub mod FreeIndexes
 pub mod Notes
 pub mod Selectors
 pub mod Whole
-pub mod Seen
-pub mod GoingOn
-pub mod NotedKeys
-pub mod Standing
-pub mod Clear
 pub mod Following
+pub mod GoingOn
+pub mod Views
+pub mod Pins

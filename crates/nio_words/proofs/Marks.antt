@@ -14,13 +14,14 @@ use Rattle.nio_event.specs.Acts.{selected_with, exchanged}
 use Rattle.nio_event.specs.Answers.{is_same_mark}
 use Rattle.nio_event.specs.Conditions.{IsKey}
 use Rattle.nio_event.specs.Questions.{flag, key_mark, exchange}
-use Rattle.nio_event.specs.declared.act.Act.TheVariants.{LookMark, Mark as MarkKey, UnselectBit}
+use Rattle.nio_event.specs.State.{unmarked}
+use Rattle.nio_event.specs.declared.act.Act.TheVariants.{LookMark, Mark as MarkKey, UnselectBit, ClearMark}
 use Rattle.nio_event.specs.declared.found.Mark.{Mark as KeyMark}
 use Rattle.nio_words.proofs.Fields.{bit-lt, reads, clears_top, exchange_small}
 use Rattle.nio_words.specs.Decodings.{is_set, mark_of, exchange_found}
 use Rattle.nio_words.specs.Encodings.{bit, mark_word}
 use Rattle.nio_words.specs.Owed.{Moves}
-use Rattle.nio_words.specs.declared.instruction.Instruction.TheVariants.{Load, ClearBit, Exchange}
+use Rattle.nio_words.specs.declared.instruction.Instruction.TheVariants.{Load, ClearBit, Swap, Exchange}
 use Rattle.nio_words.specs.declared.part.Part.TheVariants.{Mark}
 
 reads_selected : (m : KeyMark) → m.ready < 256 → is_set (mark_word m) 8 ≡ m.selected
@@ -61,6 +62,17 @@ unselect_bit_moves l me s i is_key = record {
   small = λ n small. let less = and_le_l n (bit_not w64 256) in omega arith;
   proper = λ st now. subst (λ m. m.ready < 256) (sym (put_at-same st.mark s.0 i (record (st.mark s.0 i) { selected = false }))) now.proper;
   answers = λ st now. ap flag (reads_selected (st.mark s.0 i) now.proper);
+}
+
+pub clear_mark_moves : (l : Limits) (me : CallerNo) (s : SelNo) (i : ℕ) → IsKey l s i → Moves l me (Mark s.0 i) (Swap 0) (λ n. ClearMark s i (mark_of n))
+clear_mark_moves l me s i is_key = record {
+  within = is_key;
+  bit = tt;
+  part = λ n. refl;
+  word = λ st now. ap mark_word (sym (put_at-same st.mark s.0 i unmarked));
+  small = λ n small. omega arith;
+  proper = λ st now. subst (λ m. m.ready < 256) (sym (put_at-same st.mark s.0 i unmarked)) (omega arith);
+  answers = λ st now. ap key_mark (reads_mark (st.mark s.0 i) now.proper);
 }
 
 -- ---- the exchange

@@ -1,12 +1,14 @@
 -- The kinds of step on the word of a channel's noted key do to it what they do to what is noted.
-use Rattle.std.proofs.Common.{ℕ, ◌^◌, ◌<◌, Some, refl, ap, sym, arith}
+use Rattle.std.proofs.Common.{◌+◌, ◌^◌, ◌<◌, Some, refl, ap, sym, subst, arith}
+use Rattle.std.specs.Option.{IfSome}
 use Rattle.nio_base.specs.declared.limits.Limits.{Limits}
 use Rattle.nio_base.specs.declared.numbers.CallerNo.{CallerNo}
 use Rattle.nio_base.specs.declared.numbers.ChanNo.{ChanNo}
+use Rattle.nio_base.specs.declared.numbers.KeyId.{KeyId}
 use Rattle.nio_base.specs.declared.numbers.SelNo.{SelNo}
 use Rattle.nio_event.proofs.Put.{put_at-same}
 use Rattle.nio_event.specs.Conditions.{IsChannel, IsSelector}
-use Rattle.nio_event.specs.Questions.{key_index}
+use Rattle.nio_event.specs.Questions.{noted_key}
 use Rattle.nio_event.specs.declared.act.Act.TheVariants.{LookReg, Enrol}
 use Rattle.nio_words.proofs.Fields.{reads_noted}
 use Rattle.nio_words.specs.Decodings.{noted_of}
@@ -22,18 +24,18 @@ look_reg_moves l me c s is_channel is_selector = record {
   part = λ n. refl;
   word = λ st now. refl;
   small = λ n small. small;
-  proper = λ st now. tt;
-  answers = λ st now. ap key_index (reads_noted (st.noted c.0 s.0) now.small);
+  proper = λ st now. now.proper;
+  answers = λ st now. ap noted_key (reads_noted (st.noted c.0 s.0) now.proper);
 }
 
-pub enrol_moves : (l : Limits) (me : CallerNo) (c : ChanNo) (s : SelNo) (i : ℕ) → IsChannel l c → IsSelector l s → i < 2 ^ 32
-    → Moves l me (Noted c.0 s.0) (Swap (noted_word (Some i))) (λ n. Enrol c s i (noted_of n))
-enrol_moves l me c s i is_channel is_selector few = record {
+pub enrol_moves : (l : Limits) (me : CallerNo) (c : ChanNo) (s : SelNo) (k : KeyId) → IsChannel l c → IsSelector l s → k.index + 1 < 2 ^ 32 → k.serial < 2 ^ 32
+    → Moves l me (Noted c.0 s.0) (Swap (noted_word (Some k))) (λ n. Enrol c s k.index k.serial (noted_of n))
+enrol_moves l me c s k is_channel is_selector few serial = record {
   within = (is_channel, is_selector);
   bit = tt;
   part = λ n. refl;
-  word = λ st now. ap noted_word (sym (put_at-same st.noted c.0 s.0 (Some i)));
+  word = λ st now. ap noted_word (sym (put_at-same st.noted c.0 s.0 (Some k)));
   small = λ n small. omega arith;
-  proper = λ st now. tt;
-  answers = λ st now. ap key_index (reads_noted (st.noted c.0 s.0) now.small);
+  proper = λ st now. subst (λ o. IfSome o (λ x. x.index + 1 < 2 ^ 32)) (sym (put_at-same st.noted c.0 s.0 (Some k))) few;
+  answers = λ st now. ap noted_key (reads_noted (st.noted c.0 s.0) now.proper);
 }

@@ -2,9 +2,9 @@
 use Rattle.std.proofs.Common.{◌≡◌, ◌≢◌, ℕ, zero, suc, ◌+◌, ◌<◌, List, [], ◌∷◌, take, get_or, refl, ap, arith}
 use Rattle.std.proofs.lemmas.Nat.{mul-add-lt, same_from_place}
 use Rattle.nio_base.specs.declared.limits.Limits.{Limits}
-use Rattle.nio_words.specs.Places.{rows, row, column, IsWithin, total, word_count, place}
+use Rattle.nio_words.specs.Places.{free_words, rows, row, column, IsWithin, total, word_count, place}
 use Rattle.nio_words.specs.declared.part.Part.{Part}
-use Rattle.nio_words.specs.declared.part.Part.TheVariants.{Callers, Interrupts, Selectors, ChannelsMark, Chan, Hold, Noted, Gate, Turn, KeysMark, Key, Interest, Mark, Note}
+use Rattle.nio_words.specs.declared.part.Part.TheVariants.{Callers, Interrupts, Selectors, ChannelsMark, Chan, Hold, Noted, Gate, Turn, KeysMark, Key, Interest, Mark, Note, Free}
 
 -- a place behind some rows tells which rows, and where in the next one
 same_row : (xs : List ℕ) (i j a b : ℕ) → a < get_or xs i 0 → b < get_or xs j 0 → total (take i xs) + a ≡ total (take j xs) + b → (i ≡ j) × (a ≡ b)
@@ -36,6 +36,7 @@ column_below l (Key s i) h = omega (arith, mul-add-lt s l.keys i l.selectors h.0
 column_below l (Interest s i) h = omega (arith, mul-add-lt s l.keys i l.selectors h.0 h.1)
 column_below l (Mark s i) h = omega (arith, mul-add-lt s l.keys i l.selectors h.0 h.1)
 column_below l (Note s i) h = omega (arith, mul-add-lt s l.keys i l.selectors h.0 h.1)
+column_below l (Free s j) h = omega (arith, mul-add-lt s (free_words l) j l.selectors h.0 h.1)
 
 pub place_inside : (l : Limits) (p : Part) → IsWithin l p → place l p < word_count l
 place_inside l p h = inside_rows (rows l) (row p) (column l p) (column_below l p h)
@@ -56,6 +57,7 @@ same_numbers l (Key a i) (Key b j) hp hq r c = let both = same_from_place a i b 
 same_numbers l (Interest a i) (Interest b j) hp hq r c = let both = same_from_place a i b j l.keys hp.1 hq.1 c in cc
 same_numbers l (Mark a i) (Mark b j) hp hq r c = let both = same_from_place a i b j l.keys hp.1 hq.1 c in cc
 same_numbers l (Note a i) (Note b j) hp hq r c = let both = same_from_place a i b j l.keys hp.1 hq.1 c in cc
+same_numbers l (Free a i) (Free b j) hp hq r c = let both = same_from_place a i b j (free_words l) hp.1 hq.1 c in cc
 same_numbers l p q hp hq r c = absurd (omega (arith, r))
 
 pub same_part : (l : Limits) (p q : Part) → IsWithin l p → IsWithin l q → place l p ≡ place l q → p ≡ q

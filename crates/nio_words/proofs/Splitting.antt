@@ -7,7 +7,7 @@ use Rattle.atomic_table.specs.Table.{State as Table, Splits}
 use Rattle.atomic_table.proofs.Lists.{at_set, set_else, at_longer}
 use Rattle.nio_base.specs.declared.limits.Limits.{Limits}
 use Rattle.nio_words.proofs.Keeps.{set_at_own, its_own, not_alone}
-use Rattle.nio_words.specs.Rule.{HasBit, Knows, IsKept, split_view}
+use Rattle.nio_words.specs.Rule.{HasBit, Knows, IsSeenWhole, IsKept, split_view}
 use Rattle.nio_words.specs.declared.view.View.{View}
 
 -- an element of a list with one more at its end is that one, or one of the list
@@ -73,22 +73,24 @@ module _ (l : Limits) (s : Table (Unit {0}) View) (kept : IsKept l s) (id : ℕ)
   none_alone j u (right i e) alone = let clash : true ≡ false = sym alone ∙ ap (λ x. x.alone) (sym e) in cc
   none_alone j u (other ne at) alone = not_alone l s kept id v here unspent j u ne at alone
 
-  longest : (i : ℕ) × (u : View) × (get_elem? (set s.views id (split_view a v) ++ split_view b v ∷ []) i ≡ some u) × (u.seen ≡ kept.history)
-  longest = by_test (kept.longest.0 == id) refl
+  longest : IsSeenWhole (set s.views id (split_view a v) ++ split_view b v ∷ []) kept.history
+  longest = by_test (kept.longest.seat == id) refl
     where
-      by_test : (t : Bool) → (kept.longest.0 == id) ≡ t → (i : ℕ) × (u : View) × (get_elem? (set s.views id (split_view a v) ++ split_view b v ∷ []) i ≡ some u) × (u.seen ≡ kept.history)
-      by_test true e = (
-        id,
-        split_view a v,
-        at_longer (set s.views id (split_view a v)) (split_view b v ∷ []) id (split_view a v) (set_at_own s.views id v (split_view a v) here),
-        ap (λ x. x.seen) (sym (its_own l s kept id v here unspent kept.longest.0 kept.longest.1 kept.longest.2 (eqb-true kept.longest.0 id e))) ∙ kept.longest.3,
-      )
-      by_test false e = (
-        kept.longest.0,
-        kept.longest.1,
-        at_longer (set s.views id (split_view a v)) (split_view b v ∷ []) kept.longest.0 kept.longest.1 (set_else s.views id kept.longest.0 (split_view a v) (eqb-false kept.longest.0 id e) ∙ kept.longest.2),
-        kept.longest.3,
-      )
+      by_test : (t : Bool) → (kept.longest.seat == id) ≡ t → IsSeenWhole (set s.views id (split_view a v) ++ split_view b v ∷ []) kept.history
+      by_test true e = record {
+        seat = id;
+        view = split_view a v;
+        there = at_longer (set s.views id (split_view a v)) (split_view b v ∷ []) id (split_view a v) (set_at_own s.views id v (split_view a v) here);
+        unspent = unspent;
+        whole = ap (λ x. x.seen) (sym (its_own l s kept id v here unspent kept.longest.seat kept.longest.view kept.longest.there (eqb-true kept.longest.seat id e))) ∙ kept.longest.whole;
+      }
+      by_test false e = record {
+        seat = kept.longest.seat;
+        view = kept.longest.view;
+        there = at_longer (set s.views id (split_view a v)) (split_view b v ∷ []) kept.longest.seat kept.longest.view (set_else s.views id kept.longest.seat (split_view a v) (eqb-false kept.longest.seat id e) ∙ kept.longest.there);
+        unspent = kept.longest.unspent;
+        whole = kept.longest.whole;
+      }
 
   pub parted : IsKept l record { words = s.words; homes = s.homes; views = set s.views id (split_view a v) ++ split_view b v ∷ [] }
   parted = record {

@@ -1,5 +1,5 @@
 -- A table that was just made keeps its rule.
-use Rattle.std.proofs.Common.{◌≡◌, ℕ, zero, suc, ◌<◌, List, [], ◌∷◌, length, set, get_or, replicate, refl, ap, sym, ◌∙◌, subst, arith, length-set, get_or-set_same, get_or-set_other}
+use Rattle.std.proofs.Common.{◌≡◌, ℕ, zero, suc, ◌<◌, false, List, [], ◌∷◌, length, set, get_or, replicate, refl, ap, sym, ◌∙◌, subst, arith, length-set, get_or-set_same, get_or-set_other}
 use Rattle.std.proofs.lemmas.List.{get_or-replicate, length-replicate}
 use mathlib.Core.Option.{some, some-injective, some-ne-none}
 use lib.ListN.{get_elem?}
@@ -7,15 +7,16 @@ use Rattle.atomic_table.specs.Table.{opening as first_table}
 use Rattle.nio_base.specs.Limits.{IsFit}
 use Rattle.nio_base.specs.declared.limits.Limits.{Limits}
 use Rattle.nio_event.proofs.Legal.{legal_empty}
-use Rattle.nio_event.specs.State.{opening}
+use Rattle.nio_event.specs.State.{opening, unclaimed}
 use Rattle.nio_words.proofs.Beginnings.{prefix_self}
 use Rattle.nio_words.proofs.Bits.{none_has, bits_below-none}
+use Rattle.nio_words.proofs.Counting.{count_below-none}
 use Rattle.nio_words.proofs.Places.{place_inside, place-limits, limits_inside}
-use Rattle.nio_words.specs.Encodings.{encoding, bound, IsProper, limits_word}
+use Rattle.nio_words.specs.Encodings.{encoding, bound, IsProper, limits_word, stage_word}
 use Rattle.nio_words.specs.Places.{IsWithin, place, word_count}
 use Rattle.nio_words.specs.Rule.{first_view, Knows, IsEncoded, IsKept}
 use Rattle.nio_words.specs.declared.part.Part.{Part}
-use Rattle.nio_words.specs.declared.part.Part.TheVariants.{Callers, Interrupts, Selectors, Mark}
+use Rattle.nio_words.specs.declared.part.Part.TheVariants.{Callers, Interrupts, Selectors, Noted, Key, Mark, Free}
 use Rattle.nio_words.specs.declared.view.View.{View}
 
 -- in the opening state every word is 0
@@ -23,6 +24,8 @@ encoding-opening : (p : Part) → encoding opening p ≡ 0
 encoding-opening Callers = bits_below-none 64
 encoding-opening Interrupts = bits_below-none 64
 encoding-opening Selectors = bits_below-none 64
+encoding-opening (Key s i) = ap (stage_word unclaimed) (count_below-none 64 (λ _. false) (λ _. refl))
+encoding-opening (Free s j) = bits_below-none 64
 encoding-opening p = refl
 
 bound-pos : (p : Part) → 0 < bound p
@@ -30,6 +33,8 @@ bound-pos Callers = omega arith
 bound-pos p = omega arith
 
 proper-opening : (p : Part) → IsProper opening p
+proper-opening (Noted c s) = tt
+proper-opening (Key s i) = omega arith
 proper-opening (Mark s i) = omega arith
 proper-opening p = tt
 
@@ -52,7 +57,7 @@ starts l words fit are = record {
   fit = fit;
   history = [];
   legal = legal_empty l;
-  longest = (0, first_view l, refl, refl);
+  longest = record { seat = 0; view = first_view l; there = refl; unspent = refl; whole = refl };
   wide = ap length are ∙ (length-set (replicate (word_count l) 0) 1 (limits_word l) ∙ length-replicate (word_count l) 0);
   encoded = encoded;
   limits = ap (λ ws. get_or ws 1 0) are ∙ get_or-set_same (replicate (word_count l) 0) 1 (limits_word l) 0 (subst (λ (k : ℕ). 1 < k) (sym (length-replicate (word_count l) 0)) (limits_inside l));

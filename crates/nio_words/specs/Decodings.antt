@@ -1,13 +1,14 @@
 -- What a word tells of its part: the other way round from the encodings.
-use Rattle.std.specs.Prelude.{ℕ, ◌-◌, ◌/◌, ◌%◌, ◌^◌, ◌==◌, Bool, if◌then◌else◌, Option, Some, None, Result, Ok, Err}
+use Rattle.std.specs.Prelude.{ℕ, ◌-◌, ◌/◌, ◌%◌, ◌^◌, ◌==◌, Bool, not, if◌then◌else◌, Option, Some, None, Result, Ok, Err}
 use Rattle.nio_base.specs.declared.kind.Kind.{Kind}
 use Rattle.nio_base.specs.declared.kind.Kind.TheVariants.{Stream, Listener, Source, Sink}
 use Rattle.nio_base.specs.declared.numbers.CallerNo.{CallerNo}
+use Rattle.nio_base.specs.declared.numbers.KeyId.{KeyId}
 use Rattle.nio_event.specs.declared.found.Chan.{Chan as Channel}
 use Rattle.nio_event.specs.declared.found.GateWord.{GateWord}
 use Rattle.nio_event.specs.declared.found.Mark.{Mark as KeyMark}
 use Rattle.nio_event.specs.declared.found.Stage.{Stage}
-use Rattle.nio_words.specs.Encodings.{mark_word}
+use Rattle.nio_words.specs.Encodings.{stage_word, mark_word}
 
 -- bit k is set
 abbrev pub is_set : ℕ → ℕ → Bool
@@ -22,8 +23,14 @@ stage_of word = record {
   published = is_set word 1;
   cancelled = is_set word 2;
   removed = is_set word 3;
-  chan = record { 0 = word / 2 ^ 32 };
+  chan = record { 0 = word / 2 ^ 12 % 2 ^ 20 };
+  serial = word / 2 ^ 32;
 }
+
+-- what an exchange from a stage without pins finds: whether its index was pinned, and so another word stood
+-- there
+abbrev pub was_pinned : Stage → ℕ → Bool
+was_pinned from word = not (word == stage_word from 0)
 
 abbrev pub operations_of : ℕ → ℕ
 operations_of word = word % 256
@@ -54,6 +61,6 @@ chan_of word = record {
 abbrev pub holder_of : ℕ → Option CallerNo
 holder_of word = if word == 0 then None else Some (record { 0 = number_of (word - 1) })
 
--- 0 for none, and else one more than the index
-abbrev pub noted_of : ℕ → Option ℕ
-noted_of word = if word == 0 then None else Some (number_of (word - 1))
+-- 0 for none, and else one more than the index, beside the serial
+abbrev pub noted_of : ℕ → Option KeyId
+noted_of word = if word == 0 then None else Some (record { index = number_of (word - 1); serial = word / 2 ^ 32 })

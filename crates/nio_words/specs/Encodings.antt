@@ -1,18 +1,20 @@
 -- The word of each part of the state, and below which number it stays. In the opening state every
 -- word is 0.
-use Rattle.std.specs.Prelude.{ℕ, ◌+◌, ◌*◌, ◌^◌, ◌<◌, Bool, if◌then◌else◌, Option, Some, None}
+use Rattle.std.specs.Prelude.{ℕ, ◌+◌, ◌*◌, ◌^◌, ◌<◌, Bool, if◌then◌else◌, Option, Some, None, ⊤}
+use Rattle.std.specs.Option.{IfSome}
 use Rattle.nio_base.specs.declared.kind.Kind.{Kind}
 use Rattle.nio_base.specs.declared.kind.Kind.TheVariants.{Stream, Listener, Source, Sink}
 use Rattle.nio_base.specs.declared.limits.Limits.{Limits}
 use Rattle.nio_base.specs.declared.numbers.CallerNo.{CallerNo}
-use Rattle.nio_event.specs.Answers.{bits_below, selectors_word}
+use Rattle.nio_base.specs.declared.numbers.KeyId.{KeyId}
+use Rattle.nio_event.specs.Answers.{bits_below, selectors_word, pins, free_word}
 use Rattle.nio_event.specs.State.{State}
 use Rattle.nio_event.specs.declared.found.Chan.{Chan as Channel}
 use Rattle.nio_event.specs.declared.found.GateWord.{GateWord}
 use Rattle.nio_event.specs.declared.found.Mark.{Mark as KeyMark}
 use Rattle.nio_event.specs.declared.found.Stage.{Stage}
 use Rattle.nio_words.specs.declared.part.Part.{Part}
-use Rattle.nio_words.specs.declared.part.Part.TheVariants.{Callers, Interrupts, Selectors, ChannelsMark, Chan, Hold, Noted, Gate, Turn, KeysMark, Key, Interest, Mark, Note}
+use Rattle.nio_words.specs.declared.part.Part.TheVariants.{Callers, Interrupts, Selectors, ChannelsMark, Chan, Hold, Noted, Gate, Turn, KeysMark, Key, Interest, Mark, Note, Free}
 
 abbrev pub bit : Bool → ℕ
 bit b = if b then 1 else 0
@@ -21,12 +23,11 @@ bit b = if b then 1 else 0
 abbrev pub gate_word : GateWord → ℕ
 gate_word g = bit g.woken + 2 * bit g.shut
 
--- bit 0 claimed; bit 1 published; bit 2 cancelled; bit 3 removed; bits 32 to 63 the channel
-abbrev pub stage_bits : Stage → ℕ
-stage_bits k = bit k.claimed + 2 * bit k.published + 4 * bit k.cancelled + 8 * bit k.removed
-
-abbrev pub stage_word : Stage → ℕ
-stage_word k = k.chan.0 * 2 ^ 32 + stage_bits k
+-- bit 0 claimed; bit 1 published; bit 2 cancelled; bit 3 removed; bits 4 to 11 the number of pins; bits 12
+-- to 31 the channel; bits 32 to 63 the serial
+abbrev pub stage_word : Stage → ℕ → ℕ
+stage_word k count =
+    bit k.claimed + 2 * bit k.published + 4 * bit k.cancelled + 8 * bit k.removed + 2 ^ 4 * count + 2 ^ 12 * k.chan.0 + 2 ^ 32 * k.serial
 
 abbrev pub kind_code : Kind → ℕ
 kind_code Stream = 0
@@ -47,10 +48,10 @@ abbrev pub holder_word : Option CallerNo → ℕ
 holder_word None = 0
 holder_word (Some n) = n.0 + 1
 
--- 0 for none, else the index plus 1
-abbrev pub noted_word : Option ℕ → ℕ
+-- 0 for none, else bits 0 to 31 the index plus 1, and bits 32 to 63 the serial
+abbrev pub noted_word : Option KeyId → ℕ
 noted_word None = 0
-noted_word (Some i) = i + 1
+noted_word (Some k) = k.index + 1 + 2 ^ 32 * k.serial
 
 abbrev pub encoding : State → Part → ℕ
 -- bit n: number n is drawn
@@ -66,10 +67,12 @@ encoding st (Noted c s) = noted_word (st.noted c s)
 encoding st (Gate s) = gate_word (st.gate s)
 encoding st (Turn s) = holder_word (st.turn s)
 encoding st (KeysMark s) = st.keys_mark s
-encoding st (Key s i) = stage_word (st.key s i)
+encoding st (Key s i) = stage_word (st.key s i) (pins st s i)
 encoding st (Interest s i) = st.interest s i
 encoding st (Mark s i) = mark_word (st.mark s i)
 encoding st (Note s i) = st.note s i
+-- bit b: index 64 * j + b is free
+encoding st (Free s j) = free_word st s j
 
 -- the word stays below this number
 abbrev pub bound : Part → ℕ
@@ -79,7 +82,7 @@ bound Selectors = 2 ^ 64
 bound ChannelsMark = 2 ^ 32
 bound (Chan c) = 2 ^ 6
 bound (Hold c) = 2 ^ 32 + 1
-bound (Noted c s) = 2 ^ 32 + 1
+bound (Noted c s) = 2 ^ 64
 bound (Gate s) = 4
 bound (Turn s) = 2 ^ 32 + 1
 bound (KeysMark s) = 2 ^ 32
@@ -87,11 +90,28 @@ bound (Key s i) = 2 ^ 64
 bound (Interest s i) = 256
 bound (Mark s i) = 512
 bound (Note s i) = 2 ^ 64
+bound (Free s j) = 2 ^ 64
 
--- what the word alone doesn't tell: a ready set has eight bits
+-- what the word alone doesn't tell: the fields of a word stay within their bits
 abbrev pub IsProper : State → Part → Type 0
+IsProper st Callers = ⊤
+IsProper st Interrupts = ⊤
+IsProper st Selectors = ⊤
+IsProper st ChannelsMark = ⊤
+IsProper st (Chan c) = ⊤
+IsProper st (Hold c) = ⊤
+-- an index plus 1 has 32 bits
+IsProper st (Noted c s) = IfSome (st.noted c s) (λ k. k.index + 1 < 2 ^ 32)
+IsProper st (Gate s) = ⊤
+IsProper st (Turn s) = ⊤
+IsProper st (KeysMark s) = ⊤
+-- a channel has 20 bits
+IsProper st (Key s i) = (st.key s i).chan.0 < 2 ^ 20
+IsProper st (Interest s i) = ⊤
+-- a ready set has 8 bits
 IsProper st (Mark s i) = (st.mark s i).ready < 256
-IsProper st _ = Unit {0}
+IsProper st (Note s i) = ⊤
+IsProper st (Free s j) = ⊤
 
 -- the word that holds the limits: callers in bits 0 to 7, selectors in bits 8 to 15, channels in
 -- bits 16 to 39, keys in bits 40 to 63

@@ -1,12 +1,12 @@
 -- On which part of the state each kind of step is. The lines stand in the order in which `Act` lists
 -- the kinds.
-use Rattle.std.specs.Prelude.{ℕ}
+use Rattle.std.specs.Prelude.{ℕ, ◌/◌}
 use Rattle.nio_base.specs.declared.numbers.ChanNo.{ChanNo}
 use Rattle.nio_base.specs.declared.numbers.SelNo.{SelNo}
 use Rattle.nio_event.specs.declared.act.Act.{Act}
-use Rattle.nio_event.specs.declared.act.Act.TheVariants.{DrawBit, MakeSelector, LookSelectors, Wake, LookGate, SetInterrupt, TakeInterrupt, LookInterrupt, LookKey, CancelKey, LookInterest, SwapInterest, OrInterest, AndInterest, SwapNote, LookNote, MakeChannel, LookChannel, Claim, RaiseKeys, LookKeys, Publish, LookReg, Enrol, TakeTurn, BeginLook, GiveTurn, Remove, LookMark, Mark as MarkKey, UnselectBit, EndWake, LookChannels, RaiseChannels, TryHoldBit, Release, SetMode, CloseBit, ShutBit, Enter}
+use Rattle.nio_event.specs.declared.act.Act.TheVariants.{DrawBit, MakeSelector, LookSelectors, Wake, LookGate, SetInterrupt, TakeInterrupt, LookInterrupt, LookKey, CancelKey, LookInterest, SwapInterest, OrInterest, AndInterest, SwapNote, LookNote, MakeChannel, LookChannel, Claim, RaiseKeys, LookKeys, Publish, LookReg, Enrol, TakeTurn, BeginLook, GiveTurn, Remove, LookMark, Mark as MarkKey, UnselectBit, EndWake, LookChannels, RaiseChannels, TryHoldBit, Release, SetMode, CloseBit, ShutBit, Enter, Pin, Unpin, ClearMark, ClaimAgain, LookFree, PutFree, TakeFree}
 use Rattle.nio_words.specs.declared.part.Part.{Part}
-use Rattle.nio_words.specs.declared.part.Part.TheVariants.{Callers, Interrupts, Selectors, ChannelsMark, Chan, Hold, Noted, Gate, Turn, KeysMark, Key, Interest, Mark, Note}
+use Rattle.nio_words.specs.declared.part.Part.TheVariants.{Callers, Interrupts, Selectors, ChannelsMark, Chan, Hold, Noted, Gate, Turn, KeysMark, Key, Interest, Mark, Note, Free}
 
 abbrev pub part_of : Act → Part
 part_of (DrawBit n found) = Callers
@@ -32,7 +32,7 @@ part_of (RaiseKeys s n found) = KeysMark s.0
 part_of (LookKeys s found) = KeysMark s.0
 part_of (Publish s i found) = Key s.0 i
 part_of (LookReg c s found) = Noted c.0 s.0
-part_of (Enrol c s i found) = Noted c.0 s.0
+part_of (Enrol c s i serial found) = Noted c.0 s.0
 part_of (TakeTurn s found) = Turn s.0
 part_of (BeginLook s found) = Gate s.0
 part_of (GiveTurn s) = Turn s.0
@@ -49,8 +49,15 @@ part_of (SetMode c blocking found) = Chan c.0
 part_of (CloseBit c found) = Chan c.0
 part_of (ShutBit s found) = Gate s.0
 part_of (Enter s found) = Turn s.0
+part_of (Pin s i found) = Key s.0 i
+part_of (Unpin s i) = Key s.0 i
+part_of (ClearMark s i found) = Mark s.0 i
+part_of (ClaimAgain s i c from found) = Key s.0 i
+part_of (LookFree s j found) = Free s.0 j
+part_of (PutFree s i) = Free s.0 (i / 64)
+part_of (TakeFree s i found) = Free s.0 (i / 64)
 
--- the selector of a part, the channel, and the index of a key
+-- the selector of a part, the channel, and the index of a key or the number of a word of free indexes
 abbrev pub selector_in : Part → SelNo
 selector_in (Noted c s) = record { 0 = s }
 selector_in (Gate s) = record { 0 = s }
@@ -60,6 +67,7 @@ selector_in (Key s i) = record { 0 = s }
 selector_in (Interest s i) = record { 0 = s }
 selector_in (Mark s i) = record { 0 = s }
 selector_in (Note s i) = record { 0 = s }
+selector_in (Free s j) = record { 0 = s }
 selector_in _ = record { 0 = 0 }
 
 abbrev pub channel_in : Part → ChanNo
@@ -73,4 +81,5 @@ index_in (Key s i) = i
 index_in (Interest s i) = i
 index_in (Mark s i) = i
 index_in (Note s i) = i
+index_in (Free s j) = j
 index_in _ = 0

@@ -1,10 +1,14 @@
 -- Where the word of each part of the state stands. The words stand in rows, one row for each sort of
 -- part, in this order; in a row they stand in rising order of their numbers, pairs by the first number
 -- and then by the second. The second row is one word that belongs to no part and holds the limits.
-use Rattle.std.specs.Prelude.{ℕ, ◌+◌, ◌*◌, ◌<◌, List, [], ◌∷◌, take}
+use Rattle.std.specs.Prelude.{ℕ, ◌+◌, ◌*◌, ◌/◌, ◌<◌, List, [], ◌∷◌, take, ⊤}
 use Rattle.nio_base.specs.declared.limits.Limits.{Limits}
 use Rattle.nio_words.specs.declared.part.Part.{Part}
-use Rattle.nio_words.specs.declared.part.Part.TheVariants.{Callers, Interrupts, Selectors, ChannelsMark, Chan, Hold, Noted, Gate, Turn, KeysMark, Key, Interest, Mark, Note}
+use Rattle.nio_words.specs.declared.part.Part.TheVariants.{Callers, Interrupts, Selectors, ChannelsMark, Chan, Hold, Noted, Gate, Turn, KeysMark, Key, Interest, Mark, Note, Free}
+
+-- how many words a selector's free indexes have, 64 indexes each
+abbrev pub free_words : Limits → ℕ
+free_words l = (l.keys + 63) / 64
 
 -- how many words each row has
 abbrev pub rows : Limits → List ℕ
@@ -24,6 +28,7 @@ rows l =
     ∷ (l.selectors * l.keys)  -- their interest sets
     ∷ (l.selectors * l.keys)  -- their marks
     ∷ (l.selectors * l.keys)  -- their attachments
+    ∷ (l.selectors * free_words l)  -- free indexes
     ∷ []
 
 -- in which row a part's word stands
@@ -42,9 +47,14 @@ row (Key s i) = 11
 row (Interest s i) = 12
 row (Mark s i) = 13
 row (Note s i) = 14
+row (Free s j) = 15
 
 -- and where in that row
 abbrev pub column : Limits → Part → ℕ
+column l Callers = 0
+column l Interrupts = 0
+column l Selectors = 0
+column l ChannelsMark = 0
 column l (Chan c) = c
 column l (Hold c) = c
 column l (Noted c s) = c * l.selectors + s
@@ -55,10 +65,14 @@ column l (Key s i) = s * l.keys + i
 column l (Interest s i) = s * l.keys + i
 column l (Mark s i) = s * l.keys + i
 column l (Note s i) = s * l.keys + i
-column l _ = 0
+column l (Free s j) = s * free_words l + j
 
 -- its numbers are below the limits
 abbrev pub IsWithin : Limits → Part → Type 0
+IsWithin l Callers = ⊤
+IsWithin l Interrupts = ⊤
+IsWithin l Selectors = ⊤
+IsWithin l ChannelsMark = ⊤
 IsWithin l (Chan c) = c < l.channels
 IsWithin l (Hold c) = c < l.channels
 IsWithin l (Noted c s) = (c < l.channels) × (s < l.selectors)
@@ -69,7 +83,7 @@ IsWithin l (Key s i) = (s < l.selectors) × (i < l.keys)
 IsWithin l (Interest s i) = (s < l.selectors) × (i < l.keys)
 IsWithin l (Mark s i) = (s < l.selectors) × (i < l.keys)
 IsWithin l (Note s i) = (s < l.selectors) × (i < l.keys)
-IsWithin l _ = Unit {0}
+IsWithin l (Free s j) = (s < l.selectors) × (j < free_words l)
 
 -- how many words some rows have together
 abbrev pub total : List ℕ → ℕ

@@ -63,13 +63,21 @@ pub record IsEncoded (l : Limits) (history : List Event) (words : List ℕ) (p :
   pub small : slice_index words (place l p) < bound p
   pub proper : IsProper (state_after history) p
 
+-- some seat that isn't spent has seen the whole history
+pub record IsSeenWhole (views : List View) (history : List Event) : Type 0 where
+  pub seat : ℕ
+  pub view : View
+  pub there : get_elem? views seat ≡ some view
+  pub unspent : view.spent ≡ false
+  pub whole : view.seen ≡ history
+
 -- the rule, for a table of these limits
 pub record IsKept (l : Limits) (s : Table (Unit {0}) View) : Type 0 where
   pub fit : IsFit l
-  -- one legal history, which some seat has seen whole
+  -- one legal history, which some seat that isn't spent has seen whole
   pub history : List Event
   pub legal : IsLegal l history
-  pub longest : (i : ℕ) × (v : View) × (get_elem? s.views i ≡ some v) × (v.seen ≡ history)
+  pub longest : IsSeenWhole s.views history
   -- each word that belongs to a part of the state is the encoding of that part of the state that the
   -- history leaves, and the word of the limits holds them
   pub wide : length s.words ≡ word_count l

@@ -2,7 +2,7 @@
 ghost use Rattle.std.specs.Prelude.{◌≡◌, ◌<◌};
 ghost use Rattle.nio_words.specs.Decodings.{is_set, gate_of, stage_of, operations_of, number_of, kind_of, chan_of, mark_of, holder_of, noted_of};
 
-use nio_base::{CallerNo, ChanNo, Kind, Ops};
+use nio_base::{CallerNo, ChanNo, KeyId, Kind, Ops};
 use nio_event::{Chan, GateWord, Mark, Stage};
 
 /// Whether bit `k` is set.
@@ -33,7 +33,8 @@ pub(crate) fn stage_of(word: u64) -> Stage
         published: is_set(word, 1),
         cancelled: is_set(word, 2),
         removed: is_set(word, 3),
-        chan: ChanNo((word >> 32) as u32),
+        chan: ChanNo(((word >> 12) % (1 << 20)) as u32),
+        serial: (word >> 32) as u32,
     }
 }
 
@@ -87,13 +88,16 @@ pub(crate) fn holder_of(word: u64) -> Option<CallerNo>
 }
 
 #[inline(always)]
-pub(crate) fn noted_of(word: u64) -> Option<u32>
+pub(crate) fn noted_of(word: u64) -> Option<KeyId>
     ensures { result ≡ noted_of word }
 {
     if word == 0 {
         None
     } else {
-        Some(number_of(word - 1))
+        Some(KeyId {
+            index: number_of(word - 1),
+            serial: (word >> 32) as u32,
+        })
     }
 }
 

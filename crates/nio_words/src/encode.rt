@@ -1,9 +1,18 @@
 //! The words of new parts.
-ghost use Rattle.std.specs.Prelude.{◌≡◌, ◌<◌, Some};
+ghost use Rattle.std.specs.Prelude.{◌≡◌, ◌+◌, ◌^◌, ◌<◌, Some};
 ghost use Rattle.nio_event.specs.Acts.{new_channel, new_key, selected_with};
-ghost use Rattle.nio_words.specs.Encodings.{kind_code, channel_word, stage_word, mark_word, holder_word, noted_word};
+ghost use Rattle.nio_words.specs.Encodings.{bit, kind_code, channel_word, stage_word, mark_word, holder_word, noted_word};
 
-use nio_base::{CallerNo, ChanNo, Kind, Ops};
+use nio_base::{CallerNo, ChanNo, KeyId, Kind, Ops};
+use nio_event::Stage;
+
+#[inline(always)]
+fn bit(set: bool) -> u64
+    ensures bit { result ≡ bit set }
+    ensures below { result < 2 }
+{
+    if set { 1 } else { 0 }
+}
 
 #[inline(always)]
 fn kind_code(kind: Kind) -> u64
@@ -26,12 +35,29 @@ pub(crate) fn new_channel(kind: Kind) -> u64
     1 + 2 * kind_code(kind) + 32
 }
 
-/// A new key: claimed for this channel, and no more.
+/// One pin on an index.
+pub(crate) const PIN: u64 = 16;
+
+/// A new key, claimed for this channel and no more, with one pin on its index.
 #[inline(always)]
-pub(crate) fn new_key(c: ChanNo) -> u64
-    ensures { result ≡ stage_word (new_key c) }
+pub(crate) fn new_key(c: ChanNo, serial: u32) -> u64
+    requires { c.0 < 2 ^ 20 }
+    ensures { result ≡ stage_word (new_key c serial) 1 }
 {
-    u64::from(c.0) * (1 << 32) + 1
+    1 + PIN + u64::from(c.0) * (1 << 12) + u64::from(serial) * (1 << 32)
+}
+
+/// A key with no pin on its index.
+#[inline(always)]
+pub(crate) fn unpinned(key: Stage) -> u64
+    requires { key.chan.0 < 2 ^ 20 }
+    ensures { result ≡ stage_word key 0 }
+{
+    let stages = bit(key.claimed)
+        + 2 * bit(key.published)
+        + 4 * bit(key.cancelled)
+        + 8 * bit(key.removed);
+    stages + u64::from(key.chan.0) * (1 << 12) + u64::from(key.serial) * (1 << 32)
 }
 
 /// Who has a hold or a turn.
@@ -44,10 +70,11 @@ pub(crate) fn holder(n: CallerNo) -> u64
 
 /// A key that is noted.
 #[inline(always)]
-pub(crate) fn noted(i: u32) -> u64
-    ensures { result ≡ noted_word (Some i) }
+pub(crate) fn noted(key: KeyId) -> u64
+    requires { key.index + 1 < 2 ^ 32 }
+    ensures { result ≡ noted_word (Some key) }
 {
-    u64::from(i) + 1
+    u64::from(key.index) + 1 + u64::from(key.serial) * (1 << 32)
 }
 
 /// Whether a key is selected, and its ready set.
@@ -56,8 +83,7 @@ pub(crate) fn mark(selected: bool, ready: Ops) -> u64
     ensures word { result ≡ mark_word (record { selected = selected; ready = ready }) }
     ensures ready { ready < 256 }
 {
-    let bit = if selected { 1 } else { 0 };
-    u64::from(ready.bits()) + 256 * bit
+    u64::from(ready.bits()) + 256 * bit(selected)
 }
 
 /// What a key with this mark becomes that is told of.

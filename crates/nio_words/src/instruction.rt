@@ -14,6 +14,10 @@ pub enum Instruction {
     Or(u64),
     /// Clears all bits but these.
     And(u64),
+    /// Adds this number.
+    Add(u64),
+    /// Subtracts this number.
+    Subtract(u64),
     /// Raises the word to this number, unless it is as high.
     Max(u64),
     /// Puts this word in its place.

@@ -1,7 +1,7 @@
 //! The parts of the shared state, and where the word of each stands in the table.
 ghost use Rattle.std.specs.Prelude.{◌≡◌, ◌<◌};
 ghost use Rattle.nio_base.specs.Limits.{IsFit};
-ghost use Rattle.nio_words.specs.Places.{IsWithin, place, word_count};
+ghost use Rattle.nio_words.specs.Places.{IsWithin, free_words as words_of_free, place, word_count};
 
 use nio_base::Limits;
 
@@ -28,7 +28,7 @@ pub enum Part {
     Turn(u32),
     /// The keys' mark of a selector.
     KeysMark(u32),
-    /// How far a key of a selector has come.
+    /// The stage of an index's key, and how many pins are on the index.
     Key(u32, u32),
     /// A key's interest set.
     Interest(u32, u32),
@@ -36,6 +36,8 @@ pub enum Part {
     Mark(u32, u32),
     /// A key's attachment.
     Note(u32, u32),
+    /// Which of 64 indexes of a selector are free.
+    Free(u32, u32),
 }
 
 /// The place of the word of the drawn callers.
@@ -43,6 +45,15 @@ pub(crate) const CALLERS: usize = 0;
 
 /// The place of the word that holds the limits, which no step changes.
 pub(crate) const LIMITS: usize = 1;
+
+/// How many words the free indexes of a selector have.
+#[inline(always)]
+pub(crate) fn free_words(limits: &Limits) -> usize
+    requires { IsFit limits.now }
+    ensures { result ≡ words_of_free limits.now }
+{
+    (limits.keys as usize + 63) / 64
+}
 
 /// The place of a part's word.
 #[inline(always)]
@@ -58,6 +69,7 @@ pub(crate) fn place_of(limits: &Limits, part: Part) -> usize
     let gates = 5 + channels + channels + channels * selectors;
     let stages = gates + selectors + selectors + selectors;
     let of_keys = selectors * keys;
+    let frees = stages + of_keys + of_keys + of_keys + of_keys;
     match part {
         Part::Callers => 0,
         Part::Interrupts => 2,
@@ -75,5 +87,6 @@ pub(crate) fn place_of(limits: &Limits, part: Part) -> usize
         Part::Note(s, i) => {
             stages + of_keys + of_keys + of_keys + (s as usize * keys + i as usize)
         }
+        Part::Free(s, j) => frees + (s as usize * free_words(limits) + j as usize),
     }
 }

@@ -13,7 +13,8 @@ use crate::part::{Part, place_of};
 use crate::view::View;
 use crate::words::{Pass, Words};
 use atomic_table::{Play, Seat};
-use nio_base::{CallerNo, ChanNo, Kind, Ops};
+use nio_base::{CallerNo, ChanNo, KeyId, Kind, Ops};
+use nio_event::Stage;
 use std::marker::Brand;
 
 /// What the part and the instruction of a step leave out of the event that it adds.
@@ -21,7 +22,10 @@ use std::marker::Brand;
 pub enum Said {
     OfKind(Kind),
     ForChannel(ChanNo),
+    /// The channel, and the stage from which an index is claimed again.
+    Again(ChanNo, Stage),
     Number(u32),
+    Noted(KeyId),
     Mode(bool),
     /// Whether the key was selected, its ready set, and what was told of it.
     Told(bool, Ops, Ops),
@@ -55,6 +59,8 @@ impl Words {
             Instruction::ClearBit(k) => shared.fetch_and::<Brand>(seat, word, !(1 << k)),
             Instruction::Or(bits) => shared.fetch_or::<Brand>(seat, word, bits),
             Instruction::And(bits) => shared.fetch_and::<Brand>(seat, word, bits),
+            Instruction::Add(number) => shared.fetch_add::<Brand>(seat, word, number),
+            Instruction::Subtract(number) => shared.fetch_sub::<Brand>(seat, word, number),
             Instruction::Max(number) => shared.fetch_max::<Brand>(seat, word, number),
             Instruction::Swap(new) => shared.swap::<Brand>(seat, word, new),
             Instruction::Exchange(old, new) => {

@@ -15,6 +15,7 @@
 //! That its condition stays true while others step is proved of all kinds in `nio_event`.
 
 mod channels;
+mod free_indexes;
 mod gates;
 mod high_marks;
 mod holds;

@@ -5,7 +5,7 @@ ghost use Rattle.nio_words.specs.Encodings.{limits_word as word_of_limits};
 ghost use Rattle.nio_words.specs.Passes.{IsFirstPass, limits_of};
 ghost use Rattle.nio_words.specs.Places.{word_count as count_of_words};
 
-use crate::part::LIMITS;
+use crate::part::{LIMITS, free_words};
 use crate::words::{Pass, Words};
 use atomic_table::Table;
 use nio_base::Limits;
@@ -28,6 +28,7 @@ fn word_count(limits: &Limits) -> usize
         + of_keys
         + of_keys
         + of_keys
+        + selectors * free_words(limits)
 }
 
 fn limits_word(limits: &Limits) -> u64

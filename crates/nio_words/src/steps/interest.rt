@@ -1,7 +1,8 @@
 //! Steps on a key's interest set.
-ghost use Rattle.nio_event.specs.Conditions.{IsKey};
+ghost use Rattle.std.specs.Prelude.{◌||◌, IsTrue};
+ghost use Rattle.nio_event.specs.Conditions.{IsKey, has_pin, has_begun};
 ghost use Rattle.nio_event.specs.declared.act.Act.TheVariants.{LookInterest, SwapInterest, OrInterest, AndInterest};
-ghost use Rattle.nio_words.specs.Passes.{IsReady, limits_of};
+ghost use Rattle.nio_words.specs.Passes.{IsReady, limits_of, state_seen};
 ghost use Rattle.nio_words.specs.Steps.{Steps};
 
 use crate::decode::operations_of;
@@ -15,6 +16,7 @@ impl Words {
     pub fn look_interest(&self, p: &mut Pass, me: CallerNo, s: SelNo, i: u32) -> Ops
         requires ready { IsReady self.now p.old me }
         requires key { IsKey (limits_of self.now) s i }
+        requires may { IsTrue (has_pin (state_seen p.old) me s i || has_begun (state_seen p.old) me s) }
         ensures { Steps self.now p.old p.new me (LookInterest s i result) }
     {
         let found = self.step(p, me, Part::Interest(s.0, i), Instruction::Load);
@@ -25,6 +27,7 @@ impl Words {
     pub fn swap_interest(&self, p: &mut Pass, me: CallerNo, s: SelNo, i: u32, ops: Ops) -> Ops
         requires ready { IsReady self.now p.old me }
         requires key { IsKey (limits_of self.now) s i }
+        requires pinned { IsTrue (has_pin (state_seen p.old) me s i) }
         ensures { Steps self.now p.old p.new me (SwapInterest s i ops result) }
     {
         let bits = u64::from(ops.bits());
@@ -36,6 +39,7 @@ impl Words {
     pub fn or_interest(&self, p: &mut Pass, me: CallerNo, s: SelNo, i: u32, ops: Ops) -> Ops
         requires ready { IsReady self.now p.old me }
         requires key { IsKey (limits_of self.now) s i }
+        requires pinned { IsTrue (has_pin (state_seen p.old) me s i) }
         ensures { Steps self.now p.old p.new me (OrInterest s i ops result) }
     {
         let bits = u64::from(ops.bits());
@@ -47,6 +51,7 @@ impl Words {
     pub fn and_interest(&self, p: &mut Pass, me: CallerNo, s: SelNo, i: u32, ops: Ops) -> Ops
         requires ready { IsReady self.now p.old me }
         requires key { IsKey (limits_of self.now) s i }
+        requires pinned { IsTrue (has_pin (state_seen p.old) me s i) }
         ensures { Steps self.now p.old p.new me (AndInterest s i ops result) }
     {
         let bits = u64::from(ops.bits());

@@ -1,7 +1,7 @@
 //! Steps on which key is noted for a channel in a selector.
 ghost use Rattle.std.specs.Prelude.{◌≡◌, IsTrue, Some};
 ghost use Rattle.nio_event.specs.Conditions.{IsChannel, IsSelector, IsKey, holds};
-ghost use Rattle.nio_event.specs.OwnEvents.{last, claimed_for, is_clear};
+ghost use Rattle.nio_event.specs.OwnEvents.{own_claim, is_clear};
 ghost use Rattle.nio_event.specs.declared.act.Act.TheVariants.{LookReg, Enrol};
 ghost use Rattle.nio_words.specs.Passes.{IsReady, acts_seen, limits_of, state_seen};
 ghost use Rattle.nio_words.specs.Steps.{Steps};
@@ -12,11 +12,11 @@ use crate::instruction::Instruction;
 use crate::part::Part;
 use crate::step::Said;
 use crate::words::{Pass, Words};
-use nio_base::{CallerNo, ChanNo, SelNo};
+use nio_base::{CallerNo, ChanNo, KeyId, SelNo};
 
 impl Words {
     /// Looks at which key is noted for the channel in the selector.
-    pub fn look_reg(&self, p: &mut Pass, me: CallerNo, c: ChanNo, s: SelNo) -> Option<u32>
+    pub fn look_reg(&self, p: &mut Pass, me: CallerNo, c: ChanNo, s: SelNo) -> Option<KeyId>
         requires ready { IsReady self.now p.old me }
         requires channel { IsChannel (limits_of self.now) c }
         requires selector { IsSelector (limits_of self.now) s }
@@ -26,23 +26,33 @@ impl Words {
         noted_of(found)
     }
 
-    /// Notes the key for the channel in the selector. Answers the index that was noted before.
-    pub fn enrol(&self, p: &mut Pass, me: CallerNo, c: ChanNo, s: SelNo, i: u32) -> Option<u32>
+    /// Notes the key of the index, by its serial, for the channel in the selector. Answers which key was noted
+    /// before.
+    pub fn enrol(
+        &self,
+        p: &mut Pass,
+        me: CallerNo,
+        c: ChanNo,
+        s: SelNo,
+        i: u32,
+        serial: u32,
+    ) -> Option<KeyId>
         requires ready { IsReady self.now p.old me }
         requires channel { IsChannel (limits_of self.now) c }
         requires key { IsKey (limits_of self.now) s i }
-        requires claimed { last (claimed_for s.0 i) (acts_seen p.old me) ≡ Some c }
+        requires claimed { own_claim s.0 i (acts_seen p.old me) ≡ Some (record { channel = c; serial = serial }) }
         requires holds { IsTrue (holds (state_seen p.old) me c) }
         requires clear { IsTrue (is_clear c.0 s.0 (acts_seen p.old me)) }
-        ensures { Steps self.now p.old p.new me (Enrol c s i result) }
+        ensures { Steps self.now p.old p.new me (Enrol c s i serial result) }
     {
-        let new = encode::noted(i);
+        let key = KeyId { index: i, serial };
+        let new = encode::noted(key);
         let found = self.step_that(
             p,
             me,
             Part::Noted(c.0, s.0),
             Instruction::Swap(new),
-            Said::Number(i),
+            Said::Noted(key),
         );
         noted_of(found)
     }

@@ -1,7 +1,8 @@
 //! Steps on a key's attachment, a number with 0 for none.
-ghost use Rattle.nio_event.specs.Conditions.{IsKey};
+ghost use Rattle.std.specs.Prelude.{IsTrue};
+ghost use Rattle.nio_event.specs.Conditions.{IsKey, has_pin};
 ghost use Rattle.nio_event.specs.declared.act.Act.TheVariants.{SwapNote, LookNote};
-ghost use Rattle.nio_words.specs.Passes.{IsReady, limits_of};
+ghost use Rattle.nio_words.specs.Passes.{IsReady, limits_of, state_seen};
 ghost use Rattle.nio_words.specs.Steps.{Steps};
 
 use crate::instruction::Instruction;
@@ -14,6 +15,7 @@ impl Words {
     pub fn swap_note(&self, p: &mut Pass, me: CallerNo, s: SelNo, i: u32, att: u64) -> u64
         requires ready { IsReady self.now p.old me }
         requires key { IsKey (limits_of self.now) s i }
+        requires pinned { IsTrue (has_pin (state_seen p.old) me s i) }
         ensures { Steps self.now p.old p.new me (SwapNote s i att result) }
     {
         self.step(p, me, Part::Note(s.0, i), Instruction::Swap(att))
@@ -23,6 +25,7 @@ impl Words {
     pub fn look_note(&self, p: &mut Pass, me: CallerNo, s: SelNo, i: u32) -> u64
         requires ready { IsReady self.now p.old me }
         requires key { IsKey (limits_of self.now) s i }
+        requires pinned { IsTrue (has_pin (state_seen p.old) me s i) }
         ensures { Steps self.now p.old p.new me (LookNote s i result) }
     {
         self.step(p, me, Part::Note(s.0, i), Instruction::Load)

@@ -1,11 +1,12 @@
 //! Two threads that step beside each other on one table.
 ghost use Rattle.std.specs.Prelude.{IsTrue};
 ghost use Rattle.nio_words.specs.Passes.{IsPassOf, IsReady, limits_of, state_seen};
-ghost use Rattle.nio_event.specs.Conditions.{IsChannel, IsKey, IsSelector, holds};
+ghost use Rattle.nio_event.specs.Conditions.{IsKey, IsSelector};
 
-use super::{SMALL, TABLE};
+use super::worked::remove_first_key;
+use super::{ONE, S, SMALL, ZERO};
 use crate::*;
-use nio_base::{CallerNo, ChanNo, Kind, SelNo};
+use nio_base::{CallerNo, SelNo};
 use std::test::Fail;
 use std::thread::join;
 
@@ -48,45 +49,39 @@ fn two_threads_wake(rt: HostRuntime) -> Result<(), Fail> {
     Ok(())
 }
 
-/// Claims both indexes. Says of each whether it was claimed.
-fn claims_both(words: &Words, mut p: Pass, me: CallerNo, s: SelNo, c: ChanNo) -> (Pass, bool, bool)
+/// Takes index 0 out of the free ones, and puts it back where it got it. Says whether it did.
+fn takes_and_puts(words: &Words, mut p: Pass, me: CallerNo, s: SelNo) -> (Pass, bool)
     requires ready { IsReady words.now p me }
-    requires keys { IsKey (limits_of words.now) s 0 × IsKey (limits_of words.now) s 1 }
-    requires channel { IsChannel (limits_of words.now) c }
-    requires holds { IsTrue (holds (state_seen p) me c) }
-    ensures { IsPassOf words.now result.0 }
+    requires key { IsKey (limits_of words.now) s 0 }
+    ensures { IsReady words.now result.0 me }
 {
-    let first = words.claim(&mut p, me, s, 0, c);
-    let second = words.claim(&mut p, me, s, 1, c);
-    (p, first, second)
+    let free = words.take_free(&mut p, me, s, 0);
+    if free {
+        words.put_free(&mut p, me, s, 0);
+    }
+    (p, free)
 }
 
 #[test]
-fn two_threads_claim(rt: HostRuntime) -> Result<(), Fail> {
-    let (words, mut p) = Words::make(rt.alloc(), TABLE)?;
-    let (zero, one, s) = (CallerNo(0), CallerNo(1), SelNo(0));
-    let (left, right) = (ChanNo(0), ChanNo(1));
-    words.draw(&mut p, zero)?;
-    words.draw(&mut p, one)?;
-    assert!(rt; !words.make_channel(&mut p, zero, left, Kind::Source));
-    assert!(rt; !words.make_channel(&mut p, one, right, Kind::Sink));
-    assert!(rt; words.try_hold_bit(&mut p, zero, left).is_none());
-    assert!(rt; words.try_hold_bit(&mut p, one, right).is_none());
-    let q = words.hand_over(&mut p, one)?;
-    let ((mut p, zero_first, zero_second), (q, one_first, one_second)) = join(
+fn two_threads_take_and_put(rt: HostRuntime) -> Result<(), Fail> {
+    let (words, mut p) = Words::make(rt.alloc(), SMALL)?;
+    words.draw(&mut p, ZERO)?;
+    words.draw(&mut p, ONE)?;
+    remove_first_key(&rt, &words, &mut p);
+    let q = words.hand_over(&mut p, ONE)?;
+    let ((mut p, first), (q, second)) = join(
         &rt,
-        || -> (Pass, bool, bool)
-            requires { IsReady words p zero × IsKey (limits_of words) s 0 × IsKey (limits_of words) s 1 × IsChannel (limits_of words) left × IsTrue (holds (state_seen p) zero left) }
-            ensures { IsPassOf words result.0 }
-        { claims_both(&words, p, zero, s, left) },
-        || -> (Pass, bool, bool)
-            requires { IsReady words q one × IsKey (limits_of words) s 0 × IsKey (limits_of words) s 1 × IsChannel (limits_of words) right × IsTrue (holds (state_seen q) one right) }
-            ensures { IsPassOf words result.0 }
-        { claims_both(&words, q, one, s, right) },
+        || -> (Pass, bool)
+            requires { IsReady words p ZERO × IsKey (limits_of words) S 0 }
+            ensures { IsReady words result.0 ZERO }
+        { takes_and_puts(&words, p, ZERO, S) },
+        || -> (Pass, bool)
+            requires { IsReady words q ONE × IsKey (limits_of words) S 0 }
+            ensures { IsReady words result.0 ONE }
+        { takes_and_puts(&words, q, ONE, S) },
     );
-    assert!(rt; zero_first != one_first, "index 0 is claimed once");
-    assert!(rt; zero_second != one_second, "index 1 is claimed once");
+    assert!(rt; first || second, "whoever came first got it");
     words.join(&mut p, q);
-    assert!(rt; p.holds(zero) && p.holds(one));
+    assert!(rt; words.look_free(&mut p, ZERO, S, 0) == 1);
     Ok(())
 }

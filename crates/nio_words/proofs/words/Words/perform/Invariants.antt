@@ -18,3 +18,9 @@ ghosts-swap g a = record { then = λ _ before found after. g.M.Play.then any_ste
 
 abbrev pub ghosts-compare_exchange : goal.ghosts-compare_exchange
 ghosts-compare_exchange g a = record { then = λ _ before found after. g.M.Play.then any_step before found after }
+
+abbrev pub ghosts-fetch_add : goal.ghosts-fetch_add
+ghosts-fetch_add g a = record { then = λ _ before found after. g.M.Play.then any_step before found after }
+
+abbrev pub ghosts-fetch_sub : goal.ghosts-fetch_sub
+ghosts-fetch_sub g a = record { then = λ _ before found after. g.M.Play.then any_step before found after }

@@ -1,0 +1,7 @@
+use Rattle.nio_event.specs.declared.act.Act.TheVariants.{ClearMark}
+use Rattle.nio_words.specs.Decodings.{mark_of}
+use Rattle.nio_words.specs.Parts.{selector_in, index_in}
+use Rattle.nio_words.proofs.words.Words.clear_mark.Given as goal
+
+abbrev pub ghost-step : goal.ghost-step
+ghost-step a = record { who = a._me; act = λ n. ClearMark (selector_in a.part) (index_in a.part) (mark_of n) }
