@@ -1,5 +1,5 @@
 -- How a call of a plain system is shown to answer as the documented one, at each of its returns.
-use Rattle.std.proofs.Common.{◌≡◌, ℕ, ◌+◌, ◌<◌, ◌≤◌, Option, None, Some, is_some, arith, Bool, true, false, Result, Ok, Err, List, [], ◌∷◌, ◌++◌, length, get_or, set, refl, sym, ap, subst, ◌∙◌}
+use Rattle.std.proofs.Common.{◌≡◌, ℕ, ◌+◌, ◌<◌, ◌≤◌, Option, None, Some, is_some, Bool, true, false, Result, Ok, Err, List, [], ◌∷◌, ◌++◌, length, get_or, set, refl, sym, ap, subst, ◌∙◌}
 use Rattle.std.proofs.lemmas.List.{length-set, length_push}
 use Rattle.std.proofs.lemmas.Result.{IfOk-from_err}
 use Rattle.std.specs.Result.{IsErr, OnErr}
@@ -9,7 +9,7 @@ use Rattle.nio_event.specs.State.{unmade_channel, put, with_interrupted}
 use Rattle.nio_event.specs.declared.reply.Reply.{Reply}
 use Rattle.nio_plain.proofs.Places.{places-nil, places-replicate, places_all, places_past, places-set, places-push, places_at, part_kept}
 use Rattle.nio_plain.specs.Plain.{Answers, AnswersAs, Kept}
-use Rattle.nio_plain.specs.PlainState.{places, key_row, no_key, caller_of, channel_row, selector_row, SelectorRow, no_selector, state_from, state_of}
+use Rattle.nio_plain.specs.PlainState.{places, caller_of, channel_row, selector_row, SelectorRow, no_selector, state_from, state_of}
 use Rattle.nio_plain.specs.ScriptState.{ScriptState, script_opening, with_shared}
 use Rattle.nio_plain.specs.Seq.Answers.{Answered, unchanged}
 use Rattle.nio_plain.specs.declared.plain.Plain.{Plain}
