@@ -1,8 +1,7 @@
 -- What is kept while the calls of a history are made; and that a history is legal, or has one first
 -- call whose reply is wrong, and not both.
-use Rattle.std.proofs.Common.{◌≡◌, ◌≢◌, inl, inr, ◌⊎◌, ℕ, ◌+◌, ◌≤◌, List, [], ◌∷◌, ◌++◌, length, take, drop, refl, sym, ◌∙◌, ap, subst}
-use Rattle.std.specs.Prelude.{Option, Some, None, IfSome, IfNone}
-use Rattle.std.proofs.lemmas.List.{map-append, take_all}
+use Rattle.std.proofs.Common.{◌≡◌, ◌≢◌, inl, inr, ◌⊎◌, ℕ, ◌+◌, List, [], ◌∷◌, ◌++◌, take, drop, refl, sym, ◌∙◌, ap, subst}
+use Rattle.std.proofs.lemmas.List.{map-append}
 use Rattle.nio_base.specs.declared.limits.Limits.{Limits}
 use Rattle.nio_event.specs.Replies.{reply_text}
 use Rattle.nio_event.specs.declared.call.ScriptCall.{ScriptCall}
@@ -17,14 +16,6 @@ use Rattle.nio_script.specs.declared.status.Status.{Status}
 use Rattle.nio_script.specs.declared.status.Status.TheVariants.{Done, BadScript, ReadFault, WriteFault, Memory, Illegal}
 use Rattle.nio_script.proofs.FirstBreak.{IsBreak, unbroken, one_break}
 use Rattle.nio_script.proofs.Lines.{IsNext, take_one_more, parts, number_of_next}
-
--- what is said of the value that there is
-pub if_some : {A : Type 0} (o : Option A) (x : A) (IsSo : A → Type 0) → o ≡ Some x → IfSome o IsSo → IsSo x
-if_some o x IsSo is so = subst (λ found. IfSome found IsSo) is so
-
--- what is said where there is none
-pub if_none : {A P : Type 0} (o : Option A) → o ≡ None → IfNone o P → P
-if_none {P = P} o is so = subst (λ found. IfNone found P) is so
 
 -- what some calls leave, and then more
 left_from-append : (rules : Rules) (l : Limits) (st : ScriptState) (xs ys : List ScriptCall)
@@ -51,29 +42,33 @@ pub record IsFollowed (rules : Rules) (l : Limits) (entries : List Entry) (i : �
   pub legal : IsLegalHistory rules l (take i entries)
   pub left : st ≡ left_by_script rules l (calls_of (take i entries))
 
-pub followed_none : (rules : Rules) (l : Limits) (entries : List Entry) (st : ScriptState) → st ≡ script_opening
-    → IsFollowed rules l entries 0 st
-followed_none rules l entries st opening = record { legal = tt; left = opening }
+-- The system has the same rules and limits, and the next call is made on it.
+module _ (rules same_rules : Rules) (l same_limits : Limits) (by_rules : same_rules ≡ rules) (by_limits : same_limits ≡ l) (entries : List Entry) (i : ℕ) (st : ScriptState) (e : Entry) (next : IsNext entries i e) (before : IsFollowed rules l entries i st) where
+  by : {A : Type 0} (f : Rules → Limits → A) → f same_rules same_limits ≡ f rules l
+  by f = ap (λ r. f r same_limits) by_rules ∙ ap (f rules) by_limits
 
-module _ (rules : Rules) (l : Limits) (entries : List Entry) (i : ℕ) (st : ScriptState) (e : Entry) (next : IsNext entries i e) (before : IsFollowed rules l entries i st) where
   -- the next reply is right
-  pub followed_more : e.reply ≡ reply_text (right_reply rules l st e) → IsFollowed rules l entries (i + 1) (left_by_call rules l st e.line)
-  followed_more right =
+  pub followed_more : (left : ScriptState) → e.reply ≡ reply_text (right_reply same_rules same_limits st e) → left ≡ left_by_call same_rules same_limits st e.line
+      → IsFollowed rules l entries (i + 1) left
+  followed_more left right is =
       let front = take i entries in
       let more = take_one_more next in
+      let reply = right ∙ by (λ r m. reply_text (right_reply r m st e)) in
       record {
         legal =
             subst (IsLegalHistory rules l) (sym more)
-            (IsLegalFrom-append rules l script_opening front (e ∷ []) before.legal (subst (λ s. IsLegalFrom rules l s (e ∷ [])) before.left (right, tt)));
+            (IsLegalFrom-append rules l script_opening front (e ∷ []) before.legal (subst (λ s. IsLegalFrom rules l s (e ∷ [])) before.left (reply, tt)));
         left =
-            ap (λ s. left_by_call rules l s e.line) before.left
+            is
+            ∙ by (λ r m. left_by_call r m st e.line)
+            ∙ ap (λ s. left_by_call rules l s e.line) before.left
             ∙ sym (left_from-append rules l script_opening (calls_of front) (e.line ∷ []))
             ∙ ap (left_from rules l script_opening) (sym (map-append (λ (x : Entry). x.line) front (e ∷ [])))
             ∙ ap (λ xs. left_by_script rules l (calls_of xs)) (sym more);
       }
 
   -- the next reply is wrong
-  pub followed_wrong : (right : Reply) → right ≡ right_reply rules l st e → e.reply ≢ reply_text right → IsFirstIllegal rules l entries (i + 1) right
+  pub followed_wrong : (right : Reply) → right ≡ right_reply same_rules same_limits st e → e.reply ≢ reply_text right → IsFirstIllegal rules l entries (i + 1) right
   followed_wrong right is wrong = record {
     entry = e;
     before = take i entries;
@@ -81,13 +76,9 @@ module _ (rules : Rules) (l : Limits) (entries : List Entry) (i : ℕ) (st : Scr
     parts = parts next;
     number = number_of_next next;
     legal = before.legal;
-    answer = is ∙ ap (λ s. right_reply rules l s e) before.left;
+    answer = is ∙ by (λ r m. right_reply r m st e) ∙ ap (λ s. right_reply rules l s e) before.left;
     wrong = wrong;
   }
-
-pub followed_all : (rules : Rules) (l : Limits) (entries : List Entry) (i : ℕ) (st : ScriptState) → length entries ≤ i
-    → IsFollowed rules l entries i st → IsLegalHistory rules l entries
-followed_all rules l entries i st end before = subst (IsLegalHistory rules l) (take_all i entries end) before.legal
 
 -- the first wrong call ends what is legal
 break_of : (rules : Rules) (l : Limits) (entries : List Entry) (n : ℕ) (right : Reply) → IsFirstIllegal rules l entries n right
