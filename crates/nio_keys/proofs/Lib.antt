@@ -1,4 +1,1 @@
-pub mod Looked
-pub mod Bridge
-pub mod Stays
 pub mod Supported

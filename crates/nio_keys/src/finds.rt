@@ -1,19 +1,23 @@
 //! Calls that find selectors, channels and keys by their numbers.
 ghost use Rattle.std.specs.Prelude.{IfSome};
-ghost use Rattle.nio_keys.specs.Calls.{Calls, HasSelector, HasChannel, HasKey};
+ghost use Rattle.nio_event.specs.PassViews.{HasSelector, HasChannel, HasKey};
+ghost use Rattle.nio_steps.specs.Calls.{CallClause};
 ghost use Rattle.nio_steps.specs.KeyCalls.{find_selector_plan, find_channel_plan, find_plan};
+ghost use Rattle.nio_steps.specs.Runs.{Completes};
 ghost use Rattle.nio_words.specs.Passes.{IsReady, limits_of};
+ghost use Rattle.nio_words.specs.Views.{view};
 
-use crate::valid::has_bit;
 use nio_base::{CallerNo, ChanNo, KeyNo, SelNo};
+use nio_steps::has_bit;
 use nio_words::{Pass, Words};
 
 /// The selector with this number, where it is made.
 #[tactic(auto, unfolding(nio_steps::specs::KeyCalls::find_selector_plan))]
 pub fn find_selector(w: &Words, p: &mut Pass, me: CallerNo, number: u32) -> Option<SelNo>
     requires { IsReady w.now p.old me }
-    ensures call { Calls w.now p.old p.new me (find_selector_plan (limits_of w.now) number) result }
-    ensures found { IfSome result (HasSelector w.now p.new) }
+    ensures call { CallClause me (Completes (find_selector_plan (limits_of w.now) number)) (view w.now p.old) (view w.now p.new) result }
+    ensures ready { IsReady w.now p.new me }
+    ensures found { IfSome result (HasSelector (view w.now p.new)) }
 {
     if number >= w.limits().selectors {
         return None;
@@ -30,8 +34,9 @@ pub fn find_selector(w: &Words, p: &mut Pass, me: CallerNo, number: u32) -> Opti
 #[tactic(auto, unfolding(nio_steps::specs::KeyCalls::find_channel_plan))]
 pub fn find_channel(w: &Words, p: &mut Pass, me: CallerNo, number: u32) -> Option<ChanNo>
     requires { IsReady w.now p.old me }
-    ensures call { Calls w.now p.old p.new me (find_channel_plan (limits_of w.now) number) result }
-    ensures found { IfSome result (HasChannel w.now p.new) }
+    ensures call { CallClause me (Completes (find_channel_plan (limits_of w.now) number)) (view w.now p.old) (view w.now p.new) result }
+    ensures ready { IsReady w.now p.new me }
+    ensures found { IfSome result (HasChannel (view w.now p.new)) }
 {
     if number >= w.limits().channels {
         return None;
@@ -44,24 +49,28 @@ pub fn find_channel(w: &Words, p: &mut Pass, me: CallerNo, number: u32) -> Optio
     }
 }
 
-/// The key with this index in the selector, where it is published.
+/// The key with this index and serial in the selector, where it was published.
 #[tactic(auto, unfolding(nio_steps::specs::KeyCalls::find_plan))]
-pub fn find(w: &Words, p: &mut Pass, me: CallerNo, sel: SelNo, index: u32) -> Option<KeyNo>
+pub fn find(
+    w: &Words,
+    p: &mut Pass,
+    me: CallerNo,
+    sel: SelNo,
+    index: u32,
+    serial: u32,
+) -> Option<KeyNo>
     requires ready { IsReady w.now p.old me }
-    requires selector { HasSelector w.now p.old sel }
-    ensures call { Calls w.now p.old p.new me (find_plan (limits_of w.now) sel index) result }
-    ensures found { IfSome result (HasKey w.now p.new) }
+    requires selector { HasSelector (view w.now p.old) sel }
+    ensures call { CallClause me (Completes (find_plan (limits_of w.now) sel index serial)) (view w.now p.old) (view w.now p.new) result }
+    ensures ready { IsReady w.now p.new me }
+    ensures found { IfSome result (HasKey (view w.now p.new)) }
 {
     if index >= w.limits().keys {
         return None;
     }
     let stage = w.look_key(p, me, sel, index);
-    if stage.published {
-        Some(KeyNo {
-            sel,
-            index,
-            serial: 0,
-        })
+    if stage.was_published(serial) {
+        Some(KeyNo { sel, index, serial })
     } else {
         None
     }

@@ -1,8 +1,9 @@
 //! Calls that find selectors, channels and keys by their numbers, and calls on keys.
 //!
-//! Each call ensures `Calls` of its plan: what the caller's pass has seen grew by a whole run of the
-//! plan with the call's answer, and by what other callers did between. None of them waits or takes
-//! memory.
+//! Each call ensures `CallClause` of its plan: what the caller's pass has seen grew by a whole run of the
+//! plan with the call's answer, and by what other callers did between. A call that works on a key pins the
+//! key's index meanwhile: it asks for a caller that has no pin, and leaves it without one. None of the calls
+//! waits or takes memory.
 #![tactic(auto)]
 
 pub use finds::{find, find_channel, find_selector};
@@ -13,8 +14,6 @@ pub use simple::{attach, attachment, cancel, is_valid};
 
 mod finds;
 mod interests;
+mod pinned;
 mod selected;
 mod simple;
-#[cfg(test)]
-mod tests;
-mod valid;

@@ -130,13 +130,6 @@ pub same_row : (p : Plain) (s : ℕ) (x y : Selector) → s < length p.selectors
 same_row p s x y h e d =
     sym (places_at selector_row no_selector p.selectors.items s x h e) ∙ places_at selector_row no_selector p.selectors.items s y h d
 
--- a selector has no key from its mark on
-pub row_past : (p : Plain) (s : ℕ) (x : Selector) → s < length p.selectors.items → x ≡ get_or p.selectors.items s x → (i : ℕ) → (rows_of p s).keys_mark ≤ i → (rows_of p s).keys i ≡ no_key
-row_past p s x h e i past =
-    let at = places_at selector_row no_selector p.selectors.items s x h e in
-    let mark = ap (λ (r : SelectorRow). r.keys_mark) at in
-    ap (λ (r : SelectorRow). r.keys i) at ∙ places_past key_row no_key x.keys.items i (omega arith)
-
 -- a selector's turn is taken where a selection is in progress
 pub is_some-caller_of : (o : Option Selecting) → is_some (caller_of o) ≡ is_some o
 is_some-caller_of None = refl

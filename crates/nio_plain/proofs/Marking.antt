@@ -56,9 +56,6 @@ module _ (keys : ℕ → KeyRow) (xs : List (KeyId × ℕ)) (told : ℕ → ℕ)
       (λ (d : m ≡ p.0.index → ⊥). elsewhere m d)
       (cases_eq m p.0.index))
 
-pub marked_keys-none : (keys : ℕ → KeyRow) (told : ℕ → ℕ) → marked_keys keys [] told ≡ keys
-marked_keys-none keys told = same_function (λ i. ap (λ b. marks b (keys i)) (and_zero_r (told i)))
-
 -- one turn of the marking
 module _ (keys : ℕ → KeyRow) (xs : List (KeyId × ℕ)) (told : ℕ → ℕ) (items : List Key) (j : ℕ) (p : KeyId × ℕ) (k : Key) (rising : Rise xs) (h : j < length xs) (e : p ≡ get_or xs j p) (so_far : places key_row no_key items ≡ marked_keys keys (take j xs) told) (within : p.0.index < length items) (read : k ≡ get_or items p.0.index k) where
   before : AreBelow (take j xs) p.0.index

@@ -1,13 +1,10 @@
 -- A finished closing removed each key below the mark that it found, where the key was claimed before.
-use Rattle.std.proofs.Common.{◌≡◌, ℕ, ◌+◌, ◌<◌, ◌==◌, Bool, true, false, if◌then◌else◌, List, [], ◌∷◌, ◌++◌, refl, ap, sym, ◌∙◌, subst, append_assoc, eqb-true, eq-eqb, arith, IsTrue}
+use Rattle.std.proofs.Common.{◌≡◌, ℕ, ◌+◌, ◌<◌, ◌==◌, Bool, true, false, List, [], ◌∷◌, ◌++◌, refl, ap, sym, ◌∙◌, subst, append_assoc, eqb-true, eq-eqb, arith}
 use Rattle.std.specs.Prelude.{⊤, is_some}
 use Rattle.std.specs.List.{All, Contains}
 use Rattle.std.proofs.lemmas.Bool.{eqb-false}
 use Rattle.std.proofs.lemmas.List.{append-nil}
 use Rattle.std.proofs.lemmas.List.Elements.{All-contains, Contains-append_left, Contains-append_right}
-use mathlib.Core.List.{IsPrefix}
-use Rattle.nio_base.specs.declared.limits.Limits.{Limits}
-use Rattle.nio_base.specs.declared.numbers.CallerNo.{CallerNo}
 use Rattle.nio_base.specs.declared.numbers.SelNo.{SelNo}
 use Rattle.nio_event.proofs.Stays.{facts_are_permanent}
 use Rattle.nio_event.specs.Histories.{state_after, mine, event_of, IsLegal}
@@ -16,7 +13,6 @@ use Rattle.nio_event.specs.Questions.{Question, question_of, answer_of}
 use Rattle.nio_event.specs.Sets.{was_claimed, was_removed}
 use Rattle.nio_event.specs.declared.act.Act.{Act}
 use Rattle.nio_event.specs.declared.act.Act.TheVariants.{LookKeys, Remove}
-use Rattle.nio_event.specs.declared.event.Event.{Event}
 use Rattle.nio_event.specs.declared.found.Stage.{Stage}
 use Rattle.nio_steps.proofs.EachLaws.{each_sweep, each_run}
 use Rattle.nio_steps.proofs.GoneLaws.{claimed_removed, removal_stands}
@@ -25,7 +21,7 @@ use Rattle.nio_steps.proofs.LookedLaws.{removal}
 use Rattle.nio_steps.proofs.OwnActs.{mine-own_first, mine-append}
 use Rattle.nio_steps.proofs.Walks.{Always, always_if, always_bind, always_itself, always_sweep, always_run}
 use Rattle.nio_steps.specs.Laws.{ClosedRemovesKeys}
-use Rattle.nio_steps.specs.Plan.{reply, ◌>>=◌}
+use Rattle.nio_steps.specs.Plan.{reply}
 use Rattle.nio_steps.specs.Runs.{Completes}
 use Rattle.nio_steps.specs.SelectCalls.{FinishReply, closed, busy, remove_key, finish_plan}
 use Rattle.nio_steps.specs.Steps.{number_in, holder_in, stage_in}

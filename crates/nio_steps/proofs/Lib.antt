@@ -20,3 +20,8 @@ pub mod GoneLaws
 pub mod ClosedLaws
 pub mod PinBack
 pub mod PinLaws
+mod Visits
+mod BoundActs
+mod BoundEvents
+mod BoundSums
+mod BoundLaws

@@ -1,5 +1,5 @@
 -- Each call gives back the pins that it takes.
-use Rattle.std.proofs.Common.{◌≡◌, ℕ, suc, ◌+◌, ◌*◌, nat_lt, Bool, true, false, not, ◌&&◌, if◌then◌else◌, Option, Some, None, is_some, Result, Ok, Err, List, [], ◌∷◌, ◌++◌, refl, ap, sym, subst, append_assoc}
+use Rattle.std.proofs.Common.{◌≡◌, ℕ, suc, ◌+◌, ◌*◌, nat_lt, Bool, true, false, not, ◌&&◌, if◌then◌else◌, Option, Some, None, Result, Ok, Err, List, [], ◌∷◌, ◌++◌, refl, ap, sym, subst, append_assoc}
 use Rattle.std.proofs.lemmas.List.{append-nil}
 use Rattle.nio_base.specs.Kind.{valid_operations}
 use Rattle.nio_base.specs.declared.kind.Kind.{Kind}
@@ -16,17 +16,17 @@ use Rattle.nio_event.specs.declared.found.Chan.{Chan}
 use Rattle.nio_event.specs.declared.found.Mark.{Mark as KeyMark}
 use Rattle.nio_event.specs.declared.found.Mode.{Mode}
 use Rattle.nio_event.specs.declared.found.Stage.{Stage}
-use Rattle.nio_steps.proofs.PinBack.{NoPins, no_pins, again, OnlyPin, PinsFound, Leaves, leaves_reply, leaves_ask, leaves_after, leaves_bind, leaves_if, leaves_sweep, leaves_over, leaves_seek, leaves_pinned, leaves_under_pin, found-append, found_leaves, leaves_pins, found_seek, claim-none, claim-only, claim_again-none, claim_again-only, leaves-none, no_pins-append, only_pin-append, gives_back}
+use Rattle.nio_steps.proofs.PinBack.{NoPins, no_pins, again, OnlyPin, PinsFound, Leaves, leaves_reply, leaves_ask, leaves_bind, leaves_if, leaves_sweep, leaves_over, leaves_seek, leaves_pinned, leaves_under_pin, found_leaves, leaves_pins, found_seek, claim-none, claim-only, claim_again-none, claim_again-only, leaves-none, no_pins-append, only_pin-append, gives_back}
 use Rattle.nio_steps.proofs.Walks.{Always, always_weaker, always_bind, always_if}
-use Rattle.nio_steps.specs.ChannelCalls.{open_channel_plan, opened, is_open_plan, is_blocking_plan, is_registered_plan, noted_in_set, key_for_plan, under_hold, first_key, set_mode_held, set_blocking_plan, update_key, register_noted, register_unnoted, register_over, claim_taken, claim_free, claim_in_word, search_free, words_below, claim_new, make_key, make_claimed, register_first, register_next, register_new, register_rest, register_held, register_plan, cancel_at, cancel_noted, close_channel_plan}
+use Rattle.nio_steps.specs.ChannelCalls.{open_channel_plan, opened, is_open_plan, is_blocking_plan, is_registered_plan, noted_in_set, key_for_plan, under_hold, set_mode_held, set_blocking_plan, register_noted, register_over, claim_taken, claim_free, claim_in_word, search_free, words_below, claim_new, make_key, make_claimed, register_first, register_next, register_new, register_rest, register_held, register_plan, cancel_at, close_channel_plan}
 use Rattle.nio_steps.specs.KeyCalls.{has_bit, is_within, find_selector_plan, find_channel_plan, find_plan, is_valid_plan, on_valid, if_valid, on_supported, look_set, put_set, add_set, keep_set, look_ready, interest_plan, set_interest_plan, interest_or_plan, interest_and_plan, ready_plan, cancel_plan, cancel_present, unselect_plan, unselect_present, attach_plan, attach_present, attachment_plan, attachment_present}
 use Rattle.nio_steps.specs.PinLaws.{PinsAreGivenBack}
-use Rattle.nio_steps.specs.PipeCalls.{PipeEnds, pipe_plan, with_sink, with_source, if_interrupted, if_open, if_unbroken, try_read_plan, try_write_plan}
+use Rattle.nio_steps.specs.PipeCalls.{pipe_plan, with_sink, with_source, if_interrupted, if_open, if_unbroken, try_read_plan, try_write_plan}
 use Rattle.nio_steps.specs.Names.{key}
-use Rattle.nio_steps.specs.Plan.{Plan, reply, ◌>>=◌, ◌>>◌, when}
-use Rattle.nio_steps.specs.SelectCalls.{Selection, LookedOver, open_selector_plan, begin_plan, begin_below, list_below, look_over, told_plan, mark_entry, mark_told, mark_looked, mark_again, sweep_key, after_marks, leave_plan, shut_plan, finish_plan, keys_plan, list_selected, list_present, selected_keys_plan, wakeup_plan, interrupt_plan, interrupted_plan}
+use Rattle.nio_steps.specs.Plan.{Plan, reply, ◌>>◌, when}
+use Rattle.nio_steps.specs.SelectCalls.{Selection, LookedOver, open_selector_plan, begin_plan, begin_below, look_over, told_plan, mark_entry, mark_again, after_marks, leave_plan, shut_plan, finish_plan, keys_plan, list_selected, list_present, selected_keys_plan, wakeup_plan, interrupt_plan, interrupted_plan}
 use Rattle.nio_steps.specs.Steps.{cancel_key, put_free, flag_in, stage_in, word_in, channel_in, number_in}
-use Rattle.nio_steps.specs.Sweeps.{sweep_to, seek_to}
+use Rattle.nio_steps.specs.Sweeps.{seek_to}
 use Rattle.nio_steps.specs.declared.looked.LookedKey.{LookedKey}
 use Rattle.nio_steps.specs.declared.refusal.ChannelError.{ChannelError}
 use Rattle.nio_steps.specs.declared.refusal.KeyError.{KeyError}

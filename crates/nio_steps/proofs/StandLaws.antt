@@ -1,9 +1,8 @@
 -- What a caller began and hasn't ended stands in the state, whatever others did.
-use Rattle.std.proofs.Common.{◌≡◌, ℕ, Bool, true, false, not, ◌||◌, Ok, List, [], ◌∷◌, ◌++◌, Some, refl, ap, sym, ◌∙◌, subst, append_assoc, eq-eqb, IsTrue}
+use Rattle.std.proofs.Common.{◌≡◌, true, false, not, ◌||◌, [], ◌∷◌, ◌++◌, Some, refl, ap, sym, ◌∙◌, subst, append_assoc, eq-eqb, IsTrue}
 use Rattle.std.specs.Prelude.{⊤}
 use Rattle.std.proofs.lemmas.Bool.{and_from}
 use Rattle.std.proofs.lemmas.List.Folds.{list_any-append}
-use Rattle.nio_base.specs.declared.numbers.CallerNo.{CallerNo}
 use Rattle.nio_base.specs.declared.numbers.SelNo.{SelNo}
 use Rattle.nio_event.proofs.Legal.{legal_next}
 use Rattle.nio_event.proofs.OneMore.{state_after-more}
@@ -18,12 +17,11 @@ use Rattle.nio_event.specs.Questions.{Question, question_of, answer_of}
 use Rattle.nio_event.specs.State.{put}
 use Rattle.nio_event.specs.declared.act.Act.{Act}
 use Rattle.nio_event.specs.declared.act.Act.TheVariants.{BeginLook, ShutBit}
-use Rattle.nio_event.specs.declared.event.Event.{Event}
 use Rattle.nio_steps.proofs.BeginLaws.{none_yet, begin-parts}
 use Rattle.nio_steps.proofs.EachLaws.{each_over, each_run}
 use Rattle.nio_steps.proofs.Either.{neither, by_second}
 use Rattle.nio_steps.proofs.OwnActs.{cut_at, at_own}
-use Rattle.nio_steps.proofs.SelectionAsks.{AsksOver, each_list, each_look}
+use Rattle.nio_steps.proofs.SelectionAsks.{each_list, each_look, goes_any}
 use Rattle.nio_steps.proofs.SelectionLaws.{NoGive, asks_give, no_gives, not-gives}
 use Rattle.nio_steps.proofs.Lists.{all_any}
 use Rattle.nio_steps.specs.Laws.{SelectionsStand, ClosingsStand}
@@ -37,10 +35,6 @@ look-act : (s : SelNo) (act : Act) → question_of act ≡ Question.begin_look s
 look-act s (BeginLook s' found) asks = cc asks
 look-act s _ asks = absurd (cc asks)
 
--- nothing that a selection asks of the indexes gives the turn back
-gives_none : (s : SelNo) → AsksOver (NoGive s.0) s
-gives_none s = record { looks_free = λ _. refl; looks = λ _. refl; looks_interest = λ _. refl; removes = λ _. refl; puts = λ _. refl }
-
 -- who began a selection has begun on its selector, in every legal history
 pub selections_stand : SelectionsStand
 selections_stand l n events selection legal begun =
@@ -50,9 +44,9 @@ selections_stand l n events selection legal begun =
     let before = first.gate ∷ first.take ∷ [] in
     let rest = first.keys ∷ (first.lists ++ first.over) in
     let keeps_lists = no_gives s.0 first.lists (each_run (NoGive s.0) (λ _. ⊤) (list_below s selection.bound) first.lists first.listed
-    (each_list (NoGive s.0) s (gives_none s) selection.bound) first.runs_lists).0 in
+    (each_list (NoGive s.0) s selection.bound (λ _. refl)) first.runs_lists).0 in
     let keeps_over = no_gives s.0 first.over (each_run (NoGive s.0) (λ _. ⊤) (sweep_over first.listed (look_over s) none_yet) first.over _
-    (each_over (NoGive s.0) (λ _. ⊤) (λ _. ⊤) first.listed (look_over s) none_yet (all_any first.listed) tt (λ i over _ _. each_look (NoGive s.0) s (gives_none s) i over)) first.runs_over).0 in
+    (each_over (NoGive s.0) (λ _. ⊤) (λ _. ⊤) first.listed (look_over s) none_yet (all_any first.listed) tt (λ i over _ _. each_look (NoGive s.0) s i (record { looks = refl; looks_interest = refl; removes = refl; puts = refl }) (λ _. ⊤) over (goes_any i over))) first.runs_over).0 in
     let keeps_rest : has (gives_turn s.0) rest ≡ false
     = neither _ _ (not-gives s.0 first.keys (ap (asks_give s.0) first.asks_keys)) (list_any-append (gives_turn s.0) first.lists first.over ∙ neither _ _ keeps_lists keeps_over) in
     let acts : begun.beginning ≡ before ++ BeginLook s found ∷ rest

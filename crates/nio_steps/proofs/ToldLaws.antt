@@ -60,7 +60,7 @@ module _ (selection : Selection) (pairs : List (ℕ × ℕ)) where
         λ gate. (
           tt,
           λ interrupted. each_if Asks (λ _. ⊤) _ (reply (again selection)) (end_selection selection _) (λ _. tt)
-              (λ _. each_end Asks (λ _. ⊤) selection _ (record { looks_free = λ _. tt; looks = λ _. tt; looks_interest = λ _. tt; removes = λ _. tt; puts = λ _. tt }) tt tt tt),
+              (λ _. each_end Asks (λ _. ⊤) selection _ (λ k d _. record { looks = tt; looks_interest = tt; removes = tt; puts = tt }) tt tt tt),
         ),
       ))
 

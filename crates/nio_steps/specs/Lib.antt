@@ -13,4 +13,5 @@ pub mod PipeCalls
 pub mod Selections
 pub mod Laws
 pub mod PinLaws
+pub mod Bound
 pub mod Each

@@ -10,7 +10,7 @@ use Rattle.nio_steps.specs.ChannelCalls.{open_channel_plan, close_channel_plan}
 use Rattle.nio_steps.specs.Plan.{Plan, reply, ◌>>=◌, ◌>>◌}
 use Rattle.nio_steps.specs.Runs.{Completes}
 use Rattle.nio_steps.specs.Steps.{look_channel, look_interrupt}
-use Rattle.nio_steps.specs.Waiting.{Run, Repeats}
+use Rattle.nio_steps.specs.Waiting.{Repeats}
 use Rattle.nio_steps.specs.declared.refusal.ChannelError.{ChannelError}
 use Rattle.nio_steps.specs.declared.refusal.PipeError.{PipeError}
 use Rattle.nio_steps.specs.declared.refusal.PipeError.TheVariants.{ClosedChannel, ClosedByInterrupt, AsynchronousClose, BrokenPipe}

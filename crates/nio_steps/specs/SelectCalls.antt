@@ -21,7 +21,7 @@ use Rattle.nio_steps.specs.Plan.{Plan, reply, ◌>>=◌, ◌>>◌, when}
 use Rattle.nio_steps.specs.Runs.{Completes}
 use Rattle.nio_steps.specs.Steps.{make_selector, wake, look_gate, set_interrupt, take_interrupt, look_interrupt, look_key, look_interest, look_keys, take_turn, begin_look, give_turn, remove, look_mark, mark, end_wake, shut_bit, enter, look_free, put_free}
 use Rattle.nio_steps.specs.Sweeps.{sweep_to, seek_to, sweep_over}
-use Rattle.nio_steps.specs.Waiting.{Then, Run, Tries, Repeats, Retries}
+use Rattle.nio_steps.specs.Waiting.{Then, Tries, Repeats, Retries}
 use Rattle.nio_steps.specs.declared.looked.LookedKey.{LookedKey}
 use Rattle.nio_steps.specs.declared.refusal.BeginError.{BeginError}
 use Rattle.nio_steps.specs.declared.refusal.ListError.{ListError}
@@ -124,14 +124,17 @@ begin_with_turn s mode lacks = do
     bound ← look_keys s
     begin_below s mode bound lacks
 
+-- the gate was found open
+abbrev pub begin_open : SelNo → Mode → Bool → Plan (Result Selection BeginError)
+begin_open s mode lacks = do
+  holder ← take_turn s
+  if is_some holder then reply (Err BeginError.Busy) else begin_with_turn s mode lacks
+
 -- `lacks` says whether there is no memory for the lists
 unfoldable pub begin_plan : SelNo → Mode → Bool → Plan (Result Selection BeginError)
 begin_plan s mode lacks = do
   gate ← look_gate s
-  if gate.shut then reply (Err BeginError.ClosedSelector) else do
-    holder ← take_turn s
-    if is_some holder then reply (Err BeginError.Busy) else
-        begin_with_turn s mode lacks
+  if gate.shut then reply (Err BeginError.ClosedSelector) else begin_open s mode lacks
 
 -- the answer is that there was no memory
 abbrev pub begin_lacks_memory : {A : Type 0} → Result A BeginError → Bool
@@ -266,13 +269,16 @@ remove_key s i = do
   remove s i
   reply tt
 
+abbrev pub remove_keys : SelNo → Plan FinishReply
+remove_keys s = do
+  bound ← look_keys s
+  sweep_to bound 0 (λ i _. remove_key s i) tt
+  reply closed
+
 unfoldable pub finish_plan : SelNo → Plan FinishReply
 finish_plan s = do
   holder ← enter s
-  if is_some holder then reply busy else do
-    bound ← look_keys s
-    sweep_to bound 0 (λ i _. remove_key s i) tt
-    reply closed
+  if is_some holder then reply busy else remove_keys s
 
 -- ---- listing
 
@@ -294,16 +300,23 @@ list_present s i listed stage = if in_key_set stage then (do
 abbrev pub list_selected : SelNo → ℕ → List KeyNo → Plan (List KeyNo)
 list_selected s i listed = under_pin s i (list_present s i listed)
 
--- the keys that were found in the set, in rising order; `lacks` says whether there is no memory for
--- the list
+-- the keys below the bound that were found in the set, in rising order
+abbrev pub list_all : (SelNo → ℕ → List KeyNo → Plan (List KeyNo)) → SelNo → ℕ → Plan (Result (List KeyNo) ListError)
+list_all list_one s bound = do
+  listed ← sweep_to bound 0 (list_one s) []
+  reply (Ok listed)
+
+-- the gate was found open
+abbrev pub list_open : (SelNo → ℕ → List KeyNo → Plan (List KeyNo)) → SelNo → Bool → Plan (Result (List KeyNo) ListError)
+list_open list_one s lacks = do
+  bound ← look_keys s
+  if lacks then reply (Err ListError.Memory) else list_all list_one s bound
+
+-- `lacks` says whether there is no memory for the list
 abbrev pub list_plan : (SelNo → ℕ → List KeyNo → Plan (List KeyNo)) → SelNo → Bool → Plan (Result (List KeyNo) ListError)
 list_plan list_one s lacks = do
   gate ← look_gate s
-  if gate.shut then reply (Err ListError.ClosedSelector) else do
-    bound ← look_keys s
-    if lacks then reply (Err ListError.Memory) else do
-      listed ← sweep_to bound 0 (list_one s) []
-      reply (Ok listed)
+  if gate.shut then reply (Err ListError.ClosedSelector) else list_open list_one s lacks
 
 unfoldable pub keys_plan : SelNo → Bool → Plan (Result (List KeyNo) ListError)
 keys_plan s lacks = list_plan list_key s lacks

@@ -1,6 +1,7 @@
 //! What the plans promise, as the contracts of functions that do nothing.
 ghost use Rattle.nio_steps.specs.Laws.{RunsArePerformed, BeginsSelection, ListsInOrder, LooksAtValidKeys, CancelledKeysGo, MarksOnlyAsTold, AgainGoesOn, CountsSelection, SelectionsStand, ClosingsStand, ClosedRemovesKeys};
 ghost use Rattle.nio_steps.specs.PinLaws.{PinsAreGivenBack};
+ghost use Rattle.nio_steps.specs.Bound.{SelectionIsBounded};
 
 /// A call between whose steps nobody comes answers, and leaves, what its plan says of the state
 /// before it.
@@ -43,4 +44,11 @@ pub fn close_law()
 /// Each call gives back the pins that it takes.
 pub fn given_back_law()
     ensures { PinsAreGivenBack }
+{}
+
+/// A selection makes a bounded number of steps, whatever other callers do meanwhile: at most 8, one for each
+/// 64 indexes below its bound, 6 for each index that it found not free, and one for each time that
+/// anybody cancels or unselects a key.
+pub fn bound_law()
+    ensures { SelectionIsBounded }
 {}

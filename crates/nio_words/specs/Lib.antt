@@ -14,3 +14,4 @@ pub mod Drawing
 pub mod Whole
 pub mod Laws
 pub mod Following
+pub mod Views
