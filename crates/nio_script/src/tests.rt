@@ -4,6 +4,7 @@ ghost use Rattle.nio_bytes.specs.Cause.{Rose};
 ghost use Rattle.nio_event.specs.Script.{IsScript};
 ghost use Rattle.nio_event.specs.declared.call.ScriptCall.{ScriptCall};
 ghost use Rattle.nio_plain.specs.ScriptState.{script_opening};
+ghost use Rattle.nio_plain.specs.declared.rules.Rules.TheVariants.{Now};
 
 use crate::*;
 use nio_base::{CallerNo, Limits};
@@ -140,7 +141,7 @@ struct Deaf;
 impl System for Deaf {
     ghost limits = { λ _. record { callers = 0; selectors = 0; channels = 0; keys = 0 } };
 
-    ghost rules = { λ _. Rules.Now };
+    ghost rules = { λ _. Now };
 
     ghost state = { λ _. script_opening };
 
