@@ -9,7 +9,7 @@ use Rattle.nio_event.specs.declared.found.Mode.{Mode}
 use Rattle.nio_steps.proofs.Walks.{Always, always_if, always_bind, always_itself, always_run}
 use Rattle.nio_steps.specs.Plan.{reply}
 use Rattle.nio_steps.specs.Runs.{Completes}
-use Rattle.nio_steps.specs.SelectCalls.{Selection, LookedOver, Begins, begin_plan, begin_with_turn, begin_below, given_back, list_below, look_over}
+use Rattle.nio_steps.specs.SelectCalls.{Selection, LookedOver, Begins, try_begin_plan, begin_with_turn, begin_below, given_back, list_below, look_over}
 use Rattle.nio_steps.specs.Steps.{gate_in, number_in, holder_in}
 use Rattle.nio_steps.specs.Sweeps.{sweep_over}
 use Rattle.nio_steps.specs.declared.refusal.BeginError.{BeginError}
@@ -72,12 +72,12 @@ module _ (s : SelNo) (mode : Mode) where
         mode_is = refl;
       }))
 
-  begin-begun : Always IsBegunBy (begin_plan s mode false)
-  unfolding begin_plan
+  begin-begun : Always IsBegunBy (try_begin_plan s mode false)
+  unfolding try_begin_plan
   begin-begun = λ gate asks_gate. always_if _ (gate_in (answer_of gate)).shut (reply (Err BeginError.ClosedSelector)) _ (λ _. tt)
       (λ _ take asks_take. always_if _ (is_some (holder_in (answer_of take))) (reply (Err BeginError.Busy)) (begin_with_turn s mode false) (λ _. tt)
       (λ _ look asks_look. always_if _ (gate_in (answer_of look)).shut (given_back s (Err BeginError.ClosedSelector)) _ (λ _ give _. tt)
       (λ opens keys asks_keys. below-begun gate take look keys asks_gate asks_take asks_look opens asks_keys)))
 
 pub begin-parts : (s : SelNo) (mode : Mode) (acts : List Act) (selection : Selection) → Begins s mode acts (Ok selection) → Begun s mode acts selection
-begin-parts s mode acts selection run = always_run (IsBegunBy s mode) (begin_plan s mode false) acts (Ok selection) (begin-begun s mode) run
+begin-parts s mode acts selection run = always_run (IsBegunBy s mode) (try_begin_plan s mode false) acts (Ok selection) (begin-begun s mode) run

@@ -25,7 +25,7 @@ use Rattle.nio_steps.specs.PinLaws.{PinsAreGivenBack}
 use Rattle.nio_steps.specs.PipeCalls.{pipe_plan, without_sink, with_sink, with_source, if_interrupted, if_open, if_unbroken, try_read_plan, try_write_plan}
 use Rattle.nio_steps.specs.Names.{key}
 use Rattle.nio_steps.specs.Plan.{Plan, reply, ◌>>◌, when}
-use Rattle.nio_steps.specs.SelectCalls.{Selection, LookedOver, open_selector_plan, begin_plan, begin_below, look_over, told_plan, mark_entry, mark_again, after_marks, leave_plan, shut_plan, finish_plan, keys_plan, list_selected, list_present, selected_keys_plan, wakeup_plan, interrupt_plan, interrupted_plan}
+use Rattle.nio_steps.specs.SelectCalls.{Selection, LookedOver, open_selector_plan, try_begin_plan, begin_below, look_over, told_plan, mark_entry, mark_again, after_marks, leave_plan, shut_plan, try_finish_plan, keys_plan, list_selected, list_present, selected_keys_plan, wakeup_plan, interrupt_plan, interrupted_plan}
 use Rattle.nio_steps.specs.Steps.{cancel_key, put_free, flag_in, stage_in, word_in, channel_in, number_in}
 use Rattle.nio_steps.specs.Sweeps.{seek_to}
 use Rattle.nio_steps.specs.declared.looked.LookedKey.{LookedKey}
@@ -245,8 +245,8 @@ look_over-leaves s i found = search still depth 16
 below-leaves : (s : SelNo) (mode : Mode) (bound : ℕ) (lacks : Bool) → Leaves (begin_below s mode bound lacks)
 below-leaves s mode bound lacks = search (still, look_over-leaves) depth 12
 
-begin-leaves : (s : SelNo) (mode : Mode) (lacks : Bool) → Leaves (begin_plan s mode lacks)
-unfolding begin_plan
+begin-leaves : (s : SelNo) (mode : Mode) (lacks : Bool) → Leaves (try_begin_plan s mode lacks)
+unfolding try_begin_plan
 begin-leaves s mode lacks = search (still, below-leaves) depth 16
 
 again-leaves : (s : SelNo) (i told : ℕ) (found : Result (Unit {0}) KeyMark) → Leaves (mark_again s i told found)
@@ -271,8 +271,8 @@ shut-leaves : (s : SelNo) → Leaves (shut_plan s)
 unfolding shut_plan
 shut-leaves s = search still
 
-finish-leaves : (s : SelNo) → Leaves (finish_plan s)
-unfolding finish_plan
+finish-leaves : (s : SelNo) → Leaves (try_finish_plan s)
+unfolding try_finish_plan
 finish-leaves s = search still depth 12
 
 keys-leaves : (s : SelNo) (lacks : Bool) → Leaves (keys_plan s lacks)
@@ -378,11 +378,11 @@ pins_are_given_back = record {
   try_register = λ l s c ops att. gives_back (register_plan l s c ops att) (register-leaves l s c ops att);
   close_channel = λ l c. gives_back (close_channel_plan l c) (close_channel-leaves l c);
   open_selector = λ l. gives_back (open_selector_plan l) (open_selector-leaves l);
-  try_begin = λ s mode lacks. gives_back (begin_plan s mode lacks) (begin-leaves s mode lacks);
+  try_begin = λ s mode lacks. gives_back (try_begin_plan s mode lacks) (begin-leaves s mode lacks);
   told = λ selection pairs elapsed. gives_back (told_plan selection pairs elapsed) (told-leaves selection pairs elapsed);
   leave = λ selection. gives_back (leave_plan selection) (leave-leaves selection);
   shut = λ s. gives_back (shut_plan s) (shut-leaves s);
-  try_finish = λ s. gives_back (finish_plan s) (finish-leaves s);
+  try_finish = λ s. gives_back (try_finish_plan s) (finish-leaves s);
   keys = λ s lacks. gives_back (keys_plan s lacks) (keys-leaves s lacks);
   selected_keys = λ s lacks. gives_back (selected_keys_plan s lacks) (selected_keys-leaves s lacks);
   wakeup = λ s. gives_back (wakeup_plan s) (wakeup-leaves s);
@@ -394,10 +394,10 @@ pins_are_given_back = record {
   set_blocking = λ l c on. retries-give (gives_back (set_blocking_plan l c on) (set_blocking-leaves l c on));
   register = λ l s c ops att. retries-give (gives_back (register_plan l s c ops att) (register-leaves l s c ops att));
   select = λ s mode polls. selects-give s mode polls
-      (λ acts answer. gives_back (begin_plan s mode _) (begin-leaves s mode _) acts answer)
+      (λ acts answer. gives_back (try_begin_plan s mode _) (begin-leaves s mode _) acts answer)
       (λ selection poll. gives_back (told_plan selection poll.pairs poll.elapsed) (told-leaves selection poll.pairs poll.elapsed))
       (λ selection. gives_back (leave_plan selection) (leave-leaves selection));
-  close = λ s. closes-give s (gives_back (shut_plan s) (shut-leaves s)) (gives_back (finish_plan s) (finish-leaves s));
+  close = λ s. closes-give s (gives_back (shut_plan s) (shut-leaves s)) (gives_back (try_finish_plan s) (finish-leaves s));
   read = λ l source none. waits-give none (gives_back (try_read_plan l source) (try_read-leaves l source));
   write = λ l source sink none. waits-give none (gives_back (try_write_plan l source sink) (try_write-leaves l source sink));
 }

@@ -10,7 +10,7 @@ use Rattle.nio_steps.specs.PinLaws.{GivesPinsBack}
 use Rattle.nio_steps.specs.PipeCalls.{Waits}
 use Rattle.nio_steps.specs.Plan.{Plan}
 use Rattle.nio_steps.specs.Runs.{Completes}
-use Rattle.nio_steps.specs.SelectCalls.{Selection, Begins, Poll, Tells, SelectsRest, Selects, selected, not_begun, left, leave_plan, finish_plan, shut_plan, ShutReply, closing, already_closed, ClosesRest, Closes}
+use Rattle.nio_steps.specs.SelectCalls.{Selection, Begins, Poll, Tells, SelectsRest, Selects, selected, not_begun, left, leave_plan, try_finish_plan, shut_plan, ShutReply, closing, already_closed, ClosesRest, Closes}
 use Rattle.nio_steps.specs.Waiting.{Then, Run, acts_of, Tries, Repeats, Retries}
 use Rattle.nio_steps.specs.declared.refusal.BeginError.{BeginError}
 
@@ -58,7 +58,7 @@ selects-give s mode polls begins tells leaves = then-give (retries-give begins) 
 
 -- ---- closing a selector
 
-pub closes-give : (s : SelNo) → GivesPinsBack (Completes (shut_plan s)) → GivesPinsBack (Completes (finish_plan s)) → GivesPinsBack (Closes s)
+pub closes-give : (s : SelNo) → GivesPinsBack (Completes (shut_plan s)) → GivesPinsBack (Completes (try_finish_plan s)) → GivesPinsBack (Closes s)
 closes-give s shuts finishes = then-give shuts by_reply
   where
     by_reply : (reply : ShutReply) → GivesPinsBack (ClosesRest s reply)

@@ -18,7 +18,7 @@ use Rattle.nio_event.specs.declared.found.Stage.{Stage}
 use Rattle.nio_steps.specs.Perform.{perform}
 use Rattle.nio_steps.specs.Plan.{Plan}
 use Rattle.nio_steps.specs.Runs.{Completes}
-use Rattle.nio_steps.specs.SelectCalls.{Selection, Begins, Poll, Tells, ToldReply, done, again, told_bits, closed, finish_plan}
+use Rattle.nio_steps.specs.SelectCalls.{Selection, Begins, Poll, Tells, ToldReply, done, again, told_bits, closed, try_finish_plan}
 use Rattle.nio_steps.specs.Selections.{marks_on, IsBegun, IsClosing}
 use Rattle.nio_steps.specs.declared.looked.LookedKey.{LookedKey}
 use Rattle.nio_steps.specs.declared.selected.Selected.{Selected}
@@ -147,6 +147,6 @@ abbrev pub ClosedRemovesKeys : Type 0
 ClosedRemovesKeys =
     (l : Limits) (n : CallerNo) (before looked later : List Event) (s : SelNo) (mark i serial : ℕ)
     → let call = looked ++ event_of n (LookKeys s mark) ∷ later in
-    IsLegal l (before ++ call) → Completes (finish_plan s) (mine n call) closed
+    IsLegal l (before ++ call) → Completes (try_finish_plan s) (mine n call) closed
     → IsTrue (was_claimed ((state_after (before ++ looked)).key s.0 i) serial) → i < mark
     → IsTrue (was_removed ((state_after (before ++ call)).key s.0 i) serial)

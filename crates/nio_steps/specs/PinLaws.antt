@@ -14,7 +14,7 @@ use Rattle.nio_steps.specs.ChannelCalls.{open_channel_plan, is_open_plan, is_blo
 use Rattle.nio_steps.specs.KeyCalls.{find_selector_plan, find_channel_plan, find_plan, is_valid_plan, interest_plan, set_interest_plan, interest_or_plan, interest_and_plan, ready_plan, cancel_plan, unselect_plan, attach_plan, attachment_plan}
 use Rattle.nio_steps.specs.PipeCalls.{pipe_plan, try_read_plan, try_write_plan, Reads, Writes}
 use Rattle.nio_steps.specs.Runs.{Completes}
-use Rattle.nio_steps.specs.SelectCalls.{Selection, open_selector_plan, begin_plan, told_plan, leave_plan, shut_plan, finish_plan, keys_plan, selected_keys_plan, wakeup_plan, interrupt_plan, interrupted_plan, Poll, Selects, Closes}
+use Rattle.nio_steps.specs.SelectCalls.{Selection, open_selector_plan, try_begin_plan, told_plan, leave_plan, shut_plan, try_finish_plan, keys_plan, selected_keys_plan, wakeup_plan, interrupt_plan, interrupted_plan, Poll, Selects, Closes}
 
 -- after a call of this shape the caller keeps no pin that it took in the call
 abbrev pub GivesPinsBack : {R : Type 0} → (List Act → R → Type 0) → Type 0
@@ -43,11 +43,11 @@ pub record PinsAreGivenBack : Type 0 where
   pub try_register : (l : Limits) (s : SelNo) (c : ChanNo) (ops att : ℕ) → GivesPinsBack (Completes (register_plan l s c ops att))
   pub close_channel : (l : Limits) (c : ChanNo) → GivesPinsBack (Completes (close_channel_plan l c))
   pub open_selector : (l : Limits) → GivesPinsBack (Completes (open_selector_plan l))
-  pub try_begin : (s : SelNo) (mode : Mode) (lacks : Bool) → GivesPinsBack (Completes (begin_plan s mode lacks))
+  pub try_begin : (s : SelNo) (mode : Mode) (lacks : Bool) → GivesPinsBack (Completes (try_begin_plan s mode lacks))
   pub told : (selection : Selection) (pairs : List (ℕ × ℕ)) (elapsed : Bool) → GivesPinsBack (Completes (told_plan selection pairs elapsed))
   pub leave : (selection : Selection) → GivesPinsBack (Completes (leave_plan selection))
   pub shut : (s : SelNo) → GivesPinsBack (Completes (shut_plan s))
-  pub try_finish : (s : SelNo) → GivesPinsBack (Completes (finish_plan s))
+  pub try_finish : (s : SelNo) → GivesPinsBack (Completes (try_finish_plan s))
   pub keys : (s : SelNo) (lacks : Bool) → GivesPinsBack (Completes (keys_plan s lacks))
   pub selected_keys : (s : SelNo) (lacks : Bool) → GivesPinsBack (Completes (selected_keys_plan s lacks))
   pub wakeup : (s : SelNo) → GivesPinsBack (Completes (wakeup_plan s))

@@ -132,8 +132,8 @@ begin_open s mode lacks = do
   if is_some holder then reply (Err BeginError.Busy) else begin_with_turn s mode lacks
 
 -- `lacks` says whether there is no memory for the lists
-unfoldable pub begin_plan : SelNo → Mode → Bool → Plan (Result Selection BeginError)
-begin_plan s mode lacks = do
+unfoldable pub try_begin_plan : SelNo → Mode → Bool → Plan (Result Selection BeginError)
+try_begin_plan s mode lacks = do
   gate ← look_gate s
   if gate.shut then reply (Err BeginError.ClosedSelector) else begin_open s mode lacks
 
@@ -146,7 +146,7 @@ begin_lacks_memory (Err BeginError.Memory) = true
 
 -- the call with this answer
 abbrev pub Begins : SelNo → Mode → List Act → Result Selection BeginError → Type 0
-Begins s mode acts answer = Completes (begin_plan s mode (begin_lacks_memory answer)) acts answer
+Begins s mode acts answer = Completes (try_begin_plan s mode (begin_lacks_memory answer)) acts answer
 
 -- ---- telling
 
@@ -276,8 +276,8 @@ remove_keys s = do
   sweep_to bound 0 (λ i _. remove_key s i) tt
   reply closed
 
-unfoldable pub finish_plan : SelNo → Plan FinishReply
-finish_plan s = do
+unfoldable pub try_finish_plan : SelNo → Plan FinishReply
+try_finish_plan s = do
   holder ← enter s
   if is_some holder then reply busy else remove_keys s
 
@@ -418,7 +418,7 @@ finish_finds_busy busy = true
 
 -- a closing that this call began is finished once nobody selects
 abbrev pub ClosesRest : SelNo → ShutReply → List Act → Bool → Type 0
-ClosesRest s closing acts answer = (answer ≡ true) × Retries (Completes (finish_plan s)) finish_finds_busy acts closed
+ClosesRest s closing acts answer = (answer ≡ true) × Retries (Completes (try_finish_plan s)) finish_finds_busy acts closed
 ClosesRest s already_closed acts answer = (answer ≡ false) × (acts ≡ [])
 
 -- closing a selector: whether this call shut it
