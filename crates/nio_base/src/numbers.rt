@@ -1,6 +1,7 @@
 //! The numbers that name callers, selectors, channels, keys and operations, and a socket's address.
 
-/// A caller: one thread of the program, or one line of thought of a script.
+/// A caller: who makes calls. A thread acts for one or more callers; each line of a script names
+/// one.
 #[derive(Clone, Copy, Debug, PartialEq, Eq, Hash, PartialOrd, Ord)]
 pub struct CallerNo(pub u32);
 
@@ -12,7 +13,7 @@ pub struct SelNo(pub u32);
 #[derive(Clone, Copy, Debug, PartialEq, Eq, Hash, PartialOrd, Ord)]
 pub struct ChanNo(pub u32);
 
-/// A key of a selector that is known: its index there, and its serial. The index of a removed key can be
+/// A key within its selector: its index there, and its serial. The index of a removed key can be
 /// given to a new key, whose serial is then one higher; an index's first key has serial 0.
 #[derive(Clone, Copy, Debug, PartialEq, Eq, Hash, PartialOrd, Ord)]
 pub struct KeyId {

@@ -4,5 +4,5 @@ use thiserror::Error;
 /// A read, a write or a flush failed, and the count of faults of its source or sink rose. It has no
 /// other contents.
 #[derive(Clone, Copy, Debug, PartialEq, Eq, Error)]
-#[error("Failed")]
+#[error("reading or writing failed")]
 pub struct Failed;

@@ -10,7 +10,7 @@ use crate::sink::Sink;
 use std::alloc::{AllocError, Global};
 use std::marker::Model;
 
-/// Takes bytes in pieces while there is room, and fails at the calls that it is told to.
+/// Takes bytes in pieces while there is room. The calls with given numbers fail.
 #[derive(Drop)]
 pub struct MemorySink {
     bytes: Vec<u8>,

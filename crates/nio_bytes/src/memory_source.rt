@@ -9,7 +9,7 @@ use crate::source::Source;
 use crate::steady_source::SteadySource;
 use std::marker::Model;
 
-/// Gives bytes in pieces, and fails at the reads that it is told to.
+/// Gives bytes in pieces. The reads with given numbers fail.
 #[derive(Drop)]
 pub struct MemorySource {
     bytes: SteadySource,

@@ -8,10 +8,10 @@ use crate::failed::Failed;
 
 /// Where bytes go, in order and each once.
 pub trait Sink {
-    /// The bytes taken so far, where the sink tells them.
+    /// The bytes taken so far, where contracts know them: those of a sink in memory.
     ghost taken: { Self → Option (List ℕ) };
 
-    /// Whether a flush has succeeded since the last write, where the sink tells that.
+    /// Whether a flush has succeeded since the last write, where contracts know that.
     ghost flushed: { Self → Option Bool };
 
     /// How often a write or a flush has failed.

@@ -7,7 +7,7 @@ use crate::failed::Failed;
 
 /// Where bytes come from, in order and each once.
 pub trait Source {
-    /// The bytes still to come, where the source tells them.
+    /// The bytes still to come, where contracts know them: those of a source in memory.
     ghost left: { Self → Option (List ℕ) };
 
     /// How often a read has failed.

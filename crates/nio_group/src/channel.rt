@@ -3,7 +3,7 @@ ghost use Rattle.std.specs.Prelude.{◌≡◌};
 
 use nio_base::GKind;
 
-/// How far a stream has come.
+/// How far a stream's connection has come.
 #[derive(Clone, Copy, Debug, PartialEq, Eq, Hash)]
 pub enum Link {
     Unconnected,

@@ -38,7 +38,7 @@ impl Pending {
         }
     }
 
-    /// The same with this number, or none, for an operation of this kind.
+    /// The same, but for the pending operation of this kind, whose number is now this one, or none.
     pub(crate) fn with(mut self, kind: OpKind, number: Option<u64>) -> Pending
         ensures { result ≡ with_slot self kind number }
     {

@@ -5,46 +5,46 @@ use thiserror::Error;
 #[derive(Clone, Copy, Debug, PartialEq, Eq, Error)]
 pub enum StartError {
     /// The group has been shut down, or has terminated.
-    #[error("ShutdownGroup")]
+    #[error("the group has been shut down")]
     ShutdownGroup,
     /// The channel's kind doesn't have this call.
-    #[error("WrongKind")]
+    #[error("a channel of this kind doesn't have this call")]
     WrongKind,
     /// The channel is closed.
-    #[error("ClosedChannel")]
+    #[error("the channel is closed")]
     ClosedChannel,
     /// The listener is bound.
-    #[error("AlreadyBound")]
+    #[error("the listener is bound already")]
     AlreadyBound,
     /// The stream is connected.
-    #[error("AlreadyConnected")]
+    #[error("the stream is connected already")]
     AlreadyConnected,
     /// The stream is connecting.
-    #[error("ConnectionPending")]
+    #[error("the stream is connecting")]
     ConnectionPending,
     /// The stream isn't connected.
-    #[error("NotYetConnected")]
+    #[error("the stream isn't connected yet")]
     NotYetConnected,
     /// The listener isn't bound.
-    #[error("NotYetBound")]
+    #[error("the listener isn't bound yet")]
     NotYetBound,
     /// A read of the channel is pending.
-    #[error("ReadPending")]
+    #[error("a read of the channel is pending")]
     ReadPending,
     /// A write of the channel is pending.
-    #[error("WritePending")]
+    #[error("a write of the channel is pending")]
     WritePending,
     /// An accept of the channel is pending.
-    #[error("AcceptPending")]
+    #[error("an accept of the channel is pending")]
     AcceptPending,
     /// The group has accepted as many operations as it may.
-    #[error("OpsSpent")]
+    #[error("the group has accepted as many operations as it may")]
     OpsSpent,
     /// As many operations are in flight as may be.
-    #[error("FlightFull")]
+    #[error("as many operations are in flight as may be")]
     FlightFull,
     /// The group has made as many channels as it may.
-    #[error("ChannelsSpent")]
+    #[error("the group has made as many channels as it may")]
     ChannelsSpent,
 }
 
@@ -52,14 +52,14 @@ pub enum StartError {
 #[derive(Clone, Copy, Debug, PartialEq, Eq, Error)]
 pub enum ReportError {
     /// The operation isn't pending.
-    #[error("NotPending")]
+    #[error("the operation isn't pending")]
     NotPending,
     /// An operation of this kind and length has no such outcome.
-    #[error("WrongOutcome")]
+    #[error("the operation has no such outcome")]
     WrongOutcome,
 }
 
 /// The operation's handler isn't running.
 #[derive(Clone, Copy, Debug, PartialEq, Eq, Error)]
-#[error("NotRunning")]
+#[error("the operation's handler isn't running")]
 pub struct NotRunning;

@@ -105,7 +105,7 @@ impl Direction {
         if first.is_empty() { second } else { first }
     }
 
-    /// These bytes were read from the one end.
+    /// To be called once these bytes were read from the one end.
     pub fn on_read(&mut self, bytes: &[u8])
         requires { MayTake self.old bytes.now }
         ensures { self.new ≡ takes self.old bytes.now }
@@ -114,7 +114,8 @@ impl Direction {
         self.taken.extend(bytes);
     }
 
-    /// The first `n` of the held bytes were written to the other end, as many of `front` as it took.
+    /// To be called once the first `n` of the held bytes were written to the other end: as many bytes
+    /// of `front` as it took.
     pub fn on_written(&mut self, n: usize)
         requires { n ≤ length (held self.old) }
         ensures { self.new ≡ writes self.old n }
@@ -122,14 +123,14 @@ impl Direction {
         self.buffer.truncate_front(self.buffer.len() - n);
     }
 
-    /// The one end's input has ended. What is held is still to be written.
+    /// To be called once the one end's input has ended. What is held is still to be written.
     pub fn on_end(&mut self)
         ensures { self.new ≡ ends self.old }
     {
         self.ended = true;
     }
 
-    /// The other end's output was shut.
+    /// To be called once the other end's output was shut.
     pub fn on_shut(&mut self)
         requires { WantsShut self.old }
         ensures { self.new ≡ shuts self.old }
@@ -137,7 +138,7 @@ impl Direction {
         self.shut = true;
     }
 
-    /// One of the two ends has failed.
+    /// To be called once one of the two ends has failed.
     pub fn on_fault(&mut self)
         ensures { self.new ≡ fails self.old }
     {

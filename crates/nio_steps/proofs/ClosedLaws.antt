@@ -1,13 +1,10 @@
 -- A finished closing removed each key below the mark that it found, where the key was claimed before.
-use Rattle.std.proofs.Common.{◌≡◌, ℕ, ◌+◌, ◌<◌, ◌==◌, Bool, true, false, if◌then◌else◌, List, [], ◌∷◌, ◌++◌, refl, ap, sym, ◌∙◌, subst, append_assoc, eqb-true, eq-eqb, arith, IsTrue}
+use Rattle.std.proofs.Common.{◌≡◌, ℕ, ◌+◌, ◌<◌, ◌==◌, Bool, true, false, List, [], ◌∷◌, ◌++◌, refl, ap, sym, ◌∙◌, subst, append_assoc, eqb-true, eq-eqb, arith}
 use Rattle.std.specs.Prelude.{⊤, is_some}
 use Rattle.std.specs.List.{All, Contains}
 use Rattle.std.proofs.lemmas.Bool.{eqb-false}
 use Rattle.std.proofs.lemmas.List.{append-nil}
 use Rattle.std.proofs.lemmas.List.Elements.{All-contains, Contains-append_left, Contains-append_right}
-use mathlib.Core.List.{IsPrefix}
-use Rattle.nio_base.specs.declared.limits.Limits.{Limits}
-use Rattle.nio_base.specs.declared.numbers.CallerNo.{CallerNo}
 use Rattle.nio_base.specs.declared.numbers.SelNo.{SelNo}
 use Rattle.nio_event.proofs.Stays.{facts_are_permanent}
 use Rattle.nio_event.specs.Histories.{state_after, mine, event_of, IsLegal}
@@ -16,7 +13,6 @@ use Rattle.nio_event.specs.Questions.{Question, question_of, answer_of}
 use Rattle.nio_event.specs.Sets.{was_claimed, was_removed}
 use Rattle.nio_event.specs.declared.act.Act.{Act}
 use Rattle.nio_event.specs.declared.act.Act.TheVariants.{LookKeys, Remove}
-use Rattle.nio_event.specs.declared.event.Event.{Event}
 use Rattle.nio_event.specs.declared.found.Stage.{Stage}
 use Rattle.nio_steps.proofs.EachLaws.{each_sweep, each_run}
 use Rattle.nio_steps.proofs.GoneLaws.{claimed_removed, removal_stands}
@@ -25,9 +21,9 @@ use Rattle.nio_steps.proofs.LookedLaws.{removal}
 use Rattle.nio_steps.proofs.OwnActs.{mine-own_first, mine-append}
 use Rattle.nio_steps.proofs.Walks.{Always, always_if, always_bind, always_itself, always_sweep, always_run}
 use Rattle.nio_steps.specs.Laws.{ClosedRemovesKeys}
-use Rattle.nio_steps.specs.Plan.{reply, ◌>>=◌}
+use Rattle.nio_steps.specs.Plan.{reply}
 use Rattle.nio_steps.specs.Runs.{Completes}
-use Rattle.nio_steps.specs.SelectCalls.{FinishReply, closed, busy, remove_key, finish_plan}
+use Rattle.nio_steps.specs.SelectCalls.{FinishReply, closed, busy, remove_key, try_finish_plan}
 use Rattle.nio_steps.specs.Steps.{number_in, holder_in, stage_in}
 use Rattle.nio_steps.specs.Sweeps.{sweep_to}
 
@@ -48,8 +44,8 @@ module _ (s : SelNo) where
   IsFinishedBy acts closed = Finished acts
   IsFinishedBy acts busy = ⊤
 
-  finish-finished : Always IsFinishedBy (finish_plan s)
-  unfolding finish_plan
+  finish-finished : Always IsFinishedBy (try_finish_plan s)
+  unfolding try_finish_plan
   finish-finished = λ enters asks. always_if (λ xs r. IsFinishedBy (enters ∷ xs) r) (is_some (holder_in (answer_of enters))) (reply busy) _ (λ _. tt)
       (λ _ look asks'. always_bind (Completes (sweep_to (number_in (answer_of look)) 0 (λ i _. remove_key s i) tt)) (λ xs r. IsFinishedBy (enters ∷ look ∷ xs) r)
       (sweep_to (number_in (answer_of look)) 0 (λ i _. remove_key s i) tt) (λ _. reply closed)
@@ -105,7 +101,7 @@ pub closed_removes_keys : ClosedRemovesKeys
 closed_removes_keys l n before looked later s mark i serial legal run claimed below =
     let e = event_of n (LookKeys s mark) in
     let call = looked ++ e ∷ later in
-    let finished = always_run (IsFinishedBy s) (finish_plan s) (mine n call) closed (finish-finished s) run in
+    let finished = always_run (IsFinishedBy s) (try_finish_plan s) (mine n call) closed (finish-finished s) run in
     let bound = number_in (answer_of finished.look) in
     let sweep = sweep_to bound 0 (λ k _. remove_key s k) tt in
     let none_later = (each_run (λ q. asks_keys q ≡ false) (λ _. ⊤) sweep finished.rest tt

@@ -1,15 +1,15 @@
 -- What holds of each question and each reply of a plan holds of what follows it.
-use Rattle.std.proofs.Common.{◌≡◌, ℕ, zero, suc, ◌+◌, ◌-◌, ◌<◌, ◌≤◌, Bool, true, false, if◌then◌else◌, Option, Some, None, List, [], ◌∷◌, ◌++◌, refl, ap, sym, ◌∙◌, subst, append_assoc, add-zero, arith}
+use Rattle.std.proofs.Common.{◌≡◌, ℕ, zero, suc, ◌+◌, ◌-◌, ◌<◌, ◌≤◌, Bool, true, false, if◌then◌else◌, List, [], ◌∷◌, ◌++◌, refl, ap, sym, ◌∙◌, subst, append_assoc, add-zero, arith}
 use Rattle.std.specs.Prelude.{⊤}
 use Rattle.std.specs.List.{All}
 use Rattle.std.proofs.lemmas.List.{append-nil}
 use Rattle.std.proofs.lemmas.List.Elements.{All-nil, All-cons, All-head, All-tail}
 use Rattle.nio_event.specs.Questions.{Question, question_of, answer_of}
 use Rattle.nio_event.specs.declared.act.Act.{Act}
-use Rattle.nio_steps.specs.Each.{Each}
+use Rattle.nio_steps.proofs.Each.{Each}
 use Rattle.nio_steps.specs.Plan.{Plan, reply, ask, ◌>>=◌, when}
 use Rattle.nio_steps.specs.Runs.{Follows, Completes}
-use Rattle.nio_steps.specs.Sweeps.{sweep, sweep_to, found_or, seek, seek_to, sweep_over}
+use Rattle.nio_steps.specs.Sweeps.{sweep, sweep_to, sweep_over}
 use Rattle.nio_steps.specs.Waiting.{Then}
 
 -- ---- of plans after one another
@@ -27,16 +27,6 @@ each_if Asks Replies false x y this that = that refl
 pub each_when : {A : Type 0} (Asks : Question → Type 0) (test : Bool) (plan : Plan A) → Each Asks (λ _. ⊤) plan → Each Asks (λ _. ⊤) (when test plan)
 each_when Asks true plan here = each_bind Asks (λ _. ⊤) (λ _. ⊤) plan (λ _. reply tt) here (λ _ _. tt)
 each_when Asks false plan here = tt
-
--- where nothing is asked of them
-pub each_any : {R : Type 0} (plan : Plan R) → Each (λ _. ⊤) (λ _. ⊤) plan
-each_any (reply r) = tt
-each_any (ask q next) = (tt, λ answer. each_any (next answer))
-
-pub each_weaker : {R : Type 0} (Asks Asks' : Question → Type 0) (Replies Replies' : R → Type 0) (plan : Plan R)
-    → ((q : Question) → Asks q → Asks' q) → ((r : R) → Replies r → Replies' r) → Each Asks Replies plan → Each Asks' Replies' plan
-each_weaker Asks Asks' Replies Replies' (reply r) asks replies here = replies r here
-each_weaker Asks Asks' Replies Replies' (ask q next) asks replies here = (asks q here.0, λ answer. each_weaker Asks Asks' Replies Replies' (next answer) asks replies (here.1 answer))
 
 -- ---- of sweeps
 
@@ -60,22 +50,6 @@ each_sweep_at Asks Left b i f x within here each =
 pub each_sweep : {A : Type 0} (Asks : Question → Type 0) (Left : A → Type 0) (b i : ℕ) (f : ℕ → A → Plan A) (x : A)
     → Left x → ((k : ℕ) (y : A) → i ≤ k → k < b → Left y → Each Asks Left (f k y)) → Each Asks Left (sweep_to b i f x)
 each_sweep Asks Left b i f x here each = by_count Asks (λ _. Left) (b - i) i f x here (λ k y low high. each k y low (omega arith))
-
-by_count_to_first : {A : Type 0} (Asks : Question → Type 0) (Found : Option A → Type 0) (n i : ℕ) (f : ℕ → Plan (Option A))
-    → Found None → ((k : ℕ) → i ≤ k → k < i + n → Each Asks Found (f k)) → Each Asks Found (seek n i f)
-unfolding seek
-by_count_to_first Asks Found zero i f none_at each = none_at
-by_count_to_first Asks Found (suc n) i f none_at each =
-    each_bind Asks Found Found (f i) (found_or (seek n (i + 1) f)) (each i (omega arith) (omega arith))
-    (by_found (by_count_to_first Asks Found n (i + 1) f none_at (λ k low high. each k (omega arith) (omega arith))))
-  where
-    by_found : Each Asks Found (seek n (i + 1) f) → (here : Option _) → Found here → Each Asks Found (found_or (seek n (i + 1) f) here)
-    by_found later (Some x) found = found
-    by_found later None found = later
-
-pub each_seek : {A : Type 0} (Asks : Question → Type 0) (Found : Option A → Type 0) (b i : ℕ) (f : ℕ → Plan (Option A))
-    → Found None → ((k : ℕ) → i ≤ k → k < b → Each Asks Found (f k)) → Each Asks Found (seek_to b i f)
-each_seek Asks Found b i f none_at each = by_count_to_first Asks Found (b - i) i f none_at (λ k low high. each k low (omega arith))
 
 -- at each element of a list that passes `Fits`
 pub each_over : {X A : Type 0} (Asks : Question → Type 0) (Fits : X → Type 0) (Left : A → Type 0) (xs : List X) (f : X → A → Plan A) (x : A)

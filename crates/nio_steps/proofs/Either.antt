@@ -1,5 +1,5 @@
 -- What `||` of two tests says of each.
-use Rattle.std.proofs.Common.{◌≡◌, Bool, true, false, ◌||◌, refl, ap, sym, ◌∙◌}
+use Rattle.std.proofs.Common.{◌≡◌, Bool, true, false, ◌||◌, refl, ap, ◌∙◌}
 
 pub neither : (a b : Bool) → a ≡ false → b ≡ false → (a || b) ≡ false
 neither a b this that = ap (λ x. x || b) this ∙ that
@@ -18,11 +18,3 @@ by_first a b this = ap (λ x. x || b) this
 pub by_second : (a b : Bool) → b ≡ true → (a || b) ≡ true
 by_second true b that = refl
 by_second false b that = that
-
-pub then_second : (a b : Bool) → a ≡ false → (a || b) ≡ true → b ≡ true
-then_second true b this one = absurd (cc this)
-then_second false b this one = one
-
-pub then_first : (a b : Bool) → b ≡ false → (a || b) ≡ true → a ≡ true
-then_first true b that one = refl
-then_first false b that one = absurd (cc (sym one ∙ that))

@@ -1,5 +1,5 @@
 -- What a beginning selection finds of the indexes below its bound.
-use Rattle.std.proofs.Common.{◌≡◌, ℕ, zero, suc, ◌+◌, ◌*◌, ◌/◌, ◌-◌, ◌<◌, ◌≤◌, nat_lt, ◌==◌, ◌⊎◌, inl, inr, Bool, true, false, not, ◌&&◌, if◌then◌else◌, Ok, List, [], ◌∷◌, ◌++◌, refl, ap, sym, ◌∙◌, subst, eqb-true, arith}
+use Rattle.std.proofs.Common.{◌≡◌, ℕ, zero, suc, ◌+◌, ◌*◌, ◌-◌, ◌<◌, ◌≤◌, nat_lt, ◌==◌, ◌⊎◌, inl, inr, Bool, true, false, not, ◌&&◌, if◌then◌else◌, Ok, List, [], ◌∷◌, ◌++◌, refl, ap, sym, subst, eqb-true, arith}
 use Rattle.std.specs.Prelude.{⊤}
 use Rattle.std.specs.List.{All, Contains}
 use Rattle.std.proofs.lemmas.Bool.{and_from, lt-ltb, ltb-true, ltb-false, eqb-false}
@@ -11,13 +11,13 @@ use Rattle.nio_event.specs.declared.act.Act.{Act}
 use Rattle.nio_event.specs.declared.act.Act.TheVariants.{LookKey, LookInterest, LookFree, Remove}
 use Rattle.nio_event.specs.declared.found.Mode.{Mode}
 use Rattle.nio_event.specs.declared.found.Stage.{Stage}
-use Rattle.nio_steps.proofs.BeginLaws.{Begun, none_yet, begin-parts}
+use Rattle.nio_steps.proofs.BeginLaws.{none_yet, begin-parts}
 use Rattle.nio_steps.proofs.Lists.{contains-middle, contains-none}
 use Rattle.nio_steps.proofs.Walks.{Always, always_if, always_bind, always_any, always_over, always_sweep, always_run}
 use Rattle.nio_steps.specs.ChannelCalls.{words_below}
 use Rattle.nio_steps.specs.KeyCalls.{has_bit}
 use Rattle.nio_steps.specs.Laws.{IsLookedAt, LooksAtValidKeys}
-use Rattle.nio_steps.specs.Plan.{reply, ◌>>=◌, ◌>>◌}
+use Rattle.nio_steps.specs.Plan.{reply, ◌>>◌}
 use Rattle.nio_steps.specs.SelectCalls.{Selection, LookedOver, Begins, not_free, list_word, list_below, look_over, look_on, look_valid, looked_key, remove_cancelled}
 use Rattle.nio_steps.specs.Steps.{stage_in, word_in, operations_in}
 use Rattle.nio_steps.specs.Sweeps.{sweep_over}
@@ -33,7 +33,7 @@ interest-look : (s : SelNo) (i : ℕ) (act : Act) → question_of act ≡ Questi
 interest-look s i (LookInterest s' i' found) asks = cc asks
 interest-look s i _ asks = absurd (cc asks)
 
-free-look : (s : SelNo) (j : ℕ) (act : Act) → question_of act ≡ Question.look_free s j → act ≡ LookFree s j (word_in (answer_of act))
+pub free-look : (s : SelNo) (j : ℕ) (act : Act) → question_of act ≡ Question.look_free s j → act ≡ LookFree s j (word_in (answer_of act))
 free-look s j (LookFree s' j' found) asks = cc asks
 free-look s j _ asks = absurd (cc asks)
 

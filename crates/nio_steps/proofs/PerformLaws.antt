@@ -1,6 +1,7 @@
 -- Plans performed on a state: one after another, sweeps by a closed form of the state after so many
 -- turns, and that a run in a legal history is what is performed.
-use Rattle.std.proofs.Common.{◌≡◌, ℕ, zero, suc, ◌+◌, ◌-◌, ◌<◌, ◌≤◌, Bool, true, false, if◌then◌else◌, Option, Some, None, List, [], ◌∷◌, ◌++◌, map, refl, ap, sym, ◌∙◌, subst, append_assoc, arith}
+use Rattle.std.proofs.Common.{◌≡◌, ℕ, zero, suc, ◌+◌, ◌-◌, ◌<◌, ◌≤◌, Bool, true, false, if◌then◌else◌, Option, Some, None, List, [], ◌∷◌, ◌++◌, map, refl, ap, sym, ◌∙◌, subst, append_assoc, add-zero, arith}
+use Rattle.std.specs.List.{find}
 use Rattle.std.proofs.lemmas.List.{append-nil}
 use Rattle.nio_base.specs.declared.limits.Limits.{Limits}
 use Rattle.nio_base.specs.declared.numbers.CallerNo.{CallerNo}
@@ -17,7 +18,7 @@ use Rattle.nio_event.specs.declared.act.Act.{Act}
 use Rattle.nio_event.specs.declared.event.Event.{Event}
 use Rattle.nio_steps.proofs.SweepLaws.{sweep_to-turn, sweep_to-done, seek_to-turn, seek_to-done, sweep_over-turn, sweep_over-done}
 use Rattle.nio_steps.specs.Calls.{CallClause}
-use Rattle.nio_steps.specs.Perform.{perform}
+use Rattle.nio_steps.specs.Perform.{Performed, perform}
 use Rattle.nio_steps.specs.Plan.{Plan, reply, ask, ◌>>=◌}
 use Rattle.nio_steps.specs.Runs.{Completes}
 use Rattle.nio_steps.specs.Sweeps.{sweep_to, found_or, seek_to, sweep_over}
@@ -93,6 +94,53 @@ perform_seek_no me b i f stands within each = by_count (b - i) i (omega arith) (
         ap (λ p. perform me p (stands i')) (seek_to-turn b i' f (omega arith))
         ∙ (perform_then_on me (f i') (found_or (seek_to b (i' + 1) f)) (stands i') None (stands (i' + 1)) (each' i' (omega arith) (omega arith))
         ∙ by_count n (i' + 1) (omega arith) (λ k from below. each' k (omega arith) below))
+
+-- n numbers from i on, in rising order
+unfoldable pub indexes : ℕ → ℕ → List ℕ
+indexes i zero = []
+indexes i (suc n) = i ∷ indexes (i + 1) n
+
+pub indexes-push : (i n : ℕ) → indexes i (suc n) ≡ indexes i n ++ (i + n) ∷ []
+unfolding indexes
+indexes-push i zero = ap (λ (k : ℕ). k ∷ []) (sym (add-zero i))
+indexes-push i (suc n) =
+    let same : (i + 1) + n ≡ i + suc n = omega arith in
+    ap (λ ks. i ∷ ks) (indexes-push (i + 1) n ∙ ap (λ (k : ℕ). indexes (i + 1) n ++ k ∷ []) same)
+
+find_head : {X : Type 0} (p : X → Bool) (x : X) (xs : List X) (b : Bool) → p x ≡ b → find p (x ∷ xs) ≡ (if b then Some x else find p xs)
+find_head p x xs b is = ap (λ (c : Bool). if c then Some x else find p xs) is
+
+-- what a search leaves that changes nothing until it finds, by the index that it finds
+abbrev pub found_at : {A : Type 0} → State → (ℕ → A) → (ℕ → State) → Option ℕ → Performed (Option A)
+found_at st x after None = record { answer = None; state = st }
+found_at st x after (Some k) = record { answer = Some (x k); state = after k }
+
+-- The steps give something at the indexes that pass the test, and change nothing at the others: the search
+-- finds the first index that passes.
+seek_turns : {A : Type 0} (me : CallerNo) (b n i : ℕ) (f : ℕ → Plan (Option A)) (p : ℕ → Bool) (x : ℕ → A) (st : State) (after : ℕ → State) → i + n ≡ b
+    → ((k : ℕ) → i ≤ k → k < b → p k ≡ false → perform me (f k) st ≡ record { answer = None; state = st })
+    → ((k : ℕ) → i ≤ k → k < b → p k ≡ true → perform me (f k) st ≡ record { answer = Some (x k); state = after k })
+    → perform me (seek_to b i f) st ≡ found_at st x after (find p (indexes i n))
+unfolding indexes
+seek_turns me b zero i f p x st after total others passes = ap (λ plan. perform me plan st) (seek_to-done b i f (omega arith))
+seek_turns {A = A} me b (suc n) i f p x st after total others passes =
+    ap (λ plan. perform me plan st) (seek_to-turn b i f (omega arith))
+    ∙ by_test (p i) refl (seek_turns me b n (i + 1) f p x st after (omega arith) (λ k low high. others k (omega arith) high) (λ k low high. passes k (omega arith) high))
+  where
+    by_test : (c : Bool) → p i ≡ c → perform me (seek_to b (i + 1) f) st ≡ found_at st x after (find p (indexes (i + 1) n))
+        → perform me (f i >>= found_or (seek_to b (i + 1) f)) st ≡ found_at st x after (find p (i ∷ indexes (i + 1) n))
+    by_test true is rest =
+        perform_then_on me (f i) (found_or (seek_to b (i + 1) f)) st (Some (x i)) (after i) (passes i (omega arith) (omega arith) is)
+        ∙ ap (found_at st x after) (sym (find_head p i (indexes (i + 1) n) true is))
+    by_test false is rest =
+        perform_then_on me (f i) (found_or (seek_to b (i + 1) f)) st None st (others i (omega arith) (omega arith) is)
+        ∙ (rest ∙ ap (found_at st x after) (sym (find_head p i (indexes (i + 1) n) false is)))
+
+pub perform_seek : {A : Type 0} (me : CallerNo) (b i : ℕ) (f : ℕ → Plan (Option A)) (p : ℕ → Bool) (x : ℕ → A) (st : State) (after : ℕ → State) → i ≤ b
+    → ((k : ℕ) → i ≤ k → k < b → p k ≡ false → perform me (f k) st ≡ record { answer = None; state = st })
+    → ((k : ℕ) → i ≤ k → k < b → p k ≡ true → perform me (f k) st ≡ record { answer = Some (x k); state = after k })
+    → perform me (seek_to b i f) st ≡ found_at st x after (find p (indexes i (b - i)))
+perform_seek me b i f p x st after within others passes = seek_turns me b (b - i) i f p x st after (omega arith) others passes
 
 -- over a list: `stands` and `left` by the elements that are done
 pub perform_over : {X A : Type 0} (me : CallerNo) (xs : List X) (f : X → A → Plan A) (left : List X → A) (stands : List X → State)

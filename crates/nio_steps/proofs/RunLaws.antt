@@ -1,9 +1,9 @@
 -- Plans after one another, and what follows them.
-use Rattle.std.proofs.Common.{◌≡◌, List, [], ◌∷◌, ◌++◌, refl, ap, sym, ◌∙◌, subst}
+use Rattle.std.proofs.Common.{◌≡◌, List, [], ◌∷◌, ◌++◌, refl, ap, sym, subst}
 use Rattle.nio_event.specs.Questions.{answer_of}
 use Rattle.nio_event.specs.declared.act.Act.{Act}
 use Rattle.nio_steps.specs.Plan.{Plan, reply, ask, ◌>>=◌}
-use Rattle.nio_steps.specs.Runs.{Follows, Completes, left_of}
+use Rattle.nio_steps.specs.Runs.{Follows}
 
 -- ---- plans after one another
 
@@ -30,33 +30,3 @@ pub follows_bind : {A B : Type 0} (plan : Plan A) (f : A → Plan B) (acts : Lis
 follows_bind plan f [] rest here = ap (λ p. p >>= f) here
 follows_bind (reply r) f (act ∷ acts) rest here = absurd here
 follows_bind (ask q next) f (act ∷ acts) rest here = (here.0, follows_bind (next (answer_of act)) f acts rest here.1)
-
--- a whole run of a plan, and then acts along the plan that takes its reply
-pub completes_then : {A B : Type 0} (plan : Plan A) (f : A → Plan B) (acts : List Act) (a : A) (later : List Act) (rest : Plan B)
-    → Completes plan acts a → Follows (f a) later rest → Follows (plan >>= f) (acts ++ later) rest
-completes_then plan f acts a later rest first second = follows_more (plan >>= f) acts (f a) later rest (follows_bind plan f acts (reply a) first) second
-
--- ---- beginnings of runs
-
--- the acts alone decide what is left
-pub follows_left : {R : Type 0} (plan : Plan R) (acts : List Act) (rest : Plan R) → Follows plan acts rest → left_of plan acts ≡ rest
-follows_left plan [] rest follows = follows
-follows_left (reply r) (act ∷ acts) rest follows = absurd follows
-follows_left (ask q next) (act ∷ acts) rest follows = follows_left (next (answer_of act)) acts rest follows.1
-
--- a beginning of acts along a plan is along the plan, and the later ones along what it left
-pub follows_beginning : {R : Type 0} (plan : Plan R) (acts later : List Act) (rest : Plan R)
-    → Follows plan (acts ++ later) rest → Follows plan acts (left_of plan acts) × Follows (left_of plan acts) later rest
-follows_beginning plan [] later rest follows = (refl, follows)
-follows_beginning (reply r) (act ∷ acts) later rest follows = absurd follows
-follows_beginning (ask q next) (act ∷ acts) later rest follows =
-    let parts = follows_beginning (next (answer_of act)) acts later rest follows.1 in
-    ((follows.0, parts.0), parts.1)
-
--- nothing comes after a whole run of a plan, and it has one reply
-pub completes_once : {R : Type 0} (plan : Plan R) (acts later : List Act) (r r' : R)
-    → Completes plan acts r → Completes plan (acts ++ later) r' → (later ≡ []) × (r ≡ r')
-completes_once plan [] [] r r' whole longer = let same : reply r ≡ reply r' = sym whole ∙ longer in (refl, cc same)
-completes_once plan [] (act ∷ later) r r' whole longer = absurd (subst (λ p. Follows p (act ∷ later) (reply r')) whole longer)
-completes_once (reply a) (act ∷ acts) later r r' whole longer = absurd whole
-completes_once (ask q next) (act ∷ acts) later r r' whole longer = completes_once (next (answer_of act)) acts later r r' whole.1 longer.1

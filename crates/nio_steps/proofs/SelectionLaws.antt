@@ -1,5 +1,5 @@
 -- To which selection a `told` belongs, and what it counts.
-use Rattle.std.proofs.Common.{◌≡◌, ℕ, ◌+◌, ◌==◌, Bool, true, false, cond, ◌&&◌, ◌||◌, if◌then◌else◌, Result, Ok, Err, List, [], ◌∷◌, ◌++◌, refl, ap, sym, ◌∙◌, subst, eq-eqb, eqb-true, append_assoc, zero-add, arith}
+use Rattle.std.proofs.Common.{◌≡◌, ℕ, ◌+◌, ◌==◌, Bool, true, false, cond, ◌&&◌, ◌||◌, Result, Ok, Err, List, [], ◌∷◌, ◌++◌, refl, ap, sym, ◌∙◌, subst, eq-eqb, eqb-true, append_assoc, zero-add, arith}
 use Rattle.std.specs.Prelude.{⊤, is_ok}
 use Rattle.std.specs.List.{All}
 use Rattle.std.proofs.lemmas.List.Elements.{All-weaker}
@@ -8,21 +8,23 @@ use Rattle.std.proofs.lemmas.List.Sums.{sum_by-append}
 use Rattle.std.proofs.lemmas.List.{append-nil}
 use Rattle.nio_base.specs.declared.numbers.SelNo.{SelNo}
 use Rattle.nio_event.specs.OwnEvents.{has, count, gives_turn}
+use Rattle.nio_event.specs.Pins.{removes}
 use Rattle.nio_event.specs.Questions.{Question, question_of, answer_of}
+use Rattle.nio_event.specs.Turns.{removes_on}
 use Rattle.nio_event.specs.declared.act.Act.{Act}
-use Rattle.nio_event.specs.declared.act.Act.TheVariants.{Mark, GiveTurn}
+use Rattle.nio_event.specs.declared.act.Act.TheVariants.{Mark, GiveTurn, Remove}
 use Rattle.nio_event.specs.declared.found.Mark.{Mark as KeyMark}
 use Rattle.nio_event.specs.declared.found.Mode.{Mode}
 use Rattle.nio_steps.proofs.BeginLaws.{begin-parts}
-use Rattle.nio_steps.proofs.EachLaws.{each_bind, each_if, each_over, each_run, split}
+use Rattle.nio_steps.proofs.EachLaws.{each_if, each_run, split}
 use Rattle.nio_steps.proofs.Either.{neither, not_first, not_second}
-use Rattle.nio_steps.proofs.SelectionAsks.{each_end}
+use Rattle.nio_steps.proofs.SelectionAsks.{each_end, each_marks}
 use Rattle.nio_steps.proofs.Walks.{Always, always_weaker, always_bind, always_if, always_any, always_over, always_run}
-use Rattle.nio_steps.specs.Each.{Each}
+use Rattle.nio_steps.proofs.Each.{Each}
 use Rattle.nio_steps.specs.Laws.{BeginsSelection, AgainGoesOn, CountsSelection}
 use Rattle.nio_steps.specs.Plan.{reply, ◌>>=◌}
 use Rattle.nio_steps.specs.Runs.{Completes}
-use Rattle.nio_steps.specs.SelectCalls.{Selection, ToldReply, Begins, Poll, told_plan, told_bits, mark_entry, mark_told, mark_looked, mark_again, one_if, gains_nothing, is_again, sweep_key, end_selection, after_marks, again, done}
+use Rattle.nio_steps.specs.SelectCalls.{Selection, ToldReply, Begins, told_plan, told_bits, mark_entry, mark_told, mark_looked, mark_again, one_if, gains_nothing, is_again, sweep_key, end_selection, after_marks, again, done}
 use Rattle.nio_steps.specs.Selections.{marks_on, IsBegun}
 use Rattle.nio_steps.specs.Steps.{mark, flag_in, gate_in, mark_in, exchange_in}
 use Rattle.nio_steps.specs.Sweeps.{sweep_over}
@@ -31,7 +33,7 @@ use Rattle.nio_steps.specs.declared.selected.Selected.{Selected}
 
 -- ---- questions that are no mark, and that don't give the turn back
 
-abbrev asks_mark : ℕ → Question → Bool
+abbrev pub asks_mark : ℕ → Question → Bool
 asks_mark s (Question.mark s' i from told) = s'.0 == s
 asks_mark s _ = false
 
@@ -56,14 +58,36 @@ pub no_gives : (s : ℕ) (acts : List Act) → All (λ act. asks_give s (questio
 no_gives s acts each =
     list_any_none (gives_turn s) acts (All-weaker (λ act. asks_give s (question_of act) ≡ false) (λ act. gives_turn s act ≡ false) (not-gives s) acts each)
 
-count-append : (p : Act → Bool) (acts later : List Act) → count p (acts ++ later) ≡ count p acts + count p later
+abbrev asks_remove : ℕ → Question → Bool
+asks_remove s (Question.remove s' i) = s'.0 == s
+asks_remove s _ = false
+
+not-removes : (s : ℕ) (act : Act) → asks_remove s (question_of act) ≡ false → removes_on s act ≡ false
+not-removes s (Remove s' i found) e = e
+not-removes s _ e = refl
+
+no_removes : (s : ℕ) (acts : List Act) → All (λ act. asks_remove s (question_of act) ≡ false) acts → has (removes_on s) acts ≡ false
+no_removes s acts each =
+    list_any_none (removes_on s) acts (All-weaker (λ act. asks_remove s (question_of act) ≡ false) (λ act. removes_on s act ≡ false) (not-removes s) acts each)
+
+-- who removes no key of a selector removes none of an index of it
+pub removes_none : (s i : ℕ) (acts : List Act) → has (removes_on s) acts ≡ false → has (removes s i) acts ≡ false
+removes_none s i [] none = refl
+removes_none s i (act ∷ acts) none =
+    neither (removes s i act) (has (removes s i) acts) (of_act act (not_first (removes_on s act) (has (removes_on s) acts) none)) (removes_none s i acts (not_second (removes_on s act) (has (removes_on s) acts) none))
+  where
+    of_act : (a : Act) → removes_on s a ≡ false → removes s i a ≡ false
+    of_act (Remove s' i' found) none' = ap (λ b. b && (i' == i)) none'
+    of_act _ none' = refl
+
+pub count-append : (p : Act → Bool) (acts later : List Act) → count p (acts ++ later) ≡ count p acts + count p later
 count-append p acts later = sum_by-append (λ act. cond (p act) 1 0) acts later
 
-count-cons : (p : Act → Bool) (act : Act) (acts : List Act) → count p (act ∷ acts) ≡ cond (p act) 1 0 + count p acts
+pub count-cons : (p : Act → Bool) (act : Act) (acts : List Act) → count p (act ∷ acts) ≡ cond (p act) 1 0 + count p acts
 count-cons p act acts = count-append p (act ∷ []) acts ∙ ap (λ (n : ℕ). n + count p acts) (zero-add (cond (p act) 1 0))
 
 -- what has no such act counts none, and the other way round
-count-none : (p : Act → Bool) (acts : List Act) → has p acts ≡ false → count p acts ≡ 0
+pub count-none : (p : Act → Bool) (acts : List Act) → has p acts ≡ false → count p acts ≡ 0
 count-none p [] none = refl
 count-none p (act ∷ acts) none =
     let here : cond {A = ℕ} (p act) 1 0 ≡ 0 = ap (λ (b : Bool). cond {A = ℕ} b 1 0) (not_first (p act) (has p acts) none) in
@@ -133,36 +157,28 @@ over-counts s pairs entries =
 abbrev pub NoGive : ℕ → Question → Type 0
 NoGive s q = asks_give s q ≡ false
 
-again-no_give : (s : SelNo) (i told : ℕ) (found : Result (Unit {0}) KeyMark) → Each (NoGive s.0) (λ _. ⊤) (mark_again s i told found)
-again-no_give s i told (Ok u) = tt
-again-no_give s i told (Err stands) = (refl, λ _. tt)
+-- and no key is removed
+abbrev NoRemove : ℕ → Question → Type 0
+NoRemove s q = asks_remove s q ≡ false
 
-entry-no_give : (s : SelNo) (pairs : List (ℕ × ℕ)) (entry : LookedKey) (before : ℕ) → Each (NoGive s.0) (λ _. ⊤) (mark_entry s pairs entry before)
-entry-no_give s pairs entry before =
-    let told = told_bits pairs entry in
-    each_bind (NoGive s.0) (λ _. ⊤) (λ _. ⊤) (mark_told s entry.index told) _
-    (each_if {R = ℕ} (NoGive s.0) (λ _. ⊤) (told == 0) (reply 0) (mark_looked s entry.index told) (λ _. tt)
-    (λ _. (
-      refl,
-      λ was. each_if {R = ℕ} (NoGive s.0) (λ _. ⊤) (gains_nothing (mark_in was) told) (reply 0) (mark s entry.index (mark_in was) told >>= mark_again s entry.index told)
-          (λ _. tt) (λ _. (refl, λ first. again-no_give s entry.index told (exchange_in first))),
-    )))
-    (λ _ _. tt)
+module _ (s : SelNo) (pairs : List (ℕ × ℕ)) (entries : List LookedKey) (acts : List Act) (n : ℕ) (run : Completes (sweep_over entries (mark_entry s pairs) 0) acts n) where
+  pub marks-no_give : has (gives_turn s.0) acts ≡ false
+  marks-no_give =
+      no_gives s.0 acts (each_run (NoGive s.0) (λ _. ⊤) (sweep_over entries (mark_entry s pairs) 0) acts n
+      (each_marks (NoGive s.0) s pairs entries (λ k d _. record { looks = refl; marks = λ _ _. refl })) run).0
 
-over-no_give : (s : SelNo) (pairs : List (ℕ × ℕ)) (entries : List LookedKey) (acts : List Act) (n : ℕ)
-    → Completes (sweep_over entries (mark_entry s pairs) 0) acts n → has (gives_turn s.0) acts ≡ false
-over-no_give s pairs entries acts n run =
-    no_gives s.0 acts (each_run (NoGive s.0) (λ _. ⊤) (sweep_over entries (mark_entry s pairs) 0) acts n
-    (each_over (NoGive s.0) (λ _. ⊤) (λ _. ⊤) entries (mark_entry s pairs) 0 (λ k d _. tt) tt (λ entry before _ _. entry-no_give s pairs entry before))
-    run).0
+  pub marks-no_remove : has (removes_on s.0) acts ≡ false
+  marks-no_remove =
+      no_removes s.0 acts (each_run (NoRemove s.0) (λ _. ⊤) (sweep_over entries (mark_entry s pairs) 0) acts n
+      (each_marks (NoRemove s.0) s pairs entries (λ k d _. record { looks = refl; marks = λ _ _. refl })) run).0
 
 -- ---- after the marks
 
-abbrev NoMark : ℕ → Question → Type 0
+abbrev pub NoMark : ℕ → Question → Type 0
 NoMark s q = asks_mark s q ≡ false
 
 -- the count of what is over; what goes on is this selection, and nothing was marked
-abbrev Replies : Selection → ℕ → ToldReply → Type 0
+abbrev pub Replies : Selection → ℕ → ToldReply → Type 0
 Replies selection n (done answer) = answer.count ≡ n
 Replies selection n (again next) = (next ≡ selection) × (n ≡ 0)
 
@@ -171,7 +187,7 @@ second_of a true c d e f all = refl
 second_of true false c d e f all = absurd (cc all)
 second_of false false c d e f all = absurd (cc all)
 
-after-replies : (selection : Selection) (elapsed : Bool) (n : ℕ) → Each (NoMark selection.selector.0) (Replies selection n) (after_marks selection elapsed n)
+pub after-replies : (selection : Selection) (elapsed : Bool) (n : ℕ) → Each (NoMark selection.selector.0) (Replies selection n) (after_marks selection elapsed n)
 after-replies selection elapsed n = (
   refl,
   λ gate. (
@@ -180,14 +196,14 @@ after-replies selection elapsed n = (
         (is_again selection.mode n (gate_in gate) (flag_in interrupted) elapsed) (reply (again selection)) (end_selection selection _)
         (λ goes_on. (refl, eqb-true n 0 (second_of _ _ _ _ _ _ goes_on)))
         (λ _. each_end (NoMark selection.selector.0) (Replies selection n) selection _
-        (record { looks_free = λ _. refl; looks = λ _. refl; looks_interest = λ _. refl; removes = λ _. refl; puts = λ _. refl }) refl refl refl),
+        (λ k d _. record { looks = refl; looks_interest = refl; removes = refl; puts = refl }) refl refl refl),
   ),
 )
 
--- where it goes on, the caller keeps the turn
+-- where it goes on, the caller keeps the turn, and removed nothing
 abbrev KeepsTurn : ℕ → List Act → ToldReply → Type 0
 KeepsTurn s acts (done answer) = ⊤
-KeepsTurn s acts (again next) = has (gives_turn s) acts ≡ false
+KeepsTurn s acts (again next) = (has (gives_turn s) acts ≡ false) × (has (removes_on s) acts ≡ false)
 
 any-done : (s : ℕ) (xs : List Act) (selection : Selection) (answer : Selected) → Always (λ acts r. KeepsTurn s (xs ++ acts) r) (end_selection selection answer)
 any-done s xs selection answer =
@@ -199,7 +215,10 @@ after-keeps selection elapsed n = λ look asks look' asks'.
     let s = selection.selector.0 in
     always_if (λ acts r. KeepsTurn s (look ∷ look' ∷ acts) r) (is_again selection.mode n (gate_in (answer_of look)) (flag_in (answer_of look')) elapsed)
     (reply (again selection)) (end_selection selection _)
-    (λ _. neither _ _ (not-gives s look (ap (asks_give s) asks)) (neither _ _ (not-gives s look' (ap (asks_give s) asks')) refl))
+    (λ _. (
+      neither _ _ (not-gives s look (ap (asks_give s) asks)) (neither _ _ (not-gives s look' (ap (asks_give s) asks')) refl),
+      neither _ _ (not-removes s look (ap (asks_remove s) asks)) (neither _ _ (not-removes s look' (ap (asks_remove s) asks')) refl),
+    ))
     (λ _. any-done s (look ∷ look' ∷ []) selection _)
 
 -- ---- the laws
@@ -209,8 +228,9 @@ none_of-append p acts later first second = list_any-append p acts later ∙ neit
 
 -- the selection that was begun, after acts that neither mark a key nor give the turn back
 longer : (own : List Act) (selection : Selection) (acts : List Act) → IsBegun own selection
-    → has (gives_turn selection.selector.0) acts ≡ false → has (marks_on selection.selector.0) acts ≡ false → IsBegun (own ++ acts) selection
-longer own selection acts begun no_give no_mark = record {
+    → has (gives_turn selection.selector.0) acts ≡ false → has (marks_on selection.selector.0) acts ≡ false → has (removes_on selection.selector.0) acts ≡ false
+    → IsBegun (own ++ acts) selection
+longer own selection acts begun no_give no_mark no_remove = record {
   earlier = begun.earlier;
   beginning = begun.beginning;
   since = begun.since ++ acts;
@@ -218,6 +238,7 @@ longer own selection acts begun no_give no_mark = record {
   begins = begun.begins;
   goes_on = none_of-append (gives_turn selection.selector.0) begun.since acts begun.goes_on no_give;
   unmarked = none_of-append (marks_on selection.selector.0) begun.since acts begun.unmarked no_mark;
+  unremoved = none_of-append (removes_on selection.selector.0) begun.since acts begun.unremoved no_remove;
 }
 
 -- what a run of `told` marks, and how it goes on or ends
@@ -231,8 +252,9 @@ again_goes_on own selection next poll acts begun run =
     let keeps = always_run (KeepsTurn s.0) _ parts.second (again next) (after-keeps selection poll.elapsed parts.middle) parts.runs_second in
     let none_first = none-count (marks_on s.0) parts.first (counted ∙ after.1.1) in
     let no_mark = ap (has (marks_on s.0)) parts.parts ∙ none_of-append (marks_on s.0) parts.first parts.second none_first (no_marks s.0 parts.second after.0) in
-    let no_give = ap (has (gives_turn s.0)) parts.parts ∙ none_of-append (gives_turn s.0) parts.first parts.second (over-no_give s poll.pairs selection.looked parts.first parts.middle parts.runs_first) keeps in
-    subst (IsBegun (own ++ acts)) (sym after.1.0) (longer own selection acts begun no_give no_mark)
+    let no_give = ap (has (gives_turn s.0)) parts.parts ∙ none_of-append (gives_turn s.0) parts.first parts.second (marks-no_give s poll.pairs selection.looked parts.first parts.middle parts.runs_first) keeps.0 in
+    let no_remove = ap (has (removes_on s.0)) parts.parts ∙ none_of-append (removes_on s.0) parts.first parts.second (marks-no_remove s poll.pairs selection.looked parts.first parts.middle parts.runs_first) keeps.1 in
+    subst (IsBegun (own ++ acts)) (sym after.1.0) (longer own selection acts begun no_give no_mark no_remove)
 
 pub counts_selection : CountsSelection
 unfolding told_plan
@@ -260,4 +282,5 @@ begins_selection s mode own acts selection run =
           (subst (λ (m : Mode). Begins s m acts (Ok selection)) (sym begun.mode_is) run);
       goes_on = refl;
       unmarked = refl;
+      unremoved = refl;
     }

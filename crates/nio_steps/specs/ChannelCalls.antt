@@ -14,7 +14,7 @@ use Rattle.nio_steps.specs.KeyCalls.{has_bit, is_within, under_pin, cancel_plan}
 use Rattle.nio_steps.specs.Names.{selector, channel, key}
 use Rattle.nio_steps.specs.Plan.{Plan, reply, ◌>>=◌, ◌>>◌, when}
 use Rattle.nio_steps.specs.Runs.{Completes}
-use Rattle.nio_steps.specs.Steps.{look_key, cancel_key, swap_interest, swap_note, make_channel, look_channel, claim, raise_keys, look_keys, publish, look_reg, enrol, look_channels, raise_channels, look_gate, try_hold_bit, release, set_mode, close_bit, pin, unpin, clear_mark, claim_again, look_free, put_free, take_free}
+use Rattle.nio_steps.specs.Steps.{look_key, cancel_key, swap_interest, swap_note, make_channel, look_channel, claim, raise_keys, look_keys, publish, look_reg, enrol, look_channels, raise_channels, look_gate, try_hold_bit, release, set_mode, close_bit, unpin, clear_mark, claim_again, look_free, put_free, take_free}
 use Rattle.nio_steps.specs.Sweeps.{sweep_to, seek_to}
 use Rattle.nio_steps.specs.Waiting.{Retries}
 use Rattle.nio_steps.specs.declared.refusal.ChannelError.{ChannelError}
@@ -87,14 +87,20 @@ under_hold c steps = do
 abbrev pub first_key : Limits → ChanNo → Plan (Option KeyNo)
 first_key l c = seek_to l.selectors 0 (λ s. key_for_plan c (selector s))
 
+-- the mode is set, unless the channel was found registered
+abbrev pub set_mode_clear : ChanNo → Bool → Option KeyNo → Plan (Result (Unit {0}) ChannelError)
+set_mode_clear c on registered = if is_some registered then reply (Err IllegalBlockingMode) else do
+  set_mode c on
+  reply (Ok tt)
+
+-- blocking mode asks that the channel isn't registered
+abbrev pub set_mode_open : Limits → ChanNo → Bool → Plan (Result (Unit {0}) ChannelError)
+set_mode_open l c on = (if on then first_key l c else reply None) >>= set_mode_clear c on
+
 abbrev pub set_mode_held : Limits → ChanNo → Bool → Plan (Result (Unit {0}) ChannelError)
 set_mode_held l c on = do
   found ← look_channel c
-  if found.closed then reply (Err ClosedChannel) else do
-    registered ← (if on then first_key l c else reply None)
-    if is_some registered then reply (Err IllegalBlockingMode) else do
-      set_mode c on
-      reply (Ok tt)
+  if found.closed then reply (Err ClosedChannel) else set_mode_open l c on
 
 unfoldable pub set_blocking_plan : Limits → ChanNo → Bool → Plan (Result (Unit {0}) ChannelError)
 set_blocking_plan l c on = do
@@ -133,8 +139,8 @@ register_over s ops att (Some k) = under_pin s k.index (register_noted s ops att
 
 -- ---- registering: an index for a new key
 
--- an index that was free is claimed again for the channel, unless somebody has a pin on it; then it is free
--- again
+-- an index that was free is claimed again for the channel, unless somebody has a pin on it; then it is put back
+-- among the free ones
 abbrev pub claim_taken : SelNo → ChanNo → ℕ → Plan (Option KeyId)
 claim_taken s c i = do
   stage ← look_key s i
@@ -156,7 +162,7 @@ claim_in_word s c mark j = do
   word ← look_free s j
   seek_to 64 0 (λ b. if has_bit word b && nat_lt (64 * j + b) mark then claim_free s c (64 * j + b) else reply None)
 
--- how many times 64 indexes there are below n, the last ones counted too
+-- the number of 64-bit words that cover the indexes below n
 abbrev pub words_below : ℕ → ℕ
 words_below n = (n + 63) / 64
 
@@ -171,22 +177,29 @@ claim_new s c i = do
 
 -- ---- registering: a new key
 
--- The new key's parts are set before it is noted, and it is noted before it is published; where the channel
--- was closed meanwhile the key is cancelled. The pin is that of the claim.
+-- where the channel was closed meanwhile the new key is cancelled
+abbrev pub settle_key : SelNo → ChanNo → KeyId → Plan (Result KeyNo ChannelError)
+settle_key s c k = do
+  found ← look_channel c
+  when found.closed (cancel_key s k.index)
+  reply (Ok (key s k))
+
+-- the key's parts are set before it is noted, and it is noted before it is published
+abbrev pub publish_key : SelNo → ChanNo → ℕ → ℕ → KeyId → Plan (Result KeyNo ChannelError)
+publish_key s c ops att k = do
+  swap_interest s k.index ops
+  swap_note s k.index att
+  enrol c s k.index k.serial
+  before ← publish s k.index
+  if before.removed then reply (Err ClosedSelector) else settle_key s c k
+
+-- with the pin of the claim
 abbrev pub make_key : SelNo → ChanNo → ℕ → ℕ → KeyId → Plan (Result KeyNo ChannelError)
 make_key s c ops att k = do
   gate ← look_gate s
-  if gate.shut then reply (Err ClosedSelector) else do
-    swap_interest s k.index ops
-    swap_note s k.index att
-    enrol c s k.index k.serial
-    before ← publish s k.index
-    if before.removed then reply (Err ClosedSelector) else do
-      found ← look_channel c
-      when found.closed (cancel_key s k.index)
-      reply (Ok (key s k))
+  if gate.shut then reply (Err ClosedSelector) else publish_key s c ops att k
 
--- with the pin of the claim, which is given back
+-- the pin of the claim is given back
 abbrev pub make_claimed : SelNo → ChanNo → ℕ → ℕ → KeyId → Plan (Result KeyNo ChannelError)
 make_claimed s c ops att k = do
   answer ← make_key s c ops att k
@@ -200,7 +213,7 @@ register_first s c ops att (Some k) = do
   raise_keys s (k.index + 1)
   make_claimed s c ops att k
 
--- with an index that had a key before; where none was found, with one that never had one
+-- with an index that had a key before and was claimed again; where there is none, with one that never had a key
 abbrev pub register_next : Limits → SelNo → ChanNo → ℕ → ℕ → ℕ → Option KeyId → Plan (Result KeyNo ChannelError)
 register_next l s c ops att mark None = do
   claimed ← seek_to l.keys mark (claim_new s c)
@@ -219,15 +232,19 @@ abbrev pub register_rest : Limits → SelNo → ChanNo → ℕ → ℕ → Optio
 register_rest l s c ops att None = register_new l s c ops att
 register_rest l s c ops att (Some answer) = reply answer
 
+-- the channel is open and non-blocking
+abbrev pub register_unblocked : Limits → SelNo → ChanNo → ℕ → ℕ → Plan (Result KeyNo ChannelError)
+register_unblocked l s c ops att = do
+  noted ← look_reg c s
+  over ← register_over s ops att noted
+  register_rest l s c ops att over
+
 -- what is done under the hold
 abbrev pub register_held : Limits → SelNo → ChanNo → ℕ → ℕ → Plan (Result KeyNo ChannelError)
 register_held l s c ops att = do
   found ← look_channel c
   if found.closed then reply (Err ClosedChannel) else
-      (if found.blocking then reply (Err IllegalBlockingMode) else do
-        noted ← look_reg c s
-        over ← register_over s ops att noted
-        register_rest l s c ops att over)
+      (if found.blocking then reply (Err IllegalBlockingMode) else register_unblocked l s c ops att)
 
 unfoldable pub register_plan : Limits → SelNo → ChanNo → ℕ → ℕ → Plan (Result KeyNo ChannelError)
 register_plan l s c ops att = do
@@ -247,13 +264,17 @@ cancel_noted c s = do
   noted ← look_reg c (selector s)
   cancel_at (selector s) noted
 
+-- the channel's key in each selector is cancelled
+abbrev pub cancel_keys : Limits → ChanNo → Plan Bool
+cancel_keys l c = do
+  sweep_to l.selectors 0 (λ s _. cancel_noted c s) tt
+  reply true
+
 -- whether this call closed it
 unfoldable pub close_channel_plan : Limits → ChanNo → Plan Bool
 close_channel_plan l c = do
   was ← close_bit c
-  if was then reply false else do
-    sweep_to l.selectors 0 (λ s _. cancel_noted c s) tt
-    reply true
+  if was then reply false else cancel_keys l c
 
 -- ---- calls that wait
 

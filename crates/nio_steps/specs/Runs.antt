@@ -14,9 +14,3 @@ Follows (ask question next) (act ∷ acts) rest = (question_of act ≡ question)
 -- these acts are a whole run of the plan, to this reply
 abbrev pub Completes : {R : Type 0} → Plan R → List Act → R → Type 0
 Completes plan acts answer = Follows plan acts (reply answer)
-
--- what is left of the plan when its questions have had the answers of these acts
-abbrev pub left_of : {R : Type 0} → Plan R → List Act → Plan R
-left_of plan [] = plan
-left_of (reply r) (act ∷ acts) = reply r
-left_of (ask question next) (act ∷ acts) = left_of (next (answer_of act)) acts

@@ -4,6 +4,7 @@ use Rattle.std.specs.Prelude.{◌≡◌, ℕ, ◌==◌, Bool, false, Ok, Err, Li
 use Rattle.std.specs.List.{Contains}
 use Rattle.nio_base.specs.declared.numbers.SelNo.{SelNo}
 use Rattle.nio_event.specs.OwnEvents.{has, gives_turn}
+use Rattle.nio_event.specs.Turns.{removes_on}
 use Rattle.nio_event.specs.declared.act.Act.{Act}
 use Rattle.nio_event.specs.declared.act.Act.TheVariants.{DrawBit, MakeSelector, LookSelectors, Wake, LookGate, SetInterrupt, TakeInterrupt, LookInterrupt, LookKey, CancelKey, LookInterest, SwapInterest, OrInterest, AndInterest, SwapNote, LookNote, MakeChannel, LookChannel, Claim, RaiseKeys, LookKeys, Publish, LookReg, Enrol, TakeTurn, BeginLook, GiveTurn, Remove, LookMark, Mark, UnselectBit, EndWake, LookChannels, RaiseChannels, TryHoldBit, Release, SetMode, CloseBit, ShutBit, Enter, Pin, Unpin, ClearMark, ClaimAgain, LookFree, PutFree, TakeFree}
 use Rattle.nio_steps.specs.SelectCalls.{Selection, Begins}
@@ -61,7 +62,7 @@ marks_on s (TakeFree s' i found) = false
 
 -- `own` has a beginning of this selection: a run of `try_begin` that answered Ok with its bound and its
 -- lists. Since then the caller hasn't given the turn back, so it is its latest one on that selector, and it
--- has marked no key there: a `told` that marks a key ends the selection.
+-- has marked and removed no key there: a `told` that does so ends the selection.
 pub record IsBegun (own : List Act) (selection : Selection) : Type 0 where
   pub earlier : List Act
   pub beginning : List Act
@@ -70,7 +71,8 @@ pub record IsBegun (own : List Act) (selection : Selection) : Type 0 where
   pub begins : Begins selection.selector selection.mode beginning (Ok selection)
   pub goes_on : has (gives_turn selection.selector.0) since ≡ false
   pub unmarked : has (marks_on selection.selector.0) since ≡ false
+  pub unremoved : has (removes_on selection.selector.0) since ≡ false
 
--- by `own` the caller shut the selector, and so is to finish closing it
+-- the caller shut the selector; it may finish closing it, also again
 abbrev pub IsClosing : List Act → SelNo → Type 0
 IsClosing own s = Contains own (ShutBit s false)

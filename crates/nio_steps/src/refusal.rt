@@ -8,10 +8,10 @@ use thiserror::Error;
 #[derive(Clone, Copy, Debug, PartialEq, Eq, Error)]
 pub enum KeyError {
     /// The key isn't valid: Java's `CancelledKeyException`.
-    #[error("CancelledKey")]
+    #[error("the key isn't valid any more")]
     CancelledKey,
     /// A channel of this kind doesn't support the operations: Java's `IllegalArgumentException`.
-    #[error("IllegalOps")]
+    #[error("the channel doesn't support these operations")]
     IllegalOps,
 }
 
@@ -19,48 +19,48 @@ pub enum KeyError {
 #[derive(Clone, Copy, Debug, PartialEq, Eq, Error)]
 pub enum ChannelError {
     /// As many channels are made as may be.
-    #[error("ChannelsSpent")]
+    #[error("as many channels are made as may be")]
     ChannelsSpent,
     /// A channel of this kind doesn't support the operations: Java's `IllegalArgumentException`.
-    #[error("IllegalOps")]
+    #[error("the channel doesn't support these operations")]
     IllegalOps,
     /// The channel is closed: Java's `ClosedChannelException`.
-    #[error("ClosedChannel")]
+    #[error("the channel is closed")]
     ClosedChannel,
     /// Another caller registers the channel, or sets its mode.
-    #[error("Busy")]
+    #[error("another caller registers the channel or sets its mode")]
     Busy,
     /// The channel is in blocking mode and can't be registered, or is registered and can't go back
     /// to it: Java's `IllegalBlockingModeException`.
-    #[error("IllegalBlockingMode")]
+    #[error("the channel's blocking mode doesn't allow this")]
     IllegalBlockingMode,
     /// The channel's key is cancelled and not yet deregistered: Java's `CancelledKeyException`.
-    #[error("CancelledKey")]
+    #[error("the channel's key is cancelled and not yet removed")]
     CancelledKey,
     /// The selector is closed: Java's `ClosedSelectorException`.
-    #[error("ClosedSelector")]
+    #[error("the selector is closed")]
     ClosedSelector,
     /// The selector has as many keys as it may.
-    #[error("Full")]
+    #[error("the selector has as many keys as it may")]
     Full,
 }
 
 /// As many selectors are made as may be.
 #[derive(Clone, Copy, Debug, PartialEq, Eq, Error)]
-#[error("SelectorsSpent")]
+#[error("as many selectors are made as may be")]
 pub struct SelectorsSpent;
 
 /// Why a selection doesn't begin.
 #[derive(Clone, Copy, Debug, PartialEq, Eq, Error)]
 pub enum BeginError {
     /// The selector is closed: Java's `ClosedSelectorException`.
-    #[error("ClosedSelector")]
+    #[error("the selector is closed")]
     ClosedSelector,
     /// Another selection is in progress on the selector.
-    #[error("Busy")]
+    #[error("another caller selects on the selector")]
     Busy,
     /// There is no memory for the list of keys. The turn is free again.
-    #[error("Memory")]
+    #[error("out of memory")]
     Memory,
 }
 
@@ -78,10 +78,10 @@ impl From<AllocError> for BeginError {
 #[derive(Clone, Copy, Debug, PartialEq, Eq, Error)]
 pub enum ListError {
     /// The selector is closed: Java's `ClosedSelectorException`.
-    #[error("ClosedSelector")]
+    #[error("the selector is closed")]
     ClosedSelector,
     /// There is no memory for the list.
-    #[error("Memory")]
+    #[error("out of memory")]
     Memory,
 }
 
@@ -99,10 +99,10 @@ impl From<AllocError> for ListError {
 #[derive(Clone, Copy, Debug, PartialEq, Eq, Error)]
 pub enum PipeMakeError {
     /// As many channels are made as may be. A pipe needs two; the one that was made is closed.
-    #[error("ChannelsSpent")]
+    #[error("as many channels are made as may be")]
     ChannelsSpent,
     /// There is no memory for the pipe.
-    #[error("Memory")]
+    #[error("out of memory")]
     Memory,
 }
 
@@ -120,15 +120,15 @@ impl From<AllocError> for PipeMakeError {
 #[derive(Clone, Copy, Debug, PartialEq, Eq, Error)]
 pub enum PipeError {
     /// The channel is closed: Java's `ClosedChannelException`.
-    #[error("ClosedChannel")]
+    #[error("the channel is closed")]
     ClosedChannel,
     /// The caller is interrupted, and its call closed the channel: Java's `ClosedByInterruptException`.
-    #[error("ClosedByInterrupt")]
+    #[error("the caller was interrupted, and the channel was closed")]
     ClosedByInterrupt,
     /// Another caller closed the channel while this one waited: Java's `AsynchronousCloseException`.
-    #[error("AsynchronousClose")]
+    #[error("another caller closed the channel")]
     AsynchronousClose,
     /// The pipe's source is closed, so that nobody will read: Java's `IOException` of a broken pipe.
-    #[error("BrokenPipe")]
+    #[error("the pipe's source is closed")]
     BrokenPipe,
 }

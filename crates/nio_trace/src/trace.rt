@@ -28,7 +28,7 @@ unsafe impl<T> Send for Trace<T> {}
 
 unsafe impl<T> Sync for Trace<T> {}
 
-/// A way to read items off a value, in proofs alone.
+/// Which items a trace takes from a value, in proofs alone.
 pub trait Reading<X, T> {
     ghost items: { X → List T };
 }
@@ -41,7 +41,7 @@ impl<T> Trace<T> {
         Trace { of: PhantomData }
     }
 
-    /// Puts at the end what `M` reads off a value, so that no program has to make the items.
+    /// Adds the items that `M` reads off a value. No program has to make them.
     pub fn note<X, M: Reading<X, T>>(&mut self, _from: &X)
         ensures { self.new ≡ self.old ++ M.items _from.now }
     {}
@@ -60,7 +60,7 @@ impl<T> Trace<T> {
         self.note::<&[T], All>(&items);
     }
 
-    /// The same list once more.
+    /// A second trace with the same list.
     pub fn again(&self) -> Trace<T>
         ensures { result ≡ self.now }
     {

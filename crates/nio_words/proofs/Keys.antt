@@ -1,7 +1,6 @@
 -- The kinds of step on an index's word do to it what they do to the index's key and to the pins on it.
-use Rattle.std.proofs.Common.{◌≡◌, ◌≢◌, ℕ, zero, suc, ◌+◌, ◌-◌, ◌*◌, ◌%◌, ◌^◌, ◌<◌, ◌≤◌, ◌==◌, Bool, true, false, not, ◌||◌, if◌then◌else◌, List, [], refl, ap, sym, ◌∙◌, subst, arith, eqb-true, eq-eqb, ne_eqb}
-use Rattle.std.specs.Prelude.{bit_or, Some}
-use Rattle.std.proofs.lemmas.Bool.{eqb-false, and_parts}
+use Rattle.std.proofs.Common.{◌≡◌, ◌≢◌, ℕ, suc, ◌+◌, ◌-◌, ◌%◌, ◌^◌, ◌<◌, ◌==◌, Bool, true, false, not, ◌||◌, if◌then◌else◌, List, [], refl, ap, sym, ◌∙◌, subst, arith, eqb-true, eq-eqb, ne_eqb}
+use Rattle.std.proofs.lemmas.Bool.{eqb-false}
 use Rattle.std.proofs.lemmas.Nat.{or_lt}
 use prog.Atomic.{either}
 use Rattle.nio_base.specs.Limits.{IsFit}
@@ -10,7 +9,7 @@ use Rattle.nio_base.specs.declared.numbers.CallerNo.{CallerNo}
 use Rattle.nio_base.specs.declared.numbers.ChanNo.{ChanNo}
 use Rattle.nio_base.specs.declared.numbers.SelNo.{SelNo}
 use Rattle.nio_event.proofs.Legal.{legal_more}
-use Rattle.nio_event.proofs.Put.{put-same, put_at-same}
+use Rattle.nio_event.proofs.Put.{put_at-same}
 use Rattle.nio_event.proofs.Soundness.{legal-sound}
 use Rattle.nio_event.proofs.Within.{legal-within}
 use Rattle.nio_event.specs.Acts.{new_key}
@@ -256,9 +255,9 @@ claims_from_itself me s i c st below =
     claims_again_word me c k f below b (sym (same_stage_word k (pins st s i)))
     ∙ both_word st.key st.pinned s i (if not b then k else new_key c (suc k.serial)) (put f me.0 (f me.0 || not (not b)))
 
-pub claim_again_moves : (l : Limits) (me : CallerNo) (s : SelNo) (i : ℕ) (c : ChanNo) (from : Stage) → IsKey l s i → IsCaller l me → me.0 < 64 → c.0 < 2 ^ 20 → from.serial < 2 ^ 32 - 1
+claims_again : (l : Limits) (me : CallerNo) (s : SelNo) (i : ℕ) (c : ChanNo) (from : Stage) → IsKey l s i → IsCaller l me → me.0 < 64 → c.0 < 2 ^ 20 → from.serial < 2 ^ 32 - 1
     → Moves l me (Key s.0 i) (Exchange (stage_word from 0) (stage_word (new_key c (suc from.serial)) 1)) (λ n. ClaimAgain s i c from (was_pinned from n))
-claim_again_moves l me s i c from is_key is_caller below few serial = record {
+claims_again l me s i c from is_key is_caller below few serial = record {
   within = is_key;
   bit = tt;
   part = λ n. refl;
@@ -279,3 +278,9 @@ claim_again_moves l me s i c from is_key is_caller below few serial = record {
 
     answered : (st : State) → flag (was_pinned (st.key s.0 i) (stage_word (st.key s.0 i) (pins st s.0 i))) ≡ flag (is_pinned st s.0 i)
     answered st = ap (λ b. flag (not b)) (same_stage_word (st.key s.0 i) (pins st s.0 i))
+
+pub claim_again_moves : (l : Limits) (me : CallerNo) (s : SelNo) (i : ℕ) (c : ChanNo) (from : Stage) (next : ℕ) → next ≡ suc from.serial → IsKey l s i → IsCaller l me → me.0 < 64 → c.0 < 2 ^ 20 → from.serial < 2 ^ 32 - 1
+    → Moves l me (Key s.0 i) (Exchange (stage_word from 0) (stage_word (new_key c next) 1)) (λ n. ClaimAgain s i c from (was_pinned from n))
+claim_again_moves l me s i c from next is is_key is_caller below few serial =
+    subst (λ (q : ℕ). Moves l me (Key s.0 i) (Exchange (stage_word from 0) (stage_word (new_key c q) 1)) (λ n. ClaimAgain s i c from (was_pinned from n))) (sym is)
+    (claims_again l me s i c from is_key is_caller below few serial)

@@ -26,7 +26,6 @@ pub mod Notes
 pub mod Selectors
 pub mod Whole
 pub mod Following
-pub mod Seen
 pub mod GoingOn
 pub mod Views
 pub mod Pins

@@ -16,9 +16,9 @@ use thiserror::Error;
 /// Why a number wasn't drawn.
 #[derive(Clone, Copy, Debug, PartialEq, Eq, Error)]
 pub enum DrawError {
-    #[error("NoSuchCaller")]
+    #[error("there is no caller with this number")]
     NoSuchCaller,
-    #[error("CallerTaken")]
+    #[error("the number is drawn already")]
     CallerTaken,
 }
 

@@ -4,7 +4,7 @@ use Rattle.nio_event.specs.Conditions.{IsChannel}
 use Rattle.nio_event.specs.Questions.{stage}
 use Rattle.nio_event.specs.declared.found.Stage.{Stage}
 use Rattle.nio_words.proofs.Pins.{only_pinned, pinned_claimed}
-use Rattle.nio_words.proofs.Seen.{still_ready}
+use Rattle.nio_words.proofs.Stepping.{still_ready}
 use Rattle.nio_words.proofs.Views.{key_claimed, look_tells, step_acts}
 use Rattle.nio_words.specs.Passes.{seen, limits_of}
 use Rattle.nio_keys.proofs.pinned.pin.Goals as goal

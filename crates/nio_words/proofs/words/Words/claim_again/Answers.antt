@@ -1,4 +1,4 @@
-use Rattle.std.proofs.Common.{◌^◌, ◌<◌, suc, add-one, arith}
+use Rattle.std.proofs.Common.{◌^◌, ◌<◌, arith}
 use Rattle.nio_event.specs.Conditions.{IsCaller}
 use Rattle.nio_words.proofs.Keys.{claim_again_moves, claims_from_small}
 use Rattle.nio_words.proofs.words.Words.claim_again.Goals as goal
@@ -18,7 +18,7 @@ step_that-found-requires c =
     let fits : c.args.c.0 < 2 ^ 20 = omega (arith, c.requires.channel, c.args.self.now.fit.few_channels) in (
       c.requires.ready,
       (
-        rw (c.unpinned-old.ensures, c.new_key-new.ensures, add-one) (claim_again_moves _ c.args.me c.args.s c.args.i c.args.c c.args.from c.requires.key is_caller few fits c.requires.serial),
+        rw (c.unpinned-old.ensures, c.new_key-new.ensures) (claim_again_moves _ c.args.me c.args.s c.args.i c.args.c c.args.from _ (omega arith) c.requires.key is_caller few fits c.requires.serial),
         λ _. (c.requires.key, c.requires.channel, c.requires.holds, c.requires.taken, c.requires.found, c.requires.serial),
       ),
     )
