@@ -2,7 +2,7 @@
 use crate::run::{PROGRAM_LIMITS, run};
 use nio_bytes::{MemorySink, MemorySource};
 use nio_plain::Plain;
-use std::alloc::{AllocError, Global};
+use std::alloc::Global;
 use std::process::Abort;
 use std::test::Fail;
 
@@ -51,9 +51,9 @@ fn ends(
 }
 
 /// The call that fails, if any, as a list.
-fn faults(alloc: Global, at: Option<u64>) -> Result<Vec<u64>, AllocError> {
+fn faults(alloc: Global, at: Option<u64>) -> Result<Vec<u64>, Fail> {
     match at {
-        Some(at) => vec![in alloc; at],
+        Some(at) => Ok(vec![in alloc; at]?),
         None => Ok(Vec::new(alloc)),
     }
 }
@@ -63,11 +63,32 @@ fn scripts_and_usage(rt: HostRuntime) -> Result<(), Fail> {
     let alloc = rt.alloc();
     let scripts = [
         ("one_selection", ONE_SELECTION, None, None, 0, ITS_HISTORY),
-        ("no_last_newline", ONE_SELECTION_CUT, None, None, 0, ITS_HISTORY),
+        (
+            "no_last_newline",
+            ONE_SELECTION_CUT,
+            None,
+            None,
+            0,
+            ITS_HISTORY,
+        ),
         ("no_lines", "", None, None, 0, ""),
-        ("bad_line", "# none\n\nt1 send\n", None, None, 3, "bad line 3\n"),
+        (
+            "bad_line",
+            "# none\n\nt1 send\n",
+            None,
+            None,
+            3,
+            "bad line 3\n",
+        ),
         ("failed_read", ONE_SELECTION, Some(1), None, 4, ""),
-        ("failed_write", ONE_SELECTION, None, Some(2), 5, "1 t1 selec"),
+        (
+            "failed_write",
+            ONE_SELECTION,
+            None,
+            Some(2),
+            5,
+            "1 t1 selec",
+        ),
     ];
     for (label, input, fail_read, fail_write, code, written) in scripts {
         ends(
@@ -87,7 +108,7 @@ fn scripts_and_usage(rt: HostRuntime) -> Result<(), Fail> {
 }
 
 /// The line that tells a selector of one key and of the 510 keys from 1,000 on.
-fn long_line(alloc: Global, first: u32) -> Result<String, AllocError> {
+fn long_line(alloc: Global, first: u32) -> Result<String, Fail> {
     let mut line = format!(in alloc; "t1 told s0 k{first}:1")?;
     for key in 1_000..1_510 {
         line.push_str(&format!(in alloc; " k{key}:1")?)?;
@@ -102,11 +123,25 @@ fn long_lines(rt: HostRuntime) -> Result<(), Fail> {
     assert_eq!(rt; longest.len(), 4_096);
     let history = format!(in alloc; "1 {longest} -> no-selector\n")?;
     let input = (longest.as_str(), None, None);
-    ends(&rt, alloc, "longest", &["script"], input, (0, history.as_str()))?;
+    ends(
+        &rt,
+        alloc,
+        "longest",
+        &["script"],
+        input,
+        (0, history.as_str()),
+    )?;
 
     let longer = long_line(alloc, 100)?;
     let input = (longer.as_str(), None, None);
-    ends(&rt, alloc, "too_long", &["script"], input, (3, "bad line 1\n"))
+    ends(
+        &rt,
+        alloc,
+        "too_long",
+        &["script"],
+        input,
+        (3, "bad line 1\n"),
+    )
 }
 
 #[test]
@@ -117,8 +152,18 @@ fn histories_are_checked(rt: HostRuntime) -> Result<(), Fail> {
         ("check", ANOTHER_HISTORY, 8, "illegal 6: selected 1 ready\n"),
         ("check", FIRST_RULES, 8, "illegal 11: k0.1\n"),
         ("check-1", FIRST_RULES, 0, "legal 11\n"),
-        ("check", "1 t1 valid s0 k0.1 -> no-selector\n", 0, "legal 1\n"),
-        ("check-1", "1 t1 valid s0 k0.1 -> no-selector\n", 3, "bad line 1\n"),
+        (
+            "check",
+            "1 t1 valid s0 k0.1 -> no-selector\n",
+            0,
+            "legal 1\n",
+        ),
+        (
+            "check-1",
+            "1 t1 valid s0 k0.1 -> no-selector\n",
+            3,
+            "bad line 1\n",
+        ),
         ("check", "", 0, "legal 0\n"),
         ("check", "1 t1 selector -> s0", 0, "legal 1\n"),
         (
