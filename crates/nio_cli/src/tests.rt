@@ -64,7 +64,7 @@ fn scripts_and_usage(rt: HostRuntime) -> Result<(), Fail> {
     let scripts = [
         ("one_selection", ONE_SELECTION, None, None, 0, ITS_HISTORY),
         (
-            "no_last_newline",
+            "faults_and_long_lines",
             ONE_SELECTION_CUT,
             None,
             None,
@@ -80,9 +80,9 @@ fn scripts_and_usage(rt: HostRuntime) -> Result<(), Fail> {
             3,
             "bad line 3\n",
         ),
-        ("failed_read", ONE_SELECTION, Some(1), None, 4, ""),
+        ("faults_and_long_lines", ONE_SELECTION, Some(1), None, 4, ""),
         (
-            "failed_write",
+            "faults_and_long_lines",
             ONE_SELECTION,
             None,
             Some(2),
@@ -101,10 +101,10 @@ fn scripts_and_usage(rt: HostRuntime) -> Result<(), Fail> {
         )?;
     }
     let none = (ONE_SELECTION, None, None);
-    ends(&rt, alloc, "no_words", &[], none, (2, USAGE))?;
-    ends(&rt, alloc, "load", &["load", "0"], none, (2, USAGE))?;
-    ends(&rt, alloc, "proxy", &["proxy"], none, (2, USAGE))?;
-    ends(&rt, alloc, "twice", &["script", "script"], none, (2, USAGE))
+    ends(&rt, alloc, "usage", &[], none, (2, USAGE))?;
+    ends(&rt, alloc, "usage", &["load", "0"], none, (2, USAGE))?;
+    ends(&rt, alloc, "usage", &["proxy"], none, (2, USAGE))?;
+    ends(&rt, alloc, "usage", &["script", "script"], none, (2, USAGE))
 }
 
 /// The line that tells a selector of one key and of the 510 keys from 1,000 on.
@@ -126,7 +126,7 @@ fn long_lines(rt: HostRuntime) -> Result<(), Fail> {
     ends(
         &rt,
         alloc,
-        "longest",
+        "faults_and_long_lines",
         &["script"],
         input,
         (0, history.as_str()),
@@ -137,7 +137,7 @@ fn long_lines(rt: HostRuntime) -> Result<(), Fail> {
     ends(
         &rt,
         alloc,
-        "too_long",
+        "faults_and_long_lines",
         &["script"],
         input,
         (3, "bad line 1\n"),
@@ -148,60 +148,91 @@ fn long_lines(rt: HostRuntime) -> Result<(), Fail> {
 fn histories_are_checked(rt: HostRuntime) -> Result<(), Fail> {
     let alloc = rt.alloc();
     let cases = [
-        ("check", ITS_HISTORY, 0, "legal 6\n"),
-        ("check", ANOTHER_HISTORY, 8, "illegal 6: selected 1 ready\n"),
-        ("check", FIRST_RULES, 8, "illegal 11: k0.1\n"),
-        ("check-1", FIRST_RULES, 0, "legal 11\n"),
+        ("check_row", "check", ITS_HISTORY, 0, "legal 6\n"),
         (
+            "check_row",
+            "check",
+            ANOTHER_HISTORY,
+            8,
+            "illegal 6: selected 1 ready\n",
+        ),
+        (
+            "check_by_both_rules",
+            "check",
+            FIRST_RULES,
+            8,
+            "illegal 11: k0.1\n",
+        ),
+        (
+            "check_by_both_rules",
+            "check-1",
+            FIRST_RULES,
+            0,
+            "legal 11\n",
+        ),
+        (
+            "names_with_serials",
             "check",
             "1 t1 valid s0 k0.1 -> no-selector\n",
             0,
             "legal 1\n",
         ),
         (
+            "names_with_serials",
             "check-1",
             "1 t1 valid s0 k0.1 -> no-selector\n",
             3,
             "bad line 1\n",
         ),
-        ("check", "", 0, "legal 0\n"),
-        ("check", "1 t1 selector -> s0", 0, "legal 1\n"),
+        ("no_lines", "check", "", 0, "legal 0\n"),
         (
+            "no_last_newline",
+            "check",
+            "1 t1 selector -> s0",
+            0,
+            "legal 1\n",
+        ),
+        (
+            "blank_lines",
             "check",
             "# one selector\n1 t1 selector -> s0\n\n2 t1 wakeup s0 -> ok\n",
             0,
             "legal 2\n",
         ),
         (
+            "first_wrong_reply",
             "check",
             "1 t1 selector -> s\n2 t1 wakeup s0 -> no\n",
             8,
             "illegal 1: s0\n",
         ),
         (
+            "wrong_number",
             "check",
             "1 t1 selector -> s0\n3 t1 wakeup s0 -> ok\n",
             3,
             "bad line 2\n",
         ),
         (
+            "no_arrow",
             "check",
             "1 t1 selector -> s0\n\n2 t1 wakeup s0 ok\n",
             3,
             "bad line 3\n",
         ),
         (
+            "bad_line_comes_first",
             "check",
             "1 t1 selector -> s1\n2 t1 wake s0 -> ok\n",
             3,
             "bad line 2\n",
         ),
     ];
-    for (command, text, code, written) in cases {
+    for (label, command, text, code, written) in cases {
         ends(
             &rt,
             alloc,
-            text,
+            label,
             &[command],
             (text, None, None),
             (code, written),
