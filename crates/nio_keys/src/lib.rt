@@ -17,3 +17,5 @@ mod interests;
 mod pinned;
 mod selected;
 mod simple;
+#[cfg(test)]
+mod tests;
