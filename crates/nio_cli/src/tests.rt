@@ -2,7 +2,7 @@
 use crate::run::{PROGRAM_LIMITS, run};
 use nio_bytes::{MemorySink, MemorySource};
 use nio_plain::Plain;
-use std::alloc::{AllocError, Global};
+use std::alloc::Global;
 use std::process::Abort;
 use std::test::Fail;
 
@@ -51,9 +51,9 @@ fn ends(
 }
 
 /// The call that fails, if any, as a list.
-fn faults(alloc: Global, at: Option<u64>) -> Result<Vec<u64>, AllocError> {
+fn faults(alloc: Global, at: Option<u64>) -> Result<Vec<u64>, Fail> {
     match at {
-        Some(at) => vec![in alloc; at],
+        Some(at) => Ok(vec![in alloc; at]?),
         None => Ok(Vec::new(alloc)),
     }
 }
@@ -63,11 +63,32 @@ fn scripts_and_usage(rt: HostRuntime) -> Result<(), Fail> {
     let alloc = rt.alloc();
     let scripts = [
         ("one_selection", ONE_SELECTION, None, None, 0, ITS_HISTORY),
-        ("no_last_newline", ONE_SELECTION_CUT, None, None, 0, ITS_HISTORY),
+        (
+            "faults_and_long_lines",
+            ONE_SELECTION_CUT,
+            None,
+            None,
+            0,
+            ITS_HISTORY,
+        ),
         ("no_lines", "", None, None, 0, ""),
-        ("bad_line", "# none\n\nt1 send\n", None, None, 3, "bad line 3\n"),
-        ("failed_read", ONE_SELECTION, Some(1), None, 4, ""),
-        ("failed_write", ONE_SELECTION, None, Some(2), 5, "1 t1 selec"),
+        (
+            "bad_line",
+            "# none\n\nt1 send\n",
+            None,
+            None,
+            3,
+            "bad line 3\n",
+        ),
+        ("faults_and_long_lines", ONE_SELECTION, Some(1), None, 4, ""),
+        (
+            "faults_and_long_lines",
+            ONE_SELECTION,
+            None,
+            Some(2),
+            5,
+            "1 t1 selec",
+        ),
     ];
     for (label, input, fail_read, fail_write, code, written) in scripts {
         ends(
@@ -80,14 +101,14 @@ fn scripts_and_usage(rt: HostRuntime) -> Result<(), Fail> {
         )?;
     }
     let none = (ONE_SELECTION, None, None);
-    ends(&rt, alloc, "no_words", &[], none, (2, USAGE))?;
-    ends(&rt, alloc, "load", &["load", "0"], none, (2, USAGE))?;
-    ends(&rt, alloc, "proxy", &["proxy"], none, (2, USAGE))?;
-    ends(&rt, alloc, "twice", &["script", "script"], none, (2, USAGE))
+    ends(&rt, alloc, "usage", &[], none, (2, USAGE))?;
+    ends(&rt, alloc, "usage", &["load", "0"], none, (2, USAGE))?;
+    ends(&rt, alloc, "usage", &["proxy"], none, (2, USAGE))?;
+    ends(&rt, alloc, "usage", &["script", "script"], none, (2, USAGE))
 }
 
 /// The line that tells a selector of one key and of the 510 keys from 1,000 on.
-fn long_line(alloc: Global, first: u32) -> Result<String, AllocError> {
+fn long_line(alloc: Global, first: u32) -> Result<String, Fail> {
     let mut line = format!(in alloc; "t1 told s0 k{first}:1")?;
     for key in 1_000..1_510 {
         line.push_str(&format!(in alloc; " k{key}:1")?)?;
@@ -102,61 +123,116 @@ fn long_lines(rt: HostRuntime) -> Result<(), Fail> {
     assert_eq!(rt; longest.len(), 4_096);
     let history = format!(in alloc; "1 {longest} -> no-selector\n")?;
     let input = (longest.as_str(), None, None);
-    ends(&rt, alloc, "longest", &["script"], input, (0, history.as_str()))?;
+    ends(
+        &rt,
+        alloc,
+        "faults_and_long_lines",
+        &["script"],
+        input,
+        (0, history.as_str()),
+    )?;
 
     let longer = long_line(alloc, 100)?;
     let input = (longer.as_str(), None, None);
-    ends(&rt, alloc, "too_long", &["script"], input, (3, "bad line 1\n"))
+    ends(
+        &rt,
+        alloc,
+        "faults_and_long_lines",
+        &["script"],
+        input,
+        (3, "bad line 1\n"),
+    )
 }
 
 #[test]
 fn histories_are_checked(rt: HostRuntime) -> Result<(), Fail> {
     let alloc = rt.alloc();
     let cases = [
-        ("check", ITS_HISTORY, 0, "legal 6\n"),
-        ("check", ANOTHER_HISTORY, 8, "illegal 6: selected 1 ready\n"),
-        ("check", FIRST_RULES, 8, "illegal 11: k0.1\n"),
-        ("check-1", FIRST_RULES, 0, "legal 11\n"),
-        ("check", "1 t1 valid s0 k0.1 -> no-selector\n", 0, "legal 1\n"),
-        ("check-1", "1 t1 valid s0 k0.1 -> no-selector\n", 3, "bad line 1\n"),
-        ("check", "", 0, "legal 0\n"),
-        ("check", "1 t1 selector -> s0", 0, "legal 1\n"),
+        ("check_row", "check", ITS_HISTORY, 0, "legal 6\n"),
         (
+            "check_row",
+            "check",
+            ANOTHER_HISTORY,
+            8,
+            "illegal 6: selected 1 ready\n",
+        ),
+        (
+            "check_by_both_rules",
+            "check",
+            FIRST_RULES,
+            8,
+            "illegal 11: k0.1\n",
+        ),
+        (
+            "check_by_both_rules",
+            "check-1",
+            FIRST_RULES,
+            0,
+            "legal 11\n",
+        ),
+        (
+            "names_with_serials",
+            "check",
+            "1 t1 valid s0 k0.1 -> no-selector\n",
+            0,
+            "legal 1\n",
+        ),
+        (
+            "names_with_serials",
+            "check-1",
+            "1 t1 valid s0 k0.1 -> no-selector\n",
+            3,
+            "bad line 1\n",
+        ),
+        ("no_lines", "check", "", 0, "legal 0\n"),
+        (
+            "no_last_newline",
+            "check",
+            "1 t1 selector -> s0",
+            0,
+            "legal 1\n",
+        ),
+        (
+            "blank_lines",
             "check",
             "# one selector\n1 t1 selector -> s0\n\n2 t1 wakeup s0 -> ok\n",
             0,
             "legal 2\n",
         ),
         (
+            "first_wrong_reply",
             "check",
             "1 t1 selector -> s\n2 t1 wakeup s0 -> no\n",
             8,
             "illegal 1: s0\n",
         ),
         (
+            "wrong_number",
             "check",
             "1 t1 selector -> s0\n3 t1 wakeup s0 -> ok\n",
             3,
             "bad line 2\n",
         ),
         (
+            "no_arrow",
             "check",
             "1 t1 selector -> s0\n\n2 t1 wakeup s0 ok\n",
             3,
             "bad line 3\n",
         ),
         (
+            "bad_line_comes_first",
             "check",
             "1 t1 selector -> s1\n2 t1 wake s0 -> ok\n",
             3,
             "bad line 2\n",
         ),
     ];
-    for (command, text, code, written) in cases {
+    for (label, command, text, code, written) in cases {
         ends(
             &rt,
             alloc,
-            text,
+            label,
             &[command],
             (text, None, None),
             (code, written),

@@ -1,4 +1,3 @@
-use Rattle.std.proofs.Common.{rules}
 use Rattle.nio_event.proofs.Stays.{facts_are_permanent}
 use Rattle.nio_event.specs.Lasting.{selector_made}
 use Rattle.nio_bench.proofs.words.wakes.Goals as goal
