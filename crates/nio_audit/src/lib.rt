@@ -1,0 +1,5 @@
+//! A judge of events.
+#![tactic(auto)]
+
+//mod state;
+mod table;
