@@ -1,1 +1,2 @@
 pub mod TableSets
+pub mod Knowing

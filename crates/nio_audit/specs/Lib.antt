@@ -1,1 +1,6 @@
 pub mod TableWords
+pub mod StateOf
+pub mod Bounds
+pub mod Remembering
+pub mod DueIndexes
+pub mod Counting

@@ -1,5 +1,8 @@
 //! A judge of events.
 #![tactic(auto)]
 
-//mod state;
+mod counts;
+mod dues;
+mod memory;
+mod state;
 mod table;

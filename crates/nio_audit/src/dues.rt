@@ -1,0 +1,69 @@
+//! Which indexes selections have still to put among the free ones.
+ghost use Rattle.std.specs.Prelude.{◌≡◌, ◌+◌, false, OnOk};
+
+use crate::state::StateTables;
+use crate::table::{Grid, Row};
+use nio_base::SelNo;
+use nio_event::Act;
+use std::alloc::{AllocError, Global};
+
+/// Which indexes selections have still to put. A removal counts while no turn of the selector ended since.
+#[derive(Drop)]
+pub(crate) struct Dues {
+    /// When the turn of a selector was given back last, or 0.
+    ended: Row<u64>,
+    /// When the key of an index was removed by a selection that hasn't put the index since, or 0.
+    removed: Grid<u64>,
+}
+
+impl Dues {
+    ghost use Rattle.nio_audit.specs.DueIndexes.{due_of, IsBefore};
+    ghost use Rattle.nio_audit.specs.StateOf.{due_after};
+    ghost use Rattle.nio_audit.specs.TableWords.{row};
+
+    pub(crate) fn new(alloc: Global) -> Dues
+        ensures due { due_of result ≡ (λ _ _. false) }
+        ensures before { IsBefore result 1 }
+    {
+        Dues {
+            ended: Row::new(alloc, 0),
+            removed: Grid::new(alloc, 0),
+        }
+    }
+
+    pub(crate) fn has(&self, sel: SelNo, index: u32) -> bool
+        ensures { result ≡ due_of self.now sel.0 index }
+    {
+        self.ended.get(sel.0) < self.removed.get(sel.0, index)
+    }
+
+    /// What changes by an act at this moment, before the state is changed.
+    pub(crate) fn learn(
+        &mut self,
+        now: u64,
+        state: &StateTables,
+        act: &Act,
+    ) -> Result<(), AllocError>
+        requires { IsBefore self.old now }
+        ensures due { OnOk result (due_of self.new ≡ due_after (row state.now.begun) (due_of self.old) act.now) }
+        ensures before { OnOk result (IsBefore self.new (now + 1)) }
+    {
+        match *act {
+            Act::GiveTurn(sel) => self.ended.set(sel.0, now),
+            Act::Remove(sel, index, found) => {
+                let removed = self.removed.get(sel.0, index);
+                let frees = !found.removed && found.serial < LAST_SERIAL;
+                let removed = if state.has_begun(sel) && frees {
+                    now
+                } else {
+                    removed
+                };
+                self.removed.set(sel.0, index, removed)
+            }
+            Act::PutFree(sel, index) => self.removed.set(sel.0, index, 0),
+            _ => Ok(()),
+        }
+    }
+}
+
+const LAST_SERIAL: u32 = 4_294_967_295;
