@@ -1,2 +1,5 @@
 pub mod TableSets
 pub mod Knowing
+pub mod Owing
+pub mod Latest
+pub mod Hearing

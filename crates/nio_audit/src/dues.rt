@@ -1,5 +1,6 @@
 //! Which indexes selections have still to put among the free ones.
-ghost use Rattle.std.specs.Prelude.{◌≡◌, ◌+◌, false, OnOk};
+ghost use Rattle.std.specs.Prelude.{◌≡◌, ◌+◌, ◌||◌, false, OnOk};
+ghost use Rattle.nio_event.specs.State.{put_at};
 
 use crate::state::StateTables;
 use crate::table::{Grid, Row};
@@ -51,19 +52,19 @@ impl Dues {
         match *act {
             Act::GiveTurn(sel) => self.ended.set(sel.0, now),
             Act::Remove(sel, index, found) => {
-                let removed = self.removed.get(sel.0, index);
-                let frees = !found.removed && found.serial < LAST_SERIAL;
-                let removed = if state.has_begun(sel) && frees {
-                    now
-                } else {
-                    removed
-                };
-                self.removed.set(sel.0, index, removed)
+                self.remove(now, sel, index, state.frees_index(sel, found))
             }
             Act::PutFree(sel, index) => self.removed.set(sel.0, index, 0),
             _ => Ok(()),
         }
     }
-}
 
-const LAST_SERIAL: u32 = 4_294_967_295;
+    fn remove(&mut self, now: u64, sel: SelNo, index: u32, frees: bool) -> Result<(), AllocError>
+        requires { IsBefore self.old now }
+        ensures due { OnOk result (due_of self.new ≡ put_at (due_of self.old) sel.0 index (due_of self.old sel.0 index || frees)) }
+        ensures before { OnOk result (IsBefore self.new (now + 1)) }
+    {
+        let removed = self.removed.get(sel.0, index);
+        self.removed.set(sel.0, index, if frees { now } else { removed })
+    }
+}

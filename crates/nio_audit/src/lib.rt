@@ -4,5 +4,6 @@
 mod counts;
 mod dues;
 mod memory;
+mod probe;
 mod state;
 mod table;

@@ -1,7 +1,7 @@
 //! The state after the events so far, each part in a table of its own.
-ghost use Rattle.std.specs.Prelude.{◌≡◌, ◌<◌, OnOk, ℕ, Bool};
+ghost use Rattle.std.specs.Prelude.{◌≡◌, ◌<◌, OnOk, ℕ, Bool, ◌&&◌};
 ghost use Rattle.nio_base.specs.declared.numbers.CallerNo.{CallerNo};
-ghost use Rattle.nio_event.specs.Acts.{effect, new_key, taken_by};
+ghost use Rattle.nio_event.specs.Acts.{effect, frees_index, new_key, taken_by};
 ghost use Rattle.nio_event.specs.State.{last_serial};
 ghost use Rattle.nio_event.specs.declared.found.Stage.{Stage};
 
@@ -9,6 +9,8 @@ use crate::table::{Cube, Grid, Row};
 use nio_base::{CallerNo, ChanNo, KeyId, Kind, Ops, SelNo};
 use nio_event::{Act, Chan, GateWord, Mark, Stage};
 use std::alloc::{AllocError, Global};
+
+const LAST_SERIAL: u32 = 4_294_967_295;
 
 const UNMARKED: Mark = Mark {
     selected: false,
@@ -193,11 +195,12 @@ impl StateTables {
         }
     }
 
-    /// Whether a selection has begun on the selector.
-    pub(crate) fn has_begun(&self, sel: SelNo) -> bool
-        ensures { result ≡ row self.now.begun sel.0 }
+    /// Whether a selection has begun on the selector, and removes a key whose index it has to put, by the stage that
+    /// the removal found.
+    pub(crate) fn frees_index(&self, sel: SelNo, found: Stage) -> bool
+        ensures { result ≡ (row self.now.begun sel.0 && frees_index found) }
     {
-        self.begun.get(sel.0)
+        self.begun.get(sel.0) && !found.removed && found.serial < LAST_SERIAL
     }
 
     fn make_channel(&mut self, chan: ChanNo, kind: Kind, found: bool) -> Result<(), AllocError>
