@@ -56,12 +56,16 @@ pub record RemembersNote (m : NoteMemory) (n : CallerNo) (c s : ℕ) (past : Lis
   pub key : 0 < m.found_at → last (noted_found c s) (mine n past) ≡ Some m.key
   pub noted : m.noted ≡ latest n (notes c s) past
 
-abbrev pub heard_note : ℕ → Act → ℕ → ℕ → NoteMemory → NoteMemory
-heard_note now act c s m = record {
-  found_at = if is_some (noted_found c s act) then now else m.found_at;
-  key = unwrap_or (noted_found c s act) m.key;
-  noted = if notes c s act then now else m.noted;
+-- the same with what an act tells: which key it found or noted, and whether it noted it
+abbrev pub note_parts : ℕ → Option (Option KeyId) → Bool → NoteMemory → NoteMemory
+note_parts now key notes m = record {
+  found_at = if is_some key then now else m.found_at;
+  key = unwrap_or key m.key;
+  noted = if notes then now else m.noted;
 }
+
+abbrev pub heard_note : ℕ → Act → ℕ → ℕ → NoteMemory → NoteMemory
+heard_note now act c s m = note_parts now (noted_found c s act) (notes c s act) m
 
 pub note-other : (m : NoteMemory) (n : CallerNo) (c s : ℕ) (past : List Event) (e : Event) → is_by n e ≡ false → RemembersNote m n c s past
     → RemembersNote m n c s (past ++ e ∷ [])
@@ -107,16 +111,21 @@ abbrev pub heard_before : Option Stage → IndexMemory → ℕ
 heard_before None m = m.outside_before
 heard_before (Some found) m = outside_at m found.serial
 
-abbrev pub heard_index : ℕ → Act → ℕ → ℕ → IndexMemory → IndexMemory
-heard_index now act s i m = record {
-  looked = if is_some (stage_found s i act) then now else m.looked;
-  found = unwrap_or (stage_found s i act) m.found;
-  outside_before = heard_before (stage_found s i act) m;
-  published = if publishes s i act then now else m.published;
-  taken = if takes_free s i act then now else m.taken;
-  claim = unwrap_or (option_map (option_map claim_of) (claim_changed s i act)) m.claim;
-  unpublished = unwrap_or (leaves_unpublished s i act) m.unpublished;
+-- the same with what an act tells: the stage that it found, whether it published a key and took the index, what it did to
+-- the claim, and whether it leaves the key unpublished
+abbrev pub heard_parts : ℕ → Option Stage → Bool → Bool → Option (Option OwnClaim) → Option Bool → IndexMemory → IndexMemory
+heard_parts now stage publishes takes claim unpublished m = record {
+  looked = if is_some stage then now else m.looked;
+  found = unwrap_or stage m.found;
+  outside_before = heard_before stage m;
+  published = if publishes then now else m.published;
+  taken = if takes then now else m.taken;
+  claim = unwrap_or (option_map (option_map claim_of) claim) m.claim;
+  unpublished = unwrap_or unpublished m.unpublished;
 }
+
+abbrev pub heard_index : ℕ → Act → ℕ → ℕ → IndexMemory → IndexMemory
+heard_index now act s i m = heard_parts now (stage_found s i act) (publishes s i act) (takes_free s i act) (claim_changed s i act) (leaves_unpublished s i act) m
 
 pub index-other : (m : IndexMemory) (n : CallerNo) (s i : ℕ) (past : List Event) (e : Event) → is_by n e ≡ false → RemembersIndex m n s i past
     → RemembersIndex m n s i (past ++ e ∷ [])
