@@ -150,14 +150,14 @@ remembers-none = record {
   holds = λ n c. record { taken = sym (latest-none n _); unblocked = sym (latest-none n _) };
   notes = λ n c s. record { found_at = sym (latest-none n _); key = λ some. absurd (omega arith); noted = sym (latest-none n _) };
   indexes = λ n s i. record {
-      looked = sym (latest-none n _);
-      found = λ some. absurd (omega arith);
-      outside = λ serial. sym (latest-none n _);
-      published = sym (latest-none n _);
-      taken = sym (latest-none n _);
-      claim = refl;
-      unpublished = refl;
-    };
+    looked = sym (latest-none n _);
+    found = λ some. absurd (omega arith);
+    outside = λ serial. sym (latest-none n _);
+    published = sym (latest-none n _);
+    taken = sym (latest-none n _);
+    claim = refl;
+    unpublished = refl;
+  };
   closings = λ n s. record { entered = refl; below = λ i. sym (le-ltb i 0 (omega arith)) };
 }
 

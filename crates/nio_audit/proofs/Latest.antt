@@ -65,7 +65,7 @@ latest-le n p past = induction (λ events. latest n p events ≤ length events) 
     each : (events : List Event) (e : Event) → latest n p events ≤ length events → latest n p (events ++ e ∷ []) ≤ length (events ++ e ∷ [])
     each events e here =
         let bound : (if is_by n e && p e.act then length events + 1 else latest n p events) ≤ length events + 1 =
-          if_le (is_by n e && p e.act) (length events + 1) (latest n p events) (length events + 1) (omega arith) (omega arith) in
+        if_le (is_by n e && p e.act) (length events + 1) (latest n p events) (length events + 1) (omega arith) (omega arith) in
         omega (arith, bound, latest-more n p events e, length_more events e)
 
 or_true : (b : Bool) → (b || true) ≡ true

@@ -3,3 +3,4 @@ pub mod Knowing
 pub mod Owing
 pub mod Latest
 pub mod Hearing
+pub mod BitWords

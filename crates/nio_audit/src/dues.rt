@@ -65,6 +65,7 @@ impl Dues {
         ensures before { OnOk result (IsBefore self.new (now + 1)) }
     {
         let removed = self.removed.get(sel.0, index);
-        self.removed.set(sel.0, index, if frees { now } else { removed })
+        self.removed
+            .set(sel.0, index, if frees { now } else { removed })
     }
 }

@@ -10,6 +10,8 @@ use nio_base::{CallerNo, ChanNo, KeyId, Kind, Ops, SelNo};
 use nio_event::{Act, Chan, GateWord, Mark, Stage};
 use std::alloc::{AllocError, Global};
 
+mod answers;
+
 const LAST_SERIAL: u32 = 4_294_967_295;
 
 const UNMARKED: Mark = Mark {
