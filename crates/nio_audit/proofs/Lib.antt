@@ -4,3 +4,4 @@ pub mod Owing
 pub mod Latest
 pub mod Hearing
 pub mod BitWords
+pub mod Answering
