@@ -4,3 +4,5 @@ pub mod Bounds
 pub mod Remembering
 pub mod DueIndexes
 pub mod Counting
+pub mod Found
+pub mod Allowing

@@ -3,6 +3,7 @@
 
 mod counts;
 mod dues;
+mod judge;
 mod memory;
 mod probe;
 mod state;

@@ -1,8 +1,7 @@
 //! What callers know from their own acts, as far as a condition reads it.
 //!
 //! Moments are places in the list of events, counted from 1; 0 is never.
-ghost use Rattle.std.specs.Prelude.{◌≡◌, ◌<◌, OnOk, IfOk};
-ghost use Rattle.nio_event.specs.State.{last_serial};
+ghost use Rattle.std.specs.Prelude.{◌≡◌, nat_lt, OnOk};
 
 use crate::table::{Cube, Grid};
 use nio_base::{CallerNo, ChanNo, KeyId, SelNo};
@@ -95,8 +94,8 @@ impl IndexMemory {
 }
 
 impl Memory {
-    ghost use Rattle.std.specs.Prelude.{ℕ};
     ghost use Rattle.nio_audit.specs.Bounds.{IsRemembered};
+    ghost use Rattle.nio_audit.specs.Found.{found_by, is_clear_for, unblocked_by};
     ghost use Rattle.nio_audit.specs.Remembering.{claimed, knowledge_of, learned, nothing_known};
 
     /// Nobody knows anything.
@@ -111,28 +110,65 @@ impl Memory {
         }
     }
 
-    pub(crate) fn hold(&self, me: CallerNo, chan: ChanNo) -> HoldMemory
-        ensures { result ≡ (knowledge_of self.now).holds me.0 chan.0 }
+    /// Whether the caller found the channel in non-blocking mode under its present hold.
+    pub(crate) fn found_unblocked(&self, me: CallerNo, chan: ChanNo) -> bool
+        ensures { result ≡ unblocked_by ((knowledge_of self.now).holds me.0 chan.0) }
     {
-        self.holds.get(me.0, chan.0)
+        let hold = self.holds.get(me.0, chan.0);
+        hold.taken < hold.unblocked
     }
 
-    pub(crate) fn note(&self, me: CallerNo, chan: ChanNo, sel: u32) -> NoteMemory
-        ensures { result ≡ (knowledge_of self.now).notes me.0 chan.0 sel }
+    /// Whether the caller found the noted key of the channel outside the key set, or none noted, under its present
+    /// hold. A look that is older than its own noting or publishing doesn't count.
+    pub(crate) fn is_clear(&self, me: CallerNo, chan: ChanNo, sel: u32) -> bool
+        ensures { result ≡ is_clear_for (knowledge_of self.now) me chan.0 sel }
     {
-        self.notes.get(me.0, chan.0, sel)
+        let hold = self.holds.get(me.0, chan.0);
+        let note = self.notes.get(me.0, chan.0, sel);
+        if note.found_at <= hold.taken {
+            return false;
+        }
+        match note.key {
+            None => true,
+            Some(key) => {
+                let index = self.indexes.get(me.0, sel, key.index);
+                let since = hold.taken.max(note.noted.max(index.published));
+                since < index.outside_at(key.serial)
+            }
+        }
     }
 
-    pub(crate) fn index(&self, me: CallerNo, sel: u32, index: u32) -> IndexMemory
-        ensures { result ≡ (knowledge_of self.now).indexes me.0 sel index }
+    /// The caller's claim of the index, while it has the pin of that claim.
+    pub(crate) fn claim(&self, me: CallerNo, sel: SelNo, index: u32) -> Option<Claim>
+        ensures { result ≡ ((knowledge_of self.now).indexes me.0 sel.0 index).claim }
     {
-        self.indexes.get(me.0, sel, index)
+        self.indexes.get(me.0, sel.0, index).claim
     }
 
-    pub(crate) fn closing(&self, me: CallerNo, sel: SelNo) -> ClosingMemory
-        ensures { result ≡ (knowledge_of self.now).closings me.0 sel.0 }
+    /// Whether the caller claimed the index, and hasn't published the key since.
+    pub(crate) fn is_unpublished(&self, me: CallerNo, sel: SelNo, index: u32) -> bool
+        ensures { result ≡ ((knowledge_of self.now).indexes me.0 sel.0 index).unpublished }
     {
-        self.closings.get(me.0, sel.0)
+        self.indexes.get(me.0, sel.0, index).unpublished
+    }
+
+    /// The stage that the caller found last of the index, since it took it.
+    pub(crate) fn stage_since_taken(&self, me: CallerNo, sel: SelNo, index: u32) -> Option<Stage>
+        ensures { result ≡ found_by ((knowledge_of self.now).indexes me.0 sel.0 index) }
+    {
+        let memory = self.indexes.get(me.0, sel.0, index);
+        if memory.taken < memory.looked {
+            Some(memory.found)
+        } else {
+            None
+        }
+    }
+
+    /// Whether the caller found the index below the keys' mark since it entered.
+    pub(crate) fn found_below(&self, me: CallerNo, sel: SelNo, index: u32) -> bool
+        ensures { result ≡ nat_lt index ((knowledge_of self.now).closings me.0 sel.0).below }
+    {
+        index < self.closings.get(me.0, sel.0).below
     }
 
     /// What the caller knows more after its act at this moment.

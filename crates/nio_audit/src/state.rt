@@ -11,6 +11,7 @@ use nio_event::{Act, Chan, GateWord, Mark, Stage};
 use std::alloc::{AllocError, Global};
 
 mod answers;
+mod holders;
 
 const LAST_SERIAL: u32 = 4_294_967_295;
 
