@@ -1,5 +1,5 @@
 //! Whether a caller may make a step.
-ghost use Rattle.std.specs.Prelude.{◌≡◌, ◌<◌, ◌↔◌, ◌&&◌, ◌||◌, ℕ, IsTrue};
+ghost use Rattle.std.specs.Prelude.{◌≡◌, ◌<◌, ◌*◌, ◌↔◌, ◌&&◌, ◌||◌, ℕ, IsTrue};
 
 use crate::judge::Judge;
 use crate::memory::Claim;
