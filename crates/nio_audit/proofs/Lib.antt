@@ -5,3 +5,5 @@ pub mod Latest
 pub mod Hearing
 pub mod BitWords
 pub mod Answering
+pub mod Counted
+pub mod Recalling
