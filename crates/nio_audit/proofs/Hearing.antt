@@ -3,8 +3,10 @@ use Rattle.std.proofs.Common.{◌≡◌, ℕ, zero, suc, ◌+◌, ◌<◌, ◌�
 use Rattle.std.specs.Prelude.{unwrap_or, option_map}
 use Rattle.std.specs.Option.{option_or}
 use Rattle.std.proofs.lemmas.Bool.{ltb-true, ltb-false, lt-ltb, le-ltb}
-use Rattle.nio_audit.proofs.Latest.{latest, latest-none, latest-own, latest-other, latest-le}
+use Rattle.nio_audit.proofs.Latest.{latest-none, latest-own, latest-other, latest-le}
+use Rattle.nio_audit.specs.Latest.{latest}
 use Rattle.nio_audit.specs.Remembering.{outside_at}
+use Rattle.nio_audit.specs.Remembers.{own_of, RemembersHold, RemembersNote, RemembersIndex, RemembersClosing}
 use Rattle.nio_audit.specs.declared.memory.Claim.{Claim}
 use Rattle.nio_audit.specs.declared.memory.ClosingMemory.{ClosingMemory}
 use Rattle.nio_audit.specs.declared.memory.HoldMemory.{HoldMemory}
@@ -22,10 +24,6 @@ use Rattle.nio_event.specs.declared.event.Event.{Event}
 use Rattle.nio_event.specs.declared.found.Stage.{Stage}
 
 -- ---- channels
-
-pub record RemembersHold (m : HoldMemory) (n : CallerNo) (c : ℕ) (past : List Event) : Type 0 where
-  pub taken : m.taken ≡ latest n (takes_hold c) past
-  pub unblocked : m.unblocked ≡ latest n (finds_unblocked c) past
 
 abbrev pub heard_hold : ℕ → Act → ℕ → HoldMemory → HoldMemory
 heard_hold now act c m = record { taken = if takes_hold c act then now else m.taken; unblocked = if finds_unblocked c act then now else m.unblocked }
@@ -50,11 +48,6 @@ hold-own m n c past e by h = record {
 }
 
 -- ---- noted keys
-
-pub record RemembersNote (m : NoteMemory) (n : CallerNo) (c s : ℕ) (past : List Event) : Type 0 where
-  pub found_at : m.found_at ≡ latest n (λ act. is_some (noted_found c s act)) past
-  pub key : 0 < m.found_at → last (noted_found c s) (mine n past) ≡ Some m.key
-  pub noted : m.noted ≡ latest n (notes c s) past
 
 -- the same with what an act tells: which key it found or noted, and whether it noted it
 abbrev pub note_parts : ℕ → Option (Option KeyId) → Bool → NoteMemory → NoteMemory
@@ -92,20 +85,8 @@ note-own m n c s past e by h = record {
 
 -- ---- indexes
 
-abbrev pub own_of : Claim → OwnClaim
-own_of claim = record { channel = claim.channel; serial = claim.serial }
-
 abbrev pub claim_of : OwnClaim → Claim
 claim_of claim = record { channel = claim.channel; serial = claim.serial }
-
-pub record RemembersIndex (m : IndexMemory) (n : CallerNo) (s i : ℕ) (past : List Event) : Type 0 where
-  pub looked : m.looked ≡ latest n (λ act. is_some (stage_found s i act)) past
-  pub found : 0 < m.looked → last (stage_found s i) (mine n past) ≡ Some m.found
-  pub outside : (serial : ℕ) → outside_at m serial ≡ latest n (λ act. is_outside serial (stage_found s i act)) past
-  pub published : m.published ≡ latest n (publishes s i) past
-  pub taken : m.taken ≡ latest n (takes_free s i) past
-  pub claim : own_claim s i (mine n past) ≡ option_map own_of m.claim
-  pub unpublished : is_unpublished s i (mine n past) ≡ m.unpublished
 
 abbrev pub heard_before : Option Stage → IndexMemory → ℕ
 heard_before None m = m.outside_before
@@ -199,10 +180,6 @@ finds_below-is s i (LookKeys s' found) = by_test (s'.0 == s)
     by_test true = refl
     by_test false = refl
 finds_below-is s i _ = refl
-
-pub record RemembersClosing (m : ClosingMemory) (n : CallerNo) (s : ℕ) (past : List Event) : Type 0 where
-  pub entered : has (enters s) (mine n past) ≡ m.entered
-  pub below : (i : ℕ) → has (finds_below s i) (since_entered s (mine n past)) ≡ nat_lt i m.below
 
 abbrev pub raised : ℕ → Option ℕ → ℕ
 raised x None = x

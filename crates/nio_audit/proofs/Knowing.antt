@@ -2,11 +2,12 @@
 use Rattle.std.proofs.Common.{◌≡◌, ℕ, suc, ◌+◌, ◌==◌, max, Bool, true, false, not, cond, ◌||◌, ◌&&◌, if◌then◌else◌, Option, Some, None, List, [], ◌∷◌, ◌++◌, length, refl, ap, sym, ◌∙◌, subst, eqb-true, eq-eqb, arith, ◌<◌}
 use Rattle.std.specs.Prelude.{is_none}
 use Rattle.std.proofs.lemmas.Bool.{and_parts, and_from}
-use Rattle.nio_audit.proofs.Hearing.{RemembersHold, RemembersNote, RemembersIndex, RemembersClosing, heard_hold, note_parts, heard_note, heard_parts, heard_index, heard_closing, raised, hold-own, hold-other, note-own, note-other, index-own, index-other, closing-own, closing-other}
+use Rattle.nio_audit.proofs.Hearing.{heard_hold, note_parts, heard_note, heard_parts, heard_index, heard_closing, raised, hold-own, hold-other, note-own, note-other, index-own, index-other, closing-own, closing-other}
 use Rattle.nio_audit.proofs.Latest.{latest-none}
 use Rattle.std.proofs.lemmas.Bool.{le-ltb}
 use Rattle.nio_base.specs.declared.numbers.KeyId.{KeyId}
 use Rattle.nio_audit.specs.Remembering.{Knowledge, learned, nothing_known, learned_hold, learned_note, learned_index, learned_closing}
+use Rattle.nio_audit.specs.Remembers.{RemembersHold, RemembersNote, RemembersIndex, RemembersClosing, Remembers}
 use Rattle.nio_audit.specs.TableWords.{put_at_three}
 use Rattle.nio_audit.specs.declared.memory.ClosingMemory.{ClosingMemory}
 use Rattle.nio_audit.specs.declared.memory.HoldMemory.{HoldMemory}
@@ -138,12 +139,6 @@ closings-heard now me (LookKeys s' found) k n s =
 closings-heard now me _ k n s = cond_same (me.0 == n) (k.closings n s) ∙ ap (λ m. if me.0 == n then m else k.closings n s) (sym (kept_closing (k.closings n s)))
 
 -- ---- all that callers know
-
-pub record Remembers (k : Knowledge) (past : List Event) : Type 0 where
-  pub holds : (n : CallerNo) (c : ℕ) → RemembersHold (k.holds n.0 c) n c past
-  pub notes : (n : CallerNo) (c s : ℕ) → RemembersNote (k.notes n.0 c s) n c s past
-  pub indexes : (n : CallerNo) (s i : ℕ) → RemembersIndex (k.indexes n.0 s i) n s i past
-  pub closings : (n : CallerNo) (s : ℕ) → RemembersClosing (k.closings n.0 s) n s past
 
 pub remembers-none : Remembers nothing_known []
 remembers-none = record {

@@ -5,6 +5,7 @@ use Rattle.std.specs.Option.{option_or}
 use Rattle.std.proofs.lemmas.Bool.{lt-ltb, le-ltb, ltb-true}
 use Rattle.std.proofs.lemmas.List.{append-nil, length-append}
 use Rattle.std.proofs.lemmas.List.Sums.{fold-append}
+use Rattle.nio_audit.specs.Latest.{counted, latest}
 use Rattle.nio_base.specs.declared.numbers.CallerNo.{CallerNo}
 use Rattle.nio_event.proofs.OneMore.{mine-own, mine-other, has-more, last-more, since_from-more}
 use Rattle.nio_event.specs.Histories.{is_by, mine}
@@ -19,13 +20,6 @@ induction {A} P none each xs = from [] xs none
     from : (before later : List A) → P before → P (before ++ later)
     from before [] here = subst P (sym (append-nil before)) here
     from before (x ∷ later) here = subst P (append_assoc before (x ∷ []) later) (from (before ++ x ∷ []) later (each before x here))
-
-abbrev pub counted : CallerNo → (Act → Bool) → List Event → ℕ × ℕ
-counted n p events = fold (λ (t : ℕ × ℕ) (e : Event). (t.0 + 1, if is_by n e && p e.act then t.0 + 1 else t.1)) (0, 0) events
-
--- the place after the caller's last act that passes the test, or 0
-unfoldable pub latest : CallerNo → (Act → Bool) → List Event → ℕ
-latest n p events = (counted n p events).1
 
 counted-more : (n : CallerNo) (p : Act → Bool) (past : List Event) (e : Event)
     → counted n p (past ++ e ∷ []) ≡ ((counted n p past).0 + 1, if is_by n e && p e.act then (counted n p past).0 + 1 else (counted n p past).1)

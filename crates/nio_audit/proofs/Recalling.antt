@@ -3,13 +3,14 @@ use Rattle.std.proofs.Common.{◌≡◌, ℕ, ◌<◌, ◌≤◌, max, nat_lt, B
 use Rattle.std.specs.Prelude.{List, Option, Some, None, is_some, option_map}
 use Rattle.std.proofs.lemmas.Bool.{ltb-true}
 use Rattle.nio_audit.proofs.Counted.{all_made, all_claimed}
-use Rattle.nio_audit.proofs.Hearing.{RemembersHold, RemembersNote, RemembersIndex, RemembersClosing, own_of, claim_of}
-use Rattle.nio_audit.proofs.Knowing.{Remembers}
-use Rattle.nio_audit.proofs.Latest.{latest, has-since, last-since, since_from-twice, latest-either}
+use Rattle.nio_audit.proofs.Hearing.{claim_of}
+use Rattle.nio_audit.proofs.Latest.{has-since, last-since, since_from-twice, latest-either}
 use Rattle.nio_audit.specs.Allowing.{Allowed, may_publish_by, may_clear_out_by}
 use Rattle.nio_audit.specs.Counting.{IsCounted}
 use Rattle.nio_audit.specs.Found.{unblocked_by, found_by, clear_key, clear_by, is_clear_for}
 use Rattle.nio_audit.specs.Remembering.{Knowledge, outside_at}
+use Rattle.nio_audit.specs.Latest.{latest}
+use Rattle.nio_audit.specs.Remembers.{own_of, Remembers}
 use Rattle.nio_audit.specs.declared.memory.Claim.{Claim}
 use Rattle.nio_audit.specs.declared.memory.HoldMemory.{HoldMemory}
 use Rattle.nio_audit.specs.declared.memory.IndexMemory.{IndexMemory}
@@ -119,9 +120,10 @@ allowed_iff l me (Enrol c s i serial found) h counted =
     (λ may. (may.0, may.1, claim.0 may.2, may.3, same.0 may.4), λ may. (may.0, may.1, claim.1 may.2, may.3, same.1 may.4))
 allowed_iff {st = st} l me (Remove s i found) h counted =
     let same = same_test (ap (λ b. may_sweep st me s i || b) (clear_out-may h st me s i)) in (λ may. (may.0, same.0 may.1), λ may. (may.0, same.1 may.1))
-allowed_iff l me (SetMode c blocking found) h counted =
-    ( λ may. (may.0, may.1, λ b s below. (same_test (clear-found h me c.0 s)).0 (may.2 b s below))
-    , λ may. (may.0, may.1, λ b s below. (same_test (clear-found h me c.0 s)).1 (may.2 b s below)))
+allowed_iff l me (SetMode c blocking found) h counted = (
+  λ may. (may.0, may.1, λ b s below. (same_test (clear-found h me c.0 s)).0 (may.2 b s below)),
+  λ may. (may.0, may.1, λ b s below. (same_test (clear-found h me c.0 s)).1 (may.2 b s below)),
+)
 allowed_iff l me (ClearMark s i found) h counted =
     let same = same_test (h.indexes me s.0 i).unpublished in (λ may. (may.0, same.0 may.1), λ may. (may.0, same.1 may.1))
 allowed_iff l me (ClaimAgain s i c from found) h counted =

@@ -4,5 +4,9 @@ pub mod Bounds
 pub mod Remembering
 pub mod DueIndexes
 pub mod Counting
+pub mod Latest
+pub mod Remembers
 pub mod Found
 pub mod Allowing
+pub mod Following
+pub mod Audit

@@ -3,6 +3,7 @@
 //! Moments are places in the list of events, counted from 1; 0 is never.
 ghost use Rattle.std.specs.Prelude.{◌≡◌, nat_lt, OnOk};
 
+use crate::state::UNCLAIMED;
 use crate::table::{Cube, Grid};
 use nio_base::{CallerNo, ChanNo, KeyId, SelNo};
 use nio_event::{Act, Stage};
@@ -318,15 +319,6 @@ const NO_INDEX: IndexMemory = IndexMemory {
     taken: 0,
     claim: None,
     unpublished: false,
-};
-
-const UNCLAIMED: Stage = Stage {
-    claimed: false,
-    published: false,
-    cancelled: false,
-    removed: false,
-    chan: ChanNo(0),
-    serial: 0,
 };
 
 const NO_CLOSING: ClosingMemory = ClosingMemory {

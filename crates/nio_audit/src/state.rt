@@ -1,8 +1,8 @@
 //! The state after the events so far, each part in a table of its own.
-ghost use Rattle.std.specs.Prelude.{◌≡◌, ◌<◌, OnOk, ℕ, Bool, ◌&&◌};
+ghost use Rattle.std.specs.Prelude.{◌≡◌, ◌<◌, OnOk, ℕ, Bool, false, ◌&&◌};
 ghost use Rattle.nio_base.specs.declared.numbers.CallerNo.{CallerNo};
 ghost use Rattle.nio_event.specs.Acts.{effect, frees_index, new_key, taken_by};
-ghost use Rattle.nio_event.specs.State.{last_serial};
+ghost use Rattle.nio_event.specs.State.{last_serial, opening};
 ghost use Rattle.nio_event.specs.declared.found.Stage.{Stage};
 
 use crate::table::{Cube, Grid, Row};
@@ -14,6 +14,28 @@ mod answers;
 mod holders;
 
 const LAST_SERIAL: u32 = 4_294_967_295;
+
+const UNMADE: Chan = Chan {
+    made: false,
+    kind: Kind::Stream,
+    closed: false,
+    blocking: false,
+};
+
+const OPEN_GATE: GateWord = GateWord {
+    woken: false,
+    shut: false,
+};
+
+/// An index that isn't claimed.
+pub(crate) const UNCLAIMED: Stage = Stage {
+    claimed: false,
+    published: false,
+    cancelled: false,
+    removed: false,
+    chan: ChanNo(0),
+    serial: 0,
+};
 
 const UNMARKED: Mark = Mark {
     selected: false,
@@ -49,6 +71,34 @@ impl StateTables {
     ghost use Rattle.nio_audit.specs.Bounds.{IsBounded};
     ghost use Rattle.nio_audit.specs.StateOf.{due_after, state_with};
     ghost use Rattle.nio_audit.specs.TableWords.{grid, row};
+
+    /// The opening state: nothing is drawn, made, shut, claimed or interrupted.
+    pub(crate) fn new(alloc: Global) -> StateTables
+        ensures { state_with result (λ _ _. false) ≡ opening }
+    {
+        StateTables {
+            drawn: Row::new(alloc, false),
+            interrupted: Row::new(alloc, false),
+            selector: Row::new(alloc, false),
+            channels_mark: 0,
+            chan: Row::new(alloc, UNMADE),
+            hold: Row::new(alloc, None),
+            noted: Grid::new(alloc, None),
+            gate: Row::new(alloc, OPEN_GATE),
+            turn: Row::new(alloc, None),
+            keys_mark: Row::new(alloc, 0),
+            key: Grid::new(alloc, UNCLAIMED),
+            interest: Grid::new(alloc, Ops::NONE),
+            mark: Grid::new(alloc, UNMARKED),
+            note: Grid::new(alloc, 0),
+            pinned: Cube::new(alloc, false),
+            free: Grid::new(alloc, false),
+            begun: Row::new(alloc, false),
+            closer: Row::new(alloc, None),
+            entered: Row::new(alloc, false),
+            taker: Grid::new(alloc, None),
+        }
+    }
 
     /// Makes the change of an act that is a step now.
     pub(crate) fn apply(&mut self, me: CallerNo, act: &Act) -> Result<(), AllocError>
