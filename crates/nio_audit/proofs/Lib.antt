@@ -7,3 +7,5 @@ pub mod BitWords
 pub mod Answering
 pub mod Counted
 pub mod Recalling
+pub mod Judging
+pub mod Firsts

@@ -1,6 +1,9 @@
-//! A judge of events.
+//! A judge of events: whether a recorded run is a legal history.
 #![tactic(auto)]
 
+pub use auditing::{AuditError, audit};
+
+mod auditing;
 mod counts;
 mod dues;
 mod judge;

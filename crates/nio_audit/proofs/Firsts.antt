@@ -1,0 +1,36 @@
+-- The first event that isn't a step: there is at most one, and none in a legal history.
+use Rattle.std.proofs.Common.{◌≡◌, ℕ, zero, suc, ◌+◌, ◌<◌, ◌≤◌, nat_lt, Bool, true, false, List, [], ◌∷◌, ◌++◌, length, take, drop, refl, ap, sym, ◌∙◌, subst, arith}
+use Rattle.std.proofs.lemmas.Bool.{ltb-true, ltb-false}
+use Rattle.nio_audit.specs.Audit.{IsFirstNoStep}
+use Rattle.nio_base.specs.declared.limits.Limits.{Limits}
+use Rattle.nio_event.specs.Histories.{IsStep, IsLegal}
+use Rattle.nio_event.specs.declared.event.Event.{Event}
+
+pub first-illegal : (l : Limits) (events : List Event) (place : ℕ) → IsLegal l events → IsFirstNoStep l events place → ⊥
+first-illegal l events place legal first = first.no_step (legal.steps first.before first.event first.later first.split)
+
+-- of two beginnings of a list, the longer has the item after the shorter
+longer : {A : Type 0} (xs : List A) (x : A) (zs : List A) (ys ws : List A) → xs ++ x ∷ zs ≡ ys ++ ws → length xs < length ys
+    → (rest : List A) × (ys ≡ xs ++ x ∷ rest)
+longer [] x zs [] ws e h = absurd (omega arith)
+longer [] x zs (y ∷ ys) ws e h = let same : x ≡ y = cc in (ys, ap (λ v. v ∷ ys) (sym same))
+longer (v ∷ xs) x zs [] ws e h = absurd (omega arith)
+longer (v ∷ xs) x zs (y ∷ ys) ws e h =
+    let same : v ≡ y = cc in
+    let shorter : xs ++ x ∷ zs ≡ ys ++ ws = cc in
+    let more = longer xs x zs ys ws shorter (omega arith) in
+    (more.0, ap (λ u. u ∷ ys) (sym same) ∙ ap (λ us. v ∷ us) more.1)
+
+not_before : (l : Limits) (events : List Event) (a b : ℕ) → IsFirstNoStep l events a → IsFirstNoStep l events b → a < b → ⊥
+not_before l events a b first second h =
+    let shorter : length first.before < length second.before = omega (arith, first.place_is, second.place_is) in
+    let more = longer first.before first.event first.later second.before (second.event ∷ second.later) (sym first.split ∙ second.split) shorter in
+    first.no_step (second.legal.steps first.before first.event more.0 more.1)
+
+pub first-one : (l : Limits) (events : List Event) (a b : ℕ) → IsFirstNoStep l events a → IsFirstNoStep l events b → a ≡ b
+first-one l events a b first second = by_order (nat_lt a b) (nat_lt b a) refl refl
+  where
+    by_order : (x y : Bool) → nat_lt a b ≡ x → nat_lt b a ≡ y → a ≡ b
+    by_order true y e f = absurd (not_before l events a b first second (ltb-true a b e))
+    by_order false true e f = absurd (not_before l events b a second first (ltb-true b a f))
+    by_order false false e f = omega (arith, ltb-false a b e, ltb-false b a f)
