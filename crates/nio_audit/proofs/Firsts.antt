@@ -1,10 +1,30 @@
 -- The first event that isn't a step: there is at most one, and none in a legal history.
 use Rattle.std.proofs.Common.{◌≡◌, ℕ, zero, suc, ◌+◌, ◌<◌, ◌≤◌, nat_lt, Bool, true, false, List, [], ◌∷◌, ◌++◌, length, take, drop, refl, ap, sym, ◌∙◌, subst, arith}
 use Rattle.std.proofs.lemmas.Bool.{ltb-true, ltb-false}
+use Rattle.nio_audit.specs.Following.{Follows}
+use Rattle.nio_audit.specs.declared.judge.Judge.{Judge}
+use Rattle.nio_event.proofs.Legal.{legal_empty, legal_more}
 use Rattle.nio_audit.specs.Audit.{IsFirstNoStep}
 use Rattle.nio_base.specs.declared.limits.Limits.{Limits}
 use Rattle.nio_event.specs.Histories.{IsStep, IsLegal}
 use Rattle.nio_event.specs.declared.event.Event.{Event}
+
+-- the judge followed these events, which are steps
+pub record HasJudged (j : Judge) (l : Limits) (past : List Event) : Type 0 where
+  pub limits : j.limits ≡ l
+  pub legal : IsLegal l past
+  pub follows : Follows j past
+
+pub judged-none : {j : Judge} {l : Limits} → j.limits ≡ l → Follows j [] → HasJudged j l []
+judged-none {l = l} limits follows = record { limits = limits; legal = legal_empty l; follows = follows }
+
+pub judged-more : {j j' : Judge} {l : Limits} {past : List Event} (e : Event) → HasJudged j l past → j'.limits ≡ j.limits → IsStep j.limits past e
+    → Follows j' (past ++ e ∷ []) → HasJudged j' l (past ++ e ∷ [])
+judged-more {l = l} {past = past} e judged limits step follows = record {
+  limits = limits ∙ judged.limits;
+  legal = legal_more l past e judged.legal (subst (λ (l' : Limits). IsStep l' past e) judged.limits step);
+  follows = follows;
+}
 
 pub first-illegal : (l : Limits) (events : List Event) (place : ℕ) → IsLegal l events → IsFirstNoStep l events place → ⊥
 first-illegal l events place legal first = first.no_step (legal.steps first.before first.event first.later first.split)

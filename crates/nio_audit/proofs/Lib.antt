@@ -9,3 +9,4 @@ pub mod Counted
 pub mod Recalling
 pub mod Judging
 pub mod Firsts
+pub mod Opening

@@ -1,5 +1,6 @@
 use Rattle.std.proofs.Common.{refl}
 use Rattle.nio_audit.proofs.Firsts
+use Rattle.nio_audit.proofs.Opening
 use Rattle.nio_audit.proofs.probe.probe.Goals as goal
 
 pub returns : goal.returns
