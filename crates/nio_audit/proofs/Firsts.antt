@@ -1,6 +1,7 @@
 -- The first event that isn't a step: there is at most one, and none in a legal history.
-use Rattle.std.proofs.Common.{◌≡◌, ℕ, zero, suc, ◌+◌, ◌<◌, ◌≤◌, nat_lt, Bool, true, false, List, [], ◌∷◌, ◌++◌, length, take, drop, refl, ap, sym, ◌∙◌, subst, arith}
+use Rattle.std.proofs.Common.{◌≡◌, ℕ, zero, suc, ◌+◌, ◌<◌, ◌≤◌, nat_lt, Bool, true, false, List, [], ◌∷◌, ◌++◌, length, take, drop, get_or, drop-cons, refl, ap, sym, ◌∙◌, subst, arith}
 use Rattle.std.proofs.lemmas.Bool.{ltb-true, ltb-false}
+use Rattle.std.proofs.lemmas.List.{take-append-drop, length-take-le, take_more}
 use Rattle.nio_audit.specs.Following.{Follows}
 use Rattle.nio_audit.specs.declared.judge.Judge.{Judge}
 use Rattle.nio_event.proofs.Legal.{legal_empty, legal_more}
@@ -54,3 +55,21 @@ first-one l events a b first second = by_order (nat_lt a b) (nat_lt b a) refl re
     by_order true y e f = absurd (not_before l events a b first second (ltb-true a b e))
     by_order false true e f = absurd (not_before l events b a second first (ltb-true b a f))
     by_order false false e f = omega (arith, ltb-false a b e, ltb-false b a f)
+
+-- an event at a place that isn't a step after those before it, which are steps
+pub first-here : {l : Limits} {events : List Event} {place : ℕ} (e : Event) → place < length events → e ≡ get_or events place e → IsLegal l (take place events)
+    → ¬ IsStep l (take place events) e → IsFirstNoStep l events place
+first-here {events = events} {place = place} e below is legal no_step = record {
+  before = take place events;
+  event = e;
+  later = drop (suc place) events;
+  split = sym (take-append-drop place events) ∙ ap (λ rest. take place events ++ rest) (drop-cons events place e below ∙ ap (λ x. x ∷ drop (suc place) events) (sym is));
+  place_is = length-take-le place events (omega arith);
+  legal = legal;
+  no_step = no_step;
+}
+
+-- the event at the next place
+pub take-next : (events : List Event) (place : ℕ) (e : Event) → place < length events → e ≡ get_or events place e
+    → take (place + 1) events ≡ take place events ++ e ∷ []
+take-next events place e below is = take_more events place e below ∙ ap (λ x. take place events ++ x ∷ []) (sym is)

@@ -8,6 +8,5 @@ mod counts;
 mod dues;
 mod judge;
 mod memory;
-mod probe;
 mod state;
 mod table;
