@@ -10,3 +10,5 @@ mod judge;
 mod memory;
 mod state;
 mod table;
+#[cfg(test)]
+mod tests;

@@ -40,15 +40,16 @@ returns-in_err-judge-clause-not_a_step c = λ place judged.
 pub returns-then-not-branch-clause-ok : goal.returns-then-not-branch-clause-ok
 returns-then-not-branch-clause-ok c = λ judged.
     let first = first-here c.index-events-at.result c.loop-at-test.true c.index-events-at.is c.loop-at.invariant.legal
-      (λ step. refused c.in_ok-judge.field-0 c.if-not-branch.true (c.in_ok-judge.ensures.step.1 (subst (λ (l : Limits). IsStep l (take c.loop-at.at c.args.events.now) c.index-events-at.result) (sym c.loop-at.invariant.limits) step))) in
+    (λ step. refused c.in_ok-judge.field-0 c.if-not-branch.true (c.in_ok-judge.ensures.step.1 (subst (λ (l : Limits). IsStep l (take c.loop-at.at c.args.events.now) c.index-events-at.result) (sym c.loop-at.invariant.limits) step))) in
     (λ h. absurd cc, λ legal. absurd (first-illegal _ _ _ legal first))
 
 pub returns-then-not-branch-clause-not_a_step : goal.returns-then-not-branch-clause-not_a_step
 returns-then-not-branch-clause-not_a_step c = λ place judged.
     let first = first-here c.index-events-at.result c.loop-at-test.true c.index-events-at.is c.loop-at.invariant.legal
-      (λ step. refused c.in_ok-judge.field-0 c.if-not-branch.true (c.in_ok-judge.ensures.step.1 (subst (λ (l : Limits). IsStep l (take c.loop-at.at c.args.events.now) c.index-events-at.result) (sym c.loop-at.invariant.limits) step))) in
-    ( λ h. let same : c.loop-at.at ≡ place = cc in subst (IsFirstNoStep c.args.limits c.args.events.now) same first
-    , λ other. ap (λ (n : ℕ). Err (NotAStep n)) (first-one _ _ _ _ first other))
+    (λ step. refused c.in_ok-judge.field-0 c.if-not-branch.true (c.in_ok-judge.ensures.step.1 (subst (λ (l : Limits). IsStep l (take c.loop-at.at c.args.events.now) c.index-events-at.result) (sym c.loop-at.invariant.limits) step))) in (
+      λ h. let same : c.loop-at.at ≡ place = cc in subst (IsFirstNoStep c.args.limits c.args.events.now) same first,
+      λ other. ap (λ (n : ℕ). Err (NotAStep n)) (first-one _ _ _ _ first other),
+    )
 
 pub loop-at-preserved : goal.loop-at-preserved
 loop-at-preserved c =
