@@ -1,1 +1,4 @@
 pub mod Made
+pub mod Own
+pub mod Held
+pub mod Chains

@@ -14,7 +14,7 @@ use Rattle.nio_event.specs.Lasting.{LastingFact, stands, channel_made}
 use Rattle.nio_event.specs.PassViews.{PassView, Holds, known, ActsClause}
 use Rattle.nio_event.specs.State.{State}
 use Rattle.nio_event.specs.declared.act.Act.{Act}
-use Rattle.nio_event.specs.declared.act.Act.TheVariants.{MakeChannel, LookChannels}
+use Rattle.nio_event.specs.declared.act.Act.TheVariants.{MakeChannel, LookChannels, CloseBit}
 use Rattle.nio_event.specs.declared.found.Chan.{Chan}
 use Rattle.nio_words.proofs.Views.{look_tells}
 
@@ -48,3 +48,10 @@ pub all_made_below : {me : CallerNo} {mark : ℕ} {v0 v1 : PassView} → ActsCla
 all_made_below {mark = mark} {v0 = v0} {v1 = v1} clause c below =
     let told : mark ≡ (known v1).channels_mark = cc (look_tells clause refl) in
     (legal-sound v0.limits v1.seen clause.history.legal).channels_below c (subst (λ n. c < n) told below)
+
+-- a channel that was just closed is closed
+pub closed_now : {me : CallerNo} {c : ChanNo} {found : Bool} {v0 v1 : PassView} → ActsClause me (CloseBit c found ∷ []) v0 v1 → ((known v1).chan c.0).closed ≡ true
+closed_now {me = me} {c = c} {found = found} {v0 = v0} {v1 = v1} clause =
+    let leaves = step_leaves v0.limits (Holds v0) me (CloseBit c found) v0.seen v1.seen clause.history in
+    let before : State = state_after (v0.seen ++ leaves.between) in
+    ap (λ st. (st.chan c.0).closed) leaves.state ∙ ap (λ x. x.closed) (put-same before.chan c.0 (record (before.chan c.0) { closed = true }))

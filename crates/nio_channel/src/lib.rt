@@ -1,9 +1,14 @@
 //! Calls on channels.
 #![tactic(auto)]
 
+pub use closing::close_channel;
+pub use keys::{is_registered, key_for};
 pub use looks::{is_blocking, is_open};
-pub use opening::open_channel;
 pub use nio_steps::ChannelError;
+pub use opening::open_channel;
 
+mod closing;
+mod found;
+mod keys;
 mod looks;
 mod opening;

@@ -67,10 +67,14 @@ key_for_plan c s = do
   noted ← look_reg c s
   noted_in_set s noted
 
-unfoldable pub is_registered_plan : Limits → ChanNo → Plan Bool
-is_registered_plan l c = sweep_to l.selectors 0 (λ s registered. do
+-- whether it has one there, or was found registered before
+abbrev pub registered_or : ChanNo → ℕ → Bool → Plan Bool
+registered_or c s before = do
   here ← key_for_plan c (selector s)
-  reply (registered || is_some here)) false
+  reply (before || is_some here)
+
+unfoldable pub is_registered_plan : Limits → ChanNo → Plan Bool
+is_registered_plan l c = sweep_to l.selectors 0 (registered_or c) false
 
 -- ---- the mode
 

@@ -1,0 +1,153 @@
+-- What stands under the hold of a channel after one step more.
+use Rattle.std.proofs.Common.{◌≡◌, ℕ, ◌<◌, ◌==◌, Bool, true, false, ◌&&◌, ◌||◌, Option, Some, None, List, [], ◌∷◌, ◌++◌, refl, ap, sym, ◌∙◌, subst, below_more, arith, ◌+◌, not}
+use Rattle.std.specs.Prelude.{nat_lt, IfSome, IsTrue}
+use Rattle.std.proofs.lemmas.Bool.{and_parts, and_from, or_right, ne_eqb}
+use Rattle.nio_base.specs.declared.numbers.CallerNo.{CallerNo}
+use Rattle.nio_base.specs.declared.numbers.ChanNo.{ChanNo}
+use Rattle.nio_base.specs.declared.numbers.KeyId.{KeyId}
+use Rattle.nio_base.specs.declared.numbers.SelNo.{SelNo}
+use Rattle.nio_event.proofs.LastsAlone.{same_two}
+use Rattle.nio_event.proofs.PinLaws.{noted_keys_are_claimed}
+use Rattle.nio_event.proofs.Within.{legal-within}
+use Rattle.nio_event.specs.Conditions.{IsChannel, IsSelector, IsKey, holds, is_claimed}
+use Rattle.nio_event.specs.Lasting.{the_hold, key_published}
+use Rattle.nio_event.specs.OwnEvents.{has, last, under, releases, finds_unblocked, noted_found, own_claim, is_unpublished, is_clear}
+use Rattle.nio_event.specs.PassViews.{PassView, known, ActsClause, HasKey}
+use Rattle.nio_event.specs.Sets.{fits, in_key_set, was_published, is_in_key_set}
+use Rattle.nio_event.specs.Sound.{IsWithin}
+use Rattle.nio_event.specs.declared.act.Act.{Act}
+use Rattle.nio_event.specs.declared.act.Act.TheVariants.{LookKey, LookReg}
+use Rattle.nio_event.specs.declared.found.Stage.{Stage}
+use Rattle.nio_steps.specs.Names.{key}
+use Rattle.nio_words.proofs.GoingOn.{calls_go_on, own_stands}
+use Rattle.nio_words.proofs.Pins.{changes_pins, stays_pinned}
+use Rattle.nio_words.proofs.Seen.{still_ready}
+use Rattle.nio_words.proofs.Views.{finds_drawn, step_acts, look_tells, found_now}
+use Rattle.nio_words.specs.Passes.{seen, state_seen, acts_seen, IsReady, limits_of}
+use Rattle.nio_words.specs.Steps.{Steps}
+use Rattle.nio_words.specs.Views.{view}
+use Rattle.nio_words.specs.declared.words.Pass.{Pass}
+use Rattle.nio_words.specs.declared.words.Words.{Words}
+use Rattle.nio_channel.proofs.Own.{is_quiet, quiet_keeps, under_quiet, told_quiet, told_look, clear_quiet, clear_look_else, clear_none, clear_looked, keeps_claims, claim_stays, unpublished_stays}
+use Rattle.nio_channel.specs.Held.{HoldsChannel, HoldsUnblocked, MayNote, KnowsNoted, HasClaimed, IsClearBelow}
+
+-- the caller's acts grow by the step
+pub own_more : {w : Words} {p q : Pass} {me : CallerNo} {act : Act} → Steps w p q me act → finds_drawn act ≡ false → acts_seen q me ≡ acts_seen p me ++ act ∷ []
+own_more steps new = (step_acts steps new).history.own
+
+-- ---- the hold
+
+pub hold_stays : {w : Words} {p q : Pass} {me : CallerNo} {act : Act} {c : ChanNo} → Steps w p q me act → finds_drawn act ≡ false → releases c.0 act ≡ false
+    → HoldsChannel w p me c → HoldsChannel w q me c
+hold_stays {w = w} {p = p} {q = q} {me = me} {act = act} {c = c} steps new keeps held =
+    let clause = (step_acts steps new).history in
+    record {
+      ready = still_ready w p q me me act steps held.ready;
+      channel = held.channel;
+      holding = own_stands w me (the_hold c) (act ∷ []) p q
+          (record {
+            goes_on = record { later = record { earlier_pass = held.ready.pass; later_pass = steps.pass; begins = clause.goes_on }; own = clause.own };
+            has_it = held.holding;
+            kept = ap (λ b. b || false) keeps;
+          });
+    }
+
+pub unblocked_stays : {w : Words} {p q : Pass} {me : CallerNo} {act : Act} {c : ChanNo} → Steps w p q me act → finds_drawn act ≡ false → is_quiet act ≡ true
+    → HoldsUnblocked w p me c → HoldsUnblocked w q me c
+unblocked_stays {p = p} {me = me} {act = act} {c = c} steps new quiet here = record {
+  held = hold_stays steps new (quiet_keeps c.0 act quiet) here.held;
+  unblocked = ap (λ own. has (finds_unblocked c.0) (under c.0 own)) (own_more steps new) ∙ under_quiet (finds_unblocked c.0) c.0 (acts_seen p me) act quiet here.unblocked;
+}
+
+pub may_note_stays : {w : Words} {p q : Pass} {me : CallerNo} {act : Act} {c : ChanNo} {s : SelNo} → Steps w p q me act → finds_drawn act ≡ false → is_quiet act ≡ true
+    → MayNote w p me c s → MayNote w q me c s
+may_note_stays {p = p} {me = me} {act = act} {c = c} {s = s} steps new quiet here = record {
+  its = unblocked_stays steps new quiet here.its;
+  clear = ap (is_clear c.0 s.0) (own_more steps new) ∙ clear_quiet c.0 s.0 (acts_seen p me) act quiet here.clear;
+}
+
+pub noted_stays : {w : Words} {p q : Pass} {me : CallerNo} {act : Act} {c : ChanNo} {s : SelNo} {k : KeyId} → Steps w p q me act → finds_drawn act ≡ false → is_quiet act ≡ true
+    → KnowsNoted w p me c s k → KnowsNoted w q me c s k
+noted_stays {p = p} {me = me} {act = act} {c = c} {s = s} steps new quiet here = record {
+  its = unblocked_stays steps new quiet here.its;
+  noted = ap (λ own. last (noted_found c.0 s.0) (under c.0 own)) (own_more steps new) ∙ (told_quiet c.0 s.0 (acts_seen p me) act quiet ∙ here.noted);
+}
+
+pub claimed_stays : {w : Words} {p q : Pass} {me : CallerNo} {act : Act} {c : ChanNo} {s : SelNo} {k : KeyId} → Steps w p q me act → finds_drawn act ≡ false
+    → changes_pins act ≡ false → keeps_claims act ≡ true → HasClaimed w p me c s k → HasClaimed w q me c s k
+claimed_stays {p = p} {me = me} {act = act} {s = s} {k = k} steps new pins keeps here = record {
+  pinned = stays_pinned steps new pins here.pinned;
+  claim = ap (own_claim s.0 k.index) (own_more steps new) ∙ (claim_stays s.0 k.index (acts_seen p me) act keeps ∙ here.claim);
+  unpublished = ap (is_unpublished s.0 k.index) (own_more steps new) ∙ (unpublished_stays s.0 k.index (acts_seen p me) act keeps ∙ here.unpublished);
+}
+
+-- ---- no key in the key set is noted in the first selectors
+
+-- a step that is of no consequence leaves it so
+pub clear_below_stays : {w : Words} {p q : Pass} {me : CallerNo} {act : Act} (c : ChanNo) (n : ℕ) → Steps w p q me act → finds_drawn act ≡ false → is_quiet act ≡ true
+    → IsClearBelow p me c n → IsClearBelow q me c n
+clear_below_stays {p = p} {me = me} {act = act} c n steps new quiet clear s below =
+    ap (is_clear c.0 s) (own_more steps new) ∙ clear_quiet c.0 s (acts_seen p me) act quiet (clear s below)
+
+-- so does a look in the next selector
+pub clear_below_look : {w : Words} {p q : Pass} {me : CallerNo} {c : ChanNo} {s : SelNo} {noted : Option KeyId} → Steps w p q me (LookReg c s noted)
+    → IsClearBelow p me c s.0 → IsClearBelow q me c s.0
+clear_below_look {p = p} {me = me} {c = c} {s = s} {noted = noted} steps clear s' below =
+    let other : (s.0 == s') ≡ false = ne_eqb s.0 s' (λ is. omega arith) in
+    ap (is_clear c.0 s') (own_more steps refl) ∙ clear_look_else c s' s noted (acts_seen p me) other (clear s' below)
+
+-- none was found noted in the next
+pub clear_below_none : {w : Words} {p q : Pass} {me : CallerNo} {c : ChanNo} {s : SelNo} → Steps w p q me (LookReg c s None)
+    → IsClearBelow p me c s.0 → IsClearBelow q me c (s.0 + 1)
+clear_below_none {p = p} {me = me} {c = c} {s = s} steps clear =
+    below_more _ _ (clear_below_look steps clear) (ap (is_clear c.0 s.0) (own_more steps refl) ∙ clear_none c s (acts_seen p me))
+
+-- the one that was found noted in the next was found outside the key set
+pub clear_below_outside : {w : Words} {p q r : Pass} {me : CallerNo} {c : ChanNo} {s : SelNo} {k : KeyId} {stage : Stage} → Steps w p q me (LookReg c s (Some k))
+    → Steps w q r me (LookKey s k.index stage) → is_in_key_set stage k.serial ≡ false → IsClearBelow p me c s.0 → IsClearBelow r me c (s.0 + 1)
+clear_below_outside {p = p} {q = q} {me = me} {c = c} {s = s} {k = k} {stage = stage} look there out clear =
+    below_more _ _ (clear_below_stays c s.0 there refl refl (clear_below_look look clear))
+    (ap (is_clear c.0 s.0) (own_more there refl)
+    ∙ clear_looked c.0 s k stage (acts_seen q me) out
+    (ap (λ own. last (noted_found c.0 s.0) (under c.0 own)) (own_more look refl) ∙ told_look c s (Some k) (acts_seen p me)))
+
+-- ---- the noted key
+
+-- a key that was found noted has an index of the selector
+pub noted_inside : {w : Words} {p q : Pass} {me : CallerNo} {c : ChanNo} {s : SelNo} (noted : Option KeyId) → Steps w p q me (LookReg c s noted) → IsSelector (limits_of w) s
+    → IfSome noted (λ k. IsKey (limits_of w) s k.index)
+noted_inside None steps inside = tt
+noted_inside {w = w} {q = q} {c = c} {s = s} (Some k) steps inside = (inside, (within.noted c.0 s.0 k (sym told)).0)
+  where
+    told : Some k ≡ (state_seen q).noted c.0 s.0
+    told = cc (look_tells (step_acts steps refl) refl)
+
+    within : IsWithin (limits_of w) (state_seen q)
+    within = legal-within (limits_of w) (seen q) steps.pass.legal
+
+-- and it is claimed
+pub noted_claimed : {w : Words} {p q : Pass} {me : CallerNo} {c : ChanNo} {s : SelNo} (noted : Option KeyId) → Steps w p q me (LookReg c s noted)
+    → IfSome noted (λ k. IsTrue (is_claimed (state_seen q) s k.index))
+noted_claimed None steps = tt
+noted_claimed {w = w} {q = q} {c = c} {s = s} (Some k) steps =
+    (and_parts _ _ (noted_keys_are_claimed (limits_of w) c s k (seen q) w.fit steps.pass.legal (sym told)).0).0
+  where
+    told : Some k ≡ (state_seen q).noted c.0 s.0
+    told = cc (look_tells (step_acts steps refl) refl)
+
+-- ---- keys
+
+-- a stage that shows a key in the key set shows that it was published
+pub in_set_published : (stage : Stage) (serial : ℕ) → is_in_key_set stage serial ≡ true → was_published stage serial ≡ true
+in_set_published stage serial inside =
+    let parts = and_parts (fits stage serial) (in_key_set stage) inside in
+    or_right (nat_lt serial stage.serial) (fits stage serial && stage.published) (and_from (fits stage serial) stage.published parts.0 (and_parts stage.published (not stage.removed) parts.1).0)
+
+-- a key that a look just found in the key set
+pub looked_key : {w : Words} {p q : Pass} {me : CallerNo} {s : SelNo} {k : KeyId} {stage : Stage} → Steps w p q me (LookKey s k.index stage) → IsKey (limits_of w) s k.index
+    → is_in_key_set stage k.serial ≡ true → HasKey (view w q) (key s k)
+looked_key {s = s} {k = k} {stage = stage} steps inside found = record {
+  inside = inside;
+  published = found_now (key_published s.0 k.index k.serial) (step_acts steps refl)
+      (ap (λ b. b && was_published stage k.serial) (same_two s.0 k.index) ∙ in_set_published stage k.serial found);
+}
