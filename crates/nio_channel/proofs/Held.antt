@@ -1,84 +1,102 @@
 -- What stands under the hold of a channel after one step more.
-use Rattle.std.proofs.Common.{◌≡◌, ℕ, ◌<◌, ◌==◌, Bool, true, false, ◌&&◌, ◌||◌, Option, Some, None, List, [], ◌∷◌, ◌++◌, refl, ap, sym, ◌∙◌, subst, below_more, arith, ◌+◌, not}
+use Rattle.std.proofs.Common.{◌≡◌, ℕ, ◌<◌, ◌==◌, Bool, true, false, ◌&&◌, ◌||◌, Option, Some, None, List, [], ◌∷◌, ◌++◌, refl, ap, sym, ◌∙◌, subst, below_more, arith, ◌+◌, not, eq-eqb}
 use Rattle.std.specs.Prelude.{nat_lt, IfSome, IsTrue}
 use Rattle.std.proofs.lemmas.Bool.{and_parts, and_from, or_right, ne_eqb}
 use Rattle.nio_base.specs.declared.numbers.CallerNo.{CallerNo}
 use Rattle.nio_base.specs.declared.numbers.ChanNo.{ChanNo}
 use Rattle.nio_base.specs.declared.numbers.KeyId.{KeyId}
 use Rattle.nio_base.specs.declared.numbers.SelNo.{SelNo}
+use Rattle.nio_event.proofs.Finds.{step_leaves}
 use Rattle.nio_event.proofs.LastsAlone.{same_two}
 use Rattle.nio_event.proofs.PinLaws.{noted_keys_are_claimed}
+use Rattle.nio_event.proofs.Put.{put-same}
 use Rattle.nio_event.proofs.Within.{legal-within}
-use Rattle.nio_event.specs.Conditions.{IsChannel, IsSelector, IsKey, holds, is_claimed}
-use Rattle.nio_event.specs.Lasting.{the_hold, key_published}
-use Rattle.nio_event.specs.OwnEvents.{has, last, under, releases, finds_unblocked, noted_found, own_claim, is_unpublished, is_clear}
-use Rattle.nio_event.specs.PassViews.{PassView, known, ActsClause, HasKey}
+use Rattle.nio_event.specs.Conditions.{IsChannel, IsSelector, IsKey, is_held_by, holds, is_claimed}
+use Rattle.nio_event.specs.Found.{finds}
+use Rattle.nio_event.specs.Histories.{state_after}
+use Rattle.nio_event.specs.Lasting.{OwnFact, the_hold, is_had_by, gives_back, channel_closed, key_published}
+use Rattle.nio_event.specs.OwnEvents.{has, last, under, takes_hold, releases, finds_unblocked, noted_found, is_clear}
+use Rattle.nio_event.specs.PassViews.{PassView, Holds as HoldsNumber, known, ActsClause, HasKey}
 use Rattle.nio_event.specs.Sets.{fits, in_key_set, was_published, is_in_key_set}
 use Rattle.nio_event.specs.Sound.{IsWithin}
+use Rattle.nio_event.specs.State.{State}
 use Rattle.nio_event.specs.declared.act.Act.{Act}
-use Rattle.nio_event.specs.declared.act.Act.TheVariants.{LookKey, LookReg}
+use Rattle.nio_event.specs.declared.act.Act.TheVariants.{LookKey, LookReg, TryHoldBit}
 use Rattle.nio_event.specs.declared.found.Stage.{Stage}
 use Rattle.nio_steps.specs.Names.{key}
-use Rattle.nio_words.proofs.GoingOn.{calls_go_on, own_stands}
-use Rattle.nio_words.proofs.Pins.{changes_pins, stays_pinned}
+use Rattle.nio_words.proofs.GoingOn.{own_stands}
 use Rattle.nio_words.proofs.Seen.{still_ready}
 use Rattle.nio_words.proofs.Views.{finds_drawn, step_acts, look_tells, found_now}
-use Rattle.nio_words.specs.Passes.{seen, state_seen, acts_seen, IsReady, limits_of}
+use Rattle.nio_words.specs.Passes.{seen, state_seen, acts_seen, IsPassOf, IsReady, limits_of}
 use Rattle.nio_words.specs.Steps.{Steps}
 use Rattle.nio_words.specs.Views.{view}
 use Rattle.nio_words.specs.declared.words.Pass.{Pass}
 use Rattle.nio_words.specs.declared.words.Words.{Words}
-use Rattle.nio_channel.proofs.Own.{is_quiet, quiet_keeps, under_quiet, told_quiet, told_look, clear_quiet, clear_look_else, clear_none, clear_looked, keeps_claims, claim_stays, unpublished_stays}
-use Rattle.nio_channel.specs.Held.{HoldsChannel, HoldsUnblocked, MayNote, KnowsNoted, HasClaimed, IsClearBelow}
+use Rattle.nio_channel.proofs.Own.{is_quiet, quiet_holds, quiet_keeps, quiet_unclosed, under_longer, under_never, told_look, clear_quiet, clear_look_else, clear_none, clear_looked}
+use Rattle.nio_channel.specs.Held.{HoldsChannel, HoldsUnblocked, MayNote, IsClearBelow}
 
 -- the caller's acts grow by the step
 pub own_more : {w : Words} {p q : Pass} {me : CallerNo} {act : Act} → Steps w p q me act → finds_drawn act ≡ false → acts_seen q me ≡ acts_seen p me ++ act ∷ []
 own_more steps new = (step_acts steps new).history.own
 
+-- a caller has what it had, where the step doesn't give it back
+pub had_stays : {w : Words} {p q : Pass} {me : CallerNo} {act : Act} (f : OwnFact) → Steps w p q me act → finds_drawn act ≡ false → gives_back f act ≡ false → IsPassOf w p
+    → is_had_by me f (state_seen p) ≡ true → is_had_by me f (state_seen q) ≡ true
+had_stays {w = w} {p = p} {q = q} {me = me} {act = act} f steps new keeps pass had =
+    let clause = (step_acts steps new).history in
+    own_stands w me f (act ∷ []) p q
+    (record {
+      goes_on = record { later = record { earlier_pass = pass; later_pass = steps.pass; begins = clause.goes_on }; own = clause.own };
+      has_it = had;
+      kept = ap (λ b. b || false) keeps;
+    })
+
 -- ---- the hold
 
 pub hold_stays : {w : Words} {p q : Pass} {me : CallerNo} {act : Act} {c : ChanNo} → Steps w p q me act → finds_drawn act ≡ false → releases c.0 act ≡ false
     → HoldsChannel w p me c → HoldsChannel w q me c
-hold_stays {w = w} {p = p} {q = q} {me = me} {act = act} {c = c} steps new keeps held =
-    let clause = (step_acts steps new).history in
-    record {
-      ready = still_ready w p q me me act steps held.ready;
-      channel = held.channel;
-      holding = own_stands w me (the_hold c) (act ∷ []) p q
-          (record {
-            goes_on = record { later = record { earlier_pass = held.ready.pass; later_pass = steps.pass; begins = clause.goes_on }; own = clause.own };
-            has_it = held.holding;
-            kept = ap (λ b. b || false) keeps;
-          });
-    }
+hold_stays {w = w} {p = p} {q = q} {me = me} {act = act} {c = c} steps new keeps held = record {
+  ready = still_ready w p q me me act steps held.ready;
+  channel = held.channel;
+  holding = had_stays (the_hold c) steps new keeps held.ready.pass held.holding;
+}
+
+-- who just took the hold of a channel has it
+held_now : {me : CallerNo} {c : ChanNo} {v0 v1 : PassView} → ActsClause me (TryHoldBit c None ∷ []) v0 v1 → holds (known v1) me c ≡ true
+held_now {me = me} {c = c} {v0 = v0} {v1 = v1} clause =
+    let leaves = step_leaves v0.limits (HoldsNumber v0) me (TryHoldBit c None) v0.seen v1.seen clause.history in
+    let before : State = state_after (v0.seen ++ leaves.between) in
+    ap (λ st. holds st me c) leaves.state ∙ (ap (is_held_by me) (put-same before.hold c.0 (Some me)) ∙ eq-eqb me.0 me.0 refl)
+
+pub takes_the_hold : {w : Words} {p q : Pass} {me : CallerNo} {c : ChanNo} {found : Option CallerNo} → Steps w p q me (TryHoldBit c found) → found ≡ None → IsReady w p me
+    → IsChannel (limits_of w) c → HoldsChannel w q me c
+takes_the_hold {w = w} {p = p} {q = q} {me = me} {c = c} {found = found} steps free ready inside = record {
+  ready = still_ready w p q me me (TryHoldBit c found) steps ready;
+  channel = inside;
+  holding = held_now (subst (λ holder. ActsClause me (TryHoldBit c holder ∷ []) (view w p) (view w q)) free (step_acts steps refl));
+}
+
+-- a step that neither takes nor gives back a hold, and doesn't find the channel closed
+pub unblocked_over : {w : Words} {p q : Pass} {me : CallerNo} {act : Act} {c : ChanNo} → Steps w p q me act → finds_drawn act ≡ false
+    → takes_hold c.0 act ≡ false → releases c.0 act ≡ false → finds act (channel_closed c.0) ≡ false → HoldsUnblocked w p me c → HoldsUnblocked w q me c
+unblocked_over {p = p} {me = me} {act = act} {c = c} steps new takes keeps unclosed here = record {
+  held = hold_stays steps new keeps here.held;
+  unblocked = ap (λ own. has (finds_unblocked c.0) (under c.0 own)) (own_more steps new) ∙ under_longer (finds_unblocked c.0) c.0 (acts_seen p me) act takes here.unblocked;
+  unclosed =
+      ap (λ own. has (λ a. finds a (channel_closed c.0)) (under c.0 own)) (own_more steps new)
+      ∙ under_never (λ a. finds a (channel_closed c.0)) c.0 (acts_seen p me) act takes unclosed here.unclosed;
+}
 
 pub unblocked_stays : {w : Words} {p q : Pass} {me : CallerNo} {act : Act} {c : ChanNo} → Steps w p q me act → finds_drawn act ≡ false → is_quiet act ≡ true
     → HoldsUnblocked w p me c → HoldsUnblocked w q me c
-unblocked_stays {p = p} {me = me} {act = act} {c = c} steps new quiet here = record {
-  held = hold_stays steps new (quiet_keeps c.0 act quiet) here.held;
-  unblocked = ap (λ own. has (finds_unblocked c.0) (under c.0 own)) (own_more steps new) ∙ under_quiet (finds_unblocked c.0) c.0 (acts_seen p me) act quiet here.unblocked;
-}
+unblocked_stays {act = act} {c = c} steps new quiet here =
+    unblocked_over steps new (quiet_holds c.0 act quiet) (quiet_keeps c.0 act quiet) (quiet_unclosed c.0 act quiet) here
 
 pub may_note_stays : {w : Words} {p q : Pass} {me : CallerNo} {act : Act} {c : ChanNo} {s : SelNo} → Steps w p q me act → finds_drawn act ≡ false → is_quiet act ≡ true
     → MayNote w p me c s → MayNote w q me c s
 may_note_stays {p = p} {me = me} {act = act} {c = c} {s = s} steps new quiet here = record {
-  its = unblocked_stays steps new quiet here.its;
+  unblocked = unblocked_stays steps new quiet here.unblocked;
   clear = ap (is_clear c.0 s.0) (own_more steps new) ∙ clear_quiet c.0 s.0 (acts_seen p me) act quiet here.clear;
-}
-
-pub noted_stays : {w : Words} {p q : Pass} {me : CallerNo} {act : Act} {c : ChanNo} {s : SelNo} {k : KeyId} → Steps w p q me act → finds_drawn act ≡ false → is_quiet act ≡ true
-    → KnowsNoted w p me c s k → KnowsNoted w q me c s k
-noted_stays {p = p} {me = me} {act = act} {c = c} {s = s} steps new quiet here = record {
-  its = unblocked_stays steps new quiet here.its;
-  noted = ap (λ own. last (noted_found c.0 s.0) (under c.0 own)) (own_more steps new) ∙ (told_quiet c.0 s.0 (acts_seen p me) act quiet ∙ here.noted);
-}
-
-pub claimed_stays : {w : Words} {p q : Pass} {me : CallerNo} {act : Act} {c : ChanNo} {s : SelNo} {k : KeyId} → Steps w p q me act → finds_drawn act ≡ false
-    → changes_pins act ≡ false → keeps_claims act ≡ true → HasClaimed w p me c s k → HasClaimed w q me c s k
-claimed_stays {p = p} {me = me} {act = act} {s = s} {k = k} steps new pins keeps here = record {
-  pinned = stays_pinned steps new pins here.pinned;
-  claim = ap (own_claim s.0 k.index) (own_more steps new) ∙ (claim_stays s.0 k.index (acts_seen p me) act keeps ∙ here.claim);
-  unpublished = ap (is_unpublished s.0 k.index) (own_more steps new) ∙ (unpublished_stays s.0 k.index (acts_seen p me) act keeps ∙ here.unpublished);
 }
 
 -- ---- no key in the key set is noted in the first selectors

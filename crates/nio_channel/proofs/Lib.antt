@@ -1,4 +1,5 @@
 pub mod Made
 pub mod Own
 pub mod Held
+pub mod Claimed
 pub mod Chains

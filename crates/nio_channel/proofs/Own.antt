@@ -1,23 +1,26 @@
 -- What the caller's own acts under a hold tell after one act more.
 use Rattle.std.proofs.Common.{◌≡◌, ℕ, ◌==◌, Bool, true, false, not, ◌&&◌, ◌||◌, if◌then◌else◌, Option, Some, None, List, [], ◌∷◌, ◌++◌, refl, ap, sym, ◌∙◌}
 use Rattle.std.specs.Option.{option_or}
-use Rattle.std.proofs.lemmas.Bool.{or_left, or_right}
+use Rattle.std.proofs.lemmas.Bool.{or_left, or_right, or_from}
 use Rattle.nio_base.specs.declared.numbers.ChanNo.{ChanNo}
 use Rattle.nio_base.specs.declared.numbers.KeyId.{KeyId}
 use Rattle.nio_base.specs.declared.numbers.SelNo.{SelNo}
 use Rattle.nio_event.proofs.Claims.{claim_after, own_claim-more}
 use Rattle.nio_event.proofs.LastsAlone.{same_two}
 use Rattle.nio_event.proofs.OneMore.{has-more, last-more, since_from-more}
-use Rattle.nio_event.specs.OwnEvents.{OwnClaim, is_yes, has, last, under, takes_hold, releases, finds_unblocked, finds_outside, is_outside, stage_found, noted_found, notes, publishes, since_noted, claim_changed, own_claim, leaves_unpublished, is_unpublished, is_clear, is_clear_by}
+use Rattle.nio_event.specs.Found.{finds}
+use Rattle.nio_event.specs.Lasting.{channel_closed}
+use Rattle.nio_event.specs.OwnEvents.{OwnClaim, is_yes, has, last, under, takes_hold, releases, finds_outside, is_outside, stage_found, noted_found, notes, publishes, since_noted, claim_changed, own_claim, leaves_unpublished, is_unpublished, is_clear, is_clear_by}
 use Rattle.nio_event.specs.Sets.{is_in_key_set}
 use Rattle.nio_event.specs.declared.act.Act.{Act}
-use Rattle.nio_event.specs.declared.act.Act.TheVariants.{LookChannel, Claim, Publish, LookReg, Enrol, TryHoldBit, Release, Pin, Unpin, ClaimAgain, LookKey}
-use Rattle.nio_event.specs.declared.found.Chan.{Chan}
+use Rattle.nio_event.specs.declared.act.Act.TheVariants.{LookChannel, Claim, Publish, LookReg, Enrol, TryHoldBit, Release, SetMode, Pin, Unpin, ClaimAgain, LookKey}
 use Rattle.nio_event.specs.declared.found.Stage.{Stage}
 
--- ---- acts of no consequence to a hold, to noted keys and to publishing
+-- ---- acts of no consequence to a hold and its channel, to noted keys and to publishing
 
 abbrev pub is_quiet : Act → Bool
+is_quiet (LookChannel c found) = false
+is_quiet (SetMode c blocking found) = false
 is_quiet (Publish s i found) = false
 is_quiet (LookReg c s found) = false
 is_quiet (Enrol c s i serial found) = false
@@ -25,13 +28,18 @@ is_quiet (TryHoldBit c found) = false
 is_quiet (Release c) = false
 is_quiet _ = true
 
-quiet_holds : (c : ℕ) (act : Act) → is_quiet act ≡ true → takes_hold c act ≡ false
+pub quiet_holds : (c : ℕ) (act : Act) → is_quiet act ≡ true → takes_hold c act ≡ false
 quiet_holds c (TryHoldBit c' found) quiet = absurd cc
 quiet_holds c act quiet = refl
 
 pub quiet_keeps : (c : ℕ) (act : Act) → is_quiet act ≡ true → releases c act ≡ false
 quiet_keeps c (Release c') quiet = absurd cc
 quiet_keeps c act quiet = refl
+
+pub quiet_unclosed : (c : ℕ) (act : Act) → is_quiet act ≡ true → finds act (channel_closed c) ≡ false
+quiet_unclosed c (LookChannel c' found) quiet = absurd cc
+quiet_unclosed c (SetMode c' blocking found) quiet = absurd cc
+quiet_unclosed c act quiet = refl
 
 quiet_tells : (c s : ℕ) (act : Act) → is_quiet act ≡ true → noted_found c s act ≡ None
 quiet_tells c s (LookReg c' s' found) quiet = absurd cc
@@ -55,8 +63,9 @@ has_longer p own act here = has-more p own act ∙ or_left (has p own) (p act) h
 pub under_longer : (p : Act → Bool) (c : ℕ) (own : List Act) (act : Act) → takes_hold c act ≡ false → has p (under c own) ≡ true → has p (under c (own ++ act ∷ [])) ≡ true
 under_longer p c own act keeps here = ap (has p) (under-more c own act keeps) ∙ has_longer p (under c own) act here
 
-pub under_quiet : (p : Act → Bool) (c : ℕ) (own : List Act) (act : Act) → is_quiet act ≡ true → has p (under c own) ≡ true → has p (under c (own ++ act ∷ [])) ≡ true
-under_quiet p c own act quiet = under_longer p c own act (quiet_holds c act quiet)
+-- what it found at no time under its hold, and not now
+pub under_never : (p : Act → Bool) (c : ℕ) (own : List Act) (act : Act) → takes_hold c act ≡ false → p act ≡ false → has p (under c own) ≡ false → has p (under c (own ++ act ∷ [])) ≡ false
+under_never p c own act keeps now before = ap (has p) (under-more c own act keeps) ∙ (has-more p (under c own) act ∙ or_from (has p (under c own)) (p act) before now)
 
 -- what it just found under its hold
 pub under_found : (p : Act → Bool) (c : ℕ) (own : List Act) (act : Act) → takes_hold c act ≡ false → p act ≡ true → has p (under c (own ++ act ∷ [])) ≡ true

@@ -1,15 +1,19 @@
 -- What stands while a caller works under the hold of a channel.
-use Rattle.std.specs.Prelude.{◌≡◌, ℕ, ◌<◌, IsTrue, Some}
+use Rattle.std.specs.Prelude.{◌≡◌, ℕ, ◌<◌, IsTrue, IsFalse, Some}
 use Rattle.nio_base.specs.declared.numbers.CallerNo.{CallerNo}
 use Rattle.nio_base.specs.declared.numbers.ChanNo.{ChanNo}
 use Rattle.nio_base.specs.declared.numbers.KeyId.{KeyId}
+use Rattle.nio_base.specs.declared.numbers.KeyNo.{KeyNo}
 use Rattle.nio_base.specs.declared.numbers.SelNo.{SelNo}
 use Rattle.nio_event.specs.Conditions.{IsChannel, holds}
 use Rattle.nio_event.specs.OwnEvents.{has, last, under, finds_unblocked, noted_found, own_claim, is_unpublished, is_clear}
+use Rattle.nio_event.specs.PassViews.{HasKey}
+
 use Rattle.nio_words.specs.Passes.{IsReady, acts_seen, limits_of, state_seen}
-use Rattle.nio_words.specs.Views.{IsPinned}
+use Rattle.nio_words.specs.Views.{view, IsPinned}
 use Rattle.nio_words.specs.declared.words.Pass.{Pass}
 use Rattle.nio_words.specs.declared.words.Words.{Words}
+use Rattle.nio_channel.specs.Registered.{found_closed, IsCancelledWhereClosed}
 
 -- the caller may step with the pass, and holds the channel
 pub record HoldsChannel (w : Words) (p : Pass) (me : CallerNo) (c : ChanNo) : Type 0 where
@@ -17,20 +21,20 @@ pub record HoldsChannel (w : Words) (p : Pass) (me : CallerNo) (c : ChanNo) : Ty
   pub channel : IsChannel (limits_of w) c
   pub holding : IsTrue (holds (state_seen p) me c)
 
--- it found the channel non-blocking under this hold
+-- under this hold it found the channel non-blocking, and not closed
 pub record HoldsUnblocked (w : Words) (p : Pass) (me : CallerNo) (c : ChanNo) : Type 0 where
   pub held : HoldsChannel w p me c
   pub unblocked : IsTrue (has (finds_unblocked c.0) (under c.0 (acts_seen p me)))
+  pub unclosed : IsFalse (found_closed (view w p) me c)
 
--- and it found no key in the key set that is noted for the channel in the selector
+-- the key that it found noted for the channel in the selector, if any, it found outside the key set
 pub record MayNote (w : Words) (p : Pass) (me : CallerNo) (c : ChanNo) (s : SelNo) : Type 0 where
-  pub its : HoldsUnblocked w p me c
+  pub unblocked : HoldsUnblocked w p me c
   pub clear : IsTrue (is_clear c.0 s.0 (acts_seen p me))
 
--- the last key that it found noted there, or noted itself, is this one
-pub record KnowsNoted (w : Words) (p : Pass) (me : CallerNo) (c : ChanNo) (s : SelNo) (k : KeyId) : Type 0 where
-  pub its : HoldsUnblocked w p me c
-  pub noted : last (noted_found c.0 s.0) (under c.0 (acts_seen p me)) ≡ Some (Some k)
+-- this key is the last that it found noted there, or noted itself
+abbrev pub KnowsNoted : Pass → CallerNo → ChanNo → SelNo → KeyId → Type 0
+KnowsNoted p me c s k = last (noted_found c.0 s.0) (under c.0 (acts_seen p me)) ≡ Some (Some k)
 
 -- it claimed the index of this key for the channel, has the pin of the claim, and no other, and hasn't
 -- published the key
@@ -38,6 +42,13 @@ pub record HasClaimed (w : Words) (p : Pass) (me : CallerNo) (c : ChanNo) (s : S
   pub pinned : IsPinned w p me s k.index
   pub claim : own_claim s.0 k.index (acts_seen p me) ≡ Some (record { channel = c; serial = k.serial })
   pub unpublished : IsTrue (is_unpublished s.0 k.index (acts_seen p me))
+
+-- the key is one, it is noted for the channel, and where the channel was found closed it is cancelled
+pub record HasRegistered (w : Words) (p : Pass) (me : CallerNo) (c : ChanNo) (s : SelNo) (k : KeyNo) : Type 0 where
+  pub in_selector : k.sel ≡ s
+  pub has : HasKey (view w p) k
+  pub noted : KnowsNoted p me c s (record { index = k.index; serial = k.serial })
+  pub cancelled : IsCancelledWhereClosed (view w p) me c k
 
 -- in each of the first n selectors it found no key in the key set that is noted for the channel
 abbrev pub IsClearBelow : Pass → CallerNo → ChanNo → ℕ → Type 0

@@ -4,11 +4,14 @@
 pub use closing::close_channel;
 pub use keys::{is_registered, key_for};
 pub use looks::{is_blocking, is_open};
+pub use modes::try_set_blocking;
 pub use nio_steps::ChannelError;
 pub use opening::open_channel;
 
+mod claiming;
 mod closing;
 mod found;
 mod keys;
 mod looks;
+mod modes;
 mod opening;

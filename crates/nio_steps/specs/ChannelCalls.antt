@@ -98,8 +98,11 @@ set_mode_clear c on registered = if is_some registered then reply (Err IllegalBl
   reply (Ok tt)
 
 -- blocking mode asks that the channel isn't registered
+abbrev pub key_where_blocking : Limits → ChanNo → Bool → Plan (Option KeyNo)
+key_where_blocking l c on = if on then first_key l c else reply None
+
 abbrev pub set_mode_open : Limits → ChanNo → Bool → Plan (Result (Unit {0}) ChannelError)
-set_mode_open l c on = (if on then first_key l c else reply None) >>= set_mode_clear c on
+set_mode_open l c on = key_where_blocking l c on >>= set_mode_clear c on
 
 abbrev pub set_mode_held : Limits → ChanNo → Bool → Plan (Result (Unit {0}) ChannelError)
 set_mode_held l c on = do
@@ -159,12 +162,16 @@ claim_free s c i = do
   was ← take_free s i
   if was then claim_taken s c i else reply None
 
--- the first of the 64 indexes from 64 times j on that can be claimed again, of those below the mark that the
--- look shows as free
+-- index b of the 64 from 64 times j on is claimed again, where it is below the mark and the look shows it as
+-- free
+abbrev pub claim_at_bit : SelNo → ChanNo → ℕ → ℕ → ℕ → ℕ → Plan (Option KeyId)
+claim_at_bit s c mark j word b = if has_bit word b && nat_lt (64 * j + b) mark then claim_free s c (64 * j + b) else reply None
+
+-- the first of these 64 indexes that can be claimed again
 abbrev pub claim_in_word : SelNo → ChanNo → ℕ → ℕ → Plan (Option KeyId)
 claim_in_word s c mark j = do
   word ← look_free s j
-  seek_to 64 0 (λ b. if has_bit word b && nat_lt (64 * j + b) mark then claim_free s c (64 * j + b) else reply None)
+  seek_to 64 0 (claim_at_bit s c mark j word)
 
 -- how many times 64 indexes there are below n, the last ones counted too
 abbrev pub words_below : ℕ → ℕ
