@@ -19,21 +19,21 @@ pub(crate) fn search_free(
     w: &Words,
     p: &mut Pass,
     me: CallerNo,
-    s: SelNo,
-    c: ChanNo,
+    sel: SelNo,
+    chan: ChanNo,
     mark: u32,
 ) -> Option<KeyId>
-    requires may { MayNote w.now p.old me c s }
-    requires selector { IsSelector (limits_of w.now) s }
+    requires may { MayNote w.now p.old me chan sel }
+    requires selector { IsSelector (limits_of w.now) sel }
     requires mark { mark ≤ (limits_of w.now).keys }
     requires unpinned { HasNoPin (view w.now p.old) me }
-    ensures call { CallClause me (Completes (searches_free s c mark)) (view w.now p.old) (view w.now p.new) result }
-    ensures may { MayNote w.now p.new me c s }
+    ensures call { CallClause me (Completes (searches_free sel chan mark)) (view w.now p.old) (view w.now p.new) result }
+    ensures may { MayNote w.now p.new me chan sel }
     ensures unpinned { result ≡ None → HasNoPin (view w.now p.new) me }
-    ensures claimed { IfSome result (HasClaimed w.now p.new me c s) }
+    ensures claimed { IfSome result (HasClaimed w.now p.new me chan sel) }
 {
     for j in 0..words_below(w, mark) {
-        if let Some(k) = search_word(w, p, me, s, c, mark, j) {
+        if let Some(k) = search_word(w, p, me, sel, chan, mark, j) {
             return Some(k);
         }
     }
@@ -53,23 +53,23 @@ fn search_word(
     w: &Words,
     p: &mut Pass,
     me: CallerNo,
-    s: SelNo,
-    c: ChanNo,
+    sel: SelNo,
+    chan: ChanNo,
     mark: u32,
     j: u32,
 ) -> Option<KeyId>
-    requires may { MayNote w.now p.old me c s }
-    requires selector { IsSelector (limits_of w.now) s }
+    requires may { MayNote w.now p.old me chan sel }
+    requires selector { IsSelector (limits_of w.now) sel }
     requires mark { mark ≤ (limits_of w.now).keys }
     requires below { 64 * j < mark }
     requires unpinned { HasNoPin (view w.now p.old) me }
-    ensures call { CallClause me (Completes (claim_in_word s c mark j)) (view w.now p.old) (view w.now p.new) result }
-    ensures may { MayNote w.now p.new me c s }
+    ensures call { CallClause me (Completes (claim_in_word sel chan mark j)) (view w.now p.old) (view w.now p.new) result }
+    ensures may { MayNote w.now p.new me chan sel }
     ensures unpinned { result ≡ None → HasNoPin (view w.now p.new) me }
-    ensures claimed { IfSome result (HasClaimed w.now p.new me c s) }
+    ensures claimed { IfSome result (HasClaimed w.now p.new me chan sel) }
 {
-    let word = w.look_free(p, me, s, j);
-    search_bits(w, p, me, s, c, mark, j, word)
+    let word = w.look_free(p, me, sel, j);
+    search_bits(w, p, me, sel, chan, mark, j, word)
 }
 
 // The same of those that the look at their word showed as free.
@@ -77,24 +77,24 @@ fn search_bits(
     w: &Words,
     p: &mut Pass,
     me: CallerNo,
-    s: SelNo,
-    c: ChanNo,
+    sel: SelNo,
+    chan: ChanNo,
     mark: u32,
     j: u32,
     word: u64,
 ) -> Option<KeyId>
-    requires may { MayNote w.now p.old me c s }
-    requires selector { IsSelector (limits_of w.now) s }
+    requires may { MayNote w.now p.old me chan sel }
+    requires selector { IsSelector (limits_of w.now) sel }
     requires mark { mark ≤ (limits_of w.now).keys }
     requires below { 64 * j < mark }
     requires unpinned { HasNoPin (view w.now p.old) me }
-    ensures call { CallClause me (Completes (seek_to 64 0 (claim_at_bit s c mark j word))) (view w.now p.old) (view w.now p.new) result }
-    ensures may { MayNote w.now p.new me c s }
+    ensures call { CallClause me (Completes (seek_to 64 0 (claim_at_bit sel chan mark j word))) (view w.now p.old) (view w.now p.new) result }
+    ensures may { MayNote w.now p.new me chan sel }
     ensures unpinned { result ≡ None → HasNoPin (view w.now p.new) me }
-    ensures claimed { IfSome result (HasClaimed w.now p.new me c s) }
+    ensures claimed { IfSome result (HasClaimed w.now p.new me chan sel) }
 {
     for b in 0..64 {
-        if let Some(k) = claim_bit(w, p, me, s, c, mark, j, word, b) {
+        if let Some(k) = claim_bit(w, p, me, sel, chan, mark, j, word, b) {
             return Some(k);
         }
     }
@@ -105,27 +105,27 @@ fn claim_bit(
     w: &Words,
     p: &mut Pass,
     me: CallerNo,
-    s: SelNo,
-    c: ChanNo,
+    sel: SelNo,
+    chan: ChanNo,
     mark: u32,
     j: u32,
     word: u64,
     b: u32,
 ) -> Option<KeyId>
-    requires may { MayNote w.now p.old me c s }
-    requires selector { IsSelector (limits_of w.now) s }
+    requires may { MayNote w.now p.old me chan sel }
+    requires selector { IsSelector (limits_of w.now) sel }
     requires mark { mark ≤ (limits_of w.now).keys }
     requires below { 64 * j < mark }
     requires bit { b < 64 }
     requires unpinned { HasNoPin (view w.now p.old) me }
-    ensures call { CallClause me (Completes (claim_at_bit s c mark j word b)) (view w.now p.old) (view w.now p.new) result }
-    ensures may { MayNote w.now p.new me c s }
+    ensures call { CallClause me (Completes (claim_at_bit sel chan mark j word b)) (view w.now p.old) (view w.now p.new) result }
+    ensures may { MayNote w.now p.new me chan sel }
     ensures unpinned { result ≡ None → HasNoPin (view w.now p.new) me }
-    ensures claimed { IfSome result (HasClaimed w.now p.new me c s) }
+    ensures claimed { IfSome result (HasClaimed w.now p.new me chan sel) }
 {
     let i = 64 * j + b;
     if has_bit(word, b) && i < mark {
-        claim_free(w, p, me, s, c, i)
+        claim_free(w, p, me, sel, chan, i)
     } else {
         None
     }
@@ -136,20 +136,20 @@ fn claim_free(
     w: &Words,
     p: &mut Pass,
     me: CallerNo,
-    s: SelNo,
-    c: ChanNo,
+    sel: SelNo,
+    chan: ChanNo,
     i: u32,
 ) -> Option<KeyId>
-    requires may { MayNote w.now p.old me c s }
-    requires key { IsKey (limits_of w.now) s i }
+    requires may { MayNote w.now p.old me chan sel }
+    requires key { IsKey (limits_of w.now) sel i }
     requires unpinned { HasNoPin (view w.now p.old) me }
-    ensures call { CallClause me (Completes (claims_free s c i)) (view w.now p.old) (view w.now p.new) result }
-    ensures may { MayNote w.now p.new me c s }
+    ensures call { CallClause me (Completes (claims_free sel chan i)) (view w.now p.old) (view w.now p.new) result }
+    ensures may { MayNote w.now p.new me chan sel }
     ensures unpinned { result ≡ None → HasNoPin (view w.now p.new) me }
-    ensures claimed { IfSome result (HasClaimed w.now p.new me c s) }
+    ensures claimed { IfSome result (HasClaimed w.now p.new me chan sel) }
 {
-    if w.take_free(p, me, s, i) {
-        claim_taken(w, p, me, s, c, i)
+    if w.take_free(p, me, sel, i) {
+        claim_taken(w, p, me, sel, chan, i)
     } else {
         None
     }
@@ -160,22 +160,22 @@ fn claim_taken(
     w: &Words,
     p: &mut Pass,
     me: CallerNo,
-    s: SelNo,
-    c: ChanNo,
+    sel: SelNo,
+    chan: ChanNo,
     i: u32,
 ) -> Option<KeyId>
-    requires may { MayNote w.now p.old me c s }
-    requires key { IsKey (limits_of w.now) s i }
-    requires taken { IsTrue (has_taken (state_seen p.old) me s i) }
+    requires may { MayNote w.now p.old me chan sel }
+    requires key { IsKey (limits_of w.now) sel i }
+    requires taken { IsTrue (has_taken (state_seen p.old) me sel i) }
     requires unpinned { HasNoPin (view w.now p.old) me }
-    ensures call { CallClause me (Completes (claims_taken s c i)) (view w.now p.old) (view w.now p.new) result }
-    ensures may { MayNote w.now p.new me c s }
+    ensures call { CallClause me (Completes (claims_taken sel chan i)) (view w.now p.old) (view w.now p.new) result }
+    ensures may { MayNote w.now p.new me chan sel }
     ensures unpinned { result ≡ None → HasNoPin (view w.now p.new) me }
-    ensures claimed { IfSome result (HasClaimed w.now p.new me c s) }
+    ensures claimed { IfSome result (HasClaimed w.now p.new me chan sel) }
 {
-    let stage = w.look_key(p, me, s, i);
-    if w.claim_again(p, me, s, i, c, stage) {
-        w.put_free(p, me, s, i);
+    let stage = w.look_key(p, me, sel, i);
+    if w.claim_again(p, me, sel, i, chan, stage) {
+        w.put_free(p, me, sel, i);
         None
     } else {
         Some(KeyId {
@@ -190,22 +190,22 @@ pub(crate) fn claim_first(
     w: &Words,
     p: &mut Pass,
     me: CallerNo,
-    s: SelNo,
-    c: ChanNo,
+    sel: SelNo,
+    chan: ChanNo,
     mark: u32,
 ) -> Option<KeyId>
-    requires may { MayNote w.now p.old me c s }
-    requires selector { IsSelector (limits_of w.now) s }
-    requires lower { AllClaimed (state_seen p.old) s mark }
+    requires may { MayNote w.now p.old me chan sel }
+    requires selector { IsSelector (limits_of w.now) sel }
+    requires lower { AllClaimed (state_seen p.old) sel mark }
     requires unpinned { HasNoPin (view w.now p.old) me }
-    ensures call { CallClause me (Completes (seek_to (limits_of w.now).keys mark (claims_new s c))) (view w.now p.old) (view w.now p.new) result }
-    ensures may { MayNote w.now p.new me c s }
+    ensures call { CallClause me (Completes (seek_to (limits_of w.now).keys mark (claims_new sel chan))) (view w.now p.old) (view w.now p.new) result }
+    ensures may { MayNote w.now p.new me chan sel }
     ensures unpinned { result ≡ None → HasNoPin (view w.now p.new) me }
-    ensures claimed { IfSome result (HasClaimed w.now p.new me c s) }
-    ensures lower { IfSome result (λ k. AllClaimed (state_seen p.new) s (k.index + 1)) }
+    ensures claimed { IfSome result (HasClaimed w.now p.new me chan sel) }
+    ensures lower { IfSome result (λ k. AllClaimed (state_seen p.new) sel (k.index + 1)) }
 {
     for i in mark..w.limits().keys {
-        if let Some(k) = claim_new(w, p, me, s, c, i) {
+        if let Some(k) = claim_new(w, p, me, sel, chan, i) {
             return Some(k);
         }
     }
@@ -217,22 +217,22 @@ fn claim_new(
     w: &Words,
     p: &mut Pass,
     me: CallerNo,
-    s: SelNo,
-    c: ChanNo,
+    sel: SelNo,
+    chan: ChanNo,
     i: u32,
 ) -> Option<KeyId>
-    requires may { MayNote w.now p.old me c s }
-    requires key { IsKey (limits_of w.now) s i }
-    requires lower { AllClaimed (state_seen p.old) s i }
+    requires may { MayNote w.now p.old me chan sel }
+    requires key { IsKey (limits_of w.now) sel i }
+    requires lower { AllClaimed (state_seen p.old) sel i }
     requires unpinned { HasNoPin (view w.now p.old) me }
-    ensures call { CallClause me (Completes (claims_new s c i)) (view w.now p.old) (view w.now p.new) result }
-    ensures may { MayNote w.now p.new me c s }
+    ensures call { CallClause me (Completes (claims_new sel chan i)) (view w.now p.old) (view w.now p.new) result }
+    ensures may { MayNote w.now p.new me chan sel }
     ensures unpinned { result ≡ None → HasNoPin (view w.now p.new) me }
-    ensures claimed { IfSome result (HasClaimed w.now p.new me c s) }
-    ensures lower { AllClaimed (state_seen p.new) s (i + 1) }
+    ensures claimed { IfSome result (HasClaimed w.now p.new me chan sel) }
+    ensures lower { AllClaimed (state_seen p.new) sel (i + 1) }
     ensures its { IfSome result (λ k. k.index ≡ i) }
 {
-    if w.claim(p, me, s, i, c) {
+    if w.claim(p, me, sel, i, chan) {
         None
     } else {
         Some(KeyId {

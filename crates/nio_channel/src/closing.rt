@@ -19,71 +19,71 @@ use nio_words::{Pass, Words};
 /// Closes the channel and cancels its keys: Java's `close`. Says whether this call closed it; where it was
 /// closed before, nothing is done. It never waits, also while another caller registers the channel or selects.
 #[tactic(auto, unfolding(nio_steps::specs::ChannelCalls::close_channel_plan))]
-pub fn close_channel(w: &Words, p: &mut Pass, me: CallerNo, c: ChanNo) -> bool
+pub fn close_channel(w: &Words, p: &mut Pass, me: CallerNo, chan: ChanNo) -> bool
     requires ready { IsReady w.now p.old me }
-    requires channel { HasChannel (view w.now p.old) c }
+    requires channel { HasChannel (view w.now p.old) chan }
     requires unpinned { HasNoPin (view w.now p.old) me }
-    ensures call { CallClause me (Completes (close_channel_plan (limits_of w.now) c)) (view w.now p.old) (view w.now p.new) result }
+    ensures call { CallClause me (Completes (close_channel_plan (limits_of w.now) chan)) (view w.now p.old) (view w.now p.new) result }
     ensures ready { IsReady w.now p.new me }
-    ensures closed { IsTrue ((known (view w.now p.new)).chan c.0).closed }
+    ensures closed { IsTrue ((known (view w.now p.new)).chan chan.0).closed }
     ensures unpinned { HasNoPin (view w.now p.new) me }
 {
-    if w.close_bit(p, me, c) {
+    if w.close_bit(p, me, chan) {
         return false;
     }
-    cancel_all(w, p, me, c)
+    cancel_all(w, p, me, chan)
 }
 
 // Cancels the channel's key in each selector.
-fn cancel_all(w: &Words, p: &mut Pass, me: CallerNo, c: ChanNo) -> bool
+fn cancel_all(w: &Words, p: &mut Pass, me: CallerNo, chan: ChanNo) -> bool
     requires ready { IsReady w.now p.old me }
-    requires channel { IsChannel (limits_of w.now) c }
+    requires channel { IsChannel (limits_of w.now) chan }
     requires unpinned { HasNoPin (view w.now p.old) me }
-    ensures call { CallClause me (Completes (cancel_keys (limits_of w.now) c)) (view w.now p.old) (view w.now p.new) result }
+    ensures call { CallClause me (Completes (cancel_keys (limits_of w.now) chan)) (view w.now p.old) (view w.now p.new) result }
     ensures ready { IsReady w.now p.new me }
     ensures unpinned { HasNoPin (view w.now p.new) me }
 {
     for number in 0..w.limits().selectors {
-        cancel_in(w, p, me, c, SelNo(number));
+        cancel_in(w, p, me, chan, SelNo(number));
     }
     true
 }
 
 // Cancels the channel's key in the selector, where one is noted.
-fn cancel_in(w: &Words, p: &mut Pass, me: CallerNo, c: ChanNo, s: SelNo)
+fn cancel_in(w: &Words, p: &mut Pass, me: CallerNo, chan: ChanNo, sel: SelNo)
     requires ready { IsReady w.now p.old me }
-    requires channel { IsChannel (limits_of w.now) c }
-    requires selector { IsSelector (limits_of w.now) s }
+    requires channel { IsChannel (limits_of w.now) chan }
+    requires selector { IsSelector (limits_of w.now) sel }
     requires unpinned { HasNoPin (view w.now p.old) me }
-    ensures call { CallClause me (Completes (cancel_noted c s.0)) (view w.now p.old) (view w.now p.new) result }
+    ensures call { CallClause me (Completes (cancel_noted chan sel.0)) (view w.now p.old) (view w.now p.new) result }
     ensures ready { IsReady w.now p.new me }
     ensures unpinned { HasNoPin (view w.now p.new) me }
 {
-    if let Some(k) = look_noted(w, p, me, c, s) {
-        cancel(w, p, me, s, k);
+    if let Some(k) = look_noted(w, p, me, chan, sel) {
+        cancel(w, p, me, sel, k);
     }
 }
 
-fn cancel(w: &Words, p: &mut Pass, me: CallerNo, s: SelNo, k: KeyId)
+fn cancel(w: &Words, p: &mut Pass, me: CallerNo, sel: SelNo, k: KeyId)
     requires ready { IsReady w.now p.old me }
-    requires inside { IsKey (limits_of w.now) s k.index }
-    requires claimed { IsTrue (is_claimed (state_seen p.old) s k.index) }
+    requires inside { IsKey (limits_of w.now) sel k.index }
+    requires claimed { IsTrue (is_claimed (state_seen p.old) sel k.index) }
     requires unpinned { HasNoPin (view w.now p.old) me }
-    ensures call { CallClause me (Completes (cancel_at s (Some k))) (view w.now p.old) (view w.now p.new) result }
+    ensures call { CallClause me (Completes (cancel_at sel (Some k))) (view w.now p.old) (view w.now p.new) result }
     ensures ready { IsReady w.now p.new me }
     ensures unpinned { HasNoPin (view w.now p.new) me }
 {
-    let stage = w.pin(p, me, s, k.index);
-    cancel_pinned(w, p, me, s, k, stage);
-    w.unpin(p, me, s, k.index);
+    let stage = w.pin(p, me, sel, k.index);
+    cancel_pinned(w, p, me, sel, k, stage);
+    w.unpin(p, me, sel, k.index);
 }
 
-fn cancel_pinned(w: &Words, p: &mut Pass, me: CallerNo, s: SelNo, k: KeyId, stage: Stage)
-    requires { IsPinned w.now p.old me s k.index }
-    ensures call { CallClause me (Completes (cancel_present (key s k) stage)) (view w.now p.old) (view w.now p.new) result }
-    ensures pinned { IsPinned w.now p.new me s k.index }
+fn cancel_pinned(w: &Words, p: &mut Pass, me: CallerNo, sel: SelNo, k: KeyId, stage: Stage)
+    requires { IsPinned w.now p.old me sel k.index }
+    ensures call { CallClause me (Completes (cancel_present (key sel k) stage)) (view w.now p.old) (view w.now p.new) result }
+    ensures pinned { IsPinned w.now p.new me sel k.index }
 {
     if fits(stage, k.serial) && !stage.removed {
-        w.cancel_key(p, me, s, k.index);
+        w.cancel_key(p, me, sel, k.index);
     }
 }

@@ -16,28 +16,28 @@ use nio_base::{CallerNo, ChanNo, KeyId, KeyNo, SelNo};
 use nio_words::{Pass, Words};
 
 /// The channel's key in the selector, where it has one: Java's `keyFor`.
-pub fn key_for(w: &Words, p: &mut Pass, me: CallerNo, c: ChanNo, s: SelNo) -> Option<KeyNo>
+pub fn key_for(w: &Words, p: &mut Pass, me: CallerNo, chan: ChanNo, sel: SelNo) -> Option<KeyNo>
     requires ready { IsReady w.now p.old me }
-    requires channel { HasChannel (view w.now p.old) c }
-    requires selector { HasSelector (view w.now p.old) s }
-    ensures call { CallClause me (Completes (key_for_plan c s)) (view w.now p.old) (view w.now p.new) result }
+    requires channel { HasChannel (view w.now p.old) chan }
+    requires selector { HasSelector (view w.now p.old) sel }
+    ensures call { CallClause me (Completes (key_for_plan chan sel)) (view w.now p.old) (view w.now p.new) result }
     ensures ready { IsReady w.now p.new me }
     ensures found { IfSome result (HasKey (view w.now p.new)) }
 {
-    key_in(w, p, me, c, s)
+    key_in(w, p, me, chan, sel)
 }
 
 /// Whether the channel is registered with any selector: Java's `isRegistered`.
 #[tactic(auto, unfolding(nio_steps::specs::ChannelCalls::is_registered_plan))]
-pub fn is_registered(w: &Words, p: &mut Pass, me: CallerNo, c: ChanNo) -> bool
+pub fn is_registered(w: &Words, p: &mut Pass, me: CallerNo, chan: ChanNo) -> bool
     requires ready { IsReady w.now p.old me }
-    requires channel { HasChannel (view w.now p.old) c }
-    ensures call { CallClause me (Completes (is_registered_plan (limits_of w.now) c)) (view w.now p.old) (view w.now p.new) result }
+    requires channel { HasChannel (view w.now p.old) chan }
+    ensures call { CallClause me (Completes (is_registered_plan (limits_of w.now) chan)) (view w.now p.old) (view w.now p.new) result }
     ensures ready { IsReady w.now p.new me }
 {
     let mut registered = false;
     for number in 0..w.limits().selectors {
-        registered = is_registered_in(w, p, me, c, SelNo(number), registered);
+        registered = is_registered_in(w, p, me, chan, SelNo(number), registered);
     }
     registered
 }
@@ -47,40 +47,46 @@ fn is_registered_in(
     w: &Words,
     p: &mut Pass,
     me: CallerNo,
-    c: ChanNo,
-    s: SelNo,
+    chan: ChanNo,
+    sel: SelNo,
     before: bool,
 ) -> bool
     requires ready { IsReady w.now p.old me }
-    requires channel { IsChannel (limits_of w.now) c }
-    requires selector { IsSelector (limits_of w.now) s }
-    ensures call { CallClause me (Completes (registered_or c s.0 before)) (view w.now p.old) (view w.now p.new) result }
+    requires channel { IsChannel (limits_of w.now) chan }
+    requires selector { IsSelector (limits_of w.now) sel }
+    ensures call { CallClause me (Completes (registered_or chan sel.0 before)) (view w.now p.old) (view w.now p.new) result }
     ensures ready { IsReady w.now p.new me }
 {
-    let here = key_in(w, p, me, c, s);
+    let here = key_in(w, p, me, chan, sel);
     before || here.is_some()
 }
 
 // `key_for`, of any selector that there may be. Where the caller holds the channel, what it found under its
 // hold tells that the channel has no key where it finds none.
 #[tactic(auto, unfolding(nio_steps::specs::ChannelCalls::key_for_plan))]
-pub(crate) fn key_in(w: &Words, p: &mut Pass, me: CallerNo, c: ChanNo, s: SelNo) -> Option<KeyNo>
+pub(crate) fn key_in(
+    w: &Words,
+    p: &mut Pass,
+    me: CallerNo,
+    chan: ChanNo,
+    sel: SelNo,
+) -> Option<KeyNo>
     requires ready { IsReady w.now p.old me }
-    requires channel { IsChannel (limits_of w.now) c }
-    requires selector { IsSelector (limits_of w.now) s }
-    ensures call { CallClause me (Completes (key_for_plan c s)) (view w.now p.old) (view w.now p.new) result }
+    requires channel { IsChannel (limits_of w.now) chan }
+    requires selector { IsSelector (limits_of w.now) sel }
+    ensures call { CallClause me (Completes (key_for_plan chan sel)) (view w.now p.old) (view w.now p.new) result }
     ensures ready { IsReady w.now p.new me }
     ensures found { IfSome result (HasKey (view w.now p.new)) }
-    ensures held { HoldsChannel w.now p.old me c → HoldsChannel w.now p.new me c }
-    ensures clear { result ≡ None → IsClearBelow p.old me c s.0 → IsClearBelow p.new me c (s.0 + 1) }
+    ensures held { HoldsChannel w.now p.old me chan → HoldsChannel w.now p.new me chan }
+    ensures clear { result ≡ None → IsClearBelow p.old me chan sel.0 → IsClearBelow p.new me chan (sel.0 + 1) }
 {
-    let Some(k) = look_noted(w, p, me, c, s) else {
+    let Some(k) = look_noted(w, p, me, chan, sel) else {
         return None;
     };
-    let stage = w.look_key(p, me, s, k.index);
+    let stage = w.look_key(p, me, sel, k.index);
     if is_in_key_set(stage, k.serial) {
         Some(KeyNo {
-            sel: s,
+            sel: sel,
             index: k.index,
             serial: k.serial,
         })
@@ -94,16 +100,16 @@ pub(crate) fn look_noted(
     w: &Words,
     p: &mut Pass,
     me: CallerNo,
-    c: ChanNo,
-    s: SelNo,
+    chan: ChanNo,
+    sel: SelNo,
 ) -> Option<KeyId>
     requires ready { IsReady w.now p.old me }
-    requires channel { IsChannel (limits_of w.now) c }
-    requires selector { IsSelector (limits_of w.now) s }
-    ensures step { Steps w.now p.old p.new me (LookReg c s result) }
+    requires channel { IsChannel (limits_of w.now) chan }
+    requires selector { IsSelector (limits_of w.now) sel }
+    ensures step { Steps w.now p.old p.new me (LookReg chan sel result) }
     ensures ready { IsReady w.now p.new me }
-    ensures inside { IfSome result (λ k. IsKey (limits_of w.now) s k.index) }
-    ensures claimed { IfSome result (λ k. IsTrue (is_claimed (state_seen p.new) s k.index)) }
+    ensures inside { IfSome result (λ k. IsKey (limits_of w.now) sel k.index) }
+    ensures claimed { IfSome result (λ k. IsTrue (is_claimed (state_seen p.new) sel k.index)) }
 {
-    w.look_reg(p, me, c, s)
+    w.look_reg(p, me, chan, sel)
 }

@@ -11,22 +11,22 @@ use nio_words::{Pass, Words};
 
 /// Whether the channel is open: Java's `isOpen`.
 #[tactic(auto, unfolding(nio_steps::specs::ChannelCalls::is_open_plan))]
-pub fn is_open(w: &Words, p: &mut Pass, me: CallerNo, c: ChanNo) -> bool
+pub fn is_open(w: &Words, p: &mut Pass, me: CallerNo, chan: ChanNo) -> bool
     requires ready { IsReady w.now p.old me }
-    requires channel { HasChannel (view w.now p.old) c }
-    ensures call { CallClause me (Completes (is_open_plan c)) (view w.now p.old) (view w.now p.new) result }
+    requires channel { HasChannel (view w.now p.old) chan }
+    ensures call { CallClause me (Completes (is_open_plan chan)) (view w.now p.old) (view w.now p.new) result }
     ensures ready { IsReady w.now p.new me }
 {
-    !w.look_channel(p, me, c).closed
+    !w.look_channel(p, me, chan).closed
 }
 
 /// Whether the channel is in blocking mode: Java's `isBlocking`.
 #[tactic(auto, unfolding(nio_steps::specs::ChannelCalls::is_blocking_plan))]
-pub fn is_blocking(w: &Words, p: &mut Pass, me: CallerNo, c: ChanNo) -> bool
+pub fn is_blocking(w: &Words, p: &mut Pass, me: CallerNo, chan: ChanNo) -> bool
     requires ready { IsReady w.now p.old me }
-    requires channel { HasChannel (view w.now p.old) c }
-    ensures call { CallClause me (Completes (is_blocking_plan c)) (view w.now p.old) (view w.now p.new) result }
+    requires channel { HasChannel (view w.now p.old) chan }
+    ensures call { CallClause me (Completes (is_blocking_plan chan)) (view w.now p.old) (view w.now p.new) result }
     ensures ready { IsReady w.now p.new me }
 {
-    w.look_channel(p, me, c).blocking
+    w.look_channel(p, me, chan).blocking
 }

@@ -39,29 +39,29 @@ fn make_from(w: &Words, p: &mut Pass, me: CallerNo, kind: Kind, mark: u32) -> Op
     ensures call { CallClause me (Completes (seek_to (limits_of w.now).channels mark (λ n. makes_channel kind (channel n)))) (view w.now p.old) (view w.now p.new) result }
     ensures ready { IsReady w.now p.new me }
     ensures inside { IfSome result (IsChannel (limits_of w.now)) }
-    ensures lower { IfSome result (λ c. AllMade (state_seen p.new) (c.0 + 1)) }
+    ensures lower { IfSome result (λ chan. AllMade (state_seen p.new) (chan.0 + 1)) }
 {
     for number in mark..w.limits().channels {
-        if let Some(c) = make(w, p, me, kind, ChanNo(number)) {
-            return Some(c);
+        if let Some(chan) = make(w, p, me, kind, ChanNo(number)) {
+            return Some(chan);
         }
     }
     None
 }
 
-fn make(w: &Words, p: &mut Pass, me: CallerNo, kind: Kind, c: ChanNo) -> Option<ChanNo>
+fn make(w: &Words, p: &mut Pass, me: CallerNo, kind: Kind, chan: ChanNo) -> Option<ChanNo>
     requires ready { IsReady w.now p.old me }
-    requires inside { IsChannel (limits_of w.now) c }
-    requires lower { AllMade (state_seen p.old) c.0 }
-    ensures call { CallClause me (Completes (makes_channel kind c)) (view w.now p.old) (view w.now p.new) result }
+    requires inside { IsChannel (limits_of w.now) chan }
+    requires lower { AllMade (state_seen p.old) chan.0 }
+    ensures call { CallClause me (Completes (makes_channel kind chan)) (view w.now p.old) (view w.now p.new) result }
     ensures ready { IsReady w.now p.new me }
-    ensures lower { AllMade (state_seen p.new) (c.0 + 1) }
-    ensures its { IfSome result (λ made. made ≡ c) }
+    ensures lower { AllMade (state_seen p.new) (chan.0 + 1) }
+    ensures its { IfSome result (λ made. made ≡ chan) }
 {
-    if w.make_channel(p, me, c, kind) {
+    if w.make_channel(p, me, chan, kind) {
         None
     } else {
-        Some(c)
+        Some(chan)
     }
 }
 
@@ -73,12 +73,12 @@ fn raise_mark(
 ) -> Result<ChanNo, ChannelError>
     requires ready { IsReady w.now p.old me }
     requires inside { IfSome made (IsChannel (limits_of w.now)) }
-    requires lower { IfSome made (λ c. AllMade (state_seen p.old) (c.0 + 1)) }
+    requires lower { IfSome made (λ chan. AllMade (state_seen p.old) (chan.0 + 1)) }
     ensures call { CallClause me (Completes (opened made)) (view w.now p.old) (view w.now p.new) result }
     ensures ready { IsReady w.now p.new me }
     ensures made { IfOk result (HasChannel (view w.now p.new)) }
 {
-    let c = made.ok_or(ChannelError::ChannelsSpent)?;
-    w.raise_channels(p, me, c.0 + 1);
-    Ok(c)
+    let chan = made.ok_or(ChannelError::ChannelsSpent)?;
+    w.raise_channels(p, me, chan.0 + 1);
+    Ok(chan)
 }

@@ -18,25 +18,25 @@ claim_again-requires-clause-holds c = (may_note_stays c.look_key-stage.ensures r
 
 pub claim_again-requires-clause-taken : goal.claim_again-requires-clause-taken
 claim_again-requires-clause-taken c =
-    had_stays (a_taken_index c.args.s c.args.i) c.look_key-stage.ensures refl refl c.requires.may.unblocked.held.ready.pass c.requires.taken
+    had_stays (a_taken_index c.args.sel c.args.i) c.look_key-stage.ensures refl refl c.requires.may.unblocked.held.ready.pass c.requires.taken
 
 pub claim_again-requires-clause-serial : goal.claim_again-requires-clause-serial
 claim_again-requires-clause-serial c =
     taken_serial (step_acts c.look_key-stage.ensures refl)
-    (had_stays (a_taken_index c.args.s c.args.i) c.look_key-stage.ensures refl refl c.requires.may.unblocked.held.ready.pass c.requires.taken)
+    (had_stays (a_taken_index c.args.sel c.args.i) c.look_key-stage.ensures refl refl c.requires.may.unblocked.held.ready.pass c.requires.taken)
 
 pub put_free-requires-clause-may : goal.put_free-requires-clause-may
 put_free-requires-clause-may c =
-    let taken = had_stays (a_taken_index c.args.s c.args.i) c.look_key-stage.ensures refl refl c.requires.may.unblocked.held.ready.pass c.requires.taken in
-    let kept : has_taken (state_seen c.claim_again.new.p) c.args.me c.args.s c.args.i ≡ true =
-    had_stays (a_taken_index c.args.s c.args.i) c.if-claim_again.ensures refl refl c.look_key-stage.ensures.pass taken in
-    or_left (has_taken (state_seen c.claim_again.new.p) c.args.me c.args.s c.args.i) (may_put_due (state_seen c.claim_again.new.p) c.args.me c.args.s c.args.i) kept
+    let taken = had_stays (a_taken_index c.args.sel c.args.i) c.look_key-stage.ensures refl refl c.requires.may.unblocked.held.ready.pass c.requires.taken in
+    let kept : has_taken (state_seen c.claim_again.new.p) c.args.me c.args.sel c.args.i ≡ true =
+    had_stays (a_taken_index c.args.sel c.args.i) c.if-claim_again.ensures refl refl c.look_key-stage.ensures.pass taken in
+    or_left (has_taken (state_seen c.claim_again.new.p) c.args.me c.args.sel c.args.i) (may_put_due (state_seen c.claim_again.new.p) c.args.me c.args.sel c.args.i) kept
 
 pub overflow_add-result : goal.overflow_add-result
 overflow_add-result c =
     let below : c.look_key-stage.result.serial < last_serial =
     taken_serial (step_acts c.look_key-stage.ensures refl)
-    (had_stays (a_taken_index c.args.s c.args.i) c.look_key-stage.ensures refl refl c.requires.may.unblocked.held.ready.pass c.requires.taken) in
+    (had_stays (a_taken_index c.args.sel c.args.i) c.look_key-stage.ensures refl refl c.requires.may.unblocked.held.ready.pass c.requires.taken) in
     search rules
 
 pub returns-then-claim_again-clause-call : goal.returns-then-claim_again-clause-call

@@ -11,5 +11,5 @@ use Rattle.nio_channel.proofs.closing.cancel_all.Given as goal
 abbrev pub invariant-loop-number : goal.invariant-loop-number
 invariant-loop-number l =
     IsReady l.w l.p l.me × HasNoPin (view l.w l.p) l.me
-    × PartClause l.me (cancel_keys (limits_of l.w) l.c) (view l.w l.fn.p) (view l.w l.p)
-    (sweep_to (limits_of l.w).selectors l.number (λ s _. cancel_noted l.c s) tt >>= λ _. reply true)
+    × PartClause l.me (cancel_keys (limits_of l.w) l.chan) (view l.w l.fn.p) (view l.w l.p)
+    (sweep_to (limits_of l.w).selectors l.number (λ s _. cancel_noted l.chan s) tt >>= λ _. reply true)

@@ -10,5 +10,5 @@ use Rattle.nio_channel.proofs.keys.is_registered.Given as goal
 abbrev pub invariant-loop-number : goal.invariant-loop-number
 invariant-loop-number l =
     IsReady l.w l.p l.me
-    × PartClause l.me (is_registered_plan (limits_of l.w) l.c) (view l.w l.fn.p) (view l.w l.p)
-    (sweep_to (limits_of l.w).selectors l.number (registered_or l.c) l.registered >>= reply)
+    × PartClause l.me (is_registered_plan (limits_of l.w) l.chan) (view l.w l.fn.p) (view l.w l.p)
+    (sweep_to (limits_of l.w).selectors l.number (registered_or l.chan) l.registered >>= reply)
