@@ -1,5 +1,5 @@
 -- Indexes that are claimed, and the caller's claim of one.
-use Rattle.std.proofs.Common.{◌≡◌, ℕ, suc, ◌+◌, ◌<◌, Bool, true, false, ◌&&◌, if◌then◌else◌, [], ◌∷◌, ◌++◌, refl, ap, sym, ◌∙◌, subst, below_more, Some, None, List, add-one, eq-eqb}
+use Rattle.std.proofs.Common.{◌≡◌, ℕ, suc, ◌+◌, ◌<◌, ◌≤◌, Bool, true, false, ◌&&◌, if◌then◌else◌, [], ◌∷◌, ◌++◌, refl, ap, sym, ◌∙◌, subst, below_more, Some, None, List, add-one, eq-eqb}
 use Rattle.std.specs.Option.{option_or}
 use Rattle.std.proofs.lemmas.Bool.{and_parts, ltb-true}
 use Rattle.nio_base.specs.declared.numbers.CallerNo.{CallerNo}
@@ -12,6 +12,7 @@ use Rattle.nio_event.proofs.LastsAlone.{same_two}
 use Rattle.nio_event.proofs.OneMore.{last-more, since_from-more}
 use Rattle.nio_event.proofs.Put.{put_at-same}
 use Rattle.nio_event.proofs.Soundness.{legal-sound, held_some}
+use Rattle.nio_event.proofs.Within.{legal-within}
 use Rattle.nio_event.specs.Acts.{new_key}
 use Rattle.nio_event.specs.Conditions.{IsKey, AllClaimed, is_claimed, is_held_by, has_taken}
 use Rattle.nio_event.specs.Histories.{state_after}
@@ -64,6 +65,12 @@ pub all_claimed_below : {me : CallerNo} {s : SelNo} {mark : ℕ} {v0 v1 : PassVi
 all_claimed_below {s = s} {mark = mark} {v0 = v0} {v1 = v1} clause i below =
     let told : mark ≡ (known v1).keys_mark s.0 = cc (look_tells clause refl) in
     (legal-sound v0.limits v1.seen clause.history.legal).keys_below s.0 i (subst (λ n. i < n) told below)
+
+-- the mark is within the limits
+pub mark_inside : {me : CallerNo} {s : SelNo} {mark : ℕ} {v0 v1 : PassView} → ActsClause me (LookKeys s mark ∷ []) v0 v1 → mark ≤ v0.limits.keys
+mark_inside {s = s} {mark = mark} {v0 = v0} {v1 = v1} clause =
+    let told : mark ≡ (known v1).keys_mark s.0 = cc (look_tells clause refl) in
+    subst (λ n. n ≤ v0.limits.keys) (sym told) ((legal-within v0.limits v1.seen clause.history.legal).keys_mark s.0)
 
 -- ---- a taken index
 

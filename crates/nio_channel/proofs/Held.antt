@@ -1,5 +1,5 @@
 -- What stands under the hold of a channel after one step more.
-use Rattle.std.proofs.Common.{◌≡◌, ℕ, ◌<◌, ◌==◌, Bool, true, false, ◌&&◌, ◌||◌, Option, Some, None, List, [], ◌∷◌, ◌++◌, refl, ap, sym, ◌∙◌, subst, below_more, arith, ◌+◌, not, eq-eqb}
+use Rattle.std.proofs.Common.{◌≡◌, ℕ, ◌<◌, ◌==◌, Bool, true, false, ◌&&◌, ◌||◌, Option, Some, None, List, [], ◌∷◌, ◌++◌, refl, ap, sym, ◌∙◌, subst, below_more, arith, ◌+◌, not, eq-eqb, if◌then◌else◌}
 use Rattle.std.specs.Prelude.{nat_lt, IfSome, IsTrue}
 use Rattle.std.proofs.lemmas.Bool.{and_parts, and_from, or_right, ne_eqb}
 use Rattle.nio_base.specs.declared.numbers.CallerNo.{CallerNo}
@@ -8,6 +8,7 @@ use Rattle.nio_base.specs.declared.numbers.KeyId.{KeyId}
 use Rattle.nio_base.specs.declared.numbers.SelNo.{SelNo}
 use Rattle.nio_event.proofs.Finds.{step_leaves}
 use Rattle.nio_event.proofs.LastsAlone.{same_two}
+use Rattle.nio_event.proofs.OneMore.{since_from-more}
 use Rattle.nio_event.proofs.PinLaws.{noted_keys_are_claimed}
 use Rattle.nio_event.proofs.Put.{put-same}
 use Rattle.nio_event.proofs.Within.{legal-within}
@@ -17,11 +18,12 @@ use Rattle.nio_event.specs.Histories.{state_after}
 use Rattle.nio_event.specs.Lasting.{OwnFact, the_hold, is_had_by, gives_back, channel_closed, key_published}
 use Rattle.nio_event.specs.OwnEvents.{has, last, under, takes_hold, releases, finds_unblocked, noted_found, is_clear}
 use Rattle.nio_event.specs.PassViews.{PassView, Holds as HoldsNumber, known, ActsClause, HasKey}
-use Rattle.nio_event.specs.Sets.{fits, in_key_set, was_published, is_in_key_set}
+use Rattle.nio_event.specs.Sets.{fits, in_key_set, is_valid, was_published, is_in_key_set, is_valid_key}
 use Rattle.nio_event.specs.Sound.{IsWithin}
 use Rattle.nio_event.specs.State.{State}
 use Rattle.nio_event.specs.declared.act.Act.{Act}
-use Rattle.nio_event.specs.declared.act.Act.TheVariants.{LookKey, LookReg, TryHoldBit}
+use Rattle.nio_event.specs.declared.act.Act.TheVariants.{LookKey, LookChannel, LookReg, TryHoldBit}
+use Rattle.nio_event.specs.declared.found.Chan.{Chan}
 use Rattle.nio_event.specs.declared.found.Stage.{Stage}
 use Rattle.nio_steps.specs.Names.{key}
 use Rattle.nio_words.proofs.GoingOn.{own_stands}
@@ -32,8 +34,9 @@ use Rattle.nio_words.specs.Steps.{Steps}
 use Rattle.nio_words.specs.Views.{view}
 use Rattle.nio_words.specs.declared.words.Pass.{Pass}
 use Rattle.nio_words.specs.declared.words.Words.{Words}
-use Rattle.nio_channel.proofs.Own.{is_quiet, quiet_holds, quiet_keeps, quiet_unclosed, under_longer, under_never, told_look, clear_quiet, clear_look_else, clear_none, clear_looked}
+use Rattle.nio_channel.proofs.Own.{is_quiet, quiet_holds, quiet_keeps, quiet_unclosed, under_longer, under_found, under_never, told_look, clear_quiet, clear_look_else, clear_none, clear_looked}
 use Rattle.nio_channel.specs.Held.{HoldsChannel, HoldsUnblocked, MayNote, IsClearBelow}
+use Rattle.nio_channel.specs.Registered.{found_closed}
 
 -- the caller's acts grow by the step
 pub own_more : {w : Words} {p q : Pass} {me : CallerNo} {act : Act} → Steps w p q me act → finds_drawn act ≡ false → acts_seen q me ≡ acts_seen p me ++ act ∷ []
@@ -169,3 +172,44 @@ looked_key {s = s} {k = k} {stage = stage} steps inside found = record {
   published = found_now (key_published s.0 k.index k.serial) (step_acts steps refl)
       (ap (λ b. b && was_published stage k.serial) (same_two s.0 k.index) ∙ in_set_published stage k.serial found);
 }
+
+-- a valid key is in the key set
+pub valid_in_set : (stage : Stage) (serial : ℕ) → is_valid_key stage serial ≡ true → is_in_key_set stage serial ≡ true
+valid_in_set stage serial valid =
+    let parts = and_parts (fits stage serial) (is_valid stage) valid in
+    and_from (fits stage serial) (in_key_set stage) parts.0 (and_parts (in_key_set stage) (not stage.cancelled) parts.1).0
+
+-- a key of the key set that isn't cancelled is valid
+pub invalid_outside : (stage : Stage) (serial : ℕ) → (is_in_key_set stage serial && stage.cancelled) ≡ false → is_valid_key stage serial ≡ false → is_in_key_set stage serial ≡ false
+invalid_outside stage serial = by_parts (fits stage serial) (in_key_set stage) stage.cancelled
+  where
+    by_parts : (f i c : Bool) → ((f && i) && c) ≡ false → (f && (i && not c)) ≡ false → (f && i) ≡ false
+    by_parts false i c spared invalid = refl
+    by_parts true false c spared invalid = refl
+    by_parts true true true spared invalid = spared
+    by_parts true true false spared invalid = invalid
+
+-- the channel was just found open and non-blocking
+pub found_unblocked : {w : Words} {p q : Pass} {me : CallerNo} {c : ChanNo} {found : Chan} → Steps w p q me (LookChannel c found) → found.closed ≡ false → found.blocking ≡ false
+    → HoldsChannel w p me c → found_closed (view w p) me c ≡ false → HoldsUnblocked w q me c
+found_unblocked {p = p} {me = me} {c = c} {found = found} steps unclosed unblocked held before = record {
+  held = hold_stays steps refl refl held;
+  unblocked =
+      ap (λ own. has (finds_unblocked c.0) (under c.0 own)) (own_more steps refl)
+      ∙ under_found (finds_unblocked c.0) c.0 (acts_seen p me) (LookChannel c found) refl (and_from (c.0 == c.0) (not found.blocking) (eq-eqb c.0 c.0 refl) (ap not unblocked));
+  unclosed =
+      ap (λ own. has (λ a. finds a (channel_closed c.0)) (under c.0 own)) (own_more steps refl)
+      ∙ under_never (λ a. finds a (channel_closed c.0)) c.0 (acts_seen p me) (LookChannel c found) refl (ap (λ b. (c.0 == c.0) && b) unclosed ∙ and_false (c.0 == c.0)) before;
+}
+  where
+    and_false : (b : Bool) → (b && false) ≡ false
+    and_false true = refl
+    and_false false = refl
+
+-- under a hold that was just taken it hasn't
+pub unclosed_yet : {w : Words} {p q : Pass} {me : CallerNo} {c : ChanNo} {found : Option CallerNo} → Steps w p q me (TryHoldBit c found) → found ≡ None → found_closed (view w q) me c ≡ false
+unclosed_yet {w = w} {p = p} {q = q} {me = me} {c = c} {found = found} steps free =
+    ap (λ own. has (λ a. finds a (channel_closed c.0)) (under c.0 own)) (own_more steps refl)
+    ∙ (ap (λ holder. has (λ a. finds a (channel_closed c.0)) (under c.0 (acts_seen p me ++ TryHoldBit c holder ∷ []))) free
+    ∙ (ap (has (λ a. finds a (channel_closed c.0))) (since_from-more (takes_hold c.0) (acts_seen p me) (TryHoldBit c None))
+    ∙ ap (λ b. has (λ a. finds a (channel_closed c.0)) (if b then [] else under c.0 (acts_seen p me) ++ TryHoldBit c None ∷ [])) (eq-eqb c.0 c.0 refl)))

@@ -3,3 +3,4 @@ pub mod Own
 pub mod Held
 pub mod Claimed
 pub mod Chains
+pub mod Registered

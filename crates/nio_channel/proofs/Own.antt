@@ -53,7 +53,7 @@ quiet_opens c s i act quiet = refl
 
 -- ---- under the hold
 
-under-more : (c : ℕ) (own : List Act) (act : Act) → takes_hold c act ≡ false → under c (own ++ act ∷ []) ≡ under c own ++ act ∷ []
+pub under-more : (c : ℕ) (own : List Act) (act : Act) → takes_hold c act ≡ false → under c (own ++ act ∷ []) ≡ under c own ++ act ∷ []
 under-more c own act keeps = since_from-more (takes_hold c) own act ∙ ap (λ b. if b then [] else under c own ++ act ∷ []) keeps
 
 has_longer : (p : Act → Bool) (own : List Act) (act : Act) → has p own ≡ true → has p (own ++ act ∷ []) ≡ true
@@ -77,10 +77,13 @@ told-more : (c s : ℕ) (own : List Act) (act : Act) → takes_hold c act ≡ fa
     → last (noted_found c s) (under c (own ++ act ∷ [])) ≡ option_or (noted_found c s act) (last (noted_found c s) (under c own))
 told-more c s own act keeps = ap (last (noted_found c s)) (under-more c own act keeps) ∙ last-more (noted_found c s) (under c own) act
 
+pub told_over : (c s : ℕ) (own : List Act) (act : Act) → takes_hold c act ≡ false → noted_found c s act ≡ None
+    → last (noted_found c s) (under c (own ++ act ∷ [])) ≡ last (noted_found c s) (under c own)
+told_over c s own act takes silent = told-more c s own act takes ∙ ap (λ told. option_or told (last (noted_found c s) (under c own))) silent
+
 pub told_quiet : (c s : ℕ) (own : List Act) (act : Act) → is_quiet act ≡ true
     → last (noted_found c s) (under c (own ++ act ∷ [])) ≡ last (noted_found c s) (under c own)
-told_quiet c s own act quiet =
-    told-more c s own act (quiet_holds c act quiet) ∙ ap (λ told. option_or told (last (noted_found c s) (under c own))) (quiet_tells c s act quiet)
+told_quiet c s own act quiet = told_over c s own act (quiet_holds c act quiet) (quiet_tells c s act quiet)
 
 pub told_look : (c : ChanNo) (s : SelNo) (noted : Option KeyId) (own : List Act)
     → last (noted_found c.0 s.0) (under c.0 (own ++ LookReg c s noted ∷ [])) ≡ Some noted
@@ -93,10 +96,6 @@ pub told_enrol : (c : ChanNo) (s : SelNo) (k : KeyId) (before : Option KeyId) (o
 told_enrol c s k before own =
     told-more c.0 s.0 own (Enrol c s k.index k.serial before) refl
     ∙ ap (λ b. option_or (if b then Some (Some k) else None) (last (noted_found c.0 s.0) (under c.0 own))) (same_two c.0 s.0)
-
-pub told_publish : (c s : ℕ) (s' : SelNo) (i : ℕ) (stage : Stage) (own : List Act)
-    → last (noted_found c s) (under c (own ++ Publish s' i stage ∷ [])) ≡ last (noted_found c s) (under c own)
-told_publish c s s' i stage own = told-more c s own (Publish s' i stage) refl
 
 -- ---- no key in the key set is noted
 

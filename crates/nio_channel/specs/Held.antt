@@ -8,6 +8,7 @@ use Rattle.nio_base.specs.declared.numbers.SelNo.{SelNo}
 use Rattle.nio_event.specs.Conditions.{IsChannel, holds}
 use Rattle.nio_event.specs.OwnEvents.{has, last, under, finds_unblocked, noted_found, own_claim, is_unpublished, is_clear}
 use Rattle.nio_event.specs.PassViews.{HasKey}
+use Rattle.nio_steps.specs.Names.{key}
 use Rattle.nio_words.specs.Passes.{IsReady, acts_seen, limits_of, state_seen}
 use Rattle.nio_words.specs.Views.{view, IsPinned}
 use Rattle.nio_words.specs.declared.words.Pass.{Pass}
@@ -35,12 +36,24 @@ pub record MayNote (w : Words) (p : Pass) (me : CallerNo) (c : ChanNo) (s : SelN
 abbrev pub KnowsNoted : Pass → CallerNo → ChanNo → SelNo → KeyId → Type 0
 KnowsNoted p me c s k = last (noted_found c.0 s.0) (under c.0 (acts_seen p me)) ≡ Some (Some k)
 
+-- that key is one, and it has a pin on the key's index, and no other
+pub record KnowsKey (w : Words) (p : Pass) (me : CallerNo) (c : ChanNo) (s : SelNo) (k : KeyId) : Type 0 where
+  pub unblocked : HoldsUnblocked w p me c
+  pub pinned : IsPinned w p me s k.index
+  pub noted : KnowsNoted p me c s k
+  pub has : HasKey (view w p) (key s k)
+
 -- it claimed the index of this key for the channel, has the pin of the claim, and no other, and hasn't
 -- published the key
 pub record HasClaimed (w : Words) (p : Pass) (me : CallerNo) (c : ChanNo) (s : SelNo) (k : KeyId) : Type 0 where
   pub pinned : IsPinned w p me s k.index
   pub claim : own_claim s.0 k.index (acts_seen p me) ≡ Some (record { channel = c; serial = k.serial })
   pub unpublished : IsTrue (is_unpublished s.0 k.index (acts_seen p me))
+
+-- it published that key after it noted it for the channel
+pub record HasPublished (w : Words) (p : Pass) (me : CallerNo) (c : ChanNo) (s : SelNo) (k : KeyId) : Type 0 where
+  pub known : KnowsKey w p me c s k
+  pub claim : own_claim s.0 k.index (acts_seen p me) ≡ Some (record { channel = c; serial = k.serial })
 
 -- the key is one, it is noted for the channel, and where the channel was found closed it is cancelled
 pub record HasRegistered (w : Words) (p : Pass) (me : CallerNo) (c : ChanNo) (s : SelNo) (k : KeyNo) : Type 0 where

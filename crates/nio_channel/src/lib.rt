@@ -7,6 +7,8 @@ pub use looks::{is_blocking, is_open};
 pub use modes::try_set_blocking;
 pub use nio_steps::ChannelError;
 pub use opening::open_channel;
+pub use registering::try_register;
+pub use waiting::{register, set_blocking};
 
 mod claiming;
 mod closing;
@@ -15,3 +17,5 @@ mod keys;
 mod looks;
 mod modes;
 mod opening;
+mod registering;
+mod waiting;

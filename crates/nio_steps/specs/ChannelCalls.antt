@@ -224,14 +224,18 @@ register_first s c ops att (Some k) = do
   raise_keys s (k.index + 1)
   make_claimed s c ops att k
 
--- with an index that had a key before; where none was found, with one that never had one
+-- with an index that had a key before
+abbrev pub register_again : SelNo → ChanNo → ℕ → ℕ → KeyId → Plan (Result KeyNo ChannelError)
+register_again s c ops att k = do
+  clear_mark s k.index
+  make_claimed s c ops att k
+
+-- with the index that was claimed again; where none was, with one that never had a key
 abbrev pub register_next : Limits → SelNo → ChanNo → ℕ → ℕ → ℕ → Option KeyId → Plan (Result KeyNo ChannelError)
 register_next l s c ops att mark None = do
   claimed ← seek_to l.keys mark (claim_new s c)
   register_first s c ops att claimed
-register_next l s c ops att mark (Some k) = do
-  clear_mark s k.index
-  make_claimed s c ops att k
+register_next l s c ops att mark (Some k) = register_again s c ops att k
 
 abbrev pub register_new : Limits → SelNo → ChanNo → ℕ → ℕ → Plan (Result KeyNo ChannelError)
 register_new l s c ops att = do
