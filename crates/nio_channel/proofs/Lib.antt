@@ -4,3 +4,4 @@ pub mod Held
 pub mod Claimed
 pub mod Chains
 pub mod Registered
+pub mod Retrying

@@ -2,7 +2,7 @@
 ghost use Rattle.std.specs.Prelude.{◌≡◌, ◌≢◌, Err, IfOk};
 ghost use Rattle.nio_event.specs.PassViews.{HasChannel, HasKey, HasNoPin, HasSelector};
 ghost use Rattle.nio_steps.specs.Calls.{CallClause};
-ghost use Rattle.nio_steps.specs.ChannelCalls.{Registers, SetsBlocking};
+ghost use Rattle.nio_steps.specs.ChannelCalls.{finds_held, Registers, SetsBlocking};
 ghost use Rattle.nio_steps.specs.declared.refusal.ChannelError.TheVariants.{Busy};
 ghost use Rattle.nio_words.specs.Passes.{IsReady, limits_of};
 ghost use Rattle.nio_words.specs.Views.{view};
@@ -32,10 +32,11 @@ pub fn set_blocking<R: Wait>(
     ensures waits { result ≢ Err Busy }
 {
     for _ in rt.forever() {
-        match try_set_blocking(w, p, me, chan, on) {
-            Err(ChannelError::Busy) => thread::yield_now(),
-            answer => return answer,
+        let answer = try_set_blocking(w, p, me, chan, on);
+        if !is_busy(&answer) {
+            return answer;
         }
+        thread::yield_now();
     }
     unreachable!()
 }
@@ -65,10 +66,18 @@ pub fn register<R: Wait>(
     ensures unpinned { HasNoPin (view w.now p.new) me }
 {
     for _ in rt.forever() {
-        match try_register(w, p, me, sel, chan, ops, att) {
-            Err(ChannelError::Busy) => thread::yield_now(),
-            answer => return answer,
+        let answer = try_register(w, p, me, sel, chan, ops, att);
+        if !is_busy(&answer) {
+            return answer;
         }
+        thread::yield_now();
     }
     unreachable!()
+}
+
+// Another caller has the hold of the channel.
+fn is_busy<A>(answer: &Result<A, ChannelError>) -> bool
+    ensures { result ≡ finds_held answer.now }
+{
+    matches!(answer, Err(ChannelError::Busy))
 }
