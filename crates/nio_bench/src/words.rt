@@ -1,10 +1,10 @@
 //! Steps on the shared table, by one caller in one thread.
-ghost use Rattle.std.specs.Prelude.{IsTrue};
-ghost use Rattle.nio_event.specs.Conditions.{IsKey, IsSelector};
+ghost use Rattle.std.specs.Prelude.{◌≡◌, true, IsTrue};
+ghost use Rattle.nio_event.specs.Conditions.{IsChannel, IsKey, IsSelector, has_pin};
 ghost use Rattle.nio_words.specs.Passes.{IsReady, limits_of, state_seen};
 
 use anyhow::bail;
-use nio_base::{CallerNo, Limits, Ops, SelNo};
+use nio_base::{CallerNo, ChanNo, Kind, Limits, Ops, SelNo};
 use nio_words::{Pass, Words};
 use std::alloc::Global;
 use std::rt::Runtime;
@@ -35,6 +35,9 @@ pub fn run<R: Runtime<A = Global>>(rt: &R, turns: u32) -> anyhow::Result<()> {
     let start = Instant::now(rt)?;
     wakes(&words, &mut p, me, s, turns);
     let woken = start.elapsed(rt)?;
+    if !pins(&words, &mut p, me, s, ChanNo(0)) {
+        bail!("the index isn't new");
+    }
     swaps(&words, &mut p, me, s, turns);
     let swapped = start.elapsed(rt)?;
     looks(&words, &mut p, me, s, turns);
@@ -59,6 +62,25 @@ fn wakes(words: &Words, p: &mut Pass, me: CallerNo, s: SelNo, turns: u32)
     }
 }
 
+/// Claims index 0 for a new channel, which pins it. Says whether it did.
+fn pins(words: &Words, p: &mut Pass, me: CallerNo, s: SelNo, c: ChanNo) -> bool
+    requires ready { IsReady words.now p.old me }
+    requires key { IsKey (limits_of words.now) s 0 }
+    requires channel { IsChannel (limits_of words.now) c }
+    requires first { c.0 ≡ 0 }
+    ensures ready { IsReady words.now p.new me }
+    ensures pinned { result ≡ true → IsTrue (has_pin (state_seen p.new) me s 0) }
+{
+    words.make_channel(p, me, c, Kind::Source);
+    if !words.look_channel(p, me, c).made {
+        return false;
+    }
+    if words.try_hold_bit(p, me, c).is_some() {
+        return false;
+    }
+    !words.claim(p, me, s, 0, c)
+}
+
 fn looks(words: &Words, p: &mut Pass, me: CallerNo, s: SelNo, turns: u32)
     requires ready { IsReady words.now p.old me }
     requires selector { IsSelector (limits_of words.now) s }
@@ -72,6 +94,7 @@ fn looks(words: &Words, p: &mut Pass, me: CallerNo, s: SelNo, turns: u32)
 fn swaps(words: &Words, p: &mut Pass, me: CallerNo, s: SelNo, turns: u32)
     requires ready { IsReady words.now p.old me }
     requires key { IsKey (limits_of words.now) s 0 }
+    requires pinned { IsTrue (has_pin (state_seen p.old) me s 0) }
     ensures { IsReady words.now p.new me }
 {
     for turn in 0..turns {

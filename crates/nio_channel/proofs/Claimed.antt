@@ -25,7 +25,7 @@ use Rattle.nio_event.specs.declared.act.Act.{Act}
 use Rattle.nio_event.specs.declared.act.Act.TheVariants.{LookKey, Claim, LookKeys, TakeFree, ClaimAgain}
 use Rattle.nio_event.specs.declared.found.Stage.{Stage}
 use Rattle.nio_words.proofs.Pins.{changes_pins, stays_pinned, only_claimed, only_claimed_again}
-use Rattle.nio_words.proofs.Seen.{still_ready}
+use Rattle.nio_words.proofs.Stepping.{still_ready}
 use Rattle.nio_words.proofs.Views.{finds_drawn, step_acts, look_tells}
 use Rattle.nio_words.specs.Passes.{IsReady, acts_seen, limits_of, seen, state_seen}
 use Rattle.nio_words.specs.Steps.{Steps}

@@ -27,7 +27,7 @@ use Rattle.nio_event.specs.declared.found.Chan.{Chan}
 use Rattle.nio_event.specs.declared.found.Stage.{Stage}
 use Rattle.nio_steps.specs.Names.{key}
 use Rattle.nio_words.proofs.GoingOn.{own_stands}
-use Rattle.nio_words.proofs.Seen.{still_ready}
+use Rattle.nio_words.proofs.Stepping.{still_ready}
 use Rattle.nio_words.proofs.Views.{finds_drawn, step_acts, look_tells, found_now}
 use Rattle.nio_words.specs.Passes.{seen, state_seen, acts_seen, IsPassOf, IsReady, limits_of}
 use Rattle.nio_words.specs.Steps.{Steps}

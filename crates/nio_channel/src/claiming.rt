@@ -10,8 +10,8 @@ ghost use Rattle.nio_words.specs.Passes.{limits_of, state_seen};
 ghost use Rattle.nio_words.specs.Views.{view};
 ghost use Rattle.nio_channel.specs.Held.{MayNote, HasClaimed};
 
-use crate::found::has_bit;
 use nio_base::{CallerNo, ChanNo, KeyId, SelNo};
+use nio_steps::has_bit;
 use nio_words::{Pass, Words};
 
 // Claims again the first index below `mark` that is free and unpinned.

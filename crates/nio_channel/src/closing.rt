@@ -10,7 +10,6 @@ ghost use Rattle.nio_steps.specs.Runs.{Completes};
 ghost use Rattle.nio_words.specs.Passes.{IsReady, limits_of, state_seen};
 ghost use Rattle.nio_words.specs.Views.{view, IsPinned};
 
-use crate::found::fits;
 use crate::keys::look_noted;
 use nio_base::{CallerNo, ChanNo, KeyId, SelNo};
 use nio_event::Stage;
@@ -83,7 +82,7 @@ fn cancel_pinned(w: &Words, p: &mut Pass, me: CallerNo, sel: SelNo, k: KeyId, st
     ensures call { CallClause me (Completes (cancel_present (key sel k) stage)) (view w.now p.old) (view w.now p.new) result }
     ensures pinned { IsPinned w.now p.new me sel k.index }
 {
-    if fits(stage, k.serial) && !stage.removed {
+    if stage.fits(k.serial) && !stage.removed {
         w.cancel_key(p, me, sel, k.index);
     }
 }

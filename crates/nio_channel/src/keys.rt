@@ -11,7 +11,6 @@ ghost use Rattle.nio_words.specs.Steps.{Steps};
 ghost use Rattle.nio_words.specs.Views.{view};
 ghost use Rattle.nio_channel.specs.Held.{HoldsChannel, IsClearBelow};
 
-use crate::found::is_in_key_set;
 use nio_base::{CallerNo, ChanNo, KeyId, KeyNo, SelNo};
 use nio_words::{Pass, Words};
 
@@ -84,7 +83,7 @@ pub(crate) fn key_in(
         return None;
     };
     let stage = w.look_key(p, me, sel, k.index);
-    if is_in_key_set(stage, k.serial) {
+    if stage.is_in_key_set(k.serial) {
         Some(KeyNo {
             sel: sel,
             index: k.index,

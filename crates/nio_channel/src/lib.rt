@@ -12,7 +12,6 @@ pub use waiting::{register, set_blocking};
 
 mod claiming;
 mod closing;
-mod found;
 mod keys;
 mod looks;
 mod modes;

@@ -14,11 +14,10 @@ ghost use Rattle.nio_channel.specs.Held.{HoldsChannel, HoldsUnblocked, MayNote, 
 ghost use Rattle.nio_channel.specs.Registered.{found_closed, IsKeyOf, IsCancelledWhereClosed};
 
 use crate::claiming::{claim_first, search_free};
-use crate::found::{is_in_key_set, is_valid_key, supports};
 use crate::keys::look_noted;
 use nio_base::{CallerNo, ChanNo, KeyId, KeyNo, Ops, SelNo};
 use nio_event::Stage;
-use nio_steps::ChannelError;
+use nio_steps::{ChannelError, supports};
 use nio_words::{Pass, Words};
 
 // A registration that is asked for.
@@ -214,13 +213,13 @@ fn register_noted(
     ensures registered { IfSome result (λ answer. IfOk answer (HasRegistered w.now p.new me wanted.now.chan wanted.now.sel)) }
     ensures pinned { IsPinned w.now p.new me wanted.now.sel k.index }
 {
-    if is_in_key_set(stage, k.serial) && stage.cancelled {
+    if stage.is_in_key_set(k.serial) && stage.cancelled {
         return Some(Err(ChannelError::CancelledKey));
     }
     if w.look_gate(p, me, wanted.sel).shut {
         return Some(Err(ChannelError::ClosedSelector));
     }
-    if is_valid_key(stage, k.serial) {
+    if stage.is_valid_key(k.serial) {
         Some(update_key(w, p, me, wanted, k))
     } else {
         None

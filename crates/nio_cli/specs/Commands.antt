@@ -7,13 +7,23 @@ use Rattle.nio_bytes.specs.declared.sink.Sink as sink
 use Rattle.nio_event.specs.Script.{IsScript, IsFirstBad}
 use Rattle.nio_event.specs.declared.call.ScriptCall.{ScriptCall}
 use Rattle.nio_event.specs.declared.reply.Reply.{Reply}
+use Rattle.nio_plain.specs.Answer.{answer_to}
+use Rattle.nio_plain.specs.declared.rules.Rules.{Rules}
 use Rattle.nio_plain.specs.declared.system.System as system
-use Rattle.nio_script.specs.Check.{IsLegalHistory, IsFirstIllegal, IsVerdict, IsFoundLegal, IsFoundIllegal, IsHalfSaid, IsNoHistory, EndsCheck}
+use Rattle.nio_script.specs.Check.{HasLegalHistory, IsLegalHistory, IsFirstIllegal, IsVerdict, IsFoundLegal, IsFoundIllegal, IsHalfSaid, IsNoHistory, EndsCheck}
 use Rattle.nio_script.specs.History.{Entry, IsHistory, IsFirstBadEntry}
+use Rattle.nio_script.specs.Output.{IsWritten}
 use Rattle.nio_script.specs.Run.{ReadsText, IsAnswered, IsCutShort, IsRefused, IsUntouched, EndsScript}
 use Rattle.nio_script.specs.declared.input.TheConstants.{LONGEST_INPUT}
 use Rattle.nio_script.specs.declared.status.Status.{Status}
 use Rattle.nio_script.specs.declared.status.Status.TheVariants.{Done, BadScript, ReadFault, WriteFault, Memory, Illegal, TooLong}
+
+-- The text is a script, and what was written is a legal history of its calls by these rules and limits.
+pub record WritesLegal {K : Type 0} (k : sink.Ghosts K) (output output' : K) (rules : Rules) (limits : Limits) (text : List ℕ) : Type 0 where
+  pub calls : List ScriptCall
+  pub script : IsScript text calls
+  pub written : IsWritten k output output' (answer_to rules limits calls)
+  pub legal : HasLegalHistory rules limits calls
 
 -- What `script` does where it ends with this status.
 pub record DoesScript {S K Y : Type 0} (s : source.Ghosts S) (k : sink.Ghosts K) (y : system.Ghosts Y) (input input' : S) (output output' : K) (run run' : Y) (status : Status) : Type 0 where
@@ -41,35 +51,35 @@ pub record DoesScript {S K Y : Type 0} (s : source.Ghosts S) (k : sink.Ghosts K)
       → ¬ Rose (s.faults input) (s.faults input') → ¬ Rose (k.faults output) (k.faults output')
       → (status ≡ Done) ⊎ (status ≡ Memory))
 
--- What `check` does over a system of these limits where it ends with this status. It makes no call on
--- the program's own system.
-pub record DoesCheck {S K Y : Type 0} (s : source.Ghosts S) (k : sink.Ghosts K) (limits : Limits) (input input' : S) (output output' : K) (run run' : Y) (status : Status) : Type 0 where
+-- What `check` and `check-1` do over a system of these rules and limits where they end with this
+-- status. They make no call on the program's own system.
+pub record DoesCheck {S K Y : Type 0} (s : source.Ghosts S) (k : sink.Ghosts K) (rules : Rules) (limits : Limits) (input input' : S) (output output' : K) (run run' : Y) (status : Status) : Type 0 where
   -- what each status says
-  pub done : status ≡ Done → ReadsText s input input' (IsFoundLegal k output output' limits)
+  pub done : status ≡ Done → ReadsText s input input' (IsFoundLegal k output output' rules limits)
   pub illegal : (number : ℕ) → status ≡ Illegal number
-      → ReadsText s input input' (IsFoundIllegal k output output' limits number)
+      → ReadsText s input input' (IsFoundIllegal k output output' rules limits number)
   pub bad_script : (line : ℕ) → status ≡ BadScript line
-      → ReadsText s input input' (IsNoHistory k output output' line)
-  pub write_fault : status ≡ WriteFault → ReadsText s input input' (IsHalfSaid k output output' limits)
+      → ReadsText s input input' (IsNoHistory k output output' rules line)
+  pub write_fault : status ≡ WriteFault → ReadsText s input input' (IsHalfSaid k output output' rules limits)
   pub memory : status ≡ Memory → output' ≡ output
   pub unread : (status ≡ ReadFault) ⊎ (status ≡ TooLong) → output' ≡ output
   pub ends : EndsCheck status
   pub uncalled : run' ≡ run
   -- what comes of each text, where the source tells it
   pub of_legal : IfSome (s.left input) (λ text. (entries : List Entry)
-      → length text ≤ LONGEST_INPUT → IsHistory text entries → IsLegalHistory limits entries
+      → length text ≤ LONGEST_INPUT → IsHistory rules text entries → IsLegalHistory rules limits entries
       → (status ≡ Done) ⊎ (status ≡ ReadFault) ⊎ (status ≡ WriteFault) ⊎ (status ≡ Memory))
   pub of_illegal : IfSome (s.left input) (λ text. (entries : List Entry) (number : ℕ) (right : Reply)
-      → length text ≤ LONGEST_INPUT → IsHistory text entries
-      → IsFirstIllegal limits entries number right
+      → length text ≤ LONGEST_INPUT → IsHistory rules text entries
+      → IsFirstIllegal rules limits entries number right
       → (status ≡ Illegal number) ⊎ (status ≡ ReadFault) ⊎ (status ≡ Memory))
   pub of_bad : IfSome (s.left input) (λ text. (line : ℕ)
-      → length text ≤ LONGEST_INPUT → IsFirstBadEntry text line
+      → length text ≤ LONGEST_INPUT → IsFirstBadEntry rules text line
       → (status ≡ BadScript line) ⊎ (status ≡ ReadFault) ⊎ (status ≡ Memory))
   pub of_long : IfSome (s.left input) (λ text. LONGEST_INPUT < length text
       → (status ≡ TooLong) ⊎ (status ≡ ReadFault) ⊎ (status ≡ Memory))
   -- a history is judged where no count of faults rises and there is memory
   pub complete : IfSome (s.left input) (λ text. (entries : List Entry)
-      → length text ≤ LONGEST_INPUT → IsHistory text entries
+      → length text ≤ LONGEST_INPUT → IsHistory rules text entries
       → ¬ Rose (s.faults input) (s.faults input') → ¬ Rose (k.faults output) (k.faults output')
-      → IsVerdict limits entries status ⊎ (status ≡ Memory))
+      → IsVerdict rules limits entries status ⊎ (status ≡ Memory))

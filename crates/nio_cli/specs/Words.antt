@@ -11,14 +11,18 @@ IsScriptCommand words = words ≡ codes "script" ∷ []
 abbrev pub IsCheckCommand : List (List ℕ) → Type 0
 IsCheckCommand words = words ≡ codes "check" ∷ []
 
+-- the one word `check-1`
+abbrev pub IsCheckFirstCommand : List (List ℕ) → Type 0
+IsCheckFirstCommand words = words ≡ codes "check-1" ∷ []
+
 -- words that say what to do
 abbrev pub IsCommand : List (List ℕ) → Type 0
-IsCommand words = IsScriptCommand words ⊎ IsCheckCommand words
+IsCommand words = IsScriptCommand words ⊎ IsCheckCommand words ⊎ IsCheckFirstCommand words
 
 -- what is said of words that say nothing that is known
 abbrev pub usage_line : List ℕ
 usage_line =
-    codes "usage: nio script | check | race | proxy --way select|group --listen ADDR --target ADDR --conns N [--workers W] | load N"
+    codes "usage: nio script | check | check-1 | race | proxy --way select|group --listen ADDR --target ADDR --conns N [--workers W] | load N"
     ++ 10 ∷ []
 
 -- The usage was said, nothing was read, and no call was made.

@@ -4,13 +4,14 @@ ghost use Rattle.std.specs.String.{string_bytes};
 ghost use Rattle.nio_bytes.specs.Cause.{Rose};
 ghost use Rattle.nio_plain.specs.ScriptState.{script_opening};
 ghost use Rattle.nio_script.specs.Input.{CausesFault, StopsPastLongest};
-ghost use Rattle.nio_cli.specs.Commands.{DoesScript, DoesCheck};
-ghost use Rattle.nio_cli.specs.Words.{IsScriptCommand, IsCheckCommand, IsCommand, IsUsage};
+ghost use Rattle.nio_script.specs.Run.{ReadsText};
+ghost use Rattle.nio_cli.specs.Commands.{DoesScript, DoesCheck, WritesLegal};
+ghost use Rattle.nio_cli.specs.Words.{IsScriptCommand, IsCheckCommand, IsCheckFirstCommand, IsCommand, IsUsage};
 
 use crate::words::{Command, command_of};
 use nio_base::Limits;
 use nio_bytes::{Sink, Source};
-use nio_plain::System;
+use nio_plain::{Rules, System};
 use nio_script::{Status, note, run_check, run_script};
 use std::alloc::Global;
 
@@ -24,10 +25,11 @@ pub const PROGRAM_LIMITS: Limits = Limits {
 
 /// What is said of words that say nothing that is known.
 const USAGE: &str =
-    "usage: nio script | check | race | proxy --way select|group --listen ADDR --target ADDR --conns N [--workers W] | load N\n";
+    "usage: nio script | check | check-1 | race | proxy --way select|group --listen ADDR --target ADDR --conns N [--workers W] | load N\n";
 
-/// Does what the words say: all that the program does. `script` makes its calls on this system, and
-/// `check` on one of its own.
+/// Does what the words say: all that the program does. `script` makes its calls on this system, which
+/// is by the rules of now and has the program's limits; `check` and `check-1` make theirs on one of
+/// their own, with the same limits.
 pub fn run<S: Source, K: Sink, Y: System>(
     alloc: Global,
     words: &[String],
@@ -35,7 +37,9 @@ pub fn run<S: Source, K: Sink, Y: System>(
     output: &mut K,
     system: &mut Y,
 ) -> Status
-    requires { Y.state system.old ≡ script_opening }
+    requires opening { Y.state system.old ≡ script_opening }
+    requires rules { Y.rules system.old ≡ Rules.Now }
+    requires limits { Y.limits system.old ≡ PROGRAM_LIMITS }
 
     // The words are looked at first.
     ensures usage { (result ≡ Status.Usage) ↔ ¬ IsCommand (map string_bytes words.now) }
@@ -48,8 +52,16 @@ pub fn run<S: Source, K: Sink, Y: System>(
         DoesScript S.Source K.Sink Y.System input.old input.new output.old output.new
         system.old system.new result }
     ensures check { IsCheckCommand (map string_bytes words.now) →
-        DoesCheck S.Source K.Sink PROGRAM_LIMITS input.old input.new output.old output.new
-        system.old system.new result }
+        DoesCheck S.Source K.Sink Rules.Now PROGRAM_LIMITS input.old input.new
+        output.old output.new system.old system.new result }
+    ensures check_first { IsCheckFirstCommand (map string_bytes words.now) →
+        DoesCheck S.Source K.Sink Rules.First PROGRAM_LIMITS input.old input.new
+        output.old output.new system.old system.new result }
+
+    // What `script` writes is legal for `check`.
+    ensures legal { IsScriptCommand (map string_bytes words.now) → result ≡ Status.Done →
+        ReadsText S.Source input.old input.new
+        (WritesLegal K.Sink output.old output.new Rules.Now PROGRAM_LIMITS) }
 
     // What each fault comes of.
     ensures read_fault { CausesFault (S.faults input.old) (S.faults input.new)
@@ -62,7 +74,8 @@ pub fn run<S: Source, K: Sink, Y: System>(
 {
     match command_of(words) {
         Some(Command::Script) => run_script(alloc, input, output, system),
-        Some(Command::Check) => run_check(alloc, input, output, PROGRAM_LIMITS),
+        Some(Command::Check) => run_check(alloc, input, output, PROGRAM_LIMITS, Rules::Now),
+        Some(Command::CheckFirst) => run_check(alloc, input, output, PROGRAM_LIMITS, Rules::First),
         None => {
             note(output, USAGE.as_bytes());
             Status::Usage

@@ -127,7 +127,8 @@ abbrev pub channels_mark_tells : ℕ → LastingFact → Bool
 channels_mark_tells found (below_channels_mark c) = nat_lt c found
 channels_mark_tells found _ = false
 
--- what the step found tells that the fact stands
+-- what the step found tells that the fact stands: a gate, a channel, a stage, the word of the selectors or a
+-- high-water mark. A flag or a holder tells of none here
 abbrev pub finds : Act → LastingFact → Bool
 finds (DrawBit n found) f = false
 finds (MakeSelector s found) f = false

@@ -63,8 +63,8 @@ FoundClearStays = (l : Limits) (n : CallerNo) (c : ChanNo) (before later : List 
     → (s : SelNo) → IsTrue (is_clear_by c.0 s.0 (mine n later) (last (noted_found c.0 s.0) (mine n later)))
     → ForSome ((state_after (before ++ later)).noted c.0 s.0) (λ k. IsFalse (is_in_key_set ((state_after (before ++ later)).key s.0 k.index) k.serial))
 
--- none is where it knows so from its acts under its present hold: what the condition of noting a key asks for,
--- and that of blocking mode, is true
+-- Where `is_clear` is true of the caller's acts under its present hold, no key of the key set is noted.
+-- `is_clear` is the condition of noting a key, and of blocking mode
 abbrev pub ClearIsTrue : Type 0
 ClearIsTrue = (l : Limits) (n : CallerNo) (c : ChanNo) (events : List Event) → IsFit l → IsLegal l events → IsTrue (holds (state_after events) n c)
     → (s : SelNo) → IsTrue (is_clear c.0 s.0 (mine n events))
@@ -72,7 +72,7 @@ ClearIsTrue = (l : Limits) (n : CallerNo) (c : ChanNo) (events : List Event) →
 
 -- ---- while a caller selects
 
--- it marked the key of index i
+-- it made a `mark` of the key of index i, which succeeded or not
 abbrev pub marks : ℕ → ℕ → Act → Bool
 marks s i (Mark s' i' from told found) = (s'.0 == s) && (i' == i)
 marks s i _ = false

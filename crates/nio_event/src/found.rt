@@ -1,4 +1,7 @@
 //! What a look at one part of the shared state finds.
+ghost use Rattle.std.specs.Prelude.{◌≡◌};
+ghost use Rattle.nio_event.specs.Sets.{fits, is_in_key_set, is_valid_key, was_published};
+
 use nio_base::{ChanNo, Kind, Ops};
 
 /// The gate of a selector: whether a wakeup is pending, and whether closing it has begun.
@@ -19,6 +22,36 @@ pub struct Stage {
     pub removed: bool,
     pub chan: ChanNo,
     pub serial: u32,
+}
+
+impl Stage {
+    /// Whether the key with this serial is the present one of its index.
+    pub fn fits(self, serial: u32) -> bool
+        ensures { result ≡ fits self serial }
+    {
+        self.claimed && self.serial == serial
+    }
+
+    /// Whether the key with this serial was published. A lower serial than the present one was.
+    pub fn was_published(self, serial: u32) -> bool
+        ensures { result ≡ was_published self serial }
+    {
+        serial < self.serial || self.fits(serial) && self.published
+    }
+
+    /// Whether the key with this serial is in the key set.
+    pub fn is_in_key_set(self, serial: u32) -> bool
+        ensures { result ≡ is_in_key_set self serial }
+    {
+        self.fits(serial) && self.published && !self.removed
+    }
+
+    /// Whether the key with this serial is valid.
+    pub fn is_valid_key(self, serial: u32) -> bool
+        ensures { result ≡ is_valid_key self serial }
+    {
+        self.is_in_key_set(serial) && !self.cancelled
+    }
 }
 
 /// A channel: whether it is made, its kind, whether it is closed, and whether it is in blocking

@@ -1,15 +1,53 @@
 //! Calls that find selectors, channels and keys by their numbers.
 ghost use Rattle.std.specs.Prelude.{IfSome};
-ghost use Rattle.nio_event.specs.PassViews.{HasSelector, HasKey};
+ghost use Rattle.nio_event.specs.PassViews.{HasSelector, HasChannel, HasKey};
 ghost use Rattle.nio_steps.specs.Calls.{CallClause};
-ghost use Rattle.nio_steps.specs.KeyCalls.{find_plan};
+ghost use Rattle.nio_steps.specs.KeyCalls.{find_selector_plan, find_channel_plan, find_plan};
 ghost use Rattle.nio_steps.specs.Runs.{Completes};
 ghost use Rattle.nio_words.specs.Passes.{IsReady, limits_of};
 ghost use Rattle.nio_words.specs.Views.{view};
 
-use crate::stage::was_published;
-use nio_base::{CallerNo, KeyNo, SelNo};
+use nio_base::{CallerNo, ChanNo, KeyNo, SelNo};
+use nio_steps::has_bit;
 use nio_words::{Pass, Words};
+
+/// The selector with this number, where it is made.
+#[tactic(auto, unfolding(nio_steps::specs::KeyCalls::find_selector_plan))]
+pub fn find_selector(w: &Words, p: &mut Pass, me: CallerNo, number: u32) -> Option<SelNo>
+    requires { IsReady w.now p.old me }
+    ensures call { CallClause me (Completes (find_selector_plan (limits_of w.now) number)) (view w.now p.old) (view w.now p.new) result }
+    ensures ready { IsReady w.now p.new me }
+    ensures found { IfSome result (HasSelector (view w.now p.new)) }
+{
+    if number >= w.limits().selectors {
+        return None;
+    }
+    let made = w.look_selectors(p, me);
+    if has_bit(made, number) {
+        Some(SelNo(number))
+    } else {
+        None
+    }
+}
+
+/// The channel with this number, where it is made.
+#[tactic(auto, unfolding(nio_steps::specs::KeyCalls::find_channel_plan))]
+pub fn find_channel(w: &Words, p: &mut Pass, me: CallerNo, number: u32) -> Option<ChanNo>
+    requires { IsReady w.now p.old me }
+    ensures call { CallClause me (Completes (find_channel_plan (limits_of w.now) number)) (view w.now p.old) (view w.now p.new) result }
+    ensures ready { IsReady w.now p.new me }
+    ensures found { IfSome result (HasChannel (view w.now p.new)) }
+{
+    if number >= w.limits().channels {
+        return None;
+    }
+    let found = w.look_channel(p, me, ChanNo(number));
+    if found.made {
+        Some(ChanNo(number))
+    } else {
+        None
+    }
+}
 
 /// The key with this index and serial in the selector, where it was published.
 #[tactic(auto, unfolding(nio_steps::specs::KeyCalls::find_plan))]
@@ -31,7 +69,7 @@ pub fn find(
         return None;
     }
     let stage = w.look_key(p, me, sel, index);
-    if was_published(stage, serial) {
+    if stage.was_published(serial) {
         Some(KeyNo { sel, index, serial })
     } else {
         None

@@ -1,10 +1,10 @@
-//! A key's index is pinned while a call works on the key.
+//! The index of a key is pinned while a call works on the key.
 ghost use Rattle.std.specs.Prelude.{[], ◌∷◌};
+ghost use Rattle.nio_event.specs.Conditions.{IsChannel};
 ghost use Rattle.nio_event.specs.PassViews.{ActsClause, HasKey, HasNoPin};
 ghost use Rattle.nio_event.specs.declared.act.Act.TheVariants.{Pin, Unpin};
-ghost use Rattle.nio_keys.specs.Pinned.{IsPinned};
-ghost use Rattle.nio_words.specs.Passes.{IsReady};
-ghost use Rattle.nio_words.specs.Views.{view};
+ghost use Rattle.nio_words.specs.Passes.{IsReady, limits_of};
+ghost use Rattle.nio_words.specs.Views.{view, IsPinned};
 
 use nio_base::{CallerNo, KeyNo};
 use nio_event::Stage;
@@ -16,14 +16,15 @@ pub(crate) fn pin(w: &Words, p: &mut Pass, me: CallerNo, key: KeyNo) -> Stage
     requires key { HasKey (view w.now p.old) key }
     requires unpinned { HasNoPin (view w.now p.old) me }
     ensures act { ActsClause me (Pin key.sel key.index result ∷ []) (view w.now p.old) (view w.now p.new) }
-    ensures pinned { IsPinned w.now p.new me key }
+    ensures pinned { IsPinned w.now p.new me key.sel key.index }
+    ensures channel { IsChannel (limits_of w.now) result.chan }
 {
     w.pin(p, me, key.sel, key.index)
 }
 
 /// Takes the pin off the key's index.
 pub(crate) fn unpin(w: &Words, p: &mut Pass, me: CallerNo, key: KeyNo)
-    requires { IsPinned w.now p.old me key }
+    requires { IsPinned w.now p.old me key.sel key.index }
     ensures act { ActsClause me (Unpin key.sel key.index ∷ []) (view w.now p.old) (view w.now p.new) }
     ensures ready { IsReady w.now p.new me }
     ensures unpinned { HasNoPin (view w.now p.new) me }

@@ -1,5 +1,5 @@
 -- How a call of a plain system is shown to answer as the documented one, at each of its returns.
-use Rattle.std.proofs.Common.{◌≡◌, ℕ, ◌+◌, ◌<◌, ◌≤◌, Option, None, Some, is_some, arith, Bool, true, false, Result, Ok, Err, List, [], ◌∷◌, ◌++◌, length, get_or, set, refl, sym, ap, subst, ◌∙◌}
+use Rattle.std.proofs.Common.{◌≡◌, ℕ, ◌+◌, ◌<◌, ◌≤◌, Option, None, Some, is_some, Bool, true, false, Result, Ok, Err, List, [], ◌∷◌, ◌++◌, length, get_or, set, refl, sym, ap, subst, ◌∙◌}
 use Rattle.std.proofs.lemmas.List.{length-set, length_push}
 use Rattle.std.proofs.lemmas.Result.{IfOk-from_err}
 use Rattle.std.specs.Result.{IsErr, OnErr}
@@ -9,7 +9,7 @@ use Rattle.nio_event.specs.State.{unmade_channel, put, with_interrupted}
 use Rattle.nio_event.specs.declared.reply.Reply.{Reply}
 use Rattle.nio_plain.proofs.Places.{places-nil, places-replicate, places_all, places_past, places-set, places-push, places_at, part_kept}
 use Rattle.nio_plain.specs.Plain.{Answers, AnswersAs, Kept}
-use Rattle.nio_plain.specs.PlainState.{places, key_row, no_key, caller_of, channel_row, selector_row, SelectorRow, no_selector, state_from, state_of}
+use Rattle.nio_plain.specs.PlainState.{places, caller_of, channel_row, selector_row, SelectorRow, no_selector, state_from, state_of}
 use Rattle.nio_plain.specs.ScriptState.{ScriptState, script_opening, with_shared}
 use Rattle.nio_plain.specs.Seq.Answers.{Answered, unchanged}
 use Rattle.nio_plain.specs.declared.plain.Plain.{Plain}
@@ -129,13 +129,6 @@ state-same_selector p s x y h e same =
 pub same_row : (p : Plain) (s : ℕ) (x y : Selector) → s < length p.selectors.items → x ≡ get_or p.selectors.items s x → y ≡ get_or p.selectors.items s y → selector_row x ≡ selector_row y
 same_row p s x y h e d =
     sym (places_at selector_row no_selector p.selectors.items s x h e) ∙ places_at selector_row no_selector p.selectors.items s y h d
-
--- a selector has no key from its mark on
-pub row_past : (p : Plain) (s : ℕ) (x : Selector) → s < length p.selectors.items → x ≡ get_or p.selectors.items s x → (i : ℕ) → (rows_of p s).keys_mark ≤ i → (rows_of p s).keys i ≡ no_key
-row_past p s x h e i past =
-    let at = places_at selector_row no_selector p.selectors.items s x h e in
-    let mark = ap (λ (r : SelectorRow). r.keys_mark) at in
-    ap (λ (r : SelectorRow). r.keys i) at ∙ places_past key_row no_key x.keys.items i (omega arith)
 
 -- a selector's turn is taken where a selection is in progress
 pub is_some-caller_of : (o : Option Selecting) → is_some (caller_of o) ≡ is_some o

@@ -1,11 +1,11 @@
 -- What was told of each key, and the marks that it makes, pair by pair.
-use Rattle.std.proofs.Common.{◌≡◌, ℕ, zero, suc, ◌+◌, ◌<◌, ◌≤◌, eqb, Bool, true, false, cond, List, [], ◌∷◌, ◌++◌, take, length, get_or, set, bit_and, bit_or, count_by, refl, sym, ap, ◌∙◌, subst, arith, ⊎_elim}
+use Rattle.std.proofs.Common.{◌≡◌, ℕ, suc, ◌+◌, ◌<◌, ◌≤◌, eqb, Bool, true, false, cond, List, [], ◌∷◌, ◌++◌, take, length, get_or, set, bit_and, bit_or, count_by, refl, sym, ap, ◌∙◌, subst, arith, ⊎_elim}
 use Rattle.std.proofs.lemmas.Bool.{cases_eq, cond-true, cond-false, eq-eqb, ne_eqb}
-use Rattle.std.proofs.lemmas.List.{get_or-set_same, get_or-set_other, take_more, get_or_read, get_or-take, length-take-le}
+use Rattle.std.proofs.lemmas.List.{get_or-set_same, get_or-set_other, take_more, get_or_read}
 use Rattle.std.proofs.lemmas.Grind.{common_steps}
 use Rattle.std.proofs.lemmas.List.Elements.{All-push}
 use Rattle.std.proofs.lemmas.Nat.Bits.{bit_at_or, same_from_bits}
-use Rattle.std.specs.List.{All, AllPairs}
+use Rattle.std.specs.List.{All}
 use lib.Bits.{and_zero_r, or_zero_r}
 use Rattle.nio_base.specs.declared.numbers.KeyId.{KeyId}
 use Rattle.nio_event.specs.State.{put}
@@ -55,9 +55,6 @@ module _ (keys : ℕ → KeyRow) (xs : List (KeyId × ℕ)) (told : ℕ → ℕ)
       (λ (e : m ≡ p.0.index). ap (λ b. marks (bit_and (told m) b) (keys m)) (looked_interest-others xs p (key_id keys m) (other-serial p.0 (key_id keys m) (λ d. ne (ap (λ k. (keys k).stage.serial) (sym e) ∙ sym d)))))
       (λ (d : m ≡ p.0.index → ⊥). elsewhere m d)
       (cases_eq m p.0.index))
-
-pub marked_keys-none : (keys : ℕ → KeyRow) (told : ℕ → ℕ) → marked_keys keys [] told ≡ keys
-marked_keys-none keys told = same_function (λ i. ap (λ b. marks b (keys i)) (and_zero_r (told i)))
 
 -- one turn of the marking
 module _ (keys : ℕ → KeyRow) (xs : List (KeyId × ℕ)) (told : ℕ → ℕ) (items : List Key) (j : ℕ) (p : KeyId × ℕ) (k : Key) (rising : Rise xs) (h : j < length xs) (e : p ≡ get_or xs j p) (so_far : places key_row no_key items ≡ marked_keys keys (take j xs) told) (within : p.0.index < length items) (read : k ≡ get_or items p.0.index k) where

@@ -1,5 +1,5 @@
 -- The tests of the names of a line.
-use Rattle.std.proofs.Common.{◌≡◌, ℕ, true, false, ◌∙◌}
+use Rattle.std.proofs.Common.{◌≡◌, true, false, ◌∙◌}
 use Rattle.std.proofs.lemmas.Bool.{cond-true, cond-false}
 use Rattle.nio_base.specs.declared.numbers.ChanNo.{ChanNo}
 use Rattle.nio_base.specs.declared.numbers.KeyId.{KeyId}

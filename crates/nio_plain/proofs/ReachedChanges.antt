@@ -7,7 +7,7 @@ use Rattle.nio_base.specs.declared.numbers.CallerNo.{CallerNo}
 use Rattle.nio_base.specs.declared.numbers.KeyId.{KeyId}
 use Rattle.nio_event.proofs.Put.{put_keeps, put_at_keeps}
 use Rattle.nio_event.specs.Sets.{fits, in_key_set, is_in_key_set}
-use Rattle.nio_event.specs.State.{put, put_at, with_gate, with_mark, with_key, with_closer, with_turn, with_begun}
+use Rattle.nio_event.specs.State.{put_at, with_gate, with_mark, with_key, with_closer, with_turn, with_begun}
 use Rattle.nio_event.specs.declared.found.GateWord.{GateWord}
 use Rattle.nio_event.specs.declared.found.Mark.{Mark}
 use Rattle.nio_event.specs.declared.found.Stage.{Stage}

@@ -1,10 +1,10 @@
 -- What holds after a channel was registered that had no key in the selector.
-use Rattle.std.proofs.Common.{◌≡◌, ℕ, suc, ◌<◌, ◌≤◌, max, ◌==◌, nat_lt, ◌&&◌, ◌||◌, Bool, true, false, cond, Option, Some, None, is_some, refl, sym, ap, ◌∙◌, subst, arith, eq-eqb, eqb-true, lt-ltb, ⊎_elim}
-use Rattle.std.proofs.lemmas.Bool.{and_parts, and_from, and_left, or_left, or_right, or_cases, both_ways, false_from_ne_true, ne_eqb, le-ltb, ltb-true}
+use Rattle.std.proofs.Common.{◌≡◌, ℕ, suc, ◌<◌, ◌≤◌, max, ◌==◌, nat_lt, ◌&&◌, Bool, true, false, cond, Option, Some, None, is_some, refl, sym, ap, ◌∙◌, subst, arith, eq-eqb, eqb-true, lt-ltb, ⊎_elim}
+use Rattle.std.proofs.lemmas.Bool.{and_parts, and_from, and_left, or_left, or_right, or_cases, both_ways, false_from_ne_true, ne_eqb, ltb-true}
 use Rattle.nio_base.specs.declared.limits.Limits.{Limits}
 use Rattle.nio_base.specs.declared.numbers.KeyId.{KeyId}
 use Rattle.nio_event.proofs.Put.{put_keeps, put_at_keeps, put-same, put_at-same}
-use Rattle.nio_event.specs.Sets.{fits, in_key_set, is_valid, was_published, is_in_key_set, is_valid_key}
+use Rattle.nio_event.specs.Sets.{fits, in_key_set, is_valid, was_published, is_in_key_set}
 use Rattle.nio_event.specs.State.{put, put_at, unmarked}
 use Rattle.nio_event.specs.declared.found.Mark.{Mark}
 use Rattle.nio_event.specs.declared.found.Stage.{Stage}
@@ -16,7 +16,6 @@ use Rattle.nio_plain.proofs.Registered.{key_of-some}
 use Rattle.nio_plain.specs.ScriptState.{ScriptState, Selection}
 use Rattle.nio_plain.specs.Seq.Answers.{answered}
 use Rattle.nio_plain.specs.Seq.Modes.{key_of}
-use Rattle.nio_plain.specs.Seq.Names.{below}
 use Rattle.nio_plain.specs.Seq.Registering.{free_index, next_by, next_key, new_stage, with_new_key}
 use Rattle.nio_plain.specs.Seq.Selections.{is_looked}
 use Rattle.nio_plain.specs.declared.rules.Rules.{Rules}

@@ -13,9 +13,6 @@ use Rattle.nio_plain.specs.PlainState.{SelectorRow, key_in, if_in_set}
 
 -- the channel's key in a selector, by what is noted
 
-pub key_in-none : (r : SelectorRow) (c : ℕ) → r.noted c ≡ None → key_in r c ≡ None
-key_in-none r c e = ap (if_in_set r.keys) e
-
 pub key_in-gone : (r : SelectorRow) (c : ℕ) (k : KeyId) → r.noted c ≡ Some k → is_in_key_set (r.keys k.index).stage k.serial ≡ false → key_in r c ≡ None
 key_in-gone r c k e h =
     ap (if_in_set r.keys) e ∙ cond-false (is_in_key_set (r.keys k.index).stage k.serial) (Some k) None h

@@ -14,10 +14,10 @@ use Rattle.nio_event.specs.declared.found.Stage.{Stage}
 use Rattle.nio_event.specs.declared.reply.Reply.TheVariants as reply
 use Rattle.nio_plain.proofs.Parts.{Makes, then, makes-selecting, state-removed}
 use Rattle.nio_plain.proofs.Places.{same_function}
-use Rattle.nio_plain.specs.PlainState.{SelectorRow, KeyRow, state_from, swept, looked_below, with_selection_begun}
+use Rattle.nio_plain.specs.PlainState.{SelectorRow, state_from, swept, looked_below, with_selection_begun}
 use Rattle.nio_plain.specs.ScriptState.{ScriptState, Selection, with_shared}
 use Rattle.nio_plain.specs.Seq.Answers.{unchanged}
-use Rattle.nio_plain.specs.Seq.Names.{below, key_at}
+use Rattle.nio_plain.specs.Seq.Names.{below}
 use Rattle.nio_plain.specs.Seq.Removing.{removed_key, comes_back}
 use Rattle.nio_plain.specs.Seq.Selections.{begin_call, selection_begun, mode_of, without_cancelled, looked_keys}
 use Rattle.nio_plain.specs.declared.rules.Rules.{Rules}

@@ -1,17 +1,14 @@
 -- Step 1 of a selection: what it looks at and what it removes, key by key.
-use Rattle.std.proofs.Common.{◌≡◌, ℕ, ◌+◌, ◌<◌, eqb, Bool, true, false, ◌&&◌, ◌||◌, cond, List, [], ◌∷◌, ◌++◌, take, length, get_or, set, map, filter, refl, sym, ap, ◌∙◌, add-one, arith, ⊎_elim}
-use Rattle.std.proofs.lemmas.Bool.{cases_eq, cond-true, cond-false, and_left, or_right, eq-eqb, ne_eqb}
+use Rattle.std.proofs.Common.{◌≡◌, ℕ, ◌+◌, ◌<◌, eqb, Bool, true, false, cond, List, [], ◌∷◌, ◌++◌, take, length, get_or, set, map, filter, refl, sym, ap, ◌∙◌, add-one, ⊎_elim}
+use Rattle.std.proofs.lemmas.Bool.{cases_eq, cond-true, cond-false, eq-eqb, ne_eqb}
 use Rattle.std.proofs.lemmas.List.{map-append, append-nil, take_more}
-use Rattle.std.proofs.lemmas.List.Elements.{All-tail}
-use Rattle.std.specs.List.{All, AllPairs}
 use Rattle.nio_base.specs.declared.numbers.KeyId.{KeyId}
-use Rattle.nio_event.specs.Sets.{is_valid, in_cancelled_set}
+use Rattle.nio_event.specs.Sets.{is_valid}
 use Rattle.nio_event.specs.State.{put}
 use Rattle.nio_plain.proofs.Lists.{same-key, other-index, other-serial, Rise, AreBelow, rising-before, looked-absent, looked-last, looked-others}
 use Rattle.nio_plain.proofs.Places.{same_function, put_is, put_same, places-set, places_at}
-use Rattle.nio_plain.specs.PlainState.{KeyRow, places, key_row, no_key, key_id, looked_below, is_listed, listed_below, removed_row, swept_key, swept_looked}
+use Rattle.nio_plain.specs.PlainState.{KeyRow, places, key_row, no_key, key_id, looked_below, is_listed, listed_below, swept_key, swept_looked}
 use Rattle.nio_plain.specs.Seq.Names.{below, is_same_key}
-use Rattle.nio_plain.specs.Seq.Removing.{comes_back}
 use Rattle.nio_plain.specs.Seq.Selections.{is_looked}
 use Rattle.nio_plain.specs.declared.plain.selector.Key.{Key}
 use Rattle.nio_plain.specs.declared.rules.Rules.{Rules}

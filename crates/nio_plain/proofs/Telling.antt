@@ -1,5 +1,5 @@
 -- Telling a selection, over the parts of a state.
-use Rattle.std.proofs.Common.{◌≡◌, ℕ, eqb, Bool, true, false, cond, ◌&&◌, Option, Some, None, is_some, IfSome, List, refl, sym, ap, subst, ◌∙◌}
+use Rattle.std.proofs.Common.{◌≡◌, ℕ, eqb, Bool, true, false, cond, ◌&&◌, Option, Some, None, IfSome, List, refl, sym, ap, subst, ◌∙◌}
 use Rattle.std.proofs.lemmas.Bool.{cond-true, cond-false, eq-eqb, ne_eqb}
 use Rattle.nio_base.specs.declared.numbers.CallerNo.{CallerNo}
 use Rattle.nio_base.specs.declared.numbers.KeyId.{KeyId}
@@ -9,15 +9,13 @@ use Rattle.nio_event.specs.State.{put, with_gate, with_turn, with_begun}
 use Rattle.nio_event.specs.declared.found.Chan.{Chan}
 use Rattle.nio_event.specs.declared.found.GateWord.{GateWord}
 use Rattle.nio_event.specs.declared.found.Mark.{Mark}
-use Rattle.nio_event.specs.declared.found.Stage.{Stage}
 use Rattle.nio_event.specs.declared.reply.Reply.TheVariants as reply
 use Rattle.nio_plain.proofs.Answering.{rows_of}
 use Rattle.nio_plain.proofs.Parts.{Makes, then, makes-gate, makes-selecting, keys_changed, part_stays, state-removed}
 use Rattle.nio_plain.proofs.Places.{same_function, put_by}
-use Rattle.nio_plain.specs.PlainState.{SelectorRow, KeyRow, state_from, state_of, selector_row, key_id, caller_of, selection_of, removed_row, swept_key, swept_looked}
+use Rattle.nio_plain.specs.PlainState.{SelectorRow, KeyRow, state_from, state_of, selector_row, key_id, caller_of, selection_of, removed_row, swept_looked}
 use Rattle.nio_plain.specs.ScriptState.{ScriptState, Selection, with_shared, with_selection}
 use Rattle.nio_plain.specs.Seq.Answers.{unchanged}
-use Rattle.nio_plain.specs.Seq.Names.{key_at}
 use Rattle.nio_plain.specs.Seq.Removing.{comes_back}
 use Rattle.nio_plain.specs.Seq.Selections.{told_call, told_selection, own_selection, selection_ended, with_marks, without_looked_cancelled, is_looked, told_bits, marked, updated_count, is_again, why_ended, is_caller}
 use Rattle.nio_plain.specs.declared.plain.Plain.{Plain}

@@ -59,12 +59,25 @@ fn registered(
     rows: &[(&str, &str)],
 ) -> Result<(), Fail> {
     let mut plain = Plain::make(alloc, LIMITS)?;
+    registered_in(rt, alloc, &mut plain, label, kind, ops, rows)
+}
+
+/// The same in a system in which nothing is made.
+fn registered_in(
+    rt: &impl Abort,
+    alloc: Global,
+    plain: &mut Plain,
+    label: &str,
+    kind: &str,
+    ops: &str,
+    rows: &[(&str, &str)],
+) -> Result<(), Fail> {
     let opening = format!(in alloc; "t1 channel {kind}")?;
     let registering = format!(in alloc; "t1 register s0 c0 {ops}")?;
     answers(
         rt,
         alloc,
-        &mut plain,
+        plain,
         label,
         &[
             ("t1 selector", "s0"),
@@ -73,7 +86,7 @@ fn registered(
             (registering.as_str(), "k0"),
         ],
     )?;
-    answers(rt, alloc, &mut plain, label, rows)
+    answers(rt, alloc, plain, label, rows)
 }
 
 #[test]
@@ -121,7 +134,7 @@ fn calls_on_keys_and_channels(rt: HostRuntime) -> Result<(), Fail> {
             ("t1 begin s0 now", "looked none"),
             ("t1 told s0", "selected 0 now"),
             ("t1 key-for c0 s0", "none"),
-            ("t1 register s0 c0 1", "k1"),
+            ("t1 register s0 c0 1", "k0.1"),
         ],
     )?;
     registered(
@@ -176,6 +189,87 @@ fn calls_on_keys_and_channels(rt: HostRuntime) -> Result<(), Fail> {
             ("t1 interest s0 k0", "0"),
             ("t1 register s0 c0 1 18446744073709551615", "k0"),
             ("t1 attach s0 k0 0", "18446744073709551615"),
+        ],
+    )
+}
+
+#[test]
+fn keys_that_come_back(rt: HostRuntime) -> Result<(), Fail> {
+    let alloc = rt.alloc();
+    registered(
+        &rt,
+        alloc,
+        "names_with_serials",
+        "source",
+        "1",
+        &[
+            ("t1 cancel s0 k0", "ok"),
+            ("t1 begin s0 now", "looked none"),
+            ("t1 told s0", "selected 0 now"),
+            ("t1 register s0 c0 1 7", "k0.1"),
+            ("t1 valid s0 k0", "no"),
+            ("t1 attachment s0 k0", "0"),
+            ("t1 attachment s0 k0.1", "7"),
+            ("t1 interest s0 k0", "cancelled-key"),
+            ("t1 valid s0 k0.2", "no-key"),
+            ("t1 begin s0 now", "looked k0.1:1"),
+            ("t1 told s0 k0:1", "selected 0 now"),
+            ("t1 keys s0", "k0.1"),
+        ],
+    )?;
+    registered(
+        &rt,
+        alloc,
+        "cancelled_before_told",
+        "source",
+        "1",
+        &[
+            ("t1 cancel s0 k0", "ok"),
+            ("t1 begin s0 now", "looked none"),
+            ("t1 register s0 c0 1", "k0.1"),
+            ("t1 cancel s0 k0.1", "ok"),
+            ("t1 told s0", "selected 0 now"),
+            ("t1 register s0 c0 1", "cancelled-key"),
+        ],
+    )?;
+    registered(
+        &rt,
+        alloc,
+        "least_free_index",
+        "source",
+        "1",
+        &[
+            ("t1 channel source", "c1"),
+            ("t1 channel source", "c2"),
+            ("t1 blocking c1 off", "ok"),
+            ("t1 blocking c2 off", "ok"),
+            ("t1 register s0 c1 1", "k1"),
+            ("t1 register s0 c2 1", "k2"),
+            ("t1 cancel s0 k2", "ok"),
+            ("t1 cancel s0 k1", "ok"),
+            ("t1 begin s0 now", "looked k0:1"),
+            ("t1 told s0", "selected 0 now"),
+            ("t1 register s0 c2 1", "k1.1"),
+            ("t1 register s0 c1 1", "k2.1"),
+            ("t1 selected s0", "none"),
+        ],
+    )?;
+    let mut first = Plain::make_first(alloc, LIMITS)?;
+    registered_in(
+        &rt,
+        alloc,
+        &mut first,
+        "check_by_both_rules",
+        "source",
+        "1",
+        &[
+            ("t1 cancel s0 k0", "ok"),
+            ("t1 key-for c0 s0", "k0"),
+            ("t1 register s0 c0 1", "cancelled-key"),
+            ("t1 begin s0 now", "looked none"),
+            ("t1 told s0", "selected 0 now"),
+            ("t1 key-for c0 s0", "none"),
+            ("t1 register s0 c0 1", "k1"),
         ],
     )
 }

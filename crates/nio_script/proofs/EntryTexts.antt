@@ -12,20 +12,12 @@ use Rattle.nio_event.specs.declared.parse.ParseError.{ParseError}
 use Rattle.nio_event.specs.declared.parse.ParseError.TheVariants.{Memory}
 use Rattle.nio_event.specs.declared.parse.Parsed.{Parsed}
 use Rattle.nio_event.specs.declared.parse.Parsed.TheVariants.{Line}
-use Rattle.nio_event.proofs.NameWords.{decimal_lacks}
+use Rattle.nio_event.proofs.NameWords.{NoCut, OnlyCut, decimal_lacks}
 use Rattle.nio_event.proofs.PlainTexts.{line_plain}
+use Rattle.nio_plain.specs.declared.rules.Rules.{Rules}
 use Rattle.nio_script.specs.Entries.{Finds}
-use Rattle.nio_script.specs.History.{Entry, IsEntry, call_text}
+use Rattle.nio_script.specs.History.{Entry, IsCallOf, IsEntry, call_text}
 use Rattle.nio_script.proofs.EntryLemmas.{same_entry, same_line}
-
--- a text is cut at its first byte of a value into these parts, if it can be cut there at all
-abbrev pub OnlyCut : ℕ → List ℕ → List ℕ → List ℕ → Type 0
-OnlyCut byte text front back =
-    (before after : List ℕ) → All (λ b. b ≢ byte) before → text ≡ before ++ byte ∷ after → (front ≡ before) × (back ≡ after)
-
--- the text can't be cut there
-abbrev pub NoCut : ℕ → List ℕ → Type 0
-NoCut byte text = (before after : List ℕ) → All (λ b. b ≢ byte) before → text ≡ before ++ byte ∷ after → ⊥
 
 pub finds_none : {A : Type 0} (IsSo : A → Type 0) (answer : Option A) → answer ≡ None → ((x : A) → IsSo x → ⊥) → Finds IsSo answer
 finds_none IsSo answer nothing none = subst (Finds IsSo) (sym nothing) (record { found = tt; only = λ x so. absurd (none x so) })
@@ -96,34 +88,41 @@ call_found text r caller call e found only = record {
 }
 
 -- the texts of a line's call and reply, and the entry
-module _ (number : ℕ) (line : List ℕ) where
+module _ (rules : Rules) (number : ℕ) (line : List ℕ) where
   abbrev pub AreParts : List ℕ → List ℕ → Type 0
   AreParts call reply = line ≡ decimal number ++ codes " " ++ call ++ codes " -> " ++ reply
 
-  pub arrowless : (e : Entry) → IsEntry number e line → All (λ b. b ≢ 62) (call_text e)
+  pub arrowless : (e : Entry) → IsEntry rules number e line → All (λ b. b ≢ 62) (call_text e)
   arrowless e is = All-weaker (λ b. (b ≢ 10) × (b ≢ 62)) (λ b. b ≢ 62) (λ b both. both.1) (call_text e) (line_plain is.call)
 
-  pub no_entry_unsplit : ((call reply : List ℕ) → All (λ b. b ≢ 62) call → AreParts call reply → ⊥) → (e : Entry) → IsEntry number e line → ⊥
+  pub no_entry_unsplit : ((call reply : List ℕ) → All (λ b. b ≢ 62) call → AreParts call reply → ⊥) → (e : Entry) → IsEntry rules number e line → ⊥
   no_entry_unsplit none e is = none (call_text e) e.reply (arrowless e is) is.text
 
   module _ (text reply : List ℕ) (only : (call back : List ℕ) → All (λ b. b ≢ 62) call → AreParts call back → (text ≡ call) × (reply ≡ back)) where
-    entry_parts : (e : Entry) → IsEntry number e line → (text ≡ call_text e) × (reply ≡ e.reply)
+    entry_parts : (e : Entry) → IsEntry rules number e line → (text ≡ call_text e) × (reply ≡ e.reply)
     entry_parts e is = only (call_text e) e.reply (arrowless e is) is.text
 
-    called : (e : Entry) → IsEntry number e line → IsLine e.line.caller e.line.call text
+    called : (e : Entry) → IsEntry rules number e line → IsLine e.line.caller e.line.call text
     called e is = subst (IsLine e.line.caller e.line.call) (sym (entry_parts e is).0) is.call
 
-    pub no_entry_uncalled : Finds (λ (c : ScriptCall). IsLine c.caller c.call text) None → (e : Entry) → IsEntry number e line → ⊥
+    pub no_entry_uncalled : Finds (λ (c : ScriptCall). IsLine c.caller c.call text) None → (e : Entry) → IsEntry rules number e line → ⊥
     no_entry_uncalled read e is = none-some e.line (read.only e.line (called e is))
 
-    pub finds_entry : (c : ScriptCall) → AreParts text reply → Finds (λ (c : ScriptCall). IsLine c.caller c.call text) (Some c)
-        → Finds (λ e. IsEntry number e line) (Some (record { line = c; reply = reply }))
-    finds_entry c parts read = record {
+    -- the call that was read is that of an entry
+    same_call : (c : ScriptCall) → Finds (λ (c : ScriptCall). IsLine c.caller c.call text) (Some c) → (e : Entry) → IsEntry rules number e line → c ≡ e.line
+    same_call c read e is = same_Some c e.line (read.only e.line (called e is))
+
+    pub no_entry_of_rules : (c : ScriptCall) → Finds (λ (c : ScriptCall). IsLine c.caller c.call text) (Some c) → ¬ IsCallOf rules c.call → (e : Entry) → IsEntry rules number e line → ⊥
+    no_entry_of_rules c read unknown e is =
+        unknown (subst (λ (c : ScriptCall). IsCallOf rules c.call) (sym (same_call c read e is)) is.of_rules)
+
+    pub finds_entry : (c : ScriptCall) → AreParts text reply → Finds (λ (c : ScriptCall). IsLine c.caller c.call text) (Some c) → IsCallOf rules c.call
+        → Finds (λ e. IsEntry rules number e line) (Some (record { line = c; reply = reply }))
+    finds_entry c parts read known = record {
       found = record {
         call = subst (IsLine c.caller c.call) read.found.text read.found;
+        of_rules = known;
         text = parts ∙ ap (λ t. decimal number ++ codes " " ++ t ++ codes " -> " ++ reply) read.found.text;
       };
-      only = λ e is.
-          let same : c ≡ e.line = same_Some c e.line (read.only e.line (called e is)) in
-          ap Some (same_entry _ e same (entry_parts e is).1);
+      only = λ e is. ap Some (same_entry _ e (same_call c read e is) (entry_parts e is).1);
     }

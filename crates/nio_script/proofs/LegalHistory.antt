@@ -3,7 +3,7 @@ use Rattle.std.proofs.Common.{◌≡◌, ◌≢◌, ℕ, ◌+◌, ◌==◌, fals
 use Rattle.std.specs.Fmt.{decimal}
 use Rattle.std.specs.Int.{IsInRange}
 use Rattle.std.proofs.lemmas.Bool.{ne_eqb}
-use Rattle.std.proofs.lemmas.List.Elements.{All-append, All-cons, All-weaker}
+use Rattle.std.proofs.lemmas.List.Elements.{All-append, All-cons, All-head, All-tail, All-weaker}
 use Rattle.std.proofs.lemmas.List.Splits.{slice_split_at}
 use Rattle.nio_base.specs.declared.limits.Limits.{Limits}
 use Rattle.nio_event.specs.Calls.{IsLine, line_text}
@@ -15,24 +15,25 @@ use Rattle.nio_event.proofs.PlainWords.{decimal_digits}
 use Rattle.nio_plain.specs.Answer.{answer_from}
 use Rattle.nio_plain.specs.ScriptState.{ScriptState, script_opening}
 use Rattle.nio_plain.specs.Seq.{seq}
+use Rattle.nio_plain.specs.declared.rules.Rules.{Rules}
 use Rattle.nio_script.specs.Check.{calls_of, IsLegalFrom, HasLegalHistory}
-use Rattle.nio_script.specs.History.{Entry, AreEntries, call_text, entry_text}
+use Rattle.nio_script.specs.History.{Entry, AreEntries, IsCallOf, call_text, entry_text}
 use Rattle.nio_script.proofs.EntryLemmas.{entry_flat}
 
 -- the entries of the history that is written for calls, from a state on
-abbrev answered : Limits → ScriptState → List ScriptCall → List Entry
-answered l st [] = []
-answered l st (c ∷ calls) =
-    let done = seq l st c.caller c.call in
-    record { line = c; reply = reply_text done.reply } ∷ answered l done.left calls
+abbrev answered : Rules → Limits → ScriptState → List ScriptCall → List Entry
+answered rules l st [] = []
+answered rules l st (c ∷ calls) =
+    let done = seq rules l st c.caller c.call in
+    record { line = c; reply = reply_text done.reply } ∷ answered rules l done.left calls
 
-calls_answered : (l : Limits) (st : ScriptState) (calls : List ScriptCall) → calls_of (answered l st calls) ≡ calls
-calls_answered l st [] = refl
-calls_answered l st (c ∷ calls) = ap (λ cs. c ∷ cs) (calls_answered l (seq l st c.caller c.call).left calls)
+calls_answered : (rules : Rules) (l : Limits) (st : ScriptState) (calls : List ScriptCall) → calls_of (answered rules l st calls) ≡ calls
+calls_answered rules l st [] = refl
+calls_answered rules l st (c ∷ calls) = ap (λ cs. c ∷ cs) (calls_answered rules l (seq rules l st c.caller c.call).left calls)
 
-legal_answered : (l : Limits) (st : ScriptState) (calls : List ScriptCall) → IsLegalFrom l st (answered l st calls)
-legal_answered l st [] = tt
-legal_answered l st (c ∷ calls) = (refl, legal_answered l (seq l st c.caller c.call).left calls)
+legal_answered : (rules : Rules) (l : Limits) (st : ScriptState) (calls : List ScriptCall) → IsLegalFrom rules l st (answered rules l st calls)
+legal_answered rules l st [] = tt
+legal_answered rules l st (c ∷ calls) = (refl, legal_answered rules l (seq rules l st c.caller c.call).left calls)
 
 abbrev IsOneLine : List ℕ → Type 0
 IsOneLine bytes = All (λ b. b ≢ 10) bytes
@@ -59,23 +60,26 @@ first_line n e rest plain =
     refl
 
 -- the lines that are written for a script's calls are their entries
-written : (l : Limits) (st : ScriptState) (n : ℕ) {lines : List (List ℕ)} (calls : List ScriptCall) → AreCalls lines calls
-    → AreEntries n (lines_of (answer_from l st n calls)) (answered l st calls)
-written l st n calls no_lines = AreEntries.blank_line (inl refl) AreEntries.no_lines
-written l st n calls (blank_line b others) = written l st n calls others
-written l st n calls (call_line {caller = caller} {c = c} {calls = more} is others) =
-    let done = seq l st caller c in
-    let rest = answer_from l done.left (n + 1) more in
-    let e : Entry = record { line = record { caller = caller; call = c }; reply = reply_text done.reply } in
+written : (rules : Rules) (l : Limits) (st : ScriptState) (n : ℕ) {lines : List (List ℕ)} (calls : List ScriptCall) → AreCalls lines calls
+    → All (λ c. IsCallOf rules c.call) calls
+    → AreEntries rules n (lines_of (answer_from rules l st n calls)) (answered rules l st calls)
+written rules l st n calls no_lines so = AreEntries.blank_line (inl refl) AreEntries.no_lines
+written rules l st n calls (blank_line b others) so = written rules l st n calls others so
+written rules l st n calls (call_line {caller = caller} {c = c} {calls = more} is others) so =
+    let done = seq rules l st caller c in
+    let line : ScriptCall = record { caller = caller; call = c } in
+    let allowed = λ (c : ScriptCall). IsCallOf rules c.call in
+    let rest = answer_from rules l done.left (n + 1) more in
+    let e : Entry = record { line = line; reply = reply_text done.reply } in
     let call : IsLine caller c (line_text caller c) = subst (IsLine caller c) is.text is in
     let cut = ap lines_of (append_assoc (entry_text n e) (10 ∷ []) rest) ∙ first_line n e rest (entry_in_line n e call (reply_plain done.reply)) in
-    subst (λ lines. AreEntries n lines (e ∷ answered l done.left more)) (sym cut)
-    (AreEntries.entry_line (record { call = call; text = refl }) (written l done.left (n + 1) more others))
+    subst (λ lines. AreEntries rules n lines (e ∷ answered rules l done.left more)) (sym cut)
+    (AreEntries.entry_line (record { call = call; of_rules = All-head allowed line more so; text = refl }) (written rules l done.left (n + 1) more others (All-tail allowed line more so)))
 
-pub history_is_legal : (l : Limits) (text : List ℕ) (calls : List ScriptCall) → IsScript text calls → HasLegalHistory l calls
-history_is_legal l text calls script = record {
-  entries = answered l script_opening calls;
-  history = written l script_opening 1 calls script;
-  same = calls_answered l script_opening calls;
-  legal = legal_answered l script_opening calls;
+pub history_is_legal : (rules : Rules) (l : Limits) (text : List ℕ) (calls : List ScriptCall) → IsScript text calls → All (λ c. IsCallOf rules c.call) calls → HasLegalHistory rules l calls
+history_is_legal rules l text calls script so = record {
+  entries = answered rules l script_opening calls;
+  history = written rules l script_opening 1 calls script so;
+  same = calls_answered rules l script_opening calls;
+  legal = legal_answered rules l script_opening calls;
 }

@@ -57,11 +57,7 @@ module _ {K : Type 0} (k : sink.Ghosts K) where
   pub writes_nothing : (old : K) (bytes : List ℕ) → WritesPrefix k old old bytes
   writes_nothing old bytes = (0, writes_none old)
 
-  -- what was written is a prefix of more
-  pub writes_front : (old new : K) (bytes more : List ℕ) → Writes k old new bytes → WritesPrefix k old new (bytes ++ more)
-  writes_front old new bytes more writes = (length bytes, writes ∙ ap (append_known (k.taken old)) (sym (take-append_seam bytes more)))
-
-  -- and so is a prefix of it, after what was written before
+  -- what was written is a prefix of more, after what was written before
   pub writes_prefix_after : (old mid new : K) (bytes more rest : List ℕ) → Writes k old mid bytes → WritesPrefix k mid new more → WritesPrefix k old new (bytes ++ (more ++ rest))
   writes_prefix_after old mid new bytes more rest first second =
       let n = second.0 in

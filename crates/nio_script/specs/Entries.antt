@@ -1,6 +1,7 @@
 -- How the lines of a text become calls or entries.
 use Rattle.std.specs.Prelude.{◌≡◌, ℕ, Option, Some, IfSome, List, ◌++◌}
 use Rattle.nio_event.specs.Calls.{IsBlank}
+use Rattle.nio_plain.specs.declared.rules.Rules.{Rules}
 use Rattle.nio_script.specs.History.{Entry, IsEntry}
 
 -- the answer of a reader that looks for what is so: it finds that, and nothing else
@@ -15,6 +16,6 @@ pub record Adds {A : Type 0} (AreSo : List A → Type 0) (before after : List A)
   pub adds : after ≡ before ++ added
 
 -- a line is neither blank nor entry number n
-pub record IsNoEntry (n : ℕ) (line : List ℕ) : Type 0 where
+pub record IsNoEntry (rules : Rules) (n : ℕ) (line : List ℕ) : Type 0 where
   pub full : IsBlank line → ⊥
-  pub bad : (e : Entry) → IsEntry n e line → ⊥
+  pub bad : (e : Entry) → IsEntry rules n e line → ⊥

@@ -1,10 +1,13 @@
--- The history text: which bytes are a history of which calls and replies, and where the first line
--- stands that isn't in its grammar.
+-- The history text: which bytes are a history of which calls and replies, by each of the rules, and
+-- where the first line stands that isn't in its grammar.
 use Rattle.std.specs.Prelude.{◌≡◌, ℕ, ◌+◌, List, [], ◌∷◌, ◌++◌, length, codes}
 use Rattle.std.specs.Fmt.{decimal}
-use Rattle.nio_event.specs.Calls.{IsBlank, IsLine, line_text}
+use Rattle.nio_event.specs.Calls.{IsBlank, IsLine, NamesSerial, line_text}
 use Rattle.nio_event.specs.Script.{lines_of}
+use Rattle.nio_event.specs.declared.call.Call.{Call}
 use Rattle.nio_event.specs.declared.call.ScriptCall.{ScriptCall}
+use Rattle.nio_plain.specs.declared.rules.Rules.{Rules}
+use Rattle.nio_plain.specs.declared.rules.Rules.TheVariants.{First, Now}
 
 -- an entry of a history: a call of a caller, and the text of its reply
 pub record Entry : Type 0 where
@@ -19,34 +22,41 @@ call_text e = line_text e.line.caller e.line.call
 abbrev pub entry_text : ℕ → Entry → List ℕ
 entry_text n e = decimal n ++ codes " " ++ call_text e ++ codes " -> " ++ e.reply
 
--- These bytes are entry number n. Its call is in the grammar of scripts, and its reply is any text:
--- all that follows the first arrow, since no call has an arrow.
-pub record IsEntry (n : ℕ) (e : Entry) (bytes : List ℕ) : Type 0 where
+-- The call is in the grammar of these rules. By the first rules each key has the serial 0, so no call
+-- names another.
+abbrev pub IsCallOf : Rules → Call → Type 0
+IsCallOf First call = ¬ NamesSerial call
+IsCallOf Now call = Unit {0}
+
+-- These bytes are entry number n. Its call is in the grammar of scripts and of these rules, and its
+-- reply is any text: all that follows the first arrow, since no call has an arrow.
+pub record IsEntry (rules : Rules) (n : ℕ) (e : Entry) (bytes : List ℕ) : Type 0 where
   pub call : IsLine e.line.caller e.line.call (call_text e)
+  pub of_rules : IsCallOf rules e.line.call
   pub text : bytes ≡ entry_text n e
 
 -- lines are these entries in this order, numbered from n on, and blank lines among them
-pub data AreEntries : ℕ → List (List ℕ) → List Entry → Type 0 where
-  no_lines : {n : ℕ} → AreEntries n [] []
+pub data AreEntries (rules : Rules) : ℕ → List (List ℕ) → List Entry → Type 0 where
+  no_lines : {n : ℕ} → AreEntries rules n [] []
   blank_line : {n : ℕ} {line : List ℕ} {lines : List (List ℕ)} {entries : List Entry}
-      → IsBlank line → AreEntries n lines entries → AreEntries n (line ∷ lines) entries
+      → IsBlank line → AreEntries rules n lines entries → AreEntries rules n (line ∷ lines) entries
   entry_line : {n : ℕ} {line : List ℕ} {lines : List (List ℕ)} {e : Entry} {entries : List Entry}
-      → IsEntry n e line → AreEntries (n + 1) lines entries
-      → AreEntries n (line ∷ lines) (e ∷ entries)
+      → IsEntry rules n e line → AreEntries rules (n + 1) lines entries
+      → AreEntries rules n (line ∷ lines) (e ∷ entries)
 
--- a text is a history of these entries
-abbrev pub IsHistory : List ℕ → List Entry → Type 0
-IsHistory text entries = AreEntries 1 (lines_of text) entries
+-- a text is a history of these entries, by these rules
+abbrev pub IsHistory : Rules → List ℕ → List Entry → Type 0
+IsHistory rules text entries = AreEntries rules 1 (lines_of text) entries
 
 -- Line number n, counted from 1 over all lines, is the first that isn't in the grammar: the lines
 -- before it are entries, and it is neither blank nor the next entry.
-pub record IsFirstBadEntry (text : List ℕ) (n : ℕ) : Type 0 where
+pub record IsFirstBadEntry (rules : Rules) (text : List ℕ) (n : ℕ) : Type 0 where
   pub line : List ℕ
   pub before : List (List ℕ)
   pub after : List (List ℕ)
   pub entries : List Entry
   pub lines : lines_of text ≡ before ++ line ∷ after
   pub number : length before + 1 ≡ n
-  pub good : AreEntries 1 before entries
+  pub good : AreEntries rules 1 before entries
   pub full : IsBlank line → ⊥
-  pub bad : (e : Entry) → IsEntry (length entries + 1) e line → ⊥
+  pub bad : (e : Entry) → IsEntry rules (length entries + 1) e line → ⊥

@@ -10,19 +10,20 @@ use Rattle.nio_event.specs.declared.call.ScriptCall.{ScriptCall}
 use Rattle.nio_plain.specs.Answer.{answer_to, left_by_script}
 use Rattle.nio_plain.specs.ScriptState.{ScriptState}
 use Rattle.nio_plain.specs.Seq.{seq}
+use Rattle.nio_plain.specs.declared.rules.Rules.{Rules}
 use Rattle.nio_plain.specs.declared.system.System as system
 use Rattle.nio_script.specs.Input.{IsReadWhole}
 use Rattle.nio_script.specs.Output.{IsWritten, Notes, WritesPrefix}
 use Rattle.nio_script.specs.declared.status.Status.{Status}
 use Rattle.nio_script.specs.declared.status.Status.TheVariants.{Done, Usage, BadScript, ReadFault, WriteFault, Memory, NetFault, Illegal, TooLong}
 
--- the line of the history for a call in this state
-abbrev pub line_for : Limits → ScriptState → ℕ → ScriptCall → List ℕ
-line_for l st number c = history_line number c.caller c.call (seq l st c.caller c.call).reply
+-- the line of the history for a call in this state, by these rules
+abbrev pub line_for : Rules → Limits → ScriptState → ℕ → ScriptCall → List ℕ
+line_for rules l st number c = history_line number c.caller c.call (seq rules l st c.caller c.call).reply
 
 -- the state that a call leaves
-abbrev pub left_by_call : Limits → ScriptState → ScriptCall → ScriptState
-left_by_call l st c = (seq l st c.caller c.call).left
+abbrev pub left_by_call : Rules → Limits → ScriptState → ScriptCall → ScriptState
+left_by_call rules l st c = (seq rules l st c.caller c.call).left
 
 -- The input was read whole, and its text is so.
 abbrev pub ReadsText : {S : Type 0} → source.Ghosts S → S → S → (List ℕ → Type 0) → Type 0
@@ -34,16 +35,16 @@ pub record IsAnswered {K Y : Type 0} (k : sink.Ghosts K) (y : system.Ghosts Y)
     (output output' : K) (run run' : Y) (text : List ℕ) : Type 0 where
   pub calls : List ScriptCall
   pub script : IsScript text calls
-  pub written : IsWritten k output output' (answer_to (y.limits run) calls)
+  pub written : IsWritten k output output' (answer_to (y.rules run) (y.limits run) calls)
   pub still : k.faults output' ≡ k.faults output
-  pub left : y.state run' ≡ left_by_script (y.limits run) calls
+  pub left : y.state run' ≡ left_by_script (y.rules run) (y.limits run) calls
 
 -- The text is a script, and some of its answer was written, from its front.
 pub record IsCutShort {K Y : Type 0} (k : sink.Ghosts K) (y : system.Ghosts Y)
     (output output' : K) (run : Y) (text : List ℕ) : Type 0 where
   pub calls : List ScriptCall
   pub script : IsScript text calls
-  pub written : WritesPrefix k output output' (answer_to (y.limits run) calls)
+  pub written : WritesPrefix k output output' (answer_to (y.rules run) (y.limits run) calls)
 
 -- what is said of a line that isn't in the grammar
 abbrev pub bad_line : ℕ → List ℕ

@@ -1,4 +1,4 @@
-//! Histories, checked against the documented system.
+//! Histories, checked against the documented system by one of the rules.
 ghost use Rattle.std.specs.Prelude.{◌≡◌, ◌≢◌, ℕ, ◌<◌, ◌≤◌, ◌⊎◌, List, map, length, IfOk, IfNone, IfSome, OnOk};
 ghost use Rattle.nio_base.specs.Limits.{IsFit};
 ghost use Rattle.nio_bytes.specs.Cause.{Rose};
@@ -21,7 +21,7 @@ use crate::status::Status;
 use nio_base::Limits;
 use nio_bytes::{Sink, Source};
 use nio_event::{Reply, print_reply};
-use nio_plain::{Plain, System};
+use nio_plain::{Plain, Rules, System};
 use std::alloc::{AllocError, Global};
 
 /// A call of a history whose reply is wrong.
@@ -40,13 +40,13 @@ fn correction<Y: System>(
     system: &mut Y,
 ) -> Result<Option<Reply>, AllocError>
     ensures same { IfOk result (λ found. IfNone found (call.now.reply.now
-        ≡ reply_text (right_reply (Y.limits system.old) (Y.state system.old) (entry_of call.now)))) }
+        ≡ reply_text (right_reply (Y.rules system.old) (Y.limits system.old) (Y.state system.old) (entry_of call.now)))) }
     ensures right { IfOk result (λ found. IfSome found (λ right.
-        right ≡ right_reply (Y.limits system.old) (Y.state system.old) (entry_of call.now))) }
+        right ≡ right_reply (Y.rules system.old) (Y.limits system.old) (Y.state system.old) (entry_of call.now))) }
     ensures wrong { IfOk result (λ found. IfSome found (λ right.
         call.now.reply.now ≢ reply_text right)) }
     ensures left { OnOk result (Y.state system.new
-        ≡ left_by_call (Y.limits system.old) (Y.state system.old) call.now.line) }
+        ≡ left_by_call (Y.rules system.old) (Y.limits system.old) (Y.state system.old) call.now.line) }
     ensures kept { Y.kept system.old system.new }
 {
     let right = system.call(alloc, call.line.caller, &call.line.call)?;
@@ -66,9 +66,9 @@ fn follow_calls<Y: System>(
 ) -> Result<Option<Wrong>, AllocError>
     requires { Y.state system.old ≡ script_opening }
     ensures legal { IfOk result (λ found. IfNone found
-        (IsLegalHistory (Y.limits system.old) (map entry_of calls.now))) }
+        (IsLegalHistory (Y.rules system.old) (Y.limits system.old) (map entry_of calls.now))) }
     ensures illegal { IfOk result (λ found. IfSome found (λ wrong. IsFirstIllegal
-        (Y.limits system.old) (map entry_of calls.now) wrong.number wrong.right)) }
+        (Y.rules system.old) (Y.limits system.old) (map entry_of calls.now) wrong.number wrong.right)) }
 {
     for (index, call) in calls.iter().enumerate() {
         if let Some(right) = correction(alloc, call, system)? {
@@ -84,14 +84,18 @@ fn first_wrong(
     alloc: Global,
     calls: &[HistoryCall],
     limits: Limits,
+    rules: Rules,
 ) -> Result<Option<Wrong>, AllocError>
     requires { IsFit limits }
     ensures legal { IfOk result (λ found. IfNone found
-        (IsLegalHistory limits (map entry_of calls.now))) }
+        (IsLegalHistory rules limits (map entry_of calls.now))) }
     ensures illegal { IfOk result (λ found. IfSome found (λ wrong. IsFirstIllegal
-        limits (map entry_of calls.now) wrong.number wrong.right)) }
+        rules limits (map entry_of calls.now) wrong.number wrong.right)) }
 {
-    let mut system = Plain::make(alloc, limits)?;
+    let mut system = match rules {
+        Rules::First => Plain::make_first(alloc, limits)?,
+        Rules::Now => Plain::make(alloc, limits)?,
+    };
     follow_calls(alloc, calls, &mut system)
 }
 
@@ -148,6 +152,7 @@ fn check_calls<K: Sink>(
     calls: &[HistoryCall],
     output: &mut K,
     limits: Limits,
+    rules: Rules,
 ) -> Status
     requires { IsFit limits }
 
@@ -155,70 +160,79 @@ fn check_calls<K: Sink>(
         IsWritten K.Sink output.old output.new (legal_text (length calls.now)) }
     ensures still { result ≡ Status.Done → K.faults output.new ≡ K.faults output.old }
     ensures illegal { (number : ℕ) → result ≡ Status.Illegal number →
-        IsSaidIllegal K.Sink output.old output.new limits number (map entry_of calls.now) }
+        IsSaidIllegal K.Sink output.old output.new rules limits number (map entry_of calls.now) }
     ensures write_fault { result ≡ Status.WriteFault →
         WritesPrefix K.Sink output.old output.new (legal_text (length calls.now)) }
     ensures rose { result ≡ Status.WriteFault → Rose (K.faults output.old) (K.faults output.new) }
     ensures memory { result ≡ Status.Memory → output.new ≡ output.old }
-    ensures ends { EndsEntries limits (map entry_of calls.now) result }
+    ensures ends { EndsEntries rules limits (map entry_of calls.now) result }
     ensures later { K.faults output.old ≤ K.faults output.new }
 {
-    match first_wrong(alloc, calls, limits) {
+    match first_wrong(alloc, calls, limits, rules) {
         Ok(None) => say_legal(alloc, calls.len() as u64, output),
         Ok(Some(wrong)) => say_illegal(alloc, &wrong, output),
         Err(_) => Status::Memory,
     }
 }
 
-/// Checks the history that a text is.
-fn check_text<K: Sink>(alloc: Global, text: &[u8], output: &mut K, limits: Limits) -> Status
+/// Checks the history that a text is by these rules.
+fn check_text<K: Sink>(
+    alloc: Global,
+    text: &[u8],
+    output: &mut K,
+    limits: Limits,
+    rules: Rules,
+) -> Status
     requires { IsFit limits }
 
     ensures done { result ≡ Status.Done →
-        IsFoundLegal K.Sink output.old output.new limits text.now }
+        IsFoundLegal K.Sink output.old output.new rules limits text.now }
     ensures illegal { (number : ℕ) → result ≡ Status.Illegal number →
-        IsFoundIllegal K.Sink output.old output.new limits number text.now }
+        IsFoundIllegal K.Sink output.old output.new rules limits number text.now }
     ensures bad_script { (line : ℕ) → result ≡ Status.BadScript line →
-        IsNoHistory K.Sink output.old output.new line text.now }
+        IsNoHistory K.Sink output.old output.new rules line text.now }
     ensures write_fault { result ≡ Status.WriteFault →
-        IsHalfSaid K.Sink output.old output.new limits text.now }
+        IsHalfSaid K.Sink output.old output.new rules limits text.now }
     ensures rose { result ≡ Status.WriteFault → Rose (K.faults output.old) (K.faults output.new) }
     ensures memory { result ≡ Status.Memory → output.new ≡ output.old }
-    ensures of_history { (entries : List Entry) → IsHistory text.now entries →
-        EndsEntries limits entries result }
-    ensures of_bad { (line : ℕ) → IsFirstBadEntry text.now line →
+    ensures of_history { (entries : List Entry) → IsHistory rules text.now entries →
+        EndsEntries rules limits entries result }
+    ensures of_bad { (line : ℕ) → IsFirstBadEntry rules text.now line →
         (result ≡ Status.BadScript line) ⊎ (result ≡ Status.Memory) }
     ensures ends { EndsCheckText result }
     ensures later { K.faults output.old ≤ K.faults output.new }
 {
-    match parse_history(alloc, text) {
-        Ok(calls) => check_calls(alloc, &calls, output, limits),
+    match parse_history(alloc, text, rules) {
+        Ok(calls) => check_calls(alloc, &calls, output, limits, rules),
         Err(ScriptError::BadLine { line }) => refuse(alloc, line, output),
         Err(ScriptError::Memory) => Status::Memory,
     }
 }
 
-/// Reads a history, and says whether each of its replies is the one that the documented system
-/// gives. The whole input is read, and every line of it parsed, before the first call.
+/// Reads a history, and says whether each of its replies is the one that the documented system gives
+/// by these rules. The whole input is read, and every line of it parsed, before the first call.
+///
+/// By the first rules a line whose call names a key with a serial, as `k0.1`, is a bad line.
 pub fn run_check<S: Source, K: Sink>(
     alloc: Global,
     input: &mut S,
     output: &mut K,
     limits: Limits,
+    rules: Rules,
 ) -> Status
     requires { IsFit limits }
 
     // What each status says.
     ensures done { result ≡ Status.Done → ReadsText S.Source input.old input.new
-        (IsFoundLegal K.Sink output.old output.new limits) }
+        (IsFoundLegal K.Sink output.old output.new rules limits) }
     ensures illegal { (number : ℕ) → result ≡ Status.Illegal number →
         ReadsText S.Source input.old input.new
-        (IsFoundIllegal K.Sink output.old output.new limits number) }
+        (IsFoundIllegal K.Sink output.old output.new rules limits number) }
     ensures bad_script { (line : ℕ) → result ≡ Status.BadScript line →
         ReadsText S.Source input.old input.new
-        (IsNoHistory K.Sink output.old output.new line) }
+        (IsNoHistory K.Sink output.old output.new rules line) }
     ensures write_fault { result ≡ Status.WriteFault → ReadsText S.Source input.old input.new
-        (IsHalfSaid K.Sink output.old output.new limits) }
+        (IsHalfSaid K.Sink output.old output.new rules limits) }
     ensures memory { result ≡ Status.Memory → output.new ≡ output.old }
     ensures unread { (result ≡ Status.ReadFault) ⊎ (result ≡ Status.TooLong) →
         output.new ≡ output.old }
@@ -233,28 +247,28 @@ pub fn run_check<S: Source, K: Sink>(
 
     // What comes of each text, where the source tells it.
     ensures of_legal { IfSome (S.left input.old) (λ text. (entries : List Entry) →
-        length text ≤ LONGEST_INPUT → IsHistory text entries → IsLegalHistory limits entries →
+        length text ≤ LONGEST_INPUT → IsHistory rules text entries → IsLegalHistory rules limits entries →
         (result ≡ Status.Done) ⊎ (result ≡ Status.ReadFault) ⊎ (result ≡ Status.WriteFault)
         ⊎ (result ≡ Status.Memory)) }
     ensures of_illegal { IfSome (S.left input.old) (λ text. (entries : List Entry)
-        (number : ℕ) (right : Reply) → length text ≤ LONGEST_INPUT → IsHistory text entries →
-        IsFirstIllegal limits entries number right → (result ≡ Status.Illegal number)
+        (number : ℕ) (right : Reply) → length text ≤ LONGEST_INPUT → IsHistory rules text entries →
+        IsFirstIllegal rules limits entries number right → (result ≡ Status.Illegal number)
         ⊎ (result ≡ Status.ReadFault) ⊎ (result ≡ Status.Memory)) }
     ensures of_bad { IfSome (S.left input.old) (λ text. (line : ℕ) →
-        length text ≤ LONGEST_INPUT → IsFirstBadEntry text line → (result ≡ Status.BadScript line)
+        length text ≤ LONGEST_INPUT → IsFirstBadEntry rules text line → (result ≡ Status.BadScript line)
         ⊎ (result ≡ Status.ReadFault) ⊎ (result ≡ Status.Memory)) }
     ensures of_long { IfSome (S.left input.old) (λ text. LONGEST_INPUT < length text →
         (result ≡ Status.TooLong) ⊎ (result ≡ Status.ReadFault) ⊎ (result ≡ Status.Memory)) }
 
     // A history is judged where no count of faults rises and there is memory.
     ensures complete { IfSome (S.left input.old) (λ text. (entries : List Entry) →
-        length text ≤ LONGEST_INPUT → IsHistory text entries →
+        length text ≤ LONGEST_INPUT → IsHistory rules text entries →
         ¬ Rose (S.faults input.old) (S.faults input.new) →
         ¬ Rose (K.faults output.old) (K.faults output.new) →
-        IsVerdict limits entries result ⊎ (result ≡ Status.Memory)) }
+        IsVerdict rules limits entries result ⊎ (result ≡ Status.Memory)) }
 {
     match read_input(alloc, input) {
-        Ok(text) => check_text(alloc, &text, output, limits),
+        Ok(text) => check_text(alloc, &text, output, limits, rules),
         Err(status) => status,
     }
 }

@@ -1,13 +1,14 @@
-//! A whole text, read as a history.
-ghost use Rattle.std.specs.Prelude.{◌≡◌, ◌≢◌, ◌++◌, ◌+◌, ◌∷◌, [], ℕ, List, All, codes, map, option_map, option_copied, vec_len, IfOk, IfSome, IsSomeAnd, OnOk, MatchResult};
+//! A whole text, read as a history by one of the rules.
+ghost use Rattle.std.specs.Prelude.{◌≡◌, ◌≢◌, ◌++◌, ◌+◌, ◌∷◌, ◌↔◌, [], ℕ, List, All, codes, map, option_map, option_copied, vec_len, IfOk, IfSome, IsSomeAnd, IsTrue, OnOk, MatchResult};
 ghost use Rattle.std.specs.Fmt.{decimal};
 ghost use Rattle.nio_event.specs.Calls.{IsLine};
 ghost use Rattle.nio_script.specs.Entries.{Finds, Adds, IsNoEntry};
-ghost use Rattle.nio_script.specs.History.{Entry, IsEntry, AreEntries, IsHistory, IsFirstBadEntry};
+ghost use Rattle.nio_script.specs.History.{Entry, IsCallOf, IsEntry, AreEntries, IsHistory, IsFirstBadEntry};
 ghost use Rattle.nio_script.specs.HistoryCall.{entry_of};
 
 use crate::script::{ScriptError, lines};
-use nio_event::{ParseError, Parsed, ScriptCall, cut_at, is_blank, parse_line, read_number};
+use nio_event::{Call, ParseError, Parsed, ScriptCall, cut_at, is_blank, parse_line, read_number};
+use nio_plain::Rules;
 use std::alloc::{AllocError, AllocFailed, Global};
 
 /// A line of a history: a call, and the text of the reply that the history says it had.
@@ -64,6 +65,16 @@ fn read_call(alloc: Global, text: &[u8]) -> Result<Option<ScriptCall>, AllocErro
     }
 }
 
+/// Whether the call is in the grammar of these rules.
+fn is_call_of(rules: Rules, call: &Call) -> bool
+    ensures { IsTrue result ↔ IsCallOf rules call.now }
+{
+    match rules {
+        Rules::First => !call.names_serial(),
+        Rules::Now => true,
+    }
+}
+
 /// The call and the reply of the line with this number, as texts.
 fn split_entry(line: &[u8], number: u64) -> Option<(&[u8], &[u8])>
     ensures found { IfSome result (λ p. line.now
@@ -80,16 +91,21 @@ fn read_entry<'a>(
     alloc: Global,
     line: &'a [u8],
     number: u64,
+    rules: Rules,
 ) -> Result<Option<HistoryCall<'a>>, AllocError>
     ensures { IfOk result (λ read.
-        Finds (λ e. IsEntry number e line.now) (option_map entry_of read)) }
+        Finds (λ e. IsEntry rules number e line.now) (option_map entry_of read)) }
 {
     let Some((call, reply)) = split_entry(line, number) else {
         return Ok(None);
     };
-    match read_call(alloc, call)? {
-        Some(line) => Ok(Some(HistoryCall { line, reply })),
-        None => Ok(None),
+    let Some(line) = read_call(alloc, call)? else {
+        return Ok(None);
+    };
+    if is_call_of(rules, &line.call) {
+        Ok(Some(HistoryCall { line, reply }))
+    } else {
+        Ok(None)
     }
 }
 
@@ -98,41 +114,46 @@ fn read_history_line<'a>(
     alloc: Global,
     line: &'a [u8],
     number: u64,
+    rules: Rules,
     calls: &mut Vec<HistoryCall<'a>>,
 ) -> Result<(), ScriptError>
     ensures read { OnOk result
-        (Adds (AreEntries (vec_len calls.old + 1) (line.now ∷ []))
+        (Adds (AreEntries rules (vec_len calls.old + 1) (line.now ∷ []))
         (map entry_of calls.old.items) (map entry_of calls.new.items)) }
     ensures bad { (n : ℕ) → result ≡ Err (ScriptError.BadLine n)
-        → (n ≡ number) × IsNoEntry (vec_len calls.old + 1) line.now }
+        → (n ≡ number) × IsNoEntry rules (vec_len calls.old + 1) line.now }
 {
     if is_blank(line) {
         return Ok(());
     }
-    let Some(call) = read_entry(alloc, line, calls.len() as u64 + 1)? else {
+    let Some(call) = read_entry(alloc, line, calls.len() as u64 + 1, rules)? else {
         return Err(ScriptError::BadLine { line: number });
     };
     calls.push(call)?;
     Ok(())
 }
 
-/// The calls of a history, with their replies.
-pub fn parse_history<'a>(alloc: Global, text: &'a [u8]) -> Result<Vec<HistoryCall<'a>>, ScriptError>
-    ensures ok { IfOk result (λ calls. IsHistory text.now (map entry_of calls.items)) }
+/// The calls of a history by these rules, with their replies.
+pub fn parse_history<'a>(
+    alloc: Global,
+    text: &'a [u8],
+    rules: Rules,
+) -> Result<Vec<HistoryCall<'a>>, ScriptError>
+    ensures ok { IfOk result (λ calls. IsHistory rules text.now (map entry_of calls.items)) }
 
     // Whatever entries the text is a history of, these are the result.
-    ensures only { (entries : List Entry) → IsHistory text.now entries →
+    ensures only { (entries : List Entry) → IsHistory rules text.now entries →
         MatchResult result (λ read. map entry_of read.items ≡ entries)
         (λ e. e ≡ ScriptError.Memory) }
     ensures bad { (line : ℕ) → result ≡ Err (ScriptError.BadLine line)
-        → IsFirstBadEntry text.now line }
+        → IsFirstBadEntry rules text.now line }
 {
     let lines = lines(alloc, text)?;
     let mut calls = Vec::new(alloc);
     let mut number = 0;
     for line in &lines {
         number += 1;
-        read_history_line(alloc, line, number, &mut calls)?;
+        read_history_line(alloc, line, number, rules, &mut calls)?;
     }
     Ok(calls)
 }

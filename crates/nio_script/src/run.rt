@@ -28,11 +28,11 @@ fn answer_call<K: Sink, Y: System>(
     system: &mut Y,
 ) -> Result<(), Status>
     ensures ok { OnOk result (Gathers K.Sink output.old output.new kept.old.items kept.new.items
-        (line_for (Y.limits system.old) (Y.state system.old) number line.now)) }
+        (line_for (Y.rules system.old) (Y.limits system.old) (Y.state system.old) number line.now)) }
     ensures left { OnOk result (Y.state system.new
-        ≡ left_by_call (Y.limits system.old) (Y.state system.old) line.now) }
+        ≡ left_by_call (Y.rules system.old) (Y.limits system.old) (Y.state system.old) line.now) }
     ensures err { OnErr result (WritesPrefix K.Sink output.old output.new (kept.old.items
-        ++ line_for (Y.limits system.old) (Y.state system.old) number line.now)) }
+        ++ line_for (Y.rules system.old) (Y.limits system.old) (Y.state system.old) number line.now)) }
     ensures kept { Y.kept system.old system.new }
     ensures cause { CausesFault (K.faults output.old) (K.faults output.new)
         (IsErrOf result Status.WriteFault) }
@@ -52,11 +52,11 @@ fn run_calls<K: Sink, Y: System>(
     system: &mut Y,
 ) -> Result<(), Status>
     ensures ok { OnOk result (IsWritten K.Sink output.old output.new
-        (answer_from (Y.limits system.old) (Y.state system.old) 1 calls.now)) }
+        (answer_from (Y.rules system.old) (Y.limits system.old) (Y.state system.old) 1 calls.now)) }
     ensures left { OnOk result (Y.state system.new
-        ≡ left_from (Y.limits system.old) (Y.state system.old) calls.now) }
+        ≡ left_from (Y.rules system.old) (Y.limits system.old) (Y.state system.old) calls.now) }
     ensures err { OnErr result (WritesPrefix K.Sink output.old output.new
-        (answer_from (Y.limits system.old) (Y.state system.old) 1 calls.now)) }
+        (answer_from (Y.rules system.old) (Y.limits system.old) (Y.state system.old) 1 calls.now)) }
     ensures kept { Y.kept system.old system.new }
     ensures cause { CausesFault (K.faults output.old) (K.faults output.new)
         (IsErrOf result Status.WriteFault) }

@@ -4,12 +4,13 @@ ghost use Rattle.nio_bytes.specs.Cause.{Rose};
 ghost use Rattle.nio_event.specs.Script.{IsScript};
 ghost use Rattle.nio_event.specs.declared.call.ScriptCall.{ScriptCall};
 ghost use Rattle.nio_plain.specs.ScriptState.{script_opening};
+ghost use Rattle.nio_plain.specs.declared.rules.Rules.TheVariants.{Now};
 
 use crate::*;
 use nio_base::{CallerNo, Limits};
 use nio_bytes::{Failed, MemorySink, MemorySource, Sink, SteadySource};
 use nio_event::{Call, Reply};
-use nio_plain::System;
+use nio_plain::{Plain, Rules, System};
 use std::alloc::{AllocError, Global};
 use std::test::Fail;
 
@@ -140,6 +141,8 @@ struct Deaf;
 impl System for Deaf {
     ghost limits = { λ _. record { callers = 0; selectors = 0; channels = 0; keys = 0 } };
 
+    ghost rules = { λ _. Now };
+
     ghost state = { λ _. script_opening };
 
     ghost kept = { λ _ _. ⊤ };
@@ -149,6 +152,8 @@ impl System for Deaf {
     ghost kept_on = { λ _ _ _ _ _. tt };
 
     ghost kept_limits = { λ _ _ _. Rattle.std.specs.Prelude.refl };
+
+    ghost kept_rules = { λ _ _ _. Rattle.std.specs.Prelude.refl };
 
     fn call(
         &mut self,
@@ -204,13 +209,14 @@ fn a_script_ends_with_its_status(rt: HostRuntime) -> Result<(), Fail> {
 fn a_script_ends_at_a_fault(rt: HostRuntime) -> Result<(), Fail> {
     let alloc = rt.alloc();
     // The sink fails at its third call: a write, none, the flush, and a write of the bad line.
+    let line = "1 t1 selector -> no-caller\n";
     let faults = [
-        ("t1 selector\n", 5, Status::WriteFault, 10),
-        ("t1 selector\n", 27, Status::Done, 27),
-        ("t1 selector\n", 14, Status::WriteFault, 27),
-        ("t1", 4, Status::BadScript { line: 1 }, 8),
+        ("t1 selector\n", 5, Status::WriteFault, "1 t1 selec"),
+        ("t1 selector\n", 27, Status::Done, line),
+        ("t1 selector\n", 14, Status::WriteFault, line),
+        ("t1", 4, Status::BadScript { line: 1 }, "bad line"),
     ];
-    for (text, piece, status, count) in faults {
+    for (text, piece, status, written) in faults {
         let mut source = SteadySource::make(text.as_bytes().to_vec(alloc)?);
         let third = vec![in alloc; 2]?;
         let mut sink = MemorySink::make(alloc, piece, third, 100)?;
@@ -219,7 +225,7 @@ fn a_script_ends_at_a_fault(rt: HostRuntime) -> Result<(), Fail> {
             status,
             "{piece}"
         );
-        assert_eq!(rt; sink.bytes().len(), count, "{piece}");
+        assert_eq!(rt; sink.bytes(), written.as_bytes(), "{piece}");
     }
 
     let second = vec![in alloc; 1]?;
@@ -228,6 +234,49 @@ fn a_script_ends_at_a_fault(rt: HostRuntime) -> Result<(), Fail> {
     let status = run_script(alloc, &mut source, &mut sink, &mut Deaf);
     assert_eq!(rt; status, Status::ReadFault);
     assert_eq!(rt; sink.bytes().len(), 0);
+    Ok(())
+}
+
+#[test]
+fn small_limits(rt: HostRuntime) -> Result<(), Fail> {
+    let alloc = rt.alloc();
+    let rows = [
+        ("t1 selector", "s0"),
+        ("t1 selector", "selectors-spent"),
+        ("t1 channel source", "c0"),
+        ("t1 channel source", "c1"),
+        ("t1 channel source", "c2"),
+        ("t1 channel source", "c3"),
+        ("t1 channel source", "channels-spent"),
+        ("t1 blocking c0 off", "ok"),
+        ("t1 blocking c1 off", "ok"),
+        ("t1 blocking c2 off", "ok"),
+        ("t1 register s0 c0 1", "k0"),
+        ("t1 register s0 c1 1", "k1"),
+        ("t1 register s0 c2 1", "full"),
+        ("t1 register s0 c0 0", "k0"),
+        ("t2 interrupted", "no-caller"),
+    ];
+    let mut script = String::new(alloc);
+    let mut history = String::new(alloc);
+    for (index, (line, reply)) in rows.iter().enumerate() {
+        script.push_str(&format!(in alloc; "{line}\n")?)?;
+        history.push_str(&format!(in alloc; "{} {line} -> {reply}\n", index as u64 + 1)?)?;
+    }
+    let limits = Limits {
+        callers: 2,
+        selectors: 1,
+        channels: 4,
+        keys: 2,
+    };
+    let mut source = SteadySource::make(script.into_bytes());
+    let mut sink = MemorySink::make(alloc, 5, Vec::new(alloc), 1_000)?;
+    let mut system = Plain::make(alloc, limits)?;
+    assert_eq!(rt;
+        run_script(alloc, &mut source, &mut sink, &mut system),
+        Status::Done
+    );
+    assert_eq!(rt; sink.bytes(), history.as_bytes());
     Ok(())
 }
 
@@ -261,7 +310,7 @@ fn a_history_is_checked(rt: HostRuntime) -> Result<(), Fail> {
         let third = vec![in alloc; 2]?;
         let mut sink = MemorySink::make(alloc, piece, third, 100)?;
         assert_eq!(rt;
-            run_check(alloc, &mut source, &mut sink, limits),
+            run_check(alloc, &mut source, &mut sink, limits, Rules::Now),
             status,
             "{text:?}"
         );
@@ -275,7 +324,7 @@ fn a_reply_is_what_stands_behind_the_first_arrow(rt: HostRuntime) -> Result<(), 
     let alloc = rt.alloc();
     let text =
         b"1 t1 selector -> s0\n\n# 2 t1 selector\n2 t2 interrupted -> no -> \xff\n3 t1 wakeup s0 -> ";
-    let calls = parse_history(alloc, text).expect(&rt, "a history");
+    let calls = parse_history(alloc, text, Rules::Now).expect(&rt, "a history");
     let replies = [b"s0".as_slice(), b"no -> \xff".as_slice(), b"".as_slice()];
     assert_eq!(rt; calls.len(), replies.len());
     for (call, reply) in calls.iter().zip(replies.iter()) {

@@ -9,7 +9,7 @@ use Rattle.nio_event.specs.declared.found.Mode.{Mode}
 use Rattle.nio_steps.proofs.Walks.{Always, always_if, always_bind, always_itself, always_run}
 use Rattle.nio_steps.specs.Plan.{reply}
 use Rattle.nio_steps.specs.Runs.{Completes}
-use Rattle.nio_steps.specs.SelectCalls.{Selection, LookedOver, Begins, begin_plan, begin_with_turn, begin_below, given_back, list_below, look_over}
+use Rattle.nio_steps.specs.SelectCalls.{Selection, LookedOver, Begins, try_begin_plan, begin_with_turn, begin_below, given_back, list_below, look_over}
 use Rattle.nio_steps.specs.Steps.{gate_in, number_in, holder_in}
 use Rattle.nio_steps.specs.Sweeps.{sweep_over}
 use Rattle.nio_steps.specs.declared.refusal.BeginError.{BeginError}
@@ -28,6 +28,8 @@ pub record Begun (s : SelNo) (mode : Mode) (acts : List Act) (selection : Select
   pub listed : List ℕ
   pub over : List Act
   pub parts : acts ≡ gate ∷ take ∷ look ∷ keys ∷ (lists ++ over)
+  pub asks_gate : question_of gate ≡ Question.look_gate s
+  pub asks_take : question_of take ≡ Question.take_turn s
   pub asks_look : question_of look ≡ Question.begin_look s
   pub opens : (gate_in (answer_of look)).shut ≡ false
   pub asks_keys : question_of keys ≡ Question.look_keys s
@@ -42,9 +44,9 @@ module _ (s : SelNo) (mode : Mode) where
   IsBegunBy acts (Ok selection) = Begun s mode acts selection
   IsBegunBy acts (Err refusal) = ⊤
 
-  below-begun : (gate take look keys : Act) → question_of look ≡ Question.begin_look s → (gate_in (answer_of look)).shut ≡ false → question_of keys ≡ Question.look_keys s
+  below-begun : (gate take look keys : Act) → question_of gate ≡ Question.look_gate s → question_of take ≡ Question.take_turn s → question_of look ≡ Question.begin_look s → (gate_in (answer_of look)).shut ≡ false → question_of keys ≡ Question.look_keys s
       → Always (λ acts r. IsBegunBy (gate ∷ take ∷ look ∷ keys ∷ acts) r) (begin_below s mode (number_in (answer_of keys)) false)
-  below-begun gate take look keys asks_look opens asks_keys =
+  below-begun gate take look keys asks_gate asks_take asks_look opens asks_keys =
       let bound = number_in (answer_of keys) in
       always_bind (Completes (list_below s bound)) (λ acts r. IsBegunBy (gate ∷ take ∷ look ∷ keys ∷ acts) r) (list_below s bound) _ (always_itself (list_below s bound))
       (λ xs listed lists. always_bind (Completes (sweep_over listed (look_over s) none_yet)) (λ acts r. IsBegunBy (gate ∷ take ∷ look ∷ keys ∷ (xs ++ acts)) r)
@@ -58,6 +60,8 @@ module _ (s : SelNo) (mode : Mode) where
         listed = listed;
         over = ys;
         parts = ap (λ acts. gate ∷ take ∷ look ∷ keys ∷ (xs ++ acts)) (append-nil ys);
+        asks_gate = asks_gate;
+        asks_take = asks_take;
         asks_look = asks_look;
         opens = opens;
         asks_keys = asks_keys;
@@ -68,12 +72,12 @@ module _ (s : SelNo) (mode : Mode) where
         mode_is = refl;
       }))
 
-  begin-begun : Always IsBegunBy (begin_plan s mode false)
-  unfolding begin_plan
-  begin-begun = λ gate _. always_if _ (gate_in (answer_of gate)).shut (reply (Err BeginError.ClosedSelector)) _ (λ _. tt)
-      (λ _ take _. always_if _ (is_some (holder_in (answer_of take))) (reply (Err BeginError.Busy)) (begin_with_turn s mode false) (λ _. tt)
+  begin-begun : Always IsBegunBy (try_begin_plan s mode false)
+  unfolding try_begin_plan
+  begin-begun = λ gate asks_gate. always_if _ (gate_in (answer_of gate)).shut (reply (Err BeginError.ClosedSelector)) _ (λ _. tt)
+      (λ _ take asks_take. always_if _ (is_some (holder_in (answer_of take))) (reply (Err BeginError.Busy)) (begin_with_turn s mode false) (λ _. tt)
       (λ _ look asks_look. always_if _ (gate_in (answer_of look)).shut (given_back s (Err BeginError.ClosedSelector)) _ (λ _ give _. tt)
-      (λ opens keys asks_keys. below-begun gate take look keys asks_look opens asks_keys)))
+      (λ opens keys asks_keys. below-begun gate take look keys asks_gate asks_take asks_look opens asks_keys)))
 
 pub begin-parts : (s : SelNo) (mode : Mode) (acts : List Act) (selection : Selection) → Begins s mode acts (Ok selection) → Begun s mode acts selection
-begin-parts s mode acts selection run = always_run (IsBegunBy s mode) (begin_plan s mode false) acts (Ok selection) (begin-begun s mode) run
+begin-parts s mode acts selection run = always_run (IsBegunBy s mode) (try_begin_plan s mode false) acts (Ok selection) (begin-begun s mode) run

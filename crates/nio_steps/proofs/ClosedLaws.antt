@@ -23,7 +23,7 @@ use Rattle.nio_steps.proofs.Walks.{Always, always_if, always_bind, always_itself
 use Rattle.nio_steps.specs.Laws.{ClosedRemovesKeys}
 use Rattle.nio_steps.specs.Plan.{reply}
 use Rattle.nio_steps.specs.Runs.{Completes}
-use Rattle.nio_steps.specs.SelectCalls.{FinishReply, closed, busy, remove_key, finish_plan}
+use Rattle.nio_steps.specs.SelectCalls.{FinishReply, closed, busy, remove_key, try_finish_plan}
 use Rattle.nio_steps.specs.Steps.{number_in, holder_in, stage_in}
 use Rattle.nio_steps.specs.Sweeps.{sweep_to}
 
@@ -44,8 +44,8 @@ module _ (s : SelNo) where
   IsFinishedBy acts closed = Finished acts
   IsFinishedBy acts busy = ⊤
 
-  finish-finished : Always IsFinishedBy (finish_plan s)
-  unfolding finish_plan
+  finish-finished : Always IsFinishedBy (try_finish_plan s)
+  unfolding try_finish_plan
   finish-finished = λ enters asks. always_if (λ xs r. IsFinishedBy (enters ∷ xs) r) (is_some (holder_in (answer_of enters))) (reply busy) _ (λ _. tt)
       (λ _ look asks'. always_bind (Completes (sweep_to (number_in (answer_of look)) 0 (λ i _. remove_key s i) tt)) (λ xs r. IsFinishedBy (enters ∷ look ∷ xs) r)
       (sweep_to (number_in (answer_of look)) 0 (λ i _. remove_key s i) tt) (λ _. reply closed)
@@ -101,7 +101,7 @@ pub closed_removes_keys : ClosedRemovesKeys
 closed_removes_keys l n before looked later s mark i serial legal run claimed below =
     let e = event_of n (LookKeys s mark) in
     let call = looked ++ e ∷ later in
-    let finished = always_run (IsFinishedBy s) (finish_plan s) (mine n call) closed (finish-finished s) run in
+    let finished = always_run (IsFinishedBy s) (try_finish_plan s) (mine n call) closed (finish-finished s) run in
     let bound = number_in (answer_of finished.look) in
     let sweep = sweep_to bound 0 (λ k _. remove_key s k) tt in
     let none_later = (each_run (λ q. asks_keys q ≡ false) (λ _. ⊤) sweep finished.rest tt

@@ -6,7 +6,7 @@ use Rattle.std.proofs.lemmas.List.{append-nil}
 use Rattle.std.proofs.lemmas.List.Elements.{All-nil, All-cons, All-head, All-tail}
 use Rattle.nio_event.specs.Questions.{Question, question_of, answer_of}
 use Rattle.nio_event.specs.declared.act.Act.{Act}
-use Rattle.nio_steps.specs.Each.{Each}
+use Rattle.nio_steps.proofs.Each.{Each}
 use Rattle.nio_steps.specs.Plan.{Plan, reply, ask, ◌>>=◌, when}
 use Rattle.nio_steps.specs.Runs.{Follows, Completes}
 use Rattle.nio_steps.specs.Sweeps.{sweep, sweep_to, sweep_over}
@@ -27,11 +27,6 @@ each_if Asks Replies false x y this that = that refl
 pub each_when : {A : Type 0} (Asks : Question → Type 0) (test : Bool) (plan : Plan A) → Each Asks (λ _. ⊤) plan → Each Asks (λ _. ⊤) (when test plan)
 each_when Asks true plan here = each_bind Asks (λ _. ⊤) (λ _. ⊤) plan (λ _. reply tt) here (λ _ _. tt)
 each_when Asks false plan here = tt
-
--- where nothing is asked of them
-pub each_any : {R : Type 0} (plan : Plan R) → Each (λ _. ⊤) (λ _. ⊤) plan
-each_any (reply r) = tt
-each_any (ask q next) = (tt, λ answer. each_any (next answer))
 
 -- ---- of sweeps
 

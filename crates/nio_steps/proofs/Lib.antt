@@ -3,6 +3,7 @@ pub mod CallLaws
 pub mod WaitingLaws
 pub mod SweepLaws
 pub mod PerformLaws
+pub mod Each
 pub mod EachLaws
 pub mod Walks
 pub mod Lists
@@ -19,4 +20,11 @@ pub mod LookedLaws
 pub mod GoneLaws
 pub mod ClosedLaws
 pub mod PinBack
+mod WaitingPins
 pub mod PinLaws
+mod Visits
+mod BoundActs
+mod MarkedLaws
+mod BoundEvents
+mod BoundSums
+mod BoundLaws

@@ -37,10 +37,10 @@ parted {X = X} (x ∷ xs) e there = by_place (Contains-append_cases (x ∷ []) x
 pub pairs-none : {X : Type 0} (R : X → X → Type 0) → AllPairs R []
 pairs-none R i j d before within = absurd (omega arith)
 
-pairs-head : {X : Type 0} (R : X → X → Type 0) (x : X) (xs : List X) → AllPairs R (x ∷ xs) → All (R x) xs
+pub pairs-head : {X : Type 0} (R : X → X → Type 0) (x : X) (xs : List X) → AllPairs R (x ∷ xs) → All (R x) xs
 pairs-head R x xs pairs k d within = pairs 0 (suc k) d (omega arith) (omega arith)
 
-pairs-tail : {X : Type 0} (R : X → X → Type 0) (x : X) (xs : List X) → AllPairs R (x ∷ xs) → AllPairs R xs
+pub pairs-tail : {X : Type 0} (R : X → X → Type 0) (x : X) (xs : List X) → AllPairs R (x ∷ xs) → AllPairs R xs
 pairs-tail R x xs pairs i j d before within = pairs (suc i) (suc j) d (omega arith) (omega arith)
 
 -- two lists, each element of the first with each of the second

@@ -33,7 +33,7 @@ interest-look : (s : SelNo) (i : ℕ) (act : Act) → question_of act ≡ Questi
 interest-look s i (LookInterest s' i' found) asks = cc asks
 interest-look s i _ asks = absurd (cc asks)
 
-free-look : (s : SelNo) (j : ℕ) (act : Act) → question_of act ≡ Question.look_free s j → act ≡ LookFree s j (word_in (answer_of act))
+pub free-look : (s : SelNo) (j : ℕ) (act : Act) → question_of act ≡ Question.look_free s j → act ≡ LookFree s j (word_in (answer_of act))
 free-look s j (LookFree s' j' found) asks = cc asks
 free-look s j _ asks = absurd (cc asks)
 

@@ -5,27 +5,25 @@ use Rattle.std.specs.List.{All, AllPairs, Contains}
 use Rattle.std.proofs.lemmas.Bool.{and_parts, ltb-true}
 use Rattle.std.proofs.lemmas.List.Elements.{All-nil, All-push, All-append, All-weaker, Contains-push, Contains-append_left, All-contains}
 use Rattle.nio_base.specs.declared.numbers.SelNo.{SelNo}
-use Rattle.nio_event.specs.Sets.{in_cancelled_set, is_valid}
-use Rattle.nio_event.specs.declared.found.Stage.{Stage}
 use Rattle.nio_steps.proofs.BeginLaws.{none_yet, begin-parts}
-use Rattle.nio_steps.proofs.EachLaws.{each_bind, each_if, each_sweep_at, each_over_at, each_any, each_run}
+use Rattle.nio_steps.proofs.EachLaws.{each_sweep_at, each_over_at, each_run}
 use Rattle.nio_steps.proofs.Lists.{pairs-none, pairs-append, pairs-one, all-one, pairs-push, pairs-before}
 use Rattle.nio_steps.specs.ChannelCalls.{words_below}
-use Rattle.nio_steps.specs.Each.{Each}
+use Rattle.nio_steps.proofs.SelectionAsks.{GoesOver, each_look}
+use Rattle.nio_steps.proofs.Each.{Each}
 use Rattle.nio_steps.specs.KeyCalls.{has_bit}
 use Rattle.nio_steps.specs.Laws.{ListsInOrder}
-use Rattle.nio_steps.specs.Plan.{reply, ◌>>◌}
-use Rattle.nio_steps.specs.SelectCalls.{LookedOver, not_free, list_word, list_below, look_over, look_on, look_valid, looked_key, remove_cancelled}
-use Rattle.nio_steps.specs.Steps.{stage_in, word_in, operations_in}
+use Rattle.nio_steps.specs.SelectCalls.{LookedOver, not_free, list_word, list_below, look_over}
+use Rattle.nio_steps.specs.Steps.{word_in}
 use Rattle.nio_steps.specs.Sweeps.{sweep_over}
 use Rattle.nio_steps.specs.declared.looked.LookedKey.{LookedKey}
 
 -- ---- the listed indexes
 
 -- rising numbers from `low` on, below `high`
-record Rise (low high : ℕ) (xs : List ℕ) : Type 0 where
-  rising : AllPairs (λ i j. i < j) xs
-  within : All (λ i. (low ≤ i) × (i < high)) xs
+pub record Rise (low high : ℕ) (xs : List ℕ) : Type 0 where
+  pub rising : AllPairs (λ i j. i < j) xs
+  pub within : All (λ i. (low ≤ i) × (i < high)) xs
 
 rise-none : (low high : ℕ) → Rise low high []
 rise-none low high = record { rising = pairs-none (λ i j. i < j); within = All-nil (λ i. (low ≤ i) × (i < high)) }
@@ -64,10 +62,10 @@ not_free-rise word j bound (suc n) = by_test (nat_lt (64 * j + n) bound && not (
       rest.1,
     )
 
-abbrev IsListed : ℕ → ℕ → List ℕ → Type 0
+abbrev pub IsListed : ℕ → ℕ → List ℕ → Type 0
 IsListed bound j listed = Rise 0 (64 * j) listed × All (λ i. i < bound) listed
 
-list-rises : (s : SelNo) (bound : ℕ) → Each (λ _. ⊤) (IsListed bound (words_below bound)) (list_below s bound)
+pub list-rises : (s : SelNo) (bound : ℕ) → Each (λ _. ⊤) (IsListed bound (words_below bound)) (list_below s bound)
 list-rises s bound =
     each_sweep_at (λ _. ⊤) (IsListed bound) (words_below bound) 0 (list_word s bound) [] (omega arith) (rise-none 0 (64 * 0), All-nil (λ i. i < bound))
     (λ j listed _ _ here. (
@@ -85,11 +83,11 @@ list-rises s bound =
 -- ---- the looked and the kept list
 
 -- what a selection has after these indexes
-record Rises (past : List ℕ) (found : LookedOver) : Type 0 where
-  looked_rise : AllPairs (λ x y. x.index < y.index) found.looked
-  kept_rise : AllPairs (λ i j. i < j) found.kept
-  of_past : All (Contains past) found.kept
-  kept : All (λ entry. Contains found.kept entry.index) found.looked
+pub record Rises (past : List ℕ) (found : LookedOver) : Type 0 where
+  pub looked_rise : AllPairs (λ x y. x.index < y.index) found.looked
+  pub kept_rise : AllPairs (λ i j. i < j) found.kept
+  pub of_past : All (Contains past) found.kept
+  pub kept : All (λ entry. Contains found.kept entry.index) found.looked
 
 module _ (past : List ℕ) (e : ℕ) (found : LookedOver) (below : All (λ i. i < e) past) (rises : Rises past found) where
   kept-below : All (λ i. i < e) found.kept
@@ -128,15 +126,10 @@ module _ (past : List ℕ) (e : ℕ) (found : LookedOver) (below : All (λ i. i 
         (subst (λ (k : ℕ). Contains (found.kept ++ e ∷ []) k) (sym at) (Contains-push found.kept e));
   }
 
-  on-rises : (s : SelNo) (stage : Stage) → Each (λ _. ⊤) (Rises (past ++ e ∷ [])) (look_on s e found stage)
-  on-rises s stage =
-      each_if (λ _. ⊤) (Rises (past ++ e ∷ [])) (in_cancelled_set stage) (remove_cancelled s e stage >> reply found) _
-      (λ _. each_bind (λ _. ⊤) (λ _. ⊤) (Rises (past ++ e ∷ [])) (remove_cancelled s e stage) (λ _. reply found) (each_any (remove_cancelled s e stage)) (λ _ _. rises-dropped))
-      (λ _. each_if (λ _. ⊤) (Rises (past ++ e ∷ [])) (is_valid stage) (look_valid s e stage found) _
-      (λ _. (tt, λ ops. rises-looked (looked_key e stage (operations_in ops)) refl))
-      (λ _. each_if (λ _. ⊤) (Rises (past ++ e ∷ [])) stage.removed (reply found) _ (λ _. rises-dropped) (λ _. rises-kept)))
+  goes-rise : GoesOver (Rises (past ++ e ∷ [])) e found
+  goes-rise = record { dropped = rises-dropped; looked = rises-looked; kept = rises-kept }
 
-over-rises : (s : SelNo) (listed : List ℕ) → AllPairs (λ i j. i < j) listed → Each (λ _. ⊤) (Rises listed) (sweep_over listed (look_over s) none_yet)
+pub over-rises : (s : SelNo) (listed : List ℕ) → AllPairs (λ i j. i < j) listed → Each (λ _. ⊤) (Rises listed) (sweep_over listed (look_over s) none_yet)
 over-rises s listed rising =
     each_over_at (λ _. ⊤) Rises listed (look_over s) none_yet
     (record {
@@ -145,10 +138,8 @@ over-rises s listed rising =
       of_past = All-nil (Contains []);
       kept = All-nil (λ entry. Contains [] entry.index);
     })
-    (λ past e later found parts rises. (
-      tt,
-      λ answer. on-rises past e found (pairs-before (λ i j. i < j) past e later (subst (AllPairs (λ i j. i < j)) parts rising)) rises s (stage_in answer),
-    ))
+    (λ past e later found parts rises. each_look (λ _. ⊤) s e (record { looks = tt; looks_interest = tt; removes = tt; puts = tt }) (Rises (past ++ e ∷ [])) found
+    (goes-rise past e found (pairs-before (λ i j. i < j) past e later (subst (AllPairs (λ i j. i < j)) parts rising)) rises))
 
 pub lists_in_order : ListsInOrder
 lists_in_order s mode acts selection run =

@@ -20,6 +20,7 @@ use Rattle.nio_steps.proofs.Walks.{Always, always_weaker, always_bind, always_if
 use Rattle.nio_steps.specs.Calls.{CallClause}
 use Rattle.nio_steps.specs.KeyCalls.{under_pin}
 use Rattle.nio_steps.specs.PinLaws.{GivesPinsBack}
+use Rattle.nio_steps.specs.Runs.{Completes}
 use Rattle.nio_steps.specs.Plan.{Plan, reply, ask, ◌>>=◌, ◌>>◌}
 use Rattle.nio_steps.specs.Steps.{unpin, flag_in, stage_in}
 use Rattle.nio_steps.specs.Sweeps.{sweep, sweep_to, found_or, seek, seek_to, sweep_over}
@@ -244,7 +245,7 @@ again before act plan here =
 
 -- ---- of a whole run
 
-pub gives_back : {R : Type 0} (plan : Plan R) → Leaves plan → GivesPinsBack plan
+pub gives_back : {R : Type 0} (plan : Plan R) → Leaves plan → GivesPinsBack (Completes plan)
 gives_back plan here acts answer run = always_run (λ xs _. NoPins xs) plan acts answer here.always run
 
 -- ---- of a call on a pass

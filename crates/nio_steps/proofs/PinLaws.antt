@@ -17,14 +17,15 @@ use Rattle.nio_event.specs.declared.found.Mark.{Mark as KeyMark}
 use Rattle.nio_event.specs.declared.found.Mode.{Mode}
 use Rattle.nio_event.specs.declared.found.Stage.{Stage}
 use Rattle.nio_steps.proofs.PinBack.{NoPins, no_pins, again, OnlyPin, PinsFound, Leaves, leaves_reply, leaves_ask, leaves_bind, leaves_if, leaves_sweep, leaves_over, leaves_seek, leaves_pinned, leaves_under_pin, found_leaves, leaves_pins, found_seek, claim-none, claim-only, claim_again-none, claim_again-only, leaves-none, no_pins-append, only_pin-append, gives_back}
+use Rattle.nio_steps.proofs.WaitingPins.{retries-give, selects-give, closes-give, waits-give}
 use Rattle.nio_steps.proofs.Walks.{Always, always_weaker, always_bind, always_if}
 use Rattle.nio_steps.specs.ChannelCalls.{open_channel_plan, opened, is_open_plan, is_blocking_plan, is_registered_plan, noted_in_set, key_for_plan, under_hold, set_mode_held, set_blocking_plan, register_noted, register_over, claim_taken, claim_free, claim_in_word, search_free, words_below, claim_new, make_key, make_claimed, register_first, register_next, register_new, register_rest, register_held, register_plan, cancel_at, close_channel_plan}
 use Rattle.nio_steps.specs.KeyCalls.{has_bit, is_within, find_selector_plan, find_channel_plan, find_plan, is_valid_plan, on_valid, if_valid, on_supported, look_set, put_set, add_set, keep_set, look_ready, interest_plan, set_interest_plan, interest_or_plan, interest_and_plan, ready_plan, cancel_plan, cancel_present, unselect_plan, unselect_present, attach_plan, attach_present, attachment_plan, attachment_present}
 use Rattle.nio_steps.specs.PinLaws.{PinsAreGivenBack}
-use Rattle.nio_steps.specs.PipeCalls.{pipe_plan, with_sink, with_source, if_interrupted, if_open, if_unbroken, try_read_plan, try_write_plan}
+use Rattle.nio_steps.specs.PipeCalls.{pipe_plan, without_sink, with_sink, with_source, if_interrupted, if_open, if_unbroken, try_read_plan, try_write_plan}
 use Rattle.nio_steps.specs.Names.{key}
 use Rattle.nio_steps.specs.Plan.{Plan, reply, ◌>>◌, when}
-use Rattle.nio_steps.specs.SelectCalls.{Selection, LookedOver, open_selector_plan, begin_plan, begin_below, look_over, told_plan, mark_entry, mark_again, after_marks, leave_plan, shut_plan, finish_plan, keys_plan, list_selected, list_present, selected_keys_plan, wakeup_plan, interrupt_plan, interrupted_plan}
+use Rattle.nio_steps.specs.SelectCalls.{Selection, LookedOver, open_selector_plan, try_begin_plan, begin_below, look_over, told_plan, mark_entry, mark_again, after_marks, leave_plan, shut_plan, try_finish_plan, keys_plan, list_selected, list_present, selected_keys_plan, wakeup_plan, interrupt_plan, interrupted_plan}
 use Rattle.nio_steps.specs.Steps.{cancel_key, put_free, flag_in, stage_in, word_in, channel_in, number_in}
 use Rattle.nio_steps.specs.Sweeps.{seek_to}
 use Rattle.nio_steps.specs.declared.looked.LookedKey.{LookedKey}
@@ -244,8 +245,8 @@ look_over-leaves s i found = search still depth 16
 below-leaves : (s : SelNo) (mode : Mode) (bound : ℕ) (lacks : Bool) → Leaves (begin_below s mode bound lacks)
 below-leaves s mode bound lacks = search (still, look_over-leaves) depth 12
 
-begin-leaves : (s : SelNo) (mode : Mode) (lacks : Bool) → Leaves (begin_plan s mode lacks)
-unfolding begin_plan
+begin-leaves : (s : SelNo) (mode : Mode) (lacks : Bool) → Leaves (try_begin_plan s mode lacks)
+unfolding try_begin_plan
 begin-leaves s mode lacks = search (still, below-leaves) depth 16
 
 again-leaves : (s : SelNo) (i told : ℕ) (found : Result (Unit {0}) KeyMark) → Leaves (mark_again s i told found)
@@ -270,8 +271,8 @@ shut-leaves : (s : SelNo) → Leaves (shut_plan s)
 unfolding shut_plan
 shut-leaves s = search still
 
-finish-leaves : (s : SelNo) → Leaves (finish_plan s)
-unfolding finish_plan
+finish-leaves : (s : SelNo) → Leaves (try_finish_plan s)
+unfolding try_finish_plan
 finish-leaves s = search still depth 12
 
 keys-leaves : (s : SelNo) (lacks : Bool) → Leaves (keys_plan s lacks)
@@ -301,13 +302,30 @@ interrupted-leaves = search still
 
 -- ---- pipes
 
+without_sink-leaves : (l : Limits) (source : ChanNo) → Leaves (without_sink l source)
+without_sink-leaves l source = leaves_bind (close_channel_plan l source) _ (close_channel-leaves l source) (λ _. leaves_reply _)
+
 sink-leaves : (l : Limits) (source : ChanNo) (made : Result ChanNo ChannelError) → Leaves (with_sink l source made)
 sink-leaves l source (Ok sink) = leaves_reply _
-sink-leaves l source (Err refusal) = leaves_bind (close_channel_plan l source) _ (close_channel-leaves l source) (λ _. leaves_reply _)
+sink-leaves l source (Err ChannelError.ChannelsSpent) = without_sink-leaves l source
+sink-leaves l source (Err ChannelError.IllegalOps) = without_sink-leaves l source
+sink-leaves l source (Err ChannelError.ClosedChannel) = without_sink-leaves l source
+sink-leaves l source (Err ChannelError.Busy) = without_sink-leaves l source
+sink-leaves l source (Err ChannelError.IllegalBlockingMode) = without_sink-leaves l source
+sink-leaves l source (Err ChannelError.CancelledKey) = without_sink-leaves l source
+sink-leaves l source (Err ChannelError.ClosedSelector) = without_sink-leaves l source
+sink-leaves l source (Err ChannelError.Full) = without_sink-leaves l source
 
 source-leaves : (l : Limits) (made : Result ChanNo ChannelError) → Leaves (with_source l made)
 source-leaves l (Ok source) = leaves_bind (open_channel_plan l Sink) (with_sink l source) (open_channel-leaves l Sink) (sink-leaves l source)
-source-leaves l (Err refusal) = leaves_reply _
+source-leaves l (Err ChannelError.ChannelsSpent) = leaves_reply _
+source-leaves l (Err ChannelError.IllegalOps) = leaves_reply _
+source-leaves l (Err ChannelError.ClosedChannel) = leaves_reply _
+source-leaves l (Err ChannelError.Busy) = leaves_reply _
+source-leaves l (Err ChannelError.IllegalBlockingMode) = leaves_reply _
+source-leaves l (Err ChannelError.CancelledKey) = leaves_reply _
+source-leaves l (Err ChannelError.ClosedSelector) = leaves_reply _
+source-leaves l (Err ChannelError.Full) = leaves_reply _
 
 pipe-leaves : (l : Limits) (lacks : Bool) → Leaves (pipe_plan l lacks)
 unfolding pipe_plan
@@ -356,15 +374,15 @@ pins_are_given_back = record {
   is_blocking = λ c. gives_back (is_blocking_plan c) (is_blocking-leaves c);
   is_registered = λ l c. gives_back (is_registered_plan l c) (is_registered-leaves l c);
   key_for = λ c s. gives_back (key_for_plan c s) (key_for-leaves c s);
-  set_blocking = λ l c on. gives_back (set_blocking_plan l c on) (set_blocking-leaves l c on);
-  register = λ l s c ops att. gives_back (register_plan l s c ops att) (register-leaves l s c ops att);
+  try_set_blocking = λ l c on. gives_back (set_blocking_plan l c on) (set_blocking-leaves l c on);
+  try_register = λ l s c ops att. gives_back (register_plan l s c ops att) (register-leaves l s c ops att);
   close_channel = λ l c. gives_back (close_channel_plan l c) (close_channel-leaves l c);
   open_selector = λ l. gives_back (open_selector_plan l) (open_selector-leaves l);
-  try_begin = λ s mode lacks. gives_back (begin_plan s mode lacks) (begin-leaves s mode lacks);
+  try_begin = λ s mode lacks. gives_back (try_begin_plan s mode lacks) (begin-leaves s mode lacks);
   told = λ selection pairs elapsed. gives_back (told_plan selection pairs elapsed) (told-leaves selection pairs elapsed);
   leave = λ selection. gives_back (leave_plan selection) (leave-leaves selection);
   shut = λ s. gives_back (shut_plan s) (shut-leaves s);
-  try_finish = λ s. gives_back (finish_plan s) (finish-leaves s);
+  try_finish = λ s. gives_back (try_finish_plan s) (finish-leaves s);
   keys = λ s lacks. gives_back (keys_plan s lacks) (keys-leaves s lacks);
   selected_keys = λ s lacks. gives_back (selected_keys_plan s lacks) (selected_keys-leaves s lacks);
   wakeup = λ s. gives_back (wakeup_plan s) (wakeup-leaves s);
@@ -373,4 +391,13 @@ pins_are_given_back = record {
   pipe = λ l lacks. gives_back (pipe_plan l lacks) (pipe-leaves l lacks);
   try_read = λ l source. gives_back (try_read_plan l source) (try_read-leaves l source);
   try_write = λ l source sink. gives_back (try_write_plan l source sink) (try_write-leaves l source sink);
+  set_blocking = λ l c on. retries-give (gives_back (set_blocking_plan l c on) (set_blocking-leaves l c on));
+  register = λ l s c ops att. retries-give (gives_back (register_plan l s c ops att) (register-leaves l s c ops att));
+  select = λ s mode polls. selects-give s mode polls
+      (λ acts answer. gives_back (try_begin_plan s mode _) (begin-leaves s mode _) acts answer)
+      (λ selection poll. gives_back (told_plan selection poll.pairs poll.elapsed) (told-leaves selection poll.pairs poll.elapsed))
+      (λ selection. gives_back (leave_plan selection) (leave-leaves selection));
+  close = λ s. closes-give s (gives_back (shut_plan s) (shut-leaves s)) (gives_back (try_finish_plan s) (finish-leaves s));
+  read = λ l source none. waits-give none (gives_back (try_read_plan l source) (try_read-leaves l source));
+  write = λ l source sink none. waits-give none (gives_back (try_write_plan l source sink) (try_write-leaves l source sink));
 }

@@ -8,6 +8,7 @@ use Rattle.std.proofs.lemmas.List.Sums.{sum_by-append}
 use Rattle.std.proofs.lemmas.List.{append-nil}
 use Rattle.nio_base.specs.declared.numbers.SelNo.{SelNo}
 use Rattle.nio_event.specs.OwnEvents.{has, count, gives_turn}
+use Rattle.nio_event.specs.Pins.{removes}
 use Rattle.nio_event.specs.Questions.{Question, question_of, answer_of}
 use Rattle.nio_event.specs.Turns.{removes_on}
 use Rattle.nio_event.specs.declared.act.Act.{Act}
@@ -19,7 +20,7 @@ use Rattle.nio_steps.proofs.EachLaws.{each_if, each_run, split}
 use Rattle.nio_steps.proofs.Either.{neither, not_first, not_second}
 use Rattle.nio_steps.proofs.SelectionAsks.{each_end, each_marks}
 use Rattle.nio_steps.proofs.Walks.{Always, always_weaker, always_bind, always_if, always_any, always_over, always_run}
-use Rattle.nio_steps.specs.Each.{Each}
+use Rattle.nio_steps.proofs.Each.{Each}
 use Rattle.nio_steps.specs.Laws.{BeginsSelection, AgainGoesOn, CountsSelection}
 use Rattle.nio_steps.specs.Plan.{reply, ◌>>=◌}
 use Rattle.nio_steps.specs.Runs.{Completes}
@@ -32,7 +33,7 @@ use Rattle.nio_steps.specs.declared.selected.Selected.{Selected}
 
 -- ---- questions that are no mark, and that don't give the turn back
 
-abbrev asks_mark : ℕ → Question → Bool
+abbrev pub asks_mark : ℕ → Question → Bool
 asks_mark s (Question.mark s' i from told) = s'.0 == s
 asks_mark s _ = false
 
@@ -69,14 +70,24 @@ no_removes : (s : ℕ) (acts : List Act) → All (λ act. asks_remove s (questio
 no_removes s acts each =
     list_any_none (removes_on s) acts (All-weaker (λ act. asks_remove s (question_of act) ≡ false) (λ act. removes_on s act ≡ false) (not-removes s) acts each)
 
-count-append : (p : Act → Bool) (acts later : List Act) → count p (acts ++ later) ≡ count p acts + count p later
+-- who removes no key of a selector removes none of an index of it
+pub removes_none : (s i : ℕ) (acts : List Act) → has (removes_on s) acts ≡ false → has (removes s i) acts ≡ false
+removes_none s i [] none = refl
+removes_none s i (act ∷ acts) none =
+    neither (removes s i act) (has (removes s i) acts) (of_act act (not_first (removes_on s act) (has (removes_on s) acts) none)) (removes_none s i acts (not_second (removes_on s act) (has (removes_on s) acts) none))
+  where
+    of_act : (a : Act) → removes_on s a ≡ false → removes s i a ≡ false
+    of_act (Remove s' i' found) none' = ap (λ b. b && (i' == i)) none'
+    of_act _ none' = refl
+
+pub count-append : (p : Act → Bool) (acts later : List Act) → count p (acts ++ later) ≡ count p acts + count p later
 count-append p acts later = sum_by-append (λ act. cond (p act) 1 0) acts later
 
-count-cons : (p : Act → Bool) (act : Act) (acts : List Act) → count p (act ∷ acts) ≡ cond (p act) 1 0 + count p acts
+pub count-cons : (p : Act → Bool) (act : Act) (acts : List Act) → count p (act ∷ acts) ≡ cond (p act) 1 0 + count p acts
 count-cons p act acts = count-append p (act ∷ []) acts ∙ ap (λ (n : ℕ). n + count p acts) (zero-add (cond (p act) 1 0))
 
 -- what has no such act counts none, and the other way round
-count-none : (p : Act → Bool) (acts : List Act) → has p acts ≡ false → count p acts ≡ 0
+pub count-none : (p : Act → Bool) (acts : List Act) → has p acts ≡ false → count p acts ≡ 0
 count-none p [] none = refl
 count-none p (act ∷ acts) none =
     let here : cond {A = ℕ} (p act) 1 0 ≡ 0 = ap (λ (b : Bool). cond {A = ℕ} b 1 0) (not_first (p act) (has p acts) none) in
@@ -151,23 +162,23 @@ abbrev NoRemove : ℕ → Question → Type 0
 NoRemove s q = asks_remove s q ≡ false
 
 module _ (s : SelNo) (pairs : List (ℕ × ℕ)) (entries : List LookedKey) (acts : List Act) (n : ℕ) (run : Completes (sweep_over entries (mark_entry s pairs) 0) acts n) where
-  marks-no_give : has (gives_turn s.0) acts ≡ false
+  pub marks-no_give : has (gives_turn s.0) acts ≡ false
   marks-no_give =
       no_gives s.0 acts (each_run (NoGive s.0) (λ _. ⊤) (sweep_over entries (mark_entry s pairs) 0) acts n
-      (each_marks (NoGive s.0) s (record { looks = λ _. refl; marks = λ _ _ _. refl }) pairs entries) run).0
+      (each_marks (NoGive s.0) s pairs entries (λ k d _. record { looks = refl; marks = λ _ _. refl })) run).0
 
-  marks-no_remove : has (removes_on s.0) acts ≡ false
+  pub marks-no_remove : has (removes_on s.0) acts ≡ false
   marks-no_remove =
       no_removes s.0 acts (each_run (NoRemove s.0) (λ _. ⊤) (sweep_over entries (mark_entry s pairs) 0) acts n
-      (each_marks (NoRemove s.0) s (record { looks = λ _. refl; marks = λ _ _ _. refl }) pairs entries) run).0
+      (each_marks (NoRemove s.0) s pairs entries (λ k d _. record { looks = refl; marks = λ _ _. refl })) run).0
 
 -- ---- after the marks
 
-abbrev NoMark : ℕ → Question → Type 0
+abbrev pub NoMark : ℕ → Question → Type 0
 NoMark s q = asks_mark s q ≡ false
 
 -- the count of what is over; what goes on is this selection, and nothing was marked
-abbrev Replies : Selection → ℕ → ToldReply → Type 0
+abbrev pub Replies : Selection → ℕ → ToldReply → Type 0
 Replies selection n (done answer) = answer.count ≡ n
 Replies selection n (again next) = (next ≡ selection) × (n ≡ 0)
 
@@ -176,7 +187,7 @@ second_of a true c d e f all = refl
 second_of true false c d e f all = absurd (cc all)
 second_of false false c d e f all = absurd (cc all)
 
-after-replies : (selection : Selection) (elapsed : Bool) (n : ℕ) → Each (NoMark selection.selector.0) (Replies selection n) (after_marks selection elapsed n)
+pub after-replies : (selection : Selection) (elapsed : Bool) (n : ℕ) → Each (NoMark selection.selector.0) (Replies selection n) (after_marks selection elapsed n)
 after-replies selection elapsed n = (
   refl,
   λ gate. (
@@ -185,7 +196,7 @@ after-replies selection elapsed n = (
         (is_again selection.mode n (gate_in gate) (flag_in interrupted) elapsed) (reply (again selection)) (end_selection selection _)
         (λ goes_on. (refl, eqb-true n 0 (second_of _ _ _ _ _ _ goes_on)))
         (λ _. each_end (NoMark selection.selector.0) (Replies selection n) selection _
-        (record { looks_free = λ _. refl; looks = λ _. refl; looks_interest = λ _. refl; removes = λ _. refl; puts = λ _. refl }) refl refl refl),
+        (λ k d _. record { looks = refl; looks_interest = refl; removes = refl; puts = refl }) refl refl refl),
   ),
 )
 

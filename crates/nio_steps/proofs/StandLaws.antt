@@ -1,8 +1,10 @@
 -- What a caller began and hasn't ended stands in the state, whatever others did.
-use Rattle.std.proofs.Common.{◌≡◌, true, false, not, ◌||◌, [], ◌∷◌, ◌++◌, Some, refl, ap, sym, ◌∙◌, subst, append_assoc, eq-eqb, IsTrue}
+use Rattle.std.proofs.Common.{◌≡◌, ℕ, List, true, false, not, ◌||◌, [], ◌∷◌, ◌++◌, Some, refl, ap, sym, ◌∙◌, subst, append_assoc, eq-eqb}
 use Rattle.std.specs.Prelude.{⊤}
 use Rattle.std.proofs.lemmas.Bool.{and_from}
 use Rattle.std.proofs.lemmas.List.Folds.{list_any-append}
+use Rattle.nio_base.specs.declared.limits.Limits.{Limits}
+use Rattle.nio_base.specs.declared.numbers.CallerNo.{CallerNo}
 use Rattle.nio_base.specs.declared.numbers.SelNo.{SelNo}
 use Rattle.nio_event.proofs.Legal.{legal_next}
 use Rattle.nio_event.proofs.OneMore.{state_after-more}
@@ -17,27 +19,53 @@ use Rattle.nio_event.specs.Questions.{Question, question_of, answer_of}
 use Rattle.nio_event.specs.State.{put}
 use Rattle.nio_event.specs.declared.act.Act.{Act}
 use Rattle.nio_event.specs.declared.act.Act.TheVariants.{BeginLook, ShutBit}
+use Rattle.nio_event.specs.declared.event.Event.{Event}
+use Rattle.nio_event.specs.declared.found.GateWord.{GateWord}
 use Rattle.nio_steps.proofs.BeginLaws.{none_yet, begin-parts}
 use Rattle.nio_steps.proofs.EachLaws.{each_over, each_run}
 use Rattle.nio_steps.proofs.Either.{neither, by_second}
 use Rattle.nio_steps.proofs.OwnActs.{cut_at, at_own}
-use Rattle.nio_steps.proofs.SelectionAsks.{AsksOver, each_list, each_look}
+use Rattle.nio_steps.proofs.SelectionAsks.{each_list, each_look, goes_any}
 use Rattle.nio_steps.proofs.SelectionLaws.{NoGive, asks_give, no_gives, not-gives}
 use Rattle.nio_steps.proofs.Lists.{all_any}
 use Rattle.nio_steps.specs.Laws.{SelectionsStand, ClosingsStand}
-use Rattle.nio_steps.specs.SelectCalls.{list_below, look_over}
+use Rattle.nio_steps.specs.Runs.{Completes}
+use Rattle.nio_steps.specs.SelectCalls.{LookedOver, list_below, look_over}
 use Rattle.nio_steps.specs.Steps.{gate_in}
 use Rattle.nio_steps.specs.Sweeps.{sweep_over}
 
 -- ---- a beginning of a selection
 
-look-act : (s : SelNo) (act : Act) → question_of act ≡ Question.begin_look s → act ≡ BeginLook s (gate_in (answer_of act))
+pub look-act : (s : SelNo) (act : Act) → question_of act ≡ Question.begin_look s → act ≡ BeginLook s (gate_in (answer_of act))
 look-act s (BeginLook s' found) asks = cc asks
 look-act s _ asks = absurd (cc asks)
 
--- nothing that a selection asks of the indexes gives the turn back
-gives_none : (s : SelNo) → AsksOver (NoGive s.0) s
-gives_none s = record { looks_free = λ _. refl; looks = λ _. refl; looks_interest = λ _. refl; removes = λ _. refl; puts = λ _. refl }
+-- who looked with the turn, found the gate not shut and hasn't given the turn back since has begun
+pub begun_since : (l : Limits) (n : CallerNo) (events : List Event) (s : SelNo) (before : List Act) (found : GateWord) (later : List Act) → IsLegal l events
+    → mine n events ≡ before ++ BeginLook s found ∷ later → found.shut ≡ false → has (gives_turn s.0) later ≡ false → has_begun (state_after events) n s ≡ true
+begun_since l n events s before found later legal own opens keeps =
+    let cut = cut_at n events before (BeginLook s found) later own in
+    let e = event_of n (BeginLook s found) in
+    let legal' = subst (IsLegal l) cut.parts legal in
+    let step = legal_next l cut.past e cut.later legal' in
+    let st = state_after cut.past in
+    let begins : (st.begun s.0 || not found.shut) ≡ true = by_second (st.begun s.0) (not found.shut) (ap not opens) in
+    let here : has_begun (effect st n (BeginLook s found)) n s ≡ true
+    = and_from (has_turn st n s) (put st.begun s.0 (st.begun s.0 || not found.shut) s.0) step.condition.1 (put-same st.begun s.0 (st.begun s.0 || not found.shut) ∙ begins) in
+    let there : has_begun (state_after (cut.past ++ e ∷ [])) n s ≡ true = ap (λ x. has_begun x n s) (state_after-more cut.past e) ∙ here in
+    let joined : (cut.past ++ e ∷ []) ++ cut.later ≡ events = append_assoc cut.past (e ∷ []) cut.later ∙ sym cut.parts in
+    subst (λ evs. has_begun (state_after evs) n s ≡ true) joined
+    (only_itself_gives_back l n (cut.past ++ e ∷ []) cut.later (subst (IsLegal l) (sym joined) legal) (a_selection s) (ap (has (gives_turn s.0)) cut.mine_later ∙ keeps) there)
+
+-- the acts over the listed indexes don't give the turn back
+pub over-keeps : (s : SelNo) (listed : List ℕ) (over : List Act) (found : LookedOver) → Completes (sweep_over listed (look_over s) none_yet) over found → has (gives_turn s.0) over ≡ false
+over-keeps s listed over found run =
+    no_gives s.0 over (each_run (NoGive s.0) (λ _. ⊤) (sweep_over listed (look_over s) none_yet) over found
+    (each_over (NoGive s.0) (λ _. ⊤) (λ _. ⊤) listed (look_over s) none_yet (all_any listed) tt (λ i past _ _. each_look (NoGive s.0) s i (record { looks = refl; looks_interest = refl; removes = refl; puts = refl }) (λ _. ⊤) past (goes_any i past))) run).0
+
+pub lists-keep : (s : SelNo) (bound : ℕ) (lists : List Act) (listed : List ℕ) → Completes (list_below s bound) lists listed → has (gives_turn s.0) lists ≡ false
+lists-keep s bound lists listed run =
+    no_gives s.0 lists (each_run (NoGive s.0) (λ _. ⊤) (list_below s bound) lists listed (each_list (NoGive s.0) s bound (λ _. refl)) run).0
 
 -- who began a selection has begun on its selector, in every legal history
 pub selections_stand : SelectionsStand
@@ -47,10 +75,8 @@ selections_stand l n events selection legal begun =
     let found = gate_in (answer_of first.look) in
     let before = first.gate ∷ first.take ∷ [] in
     let rest = first.keys ∷ (first.lists ++ first.over) in
-    let keeps_lists = no_gives s.0 first.lists (each_run (NoGive s.0) (λ _. ⊤) (list_below s selection.bound) first.lists first.listed
-    (each_list (NoGive s.0) s (gives_none s) selection.bound) first.runs_lists).0 in
-    let keeps_over = no_gives s.0 first.over (each_run (NoGive s.0) (λ _. ⊤) (sweep_over first.listed (look_over s) none_yet) first.over _
-    (each_over (NoGive s.0) (λ _. ⊤) (λ _. ⊤) first.listed (look_over s) none_yet (all_any first.listed) tt (λ i over _ _. each_look (NoGive s.0) s (gives_none s) i over)) first.runs_over).0 in
+    let keeps_lists = lists-keep s selection.bound first.lists first.listed first.runs_lists in
+    let keeps_over = over-keeps s first.listed first.over _ first.runs_over in
     let keeps_rest : has (gives_turn s.0) rest ≡ false
     = neither _ _ (not-gives s.0 first.keys (ap (asks_give s.0) first.asks_keys)) (list_any-append (gives_turn s.0) first.lists first.over ∙ neither _ _ keeps_lists keeps_over) in
     let acts : begun.beginning ≡ before ++ BeginLook s found ∷ rest
@@ -58,20 +84,8 @@ selections_stand l n events selection legal begun =
     let own : mine n events ≡ (begun.earlier ++ before) ++ BeginLook s found ∷ (rest ++ begun.since)
     = begun.parts ∙ (ap (λ xs. begun.earlier ++ (xs ++ begun.since)) acts
     ∙ sym (append_assoc begun.earlier before (BeginLook s found ∷ (rest ++ begun.since)))) in
-    let cut = cut_at n events (begun.earlier ++ before) (BeginLook s found) (rest ++ begun.since) own in
-    let e = event_of n (BeginLook s found) in
-    let legal' = subst (IsLegal l) cut.parts legal in
-    let step = legal_next l cut.past e cut.later legal' in
-    let st = state_after cut.past in
-    let begins : (st.begun s.0 || not found.shut) ≡ true = by_second (st.begun s.0) (not found.shut) (ap not first.opens) in
-    let here : has_begun (effect st n (BeginLook s found)) n s ≡ true
-    = and_from (has_turn st n s) (put st.begun s.0 (st.begun s.0 || not found.shut) s.0) step.condition.1 (put-same st.begun s.0 (st.begun s.0 || not found.shut) ∙ begins) in
-    let there : has_begun (state_after (cut.past ++ e ∷ [])) n s ≡ true = ap (λ x. has_begun x n s) (state_after-more cut.past e) ∙ here in
-    let joined : (cut.past ++ e ∷ []) ++ cut.later ≡ events = append_assoc cut.past (e ∷ []) cut.later ∙ sym cut.parts in
-    let keeps : has (gives_turn s.0) (mine n cut.later) ≡ false
-    = ap (has (gives_turn s.0)) cut.mine_later ∙ (list_any-append (gives_turn s.0) rest begun.since ∙ neither _ _ keeps_rest begun.goes_on) in
-    subst (λ evs. IsTrue (has_begun (state_after evs) n s)) joined
-    (only_itself_gives_back l n (cut.past ++ e ∷ []) cut.later (subst (IsLegal l) (sym joined) legal) (a_selection s) keeps there)
+    begun_since l n events s (begun.earlier ++ before) found (rest ++ begun.since) legal own first.opens
+    (list_any-append (gives_turn s.0) rest begun.since ∙ neither _ _ keeps_rest begun.goes_on)
 
 -- ---- closing
 

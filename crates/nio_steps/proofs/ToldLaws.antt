@@ -8,7 +8,7 @@ use Rattle.nio_event.specs.declared.act.Act.TheVariants.{Mark}
 use Rattle.nio_event.specs.declared.found.Mark.{Mark as KeyMark}
 use Rattle.nio_steps.proofs.EachLaws.{each_bind, each_if, each_over, each_run}
 use Rattle.nio_steps.proofs.SelectionAsks.{each_end}
-use Rattle.nio_steps.specs.Each.{Each}
+use Rattle.nio_steps.proofs.Each.{Each}
 use Rattle.nio_steps.specs.Laws.{MarksAsTold, MarksOnlyAsTold}
 use Rattle.nio_steps.specs.Plan.{reply, ◌>>=◌}
 use Rattle.nio_steps.specs.SelectCalls.{Selection, told_plan, told_bits, mark_entry, mark_told, mark_looked, mark_again, gains_nothing, end_selection, again}
@@ -60,7 +60,7 @@ module _ (selection : Selection) (pairs : List (ℕ × ℕ)) where
         λ gate. (
           tt,
           λ interrupted. each_if Asks (λ _. ⊤) _ (reply (again selection)) (end_selection selection _) (λ _. tt)
-              (λ _. each_end Asks (λ _. ⊤) selection _ (record { looks_free = λ _. tt; looks = λ _. tt; looks_interest = λ _. tt; removes = λ _. tt; puts = λ _. tt }) tt tt tt),
+              (λ _. each_end Asks (λ _. ⊤) selection _ (λ k d _. record { looks = tt; looks_interest = tt; removes = tt; puts = tt }) tt tt tt),
         ),
       ))
 

@@ -19,7 +19,7 @@ use Rattle.nio_steps.specs.Names.{selector, channel}
 use Rattle.nio_steps.specs.Perform.{perform}
 use Rattle.nio_steps.specs.PipeCalls.{PipeEnds, pipe_plan, try_read_plan, try_write_plan}
 use Rattle.nio_steps.specs.Plan.{Plan}
-use Rattle.nio_steps.specs.SelectCalls.{open_selector_plan, begin_plan, told_plan, leave_plan, shut_plan, finish_plan, keys_plan, selected_keys_plan, wakeup_plan, interrupt_plan, interrupted_plan, done, again, closing, already_closed, closed, busy, Selection, not_free}
+use Rattle.nio_steps.specs.SelectCalls.{open_selector_plan, try_begin_plan, told_plan, leave_plan, shut_plan, try_finish_plan, keys_plan, selected_keys_plan, wakeup_plan, interrupt_plan, interrupted_plan, done, again, closing, already_closed, closed, busy, Selection, not_free}
 use Rattle.nio_steps.specs.Steps.{pin, unpin}
 use Rattle.nio_steps.specs.Sweeps.{sweep, seek, sweep_over}
 use Rattle.nio_steps.specs.declared.refusal.BeginError.{BeginError}
@@ -31,7 +31,7 @@ use Rattle.nio_steps.specs.declared.refusal.PipeMakeError.{PipeMakeError}
 
 -- all that the cases compute with
 plans : Unit {0}
-unfolding not_free count_below pipe_plan try_read_plan try_write_plan open_channel_plan is_open_plan is_blocking_plan is_registered_plan key_for_plan set_blocking_plan register_plan close_channel_plan find_selector_plan find_channel_plan find_plan is_valid_plan interest_plan set_interest_plan interest_or_plan interest_and_plan ready_plan cancel_plan unselect_plan attach_plan attachment_plan open_selector_plan begin_plan told_plan leave_plan shut_plan finish_plan keys_plan selected_keys_plan wakeup_plan interrupt_plan interrupted_plan sweep seek sweep_over bits_below
+unfolding not_free count_below pipe_plan try_read_plan try_write_plan open_channel_plan is_open_plan is_blocking_plan is_registered_plan key_for_plan set_blocking_plan register_plan close_channel_plan find_selector_plan find_channel_plan find_plan is_valid_plan interest_plan set_interest_plan interest_or_plan interest_and_plan ready_plan cancel_plan unselect_plan attach_plan attachment_plan open_selector_plan try_begin_plan told_plan leave_plan shut_plan try_finish_plan keys_plan selected_keys_plan wakeup_plan interrupt_plan interrupted_plan sweep seek sweep_over bits_below
 plans = tt
 
 -- ---- names
@@ -79,7 +79,7 @@ abbrev no_key : Mode → Selection
 no_key mode = record { selector = s0; mode = mode; bound = 1; looked = []; kept = [] }
 
 abbrev Begins : CallerNo → Mode → ℕ → (State → Type 0) → State → Type 0
-Begins me mode ops = Says me (begin_plan s0 mode false) (Ok (sel mode ops))
+Begins me mode ops = Says me (try_begin_plan s0 mode false) (Ok (sel mode ops))
 
 -- ---- the cases
 
@@ -130,21 +130,21 @@ unfolding plans
 cancel_during_selection = (refl, (refl, (refl, (refl, (refl, (refl, (refl, (refl, (refl, tt)))))))))
 
 cancelled_key_until_selection : Setup Source 1 (Says t1 (cancel_plan k0) tt (Says t1 (key_for_plan c0 s0) (Some k0)
-    (Says t1 (register_plan limits s0 c0 1 0) (Err ChannelError.CancelledKey) (Says t1 (begin_plan s0 WithoutWaiting false) (Ok (no_key WithoutWaiting))
+    (Says t1 (register_plan limits s0 c0 1 0) (Err ChannelError.CancelledKey) (Says t1 (try_begin_plan s0 WithoutWaiting false) (Ok (no_key WithoutWaiting))
     (Says t1 (told_plan (no_key WithoutWaiting) [] false) (done (record { count = 0; why = Now })) (Says t1 (key_for_plan c0 s0) None
     (Says t1 (register_plan limits s0 c0 1 0) (Ok (k 0 1)) End))))))) opening
 unfolding plans
 cancelled_key_until_selection = (refl, (refl, (refl, (refl, (refl, (refl, (refl, (refl, (refl, (refl, (refl, tt)))))))))))
 
 closing_in_two_parts : Setup Source 1 (Begins t1 Wait 1 (Says t2 (shut_plan s0) closing (Says t1 (is_valid_plan k0) true
-    (Says t1 (told_plan (sel Wait 1) [] false) (done (record { count = 0; why = Closed })) (Says t2 (finish_plan s0) closed (Says t1 (is_valid_plan k0) false
-    (Says t1 (begin_plan s0 WithoutWaiting false) (Err BeginError.ClosedSelector) (Says t2 (wakeup_plan s0) tt (Says t2 (shut_plan s0) already_closed
+    (Says t1 (told_plan (sel Wait 1) [] false) (done (record { count = 0; why = Closed })) (Says t2 (try_finish_plan s0) closed (Says t1 (is_valid_plan k0) false
+    (Says t1 (try_begin_plan s0 WithoutWaiting false) (Err BeginError.ClosedSelector) (Says t2 (wakeup_plan s0) tt (Says t2 (shut_plan s0) already_closed
     (Says t1 (is_registered_plan limits c0) false End)))))))))) opening
 unfolding plans
 closing_in_two_parts = (refl, (refl, (refl, (refl, (refl, (refl, (refl, (refl, (refl, (refl, (refl, (refl, (refl, (refl, tt))))))))))))))
 
-busy_turn : Setup Source 1 (Begins t1 Wait 1 (Says t2 (begin_plan s0 WithoutWaiting false) (Err BeginError.Busy) (Says t2 (shut_plan s0) closing
-    (Says t2 (finish_plan s0) busy (Says t2 (begin_plan s0 WithoutWaiting false) (Err BeginError.ClosedSelector)
+busy_turn : Setup Source 1 (Begins t1 Wait 1 (Says t2 (try_begin_plan s0 WithoutWaiting false) (Err BeginError.Busy) (Says t2 (shut_plan s0) closing
+    (Says t2 (try_finish_plan s0) busy (Says t2 (try_begin_plan s0 WithoutWaiting false) (Err BeginError.ClosedSelector)
     (Says t1 (keys_plan s0 false) (Err ListError.ClosedSelector) End)))))) opening
 unfolding plans
 busy_turn = (refl, (refl, (refl, (refl, (refl, (refl, (refl, (refl, (refl, (refl, tt))))))))))
@@ -203,7 +203,7 @@ unfolding plans
 small_limits = (refl, (refl, (refl, (refl, (refl, (refl, (refl, (refl, (refl, (refl, (refl, (refl, (refl, (refl, tt))))))))))))))
 
 -- no memory for the looked list: the turn is free, and a wakeup stays
-no_memory : Setup Source 1 (Says t2 (wakeup_plan s0) tt (Says t1 (begin_plan s0 Wait true) (Err BeginError.Memory) (Begins t2 Wait 1
+no_memory : Setup Source 1 (Says t2 (wakeup_plan s0) tt (Says t1 (try_begin_plan s0 Wait true) (Err BeginError.Memory) (Begins t2 Wait 1
     (Says t2 (told_plan (sel Wait 1) [] false) (done (record { count = 0; why = Woken })) End)))) opening
 unfolding plans
 no_memory = (refl, (refl, (refl, (refl, (refl, (refl, (refl, (refl, tt))))))))
@@ -229,7 +229,7 @@ abbrev Registers : ChanNo → ℕ → Result KeyNo ChannelError → (State → T
 Registers c att = Says t1 (register_plan one_key s0 c 1 att)
 
 index_given_again : Says t1 (open_selector_plan one_key) (Ok s0) (Opens 0 (Opens 1 (Unblocks 0 (Unblocks 1 (Registers c0 5 (Ok k0)
-    (Says t1 (cancel_plan k0) tt (Says t1 (begin_plan s0 WithoutWaiting false) (Ok (no_key WithoutWaiting))
+    (Says t1 (cancel_plan k0) tt (Says t1 (try_begin_plan s0 WithoutWaiting false) (Ok (no_key WithoutWaiting))
     (Says t1 (told_plan (no_key WithoutWaiting) [] false) (done (record { count = 0; why = Now }))
     (Says t2 (pin s0 0) removed (Registers (channel 1) 0 (Err ChannelError.Full) (Says t2 (unpin s0 0) tt (Registers (channel 1) 0 (Ok (k 0 1))
     (Says t1 (is_valid_plan k0) false (Says t1 (attachment_plan k0) 0 (Says t1 (ready_plan (k 0 1)) (Ok 0) (Says t1 (find_plan one_key s0 0 0) (Some k0)

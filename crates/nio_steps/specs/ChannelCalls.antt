@@ -146,8 +146,8 @@ register_over s ops att (Some k) = under_pin s k.index (register_noted s ops att
 
 -- ---- registering: an index for a new key
 
--- an index that was free is claimed again for the channel, unless somebody has a pin on it; then it is free
--- again
+-- an index that was free is claimed again for the channel, unless somebody has a pin on it; then it is put back
+-- among the free ones
 abbrev pub claim_taken : SelNo → ChanNo → ℕ → Plan (Option KeyId)
 claim_taken s c i = do
   stage ← look_key s i
@@ -173,7 +173,7 @@ claim_in_word s c mark j = do
   word ← look_free s j
   seek_to 64 0 (claim_at_bit s c mark j word)
 
--- how many times 64 indexes there are below n, the last ones counted too
+-- the number of 64-bit words that cover the indexes below n
 abbrev pub words_below : ℕ → ℕ
 words_below n = (n + 63) / 64
 
@@ -230,7 +230,7 @@ register_again s c ops att k = do
   clear_mark s k.index
   make_claimed s c ops att k
 
--- with the index that was claimed again; where none was, with one that never had a key
+-- with an index that had a key before and was claimed again; where there is none, with one that never had a key
 abbrev pub register_next : Limits → SelNo → ChanNo → ℕ → ℕ → ℕ → Option KeyId → Plan (Result KeyNo ChannelError)
 register_next l s c ops att mark None = do
   claimed ← seek_to l.keys mark (claim_new s c)

@@ -32,8 +32,8 @@ find_channel_plan l n = if not (nat_lt n l.channels) then reply None else do
   found ← look_channel (channel n)
   reply (if found.made then Some (channel n) else None)
 
--- the same of a key, by its index and its serial: it has to have been published. So an index with a higher
--- serial had this key before
+-- the same of a key, by its index and its serial: it has to have been published. A lower serial than the one
+-- that the index has was published
 unfoldable pub find_plan : Limits → SelNo → ℕ → ℕ → Plan (Option KeyNo)
 find_plan l s i serial = if not (nat_lt i l.keys) then reply None else do
   stage ← look_key s i

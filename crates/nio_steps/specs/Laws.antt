@@ -7,7 +7,8 @@ use Rattle.nio_base.specs.declared.numbers.SelNo.{SelNo}
 use Rattle.nio_event.specs.Conditions.{has_begun, is_closer}
 use Rattle.nio_event.specs.Histories.{state_after, mine, event_of, IsLegal}
 use Rattle.nio_event.specs.OwnEvents.{count}
-use Rattle.nio_event.specs.Sets.{is_valid, was_claimed, was_published, was_cancelled, was_removed}
+use Rattle.nio_event.specs.Sets.{is_in_key_set, is_valid, was_claimed, was_published, was_cancelled, was_removed}
+use Rattle.nio_event.specs.State.{State}
 use Rattle.nio_event.specs.declared.act.Act.{Act}
 use Rattle.nio_event.specs.declared.act.Act.TheVariants.{LookKey, LookInterest, LookKeys, Mark}
 use Rattle.nio_event.specs.declared.event.Event.{Event}
@@ -17,7 +18,7 @@ use Rattle.nio_event.specs.declared.found.Stage.{Stage}
 use Rattle.nio_steps.specs.Perform.{perform}
 use Rattle.nio_steps.specs.Plan.{Plan}
 use Rattle.nio_steps.specs.Runs.{Completes}
-use Rattle.nio_steps.specs.SelectCalls.{Selection, Begins, Poll, Tells, ToldReply, done, again, told_bits, closed, finish_plan}
+use Rattle.nio_steps.specs.SelectCalls.{Selection, Begins, Poll, Tells, ToldReply, done, again, told_bits, closed, try_finish_plan}
 use Rattle.nio_steps.specs.Selections.{marks_on, IsBegun, IsClosing}
 use Rattle.nio_steps.specs.declared.looked.LookedKey.{LookedKey}
 use Rattle.nio_steps.specs.declared.selected.Selected.{Selected}
@@ -77,8 +78,8 @@ CancelledKeysGo =
     → i < selection.bound
     → IsTrue (was_removed ((state_after (before ++ later)).key s.0 i) serial) × All (λ entry. ¬ ((entry.index ≡ i) × (entry.serial ≡ serial))) selection.looked
 
--- Key i of selector s is marked with exactly its told bits, of which there are some: the bits that the
--- poller told of a looked key, met with the interest set that the selection found.
+-- Index i of selector s is marked with exactly its told bits, of which there are some: the bits that the
+-- poller told of the index of a looked key, met with the interest set that the selection found.
 pub record MarksAsTold (selection : Selection) (pairs : List (ℕ × ℕ)) (s : SelNo) (i told : ℕ) : Type 0 where
   pub entry : LookedKey
   pub looked : Contains selection.looked entry
@@ -87,13 +88,30 @@ pub record MarksAsTold (selection : Selection) (pairs : List (ℕ × ℕ)) (s : 
   pub bits : told ≡ told_bits pairs entry
   pub some : IsTrue (not (told == 0))
 
--- A key is selected only for what the poller told of it in that selection, and only where it was
--- looked at and looked for.
+-- A `told` marks an index only for what the poller told of it in that call, and only where the selection looked at
+-- it and looked for what was told.
 abbrev pub MarksOnlyAsTold : Type 0
 MarksOnlyAsTold =
     (selection : Selection) (poll : Poll) (acts : List Act) (answer : ToldReply) → Tells selection poll acts answer
     → (s : SelNo) (i told : ℕ) (from : KeyMark) (found : Result (Unit {0}) KeyMark)
     → Contains acts (Mark s i from told found) → MarksAsTold selection poll.pairs s i told
+
+-- Index i of selector s is marked as told, and has the key that the selection looked at there: that key is in the key
+-- set, with the serial and the channel of its entry.
+pub record MarksLookedKey (st : State) (selection : Selection) (pairs : List (ℕ × ℕ)) (s : SelNo) (i told : ℕ) : Type 0 where
+  pub as_told : MarksAsTold selection pairs s i told
+  pub in_set : IsTrue (is_in_key_set (st.key s.0 i) as_told.entry.serial)
+  pub channel : (st.key s.0 i).chan ≡ as_told.entry.channel
+
+-- In a legal history an index has the key that the selection looked at when a `told` marks it. What the caller did
+-- after `before` is this `told`, and the mark stands after `past`.
+abbrev pub MarksLookedKeys : Type 0
+MarksLookedKeys =
+    (l : Limits) (n : CallerNo) (before past later : List Event) (selection : Selection) (poll : Poll) (answer : ToldReply)
+    (s : SelNo) (i told : ℕ) (from : KeyMark) (found : Result (Unit {0}) KeyMark)
+    → let call = past ++ event_of n (Mark s i from told found) ∷ later in
+    IsLegal l (before ++ call) → IsBegun (mine n before) selection → Tells selection poll (mine n call) answer
+    → MarksLookedKey (state_after (before ++ past)) selection poll.pairs s i told
 
 -- A `told` that answers Again goes on with the selection that was begun, and has marked nothing.
 abbrev pub AgainGoesOn : Type 0
@@ -129,6 +147,6 @@ abbrev pub ClosedRemovesKeys : Type 0
 ClosedRemovesKeys =
     (l : Limits) (n : CallerNo) (before looked later : List Event) (s : SelNo) (mark i serial : ℕ)
     → let call = looked ++ event_of n (LookKeys s mark) ∷ later in
-    IsLegal l (before ++ call) → Completes (finish_plan s) (mine n call) closed
+    IsLegal l (before ++ call) → Completes (try_finish_plan s) (mine n call) closed
     → IsTrue (was_claimed ((state_after (before ++ looked)).key s.0 i) serial) → i < mark
     → IsTrue (was_removed ((state_after (before ++ call)).key s.0 i) serial)

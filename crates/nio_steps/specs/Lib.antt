@@ -13,4 +13,4 @@ pub mod PipeCalls
 pub mod Selections
 pub mod Laws
 pub mod PinLaws
-pub mod Each
+pub mod Bound

@@ -1,4 +1,4 @@
--- What numbers name.
+-- Selectors, channels and keys from their numbers.
 use Rattle.std.specs.Prelude.{ℕ}
 use Rattle.nio_base.specs.declared.numbers.ChanNo.{ChanNo}
 use Rattle.nio_base.specs.declared.numbers.KeyId.{KeyId}

@@ -10,50 +10,56 @@ use Rattle.nio_base.specs.declared.numbers.SelNo.{SelNo}
 use Rattle.nio_event.specs.OwnEvents.{keeps_pin}
 use Rattle.nio_event.specs.declared.act.Act.{Act}
 use Rattle.nio_event.specs.declared.found.Mode.{Mode}
-use Rattle.nio_steps.specs.ChannelCalls.{open_channel_plan, is_open_plan, is_blocking_plan, is_registered_plan, key_for_plan, set_blocking_plan, register_plan, close_channel_plan}
+use Rattle.nio_steps.specs.ChannelCalls.{open_channel_plan, is_open_plan, is_blocking_plan, is_registered_plan, key_for_plan, set_blocking_plan, register_plan, close_channel_plan, SetsBlocking, Registers}
 use Rattle.nio_steps.specs.KeyCalls.{find_selector_plan, find_channel_plan, find_plan, is_valid_plan, interest_plan, set_interest_plan, interest_or_plan, interest_and_plan, ready_plan, cancel_plan, unselect_plan, attach_plan, attachment_plan}
-use Rattle.nio_steps.specs.PipeCalls.{pipe_plan, try_read_plan, try_write_plan}
-use Rattle.nio_steps.specs.Plan.{Plan}
+use Rattle.nio_steps.specs.PipeCalls.{pipe_plan, try_read_plan, try_write_plan, Reads, Writes}
 use Rattle.nio_steps.specs.Runs.{Completes}
-use Rattle.nio_steps.specs.SelectCalls.{Selection, open_selector_plan, begin_plan, told_plan, leave_plan, shut_plan, finish_plan, keys_plan, selected_keys_plan, wakeup_plan, interrupt_plan, interrupted_plan}
+use Rattle.nio_steps.specs.SelectCalls.{Selection, open_selector_plan, try_begin_plan, told_plan, leave_plan, shut_plan, try_finish_plan, keys_plan, selected_keys_plan, wakeup_plan, interrupt_plan, interrupted_plan, Poll, Selects, Closes}
 
--- after a whole run of the plan the caller keeps no pin that it took in it
-abbrev pub GivesPinsBack : {R : Type 0} → Plan R → Type 0
-GivesPinsBack {R} plan = (acts : List Act) (answer : R) → Completes plan acts answer → (s i : ℕ) → IsFalse (keeps_pin s i acts)
+-- after a call of this shape the caller keeps no pin that it took in the call
+abbrev pub GivesPinsBack : {R : Type 0} → (List Act → R → Type 0) → Type 0
+GivesPinsBack {R} Shape = (acts : List Act) (answer : R) → Shape acts answer → (s i : ℕ) → IsFalse (keeps_pin s i acts)
 
 pub record PinsAreGivenBack : Type 0 where
-  pub find_selector : (l : Limits) (n : ℕ) → GivesPinsBack (find_selector_plan l n)
-  pub find_channel : (l : Limits) (n : ℕ) → GivesPinsBack (find_channel_plan l n)
-  pub find : (l : Limits) (s : SelNo) (i serial : ℕ) → GivesPinsBack (find_plan l s i serial)
-  pub is_valid : (k : KeyNo) → GivesPinsBack (is_valid_plan k)
-  pub interest : (k : KeyNo) → GivesPinsBack (interest_plan k)
-  pub set_interest : (k : KeyNo) (ops : ℕ) → GivesPinsBack (set_interest_plan k ops)
-  pub interest_or : (k : KeyNo) (ops : ℕ) → GivesPinsBack (interest_or_plan k ops)
-  pub interest_and : (k : KeyNo) (ops : ℕ) → GivesPinsBack (interest_and_plan k ops)
-  pub ready : (k : KeyNo) → GivesPinsBack (ready_plan k)
-  pub cancel : (k : KeyNo) → GivesPinsBack (cancel_plan k)
-  pub unselect : (k : KeyNo) → GivesPinsBack (unselect_plan k)
-  pub attach : (k : KeyNo) (att : ℕ) → GivesPinsBack (attach_plan k att)
-  pub attachment : (k : KeyNo) → GivesPinsBack (attachment_plan k)
-  pub open_channel : (l : Limits) (kind : Kind) → GivesPinsBack (open_channel_plan l kind)
-  pub is_open : (c : ChanNo) → GivesPinsBack (is_open_plan c)
-  pub is_blocking : (c : ChanNo) → GivesPinsBack (is_blocking_plan c)
-  pub is_registered : (l : Limits) (c : ChanNo) → GivesPinsBack (is_registered_plan l c)
-  pub key_for : (c : ChanNo) (s : SelNo) → GivesPinsBack (key_for_plan c s)
-  pub set_blocking : (l : Limits) (c : ChanNo) (on : Bool) → GivesPinsBack (set_blocking_plan l c on)
-  pub register : (l : Limits) (s : SelNo) (c : ChanNo) (ops att : ℕ) → GivesPinsBack (register_plan l s c ops att)
-  pub close_channel : (l : Limits) (c : ChanNo) → GivesPinsBack (close_channel_plan l c)
-  pub open_selector : (l : Limits) → GivesPinsBack (open_selector_plan l)
-  pub try_begin : (s : SelNo) (mode : Mode) (lacks : Bool) → GivesPinsBack (begin_plan s mode lacks)
-  pub told : (selection : Selection) (pairs : List (ℕ × ℕ)) (elapsed : Bool) → GivesPinsBack (told_plan selection pairs elapsed)
-  pub leave : (selection : Selection) → GivesPinsBack (leave_plan selection)
-  pub shut : (s : SelNo) → GivesPinsBack (shut_plan s)
-  pub try_finish : (s : SelNo) → GivesPinsBack (finish_plan s)
-  pub keys : (s : SelNo) (lacks : Bool) → GivesPinsBack (keys_plan s lacks)
-  pub selected_keys : (s : SelNo) (lacks : Bool) → GivesPinsBack (selected_keys_plan s lacks)
-  pub wakeup : (s : SelNo) → GivesPinsBack (wakeup_plan s)
-  pub interrupt : (target : CallerNo) → GivesPinsBack (interrupt_plan target)
-  pub interrupted : GivesPinsBack interrupted_plan
-  pub pipe : (l : Limits) (lacks : Bool) → GivesPinsBack (pipe_plan l lacks)
-  pub try_read : (l : Limits) (source : ChanNo) → GivesPinsBack (try_read_plan l source)
-  pub try_write : (l : Limits) (source sink : ChanNo) → GivesPinsBack (try_write_plan l source sink)
+  pub find_selector : (l : Limits) (n : ℕ) → GivesPinsBack (Completes (find_selector_plan l n))
+  pub find_channel : (l : Limits) (n : ℕ) → GivesPinsBack (Completes (find_channel_plan l n))
+  pub find : (l : Limits) (s : SelNo) (i serial : ℕ) → GivesPinsBack (Completes (find_plan l s i serial))
+  pub is_valid : (k : KeyNo) → GivesPinsBack (Completes (is_valid_plan k))
+  pub interest : (k : KeyNo) → GivesPinsBack (Completes (interest_plan k))
+  pub set_interest : (k : KeyNo) (ops : ℕ) → GivesPinsBack (Completes (set_interest_plan k ops))
+  pub interest_or : (k : KeyNo) (ops : ℕ) → GivesPinsBack (Completes (interest_or_plan k ops))
+  pub interest_and : (k : KeyNo) (ops : ℕ) → GivesPinsBack (Completes (interest_and_plan k ops))
+  pub ready : (k : KeyNo) → GivesPinsBack (Completes (ready_plan k))
+  pub cancel : (k : KeyNo) → GivesPinsBack (Completes (cancel_plan k))
+  pub unselect : (k : KeyNo) → GivesPinsBack (Completes (unselect_plan k))
+  pub attach : (k : KeyNo) (att : ℕ) → GivesPinsBack (Completes (attach_plan k att))
+  pub attachment : (k : KeyNo) → GivesPinsBack (Completes (attachment_plan k))
+  pub open_channel : (l : Limits) (kind : Kind) → GivesPinsBack (Completes (open_channel_plan l kind))
+  pub is_open : (c : ChanNo) → GivesPinsBack (Completes (is_open_plan c))
+  pub is_blocking : (c : ChanNo) → GivesPinsBack (Completes (is_blocking_plan c))
+  pub is_registered : (l : Limits) (c : ChanNo) → GivesPinsBack (Completes (is_registered_plan l c))
+  pub key_for : (c : ChanNo) (s : SelNo) → GivesPinsBack (Completes (key_for_plan c s))
+  pub try_set_blocking : (l : Limits) (c : ChanNo) (on : Bool) → GivesPinsBack (Completes (set_blocking_plan l c on))
+  pub try_register : (l : Limits) (s : SelNo) (c : ChanNo) (ops att : ℕ) → GivesPinsBack (Completes (register_plan l s c ops att))
+  pub close_channel : (l : Limits) (c : ChanNo) → GivesPinsBack (Completes (close_channel_plan l c))
+  pub open_selector : (l : Limits) → GivesPinsBack (Completes (open_selector_plan l))
+  pub try_begin : (s : SelNo) (mode : Mode) (lacks : Bool) → GivesPinsBack (Completes (try_begin_plan s mode lacks))
+  pub told : (selection : Selection) (pairs : List (ℕ × ℕ)) (elapsed : Bool) → GivesPinsBack (Completes (told_plan selection pairs elapsed))
+  pub leave : (selection : Selection) → GivesPinsBack (Completes (leave_plan selection))
+  pub shut : (s : SelNo) → GivesPinsBack (Completes (shut_plan s))
+  pub try_finish : (s : SelNo) → GivesPinsBack (Completes (try_finish_plan s))
+  pub keys : (s : SelNo) (lacks : Bool) → GivesPinsBack (Completes (keys_plan s lacks))
+  pub selected_keys : (s : SelNo) (lacks : Bool) → GivesPinsBack (Completes (selected_keys_plan s lacks))
+  pub wakeup : (s : SelNo) → GivesPinsBack (Completes (wakeup_plan s))
+  pub interrupt : (target : CallerNo) → GivesPinsBack (Completes (interrupt_plan target))
+  pub interrupted : GivesPinsBack (Completes interrupted_plan)
+  pub pipe : (l : Limits) (lacks : Bool) → GivesPinsBack (Completes (pipe_plan l lacks))
+  pub try_read : (l : Limits) (source : ChanNo) → GivesPinsBack (Completes (try_read_plan l source))
+  pub try_write : (l : Limits) (source sink : ChanNo) → GivesPinsBack (Completes (try_write_plan l source sink))
+  -- the calls that wait
+  pub set_blocking : (l : Limits) (c : ChanNo) (on : Bool) → GivesPinsBack (SetsBlocking l c on)
+  pub register : (l : Limits) (s : SelNo) (c : ChanNo) (ops att : ℕ) → GivesPinsBack (Registers l s c ops att)
+  pub select : (s : SelNo) (mode : Mode) (polls : List Poll) → GivesPinsBack (Selects s mode polls)
+  pub close : (s : SelNo) → GivesPinsBack (Closes s)
+  pub read : (l : Limits) (source : ChanNo) (none : Bool) → GivesPinsBack (Reads l source none)
+  pub write : (l : Limits) (source sink : ChanNo) (none : Bool) → GivesPinsBack (Writes l source sink none)

@@ -23,16 +23,34 @@ pub record PipeEnds : Type 0 where
   pub source : ChanNo
   pub sink : ChanNo
 
--- a sink for the source; where there is none, the source is closed
-abbrev pub with_sink : Limits → ChanNo → Result ChanNo ChannelError → Plan (Result PipeEnds PipeMakeError)
-with_sink l source (Ok sink) = reply (Ok (record { source = source; sink = sink }))
-with_sink l source (Err refusal) = do
+-- the source is closed where no sink was made for it
+abbrev pub without_sink : Limits → ChanNo → Plan (Result PipeEnds PipeMakeError)
+without_sink l source = do
   close_channel_plan l source
   reply (Err PipeMakeError.ChannelsSpent)
 
+-- a sink for the source. Opening a channel is refused with `ChannelsSpent` alone
+abbrev pub with_sink : Limits → ChanNo → Result ChanNo ChannelError → Plan (Result PipeEnds PipeMakeError)
+with_sink l source (Ok sink) = reply (Ok (record { source = source; sink = sink }))
+with_sink l source (Err ChannelError.ChannelsSpent) = without_sink l source
+with_sink l source (Err ChannelError.IllegalOps) = without_sink l source
+with_sink l source (Err ChannelError.ClosedChannel) = without_sink l source
+with_sink l source (Err ChannelError.Busy) = without_sink l source
+with_sink l source (Err ChannelError.IllegalBlockingMode) = without_sink l source
+with_sink l source (Err ChannelError.CancelledKey) = without_sink l source
+with_sink l source (Err ChannelError.ClosedSelector) = without_sink l source
+with_sink l source (Err ChannelError.Full) = without_sink l source
+
 abbrev pub with_source : Limits → Result ChanNo ChannelError → Plan (Result PipeEnds PipeMakeError)
 with_source l (Ok source) = open_channel_plan l Sink >>= with_sink l source
-with_source l (Err refusal) = reply (Err PipeMakeError.ChannelsSpent)
+with_source l (Err ChannelError.ChannelsSpent) = reply (Err PipeMakeError.ChannelsSpent)
+with_source l (Err ChannelError.IllegalOps) = reply (Err PipeMakeError.ChannelsSpent)
+with_source l (Err ChannelError.ClosedChannel) = reply (Err PipeMakeError.ChannelsSpent)
+with_source l (Err ChannelError.Busy) = reply (Err PipeMakeError.ChannelsSpent)
+with_source l (Err ChannelError.IllegalBlockingMode) = reply (Err PipeMakeError.ChannelsSpent)
+with_source l (Err ChannelError.CancelledKey) = reply (Err PipeMakeError.ChannelsSpent)
+with_source l (Err ChannelError.ClosedSelector) = reply (Err PipeMakeError.ChannelsSpent)
+with_source l (Err ChannelError.Full) = reply (Err PipeMakeError.ChannelsSpent)
 
 -- `lacks` says whether there is no memory for the pipe
 unfoldable pub pipe_plan : Limits → Bool → Plan (Result PipeEnds PipeMakeError)
@@ -78,11 +96,14 @@ try_write_plan l source sink = look_channel sink >>= if_open l sink >>= if_unbro
 
 -- ---- calls that wait
 
--- A run of such a call is given whether there was nothing to read, or no room. In blocking mode it is then
--- made again.
+-- A run of such a call is given whether there were no bytes to read, or no room to write. In blocking mode it is
+-- then made again.
 abbrev pub waits_for_bytes : Bool → Result Bool PipeError → Bool
 waits_for_bytes none (Ok blocking) = none && blocking
-waits_for_bytes none (Err refusal) = false
+waits_for_bytes none (Err ClosedChannel) = false
+waits_for_bytes none (Err ClosedByInterrupt) = false
+waits_for_bytes none (Err AsynchronousClose) = false
+waits_for_bytes none (Err BrokenPipe) = false
 
 -- A channel that was found closed after it was found open was closed by another caller meanwhile.
 abbrev pub as_waited : {X : Type 0} → List X → Result Bool PipeError → Result Bool PipeError
@@ -93,12 +114,12 @@ as_waited (run ∷ later) (Err ClosedByInterrupt) = Err ClosedByInterrupt
 as_waited (run ∷ later) (Err AsynchronousClose) = Err AsynchronousClose
 as_waited (run ∷ later) (Err BrokenPipe) = Err BrokenPipe
 
--- reading or writing until there are bytes or room, with this plan; `none` says whether there were none at
--- the end
+-- reading or writing until there are bytes or room, with this plan; `none` says whether the last run found no
+-- bytes, or no room
 pub record Waits (plan : Plan (Result Bool PipeError)) (none : Bool) (acts : List Act) (answer : Result Bool PipeError) : Type 0 where
   pub found : Result Bool PipeError
   pub runs : Repeats (λ (_ : Bool). Completes plan) waits_for_bytes acts found
-  pub none_is : runs.last.given ≡ none
+  pub found_none : runs.last.given ≡ none
   pub answer_is : answer ≡ as_waited runs.tries.runs found
 
 abbrev pub Reads : Limits → ChanNo → Bool → List Act → Result Bool PipeError → Type 0

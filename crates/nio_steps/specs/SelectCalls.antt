@@ -36,14 +36,14 @@ makes_selector s = do
   was ← make_selector s
   reply (if was then None else Some s)
 
-abbrev pub opened : Option SelNo → Result SelNo SelectorsSpent
-opened None = Err (record {})
-opened (Some s) = Ok s
+abbrev pub opened_selector : Option SelNo → Result SelNo SelectorsSpent
+opened_selector None = Err (record {})
+opened_selector (Some s) = Ok s
 
 unfoldable pub open_selector_plan : Limits → Plan (Result SelNo SelectorsSpent)
 open_selector_plan l = do
   made ← seek_to l.selectors 0 (λ n. makes_selector (selector n))
-  reply (opened made)
+  reply (opened_selector made)
 
 -- ---- beginning a selection
 
@@ -99,7 +99,8 @@ look_valid s i stage found = do
   ops ← look_interest s i
   reply (record { looked = found.looked ++ looked_key i stage ops ∷ []; kept = found.kept ++ i ∷ [] })
 
--- how a selection goes on after its look at a listed index
+-- How a selection goes on after its look at a listed index. An index whose key is neither valid nor removed is
+-- kept: its key isn't published yet, and may be published and cancelled before the selection ends.
 abbrev pub look_on : SelNo → ℕ → LookedOver → Stage → Plan LookedOver
 look_on s i found stage =
     if in_cancelled_set stage then (remove_cancelled s i stage >> reply found) else
@@ -131,8 +132,8 @@ begin_open s mode lacks = do
   if is_some holder then reply (Err BeginError.Busy) else begin_with_turn s mode lacks
 
 -- `lacks` says whether there is no memory for the lists
-unfoldable pub begin_plan : SelNo → Mode → Bool → Plan (Result Selection BeginError)
-begin_plan s mode lacks = do
+unfoldable pub try_begin_plan : SelNo → Mode → Bool → Plan (Result Selection BeginError)
+try_begin_plan s mode lacks = do
   gate ← look_gate s
   if gate.shut then reply (Err BeginError.ClosedSelector) else begin_open s mode lacks
 
@@ -145,7 +146,7 @@ begin_lacks_memory (Err BeginError.Memory) = true
 
 -- the call with this answer
 abbrev pub Begins : SelNo → Mode → List Act → Result Selection BeginError → Type 0
-Begins s mode acts answer = Completes (begin_plan s mode (begin_lacks_memory answer)) acts answer
+Begins s mode acts answer = Completes (try_begin_plan s mode (begin_lacks_memory answer)) acts answer
 
 -- ---- telling
 
@@ -275,8 +276,8 @@ remove_keys s = do
   sweep_to bound 0 (λ i _. remove_key s i) tt
   reply closed
 
-unfoldable pub finish_plan : SelNo → Plan FinishReply
-finish_plan s = do
+unfoldable pub try_finish_plan : SelNo → Plan FinishReply
+try_finish_plan s = do
   holder ← enter s
   if is_some holder then reply busy else remove_keys s
 
@@ -356,11 +357,11 @@ interrupted_plan = take_interrupt
 -- ---- calls that wait: selecting
 
 -- another caller has the turn of the selector
-abbrev pub finds_turn_taken : {A : Type 0} → Result A BeginError → Bool
-finds_turn_taken (Ok selection) = false
-finds_turn_taken (Err BeginError.ClosedSelector) = false
-finds_turn_taken (Err BeginError.Busy) = true
-finds_turn_taken (Err BeginError.Memory) = false
+abbrev pub begin_finds_busy : {A : Type 0} → Result A BeginError → Bool
+begin_finds_busy (Ok selection) = false
+begin_finds_busy (Err BeginError.ClosedSelector) = false
+begin_finds_busy (Err BeginError.Busy) = true
+begin_finds_busy (Err BeginError.Memory) = false
 
 -- what a poller told of a selection's keys, and whether it said that the time is over
 pub record Poll : Type 0 where
@@ -371,13 +372,14 @@ pub record Poll : Type 0 where
 abbrev pub Tells : Selection → Poll → List Act → ToldReply → Type 0
 Tells selection poll acts answer = Completes (told_plan selection poll.pairs poll.elapsed) acts answer
 
-abbrev pub selects_on : Poll → ToldReply → Bool
-selects_on poll (done answer) = false
-selects_on poll (again selection) = true
+-- the selection goes on after such an answer
+abbrev pub goes_on_after : Poll → ToldReply → Bool
+goes_on_after poll (done answer) = false
+goes_on_after poll (again selection) = true
 
 -- the selection is told the answer of each poll, until it is over
 pub record TellsAll (selection : Selection) (polls : List Poll) (acts : List Act) (answer : Selected) : Type 0 where
-  pub tells : Repeats (Tells selection) selects_on acts (done answer)
+  pub tells : Repeats (Tells selection) goes_on_after acts (done answer)
   pub polls_are : polls ≡ map (λ run. run.given) (tells.tries.runs ++ tells.last ∷ [])
 
 -- the selection is told the answers of these polls, none of which ends it, and is left: the next poll failed
@@ -385,7 +387,7 @@ pub record TellsAndLeaves (selection : Selection) (polls : List Poll) (acts : Li
   pub told : List Act
   pub leaves : List Act
   pub parts : acts ≡ told ++ leaves
-  pub tells : Tries (Tells selection) selects_on told
+  pub tells : Tries (Tells selection) goes_on_after told
   pub polls_are : polls ≡ map (λ run. run.given) tells.runs
   pub left : Completes (leave_plan selection) leaves tt
 
@@ -405,17 +407,18 @@ SelectsRest polls (Err refusal) acts answer = (acts ≡ []) × (polls ≡ []) ×
 -- A whole selection, with these polls that the poller answered: it begins once nobody else has the turn, and
 -- then polls and is told until it is over.
 abbrev pub Selects : SelNo → Mode → List Poll → List Act → SelectReply → Type 0
-Selects s mode polls = Then (Retries (Begins s mode) finds_turn_taken) (SelectsRest polls)
+Selects s mode polls = Then (Retries (Begins s mode) begin_finds_busy) (SelectsRest polls)
 
 -- ---- calls that wait: closing
 
-abbrev pub finds_turn_held : FinishReply → Bool
-finds_turn_held closed = false
-finds_turn_held busy = true
+-- another caller has the turn of the selector
+abbrev pub finish_finds_busy : FinishReply → Bool
+finish_finds_busy closed = false
+finish_finds_busy busy = true
 
 -- a closing that this call began is finished once nobody selects
 abbrev pub ClosesRest : SelNo → ShutReply → List Act → Bool → Type 0
-ClosesRest s closing acts answer = (answer ≡ true) × Retries (Completes (finish_plan s)) finds_turn_held acts closed
+ClosesRest s closing acts answer = (answer ≡ true) × Retries (Completes (try_finish_plan s)) finish_finds_busy acts closed
 ClosesRest s already_closed acts answer = (answer ≡ false) × (acts ≡ [])
 
 -- closing a selector: whether this call shut it

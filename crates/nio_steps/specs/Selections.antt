@@ -73,6 +73,6 @@ pub record IsBegun (own : List Act) (selection : Selection) : Type 0 where
   pub unmarked : has (marks_on selection.selector.0) since ≡ false
   pub unremoved : has (removes_on selection.selector.0) since ≡ false
 
--- by `own` the caller shut the selector, and so is to finish closing it
+-- the caller shut the selector; it may finish closing it, also again
 abbrev pub IsClosing : List Act → SelNo → Type 0
 IsClosing own s = Contains own (ShutBit s false)

@@ -30,7 +30,7 @@ acts_of [] = []
 acts_of (run ∷ later) = run.acts ++ acts_of later
 
 -- The acts are runs of a call, one after the other, each of which answers that the call is to be made again.
--- `Shape` is that of a run that is given such a thing.
+-- `Shape x` is the shape of a run that is given x.
 pub record Tries {X R : Type 0} (Shape : X → List Act → R → Type 0) (goes_on : X → R → Bool) (acts : List Act) : Type 0 where
   pub runs : List (Run X R)
   pub parts : acts ≡ acts_of runs

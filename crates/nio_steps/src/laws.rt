@@ -1,6 +1,7 @@
 //! What the plans promise, as the contracts of functions that do nothing.
-ghost use Rattle.nio_steps.specs.Laws.{RunsArePerformed, BeginsSelection, ListsInOrder, LooksAtValidKeys, CancelledKeysGo, MarksOnlyAsTold, AgainGoesOn, CountsSelection, SelectionsStand, ClosingsStand, ClosedRemovesKeys};
+ghost use Rattle.nio_steps.specs.Laws.{RunsArePerformed, BeginsSelection, ListsInOrder, LooksAtValidKeys, CancelledKeysGo, MarksOnlyAsTold, MarksLookedKeys, AgainGoesOn, CountsSelection, SelectionsStand, ClosingsStand, ClosedRemovesKeys};
 ghost use Rattle.nio_steps.specs.PinLaws.{PinsAreGivenBack};
+ghost use Rattle.nio_steps.specs.Bound.{SelectionIsBounded};
 
 /// A call between whose steps nobody comes answers, and leaves, what its plan says of the state
 /// before it.
@@ -9,9 +10,9 @@ pub fn run_law<R>()
 {}
 
 /// What `try_begin` answers is the selection that it began, until the turn is given back or a key
-/// is marked. Its lists are in rising order. Each looked key was found valid by a look of that call, with
-/// the channel, the serial and the interest set of its entry. A key with an index below the bound that was
-/// cancelled before is removed, and isn't looked at.
+/// is marked or removed. Its lists are in rising order. Each looked key was found valid by a look of that
+/// call, with the channel, the serial and the interest set of its entry. A key with an index below the bound
+/// that was cancelled before is removed, and isn't in the looked list.
 pub fn begin_law()
     ensures begins { BeginsSelection }
     ensures in_order { ListsInOrder }
@@ -19,10 +20,11 @@ pub fn begin_law()
     ensures cancelled { CancelledKeysGo }
 {}
 
-/// A selection updates keys only for what the poller told of them, counts each update, and ends with
-/// the first `told` that makes one.
+/// A selection marks an index only for what the poller told of it, and the index has the key that the selection
+/// looked at then. It counts each mark that succeeded, and ends with the first `told` that makes one.
 pub fn told_law()
     ensures only_as_told { MarksOnlyAsTold }
+    ensures looked { MarksLookedKeys }
     ensures goes_on { AgainGoesOn }
     ensures counts { CountsSelection }
 {}
@@ -40,7 +42,14 @@ pub fn close_law()
     ensures { ClosedRemovesKeys }
 {}
 
-/// Each call gives back the pins that it takes.
+/// Each call gives back the pins that it takes, and so does each call that waits.
 pub fn given_back_law()
     ensures { PinsAreGivenBack }
+{}
+
+/// A selection makes a bounded number of steps, whatever other callers do meanwhile: at most 8, one for each
+/// 64 indexes below its bound, 6 for each index that it found not free, and one for each time that
+/// anybody cancels or unselects a key.
+pub fn bound_law()
+    ensures { SelectionIsBounded }
 {}

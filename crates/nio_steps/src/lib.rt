@@ -8,13 +8,15 @@
 //! run of its plan, and by what other callers did. `specs/Laws` has what follows from the plans alone.
 #![tactic(auto)]
 
-pub use laws::{begin_law, close_law, given_back_law, progress_law, run_law, told_law};
+pub use found::{has_bit, supports};
+pub use laws::{begin_law, bound_law, close_law, given_back_law, progress_law, run_law, told_law};
 pub use looked::LookedKey;
 pub use refusal::{
     BeginError, ChannelError, KeyError, ListError, PipeError, PipeMakeError, SelectorsSpent,
 };
 pub use selected::Selected;
 
+mod found;
 mod laws;
 mod looked;
 mod refusal;

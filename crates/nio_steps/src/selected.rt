@@ -1,8 +1,8 @@
 //! What a selection answers.
 use nio_event::Why;
 
-/// How many keys a selection updated, and why it ended. A key counts where it was added to the
-/// selected set or its ready set gained a bit.
+/// How many marks of keys succeeded in a selection, and why it ended. A mark adds the key to the
+/// selected set and updates its ready set.
 #[derive(Clone, Copy, Debug, PartialEq, Eq)]
 pub struct Selected {
     pub count: u32,

@@ -1,7 +1,6 @@
 -- How many numbers pass a test that is changed at one number, and how many pins are on an index.
-use Rattle.std.proofs.Common.{◌≡◌, ◌≢◌, ℕ, zero, suc, ◌+◌, ◌<◌, ◌≤◌, ◌==◌, Bool, true, false, cond, ◌||◌, not, refl, ap, sym, ◌∙◌, subst, arith, eqb-true, ne_eqb}
+use Rattle.std.proofs.Common.{◌≡◌, ◌≢◌, ℕ, zero, suc, ◌+◌, ◌<◌, ◌≤◌, ◌==◌, Bool, true, false, cond, ◌||◌, not, refl, ap, arith, eqb-true, ne_eqb}
 use Rattle.std.proofs.lemmas.Bool.{eqb-false}
-use Rattle.nio_event.proofs.Put.{put-same}
 use Rattle.nio_event.specs.Answers.{count_below}
 use Rattle.nio_event.specs.State.{put}
 use Rattle.nio_words.proofs.Fields.{bit-lt}

@@ -1,16 +1,15 @@
 -- The kinds of step on a word of free indexes do to it what they do to the free indexes.
-use Rattle.std.proofs.Common.{◌≡◌, ◌≢◌, ℕ, zero, suc, ◌+◌, ◌*◌, ◌/◌, ◌%◌, ◌^◌, ◌<◌, ◌==◌, Bool, true, false, cond, ◌&&◌, refl, ap, sym, ◌∙◌, subst, arith, eqb-true, eq-eqb, ne_eqb}
-use Rattle.std.specs.Prelude.{bit_and, bit_or}
+use Rattle.std.proofs.Common.{◌≡◌, ◌≢◌, ℕ, ◌+◌, ◌*◌, ◌/◌, ◌%◌, ◌<◌, ◌==◌, Bool, true, false, cond, ◌&&◌, refl, ap, sym, ◌∙◌, arith, eqb-true, eq-eqb, ne_eqb}
 use Rattle.std.specs.Int.{bit_not, w64}
 use Rattle.std.proofs.lemmas.Bool.{eqb-false, and_from}
 use Rattle.std.proofs.lemmas.Nat.{or_lt, and_le_l}
 use Rattle.nio_base.specs.declared.limits.Limits.{Limits}
 use Rattle.nio_base.specs.declared.numbers.CallerNo.{CallerNo}
 use Rattle.nio_base.specs.declared.numbers.SelNo.{SelNo}
-use Rattle.nio_event.specs.Answers.{bits_below, free_word}
+use Rattle.nio_event.specs.Answers.{bits_below}
 use Rattle.nio_event.specs.Conditions.{IsKey, IsSelector}
 use Rattle.nio_event.specs.Questions.{flag}
-use Rattle.nio_event.specs.State.{State, put, put_at}
+use Rattle.nio_event.specs.State.{put, put_at}
 use Rattle.nio_event.specs.declared.act.Act.TheVariants.{LookFree, PutFree, TakeFree}
 use Rattle.nio_words.proofs.Bits.{reads_bit, sets_bit, clears_bit, one_bit-lt, bits_below-same}
 use Rattle.nio_words.specs.Decodings.{is_set}

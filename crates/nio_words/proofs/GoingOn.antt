@@ -1,12 +1,11 @@
 -- How a caller goes on from one pass to a later one, and what stands meanwhile: the laws of histories, said
 -- of passes.
-use Rattle.std.proofs.Common.{◌≡◌, Bool, true, false, List, [], ◌∷◌, ◌++◌, append_assoc, refl, ap, sym, ◌∙◌, subst}
+use Rattle.std.proofs.Common.{◌≡◌, Bool, true, false, List, [], ◌∷◌, ◌++◌, append_assoc, ap, sym, ◌∙◌, subst}
 use Rattle.std.proofs.lemmas.Bool.{or_parts}
 use Rattle.std.proofs.lemmas.List.{append-nil, append_cancel_left}
 use Rattle.std.proofs.lemmas.List.Folds.{list_any-append}
 use Rattle.std.specs.Option.{ForSome}
 use Rattle.nio_base.specs.declared.numbers.CallerNo.{CallerNo}
-use Rattle.nio_base.specs.declared.numbers.SelNo.{SelNo}
 use Rattle.nio_event.proofs.Holds.{mode_stays, noted_stays, found_noted_stays, outside_stays, found_clear_stays}
 use Rattle.nio_event.proofs.Legal.{legal_beginning}
 use Rattle.nio_event.proofs.PinLaws.{pinned_keys_stay}
@@ -23,7 +22,7 @@ use Rattle.nio_event.specs.State.{State}
 use Rattle.nio_event.specs.declared.act.Act.{Act}
 use Rattle.nio_event.specs.declared.event.Event.{Event}
 use Rattle.nio_words.proofs.Beginnings.{prefix_trans, mine-append}
-use Rattle.nio_words.specs.Laws.{IsLater, GoesOn, Keeps, KeepsBetween, CallsGoOn, DrawsGoOn, SplitsGoOn, JoinsGoOn, GoingOnChains, HistoriesGoOn, FactsStand, InvalidKeysStand, OwnStands, PinnedKeysStand, ModeStands, NotedStands, FoundNotedStands, OutsideStands, FoundClearStands, SelectsAlone, KeySetStands, SelectedKeysStand, MarksStand, WakeupStands}
+use Rattle.nio_words.specs.Laws.{IsLater, GoesOn, KeepsBetween, CallsGoOn, DrawsGoOn, SplitsGoOn, JoinsGoOn, GoingOnChains, HistoriesGoOn, FactsStand, InvalidKeysStand, OwnStands, PinnedKeysStand, ModeStands, NotedStands, FoundNotedStands, OutsideStands, FoundClearStands, SelectsAlone, KeySetStands, SelectedKeysStand, MarksStand, WakeupStands}
 use Rattle.nio_words.specs.Passes.{seen, state_seen, acts_seen, IsPassOf}
 use Rattle.nio_words.specs.declared.words.Pass.{Pass}
 use Rattle.nio_words.specs.declared.words.Words.{Words}

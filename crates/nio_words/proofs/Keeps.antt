@@ -57,9 +57,6 @@ module _ (l : Limits) (s : Table (Unit {0}) View) (kept : IsKept l s) (id : ℕ)
   pub its_own : (j : ℕ) (u : View) → get_elem? s.views j ≡ some u → j ≡ id → u ≡ v
   its_own j u at e = some-injective u v (sym at ∙ (ap (get_elem? s.views) e ∙ here))
 
-  pub knows_here : Knows l kept.history v
-  knows_here = kept.each id v here unspent
-
   -- a number that the seat has is nowhere else
   pub held_here : (n : ℕ) → HasBit v.numbers n → Elsewhere s.views id n
   held_here n has j u ne at has' = ne (kept.one_seat j id u v n at here has' has)

@@ -27,6 +27,5 @@ pub mod Selectors
 pub mod Whole
 pub mod Following
 pub mod GoingOn
-pub mod Seen
 pub mod Views
 pub mod Pins

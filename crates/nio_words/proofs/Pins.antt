@@ -17,7 +17,7 @@ use Rattle.nio_event.specs.PassViews.{PassView, known, ActsClause, HasNoPin}
 use Rattle.nio_event.specs.declared.act.Act.{Act}
 use Rattle.nio_event.specs.declared.act.Act.TheVariants.{Claim, Pin, Unpin, ClaimAgain}
 use Rattle.nio_event.specs.declared.found.Stage.{Stage}
-use Rattle.nio_words.proofs.Seen.{still_ready}
+use Rattle.nio_words.proofs.Stepping.{still_ready}
 use Rattle.nio_words.proofs.Views.{finds_drawn, step_acts}
 use Rattle.nio_words.specs.Passes.{seen, state_seen, limits_of}
 use Rattle.nio_words.specs.Steps.{Steps}

@@ -21,7 +21,7 @@ use Rattle.nio_words.proofs.Beginnings.{same_number}
 use Rattle.nio_words.proofs.Keeps.{AddsTo, added, held_here}
 use Rattle.nio_words.specs.Encodings.{encoding, bound, IsProper}
 use Rattle.nio_words.specs.Instructions.{applied}
-use Rattle.nio_words.specs.Passes.{view_of, seen, Holds, IsPassOf}
+use Rattle.nio_words.specs.Passes.{view_of, seen, Holds, IsPassOf, IsReady}
 use Rattle.nio_words.specs.Places.{place}
 use Rattle.nio_words.specs.Rule.{HasBit, IsKept}
 use Rattle.nio_words.specs.Telling.{Adds}
@@ -124,3 +124,7 @@ step_taken w p q me act pass table adds =
       numbers = ap (λ x. x.numbers) adds.after;
       only = λ alone. (ap (λ x. x.alone) adds.after ∙ alone, ap (λ x. x.seen) adds.after ∙ ap (λ es. es ++ event_of me act ∷ []) (adds.whole alone));
     }
+
+-- a step leaves its pass ready for whom it was ready for
+pub still_ready : (w : Words) (p q : Pass) (me n : CallerNo) (act : Act) → Steps w p q me act → IsReady w p n → IsReady w q n
+still_ready w p q me n act steps ready = record { pass = steps.pass; number = subst (λ (k : ℕ). HasBit k n.0) (sym steps.numbers) ready.number }

@@ -1,26 +1,28 @@
 -- From the steps on a table to the acts that calls are made of.
-use Rattle.std.proofs.Common.{◌≡◌, ℕ, ◌<◌, ◌==◌, ◌||◌, Bool, true, false, List, [], ◌∷◌, ◌++◌, refl, ap, sym, ◌∙◌, subst, arith, append_assoc, eqb-true}
+use Rattle.std.proofs.Common.{◌≡◌, ℕ, ◌<◌, ◌==◌, ◌&&◌, ◌||◌, Bool, true, false, [], ◌∷◌, ◌++◌, refl, ap, sym, ◌∙◌, subst, arith, append_assoc, eqb-true, eq-eqb}
 use Rattle.std.specs.Int.{bit_at}
 use Rattle.std.specs.Prelude.{IsTrue, nat_lt}
 use Rattle.std.proofs.lemmas.Bool.{ltb-true}
 use Rattle.nio_base.specs.declared.numbers.CallerNo.{CallerNo}
+use Rattle.nio_base.specs.declared.numbers.ChanNo.{ChanNo}
 use Rattle.nio_base.specs.declared.numbers.KeyNo.{KeyNo}
+use Rattle.nio_base.specs.declared.numbers.SelNo.{SelNo}
 use Rattle.nio_event.proofs.Finds.{step_leaves, looks_tell, found_stands}
 use Rattle.nio_event.proofs.OneMore.{has-more}
 use Rattle.nio_event.proofs.Soundness.{legal-sound}
 use Rattle.nio_event.proofs.Told.{or_right}
 use Rattle.nio_event.specs.Answers.{Answers}
-use Rattle.nio_event.specs.Conditions.{is_claimed}
+use Rattle.nio_event.specs.Conditions.{is_made, is_claimed}
 use Rattle.nio_event.specs.Found.{is_look, finds}
 use Rattle.nio_event.specs.Histories.{state_after, event_of, mine, HistoryClause, IsLegal}
-use Rattle.nio_event.specs.Lasting.{LastingFact, stands}
+use Rattle.nio_event.specs.Lasting.{LastingFact, stands, channel_made, key_published}
 use Rattle.nio_event.specs.OwnEvents.{has}
 use Rattle.nio_event.specs.PassViews.{PassView, Holds as HoldsNumber, known, ActsClause, HasKey}
 use Rattle.nio_event.specs.Sets.{was_published}
 use Rattle.nio_event.specs.State.{unclaimed}
 use Rattle.nio_event.specs.declared.act.Act.{Act}
-use Rattle.nio_event.specs.declared.act.Act.TheVariants.{DrawBit}
-use Rattle.nio_event.specs.declared.event.Event.{Event}
+use Rattle.nio_event.specs.declared.act.Act.TheVariants.{DrawBit, LookKey, LookChannel}
+use Rattle.nio_event.specs.declared.found.Chan.{Chan}
 use Rattle.nio_event.specs.declared.found.Stage.{Stage}
 use Rattle.nio_words.specs.Passes.{seen, state_seen, numbers_of, Holds, IsPassOf, limits_of}
 use Rattle.nio_words.specs.Steps.{Steps}
@@ -69,6 +71,15 @@ pub found_now : {me : CallerNo} {act : Act} {v0 v1 : PassView} (f : LastingFact)
 found_now {me = me} {act = act} {v0 = v0} {v1 = v1} f clause told =
     found_stands v0.limits me v1.seen clause.history.legal f
     (ap (has (λ x. finds x f)) clause.history.own ∙ (has-more (λ x. finds x f) (mine me v0.seen) act ∙ or_right (has (λ x. finds x f) (mine me v0.seen)) (finds act f) told))
+
+pub channel_found : {me : CallerNo} {c : ChanNo} {found : Chan} {v0 v1 : PassView} → ActsClause me (LookChannel c found ∷ []) v0 v1 → IsTrue found.made → IsTrue (is_made (known v1) c)
+channel_found {c = c} {found = found} clause made = found_now (channel_made c.0) clause (ap (λ b. b && found.made) (eq-eqb c.0 c.0 refl) ∙ made)
+
+pub key_found : {me : CallerNo} {s : SelNo} {i : ℕ} {found : Stage} {v0 v1 : PassView} (serial : ℕ) → ActsClause me (LookKey s i found ∷ []) v0 v1 → IsTrue (was_published found serial)
+    → IsTrue (was_published ((known v1).key s.0 i) serial)
+key_found {s = s} {i = i} {found = found} serial clause published =
+    found_now (key_published s.0 i serial) clause
+    (ap (λ b. b && (i == i) && was_published found serial) (eq-eqb s.0 s.0 refl) ∙ (ap (λ b. b && was_published found serial) (eq-eqb i i refl) ∙ published))
 
 -- ---- keys
 

@@ -1,4 +1,5 @@
-//! Two callers do, step by step on a table, what the worked history says.
+//! Two callers do, step by step on a table, what the worked history says. In it a caller's pin holds back the
+//! other's claim of a free index; once it is taken off, the index is given again, with the next serial.
 ghost use Rattle.std.specs.Prelude.{◌≡◌, ◌+◌, IsTrue, length};
 ghost use Rattle.nio_event.specs.Conditions.{Condition};
 ghost use Rattle.nio_words.specs.Following.{Follows, IsPart};
@@ -8,11 +9,18 @@ ghost use Rattle.nio_words.specs.Steps.{Steps};
 use super::{ONE, SMALL, ZERO, history};
 use crate::*;
 use nio_base::CallerNo;
-use nio_event::{Act, Chan};
+use nio_event::{Act, Chan, Stage};
 use std::process::Abort;
 use std::test::Fail;
 
+// `==` stands in functions of its own, in which the check proves what it means.
 fn same_channel(first: Chan, second: Chan) -> bool
+    ensures { IsTrue result → first ≡ second }
+{
+    first == second
+}
+
+fn same_stage(first: Stage, second: Stage) -> bool
     ensures { IsTrue result → first ≡ second }
 {
     first == second
@@ -33,8 +41,8 @@ fn repeats(w: &Words, p: &mut Pass, me: CallerNo, act: Act) -> bool
         Act::SetInterrupt(n, found) => w.set_interrupt(p, me, n) == found,
         Act::TakeInterrupt(found) => w.take_interrupt(p, me) == found,
         Act::LookInterrupt(found) => w.look_interrupt(p, me) == found,
-        Act::LookKey(s, i, found) => w.look_key(p, me, s, i) == found,
-        Act::CancelKey(s, i, found) => w.cancel_key(p, me, s, i) == found,
+        Act::LookKey(s, i, found) => same_stage(w.look_key(p, me, s, i), found),
+        Act::CancelKey(s, i, found) => same_stage(w.cancel_key(p, me, s, i), found),
         Act::LookInterest(s, i, found) => w.look_interest(p, me, s, i) == found,
         Act::SwapInterest(s, i, ops, found) => w.swap_interest(p, me, s, i, ops) == found,
         Act::OrInterest(s, i, ops, found) => w.or_interest(p, me, s, i, ops) == found,
@@ -46,7 +54,7 @@ fn repeats(w: &Words, p: &mut Pass, me: CallerNo, act: Act) -> bool
         Act::Claim(s, i, c, found) => w.claim(p, me, s, i, c) == found,
         Act::RaiseKeys(s, n, found) => w.raise_keys(p, me, s, n) == found,
         Act::LookKeys(s, found) => w.look_keys(p, me, s) == found,
-        Act::Publish(s, i, found) => w.publish(p, me, s, i) == found,
+        Act::Publish(s, i, found) => same_stage(w.publish(p, me, s, i), found),
         Act::LookReg(c, s, found) => w.look_reg(p, me, c, s) == found,
         Act::Enrol(c, s, i, serial, found) => w.enrol(p, me, c, s, i, serial) == found,
         Act::TakeTurn(s, found) => w.take_turn(p, me, s) == found,
@@ -55,7 +63,7 @@ fn repeats(w: &Words, p: &mut Pass, me: CallerNo, act: Act) -> bool
             w.give_turn(p, me, s);
             true
         }
-        Act::Remove(s, i, found) => w.remove(p, me, s, i) == found,
+        Act::Remove(s, i, found) => same_stage(w.remove(p, me, s, i), found),
         Act::LookMark(s, i, found) => w.look_mark(p, me, s, i) == found,
         Act::Mark(s, i, from, told, found) => w.mark(p, me, s, i, from, told) == found,
         Act::UnselectBit(s, i, found) => w.unselect_bit(p, me, s, i) == found,
@@ -71,7 +79,7 @@ fn repeats(w: &Words, p: &mut Pass, me: CallerNo, act: Act) -> bool
         Act::CloseBit(c, found) => w.close_bit(p, me, c) == found,
         Act::ShutBit(s, found) => w.shut_bit(p, me, s) == found,
         Act::Enter(s, found) => w.enter(p, me, s) == found,
-        Act::Pin(s, i, found) => w.pin(p, me, s, i) == found,
+        Act::Pin(s, i, found) => same_stage(w.pin(p, me, s, i), found),
         Act::Unpin(s, i) => {
             w.unpin(p, me, s, i);
             true

@@ -1,5 +1,4 @@
-use Rattle.std.specs.Prelude.{IsTrue}
-use Rattle.nio_words.specs.Passes.{IsReady, state_seen}
+use Rattle.nio_words.specs.Passes.{IsReady}
 use Rattle.nio_bench.proofs.words.looks.Given as goal
 
 abbrev pub invariant-loop : goal.invariant-loop

@@ -3,7 +3,7 @@ use Rattle.nio_steps.proofs.CallLaws.{ran_pinned}
 use Rattle.nio_steps.specs.KeyCalls.{cancel_plan, cancel_present}
 use Rattle.nio_steps.specs.Names.{key}
 use Rattle.nio_words.proofs.Pins.{only_pinned, none_unpinned}
-use Rattle.nio_words.proofs.Seen.{still_ready}
+use Rattle.nio_words.proofs.Stepping.{still_ready}
 use Rattle.nio_words.proofs.Views.{step_acts}
 use Rattle.nio_channel.proofs.closing.cancel.Goals as goal
 

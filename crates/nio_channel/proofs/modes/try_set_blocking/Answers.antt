@@ -3,7 +3,7 @@ use Rattle.std.specs.Prelude.{is_some}
 use Rattle.nio_event.proofs.PassViews.{channel_after}
 use Rattle.nio_steps.proofs.CallLaws.{returned, left_ask, left_then, left_else, left_after, ran_then}
 use Rattle.nio_steps.specs.ChannelCalls.{set_blocking_plan}
-use Rattle.nio_words.proofs.Seen.{still_ready}
+use Rattle.nio_words.proofs.Stepping.{still_ready}
 use Rattle.nio_words.proofs.Views.{step_acts}
 use Rattle.nio_channel.proofs.Held.{takes_the_hold}
 use Rattle.nio_channel.proofs.modes.try_set_blocking.Goals as goal

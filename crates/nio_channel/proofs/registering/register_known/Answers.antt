@@ -2,7 +2,7 @@ use Rattle.std.proofs.Common.{refl}
 use Rattle.nio_steps.proofs.CallLaws.{ran_pinned}
 use Rattle.nio_steps.specs.ChannelCalls.{register_noted}
 use Rattle.nio_words.proofs.Pins.{only_pinned, none_unpinned}
-use Rattle.nio_words.proofs.Seen.{still_ready}
+use Rattle.nio_words.proofs.Stepping.{still_ready}
 use Rattle.nio_words.proofs.Views.{step_acts}
 use Rattle.nio_channel.proofs.Chains.{each_some_ok}
 use Rattle.nio_channel.proofs.Held.{unblocked_stays, may_note_stays}

@@ -7,7 +7,7 @@ use Rattle.nio_steps.proofs.CallLaws.{returned, left_ask, left_then, left_else, 
 use Rattle.nio_steps.specs.ChannelCalls.{register_plan}
 use Rattle.nio_steps.specs.KeyCalls.{is_within}
 use Rattle.nio_words.proofs.Pins.{no_pin_stays}
-use Rattle.nio_words.proofs.Seen.{still_ready}
+use Rattle.nio_words.proofs.Stepping.{still_ready}
 use Rattle.nio_words.proofs.Views.{step_acts}
 use Rattle.nio_channel.proofs.Chains.{each_ok}
 use Rattle.nio_channel.proofs.Held.{takes_the_hold, unclosed_yet}

@@ -1,5 +1,5 @@
 use Rattle.std.proofs.Common.{refl}
-use Rattle.nio_keys.proofs.Staying.{stays_pinned}
+use Rattle.nio_words.proofs.Pins.{stays_pinned}
 use Rattle.nio_keys.proofs.interests.interest_present.Goals as goal
 
 pub returns-clause-pinned : goal.returns-clause-pinned

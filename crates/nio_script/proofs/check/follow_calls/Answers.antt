@@ -1,11 +1,8 @@
-use Rattle.std.proofs.Common.{◌≡◌, ◌+◌, map, sym, ◌∙◌, ap, subst}
+use Rattle.std.proofs.Common.{map, sym, ◌∙◌, ap}
 use Rattle.std.proofs.Math.ListN.{get_or-map}
 use Rattle.std.proofs.lemmas.List.{length-map}
-use Rattle.nio_event.specs.Replies.{reply_text}
-use Rattle.nio_script.specs.Check.{right_reply}
 use Rattle.nio_script.specs.HistoryCall.{entry_of}
-use Rattle.nio_script.specs.Run.{left_by_call}
-use Rattle.nio_script.proofs.Checking.{IsFollowed, followed_more, followed_wrong, if_some, if_none}
+use Rattle.nio_script.proofs.Checking.{followed_more, followed_wrong}
 use Rattle.nio_script.proofs.Lines.{IsNext}
 use Rattle.nio_script.proofs.check.follow_calls.Goals as goal
 use Rattle.nio_script.proofs.check.follow_calls.Goals.{After-correction}
@@ -20,26 +17,22 @@ next g c = record {
 pub returns-in-Some-clause-illegal : goal.returns-in-Some-clause-illegal
 returns-in-Some-clause-illegal g c =
     let after = (goal.at.returns-in-Some-clause-illegal g c).After-correction in
-    let limits = g.met.Y.System.kept_limits _ _ c.loop-index.invariant.kept in
-    let e = entry_of c.index-calls-index.result in
-    let is = if_some _ _ _ c.in-Some.is c.in_ok-right.ensures.right in
-    let wrong = if_some _ _ _ c.in-Some.is c.in_ok-right.ensures.wrong in
-    followed_wrong _ _ _ _ e (next g after) c.loop-index.invariant.followed c.in-Some.right
-    (subst (λ l. c.in-Some.right ≡ right_reply l (g.Y.System.state c.loop-index.system) e) limits is) wrong
+    let laws = g.met.Y.System in
+    let kept = c.loop-index.invariant.kept in
+    let is = rw c.in-Some.is at c.in_ok-right.ensures.right in
+    let wrong = rw c.in-Some.is at c.in_ok-right.ensures.wrong in
+    followed_wrong _ _ _ _ (laws.kept_rules _ _ kept) (laws.kept_limits _ _ kept) (map entry_of c.args.calls.now) c.loop-index.index (g.Y.System.state c.loop-index.system)
+    (entry_of c.index-calls-index.result) (next g after) c.loop-index.invariant.followed c.in-Some.right is wrong
 
 pub loop-index-preserved : goal.loop-index-preserved
 loop-index-preserved g c =
     let after = (goal.at.loop-index-preserved g c).After-correction in
     let laws = g.met.Y.System in
-    let limits = laws.kept_limits _ _ c.loop-index.invariant.kept in
-    let e = entry_of c.index-calls-index.result in
-    let entries = map entry_of c.args.calls.now in
-    let right = if_none _ c.in_default.is c.in_ok-right.ensures.same in
-    let more = followed_more _ entries _ _ e (next g after) c.loop-index.invariant.followed
-    (subst (λ l. e.reply ≡ reply_text (right_reply l (g.Y.System.state c.loop-index.system) e)) limits right) in
+    let kept = c.loop-index.invariant.kept in
+    let right = rw c.in_default.is at c.in_ok-right.ensures.same in
     record {
       followed =
-          subst (IsFollowed (g.Y.System.limits c.args.system.now) entries (c.loop-index.index + 1))
-          (ap (λ l. left_by_call l (g.Y.System.state c.loop-index.system) e.line) (sym limits) ∙ sym c.in_ok-right.ensures.left) more;
-      kept = laws.kept_on _ _ _ c.loop-index.invariant.kept c.correction.ensures.kept;
+          followed_more _ _ _ _ (laws.kept_rules _ _ kept) (laws.kept_limits _ _ kept) (map entry_of c.args.calls.now) c.loop-index.index (g.Y.System.state c.loop-index.system)
+          (entry_of c.index-calls-index.result) (next g after) c.loop-index.invariant.followed (g.Y.System.state c.correction.new.system) right c.in_ok-right.ensures.left;
+      kept = laws.kept_on _ _ _ kept c.correction.ensures.kept;
     }

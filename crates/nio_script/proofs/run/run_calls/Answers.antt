@@ -26,7 +26,7 @@ loop-index-preserved g c =
     let laws = g.met.Y.System in
     goes_on g.K.Sink g.Y.System _ _ _ _ _ _ _ _ _ _ (running g (goal.at.loop-index-preserved g c).After-answer_call) c.answer_call.new.system c.answer_call.new.kept.items
     c.in_ok-answer_call.ensures.ok c.in_ok-answer_call.ensures.left (c.in_ok-answer_call.ensures.cause.still (λ e. cc))
-    (laws.kept_on _ _ _ c.loop-index.invariant.kept_on c.answer_call.ensures.kept) (laws.kept_limits _ _ c.answer_call.ensures.kept)
+    (laws.kept_on _ _ _ c.loop-index.invariant.kept_on c.answer_call.ensures.kept) (laws.kept_rules _ _ c.answer_call.ensures.kept) (laws.kept_limits _ _ c.answer_call.ensures.kept)
 
 pub returns-in_err-answer_call-clause-kept : goal.returns-in_err-answer_call-clause-kept
 returns-in_err-answer_call-clause-kept g c =

@@ -1,4 +1,4 @@
-use Rattle.std.proofs.Common.{◌≡◌, ℕ, true, false, ◌&&◌, ap}
+use Rattle.std.proofs.Common.{ap}
 use Rattle.nio_event.specs.Sets.{in_key_set}
 use Rattle.nio_plain.proofs.Answering.{of_word}
 use Rattle.nio_plain.proofs.Parts.{and_true}

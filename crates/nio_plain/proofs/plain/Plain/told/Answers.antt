@@ -4,13 +4,12 @@ use Rattle.std.specs.List.{All}
 use Rattle.nio_base.specs.declared.numbers.KeyId.{KeyId}
 use Rattle.nio_event.specs.declared.reply.Reply.TheVariants as reply
 use Rattle.nio_plain.proofs.Answering.{unchanged_as, selector_made-below, selector_made-past}
-use Rattle.nio_plain.proofs.Marking.{TellsLooked, tells-looked}
+use Rattle.nio_plain.proofs.Marking.{tells-looked}
 use Rattle.nio_plain.proofs.Places.{places_at}
 use Rattle.nio_plain.proofs.Telling.{told-no_selector, told-own, own-none, own-others, some_at}
 use Rattle.nio_plain.proofs.TellingAt.{answers-again, answers-told}
 use Rattle.nio_plain.specs.PlainState.{places, state_of, selector_row, no_selector, key_row, no_key, with_selection_ended}
 use Rattle.nio_plain.specs.Seq.Selections.{all_told, is_updated}
-use Rattle.nio_plain.specs.declared.plain.selector.Selecting.{Selecting}
 use Rattle.nio_plain.specs.declared.plain.selector.Selector.{Selector}
 use Rattle.nio_plain.proofs.plain.Plain.told.Goals as goal
 

@@ -1,4 +1,3 @@
-use Rattle.std.proofs.Common.{refl}
 use Rattle.nio_plain.proofs.Answering.{of_word, unchanged_as}
 use Rattle.nio_plain.proofs.Calling.{seq-no_caller, seq-call}
 use Rattle.nio_plain.specs.PlainState.{limits_of, rules_of, state_of}

@@ -1,4 +1,4 @@
-use Rattle.std.proofs.Common.{◌≡◌, ◌<◌, ◌≤◌, bit_or, length, refl, ap, ◌∙◌, arith}
+use Rattle.std.proofs.Common.{◌≡◌, bit_or, length, refl, ap, ◌∙◌, arith}
 use Rattle.std.proofs.lemmas.List.{get_or_read}
 use Rattle.nio_plain.proofs.Marking.{all_told-step, all_told-past, all_told-skip}
 use Rattle.nio_plain.proofs.plain.marking.all_told.Goals as goal

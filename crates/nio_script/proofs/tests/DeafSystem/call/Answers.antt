@@ -6,7 +6,8 @@ use Rattle.nio_event.specs.declared.call.Call.{Call}
 use Rattle.nio_event.specs.declared.reply.Reply.TheVariants.{NoCaller}
 use Rattle.nio_plain.specs.ScriptState.{ScriptState}
 use Rattle.nio_plain.specs.Seq.{seq}
-use Rattle.nio_plain.specs.Seq.Answers.{refused}
+use Rattle.nio_plain.specs.Seq.Answers.{unchanged}
+use Rattle.nio_plain.specs.declared.rules.Rules.TheVariants.{Now}
 use Rattle.nio_script.proofs.tests.DeafSystem.call.Goals as goal
 
 none_below_zero : (n : ℕ) → ltb n 0 ≡ false
@@ -14,7 +15,7 @@ none_below_zero n = grind (arith, nat_tests)
 
 -- a system of no callers knows none
 knows_none : (st : ScriptState) (me : CallerNo) (call : Call)
-    → seq (record { callers = 0; selectors = 0; channels = 0; keys = 0 }) st me call ≡ refused st NoCaller
+    → seq Now (record { callers = 0; selectors = 0; channels = 0; keys = 0 }) st me call ≡ unchanged st NoCaller
 unfolding seq
 knows_none st me call = cond-false _ _ _ (none_below_zero me.0)
 

@@ -1,4 +1,4 @@
-use Rattle.std.proofs.Common.{◌≡◌, ◌+◌, ◌<◌, ◌≤◌, ap, ◌∙◌, sym, suc, max, ◌++◌, ◌∷◌, [], Some, length, arith}
+use Rattle.std.proofs.Common.{◌≡◌, ◌<◌, ap, ◌∙◌, suc, max, ◌++◌, ◌∷◌, [], length, arith}
 use Rattle.std.proofs.lemmas.List.{length_push, length-set}
 use Rattle.nio_event.specs.State.{put}
 use Rattle.nio_plain.proofs.Places.{places-push, places-set}

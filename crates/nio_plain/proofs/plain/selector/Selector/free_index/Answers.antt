@@ -1,4 +1,4 @@
-use Rattle.std.proofs.Common.{◌≡◌, ℕ, ◌<◌, true, false, ap, sym, ◌∙◌, length, get_or, arith, below_more}
+use Rattle.std.proofs.Common.{◌≡◌, ◌<◌, ap, sym, ◌∙◌, length, get_or, arith, below_more}
 use Rattle.nio_plain.proofs.Found.{find_first, find_none}
 use Rattle.nio_plain.proofs.Places.{places_at}
 use Rattle.nio_plain.specs.PlainState.{KeyRow, places, key_row, no_key}

@@ -1,5 +1,5 @@
-use Rattle.std.proofs.Common.{◌≡◌, suc, ◌+◌, ◌<◌, ◌≤◌, true, false, Some, ap, sym, ◌∙◌, length, arith, add-one}
-use Rattle.std.proofs.lemmas.Bool.{and_parts, cond-true, cond-false, ltb-true, lt-ltb, le-ltb}
+use Rattle.std.proofs.Common.{◌≡◌, suc, ◌+◌, ◌<◌, Some, ap, sym, ◌∙◌, length, arith, add-one}
+use Rattle.std.proofs.lemmas.Bool.{and_parts, ltb-true}
 use Rattle.nio_base.specs.declared.numbers.KeyId.{KeyId}
 use Rattle.nio_event.specs.State.{last_serial}
 use Rattle.nio_plain.proofs.Found.{found_below}

@@ -1,0 +1,124 @@
+-- The channels that are made, and the indexes of a selector that are claimed, are those below a number.
+use Rattle.std.proofs.Common.{◌≡◌, ℕ, suc, ◌+◌, ◌==◌, ◌<◌, ◌≤◌, max, nat_lt, Bool, true, false, not, cond, ◌&&◌, ◌↔◌, IsTrue, if◌then◌else◌, refl, ap, sym, ◌∙◌, subst, arith, eqb-true, eq-eqb}
+use Rattle.std.proofs.lemmas.Bool.{ltb-true, ltb-false, lt-ltb, le-ltb, and_parts, and_from}
+use Rattle.nio_audit.specs.Counting.{IsCounted, channels_after, keys_after}
+use Rattle.nio_base.specs.declared.limits.Limits.{Limits}
+use Rattle.nio_base.specs.declared.numbers.CallerNo.{CallerNo}
+use Rattle.nio_base.specs.declared.numbers.SelNo.{SelNo}
+use Rattle.nio_event.proofs.Put.{put_keeps, put_at_keeps}
+use Rattle.nio_event.specs.Acts.{effect, new_key}
+use Rattle.nio_event.specs.Answers.{Answers}
+use Rattle.nio_event.specs.Conditions.{Condition, AllMade, AllClaimed, has_taken, is_held_by}
+use Rattle.nio_event.specs.Questions.{Answer, flag}
+use Rattle.nio_event.specs.Sound.{IsSound}
+use Rattle.nio_event.specs.State.{State, put, put_at}
+use Rattle.nio_event.specs.declared.act.Act.{Act}
+use Rattle.nio_event.specs.declared.found.Stage.{Stage}
+use Rattle.nio_event.specs.declared.act.Act.TheVariants.{CancelKey, MakeChannel, Claim, Publish, Remove, SetMode, CloseBit, ClaimAgain}
+use Rattle.std.specs.Prelude.{List, Option, Some, None, is_some}
+
+module _ {st : State} {channels : ℕ} {keys : ℕ → ℕ} where
+  pub all_made : IsCounted st channels keys → (n : ℕ) → (n ≤ channels) ↔ AllMade st n
+  all_made h n = (λ le c below. h.made c ∙ lt-ltb c channels (omega arith), λ all. by_order (nat_lt channels n) refl all)
+    where
+      by_order : (b : Bool) → nat_lt channels n ≡ b → AllMade st n → n ≤ channels
+      by_order true e all =
+          let clash : true ≡ false = sym (all channels (ltb-true channels n e)) ∙ (h.made channels ∙ le-ltb channels channels (omega arith)) in
+          absurd cc
+      by_order false e all = ltb-false channels n e
+
+  pub all_claimed : IsCounted st channels keys → (s : SelNo) (n : ℕ) → (n ≤ keys s.0) ↔ AllClaimed st s n
+  all_claimed h s n = (λ le i below. h.claimed s.0 i ∙ lt-ltb i (keys s.0) (omega arith), λ all. by_order (nat_lt (keys s.0) n) refl all)
+    where
+      by_order : (b : Bool) → nat_lt (keys s.0) n ≡ b → AllClaimed st s n → n ≤ keys s.0
+      by_order true e all =
+          let clash : true ≡ false = sym (all (keys s.0) (ltb-true (keys s.0) n e)) ∙ (h.claimed s.0 (keys s.0) ∙ le-ltb (keys s.0) (keys s.0) (omega arith)) in
+          absurd cc
+      by_order false e all = ltb-false (keys s.0) n e
+
+-- one more below the number, at the number or below it
+same_below : (n c count : ℕ) → c ≤ count → (n ≡ c → ⊥) → nat_lt n count ≡ nat_lt n (max count (c + 1))
+same_below n c count le ne = by_order (nat_lt n count) refl
+  where
+    by_order : (b : Bool) → nat_lt n count ≡ b → b ≡ nat_lt n (max count (c + 1))
+    by_order true e = sym (lt-ltb n (max count (c + 1)) (omega (arith, ltb-true n count e)))
+    by_order false e = let above : count ≤ n = ltb-false n count e in sym (le-ltb n (max count (c + 1)) (omega arith))
+
+counted_more : {A : Type 0} (test : A → Bool) (f : ℕ → A) (c count : ℕ) (x : A) → c ≤ count → test x ≡ true → ((n : ℕ) → test (f n) ≡ nat_lt n count)
+    → (n : ℕ) → test (put f c x n) ≡ nat_lt n (max count (c + 1))
+counted_more {A = A} test f c count x le is h n = by_test (n == c) refl
+  where
+    by_test : (b : Bool) → (n == c) ≡ b → test (if b then x else f n) ≡ nat_lt n (max count (c + 1))
+    by_test true e = let same : n ≡ c = eqb-true n c e in is ∙ sym (lt-ltb n (max count (c + 1)) (omega arith))
+    by_test false e =
+        let ne : n ≡ c → ⊥ = λ (eq : n ≡ c). (let clash : true ≡ false = sym (eq-eqb n c eq) ∙ e in absurd cc) in
+        h n ∙ same_below n c count le ne
+
+-- what is made or claimed after the step is
+made_after : {A : Type 0} (test : A → Bool) (found : Bool) (was new : A) → found ≡ test was → test new ≡ true → test (if found then was else new) ≡ true
+made_after test true was new e is = sym e
+made_after test false was new e is = is
+
+found_is : (found x : Bool) → flag found ≡ flag x → found ≡ x
+found_is found x e = cc
+
+taken_some : (me : CallerNo) (o : Option CallerNo) → IsTrue (is_held_by me o) → IsTrue (is_some o)
+taken_some me None h = cc
+taken_some me (Some n) h = refl
+
+pub counted-step : (l : Limits) (own : List Act) (st : State) (me : CallerNo) (act : Act) (channels : ℕ) (keys : ℕ → ℕ) → IsSound st
+    → Condition l own st me act → Answers st me act → IsCounted st channels keys
+    → IsCounted (effect st me act) (channels_after channels act) (keys_after keys act)
+counted-step l own st me (MakeChannel c kind found) channels keys sound may answers h = record {
+  made = counted_more (λ x. x.made) st.chan c.0 channels (if found then st.chan c.0 else _) ((all_made h c.0).1 may.1)
+      (made_after (λ x. x.made) found (st.chan c.0) _ (found_is found (st.chan c.0).made answers) refl) h.made;
+  claimed = h.claimed;
+}
+counted-step l own st me (SetMode c blocking found) channels keys sound may answers h = record {
+  made = λ n. put_keeps (λ n' x. x.made ≡ nat_lt n' channels) st.chan c.0 _ (λ e. e) n (h.made n);
+  claimed = h.claimed;
+}
+counted-step l own st me (CloseBit c found) channels keys sound may answers h = record {
+  made = λ n. put_keeps (λ n' x. x.made ≡ nat_lt n' channels) st.chan c.0 _ (λ e. e) n (h.made n);
+  claimed = h.claimed;
+}
+counted-step l own st me (CancelKey s i found) channels keys sound may answers h = record {
+  made = h.made;
+  claimed = λ t j. put_at_keeps (λ t' j' x. x.claimed ≡ nat_lt j' (keys t')) st.key s.0 i _ (λ e. e) t j (h.claimed t j);
+}
+counted-step l own st me (Publish s i found) channels keys sound may answers h = record {
+  made = h.made;
+  claimed = λ t j. put_at_keeps (λ t' j' x. x.claimed ≡ nat_lt j' (keys t')) st.key s.0 i _ (λ e. e) t j (h.claimed t j);
+}
+counted-step l own st me (Remove s i found) channels keys sound may answers h = record {
+  made = h.made;
+  claimed = λ t j. put_at_keeps (λ t' j' x. x.claimed ≡ nat_lt j' (keys t')) st.key s.0 i _ (λ e. e) t j (h.claimed t j);
+}
+counted-step l own st me (ClaimAgain s i c from found) channels keys sound may answers h = record {
+  made = h.made;
+  claimed = λ t j. put_at_keeps (λ t' j' x. x.claimed ≡ nat_lt j' (keys t')) st.key s.0 i _ (λ e. by_found found e) t j (h.claimed t j);
+}
+  where
+    was_claimed : (st.key s.0 i).claimed ≡ true
+    was_claimed =
+        let back = sound.taken_back s.0 i (taken_some me (st.taker s.0 i) may.3) in
+        (and_parts _ _ (and_parts _ _ (and_parts _ _ (and_parts _ _ back).0).0).0).0
+
+    by_found : (b : Bool) → (st.key s.0 i).claimed ≡ nat_lt i (keys s.0)
+        → (if b then st.key s.0 i else new_key c (suc (st.key s.0 i).serial)).claimed ≡ nat_lt i (keys s.0)
+    by_found true e = e
+    by_found false e = sym was_claimed ∙ e
+counted-step l own st me (Claim s i c found) channels keys sound may answers h = record {
+  made = h.made;
+  claimed = λ t j. by_test t (t == s.0) refl j;
+}
+  where
+    by_test : (t : ℕ) (b : Bool) → (t == s.0) ≡ b → (j : ℕ)
+        → (if b && (j == i) then (if found then st.key s.0 i else new_key c 0) else st.key t j).claimed ≡ nat_lt j (if b then max (keys s.0) (i + 1) else keys t)
+    by_test t true e j =
+        let same : t ≡ s.0 = eqb-true t s.0 e in
+        ap (λ (k : ℕ). (if j == i then (if found then st.key s.0 i else new_key c 0) else st.key k j).claimed) same
+        ∙ counted_more (λ x. x.claimed) (st.key s.0) i (keys s.0) (if found then st.key s.0 i else new_key c 0) ((all_claimed h s i).1 may.3)
+        (made_after (λ x. x.claimed) found (st.key s.0 i) (new_key c 0) (found_is found (st.key s.0 i).claimed answers) refl) (h.claimed s.0) j
+    by_test t false e j = h.claimed t j
+counted-step l own st me _ channels keys sound may answers h = record { made = h.made; claimed = h.claimed }

@@ -1,0 +1,12 @@
+pub mod TableSets
+pub mod Knowing
+pub mod Owing
+pub mod Latest
+pub mod Hearing
+pub mod BitWords
+pub mod Answering
+pub mod Counted
+pub mod Recalling
+pub mod Judging
+pub mod Firsts
+pub mod Opening

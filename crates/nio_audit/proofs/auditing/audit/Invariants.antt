@@ -1,0 +1,6 @@
+use Rattle.std.proofs.Common.{take}
+use Rattle.nio_audit.proofs.Firsts.{HasJudged}
+use Rattle.nio_audit.proofs.auditing.audit.Given as goal
+
+abbrev pub invariant-loop-at : goal.invariant-loop-at
+invariant-loop-at l = HasJudged l.judge l.fn.limits (take l.at l.events)

@@ -1,0 +1,10 @@
+use Rattle.std.proofs.Common.{ℕ, ◌<◌, ◌*◌, subst}
+use Rattle.nio_audit.proofs.Answering.{flag_iff, word_iff}
+use Rattle.nio_audit.specs.Bounds.{IsReadable}
+use Rattle.nio_audit.proofs.state.StateTables.answers.Goals as goal
+
+pub returns-in-ClaimAgain : goal.returns-in-ClaimAgain
+returns-in-ClaimAgain c = λ due. rw c.in-ClaimAgain.is (flag_iff _ _ _ (c.is_pinned.ensures due))
+
+pub returns-in-LookFree : goal.returns-in-LookFree
+returns-in-LookFree c = λ due. rw c.in-LookFree.is (word_iff _ _ _ c.free_word.ensures)

@@ -1,0 +1,15 @@
+-- Which event of a list is the first that isn't a step.
+use Rattle.std.specs.Prelude.{◌≡◌, ℕ, List, ◌∷◌, ◌++◌, length}
+use Rattle.nio_base.specs.declared.limits.Limits.{Limits}
+use Rattle.nio_event.specs.Histories.{IsStep, IsLegal}
+use Rattle.nio_event.specs.declared.event.Event.{Event}
+
+-- the event at this place, counted from 0, isn't a step after those before it, and each of those is one
+pub record IsFirstNoStep (l : Limits) (events : List Event) (place : ℕ) : Type 0 where
+  pub before : List Event
+  pub event : Event
+  pub later : List Event
+  pub split : events ≡ before ++ event ∷ later
+  pub place_is : length before ≡ place
+  pub legal : IsLegal l before
+  pub no_step : ¬ IsStep l before event

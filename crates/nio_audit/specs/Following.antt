@@ -1,0 +1,17 @@
+-- A judge follows a history: it has the state that the history leaves, and what callers know from their own events.
+use Rattle.std.specs.Prelude.{◌≡◌, ◌+◌, List, length}
+use Rattle.nio_audit.specs.Allowing.{state_of}
+use Rattle.nio_audit.specs.Counting.{IsCounted}
+use Rattle.nio_audit.specs.DueIndexes.{IsBefore}
+use Rattle.nio_audit.specs.Remembering.{knowledge_of}
+use Rattle.nio_audit.specs.Remembers.{Remembers}
+use Rattle.nio_audit.specs.TableWords.{row}
+use Rattle.nio_audit.specs.declared.judge.Judge.{Judge}
+use Rattle.nio_event.specs.Histories.{state_after}
+use Rattle.nio_event.specs.declared.event.Event.{Event}
+
+pub record Follows (j : Judge) (past : List Event) : Type 0 where
+  pub state : state_of j ≡ state_after past
+  pub counted : IsCounted (state_of j) j.counts.channels (row j.counts.keys)
+  pub before : IsBefore j.dues (length past + 1)
+  pub remembers : Remembers (knowledge_of j.memory) past

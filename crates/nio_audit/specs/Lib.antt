@@ -1,0 +1,12 @@
+pub mod TableWords
+pub mod StateOf
+pub mod Bounds
+pub mod Remembering
+pub mod DueIndexes
+pub mod Counting
+pub mod Latest
+pub mod Remembers
+pub mod Found
+pub mod Allowing
+pub mod Following
+pub mod Audit

@@ -1,0 +1,46 @@
+//! Whether a list of events is a legal history.
+ghost use Rattle.std.specs.Prelude.{◌≡◌, ◌≢◌, ◌↔◌, ℕ, IsOk};
+ghost use Rattle.nio_audit.specs.Audit.{IsFirstNoStep};
+ghost use Rattle.nio_audit.specs.declared.auditing.AuditError.TheVariants.{Memory, NotAStep};
+ghost use Rattle.nio_base.specs.Limits.{IsFit};
+ghost use Rattle.nio_event.specs.Histories.{IsLegal};
+
+use crate::judge::Judge;
+use nio_base::Limits;
+use nio_event::Event;
+use std::alloc::{AllocError, Global};
+use thiserror::Error;
+
+/// Why a list of events isn't a legal history, or wasn't judged.
+#[derive(Clone, Copy, Debug, PartialEq, Eq, Error)]
+pub enum AuditError {
+    /// The event at this place, counted from 0, is the first that isn't a step after those before it.
+    #[error("NotAStep {at}")]
+    NotAStep { at: u64 },
+    #[error("Memory")]
+    Memory,
+}
+
+impl From<AllocError> for AuditError {
+    ghost from_gives = { λ _ e. e ≡ Memory };
+
+    fn from(_: AllocError) -> AuditError {
+        AuditError::Memory
+    }
+}
+
+/// Judges a recorded run: whether each event is a step after those before it, in a table with these limits. The time
+/// grows with the number of events.
+pub fn audit(alloc: Global, limits: Limits, events: &[Event]) -> Result<(), AuditError>
+    requires { IsFit limits }
+    ensures ok { result ≢ Err Memory → IsOk result ↔ IsLegal limits events.now }
+    ensures not_a_step { (at : ℕ) → result ≢ Err Memory → (result ≡ Err (NotAStep at)) ↔ IsFirstNoStep limits events.now at }
+{
+    let mut judge = Judge::new(alloc, limits);
+    for (at, event) in events.iter().enumerate() {
+        if !judge.judge(&events[..at], event)? {
+            return Err(AuditError::NotAStep { at: at as u64 });
+        }
+    }
+    Ok(())
+}

@@ -1,0 +1,17 @@
+use Rattle.std.proofs.Common.{refl, subst}
+use Rattle.nio_script.specs.Output.{Notes}
+use Rattle.nio_cli.specs.declared.run.TheConstants.{PROGRAM_LIMITS}
+use Rattle.nio_cli.proofs.Legal.{writes_legal}
+use Rattle.nio_cli.proofs.run.run.Goals as goal
+
+pub returns-in-Some-Script-clause-legal : goal.returns-in-Some-Script-clause-legal
+returns-in-Some-Script-clause-legal g c = λ words done.
+    let read = c.run_script.ensures.done done in
+    (read.0, read.1, writes_legal g.K.Sink g.Y.System c.args.output.now c.run_script.new.output c.args.system.now c.run_script.new.system PROGRAM_LIMITS read.0 c.requires.rules c.requires.limits read.2)
+
+pub returns-in-None-clause-usage_said : goal.returns-in-None-clause-usage_said
+returns-in-None-clause-usage_said g c = λ usage. record {
+  said = subst (Notes g.K.Sink c.args.output.now c.note.new.output) c.as_bytes.ensures.value c.note.ensures.said;
+  unread = refl;
+  uncalled = refl;
+}
