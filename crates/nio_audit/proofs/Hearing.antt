@@ -4,6 +4,7 @@ use Rattle.std.specs.Prelude.{unwrap_or, option_map}
 use Rattle.std.specs.Option.{option_or}
 use Rattle.std.proofs.lemmas.Bool.{ltb-true, ltb-false, lt-ltb, le-ltb}
 use Rattle.nio_audit.proofs.Latest.{latest-none, latest-own, latest-other, latest-le}
+use Rattle.nio_audit.proofs.Truth.{or_false}
 use Rattle.nio_audit.specs.Latest.{latest}
 use Rattle.nio_audit.specs.Remembering.{outside_at}
 use Rattle.nio_audit.specs.Remembers.{own_of, RemembersHold, RemembersNote, RemembersIndex, RemembersClosing}
@@ -128,10 +129,10 @@ same_serial k serial h = by_test k.claimed (k.serial == serial) refl h
     by_test true false e p = cc
     by_test false b e p = cc
 
-outside_heard : (m : IndexMemory) (t : Option Stage) (now serial was : ℕ) → ((q : ℕ) → outside_at m q ≡ outside_at m q) → outside_at m serial ≡ was
+outside_heard : (m : IndexMemory) (t : Option Stage) (now serial was : ℕ) → outside_at m serial ≡ was
     → (if is_in_key_set (unwrap_or t m.found) serial then heard_before t m else (if is_some t then now else m.looked)) ≡ (if is_outside serial t then now else was)
-outside_heard m None now serial was any here = here
-outside_heard m (Some found) now serial was any here = by_test (is_in_key_set found serial) refl
+outside_heard m None now serial was here = here
+outside_heard m (Some found) now serial was here = by_test (is_in_key_set found serial) refl
   where
     by_test : (b : Bool) → is_in_key_set found serial ≡ b → (if b then outside_at m found.serial else now) ≡ (if not b then now else was)
     by_test true e = ap (outside_at m) (same_serial found serial e) ∙ here
@@ -153,7 +154,7 @@ index-own m n s i past e by h = record {
   looked = moment n (λ act. is_some (stage_found s i act)) past e m.looked by h.looked;
   found = λ some. (ap (last (stage_found s i)) (mine-own n past e by) ∙ last-more (stage_found s i) (mine n past) e.act)
       ∙ value (stage_found s i e.act) (last (stage_found s i) (mine n past)) m.found (length past + 1) m.looked h.found some;
-  outside = λ serial. outside_heard m (stage_found s i e.act) (length past + 1) serial (latest n (λ act. is_outside serial (stage_found s i act)) past) (λ q. refl) (h.outside serial)
+  outside = λ serial. outside_heard m (stage_found s i e.act) (length past + 1) serial (latest n (λ act. is_outside serial (stage_found s i act)) past) (h.outside serial)
       ∙ sym (latest-own n (λ act. is_outside serial (stage_found s i act)) past e by);
   published = moment n (publishes s i) past e m.published by h.published;
   taken = moment n (takes_free s i) past e m.taken by h.taken;
@@ -205,11 +206,7 @@ since_first-none opens (x ∷ own) h = by_test (opens x) h (since_first-none ope
     by_test false e later = later e
 
 raised_is : (i x : ℕ) (t : Option ℕ) → (nat_lt i x || is_above i t) ≡ nat_lt i (raised x t)
-raised_is i x None = by_bool (nat_lt i x)
-  where
-    by_bool : (b : Bool) → (b || false) ≡ b
-    by_bool true = refl
-    by_bool false = refl
+raised_is i x None = or_false (nat_lt i x)
 raised_is i x (Some found) = by_tests (nat_lt i x) (nat_lt i found) refl refl
   where
     by_tests : (a b : Bool) → nat_lt i x ≡ a → nat_lt i found ≡ b → (a || b) ≡ nat_lt i (max x found)

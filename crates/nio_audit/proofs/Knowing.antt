@@ -4,6 +4,7 @@ use Rattle.std.specs.Prelude.{is_none}
 use Rattle.std.proofs.lemmas.Bool.{and_parts, and_from}
 use Rattle.nio_audit.proofs.Hearing.{heard_hold, note_parts, heard_note, heard_parts, heard_index, heard_closing, raised, hold-own, hold-other, note-own, note-other, index-own, index-other, closing-own, closing-other}
 use Rattle.nio_audit.proofs.Latest.{latest-none}
+use Rattle.nio_audit.proofs.Truth.{or_false}
 use Rattle.std.proofs.lemmas.Bool.{le-ltb}
 use Rattle.nio_base.specs.declared.numbers.KeyId.{KeyId}
 use Rattle.nio_audit.specs.Remembering.{Knowledge, learned, nothing_known, learned_hold, learned_note, learned_index, learned_closing}
@@ -116,10 +117,6 @@ indexes-heard now me (ClaimAgain s' i' c from true) k n s i =
 indexes-heard now me (Unpin s' i') k n s i =
     heard_three k.indexes me.0 s'.0 i' (learned_index now (Unpin s' i')) (λ b m. heard_parts now None false false (if b then Some None else None) None m) (λ m. refl) (λ m. refl) n s i
 indexes-heard now me _ k n s i = cond_same (me.0 == n) (k.indexes n s i)
-
-or_false : (b : Bool) → (b || false) ≡ b
-or_false true = refl
-or_false false = refl
 
 kept_closing : (m : ClosingMemory) → ◌≡◌ {A = ClosingMemory} (record { entered = m.entered || false; below = if m.entered then m.below else m.below }) m
 kept_closing m = ap (λ b. record { entered = b; below = if m.entered then m.below else m.below }) (or_false m.entered) ∙ ap (λ k. record m { below = k }) (sym (cond_same m.entered m.below))

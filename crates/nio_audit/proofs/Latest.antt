@@ -5,6 +5,7 @@ use Rattle.std.specs.Option.{option_or}
 use Rattle.std.proofs.lemmas.Bool.{lt-ltb, le-ltb, ltb-true}
 use Rattle.std.proofs.lemmas.List.{append-nil, length-append}
 use Rattle.std.proofs.lemmas.List.Sums.{fold-append}
+use Rattle.nio_audit.proofs.Truth.{or_true, or_false}
 use Rattle.nio_audit.specs.Latest.{counted, latest}
 use Rattle.nio_base.specs.declared.numbers.CallerNo.{CallerNo}
 use Rattle.nio_event.proofs.OneMore.{mine-own, mine-other, has-more, last-more, since_from-more}
@@ -61,14 +62,6 @@ latest-le n p past = induction (λ events. latest n p events ≤ length events) 
         let bound : (if is_by n e && p e.act then length events + 1 else latest n p events) ≤ length events + 1 =
         if_le (is_by n e && p e.act) (length events + 1) (latest n p events) (length events + 1) (omega arith) (omega arith) in
         omega (arith, bound, latest-more n p events e, length_more events e)
-
-or_true : (b : Bool) → (b || true) ≡ true
-or_true true = refl
-or_true false = refl
-
-or_false : (b : Bool) → (b || false) ≡ b
-or_false true = refl
-or_false false = refl
 
 -- ---- what a caller did since an act that opens a span
 

@@ -1,3 +1,4 @@
+pub mod Truth
 pub mod TableSets
 pub mod Knowing
 pub mod Owing

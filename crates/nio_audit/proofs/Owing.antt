@@ -2,18 +2,11 @@
 use Rattle.std.proofs.Common.{◌≡◌, ℕ, ◌<◌, Bool, true, false, cond, ◌||◌, ◌&&◌, ◌==◌, if◌then◌else◌, refl, sym, ap, ◌∙◌, nat_lt, eqb-true, arith}
 use Rattle.std.proofs.lemmas.Bool.{lt-ltb, le-ltb, and_parts}
 use mathlib.Core.Path.{fun_ext}
+use Rattle.nio_audit.proofs.Truth.{or_true, or_false}
 use Rattle.nio_audit.specs.DueIndexes.{due_of, IsBefore}
 use Rattle.nio_audit.specs.TableWords.{row, grid}
 use Rattle.nio_audit.specs.declared.dues.Dues.{Dues}
 use Rattle.nio_event.specs.State.{put, put_at}
-
-or_true : (b : Bool) → (b || true) ≡ true
-or_true true = refl
-or_true false = refl
-
-or_false : (b : Bool) → (b || false) ≡ b
-or_false true = refl
-or_false false = refl
 
 pub due_of-is : (d : Dues) (s i : ℕ) → due_of d s i ≡ nat_lt (row d.ended s) (grid d.removed s i)
 unfolding due_of

@@ -7,10 +7,6 @@ use Rattle.nio_audit.specs.declared.table.Grid.{Grid}
 use Rattle.nio_audit.specs.declared.table.Row.{Row}
 use Rattle.nio_event.specs.State.{put, put_at}
 
-pub on_ok : {A E P Q : Type 0} (r : Result A E) → (P → Q) → OnOk r P → OnOk r Q
-on_ok (Ok x) f p = f p
-on_ok (Err e) f p = tt
-
 pub row-set : {V : Type 0} (t t' : Row V) (n : ℕ) (x : V) → ((q : ℕ) → value_at nat_eq t'.0 q ≡ (if nat_eq q n then x else value_at nat_eq t.0 q))
     → row t' ≡ put (row t) n x
 unfolding row

@@ -17,6 +17,7 @@ pub enum AuditError {
     /// The event at this place, counted from 0, is the first that isn't a step after those before it.
     #[error("NotAStep {at}")]
     NotAStep { at: u64 },
+    /// There is no memory for what the judge keeps.
     #[error("Memory")]
     Memory,
 }

@@ -13,7 +13,8 @@ use std::alloc::{AllocError, Global};
 mod answers;
 mod holders;
 
-const LAST_SERIAL: u32 = 4_294_967_295;
+/// The last serial that a key can have.
+pub(crate) const LAST_SERIAL: u32 = 4_294_967_295;
 
 const UNMADE: Chan = Chan {
     made: false,

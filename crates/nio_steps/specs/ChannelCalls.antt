@@ -67,10 +67,14 @@ key_for_plan c s = do
   noted ← look_reg c s
   noted_in_set s noted
 
-unfoldable pub is_registered_plan : Limits → ChanNo → Plan Bool
-is_registered_plan l c = sweep_to l.selectors 0 (λ s registered. do
+-- whether it has one there, or was found registered before
+abbrev pub registered_or : ChanNo → ℕ → Bool → Plan Bool
+registered_or c s before = do
   here ← key_for_plan c (selector s)
-  reply (registered || is_some here)) false
+  reply (before || is_some here)
+
+unfoldable pub is_registered_plan : Limits → ChanNo → Plan Bool
+is_registered_plan l c = sweep_to l.selectors 0 (registered_or c) false
 
 -- ---- the mode
 
@@ -94,8 +98,11 @@ set_mode_clear c on registered = if is_some registered then reply (Err IllegalBl
   reply (Ok tt)
 
 -- blocking mode asks that the channel isn't registered
+abbrev pub key_where_blocking : Limits → ChanNo → Bool → Plan (Option KeyNo)
+key_where_blocking l c on = if on then first_key l c else reply None
+
 abbrev pub set_mode_open : Limits → ChanNo → Bool → Plan (Result (Unit {0}) ChannelError)
-set_mode_open l c on = (if on then first_key l c else reply None) >>= set_mode_clear c on
+set_mode_open l c on = key_where_blocking l c on >>= set_mode_clear c on
 
 abbrev pub set_mode_held : Limits → ChanNo → Bool → Plan (Result (Unit {0}) ChannelError)
 set_mode_held l c on = do
@@ -155,12 +162,16 @@ claim_free s c i = do
   was ← take_free s i
   if was then claim_taken s c i else reply None
 
--- the first of the 64 indexes from 64 times j on that can be claimed again, of those below the mark that the
--- look shows as free
+-- index b of the 64 from 64 times j on is claimed again, where it is below the mark and the look shows it as
+-- free
+abbrev pub claim_at_bit : SelNo → ChanNo → ℕ → ℕ → ℕ → ℕ → Plan (Option KeyId)
+claim_at_bit s c mark j word b = if has_bit word b && nat_lt (64 * j + b) mark then claim_free s c (64 * j + b) else reply None
+
+-- the first of these 64 indexes that can be claimed again
 abbrev pub claim_in_word : SelNo → ChanNo → ℕ → ℕ → Plan (Option KeyId)
 claim_in_word s c mark j = do
   word ← look_free s j
-  seek_to 64 0 (λ b. if has_bit word b && nat_lt (64 * j + b) mark then claim_free s c (64 * j + b) else reply None)
+  seek_to 64 0 (claim_at_bit s c mark j word)
 
 -- the number of 64-bit words that cover the indexes below n
 abbrev pub words_below : ℕ → ℕ
@@ -213,14 +224,18 @@ register_first s c ops att (Some k) = do
   raise_keys s (k.index + 1)
   make_claimed s c ops att k
 
+-- with an index that had a key before
+abbrev pub register_again : SelNo → ChanNo → ℕ → ℕ → KeyId → Plan (Result KeyNo ChannelError)
+register_again s c ops att k = do
+  clear_mark s k.index
+  make_claimed s c ops att k
+
 -- with an index that had a key before and was claimed again; where there is none, with one that never had a key
 abbrev pub register_next : Limits → SelNo → ChanNo → ℕ → ℕ → ℕ → Option KeyId → Plan (Result KeyNo ChannelError)
 register_next l s c ops att mark None = do
   claimed ← seek_to l.keys mark (claim_new s c)
   register_first s c ops att claimed
-register_next l s c ops att mark (Some k) = do
-  clear_mark s k.index
-  make_claimed s c ops att k
+register_next l s c ops att mark (Some k) = register_again s c ops att k
 
 abbrev pub register_new : Limits → SelNo → ChanNo → ℕ → ℕ → Plan (Result KeyNo ChannelError)
 register_new l s c ops att = do

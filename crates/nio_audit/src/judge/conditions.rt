@@ -3,10 +3,9 @@ ghost use Rattle.std.specs.Prelude.{◌≡◌, ◌<◌, ◌*◌, ◌↔◌, ◌&
 
 use crate::judge::Judge;
 use crate::memory::Claim;
+use crate::state::LAST_SERIAL;
 use nio_base::{CallerNo, ChanNo, SelNo};
 use nio_event::{Act, Stage};
-
-const LAST_SERIAL: u32 = 4_294_967_295;
 
 impl Judge {
     ghost use Rattle.nio_audit.specs.Allowing.{may_clear_out_by, may_publish_by, state_of, IsAllowed};
