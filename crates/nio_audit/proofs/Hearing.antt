@@ -15,7 +15,7 @@ use Rattle.nio_audit.specs.declared.memory.IndexMemory.{IndexMemory}
 use Rattle.nio_audit.specs.declared.memory.NoteMemory.{NoteMemory}
 use Rattle.nio_base.specs.declared.numbers.CallerNo.{CallerNo}
 use Rattle.nio_base.specs.declared.numbers.KeyId.{KeyId}
-use Rattle.nio_event.proofs.OneMore.{mine-own, mine-other, has-more, last-more, since_first-more}
+use Rattle.nio_event.proofs.OneMore.{mine-own, mine-other, has-more, last-more}
 use Rattle.nio_event.specs.Histories.{is_by, mine}
 use Rattle.nio_event.specs.OwnEvents.{OwnClaim, has, last, since_first, since_entered, takes_hold, finds_unblocked, noted_found, notes, publishes, stage_found, is_outside, takes_free, own_claim, claim_changed, or_none, is_unpublished, leaves_unpublished, is_yes, enters, finds_below}
 use Rattle.nio_event.specs.Sets.{is_in_key_set}
@@ -204,6 +204,21 @@ since_first-none opens (x ∷ own) h = by_test (opens x) h (since_first-none ope
     by_test : (b : Bool) → (b || has opens own) ≡ false → (has opens own ≡ false → since_first opens own ≡ []) → (if b then own else since_first opens own) ≡ []
     by_test true e later = cc
     by_test false e later = later e
+
+-- one act more after the first that opens a span
+since_first-more : (opens : Act → Bool) (own : List Act) (act : Act)
+    → since_first opens (own ++ act ∷ []) ≡ (if has opens own then since_first opens own ++ act ∷ [] else [])
+since_first-more opens [] act = by_test (opens act)
+  where
+    by_test : (b : Bool) → cond {A = List Act} b [] [] ≡ []
+    by_test true = refl
+    by_test false = refl
+since_first-more opens (x ∷ own) act = by_test (opens x) (since_first-more opens own act)
+  where
+    by_test : (b : Bool) → since_first opens (own ++ act ∷ []) ≡ (if has opens own then since_first opens own ++ act ∷ [] else [])
+        → (if b then own ++ act ∷ [] else since_first opens (own ++ act ∷ [])) ≡ (if b || has opens own then (if b then own else since_first opens own) ++ act ∷ [] else [])
+    by_test true more = refl
+    by_test false more = more
 
 raised_is : (i x : ℕ) (t : Option ℕ) → (nat_lt i x || is_above i t) ≡ nat_lt i (raised x t)
 raised_is i x None = or_false (nat_lt i x)
