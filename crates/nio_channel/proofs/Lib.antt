@@ -5,3 +5,4 @@ pub mod Claimed
 pub mod Chains
 pub mod Registered
 pub mod Retrying
+pub mod Idle

@@ -237,7 +237,7 @@ its_key {w = w} {p = p} {q = q} {me = me} c s k steps noted =
         let since = held_since (limits_of w) me c mid legal leaves.step.condition.1 in
         ap (λ evs. (state_after evs).noted c.0 s.0) since.whole
         ∙ found_noted_stays (limits_of w) me c since.before since.later since.keeps s (Some k)
-          (ap (last (noted_found c.0 s.0)) (sym since.own) ∙ (ap (λ own. last (noted_found c.0 s.0) (under c.0 own)) same ∙ noted))
+        (ap (last (noted_found c.0 s.0)) (sym since.own) ∙ (ap (λ own. last (noted_found c.0 s.0) (under c.0 own)) same ∙ noted))
 
 -- so is the answer of a registration
 pub its_answer : {w : Words} {p q : Pass} {me : CallerNo} {c : ChanNo} {s : SelNo} {k : KeyNo} → Steps w p q me (Release c) → HasRegistered w p me c s k → IsKeyOf (view w q) c k

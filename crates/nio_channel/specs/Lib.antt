@@ -1,2 +1,3 @@
 pub mod Registered
 pub mod Held
+pub mod Idle

@@ -63,7 +63,7 @@ fn cancel_in(w: &Words, p: &mut Pass, me: CallerNo, chan: ChanNo, sel: SelNo)
     }
 }
 
-fn cancel(w: &Words, p: &mut Pass, me: CallerNo, sel: SelNo, k: KeyId)
+pub(crate) fn cancel(w: &Words, p: &mut Pass, me: CallerNo, sel: SelNo, k: KeyId)
     requires ready { IsReady w.now p.old me }
     requires inside { IsKey (limits_of w.now) sel k.index }
     requires claimed { IsTrue (is_claimed (state_seen p.old) sel k.index) }

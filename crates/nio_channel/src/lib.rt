@@ -17,4 +17,6 @@ mod looks;
 mod modes;
 mod opening;
 mod registering;
+#[cfg(test)]
+mod tests;
 mod waiting;

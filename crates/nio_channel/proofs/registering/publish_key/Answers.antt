@@ -20,7 +20,7 @@ pub publish-before-requires-clause-may : goal.publish-before-requires-clause-may
 publish-before-requires-clause-may c = may_publish_claimed (enrolled_unblocked c.enrol.ensures (may_note_stays c.swap_note.ensures refl refl (may_note_stays c.swap_interest.ensures refl refl c.requires.may)).unblocked) (claimed_stays c.enrol.ensures refl refl refl (claimed_stays c.swap_note.ensures refl refl refl (claimed_stays c.swap_interest.ensures refl refl refl c.requires.claimed)))
 
 pub returns-then-before-clause-call : goal.returns-then-before-clause-call
-returns-then-before-clause-call c = 
+returns-then-before-clause-call c =
     returned (left_ask _ (step_acts c.swap_interest.ensures refl) (left_ask _ (step_acts c.swap_note.ensures refl) (left_ask _ (step_acts c.enrol.ensures refl) (left_ask _ (step_acts c.publish-before.ensures refl)
     (left_then _ _ _ c.if-before.true (left_after (step_acts c.publish-before.ensures refl)))))))
 
@@ -34,6 +34,6 @@ pub settle_key-requires : goal.settle_key-requires
 settle_key-requires c = has_published c.publish-before.ensures (enrolled_unblocked c.enrol.ensures (may_note_stays c.swap_note.ensures refl refl (may_note_stays c.swap_interest.ensures refl refl c.requires.may)).unblocked) (enrolled_noted c.enrol.ensures) (claimed_stays c.enrol.ensures refl refl refl (claimed_stays c.swap_note.ensures refl refl refl (claimed_stays c.swap_interest.ensures refl refl refl c.requires.claimed)))
 
 pub returns-clause-call : goal.returns-clause-call
-returns-clause-call c = 
+returns-clause-call c =
     returned (left_ask _ (step_acts c.swap_interest.ensures refl) (left_ask _ (step_acts c.swap_note.ensures refl) (left_ask _ (step_acts c.enrol.ensures refl) (left_ask _ (step_acts c.publish-before.ensures refl)
     (left_else _ _ _ c.if-before.false (left_of_call c.settle_key.ensures.call))))))

@@ -15,7 +15,7 @@ pub returns-then-look_gate-clause-pinned : goal.returns-then-look_gate-clause-pi
 returns-then-look_gate-clause-pinned c = stays_pinned c.look_gate.ensures refl refl c.requires.pinned
 
 pub update_key-requires : goal.update_key-requires
-update_key-requires c = 
+update_key-requires c =
     let valid : is_valid_key c.args.stage c.args.k.serial ≡ true = search rules in
     record {
       unblocked = unblocked_stays c.look_gate.ensures refl refl c.requires.unblocked;
@@ -25,7 +25,7 @@ update_key-requires c =
     }
 
 pub returns-then-is_valid_key-clause-call : goal.returns-then-is_valid_key-clause-call
-returns-then-is_valid_key-clause-call c = 
+returns-then-is_valid_key-clause-call c =
     let spared : (is_in_key_set c.args.stage c.args.k.serial && c.args.stage.cancelled) ≡ false = search rules in
     let valid : is_valid_key c.args.stage c.args.k.serial ≡ true = search rules in
     returned (left_else _ _ _ spared (left_ask _ (step_acts c.look_gate.ensures refl) (left_else _ _ _ c.if-look_gate.false (left_then _ _ _ valid

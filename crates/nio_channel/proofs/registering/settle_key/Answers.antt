@@ -14,7 +14,7 @@ pub returns-then-not-found-clause-held : goal.returns-then-not-found-clause-held
 returns-then-not-found-clause-held c = hold_stays c.look_channel-found.ensures refl refl c.requires.known.unblocked.held
 
 pub returns-then-not-found-clause-registered : goal.returns-then-not-found-clause-registered
-returns-then-not-found-clause-registered c = 
+returns-then-not-found-clause-registered c =
     let unclosed : c.look_channel-found.result.closed ≡ false = search rules in
     settled_open c.look_channel-found.ensures unclosed c.requires
 
@@ -28,7 +28,7 @@ pub cancel_key-requires-clause-pinned : goal.cancel_key-requires-clause-pinned
 cancel_key-requires-clause-pinned c = (stays_pinned c.look_channel-found.ensures refl refl c.requires.known.pinned).only.here
 
 pub returns-clause-call : goal.returns-clause-call
-returns-clause-call c = 
+returns-clause-call c =
     let closed : c.look_channel-found.result.closed ≡ true = search rules in
     returned (left_ask _ (step_acts c.look_channel-found.ensures refl)
     (left_choice (λ b. when b (cancel_key c.args.wanted.now.sel c.args.k.index) >> reply (Ok (key c.args.wanted.now.sel c.args.k))) closed

@@ -16,7 +16,7 @@ use Rattle.nio_channel.proofs.registering.try_register.Goals as goal
 
 pub returns-then-not-supports-clause-call : goal.returns-then-not-supports-clause-call
 unfolding register_plan
-returns-then-not-supports-clause-call c = 
+returns-then-not-supports-clause-call c =
     let outside : not (is_within c.args.ops (valid_operations c.look_channel-found.result.kind)) ≡ true = search rules in
     returned (left_ask _ (step_acts c.look_channel-found.ensures refl) (left_then _ _ _ outside (left_after (step_acts c.look_channel-found.ensures refl))))
 
@@ -31,7 +31,7 @@ try_hold_bit-requires-clause-made c = (channel_after (step_acts c.look_channel-f
 
 pub returns-then-is_some-clause-call : goal.returns-then-is_some-clause-call
 unfolding register_plan
-returns-then-is_some-clause-call c = 
+returns-then-is_some-clause-call c =
     let within : not (is_within c.args.ops (valid_operations c.look_channel-found.result.kind)) ≡ false = search rules in
     let held : is_some c.try_hold_bit.result ≡ true = search rules in
     returned (left_ask _ (step_acts c.look_channel-found.ensures refl) (left_else _ _ _ within (left_else _ _ _ c.if-found.false (left_ask _ (step_acts c.try_hold_bit.ensures refl) (left_then _ _ _ held (left_after (step_acts c.try_hold_bit.ensures refl)))))))
@@ -40,12 +40,12 @@ pub returns-then-is_some-clause-unpinned : goal.returns-then-is_some-clause-unpi
 returns-then-is_some-clause-unpinned c = no_pin_stays (step_acts c.try_hold_bit.ensures refl) refl (no_pin_stays (step_acts c.look_channel-found.ensures refl) refl c.requires.unpinned)
 
 pub register_held-answer-requires-clause-held : goal.register_held-answer-requires-clause-held
-register_held-answer-requires-clause-held c = 
+register_held-answer-requires-clause-held c =
     let free : c.try_hold_bit.result ≡ None = search rules in
     takes_the_hold c.try_hold_bit.ensures free (still_ready _ _ _ _ _ _ c.look_channel-found.ensures c.requires.ready) c.requires.channel.inside
 
 pub register_held-answer-requires-clause-unclosed : goal.register_held-answer-requires-clause-unclosed
-register_held-answer-requires-clause-unclosed c = 
+register_held-answer-requires-clause-unclosed c =
     let free : c.try_hold_bit.result ≡ None = search rules in
     unclosed_yet c.try_hold_bit.ensures free
 
@@ -54,7 +54,7 @@ register_held-answer-requires-clause-unpinned c = no_pin_stays (step_acts c.try_
 
 pub returns-clause-call : goal.returns-clause-call
 unfolding register_plan
-returns-clause-call c = 
+returns-clause-call c =
     let within : not (is_within c.args.ops (valid_operations c.look_channel-found.result.kind)) ≡ false = search rules in
     let free : is_some c.try_hold_bit.result ≡ false = search rules in
     returned (left_ask _ (step_acts c.look_channel-found.ensures refl) (left_else _ _ _ within (left_else _ _ _ c.if-found.false (left_ask _ (step_acts c.try_hold_bit.ensures refl)

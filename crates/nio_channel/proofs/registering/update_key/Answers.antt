@@ -9,7 +9,7 @@ use Rattle.nio_channel.proofs.Registered.{knows_key_stays}
 use Rattle.nio_channel.proofs.registering.update_key.Goals as goal
 
 pub returns-then-wanted-eq0-clause-call : goal.returns-then-wanted-eq0-clause-call
-returns-then-wanted-eq0-clause-call c = 
+returns-then-wanted-eq0-clause-call c =
     let none : (c.args.wanted.now.att == 0) ≡ true = search rules in
     returned (left_ask _ (step_acts c.swap_interest.ensures refl) (left_choice (λ b. when (not b) (swap_note c.args.wanted.now.sel c.args.k.index c.args.wanted.now.att) >> reply (Ok (key c.args.wanted.now.sel c.args.k))) none (left_after (step_acts c.swap_interest.ensures refl))))
 
@@ -20,7 +20,7 @@ pub swap_note-requires-clause-pinned : goal.swap_note-requires-clause-pinned
 swap_note-requires-clause-pinned c = (knows_key_stays c.swap_interest.ensures refl refl refl c.requires).pinned.only.here
 
 pub returns-clause-call : goal.returns-clause-call
-returns-clause-call c = 
+returns-clause-call c =
     let given : (c.args.wanted.now.att == 0) ≡ false = search rules in
     returned (left_ask _ (step_acts c.swap_interest.ensures refl) (left_choice (λ b. when (not b) (swap_note c.args.wanted.now.sel c.args.k.index c.args.wanted.now.att) >> reply (Ok (key c.args.wanted.now.sel c.args.k))) given (left_ask _ (step_acts c.swap_note.ensures refl) (left_after (step_acts c.swap_note.ensures refl)))))
 
