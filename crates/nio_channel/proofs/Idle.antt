@@ -3,6 +3,7 @@ use Rattle.std.proofs.Common.{◌≡◌, ◌≢◌, ℕ, ◌==◌, true, false, 
 use Rattle.std.specs.Int.{bit_at}
 use Rattle.std.proofs.lemmas.Bool.{and_parts, and_from, or_left, or_right}
 use Rattle.nio_base.specs.declared.numbers.CallerNo.{CallerNo}
+use Rattle.nio_base.specs.declared.numbers.ChanNo.{ChanNo}
 use Rattle.nio_base.specs.declared.numbers.SelNo.{SelNo}
 use Rattle.nio_event.proofs.Finds.{step_leaves}
 use Rattle.nio_event.proofs.OwnPins.{pins_are_own}
@@ -10,11 +11,11 @@ use Rattle.nio_event.proofs.PassViews.{selector_after}
 use Rattle.nio_event.proofs.Put.{put-same, put_at-same}
 use Rattle.nio_event.proofs.Stays.{beginnings_are_legal}
 use Rattle.nio_event.specs.Acts.{taken_by, frees_index}
-use Rattle.nio_event.specs.Conditions.{IsSelector, is_held_by, has_pin, has_turn, has_begun, has_taken, may_sweep, may_clear_out, may_put_due}
+use Rattle.nio_event.specs.Conditions.{IsSelector, is_made, is_held_by, has_pin, has_turn, has_begun, has_taken, may_sweep, may_clear_out, may_put_due}
 use Rattle.nio_event.specs.Histories.{state_after}
 use Rattle.nio_event.specs.Lasting.{the_turn, a_selection}
 use Rattle.nio_event.specs.OwnEvents.{keeps_pin}
-use Rattle.nio_event.specs.PassViews.{PassView, Holds as HoldsNumber, known, ActsClause, HasNoPin, HasSelector}
+use Rattle.nio_event.specs.PassViews.{PassView, Holds as HoldsNumber, known, ActsClause, HasNoPin, HasSelector, HasChannel}
 use Rattle.nio_event.specs.Sets.{in_cancelled_set}
 use Rattle.nio_event.specs.State.{State}
 use Rattle.nio_event.specs.declared.act.Act.{Act}
@@ -45,7 +46,7 @@ holds_number {p = p} n ready = eq-eqb (bit_at (numbers_of p) n.0) 1 ready.number
 one_other : one ≢ zero
 one_other same = let clash : 1 ≡ 0 = ap (λ (n : CallerNo). n.0) same in absurd (omega (arith, clash))
 
-zero_other : zero ≢ one
+pub zero_other : zero ≢ one
 zero_other same = let clash : 0 ≡ 1 = ap (λ (n : CallerNo). n.0) same in absurd (omega (arith, clash))
 
 -- the pins of another caller stay
@@ -182,3 +183,14 @@ may_put_removed {w = w} {p = p} {q = q} {me = me} {s = s} {i = i} {stage = stage
     (and_from (has_begun (state_seen q) me s) ((state_seen q).put_due s.0 i) still
     (ap (λ st. st.put_due s.0 i) leaves.state ∙ (put_at-same before.put_due s.0 i (before.put_due s.0 i || (before.begun s.0 && frees_index stage))
     ∙ or_right (before.put_due s.0 i) (before.begun s.0 && frees_index stage) (and_from (before.begun s.0) (frees_index stage) there frees))))
+
+-- ---- passes that have seen the same
+
+pub unpinned_same : (w : Words) (p q : Pass) (n : CallerNo) → seen q ≡ seen p → HasNoPin (view w p) n → HasNoPin (view w q) n
+unpinned_same w p q n same none s i = ap (λ events. has_pin (state_after events) n s i) same ∙ none s i
+
+pub selector_same : (w : Words) (p q : Pass) {s : SelNo} → seen q ≡ seen p → HasSelector (view w p) s → HasSelector (view w q) s
+selector_same w p q {s = s} same has = record { inside = has.inside; made = ap (λ events. (state_after events).selector s.0) same ∙ has.made }
+
+pub channel_same : (w : Words) (p q : Pass) {c : ChanNo} → seen q ≡ seen p → HasChannel (view w p) c → HasChannel (view w q) c
+channel_same w p q {c = c} same has = record { inside = has.inside; made = ap (λ events. is_made (state_after events) c) same ∙ has.made }

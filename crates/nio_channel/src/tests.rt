@@ -1,9 +1,10 @@
-//! Each call on a channel with its answer and with each refusal; and an index that is given to a second key.
+//! Each call on a channel with its answer and with each refusal; an index that is given to a second
+//! key; two threads that register and close one channel; and the largest table.
 ghost use Rattle.std.specs.Prelude.{◌≡◌, IfOk};
 ghost use Rattle.nio_base.specs.declared.numbers.ChanNo.{ChanNo as AChannel};
 ghost use Rattle.nio_base.specs.declared.numbers.KeyNo.{KeyNo as AKey};
 ghost use Rattle.nio_event.specs.Conditions.{IsKey, IsSelector};
-ghost use Rattle.nio_event.specs.PassViews.{HasChannel, HasKey};
+ghost use Rattle.nio_event.specs.PassViews.{HasChannel, HasKey, HasNoPin, HasSelector};
 ghost use Rattle.nio_words.specs.Passes.{IsReady, limits_of, seen};
 ghost use Rattle.nio_words.specs.Views.{view};
 ghost use Rattle.nio_channel.specs.Idle.{AreIdle, drawn};
@@ -14,12 +15,20 @@ use nio_base::{CallerNo, ChanNo, KeyId, KeyNo, Kind, Limits, Ops, SelNo};
 use nio_words::{Pass, Words};
 use std::process::Abort;
 use std::test::Fail;
+use std::thread::join;
 
 const SMALL: Limits = Limits {
     callers: 2,
     selectors: 1,
     channels: 2,
     keys: 1,
+};
+
+const LARGEST: Limits = Limits {
+    callers: 2,
+    selectors: 1,
+    channels: 262_144,
+    keys: 262_144,
 };
 
 const ZERO: CallerNo = CallerNo(0);
@@ -284,5 +293,80 @@ fn an_index_is_given_to_a_second_key(rt: HostRuntime) -> Result<(), Fail> {
         Err(ChannelError::Full)
     );
     assert_eq!(rt; registered(&words, &mut p, second), Ok(key(1)));
+    Ok(())
+}
+
+/// Registers the channel and cancels its key.
+fn registers_and_cancels(w: &Words, p: &mut Pass, me: CallerNo, chan: ChanNo)
+    requires ready { IsReady w.now p.old me }
+    requires unpinned { HasNoPin (view w.now p.old) me }
+    requires selector { HasSelector (view w.now p.old) S }
+    requires channel { HasChannel (view w.now p.old) chan }
+    ensures ready { IsReady w.now p.new me }
+    ensures unpinned { HasNoPin (view w.now p.new) me }
+    ensures channel { HasChannel (view w.now p.new) chan }
+{
+    if let Ok(key) = try_register(w, p, me, S, chan, Ops::READ, 0) {
+        let k = KeyId {
+            index: key.index,
+            serial: key.serial,
+        };
+        cancel(w, p, me, key.sel, k);
+    }
+}
+
+/// Registers the channel, cancels its key and closes it. Says whether this closed it.
+fn registers_and_closes(w: &Words, mut p: Pass, me: CallerNo, chan: ChanNo) -> (Pass, bool)
+    requires ready { IsReady w.now p me }
+    requires unpinned { HasNoPin (view w.now p) me }
+    requires selector { HasSelector (view w.now p) S }
+    requires channel { HasChannel (view w.now p) chan }
+    ensures { IsReady w.now result.0 me }
+{
+    registers_and_cancels(w, &mut p, me, chan);
+    let closed = close_channel(w, &mut p, me, chan);
+    (p, closed)
+}
+
+#[test]
+fn two_threads_register_and_close(rt: HostRuntime) -> Result<(), Fail> {
+    let (words, mut p) = Words::make(rt.alloc(), SMALL)?;
+    words.draw(&mut p, ZERO)?;
+    words.draw(&mut p, ONE)?;
+    set_up(&words, &mut p);
+    let chan = open(&words, &mut p, Kind::Source)?;
+    answer(&words, &mut p, chan, OnChannel::SetBlocking(false));
+    let q = words.hand_over(&mut p, ONE)?;
+    let ((mut p, first), (q, second)) = join(
+        &rt,
+        || -> (Pass, bool)
+            requires { IsReady words p ZERO × HasNoPin (view words p) ZERO × HasSelector (view words p) S × HasChannel (view words p) chan }
+            ensures { IsReady words result.0 ZERO }
+        { registers_and_closes(&words, p, ZERO, chan) },
+        || -> (Pass, bool)
+            requires { IsReady words q ONE × HasNoPin (view words q) ONE × HasSelector (view words q) S × HasChannel (view words q) chan }
+            ensures { IsReady words result.0 ONE }
+        { registers_and_closes(&words, q, ONE, chan) },
+    );
+    assert!(rt; first != second, "one of them closed the channel");
+    words.join(&mut p, q);
+    let stage = words.look_key(&mut p, ZERO, S, 0);
+    assert!(rt; !stage.is_valid_key(stage.serial));
+    Ok(())
+}
+
+#[test]
+fn largest_table(rt: HostRuntime) -> Result<(), Fail> {
+    let (words, mut p) = Words::make(rt.alloc(), LARGEST)?;
+    words.draw(&mut p, ZERO)?;
+    words.draw(&mut p, ONE)?;
+    set_up(&words, &mut p);
+    for _ in 1..LARGEST.channels {
+        open(&words, &mut p, Kind::Source)?;
+    }
+    let last = open(&words, &mut p, Kind::Source)?;
+    assert_eq!(rt; last, ChanNo(262_143));
+    answer(&words, &mut p, last, OnChannel::SetBlocking(false));
+    assert_eq!(rt; registered(&words, &mut p, last), Ok(key(0)));
     Ok(())
 }
