@@ -108,10 +108,12 @@ ends_from l now [] [] later runs order = record {
   is_run = asks_interrupted l;
 }
 ends_from l now [] (act ∷ acts) later runs order = absurd (cc runs)
-ends_from l now (call ∷ calls) acts later runs order = by_case (cut_twice acts later runs.first runs.second runs.parts)
+ends_from l now (call ∷ calls) acts later runs order =
+    by_case (λ between rest. ends_from l (after_call now call) calls between later rest order.1) (cut_twice acts later runs.first runs.second runs.parts)
   where
-    by_case : Earlier acts runs.first ⊎ Further acts later runs.first runs.second → EndsFrom l now acts
-    by_case (inl cut) = record {
+    by_case : ((between : List Act) → AreRuns l calls (between ++ later) → EndsFrom l (after_call now call) between)
+        → Earlier acts runs.first ⊎ Further acts later runs.first runs.second → EndsFrom l now acts
+    by_case further (inl cut) = record {
       made = [];
       begun = acts;
       parts = refl;
@@ -123,8 +125,8 @@ ends_from l now (call ∷ calls) acts later runs order = by_case (cut_twice acts
       later = cut.between;
       is_run = subst (IsRun l call) cut.parts runs.is_first;
     }
-    by_case (inr cut) =
-        let rest = ends_from l (after_call now call) calls cut.between later (subst (AreRuns l calls) cut.rest runs.is_second) order.1 in
+    by_case further (inr cut) =
+        let rest = further cut.between (subst (AreRuns l calls) cut.rest runs.is_second) in
         record {
           made = runs.first ++ rest.made;
           begun = rest.begun;
