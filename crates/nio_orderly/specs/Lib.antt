@@ -1,3 +1,5 @@
 pub mod Made
 pub mod Orderly
 pub mod OrderlyLaws
+pub mod Careful
+pub mod Owed

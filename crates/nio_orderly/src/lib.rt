@@ -1,6 +1,4 @@
 //! Histories in which each caller makes whole calls, and the cancellations owed in them.
 #![tactic(auto)]
 
-pub use laws::orderly_law;
-
-mod laws;
+pub mod laws;
