@@ -1,5 +1,4 @@
 //! Laws of orderly and of careful histories. Each is the contract of a function that does nothing.
-ghost use Rattle.nio_orderly.specs.Careful.{BeginningsAreCareful};
 ghost use Rattle.nio_orderly.specs.OrderlyLaws.{BeginningsAreOrderly, WholeIsOrderly, OneCallMore, OrderlyEndsInCall, SerialIsWhole, SerialCallMore};
 
 /// A beginning of an orderly history is orderly. In a serial history each caller makes whole calls, and so it
@@ -11,9 +10,4 @@ pub fn orderly_law()
     ensures ends { OrderlyEndsInCall }
     ensures serial { SerialIsWhole }
     ensures serial_more { SerialCallMore }
-{}
-
-/// A beginning of a careful history is careful.
-pub fn careful_law()
-    ensures beginnings { BeginningsAreCareful }
 {}
