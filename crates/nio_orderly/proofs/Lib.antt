@@ -1,3 +1,4 @@
 pub mod CallLists
 pub mod LookingBack
 pub mod ListWords
+pub mod Kept
