@@ -93,17 +93,14 @@ kept-append l xs ys first second = record {
         subst (λ acts. owes (clearing_duty s.0 i) acts ≡ false) (sym there.later_is) (owes-append (clearing_duty s.0 i) there.rest ys (first.enters before s there.rest there.parts i))
     enters_in before s later i (inr there) = second.enters there.start s later there.parts i
 
--- ---- of calm acts
+-- ---- of acts that leave nothing to do
 
--- it neither publishes a key, nor closes a channel, nor asks to clear a selector out
-abbrev pub calm : Question → Bool
-calm (Question.publish s i) = false
-calm (Question.close_bit c) = false
-calm (Question.enter s) = false
-calm _ = true
-
+-- it published a key, closed a channel that was open, or found a selector's turn free as its closer
 abbrev pub is_loud : Act → Bool
-is_loud act = not (calm (question_of act))
+is_loud (Publish s i found) = true
+is_loud (CloseBit c false) = true
+is_loud (Enter s None) = true
+is_loud _ = false
 
 pub kept-calm : (l : Limits) (acts : List Act) → has is_loud acts ≡ false → Kept l acts
 kept-calm l acts none = record {
@@ -115,11 +112,91 @@ kept-calm l acts none = record {
 pub kept-none : (l : Limits) → Kept l []
 kept-none l = kept-calm l [] refl
 
+-- it asks for no such act
+abbrev pub calm : Question → Bool
+calm (Question.publish s i) = false
+calm (Question.close_bit c) = false
+calm (Question.enter s) = false
+calm _ = true
+
+pub calm-act : (act : Act) → calm (question_of act) ≡ true → is_loud act ≡ false
+calm-act (Publish s i found) is = absurd (cc is)
+calm-act (CloseBit c found) is = absurd (cc is)
+calm-act (Enter s found) is = absurd (cc is)
+calm-act _ is = refl
+
 pub calm-one : (act : Act) → calm (question_of act) ≡ true → has is_loud (act ∷ []) ≡ false
-calm-one act is = ap (λ b. not b || false) is
+calm-one act is = ap (λ b. b || false) (calm-act act is)
 
 pub kept-one : (l : Limits) (act : Act) → calm (question_of act) ≡ true → Kept l (act ∷ [])
 kept-one l act is = kept-calm l (act ∷ []) (calm-one act is)
+
+-- ---- of an act that leaves something to do, and acts that do it
+
+-- the first act is this one, or the other is further
+first_or_later : {X : Type 0} (x : X) (xs before : List X) (e : X) (later : List X) → x ∷ xs ≡ before ++ e ∷ later
+    → ((x ≡ e) × (xs ≡ later)) ⊎ ((further : List X) × (before ≡ x ∷ further) × (xs ≡ further ++ e ∷ later))
+first_or_later x xs [] e later same = inl (cc same, cc same)
+first_or_later {X = X} x xs (y ∷ before) e later same = let head : x ≡ y = cc same in inr (before, ap (λ (z : X). z ∷ before) (sym head), cc same)
+
+further_kept : (act : Act) (before further : List Act) (s : SelNo) (i : ℕ) (found : Stage) (later : List Act) → before ≡ act ∷ further → PublishKept further s i found later
+    → PublishKept before s i found later
+further_kept act before further s i found later is kept =
+    subst (λ done. PublishKept done s i found later) (sym is) (subst (PublishKept (act ∷ further) s i found) (append-nil later) (publish_amid (act ∷ []) further s i found later [] kept))
+
+pub kept-closing : (l : Limits) (c : ChanNo) (acts : List Act) → Kept l acts → ((s : ℕ) (k : KeyId) → s < l.selectors → owes (closing_duty c.0 s k) acts ≡ false) → Kept l (CloseBit c false ∷ acts)
+kept-closing l c acts kept settled = record {
+  publishes = λ before s i found later parts. publishes_in before s i found later (first_or_later (CloseBit c false) acts before (Publish s i found) later parts);
+  closes = λ before c' later parts s k below. closes_in before c' later s k below (first_or_later (CloseBit c false) acts before (CloseBit c' false) later parts);
+  enters = λ before s later parts i. enters_in before s later i (first_or_later (CloseBit c false) acts before (Enter s None) later parts);
+}
+  where
+    publishes_in : (before : List Act) (s : SelNo) (i : ℕ) (found : Stage) (later : List Act)
+        → ((CloseBit c false ≡ Publish s i found) × (acts ≡ later)) ⊎ ((further : List Act) × (before ≡ CloseBit c false ∷ further) × (acts ≡ further ++ Publish s i found ∷ later))
+        → PublishKept before s i found later
+    publishes_in before s i found later (inl first) = absurd (cc first.0)
+    publishes_in before s i found later (inr there) = further_kept (CloseBit c false) before there.0 s i found later there.1 (kept.publishes there.0 s i found later there.2)
+
+    closes_in : (before : List Act) (c' : ChanNo) (later : List Act) (s : ℕ) (k : KeyId) → s < l.selectors
+        → ((CloseBit c false ≡ CloseBit c' false) × (acts ≡ later)) ⊎ ((further : List Act) × (before ≡ CloseBit c false ∷ further) × (acts ≡ further ++ CloseBit c' false ∷ later))
+        → owes (closing_duty c'.0 s k) later ≡ false
+    closes_in before c' later s k below (inl first) =
+        let same : c ≡ c' = cc first.0 in
+        ap (λ (d : ChanNo). owes (closing_duty d.0 s k) later) (sym same) ∙ (ap (owes (closing_duty c.0 s k)) (sym first.1) ∙ settled s k below)
+    closes_in before c' later s k below (inr there) = kept.closes there.0 c' later there.2 s k below
+
+    enters_in : (before : List Act) (s : SelNo) (later : List Act) (i : ℕ)
+        → ((CloseBit c false ≡ Enter s None) × (acts ≡ later)) ⊎ ((further : List Act) × (before ≡ CloseBit c false ∷ further) × (acts ≡ further ++ Enter s None ∷ later))
+        → owes (clearing_duty s.0 i) later ≡ false
+    enters_in before s later i (inl first) = absurd (cc first.0)
+    enters_in before s later i (inr there) = kept.enters there.0 s later there.2 i
+
+pub kept-entering : (l : Limits) (s : SelNo) (acts : List Act) → Kept l acts → ((i : ℕ) → owes (clearing_duty s.0 i) acts ≡ false) → Kept l (Enter s None ∷ acts)
+kept-entering l s acts kept settled = record {
+  publishes = λ before s' i found later parts. publishes_in before s' i found later (first_or_later (Enter s None) acts before (Publish s' i found) later parts);
+  closes = λ before c later parts s' k below. closes_in before c later s' k below (first_or_later (Enter s None) acts before (CloseBit c false) later parts);
+  enters = λ before s' later parts i. enters_in before s' later i (first_or_later (Enter s None) acts before (Enter s' None) later parts);
+}
+  where
+    publishes_in : (before : List Act) (s' : SelNo) (i : ℕ) (found : Stage) (later : List Act)
+        → ((Enter s None ≡ Publish s' i found) × (acts ≡ later)) ⊎ ((further : List Act) × (before ≡ Enter s None ∷ further) × (acts ≡ further ++ Publish s' i found ∷ later))
+        → PublishKept before s' i found later
+    publishes_in before s' i found later (inl first) = absurd (cc first.0)
+    publishes_in before s' i found later (inr there) = further_kept (Enter s None) before there.0 s' i found later there.1 (kept.publishes there.0 s' i found later there.2)
+
+    closes_in : (before : List Act) (c : ChanNo) (later : List Act) (s' : ℕ) (k : KeyId) → s' < l.selectors
+        → ((Enter s None ≡ CloseBit c false) × (acts ≡ later)) ⊎ ((further : List Act) × (before ≡ Enter s None ∷ further) × (acts ≡ further ++ CloseBit c false ∷ later))
+        → owes (closing_duty c.0 s' k) later ≡ false
+    closes_in before c later s' k below (inl first) = absurd (cc first.0)
+    closes_in before c later s' k below (inr there) = kept.closes there.0 c later there.2 s' k below
+
+    enters_in : (before : List Act) (s' : SelNo) (later : List Act) (i : ℕ)
+        → ((Enter s None ≡ Enter s' None) × (acts ≡ later)) ⊎ ((further : List Act) × (before ≡ Enter s None ∷ further) × (acts ≡ further ++ Enter s' None ∷ later))
+        → owes (clearing_duty s'.0 i) later ≡ false
+    enters_in before s' later i (inl first) =
+        let same : s ≡ s' = cc first.0 in
+        ap (λ (t : SelNo). owes (clearing_duty t.0 i) later) (sym same) ∙ (ap (owes (clearing_duty s.0 i)) (sym first.1) ∙ settled i)
+    enters_in before s' later i (inr there) = kept.enters there.0 s' later there.2 i
 
 -- ---- of plans
 

@@ -2,3 +2,4 @@ pub mod CallLists
 pub mod LookingBack
 pub mod ListWords
 pub mod Kept
+pub mod ClosingsKept
