@@ -3,3 +3,4 @@ pub mod LookingBack
 pub mod ListWords
 pub mod Kept
 pub mod ClosingsKept
+pub mod CallsKept
