@@ -4,3 +4,4 @@ pub mod ListWords
 pub mod Kept
 pub mod ClosingsKept
 pub mod CallsKept
+pub mod Registration

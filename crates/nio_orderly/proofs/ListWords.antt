@@ -86,6 +86,11 @@ count-none p (x ∷ xs) none =
     let rest = count-none p xs (not_second (p x) (has p xs) none) in
     omega (arith, sum_by-cons (λ y. cond {A = ℕ} (p y) 1 0) x xs, here, rest)
 
+pub count-one : (p : Act → Bool) (act : Act) → p act ≡ true → count p (act ∷ []) ≡ 1
+count-one p act such =
+    let here : cond {A = ℕ} (p act) 1 0 ≡ 1 = ap (λ b. cond b 1 0) such in
+    omega (arith, sum_by-cons (λ y. cond {A = ℕ} (p y) 1 0) act [], here)
+
 -- ---- spans
 
 -- a span that goes on over these acts

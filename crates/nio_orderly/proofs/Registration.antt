@@ -1,0 +1,396 @@
+-- A registration that publishes a key keeps the rules of careful histories, and leaves no key to cancel.
+use Rattle.std.proofs.Common.{◌≡◌, ℕ, zero, suc, ◌+◌, ◌-◌, ◌*◌, ◌<◌, ◌==◌, nat_lt, Bool, true, false, not, ◌&&◌, ◌||◌, if◌then◌else◌, Option, Some, None, is_some, Result, Ok, Err, List, [], ◌∷◌, ◌++◌, refl, ap, sym, ◌∙◌, subst, append_assoc, eq-eqb, arith, ◌⊎◌, inl, inr}
+use Rattle.std.proofs.lemmas.Bool.{and_parts, lt-ltb}
+use Rattle.std.proofs.lemmas.List.{append-nil}
+use Rattle.nio_base.specs.Kind.{valid_operations}
+use Rattle.nio_base.specs.declared.limits.Limits.{Limits}
+use Rattle.nio_base.specs.declared.numbers.CallerNo.{CallerNo}
+use Rattle.nio_base.specs.declared.numbers.ChanNo.{ChanNo}
+use Rattle.nio_base.specs.declared.numbers.KeyId.{KeyId}
+use Rattle.nio_base.specs.declared.numbers.KeyNo.{KeyNo}
+use Rattle.nio_base.specs.declared.numbers.SelNo.{SelNo}
+use Rattle.nio_event.proofs.Claims.{claim_after, own_claim-more}
+use Rattle.nio_event.proofs.OneMore.{since_from-more}
+use Rattle.nio_event.specs.OwnEvents.{OwnClaim, has, count, under, since_from, since_first, takes_hold, releases, sets_mode, claim_changed, own_claim}
+use Rattle.nio_event.specs.Questions.{Question, Answer, question_of, answer_of}
+use Rattle.nio_event.specs.declared.act.Act.{Act}
+use Rattle.nio_event.specs.declared.act.Act.TheVariants.{LookGate, CancelKey, LookChannel, Claim, RaiseKeys, LookKeys, Publish, Enrol, TryHoldBit, Release, SetMode, CloseBit, Enter, Unpin, ClaimAgain}
+use Rattle.nio_event.specs.declared.found.Stage.{Stage}
+use Rattle.nio_orderly.proofs.Kept.{PublishKept, Kept, kept-calm, is_loud}
+use Rattle.nio_orderly.proofs.ListWords.{InFirst, InSecond, split_at, nothing_there, has-append, has-first, has-second, has-neither, no_such_act, count-append, count-none, count-one, since_from-none, since_first-append, until_released-done, owes-append}
+use Rattle.nio_orderly.specs.Careful.{notes_for, notes_key, claims, leaves_below, finds_open, until_released, its_hold, is_prepared}
+use Rattle.nio_orderly.specs.Owed.{owes, publisher_duty, settles_key}
+use Rattle.nio_steps.specs.ChannelCalls.{under_hold, register_noted, register_over, claim_taken, claim_free, claim_at_bit, claim_in_word, search_free, words_below, claim_new, settle_key, publish_key, make_key, make_claimed, register_first, register_again, register_next, register_new, register_rest, register_unblocked, register_held, register_plan}
+use Rattle.nio_steps.specs.KeyCalls.{has_bit, is_within, under_pin}
+use Rattle.nio_steps.specs.Plan.{Plan, reply, ask, ◌>>=◌, ◌>>◌}
+use Rattle.nio_steps.specs.Runs.{Completes}
+use Rattle.nio_steps.specs.Steps.{flag_in, word_in, gate_in, stage_in, channel_in, number_in, holder_in, put_free}
+use Rattle.nio_steps.specs.Sweeps.{found_or, seek, seek_to}
+use Rattle.nio_steps.specs.declared.refusal.ChannelError.{ChannelError}
+
+-- ---- following a plan
+
+-- after whatever acts along the plan, `End` holds of what the caller has done by then and of the reply
+abbrev pub Leads : {R : Type 0} → (List Act → R → Type 0) → List Act → Plan R → Type 0
+Leads End own (reply r) = End own r
+Leads End own (ask question next) = (act : Act) → question_of act ≡ question → Leads End (own ++ act ∷ []) (next (answer_of act))
+
+pub leads_run : {R : Type 0} (End : List Act → R → Type 0) (own : List Act) (plan : Plan R) (acts : List Act) (r : R) → Leads End own plan → Completes plan acts r → End (own ++ acts) r
+leads_run End own (reply a) [] r here run = let same : a ≡ r = cc run in subst (λ xs. End xs r) (sym (append-nil own)) (subst (End own) same here)
+leads_run End own (reply a) (act ∷ acts) r here run = absurd run
+leads_run End own (ask q next) [] r here run = absurd (cc run)
+leads_run End own (ask q next) (act ∷ acts) r here run =
+    subst (λ xs. End xs r) (append_assoc own (act ∷ []) acts) (leads_run End (own ++ act ∷ []) (next (answer_of act)) acts r (here act run.0) run.1)
+
+pub leads_bind : {A B : Type 0} (Mid : List Act → A → Type 0) (End : List Act → B → Type 0) (own : List Act) (plan : Plan A) (f : A → Plan B)
+    → Leads Mid own plan → ((own' : List Act) (a : A) → Mid own' a → Leads End own' (f a)) → Leads End own (plan >>= f)
+leads_bind Mid End own (reply a) f here later = later own a here
+leads_bind Mid End own (ask q next) f here later = λ act asks. leads_bind Mid End (own ++ act ∷ []) (next (answer_of act)) f (here act asks) later
+
+pub leads_if : {R : Type 0} (End : List Act → R → Type 0) (own : List Act) (b : Bool) (x y : Plan R) → (b ≡ true → Leads End own x) → (b ≡ false → Leads End own y) → Leads End own (if b then x else y)
+leads_if End own true x y this that = this refl
+leads_if End own false x y this that = that refl
+
+-- what a search leaves: it found something, or goes on
+abbrev pub Here : {A : Type 0} → (List Act → Type 0) → (List Act → A → Type 0) → List Act → Option A → Type 0
+Here Before Found own None = Before own
+Here Before Found own (Some x) = Found own x
+
+leads_tries : {A : Type 0} (Before : List Act → Type 0) (Found : List Act → A → Type 0) (n i : ℕ) (own : List Act) (f : ℕ → Plan (Option A))
+    → ((k : ℕ) (own' : List Act) → Before own' → Leads (Here Before Found) own' (f k)) → Before own → Leads (Here Before Found) own (seek n i f)
+unfolding seek
+leads_tries Before Found zero i own f each here = here
+leads_tries {A = A} Before Found (suc n) i own f each here =
+    leads_bind (Here Before Found) (Here Before Found) own (f i) (found_or (seek n (i + 1) f)) (each i own here)
+    (by_found (λ own' before. leads_tries Before Found n (i + 1) own' f each before))
+  where
+    by_found : ((own' : List Act) → Before own' → Leads (Here Before Found) own' (seek n (i + 1) f))
+        → (own' : List Act) (x : Option A) → Here Before Found own' x → Leads (Here Before Found) own' (found_or (seek n (i + 1) f) x)
+    by_found later own' (Some x) found = found
+    by_found later own' None before = later own' before
+
+pub leads_seek : {A : Type 0} (Before : List Act → Type 0) (Found : List Act → A → Type 0) (b i : ℕ) (own : List Act) (f : ℕ → Plan (Option A))
+    → ((k : ℕ) (own' : List Act) → Before own' → Leads (Here Before Found) own' (f k)) → Before own → Leads (Here Before Found) own (seek_to b i f)
+leads_seek Before Found b i own f each here = leads_tries Before Found (b - i) i own f each here
+
+-- ---- before a key is noted
+
+-- the caller has noted and published no key, set no mode, closed nothing
+record Quiet (c : ChanNo) (own : List Act) : Type 0 where
+  unnoted : has (notes_for c.0) own ≡ false
+  unset : has (sets_mode c.0) own ≡ false
+  calm : has is_loud own ≡ false
+
+-- and it holds the channel
+record Holding (c : ChanNo) (own : List Act) : Type 0 where
+  held : has (takes_hold c.0) own ≡ true
+  quiet : Quiet c own
+
+-- a question that changes nothing of this
+abbrev still : Question → Bool
+still (Question.enrol c s i serial) = false
+still (Question.set_mode c blocking) = false
+still (Question.publish s i) = false
+still (Question.close_bit c) = false
+still (Question.enter s) = false
+still _ = true
+
+quiet-none : (c : ChanNo) → Quiet c []
+quiet-none c = record { unnoted = refl; unset = refl; calm = refl }
+
+quiet-one : (c : ChanNo) (act : Act) → still (question_of act) ≡ true → Quiet c (act ∷ [])
+quiet-one c (Enrol c' s i serial found) is = absurd (cc is)
+quiet-one c (SetMode c' blocking found) is = absurd (cc is)
+quiet-one c (Publish s i found) is = absurd (cc is)
+quiet-one c (CloseBit c' found) is = absurd (cc is)
+quiet-one c (Enter s found) is = absurd (cc is)
+quiet-one c _ is = record { unnoted = refl; unset = refl; calm = refl }
+
+quiet-append : (c : ChanNo) (xs ys : List Act) → Quiet c xs → Quiet c ys → Quiet c (xs ++ ys)
+quiet-append c xs ys first second = record {
+  unnoted = has-neither (notes_for c.0) xs ys first.unnoted second.unnoted;
+  unset = has-neither (sets_mode c.0) xs ys first.unset second.unset;
+  calm = has-neither is_loud xs ys first.calm second.calm;
+}
+
+quiet-more : (c : ChanNo) (own : List Act) (act : Act) → still (question_of act) ≡ true → Quiet c own → Quiet c (own ++ act ∷ [])
+quiet-more c own act is before = quiet-append c own (act ∷ []) before (quiet-one c act is)
+
+holding-more : (c : ChanNo) (own : List Act) (act : Act) → still (question_of act) ≡ true → Holding c own → Holding c (own ++ act ∷ [])
+holding-more c own act is before = record { held = has-first (takes_hold c.0) own (act ∷ []) before.held; quiet = quiet-more c own act is before.quiet }
+
+-- ---- plans that leave it so
+
+record Stays (c : ChanNo) {R : Type 0} (plan : Plan R) : Type 0 where
+  leads : (own : List Act) → Holding c own → Leads (λ own' _. Holding c own') own plan
+
+stays_reply : {R : Type 0} {c : ChanNo} (r : R) → Stays c (reply r)
+stays_reply r = record { leads = λ own here. here }
+
+stays_ask : {R : Type 0} {c : ChanNo} (question : Question) (next : Answer → Plan R) → still question ≡ true → ((answer : Answer) → Stays c (next answer)) → Stays c (ask question next)
+stays_ask {c = c} question next is later = record {
+  leads = λ own here act asks. (later (answer_of act)).leads (own ++ act ∷ []) (holding-more c own act (ap still asks ∙ is) here);
+}
+
+stays_bind : {A B : Type 0} {c : ChanNo} (plan : Plan A) (f : A → Plan B) → Stays c plan → ((a : A) → Stays c (f a)) → Stays c (plan >>= f)
+stays_bind {c = c} plan f here later = record {
+  leads = λ own holding. leads_bind (λ own' _. Holding c own') (λ own' _. Holding c own') own plan f (here.leads own holding) (λ own' a holding'. (later a).leads own' holding');
+}
+
+stays_if : {R : Type 0} {c : ChanNo} (b : Bool) (x y : Plan R) → Stays c x → Stays c y → Stays c (if b then x else y)
+stays_if {c = c} b x y this that = record {
+  leads = λ own holding. leads_if (λ own' _. Holding c own') own b x y (λ _. this.leads own holding) (λ _. that.leads own holding);
+}
+
+ruleset staying = (stays_reply, stays_ask, stays_bind, stays_if)
+
+over-stays : {c : ChanNo} (s : SelNo) (ops att : ℕ) (noted : Option KeyId) → Stays c (register_over s ops att noted)
+over-stays s ops att None = search staying depth 12
+over-stays s ops att (Some k) =
+    stays_ask _ _ refl (λ answer. stays_bind (register_noted s ops att k (stage_in answer)) _ (search staying depth 16) (λ over. stays_ask _ _ refl (λ _. stays_reply over)))
+
+-- ---- an index for the key
+
+-- the caller claimed the key's index for the channel, and has the pin of that claim
+record Claimed (s : SelNo) (c : ChanNo) (k : KeyId) (own : List Act) : Type 0 where
+  holding : Holding c own
+  claim : own_claim s.0 k.index own ≡ Some (record { channel = c; serial = k.serial })
+
+-- and it found the keys' mark above the index, or raised it above
+record Below (s : SelNo) (c : ChanNo) (k : KeyId) (own : List Act) : Type 0 where
+  claimed : Claimed s c k own
+  below : has (leaves_below s.0 k.index) own ≡ true
+
+-- the caller found the keys' mark so
+record Marked (s : SelNo) (c : ChanNo) (mark : ℕ) (own : List Act) : Type 0 where
+  holding : Holding c own
+  below : (i : ℕ) → nat_lt i mark ≡ true → has (leaves_below s.0 i) own ≡ true
+
+marked-more : (s : SelNo) (c : ChanNo) (mark : ℕ) (own : List Act) (act : Act) → still (question_of act) ≡ true → Marked s c mark own → Marked s c mark (own ++ act ∷ [])
+marked-more s c mark own act is before = record {
+  holding = holding-more c own act is before.holding;
+  below = λ i low. has-first (leaves_below s.0 i) own (act ∷ []) (before.below i low);
+}
+
+same_place : (s : SelNo) (i : ℕ) (s' : SelNo) (i' : ℕ) → s' ≡ s → i' ≡ i → ((s'.0 == s.0) && (i' == i)) ≡ true
+same_place s i s' i' first second =
+    ap (λ (x : SelNo). (x.0 == s.0) && (i' == i)) first ∙ (ap (λ (x : ℕ). (s.0 == s.0) && (x == i)) second
+    ∙ (ap (λ b. b && (i == i)) (eq-eqb s.0 s.0 refl) ∙ eq-eqb i i refl))
+
+-- a claim that succeeded is the caller's claim of the index
+claims-new : (s : SelNo) (i : ℕ) (c : ChanNo) (own : List Act) (act : Act) → question_of act ≡ Question.claim s i c → flag_in (answer_of act) ≡ false
+    → own_claim s.0 i (own ++ act ∷ []) ≡ Some (record { channel = c; serial = 0 })
+claims-new s i c own (Claim s' i' c' false) asks free =
+    let channel' : c' ≡ c = cc asks in
+    own_claim-more s.0 i own (Claim s' i' c' false)
+    ∙ (ap (λ b. claim_after (if b then Some (Some (record { channel = c'; serial = 0 })) else None) (own_claim s.0 i own)) (same_place s i s' i' (cc asks) (cc asks))
+    ∙ ap (λ (d : ChanNo). Some (record { channel = d; serial = 0 })) channel')
+claims-new s i c own (Claim s' i' c' true) asks free = absurd (cc free)
+claims-new s i c own _ asks free = absurd (cc asks)
+
+claims-again : (s : SelNo) (i : ℕ) (c : ChanNo) (from : Stage) (own : List Act) (act : Act) → question_of act ≡ Question.claim_again s i c from → flag_in (answer_of act) ≡ false
+    → own_claim s.0 i (own ++ act ∷ []) ≡ Some (record { channel = c; serial = suc from.serial })
+claims-again s i c from own (ClaimAgain s' i' c' from' false) asks free =
+    let channel' : c' ≡ c = cc asks in
+    let from_is : from' ≡ from = cc asks in
+    own_claim-more s.0 i own (ClaimAgain s' i' c' from' false)
+    ∙ (ap (λ b. claim_after (if b then Some (Some (record { channel = c'; serial = suc from'.serial })) else None) (own_claim s.0 i own)) (same_place s i s' i' (cc asks) (cc asks))
+    ∙ (ap (λ (d : ChanNo). Some (record { channel = d; serial = suc from'.serial })) channel' ∙ ap (λ (f : Stage). Some (record { channel = c; serial = suc f.serial })) from_is))
+claims-again s i c from own (ClaimAgain s' i' c' from' true) asks free = absurd (cc free)
+claims-again s i c from own _ asks free = absurd (cc asks)
+
+claim_taken-leads : (s : SelNo) (c : ChanNo) (mark i : ℕ) (own : List Act) → nat_lt i mark ≡ true → Marked s c mark own
+    → Leads (Here (Marked s c mark) (λ own' k. Below s c k own')) own (claim_taken s c i)
+claim_taken-leads s c mark i own low marked = λ look asks claim asks'.
+    let looked = own ++ look ∷ [] in
+    let after = marked-more s c mark looked claim (ap still asks') (marked-more s c mark own look (ap still asks) marked) in
+    leads_if (Here (Marked s c mark) (λ own' k. Below s c k own')) (looked ++ claim ∷ []) (flag_in (answer_of claim)) (put_free s i >> reply None)
+    (reply (Some (record { index = i; serial = suc (stage_in (answer_of look)).serial })))
+    (λ pinned put asks''. marked-more s c mark (looked ++ claim ∷ []) put (ap still asks'') after)
+    (λ free. record {
+      claimed = record { holding = after.holding; claim = claims-again s i c (stage_in (answer_of look)) looked claim asks' free };
+      below = after.below i low;
+    })
+
+claim_free-leads : (s : SelNo) (c : ChanNo) (mark i : ℕ) (own : List Act) → nat_lt i mark ≡ true → Marked s c mark own
+    → Leads (Here (Marked s c mark) (λ own' k. Below s c k own')) own (claim_free s c i)
+claim_free-leads s c mark i own low marked = λ take asks.
+    let after = marked-more s c mark own take (ap still asks) marked in
+    leads_if (Here (Marked s c mark) (λ own' k. Below s c k own')) (own ++ take ∷ []) (flag_in (answer_of take)) (claim_taken s c i) (reply None)
+    (λ _. claim_taken-leads s c mark i (own ++ take ∷ []) low after) (λ _. after)
+
+search-leads : (s : SelNo) (c : ChanNo) (mark : ℕ) (own : List Act) → Marked s c mark own → Leads (Here (Marked s c mark) (λ own' k. Below s c k own')) own (search_free s c mark)
+search-leads s c mark own marked =
+    leads_seek (Marked s c mark) (λ own' k. Below s c k own') (words_below mark) 0 own (claim_in_word s c mark) (λ j own' here look asks.
+    leads_seek (Marked s c mark) (λ own' k. Below s c k own') 64 0 (own' ++ look ∷ []) (claim_at_bit s c mark j (word_in (answer_of look)))
+    (λ b before here'. leads_if (Here (Marked s c mark) (λ own' k. Below s c k own')) before (has_bit (word_in (answer_of look)) b && nat_lt (64 * j + b) mark) (claim_free s c (64 * j + b)) (reply None)
+    (λ both. claim_free-leads s c mark (64 * j + b) before (and_parts (has_bit (word_in (answer_of look)) b) (nat_lt (64 * j + b) mark) both).1 here') (λ _. here'))
+    (marked-more s c mark own' look (ap still asks) here)) marked
+
+new-leads : (s : SelNo) (c : ChanNo) (b i : ℕ) (own : List Act) → Holding c own → Leads (Here (Holding c) (λ own' k. Claimed s c k own')) own (seek_to b i (claim_new s c))
+new-leads s c b i own holding = leads_seek (Holding c) (λ own' k. Claimed s c k own') b i own (claim_new s c) (λ j before here claim asks. by_test j before here claim asks (flag_in (answer_of claim)) refl) holding
+  where
+    by_test : (j : ℕ) (before : List Act) → Holding c before → (claim : Act) → question_of claim ≡ Question.claim s j c → (was : Bool) → flag_in (answer_of claim) ≡ was
+        → Here (Holding c) (λ own' k. Claimed s c k own') (before ++ claim ∷ []) (if was then None else Some (record { index = j; serial = 0 }))
+    by_test j before here claim asks true was = holding-more c before claim (ap still asks) here
+    by_test j before here claim asks false was = record { holding = holding-more c before claim (ap still asks) here; claim = claims-new s j c before claim asks was }
+
+-- ---- its claim stays
+
+-- a question that leaves a claim
+abbrev leaves_claims : Question → Bool
+leaves_claims (Question.claim s i c) = false
+leaves_claims (Question.claim_again s i c from) = false
+leaves_claims (Question.unpin s i) = false
+leaves_claims _ = true
+
+claim-stays : (s i : ℕ) (own : List Act) (act : Act) (claim : Option OwnClaim) → leaves_claims (question_of act) ≡ true → own_claim s i own ≡ claim → own_claim s i (own ++ act ∷ []) ≡ claim
+claim-stays s i own act claim is has_it = own_claim-more s i own act ∙ (ap (λ x. claim_after x (own_claim s i own)) (unchanged act is) ∙ has_it)
+  where
+    unchanged : (act' : Act) → leaves_claims (question_of act') ≡ true → claim_changed s i act' ≡ None
+    unchanged (Claim s' i' c found) is' = absurd (cc is')
+    unchanged (ClaimAgain s' i' c from found) is' = absurd (cc is')
+    unchanged (Unpin s' i') is' = absurd (cc is')
+    unchanged _ is' = refl
+
+not_claims : (s i : ℕ) (act : Act) → leaves_claims (question_of act) ≡ true → claims s i act ≡ false
+not_claims s i (Claim s' i' c found) is = absurd (cc is)
+not_claims s i (ClaimAgain s' i' c from found) is = absurd (cc is)
+not_claims s i _ is = refl
+
+claimed-more : (s : SelNo) (c : ChanNo) (k : KeyId) (own : List Act) (act : Act) → still (question_of act) ≡ true → leaves_claims (question_of act) ≡ true → Claimed s c k own → Claimed s c k (own ++ act ∷ [])
+claimed-more s c k own act is leaves before = record {
+  holding = holding-more c own act is before.holding;
+  claim = claim-stays s.0 k.index own act (Some (record { channel = c; serial = k.serial })) leaves before.claim;
+}
+
+-- ---- the gate is found open
+
+since_first-none : (opens : Act → Bool) (acts : List Act) → has opens acts ≡ false → since_first opens acts ≡ []
+since_first-none opens [] none = refl
+since_first-none opens (x ∷ acts) none = by_test (opens x) none (since_first-none opens acts)
+  where
+    by_test : (b : Bool) → (b || has opens acts) ≡ false → (has opens acts ≡ false → since_first opens acts ≡ []) → (if b then acts else since_first opens acts) ≡ []
+    by_test true is later = absurd (cc is)
+    by_test false is later = later is
+
+-- what is prepared stays so, where the index isn't claimed
+prepared-more : (s i : ℕ) (own : List Act) (act : Act) → claims s i act ≡ false → is_prepared s i own ≡ true → is_prepared s i (own ++ act ∷ []) ≡ true
+prepared-more s i own act unclaimed before = by_test (has (leaves_below s i) own) refl
+  where
+    early : List Act
+    early = since_first (leaves_below s i) own
+
+    by_test : (b : Bool) → has (leaves_below s i) own ≡ b → is_prepared s i (own ++ act ∷ []) ≡ true
+    by_test true is =
+        ap (λ xs. has (finds_open s) (since_from (claims s i) xs)) (since_first-append (leaves_below s i) own (act ∷ []) ∙ ap (λ b. if b then early ++ act ∷ [] else since_first (leaves_below s i) (act ∷ [])) is)
+        ∙ (ap (has (finds_open s)) (since_from-more (claims s i) early act ∙ ap (λ b. if b then [] else since_from (claims s i) early ++ act ∷ []) unclaimed)
+        ∙ has-first (finds_open s) (since_from (claims s i) early) (act ∷ []) before)
+    by_test false is =
+        let clash : false ≡ true = sym (ap (λ xs. has (finds_open s) (since_from (claims s i) xs)) (since_first-none (leaves_below s i) own is)) ∙ before in
+        absurd (cc clash)
+
+prepared-now : (s i : ℕ) (own : List Act) (act : Act) → claims s i act ≡ false → finds_open s act ≡ true → has (leaves_below s i) own ≡ true → is_prepared s i (own ++ act ∷ []) ≡ true
+prepared-now s i own act unclaimed open' below =
+    ap (λ xs. has (finds_open s) (since_from (claims s i) xs)) (since_first-append (leaves_below s i) own (act ∷ []) ∙ ap (λ b. if b then early ++ act ∷ [] else since_first (leaves_below s i) (act ∷ [])) below)
+    ∙ (ap (has (finds_open s)) (since_from-more (claims s i) early act ∙ ap (λ b. if b then [] else since_from (claims s i) early ++ act ∷ []) unclaimed)
+    ∙ has-second (finds_open s) (since_from (claims s i) early) (act ∷ []) (ap (λ b. b || false) open'))
+  where
+    early : List Act
+    early = since_first (leaves_below s i) own
+
+gate-open : (s : SelNo) (act : Act) → question_of act ≡ Question.look_gate s → (gate_in (answer_of act)).shut ≡ false → finds_open s.0 act ≡ true
+gate-open s (LookGate s' found) asks unshut =
+    let same : s' ≡ s = cc asks in
+    ap (λ (x : SelNo). (x.0 == s.0) && not found.shut) same ∙ (ap (λ b. b && not found.shut) (eq-eqb s.0 s.0 refl) ∙ ap not unshut)
+gate-open s _ asks unshut = absurd (cc asks)
+
+record Prepared (s : SelNo) (c : ChanNo) (k : KeyId) (own : List Act) : Type 0 where
+  claimed : Claimed s c k own
+  prepared : is_prepared s.0 k.index own ≡ true
+
+prepared-still : (s : SelNo) (c : ChanNo) (k : KeyId) (own : List Act) (act : Act) → still (question_of act) ≡ true → leaves_claims (question_of act) ≡ true → Prepared s c k own → Prepared s c k (own ++ act ∷ [])
+prepared-still s c k own act is leaves before = record {
+  claimed = claimed-more s c k own act is leaves before.claimed;
+  prepared = prepared-more s.0 k.index own act (not_claims s.0 k.index act leaves) before.prepared;
+}
+
+-- ---- the key is noted
+
+record Noted (s : SelNo) (c : ChanNo) (k : KeyId) (own : List Act) : Type 0 where
+  held : has (takes_hold c.0) own ≡ true
+  unset : has (sets_mode c.0) own ≡ false
+  calm : has is_loud own ≡ false
+  claim : own_claim s.0 k.index own ≡ Some (record { channel = c; serial = k.serial })
+  prepared : is_prepared s.0 k.index own ≡ true
+  noted : has (notes_key c.0 s.0 k.index k.serial) (under c.0 own) ≡ true
+  alone : count (notes_for c.0) (under c.0 own) ≡ 1
+
+noted-now : (s : SelNo) (c : ChanNo) (k : KeyId) (own : List Act) (act : Act) → question_of act ≡ Question.enrol c s k.index k.serial → Prepared s c k own → Noted s c k (own ++ act ∷ [])
+noted-now s c k own (Enrol c' s' i serial found) asks before = record {
+  held = has-first (takes_hold c.0) own (enrolled ∷ []) before.claimed.holding.held;
+  unset = has-neither (sets_mode c.0) own (enrolled ∷ []) quiet.unset refl;
+  calm = has-neither is_loud own (enrolled ∷ []) quiet.calm refl;
+  claim = claim-stays s.0 k.index own enrolled (Some (record { channel = c; serial = k.serial })) refl before.claimed.claim;
+  prepared = prepared-more s.0 k.index own enrolled refl before.prepared;
+  noted = ap (has (notes_key c.0 s.0 k.index k.serial)) (since_from-more (takes_hold c.0) own enrolled)
+      ∙ has-second (notes_key c.0 s.0 k.index k.serial) (under c.0 own) (enrolled ∷ []) (ap (λ b. b || false) its_key);
+  alone = ap (count (notes_for c.0)) (since_from-more (takes_hold c.0) own enrolled)
+      ∙ one_in_all (count-append (notes_for c.0) (under c.0 own) (enrolled ∷ []))
+      (count-none (notes_for c.0) (under c.0 own) (since_from-none (notes_for c.0) (takes_hold c.0) own quiet.unnoted)) (count-one (notes_for c.0) enrolled its_channel);
+}
+  where
+    enrolled : Act
+    enrolled = Enrol c' s' i serial found
+
+    quiet : Quiet c own
+    quiet = before.claimed.holding.quiet
+
+    one_in_all : {all first second : ℕ} → all ≡ first + second → first ≡ 0 → second ≡ 1 → all ≡ 1
+    one_in_all sum none one = omega arith
+
+    its_channel : (c'.0 == c.0) ≡ true
+    its_channel = let same : c' ≡ c = cc asks in ap (λ (d : ChanNo). d.0 == c.0) same ∙ eq-eqb c.0 c.0 refl
+
+    its_selector : (s'.0 == s.0) ≡ true
+    its_selector = let same : s' ≡ s = cc asks in ap (λ (t : SelNo). t.0 == s.0) same ∙ eq-eqb s.0 s.0 refl
+
+    its_key : ((c'.0 == c.0) && (s'.0 == s.0) && (i == k.index) && (serial == k.serial)) ≡ true
+    its_key = all_four (c'.0 == c.0) (s'.0 == s.0) (i == k.index) (serial == k.serial) its_channel its_selector (eq-eqb i k.index (cc asks)) (eq-eqb serial k.serial (cc asks))
+      where
+        all_four : (p q r t : Bool) → p ≡ true → q ≡ true → r ≡ true → t ≡ true → (p && q && r && t) ≡ true
+        all_four true true true t a b d e = e
+        all_four false q r t a b d e = absurd (cc a)
+        all_four true false r t a b d e = absurd (cc b)
+        all_four true true false t a b d e = absurd (cc d)
+noted-now s c k own _ asks before = absurd (cc asks)
+
+-- ---- the key is published
+
+record Published (s : SelNo) (c : ChanNo) (k : KeyId) (own : List Act) : Type 0 where
+  before : List Act
+  found : Stage
+  later : List Act
+  parts : own ≡ before ++ Publish s k.index found ∷ later
+  noted : Noted s c k before
+  quiet : Quiet c later
+  settled : found.removed ≡ false → (serial : ℕ) → owes (publisher_duty c.0 s.0 (record { index = k.index; serial = serial })) later ≡ false
+
+published-more : (s : SelNo) (c : ChanNo) (k : KeyId) (own : List Act) (act : Act) → still (question_of act) ≡ true → Published s c k own → Published s c k (own ++ act ∷ [])
+published-more s c k own act is there = record {
+  before = there.before;
+  found = there.found;
+  later = there.later ++ act ∷ [];
+  parts = ap (λ xs. xs ++ act ∷ []) there.parts ∙ append_assoc there.before (Publish s k.index there.found ∷ there.later) (act ∷ []);
+  noted = there.noted;
+  quiet = quiet-more c there.later act is there.quiet;
+  settled = λ in_set serial. owes-append (publisher_duty c.0 s.0 (record { index = k.index; serial = serial })) there.later (act ∷ []) (there.settled in_set serial);
+}
+
+-- what a registration leaves: nothing is published, or a key is
+abbrev Registers : SelNo → ChanNo → List Act → Type 0
+Registers s c own = (has is_loud own ≡ false) ⊎ ((k : KeyId) × Published s c k own)
+
+registers-more : (s : SelNo) (c : ChanNo) (own : List Act) (act : Act) → still (question_of act) ≡ true → Registers s c own → Registers s c (own ++ act ∷ [])
+registers-more s c own act is (inl calm) = inl (has-neither is_loud own (act ∷ []) calm (quiet-one c act is).calm)
+registers-more s c own act is (inr there) = inr (there.0, published-more s c there.0 own act is there.1)
