@@ -134,7 +134,7 @@ kept-one l act is = kept-calm l (act ∷ []) (calm-one act is)
 -- ---- of an act that leaves something to do, and acts that do it
 
 -- the first act is this one, or the other is further
-first_or_later : {X : Type 0} (x : X) (xs before : List X) (e : X) (later : List X) → x ∷ xs ≡ before ++ e ∷ later
+pub first_or_later : {X : Type 0} (x : X) (xs before : List X) (e : X) (later : List X) → x ∷ xs ≡ before ++ e ∷ later
     → ((x ≡ e) × (xs ≡ later)) ⊎ ((further : List X) × (before ≡ x ∷ further) × (xs ≡ further ++ e ∷ later))
 first_or_later x xs [] e later same = inl (cc same, cc same)
 first_or_later {X = X} x xs (y ∷ before) e later same = let head : x ≡ y = cc same in inr (before, ap (λ (z : X). z ∷ before) (sym head), cc same)

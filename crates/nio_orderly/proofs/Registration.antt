@@ -16,15 +16,16 @@ use Rattle.nio_event.specs.Questions.{Question, Answer, question_of, answer_of}
 use Rattle.nio_event.specs.declared.act.Act.{Act}
 use Rattle.nio_event.specs.declared.act.Act.TheVariants.{LookGate, CancelKey, LookChannel, Claim, RaiseKeys, LookKeys, Publish, Enrol, TryHoldBit, Release, SetMode, CloseBit, Enter, Unpin, ClaimAgain}
 use Rattle.nio_event.specs.declared.found.Stage.{Stage}
-use Rattle.nio_orderly.proofs.Kept.{PublishKept, Kept, kept-calm, is_loud}
+use Rattle.nio_orderly.proofs.Kept.{PublishKept, Kept, kept-calm, is_loud, first_or_later}
 use Rattle.nio_orderly.proofs.ListWords.{InFirst, InSecond, split_at, nothing_there, has-append, has-first, has-second, has-neither, no_such_act, count-append, count-none, count-one, since_from-none, since_first-append, until_released-done, owes-append}
 use Rattle.nio_orderly.specs.Careful.{notes_for, notes_key, claims, leaves_below, finds_open, until_released, its_hold, is_prepared}
 use Rattle.nio_orderly.specs.Owed.{owes, publisher_duty, settles_key}
 use Rattle.nio_steps.specs.ChannelCalls.{under_hold, register_noted, register_over, claim_taken, claim_free, claim_at_bit, claim_in_word, search_free, words_below, claim_new, settle_key, publish_key, make_key, make_claimed, register_first, register_again, register_next, register_new, register_rest, register_unblocked, register_held, register_plan}
 use Rattle.nio_steps.specs.KeyCalls.{has_bit, is_within, under_pin}
-use Rattle.nio_steps.specs.Plan.{Plan, reply, ask, ◌>>=◌, ◌>>◌}
+use Rattle.nio_steps.specs.Names.{key}
+use Rattle.nio_steps.specs.Plan.{Plan, reply, ask, ◌>>=◌, ◌>>◌, when}
 use Rattle.nio_steps.specs.Runs.{Completes}
-use Rattle.nio_steps.specs.Steps.{flag_in, word_in, gate_in, stage_in, channel_in, number_in, holder_in, put_free}
+use Rattle.nio_steps.specs.Steps.{flag_in, word_in, gate_in, stage_in, channel_in, number_in, noted_in, holder_in, put_free, cancel_key, unpin, release}
 use Rattle.nio_steps.specs.Sweeps.{found_or, seek, seek_to}
 use Rattle.nio_steps.specs.declared.refusal.ChannelError.{ChannelError}
 
@@ -394,3 +395,253 @@ Registers s c own = (has is_loud own ≡ false) ⊎ ((k : KeyId) × Published s 
 registers-more : (s : SelNo) (c : ChanNo) (own : List Act) (act : Act) → still (question_of act) ≡ true → Registers s c own → Registers s c (own ++ act ∷ [])
 registers-more s c own act is (inl calm) = inl (has-neither is_loud own (act ∷ []) calm (quiet-one c act is).calm)
 registers-more s c own act is (inr there) = inr (there.0, published-more s c there.0 own act is there.1)
+
+-- what the publisher does then settles the key: it looks at the channel, and cancels the key where it is closed
+cancels-it : (s : SelNo) (i serial : ℕ) (act : Act) → question_of act ≡ Question.cancel_key s i → settles_key s.0 (record { index = i; serial = serial }) act ≡ true
+cancels-it s i serial (CancelKey s' i' found) asks = ap (λ b. b || false) (same_place s i s' i' (cc asks) (cc asks))
+cancels-it s i serial _ asks = absurd (cc asks)
+
+looked-open : (c : ChanNo) (s i serial : ℕ) (act : Act) → question_of act ≡ Question.look_channel c → (channel_in (answer_of act)).closed ≡ false
+    → owes (publisher_duty c.0 s (record { index = i; serial = serial })) (act ∷ []) ≡ false
+looked-open c s i serial (LookChannel c' found) asks open' =
+    let same : c' ≡ c = cc asks in
+    ap (λ b. if b then (b && found.closed) && true else true) (ap (λ (d : ChanNo). d.0 == c.0) same ∙ eq-eqb c.0 c.0 refl) ∙ ap (λ b. b && true) open'
+looked-open c s i serial _ asks open' = absurd (cc asks)
+
+looked-closed : (c : ChanNo) (s : SelNo) (i serial : ℕ) (act later : Act) → question_of act ≡ Question.look_channel c → question_of later ≡ Question.cancel_key s i
+    → owes (publisher_duty c.0 s.0 (record { index = i; serial = serial })) (act ∷ later ∷ []) ≡ false
+looked-closed c s i serial (LookChannel c' found) later asks asks' =
+    let same : c' ≡ c = cc asks in
+    let k : KeyId = record { index = i; serial = serial } in
+    ap (λ b. if b then (b && found.closed) && not (has (settles_key s.0 k) (later ∷ [])) else owes (publisher_duty c.0 s.0 k) (later ∷ [])) (ap (λ (d : ChanNo). d.0 == c.0) same ∙ eq-eqb c.0 c.0 refl)
+    ∙ (ap (λ b. found.closed && not (b || false)) (cancels-it s i serial later asks') ∙ by_either found.closed)
+  where
+    by_either : (b : Bool) → (b && false) ≡ false
+    by_either true = refl
+    by_either false = refl
+looked-closed c s i serial _ later asks asks' = absurd (cc asks)
+
+settle-leads : (s : SelNo) (c : ChanNo) (k : KeyId) (before : List Act) (found : Stage) → Noted s c k before → Leads (λ own _. Registers s c own) (before ++ Publish s k.index found ∷ []) (settle_key s c k)
+settle-leads s c k before found noted = λ look asks.
+    let published = before ++ Publish s k.index found ∷ [] in
+    leads_bind (λ own _. Registers s c own) (λ own _. Registers s c own) (published ++ look ∷ []) (when (channel_in (answer_of look)).closed (cancel_key s k.index)) (λ _. reply (Ok (key s k)))
+    (leads_if (λ own _. Registers s c own) (published ++ look ∷ []) (channel_in (answer_of look)).closed (cancel_key s k.index >> reply tt) (reply tt)
+    (λ closed cancelled asks'. inr (k, record {
+      before = before;
+      found = found;
+      later = look ∷ cancelled ∷ [];
+      parts = append_assoc published (look ∷ []) (cancelled ∷ []) ∙ append_assoc before (Publish s k.index found ∷ []) (look ∷ cancelled ∷ []);
+      noted = noted;
+      quiet = quiet-append c (look ∷ []) (cancelled ∷ []) (quiet-one c look (ap still asks)) (quiet-one c cancelled (ap still asks'));
+      settled = λ in_set serial. looked-closed c s k.index serial look cancelled asks asks';
+    }))
+    (λ open'. inr (k, record {
+      before = before;
+      found = found;
+      later = look ∷ [];
+      parts = append_assoc before (Publish s k.index found ∷ []) (look ∷ []);
+      noted = noted;
+      quiet = quiet-one c look (ap still asks);
+      settled = λ in_set serial. looked-open c s.0 k.index serial look asks open';
+    })))
+    (λ own _ here. here)
+
+published-leads : (s : SelNo) (c : ChanNo) (k : KeyId) (own : List Act) (published : Act) → question_of published ≡ Question.publish s k.index → Noted s c k own
+    → Leads (λ xs _. Registers s c xs) (own ++ published ∷ []) (if (stage_in (answer_of published)).removed then reply (Err ChannelError.ClosedSelector) else settle_key s c k)
+published-leads s c k own (Publish s' i found) asks noted =
+    let first : s' ≡ s = cc asks in
+    let second : i ≡ k.index = cc asks in
+    let now : own ++ Publish s' i found ∷ [] ≡ own ++ Publish s k.index found ∷ [] =
+        ap (λ (t : SelNo). own ++ Publish t i found ∷ []) first ∙ ap (λ (j : ℕ). own ++ Publish s j found ∷ []) second in
+    subst (λ xs. Leads (λ ys _. Registers s c ys) xs (if found.removed then reply (Err ChannelError.ClosedSelector) else settle_key s c k)) (sym now)
+    (leads_if (λ ys _. Registers s c ys) (own ++ Publish s k.index found ∷ []) found.removed (reply (Err ChannelError.ClosedSelector)) (settle_key s c k)
+    (λ removed. inr (k, record {
+      before = own;
+      found = found;
+      later = [];
+      parts = refl;
+      noted = noted;
+      quiet = quiet-none c;
+      settled = λ in_set serial. let clash : true ≡ false = sym removed ∙ in_set in absurd (cc clash);
+    }))
+    (λ _. settle-leads s c k own found noted))
+published-leads s c k own _ asks noted = absurd (cc asks)
+
+publish-leads : (s : SelNo) (c : ChanNo) (ops att : ℕ) (k : KeyId) (own : List Act) → Prepared s c k own → Leads (λ own' _. Registers s c own') own (publish_key s c ops att k)
+publish-leads s c ops att k own prepared = λ swapped its_ops attached its_note enrolled its_key published asks.
+    let own1 = own ++ swapped ∷ [] in
+    let own2 = own1 ++ attached ∷ [] in
+    published-leads s c k (own2 ++ enrolled ∷ []) published asks
+    (noted-now s c k own2 enrolled its_key
+    (prepared-still s c k own1 attached (ap still its_note) (ap leaves_claims its_note) (prepared-still s c k own swapped (ap still its_ops) (ap leaves_claims its_ops) prepared)))
+
+make-leads : (s : SelNo) (c : ChanNo) (ops att : ℕ) (k : KeyId) (own : List Act) → Below s c k own → Leads (λ own' _. Registers s c own') own (make_key s c ops att k)
+make-leads s c ops att k own below = λ looked asks.
+    let claimed = claimed-more s c k own looked (ap still asks) (ap leaves_claims asks) below.claimed in
+    leads_if (λ own' _. Registers s c own') (own ++ looked ∷ []) (gate_in (answer_of looked)).shut (reply (Err ChannelError.ClosedSelector)) (publish_key s c ops att k)
+    (λ shut. inl claimed.holding.quiet.calm)
+    (λ unshut. publish-leads s c ops att k (own ++ looked ∷ []) (record {
+      claimed = claimed;
+      prepared = prepared-now s.0 k.index own looked (not_claims s.0 k.index looked (ap leaves_claims asks)) (gate-open s looked asks unshut) below.below;
+    }))
+
+make_claimed-leads : (s : SelNo) (c : ChanNo) (ops att : ℕ) (k : KeyId) (own : List Act) → Below s c k own → Leads (λ own' _. Registers s c own') own (make_claimed s c ops att k)
+make_claimed-leads s c ops att k own below =
+    leads_bind (λ own' _. Registers s c own') (λ own' _. Registers s c own') own (make_key s c ops att k) (λ answer. (unpin s k.index >> reply answer)) (make-leads s c ops att k own below)
+    (λ own' answer here unpinned asks. registers-more s c own' unpinned (ap still asks) here)
+
+-- ---- an index is claimed, or none
+
+raised : (s : SelNo) (i : ℕ) (act : Act) → question_of act ≡ Question.raise_keys s (i + 1) → leaves_below s.0 i act ≡ true
+raised s i (RaiseKeys s' n found) asks =
+    let first : s' ≡ s = cc asks in
+    let second : n ≡ i + 1 = cc asks in
+    ap (λ (t : SelNo). (t.0 == s.0) && nat_lt i n) first ∙ (ap (λ b. b && nat_lt i n) (eq-eqb s.0 s.0 refl) ∙ lt-ltb i n (omega (arith, second)))
+raised s i _ asks = absurd (cc asks)
+
+first-leads : (s : SelNo) (c : ChanNo) (ops att : ℕ) (found : Option KeyId) (own : List Act) → Here (Holding c) (λ own' k. Claimed s c k own') own found
+    → Leads (λ own' _. Registers s c own') own (register_first s c ops att found)
+first-leads s c ops att None own holding = inl holding.quiet.calm
+first-leads s c ops att (Some k) own claimed = λ raise asks.
+    make_claimed-leads s c ops att k (own ++ raise ∷ []) (record {
+      claimed = claimed-more s c k own raise (ap still asks) (ap leaves_claims asks) claimed;
+      below = has-second (leaves_below s.0 k.index) own (raise ∷ []) (ap (λ b. b || false) (raised s k.index raise asks));
+    })
+
+next-leads : (l : Limits) (s : SelNo) (c : ChanNo) (ops att mark : ℕ) (found : Option KeyId) (own : List Act) → Here (Marked s c mark) (λ own' k. Below s c k own') own found
+    → Leads (λ own' _. Registers s c own') own (register_next l s c ops att mark found)
+next-leads l s c ops att mark None own marked =
+    leads_bind (Here (Holding c) (λ own' k. Claimed s c k own')) (λ own' _. Registers s c own') own (seek_to l.keys mark (claim_new s c)) (register_first s c ops att)
+    (new-leads s c l.keys mark own marked.holding) (λ own' found here. first-leads s c ops att found own' here)
+next-leads l s c ops att mark (Some k) own there = λ cleared asks.
+    make_claimed-leads s c ops att k (own ++ cleared ∷ []) (record {
+      claimed = claimed-more s c k own cleared (ap still asks) (ap leaves_claims asks) there.claimed;
+      below = has-first (leaves_below s.0 k.index) own (cleared ∷ []) there.below;
+    })
+
+marked-now : (s : SelNo) (c : ChanNo) (own : List Act) (act : Act) → question_of act ≡ Question.look_keys s → Holding c own → Marked s c (number_in (answer_of act)) (own ++ act ∷ [])
+marked-now s c own (LookKeys s' found) asks before = record {
+  holding = holding-more c own (LookKeys s' found) refl before;
+  below = λ i low. has-second (leaves_below s.0 i) own (LookKeys s' found ∷ [])
+      (ap (λ b. (b && nat_lt i found) || false) (let first : s' ≡ s = cc asks in ap (λ (t : SelNo). t.0 == s.0) first ∙ eq-eqb s.0 s.0 refl) ∙ ap (λ b. b || false) low);
+}
+marked-now s c own _ asks before = absurd (cc asks)
+
+rest-leads : (l : Limits) (s : SelNo) (c : ChanNo) (ops att : ℕ) (over : Option (Result KeyNo ChannelError)) (own : List Act) → Holding c own
+    → Leads (λ own' _. Registers s c own') own (register_rest l s c ops att over)
+rest-leads l s c ops att (Some answer) own holding = inl holding.quiet.calm
+rest-leads l s c ops att None own holding = λ look asks.
+    let mark = number_in (answer_of look) in
+    leads_bind (Here (Marked s c mark) (λ own' k. Below s c k own')) (λ own' _. Registers s c own') (own ++ look ∷ []) (search_free s c mark) (register_next l s c ops att mark)
+    (search-leads s c mark (own ++ look ∷ []) (marked-now s c own look asks holding)) (λ own' found here. next-leads l s c ops att mark found own' here)
+
+held-leads : (l : Limits) (s : SelNo) (c : ChanNo) (ops att : ℕ) (own : List Act) → Holding c own → Leads (λ own' _. Registers s c own') own (register_held l s c ops att)
+held-leads l s c ops att own holding = λ look asks.
+    let looked = holding-more c own look (ap still asks) holding in
+    leads_if (λ own' _. Registers s c own') (own ++ look ∷ []) (channel_in (answer_of look)).closed (reply (Err ChannelError.ClosedChannel)) _ (λ _. inl looked.quiet.calm)
+    (λ _. leads_if (λ own' _. Registers s c own') (own ++ look ∷ []) (channel_in (answer_of look)).blocking (reply (Err ChannelError.IllegalBlockingMode)) (register_unblocked l s c ops att) (λ _. inl looked.quiet.calm)
+    (λ _ noted asks'.
+    leads_bind (λ own' _. Holding c own') (λ own' _. Registers s c own') ((own ++ look ∷ []) ++ noted ∷ []) (register_over s ops att (noted_in (answer_of noted))) (register_rest l s c ops att)
+    ((over-stays s ops att (noted_in (answer_of noted))).leads ((own ++ look ∷ []) ++ noted ∷ []) (holding-more c (own ++ look ∷ []) noted (ap still asks') looked))
+    (λ own' over here. rest-leads l s c ops att over own' here)))
+
+-- ---- the whole registration
+
+-- there is one such act
+one_loud : (before later xs ys : List Act) (p e : Act) → has is_loud before ≡ false → has is_loud later ≡ false → is_loud e ≡ true → before ++ p ∷ later ≡ xs ++ e ∷ ys
+    → (before ≡ xs) × (p ≡ e) × (later ≡ ys)
+one_loud before later xs ys p e none none' loud same = by_part (split_at before (p ∷ later) xs e ys same)
+  where
+    by_place : (start : List Act) → xs ≡ before ++ start → ((p ≡ e) × (later ≡ ys)) ⊎ ((further : List Act) × (start ≡ p ∷ further) × (later ≡ further ++ e ∷ ys)) → start ++ e ∷ ys ≡ p ∷ later
+        → (before ≡ xs) × (p ≡ e) × (later ≡ ys)
+    by_place [] is (inl here) parts = (sym (append-nil before) ∙ sym is, here.0, here.1)
+    by_place (x ∷ start) is (inl here) parts =
+        let rest : start ++ e ∷ ys ≡ later = cc parts in
+        absurd (no_such_act is_loud start e ys (ap (has is_loud) rest ∙ none') loud)
+    by_place start is (inr there) parts = absurd (no_such_act is_loud there.0 e ys (ap (has is_loud) (sym there.2) ∙ none') loud)
+
+    by_part : InFirst before (p ∷ later) xs e ys ⊎ InSecond before (p ∷ later) xs e ys → (before ≡ xs) × (p ≡ e) × (later ≡ ys)
+    by_part (inl there) = absurd (no_such_act is_loud xs e there.rest (ap (has is_loud) (sym there.parts) ∙ none) loud)
+    by_part (inr there) = by_place there.start there.before_is (first_or_later p later there.start e ys there.parts) (sym there.parts)
+
+releases-it : (c : ChanNo) (act : Act) → question_of act ≡ Question.release c → releases c.0 act ≡ true
+releases-it c (Release c') asks = let same : c' ≡ c = cc asks in ap (λ (d : ChanNo). d.0 == c.0) same ∙ eq-eqb c.0 c.0 refl
+releases-it c _ asks = absurd (cc asks)
+
+publish-kept : (s : SelNo) (c : ChanNo) (k : KeyId) (own : List Act) (there : Published s c k own) → has (releases c.0) there.later ≡ true → PublishKept there.before s k.index there.found there.later
+publish-kept s c k own there given_back = record {
+  claim = record { channel = c; serial = k.serial };
+  claimed = noted.claim;
+  held = noted.held;
+  given_back = given_back;
+  noted = noted.noted;
+  noted_alone = all_one (count-append (notes_for c.0) (under c.0 there.before) (until_released c.0 there.later)) noted.alone
+      (count-none (notes_for c.0) (until_released c.0 there.later) (until_released-done (notes_for c.0) c.0 there.later there.quiet.unnoted));
+  mode = has-neither (sets_mode c.0) (under c.0 there.before) (until_released c.0 there.later) (since_from-none (sets_mode c.0) (takes_hold c.0) there.before noted.unset)
+      (until_released-done (sets_mode c.0) c.0 there.later there.quiet.unset);
+  prepared = noted.prepared;
+  settled = there.settled;
+}
+  where
+    noted : Noted s c k there.before
+    noted = there.noted
+
+    all_one : {all first second : ℕ} → all ≡ first + second → first ≡ 1 → second ≡ 0 → all ≡ 1
+    all_one sum one none = omega arith
+
+registers-kept : (l : Limits) (s : SelNo) (c : ChanNo) (own : List Act) (act : Act) → question_of act ≡ Question.release c → Registers s c own → Kept l (own ++ act ∷ [])
+unfolding published-more
+registers-kept l s c own act asks (inl calm) = kept-calm l (own ++ act ∷ []) (has-neither is_loud own (act ∷ []) calm (quiet-one c act (ap still asks)).calm)
+registers-kept l s c own act asks (inr registered) = record {
+  publishes = λ xs s' i found ys parts. its_publish xs s' i found ys (one_loud there.before there.later xs ys (Publish s k.index there.found) (Publish s' i found) there.noted.calm there.quiet.calm refl (sym there.parts ∙ parts));
+  closes = λ xs c' ys parts t k' below. absurd (cc (one_loud there.before there.later xs ys (Publish s k.index there.found) (CloseBit c' false) there.noted.calm there.quiet.calm refl (sym there.parts ∙ parts)).1);
+  enters = λ xs s' ys parts i. absurd (cc (one_loud there.before there.later xs ys (Publish s k.index there.found) (Enter s' None) there.noted.calm there.quiet.calm refl (sym there.parts ∙ parts)).1);
+}
+  where
+    k : KeyId
+    k = registered.0
+
+    there : Published s c k (own ++ act ∷ [])
+    there = published-more s c k own act (ap still asks) registered.1
+
+    given_back : has (releases c.0) there.later ≡ true
+    given_back = has-second (releases c.0) registered.1.later (act ∷ []) (ap (λ b. b || false) (releases-it c act asks))
+
+    its_publish : (xs : List Act) (s' : SelNo) (i : ℕ) (found : Stage) (ys : List Act) → (there.before ≡ xs) × (Publish s k.index there.found ≡ Publish s' i found) × (there.later ≡ ys)
+        → PublishKept xs s' i found ys
+    its_publish xs s' i found ys same =
+        let first : s ≡ s' = cc same.1 in
+        let second : k.index ≡ i = cc same.1 in
+        let third : there.found ≡ found = cc same.1 in
+        subst (λ zs. PublishKept xs s' i found zs) same.2
+        (subst (λ zs. PublishKept zs s' i found there.later) same.0
+        (subst (λ (t : SelNo). PublishKept there.before t i found there.later) first
+        (subst (λ (j : ℕ). PublishKept there.before s j found there.later) second
+        (subst (λ (f : Stage). PublishKept there.before s k.index f there.later) third (publish-kept s c k (own ++ act ∷ []) there given_back)))))
+
+takes-it : (c : ChanNo) (act : Act) → question_of act ≡ Question.try_hold_bit c → is_some (holder_in (answer_of act)) ≡ false → takes_hold c.0 act ≡ true
+takes-it c (TryHoldBit c' None) asks free = let same : c' ≡ c = cc asks in ap (λ (d : ChanNo). d.0 == c.0) same ∙ eq-eqb c.0 c.0 refl
+takes-it c (TryHoldBit c' (Some n)) asks free = absurd (cc free)
+takes-it c _ asks free = absurd (cc asks)
+
+under_hold-leads : (l : Limits) (s : SelNo) (c : ChanNo) (own : List Act) (steps : Plan (Result KeyNo ChannelError)) → Quiet c own
+    → ((own' : List Act) → Holding c own' → Leads (λ xs _. Registers s c xs) own' steps) → Leads (λ xs _. Kept l xs) own (under_hold c steps)
+under_hold-leads l s c own steps quiet leads = λ held asks.
+    let more = quiet-more c own held (ap still asks) quiet in
+    leads_if (λ xs _. Kept l xs) (own ++ held ∷ []) (is_some (holder_in (answer_of held))) (reply (Err ChannelError.Busy)) (steps >>= λ answer. (release c >> reply answer))
+    (λ _. kept-calm l (own ++ held ∷ []) more.calm)
+    (λ free. leads_bind (λ xs _. Registers s c xs) (λ xs _. Kept l xs) (own ++ held ∷ []) steps (λ answer. (release c >> reply answer))
+    (leads (own ++ held ∷ []) (record { held = has-second (takes_hold c.0) own (held ∷ []) (ap (λ b. b || false) (takes-it c held asks free)); quiet = more }))
+    (λ xs answer here released asks'. registers-kept l s c xs released asks' here))
+
+register-leads : (l : Limits) (s : SelNo) (c : ChanNo) (ops att : ℕ) → Leads (λ own _. Kept l own) [] (register_plan l s c ops att)
+unfolding register_plan
+register-leads l s c ops att = λ look asks.
+    let quiet = quiet-one c look (ap still asks) in
+    let found = channel_in (answer_of look) in
+    leads_if (λ own _. Kept l own) (look ∷ []) (not (is_within ops (valid_operations found.kind))) (reply (Err ChannelError.IllegalOps)) _ (λ _. kept-calm l (look ∷ []) quiet.calm)
+    (λ _. leads_if (λ own _. Kept l own) (look ∷ []) found.closed (reply (Err ChannelError.ClosedChannel)) (under_hold c (register_held l s c ops att)) (λ _. kept-calm l (look ∷ []) quiet.calm)
+    (λ _. under_hold-leads l s c (look ∷ []) (register_held l s c ops att) quiet (λ own holding. held-leads l s c ops att own holding)))
+
+pub register-kept : (l : Limits) (s : SelNo) (c : ChanNo) (ops att : ℕ) (acts : List Act) (answer : Result KeyNo ChannelError) → Completes (register_plan l s c ops att) acts answer → Kept l acts
+register-kept l s c ops att acts answer run = leads_run (λ own _. Kept l own) [] (register_plan l s c ops att) acts answer (register-leads l s c ops att) run
