@@ -1,1 +1,4 @@
 pub mod LookingBack
+pub mod ActLists
+pub mod Careful
+pub mod KeySet
