@@ -1,2 +1,3 @@
 pub mod Careful
 pub mod Owed
+pub mod Settled
