@@ -1,11 +1,13 @@
 -- Lists of acts: what one act more does to the words of careful histories and of debts.
-use Rattle.std.proofs.Common.{◌≡◌, ℕ, ◌+◌, ◌≤◌, suc, Bool, true, false, cond, ◌&&◌, ◌||◌, not, if◌then◌else◌, List, [], ◌∷◌, ◌++◌, append_assoc, refl, ap, sym, ◌∙◌, subst, arith}
+use Rattle.std.proofs.Common.{◌≡◌, ℕ, ◌+◌, ◌≤◌, suc, Bool, true, false, cond, ◌&&◌, ◌||◌, not, ◌⊎◌, if◌then◌else◌, List, [], ◌∷◌, ◌++◌, append_assoc, refl, ap, sym, ◌∙◌, subst, arith}
 use Rattle.std.proofs.lemmas.Bool.{and_parts, or_parts}
 use Rattle.std.proofs.lemmas.List.Folds.{list_any-append}
 use Rattle.std.proofs.lemmas.List.Sums.{sum_by-append, sum_by-cons, sum_by_push}
-use Rattle.nio_event.specs.OwnEvents.{has, count, since_first, releases}
+use Rattle.nio_event.proofs.OneMore.{has-more, since_from-more}
+use Rattle.nio_event.proofs.Told.{either}
+use Rattle.nio_event.specs.OwnEvents.{has, count, since_from, since_first, releases}
 use Rattle.nio_event.specs.declared.act.Act.{Act}
-use Rattle.nio_orderly.specs.Careful.{until_released}
+use Rattle.nio_orderly.specs.Careful.{claims, leaves_below, finds_open, until_released, is_prepared}
 use Rattle.nio_orderly.specs.Owed.{Duty, owes}
 
 -- ---- has, count
@@ -107,3 +109,45 @@ owes-settled duty (x ∷ since) later settled = by_look (duty.looks x) settled (
         → (if b then duty.finds x && not (has duty.settles (since ++ later)) else owes duty (since ++ later)) ≡ false
     by_look true done rest = ap (λ b. duty.finds x && not b) (has-append duty.settles since later) ∙ by_parts (duty.finds x) (has duty.settles since) (has duty.settles later) done
     by_look false done rest = rest done
+
+-- ---- preparing
+
+since_first_none : (opens : Act → Bool) (own : List Act) → has opens own ≡ false → since_first opens own ≡ []
+since_first_none opens [] none_such = refl
+since_first_none opens (x ∷ own) none_such =
+    let both = or_parts (opens x) (has opens own) none_such in
+    ap (λ b. if b then own else since_first opens own) both.0 ∙ since_first_none opens own both.1
+
+prepared_in : (s i : ℕ) (own since : List Act) → since_first (leaves_below s i) own ≡ since → is_prepared s i own ≡ true → has (finds_open s) (since_from (claims s i) since) ≡ true
+prepared_in s i own since is prepared = sym (ap (λ acts. has (finds_open s) (since_from (claims s i) acts)) is) ∙ prepared
+
+-- who prepared a key found the mark above it, or raised it above
+pub prepared_left : (s i : ℕ) (own : List Act) → is_prepared s i own ≡ true → has (leaves_below s i) own ≡ true
+prepared_left s i own prepared = by_left (has (leaves_below s i) own) refl
+  where
+    by_left : (b : Bool) → has (leaves_below s i) own ≡ b → b ≡ true
+    by_left true had = refl
+    by_left false none_such = absurd (cc (prepared_in s i own [] (since_first_none (leaves_below s i) own none_such) prepared))
+
+-- an act after which a key is prepared doesn't claim its index, and the key was prepared before or the act finds the gate
+-- not shut
+pub prepared-more : (s i : ℕ) (own : List Act) (act : Act) → is_prepared s i (own ++ act ∷ []) ≡ true
+    → (claims s i act ≡ false) × ((is_prepared s i own ≡ true) ⊎ (finds_open s act ≡ true))
+prepared-more s i own act prepared = by_left (has (leaves_below s i) own) refl
+  where
+    since : List Act
+    since = since_first (leaves_below s i) own
+
+    by_claim : (b : Bool) → claims s i act ≡ b → has (finds_open s) (if b then [] else since_from (claims s i) since ++ act ∷ []) ≡ true
+        → (claims s i act ≡ false) × ((is_prepared s i own ≡ true) ⊎ (finds_open s act ≡ true))
+    by_claim true claimed found = absurd cc
+    by_claim false claimed found =
+        (claimed, either (is_prepared s i own) (finds_open s act) (sym (has-more (finds_open s) (since_from (claims s i) since) act) ∙ found))
+
+    by_left : (b : Bool) → has (leaves_below s i) own ≡ b → (claims s i act ≡ false) × ((is_prepared s i own ≡ true) ⊎ (finds_open s act ≡ true))
+    by_left true had =
+        by_claim (claims s i act) refl
+        (sym (ap (has (finds_open s)) (since_from-more (claims s i) since act))
+        ∙ prepared_in s i (own ++ act ∷ []) (since ++ act ∷ []) (since_first-more (leaves_below s i) own act ∙ ap (λ b. cond {A = List Act} b (since ++ act ∷ []) []) had) prepared)
+    by_left false none_such =
+        absurd (cc (prepared_in s i (own ++ act ∷ []) [] (since_first-more (leaves_below s i) own act ∙ ap (λ b. cond {A = List Act} b (since ++ act ∷ []) []) none_such) prepared))

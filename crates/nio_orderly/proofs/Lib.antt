@@ -2,3 +2,6 @@ pub mod LookingBack
 pub mod ActLists
 pub mod Careful
 pub mod KeySet
+pub mod Standing
+pub mod Published
+pub mod KeysStand
