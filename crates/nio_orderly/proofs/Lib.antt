@@ -5,3 +5,4 @@ pub mod KeySet
 pub mod Standing
 pub mod Published
 pub mod KeysStand
+pub mod Cancelling
