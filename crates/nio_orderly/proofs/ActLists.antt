@@ -112,7 +112,7 @@ owes-settled duty (x ∷ since) later settled = by_look (duty.looks x) settled (
 
 -- ---- preparing
 
-since_first_none : (opens : Act → Bool) (own : List Act) → has opens own ≡ false → since_first opens own ≡ []
+pub since_first_none : (opens : Act → Bool) (own : List Act) → has opens own ≡ false → since_first opens own ≡ []
 since_first_none opens [] none_such = refl
 since_first_none opens (x ∷ own) none_such =
     let both = or_parts (opens x) (has opens own) none_such in

@@ -156,10 +156,10 @@ owed_step l past e fit legal step careful s i before valid closed =
     elim (came st me e.act step.answers s i parts.0) [
       | inr new ↦ inl (owes_new past e (publishes_key c s k) (publisher_duty c s k) new)
       | inl was ↦ elim (came_closed st me e.act step.answers c closed) [
-            | inr closes' ↦ inr (owes_new past e (closes c) (closing_duty c s k) closes')
-            | inl closed_before ↦ going_on was closed_before (subst (λ (x : ChanNo). OwesCancelling past x.0 s (key i was_key.serial)) (sym was.channel)
-                  (before (was_valid was_key now was valid) (subst (λ (x : ChanNo). (st.chan x.0).closed ≡ true) was.channel closed_before)))
-          ]
+        | inr closes' ↦ inr (owes_new past e (closes c) (closing_duty c s k) closes')
+        | inl closed_before ↦ going_on was closed_before (subst (λ (x : ChanNo). OwesCancelling past x.0 s (key i was_key.serial)) (sym was.channel)
+            (before (was_valid was_key now was valid) (subst (λ (x : ChanNo). (st.chan x.0).closed ≡ true) was.channel closed_before)))
+      ]
     ]
   where
     me : CallerNo

@@ -6,3 +6,4 @@ pub mod Standing
 pub mod Published
 pub mod KeysStand
 pub mod Cancelling
+pub mod Clearing
