@@ -1,5 +1,5 @@
 -- Lists of acts: what one act more does to the words of careful histories and of debts.
-use Rattle.std.proofs.Common.{◌≡◌, ℕ, ◌+◌, ◌≤◌, suc, Bool, true, false, cond, ◌&&◌, ◌||◌, not, ◌⊎◌, if◌then◌else◌, List, [], ◌∷◌, ◌++◌, append_assoc, refl, ap, sym, ◌∙◌, subst, arith}
+use Rattle.std.proofs.Common.{◌≡◌, ℕ, ◌+◌, ◌≤◌, suc, Bool, true, false, cond, ◌&&◌, ◌||◌, not, ◌⊎◌, inl, inr, if◌then◌else◌, List, [], ◌∷◌, ◌++◌, append_assoc, refl, ap, sym, ◌∙◌, subst, arith}
 use Rattle.std.proofs.lemmas.Bool.{and_parts, or_parts}
 use Rattle.std.proofs.lemmas.List.Folds.{list_any-append}
 use Rattle.std.proofs.lemmas.List.Sums.{sum_by-append, sum_by-cons, sum_by_push}
@@ -151,3 +151,40 @@ prepared-more s i own act prepared = by_left (has (leaves_below s i) own) refl
         ∙ prepared_in s i (own ++ act ∷ []) (since ++ act ∷ []) (since_first-more (leaves_below s i) own act ∙ ap (λ b. cond {A = List Act} b (since ++ act ∷ []) []) had) prepared)
     by_left false none_such =
         absurd (cc (prepared_in s i (own ++ act ∷ []) [] (since_first-more (leaves_below s i) own act ∙ ap (λ b. cond {A = List Act} b (since ++ act ∷ []) []) none_such) prepared))
+
+-- ---- where an act stands
+
+not_empty : {A : Type 0} (xs : List A) (y : A) (ys : List A) → [] ≡ xs ++ y ∷ ys → ⊥
+not_empty [] y ys eq = cc
+not_empty (x ∷ xs) y ys eq = cc
+
+-- what stands in a list with one act more at its end is that act, or stands in the list
+pub record AtEnd (xs : List Act) (x : Act) (ys : List Act) (y : Act) (zs : List Act) : Type 0 where
+  pub before : xs ≡ ys
+  pub act : x ≡ y
+  pub later : zs ≡ []
+
+pub record Within (xs : List Act) (x : Act) (ys : List Act) (y : Act) (zs : List Act) : Type 0 where
+  pub rest : List Act
+  pub before : xs ≡ ys ++ y ∷ rest
+  pub later : zs ≡ rest ++ x ∷ []
+
+pub split_last : (xs : List Act) (x : Act) (ys : List Act) (y : Act) (zs : List Act) → xs ++ x ∷ [] ≡ ys ++ y ∷ zs → AtEnd xs x ys y zs ⊎ Within xs x ys y zs
+split_last [] x [] y zs eq = inl (record { before = refl; act = cc eq; later = cc eq })
+split_last [] x (w ∷ ys) y zs eq = absurd (not_empty ys y zs (cc eq))
+split_last (v ∷ xs) x [] y zs eq = inr (record { rest = xs; before = cc eq; later = cc eq })
+split_last (v ∷ xs) x (w ∷ ys) y zs eq =
+    let heads : v ≡ w = cc in
+    elim (split_last xs x ys y zs (cc eq)) [
+      | inl it ↦ inl (record { before = cc (heads, it.before); act = it.act; later = it.later })
+      | inr it ↦ inr (record { rest = it.rest; before = cc (heads, it.before); later = it.later })
+    ]
+
+pub since_first-append : (opens : Act → Bool) (xs ys : List Act) → has opens xs ≡ true → since_first opens (xs ++ ys) ≡ since_first opens xs ++ ys
+since_first-append opens [] ys had = absurd cc
+since_first-append opens (x ∷ xs) ys had = by_test (opens x) had (since_first-append opens xs ys)
+  where
+    by_test : (b : Bool) → (b || has opens xs) ≡ true → (has opens xs ≡ true → since_first opens (xs ++ ys) ≡ since_first opens xs ++ ys)
+        → (if b then xs ++ ys else since_first opens (xs ++ ys)) ≡ (if b then xs else since_first opens xs) ++ ys
+    by_test true had' rest = refl
+    by_test false had' rest = rest had'
