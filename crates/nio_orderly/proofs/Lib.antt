@@ -7,3 +7,5 @@ pub mod Published
 pub mod KeysStand
 pub mod Cancelling
 pub mod Clearing
+pub mod Owed
+pub mod AfterClosing

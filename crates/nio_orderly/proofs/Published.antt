@@ -152,13 +152,14 @@ pub record AtPublish (past : List Event) (me : CallerNo) (s i : ℕ) : Type 0 wh
   pub unblocked : ((state_after past).chan claim.channel.0).blocking ≡ false
   pub prepared : is_prepared s i (mine me past) ≡ true
 
-record MayClaim (st : State) (own : List Act) (me : CallerNo) (claim : Option OwnClaim) : Type 0 where
-  its_claim : OwnClaim
-  is : claim ≡ Some its_claim
-  held : holds st me its_claim.channel ≡ true
-  found : has (finds_unblocked its_claim.channel.0) (under its_claim.channel.0 own) ≡ true
+-- a caller that may publish has a claim, and holds its channel, which it found non-blocking under this hold
+pub record MayClaim (st : State) (own : List Act) (me : CallerNo) (claim : Option OwnClaim) : Type 0 where
+  pub its_claim : OwnClaim
+  pub is : claim ≡ Some its_claim
+  pub held : holds st me its_claim.channel ≡ true
+  pub found : has (finds_unblocked its_claim.channel.0) (under its_claim.channel.0 own) ≡ true
 
-may_claim : (st : State) (own : List Act) (me : CallerNo) (claim : Option OwnClaim) → may_publish st own me claim ≡ true → MayClaim st own me claim
+pub may_claim : (st : State) (own : List Act) (me : CallerNo) (claim : Option OwnClaim) → may_publish st own me claim ≡ true → MayClaim st own me claim
 may_claim st own me None may = absurd cc
 may_claim st own me (Some claim) may =
     let both = and_parts (holds st me claim.channel) (has (finds_unblocked claim.channel.0) (under claim.channel.0 own)) may in

@@ -1,3 +1,4 @@
 pub mod Careful
 pub mod Owed
 pub mod Settled
+pub mod AfterClosing
