@@ -9,3 +9,4 @@ pub mod Cancelling
 pub mod Clearing
 pub mod Owed
 pub mod AfterClosing
+pub mod LookingBackLaw
