@@ -1,5 +1,16 @@
-pub mod CallLists
 pub mod LookingBack
+pub mod ActLists
+pub mod Careful
+pub mod KeySet
+pub mod Standing
+pub mod Published
+pub mod KeysStand
+pub mod Cancelling
+pub mod Clearing
+pub mod Owed
+pub mod AfterClosing
+pub mod LookingBackLaw
+pub mod CallLists
 pub mod ListWords
 pub mod Kept
 pub mod ClosingsKept

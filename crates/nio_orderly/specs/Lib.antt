@@ -3,3 +3,5 @@ pub mod Orderly
 pub mod OrderlyLaws
 pub mod Careful
 pub mod Owed
+pub mod Settled
+pub mod AfterClosing

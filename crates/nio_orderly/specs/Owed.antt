@@ -3,9 +3,11 @@
 -- closes a selector looks at the keys' mark once it has entered, and removes each key below. So where a key is valid
 -- though its channel is closed or its selector is shut, one of them has still to do that.
 use Rattle.std.specs.Prelude.{◌≡◌, ℕ, ◌==◌, nat_lt, Bool, true, false, not, ◌&&◌, ◌||◌, if◌then◌else◌, Option, Some, None, is_some, IsTrue, IsFalse, List, [], ◌∷◌, ◌++◌, ◌⊎◌}
+use Rattle.nio_base.specs.Limits.{IsFit}
+use Rattle.nio_base.specs.declared.limits.Limits.{Limits}
 use Rattle.nio_base.specs.declared.numbers.CallerNo.{CallerNo}
 use Rattle.nio_base.specs.declared.numbers.KeyId.{KeyId}
-use Rattle.nio_event.specs.Histories.{state_after, mine}
+use Rattle.nio_event.specs.Histories.{state_after, mine, IsLegal}
 use Rattle.nio_event.specs.OwnEvents.{has, since_entered, finds_outside, finds_below}
 use Rattle.nio_event.specs.Pins.{removes}
 use Rattle.nio_event.specs.Sets.{is_valid, IsRegistered}
@@ -13,6 +15,7 @@ use Rattle.nio_event.specs.State.{State}
 use Rattle.nio_event.specs.declared.act.Act.{Act}
 use Rattle.nio_event.specs.declared.act.Act.TheVariants.{CancelKey, LookChannel, LookKeys, Publish, LookReg, CloseBit}
 use Rattle.nio_event.specs.declared.event.Event.{Event}
+use Rattle.nio_orderly.specs.Careful.{IsCareful}
 
 -- ---- tests of one act
 
@@ -124,3 +127,7 @@ pub record Owed (events : List Event) : Type 0 where
   pub not_entered : (s : ℕ) → IsTrue ((state_after events).begun s) → IsFalse ((state_after events).entered s)
   -- a registered channel is non-blocking
   pub modes : (c : ℕ) → IsRegistered (state_after events) c → IsFalse ((state_after events).chan c).blocking
+
+-- what is owed in a legal and careful history is owed by somebody who has still to do it
+abbrev pub NothingIsLost : Type 0
+NothingIsLost = (l : Limits) (events : List Event) → IsFit l → IsLegal l events → IsCareful events → Owed events
