@@ -8,7 +8,7 @@ use Rattle.nio_base.specs.declared.numbers.ChanNo.{ChanNo}
 use Rattle.nio_base.specs.declared.numbers.KeyId.{KeyId}
 use Rattle.nio_base.specs.declared.numbers.KeyNo.{KeyNo}
 use Rattle.nio_base.specs.declared.numbers.SelNo.{SelNo}
-use Rattle.nio_event.specs.OwnEvents.{has, is_outside}
+use Rattle.nio_event.specs.OwnEvents.{has, is_outside, enters}
 use Rattle.nio_event.specs.Pins.{removes}
 use Rattle.nio_event.specs.Questions.{Question, question_of, answer_of}
 use Rattle.nio_event.specs.Sets.{fits, in_key_set, is_in_key_set}
@@ -236,11 +236,17 @@ remove-removes s i _ asks = absurd (cc asks)
 -- the indexes below are removed
 record Removed (l : Limits) (s : SelNo) (below : ℕ) (acts : List Act) : Type 0 where
   kept : Kept l acts
+  unentered : has (enters s.0) acts ≡ false
   removed : (i : ℕ) → i < below → has (removes s.0 i) acts ≡ true
+
+not_entering : (s : ℕ) (act : Act) → calm (question_of act) ≡ true → enters s act ≡ false
+not_entering s (Enter s' found) is = absurd (cc is)
+not_entering s _ is = refl
 
 removes_one : (l : Limits) (s : SelNo) (i : ℕ) (xs : List Act) → Removed l s i xs → Always (λ acts _. Removed l s (i + 1) (xs ++ acts)) (remove_key s i)
 removes_one l s i xs before = λ act asks. record {
   kept = kept-append l xs (act ∷ []) before.kept (kept-one l act (ap calm asks));
+  unentered = has-neither (enters s.0) xs (act ∷ []) before.unentered (ap (λ b. b || false) (not_entering s.0 act (ap calm asks)));
   removed = λ j below. by_side act asks j below (nat_lt j i) refl;
 }
   where
@@ -258,10 +264,10 @@ keys_removed l s = λ looked asks. by_act looked asks
         → Always (λ acts _. Kept l (Enter s None ∷ looked ∷ acts)) (sweep_to (number_in (answer_of looked)) 0 (λ i _. remove_key s i) tt >>= λ _. reply closed)
     by_act (LookKeys s' bound) asks =
         always_bind (λ acts _. Removed l s bound acts) (λ acts _. Kept l (Enter s None ∷ LookKeys s' bound ∷ acts)) (sweep_to bound 0 (λ i _. remove_key s i) tt) (λ _. reply closed)
-        (always_sweep (λ i acts _. Removed l s i acts) bound 0 (λ i _. remove_key s i) tt (omega arith) (record { kept = kept-none l; removed = λ i below. absurd (omega arith) })
+        (always_sweep (λ i acts _. Removed l s i acts) bound 0 (λ i _. remove_key s i) tt (omega arith) (record { kept = kept-none l; unentered = refl; removed = λ i below. absurd (omega arith) })
         (λ i ys _ low high before. removes_one l s i ys before))
         (λ acts _ removed. subst (λ xs. Kept l (Enter s None ∷ LookKeys s' bound ∷ xs)) (sym (append-nil acts))
-        (kept-entering l s (LookKeys s' bound ∷ acts) (kept-append l (LookKeys s' bound ∷ []) acts (kept-one l (LookKeys s' bound) refl) removed.kept)
+        (kept-entering l s (LookKeys s' bound ∷ acts) (kept-append l (LookKeys s' bound ∷ []) acts (kept-one l (LookKeys s' bound) refl) removed.kept) removed.unentered
         (λ i. ap (λ b. if b then (b && nat_lt i bound) && not (has (removes s.0 i) acts) else owes (clearing_duty s.0 i) acts) here ∙ by_side acts removed i (nat_lt i bound) refl)))
       where
         here : (s'.0 == s.0) ≡ true

@@ -1,12 +1,12 @@
 -- What whole calls keep, whatever their caller did before and does after them: each publish keeps the rules of
 -- careful histories, and of what a publish, a closing of a channel or an entering leaves to do, nothing is owed.
-use Rattle.std.proofs.Common.{◌≡◌, ℕ, zero, suc, ◌+◌, ◌-◌, ◌<◌, Bool, true, false, not, ◌||◌, if◌then◌else◌, Option, Some, None, List, [], ◌∷◌, ◌++◌, refl, ap, sym, ◌∙◌, subst, ◌⊎◌, inl, inr}
+use Rattle.std.proofs.Common.{◌≡◌, ℕ, zero, suc, ◌+◌, ◌-◌, ◌<◌, Bool, true, false, not, ◌||◌, if◌then◌else◌, Option, Some, None, List, [], ◌∷◌, ◌++◌, refl, ap, sym, ◌∙◌, subst, append_assoc, ◌⊎◌, inl, inr}
 use Rattle.std.proofs.lemmas.List.{append-nil}
 use Rattle.nio_base.specs.declared.limits.Limits.{Limits}
 use Rattle.nio_base.specs.declared.numbers.ChanNo.{ChanNo}
 use Rattle.nio_base.specs.declared.numbers.KeyId.{KeyId}
 use Rattle.nio_base.specs.declared.numbers.SelNo.{SelNo}
-use Rattle.nio_event.specs.OwnEvents.{OwnClaim, has, count, under, takes_hold, releases, sets_mode, own_claim}
+use Rattle.nio_event.specs.OwnEvents.{OwnClaim, has, count, under, takes_hold, enters, releases, sets_mode, own_claim}
 use Rattle.nio_event.specs.Questions.{Question, Answer, question_of, answer_of}
 use Rattle.nio_event.specs.declared.act.Act.{Act}
 use Rattle.nio_event.specs.declared.act.Act.TheVariants.{Publish, CloseBit, Enter}
@@ -35,11 +35,19 @@ pub record PublishKept (before : List Act) (s : SelNo) (i : ℕ) (found : Stage)
   pub prepared : is_prepared s.0 i before ≡ true
   pub settled : found.removed ≡ false → (serial : ℕ) → owes (publisher_duty claim.channel.0 s.0 (record { index = i; serial = serial })) later ≡ false
 
+-- What a caller did after it entered selector s: it cleared the selector out before it entered it again.
+pub record EnterKept (s : SelNo) (later : List Act) : Type 0 where
+  pub clearing : List Act
+  pub rest : List Act
+  pub parts : later ≡ clearing ++ rest
+  pub once : has (enters s.0) clearing ≡ false
+  pub settled : (i : ℕ) → owes (clearing_duty s.0 i) clearing ≡ false
+
 pub record Kept (l : Limits) (acts : List Act) : Type 0 where
   pub publishes : (before : List Act) (s : SelNo) (i : ℕ) (found : Stage) (later : List Act) → acts ≡ before ++ Publish s i found ∷ later → PublishKept before s i found later
   pub closes : (before : List Act) (c : ChanNo) (later : List Act) → acts ≡ before ++ CloseBit c false ∷ later
       → (s : ℕ) (k : KeyId) → s < l.selectors → owes (closing_duty c.0 s k) later ≡ false
-  pub enters : (before : List Act) (s : SelNo) (later : List Act) → acts ≡ before ++ Enter s None ∷ later → (i : ℕ) → owes (clearing_duty s.0 i) later ≡ false
+  pub enters : (before : List Act) (s : SelNo) (later : List Act) → acts ≡ before ++ Enter s None ∷ later → EnterKept s later
 
 -- ---- of acts before and after
 
@@ -69,7 +77,7 @@ pub kept-append : (l : Limits) (xs ys : List Act) → Kept l xs → Kept l ys �
 kept-append l xs ys first second = record {
   publishes = λ before s i found later parts. publishes_in before s i found later (split_at xs ys before (Publish s i found) later parts);
   closes = λ before c later parts s k below. closes_in before c later s k below (split_at xs ys before (CloseBit c false) later parts);
-  enters = λ before s later parts i. enters_in before s later i (split_at xs ys before (Enter s None) later parts);
+  enters = λ before s later parts. enters_in before s later (split_at xs ys before (Enter s None) later parts);
 }
   where
     publishes_in : (before : List Act) (s : SelNo) (i : ℕ) (found : Stage) (later : List Act)
@@ -87,11 +95,17 @@ kept-append l xs ys first second = record {
         (owes-append (closing_duty c.0 s k) there.rest ys (first.closes before c there.rest there.parts s k below))
     closes_in before c later s k below (inr there) = second.closes there.start c later there.parts s k below
 
-    enters_in : (before : List Act) (s : SelNo) (later : List Act) (i : ℕ) → InFirst xs ys before (Enter s None) later ⊎ InSecond xs ys before (Enter s None) later
-        → owes (clearing_duty s.0 i) later ≡ false
-    enters_in before s later i (inl there) =
-        subst (λ acts. owes (clearing_duty s.0 i) acts ≡ false) (sym there.later_is) (owes-append (clearing_duty s.0 i) there.rest ys (first.enters before s there.rest there.parts i))
-    enters_in before s later i (inr there) = second.enters there.start s later there.parts i
+    enters_in : (before : List Act) (s : SelNo) (later : List Act) → InFirst xs ys before (Enter s None) later ⊎ InSecond xs ys before (Enter s None) later → EnterKept s later
+    enters_in before s later (inl there) =
+        let kept = first.enters before s there.rest there.parts in
+        record {
+          clearing = kept.clearing;
+          rest = kept.rest ++ ys;
+          parts = there.later_is ∙ (ap (λ acts. acts ++ ys) kept.parts ∙ append_assoc kept.clearing kept.rest ys);
+          once = kept.once;
+          settled = kept.settled;
+        }
+    enters_in before s later (inr there) = second.enters there.start s later there.parts
 
 -- ---- of acts that leave nothing to do
 
@@ -106,7 +120,7 @@ pub kept-calm : (l : Limits) (acts : List Act) → has is_loud acts ≡ false �
 kept-calm l acts none = record {
   publishes = λ before s i found later parts. absurd (no_such_act is_loud before (Publish s i found) later (ap (has is_loud) (sym parts) ∙ none) refl);
   closes = λ before c later parts s k below. absurd (no_such_act is_loud before (CloseBit c false) later (ap (has is_loud) (sym parts) ∙ none) refl);
-  enters = λ before s later parts i. absurd (no_such_act is_loud before (Enter s None) later (ap (has is_loud) (sym parts) ∙ none) refl);
+  enters = λ before s later parts. absurd (no_such_act is_loud before (Enter s None) later (ap (has is_loud) (sym parts) ∙ none) refl);
 }
 
 pub kept-none : (l : Limits) → Kept l []
@@ -148,7 +162,7 @@ pub kept-closing : (l : Limits) (c : ChanNo) (acts : List Act) → Kept l acts �
 kept-closing l c acts kept settled = record {
   publishes = λ before s i found later parts. publishes_in before s i found later (first_or_later (CloseBit c false) acts before (Publish s i found) later parts);
   closes = λ before c' later parts s k below. closes_in before c' later s k below (first_or_later (CloseBit c false) acts before (CloseBit c' false) later parts);
-  enters = λ before s later parts i. enters_in before s later i (first_or_later (CloseBit c false) acts before (Enter s None) later parts);
+  enters = λ before s later parts. enters_in before s later (first_or_later (CloseBit c false) acts before (Enter s None) later parts);
 }
   where
     publishes_in : (before : List Act) (s : SelNo) (i : ℕ) (found : Stage) (later : List Act)
@@ -165,17 +179,16 @@ kept-closing l c acts kept settled = record {
         ap (λ (d : ChanNo). owes (closing_duty d.0 s k) later) (sym same) ∙ (ap (owes (closing_duty c.0 s k)) (sym first.1) ∙ settled s k below)
     closes_in before c' later s k below (inr there) = kept.closes there.0 c' later there.2 s k below
 
-    enters_in : (before : List Act) (s : SelNo) (later : List Act) (i : ℕ)
-        → ((CloseBit c false ≡ Enter s None) × (acts ≡ later)) ⊎ ((further : List Act) × (before ≡ CloseBit c false ∷ further) × (acts ≡ further ++ Enter s None ∷ later))
-        → owes (clearing_duty s.0 i) later ≡ false
-    enters_in before s later i (inl first) = absurd (cc first.0)
-    enters_in before s later i (inr there) = kept.enters there.0 s later there.2 i
+    enters_in : (before : List Act) (s : SelNo) (later : List Act)
+        → ((CloseBit c false ≡ Enter s None) × (acts ≡ later)) ⊎ ((further : List Act) × (before ≡ CloseBit c false ∷ further) × (acts ≡ further ++ Enter s None ∷ later)) → EnterKept s later
+    enters_in before s later (inl first) = absurd (cc first.0)
+    enters_in before s later (inr there) = kept.enters there.0 s later there.2
 
-pub kept-entering : (l : Limits) (s : SelNo) (acts : List Act) → Kept l acts → ((i : ℕ) → owes (clearing_duty s.0 i) acts ≡ false) → Kept l (Enter s None ∷ acts)
-kept-entering l s acts kept settled = record {
+pub kept-entering : (l : Limits) (s : SelNo) (acts : List Act) → Kept l acts → has (enters s.0) acts ≡ false → ((i : ℕ) → owes (clearing_duty s.0 i) acts ≡ false) → Kept l (Enter s None ∷ acts)
+kept-entering l s acts kept once settled = record {
   publishes = λ before s' i found later parts. publishes_in before s' i found later (first_or_later (Enter s None) acts before (Publish s' i found) later parts);
   closes = λ before c later parts s' k below. closes_in before c later s' k below (first_or_later (Enter s None) acts before (CloseBit c false) later parts);
-  enters = λ before s' later parts i. enters_in before s' later i (first_or_later (Enter s None) acts before (Enter s' None) later parts);
+  enters = λ before s' later parts. enters_in before s' later (first_or_later (Enter s None) acts before (Enter s' None) later parts);
 }
   where
     publishes_in : (before : List Act) (s' : SelNo) (i : ℕ) (found : Stage) (later : List Act)
@@ -190,13 +203,13 @@ kept-entering l s acts kept settled = record {
     closes_in before c later s' k below (inl first) = absurd (cc first.0)
     closes_in before c later s' k below (inr there) = kept.closes there.0 c later there.2 s' k below
 
-    enters_in : (before : List Act) (s' : SelNo) (later : List Act) (i : ℕ)
-        → ((Enter s None ≡ Enter s' None) × (acts ≡ later)) ⊎ ((further : List Act) × (before ≡ Enter s None ∷ further) × (acts ≡ further ++ Enter s' None ∷ later))
-        → owes (clearing_duty s'.0 i) later ≡ false
-    enters_in before s' later i (inl first) =
+    enters_in : (before : List Act) (s' : SelNo) (later : List Act)
+        → ((Enter s None ≡ Enter s' None) × (acts ≡ later)) ⊎ ((further : List Act) × (before ≡ Enter s None ∷ further) × (acts ≡ further ++ Enter s' None ∷ later)) → EnterKept s' later
+    enters_in before s' later (inl first) =
         let same : s ≡ s' = cc first.0 in
-        ap (λ (t : SelNo). owes (clearing_duty t.0 i) later) (sym same) ∙ (ap (owes (clearing_duty s.0 i)) (sym first.1) ∙ settled i)
-    enters_in before s' later i (inr there) = kept.enters there.0 s' later there.2 i
+        subst (λ (t : SelNo). EnterKept t later) same
+        (record { clearing = acts; rest = []; parts = sym first.1 ∙ sym (append-nil acts); once = once; settled = settled })
+    enters_in before s' later (inr there) = kept.enters there.0 s' later there.2
 
 -- ---- of plans
 

@@ -595,7 +595,7 @@ registers-kept l s c own act asks (inl calm) = kept-calm l (own ++ act ∷ []) (
 registers-kept l s c own act asks (inr registered) = record {
   publishes = λ xs s' i found ys parts. its_publish xs s' i found ys (one_loud there.before there.later xs ys (Publish s k.index there.found) (Publish s' i found) there.noted.calm there.quiet.calm refl (sym there.parts ∙ parts));
   closes = λ xs c' ys parts t k' below. absurd (cc (one_loud there.before there.later xs ys (Publish s k.index there.found) (CloseBit c' false) there.noted.calm there.quiet.calm refl (sym there.parts ∙ parts)).1);
-  enters = λ xs s' ys parts i. absurd (cc (one_loud there.before there.later xs ys (Publish s k.index there.found) (Enter s' None) there.noted.calm there.quiet.calm refl (sym there.parts ∙ parts)).1);
+  enters = λ xs s' ys parts. absurd (cc (one_loud there.before there.later xs ys (Publish s k.index there.found) (Enter s' None) there.noted.calm there.quiet.calm refl (sym there.parts ∙ parts)).1);
 }
   where
     k : KeyId
