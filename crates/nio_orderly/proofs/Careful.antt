@@ -28,7 +28,7 @@ one_among : (a b : ℕ) → 1 ≤ a → a + b ≡ 1 → a ≡ 1
 one_among a b some one = omega arith
 
 -- a publish that keeps the rules in a longer history keeps them in a beginning
-rules_before : (s i : ℕ) (claim : OwnClaim) (before later more : List Act) → KeepsRules s i claim before (later ++ more) → KeepsRules s i claim before later
+pub rules_before : (s i : ℕ) (claim : OwnClaim) (before later more : List Act) → KeepsRules s i claim before (later ++ more) → KeepsRules s i claim before later
 rules_before s i claim before later more rules = record {
   noted = rules.noted;
   noted_alone = one_among (count (notes_for c) (its_hold c before later)) (count (notes_for c) rest.0) some

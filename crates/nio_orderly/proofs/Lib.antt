@@ -16,3 +16,4 @@ pub mod Kept
 pub mod ClosingsKept
 pub mod CallsKept
 pub mod Registration
+pub mod OrderlyCare

@@ -5,3 +5,4 @@ pub mod Careful
 pub mod Owed
 pub mod Settled
 pub mod AfterClosing
+pub mod OrderlyCare
