@@ -10,3 +10,4 @@ pub mod Clearing
 pub mod Owed
 pub mod AfterClosing
 pub mod LookingBackLaw
+pub mod Examples
