@@ -1,19 +1,17 @@
 -- The two histories in which a channel is closed while another caller registers it, by computing.
-use Rattle.std.proofs.Common.{◌≡◌, ℕ, ◌==◌, ◌<◌, ◌≤◌, Bool, true, false, ◌&&◌, ◌||◌, ◌⊎◌, inl, inr, Some, None, List, [], ◌∷◌, ◌++◌, take, drop, append_assoc, refl, ap, sym, ◌∙◌, subst, eqb-true, arith, lit<, lit≤}
+use Rattle.std.proofs.Common.{◌≡◌, ℕ, ◌==◌, ◌<◌, ◌≤◌, Bool, true, false, ◌&&◌, ◌||◌, inl, inr, Some, None, List, [], ◌∷◌, ◌++◌, take, drop, append_assoc, refl, ap, sym, ◌∙◌, subst, eqb-true, arith, lit<, lit≤}
 use Rattle.std.specs.Prelude.{nat_lt}
 use Rattle.std.specs.List.{list_all}
 use Rattle.std.proofs.lemmas.Bool.{and_parts, and_from, ltb-true, eqb-false, ne_eqb}
 use Rattle.std.proofs.lemmas.List.{append-nil}
 use Rattle.nio_base.specs.Limits.{IsFit}
-use Rattle.nio_base.specs.declared.limits.Limits.{Limits}
 use Rattle.nio_base.specs.declared.numbers.CallerNo.{CallerNo}
-use Rattle.nio_base.specs.declared.numbers.KeyId.{KeyId}
 use Rattle.nio_event.proofs.Legal.{not_empty, legal_beginning, legal_more}
 use Rattle.nio_event.proofs.OneMore.{mine-other}
 use Rattle.nio_event.proofs.Soundness.{both_ways}
 use Rattle.nio_event.proofs.Told.{or_right}
 use Rattle.nio_event.proofs.WorkedSteps.{worked_history_is_legal}
-use Rattle.nio_event.specs.Histories.{state_after, event_of, is_by, mine, IsStep, IsLegal}
+use Rattle.nio_event.specs.Histories.{event_of, mine, IsLegal}
 use Rattle.nio_event.specs.OwnEvents.{OwnClaim, own_claim}
 use Rattle.nio_event.specs.Worked.{u, v, s, c, chan, stage, noted, small_limits, worked_history}
 use Rattle.nio_event.specs.declared.act.Act.{Act}

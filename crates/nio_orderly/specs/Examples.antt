@@ -1,6 +1,6 @@
 -- Two histories in which a channel is closed while another caller registers it. They begin as the worked history of
 -- `nio_event` does: caller u registers channel c with selector s.
-use Rattle.std.specs.Prelude.{true, false, None, IsTrue, List, [], ◌∷◌, ◌++◌, take}
+use Rattle.std.specs.Prelude.{false, None, IsTrue, List, [], ◌∷◌, ◌++◌, take}
 use Rattle.nio_event.specs.Histories.{state_after, event_of, IsLegal}
 use Rattle.nio_event.specs.Sets.{is_valid}
 use Rattle.nio_event.specs.Worked.{u, v, s, c, chan, stage, noted, small_limits, worked_history}
