@@ -110,15 +110,15 @@ looks_below st me (LookKeys k found) s i answers below looks =
 looks_below st me act s i answers below looks = absurd (cc looks)
 
 -- a closer was so before, or the step shut the selector, which wasn't shut
-record ShutsNow (st : State) (me n : CallerNo) (s : ℕ) (act : Act) : Type 0 where
+record ShutsNow (st : State) (s : ℕ) (act : Act) : Type 0 where
   open_before : (st.gate s).shut ≡ false
   not_entering : enters s act ≡ false
 
-came_closer : (st : State) (me n : CallerNo) (act : Act) → Answers st me act → (s : ℕ) → (effect st me act).closer s ≡ Some n → (st.closer s ≡ Some n) ⊎ ShutsNow st me n s act
-came_closer st me n (ShutBit k true) answers s = put_keeps (λ m o. o ≡ Some n → (st.closer m ≡ Some n) ⊎ ShutsNow st me n m (ShutBit k true)) st.closer k.0 (st.closer k.0) (λ old. old) s (λ e. inl e)
+came_closer : (st : State) (me n : CallerNo) (act : Act) → Answers st me act → (s : ℕ) → (effect st me act).closer s ≡ Some n → (st.closer s ≡ Some n) ⊎ ShutsNow st s act
+came_closer st me n (ShutBit k true) answers s = put_keeps (λ m o. o ≡ Some n → (st.closer m ≡ Some n) ⊎ ShutsNow st m (ShutBit k true)) st.closer k.0 (st.closer k.0) (λ old. old) s (λ e. inl e)
 came_closer st me n (ShutBit k false) answers s =
     let open_still : (st.gate k.0).shut ≡ false = cc in
-    put_keeps (λ m o. o ≡ Some n → (st.closer m ≡ Some n) ⊎ ShutsNow st me n m (ShutBit k false)) st.closer k.0 (Some me) (λ old e. inr (record { open_before = open_still; not_entering = refl })) s (λ e. inl e)
+    put_keeps (λ m o. o ≡ Some n → (st.closer m ≡ Some n) ⊎ ShutsNow st m (ShutBit k false)) st.closer k.0 (Some me) (λ old e. inr (record { open_before = open_still; not_entering = refl })) s (λ e. inl e)
 came_closer st me n act answers s = λ e. inl e
 
 -- ---- an index whose key is coming after a step, of a shut selector, had its key coming before
@@ -247,7 +247,7 @@ clearing_step l past e fit legal step careful s i n before closer coming = by_cl
     by_caller true by owing = by_entered (has (enters s) (mine n past)) refl by owing
     by_caller false by owing = ap (λ own. owes (clearing_duty s i) (since_entered s own)) (mine-other n past e by) ∙ owing
 
-    by_closer : (st.closer s ≡ Some n) ⊎ ShutsNow st me n s e.act → owes (clearing_duty s i) (since_entered s (mine n (past ++ e ∷ []))) ≡ true
+    by_closer : (st.closer s ≡ Some n) ⊎ ShutsNow st s e.act → owes (clearing_duty s i) (since_entered s (mine n (past ++ e ∷ []))) ≡ true
     by_closer (inl closer_then) = by_caller (is_by n e) refl (before closer_then coming_then)
     by_closer (inr shuts) = not_in (mine n (past ++ e ∷ [])) (none_by (is_by n e) refl)
       where
