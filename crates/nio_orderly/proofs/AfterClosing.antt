@@ -1,5 +1,5 @@
 -- What is left once a closing has done all its steps, and where nobody owes anything.
-use Rattle.std.proofs.Common.{◌≡◌, ℕ, ◌==◌, ◌<◌, Bool, true, false, not, ◌&&◌, ◌||◌, ◌⊎◌, inl, inr, Option, Some, None, is_none, List, [], ◌∷◌, ◌++◌, append_assoc, refl, ap, sym, ◌∙◌, subst, eqb-true, eq-eqb}
+use Rattle.std.proofs.Common.{◌≡◌, ℕ, ◌<◌, Bool, true, false, not, ◌||◌, ◌⊎◌, inl, inr, Option, Some, None, List, [], ◌∷◌, ◌++◌, append_assoc, refl, ap, sym, ◌∙◌, subst, eqb-true, eq-eqb}
 use Rattle.std.proofs.lemmas.Bool.{and_parts}
 use Rattle.nio_base.specs.Limits.{IsFit}
 use Rattle.nio_base.specs.declared.limits.Limits.{Limits}
@@ -7,21 +7,20 @@ use Rattle.nio_base.specs.declared.numbers.CallerNo.{CallerNo}
 use Rattle.nio_base.specs.declared.numbers.ChanNo.{ChanNo}
 use Rattle.nio_base.specs.declared.numbers.KeyId.{KeyId}
 use Rattle.nio_base.specs.declared.numbers.SelNo.{SelNo}
-use Rattle.nio_event.proofs.LastsAlone.{one_holder}
 use Rattle.nio_event.proofs.LastsOnceSound.{lasting_stands}
 use Rattle.nio_event.proofs.Legal.{legal_beginning, legal_next, legal_more, legal_induction}
 use Rattle.nio_event.proofs.OneMore.{state_after-more, mine-own, mine-other, has-more}
 use Rattle.nio_event.proofs.PinLaws.{own_claims_stand}
 use Rattle.nio_event.proofs.Put.{put_keeps}
 use Rattle.nio_event.proofs.Soundness.{legal-sound, both_ways, not_true}
-use Rattle.nio_event.proofs.Told.{either, or_right}
+use Rattle.nio_event.proofs.Told.{or_right}
 use Rattle.nio_event.proofs.Within.{legal-within}
 use Rattle.nio_event.specs.Acts.{effect}
 use Rattle.nio_event.specs.Answers.{Answers}
 use Rattle.nio_event.specs.Conditions.{Condition, is_held_by}
 use Rattle.nio_event.specs.Histories.{state_after, event_of, is_by, mine, IsStep, IsLegal}
 use Rattle.nio_event.specs.Lasting.{selector_closed_by}
-use Rattle.nio_event.specs.OwnEvents.{OwnClaim, has, enters, since_entered, own_claim}
+use Rattle.nio_event.specs.OwnEvents.{has, enters, since_entered, own_claim}
 use Rattle.nio_event.specs.Pins.{IsOfClaim}
 use Rattle.nio_event.specs.Sets.{in_key_set, is_valid}
 use Rattle.nio_event.specs.State.{State}
@@ -35,10 +34,10 @@ use Rattle.nio_orderly.proofs.Clearing.{clearing_owed}
 use Rattle.nio_orderly.proofs.KeysStand.{set_claimed}
 use Rattle.nio_orderly.proofs.Owed.{valid_coming}
 use Rattle.nio_orderly.proofs.Published.{IsPublish, is_publish, MayClaim, may_claim}
-use Rattle.nio_orderly.specs.AfterClosing.{HasClosedChannel, OnlyPublishersOwe, HasClosedSelector, ClosedSelectorsHaveNoKey}
+use Rattle.nio_orderly.specs.AfterClosing.{OnlyPublishersOwe, ClosedSelectorsHaveNoKey}
 use Rattle.nio_orderly.specs.Careful.{IsCareful}
 use Rattle.nio_orderly.specs.Owed.{publishes_key, owes, publisher_duty, closing_duty, clearing_duty, OwesSince, key_of}
-use Rattle.nio_orderly.specs.Settled.{claimed_key, IsSettled, HasNoLostKey, SettledLosesNoKey}
+use Rattle.nio_orderly.specs.Settled.{IsSettled, SettledLosesNoKey}
 use Rattle.nio_steps.proofs.OwnActs.{Cut, cut_at, mine-append}
 
 -- the selector of an index that has a key is below the limit

@@ -1,6 +1,6 @@
 -- The debt of a cancelling: of a valid key of a closed channel, in every legal and careful history, its publisher or
 -- who closed the channel owes the cancelling.
-use Rattle.std.proofs.Common.{◌≡◌, ℕ, ◌==◌, Bool, true, false, not, ◌&&◌, ◌||◌, ◌⊎◌, inl, inr, Option, Some, None, if◌then◌else◌, List, [], ◌∷◌, ◌++◌, append_assoc, refl, ap, sym, ◌∙◌, subst, eqb-true, eq-eqb}
+use Rattle.std.proofs.Common.{◌≡◌, ℕ, ◌==◌, Bool, true, false, not, ◌&&◌, ◌⊎◌, inl, inr, Option, Some, None, if◌then◌else◌, List, [], ◌∷◌, ◌++◌, append_assoc, refl, ap, sym, ◌∙◌, subst, eqb-true, eq-eqb}
 use Rattle.std.proofs.lemmas.Bool.{and_parts, and_from, or_from}
 use Rattle.nio_base.specs.Limits.{IsFit}
 use Rattle.nio_base.specs.declared.limits.Limits.{Limits}
@@ -24,12 +24,11 @@ use Rattle.nio_event.specs.State.{State}
 use Rattle.nio_event.specs.declared.act.Act.{Act}
 use Rattle.nio_event.specs.declared.act.Act.TheVariants.{LookKey, CancelKey, LookChannel, LookReg, CloseBit, Pin}
 use Rattle.nio_event.specs.declared.event.Event.{Event}
-use Rattle.nio_event.specs.declared.found.Chan.{Chan}
 use Rattle.nio_event.specs.declared.found.Stage.{Stage}
 use Rattle.nio_orderly.proofs.ActLists.{owes-more, AtEnd, Within, split_last}
 use Rattle.nio_orderly.proofs.Careful.{beginnings_are_careful}
 use Rattle.nio_orderly.proofs.KeySet.{is_false, WasThere, was_valid, came, came_closed}
-use Rattle.nio_orderly.proofs.KeysStand.{KeysStand, keys_stand, set_fits}
+use Rattle.nio_orderly.proofs.KeysStand.{keys_stand, set_fits}
 use Rattle.nio_steps.proofs.OwnActs.{cut_at}
 use Rattle.nio_orderly.specs.Careful.{IsCareful}
 use Rattle.nio_orderly.specs.Owed.{publishes_key, closes, looks_at_channel, finds_closed, looks_for_key, finds_key, cancels, settles_key, Duty, owes, publisher_duty, closing_duty, OwesSince, OwesCancelling, key_of}

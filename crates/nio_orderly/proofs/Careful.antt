@@ -1,11 +1,10 @@
 -- Careful histories: their beginnings, and what a publish at their end keeps.
-use Rattle.std.proofs.Common.{◌≡◌, ℕ, ◌==◌, ◌+◌, ◌≤◌, Bool, true, false, ◌&&◌, Some, List, [], ◌∷◌, ◌++◌, append_assoc, refl, ap, sym, ◌∙◌, subst, arith, eq-eqb}
+use Rattle.std.proofs.Common.{◌≡◌, ℕ, ◌==◌, ◌+◌, ◌≤◌, true, ◌&&◌, Some, List, [], ◌∷◌, ◌++◌, append_assoc, refl, ap, sym, ◌∙◌, arith, eq-eqb}
 use Rattle.std.proofs.lemmas.Bool.{and_parts}
-use Rattle.nio_base.specs.declared.numbers.CallerNo.{CallerNo}
 use Rattle.nio_base.specs.declared.numbers.SelNo.{SelNo}
 use Rattle.nio_steps.proofs.OwnActs.{mine-append}
 use Rattle.nio_event.proofs.OneMore.{mine-own}
-use Rattle.nio_event.specs.Histories.{is_by, mine}
+use Rattle.nio_event.specs.Histories.{mine}
 use Rattle.nio_event.specs.OwnEvents.{OwnClaim, has, count, under, sets_mode, own_claim}
 use Rattle.nio_event.specs.declared.act.Act.{Act}
 use Rattle.nio_event.specs.declared.act.Act.TheVariants.{Publish, Enrol}

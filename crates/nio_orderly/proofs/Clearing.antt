@@ -1,6 +1,6 @@
 -- The debt of a clearing out: of an index whose key may be or become valid, in every legal and careful history, the
 -- selector's closer owes the clearing out.
-use Rattle.std.proofs.Common.{◌≡◌, ℕ, ◌==◌, ◌<◌, suc, Bool, true, false, cond, not, ◌&&◌, ◌||◌, ◌⊎◌, inl, inr, Option, Some, None, is_some, if◌then◌else◌, List, [], ◌∷◌, ◌++◌, refl, ap, sym, ◌∙◌, subst, eqb-true, eq-eqb, arith}
+use Rattle.std.proofs.Common.{◌≡◌, ℕ, ◌==◌, ◌<◌, Bool, true, false, cond, not, ◌&&◌, ◌||◌, ◌⊎◌, inl, inr, Option, Some, None, is_some, List, [], ◌∷◌, ◌++◌, refl, ap, sym, ◌∙◌, subst, eqb-true, arith}
 use Rattle.std.specs.Prelude.{nat_lt}
 use Rattle.std.proofs.lemmas.Bool.{and_parts, and_from}
 use Rattle.nio_base.specs.Limits.{IsFit}
@@ -12,14 +12,13 @@ use Rattle.nio_event.proofs.KeyChanges.{KeepsStages, stages_keep}
 use Rattle.nio_event.proofs.Legal.{legal_more, legal_induction}
 use Rattle.nio_event.proofs.OneMore.{state_after-more, mine-own, mine-other, has-more}
 use Rattle.nio_event.proofs.PinLaws.{own_claims_stand}
-use Rattle.nio_event.proofs.Put.{put_keeps, put-same, put_at-there}
+use Rattle.nio_event.proofs.Put.{put_keeps, put_at-there}
 use Rattle.nio_event.proofs.Soundness.{legal-sound, both_ways, not_true, pinned-claimed}
-use Rattle.nio_event.proofs.Told.{either}
 use Rattle.nio_event.proofs.Within.{legal-within}
 use Rattle.nio_event.specs.Acts.{effect}
 use Rattle.nio_event.specs.Answers.{Answers}
 use Rattle.nio_event.specs.Histories.{state_after, is_by, mine, IsStep, IsLegal}
-use Rattle.nio_event.specs.OwnEvents.{OwnClaim, has, since_first, since_entered, enters, finds_below, claim_changed, own_claim}
+use Rattle.nio_event.specs.OwnEvents.{OwnClaim, has, since_entered, enters, finds_below, claim_changed, own_claim}
 use Rattle.nio_event.specs.Pins.{removes}
 use Rattle.nio_event.specs.Sets.{in_key_set}
 use Rattle.nio_event.specs.Sound.{IsSound}
@@ -27,11 +26,10 @@ use Rattle.nio_event.specs.State.{State}
 use Rattle.nio_event.specs.declared.act.Act.{Act}
 use Rattle.nio_event.specs.declared.act.Act.TheVariants.{LookGate, Claim, LookKeys, Remove, ShutBit, Unpin, ClaimAgain}
 use Rattle.nio_event.specs.declared.event.Event.{Event}
-use Rattle.nio_event.specs.declared.found.Stage.{Stage}
 use Rattle.nio_orderly.proofs.ActLists.{since_first-more, since_first_none, owes-more, prepared-more}
 use Rattle.nio_orderly.proofs.Careful.{beginnings_are_careful}
 use Rattle.nio_orderly.proofs.KeySet.{is_false, is_not, WasThere, came}
-use Rattle.nio_orderly.proofs.KeysStand.{keys_stand, Published, published, prepared_below}
+use Rattle.nio_orderly.proofs.KeysStand.{keys_stand, published, prepared_below}
 use Rattle.nio_orderly.proofs.Standing.{entered_told}
 use Rattle.nio_orderly.specs.Careful.{claims, finds_open, is_prepared, IsCareful}
 use Rattle.nio_orderly.specs.Owed.{publishes_key, looks_at_mark, owes, clearing_duty, key_of}
@@ -112,15 +110,15 @@ looks_below st me (LookKeys k found) s i answers below looks =
 looks_below st me act s i answers below looks = absurd (cc looks)
 
 -- a closer was so before, or the step shut the selector, which wasn't shut
-record ShutsNow (st : State) (me n : CallerNo) (s : ℕ) (act : Act) : Type 0 where
+record ShutsNow (st : State) (s : ℕ) (act : Act) : Type 0 where
   open_before : (st.gate s).shut ≡ false
   not_entering : enters s act ≡ false
 
-came_closer : (st : State) (me n : CallerNo) (act : Act) → Answers st me act → (s : ℕ) → (effect st me act).closer s ≡ Some n → (st.closer s ≡ Some n) ⊎ ShutsNow st me n s act
-came_closer st me n (ShutBit k true) answers s = put_keeps (λ m o. o ≡ Some n → (st.closer m ≡ Some n) ⊎ ShutsNow st me n m (ShutBit k true)) st.closer k.0 (st.closer k.0) (λ old. old) s (λ e. inl e)
+came_closer : (st : State) (me n : CallerNo) (act : Act) → Answers st me act → (s : ℕ) → (effect st me act).closer s ≡ Some n → (st.closer s ≡ Some n) ⊎ ShutsNow st s act
+came_closer st me n (ShutBit k true) answers s = put_keeps (λ m o. o ≡ Some n → (st.closer m ≡ Some n) ⊎ ShutsNow st m (ShutBit k true)) st.closer k.0 (st.closer k.0) (λ old. old) s (λ e. inl e)
 came_closer st me n (ShutBit k false) answers s =
     let open_still : (st.gate k.0).shut ≡ false = cc in
-    put_keeps (λ m o. o ≡ Some n → (st.closer m ≡ Some n) ⊎ ShutsNow st me n m (ShutBit k false)) st.closer k.0 (Some me) (λ old e. inr (record { open_before = open_still; not_entering = refl })) s (λ e. inl e)
+    put_keeps (λ m o. o ≡ Some n → (st.closer m ≡ Some n) ⊎ ShutsNow st m (ShutBit k false)) st.closer k.0 (Some me) (λ old e. inr (record { open_before = open_still; not_entering = refl })) s (λ e. inl e)
 came_closer st me n act answers s = λ e. inl e
 
 -- ---- an index whose key is coming after a step, of a shut selector, had its key coming before
@@ -249,7 +247,7 @@ clearing_step l past e fit legal step careful s i n before closer coming = by_cl
     by_caller true by owing = by_entered (has (enters s) (mine n past)) refl by owing
     by_caller false by owing = ap (λ own. owes (clearing_duty s i) (since_entered s own)) (mine-other n past e by) ∙ owing
 
-    by_closer : (st.closer s ≡ Some n) ⊎ ShutsNow st me n s e.act → owes (clearing_duty s i) (since_entered s (mine n (past ++ e ∷ []))) ≡ true
+    by_closer : (st.closer s ≡ Some n) ⊎ ShutsNow st s e.act → owes (clearing_duty s i) (since_entered s (mine n (past ++ e ∷ []))) ≡ true
     by_closer (inl closer_then) = by_caller (is_by n e) refl (before closer_then coming_then)
     by_closer (inr shuts) = not_in (mine n (past ++ e ∷ [])) (none_by (is_by n e) refl)
       where

@@ -1,6 +1,6 @@
 -- What stands of the keys of the key set in a legal and careful history: each is the one that is noted for its
 -- channel, its channel is non-blocking, and its index is below the keys' mark.
-use Rattle.std.proofs.Common.{◌≡◌, ℕ, ◌==◌, ◌<◌, Bool, true, false, cond, not, ◌&&◌, ◌||◌, ◌⊎◌, inl, inr, Option, Some, None, List, [], ◌∷◌, ◌++◌, refl, ap, sym, ◌∙◌, subst, eqb-true, eq-eqb}
+use Rattle.std.proofs.Common.{◌≡◌, ℕ, ◌==◌, Bool, true, false, not, ◌&&◌, ◌||◌, inl, inr, Some, List, [], ◌∷◌, ◌++◌, refl, ap, sym, ◌∙◌, subst, eqb-true, eq-eqb}
 use Rattle.std.specs.Prelude.{nat_lt}
 use Rattle.std.proofs.lemmas.Bool.{and_parts, and_from, ltb-true, lt-ltb}
 use Rattle.nio_base.specs.Limits.{IsFit}
@@ -8,20 +8,18 @@ use Rattle.nio_base.specs.declared.limits.Limits.{Limits}
 use Rattle.nio_base.specs.declared.numbers.CallerNo.{CallerNo}
 use Rattle.nio_base.specs.declared.numbers.ChanNo.{ChanNo}
 use Rattle.nio_base.specs.declared.numbers.KeyId.{KeyId}
-use Rattle.nio_base.specs.declared.numbers.SelNo.{SelNo}
 use Rattle.nio_event.proofs.Holds.{clear_is_true}
 use Rattle.nio_event.proofs.Lasts.{keys_mark_lasts}
-use Rattle.nio_event.proofs.Legal.{legal_induction, legal_more}
-use Rattle.nio_event.proofs.OneMore.{state_after-more, has-since_first}
+use Rattle.nio_event.proofs.Legal.{legal_induction}
+use Rattle.nio_event.proofs.OneMore.{state_after-more}
 use Rattle.nio_event.proofs.Put.{put_keeps}
 use Rattle.nio_event.proofs.Soundness.{legal-sound, both_ways, beyond-claimed}
-use Rattle.nio_event.proofs.Told.{or_right}
 use Rattle.nio_event.proofs.Within.{legal-within}
 use Rattle.nio_event.specs.Acts.{effect}
 use Rattle.nio_event.specs.Answers.{Answers}
 use Rattle.nio_event.specs.Conditions.{Condition, holds}
 use Rattle.nio_event.specs.Histories.{state_after, mine, IsStep, IsLegal}
-use Rattle.nio_event.specs.OwnEvents.{OwnClaim, has, since_from, since_first, notes, is_clear, own_claim}
+use Rattle.nio_event.specs.OwnEvents.{OwnClaim, notes, is_clear, own_claim}
 use Rattle.nio_event.specs.Sets.{in_key_set, is_in_key_set}
 use Rattle.nio_event.specs.Sound.{IsSound}
 use Rattle.nio_event.specs.State.{State}
@@ -31,10 +29,10 @@ use Rattle.nio_event.specs.declared.event.Event.{Event}
 use Rattle.nio_event.specs.declared.found.Stage.{Stage}
 use Rattle.nio_orderly.proofs.ActLists.{prepared_left}
 use Rattle.nio_orderly.proofs.Careful.{beginnings_are_careful}
-use Rattle.nio_orderly.proofs.KeySet.{WasThere, came}
+use Rattle.nio_orderly.proofs.KeySet.{came}
 use Rattle.nio_orderly.proofs.Published.{IsPublish, is_publish, noted_other, AtPublish, at_publish}
 use Rattle.nio_orderly.proofs.Standing.{claimed_made, below_left}
-use Rattle.nio_orderly.specs.Careful.{claims, leaves_below, finds_open, is_prepared, IsCareful}
+use Rattle.nio_orderly.specs.Careful.{is_prepared, IsCareful}
 use Rattle.nio_orderly.specs.Owed.{publishes_key, key_of}
 
 pub record KeysStand (st : State) : Type 0 where

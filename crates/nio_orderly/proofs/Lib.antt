@@ -17,3 +17,4 @@ pub mod ClosingsKept
 pub mod CallsKept
 pub mod Registration
 pub mod OrderlyCare
+pub mod Examples

@@ -1,11 +1,10 @@
 -- A legal history whose acts keep the rules looking back is careful.
-use Rattle.std.proofs.Common.{◌≡◌, ℕ, ◌==◌, ◌+◌, Bool, true, false, cond, ◌&&◌, ◌||◌, Option, Some, None, if◌then◌else◌, List, [], ◌∷◌, ◌++◌, append_assoc, refl, ap, sym, ◌∙◌, subst, eqb-true, eq-eqb, arith}
+use Rattle.std.proofs.Common.{◌≡◌, ℕ, ◌==◌, ◌+◌, Bool, true, false, cond, ◌||◌, Some, None, if◌then◌else◌, List, [], ◌∷◌, ◌++◌, append_assoc, refl, ap, sym, ◌∙◌, subst, eqb-true, eq-eqb, arith}
 use Rattle.std.proofs.lemmas.Bool.{or_parts}
 use Rattle.std.proofs.lemmas.List.{append-nil}
 use Rattle.std.proofs.lemmas.List.Sums.{sum_by-cons}
 use Rattle.nio_base.specs.declared.limits.Limits.{Limits}
 use Rattle.nio_base.specs.declared.numbers.CallerNo.{CallerNo}
-use Rattle.nio_base.specs.declared.numbers.ChanNo.{ChanNo}
 use Rattle.nio_base.specs.declared.numbers.SelNo.{SelNo}
 use Rattle.nio_event.proofs.LastsAlone.{had_stands}
 use Rattle.nio_event.proofs.Legal.{legal_beginning, legal_next}
@@ -14,7 +13,7 @@ use Rattle.nio_event.proofs.Soundness.{both_ways}
 use Rattle.nio_event.proofs.Told.{or_right}
 use Rattle.nio_event.specs.Answers.{Answers}
 use Rattle.nio_event.specs.Conditions.{is_held_by}
-use Rattle.nio_event.specs.Histories.{state_after, event_of, is_by, mine, IsStep, IsLegal}
+use Rattle.nio_event.specs.Histories.{state_after, event_of, mine, IsStep, IsLegal}
 use Rattle.nio_event.specs.Lasting.{the_hold}
 use Rattle.nio_event.specs.OwnEvents.{OwnClaim, has, count, under, takes_hold, sets_mode, releases, own_claim}
 use Rattle.nio_event.specs.State.{State}
@@ -25,7 +24,7 @@ use Rattle.nio_event.specs.declared.found.Stage.{Stage}
 use Rattle.nio_orderly.proofs.ActLists.{has-append, count-append}
 use Rattle.nio_orderly.proofs.LookingBack.{publishes_any, MayPublish, CarefulAct, AreCarefulActs}
 use Rattle.nio_orderly.proofs.Published.{MayClaim, may_claim}
-use Rattle.nio_orderly.specs.Careful.{notes_for, until_released, its_hold, KeepsRules, IsCareful}
+use Rattle.nio_orderly.specs.Careful.{notes_for, until_released, IsCareful}
 use Rattle.nio_steps.proofs.OwnActs.{Cut, cut_at, mine-own_first}
 
 -- ---- a caller that has a hold doesn't take it

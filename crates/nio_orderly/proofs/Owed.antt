@@ -1,11 +1,10 @@
 -- Nothing is lost: the debts stand in every legal and careful history.
-use Rattle.std.proofs.Common.{◌≡◌, ℕ, Bool, true, false, not, ◌&&◌, ◌||◌, inl, inr, Option, Some, None, is_some, List, refl, ap, sym, ◌∙◌, subst}
+use Rattle.std.proofs.Common.{◌≡◌, ℕ, true, false, not, inl, Option, Some, None, is_some, List, refl, ap, sym, ◌∙◌, subst}
 use Rattle.std.proofs.lemmas.Bool.{and_parts}
-use Rattle.nio_base.specs.declared.limits.Limits.{Limits}
 use Rattle.nio_base.specs.declared.numbers.CallerNo.{CallerNo}
 use Rattle.nio_event.proofs.Soundness.{legal-sound}
 use Rattle.nio_event.proofs.Told.{or_right}
-use Rattle.nio_event.specs.Histories.{state_after, mine, IsLegal}
+use Rattle.nio_event.specs.Histories.{state_after, mine}
 use Rattle.nio_event.specs.OwnEvents.{since_entered}
 use Rattle.nio_event.specs.Sets.{in_key_set, is_valid}
 use Rattle.nio_event.specs.declared.event.Event.{Event}

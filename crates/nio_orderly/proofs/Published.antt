@@ -1,7 +1,7 @@
 -- A publish in a legal and careful history: its key is the one that is noted for its channel, its channel is
 -- non-blocking, and it is prepared.
-use Rattle.std.proofs.Common.{◌≡◌, ℕ, ◌==◌, ◌+◌, Bool, true, false, cond, not, ◌&&◌, ◌||◌, ◌⊎◌, inl, inr, Option, Some, None, List, [], ◌∷◌, ◌++◌, refl, ap, sym, ◌∙◌, subst, eqb-true, arith}
-use Rattle.std.proofs.lemmas.Bool.{and_parts, or_parts}
+use Rattle.std.proofs.Common.{◌≡◌, ℕ, ◌==◌, ◌+◌, Bool, true, false, cond, not, ◌&&◌, ◌⊎◌, inl, inr, Option, Some, None, List, [], ◌∷◌, ◌++◌, refl, ap, sym, ◌∙◌, subst, eqb-true, arith}
+use Rattle.std.proofs.lemmas.Bool.{and_parts}
 use Rattle.nio_base.specs.Limits.{IsFit}
 use Rattle.nio_base.specs.declared.limits.Limits.{Limits}
 use Rattle.nio_base.specs.declared.numbers.CallerNo.{CallerNo}
@@ -9,19 +9,18 @@ use Rattle.nio_base.specs.declared.numbers.ChanNo.{ChanNo}
 use Rattle.nio_base.specs.declared.numbers.KeyId.{KeyId}
 use Rattle.nio_base.specs.declared.numbers.SelNo.{SelNo}
 use Rattle.nio_event.proofs.Holder.{held_since, holder_knows_mode}
-use Rattle.nio_event.proofs.Keeping.{and_not, knows_while}
+use Rattle.nio_event.proofs.Keeping.{knows_while}
 use Rattle.nio_event.proofs.LastsAlone.{one_holder, spares_not, same_two}
 use Rattle.nio_event.proofs.OneMore.{has-more}
 use Rattle.nio_event.proofs.PinLaws.{own_claims_stand}
 use Rattle.nio_event.proofs.Put.{put_at_keeps, put_at-there}
 use Rattle.nio_event.proofs.Soundness.{both_ways}
-use Rattle.nio_event.proofs.Told.{either, or_right}
+use Rattle.nio_event.proofs.Told.{either}
 use Rattle.nio_event.specs.Acts.{effect}
-use Rattle.nio_event.specs.Answers.{Answers}
 use Rattle.nio_event.specs.Conditions.{Condition, is_held_by, holds, may_publish}
 use Rattle.nio_event.specs.Histories.{state_after, mine, IsStep, IsLegal}
 use Rattle.nio_event.specs.Lasting.{the_hold}
-use Rattle.nio_event.specs.OwnEvents.{OwnClaim, has, count, under, own_claim, notes, sets_mode, finds_unblocked}
+use Rattle.nio_event.specs.OwnEvents.{OwnClaim, has, count, under, own_claim, notes, finds_unblocked}
 use Rattle.nio_event.specs.Pins.{IsOfClaim}
 use Rattle.nio_event.specs.State.{State}
 use Rattle.nio_event.specs.declared.act.Act.{Act}

@@ -1,6 +1,6 @@
 -- What stands after every legal history beside soundness: a claimed key's channel is made, a shut selector has a
 -- closer, and what a caller's acts tell of the keys' mark and of entering.
-use Rattle.std.proofs.Common.{◌≡◌, ℕ, ◌==◌, ◌<◌, ◌≤◌, max, suc, Bool, true, false, ◌&&◌, Option, Some, None, is_some, is_none, ◌||◌, List, [], ◌∷◌, ◌++◌, refl, ap, sym, ◌∙◌, subst, eqb-true, arith}
+use Rattle.std.proofs.Common.{◌≡◌, ℕ, ◌==◌, ◌<◌, max, suc, true, false, Some, None, is_some, List, refl, sym, ◌∙◌, subst, eqb-true, arith}
 use Rattle.std.specs.Prelude.{nat_lt}
 use Rattle.std.proofs.lemmas.Bool.{and_parts, ltb-true, lt-ltb}
 use Rattle.nio_base.specs.declared.limits.Limits.{Limits}
@@ -9,12 +9,12 @@ use Rattle.nio_event.proofs.Lasts.{keys_mark_lasts, entered_lasts, made_lasts}
 use Rattle.nio_event.proofs.Legal.{legal_induction}
 use Rattle.nio_event.proofs.OneMore.{state_after-more}
 use Rattle.nio_event.proofs.Put.{put_keeps, put_both, put-same, put_at_keeps}
-use Rattle.nio_event.proofs.Soundness.{legal-sound, held_some, both_ways}
+use Rattle.nio_event.proofs.Soundness.{legal-sound, held_some}
 use Rattle.nio_event.proofs.Told.{has_told, or_right}
 use Rattle.nio_event.specs.Acts.{effect, new_key}
 use Rattle.nio_event.specs.Answers.{Answers}
 use Rattle.nio_event.specs.Conditions.{Condition}
-use Rattle.nio_event.specs.Histories.{state_after, mine, IsStep, IsLegal}
+use Rattle.nio_event.specs.Histories.{state_after, mine, IsLegal}
 use Rattle.nio_event.specs.OwnEvents.{has, enters}
 use Rattle.nio_event.specs.Sound.{IsSound}
 use Rattle.nio_event.specs.State.{State}

@@ -3,7 +3,7 @@
 -- Each publish keeps three rules. Under its hold of the key's channel the caller notes this key, and no other
 -- for the channel. Under this hold it doesn't set the channel's mode. And after its claim of the index it looks
 -- at the gate, and finds it not shut, once it has found the keys' mark above the index or raised it above.
-use Rattle.std.specs.Prelude.{◌≡◌, ℕ, ◌==◌, nat_lt, Bool, true, false, not, ◌&&◌, if◌then◌else◌, Some, IsTrue, IsFalse, List, [], ◌∷◌, ◌++◌, ⊤}
+use Rattle.std.specs.Prelude.{◌≡◌, ℕ, ◌==◌, nat_lt, Bool, false, not, ◌&&◌, if◌then◌else◌, Some, IsTrue, IsFalse, List, [], ◌∷◌, ◌++◌}
 use mathlib.Core.List.{IsPrefix}
 use Rattle.nio_base.specs.declared.numbers.CallerNo.{CallerNo}
 use Rattle.nio_base.specs.declared.numbers.SelNo.{SelNo}

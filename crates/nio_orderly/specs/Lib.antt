@@ -6,3 +6,4 @@ pub mod Owed
 pub mod Settled
 pub mod AfterClosing
 pub mod OrderlyCare
+pub mod Examples

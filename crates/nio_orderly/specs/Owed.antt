@@ -2,7 +2,7 @@
 -- the channel closed. Whoever closes a channel then looks for its key in each selector, and cancels it. Whoever
 -- closes a selector looks at the keys' mark once it has entered, and removes each key below. So where a key is valid
 -- though its channel is closed or its selector is shut, one of them has still to do that.
-use Rattle.std.specs.Prelude.{◌≡◌, ℕ, ◌==◌, nat_lt, Bool, true, false, not, ◌&&◌, ◌||◌, if◌then◌else◌, Option, Some, None, is_some, IsTrue, IsFalse, List, [], ◌∷◌, ◌++◌, ◌⊎◌}
+use Rattle.std.specs.Prelude.{◌≡◌, ℕ, ◌==◌, Bool, true, false, not, ◌&&◌, ◌||◌, if◌then◌else◌, Option, Some, None, is_some, IsTrue, IsFalse, List, [], ◌∷◌, ◌++◌, ◌⊎◌}
 use Rattle.nio_base.specs.Limits.{IsFit}
 use Rattle.nio_base.specs.declared.limits.Limits.{Limits}
 use Rattle.nio_base.specs.declared.numbers.CallerNo.{CallerNo}

@@ -2,6 +2,7 @@
 ghost use Rattle.nio_orderly.specs.AfterClosing.{OnlyPublishersOwe, ClosedSelectorsHaveNoKey};
 ghost use Rattle.nio_orderly.specs.Careful.{BeginningsAreCareful};
 ghost use Rattle.nio_orderly.specs.OrderlyLaws.{BeginningsAreOrderly, WholeIsOrderly, OneCallMore, OrderlyEndsInCall, SerialIsWhole, SerialCallMore};
+ghost use Rattle.nio_orderly.specs.Examples.{DebtStands, CancellationIsLost};
 ghost use Rattle.nio_orderly.specs.Owed.{NothingIsLost};
 ghost use Rattle.nio_orderly.specs.Settled.{SettledLosesNoKey};
 
@@ -31,4 +32,11 @@ pub fn owed_law()
 pub fn after_closing_law()
     ensures channel { OnlyPublishersOwe }
     ensures selector { ClosedSelectorsHaveNoKey }
+{}
+
+/// There is a legal and careful history in which a debt stands, and a legal history that isn't careful in which a
+/// cancellation is lost.
+pub fn owed_examples_law()
+    ensures debt { DebtStands }
+    ensures lost { CancellationIsLost }
 {}
