@@ -148,7 +148,7 @@ entered_by l s = legal_induction l (λ evs. (state_after evs).entered s.0 ≡ tr
             by_test false its = ap (has (enters s.0)) (mine-other by.caller past e its) ∙ by.had
 
 -- a publisher that has settled owes nothing
-publisher_settled : (l : Limits) (events : List Event) (c s : ℕ) (k : KeyId) → IsFit l → IsLegal l events → ((n : CallerNo) → IsSettled l (mine n events))
+pub publisher_settled : (l : Limits) (events : List Event) (c s : ℕ) (k : KeyId) → IsFit l → IsLegal l events → ((n : CallerNo) → IsSettled l (mine n events))
     → OwesSince events (publishes_key c s k) (publisher_duty c s k) → ⊥
 publisher_settled l events c s k fit legal settled debt =
     both_ways (owes (publisher_duty c s k) debt.since) debt.owing

@@ -18,3 +18,4 @@ pub mod CallsKept
 pub mod Registration
 pub mod OrderlyCare
 pub mod Examples
+pub mod OrderlyClosings

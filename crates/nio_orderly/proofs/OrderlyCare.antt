@@ -121,17 +121,17 @@ first_opened opens (x ∷ acts) there = by_test (opens x) refl (first_opened ope
           opening = rest.opening;
         }
 
-record IsEnter (s : ℕ) (act : Act) : Type 0 where
-  selector : SelNo
-  is : act ≡ Enter selector None
-  same : selector.0 ≡ s
+pub record IsEnter (s : ℕ) (act : Act) : Type 0 where
+  pub selector : SelNo
+  pub is : act ≡ Enter selector None
+  pub same : selector.0 ≡ s
 
-is_enter : (s : ℕ) (act : Act) → enters s act ≡ true → IsEnter s act
+pub is_enter : (s : ℕ) (act : Act) → enters s act ≡ true → IsEnter s act
 is_enter s (Enter s' None) such = record { selector = s'; is = refl; same = eqb-true s'.0 s such }
 is_enter s _ such = absurd (cc such)
 
 -- after an entering nothing is owed once it is settled
-enter_settled : (s : SelNo) (later : List Act) → EnterKept s later → (i : ℕ) → owes (clearing_duty s.0 i) later ≡ false
+pub enter_settled : (s : SelNo) (later : List Act) → EnterKept s later → (i : ℕ) → owes (clearing_duty s.0 i) later ≡ false
 enter_settled s later kept i = ap (owes (clearing_duty s.0 i)) kept.parts ∙ owes-append (clearing_duty s.0 i) kept.clearing kept.rest (kept.settled i)
 
 entered_settled : (l : Limits) (own : List Act) → Kept l own → (s i : ℕ) → has (enters s) own ≡ true → owes (clearing_duty s i) (since_entered s own) ≡ false

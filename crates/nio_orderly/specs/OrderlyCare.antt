@@ -1,6 +1,6 @@
 -- Orderly histories lose no cancellation: each caller that makes whole calls keeps the rules of careful histories,
 -- and owes nothing once its calls are finished.
-use Rattle.std.specs.Prelude.{◌≡◌, ℕ, true, IsFalse, List, ◌++◌}
+use Rattle.std.specs.Prelude.{◌≡◌, ℕ, true, IsTrue, IsFalse, List, ◌++◌}
 use mathlib.Core.List.{IsPrefix}
 use Rattle.nio_base.specs.Limits.{IsFit}
 use Rattle.nio_base.specs.declared.limits.Limits.{Limits}
@@ -14,8 +14,8 @@ use Rattle.nio_event.specs.declared.event.Event.{Event}
 use Rattle.nio_orderly.specs.AfterClosing.{HasClosedChannel, HasClosedSelector}
 use Rattle.nio_orderly.specs.Careful.{IsCareful}
 use Rattle.nio_orderly.specs.Made.{IsRun, close_channel, try_finish}
-use Rattle.nio_orderly.specs.Orderly.{MakesCalls, IsWhole, IsOrderly}
-use Rattle.nio_orderly.specs.Owed.{Owed}
+use Rattle.nio_orderly.specs.Orderly.{IsWhole, IsOrderly}
+use Rattle.nio_orderly.specs.Owed.{publishes_key, publisher_duty, OwesSince, key_of, Owed}
 use Rattle.nio_orderly.specs.Settled.{IsSettled, HasNoLostKey}
 use Rattle.nio_steps.specs.SelectCalls.{closed}
 
@@ -35,7 +35,7 @@ OrderlyOwes = (l : Limits) (events : List Event) → IsFit l → IsLegal l event
 abbrev pub WholeLosesNoKey : Type 0
 WholeLosesNoKey = (l : Limits) (events : List Event) → IsFit l → IsLegal l events → IsWhole l events → HasNoLostKey events
 
--- ---- closings
+-- ---- what is left once a closing has answered
 --
 -- What the caller did last is the call.
 
@@ -50,3 +50,26 @@ abbrev pub FinishCloses : Type 0
 FinishCloses =
     (l : Limits) (n : CallerNo) (s : SelNo) (events : List Event) (own acts : List Act) → IsLegal l events → IsOrderly l events
     → mine n events ≡ own ++ acts → IsRun l (try_finish s closed) acts → HasClosedSelector n s events
+
+-- After a `close_channel` that answers true, of each valid key of the channel its publisher owes the cancelling,
+-- ever after.
+abbrev pub AfterCloseChannel : Type 0
+AfterCloseChannel =
+    (l : Limits) (n : CallerNo) (c : ChanNo) (before after : List Event) (own acts : List Act) → IsFit l → IsPrefix before after → IsLegal l after → IsOrderly l after
+    → mine n before ≡ own ++ acts → IsRun l (close_channel c true) acts
+    → (s i : ℕ) → IsTrue (is_valid ((state_after after).key s i)) → ((state_after after).key s i).chan ≡ c
+    → OwesSince after (publishes_key c.0 s (key_of (state_after after) s i)) (publisher_duty c.0 s (key_of (state_after after) s i))
+
+-- so none is valid once each call is finished
+abbrev pub NoKeyAfterCloseChannel : Type 0
+NoKeyAfterCloseChannel =
+    (l : Limits) (n : CallerNo) (c : ChanNo) (before after : List Event) (own acts : List Act) → IsFit l → IsPrefix before after → IsLegal l after → IsWhole l after
+    → mine n before ≡ own ++ acts → IsRun l (close_channel c true) acts
+    → (s i : ℕ) → ((state_after after).key s i).chan ≡ c → IsFalse (is_valid ((state_after after).key s i))
+
+-- after a `try_finish` that answers Closed no key of the selector is valid, ever after
+abbrev pub NoKeyAfterFinish : Type 0
+NoKeyAfterFinish =
+    (l : Limits) (n : CallerNo) (s : SelNo) (before after : List Event) (own acts : List Act) → IsFit l → IsPrefix before after → IsLegal l after → IsOrderly l after
+    → mine n before ≡ own ++ acts → IsRun l (try_finish s closed) acts
+    → (i : ℕ) → IsFalse (is_valid ((state_after after).key s.0 i))
