@@ -19,3 +19,4 @@ pub mod Registration
 pub mod OrderlyCare
 pub mod Examples
 pub mod OrderlyClosings
+pub mod WaitedCalls

@@ -7,3 +7,4 @@ pub mod Settled
 pub mod AfterClosing
 pub mod OrderlyCare
 pub mod Examples
+pub mod Waited
