@@ -40,7 +40,7 @@ does_nothing n (e ∷ events) few other =
     mine-append n (e ∷ []) events ∙ (ap (λ acts. acts ++ mine n events) (mine-other n [] e (ne_eqb e.caller.0 n.0 (λ same. omega arith))) ∙ does_nothing n events both.1 other)
 
 -- what holds of what u did, of what v did, and of nothing, holds of what each caller did where all events are theirs
-for_each_caller : (events : List Event) → list_all (λ e. nat_lt e.caller.0 2) events ≡ true
+pub for_each_caller : (events : List Event) → list_all (λ e. nat_lt e.caller.0 2) events ≡ true
     → (P : List Act → Type 0) → P (mine u events) → P (mine v events) → P [] → (n : CallerNo) → P (mine n events)
 for_each_caller events few P of_u of_v of_none n = by_first (n.0 == 0) refl
   where

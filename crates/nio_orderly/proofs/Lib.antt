@@ -20,3 +20,4 @@ pub mod OrderlyCare
 pub mod Examples
 pub mod OrderlyClosings
 pub mod WaitedCalls
+pub mod OrderlyExamples

@@ -8,3 +8,4 @@ pub mod AfterClosing
 pub mod OrderlyCare
 pub mod Examples
 pub mod Waited
+pub mod OrderlyExamples
