@@ -191,12 +191,13 @@ claims-new s i c own _ asks free = absurd (cc asks)
 
 claims-again : (s : SelNo) (i : ℕ) (c : ChanNo) (from : Stage) (own : List Act) (act : Act) → question_of act ≡ Question.claim_again s i c from → flag_in (answer_of act) ≡ false
     → own_claim s.0 i (own ++ act ∷ []) ≡ Some (record { channel = c; serial = suc from.serial })
-claims-again s i c from own (ClaimAgain s' i' c' from' false) asks free =
-    let channel' : c' ≡ c = cc asks in
-    let from_is : from' ≡ from = cc asks in
-    own_claim-more s.0 i own (ClaimAgain s' i' c' from' false)
-    ∙ (ap (λ b. claim_after (if b then Some (Some (record { channel = c'; serial = suc from'.serial })) else None) (own_claim s.0 i own)) (same_place s i s' i' (cc asks) (cc asks))
-    ∙ (ap (λ (d : ChanNo). Some (record { channel = d; serial = suc from'.serial })) channel' ∙ ap (λ (f : Stage). Some (record { channel = c; serial = suc f.serial })) from_is))
+claims-again s i c from own (ClaimAgain s' i' c' from' false) asks free = own_claim-more s.0 i own (ClaimAgain s' i' c' from' false) ∙ (its_place ∙ its_claim (cc asks) (cc asks))
+  where
+    its_place : claim_after (claim_changed s.0 i (ClaimAgain s' i' c' from' false)) (own_claim s.0 i own) ≡ Some (record { channel = c'; serial = suc from'.serial })
+    its_place = ap (λ b. claim_after (if b then Some (Some (record { channel = c'; serial = suc from'.serial })) else None) (own_claim s.0 i own)) (same_place s i s' i' (cc asks) (cc asks))
+
+    its_claim : c' ≡ c → from' ≡ from → ◌≡◌ {A = Option OwnClaim} (Some (record { channel = c'; serial = suc from'.serial })) (Some (record { channel = c; serial = suc from.serial }))
+    its_claim channel' stage' = λ j. Some (record { channel = channel' j; serial = suc (stage' j).serial })
 claims-again s i c from own (ClaimAgain s' i' c' from' true) asks free = absurd (cc free)
 claims-again s i c from own _ asks free = absurd (cc asks)
 
