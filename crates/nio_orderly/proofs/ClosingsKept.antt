@@ -15,8 +15,9 @@ use Rattle.nio_event.specs.Sets.{fits, in_key_set, is_in_key_set}
 use Rattle.nio_event.specs.declared.act.Act.{Act}
 use Rattle.nio_event.specs.declared.act.Act.TheVariants.{CancelKey, LookKeys, LookReg, Remove, CloseBit, Enter, Pin}
 use Rattle.nio_event.specs.declared.found.Stage.{Stage}
+use Rattle.nio_orderly.proofs.ActLists.{owes-settled}
 use Rattle.nio_orderly.proofs.Kept.{Kept, kept-append, kept-one, kept-none, kept-calm, kept-closing, kept-entering, calm, Keeps, keeps_reply, keeps_ask, keeps_bind, keeps_if, keeps_sweep}
-use Rattle.nio_orderly.proofs.ListWords.{has-first, has-second, has-neither, owes-append, owes-later}
+use Rattle.nio_orderly.proofs.ListWords.{has-first, has-second, has-neither, owes-later}
 use Rattle.nio_orderly.specs.Owed.{owes, closing_duty, clearing_duty, settles_key, cancels, looks_for_key, is_key, finds_key}
 use Rattle.nio_steps.proofs.Walks.{Always, always_weaker, always_bind, always_if, always_sweep}
 use Rattle.nio_steps.specs.ChannelCalls.{cancel_at, cancel_noted, cancel_keys, close_channel_plan}
@@ -197,7 +198,7 @@ one_more l c s xs ys before turn = record {
     by_test t k below false is = by_side (nat_lt t s) refl
       where
         by_side : (b : Bool) → nat_lt t s ≡ b → owes (closing_duty c.0 t k) (xs ++ ys) ≡ false
-        by_side true low = owes-append (closing_duty c.0 t k) xs ys (before.settled t k (ltb-true t s low))
+        by_side true low = owes-settled (closing_duty c.0 t k) xs ys (before.settled t k (ltb-true t s low))
         by_side false high =
             let above : s ≤ t = ltb-false t s high in
             let same : s ≡ t = omega (arith, above, below) in

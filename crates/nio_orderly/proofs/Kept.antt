@@ -11,7 +11,8 @@ use Rattle.nio_event.specs.Questions.{Question, Answer, question_of, answer_of}
 use Rattle.nio_event.specs.declared.act.Act.{Act}
 use Rattle.nio_event.specs.declared.act.Act.TheVariants.{Publish, CloseBit, Enter}
 use Rattle.nio_event.specs.declared.found.Stage.{Stage}
-use Rattle.nio_orderly.proofs.ListWords.{InFirst, InSecond, split_at, nothing_there, has-append, has-first, has-second, no_such_act, since_from-opened, until_released-append, is_prepared-grows, own_claim-later, owes-append}
+use Rattle.nio_orderly.proofs.ActLists.{owes-settled}
+use Rattle.nio_orderly.proofs.ListWords.{InFirst, InSecond, split_at, nothing_there, has-first, has-second, no_such_act, since_from-opened, until_released-append, is_prepared-grows, own_claim-later}
 use Rattle.nio_orderly.specs.Careful.{until_released, its_hold, notes_for, notes_key, is_prepared}
 use Rattle.nio_orderly.specs.Owed.{owes, publisher_duty, closing_duty, clearing_duty}
 use Rattle.nio_steps.proofs.Walks.{Always, always_weaker, always_bind, always_if, always_run}
@@ -70,7 +71,7 @@ publish_amid past before s i found later future kept =
       noted_alone = ap (count (notes_for c)) same ∙ kept.noted_alone;
       mode = ap (has (sets_mode c)) same ∙ kept.mode;
       prepared = is_prepared-grows s.0 i past before kept.prepared;
-      settled = λ in_set serial. owes-append (publisher_duty c s.0 (record { index = i; serial = serial })) later future (kept.settled in_set serial);
+      settled = λ in_set serial. owes-settled (publisher_duty c s.0 (record { index = i; serial = serial })) later future (kept.settled in_set serial);
     }
 
 pub kept-append : (l : Limits) (xs ys : List Act) → Kept l xs → Kept l ys → Kept l (xs ++ ys)
@@ -92,7 +93,7 @@ kept-append l xs ys first second = record {
         → InFirst xs ys before (CloseBit c false) later ⊎ InSecond xs ys before (CloseBit c false) later → owes (closing_duty c.0 s k) later ≡ false
     closes_in before c later s k below (inl there) =
         subst (λ acts. owes (closing_duty c.0 s k) acts ≡ false) (sym there.later_is)
-        (owes-append (closing_duty c.0 s k) there.rest ys (first.closes before c there.rest there.parts s k below))
+        (owes-settled (closing_duty c.0 s k) there.rest ys (first.closes before c there.rest there.parts s k below))
     closes_in before c later s k below (inr there) = second.closes there.start c later there.parts s k below
 
     enters_in : (before : List Act) (s : SelNo) (later : List Act) → InFirst xs ys before (Enter s None) later ⊎ InSecond xs ys before (Enter s None) later → EnterKept s later

@@ -3,10 +3,10 @@ use Rattle.std.proofs.Common.{◌≡◌, ℕ, zero, suc, ◌+◌, ◌≤◌, Boo
 use Rattle.std.specs.Prelude.{fold}
 use Rattle.std.specs.Option.{option_or}
 use Rattle.std.proofs.lemmas.List.{append-nil}
-use Rattle.std.proofs.lemmas.List.Folds.{list_any-append}
-use Rattle.std.proofs.lemmas.List.Sums.{fold-append, sum_by-append, sum_by-cons}
+use Rattle.std.proofs.lemmas.List.Sums.{fold-append, sum_by-cons}
 use Rattle.nio_event.specs.OwnEvents.{has, count, last, since_from, since_first, under, takes_hold, releases, OwnClaim, own_claim, claim_changed, or_none}
 use Rattle.nio_event.specs.declared.act.Act.{Act}
+use Rattle.nio_orderly.proofs.ActLists.{has-append}
 use Rattle.nio_orderly.specs.Careful.{until_released, its_hold, notes_for, notes_key, finds_open, claims, leaves_below, is_prepared}
 use Rattle.nio_orderly.specs.Owed.{Duty, owes}
 use Rattle.nio_steps.proofs.Either.{neither, not_first, not_second, by_first, by_second}
@@ -42,9 +42,6 @@ nothing_there (x ∷ before) e later same = cc
 
 -- ---- whether there is such an act
 
-pub has-append : (p : Act → Bool) (xs ys : List Act) → has p (xs ++ ys) ≡ (has p xs || has p ys)
-has-append p xs ys = list_any-append p xs ys
-
 pub has-first : (p : Act → Bool) (xs ys : List Act) → has p xs ≡ true → has p (xs ++ ys) ≡ true
 has-first p xs ys there = has-append p xs ys ∙ by_first (has p xs) (has p ys) there
 
@@ -75,9 +72,6 @@ either_part p xs ys there = by_test (has p xs) refl (sym (has-append p xs ys) �
     by_test false is or = inr or
 
 -- ---- how many such acts there are
-
-pub count-append : (p : Act → Bool) (xs ys : List Act) → count p (xs ++ ys) ≡ count p xs + count p ys
-count-append p xs ys = sum_by-append (λ x. cond (p x) 1 0) xs ys
 
 pub count-none : (p : Act → Bool) (xs : List Act) → has p xs ≡ false → count p xs ≡ 0
 count-none p [] none = refl
@@ -243,24 +237,6 @@ own_claim-later s i before acts claim has_it = ap or_none (last-append (claim_ch
     by_last (Some its) is = is
 
 -- ---- debts
-
--- what isn't owed isn't owed later
-pub owes-append : (duty : Duty) (xs ys : List Act) → owes duty xs ≡ false → owes duty (xs ++ ys) ≡ false
-owes-append duty [] ys none = absurd (cc none)
-owes-append duty (x ∷ xs) ys none = by_test (duty.looks x) none (owes-append duty xs ys)
-  where
-    settled : (b : Bool) → (b && not (has duty.settles xs)) ≡ false → (b && not (has duty.settles (xs ++ ys))) ≡ false
-    settled true is = by_settling (has duty.settles xs) refl is
-      where
-        by_settling : (b : Bool) → has duty.settles xs ≡ b → not b ≡ false → not (has duty.settles (xs ++ ys)) ≡ false
-        by_settling true there _ = ap not (has-first duty.settles xs ys there)
-        by_settling false there is' = absurd (cc is')
-    settled false is = refl
-
-    by_test : (b : Bool) → (if b then duty.finds x && not (has duty.settles xs) else owes duty xs) ≡ false → (owes duty xs ≡ false → owes duty (xs ++ ys) ≡ false)
-        → (if b then duty.finds x && not (has duty.settles (xs ++ ys)) else owes duty (xs ++ ys)) ≡ false
-    by_test true is later = settled (duty.finds x) is
-    by_test false is later = later is
 
 -- acts without a look before change nothing
 pub owes-later : (duty : Duty) (xs ys : List Act) → has duty.looks xs ≡ false → owes duty (xs ++ ys) ≡ owes duty ys

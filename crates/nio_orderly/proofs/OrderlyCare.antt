@@ -11,12 +11,13 @@ use Rattle.nio_event.specs.declared.act.Act.{Act}
 use Rattle.nio_event.specs.declared.act.Act.TheVariants.{DrawBit, Publish, Enrol, CloseBit, Enter}
 use Rattle.nio_event.specs.declared.event.Event.{Event}
 use Rattle.nio_event.specs.declared.found.Stage.{Stage}
+use Rattle.nio_orderly.proofs.ActLists.{count-append, owes-settled}
 use Rattle.nio_orderly.proofs.CallLists.{whole_is_orderly}
 use Rattle.nio_orderly.proofs.CallsKept.{find_selector-keeps, find_channel-keeps, find-keeps, is_valid-keeps, interest-keeps, set_interest-keeps, interest_or-keeps, interest_and-keeps, ready-keeps, cancel-keeps, unselect-keeps, attach-keeps, attachment-keeps, open_channel-keeps, is_open-keeps, is_blocking-keeps, is_registered-keeps, key_for-keeps, set_blocking-keeps, open_selector-keeps, begin-keeps, told-keeps, leave-keeps, shut-keeps, keys-keeps, selected_keys-keeps, wakeup-keeps, interrupt-keeps, interrupted-keeps, pipe-keeps, try_read-keeps, try_write-keeps}
 use Rattle.nio_orderly.proofs.Careful.{rules_before}
 use Rattle.nio_orderly.proofs.ClosingsKept.{close_channel-keeps, try_finish-keeps}
 use Rattle.nio_orderly.proofs.Kept.{PublishKept, EnterKept, Kept, kept-append, kept-none, kept-one, kept_run}
-use Rattle.nio_orderly.proofs.ListWords.{has-not_first, has-not_second, count-append, owes-append}
+use Rattle.nio_orderly.proofs.ListWords.{has-not_first, has-not_second}
 use Rattle.nio_orderly.proofs.Registration.{register-kept}
 use Rattle.nio_orderly.specs.Careful.{notes_for, notes_key, until_released, its_hold, KeepsRules, IsCareful}
 use Rattle.nio_orderly.specs.Made.{Made, IsRun, draw, find_selector, find_channel, find, is_valid, interest, set_interest, interest_or, interest_and, ready, cancel, unselect, attach, attachment, open_channel, is_open, is_blocking, is_registered, key_for, try_set_blocking, try_register, close_channel, open_selector, try_begin, told, leave, shut, try_finish, keys, selected_keys, wakeup, interrupt, interrupted, pipe, try_read, try_write}
@@ -132,7 +133,7 @@ is_enter s _ such = absurd (cc such)
 
 -- after an entering nothing is owed once it is settled
 pub enter_settled : (s : SelNo) (later : List Act) → EnterKept s later → (i : ℕ) → owes (clearing_duty s.0 i) later ≡ false
-enter_settled s later kept i = ap (owes (clearing_duty s.0 i)) kept.parts ∙ owes-append (clearing_duty s.0 i) kept.clearing kept.rest (kept.settled i)
+enter_settled s later kept i = ap (owes (clearing_duty s.0 i)) kept.parts ∙ owes-settled (clearing_duty s.0 i) kept.clearing kept.rest (kept.settled i)
 
 entered_settled : (l : Limits) (own : List Act) → Kept l own → (s i : ℕ) → has (enters s) own ≡ true → owes (clearing_duty s i) (since_entered s own) ≡ false
 entered_settled l own kept s i entered =

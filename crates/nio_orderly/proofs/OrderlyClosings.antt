@@ -18,10 +18,11 @@ use Rattle.nio_event.specs.Sets.{is_valid}
 use Rattle.nio_event.specs.declared.act.Act.{Act}
 use Rattle.nio_event.specs.declared.act.Act.TheVariants.{CloseBit, Enter}
 use Rattle.nio_event.specs.declared.event.Event.{Event}
+use Rattle.nio_orderly.proofs.ActLists.{owes-settled}
 use Rattle.nio_orderly.proofs.AfterClosing.{only_publishers_owe, closed_selectors_have_no_key, publisher_settled, settled_loses_no_key}
 use Rattle.nio_orderly.proofs.CallLists.{whole_is_orderly, beginnings_are_orderly}
 use Rattle.nio_orderly.proofs.Kept.{EnterKept, Kept}
-use Rattle.nio_orderly.proofs.ListWords.{InFirst, InSecond, split_at, no_such_act, has-second, since_first-append, owes-append}
+use Rattle.nio_orderly.proofs.ListWords.{InFirst, InSecond, split_at, no_such_act, has-second, since_first-append}
 use Rattle.nio_orderly.proofs.OrderlyCare.{run_is_kept, made_is_kept, orderly_is_careful, whole_is_settled, Opened, first_opened, IsEnter, is_enter, enter_settled}
 use Rattle.nio_orderly.proofs.Owed.{nothing_is_lost}
 use Rattle.nio_orderly.specs.AfterClosing.{HasClosedChannel, HasClosedSelector}
@@ -103,7 +104,7 @@ settled_before s since acts later kept i = by_part (split_at kept.clearing kept.
   where
     by_part : InFirst kept.clearing kept.rest since (Enter s None) later ⊎ InSecond kept.clearing kept.rest since (Enter s None) later → owes (clearing_duty s.0 i) since ≡ false
     by_part (inl there) = absurd (no_such_act (enters s.0) since (Enter s None) there.rest (ap (has (enters s.0)) (sym there.parts) ∙ kept.once) (eq-eqb s.0 s.0 refl))
-    by_part (inr there) = ap (owes (clearing_duty s.0 i)) there.before_is ∙ owes-append (clearing_duty s.0 i) kept.clearing there.start (kept.settled i)
+    by_part (inr there) = ap (owes (clearing_duty s.0 i)) there.before_is ∙ owes-settled (clearing_duty s.0 i) kept.clearing there.start (kept.settled i)
 
 pub finish_closes : FinishCloses
 finish_closes l n s events own acts legal orderly did run = record {
@@ -131,7 +132,7 @@ finish_closes l n s events own acts legal orderly did run = record {
     by_test i false none =
         ap (λ b. owes (clearing_duty s.0 i) (if b then begins.later else since_first (enters s.0) begins.later)) (eq-eqb s.0 s.0 refl)
         ∙ enter_settled s begins.later ((run_is_kept l (try_finish s closed) acts run).enters [] s begins.later begins.parts) i
-    by_test i true entered = owes-append (clearing_duty s.0 i) since (Enter s None ∷ begins.later) (settled_before s since acts (begins.later ++ more) kept i)
+    by_test i true entered = owes-settled (clearing_duty s.0 i) since (Enter s None ∷ begins.later) (settled_before s since acts (begins.later ++ more) kept i)
       where
         since : List Act
         since = since_first (enters s.0) own

@@ -16,8 +16,9 @@ use Rattle.nio_event.specs.Questions.{Question, Answer, question_of, answer_of}
 use Rattle.nio_event.specs.declared.act.Act.{Act}
 use Rattle.nio_event.specs.declared.act.Act.TheVariants.{LookGate, CancelKey, LookChannel, Claim, RaiseKeys, LookKeys, Publish, Enrol, TryHoldBit, Release, SetMode, CloseBit, Enter, Unpin, ClaimAgain}
 use Rattle.nio_event.specs.declared.found.Stage.{Stage}
+use Rattle.nio_orderly.proofs.ActLists.{count-append, owes-settled, since_first_none}
 use Rattle.nio_orderly.proofs.Kept.{PublishKept, Kept, kept-calm, is_loud, first_or_later}
-use Rattle.nio_orderly.proofs.ListWords.{InFirst, InSecond, split_at, nothing_there, has-append, has-first, has-second, has-neither, no_such_act, count-append, count-none, count-one, since_from-none, since_first-append, until_released-done, owes-append}
+use Rattle.nio_orderly.proofs.ListWords.{InFirst, InSecond, split_at, nothing_there, has-first, has-second, has-neither, no_such_act, count-none, count-one, since_from-none, since_first-append, until_released-done}
 use Rattle.nio_orderly.specs.Careful.{notes_for, notes_key, claims, leaves_below, finds_open, until_released, its_hold, is_prepared}
 use Rattle.nio_orderly.specs.Owed.{owes, publisher_duty, settles_key}
 use Rattle.nio_steps.specs.ChannelCalls.{under_hold, register_noted, register_over, claim_taken, claim_free, claim_at_bit, claim_in_word, search_free, words_below, claim_new, settle_key, publish_key, make_key, make_claimed, register_first, register_again, register_next, register_new, register_rest, register_unblocked, register_held, register_plan}
@@ -268,14 +269,6 @@ claimed-more s c k own act is leaves before = record {
 
 -- ---- the gate is found open
 
-since_first-none : (opens : Act → Bool) (acts : List Act) → has opens acts ≡ false → since_first opens acts ≡ []
-since_first-none opens [] none = refl
-since_first-none opens (x ∷ acts) none = by_test (opens x) none (since_first-none opens acts)
-  where
-    by_test : (b : Bool) → (b || has opens acts) ≡ false → (has opens acts ≡ false → since_first opens acts ≡ []) → (if b then acts else since_first opens acts) ≡ []
-    by_test true is later = absurd (cc is)
-    by_test false is later = later is
-
 -- what is prepared stays so, where the index isn't claimed
 prepared-more : (s i : ℕ) (own : List Act) (act : Act) → claims s i act ≡ false → is_prepared s i own ≡ true → is_prepared s i (own ++ act ∷ []) ≡ true
 prepared-more s i own act unclaimed before = by_test (has (leaves_below s i) own) refl
@@ -289,7 +282,7 @@ prepared-more s i own act unclaimed before = by_test (has (leaves_below s i) own
         ∙ (ap (has (finds_open s)) (since_from-more (claims s i) early act ∙ ap (λ b. if b then [] else since_from (claims s i) early ++ act ∷ []) unclaimed)
         ∙ has-first (finds_open s) (since_from (claims s i) early) (act ∷ []) before)
     by_test false is =
-        let clash : false ≡ true = sym (ap (λ xs. has (finds_open s) (since_from (claims s i) xs)) (since_first-none (leaves_below s i) own is)) ∙ before in
+        let clash : false ≡ true = sym (ap (λ xs. has (finds_open s) (since_from (claims s i) xs)) (since_first_none (leaves_below s i) own is)) ∙ before in
         absurd (cc clash)
 
 prepared-now : (s i : ℕ) (own : List Act) (act : Act) → claims s i act ≡ false → finds_open s act ≡ true → has (leaves_below s i) own ≡ true → is_prepared s i (own ++ act ∷ []) ≡ true
@@ -386,7 +379,7 @@ published-more s c k own act is there = record {
   parts = ap (λ xs. xs ++ act ∷ []) there.parts ∙ append_assoc there.before (Publish s k.index there.found ∷ there.later) (act ∷ []);
   noted = there.noted;
   quiet = quiet-more c there.later act is there.quiet;
-  settled = λ in_set serial. owes-append (publisher_duty c.0 s.0 (record { index = k.index; serial = serial })) there.later (act ∷ []) (there.settled in_set serial);
+  settled = λ in_set serial. owes-settled (publisher_duty c.0 s.0 (record { index = k.index; serial = serial })) there.later (act ∷ []) (there.settled in_set serial);
 }
 
 -- what a registration leaves: nothing is published, or a key is
