@@ -2,7 +2,7 @@
 use Rattle.std.proofs.Common.{◌≡◌, ℕ, ◌==◌, Bool, true, false, if◌then◌else◌, Option, Some, None, Result, Ok, Err, List, [], ◌∷◌, ◌++◌, refl, ap, sym, ◌∙◌, subst, append_assoc, eq-eqb}
 use Rattle.std.specs.List.{All}
 use Rattle.std.proofs.lemmas.List.{append-nil}
-use Rattle.std.proofs.lemmas.List.Elements.{All-head, All-tail}
+use Rattle.std.proofs.lemmas.List.Elements.{All-nil, All-append, All-head, All-tail}
 use Rattle.nio_base.specs.declared.limits.Limits.{Limits}
 use Rattle.nio_base.specs.declared.numbers.CallerNo.{CallerNo}
 use Rattle.nio_base.specs.declared.numbers.ChanNo.{ChanNo}
@@ -14,11 +14,11 @@ use Rattle.nio_event.specs.State.{put}
 use Rattle.nio_event.specs.declared.act.Act.{Act}
 use Rattle.nio_event.specs.declared.found.Mode.{Mode}
 use Rattle.nio_orderly.proofs.CallLists.{runs_append, order_append, run_one}
-use Rattle.nio_orderly.proofs.OrderlyClosings.{no_key_after_finish}
-use Rattle.nio_orderly.specs.Made.{Made, IsRun, Ongoing, after_call, after_calls, MayCome, AreInOrder, try_set_blocking, try_register, try_begin, told, leave, shut, try_finish, try_read, try_write}
+use Rattle.nio_orderly.specs.Made.{Made, IsRun, Ongoing, after_call, after_calls, MayCome, AreInOrder, try_set_blocking, try_register, try_begin, told, leave, shut, try_finish, try_read, try_write, set_blocking, register, select, close, read, write}
 use Rattle.nio_orderly.specs.Orderly.{AreRuns}
-use Rattle.nio_orderly.specs.Waited.{AreCallsFrom, IsMadeOfCalls, WaitingCallsAreCalls, NoKeyAfterClose}
+use Rattle.nio_orderly.specs.Waited.{waits, AreCallsFrom, WaitingCallsAreCalls}
 use Rattle.nio_steps.proofs.BeginLaws.{begin-parts}
+use Rattle.nio_steps.proofs.Lists.{all-one}
 use Rattle.nio_steps.proofs.Walks.{Always, always_weaker, always_bind, always_if, always_any, always_run}
 use Rattle.nio_steps.specs.ChannelCalls.{set_blocking_plan, register_plan, finds_held}
 use Rattle.nio_steps.specs.PipeCalls.{Waits, waits_for_bytes, try_read_plan, try_write_plan}
@@ -36,6 +36,7 @@ use Rattle.nio_steps.specs.declared.selected.Selected.{Selected}
 -- the acts are those of whole calls, after which so much is in progress
 record CallsTo (l : Limits) (now : Ongoing) (acts : List Act) (Then' : Ongoing → Type 0) : Type 0 where
   calls : List Made
+  unwaiting : All (λ call. waits call ≡ false) calls
   runs : AreRuns l calls acts
   in_order : AreInOrder now calls
   after : Then' (after_calls now calls)
@@ -45,30 +46,33 @@ after_calls-append now [] later = refl
 after_calls-append now (call ∷ calls) later = after_calls-append (after_call now call) calls later
 
 no_calls : (l : Limits) (now : Ongoing) (Then' : Ongoing → Type 0) → Then' now → CallsTo l now [] Then'
-no_calls l now Then' here = record { calls = []; runs = refl; in_order = tt; after = here }
+no_calls l now Then' here = record { calls = []; unwaiting = All-nil (λ call. waits call ≡ false); runs = refl; in_order = tt; after = here }
 
-one_call : (l : Limits) (now : Ongoing) (acts : List Act) (Then' : Ongoing → Type 0) (call : Made) → IsRun l call acts → MayCome now call → Then' (after_call now call) → CallsTo l now acts Then'
-one_call l now acts Then' call run may here = record { calls = call ∷ []; runs = run_one l call acts run; in_order = (may, tt); after = here }
+one_call : (l : Limits) (now : Ongoing) (acts : List Act) (Then' : Ongoing → Type 0) (call : Made) → waits call ≡ false → IsRun l call acts → MayCome now call → Then' (after_call now call)
+    → CallsTo l now acts Then'
+one_call l now acts Then' call is run may here = record { calls = call ∷ []; unwaiting = all-one (λ x. waits x ≡ false) call is; runs = run_one l call acts run; in_order = (may, tt); after = here }
 
 then_calls : (l : Limits) (now : Ongoing) (xs ys : List Act) (Mid Then' : Ongoing → Type 0) → CallsTo l now xs Mid → ((now' : Ongoing) → Mid now' → CallsTo l now' ys Then') → CallsTo l now (xs ++ ys) Then'
 then_calls l now xs ys Mid Then' first later =
     let second = later (after_calls now first.calls) first.after in
     record {
       calls = first.calls ++ second.calls;
+      unwaiting = All-append (λ call. waits call ≡ false) first.calls second.calls first.unwaiting second.unwaiting;
       runs = runs_append l first.calls second.calls xs ys first.runs second.runs;
       in_order = order_append now first.calls second.calls first.in_order second.in_order;
       after = subst Then' (sym (after_calls-append now first.calls second.calls)) second.after;
     }
 
 calls_from : (l : Limits) (now : Ongoing) (acts : List Act) (Then' : Ongoing → Type 0) → CallsTo l now acts Then' → AreCallsFrom l now acts
-calls_from l now acts Then' made = record { calls = made.calls; runs = made.runs; in_order = made.in_order }
+calls_from l now acts Then' made = record { calls = made.calls; unwaiting = made.unwaiting; runs = made.runs; in_order = made.in_order }
 
 -- ---- the same call again and again
 
 -- each run of the shape is such a call, which may come, and leaves it so that it may come again
 abbrev MayRepeat : {X R : Type 0} → Limits → (X → List Act → R → Type 0) → (X → R → Bool) → (Ongoing → Type 0) → (X → R → Made) → Type 0
 MayRepeat {X} {R} l Shape goes_on Stays call =
-    (now : Ongoing) (x : X) (acts : List Act) (r : R) → Stays now → Shape x acts r → goes_on x r ≡ true → IsRun l (call x r) acts × MayCome now (call x r) × Stays (after_call now (call x r))
+    (now : Ongoing) (x : X) (acts : List Act) (r : R) → Stays now → Shape x acts r → goes_on x r ≡ true
+    → (waits (call x r) ≡ false) × IsRun l (call x r) acts × MayCome now (call x r) × Stays (after_call now (call x r))
 
 runs_calls : {X R : Type 0} (l : Limits) (Shape : X → List Act → R → Type 0) (goes_on : X → R → Bool) (Stays : Ongoing → Type 0) (call : X → R → Made) → MayRepeat l Shape goes_on Stays call
     → (runs : List (Run X R)) → All (λ run. Shape run.given run.acts run.answer) runs → All (λ run. goes_on run.given run.answer ≡ true) runs
@@ -76,7 +80,7 @@ runs_calls : {X R : Type 0} (l : Limits) (Shape : X → List Act → R → Type 
 runs_calls l Shape goes_on Stays call repeats [] made goes now here = no_calls l now Stays here
 runs_calls l Shape goes_on Stays call repeats (run ∷ later) made goes now here =
     let its = repeats now run.given run.acts run.answer here (All-head (λ r. Shape r.given r.acts r.answer) run later made) (All-head (λ r. goes_on r.given r.answer ≡ true) run later goes) in
-    then_calls l now run.acts (acts_of later) Stays Stays (one_call l now run.acts Stays (call run.given run.answer) its.0 its.1 its.2)
+    then_calls l now run.acts (acts_of later) Stays Stays (one_call l now run.acts Stays (call run.given run.answer) its.0 its.1 its.2 its.3)
     (λ now' here'. runs_calls l Shape goes_on Stays call repeats later (All-tail (λ r. Shape r.given r.acts r.answer) run later made) (All-tail (λ r. goes_on r.given r.answer ≡ true) run later goes) now' here')
 
 tries_calls : {X R : Type 0} (l : Limits) (Shape : X → List Act → R → Type 0) (goes_on : X → R → Bool) (Stays : Ongoing → Type 0) (call : X → R → Made) → MayRepeat l Shape goes_on Stays call
@@ -94,6 +98,9 @@ repeats_calls l Shape goes_on Stays Over call repeats acts answer done' last now
     (then_calls l now done'.before done'.last.acts Stays Over (tries_calls l Shape goes_on Stays call repeats done'.before done'.tries now here)
     (λ now' here'. last now' done'.last.given done'.last.acts here' (subst (Shape done'.last.given done'.last.acts) done'.answers done'.made)))
 
+abbrev IsMadeOfCalls : {R : Type 0} → Limits → (List Act → R → Type 0) → Type 0
+IsMadeOfCalls {R} l Shape = (now : Ongoing) (acts : List Act) (answer : R) → Shape acts answer → AreCallsFrom l now acts
+
 -- ---- calls that may come at any time
 
 abbrev Always' : Ongoing → Type 0
@@ -102,22 +109,22 @@ Always' now = Unit {0}
 set_blocking-calls : (l : Limits) (c : ChanNo) (on : Bool) → IsMadeOfCalls l (Retries (Completes (set_blocking_plan l c on)) finds_held)
 set_blocking-calls l c on now acts answer waits =
     calls_from l now acts Always' (repeats_calls l (λ (_ : Unit {0}). Completes (set_blocking_plan l c on)) (λ _. finds_held) Always' Always' (λ _ r. try_set_blocking c on r)
-    (λ now' _ xs r _ run _. (run, tt, tt)) acts answer waits (λ now' _ xs _ run. one_call l now' xs Always' (try_set_blocking c on answer) run tt tt) now tt)
+    (λ now' _ xs r _ run _. (refl, run, tt, tt)) acts answer waits (λ now' _ xs _ run. one_call l now' xs Always' (try_set_blocking c on answer) refl run tt tt) now tt)
 
 register-calls : (l : Limits) (s : SelNo) (c : ChanNo) (ops att : ℕ) → IsMadeOfCalls l (Retries (Completes (register_plan l s c ops att)) finds_held)
 register-calls l s c ops att now acts answer waits =
     calls_from l now acts Always' (repeats_calls l (λ (_ : Unit {0}). Completes (register_plan l s c ops att)) (λ _. finds_held) Always' Always' (λ _ r. try_register s c ops att r)
-    (λ now' _ xs r _ run _. (run, tt, tt)) acts answer waits (λ now' _ xs _ run. one_call l now' xs Always' (try_register s c ops att answer) run tt tt) now tt)
+    (λ now' _ xs r _ run _. (refl, run, tt, tt)) acts answer waits (λ now' _ xs _ run. one_call l now' xs Always' (try_register s c ops att answer) refl run tt tt) now tt)
 
 read-calls : (l : Limits) (source : ChanNo) (none : Bool) → IsMadeOfCalls l (Waits (try_read_plan l source) none)
 read-calls l source none now acts answer waits =
     calls_from l now acts Always' (repeats_calls l (λ (_ : Bool). Completes (try_read_plan l source)) waits_for_bytes Always' Always' (λ _ r. try_read source r)
-    (λ now' _ xs r _ run _. (run, tt, tt)) acts waits.found waits.runs (λ now' _ xs _ run. one_call l now' xs Always' (try_read source waits.found) run tt tt) now tt)
+    (λ now' _ xs r _ run _. (refl, run, tt, tt)) acts waits.found waits.runs (λ now' _ xs _ run. one_call l now' xs Always' (try_read source waits.found) refl run tt tt) now tt)
 
 write-calls : (l : Limits) (source sink : ChanNo) (none : Bool) → IsMadeOfCalls l (Waits (try_write_plan l source sink) none)
 write-calls l source sink none now acts answer waits =
     calls_from l now acts Always' (repeats_calls l (λ (_ : Bool). Completes (try_write_plan l source sink)) waits_for_bytes Always' Always' (λ _ r. try_write source sink r)
-    (λ now' _ xs r _ run _. (run, tt, tt)) acts waits.found waits.runs (λ now' _ xs _ run. one_call l now' xs Always' (try_write source sink waits.found) run tt tt) now tt)
+    (λ now' _ xs r _ run _. (refl, run, tt, tt)) acts waits.found waits.runs (λ now' _ xs _ run. one_call l now' xs Always' (try_write source sink waits.found) refl run tt tt) now tt)
 
 -- ---- closing a selector
 
@@ -133,30 +140,18 @@ close-calls l s now acts answer both = subst (AreCallsFrom l now) (sym both.part
     by_reply : (middle : ShutReply) → Completes (shut_plan s) both.first middle → ClosesRest s middle both.second answer → AreCallsFrom l now (both.first ++ both.second)
     by_reply closing first second =
         calls_from l now (both.first ++ both.second) Always'
-        (then_calls l now both.first both.second (IsClosed s) Always' (one_call l now both.first (IsClosed s) (shut s closing) first tt (put-there now.closes s.0 true))
+        (then_calls l now both.first both.second (IsClosed s) Always' (one_call l now both.first (IsClosed s) (shut s closing) refl first tt (put-there now.closes s.0 true))
         (λ now' here. repeats_calls l (λ (_ : Unit {0}). Completes (try_finish_plan s)) (λ _. finish_finds_busy) (IsClosed s) Always' (λ _ r. try_finish s r)
-        (λ now'' _ xs r here' run busy'. (run, here', still now'' r here' busy')) both.second closed second.1
-        (λ now'' _ xs here' run. one_call l now'' xs Always' (try_finish s closed) run here' tt) now' here))
+        (λ now'' _ xs r here' run busy'. (refl, run, here', still now'' r here' busy')) both.second closed second.1
+        (λ now'' _ xs here' run. one_call l now'' xs Always' (try_finish s closed) refl run here' tt) now' here))
       where
         still : (now'' : Ongoing) (r : FinishReply) → now''.closes s.0 ≡ true → finish_finds_busy r ≡ true → (after_call now'' (try_finish s r)).closes s.0 ≡ true
         still now'' busy here' is = here'
         still now'' closed here' is = absurd (cc is)
     by_reply already_closed first second =
         calls_from l now (both.first ++ both.second) Always'
-        (then_calls l now both.first both.second Always' Always' (one_call l now both.first Always' (shut s already_closed) first tt tt)
+        (then_calls l now both.first both.second Always' Always' (one_call l now both.first Always' (shut s already_closed) refl first tt tt)
         (λ now' _. subst (λ xs. CallsTo l now' xs Always') (sym second.1) (no_calls l now' Always' tt)))
-
-pub no_key_after_close : NoKeyAfterClose
-no_key_after_close l n s before after own acts fit goes_on legal orderly did both = by_reply both.middle both.runs_second
-  where
-    by_reply : (middle : ShutReply) → ClosesRest s middle both.second true → (i : ℕ) → is_valid ((state_after after).key s.0 i) ≡ false
-    by_reply already_closed second = absurd (cc second.0)
-    by_reply closing second =
-        let last = second.1.last in
-        let parts = did ∙ (ap (λ xs. own ++ xs) both.parts ∙ (ap (λ xs. own ++ (both.first ++ xs)) second.1.parts
-            ∙ (ap (λ xs. own ++ xs) (sym (append_assoc both.first second.1.before last.acts)) ∙ sym (append_assoc own (both.first ++ second.1.before) last.acts)))) in
-        no_key_after_finish l n s before after (own ++ (both.first ++ second.1.before)) last.acts fit goes_on legal orderly parts
-        (subst (Completes (try_finish_plan s) last.acts) second.1.answers second.1.made)
 
 -- ---- selecting
 
@@ -188,19 +183,19 @@ told-repeats : (l : Limits) (selection : Selection) → MayRepeat l (Tells selec
 told-repeats l selection now poll acts (done answer) here run goes = absurd (cc goes)
 told-repeats l selection now poll acts (again next) here run goes =
     let same : next ≡ selection = always_run (λ _ r. GoesOn selection r) (told_plan selection poll.pairs poll.elapsed) acts (again next) (told-goes_on selection poll.pairs poll.elapsed) run in
-    (run, here, put-there now.selection selection.selector.0 (Some next) ∙ ap Some same)
+    (refl, run, here, put-there now.selection selection.selector.0 (Some next) ∙ ap Some same)
 
 selection-calls : (l : Limits) (polls : List Poll) (selection : Selection) (acts : List Act) (answer : SelectReply) → SelectsRest polls (Ok selection) acts answer
     → (now : Ongoing) → IsSelecting selection now → CallsTo l now acts Always'
 selection-calls l polls selection acts (selected answer) rest now here =
     repeats_calls l (Tells selection) goes_on_after (IsSelecting selection) Always' (λ poll r. told selection poll r) (told-repeats l selection) acts (done answer) rest.tells
-    (λ now' poll xs here' run. one_call l now' xs Always' (told selection poll (done answer)) run here' tt) now here
+    (λ now' poll xs here' run. one_call l now' xs Always' (told selection poll (done answer)) refl run here' tt) now here
 selection-calls l polls selection acts (not_begun refusal) rest now here = absurd rest
 selection-calls l polls selection acts left rest now here =
     subst (λ xs. CallsTo l now xs Always') (sym rest.parts)
     (then_calls l now rest.told rest.leaves (IsSelecting selection) Always'
     (tries_calls l (Tells selection) goes_on_after (IsSelecting selection) (λ poll r. told selection poll r) (told-repeats l selection) rest.told rest.tells now here)
-    (λ now' here'. one_call l now' rest.leaves Always' (leave selection) rest.left here' tt))
+    (λ now' here'. one_call l now' rest.leaves Always' (leave selection) refl rest.left here' tt))
 
 -- what is in progress after a beginning
 abbrev AfterBegin : Result Selection BeginError → Ongoing → Type 0
@@ -209,13 +204,13 @@ AfterBegin (Err refusal) now = Unit {0}
 
 begins-calls : (l : Limits) (s : SelNo) (mode : Mode) (answer : Result Selection BeginError) (acts : List Act) → Begins s mode acts answer → (now : Ongoing) → CallsTo l now acts (AfterBegin answer)
 begins-calls l s mode (Ok selection) acts begins now =
-    one_call l now acts (IsSelecting selection) (try_begin s mode (Ok selection)) begins tt
+    one_call l now acts (IsSelecting selection) (try_begin s mode (Ok selection)) refl begins tt
     (subst (λ (t : SelNo). put now.selection s.0 (Some selection) t.0 ≡ Some selection) (sym (begin-parts s mode acts selection begins).selector) (put-there now.selection s.0 (Some selection)))
-begins-calls l s mode (Err refusal) acts begins now = one_call l now acts (λ _. Unit {0}) (try_begin s mode (Err refusal)) begins tt tt
+begins-calls l s mode (Err refusal) acts begins now = one_call l now acts (λ _. Unit {0}) (try_begin s mode (Err refusal)) refl begins tt tt
 
 begins-repeat : (l : Limits) (s : SelNo) (mode : Mode) → MayRepeat l (λ (_ : Unit {0}). Begins s mode) (λ _. begin_finds_busy) Always' (λ _ r. try_begin s mode r)
 begins-repeat l s mode now _ acts (Ok selection) _ run goes = absurd (cc goes)
-begins-repeat l s mode now _ acts (Err refusal) _ run goes = (run, tt, tt)
+begins-repeat l s mode now _ acts (Err refusal) _ run goes = (refl, run, tt, tt)
 
 select-calls : (l : Limits) (s : SelNo) (mode : Mode) (polls : List Poll) → IsMadeOfCalls l (Then (Retries (Begins s mode) begin_finds_busy) (SelectsRest polls))
 select-calls l s mode polls now acts answer both =
@@ -231,11 +226,10 @@ select-calls l s mode polls now acts answer both =
     by_beginning (Err refusal) rest now' here = subst (λ xs. CallsTo l now' xs Always') (sym rest.0) (no_calls l now' Always' tt)
 
 pub waiting_calls_are_calls : WaitingCallsAreCalls
-waiting_calls_are_calls = record {
-  set_blocking = set_blocking-calls;
-  register = register-calls;
-  select = select-calls;
-  close = close-calls;
-  read = read-calls;
-  write = write-calls;
-}
+waiting_calls_are_calls l (set_blocking c on answer) acts now is run = set_blocking-calls l c on now acts answer run
+waiting_calls_are_calls l (register s c ops att answer) acts now is run = register-calls l s c ops att now acts answer run
+waiting_calls_are_calls l (select s mode polls answer) acts now is run = select-calls l s mode polls now acts answer run
+waiting_calls_are_calls l (close s answer) acts now is run = close-calls l s now acts answer run
+waiting_calls_are_calls l (read source none answer) acts now is run = read-calls l source none now acts answer run
+waiting_calls_are_calls l (write source sink none answer) acts now is run = write-calls l source sink none now acts answer run
+waiting_calls_are_calls l _ acts now is run = absurd (cc is)

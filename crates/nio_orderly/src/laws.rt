@@ -3,15 +3,15 @@ ghost use Rattle.nio_orderly.specs.AfterClosing.{OnlyPublishersOwe, ClosedSelect
 ghost use Rattle.nio_orderly.specs.Careful.{BeginningsAreCareful};
 ghost use Rattle.nio_orderly.specs.OrderlyLaws.{BeginningsAreOrderly, WholeIsOrderly, OneCallMore, OrderlyEndsInCall, SerialIsWhole, SerialCallMore};
 ghost use Rattle.nio_orderly.specs.Examples.{DebtStands, CancellationIsLost};
-ghost use Rattle.nio_orderly.specs.OrderlyCare.{OrderlyIsCareful, WholeIsSettled, OrderlyOwes, WholeLosesNoKey, CloseChannelCloses, FinishCloses, AfterCloseChannel, NoKeyAfterCloseChannel, NoKeyAfterFinish};
+ghost use Rattle.nio_orderly.specs.OrderlyCare.{OrderlyIsCareful, WholeIsSettled, OrderlyOwes, WholeLosesNoKey, CloseChannelCloses, FinishCloses, AfterCloseChannel, NoKeyAfterCloseChannel, NoKeyAfterFinish, NoKeyAfterClose};
 ghost use Rattle.nio_orderly.specs.OrderlyExamples.{ClosedInRegistration, StepsOfNoCalls};
 ghost use Rattle.nio_orderly.specs.Owed.{NothingIsLost};
 ghost use Rattle.nio_orderly.specs.Settled.{SettledLosesNoKey};
-ghost use Rattle.nio_orderly.specs.Waited.{WaitingCallsAreCalls, NoKeyAfterClose};
+ghost use Rattle.nio_orderly.specs.Waited.{WaitingCallsAreCalls};
 
 /// A beginning of an orderly history is orderly: each caller made whole calls, and a beginning of one more. In a
 /// serial history each caller makes whole calls, and so it does after one call more. A call that waits is a
-/// list of whole calls.
+/// list of whole calls that don't.
 pub fn orderly_law()
     ensures beginnings { BeginningsAreOrderly }
     ensures whole { WholeIsOrderly }
