@@ -1,10 +1,10 @@
 -- A call that waits is a list of whole calls that don't.
-use Rattle.std.specs.Prelude.{ℕ, Bool, true, false, IsTrue, IsFalse, List}
+use Rattle.std.specs.Prelude.{◌≡◌, Bool, true, false, IsTrue, IsFalse, List}
 use Rattle.std.specs.List.{All}
 use Rattle.nio_base.specs.declared.limits.Limits.{Limits}
 use Rattle.nio_event.specs.declared.act.Act.{Act}
-use Rattle.nio_orderly.specs.Made.{Made, IsRun, Ongoing, AreInOrder, draw, find_selector, find_channel, find, is_valid, interest, set_interest, interest_or, interest_and, ready, cancel, unselect, attach, attachment, open_channel, is_open, is_blocking, is_registered, key_for, try_set_blocking, try_register, close_channel, open_selector, try_begin, told, leave, shut, try_finish, keys, selected_keys, wakeup, interrupt, interrupted, pipe, try_read, try_write, set_blocking, register, select, close, read, write}
-use Rattle.nio_orderly.specs.Orderly.{AreRuns}
+use Rattle.nio_orderly.specs.Made.{Made, IsRun, Ongoing, nothing_ongoing, after_call, after_calls, AreInOrder, draw, find_selector, find_channel, find, is_valid, interest, set_interest, interest_or, interest_and, ready, cancel, unselect, attach, attachment, open_channel, is_open, is_blocking, is_registered, key_for, try_set_blocking, try_register, close_channel, open_selector, try_begin, told, leave, shut, try_finish, keys, selected_keys, wakeup, interrupt, interrupted, pipe, try_read, try_write, set_blocking, register, select, close, read, write}
+use Rattle.nio_orderly.specs.Orderly.{AreRuns, AreCallsOf}
 
 -- it is a call that waits
 abbrev pub waits : Made → Bool
@@ -51,14 +51,21 @@ waits (close s answer) = true
 waits (read source none answer) = true
 waits (write source sink none answer) = true
 
--- the acts are those of whole calls that don't wait and that may come one after the other, for a caller that has so
--- much in progress
-pub record AreCallsFrom (l : Limits) (now : Ongoing) (acts : List Act) : Type 0 where
+-- The acts are those of whole calls that don't wait and that may come one after the other, for a caller that has so
+-- much in progress, and leave so much in progress.
+pub record AreCallsFrom (l : Limits) (now : Ongoing) (acts : List Act) (after : Ongoing) : Type 0 where
   pub calls : List Made
   pub unwaiting : All (λ call. IsFalse (waits call)) calls
   pub runs : AreRuns l calls acts
   pub in_order : AreInOrder now calls
+  pub leaves : after_calls now calls ≡ after
 
 -- What a caller does in a call that waits is what it does in such calls, whatever it has in progress before.
 abbrev pub WaitingCallsAreCalls : Type 0
-WaitingCallsAreCalls = (l : Limits) (call : Made) (acts : List Act) (now : Ongoing) → IsTrue (waits call) → IsRun l call acts → AreCallsFrom l now acts
+WaitingCallsAreCalls =
+    (l : Limits) (call : Made) (acts : List Act) (now : Ongoing) → IsTrue (waits call) → IsRun l call acts → AreCallsFrom l now acts (after_call now call)
+
+-- So whoever makes whole calls makes whole calls that don't wait.
+abbrev pub CallsWithoutWaiting : Type 0
+CallsWithoutWaiting =
+    (l : Limits) (acts : List Act) (calls : List Made) → AreCallsOf l acts calls → AreCallsFrom l nothing_ongoing acts (after_calls nothing_ongoing calls)

@@ -7,7 +7,7 @@ ghost use Rattle.nio_orderly.specs.OrderlyCare.{OrderlyIsCareful, WholeIsSettled
 ghost use Rattle.nio_orderly.specs.OrderlyExamples.{ClosedInRegistration, StepsOfNoCalls};
 ghost use Rattle.nio_orderly.specs.Owed.{NothingIsLost};
 ghost use Rattle.nio_orderly.specs.Settled.{SettledLosesNoKey};
-ghost use Rattle.nio_orderly.specs.Waited.{WaitingCallsAreCalls};
+ghost use Rattle.nio_orderly.specs.Waited.{WaitingCallsAreCalls, CallsWithoutWaiting};
 
 /// A beginning of an orderly history is orderly: each caller made whole calls, and a beginning of one more. In a
 /// serial history each caller makes whole calls, and so it does after one call more. A call that waits is a
@@ -20,6 +20,7 @@ pub fn orderly_law()
     ensures serial { SerialIsWhole }
     ensures serial_more { SerialCallMore }
     ensures waits { WaitingCallsAreCalls }
+    ensures unwaiting { CallsWithoutWaiting }
 {}
 
 /// An orderly history is careful, whether it is legal or not, and where each caller has finished its calls no
