@@ -1,32 +1,26 @@
 -- Orderly histories lose no cancellation.
-use Rattle.std.proofs.Common.{◌≡◌, ℕ, ◌+◌, ◌≤◌, ◌<◌, ◌==◌, Bool, true, false, ◌&&◌, ◌||◌, cond, if◌then◌else◌, Option, Some, None, Result, List, [], ◌∷◌, ◌++◌, refl, ap, sym, ◌∙◌, subst, append_assoc, eqb-true, arith}
+use Rattle.std.proofs.Common.{◌≡◌, ℕ, Bool, true, false, ◌||◌, if◌then◌else◌, Some, None, List, [], ◌∷◌, ◌++◌, refl, ap, sym, ◌∙◌, subst, append_assoc, eqb-true}
 use Rattle.std.specs.List.{All}
-use Rattle.std.proofs.lemmas.List.{append-nil}
 use Rattle.std.proofs.lemmas.List.Elements.{All-head, All-tail}
 use Rattle.nio_base.specs.declared.limits.Limits.{Limits}
-use Rattle.nio_base.specs.declared.numbers.CallerNo.{CallerNo}
-use Rattle.nio_base.specs.declared.numbers.ChanNo.{ChanNo}
 use Rattle.nio_base.specs.declared.numbers.SelNo.{SelNo}
 use Rattle.nio_event.specs.Histories.{mine}
-use Rattle.nio_event.specs.OwnEvents.{OwnClaim, has, count, since_first, since_entered, enters, under, sets_mode, releases, own_claim}
+use Rattle.nio_event.specs.OwnEvents.{OwnClaim, has, since_first, since_entered, enters, own_claim}
 use Rattle.nio_event.specs.declared.act.Act.{Act}
-use Rattle.nio_event.specs.declared.act.Act.TheVariants.{DrawBit, Publish, Enrol, CloseBit, Enter}
-use Rattle.nio_event.specs.declared.event.Event.{Event}
+use Rattle.nio_event.specs.declared.act.Act.TheVariants.{DrawBit, Publish, Enter}
 use Rattle.nio_event.specs.declared.found.Stage.{Stage}
-use Rattle.nio_orderly.proofs.ActLists.{count-append, owes-settled}
-use Rattle.nio_orderly.proofs.CallLists.{whole_is_orderly}
+use Rattle.nio_orderly.proofs.ActLists.{owes-settled}
 use Rattle.nio_orderly.proofs.CallsKept.{find_selector-keeps, find_channel-keeps, find-keeps, is_valid-keeps, interest-keeps, set_interest-keeps, interest_or-keeps, interest_and-keeps, ready-keeps, cancel-keeps, unselect-keeps, attach-keeps, attachment-keeps, open_channel-keeps, is_open-keeps, is_blocking-keeps, is_registered-keeps, key_for-keeps, set_blocking-keeps, open_selector-keeps, begin-keeps, told-keeps, leave-keeps, shut-keeps, keys-keeps, selected_keys-keeps, wakeup-keeps, interrupt-keeps, interrupted-keeps, pipe-keeps, try_read-keeps, try_write-keeps}
 use Rattle.nio_orderly.proofs.Careful.{rules_before}
 use Rattle.nio_orderly.proofs.ClosingsKept.{close_channel-keeps, try_finish-keeps}
 use Rattle.nio_orderly.proofs.Kept.{PublishKept, EnterKept, Kept, kept-append, kept-none, kept-one, kept_run}
-use Rattle.nio_orderly.proofs.ListWords.{has-not_first, has-not_second}
 use Rattle.nio_orderly.proofs.Registration.{register-kept}
 use Rattle.nio_orderly.proofs.WaitedCalls.{waiting_calls_are_calls}
-use Rattle.nio_orderly.specs.Careful.{notes_for, notes_key, until_released, its_hold, KeepsRules, IsCareful}
+use Rattle.nio_orderly.specs.Careful.{KeepsRules}
 use Rattle.nio_orderly.specs.Made.{Made, IsRun, draw, find_selector, find_channel, find, is_valid, interest, set_interest, interest_or, interest_and, ready, cancel, unselect, attach, attachment, open_channel, is_open, is_blocking, is_registered, key_for, try_set_blocking, try_register, close_channel, open_selector, try_begin, told, leave, shut, try_finish, keys, selected_keys, wakeup, interrupt, interrupted, pipe, try_read, try_write, set_blocking, register, select, close, read, write, nothing_ongoing}
 use Rattle.nio_orderly.specs.OrderlyCare.{OrderlyIsCareful, WholeIsSettled}
 use Rattle.nio_orderly.specs.Waited.{waits}
-use Rattle.nio_orderly.specs.Orderly.{AreRuns, HasMadeCalls, MakesCalls, IsWhole, IsOrderly}
+use Rattle.nio_orderly.specs.Orderly.{AreRuns, HasMadeCalls}
 use Rattle.nio_orderly.specs.Owed.{owes, publisher_duty, clearing_duty}
 use Rattle.nio_orderly.specs.Settled.{claimed_key, IsSettled}
 use Rattle.nio_steps.specs.ChannelCalls.{open_channel_plan, is_open_plan, is_blocking_plan, is_registered_plan, key_for_plan, set_blocking_plan, close_channel_plan}
@@ -140,7 +134,7 @@ first_opened opens [] there = absurd (cc there)
 first_opened opens (x ∷ acts) there = by_test (opens x) refl (first_opened opens acts)
   where
     by_test : (b : Bool) → opens x ≡ b → (has opens acts ≡ true → Opened opens acts) → Opened opens (x ∷ acts)
-    by_test true is later = record { before = []; act = x; parts = ap (λ b. x ∷ (if b then acts else since_first opens acts)) (sym is) ; opening = is }
+    by_test true is later = record { before = []; act = x; parts = ap (λ b. x ∷ (if b then acts else since_first opens acts)) (sym is); opening = is }
     by_test false is later =
         let rest = later (sym (ap (λ b. b || has opens acts) is) ∙ there) in
         record {

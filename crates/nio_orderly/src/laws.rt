@@ -23,9 +23,9 @@ pub fn orderly_law()
     ensures unwaiting { CallsWithoutWaiting }
 {}
 
-/// An orderly history is careful, whether it is legal or not, and where each caller has finished its calls no
-/// caller owes anything. So in a legal and orderly history what is owed is owed by a caller in the middle of a
-/// call, and in a whole one no closed channel and no selector that its closer has entered has a valid key.
+/// An orderly history is careful, whether it is legal or not, and a caller that has finished its calls owes
+/// nothing. So in a legal and orderly history what is owed is owed by a caller that has still to do it, and in a
+/// whole one no closed channel and no selector that its closer has entered has a valid key.
 pub fn orderly_care_law()
     ensures careful { OrderlyIsCareful }
     ensures settled { WholeIsSettled }
