@@ -15,7 +15,7 @@ use Rattle.nio_event.proofs.Within.{legal-within}
 use Rattle.nio_event.specs.Conditions.{IsChannel, IsSelector, IsKey, is_held_by, holds, is_claimed}
 use Rattle.nio_event.specs.Found.{finds}
 use Rattle.nio_event.specs.Histories.{state_after}
-use Rattle.nio_event.specs.Lasting.{OwnFact, the_hold, is_had_by, gives_back, channel_closed, key_published}
+use Rattle.nio_event.specs.Permanent.{OwnFact, the_hold, is_had_by, gives_back, channel_closed, key_published}
 use Rattle.nio_event.specs.OwnEvents.{has, last, under, takes_hold, releases, finds_unblocked, noted_found, is_clear}
 use Rattle.nio_event.specs.PassViews.{PassView, Holds as HoldsNumber, known, ActsClause, HasKey}
 use Rattle.nio_event.specs.Sets.{fits, in_key_set, is_valid, was_published, is_in_key_set, is_valid_key}

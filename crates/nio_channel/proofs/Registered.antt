@@ -20,7 +20,7 @@ use Rattle.nio_event.proofs.Stays.{beginnings_are_legal}
 use Rattle.nio_event.specs.Conditions.{IsKey, holds, may_publish}
 use Rattle.nio_event.specs.Found.{finds, Leaves}
 use Rattle.nio_event.specs.Histories.{state_after, event_of, mine, IsLegal}
-use Rattle.nio_event.specs.Lasting.{channel_closed, key_published, key_cancelled}
+use Rattle.nio_event.specs.Permanent.{channel_closed, key_published, key_cancelled}
 use Rattle.nio_event.specs.OwnEvents.{has, last, under, takes_hold, finds_unblocked, noted_found, own_claim, is_clear}
 use Rattle.nio_event.specs.PassViews.{PassView, Holds as HoldsNumber, known, ActsClause, HasKey}
 use Rattle.nio_event.specs.Pins.{IsOfClaim}

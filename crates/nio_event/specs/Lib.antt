@@ -7,7 +7,7 @@ pub mod OwnEvents
 pub mod Conditions
 pub mod Histories
 pub mod PassViews
-pub mod Lasting
+pub mod Permanent
 pub mod Sound
 pub mod Staying
 pub mod Turns

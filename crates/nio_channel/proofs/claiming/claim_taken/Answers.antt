@@ -1,7 +1,7 @@
 use Rattle.std.proofs.Common.{◌≡◌, ◌+◌, suc, ◌<◌, true, ℕ, Some, refl, ap, sym, add-one, arith, rules}
 use Rattle.std.proofs.lemmas.Bool.{or_left}
 use Rattle.nio_event.specs.Conditions.{has_taken, may_put_due}
-use Rattle.nio_event.specs.Lasting.{a_taken_index}
+use Rattle.nio_event.specs.Permanent.{a_taken_index}
 use Rattle.nio_event.specs.State.{last_serial}
 use Rattle.nio_steps.proofs.CallLaws.{returned, left_ask, left_after}
 use Rattle.nio_steps.specs.Plan.{reply}
