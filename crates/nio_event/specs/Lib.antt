@@ -24,3 +24,4 @@ pub mod Replies
 pub mod Script
 pub mod Lines
 pub mod Printing
+pub mod Timeout
