@@ -1,4 +1,4 @@
-use Rattle.std.proofs.Common.{◌≡◌, Bool, true, false, not, ◌&&◌, Option, Some, None, is_some, refl, rules}
+use Rattle.std.proofs.Common.{◌≡◌, true, false, None, refl, rules}
 use Rattle.nio_event.specs.Acts.{frees_index}
 use Rattle.nio_event.specs.Conditions.{has_turn, has_begun}
 use Rattle.nio_event.specs.Permanent.{the_turn, a_selection}

@@ -1,4 +1,3 @@
-use Rattle.nio_base.specs.declared.numbers.ChanNo.{ChanNo}
 use Rattle.nio_bench.specs.SetUp.{caller, selector, StaysIdle}
 use Rattle.nio_bench.proofs.channels.remove_all.Given as goal
 

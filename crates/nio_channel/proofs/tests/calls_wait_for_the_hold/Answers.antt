@@ -1,4 +1,4 @@
-use Rattle.std.proofs.Common.{◌≡◌, true, refl, rules}
+use Rattle.std.proofs.Common.{refl, rules}
 use Rattle.nio_channel.specs.Idle.{zero, one}
 use Rattle.nio_channel.proofs.Idle.{zero_other, unpinned_same, selector_same, channel_same}
 use Rattle.nio_channel.proofs.tests.calls_wait_for_the_hold.Goals as goal
