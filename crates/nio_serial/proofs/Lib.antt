@@ -1,2 +1,4 @@
 pub mod Base
 pub mod KeyCalls
+pub mod Finding
+pub mod Simple
