@@ -1,6 +1,6 @@
 -- The calls of one look at a channel, those of one step, and those that open: they amount to the documented ones.
-use Rattle.std.proofs.Common.{◌≡◌, ℕ, suc, ◌+◌, ◌-◌, ◌<◌, max, nat_lt, Bool, true, false, cond, not, Option, Some, None, option_map, is_some, find, List, refl, ap, sym, ◌∙◌, add-one, arith}
-use Rattle.std.proofs.lemmas.Bool.{lt-ltb, ltb-true, ltb-false, not-true, not-false, cond-true}
+use Rattle.std.proofs.Common.{◌≡◌, ℕ, suc, ◌+◌, ◌-◌, ◌<◌, ◌≤◌, max, nat_lt, Bool, true, false, cond, not, Option, Some, None, option_map, is_some, find, List, ⊎_elim, refl, ap, sym, ◌∙◌, add-one, arith}
+use Rattle.std.proofs.lemmas.Bool.{cases_lt, lt-ltb, le-ltb, not-true, not-false, cond-true}
 use Rattle.nio_base.specs.declared.kind.Kind.{Kind}
 use Rattle.nio_base.specs.declared.limits.Limits.{Limits}
 use Rattle.nio_base.specs.declared.numbers.CallerNo.{CallerNo}
@@ -119,3 +119,52 @@ module _ (st : State) (now : Progress) (me : CallerNo) where
           ≡ stays selector_reply (record { answer = opened_selector (found_at st selector (λ n. with_selector st n true) o).answer; state = (found_at st selector (λ n. with_selector st n true) o).state })
       by_found None = refl
       by_found (Some n) = refl
+
+  module _ (exact : (c : ℕ) → (st.chan c).made ≡ nat_lt c st.channels_mark) where
+    below_made : (c : ℕ) → c < st.channels_mark → not (st.chan c).made ≡ false
+    below_made c below_mark = ap not (exact c ∙ lt-ltb c st.channels_mark below_mark)
+
+    mark_unmade : (st.chan st.channels_mark).made ≡ false
+    mark_unmade = exact st.channels_mark ∙ le-ltb st.channels_mark st.channels_mark (omega arith)
+
+    pub channel-amounts : (l : Limits) (kind : Kind) → channel_call l ds kind ≡ stays channel_reply (perform me (open_channel_plan l kind) st)
+    unfolding channel_call open_channel_plan indexes
+    channel-amounts l kind = ⊎_elim here spent (cases_lt st.channels_mark l.channels)
+      where
+        unmade : ℕ → Bool
+        unmade c = not (st.chan c).made
+
+        makes : ℕ → Plan (Option ChanNo)
+        makes n = makes_channel kind (channel n)
+
+        first : st.channels_mark < l.channels → find unmade (indexes st.channels_mark (l.channels - st.channels_mark)) ≡ Some st.channels_mark
+        first room =
+            let more : l.channels - st.channels_mark ≡ suc (l.channels - (st.channels_mark + 1)) = omega arith in
+            ap (λ n. find unmade (indexes st.channels_mark n)) more
+            ∙ cond-true (unmade st.channels_mark) (Some st.channels_mark) (find unmade (indexes (st.channels_mark + 1) (l.channels - (st.channels_mark + 1)))) (ap not mark_unmade)
+
+        left : ℕ → State
+        left n = with_chan st n (new_channel kind)
+
+        here : st.channels_mark < l.channels → channel_call l ds kind ≡ stays channel_reply (perform me (open_channel_plan l kind) st)
+        here room =
+            let m = st.channels_mark in
+            let sought : perform me (seek_to l.channels m makes) st ≡ record { answer = Some (channel m); state = left m } =
+                perform_seek me l.channels m makes unmade channel st left (omega arith)
+                (λ n _ _ is. let was : (st.chan n).made ≡ true = not-false (st.chan n).made is in
+                ap (λ b. record { answer = cond b None (Some (channel n)); state = with_chan st n (cond b (st.chan n) (new_channel kind)) }) was
+                ∙ ap (λ f. record { answer = None; state = record st { chan = f } }) (put-here st.chan n (st.chan n) refl))
+                (λ n _ _ is. ap (λ b. record { answer = cond b None (Some (channel n)); state = with_chan st n (cond b (st.chan n) (new_channel kind)) }) (not-true (st.chan n).made is))
+                ∙ ap (found_at st channel left) (first room) in
+            ap (channel_made ds kind) (find_first unmade l.channels m room (ap not mark_unmade) below_made)
+            ∙ (ap (λ n. answered ds (reply.Channel (channel m)) (with_channels_mark (with_chan ds.shared m (new_channel kind)) n)) raised
+            ∙ sym (ap (stays channel_reply) (perform_then_on me (seek_to l.channels m makes) opened st (Some (channel m)) (left m) sought)))
+          where
+            raised : st.channels_mark + 1 ≡ max st.channels_mark (st.channels_mark + 1)
+            raised = omega arith
+
+        spent : l.channels ≤ st.channels_mark → channel_call l ds kind ≡ stays channel_reply (perform me (open_channel_plan l kind) st)
+        spent full =
+            let m = st.channels_mark in
+            ap (channel_made ds kind) (find_none unmade l.channels (λ n below_limit. below_made n (omega arith)))
+            ∙ sym (ap (stays channel_reply) (perform_then_on me (seek_to l.channels m makes) opened st None st (ap (λ plan. perform me plan st) (seek_to-done l.channels m makes full))))
