@@ -1,19 +1,24 @@
 -- What the equations of all calls rest on: parts of a state that are changed and changed back, settled keys, and
 -- the steps of a plan at a test or under a pin.
-use Rattle.std.proofs.Common.{◌≡◌, ℕ, Bool, true, false, cond, not, ◌==◌, ◌&&◌, if◌then◌else◌, refl, ap, sym, ◌∙◌}
+use Rattle.std.proofs.Common.{◌≡◌, ℕ, Bool, true, false, cond, not, ◌==◌, ◌&&◌, if◌then◌else◌, Option, Some, None, is_some, Result, Err, refl, ap, sym, ◌∙◌}
 use Rattle.nio_base.specs.declared.numbers.CallerNo.{CallerNo}
+use Rattle.nio_base.specs.declared.numbers.ChanNo.{ChanNo}
 use Rattle.nio_base.specs.declared.numbers.SelNo.{SelNo}
 use Rattle.nio_event.proofs.Put.{put_keeps, put_at_keeps, put_both, put_at_both, put_at-same}
-use Rattle.nio_event.specs.Sets.{in_key_set, in_cancelled_set, is_valid, is_valid_key}
-use Rattle.nio_event.specs.State.{State, put, put_at, with_pin, with_key, with_mark}
+use Rattle.nio_event.specs.Acts.{taken_by}
+use Rattle.nio_event.specs.Sets.{fits, in_key_set, is_in_key_set, in_cancelled_set, is_valid, is_valid_key}
+use Rattle.nio_event.specs.State.{State, put, put_at, with_hold, with_pin, with_key, with_mark}
 use Rattle.nio_event.specs.declared.found.Mark.{Mark}
 use Rattle.nio_event.specs.declared.found.Stage.{Stage}
 use Rattle.nio_plain.specs.Seq.Answers.{Answered}
 use Rattle.nio_steps.proofs.PerformLaws.{perform-bind}
+use Rattle.nio_steps.specs.ChannelCalls.{under_hold}
 use Rattle.nio_steps.specs.KeyCalls.{under_pin}
 use Rattle.nio_steps.specs.Perform.{Performed, perform}
 use Rattle.nio_steps.specs.Plan.{Plan, reply, ◌>>=◌, ◌>>◌}
-use Rattle.nio_steps.specs.Steps.{unpin}
+use Rattle.nio_steps.specs.Steps.{unpin, release}
+use Rattle.nio_steps.specs.declared.refusal.ChannelError.{ChannelError}
+use Rattle.nio_steps.specs.declared.refusal.ChannelError.TheVariants.{Busy}
 use Rattle.nio_serial.specs.Documented.{settled, settled_mark, settled_state}
 
 -- ---- parts that are changed
@@ -96,6 +101,17 @@ settled-cancelled k = cancelled_parts k.published k.removed k.cancelled
 pub settled-valid_key : (k : Stage) (q : ℕ) → is_valid_key (settled k) q ≡ is_valid_key k q
 settled-valid_key k q = ap (λ b. (k.claimed && (k.serial == q)) && b) (settled-valid k)
 
+-- a key that the index has, and that isn't removed, is in the key set where a claimed index has a published key
+pub in_set-is : (k : Stage) (q : ℕ) → k.claimed ≡ k.published → (fits k q && not k.removed) ≡ is_in_key_set k q
+in_set-is k q whole =
+    ap (λ b. (b && (k.serial == q)) && not k.removed) whole
+    ∙ (regroup k.published (k.serial == q) (not k.removed)
+    ∙ ap (λ b. (b && (k.serial == q)) && in_key_set k) (sym whole))
+  where
+    regroup : (p f r : Bool) → ((p && f) && r) ≡ ((p && f) && (p && r))
+    regroup true f r = refl
+    regroup false f r = refl
+
 -- ---- tests
 
 -- `F` is what becomes of a performed plan
@@ -139,3 +155,15 @@ settled-key st s i x same = λ j. record (settled_state st) {
 pub settled-marked : (st : State) (s i : ℕ) (x : Mark)
     → settled_state (with_mark st s i x) ≡ with_mark (settled_state st) s i (settled_mark (st.key s i) x)
 settled-marked st s i x = λ j. record (settled_state st) { mark = put_at-under (λ m n a. settled_mark (st.key m n) a) st.mark s i x j }
+
+-- ---- under the hold of a channel
+
+-- the hold is given back
+abbrev pub released : {R : Type 0} → ChanNo → Performed R → Performed R
+released c done = record { answer = done.answer; state = with_hold done.state c.0 None }
+
+pub perform_held : {A : Type 0} (me : CallerNo) (c : ChanNo) (steps : Plan (Result A ChannelError)) (st : State) → st.hold c.0 ≡ None
+    → perform me (under_hold c steps) st ≡ released c (perform me steps (with_hold st c.0 (Some me)))
+perform_held me c steps st unheld =
+    ap (λ (o : Option CallerNo). perform me (if is_some o then reply (Err Busy) else (steps >>= (λ answer. release c >> reply answer))) (with_hold st c.0 (taken_by me o))) unheld
+    ∙ perform-bind me steps (λ answer. release c >> reply answer) (with_hold st c.0 (Some me))

@@ -25,7 +25,7 @@ use Rattle.nio_steps.specs.Plan.{Plan, when}
 use Rattle.nio_steps.specs.Steps.{cancel_key, unselect_bit, swap_note, look_note}
 use Rattle.nio_steps.specs.declared.refusal.KeyError.{KeyError}
 use Rattle.nio_steps.specs.declared.refusal.KeyError.TheVariants as KeyError
-use Rattle.nio_serial.proofs.Base.{pin-back, put_at-here, settled-valid_key, settled-key, settled-marked, branch, branch_not, unpinned, perform_pinned}
+use Rattle.nio_serial.proofs.Base.{pin-back, put_at-here, settled-valid_key, settled-key, settled-marked, in_set-is, branch, branch_not, unpinned, perform_pinned}
 use Rattle.nio_serial.specs.Documented.{Progress, settled, settled_mark, settled_state, documented, amounts}
 use Rattle.nio_serial.specs.Replies.{set_reply, put_reply}
 
@@ -143,16 +143,9 @@ module _ (st : State) (now : Progress) (me : CallerNo) (s : SelNo) (k : KeyId) (
 
   -- a key that the index has, and that isn't removed, is in the key set: each claimed index has a published key
   module _ (whole : stage.claimed ≡ stage.published) where
-    in_set-is : (fits stage k.serial && not stage.removed) ≡ is_in_key_set stage k.serial
-    in_set-is = ap (λ b. (b && (stage.serial == k.serial)) && not stage.removed) whole ∙ (regroup stage.published (stage.serial == k.serial) (not stage.removed) ∙ ap (λ b. (b && (stage.serial == k.serial)) && in_key_set stage) (sym whole))
-      where
-        regroup : (p f r : Bool) → ((p && f) && r) ≡ ((p && f) && (p && r))
-        regroup true f r = refl
-        regroup false f r = refl
-
     pub cancel-amounts : cancel_call ds s k ≡ amounts (λ _. reply.«Ok») (λ _. now) (perform me (cancel_plan (key s k)) st)
     unfolding cancel_call cancel_plan
-    cancel-amounts = on_named (λ _. reply.«Ok») (cancel_present (key s k)) _ (by_set (fits stage k.serial && not stage.removed) refl in_set-is)
+    cancel-amounts = on_named (λ _. reply.«Ok») (cancel_present (key s k)) _ (by_set (fits stage k.serial && not stage.removed) refl (in_set-is stage k.serial whole))
       where
         by_set : (b : Bool) → (fits stage k.serial && not stage.removed) ≡ b → b ≡ is_in_key_set stage k.serial
             → answered ds reply.«Ok» (with_key ds.shared s.0 k.index (cond (is_in_key_set stage k.serial) (cancelled_key (settled stage)) (settled stage)))

@@ -2,3 +2,5 @@ pub mod Base
 pub mod KeyCalls
 pub mod Finding
 pub mod Simple
+pub mod Blocking
+pub mod ClosingChannels
