@@ -1,11 +1,12 @@
 -- Closing a channel amounts to the documented call.
-use Rattle.std.proofs.Common.{◌≡◌, ◌≢◌, ℕ, suc, ◌+◌, ◌<◌, ◌==◌, nat_lt, Bool, true, false, cond, not, ◌&&◌, Option, Some, None, ⊎_elim, refl, ap, sym, ◌∙◌, subst, arith, eqb-true, eq-eqb}
-use Rattle.std.proofs.lemmas.Bool.{and_parts, and_from, both_ways, cases_eq, lt-ltb, le-ltb, ne_eqb, not-true, cond-true, cond-false}
+use Rattle.std.proofs.Common.{◌≡◌, ◌≢◌, ℕ, suc, ◌+◌, ◌<◌, ◌≤◌, ◌==◌, nat_lt, Bool, true, false, cond, not, ◌&&◌, Option, Some, None, ⊎_elim, refl, ap, sym, ◌∙◌, subst, arith, eqb-true, eq-eqb}
+use Rattle.std.proofs.lemmas.Bool.{and_parts, and_left, and_right, both_ways, cases_eq, cases_lt, lt-ltb, le-ltb, ne_eqb, not-true, cond-true, cond-false}
 use Rattle.nio_base.specs.declared.limits.Limits.{Limits}
 use Rattle.nio_base.specs.declared.numbers.CallerNo.{CallerNo}
 use Rattle.nio_base.specs.declared.numbers.ChanNo.{ChanNo}
 use Rattle.nio_base.specs.declared.numbers.KeyId.{KeyId}
 use Rattle.nio_base.specs.declared.numbers.SelNo.{SelNo}
+use Rattle.nio_event.proofs.Put.{put_at-same}
 use Rattle.nio_event.specs.Sets.{fits, in_key_set, is_in_key_set}
 use Rattle.nio_event.specs.State.{State, put_at, with_chan, with_key, with_pin}
 use Rattle.nio_event.specs.declared.found.Chan.{Chan}
@@ -60,7 +61,98 @@ cancel-performed st me s k free whole =
 
 -- ---- the keys of a channel
 
+lt_more : (s n : ℕ) → s ≢ n → nat_lt s (n + 1) ≡ nat_lt s n
+lt_more s n other =
+    ⊎_elim
+    (λ (below : s < n). lt-ltb s (n + 1) (omega arith) ∙ sym (lt-ltb s n below))
+    (λ (above : n ≤ s). le-ltb s (n + 1) (omega arith) ∙ sym (le-ltb s n above))
+    (cases_lt s n)
+
 module _ (st : State) (c : ℕ) where
   -- the keys of the channel in the selectors below n are cancelled
-  keys_after : ℕ → ℕ → ℕ → Stage
+  abbrev keys_after : ℕ → ℕ → ℕ → Stage
   keys_after n s i = cond (nat_lt s n && has_index (key_of st c s) i) (cancelled_key (st.key s i)) (st.key s i)
+
+  -- at the selector whose turn comes nothing is changed yet
+  not_yet : (n i : ℕ) → keys_after n n i ≡ st.key n i
+  not_yet n i = ap (λ b. cond (b && has_index (key_of st c n) i) (cancelled_key (st.key n i)) (st.key n i)) (le-ltb n n (omega arith))
+
+  -- after its turn
+  done_here : (n i : ℕ) → keys_after (n + 1) n i ≡ cond (has_index (key_of st c n) i) (cancelled_key (st.key n i)) (st.key n i)
+  done_here n i = ap (λ b. cond (b && has_index (key_of st c n) i) (cancelled_key (st.key n i)) (st.key n i)) (lt-ltb n (n + 1) (omega arith))
+
+  -- and at every other
+  others : (n s i : ℕ) → s ≢ n → keys_after (n + 1) s i ≡ keys_after n s i
+  others n s i other = ap (λ b. cond (b && has_index (key_of st c s) i) (cancelled_key (st.key s i)) (st.key s i)) (lt_more s n other)
+
+  module _ (n : ℕ) where
+    none_there : st.noted c n ≡ None → (s i : ℕ) → keys_after n s i ≡ keys_after (n + 1) s i
+    none_there none s i =
+        ⊎_elim
+        (λ (e : s ≡ n). subst (λ (m : ℕ). keys_after n m i ≡ keys_after (n + 1) m i) (sym e)
+        (not_yet n i ∙ sym (done_here n i ∙ ap (λ o. cond (has_index (if_in_key_set st n o) i) (cancelled_key (st.key n i)) (st.key n i)) none)))
+        (λ (other : s ≢ n). sym (others n s i other))
+        (cases_eq s n)
+
+    one_there : (k : KeyId) → st.noted c n ≡ Some k
+        → let stage = st.key n k.index in
+        (s i : ℕ) → put_at (keys_after n) n k.index (cond (is_in_key_set stage k.serial) (cancelled_key stage) stage) s i ≡ keys_after (n + 1) s i
+    one_there k is s i = ⊎_elim same_selector other_selector (cases_eq s n)
+      where
+        stage : Stage
+        stage = st.key n k.index
+
+        x : Stage
+        x = cond (is_in_key_set stage k.serial) (cancelled_key stage) stage
+
+        now_there : (j : ℕ) → keys_after (n + 1) n j ≡ cond (has_index (cond (is_in_key_set stage k.serial) (Some k) None) j) (cancelled_key (st.key n j)) (st.key n j)
+        now_there j = done_here n j ∙ ap (λ o. cond (has_index (if_in_key_set st n o) j) (cancelled_key (st.key n j)) (st.key n j)) is
+
+        at_index : (b : Bool) → cond b (cancelled_key stage) stage ≡ cond (has_index (cond b (Some k) None) k.index) (cancelled_key stage) stage
+        at_index true = ap (λ b. cond b (cancelled_key stage) stage) (sym (eq-eqb k.index k.index refl))
+        at_index false = refl
+
+        beside : (j : ℕ) → j ≢ k.index → (b : Bool) → has_index (cond b (Some k) None) j ≡ false
+        beside j other true = ne_eqb k.index j (λ e. other (sym e))
+        beside j other false = refl
+
+        same_index : i ≡ k.index → put_at (keys_after n) n k.index x n i ≡ keys_after (n + 1) n i
+        same_index e = subst (λ (j : ℕ). put_at (keys_after n) n k.index x n j ≡ keys_after (n + 1) n j) (sym e)
+            (put_at-same (keys_after n) n k.index x ∙ (at_index (is_in_key_set stage k.serial) ∙ sym (now_there k.index)))
+
+        other_index : i ≢ k.index → put_at (keys_after n) n k.index x n i ≡ keys_after (n + 1) n i
+        other_index other =
+            cond-false ((n == n) && (i == k.index)) x (keys_after n n i) (and_right (n == n) (i == k.index) (ne_eqb i k.index other))
+            ∙ (not_yet n i
+            ∙ sym (now_there i ∙ ap (λ b. cond b (cancelled_key (st.key n i)) (st.key n i)) (beside i other (is_in_key_set stage k.serial))))
+
+        same_selector : s ≡ n → put_at (keys_after n) n k.index x s i ≡ keys_after (n + 1) s i
+        same_selector e = subst (λ (m : ℕ). put_at (keys_after n) n k.index x m i ≡ keys_after (n + 1) m i) (sym e) (⊎_elim same_index other_index (cases_eq i k.index))
+
+        other_selector : s ≢ n → put_at (keys_after n) n k.index x s i ≡ keys_after (n + 1) s i
+        other_selector other =
+            cond-false ((s == n) && (i == k.index)) x (keys_after n s i) (and_left (s == n) (i == k.index) (ne_eqb s n other)) ∙ sym (others n s i other)
+
+module _ (st : State) (me : CallerNo) (c : ChanNo) (free : (s i : ℕ) → st.pinned s i me.0 ≡ false) (whole : (s i : ℕ) → (st.key s i).claimed ≡ (st.key s i).published) where
+  abbrev stands : ℕ → State
+  stands n = record st { key = keys_after st c.0 n }
+
+  turn : (n : ℕ) → perform me (cancel_noted c n) (stands n) ≡ record { answer = tt; state = stands (n + 1) }
+  turn n = by_noted (st.noted c.0 n) refl
+    where
+      by_noted : (o : Option KeyId) → st.noted c.0 n ≡ o → perform me (cancel_at (selector n) o) (stands n) ≡ record { answer = tt; state = stands (n + 1) }
+      by_noted None is = ap (λ f. record { answer = tt; state = record st { key = f } }) (λ j s i. none_there st c.0 n is s i j)
+      by_noted (Some k) is =
+          let stage = st.key n k.index in
+          cancel-performed (stands n) me (selector n) k (free n k.index) (ap (λ x. x.claimed) (not_yet st c.0 n k.index) ∙ (whole n k.index ∙ ap (λ x. x.published) (sym (not_yet st c.0 n k.index))))
+          ∙ (ap (λ x. record { answer = tt; state = record st { key = put_at (keys_after st c.0 n) n k.index (cond (is_in_key_set x k.serial) (cancelled_key x) x) } }) (not_yet st c.0 n k.index)
+          ∙ ap (λ f. record { answer = tt; state = record st { key = f } }) (λ j s i. one_there st c.0 n k is s i j))
+
+  pub cancel_keys-performed : (l : Limits) → perform me (cancel_keys l c) st ≡ record { answer = true; state = stands l.selectors }
+  cancel_keys-performed l =
+      perform_then_on me (sweep_to l.selectors 0 (λ s _. cancel_noted c s) tt) (λ _. Plan.reply true) st tt (stands l.selectors)
+      (ap (perform me (sweep_to l.selectors 0 (λ s _. cancel_noted c s) tt)) before
+      ∙ perform_sweep me l.selectors 0 (λ s _. cancel_noted c s) (λ _. tt) stands (omega arith) (λ n _ _. turn n))
+    where
+      before : st ≡ stands 0
+      before = ap (λ f. record st { key = f }) (λ j s i. sym (ap (λ b. cond (b && has_index (key_of st c.0 s) i) (cancelled_key (st.key s i)) (st.key s i)) (le-ltb s 0 (omega arith))) j)
