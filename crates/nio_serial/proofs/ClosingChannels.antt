@@ -10,6 +10,7 @@ use Rattle.nio_event.proofs.Put.{put_at-same}
 use Rattle.nio_event.specs.Sets.{fits, in_key_set, is_in_key_set}
 use Rattle.nio_event.specs.State.{State, put_at, with_chan, with_key, with_pin}
 use Rattle.nio_event.specs.declared.found.Chan.{Chan}
+use Rattle.nio_event.specs.declared.found.Mark.{Mark}
 use Rattle.nio_event.specs.declared.found.Stage.{Stage}
 use Rattle.nio_event.specs.declared.reply.Reply.{Reply}
 use Rattle.nio_event.specs.declared.reply.Reply.TheVariants as reply
@@ -156,3 +157,53 @@ module _ (st : State) (me : CallerNo) (c : ChanNo) (free : (s i : ℕ) → st.pi
     where
       before : st ≡ stands 0
       before = ap (λ f. record st { key = f }) (λ j s i. sym (ap (λ b. cond (b && has_index (key_of st c.0 s) i) (cancelled_key (st.key s i)) (st.key s i)) (le-ltb s 0 (omega arith))) j)
+
+-- ---- the call
+
+-- the channel's key at an index is in the key set
+index_in_set : (st : State) (s i : ℕ) (noted : Option KeyId) → has_index (if_in_key_set st s noted) i ≡ true → in_key_set (st.key s i) ≡ true
+index_in_set st s i None e = absurd (both_ways false refl e)
+index_in_set st s i (Some k) e = by_set (is_in_key_set (st.key s k.index) k.serial) refl e
+  where
+    by_set : (b : Bool) → is_in_key_set (st.key s k.index) k.serial ≡ b → has_index (cond b (Some k) None) i ≡ true → in_key_set (st.key s i) ≡ true
+    by_set true is same = subst (λ (j : ℕ). in_key_set (st.key s j) ≡ true) (eqb-true k.index i same) (and_parts (fits (st.key s k.index) k.serial) (in_key_set (st.key s k.index)) is).1
+    by_set false is same = absurd (both_ways false refl same)
+
+settled_where : (t h : Bool) (k : Stage) → (h ≡ true → (t ≡ true) × (k.removed ≡ false)) → settled (cond (t && h) (cancelled_key k) k) ≡ cond h (cancelled_key (settled k)) (settled k)
+settled_where true true k there = λ j. record k { cancelled = not ((there refl).1 j) && true }
+settled_where false true k there = absurd (both_ways true (sym (there refl).0) refl)
+settled_where true false k there = refl
+settled_where false false k there = refl
+
+marked_where : (b : Bool) (k : Stage) (m : Mark) → settled_mark (cond b (cancelled_key k) k) m ≡ settled_mark k m
+marked_where true k m = refl
+marked_where false k m = refl
+
+pub closec-amounts : (l : Limits) (st : State) (now : Progress) (me : CallerNo) (c : ChanNo)
+    → ((s i : ℕ) → st.pinned s i me.0 ≡ false) → ((s i : ℕ) → (st.key s i).claimed ≡ (st.key s i).published)
+    → ((s i : ℕ) → in_key_set (st.key s i) ≡ true → s < l.selectors) → (st.chan c.0).made ≡ true
+    → closec_call (documented st now) me c ≡ amounts closed_reply (λ _. now) (perform me (close_channel_plan l c) st)
+unfolding closec_call close_channel_plan
+closec-amounts l st now me c free whole within made =
+    channel-through ds c made _
+    ∙ branch (amounts closed_reply (λ _. now)) me (Plan.reply false) (cancel_keys l c) closed_st _ _ (st.chan c.0).closed (st.chan c.0).closed refl
+    (λ is. ap (λ f. record { reply = reply.Already; left = documented (record st { chan = f }) now }) (sym (put-here st.chan c.0 closed_chan (λ j. record (st.chan c.0) { closed = is j }))))
+    (λ _. (λ j. answered ds reply.«Ok» (record (settled_state closed_st) { key = λ s i. keys s i j; mark = λ s i. marks s i j }))
+    ∙ sym (ap (amounts closed_reply (λ _. now)) (cancel_keys-performed closed_st me c free whole l)))
+  where
+    ds : ScriptState
+    ds = documented st now
+
+    closed_chan : Chan
+    closed_chan = record (st.chan c.0) { closed = true }
+
+    closed_st : State
+    closed_st = with_chan st c.0 closed_chan
+
+    keys : (s i : ℕ) → cond (has_index (key_of st c.0 s) i) (cancelled_key (settled (st.key s i))) (settled (st.key s i)) ≡ settled (keys_after closed_st c.0 l.selectors s i)
+    keys s i = sym (settled_where (nat_lt s l.selectors) (has_index (key_of st c.0 s) i) (st.key s i)
+        (λ h. let in_set = index_in_set st s i (st.noted c.0 s) h in
+        (lt-ltb s l.selectors (within s i in_set), not-true (st.key s i).removed (and_parts (st.key s i).published (not (st.key s i).removed) in_set).1)))
+
+    marks : (s i : ℕ) → settled_mark (st.key s i) (st.mark s i) ≡ settled_mark (keys_after closed_st c.0 l.selectors s i) (st.mark s i)
+    marks s i = sym (marked_where (nat_lt s l.selectors && has_index (key_of st c.0 s) i) (st.key s i) (st.mark s i))
