@@ -4,3 +4,4 @@ pub mod Finding
 pub mod Simple
 pub mod Blocking
 pub mod ClosingChannels
+pub mod Removing
