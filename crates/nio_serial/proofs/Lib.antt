@@ -5,3 +5,4 @@ pub mod Simple
 pub mod Blocking
 pub mod ClosingChannels
 pub mod Removing
+pub mod ClosingSelectors
