@@ -86,7 +86,7 @@ settled_parts true false c = refl
 settled_parts false true c = refl
 settled_parts false false c = refl
 
-cancelled_parts : (in_set removed c : Bool) → (in_set && not removed) && (not removed && c) ≡ (in_set && not removed) && c
+pub cancelled_parts : (in_set removed c : Bool) → (in_set && not removed) && (not removed && c) ≡ (in_set && not removed) && c
 cancelled_parts true true c = refl
 cancelled_parts true false c = refl
 cancelled_parts false true c = refl

@@ -6,3 +6,4 @@ pub mod Blocking
 pub mod ClosingChannels
 pub mod Removing
 pub mod ClosingSelectors
+pub mod Listing
