@@ -7,3 +7,4 @@ pub mod ClosingChannels
 pub mod Removing
 pub mod ClosingSelectors
 pub mod Listing
+pub mod FreeWords
