@@ -8,3 +8,4 @@ pub mod Removing
 pub mod ClosingSelectors
 pub mod Listing
 pub mod FreeWords
+pub mod Sweeping
