@@ -9,3 +9,4 @@ pub mod ClosingSelectors
 pub mod Listing
 pub mod FreeWords
 pub mod Sweeping
+pub mod Beginning
