@@ -1,6 +1,6 @@
 -- Beginning a selection amounts to the documented call.
 use Rattle.std.proofs.Common.{◌≡◌, ℕ, zero, suc, ◌<◌, ◌==◌, nat_lt, Bool, true, false, cond, not, ◌&&◌, ◌||◌, if◌then◌else◌, Option, Some, None, option_map, is_some, Result, Ok, Err, List, [], ◌∷◌, ◌++◌, map, filter, refl, ap, sym, ◌∙◌, subst, ⊎_elim, arith, eq-eqb}
-use Rattle.std.proofs.lemmas.Bool.{both_ways, and_parts, cases_eq, lt-ltb, ltb-true, not-true, cond-true, cond-false, or_left, or_right}
+use Rattle.std.proofs.lemmas.Bool.{both_ways, false_from_ne_true, and_parts, cases_eq, lt-ltb, ltb-true, not-true, cond-true, cond-false, or_left, or_right}
 use Rattle.std.proofs.lemmas.List.Elements.{All-filter, All-contains}
 use Rattle.std.proofs.lemmas.List.Folds.{list_any-append}
 use Rattle.std.specs.List.{Contains, list_any}
@@ -129,3 +129,108 @@ module _ (st : State) (now : Progress) (me : CallerNo) (s : SelNo)
     where
       taken : State
       taken = with_begun (with_turn st s.0 (Some me)) s.0 false
+
+  -- ---- what it comes to
+
+  abbrev swept_ds : State
+  swept_ds = without_cancelled Now ds.shared s.0
+
+  cancelled-listed : (i : ℕ) → (has_index i listed && in_cancelled_set (st.key s.0 i)) ≡ in_cancelled_set (settled (st.key s.0 i))
+  cancelled-listed i = by_test (in_cancelled_set (st.key s.0 i)) refl ∙ sym (settled-cancelled (st.key s.0 i))
+    where
+      k : Stage
+      k = st.key s.0 i
+
+      none_of : (b : Bool) → (b && false) ≡ false
+      none_of true = refl
+      none_of false = refl
+
+      by_test : (b : Bool) → in_cancelled_set k ≡ b → (has_index i listed && b) ≡ b
+      by_test true is =
+          let in_set = (and_parts (in_key_set k) k.cancelled is).0 in
+          let parts = and_parts k.published (not k.removed) in_set in
+          let low : i < mark = ltb-true i mark (sym (published i) ∙ parts.0) in
+          let not_free : st.free s.0 i ≡ false = false_from_ne_true (st.free s.0 i) (λ h. both_ways k.removed (not-true k.removed parts.1) (free i h)) in
+          ap (λ b. b && true) (index-there (is_not_free turned me s) mark i low (ap not not_free))
+      by_test false is = none_of (has_index i listed)
+
+  state-is : settled_state left ≡ with_begun (with_turn swept_ds s.0 (Some me)) s.0 true
+  state-is =
+      settled-removed turned has_next s.0 (λ i. has_index i listed && in_cancelled_set (st.key s.0 i)) (λ _. refl)
+      ∙ ap (λ (test : ℕ → Bool). without_keys_where (settled_state turned) s.0 test has_next) (λ j i. cancelled-listed i j)
+
+  -- the valid keys that are listed are the key set that is left
+  in_set_after : (k : Stage) → in_key_set (cond (in_cancelled_set (settled k)) (removed_key (settled k)) (settled k)) ≡ is_valid k
+  in_set_after k = by_test (in_cancelled_set (settled k)) refl
+    where
+      none_of : (b : Bool) → (b && false) ≡ false
+      none_of true = refl
+      none_of false = refl
+
+      not_valid : (in_set c : Bool) → (in_set && c) ≡ true → (in_set && not c) ≡ false
+      not_valid true true e = refl
+      not_valid true false e = absurd (both_ways false refl e)
+      not_valid false c e = absurd (both_ways false refl e)
+
+      stays_valid : (in_set c : Bool) → (in_set && c) ≡ false → in_set ≡ (in_set && not c)
+      stays_valid true true e = absurd (both_ways true e refl)
+      stays_valid true false e = refl
+      stays_valid false c e = refl
+
+      by_test : (b : Bool) → in_cancelled_set (settled k) ≡ b → in_key_set (cond b (removed_key (settled k)) (settled k)) ≡ is_valid k
+      by_test true is = none_of k.published ∙ sym (not_valid (in_key_set k) k.cancelled (sym (settled-cancelled k) ∙ is))
+      by_test false is = stays_valid (in_key_set k) k.cancelled (sym (settled-cancelled k) ∙ is)
+
+  goes_there : (i : ℕ) → swept_ds.key s.0 i ≡ cond (in_cancelled_set (settled (st.key s.0 i))) (removed_key (settled (st.key s.0 i))) (settled (st.key s.0 i))
+  goes_there i = ap (λ b. cond (b && in_cancelled_set (settled (st.key s.0 i))) (removed_key (settled (st.key s.0 i))) (settled (st.key s.0 i))) (eq-eqb s.0 s.0 refl)
+
+  listed-valid : (i : ℕ) → i < mark → (not (st.free s.0 i) && is_valid (st.key s.0 i)) ≡ in_key_set (swept_ds.key s.0 i)
+  listed-valid i low = by_free (st.free s.0 i) refl ∙ sym (ap in_key_set (goes_there i) ∙ in_set_after (st.key s.0 i))
+    where
+      removed_invalid : (p r c : Bool) → r ≡ true → false ≡ ((p && not r) && not c)
+      removed_invalid true true c e = refl
+      removed_invalid true false c e = absurd (both_ways false refl e)
+      removed_invalid false r c e = refl
+
+      by_free : (b : Bool) → st.free s.0 i ≡ b → (not b && is_valid (st.key s.0 i)) ≡ is_valid (st.key s.0 i)
+      by_free true is = removed_invalid (st.key s.0 i).published (st.key s.0 i).removed (st.key s.0 i).cancelled (free i is)
+      by_free false is = refl
+
+  serial-same : (b : Bool) (k : Stage) → k.serial ≡ (cond b (removed_key (settled k)) (settled k)).serial
+  serial-same true k = refl
+  serial-same false k = refl
+
+  pairs-are : (xs : List ℕ) → map looked_pair (map (λ i. looked_key i (st.key s.0 i) (st.interest s.0 i)) xs) ≡ map (λ i. (key_at swept_ds s.0 i, swept_ds.interest s.0 i)) xs
+  pairs-are [] = refl
+  pairs-are (i ∷ xs) = λ j. (record { index = i; serial = serial-same ((s.0 == s.0) && in_cancelled_set (settled (st.key s.0 i))) (st.key s.0 i) j }, st.interest s.0 i) ∷ pairs-are xs j
+
+  looked-is : map looked_pair over.looked ≡ looked_keys swept_ds s.0
+  looked-is =
+      pairs-are (filter (λ i. is_valid (st.key s.0 i)) listed)
+      ∙ ap (map (λ i. (key_at swept_ds s.0 i, swept_ds.interest s.0 i)))
+      (filter-filter (λ i. is_valid (st.key s.0 i)) (is_not_free turned me s) (below mark)
+      ∙ filter-same (λ i. not (st.free s.0 i) && is_valid (st.key s.0 i)) (λ i. in_key_set (swept_ds.key s.0 i)) mark listed-valid)
+
+  begun-is : (mode : Mode) → selection_begun Now ds me s.0 mode ≡ amounts begin_reply (after_begin now me s) (record { answer = Ok (begun mode); state = left })
+  begun-is mode = λ j. record {
+    reply = reply.Looked (sym looked-is j);
+    left = record {
+      shared = sym state-is j;
+      selection = (ap (λ looked. put ds.selection s.0 (Some (record { mode = mode; bound = mark; looked = looked }))) (sym looked-is)
+      ∙ sym (put-under (λ _ o. option_map (λ x. shown x.selection) o) now.selection s.0 (Some (record { caller = me; selection = begun mode })))) j;
+    };
+  }
+
+  pub begin-amounts : (mode : Mode) → begun_with Now ds me s.0 (Some mode) ≡ amounts begin_reply (after_begin now me s) (perform me (try_begin_plan s mode false) st)
+  unfolding try_begin_plan
+  begin-amounts mode =
+      branch (amounts begin_reply (after_begin now me s)) me (Plan.reply (Err BeginError.ClosedSelector)) (begin_open s mode false) st _ _ (st.gate s.0).shut (st.gate s.0).shut refl
+      (λ _. refl)
+      (λ not_shut. by_turn (st.turn s.0) refl not_shut)
+    where
+      by_turn : (o : Option CallerNo) → st.turn s.0 ≡ o → (st.gate s.0).shut ≡ false
+          → cond (is_some o) (unchanged ds reply.Busy) (selection_begun Now ds me s.0 mode) ≡ amounts begin_reply (after_begin now me s) (perform me (begin_open s mode false) st)
+      by_turn (Some n) is not_shut =
+          sym (ap (λ (o : Option CallerNo). amounts begin_reply (after_begin now me s) (perform me (if is_some o then Plan.reply (Err BeginError.Busy) else begin_with_turn s mode false) (with_begun (with_turn st s.0 (taken_by me o)) s.0 (is_some o && st.begun s.0)))) is
+          ∙ (λ j. record { reply = reply.Busy; left = documented (record st { turn = put-here st.turn s.0 (Some n) is j; begun = put-here st.begun s.0 (st.begun s.0) refl j }) now }))
+      by_turn None is not_shut = begun-is mode ∙ sym (ap (amounts begin_reply (after_begin now me s)) (open-performed mode is not_shut))
