@@ -10,3 +10,4 @@ pub mod Listing
 pub mod FreeWords
 pub mod Sweeping
 pub mod Beginning
+pub mod Marks
