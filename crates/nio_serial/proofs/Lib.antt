@@ -11,3 +11,4 @@ pub mod FreeWords
 pub mod Sweeping
 pub mod Beginning
 pub mod Marks
+pub mod Marking
