@@ -12,3 +12,4 @@ pub mod Sweeping
 pub mod Beginning
 pub mod Marks
 pub mod Marking
+pub mod Telling

@@ -70,13 +70,13 @@ module _ (st : State) (me : CallerNo) (x : Selection) (pairs : List (KeyId × �
   are_apart k m first second same = sym (serial-is k first) ∙ (ap (λ i. (st.key s i).serial) same ∙ serial-is m second)
 
   -- whether a looked key is updated, as a script sees it
-  abbrev updated : KeyId × ℕ → Bool
+  abbrev pub updated : KeyId × ℕ → Bool
   updated p = is_updated (settled_mark (st.key s p.0.index) (st.mark s p.0.index)) (told_bits looked pairs p.0)
 
-  abbrev stands : List LookedKey → State
+  abbrev pub stands : List LookedKey → State
   stands past = with_marks st s (map looked_pair past) pairs
 
-  abbrev counts : List LookedKey → ℕ
+  abbrev pub counts : List LookedKey → ℕ
   counts past = count_by updated (map looked_pair past)
 
   module _ (past : List LookedKey) (e : LookedKey) (later : List LookedKey) (parts : x.looked ≡ past ++ e ∷ later) where
