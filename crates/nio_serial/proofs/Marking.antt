@@ -38,7 +38,7 @@ interest-middle (q ∷ past) p later low =
     cond-false (is_same_key q.0 p.0) q.1 (looked_interest (past ++ p ∷ later) p.0) (other-index q.0 p.0 (λ e. omega arith))
     ∙ interest-middle past p later (All-tail (λ (r : KeyId × ℕ). r.0.index < p.0.index) q past low)
 
-looked-middle : (past : List (KeyId × ℕ)) (p : KeyId × ℕ) (later : List (KeyId × ℕ)) → is_looked (past ++ p ∷ later) p.0 ≡ true
+pub looked-middle : (past : List (KeyId × ℕ)) (p : KeyId × ℕ) (later : List (KeyId × ℕ)) → is_looked (past ++ p ∷ later) p.0 ≡ true
 looked-middle past p later =
     list_any-append (λ (q : KeyId × ℕ). is_same_key q.0 p.0) past (p ∷ later)
     ∙ or_right (list_any (λ (q : KeyId × ℕ). is_same_key q.0 p.0) past) (is_same_key p.0 p.0 || is_looked later p.0) (or_left (is_same_key p.0 p.0) (is_looked later p.0) (same-key p.0))

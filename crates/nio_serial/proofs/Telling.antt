@@ -2,7 +2,9 @@
 use Rattle.std.proofs.Common.{◌≡◌, ℕ, ◌+◌, ◌<◌, ◌==◌, Bool, true, false, cond, not, ◌&&◌, ◌||◌, if◌then◌else◌, Option, Some, None, option_map, List, [], ◌∷◌, map, count_by, bit_and, bit_or, refl, ap, sym, ◌∙◌, subst, arith, eqb-true, eq-eqb}
 use Rattle.std.proofs.lemmas.Bool.{both_ways, and_parts, and_from, or_parts, not-true}
 use Rattle.std.proofs.lemmas.List.Sums.{sum_by-cons}
-use Rattle.std.specs.List.{AllPairs, list_any}
+use Rattle.std.proofs.lemmas.List.{map-append}
+use Rattle.std.proofs.lemmas.List.Elements.{Contains-push, Contains-append_left, Contains-append_right}
+use Rattle.std.specs.List.{AllPairs, Contains, list_any}
 use lib.Bits.{and_zero_r}
 use Rattle.nio_base.specs.declared.numbers.CallerNo.{CallerNo}
 use Rattle.nio_base.specs.declared.numbers.KeyId.{KeyId}
@@ -23,8 +25,9 @@ use Rattle.nio_plain.specs.ScriptState.{ScriptState}
 use Rattle.nio_plain.specs.Seq.Answers.{Answered, unchanged}
 use Rattle.nio_plain.specs.Seq.Names.{is_same_key, key_at}
 use Rattle.nio_plain.specs.Seq.Removing.{without_keys_where}
-use Rattle.nio_plain.specs.Seq.Selections.{all_told, looked_interest, told_bits, is_looked, marked, is_updated, with_marks, is_again, why_ended, selection_ended, told_selection, left_selection}
+use Rattle.nio_plain.specs.Seq.Selections.{all_told, looked_interest, told_bits, is_looked, marked, is_updated, with_marks, goes_on, is_again, why_ended, selection_ended, told_selection, left_selection}
 use Rattle.nio_plain.specs.declared.rules.Rules.TheVariants.{Now}
+use Rattle.nio_steps.proofs.Lists.{parted}
 use Rattle.nio_steps.proofs.PerformLaws.{perform_then_on}
 use Rattle.nio_steps.specs.Perform.{Performed, perform}
 use Rattle.nio_steps.specs.Plan.{Plan, ◌>>=◌, ◌>>◌}
@@ -34,7 +37,7 @@ use Rattle.nio_steps.specs.Sweeps.{sweep_over}
 use Rattle.nio_steps.specs.declared.looked.LookedKey.{LookedKey}
 use Rattle.nio_steps.specs.declared.selected.Selected.{Selected}
 use Rattle.nio_serial.proofs.Base.{put-under, settled-cancelled, branch}
-use Rattle.nio_serial.proofs.Marking.{updated, counts, stands, serial-is, not-removed, marks-performed}
+use Rattle.nio_serial.proofs.Marking.{looked-middle, updated, counts, stands, serial-is, not-removed, marks-performed}
 use Rattle.nio_serial.proofs.Marks.{marked-same}
 use Rattle.nio_serial.proofs.Removing.{settled-removed}
 use Rattle.nio_serial.proofs.Sweeping.{has_index, has_next, swept, sweep-performed}
@@ -159,3 +162,118 @@ module _ (st : State) (now : Progress) (me : CallerNo) (x : Selection) (pairs : 
       by_selector : (b : Bool) → (t == s) ≡ b → cond b (marked (st.mark t i) (told_bits looked pairs (key_at st t i))) (st.mark t i) ≡ st.mark t i
       by_selector true same = subst (λ (n : ℕ). marked (st.mark n i) (told_bits looked pairs (key_at st n i)) ≡ st.mark n i) (sym (eqb-true t s same)) (here (is_looked looked (key_at st s i)) refl)
       by_selector false other = refl
+
+  -- ---- the selection is over
+
+  -- a mark of a key that isn't removed, or of which nothing is told
+  settled_told : (k : Stage) (m : Mark) (bits : ℕ) → (k.removed ≡ true → bits ≡ 0) → settled_mark k (marked m bits) ≡ marked (settled_mark k m) bits
+  settled_told k m bits quiet = by_removed k.removed quiet
+    where
+      with_removed : Bool → Mark → Mark
+      with_removed r y = record y { selected = not r && y.selected }
+
+      by_mark : (b c : Bool) → (m.selected ≡ c) → with_removed false (cond b m (cond c (record m { ready = bit_or m.ready bits }) (record { selected = true; ready = bits })))
+          ≡ cond b (with_removed false m) (cond c (record m { ready = bit_or m.ready bits }) (record { selected = true; ready = bits }))
+      by_mark true c is = refl
+      by_mark false true is = refl
+      by_mark false false is = refl
+
+      by_removed : (r : Bool) → (r ≡ true → bits ≡ 0) → with_removed r (marked m bits) ≡ marked (with_removed r m) bits
+      by_removed true none = ap (λ n. with_removed true (marked m n)) (none refl) ∙ sym (ap (marked (with_removed true m)) (none refl))
+      by_removed false none = by_mark (bits == 0) m.selected refl
+
+  quiet : (i : ℕ) → (st.key s i).removed ≡ true → told_bits looked pairs (key_at st s i) ≡ 0
+  quiet i removed = by_looked (is_looked looked (key_at st s i)) refl
+    where
+      by_looked : (b : Bool) → is_looked looked (key_at st s i) ≡ b → told_bits looked pairs (key_at st s i) ≡ 0
+      by_looked true there = absurd (both_ways (st.key s i).removed (not-removed st me x pairs rises in_set (key_at st s i) there) removed)
+      by_looked false out = untold (key_at st s i) out
+
+  settled-marks : settled_state marked_st ≡ with_marks ds.shared s looked pairs
+  settled-marks = λ j. record (settled_state st) { mark = λ t i. at t i j }
+    where
+      at : (t i : ℕ) → settled_mark (st.key t i) (cond (t == s) (marked (st.mark t i) (told_bits looked pairs (key_at st t i))) (st.mark t i))
+          ≡ cond (t == s) (marked (settled_mark (st.key t i) (st.mark t i)) (told_bits looked pairs (key_at st t i))) (settled_mark (st.key t i) (st.mark t i))
+      at t i = by_selector (t == s) refl
+        where
+          by_selector : (b : Bool) → (t == s) ≡ b
+              → settled_mark (st.key t i) (cond b (marked (st.mark t i) (told_bits looked pairs (key_at st t i))) (st.mark t i))
+              ≡ cond b (marked (settled_mark (st.key t i) (st.mark t i)) (told_bits looked pairs (key_at st t i))) (settled_mark (st.key t i) (st.mark t i))
+          by_selector true same = settled_told (st.key t i) (st.mark t i) (told_bits looked pairs (key_at st t i))
+              (subst (λ (n : ℕ). (st.key n i).removed ≡ true → told_bits looked pairs (key_at st n i) ≡ 0) (sym (eqb-true t s same)) (quiet i))
+          by_selector false other = refl
+
+  -- the kept indexes are those of the looked keys, each with the key that was looked at
+  index-looked : (i : ℕ) (xs : List LookedKey) → ((e : LookedKey) → Contains xs e → (st.key s e.index).serial ≡ e.serial)
+      → has_index i (map (λ (e : LookedKey). e.index) xs) ≡ is_looked (map looked_pair xs) (key_at st s i)
+  index-looked i [] serials = refl
+  index-looked i (e ∷ xs) serials =
+      (λ j. one j || index-looked i xs (λ f there. serials f (Contains-append_right (e ∷ []) xs f there)) j)
+    where
+      one : (e.index == i) ≡ ((e.index == i) && (e.serial == (st.key s i).serial))
+      one = by_index (e.index == i) refl
+        where
+          by_index : (b : Bool) → (e.index == i) ≡ b → b ≡ (b && (e.serial == (st.key s i).serial))
+          by_index true same = sym (eq-eqb e.serial (st.key s i).serial (sym (serials e (Contains-append_left (e ∷ []) xs e (Contains-push [] e))) ∙ ap (λ n. (st.key s n).serial) (eqb-true e.index i same)))
+          by_index false other = refl
+
+  serials-are : (e : LookedKey) → Contains x.looked e → (st.key s e.index).serial ≡ e.serial
+  serials-are e there =
+      serial-is st me x pairs rises in_set (looked_pair e).0
+      (let cut = parted x.looked e there in
+      ap (λ xs. is_looked (map looked_pair xs) (looked_pair e).0) cut.parts
+      ∙ (ap (λ xs. is_looked xs (looked_pair e).0) (map-append looked_pair cut.past (e ∷ cut.later)) ∙ looked-middle (map looked_pair cut.past) (looked_pair e) (map looked_pair cut.later)))
+
+  swept-is : (i : ℕ) → (has_index i x.kept && in_cancelled_set (st.key s i)) ≡ (is_looked looked (key_at st s i) && in_cancelled_set (settled (st.key s i)))
+  swept-is i = λ j. (ap (has_index i) kept ∙ index-looked i x.looked serials-are) j && sym (settled-cancelled (st.key s i)) j
+
+  -- what is left of the plan
+  abbrev swept_st : State
+  swept_st = swept marked_st me x.selector (none_due s) untaken x.kept
+
+  abbrev ended : State
+  ended = with_begun (with_turn (with_gate swept_st s (record (st.gate s) { woken = false })) s None) s false
+
+  ending-performed : (answer : Selected) → perform me (end_selection x answer) marked_st ≡ record { answer = done answer; state = ended }
+  ending-performed answer =
+      perform_then_on me (sweep_over x.kept (λ i _. sweep_key x.selector i) tt) (λ _. end_wake x.selector >> (give_turn x.selector >> Plan.reply (done answer))) marked_st tt swept_st
+      (sweep-performed marked_st me x.selector (none_due s) untaken x.kept)
+      ∙ (λ j. record { answer = done answer; state = record ended { put_due = λ t i. no_longer (t == s) (st.put_due t i) (none_due t i) j } })
+
+  ended-is : settled_state ended ≡ selection_ended Now ds.shared s (shown x) pairs
+  ended-is =
+      ap (λ (y : State). with_begun (with_turn (with_gate y s (record (st.gate s) { woken = false })) s None) s false)
+      (settled-removed marked_st has_next s (λ i. has_index i x.kept && in_cancelled_set (st.key s i)) (λ _. refl)
+      ∙ (λ j. without_keys_where (settled-marks j) s (λ i. swept-is i j) has_next))
+
+  -- ---- the call
+
+  pub told-amounts : (elapsed : Bool) → told_selection Now ds me s pairs elapsed (Some (shown x)) ≡ F (perform me (told_plan x (by_index x pairs) elapsed) st)
+  unfolding told_plan
+  told-amounts elapsed =
+      let gate = st.gate s in
+      let interrupted = st.interrupted me.0 in
+      branch F me (Plan.reply (again x)) (end_selection x (record { count = count; why = why_over x.mode count gate interrupted })) marked_st _ _
+      (is_again gate interrupted x.mode elapsed count) (is_again_by_look x.mode count gate interrupted elapsed) (again-is x.mode count gate interrupted elapsed)
+      (λ goes_on.
+      let all : is_again gate interrupted x.mode elapsed count ≡ true = again-is x.mode count gate interrupted elapsed ∙ goes_on in
+      λ j. record { reply = reply.Again; left = documented (record st { mark = λ t i. sym (unmarked (first_of_all all) t i) j }) now })
+      (λ _. (λ j. record {
+        reply = reply.Selected count (why-is x.mode count gate interrupted j);
+        left = record {
+          shared = sym ended-is j;
+          selection = sym (put-under (λ _ o. option_map (λ y. shown y.selection) o) now.selection s None) j;
+        };
+      })
+      ∙ sym (ap F (ending-performed (record { count = count; why = why_over x.mode count gate interrupted }))))
+      ∙ sym (ap F (perform_then_on me (sweep_over x.looked (mark_entry x.selector (by_index x pairs)) 0) (after_marks x elapsed) st count marked_st (marks-performed st me x pairs rises in_set)))
+    where
+      first_of_all : is_again (st.gate s) (st.interrupted me.0) x.mode elapsed count ≡ true → count ≡ 0
+      first_of_all all =
+          let gate = st.gate s in
+          let interrupted = st.interrupted me.0 in
+          let going = goes_on x.mode elapsed in
+          let to_shut = and_parts ((((count == 0) && going) && not gate.woken) && not gate.shut) (not interrupted) all in
+          let to_woken = and_parts (((count == 0) && going) && not gate.woken) (not gate.shut) to_shut.0 in
+          let to_going = and_parts ((count == 0) && going) (not gate.woken) to_woken.0 in
+          eqb-true count 0 (and_parts (count == 0) going to_going.0).0
