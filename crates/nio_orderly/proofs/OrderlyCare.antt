@@ -19,13 +19,13 @@ use Rattle.nio_orderly.proofs.ClosingsKept.{close_channel-keeps, try_finish-keep
 use Rattle.nio_orderly.proofs.Kept.{PublishKept, EnterKept, Kept, kept-append, kept-none, kept-one, kept_run}
 use Rattle.nio_orderly.proofs.ListWords.{has-not_first, has-not_second}
 use Rattle.nio_orderly.proofs.Registration.{register-kept}
-use Rattle.nio_orderly.specs.Careful.{notes_for, notes_key, until_released, its_hold, KeepsRules, IsCareful}
+use Rattle.nio_orderly.specs.Careful.{notes_for, notes_this_key, until_released, its_hold, KeepsRules, IsCareful}
 use Rattle.nio_orderly.specs.Made.{Made, IsRun, draw, find_selector, find_channel, find, is_valid, interest, set_interest, interest_or, interest_and, ready, cancel, unselect, attach, attachment, open_channel, is_open, is_blocking, is_registered, key_for, try_set_blocking, try_register, close_channel, open_selector, try_begin, told, leave, shut, try_finish, keys, selected_keys, wakeup, interrupt, interrupted, pipe, try_read, try_write}
 use Rattle.nio_orderly.specs.OrderlyCare.{OrderlyIsCareful, WholeIsSettled}
 use Rattle.nio_orderly.specs.Orderly.{AreRuns, HasMadeCalls, MakesCalls, IsWhole, IsOrderly}
 use Rattle.nio_orderly.specs.Owed.{owes, publisher_duty, clearing_duty}
 use Rattle.nio_orderly.specs.Settled.{claimed_key, IsSettled}
-use Rattle.nio_steps.specs.ChannelCalls.{open_channel_plan, is_open_plan, is_blocking_plan, is_registered_plan, key_for_plan, set_blocking_plan, close_channel_plan}
+use Rattle.nio_steps.specs.ChannelCalls.{open_channel_plan, is_open_plan, is_blocking_plan, is_registered_plan, key_for_plan, try_set_blocking_plan, close_channel_plan}
 use Rattle.nio_steps.specs.KeyCalls.{find_selector_plan, find_channel_plan, find_plan, is_valid_plan, interest_plan, set_interest_plan, interest_or_plan, interest_and_plan, ready_plan, cancel_plan, unselect_plan, attach_plan, attachment_plan}
 use Rattle.nio_steps.specs.PipeCalls.{pipe_plan, pipe_lacks_memory, try_read_plan, try_write_plan}
 use Rattle.nio_steps.specs.SelectCalls.{open_selector_plan, try_begin_plan, begin_lacks_memory, told_plan, leave_plan, shut_plan, try_finish_plan, keys_plan, selected_keys_plan, list_lacks_memory, wakeup_plan, interrupt_plan, interrupted_plan}
@@ -52,7 +52,7 @@ run_is_kept l (is_open c answer) acts run = kept_run l (is_open_plan c) acts ans
 run_is_kept l (is_blocking c answer) acts run = kept_run l (is_blocking_plan c) acts answer (is_blocking-keeps c) run
 run_is_kept l (is_registered c answer) acts run = kept_run l (is_registered_plan l c) acts answer (is_registered-keeps l c) run
 run_is_kept l (key_for c s answer) acts run = kept_run l (key_for_plan c s) acts answer (key_for-keeps c s) run
-run_is_kept l (try_set_blocking c on answer) acts run = kept_run l (set_blocking_plan l c on) acts answer (set_blocking-keeps l c on) run
+run_is_kept l (try_set_blocking c on answer) acts run = kept_run l (try_set_blocking_plan l c on) acts answer (set_blocking-keeps l c on) run
 run_is_kept l (try_register s c ops att answer) acts run = register-kept l s c ops att acts answer run
 run_is_kept l (close_channel c answer) acts run = kept_run l (close_channel_plan l c) acts answer (close_channel-keeps l c) run
 run_is_kept l (open_selector answer) acts run = kept_run l (open_selector_plan l) acts answer (open_selector-keeps l) run
