@@ -124,13 +124,13 @@ publish_spares st me c s k act publish P here = subst (λ a. P (effect st me a))
 
 -- the noted key of a channel with a key of the key set isn't changed
 noted_step : (l : Limits) (past : List Event) (e : Event) → IsFit l → IsLegal l past → IsStep l past e → KeysStand (state_after past)
-    → (s i : ℕ) → in_key_set ((state_after past).key s i) ≡ true → notes ((state_after past).key s i).chan.0 s e.act ≡ false
+    → (s i : ℕ) → in_key_set ((state_after past).key s i) ≡ true → notes_key ((state_after past).key s i).chan.0 s e.act ≡ false
 noted_step l past e fit legal step stand s i in_set = by_act e.act step.condition
   where
     st : State
     st = state_after past
 
-    by_act : (act : Act) → Condition l (mine e.caller past) st e.caller act → notes (st.key s i).chan.0 s act ≡ false
+    by_act : (act : Act) → Condition l (mine e.caller past) st e.caller act → notes_key (st.key s i).chan.0 s act ≡ false
     by_act (Enrol c' s' j q found) may = by_same ((c'.0 == (st.key s i).chan.0) && (s'.0 == s)) refl
       where
         by_same : (b : Bool) → ((c'.0 == (st.key s i).chan.0) && (s'.0 == s)) ≡ b → b ≡ false

@@ -31,7 +31,7 @@ use Rattle.nio_steps.proofs.Lists.{parted}
 use Rattle.nio_steps.proofs.PerformLaws.{perform_then_on}
 use Rattle.nio_steps.specs.Perform.{Performed, perform}
 use Rattle.nio_steps.specs.Plan.{Plan, ◌>>=◌, ◌>>◌}
-use Rattle.nio_steps.specs.SelectCalls.{Selection, may_wait, mark_entry, remove_if_cancelled, after_marks, end_selection, told_plan, leave_plan, ToldReply, done, again, is_again as is_again_by_look, why_ended}
+use Rattle.nio_steps.specs.SelectCalls.{Selection, may_wait, mark_entry, remove_if_cancelled, after_marks, end_selection, told_plan, leave_plan, ToldReply, done, again, is_again as is_again_by_look, why_ended as why_by_look}
 use Rattle.nio_steps.specs.Steps.{end_wake, give_turn}
 use Rattle.nio_steps.specs.Sweeps.{sweep_over}
 use Rattle.nio_steps.specs.declared.looked.LookedKey.{LookedKey}
@@ -74,7 +74,7 @@ again-is (mode.For ms) count gate interrupted elapsed = by_bools (count == 0) (n
     by_bools true false c d false = refl
     by_bools false b c d e = refl
 
-why-is : (m : Mode) (count : ℕ) (gate : GateWord) (interrupted : Bool) → why_ended gate interrupted m count ≡ why_ended m count gate interrupted
+why-is : (m : Mode) (count : ℕ) (gate : GateWord) (interrupted : Bool) → why_ended gate interrupted m count ≡ why_by_look m count gate interrupted
 why-is mode.Now count gate interrupted = refl
 why-is mode.Wait count gate interrupted = refl
 why-is (mode.For ms) count gate interrupted = refl
@@ -253,7 +253,7 @@ module _ (st : State) (now : Progress) (me : CallerNo) (x : Selection) (pairs : 
   told-amounts elapsed =
       let gate = st.gate s in
       let interrupted = st.interrupted me.0 in
-      branch F me (Plan.reply (again x)) (end_selection x (record { count = count; why = why_ended x.mode count gate interrupted })) marked_st _ _
+      branch F me (Plan.reply (again x)) (end_selection x (record { count = count; why = why_by_look x.mode count gate interrupted })) marked_st _ _
       (is_again gate interrupted x.mode elapsed count) (is_again_by_look x.mode count gate interrupted elapsed) (again-is x.mode count gate interrupted elapsed)
       (λ goes_on.
       let all : is_again gate interrupted x.mode elapsed count ≡ true = again-is x.mode count gate interrupted elapsed ∙ goes_on in
@@ -265,7 +265,7 @@ module _ (st : State) (now : Progress) (me : CallerNo) (x : Selection) (pairs : 
           selection = sym (put-under (λ _ o. option_map (λ y. shown y.selection) o) now.selection s None) j;
         };
       })
-      ∙ sym (ap F (ending-performed (record { count = count; why = why_ended x.mode count gate interrupted }))))
+      ∙ sym (ap F (ending-performed (record { count = count; why = why_by_look x.mode count gate interrupted }))))
       ∙ sym (ap F (perform_then_on me (sweep_over x.looked (mark_entry x.selector (by_index x pairs)) 0) (after_marks x elapsed) st count marked_st (marks-performed st me x pairs rises in_set)))
     where
       first_of_all : is_again (st.gate s) (st.interrupted me.0) x.mode elapsed count ≡ true → count ≡ 0
