@@ -17,7 +17,7 @@ use Rattle.nio_base.specs.declared.numbers.CallerNo.{CallerNo}
 use Rattle.nio_base.specs.declared.numbers.KeyId.{KeyId}
 use Rattle.nio_event.proofs.OneMore.{mine-own, mine-other, has-more, last-more}
 use Rattle.nio_event.specs.Histories.{is_by, mine}
-use Rattle.nio_event.specs.OwnEvents.{OwnClaim, has, last, since_first, since_entered, takes_hold, finds_unblocked, noted_found, notes, publishes, stage_found, is_outside, takes_free, own_claim, claim_changed, or_none, is_unpublished, leaves_unpublished, is_yes, enters, finds_below}
+use Rattle.nio_event.specs.OwnEvents.{OwnClaim, has, last, since_first, since_entered, takes_hold, finds_unblocked, noted_found, notes_key, publishes, stage_found, is_outside, takes_free, own_claim, claim_changed, or_none, is_unpublished, leaves_unpublished, is_yes, enters, finds_below}
 use Rattle.nio_event.specs.Sets.{is_in_key_set}
 use Rattle.nio_event.specs.declared.act.Act.{Act}
 use Rattle.nio_event.specs.declared.act.Act.TheVariants.{LookKeys}
@@ -59,14 +59,14 @@ note_parts now key notes m = record {
 }
 
 abbrev pub heard_note : ℕ → Act → ℕ → ℕ → NoteMemory → NoteMemory
-heard_note now act c s m = note_parts now (noted_found c s act) (notes c s act) m
+heard_note now act c s m = note_parts now (noted_found c s act) (notes_key c s act) m
 
 pub note-other : (m : NoteMemory) (n : CallerNo) (c s : ℕ) (past : List Event) (e : Event) → is_by n e ≡ false → RemembersNote m n c s past
     → RemembersNote m n c s (past ++ e ∷ [])
 note-other m n c s past e by h = record {
   found_at = h.found_at ∙ sym (latest-other n (λ act. is_some (noted_found c s act)) past e by);
   key = λ some. ap (last (noted_found c s)) (mine-other n past e by) ∙ h.key some;
-  noted = h.noted ∙ sym (latest-other n (notes c s) past e by);
+  noted = h.noted ∙ sym (latest-other n (notes_key c s) past e by);
 }
 
 -- a value that is kept: the last act that tells of it, or the last before
@@ -81,7 +81,7 @@ note-own m n c s past e by h = record {
   found_at = moment n (λ act. is_some (noted_found c s act)) past e m.found_at by h.found_at;
   key = λ some. (ap (last (noted_found c s)) (mine-own n past e by) ∙ last-more (noted_found c s) (mine n past) e.act)
       ∙ value (noted_found c s e.act) (last (noted_found c s) (mine n past)) m.key (length past + 1) m.found_at h.key some;
-  noted = moment n (notes c s) past e m.noted by h.noted;
+  noted = moment n (notes_key c s) past e m.noted by h.noted;
 }
 
 -- ---- indexes

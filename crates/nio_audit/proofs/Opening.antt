@@ -24,7 +24,7 @@ pub same_state : (t : StateTables)
     → grid t.noted ≡ opening.noted
     → row t.gate ≡ opening.gate
     → row t.turn ≡ opening.turn
-    → row t.keys_mark ≡ opening.keys_mark
+    → row t.keys_high ≡ opening.keys_high
     → grid t.key ≡ opening.key
     → grid t.interest ≡ opening.interest
     → grid t.mark ≡ opening.mark
@@ -35,8 +35,8 @@ pub same_state : (t : StateTables)
     → row t.closer ≡ opening.closer
     → row t.entered ≡ opening.entered
     → grid t.taker ≡ opening.taker
-    → t.channels_mark ≡ opening.channels_mark → state_with t (λ _ _. false) ≡ opening
-same_state t drawn interrupted selector chan hold noted gate turn keys_mark key interest mark note pinned free begun closer entered taker channels_mark = λ i. record {
+    → t.channels_high ≡ opening.channels_high → state_with t (λ _ _. false) ≡ opening
+same_state t drawn interrupted selector chan hold noted gate turn keys_high key interest mark note pinned free begun closer entered taker channels_high = λ i. record {
   drawn = drawn i;
   interrupted = interrupted i;
   selector = selector i;
@@ -45,7 +45,7 @@ same_state t drawn interrupted selector chan hold noted gate turn keys_mark key 
   noted = noted i;
   gate = gate i;
   turn = turn i;
-  keys_mark = keys_mark i;
+  keys_high = keys_high i;
   key = key i;
   interest = interest i;
   mark = mark i;
@@ -56,7 +56,7 @@ same_state t drawn interrupted selector chan hold noted gate turn keys_mark key 
   closer = closer i;
   entered = entered i;
   taker = taker i;
-  channels_mark = channels_mark i;
+  channels_high = channels_high i;
   put_due = λ _ _. false;
 }
 

@@ -20,9 +20,9 @@ use Rattle.nio_base.specs.declared.numbers.CallerNo.{CallerNo}
 use Rattle.nio_base.specs.declared.numbers.ChanNo.{ChanNo}
 use Rattle.nio_base.specs.declared.numbers.KeyId.{KeyId}
 use Rattle.nio_base.specs.declared.numbers.SelNo.{SelNo}
-use Rattle.nio_event.specs.Conditions.{Condition, may_publish, may_clear_out, may_sweep, holds, has_entered}
+use Rattle.nio_event.specs.Conditions.{Condition, may_publish, may_clear_out, may_remove_cancelled, holds, has_entered}
 use Rattle.nio_event.specs.Histories.{mine}
-use Rattle.nio_event.specs.OwnEvents.{OwnClaim, has, last, under, since_from, since_entered, since_taken, takes_hold, takes_free, finds_unblocked, finds_below, finds_outside, noted_found, notes, publishes, stage_found, since_noted, is_clear, is_clear_by, own_claim, is_unpublished}
+use Rattle.nio_event.specs.OwnEvents.{OwnClaim, has, last, under, since_from, since_entered, since_taken, takes_hold, takes_free, finds_unblocked, finds_below, finds_outside, noted_found, notes_key, publishes, stage_found, since_key_noted, is_clear, is_clear_by, own_claim, is_unpublished}
 use Rattle.nio_event.specs.State.{State}
 use Rattle.nio_event.specs.declared.act.Act.{Act}
 use Rattle.nio_event.specs.declared.act.Act.TheVariants.{MakeChannel, Claim as ClaimAct, RaiseKeys, RaiseChannels, Publish, Enrol, Remove, SetMode, ClearMark, ClaimAgain}
@@ -56,13 +56,13 @@ module _ {k : Knowledge} {past : List Event} (h : Remembers k past) where
       ∙ (ap (λ x. nat_lt x (latest n (finds_outside s q) past)) opened ∙ ap (nat_lt since) (sym ((h.indexes n s q.index).outside q.serial))))
     where
       either : Act → Bool
-      either = λ act. notes c s act || publishes s q.index act
+      either = λ act. notes_key c s act || publishes s q.index act
 
       since : ℕ
       since = max (k.holds n.0 c).taken (max (k.notes n.0 c s).noted (k.indexes n.0 s q.index).published)
 
       opened : latest n (λ act. takes_hold c act || either act) past ≡ since
-      opened = omega (arith, latest-either n (takes_hold c) either past, latest-either n (notes c s) (publishes s q.index) past, (h.holds n c).taken, (h.notes n c s).noted, (h.indexes n s q.index).published)
+      opened = omega (arith, latest-either n (takes_hold c) either past, latest-either n (notes_key c s) (publishes s q.index) past, (h.holds n c).taken, (h.notes n c s).noted, (h.indexes n s q.index).published)
 
   clear-found : (n : CallerNo) (c s : ℕ) → is_clear c s (mine n past) ≡ is_clear_for k n c s
   clear-found n c s =
@@ -119,7 +119,7 @@ allowed_iff l me (Enrol c s i serial found) h counted =
     let claim = claim_iff _ _ c serial (h.indexes me s.0 i).claim in
     (λ may. (may.0, may.1, claim.0 may.2, may.3, same.0 may.4), λ may. (may.0, may.1, claim.1 may.2, may.3, same.1 may.4))
 allowed_iff {st = st} l me (Remove s i found) h counted =
-    let same = same_test (ap (λ b. may_sweep st me s i || b) (clear_out-may h st me s i)) in (λ may. (may.0, same.0 may.1), λ may. (may.0, same.1 may.1))
+    let same = same_test (ap (λ b. may_remove_cancelled st me s i || b) (clear_out-may h st me s i)) in (λ may. (may.0, same.0 may.1), λ may. (may.0, same.1 may.1))
 allowed_iff l me (SetMode c blocking found) h counted = (
   λ may. (may.0, may.1, λ b s below. (same_test (clear-found h me c.0 s)).0 (may.2 b s below)),
   λ may. (may.0, may.1, λ b s below. (same_test (clear-found h me c.0 s)).1 (may.2 b s below)),

@@ -10,7 +10,7 @@ use Rattle.nio_audit.specs.declared.memory.Claim.{Claim}
 use Rattle.nio_base.specs.declared.limits.Limits.{Limits}
 use Rattle.nio_base.specs.declared.numbers.CallerNo.{CallerNo}
 use Rattle.nio_base.specs.declared.numbers.SelNo.{SelNo}
-use Rattle.nio_event.specs.Conditions.{Condition, IsChannel, IsKey, IsSelector, holds, has_entered, has_taken, may_sweep}
+use Rattle.nio_event.specs.Conditions.{Condition, IsChannel, IsKey, IsSelector, holds, has_entered, has_taken, may_remove_cancelled}
 use Rattle.nio_event.specs.State.{State, last_serial}
 use Rattle.nio_event.specs.declared.act.Act.{Act}
 use Rattle.nio_event.specs.declared.act.Act.TheVariants.{MakeChannel, Claim as ClaimAct, RaiseKeys, RaiseChannels, Publish, Enrol, Remove, SetMode, ClearMark, ClaimAgain}
@@ -37,7 +37,7 @@ Allowed l k channels keys st me (Publish s i found) = IsKey l s i × IsTrue (may
 Allowed l k channels keys st me (Enrol c s i serial found) =
     IsChannel l c × IsKey l s i × ((k.indexes me.0 s.0 i).claim ≡ Some (record { channel = c; serial = serial })) × IsTrue (holds st me c)
     × IsTrue (is_clear_for k me c.0 s.0)
-Allowed l k channels keys st me (Remove s i found) = IsKey l s i × IsTrue (may_sweep st me s i || may_clear_out_by st k me s i)
+Allowed l k channels keys st me (Remove s i found) = IsKey l s i × IsTrue (may_remove_cancelled st me s i || may_clear_out_by st k me s i)
 Allowed l k channels keys st me (SetMode c blocking found) =
     IsChannel l c × IsTrue (holds st me c) × (IsTrue blocking → (s : ℕ) → s < l.selectors → IsTrue (is_clear_for k me c.0 s))
 Allowed l k channels keys st me (ClearMark s i found) = IsKey l s i × IsTrue (k.indexes me.0 s.0 i).unpublished

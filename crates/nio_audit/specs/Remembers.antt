@@ -9,7 +9,7 @@ use Rattle.nio_audit.specs.declared.memory.IndexMemory.{IndexMemory}
 use Rattle.nio_audit.specs.declared.memory.NoteMemory.{NoteMemory}
 use Rattle.nio_base.specs.declared.numbers.CallerNo.{CallerNo}
 use Rattle.nio_event.specs.Histories.{mine}
-use Rattle.nio_event.specs.OwnEvents.{OwnClaim, has, last, since_entered, takes_hold, finds_unblocked, noted_found, notes, publishes, stage_found, is_outside, takes_free, own_claim, is_unpublished, enters, finds_below}
+use Rattle.nio_event.specs.OwnEvents.{OwnClaim, has, last, since_entered, takes_hold, finds_unblocked, noted_found, notes_key, publishes, stage_found, is_outside, takes_free, own_claim, is_unpublished, enters, finds_below}
 use Rattle.nio_event.specs.declared.event.Event.{Event}
 
 pub record RemembersHold (m : HoldMemory) (n : CallerNo) (c : ℕ) (past : List Event) : Type 0 where
@@ -19,7 +19,7 @@ pub record RemembersHold (m : HoldMemory) (n : CallerNo) (c : ℕ) (past : List 
 pub record RemembersNote (m : NoteMemory) (n : CallerNo) (c s : ℕ) (past : List Event) : Type 0 where
   pub found_at : m.found_at ≡ latest n (λ act. is_some (noted_found c s act)) past
   pub key : 0 < m.found_at → last (noted_found c s) (mine n past) ≡ Some m.key
-  pub noted : m.noted ≡ latest n (notes c s) past
+  pub noted : m.noted ≡ latest n (notes_key c s) past
 
 abbrev pub own_of : Claim → OwnClaim
 own_of claim = record { channel = claim.channel; serial = claim.serial }

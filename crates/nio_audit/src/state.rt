@@ -49,13 +49,13 @@ pub(crate) struct StateTables {
     drawn: Row<bool>,
     interrupted: Row<bool>,
     selector: Row<bool>,
-    channels_mark: u32,
+    channels_high: u32,
     chan: Row<Chan>,
     hold: Row<Option<CallerNo>>,
     noted: Grid<Option<KeyId>>,
     gate: Row<GateWord>,
     turn: Row<Option<CallerNo>>,
-    keys_mark: Row<u32>,
+    keys_high: Row<u32>,
     key: Grid<Stage>,
     interest: Grid<Ops>,
     mark: Grid<Mark>,
@@ -81,13 +81,13 @@ impl StateTables {
             drawn: Row::new(alloc, false),
             interrupted: Row::new(alloc, false),
             selector: Row::new(alloc, false),
-            channels_mark: 0,
+            channels_high: 0,
             chan: Row::new(alloc, UNMADE),
             hold: Row::new(alloc, None),
             noted: Grid::new(alloc, None),
             gate: Row::new(alloc, OPEN_GATE),
             turn: Row::new(alloc, None),
-            keys_mark: Row::new(alloc, 0),
+            keys_high: Row::new(alloc, 0),
             key: Grid::new(alloc, UNCLAIMED),
             interest: Grid::new(alloc, Ops::NONE),
             mark: Grid::new(alloc, UNMARKED),
@@ -145,8 +145,8 @@ impl StateTables {
             Act::MakeChannel(chan, kind, found) => self.make_channel(chan, kind, found),
             Act::Claim(sel, index, chan, found) => self.claim(me, sel, index, chan, found),
             Act::RaiseKeys(sel, n, _) => {
-                let mark = self.keys_mark.get(sel.0);
-                self.keys_mark.set(sel.0, mark.max(n))
+                let mark = self.keys_high.get(sel.0);
+                self.keys_high.set(sel.0, mark.max(n))
             }
             Act::Publish(sel, index, _) => {
                 let key = self.key.get(sel.0, index);
@@ -202,7 +202,7 @@ impl StateTables {
                 )
             }
             Act::RaiseChannels(n, _) => {
-                self.channels_mark = self.channels_mark.max(n);
+                self.channels_high = self.channels_high.max(n);
                 Ok(())
             }
             Act::TryHoldBit(chan, found) => self.hold.set(chan.0, taken_by(me, found)),

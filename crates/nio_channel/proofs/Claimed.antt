@@ -1,7 +1,7 @@
 -- Indexes that are claimed, and the caller's claim of one.
-use Rattle.std.proofs.Common.{◌≡◌, ℕ, suc, ◌+◌, ◌<◌, ◌≤◌, Bool, true, false, ◌&&◌, if◌then◌else◌, [], ◌∷◌, ◌++◌, refl, ap, sym, ◌∙◌, subst, below_more, Some, None, List, add-one, eq-eqb}
+use Rattle.std.proofs.Common.{◌≡◌, ℕ, suc, ◌+◌, ◌<◌, ◌≤◌, Bool, true, false, if◌then◌else◌, [], ◌∷◌, ◌++◌, refl, ap, sym, ◌∙◌, subst, below_more, Some, None, List, add-one, eq-eqb}
 use Rattle.std.specs.Option.{option_or}
-use Rattle.std.proofs.lemmas.Bool.{and_parts, ltb-true}
+use Rattle.std.proofs.lemmas.Bool.{ltb-true}
 use Rattle.nio_base.specs.declared.numbers.CallerNo.{CallerNo}
 use Rattle.nio_base.specs.declared.numbers.ChanNo.{ChanNo}
 use Rattle.nio_base.specs.declared.numbers.KeyId.{KeyId}
@@ -16,8 +16,8 @@ use Rattle.nio_event.proofs.Within.{legal-within}
 use Rattle.nio_event.specs.Acts.{new_key}
 use Rattle.nio_event.specs.Conditions.{IsKey, AllClaimed, is_claimed, is_held_by, has_taken}
 use Rattle.nio_event.specs.Histories.{state_after}
-use Rattle.nio_event.specs.Lasting.{index_claimed}
-use Rattle.nio_event.specs.OwnEvents.{OwnClaim, last, takes_free, since_taken, stage_found, own_claim, is_unpublished}
+use Rattle.nio_event.specs.Permanent.{index_claimed}
+use Rattle.nio_event.specs.OwnEvents.{last, takes_free, since_taken, stage_found, own_claim, is_unpublished}
 use Rattle.nio_event.specs.PassViews.{PassView, Holds, known, ActsClause, HasNoPin}
 use Rattle.nio_event.specs.Sets.{can_come_back}
 use Rattle.nio_event.specs.State.{State, last_serial}
@@ -27,7 +27,7 @@ use Rattle.nio_event.specs.declared.found.Stage.{Stage}
 use Rattle.nio_words.proofs.Pins.{changes_pins, stays_pinned, only_claimed, only_claimed_again}
 use Rattle.nio_words.proofs.Stepping.{still_ready}
 use Rattle.nio_words.proofs.Views.{finds_drawn, step_acts, look_tells}
-use Rattle.nio_words.specs.Passes.{IsReady, acts_seen, limits_of, seen, state_seen}
+use Rattle.nio_words.specs.Passes.{IsReady, acts_seen, limits_of}
 use Rattle.nio_words.specs.Steps.{Steps}
 use Rattle.nio_words.specs.Views.{view}
 use Rattle.nio_words.specs.declared.words.Pass.{Pass}
@@ -63,14 +63,14 @@ all_claimed_more {s = s} {i = i} clause here = below_more _ _ (all_claimed_after
 -- every index below the mark that was found is claimed
 pub all_claimed_below : {me : CallerNo} {s : SelNo} {mark : ℕ} {v0 v1 : PassView} → ActsClause me (LookKeys s mark ∷ []) v0 v1 → AllClaimed (known v1) s mark
 all_claimed_below {s = s} {mark = mark} {v0 = v0} {v1 = v1} clause i below =
-    let told : mark ≡ (known v1).keys_mark s.0 = cc (look_tells clause refl) in
+    let told : mark ≡ (known v1).keys_high s.0 = cc (look_tells clause refl) in
     (legal-sound v0.limits v1.seen clause.history.legal).keys_below s.0 i (subst (λ n. i < n) told below)
 
 -- the mark is within the limits
 pub mark_inside : {me : CallerNo} {s : SelNo} {mark : ℕ} {v0 v1 : PassView} → ActsClause me (LookKeys s mark ∷ []) v0 v1 → mark ≤ v0.limits.keys
 mark_inside {s = s} {mark = mark} {v0 = v0} {v1 = v1} clause =
-    let told : mark ≡ (known v1).keys_mark s.0 = cc (look_tells clause refl) in
-    subst (λ n. n ≤ v0.limits.keys) (sym told) ((legal-within v0.limits v1.seen clause.history.legal).keys_mark s.0)
+    let told : mark ≡ (known v1).keys_high s.0 = cc (look_tells clause refl) in
+    subst (λ n. n ≤ v0.limits.keys) (sym told) ((legal-within v0.limits v1.seen clause.history.legal).keys_high s.0)
 
 -- ---- a taken index
 

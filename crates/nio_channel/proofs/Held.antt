@@ -1,5 +1,5 @@
 -- What stands under the hold of a channel after one step more.
-use Rattle.std.proofs.Common.{◌≡◌, ℕ, ◌<◌, ◌==◌, Bool, true, false, ◌&&◌, ◌||◌, Option, Some, None, List, [], ◌∷◌, ◌++◌, refl, ap, sym, ◌∙◌, subst, below_more, arith, ◌+◌, not, eq-eqb, if◌then◌else◌}
+use Rattle.std.proofs.Common.{◌≡◌, ℕ, ◌==◌, Bool, true, false, ◌&&◌, ◌||◌, Option, Some, None, [], ◌∷◌, ◌++◌, refl, ap, sym, ◌∙◌, subst, below_more, arith, ◌+◌, not, eq-eqb, if◌then◌else◌}
 use Rattle.std.specs.Prelude.{nat_lt, IfSome, IsTrue}
 use Rattle.std.proofs.lemmas.Bool.{and_parts, and_from, or_right, ne_eqb}
 use Rattle.nio_base.specs.declared.numbers.CallerNo.{CallerNo}
@@ -15,7 +15,7 @@ use Rattle.nio_event.proofs.Within.{legal-within}
 use Rattle.nio_event.specs.Conditions.{IsChannel, IsSelector, IsKey, is_held_by, holds, is_claimed}
 use Rattle.nio_event.specs.Found.{finds}
 use Rattle.nio_event.specs.Histories.{state_after}
-use Rattle.nio_event.specs.Lasting.{OwnFact, the_hold, is_had_by, gives_back, channel_closed, key_published}
+use Rattle.nio_event.specs.Permanent.{OwnFact, the_hold, is_had_by, gives_back, channel_closed, key_published}
 use Rattle.nio_event.specs.OwnEvents.{has, last, under, takes_hold, releases, finds_unblocked, noted_found, is_clear}
 use Rattle.nio_event.specs.PassViews.{PassView, Holds as HoldsNumber, known, ActsClause, HasKey}
 use Rattle.nio_event.specs.Sets.{fits, in_key_set, is_valid, was_published, is_in_key_set, is_valid_key}

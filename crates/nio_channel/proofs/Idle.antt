@@ -1,5 +1,5 @@
 -- For the tests: what two callers have between their calls stays.
-use Rattle.std.proofs.Common.{◌≡◌, ◌≢◌, ℕ, ◌==◌, true, false, Bool, not, ◌&&◌, ◌||◌, Option, None, List, [], ◌∷◌, ◌++◌, refl, ap, sym, ◌∙◌, subst, eqb-true, eq-eqb, arith}
+use Rattle.std.proofs.Common.{◌≡◌, ◌≢◌, ℕ, true, false, Bool, not, ◌&&◌, ◌||◌, Option, None, List, ◌++◌, refl, ap, sym, ◌∙◌, eqb-true, eq-eqb, arith}
 use Rattle.std.specs.Int.{bit_at}
 use Rattle.std.proofs.lemmas.Bool.{and_parts, and_from, or_left, or_right}
 use Rattle.nio_base.specs.declared.numbers.CallerNo.{CallerNo}
@@ -11,9 +11,9 @@ use Rattle.nio_event.proofs.PassViews.{selector_after}
 use Rattle.nio_event.proofs.Put.{put-same, put_at-same}
 use Rattle.nio_event.proofs.Stays.{beginnings_are_legal}
 use Rattle.nio_event.specs.Acts.{taken_by, frees_index}
-use Rattle.nio_event.specs.Conditions.{IsSelector, is_made, is_held_by, has_pin, has_turn, has_begun, has_taken, may_sweep, may_clear_out, may_put_due}
+use Rattle.nio_event.specs.Conditions.{IsSelector, is_made, is_held_by, has_pin, has_turn, has_begun, has_taken, may_remove_cancelled, may_clear_out, may_put_due}
 use Rattle.nio_event.specs.Histories.{state_after}
-use Rattle.nio_event.specs.Lasting.{the_turn, a_selection}
+use Rattle.nio_event.specs.Permanent.{the_turn, a_selection}
 use Rattle.nio_event.specs.OwnEvents.{keeps_pin}
 use Rattle.nio_event.specs.PassViews.{PassView, Holds as HoldsNumber, known, ActsClause, HasNoPin, HasSelector, HasChannel}
 use Rattle.nio_event.specs.Sets.{in_cancelled_set}
@@ -165,10 +165,10 @@ begun_now {w = w} {p = p} {q = q} {me = me} {s = s} {gate = gate} steps unshut p
 
 -- a key that was just found in the cancelled set may be removed
 pub may_remove_found : {w : Words} {p q : Pass} {me : CallerNo} {s : SelNo} {i : ℕ} {stage : Stage} → Steps w p q me (LookKey s i stage) → IsPassOf w p → has_begun (state_seen p) me s ≡ true
-    → in_cancelled_set stage ≡ true → (may_sweep (state_seen q) me s i || may_clear_out (state_seen q) (acts_seen q me) me s i) ≡ true
+    → in_cancelled_set stage ≡ true → (may_remove_cancelled (state_seen q) me s i || may_clear_out (state_seen q) (acts_seen q me) me s i) ≡ true
 may_remove_found {w = w} {q = q} {me = me} {s = s} {i = i} {stage = stage} steps pass begun inside =
     let told : stage ≡ (state_seen q).key s.0 i = cc (look_tells (step_acts steps refl) refl) in
-    or_left (may_sweep (state_seen q) me s i) (may_clear_out (state_seen q) (acts_seen q me) me s i)
+    or_left (may_remove_cancelled (state_seen q) me s i) (may_clear_out (state_seen q) (acts_seen q me) me s i)
     (and_from (has_begun (state_seen q) me s) (in_cancelled_set ((state_seen q).key s.0 i)) (had_stays (a_selection s) steps refl refl pass begun) (ap in_cancelled_set (sym told) ∙ inside))
 
 -- the index of a key that was just removed may be put

@@ -10,7 +10,7 @@ use Rattle.nio_event.proofs.Stays.{facts_are_permanent}
 use Rattle.nio_event.specs.Acts.{new_channel}
 use Rattle.nio_event.specs.Conditions.{AllMade}
 use Rattle.nio_event.specs.Histories.{state_after}
-use Rattle.nio_event.specs.Lasting.{LastingFact, stands, channel_made}
+use Rattle.nio_event.specs.Permanent.{PermanentFact, stands, channel_made}
 use Rattle.nio_event.specs.PassViews.{PassView, Holds, known, ActsClause}
 use Rattle.nio_event.specs.State.{State}
 use Rattle.nio_event.specs.declared.act.Act.{Act}
@@ -19,7 +19,7 @@ use Rattle.nio_event.specs.declared.found.Chan.{Chan}
 use Rattle.nio_words.proofs.Views.{look_tells}
 
 -- what is permanent stands after the acts of a call
-pub lasts_over : {me : CallerNo} {acts : List Act} {v0 v1 : PassView} (f : LastingFact) → ActsClause me acts v0 v1 → stands f (known v0) ≡ true → stands f (known v1) ≡ true
+pub lasts_over : {me : CallerNo} {acts : List Act} {v0 v1 : PassView} (f : PermanentFact) → ActsClause me acts v0 v1 → stands f (known v0) ≡ true → stands f (known v1) ≡ true
 lasts_over {v0 = v0} {v1 = v1} f clause here = facts_are_permanent v0.limits v0.seen v1.seen clause.history.goes_on clause.history.legal f here
 
 all_made_after : {me : CallerNo} {acts : List Act} {v0 v1 : PassView} {n : ℕ} → ActsClause me acts v0 v1 → AllMade (known v0) n → AllMade (known v1) n
@@ -46,7 +46,7 @@ all_made_more clause here = below_more _ _ (all_made_after clause here) (made_no
 -- every channel below the mark that was found is made
 pub all_made_below : {me : CallerNo} {mark : ℕ} {v0 v1 : PassView} → ActsClause me (LookChannels mark ∷ []) v0 v1 → AllMade (known v1) mark
 all_made_below {mark = mark} {v0 = v0} {v1 = v1} clause c below =
-    let told : mark ≡ (known v1).channels_mark = cc (look_tells clause refl) in
+    let told : mark ≡ (known v1).channels_high = cc (look_tells clause refl) in
     (legal-sound v0.limits v1.seen clause.history.legal).channels_below c (subst (λ n. c < n) told below)
 
 -- a channel that was just closed is closed

@@ -1,5 +1,5 @@
 -- What the caller's own acts under a hold tell after one act more.
-use Rattle.std.proofs.Common.{◌≡◌, ℕ, ◌==◌, Bool, true, false, not, ◌&&◌, ◌||◌, if◌then◌else◌, Option, Some, None, List, [], ◌∷◌, ◌++◌, refl, ap, sym, ◌∙◌}
+use Rattle.std.proofs.Common.{◌≡◌, ℕ, ◌==◌, Bool, true, false, not, ◌&&◌, ◌||◌, if◌then◌else◌, Option, Some, None, List, [], ◌∷◌, ◌++◌, refl, ap, ◌∙◌}
 use Rattle.std.specs.Option.{option_or}
 use Rattle.std.proofs.lemmas.Bool.{or_left, or_right, or_from}
 use Rattle.nio_base.specs.declared.numbers.ChanNo.{ChanNo}
@@ -9,8 +9,8 @@ use Rattle.nio_event.proofs.Claims.{claim_after, own_claim-more}
 use Rattle.nio_event.proofs.LastsAlone.{same_two}
 use Rattle.nio_event.proofs.OneMore.{has-more, last-more, since_from-more}
 use Rattle.nio_event.specs.Found.{finds}
-use Rattle.nio_event.specs.Lasting.{channel_closed}
-use Rattle.nio_event.specs.OwnEvents.{OwnClaim, is_yes, has, last, under, takes_hold, releases, finds_outside, is_outside, stage_found, noted_found, notes, publishes, since_noted, claim_changed, own_claim, leaves_unpublished, is_unpublished, is_clear, is_clear_by}
+use Rattle.nio_event.specs.Permanent.{channel_closed}
+use Rattle.nio_event.specs.OwnEvents.{OwnClaim, is_yes, has, last, under, takes_hold, releases, finds_outside, is_outside, noted_found, notes_key, publishes, since_key_noted, claim_changed, own_claim, leaves_unpublished, is_unpublished, is_clear, is_clear_by}
 use Rattle.nio_event.specs.Sets.{is_in_key_set}
 use Rattle.nio_event.specs.declared.act.Act.{Act}
 use Rattle.nio_event.specs.declared.act.Act.TheVariants.{LookChannel, Claim, Publish, LookReg, Enrol, TryHoldBit, Release, SetMode, Pin, Unpin, ClaimAgain, LookKey}
@@ -46,7 +46,7 @@ quiet_tells c s (LookReg c' s' found) quiet = absurd cc
 quiet_tells c s (Enrol c' s' i serial found) quiet = absurd cc
 quiet_tells c s act quiet = refl
 
-quiet_opens : (c s i : ℕ) (act : Act) → is_quiet act ≡ true → (notes c s act || publishes s i act) ≡ false
+quiet_opens : (c s i : ℕ) (act : Act) → is_quiet act ≡ true → (notes_key c s act || publishes s i act) ≡ false
 quiet_opens c s i (Publish s' i' found) quiet = absurd cc
 quiet_opens c s i (Enrol c' s' i' serial found) quiet = absurd cc
 quiet_opens c s i act quiet = refl
@@ -101,7 +101,7 @@ told_enrol c s k before own =
 
 -- an act that takes no hold, tells nothing of the key that is noted there, and neither notes nor publishes
 clear_longer : (c s : ℕ) (own : List Act) (act : Act) → takes_hold c act ≡ false → noted_found c s act ≡ None
-    → ((i : ℕ) → (notes c s act || publishes s i act) ≡ false) → is_clear c s own ≡ true → is_clear c s (own ++ act ∷ []) ≡ true
+    → ((i : ℕ) → (notes_key c s act || publishes s i act) ≡ false) → is_clear c s own ≡ true → is_clear c s (own ++ act ∷ []) ≡ true
 clear_longer c s own act keeps silent spares clear =
     ap (λ held. is_clear_by c s held (last (noted_found c s) held)) (under-more c own act keeps)
     ∙ (ap (is_clear_by c s (under c own ++ act ∷ [])) (last-more (noted_found c s) (under c own) act
@@ -112,9 +112,9 @@ clear_longer c s own act keeps silent spares clear =
     by_told None clear' = absurd cc
     by_told (Some None) clear' = refl
     by_told (Some (Some k)) clear' =
-        ap (has (finds_outside s k)) (since_from-more (λ a. notes c s a || publishes s k.index a) (under c own) act
-        ∙ ap (λ b. if b then [] else since_noted c s k.index (under c own) ++ act ∷ []) (spares k.index))
-        ∙ has_longer (finds_outside s k) (since_noted c s k.index (under c own)) act clear'
+        ap (has (finds_outside s k)) (since_from-more (λ a. notes_key c s a || publishes s k.index a) (under c own) act
+        ∙ ap (λ b. if b then [] else since_key_noted c s k.index (under c own) ++ act ∷ []) (spares k.index))
+        ∙ has_longer (finds_outside s k) (since_key_noted c s k.index (under c own)) act clear'
 
 pub clear_quiet : (c s : ℕ) (own : List Act) (act : Act) → is_quiet act ≡ true → is_clear c s own ≡ true → is_clear c s (own ++ act ∷ []) ≡ true
 clear_quiet c s own act quiet = clear_longer c s own act (quiet_holds c act quiet) (quiet_tells c s act quiet) (λ i. quiet_opens c s i act quiet)
@@ -138,11 +138,11 @@ clear_found : (c s : ℕ) (k : KeyId) (act : Act) (own : List Act) → is_quiet 
     → last (noted_found c s) (under c own) ≡ Some (Some k) → is_clear c s (own ++ act ∷ []) ≡ true
 clear_found c s k act own quiet found told =
     ap (is_clear_by c s (under c (own ++ act ∷ []))) (told_quiet c s own act quiet ∙ told)
-    ∙ (ap (λ held. has (finds_outside s k) (since_noted c s k.index held)) (under-more c own act (quiet_holds c act quiet))
-    ∙ (ap (has (finds_outside s k)) (since_from-more (λ a. notes c s a || publishes s k.index a) (under c own) act
-    ∙ ap (λ b. if b then [] else since_noted c s k.index (under c own) ++ act ∷ []) (quiet_opens c s k.index act quiet))
-    ∙ (has-more (finds_outside s k) (since_noted c s k.index (under c own)) act
-    ∙ or_right (has (finds_outside s k) (since_noted c s k.index (under c own))) (finds_outside s k act) found)))
+    ∙ (ap (λ held. has (finds_outside s k) (since_key_noted c s k.index held)) (under-more c own act (quiet_holds c act quiet))
+    ∙ (ap (has (finds_outside s k)) (since_from-more (λ a. notes_key c s a || publishes s k.index a) (under c own) act
+    ∙ ap (λ b. if b then [] else since_key_noted c s k.index (under c own) ++ act ∷ []) (quiet_opens c s k.index act quiet))
+    ∙ (has-more (finds_outside s k) (since_key_noted c s k.index (under c own)) act
+    ∙ or_right (has (finds_outside s k) (since_key_noted c s k.index (under c own))) (finds_outside s k act) found)))
 
 pub clear_looked : (c : ℕ) (s : SelNo) (k : KeyId) (stage : Stage) (own : List Act) → is_in_key_set stage k.serial ≡ false
     → last (noted_found c s.0) (under c own) ≡ Some (Some k) → is_clear c s.0 (own ++ LookKey s k.index stage ∷ []) ≡ true

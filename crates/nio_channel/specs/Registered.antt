@@ -5,7 +5,7 @@ use Rattle.nio_base.specs.declared.numbers.ChanNo.{ChanNo}
 use Rattle.nio_base.specs.declared.numbers.KeyNo.{KeyNo}
 use Rattle.nio_event.specs.Found.{finds}
 use Rattle.nio_event.specs.Histories.{mine}
-use Rattle.nio_event.specs.Lasting.{channel_closed}
+use Rattle.nio_event.specs.Permanent.{channel_closed}
 use Rattle.nio_event.specs.OwnEvents.{has, under}
 use Rattle.nio_event.specs.PassViews.{PassView, known}
 use Rattle.nio_event.specs.Sets.{was_cancelled}

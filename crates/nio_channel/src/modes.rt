@@ -2,7 +2,7 @@
 ghost use Rattle.std.specs.Prelude.{◌≡◌, if◌then◌else◌, None, IsTrue};
 ghost use Rattle.nio_event.specs.PassViews.{HasChannel};
 ghost use Rattle.nio_steps.specs.Calls.{CallClause};
-ghost use Rattle.nio_steps.specs.ChannelCalls.{first_key as finds_first_key, key_where_blocking, set_mode_clear as sets_mode_clear, set_mode_open as sets_mode_open, set_mode_held as sets_mode_held, set_blocking_plan};
+ghost use Rattle.nio_steps.specs.ChannelCalls.{first_key as finds_first_key, key_where_blocking, set_mode_clear as sets_mode_clear, set_mode_open as sets_mode_open, set_mode_held as sets_mode_held, try_set_blocking_plan};
 ghost use Rattle.nio_steps.specs.Runs.{Completes};
 ghost use Rattle.nio_words.specs.Passes.{IsReady, limits_of};
 ghost use Rattle.nio_words.specs.Views.{view};
@@ -15,7 +15,7 @@ use nio_words::{Pass, Words};
 
 /// Sets whether the channel is in blocking mode: Java's `configureBlocking`. A channel that is registered
 /// stays non-blocking: `IllegalBlockingMode`. `Busy` where another caller has the hold of the channel.
-#[tactic(auto, unfolding(nio_steps::specs::ChannelCalls::set_blocking_plan))]
+#[tactic(auto, unfolding(nio_steps::specs::ChannelCalls::try_set_blocking_plan))]
 pub fn try_set_blocking(
     w: &Words,
     p: &mut Pass,
@@ -25,7 +25,7 @@ pub fn try_set_blocking(
 ) -> Result<(), ChannelError>
     requires ready { IsReady w.now p.old me }
     requires channel { HasChannel (view w.now p.old) chan }
-    ensures call { CallClause me (Completes (set_blocking_plan (limits_of w.now) chan on)) (view w.now p.old) (view w.now p.new) result }
+    ensures call { CallClause me (Completes (try_set_blocking_plan (limits_of w.now) chan on)) (view w.now p.old) (view w.now p.new) result }
     ensures ready { IsReady w.now p.new me }
 {
     if w.look_channel(p, me, chan).closed {

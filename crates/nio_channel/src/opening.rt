@@ -3,7 +3,7 @@ ghost use Rattle.std.specs.Prelude.{◌≡◌, ◌+◌, IsTrue, IfOk, IfSome};
 ghost use Rattle.nio_event.specs.Conditions.{AllMade, IsChannel, is_made};
 ghost use Rattle.nio_event.specs.PassViews.{HasChannel};
 ghost use Rattle.nio_steps.specs.Calls.{CallClause};
-ghost use Rattle.nio_steps.specs.ChannelCalls.{makes_channel, opened, open_channel_plan};
+ghost use Rattle.nio_steps.specs.ChannelCalls.{makes_channel, opened_channel, open_channel_plan};
 ghost use Rattle.nio_steps.specs.Names.{channel};
 ghost use Rattle.nio_steps.specs.Runs.{Completes};
 ghost use Rattle.nio_steps.specs.Sweeps.{seek_to};
@@ -74,7 +74,7 @@ fn raise_mark(
     requires ready { IsReady w.now p.old me }
     requires inside { IfSome made (IsChannel (limits_of w.now)) }
     requires lower { IfSome made (λ chan. AllMade (state_seen p.old) (chan.0 + 1)) }
-    ensures call { CallClause me (Completes (opened made)) (view w.now p.old) (view w.now p.new) result }
+    ensures call { CallClause me (Completes (opened_channel made)) (view w.now p.old) (view w.now p.new) result }
     ensures ready { IsReady w.now p.new me }
     ensures made { IfOk result (HasChannel (view w.now p.new)) }
 {

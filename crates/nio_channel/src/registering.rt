@@ -5,7 +5,7 @@ ghost use Rattle.nio_event.specs.OwnEvents.{last, noted_found, under};
 ghost use Rattle.nio_event.specs.PassViews.{HasChannel, HasKey, HasNoPin, HasSelector};
 ghost use Rattle.nio_event.specs.Sets.{is_in_key_set as is_in_set};
 ghost use Rattle.nio_steps.specs.Calls.{CallClause};
-ghost use Rattle.nio_steps.specs.ChannelCalls.{update_key as updates_key, register_noted as registers_noted, register_unnoted as registers_unnoted, register_over as registers_over, settle_key as settles_key, publish_key as publishes_key, make_key as makes_key, make_claimed as makes_claimed, register_first as registers_first, register_again as registers_again, register_next as registers_next, register_new as registers_new, register_rest as registers_rest, register_unblocked as registers_unblocked, register_held as registers_held, register_plan};
+ghost use Rattle.nio_steps.specs.ChannelCalls.{update_key as updates_key, register_noted as registers_noted, register_unnoted as registers_unnoted, register_over as registers_over, settle_key as settles_key, publish_key as publishes_key, make_key as makes_key, make_claimed as makes_claimed, register_first as registers_first, register_again as registers_again, register_next as registers_next, register_new as registers_new, register_rest as registers_rest, register_unblocked as registers_unblocked, register_held as registers_held, try_register_plan};
 ghost use Rattle.nio_steps.specs.Names.{key};
 ghost use Rattle.nio_steps.specs.Runs.{Completes};
 ghost use Rattle.nio_words.specs.Passes.{IsReady, acts_seen, limits_of, state_seen};
@@ -35,7 +35,7 @@ struct Wanted {
 ///
 /// `Busy` where another caller has the hold of the channel. A new key is published also where the channel is
 /// closed meanwhile; then it is cancelled before it is answered.
-#[tactic(auto, unfolding(nio_steps::specs::ChannelCalls::register_plan))]
+#[tactic(auto, unfolding(nio_steps::specs::ChannelCalls::try_register_plan))]
 pub fn try_register(
     w: &Words,
     p: &mut Pass,
@@ -49,7 +49,7 @@ pub fn try_register(
     requires selector { HasSelector (view w.now p.old) sel }
     requires channel { HasChannel (view w.now p.old) chan }
     requires unpinned { HasNoPin (view w.now p.old) me }
-    ensures call { CallClause me (Completes (register_plan (limits_of w.now) sel chan ops att)) (view w.now p.old) (view w.now p.new) result }
+    ensures call { CallClause me (Completes (try_register_plan (limits_of w.now) sel chan ops att)) (view w.now p.old) (view w.now p.new) result }
     ensures ready { IsReady w.now p.new me }
     ensures in_selector { IfOk result (λ k. k.sel ≡ sel) }
     ensures key { IfOk result (HasKey (view w.now p.new)) }

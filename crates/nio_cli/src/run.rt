@@ -12,7 +12,7 @@ use crate::words::{Command, command_of};
 use nio_base::Limits;
 use nio_bytes::{Sink, Source};
 use nio_plain::{Rules, System};
-use nio_script::{Status, note, run_check, run_script};
+use nio_script::{Status, offer, run_check, run_script};
 use std::alloc::Global;
 
 /// How much a system of the program can hold.
@@ -77,7 +77,7 @@ pub fn run<S: Source, K: Sink, Y: System>(
         Some(Command::Check) => run_check(alloc, input, output, PROGRAM_LIMITS, Rules::Now),
         Some(Command::CheckFirst) => run_check(alloc, input, output, PROGRAM_LIMITS, Rules::First),
         None => {
-            note(output, USAGE.as_bytes());
+            offer(output, USAGE.as_bytes());
             Status::Usage
         }
     }

@@ -11,15 +11,15 @@ use Rattle.nio_base.specs.declared.numbers.CallerNo.{CallerNo}
 use Rattle.nio_event.proofs.Bits.{bits_below-at, bits_below-above}
 use Rattle.nio_event.proofs.Clauses.{last_of-later}
 use Rattle.nio_event.proofs.LastsAlone.{none_further}
-use Rattle.nio_event.proofs.LastsOnceSound.{lasting_stands}
+use Rattle.nio_event.proofs.LastsOnceSound.{permanent_stands}
 use Rattle.nio_event.proofs.Legal.{not_empty, legal_next, legal_more, legal_induction}
 use Rattle.nio_event.proofs.OneMore.{state_after-more, mine-own, mine-other, has-more}
 use Rattle.nio_event.proofs.Told.{either}
 use Rattle.nio_event.specs.Acts.{effect}
 use Rattle.nio_event.specs.Answers.{Answers, bits_below}
-use Rattle.nio_event.specs.Found.{Leaves, StepsLeave, is_look, LooksTell, gate_tells, channel_tells, stage_tells, selectors_tell, keys_mark_tells, channels_mark_tells, finds, FoundStands}
+use Rattle.nio_event.specs.Found.{Leaves, StepsLeave, is_look, LooksTell, gate_tells, channel_tells, stage_tells, selectors_tell, keys_high_tells, channels_high_tells, finds, FoundStands}
 use Rattle.nio_event.specs.Histories.{state_after, event_of, last_of, is_by, mine, IsStep, IsLegal, HistoryClause}
-use Rattle.nio_event.specs.Lasting.{LastingFact, selector_made, selector_shut, channel_made, channel_closed, index_claimed, key_claimed, key_published, key_cancelled, key_removed, below_keys_mark, below_channels_mark, stands}
+use Rattle.nio_event.specs.Permanent.{PermanentFact, selector_made, selector_shut, channel_made, channel_closed, index_claimed, key_claimed, key_published, key_cancelled, key_removed, below_keys_high, below_channels_high, stands}
 use Rattle.nio_event.specs.OwnEvents.{has}
 use Rattle.nio_event.specs.Sets.{was_claimed, was_published, was_cancelled, was_removed}
 use Rattle.nio_event.specs.State.{State}
@@ -127,16 +127,16 @@ found_at_two f P k j s i found told is =
     let second : j ≡ i = eqb-true j i both.1 in
     subst (λ (m : ℕ). P (f m i) ≡ true) first (subst (λ (m : ℕ). P (f k m) ≡ true) second (subst (λ x. P x ≡ true) is parts.1))
 
-gate_stands : (st : State) (s : ℕ) (found : GateWord) (f : LastingFact) → found ≡ st.gate s → gate_tells s found f ≡ true → stands f st ≡ true
+gate_stands : (st : State) (s : ℕ) (found : GateWord) (f : PermanentFact) → found ≡ st.gate s → gate_tells s found f ≡ true → stands f st ≡ true
 gate_stands st s found (selector_shut s') is told = found_at st.gate (λ g. g.shut) s s' found told is
 gate_stands st s found f is told = absurd (cc told)
 
-channel_stands : (st : State) (c : ℕ) (found : Chan) (f : LastingFact) → found ≡ st.chan c → channel_tells c found f ≡ true → stands f st ≡ true
+channel_stands : (st : State) (c : ℕ) (found : Chan) (f : PermanentFact) → found ≡ st.chan c → channel_tells c found f ≡ true → stands f st ≡ true
 channel_stands st c found (channel_made c') is told = found_at st.chan (λ x. x.made) c c' found told is
 channel_stands st c found (channel_closed c') is told = found_at st.chan (λ x. x.closed) c c' found told is
 channel_stands st c found f is told = absurd (cc told)
 
-stage_stands : (st : State) (s i : ℕ) (found : Stage) (f : LastingFact) → found ≡ st.key s i → stage_tells s i found f ≡ true → stands f st ≡ true
+stage_stands : (st : State) (s i : ℕ) (found : Stage) (f : PermanentFact) → found ≡ st.key s i → stage_tells s i found f ≡ true → stands f st ≡ true
 stage_stands st s i found (index_claimed s' i') is told = found_at_two st.key (λ k. k.claimed) s i s' i' found told is
 stage_stands st s i found (key_claimed s' i' serial) is told = found_at_two st.key (λ k. was_claimed k serial) s i s' i' found told is
 stage_stands st s i found (key_published s' i' serial) is told = found_at_two st.key (λ k. was_published k serial) s i s' i' found told is
@@ -160,19 +160,19 @@ bit_found f s told = by_limit (nat_lt s 64) refl
         let clash : ◌≡◌ {A = ℕ} 0 1 = sym (bits_below-above 64 f s (ltb-false s 64 above)) ∙ one in
         absurd cc
 
-selectors_stand : (st : State) (found : ℕ) (f : LastingFact) → found ≡ bits_below 64 st.selector → selectors_tell found f ≡ true → stands f st ≡ true
+selectors_stand : (st : State) (found : ℕ) (f : PermanentFact) → found ≡ bits_below 64 st.selector → selectors_tell found f ≡ true → stands f st ≡ true
 selectors_stand st found (selector_made s) is told = bit_found st.selector s (subst (λ (n : ℕ). (bit_at n s == 1) ≡ true) is told)
 selectors_stand st found f is told = absurd (cc told)
 
-keys_mark_stands : (st : State) (s found : ℕ) (f : LastingFact) → found ≡ st.keys_mark s → keys_mark_tells s found f ≡ true → stands f st ≡ true
-keys_mark_stands st s found (below_keys_mark s' i) is told = found_at st.keys_mark (λ n. nat_lt i n) s s' found told is
-keys_mark_stands st s found f is told = absurd (cc told)
+keys_high_stands : (st : State) (s found : ℕ) (f : PermanentFact) → found ≡ st.keys_high s → keys_high_tells s found f ≡ true → stands f st ≡ true
+keys_high_stands st s found (below_keys_high s' i) is told = found_at st.keys_high (λ n. nat_lt i n) s s' found told is
+keys_high_stands st s found f is told = absurd (cc told)
 
-channels_mark_stands : (st : State) (found : ℕ) (f : LastingFact) → found ≡ st.channels_mark → channels_mark_tells found f ≡ true → stands f st ≡ true
-channels_mark_stands st found (below_channels_mark c) is told = subst (λ (n : ℕ). nat_lt c n ≡ true) is told
-channels_mark_stands st found f is told = absurd (cc told)
+channels_high_stands : (st : State) (found : ℕ) (f : PermanentFact) → found ≡ st.channels_high → channels_high_tells found f ≡ true → stands f st ≡ true
+channels_high_stands st found (below_channels_high c) is told = subst (λ (n : ℕ). nat_lt c n ≡ true) is told
+channels_high_stands st found f is told = absurd (cc told)
 
-step_finds : (st : State) (me : CallerNo) (act : Act) (f : LastingFact) → Answers st me act → finds act f ≡ true → stands f st ≡ true
+step_finds : (st : State) (me : CallerNo) (act : Act) (f : PermanentFact) → Answers st me act → finds act f ≡ true → stands f st ≡ true
 step_finds st me (LookSelectors found) f answers told = selectors_stand st found f (cc) told
 step_finds st me (LookGate s found) f answers told = gate_stands st s.0 found f (cc) told
 step_finds st me (BeginLook s found) f answers told = gate_stands st s.0 found f (cc) told
@@ -184,10 +184,10 @@ step_finds st me (Remove s i found) f answers told = stage_stands st s.0 i found
 step_finds st me (Pin s i found) f answers told = stage_stands st s.0 i found f (cc) told
 step_finds st me (LookChannel c found) f answers told = channel_stands st c.0 found f (cc) told
 step_finds st me (SetMode c blocking found) f answers told = channel_stands st c.0 found f (cc) told
-step_finds st me (LookKeys s found) f answers told = keys_mark_stands st s.0 found f (cc) told
-step_finds st me (RaiseKeys s n found) f answers told = keys_mark_stands st s.0 found f (cc) told
-step_finds st me (LookChannels found) f answers told = channels_mark_stands st found f (cc) told
-step_finds st me (RaiseChannels n found) f answers told = channels_mark_stands st found f (cc) told
+step_finds st me (LookKeys s found) f answers told = keys_high_stands st s.0 found f (cc) told
+step_finds st me (RaiseKeys s n found) f answers told = keys_high_stands st s.0 found f (cc) told
+step_finds st me (LookChannels found) f answers told = channels_high_stands st found f (cc) told
+step_finds st me (RaiseChannels n found) f answers told = channels_high_stands st found f (cc) told
 step_finds st me act f answers told = absurd (cc told)
 
 pub found_stands : FoundStands
@@ -195,7 +195,7 @@ found_stands l n events legal f = legal_induction l (λ evs. has (λ act. finds 
   where
     each : (past : List Event) (e : Event) → IsLegal l past → IsStep l past e → (has (λ act. finds act f) (mine n past) ≡ true → stands f (state_after past) ≡ true)
         → has (λ act. finds act f) (mine n (past ++ e ∷ [])) ≡ true → stands f (state_after (past ++ e ∷ [])) ≡ true
-    each past e legal' step before now = lasting_stands l past (e ∷ []) (legal_more l past e legal' step) f (by_test (is_by n e) refl)
+    each past e legal' step before now = permanent_stands l past (e ∷ []) (legal_more l past e legal' step) f (by_test (is_by n e) refl)
       where
         by_test : (b : Bool) → is_by n e ≡ b → stands f (state_after past) ≡ true
         by_test true by =

@@ -17,7 +17,7 @@ use Rattle.nio_event.specs.Answers.{Answers}
 use Rattle.nio_event.specs.Conditions.{Condition, is_held_by}
 use Rattle.nio_event.specs.Histories.{state_after, is_by, mine, IsStep, IsLegal}
 use Rattle.nio_event.specs.Holders.{Keeps}
-use Rattle.nio_event.specs.Lasting.{the_hold}
+use Rattle.nio_event.specs.Permanent.{the_hold}
 use Rattle.nio_event.specs.OwnEvents.{has, under, takes_hold, finds_unblocked, sets_mode, releases}
 use Rattle.nio_event.specs.Sound.{IsSound}
 use Rattle.nio_event.specs.State.{State, put}

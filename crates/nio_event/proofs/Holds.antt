@@ -21,8 +21,8 @@ use Rattle.nio_event.specs.Answers.{Answers}
 use Rattle.nio_event.specs.Conditions.{Condition, is_held_by, holds, may_publish}
 use Rattle.nio_event.specs.Histories.{state_after, mine, IsStep, IsLegal}
 use Rattle.nio_event.specs.Holders.{ModeStays, NotedStays, FoundNotedStays, OutsideStays, FoundClearStays, ClearIsTrue}
-use Rattle.nio_event.specs.Lasting.{the_hold}
-use Rattle.nio_event.specs.OwnEvents.{OwnClaim, has, last, under, own_claim, sets_mode, notes, publishes, stage_found, is_outside, finds_outside, finds_unblocked, noted_found, since_noted, is_clear_by}
+use Rattle.nio_event.specs.Permanent.{the_hold}
+use Rattle.nio_event.specs.OwnEvents.{OwnClaim, has, last, under, own_claim, sets_mode, notes_key, publishes, stage_found, is_outside, finds_outside, finds_unblocked, noted_found, since_key_noted, is_clear_by}
 use Rattle.nio_event.specs.Sets.{is_in_key_set}
 use Rattle.nio_event.specs.State.{State}
 use Rattle.nio_event.specs.declared.act.Act.{Act}
@@ -41,7 +41,7 @@ mode_stays l n c before later keeps spared =
 -- ---- which key is noted
 
 noted_kept : (l : Limits) (own : List Act) (st : State) (me n : CallerNo) (act : Act) (c s : ℕ) (o : Option KeyId) → Condition l own st me act
-    → is_held_by n (st.hold c) ≡ true → ((me.0 == n.0) && notes c s act) ≡ false → st.noted c s ≡ o → (effect st me act).noted c s ≡ o
+    → is_held_by n (st.hold c) ≡ true → ((me.0 == n.0) && notes_key c s act) ≡ false → st.noted c s ≡ o → (effect st me act).noted c s ≡ o
 noted_kept l own st me n (Enrol k s' i serial found) c s o may held spared = λ now.
     put_at_keeps (λ m t x. is_held_by n (st.hold m) ≡ true → ((me.0 == n.0) && ((k.0 == m) && (s'.0 == t))) ≡ false → x ≡ o) st.noted k.0 s'.0 _
     (λ _ held' spared'. absurd (spares_not me n ((k.0 == k.0) && (s'.0 == s'.0)) (one_holder me n (st.hold k.0) may.3 held') (same_two k.0 s'.0) spared'))
@@ -50,7 +50,7 @@ noted_kept l own st me n act c s o may held spared = λ now. now
 
 pub noted_stays : NotedStays
 noted_stays l n c before later keeps s spared =
-    stands_while l n (the_hold c) (notes c.0 s.0) (λ st. st.noted c.0 s.0 ≡ (state_after before).noted c.0 s.0)
+    stands_while l n (the_hold c) (notes_key c.0 s.0) (λ st. st.noted c.0 s.0 ≡ (state_after before).noted c.0 s.0)
     (λ past e legal step had spared'. noted_kept l (mine e.caller past) (state_after past) e.caller n e.act c.0 s.0 _ step.condition had spared')
     before later keeps spared refl
 
@@ -59,7 +59,7 @@ none_if true x e = absurd cc
 none_if false x e = refl
 
 -- what tells nothing of the noted key notes none
-not_noted : (c s : ℕ) (act : Act) → noted_found c s act ≡ None → notes c s act ≡ false
+not_noted : (c s : ℕ) (act : Act) → noted_found c s act ≡ None → notes_key c s act ≡ false
 not_noted c s (Enrol c' s' i serial found) untold = none_if ((c'.0 == c) && (s'.0 == s)) (Some (record { index = i; serial = serial })) untold
 not_noted c s act untold = refl
 
@@ -88,7 +88,7 @@ found_noted_stays l n c before later keeps s =
     knows_while l n (the_hold c) (λ _. false) (λ did st. (o : Option KeyId) → last (noted_found c.0 s.0) did ≡ Some o → st.noted c.0 s.0 ≡ o)
     (λ past e legal step had by _ did knew o told.
     own_step l (mine e.caller past) (state_after past) e.caller e.act step.condition step.answers had did knew o (noted_found c.0 s.0 e.act) refl (sym (last-more (noted_found c.0 s.0) did e.act) ∙ told))
-    (λ past e legal step had by did knew o told. noted_kept l (mine e.caller past) (state_after past) e.caller n e.act c.0 s.0 o step.condition had (ap (λ b. b && notes c.0 s.0 e.act) by) (knew o told))
+    (λ past e legal step had by did knew o told. noted_kept l (mine e.caller past) (state_after past) e.caller n e.act c.0 s.0 o step.condition had (ap (λ b. b && notes_key c.0 s.0 e.act) by) (knew o told))
     before later keeps (none_such (mine n later)) (λ o told. absurd cc)
   where
     own_step : (l : Limits) (own : List Act) (st : State) (me : CallerNo) (act : Act) → Condition l own st me act → Answers st me act → is_held_by n (st.hold c.0) ≡ true
@@ -187,10 +187,10 @@ found_clear_stays l n c before later fit keeps s clear = by_noted (last (noted_f
 
     -- what it did since it last noted a key there or published that of the index
     span : KeyId → List Act → List Act
-    span k did = since_noted c.0 s.0 k.index did
+    span k did = since_key_noted c.0 s.0 k.index did
 
     opens : KeyId → Act → Bool
-    opens k act = notes c.0 s.0 act || publishes s.0 k.index act
+    opens k act = notes_key c.0 s.0 act || publishes s.0 k.index act
 
     outside : (k : KeyId) → has (finds_outside s.0 k) (span k (mine n later)) ≡ true → IsOutsideFor c k.serial (after.key s.0 k.index)
     outside k = knows_while l n (the_hold c) (λ _. false) (λ did st. has (finds_outside s.0 k) (span k did) ≡ true → IsOutsideFor c k.serial (st.key s.0 k.index))
@@ -205,7 +205,7 @@ found_clear_stays l n c before later fit keeps s clear = by_noted (last (noted_f
             → IsOutsideFor c k.serial ((effect (state_after past) e.caller e.act).key s.0 k.index)
         own_step past e legal step had did knew true opened found = absurd cc
         own_step past e legal step had did knew false opened found =
-            let unpublished = (or_parts (notes c.0 s.0 e.act) (publishes s.0 k.index e.act) opened).1 in
+            let unpublished = (or_parts (notes_key c.0 s.0 e.act) (publishes s.0 k.index e.act) opened).1 in
             elim (either (has (finds_outside s.0 k) (span k did)) (finds_outside s.0 k e.act) (sym (has-more (finds_outside s.0 k) (span k did) e.act) ∙ found)) [
               | inl earlier ↦ outside_kept l past e n c s.0 k fit legal step had (ap (λ b. (e.caller.0 == n.0) && b) unpublished ∙ and_not (e.caller.0 == n.0)) (knew earlier)
               | inr now ↦ λ _. outside_told (state_after past) e.caller e.act s.0 k step.answers now

@@ -12,7 +12,7 @@ use Rattle.nio_event.proofs.Soundness.{legal-sound}
 use Rattle.nio_event.specs.Acts.{effect}
 use Rattle.nio_event.specs.Histories.{state_after, is_by, mine, IsStep, IsLegal}
 use Rattle.nio_event.specs.Holders.{Keeps}
-use Rattle.nio_event.specs.Lasting.{OwnFact, is_had_by, gives_back}
+use Rattle.nio_event.specs.Permanent.{OwnFact, is_had_by, gives_back}
 use Rattle.nio_event.specs.OwnEvents.{has}
 use Rattle.nio_event.specs.State.{State}
 use Rattle.nio_event.specs.declared.act.Act.{Act}

@@ -46,10 +46,10 @@ claimed_lasts st me (ClaimAgain s' i' c from true) s i h = put_at_keeps (λ _ _ 
 claimed_lasts st me (ClaimAgain s' i' c from false) s i h = put_at_keeps (λ _ _ k. k.claimed ≡ true) st.key s'.0 i' _ (λ _. refl) s i h
 claimed_lasts st me act s i h = h
 
-pub keys_mark_lasts : (st : State) (me : CallerNo) (act : Act) (s i : ℕ) → i < st.keys_mark s → i < (effect st me act).keys_mark s
-keys_mark_lasts st me (RaiseKeys k n found) s i h = put_keeps (λ _ m. i < m) st.keys_mark k.0 _ (λ e. omega arith) s h
-keys_mark_lasts st me act s i h = h
+pub keys_high_lasts : (st : State) (me : CallerNo) (act : Act) (s i : ℕ) → i < st.keys_high s → i < (effect st me act).keys_high s
+keys_high_lasts st me (RaiseKeys k n found) s i h = put_keeps (λ _ m. i < m) st.keys_high k.0 _ (λ e. omega arith) s h
+keys_high_lasts st me act s i h = h
 
-pub channels_mark_lasts : (st : State) (me : CallerNo) (act : Act) (c : ℕ) → c < st.channels_mark → c < (effect st me act).channels_mark
-channels_mark_lasts st me (RaiseChannels n found) c h = omega arith
-channels_mark_lasts st me act c h = h
+pub channels_high_lasts : (st : State) (me : CallerNo) (act : Act) (c : ℕ) → c < st.channels_high → c < (effect st me act).channels_high
+channels_high_lasts st me (RaiseChannels n found) c h = omega arith
+channels_high_lasts st me act c h = h

@@ -16,7 +16,7 @@ use Rattle.nio_event.specs.Acts.{effect, taken_by}
 use Rattle.nio_event.specs.Answers.{Answers}
 use Rattle.nio_event.specs.Conditions.{Condition, is_held_by, has_turn, has_begun, has_taken, may_put_due}
 use Rattle.nio_event.specs.Histories.{state_after, is_by, mine, IsStep, IsLegal}
-use Rattle.nio_event.specs.Lasting.{OwnFact, the_turn, a_selection, the_hold, a_pin, a_taken_index, is_had_by, gives_back}
+use Rattle.nio_event.specs.Permanent.{OwnFact, the_turn, a_selection, the_hold, a_pin, a_taken_index, is_had_by, gives_back}
 use Rattle.nio_event.specs.OwnEvents.{has, gives_turn, releases, gives_index}
 use Rattle.nio_event.specs.Sound.{IsSound}
 use Rattle.nio_event.specs.State.{State}

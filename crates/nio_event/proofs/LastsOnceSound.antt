@@ -1,12 +1,12 @@
 -- What lasts from a sound state: how far a key came, that a channel is closed, and who closes a selector. With
--- what lasts from every state, all that stands in `LastingFact`.
+-- what lasts from every state, all that stands in `PermanentFact`.
 use Rattle.std.proofs.Common.{◌≡◌, ℕ, ◌==◌, ◌<◌, Bool, true, false, not, ◌&&◌, ◌||◌, inl, inr, suc, List, ◌++◌, refl, ap, sym, ◌∙◌, subst, eqb-true, arith}
 use Rattle.std.specs.Prelude.{nat_lt}
 use Rattle.std.proofs.lemmas.Bool.{and_parts, and_from, ltb-true, lt-ltb}
 use Rattle.nio_base.specs.declared.limits.Limits.{Limits}
 use Rattle.nio_base.specs.declared.numbers.CallerNo.{CallerNo}
 use Rattle.nio_event.proofs.KeyChanges.{KeepsStages, stages_keep}
-use Rattle.nio_event.proofs.Lasts.{drawn_lasts, selector_lasts, shut_lasts, entered_lasts, made_lasts, claimed_lasts, keys_mark_lasts, channels_mark_lasts}
+use Rattle.nio_event.proofs.Lasts.{drawn_lasts, selector_lasts, shut_lasts, entered_lasts, made_lasts, claimed_lasts, keys_high_lasts, channels_high_lasts}
 use Rattle.nio_event.proofs.Legal.{legal_from}
 use Rattle.nio_event.proofs.OneMore.{state_after-more}
 use Rattle.nio_event.proofs.Put.{put_keeps}
@@ -16,7 +16,7 @@ use Rattle.nio_event.specs.Acts.{effect, new_key}
 use Rattle.nio_event.specs.Answers.{Answers}
 use Rattle.nio_event.specs.Conditions.{Condition, is_held_by}
 use Rattle.nio_event.specs.Histories.{state_after, mine, IsLegal}
-use Rattle.nio_event.specs.Lasting.{LastingFact, caller_drawn, selector_made, selector_shut, selector_closed_by, selector_entered, channel_made, channel_closed, index_claimed, key_claimed, key_published, key_cancelled, key_removed, below_keys_mark, below_channels_mark, stands}
+use Rattle.nio_event.specs.Permanent.{PermanentFact, caller_drawn, selector_made, selector_shut, selector_closed_by, selector_entered, channel_made, channel_closed, index_claimed, key_claimed, key_published, key_cancelled, key_removed, below_keys_high, below_channels_high, stands}
 use Rattle.nio_event.specs.Sets.{fits, was_claimed, was_published, was_cancelled, was_removed}
 use Rattle.nio_event.specs.Sound.{IsSound}
 use Rattle.nio_event.specs.State.{State, unclaimed}
@@ -132,7 +132,7 @@ closer_lasts st me act answers sound s n = λ h. h
 
 -- no step ends what is permanent
 pub lasts : (l : Limits) (own : List Act) (st : State) (me : CallerNo) (act : Act) → Condition l own st me act → Answers st me act → IsSound st
-    → (f : LastingFact) → stands f st ≡ true → stands f (effect st me act) ≡ true
+    → (f : PermanentFact) → stands f st ≡ true → stands f (effect st me act) ≡ true
 lasts l own st me act may answers sound (caller_drawn n) h = drawn_lasts st me act n h
 lasts l own st me act may answers sound (selector_made s) h = selector_lasts st me act s h
 lasts l own st me act may answers sound (selector_shut s) h = shut_lasts st me act s h
@@ -152,14 +152,14 @@ lasts l own st me act may answers sound (key_cancelled s i serial) h =
 lasts l own st me act may answers sound (key_removed s i serial) h =
     stages_keep (Condition l own st me) st me (λ _ _ k. was_removed k serial ≡ true)
     (reached_keeps (λ k. k.removed) (λ k e. e) (λ k e. e) (λ k e. refl) l own st me serial sound) act may answers s i h
-lasts l own st me act may answers sound (below_keys_mark s i) h = lt-ltb i _ (keys_mark_lasts st me act s i (ltb-true i _ h))
-lasts l own st me act may answers sound (below_channels_mark c) h = lt-ltb c _ (channels_mark_lasts st me act c (ltb-true c _ h))
+lasts l own st me act may answers sound (below_keys_high s i) h = lt-ltb i _ (keys_high_lasts st me act s i (ltb-true i _ h))
+lasts l own st me act may answers sound (below_channels_high c) h = lt-ltb c _ (channels_high_lasts st me act c (ltb-true c _ h))
 
 -- ---- over histories
 
 -- what is permanent stands in every legal longer history
-pub lasting_stands : (l : Limits) (past later : List Event) → IsLegal l (past ++ later) → (f : LastingFact) → stands f (state_after past) ≡ true → stands f (state_after (past ++ later)) ≡ true
-lasting_stands l past later legal f = legal_from l (λ events. stands f (state_after events) ≡ true)
+pub permanent_stands : (l : Limits) (past later : List Event) → IsLegal l (past ++ later) → (f : PermanentFact) → stands f (state_after past) ≡ true → stands f (state_after (past ++ later)) ≡ true
+permanent_stands l past later legal f = legal_from l (λ events. stands f (state_after events) ≡ true)
     (λ before e legal' step here. subst (λ st. stands f st ≡ true) (sym (state_after-more before e))
     (lasts l (mine e.caller before) (state_after before) e.caller e.act step.condition step.answers (legal-sound l before legal') f here))
     past later legal

@@ -9,7 +9,7 @@ use Rattle.std.proofs.lemmas.List.Elements.{All-append, All-from_get_or, All-con
 use Rattle.std.proofs.lemmas.Option.{same_Some}
 use Rattle.std.proofs.lemmas.Str.Parse.{not_in_digits}
 use Rattle.nio_base.specs.declared.numbers.KeyId.{KeyId}
-use Rattle.nio_event.specs.Arguments.{IsKey, IsNumber, IsPair, IsSerial}
+use Rattle.nio_event.specs.Arguments.{IsKeyName, IsNumber, IsPair, IsSerial}
 use Rattle.nio_event.specs.Reading.{Reads}
 use Rattle.nio_event.specs.Words.{key_word, pair_word}
 use Rattle.nio_event.proofs.Numbers.{own}
@@ -69,7 +69,7 @@ key_same k m index serial =
     ∙ ap (λ q. let key : KeyId = record { index = m.index; serial = q } in key) serial
 
 -- where there is no point, the text is a key of the first serial
-first_key : (word : List ℕ) (k : KeyId) → NoCut 46 word → IsKey k → word ≡ key_word k
+first_key : (word : List ℕ) (k : KeyId) → NoCut 46 word → IsKeyName k → word ≡ key_word k
     → (k.serial ≡ 0) × (word ≡ index_word k.index)
 first_key word k none fits e = by_form (key_form k)
   where
@@ -78,7 +78,7 @@ first_key word k none fits e = by_form (key_form k)
     by_form (later some is) = absurd (none (index_word k.index) (decimal k.serial) (index_word_lacks k.index 46 fits.index_fits (λ q. omega (arith, q)) (λ r. omega (arith, r))) (e ∙ is))
 
 -- where the text is cut at a point, the parts are the index and the serial
-later_key : (word front back : List ℕ) (k : KeyId) → word ≡ front ++ 46 ∷ back → OnlyCut 46 word front back → IsKey k → word ≡ key_word k
+later_key : (word front back : List ℕ) (k : KeyId) → word ≡ front ++ 46 ∷ back → OnlyCut 46 word front back → IsKeyName k → word ≡ key_word k
     → (front ≡ index_word k.index) × (back ≡ decimal k.serial) × IsSerial k.serial
 later_key word front back k cut only fits e = by_form (key_form k)
   where
@@ -92,13 +92,13 @@ later_key word front back k cut only fits e = by_form (key_form k)
         let parts = only (index_word k.index) (decimal k.serial) lacks (e ∙ is) in
         (parts.0, parts.1, record { some = some; fits = fits.serial_fits })
 
-pub no_index : (word : List ℕ) → NoCut 46 word → Reads IsNumber index_word word None → Reads IsKey key_word word None
+pub no_index : (word : List ℕ) → NoCut 46 word → Reads IsNumber index_word word None → Reads IsKeyName key_word word None
 no_index word none read =
-    reads_none IsKey key_word word
+    reads_none IsKeyName key_word word
     (λ k fits e. cc (read.only k.index fits.index_fits (first_key word k none fits e).1))
 
 pub key_at_first : (word : List ℕ) (i : ℕ) → NoCut 46 word → Reads IsNumber index_word word (Some i)
-    → Reads IsKey key_word word (Some (record { index = i; serial = 0 }))
+    → Reads IsKeyName key_word word (Some (record { index = i; serial = 0 }))
 key_at_first word i none read = record {
   found = (
     record { index_fits = read.found.0; serial_fits = omega arith },
@@ -110,22 +110,22 @@ key_at_first word i none read = record {
 }
 
 pub no_later_index : (word front back : List ℕ) → word ≡ front ++ 46 ∷ back → OnlyCut 46 word front back
-    → Reads IsNumber index_word front None → Reads IsKey key_word word None
+    → Reads IsNumber index_word front None → Reads IsKeyName key_word word None
 no_later_index word front back cut only read =
-    reads_none IsKey key_word word
+    reads_none IsKeyName key_word word
     (λ k fits e. cc (read.only k.index fits.index_fits (later_key word front back k cut only fits e).0))
 
 pub no_serial : (word front back : List ℕ) → word ≡ front ++ 46 ∷ back → OnlyCut 46 word front back
-    → Reads IsSerial decimal back None → Reads IsKey key_word word None
+    → Reads IsSerial decimal back None → Reads IsKeyName key_word word None
 no_serial word front back cut only read =
-    reads_none IsKey key_word word
+    reads_none IsKeyName key_word word
     (λ k fits e.
     let parts = later_key word front back k cut only fits e in
     cc (read.only k.serial parts.2 parts.1))
 
 pub key_at_serial : (word front back : List ℕ) (i m : ℕ) → word ≡ front ++ 46 ∷ back → OnlyCut 46 word front back
     → Reads IsNumber index_word front (Some i) → Reads IsSerial decimal back (Some m)
-    → Reads IsKey key_word word (Some (record { index = i; serial = m }))
+    → Reads IsKeyName key_word word (Some (record { index = i; serial = m }))
 key_at_serial word front back i m cut only index serial = record {
   found = (
     record { index_fits = index.found.0; serial_fits = serial.found.0.fits },
@@ -142,7 +142,7 @@ key_at_serial word front back i m cut only index serial = record {
 
 -- ---- pairs
 
-pub key_word_lacks_colon : (k : KeyId) → IsKey k → All (λ b. b ≢ 58) (key_word k)
+pub key_word_lacks_colon : (k : KeyId) → IsKeyName k → All (λ b. b ≢ 58) (key_word k)
 key_word_lacks_colon k fits = by_form (key_form k)
   where
     lacks : All (λ b. b ≢ 58) (index_word k.index)
@@ -163,7 +163,7 @@ no_cut word none =
     reads_none IsPair pair_word word
     (λ p fits e. none (key_word p.0) (decimal p.1) (key_word_lacks_colon p.0 fits.key_fits) (e ∙ pair_word_cut p))
 
-pub no_key : (word key ops : List ℕ) → OnlyCut 58 word key ops → Reads IsKey key_word key None
+pub no_key : (word key ops : List ℕ) → OnlyCut 58 word key ops → Reads IsKeyName key_word key None
     → Reads IsPair pair_word word None
 no_key word key ops only read =
     reads_none IsPair pair_word word
@@ -180,7 +180,7 @@ no_ops word key ops only read =
     ((cc (read.only p.1 fits.ops_fit parts.1))))
 
 pub some_pair : (word key ops : List ℕ) (k : KeyId) (o : ℕ) → OnlyCut 58 word key ops → word ≡ key ++ 58 ∷ ops
-    → Reads IsKey key_word key (Some k) → Reads (λ o. o < 256) decimal ops (Some o)
+    → Reads IsKeyName key_word key (Some k) → Reads (λ o. o < 256) decimal ops (Some o)
     → Reads IsPair pair_word word (Some (k, o))
 some_pair word key ops k o only cut key_read ops_read = record {
   found = (

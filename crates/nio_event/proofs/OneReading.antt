@@ -13,7 +13,7 @@ use Rattle.nio_base.specs.declared.numbers.CallerNo.{CallerNo}
 use Rattle.nio_base.specs.declared.numbers.ChanNo.{ChanNo}
 use Rattle.nio_base.specs.declared.numbers.KeyId.{KeyId}
 use Rattle.nio_base.specs.declared.numbers.SelNo.{SelNo}
-use Rattle.nio_event.specs.Arguments.{Arguments, nothing, one_caller, one_selector, one_channel, one_kind, channel_mode, channel_selector, registration, selector_key, key_ops, key_number, selector_wait, selector_told, ArgumentsFit, IsAttachment, IsKey, IsMilliseconds, IsNumber, IsPair, IsTime, argument_words, attachment_words, elapsed_words, mode_word, waiting_words}
+use Rattle.nio_event.specs.Arguments.{Arguments, nothing, one_caller, one_selector, one_channel, one_kind, channel_mode, channel_selector, registration, selector_key, key_ops, key_number, selector_wait, selector_told, ArgumentsFit, IsAttachment, IsKeyName, IsMilliseconds, IsNumber, IsPair, IsTime, argument_words, attachment_words, elapsed_words, mode_word, waiting_words}
 use Rattle.nio_event.specs.Calls.{IsBlank, IsCall, IsLine, call_words}
 use Rattle.nio_event.specs.CallWords.{arguments, call_word, call_word_text}
 use Rattle.nio_event.specs.Printing.{spaced}
@@ -77,10 +77,10 @@ cut_one byte before after front back h k e =
     let other = parts-cut byte text front back (length before) (sym first ∙ second) e in
     (sym own.0 ∙ other.0, sym own.1 ∙ other.1)
 
-key_one : IsOne IsKey key_word
+key_one : IsOne IsKeyName key_word
 key_one x y f g e = by_forms (key_form x) (key_form y)
   where
-    lacks : (k : KeyId) → IsKey k → All (λ b. b ≢ 46) (index_word k.index)
+    lacks : (k : KeyId) → IsKeyName k → All (λ b. b ≢ 46) (index_word k.index)
     lacks k fits = index_word_lacks k.index 46 fits.index_fits (λ q. omega (arith, q)) (λ r. omega (arith, r))
 
     by_forms : KeyForm x → KeyForm y → x ≡ y

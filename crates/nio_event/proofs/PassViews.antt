@@ -10,7 +10,7 @@ use Rattle.nio_event.proofs.Clauses.{clause_nothing, clause_then}
 use Rattle.nio_event.proofs.Stays.{facts_are_permanent}
 use Rattle.nio_event.specs.Conditions.{IsSelector, IsChannel, IsKey}
 use Rattle.nio_event.specs.Histories.{mine, event_of, HistoryClause, IsLegal}
-use Rattle.nio_event.specs.Lasting.{LastingFact, selector_made, channel_made, key_published, stands}
+use Rattle.nio_event.specs.Permanent.{PermanentFact, selector_made, channel_made, key_published, stands}
 use Rattle.nio_event.specs.PassViews.{PassView, Holds, known, done_between, ActsClause, HasSelector, HasChannel, HasKey}
 use Rattle.nio_event.specs.declared.act.Act.{Act}
 
@@ -47,23 +47,23 @@ acts_then me first second v0 v1 v2 p q = record {
 
 -- ---- what is passed to a call may be passed to a later one
 
-lasting_after : (me : CallerNo) (acts : List Act) (old new : PassView) → ActsClause me acts old new → (f : LastingFact) → stands f (known old) ≡ true → stands f (known new) ≡ true
-lasting_after me acts old new clause f here = facts_are_permanent old.limits old.seen new.seen clause.history.goes_on clause.history.legal f here
+permanent_after : (me : CallerNo) (acts : List Act) (old new : PassView) → ActsClause me acts old new → (f : PermanentFact) → stands f (known old) ≡ true → stands f (known new) ≡ true
+permanent_after me acts old new clause f here = facts_are_permanent old.limits old.seen new.seen clause.history.goes_on clause.history.legal f here
 
 pub selector_after : {me : CallerNo} {acts : List Act} {old new : PassView} {s : SelNo} → ActsClause me acts old new → HasSelector old s → HasSelector new s
 selector_after {me = me} {acts = acts} {old = old} {new = new} {s = s} clause has = record {
   inside = subst (λ (l : Limits). IsSelector l s) (sym clause.limits) has.inside;
-  made = lasting_after me acts old new clause (selector_made s.0) has.made;
+  made = permanent_after me acts old new clause (selector_made s.0) has.made;
 }
 
 pub channel_after : {me : CallerNo} {acts : List Act} {old new : PassView} {c : ChanNo} → ActsClause me acts old new → HasChannel old c → HasChannel new c
 channel_after {me = me} {acts = acts} {old = old} {new = new} {c = c} clause has = record {
   inside = subst (λ (l : Limits). IsChannel l c) (sym clause.limits) has.inside;
-  made = lasting_after me acts old new clause (channel_made c.0) has.made;
+  made = permanent_after me acts old new clause (channel_made c.0) has.made;
 }
 
 pub key_after : {me : CallerNo} {acts : List Act} {old new : PassView} {k : KeyNo} → ActsClause me acts old new → HasKey old k → HasKey new k
 key_after {me = me} {acts = acts} {old = old} {new = new} {k = k} clause has = record {
   inside = subst (λ (l : Limits). IsKey l k.sel k.index) (sym clause.limits) has.inside;
-  published = lasting_after me acts old new clause (key_published k.sel.0 k.index k.serial) has.published;
+  published = permanent_after me acts old new clause (key_published k.sel.0 k.index k.serial) has.published;
 }

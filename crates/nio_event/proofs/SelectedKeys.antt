@@ -11,7 +11,7 @@ use Rattle.nio_event.proofs.Soundness.{legal-sound, held_some, both_ways, not_tr
 use Rattle.nio_event.specs.Acts.{effect}
 use Rattle.nio_event.specs.Conditions.{Condition, is_held_by, has_turn, has_begun}
 use Rattle.nio_event.specs.Histories.{state_after, mine, IsStep, IsLegal}
-use Rattle.nio_event.specs.Lasting.{a_selection}
+use Rattle.nio_event.specs.Permanent.{a_selection}
 use Rattle.nio_event.specs.Pins.{removes, IsKeptInSelection, SelectionsKeepKeys}
 use Rattle.nio_event.specs.Sound.{IsSound}
 use Rattle.nio_event.specs.State.{State}

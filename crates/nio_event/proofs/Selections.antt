@@ -9,7 +9,7 @@ use Rattle.nio_base.specs.declared.numbers.CallerNo.{CallerNo}
 use Rattle.nio_base.specs.declared.numbers.SelNo.{SelNo}
 use Rattle.nio_event.proofs.Keeping.{has_neither, of_no_sort, stands_while}
 use Rattle.nio_event.proofs.LastsAlone.{had_stands, has-mine, spares_not, same_two}
-use Rattle.nio_event.proofs.LastsOnceSound.{lasting_stands}
+use Rattle.nio_event.proofs.LastsOnceSound.{permanent_stands}
 use Rattle.nio_event.proofs.Legal.{legal_beginning, legal_next}
 use Rattle.nio_event.proofs.Put.{put_keeps, put_at_keeps}
 use Rattle.nio_event.proofs.SelectedKeys.{kept_step, kept_from_start, selections_keep_keys}
@@ -20,7 +20,7 @@ use Rattle.nio_event.specs.Acts.{effect}
 use Rattle.nio_event.specs.Conditions.{Condition, has_begun}
 use Rattle.nio_event.specs.Histories.{state_after, is_by, mine, IsStep, IsLegal}
 use Rattle.nio_event.specs.Holders.{marks, ends_wakeup, SelectsAlone, KeySetStays, IsAtMostUnselected, MarksStay, WakeupStays}
-use Rattle.nio_event.specs.Lasting.{index_claimed, a_selection}
+use Rattle.nio_event.specs.Permanent.{index_claimed, a_selection}
 use Rattle.nio_event.specs.OwnEvents.{has, gives_turn}
 use Rattle.nio_event.specs.Pins.{removes, IsKeptInSelection}
 use Rattle.nio_event.specs.Sets.{fits, in_key_set, is_in_key_set}
@@ -79,7 +79,7 @@ key_set_stays l n s before later keeps k spared here =
     let its = in_set was k.serial here in
     let same = and_parts was.claimed (was.serial == k.serial) its.0 in
     let kept = (selections_keep_keys l n s k.index before later keeps.legal keeps.has_it keeps.kept spared its.2).0 in
-    let claimed : now.claimed ≡ true = lasting_stands l before later keeps.legal (index_claimed s.0 k.index) same.0 in
+    let claimed : now.claimed ≡ true = permanent_stands l before later keeps.legal (index_claimed s.0 k.index) same.0 in
     and_from (fits now k.serial) (in_key_set now)
     (and_from now.claimed (now.serial == k.serial) claimed (ap (λ (q : ℕ). q == k.serial) kept.serial ∙ same.1))
     (and_from now.published (not_removed now) (kept.published its.1) (ap not kept.removed))

@@ -14,7 +14,7 @@ use Rattle.nio_event.proofs.Put.{put_keeps, put_at_keeps, put_both, put_at_both,
 use Rattle.nio_event.proofs.Told.{either, below_told}
 use Rattle.nio_event.specs.Acts.{effect, taken_by, frees_index}
 use Rattle.nio_event.specs.Answers.{Answers}
-use Rattle.nio_event.specs.Conditions.{Condition, is_held_by, is_closer, has_begun, has_entered, has_taken, may_sweep, may_put_due, may_publish, may_clear_out}
+use Rattle.nio_event.specs.Conditions.{Condition, is_held_by, is_closer, has_begun, has_entered, has_taken, may_remove_cancelled, may_put_due, may_publish, may_clear_out}
 use Rattle.nio_event.specs.Histories.{state_after, mine, IsStep, IsLegal}
 use Rattle.nio_event.specs.OwnEvents.{OwnClaim, has, enters, finds_below, since_entered, own_claim}
 use Rattle.nio_event.specs.Sets.{in_cancelled_set, can_come_back}
@@ -76,16 +76,16 @@ pinned-claimed st sound s i n pinned = by_test (st.key s i).claimed refl
     by_test false e = absurd (both_ways (st.pinned s i n) pinned (sound.unclaimed_unpinned s i n e))
 
 channels_below_step : (l : Limits) (own : List Act) (st : State) (me : CallerNo) (act : Act) → Condition l own st me act → IsSound st
-    → (c : ℕ) → c < (effect st me act).channels_mark → ((effect st me act).chan c).made ≡ true
+    → (c : ℕ) → c < (effect st me act).channels_high → ((effect st me act).chan c).made ≡ true
 channels_below_step l own st me (RaiseChannels n found) may sound c h =
-    elim (below_max st.channels_mark n c h) [ inl old ↦ sound.channels_below c old | inr new ↦ may.1 c new ]
+    elim (below_max st.channels_high n c h) [ inl old ↦ sound.channels_below c old | inr new ↦ may.1 c new ]
 channels_below_step l own st me act may sound c h = made_lasts st me act c (sound.channels_below c h)
 
 keys_below_step : (l : Limits) (own : List Act) (st : State) (me : CallerNo) (act : Act) → Condition l own st me act → IsSound st
-    → (s i : ℕ) → i < (effect st me act).keys_mark s → ((effect st me act).key s i).claimed ≡ true
+    → (s i : ℕ) → i < (effect st me act).keys_high s → ((effect st me act).key s i).claimed ≡ true
 keys_below_step l own st me (RaiseKeys k n found) may sound s i h =
-    put_keeps (λ s' m. i < m → (st.key s' i).claimed ≡ true) st.keys_mark k.0 _
-    (λ old below. elim (below_max (st.keys_mark k.0) n i below) [ inl before ↦ old before | inr new ↦ may.2 i new ])
+    put_keeps (λ s' m. i < m → (st.key s' i).claimed ≡ true) st.keys_high k.0 _
+    (λ old below. elim (below_max (st.keys_high k.0) n i below) [ inl before ↦ old before | inr new ↦ may.2 i new ])
     s (sound.keys_below s i) h
 keys_below_step l own st me act may sound s i h = claimed_lasts st me act s i (sound.keys_below s i h)
 
@@ -174,10 +174,10 @@ cancelled_parts k in_set =
 
 -- who may remove a key: a selecting caller a key of the cancelled set, and a closer that has entered an index that
 -- it found below the mark
-pub may_remove : (st : State) (own : List Act) (me : CallerNo) (s : SelNo) (i : ℕ) → (may_sweep st me s i || may_clear_out st own me s i) ≡ true
+pub may_remove : (st : State) (own : List Act) (me : CallerNo) (s : SelNo) (i : ℕ) → (may_remove_cancelled st me s i || may_clear_out st own me s i) ≡ true
     → ((has_begun st me s ≡ true) × IsCancelled (st.key s.0 i)) ⊎ ((st.entered s.0 ≡ true) × (has (finds_below s.0 i) (since_entered s.0 own) ≡ true))
 may_remove st own me s i may =
-    elim (either (may_sweep st me s i) (may_clear_out st own me s i) may) [
+    elim (either (may_remove_cancelled st me s i) (may_clear_out st own me s i) may) [
       | inl sweep ↦
           let both = and_parts (has_begun st me s) (in_cancelled_set (st.key s.0 i)) sweep in
           inl (both.0, cancelled_parts (st.key s.0 i) both.1)
@@ -188,7 +188,7 @@ may_remove st own me s i may =
 
 -- what may be removed is claimed
 remove_claimed : (l : Limits) (past : List Event) (me : CallerNo) (s : SelNo) (i : ℕ) → IsLegal l past → IsSound (state_after past)
-    → (may_sweep (state_after past) me s i || may_clear_out (state_after past) (mine me past) me s i) ≡ true
+    → (may_remove_cancelled (state_after past) me s i || may_clear_out (state_after past) (mine me past) me s i) ≡ true
     → ((state_after past).key s.0 i).claimed ≡ true
 remove_claimed l past me s i legal sound may =
     let st : State = state_after past in

@@ -8,16 +8,16 @@ use Rattle.nio_base.specs.declared.numbers.CallerNo.{CallerNo}
 use Rattle.nio_base.specs.declared.numbers.SelNo.{SelNo}
 use Rattle.nio_event.proofs.KeyChanges.{KeepsStages, stages_keep, back_parts, published_already, cancelled_already}
 use Rattle.nio_event.proofs.LastsAlone.{one_holder, lasts_alone, had_stands, own_stands, none_further, without_from, has-mine}
-use Rattle.nio_event.proofs.LastsOnceSound.{lasting_stands}
+use Rattle.nio_event.proofs.LastsOnceSound.{permanent_stands}
 use Rattle.nio_event.proofs.Legal.{legal_beginning}
 use Rattle.nio_event.proofs.OneMore.{state_after-more}
 use Rattle.nio_event.proofs.Put.{put_keeps, put_at_keeps, put_pin_keeps}
 use Rattle.nio_event.proofs.Soundness.{legal-sound, held_some, both_ways, not_true, beyond-claimed, cancelled_parts, may_remove, taken_not_dropped}
 use Rattle.nio_event.proofs.Told.{either, or_right}
 use Rattle.nio_event.specs.Acts.{effect, frees_index}
-use Rattle.nio_event.specs.Conditions.{Condition, is_held_by, holds, has_turn, has_begun, has_entered, is_closer, has_pin, has_taken, may_sweep, may_put_due, may_publish, may_clear_out}
+use Rattle.nio_event.specs.Conditions.{Condition, is_held_by, holds, has_turn, has_begun, has_entered, is_closer, has_pin, has_taken, may_remove_cancelled, may_put_due, may_publish, may_clear_out}
 use Rattle.nio_event.specs.Histories.{state_after, is_by, mine, IsStep, IsLegal}
-use Rattle.nio_event.specs.Lasting.{LastingFact, selector_made, selector_closed_by, selector_entered, channel_made, index_claimed, key_cancelled, key_removed, stands, OwnFact, the_turn, a_selection, the_hold, a_pin, a_taken_index, is_had_by}
+use Rattle.nio_event.specs.Permanent.{PermanentFact, selector_made, selector_closed_by, selector_entered, channel_made, index_claimed, key_cancelled, key_removed, stands, OwnFact, the_turn, a_selection, the_hold, a_pin, a_taken_index, is_had_by}
 use Rattle.nio_event.specs.OwnEvents.{OwnClaim, has, under, since_entered, finds_below, finds_unblocked, own_claim, gives_turn}
 use Rattle.nio_event.specs.Sets.{in_cancelled_set, fits, was_published, was_cancelled, was_removed, is_valid, is_valid_key}
 use Rattle.nio_event.specs.Sound.{IsSound}
@@ -30,9 +30,9 @@ use Rattle.nio_event.specs.declared.found.Stage.{Stage}
 
 -- what caller n may build on of one state stands in the other
 record StandsFor (n : CallerNo) (st st' : State) : Type 0 where
-  lasting : (f : LastingFact) → stands f st ≡ true → stands f st' ≡ true
+  permanent : (f : PermanentFact) → stands f st ≡ true → stands f st' ≡ true
   had : (f : OwnFact) → is_had_by n f st ≡ true → is_had_by n f st' ≡ true
-  sweep : (s : SelNo) (i : ℕ) → may_sweep st n s i ≡ true → may_sweep st' n s i ≡ true
+  sweep : (s : SelNo) (i : ℕ) → may_remove_cancelled st n s i ≡ true → may_remove_cancelled st' n s i ≡ true
   put_dropped : (s : SelNo) (i : ℕ) → may_put_due st n s i ≡ true → may_put_due st' n s i ≡ true
   unpinned : (s : SelNo) (i : ℕ) → not (has_pin st n s i) ≡ true → not (has_pin st' n s i) ≡ true
 
@@ -52,7 +52,7 @@ clear_out_stays n own st st' stays s i may =
     let both = and_parts (has_entered st n s) found_below may in
     let first_two = and_parts (is_closer st n s) (st.entered s.0) both.0 in
     and_from (has_entered st' n s) found_below
-    (and_from (is_closer st' n s) (st'.entered s.0) (stays.lasting (selector_closed_by s n) first_two.0) (stays.lasting (selector_entered s.0) first_two.1))
+    (and_from (is_closer st' n s) (st'.entered s.0) (stays.permanent (selector_closed_by s n) first_two.0) (stays.permanent (selector_entered s.0) first_two.1))
     both.1
 
 pin_or_begun_stays : (n : CallerNo) (st st' : State) → StandsFor n st st' → (s : SelNo) (i : ℕ) → (has_pin st n s i || has_begun st n s) ≡ true → (has_pin st' n s i || has_begun st' n s) ≡ true
@@ -60,36 +60,36 @@ pin_or_begun_stays n st st' stays s i =
     or_stays (has_pin st n s i) (has_begun st n s) (has_pin st' n s i) (has_begun st' n s) (stays.had (a_pin s i)) (stays.had (a_selection s))
 
 condition_stays : (l : Limits) (n : CallerNo) (own : List Act) (st st' : State) → StandsFor n st st' → (act : Act) → Condition l own st n act → Condition l own st' n act
-condition_stays l n own st st' stays (Wake s found) may = (may.0, stays.lasting (selector_made s.0) may.1)
-condition_stays l n own st st' stays (CancelKey s i found) may = (may.0, stays.lasting (index_claimed s.0 i) may.1, stays.had (a_pin s i) may.2)
+condition_stays l n own st st' stays (Wake s found) may = (may.0, stays.permanent (selector_made s.0) may.1)
+condition_stays l n own st st' stays (CancelKey s i found) may = (may.0, stays.permanent (index_claimed s.0 i) may.1, stays.had (a_pin s i) may.2)
 condition_stays l n own st st' stays (LookInterest s i found) may = (may.0, pin_or_begun_stays n st st' stays s i may.1)
 condition_stays l n own st st' stays (SwapInterest s i ops found) may = (may.0, stays.had (a_pin s i) may.1)
 condition_stays l n own st st' stays (OrInterest s i ops found) may = (may.0, stays.had (a_pin s i) may.1)
 condition_stays l n own st st' stays (AndInterest s i ops found) may = (may.0, stays.had (a_pin s i) may.1)
 condition_stays l n own st st' stays (SwapNote s i att found) may = (may.0, stays.had (a_pin s i) may.1)
 condition_stays l n own st st' stays (LookNote s i found) may = (may.0, stays.had (a_pin s i) may.1)
-condition_stays l n own st st' stays (MakeChannel c kind found) may = (may.0, λ c' below. stays.lasting (channel_made c') (may.1 c' below))
-condition_stays l n own st st' stays (Claim s i c found) may = (may.0, may.1, stays.had (the_hold c) may.2, λ i' below. stays.lasting (index_claimed s.0 i') (may.3 i' below))
-condition_stays l n own st st' stays (RaiseKeys s k found) may = (may.0, may.1, λ i below. stays.lasting (index_claimed s.0 i) (may.2 i below))
+condition_stays l n own st st' stays (MakeChannel c kind found) may = (may.0, λ c' below. stays.permanent (channel_made c') (may.1 c' below))
+condition_stays l n own st st' stays (Claim s i c found) may = (may.0, may.1, stays.had (the_hold c) may.2, λ i' below. stays.permanent (index_claimed s.0 i') (may.3 i' below))
+condition_stays l n own st st' stays (RaiseKeys s k found) may = (may.0, may.1, λ i below. stays.permanent (index_claimed s.0 i) (may.2 i below))
 condition_stays l n own st st' stays (Publish s i found) may = (may.0, publish_stays n own st st' stays (own_claim s.0 i own) may.1)
 condition_stays l n own st st' stays (Enrol c s i serial found) may = (may.0, may.1, may.2, stays.had (the_hold c) may.3, may.4)
 condition_stays l n own st st' stays (BeginLook s found) may = (may.0, stays.had (the_turn s) may.1)
 condition_stays l n own st st' stays (GiveTurn s) may = (may.0, stays.had (the_turn s) may.1)
 condition_stays l n own st st' stays (Remove s i found) may = (
   may.0,
-  or_stays (may_sweep st n s i) (may_clear_out st own n s i) (may_sweep st' n s i) (may_clear_out st' own n s i) (stays.sweep s i) (clear_out_stays n own st st' stays s i) may.1,
+  or_stays (may_remove_cancelled st n s i) (may_clear_out st own n s i) (may_remove_cancelled st' n s i) (may_clear_out st' own n s i) (stays.sweep s i) (clear_out_stays n own st st' stays s i) may.1,
 )
 condition_stays l n own st st' stays (LookMark s i found) may = (may.0, pin_or_begun_stays n st st' stays s i may.1)
 condition_stays l n own st st' stays (Mark s i from told found) may = (may.0, stays.had (a_selection s) may.1, may.2)
 condition_stays l n own st st' stays (UnselectBit s i found) may = (may.0, stays.had (a_pin s i) may.1)
 condition_stays l n own st st' stays (EndWake s found) may = (may.0, stays.had (a_selection s) may.1)
-condition_stays l n own st st' stays (RaiseChannels k found) may = (may.0, λ c below. stays.lasting (channel_made c) (may.1 c below))
-condition_stays l n own st st' stays (TryHoldBit c found) may = (may.0, stays.lasting (channel_made c.0) may.1)
+condition_stays l n own st st' stays (RaiseChannels k found) may = (may.0, λ c below. stays.permanent (channel_made c) (may.1 c below))
+condition_stays l n own st st' stays (TryHoldBit c found) may = (may.0, stays.permanent (channel_made c.0) may.1)
 condition_stays l n own st st' stays (Release c) may = (may.0, stays.had (the_hold c) may.1)
 condition_stays l n own st st' stays (SetMode c blocking found) may = (may.0, stays.had (the_hold c) may.1, may.2)
-condition_stays l n own st st' stays (CloseBit c found) may = (may.0, stays.lasting (channel_made c.0) may.1)
-condition_stays l n own st st' stays (Enter s found) may = (may.0, stays.lasting (selector_closed_by s n) may.1)
-condition_stays l n own st st' stays (Pin s i found) may = (may.0, stays.lasting (index_claimed s.0 i) may.1, stays.unpinned s i may.2)
+condition_stays l n own st st' stays (CloseBit c found) may = (may.0, stays.permanent (channel_made c.0) may.1)
+condition_stays l n own st st' stays (Enter s found) may = (may.0, stays.permanent (selector_closed_by s n) may.1)
+condition_stays l n own st st' stays (Pin s i found) may = (may.0, stays.permanent (index_claimed s.0 i) may.1, stays.unpinned s i may.2)
 condition_stays l n own st st' stays (Unpin s i) may = (may.0, stays.had (a_pin s i) may.1)
 condition_stays l n own st st' stays (ClaimAgain s i c from found) may = (may.0, may.1, stays.had (the_hold c) may.2, stays.had (a_taken_index s i) may.3, may.4, may.5)
 condition_stays l n own st st' stays (PutFree s i) may = (
@@ -184,7 +184,7 @@ beginnings_are_legal l before after begins legal = legal_beginning l before begi
 
 pub facts_are_permanent : FactsArePermanent
 facts_are_permanent l before after begins legal f here =
-    subst (λ events. stands f (state_after events) ≡ true) begins.1 (lasting_stands l before begins.0 (subst (IsLegal l) (sym begins.1) legal) f here)
+    subst (λ events. stands f (state_after events) ≡ true) begins.1 (permanent_stands l before begins.0 (subst (IsLegal l) (sym begins.1) legal) f here)
 
 -- a key that was cancelled or removed isn't valid
 cancelled-invalid : (k : Stage) (serial : ℕ) → (was_cancelled k serial || was_removed k serial) ≡ true → is_valid_key k serial ≡ false
@@ -245,9 +245,9 @@ conditions_stay l n before after begins legal same act may =
     let legal' : IsLegal l (before ++ later) = subst (IsLegal l) (sym begins.1) legal in
     let nothing : mine n later ≡ [] = none_further n before later (ap (mine n) begins.1 ∙ same) in
     let stays : StandsFor n (state_after before) (state_after (before ++ later)) = record {
-      lasting = lasting_stands l before later legal';
+      permanent = permanent_stands l before later legal';
       had = own_stands l n before later legal' nothing;
-      sweep = λ s i. by_others l n before later legal' nothing (λ st. may_sweep st n s i)
+      sweep = λ s i. by_others l n before later legal' nothing (λ st. may_remove_cancelled st n s i)
           (λ past e past_legal step other here.
           let st : State = state_after past in
           let sound : IsSound st = legal-sound l past past_legal in

@@ -4,7 +4,7 @@ use Rattle.std.specs.Prelude.{nat_lt}
 use Rattle.std.proofs.lemmas.Bool.{and_parts, ltb-true, lt-ltb}
 use Rattle.nio_base.specs.declared.limits.Limits.{Limits}
 use Rattle.nio_base.specs.declared.numbers.CallerNo.{CallerNo}
-use Rattle.nio_event.proofs.Lasts.{keys_mark_lasts}
+use Rattle.nio_event.proofs.Lasts.{keys_high_lasts}
 use Rattle.nio_event.proofs.Legal.{legal_induction}
 use Rattle.nio_event.proofs.OneMore.{state_after-more, mine-own, mine-other, has-more}
 use Rattle.nio_event.specs.Acts.{effect}
@@ -46,18 +46,18 @@ has_told l p fact lasts tells n events legal = legal_induction l (λ evs. has p 
 
 -- ---- below the keys' mark
 
-below_tells : (st : State) (me : CallerNo) (act : Act) (s i : ℕ) → Answers st me act → finds_below s i act ≡ true → nat_lt i ((effect st me act).keys_mark s) ≡ true
+below_tells : (st : State) (me : CallerNo) (act : Act) (s i : ℕ) → Answers st me act → finds_below s i act ≡ true → nat_lt i ((effect st me act).keys_high s) ≡ true
 below_tells st me (LookKeys s' found) s i found_is h =
     let both = and_parts (s'.0 == s) (nat_lt i found) h in
     let same : s'.0 ≡ s = eqb-true s'.0 s both.0 in
-    let stands : found ≡ st.keys_mark s'.0 = cc in
-    subst (λ (k : ℕ). nat_lt i (st.keys_mark k) ≡ true) same (subst (λ (k : ℕ). nat_lt i k ≡ true) stands both.1)
+    let stands : found ≡ st.keys_high s'.0 = cc in
+    subst (λ (k : ℕ). nat_lt i (st.keys_high k) ≡ true) same (subst (λ (k : ℕ). nat_lt i k ≡ true) stands both.1)
 below_tells st me act s i found_is h = absurd (cc h)
 
 -- an index that a caller found below the mark is below it
-pub below_told : (l : Limits) (n : CallerNo) (events : List Event) (s i : ℕ) → IsLegal l events → has (finds_below s i) (mine n events) ≡ true → i < (state_after events).keys_mark s
+pub below_told : (l : Limits) (n : CallerNo) (events : List Event) (s i : ℕ) → IsLegal l events → has (finds_below s i) (mine n events) ≡ true → i < (state_after events).keys_high s
 below_told l n events s i legal h =
-    ltb-true _ _ (has_told l (finds_below s i) (λ st. nat_lt i (st.keys_mark s))
-    (λ past e step before. lt-ltb _ _ (keys_mark_lasts (state_after past) e.caller e.act s i (ltb-true _ _ before)))
+    ltb-true _ _ (has_told l (finds_below s i) (λ st. nat_lt i (st.keys_high s))
+    (λ past e step before. lt-ltb _ _ (keys_high_lasts (state_after past) e.caller e.act s i (ltb-true _ _ before)))
     (λ past e step. below_tells (state_after past) e.caller e.act s i step.answers)
     n events legal h)

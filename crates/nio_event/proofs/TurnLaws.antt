@@ -11,9 +11,9 @@ use Rattle.nio_event.proofs.Put.{put-same}
 use Rattle.nio_event.proofs.Soundness.{legal-sound}
 use Rattle.nio_event.proofs.Told.{either, or_right}
 use Rattle.nio_event.specs.Acts.{effect}
-use Rattle.nio_event.specs.Conditions.{Condition, is_held_by, has_turn, has_begun, is_closer, has_entered, may_sweep, may_clear_out}
+use Rattle.nio_event.specs.Conditions.{Condition, is_held_by, has_turn, has_begun, is_closer, has_entered, may_remove_cancelled, may_clear_out}
 use Rattle.nio_event.specs.Histories.{state_after, event_of, mine, IsStep, IsLegal}
-use Rattle.nio_event.specs.Lasting.{OwnFact, the_turn, a_selection, the_hold, is_had_by, gives_back}
+use Rattle.nio_event.specs.Permanent.{OwnFact, the_turn, a_selection, the_hold, is_had_by, gives_back}
 use Rattle.nio_event.specs.OwnEvents.{has, finds_below, since_entered, gives_turn, releases}
 use Rattle.nio_event.specs.Sets.{in_cancelled_set}
 use Rattle.nio_event.specs.Sound.{IsSound}
@@ -84,7 +84,7 @@ pub selecting_is : (l : Limits) (own : List Act) (st : State) (me n : CallerNo) 
     → Condition l own st me act → selects_on s.0 act ≡ true → me.0 ≡ n.0
 selecting_is l own st me n s (Remove s' i found) sound has_it may on =
     let same : s'.0 ≡ s.0 = eqb-true s'.0 s.0 on in
-    elim (either (may_sweep st me s' i) (may_clear_out st own me s' i) may.1) [
+    elim (either (may_remove_cancelled st me s' i) (may_clear_out st own me s' i) may.1) [
       | inl sweep ↦ begun_is st me n s s' has_it same (and_parts (has_begun st me s') (in_cancelled_set (st.key s'.0 i)) sweep).0
       | inr clear ↦
           let entered : st.entered s'.0 ≡ true = (and_parts (is_closer st me s') (st.entered s'.0) (and_parts (has_entered st me s') (has (finds_below s'.0 i) (since_entered s'.0 own)) clear).0).1 in
@@ -127,7 +127,7 @@ may_select_by : (l : Limits) (own : List Act) (st : State) (me : CallerNo) (s : 
     → (has_begun st me s || (removes_on s.0 act && has_entered st me s)) ≡ true
 may_select_by l own st me s (Remove s' i found) may on =
     let same : s'.0 ≡ s.0 = eqb-true s'.0 s.0 on in
-    elim (either (may_sweep st me s' i) (may_clear_out st own me s' i) may.1) [
+    elim (either (may_remove_cancelled st me s' i) (may_clear_out st own me s' i) may.1) [
       | inl sweep ↦
           ap (λ b. b || ((s'.0 == s.0) && has_entered st me s)) (moved (has_begun st me) s' s same (and_parts (has_begun st me s') (in_cancelled_set (st.key s'.0 i)) sweep).0)
       | inr clear ↦

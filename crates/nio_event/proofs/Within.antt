@@ -46,20 +46,20 @@ channels_within l own st me (SetMode k blocking found) may here c = put_keeps (�
 channels_within l own st me (CloseBit k found) may here c = put_keeps (λ m x. x.made ≡ true → m < l.channels) st.chan k.0 _ (λ old e. old e) c (here.channels c)
 channels_within l own st me act may here c = here.channels c
 
-channels_mark_within : (l : Limits) (own : List Act) (st : State) (me : CallerNo) (act : Act) → Condition l own st me act → IsWithin l st
-    → (effect st me act).channels_mark ≤ l.channels
-channels_mark_within l own st me (RaiseChannels n found) may here =
-    let before : st.channels_mark ≤ l.channels = here.channels_mark in
+channels_high_within : (l : Limits) (own : List Act) (st : State) (me : CallerNo) (act : Act) → Condition l own st me act → IsWithin l st
+    → (effect st me act).channels_high ≤ l.channels
+channels_high_within l own st me (RaiseChannels n found) may here =
+    let before : st.channels_high ≤ l.channels = here.channels_high in
     let new : n ≤ l.channels = may.0 in
     omega arith
-channels_mark_within l own st me act may here = here.channels_mark
+channels_high_within l own st me act may here = here.channels_high
 
-keys_mark_within : (l : Limits) (own : List Act) (st : State) (me : CallerNo) (act : Act) → Condition l own st me act → IsWithin l st
-    → (s : ℕ) → (effect st me act).keys_mark s ≤ l.keys
-keys_mark_within l own st me (RaiseKeys k n found) may here s =
+keys_high_within : (l : Limits) (own : List Act) (st : State) (me : CallerNo) (act : Act) → Condition l own st me act → IsWithin l st
+    → (s : ℕ) → (effect st me act).keys_high s ≤ l.keys
+keys_high_within l own st me (RaiseKeys k n found) may here s =
     let new : n ≤ l.keys = may.1 in
-    put_keeps (λ _ m. m ≤ l.keys) st.keys_mark k.0 (max (st.keys_mark k.0) n) (λ before. omega arith) s (here.keys_mark s)
-keys_mark_within l own st me act may here s = here.keys_mark s
+    put_keeps (λ _ m. m ≤ l.keys) st.keys_high k.0 (max (st.keys_high k.0) n) (λ before. omega arith) s (here.keys_high s)
+keys_high_within l own st me act may here s = here.keys_high s
 
 -- an index, its selector and its channel are within the limits where it is claimed
 abbrev KeyWithin : Limits → ℕ → ℕ → Stage → Type 0
@@ -191,8 +191,8 @@ within_opening l = record {
   interrupted = λ n e. absurd cc;
   selectors = λ s e. absurd cc;
   channels = λ c e. absurd cc;
-  channels_mark = omega arith;
-  keys_mark = λ s. omega arith;
+  channels_high = omega arith;
+  keys_high = λ s. omega arith;
   keys = λ s i e. absurd cc;
   holds = λ c. none_within l;
   turns = λ s. none_within l;
@@ -209,8 +209,8 @@ within_step l past e legal step here = record {
   interrupted = interrupted_within l (mine e.caller past) (state_after past) e.caller e.act step.condition here;
   selectors = selectors_within l (mine e.caller past) (state_after past) e.caller e.act step.condition here;
   channels = channels_within l (mine e.caller past) (state_after past) e.caller e.act step.condition here;
-  channels_mark = channels_mark_within l (mine e.caller past) (state_after past) e.caller e.act step.condition here;
-  keys_mark = keys_mark_within l (mine e.caller past) (state_after past) e.caller e.act step.condition here;
+  channels_high = channels_high_within l (mine e.caller past) (state_after past) e.caller e.act step.condition here;
+  keys_high = keys_high_within l (mine e.caller past) (state_after past) e.caller e.act step.condition here;
   keys = keys_within l (mine e.caller past) (state_after past) e.caller e.act step.condition here;
   holds = holds_within l (state_after past) e.caller e.act step.by_caller step.answers here;
   turns = turns_within l (state_after past) e.caller e.act step.by_caller step.answers here;

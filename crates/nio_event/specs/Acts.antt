@@ -7,7 +7,7 @@ use Rattle.std.specs.Prelude.{ℕ, suc, max, nat_lt, Bool, true, false, not, ◌
 use Rattle.nio_base.specs.declared.kind.Kind.{Kind}
 use Rattle.nio_base.specs.declared.numbers.CallerNo.{CallerNo}
 use Rattle.nio_base.specs.declared.numbers.ChanNo.{ChanNo}
-use Rattle.nio_event.specs.State.{State, with_drawn, with_interrupted, with_selector, with_channels_mark, with_chan, with_hold, with_noted, with_gate, with_turn, with_keys_mark, with_key, with_interest, with_mark, with_note, with_pin, with_free, with_begun, with_closer, with_entered, with_taker, with_put_due, with_no_put_due, unmarked, last_serial}
+use Rattle.nio_event.specs.State.{State, with_drawn, with_interrupted, with_selector, with_channels_high, with_chan, with_hold, with_noted, with_gate, with_turn, with_keys_high, with_key, with_interest, with_mark, with_note, with_pin, with_free, with_begun, with_closer, with_entered, with_taker, with_put_due, with_no_put_due, unmarked, last_serial}
 use Rattle.nio_event.specs.declared.act.Act.{Act}
 use Rattle.nio_event.specs.declared.act.Act.TheVariants.{DrawBit, MakeSelector, LookSelectors, Wake, LookGate, SetInterrupt, TakeInterrupt, LookInterrupt, LookKey, CancelKey, LookInterest, SwapInterest, OrInterest, AndInterest, SwapNote, LookNote, MakeChannel, LookChannel, Claim, RaiseKeys, LookKeys, Publish, LookReg, Enrol, TakeTurn, BeginLook, GiveTurn, Remove, LookMark, Mark, UnselectBit, EndWake, LookChannels, RaiseChannels, TryHoldBit, Release, SetMode, CloseBit, ShutBit, Enter, Pin, Unpin, ClearMark, ClaimAgain, LookFree, PutFree, TakeFree}
 use Rattle.nio_event.specs.declared.found.Chan.{Chan}
@@ -82,7 +82,7 @@ effect st me (LookChannel c found) = st
 effect st me (Claim s i c found) =
     with_pin (with_key st s.0 i (if found then st.key s.0 i else new_key c 0)) s.0 i me.0 (st.pinned s.0 i me.0 || not found)
 -- the keys' mark is at least n
-effect st me (RaiseKeys s n found) = with_keys_mark st s.0 (max (st.keys_mark s.0) n)
+effect st me (RaiseKeys s n found) = with_keys_high st s.0 (max (st.keys_high s.0) n)
 -- looks
 effect st me (LookKeys s found) = st
 -- the key is published
@@ -111,7 +111,7 @@ effect st me (EndWake s found) = with_gate st s.0 (record (st.gate s.0) { woken 
 -- looks
 effect st me (LookChannels found) = st
 -- the channels' mark is at least n
-effect st me (RaiseChannels n found) = with_channels_mark st (max st.channels_mark n)
+effect st me (RaiseChannels n found) = with_channels_high st (max st.channels_high n)
 -- where nobody had the hold, the caller has it
 effect st me (TryHoldBit c found) = with_hold st c.0 (taken_by me found)
 -- nobody has the hold

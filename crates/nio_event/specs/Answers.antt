@@ -84,9 +84,9 @@ act_from st me (look_channel c) = LookChannel c (st.chan c.0)
 -- whether it was claimed
 act_from st me (claim s i c) = Claim s i c (st.key s.0 i).claimed
 -- the mark before
-act_from st me (raise_keys s n) = RaiseKeys s n (st.keys_mark s.0)
+act_from st me (raise_keys s n) = RaiseKeys s n (st.keys_high s.0)
 -- the mark
-act_from st me (look_keys s) = LookKeys s (st.keys_mark s.0)
+act_from st me (look_keys s) = LookKeys s (st.keys_high s.0)
 -- the stage before
 act_from st me (publish s i) = Publish s i (st.key s.0 i)
 -- the noted key, if any
@@ -110,9 +110,9 @@ act_from st me (unselect_bit s i) = UnselectBit s i (st.mark s.0 i).selected
 -- the gate before
 act_from st me (end_wake s) = EndWake s (st.gate s.0)
 -- the mark
-act_from st me look_channels = LookChannels st.channels_mark
+act_from st me look_channels = LookChannels st.channels_high
 -- the mark before
-act_from st me (raise_channels n) = RaiseChannels n st.channels_mark
+act_from st me (raise_channels n) = RaiseChannels n st.channels_high
 -- who had the hold
 act_from st me (try_hold_bit c) = TryHoldBit c (st.hold c.0)
 -- nothing

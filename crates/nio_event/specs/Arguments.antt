@@ -74,13 +74,13 @@ pub record IsSerial (m : ℕ) : Type 0 where
   pub fits : IsNumber m
 
 -- a key, as a line may name it
-pub record IsKey (k : KeyId) : Type 0 where
+pub record IsKeyName (k : KeyId) : Type 0 where
   pub index_fits : IsNumber k.index
   pub serial_fits : IsNumber k.serial
 
 -- a key with operations, as a line may name them
 pub record IsPair (p : KeyId × ℕ) : Type 0 where
-  pub key_fits : IsKey p.0
+  pub key_fits : IsKeyName p.0
   pub ops_fit : p.1 < 256
 
 -- keys with operations, each key at most once
@@ -110,9 +110,9 @@ ArgumentsFit (one_kind kind) = ⊤
 ArgumentsFit (channel_mode c on) = IsNumber c.0
 ArgumentsFit (channel_selector c s) = IsNumber c.0 × IsNumber s.0
 ArgumentsFit (registration s c ops att) = IsNumber s.0 × IsNumber c.0 × (ops < 256) × IsAttachment att
-ArgumentsFit (selector_key s k) = IsNumber s.0 × IsKey k
-ArgumentsFit (key_ops s k ops) = IsNumber s.0 × IsKey k × (ops < 256)
-ArgumentsFit (key_number s k n) = IsNumber s.0 × IsKey k × (n < 2 ^ 64)
+ArgumentsFit (selector_key s k) = IsNumber s.0 × IsKeyName k
+ArgumentsFit (key_ops s k ops) = IsNumber s.0 × IsKeyName k × (ops < 256)
+ArgumentsFit (key_number s k n) = IsNumber s.0 × IsKeyName k × (n < 2 ^ 64)
 ArgumentsFit (selector_wait s waiting) = IsNumber s.0 × IsTime waiting
 ArgumentsFit (selector_told s elapsed pairs) = IsNumber s.0 × ArePairs pairs
 

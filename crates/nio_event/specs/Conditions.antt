@@ -85,8 +85,8 @@ abbrev pub has_taken : State → CallerNo → SelNo → ℕ → Bool
 has_taken st me s i = is_held_by me (st.taker s.0 i)
 
 -- a selecting caller removes a key of the cancelled set
-abbrev pub may_sweep : State → CallerNo → SelNo → ℕ → Bool
-may_sweep st me s i = has_begun st me s && in_cancelled_set (st.key s.0 i)
+abbrev pub may_remove_cancelled : State → CallerNo → SelNo → ℕ → Bool
+may_remove_cancelled st me s i = has_begun st me s && in_cancelled_set (st.key s.0 i)
 
 -- a selecting caller puts an index whose key its selection removed, at a serial below the last
 abbrev pub may_put_due : State → CallerNo → SelNo → ℕ → Bool
@@ -155,7 +155,7 @@ Condition l own st me (BeginLook s found) = IsSelector l s × IsTrue (has_turn s
 Condition l own st me (GiveTurn s) = IsSelector l s × IsTrue (has_turn st me s)
 -- either the caller has begun on s and the key is in the cancelled set, or it has entered s and found i below
 -- its mark
-Condition l own st me (Remove s i found) = IsKey l s i × IsTrue (may_sweep st me s i || may_clear_out st own me s i)
+Condition l own st me (Remove s i found) = IsKey l s i × IsTrue (may_remove_cancelled st me s i || may_clear_out st own me s i)
 -- the caller has a pin on i, or has begun on s
 Condition l own st me (LookMark s i found) = IsKey l s i × IsTrue (has_pin st me s i || has_begun st me s)
 -- the caller has begun on s; what is told isn't empty

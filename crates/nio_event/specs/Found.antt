@@ -6,7 +6,7 @@ use Rattle.nio_base.specs.declared.numbers.CallerNo.{CallerNo}
 use Rattle.nio_event.specs.Acts.{effect}
 use Rattle.nio_event.specs.Answers.{Answers}
 use Rattle.nio_event.specs.Histories.{state_after, event_of, mine, IsStep, IsLegal, HistoryClause}
-use Rattle.nio_event.specs.Lasting.{LastingFact, selector_made, selector_shut, channel_made, channel_closed, index_claimed, key_claimed, key_published, key_cancelled, key_removed, below_keys_mark, below_channels_mark, stands}
+use Rattle.nio_event.specs.Permanent.{PermanentFact, selector_made, selector_shut, channel_made, channel_closed, index_claimed, key_claimed, key_published, key_cancelled, key_removed, below_keys_high, below_channels_high, stands}
 use Rattle.nio_event.specs.OwnEvents.{has}
 use Rattle.nio_event.specs.Sets.{was_claimed, was_published, was_cancelled, was_removed}
 use Rattle.nio_event.specs.declared.act.Act.{Act}
@@ -96,16 +96,16 @@ LooksTell = (l : Limits) (me : CallerNo) (act : Act) (past later : List Event) �
 
 -- of which permanent facts a gate, a channel and a stage tell that are found
 
-abbrev pub gate_tells : ℕ → GateWord → LastingFact → Bool
+abbrev pub gate_tells : ℕ → GateWord → PermanentFact → Bool
 gate_tells s found (selector_shut s') = (s == s') && found.shut
 gate_tells s found _ = false
 
-abbrev pub channel_tells : ℕ → Chan → LastingFact → Bool
+abbrev pub channel_tells : ℕ → Chan → PermanentFact → Bool
 channel_tells c found (channel_made c') = (c == c') && found.made
 channel_tells c found (channel_closed c') = (c == c') && found.closed
 channel_tells c found _ = false
 
-abbrev pub stage_tells : ℕ → ℕ → Stage → LastingFact → Bool
+abbrev pub stage_tells : ℕ → ℕ → Stage → PermanentFact → Bool
 stage_tells s i found (index_claimed s' i') = (s == s') && (i == i') && found.claimed
 stage_tells s i found (key_claimed s' i' serial) = (s == s') && (i == i') && was_claimed found serial
 stage_tells s i found (key_published s' i' serial) = (s == s') && (i == i') && was_published found serial
@@ -115,21 +115,21 @@ stage_tells s i found _ = false
 
 -- and the word of the selectors and the two high-water marks
 
-abbrev pub selectors_tell : ℕ → LastingFact → Bool
+abbrev pub selectors_tell : ℕ → PermanentFact → Bool
 selectors_tell found (selector_made s) = bit_at found s == 1
 selectors_tell found _ = false
 
-abbrev pub keys_mark_tells : ℕ → ℕ → LastingFact → Bool
-keys_mark_tells s found (below_keys_mark s' i) = (s == s') && nat_lt i found
-keys_mark_tells s found _ = false
+abbrev pub keys_high_tells : ℕ → ℕ → PermanentFact → Bool
+keys_high_tells s found (below_keys_high s' i) = (s == s') && nat_lt i found
+keys_high_tells s found _ = false
 
-abbrev pub channels_mark_tells : ℕ → LastingFact → Bool
-channels_mark_tells found (below_channels_mark c) = nat_lt c found
-channels_mark_tells found _ = false
+abbrev pub channels_high_tells : ℕ → PermanentFact → Bool
+channels_high_tells found (below_channels_high c) = nat_lt c found
+channels_high_tells found _ = false
 
 -- what the step found tells that the fact stands: a gate, a channel, a stage, the word of the selectors or a
 -- high-water mark. A flag or a holder tells of none here
-abbrev pub finds : Act → LastingFact → Bool
+abbrev pub finds : Act → PermanentFact → Bool
 finds (DrawBit n found) f = false
 finds (MakeSelector s found) f = false
 finds (LookSelectors found) f = selectors_tell found f
@@ -149,8 +149,8 @@ finds (LookNote s i found) f = false
 finds (MakeChannel c kind found) f = false
 finds (LookChannel c found) f = channel_tells c.0 found f
 finds (Claim s i c found) f = false
-finds (RaiseKeys s n found) f = keys_mark_tells s.0 found f
-finds (LookKeys s found) f = keys_mark_tells s.0 found f
+finds (RaiseKeys s n found) f = keys_high_tells s.0 found f
+finds (LookKeys s found) f = keys_high_tells s.0 found f
 finds (Publish s i found) f = stage_tells s.0 i found f
 finds (LookReg c s found) f = false
 finds (Enrol c s i serial found) f = false
@@ -162,8 +162,8 @@ finds (LookMark s i found) f = false
 finds (Mark s i from told found) f = false
 finds (UnselectBit s i found) f = false
 finds (EndWake s found) f = gate_tells s.0 found f
-finds (LookChannels found) f = channels_mark_tells found f
-finds (RaiseChannels n found) f = channels_mark_tells found f
+finds (LookChannels found) f = channels_high_tells found f
+finds (RaiseChannels n found) f = channels_high_tells found f
 finds (TryHoldBit c found) f = false
 finds (Release c) f = false
 finds (SetMode c blocking found) f = channel_tells c.0 found f
@@ -181,4 +181,4 @@ finds (TakeFree s i found) f = false
 -- whatever a caller found so, whenever that was, stands
 abbrev pub FoundStands : Type 0
 FoundStands = (l : Limits) (n : CallerNo) (events : List Event) → IsLegal l events
-    → (f : LastingFact) → IsTrue (has (λ act. finds act f) (mine n events)) → IsTrue (stands f (state_after events))
+    → (f : PermanentFact) → IsTrue (has (λ act. finds act f) (mine n events)) → IsTrue (stands f (state_after events))

@@ -10,8 +10,8 @@ use Rattle.nio_base.specs.declared.numbers.KeyId.{KeyId}
 use Rattle.nio_base.specs.declared.numbers.SelNo.{SelNo}
 use Rattle.nio_event.specs.Conditions.{holds}
 use Rattle.nio_event.specs.Histories.{state_after, mine, IsLegal}
-use Rattle.nio_event.specs.Lasting.{OwnFact, a_selection, the_hold, is_had_by, gives_back}
-use Rattle.nio_event.specs.OwnEvents.{has, last, sets_mode, notes, publishes, noted_found, is_clear_by, is_clear}
+use Rattle.nio_event.specs.Permanent.{OwnFact, a_selection, the_hold, is_had_by, gives_back}
+use Rattle.nio_event.specs.OwnEvents.{has, last, sets_mode, notes_key, publishes, noted_found, is_clear_by, is_clear}
 use Rattle.nio_event.specs.Pins.{removes}
 use Rattle.nio_event.specs.Sets.{is_in_key_set}
 use Rattle.nio_event.specs.Turns.{selects_on}
@@ -37,7 +37,7 @@ ModeStays = (l : Limits) (n : CallerNo) (c : ChanNo) (before later : List Event)
 -- the same key stays noted for the channel in a selector where the caller notes none there
 abbrev pub NotedStays : Type 0
 NotedStays = (l : Limits) (n : CallerNo) (c : ChanNo) (before later : List Event) → Keeps l n (the_hold c) before later
-    → (s : SelNo) → IsFalse (has (notes c.0 s.0) (mine n later))
+    → (s : SelNo) → IsFalse (has (notes_key c.0 s.0) (mine n later))
     → (state_after (before ++ later)).noted c.0 s.0 ≡ (state_after before).noted c.0 s.0
 
 -- the key that the caller last found noted for the channel, or noted itself, is noted there

@@ -7,7 +7,7 @@ pub mod OwnEvents
 pub mod Conditions
 pub mod Histories
 pub mod PassViews
-pub mod Lasting
+pub mod Permanent
 pub mod Sound
 pub mod Staying
 pub mod Turns
@@ -24,3 +24,4 @@ pub mod Replies
 pub mod Script
 pub mod Lines
 pub mod Printing
+pub mod Timeout

@@ -189,9 +189,9 @@ abbrev pub is_unpublished : ℕ → ℕ → List Act → Bool
 is_unpublished s i own = is_yes (last (leaves_unpublished s i) own)
 
 -- it noted a key for channel c in selector s
-abbrev pub notes : ℕ → ℕ → Act → Bool
-notes c s (Enrol c' s' i serial found) = (c'.0 == c) && (s'.0 == s)
-notes c s _ = false
+abbrev pub notes_key : ℕ → ℕ → Act → Bool
+notes_key c s (Enrol c' s' i serial found) = (c'.0 == c) && (s'.0 == s)
+notes_key c s _ = false
 
 -- it published the key of index i of selector s
 abbrev pub publishes : ℕ → ℕ → Act → Bool
@@ -201,15 +201,15 @@ publishes s i _ = false
 -- ---- a channel's noted key
 
 -- what it did under its hold since it last noted a key for the channel or published the key of index i
-abbrev pub since_noted : ℕ → ℕ → ℕ → List Act → List Act
-since_noted c s i held = since_from (λ act. notes c s act || publishes s i act) held
+abbrev pub since_key_noted : ℕ → ℕ → ℕ → List Act → List Act
+since_key_noted c s i held = since_from (λ act. notes_key c s act || publishes s i act) held
 
 -- by what it did under its hold, none was noted, or the key that was it found outside the key set; a look
 -- that is older than its own noting or publishing there doesn't count
 abbrev pub is_clear_by : ℕ → ℕ → List Act → Option (Option KeyId) → Bool
 is_clear_by c s held None = false
 is_clear_by c s held (Some None) = true
-is_clear_by c s held (Some (Some k)) = has (finds_outside s k) (since_noted c s k.index held)
+is_clear_by c s held (Some (Some k)) = has (finds_outside s k) (since_key_noted c s k.index held)
 
 -- the same of channel c in selector s, under its present hold of c
 abbrev pub is_clear : ℕ → ℕ → List Act → Bool

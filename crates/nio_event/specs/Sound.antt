@@ -8,9 +8,9 @@ use Rattle.nio_event.specs.State.{State, unmade_channel, unclaimed, last_serial}
 
 pub record IsSound (st : State) : Type 0 where
   -- every channel below the channels' mark is made
-  pub channels_below : (c : ℕ) → c < st.channels_mark → IsTrue (st.chan c).made
+  pub channels_below : (c : ℕ) → c < st.channels_high → IsTrue (st.chan c).made
   -- every index below a selector's keys' mark is claimed
-  pub keys_below : (s i : ℕ) → i < st.keys_mark s → IsTrue (st.key s i).claimed
+  pub keys_below : (s i : ℕ) → i < st.keys_high s → IsTrue (st.key s i).claimed
   -- a channel that isn't made and an index that isn't claimed are as in the opening state
   pub unmade_bare : (c : ℕ) → IsFalse (st.chan c).made → st.chan c ≡ unmade_channel
   pub unclaimed_bare : (s i : ℕ) → IsFalse (st.key s i).claimed → st.key s i ≡ unclaimed
@@ -42,8 +42,8 @@ pub record IsWithin (l : Limits) (st : State) : Type 0 where
   pub interrupted : (n : ℕ) → IsTrue (st.interrupted n) → n < l.callers
   pub selectors : (s : ℕ) → IsTrue (st.selector s) → s < l.selectors
   pub channels : (c : ℕ) → IsTrue (st.chan c).made → c < l.channels
-  pub channels_mark : st.channels_mark ≤ l.channels
-  pub keys_mark : (s : ℕ) → st.keys_mark s ≤ l.keys
+  pub channels_high : st.channels_high ≤ l.channels
+  pub keys_high : (s : ℕ) → st.keys_high s ≤ l.keys
   -- a claimed index, its selector and the channel that it was claimed for
   pub keys : (s i : ℕ) → IsTrue (st.key s i).claimed → (s < l.selectors) × (i < l.keys) × IsChannel l (st.key s i).chan
   -- who holds a channel, has a turn, or closes a selector, and the index that is noted

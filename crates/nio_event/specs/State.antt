@@ -20,7 +20,7 @@ pub record State : Type 0 where
   -- selectors that are made
   pub selector : ℕ → Bool
   -- every channel below the mark is made
-  pub channels_mark : ℕ
+  pub channels_high : ℕ
   -- a channel, and the caller that holds it while it registers it or sets its mode
   pub chan : ℕ → Chan
   pub hold : ℕ → Option CallerNo
@@ -30,7 +30,7 @@ pub record State : Type 0 where
   -- claimed
   pub gate : ℕ → GateWord
   pub turn : ℕ → Option CallerNo
-  pub keys_mark : ℕ → ℕ
+  pub keys_high : ℕ → ℕ
   -- an index, by its selector and its number: the stage of its key, and the key's interest set, mark
   -- and attachment
   pub key : ℕ → ℕ → Stage
@@ -78,13 +78,13 @@ opening = record {
   drawn = λ _. false;
   interrupted = λ _. false;
   selector = λ _. false;
-  channels_mark = 0;
+  channels_high = 0;
   chan = λ _. unmade_channel;
   hold = λ _. None;
   noted = λ _ _. None;
   gate = λ _. open_gate;
   turn = λ _. None;
-  keys_mark = λ _. 0;
+  keys_high = λ _. 0;
   key = λ _ _. unclaimed;
   interest = λ _ _. 0;
   mark = λ _ _. unmarked;
@@ -117,8 +117,8 @@ with_interrupted st n x = record st { interrupted = put st.interrupted n x }
 abbrev pub with_selector : State → ℕ → Bool → State
 with_selector st s x = record st { selector = put st.selector s x }
 
-abbrev pub with_channels_mark : State → ℕ → State
-with_channels_mark st n = record st { channels_mark = n }
+abbrev pub with_channels_high : State → ℕ → State
+with_channels_high st n = record st { channels_high = n }
 
 abbrev pub with_chan : State → ℕ → Chan → State
 with_chan st c x = record st { chan = put st.chan c x }
@@ -135,8 +135,8 @@ with_gate st s x = record st { gate = put st.gate s x }
 abbrev pub with_turn : State → ℕ → Option CallerNo → State
 with_turn st s x = record st { turn = put st.turn s x }
 
-abbrev pub with_keys_mark : State → ℕ → ℕ → State
-with_keys_mark st s n = record st { keys_mark = put st.keys_mark s n }
+abbrev pub with_keys_high : State → ℕ → ℕ → State
+with_keys_high st s n = record st { keys_high = put st.keys_high s n }
 
 abbrev pub with_key : State → ℕ → ℕ → Stage → State
 with_key st s i x = record st { key = put_at st.key s i x }

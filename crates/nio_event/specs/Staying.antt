@@ -6,7 +6,7 @@ use Rattle.nio_base.specs.declared.limits.Limits.{Limits}
 use Rattle.nio_base.specs.declared.numbers.CallerNo.{CallerNo}
 use Rattle.nio_event.specs.Conditions.{Condition}
 use Rattle.nio_event.specs.Histories.{state_after, mine, IsLegal}
-use Rattle.nio_event.specs.Lasting.{LastingFact, stands, OwnFact, is_had_by, gives_back}
+use Rattle.nio_event.specs.Permanent.{PermanentFact, stands, OwnFact, is_had_by, gives_back}
 use Rattle.nio_event.specs.OwnEvents.{has}
 use Rattle.nio_event.specs.Sets.{was_published, is_valid_key}
 use Rattle.nio_event.specs.Sound.{IsSound, IsWithin}
@@ -20,7 +20,7 @@ BeginningsAreLegal = (l : Limits) (before after : List Event) → IsPrefix befor
 -- what is permanent stands after every legal longer history
 abbrev pub FactsArePermanent : Type 0
 FactsArePermanent = (l : Limits) (before after : List Event) → IsPrefix before after → IsLegal l after
-    → (f : LastingFact) → IsTrue (stands f (state_after before)) → IsTrue (stands f (state_after after))
+    → (f : PermanentFact) → IsTrue (stands f (state_after before)) → IsTrue (stands f (state_after after))
 
 -- a published key that isn't valid stays so, also where its index is given to a new key
 abbrev pub InvalidKeysStayInvalid : Type 0

@@ -14,7 +14,7 @@ pub fn beginnings_law()
 /// What is drawn, made, claimed, published, cancelled, removed, closed or shut stays so, the high-water
 /// marks don't fall, and a closer stays the closer. So an invalid key stays invalid, also where its index is
 /// given to a new key.
-pub fn lasting_law()
+pub fn permanent_law()
     ensures permanent { FactsArePermanent }
     ensures invalid { InvalidKeysStayInvalid }
 {}

@@ -11,6 +11,7 @@ pub use pairs::Pairs;
 pub use parse::{ParseError, Parsed, cut_at, is_blank, parse_line, read_number};
 pub use print::{print_line, print_reply};
 pub use reply::{Reply, Why};
+pub use timeout::NegativeTimeout;
 
 mod act;
 mod call;
@@ -23,3 +24,4 @@ mod pairs;
 mod parse;
 mod print;
 mod reply;
+mod timeout;

@@ -7,7 +7,7 @@ use Rattle.nio_base.specs.declared.numbers.CallerNo.{CallerNo}
 use Rattle.nio_base.specs.declared.numbers.ChanNo.{ChanNo}
 use Rattle.nio_base.specs.declared.numbers.KeyId.{KeyId}
 use Rattle.nio_base.specs.declared.numbers.SelNo.{SelNo}
-use Rattle.nio_event.proofs.LastsOnceSound.{lasting_stands}
+use Rattle.nio_event.proofs.LastsOnceSound.{permanent_stands}
 use Rattle.nio_event.proofs.Legal.{legal_beginning, legal_next, legal_more, legal_induction}
 use Rattle.nio_event.proofs.OneMore.{state_after-more, mine-own, mine-other, has-more}
 use Rattle.nio_event.proofs.PinLaws.{own_claims_stand}
@@ -19,7 +19,7 @@ use Rattle.nio_event.specs.Acts.{effect}
 use Rattle.nio_event.specs.Answers.{Answers}
 use Rattle.nio_event.specs.Conditions.{Condition, is_held_by}
 use Rattle.nio_event.specs.Histories.{state_after, event_of, is_by, mine, IsStep, IsLegal}
-use Rattle.nio_event.specs.Lasting.{selector_closed_by}
+use Rattle.nio_event.specs.Permanent.{selector_closed_by}
 use Rattle.nio_event.specs.OwnEvents.{has, enters, since_entered, own_claim}
 use Rattle.nio_event.specs.Pins.{IsOfClaim}
 use Rattle.nio_event.specs.Sets.{in_key_set, is_valid}
@@ -88,7 +88,7 @@ closed_selectors_have_no_key l n s before after fit goes_on legal careful closed
     closer_now : (state_after after).closer s.0 ≡ Some n
     closer_now = closer_is n ((state_after after).closer s.0)
         (subst (λ evs. is_held_by n ((state_after evs).closer s.0) ≡ true) goes_on.1
-        (lasting_stands l before goes_on.0 (subst (IsLegal l) (sym goes_on.1) legal) (selector_closed_by s n) closed.closer))
+        (permanent_stands l before goes_on.0 (subst (IsLegal l) (sym goes_on.1) legal) (selector_closed_by s n) closed.closer))
 
     settled_now : owes (clearing_duty s.0 i) (since_entered s.0 (mine n after)) ≡ false
     settled_now =
@@ -138,7 +138,7 @@ entered_by l s = legal_induction l (λ evs. (state_after evs).entered s.0 ≡ tr
         ]
       where
         still : (n : CallerNo) → is_held_by n ((state_after past).closer s.0) ≡ true → is_held_by n ((state_after (past ++ e ∷ [])).closer s.0) ≡ true
-        still n closer = lasting_stands l past (e ∷ []) (legal_more l past e legal step) (selector_closed_by s n) closer
+        still n closer = permanent_stands l past (e ∷ []) (legal_more l past e legal step) (selector_closed_by s n) closer
 
         on : EnteredBy past s.0 → EnteredBy (past ++ e ∷ []) s.0
         on by = record { caller = by.caller; closer = still by.caller by.closer; had = by_test (is_by by.caller e) refl }

@@ -14,7 +14,7 @@ use Rattle.nio_event.specs.declared.found.Mode.{Mode}
 use Rattle.nio_event.specs.declared.found.Stage.{Stage}
 use Rattle.nio_orderly.proofs.ClosingsKept.{close_channel-keeps}
 use Rattle.nio_orderly.proofs.Kept.{Keeps, keeps_reply, keeps_ask, keeps_bind, keeps_if, keeps_sweep, keeps_over, keeps_seek}
-use Rattle.nio_steps.specs.ChannelCalls.{open_channel_plan, opened, is_open_plan, is_blocking_plan, is_registered_plan, noted_in_set, key_for_plan, under_hold, set_mode_held, set_blocking_plan, register_noted, register_over, close_channel_plan}
+use Rattle.nio_steps.specs.ChannelCalls.{open_channel_plan, opened_channel, is_open_plan, is_blocking_plan, is_registered_plan, noted_in_set, key_for_plan, under_hold, set_mode_held, try_set_blocking_plan, register_noted, register_over, close_channel_plan}
 use Rattle.nio_steps.specs.KeyCalls.{under_pin, find_selector_plan, find_channel_plan, find_plan, is_valid_plan, on_valid, if_valid, on_supported, look_set, put_set, add_set, keep_set, look_ready, interest_plan, set_interest_plan, interest_or_plan, interest_and_plan, ready_plan, cancel_plan, cancel_present, unselect_plan, unselect_present, attach_plan, attach_present, attachment_plan, attachment_present}
 use Rattle.nio_steps.specs.PipeCalls.{pipe_plan, without_sink, with_sink, with_source, if_interrupted, if_open, if_unbroken, try_read_plan, try_write_plan}
 use Rattle.nio_steps.specs.Plan.{Plan}
@@ -90,13 +90,13 @@ attachment-keeps k = keeps_under_pin k.sel k.index (attachment_present k) (λ st
 
 -- ---- channels
 
-pub opened-keeps : {l : Limits} (made : Option ChanNo) → Keeps l (opened made)
-opened-keeps None = search still
-opened-keeps (Some c) = search still
+pub opened_channel-keeps : {l : Limits} (made : Option ChanNo) → Keeps l (opened_channel made)
+opened_channel-keeps None = search still
+opened_channel-keeps (Some c) = search still
 
 pub open_channel-keeps : (l : Limits) (kind : Kind) → Keeps l (open_channel_plan l kind)
 unfolding open_channel_plan
-open_channel-keeps l kind = search (still, opened-keeps) depth 12
+open_channel-keeps l kind = search (still, opened_channel-keeps) depth 12
 
 pub is_open-keeps : {l : Limits} (c : ChanNo) → Keeps l (is_open_plan c)
 unfolding is_open_plan
@@ -124,8 +124,8 @@ under_hold-keeps c steps here = keeps_ask _ _ refl (λ answer. keeps_if _ _ _ (k
 pub mode_held-keeps : (l : Limits) (c : ChanNo) (on : Bool) → Keeps l (set_mode_held l c on)
 mode_held-keeps l c on = search (still, key_for-keeps) depth 12
 
-pub set_blocking-keeps : (l : Limits) (c : ChanNo) (on : Bool) → Keeps l (set_blocking_plan l c on)
-unfolding set_blocking_plan
+pub set_blocking-keeps : (l : Limits) (c : ChanNo) (on : Bool) → Keeps l (try_set_blocking_plan l c on)
+unfolding try_set_blocking_plan
 set_blocking-keeps l c on = keeps_ask _ _ refl (λ answer. keeps_if _ _ _ (keeps_reply _) (under_hold-keeps c (set_mode_held l c on) (mode_held-keeps l c on)))
 
 pub over-keeps : {l : Limits} (s : SelNo) (ops att : ℕ) (noted : Option KeyId) → Keeps l (register_over s ops att noted)

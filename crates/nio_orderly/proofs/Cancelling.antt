@@ -10,13 +10,13 @@ use Rattle.nio_base.specs.declared.numbers.KeyId.{KeyId}
 use Rattle.nio_event.proofs.Claims.{if_some}
 use Rattle.nio_event.proofs.Legal.{legal_more, legal_induction}
 use Rattle.nio_event.proofs.OneMore.{state_after-more, mine-own, mine-other}
-use Rattle.nio_event.proofs.LastsOnceSound.{lasting_stands}
+use Rattle.nio_event.proofs.LastsOnceSound.{permanent_stands}
 use Rattle.nio_event.proofs.Put.{put-same, put_at-there}
 use Rattle.nio_event.proofs.Soundness.{legal-sound, both_ways, not_true}
 use Rattle.nio_event.specs.Acts.{effect}
 use Rattle.nio_event.specs.Answers.{Answers}
 use Rattle.nio_event.specs.Histories.{state_after, event_of, is_by, mine, IsStep, IsLegal}
-use Rattle.nio_event.specs.Lasting.{channel_closed}
+use Rattle.nio_event.specs.Permanent.{channel_closed}
 use Rattle.nio_event.specs.OwnEvents.{stage_found, is_outside, finds_outside}
 use Rattle.nio_event.specs.Sets.{in_key_set, is_in_key_set, is_valid}
 use Rattle.nio_event.specs.Sound.{IsSound}
@@ -194,7 +194,7 @@ closed_since l n c events before since legal did =
     let now : ((state_after (cut.past ++ closing ∷ [])).chan c.0).closed ≡ true =
     subst (λ st. (st.chan c.0).closed ≡ true) (sym (state_after-more cut.past closing)) (ap (λ x. x.closed) (put-same (state_after cut.past).chan c.0 _)) in
     subst (λ evs. ((state_after evs).chan c.0).closed ≡ true) (sym joined)
-    (lasting_stands l (cut.past ++ closing ∷ []) cut.later (subst (IsLegal l) joined legal) (channel_closed c.0) now)
+    (permanent_stands l (cut.past ++ closing ∷ []) cut.later (subst (IsLegal l) joined legal) (channel_closed c.0) now)
 
 -- of a valid key of a channel that a caller closed, the publisher owes the cancelling, or that caller does
 abbrev pub IsOwedBy : List Event → ℕ → ℕ → Type 0

@@ -12,10 +12,10 @@ use Rattle.nio_event.specs.declared.event.Event.{Event}
 use Rattle.nio_event.specs.declared.found.Stage.{Stage}
 use Rattle.nio_orderly.proofs.ActLists.{has_no_first, count-append, has_counts, until_released-append}
 use Rattle.nio_orderly.proofs.LookingBack.{MayPublish}
-use Rattle.nio_orderly.specs.Careful.{notes_for, notes_key, until_released, its_hold, KeepsRules, IsCareful, BeginningsAreCareful}
+use Rattle.nio_orderly.specs.Careful.{notes_for, notes_this_key, until_released, its_hold, KeepsRules, IsCareful, BeginningsAreCareful}
 
 -- who notes a key for a channel notes one for it
-pub key_noted_for : (c s i q : ℕ) (act : Act) → notes_key c s i q act ≡ true → notes_for c act ≡ true
+pub key_noted_for : (c s i q : ℕ) (act : Act) → notes_this_key c s i q act ≡ true → notes_for c act ≡ true
 key_noted_for c s i q (Enrol c' s' i' serial found) noted =
     let three = (and_parts ((c'.0 == c) && (s'.0 == s) && (i' == i)) (serial == q) noted).0 in
     let two = (and_parts ((c'.0 == c) && (s'.0 == s)) (i' == i) three).0 in
@@ -47,7 +47,7 @@ rules_before s i claim before later more rules = record {
 
     some : 1 ≤ count (notes_for c) (its_hold c before later)
     some =
-        let first = has_counts (notes_for c) (notes_key c s i claim.serial) (key_noted_for c s i claim.serial) (under c before) rules.noted in
+        let first = has_counts (notes_for c) (notes_this_key c s i claim.serial) (key_noted_for c s i claim.serial) (under c before) rules.noted in
         omega (arith, count-append (notes_for c) (under c before) (until_released c later))
 
 pub beginnings_are_careful : BeginningsAreCareful
@@ -62,7 +62,7 @@ pub rules_back : (s i : ℕ) (claim : OwnClaim) (before later : List Act) → Ke
 rules_back s i claim before later rules = record {
   noted = rules.noted;
   noted_alone = one_among (count (notes_for c) (under c before)) (count (notes_for c) (until_released c later))
-      (has_counts (notes_for c) (notes_key c s i claim.serial) (key_noted_for c s i claim.serial) (under c before) rules.noted)
+      (has_counts (notes_for c) (notes_this_key c s i claim.serial) (key_noted_for c s i claim.serial) (under c before) rules.noted)
       (sym (count-append (notes_for c) (under c before) (until_released c later)) ∙ rules.noted_alone);
   mode = (has_no_first (sets_mode c) (under c before) (until_released c later) rules.mode).0;
   prepared = rules.prepared;

@@ -102,11 +102,11 @@ removed_now : (st : State) (me : CallerNo) (act : Act) (s i : ℕ) → removes s
 removed_now st me (Remove s' i' found) s i told = ap (λ k. k.removed) (put_at-there st.key s'.0 i' (record (st.key s'.0 i') { removed = true }) s i told)
 removed_now st me act s i told = absurd (cc told)
 
-looks_below : (st : State) (me : CallerNo) (act : Act) (s i : ℕ) → Answers st me act → nat_lt i (st.keys_mark s) ≡ true → looks_at_mark s act ≡ true → finds_below s i act ≡ true
+looks_below : (st : State) (me : CallerNo) (act : Act) (s i : ℕ) → Answers st me act → nat_lt i (st.keys_high s) ≡ true → looks_at_mark s act ≡ true → finds_below s i act ≡ true
 looks_below st me (LookKeys k found) s i answers below looks =
     let same : k.0 ≡ s = eqb-true k.0 s looks in
-    let found_is : found ≡ st.keys_mark k.0 = cc in
-    and_from (k.0 == s) (nat_lt i found) looks (ap (nat_lt i) found_is ∙ subst (λ (m : ℕ). nat_lt i (st.keys_mark m) ≡ true) (sym same) below)
+    let found_is : found ≡ st.keys_high k.0 = cc in
+    and_from (k.0 == s) (nat_lt i found) looks (ap (nat_lt i) found_is ∙ subst (λ (m : ℕ). nat_lt i (st.keys_high m) ≡ true) (sym same) below)
 looks_below st me act s i answers below looks = absurd (cc looks)
 
 -- a closer was so before, or the step shut the selector, which wasn't shut
@@ -182,7 +182,7 @@ coming_before l past e fit legal step careful s i shut coming = by_how coming.ho
     by_how (inr m) = by_caller m (is_by m.caller e) refl
 
 -- a key that is coming is below the mark
-coming_below : (l : Limits) (events : List Event) → IsFit l → IsLegal l events → IsCareful events → (s i : ℕ) → IsComing events s i → nat_lt i ((state_after events).keys_mark s) ≡ true
+coming_below : (l : Limits) (events : List Event) → IsFit l → IsLegal l events → IsCareful events → (s i : ℕ) → IsComing events s i → nat_lt i ((state_after events).keys_high s) ≡ true
 coming_below l events fit legal careful s i coming = elim coming.how [
   | inl published' ↦
       (keys_stand l fit events legal careful).below s i

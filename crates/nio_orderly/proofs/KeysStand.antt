@@ -9,7 +9,7 @@ use Rattle.nio_base.specs.declared.numbers.CallerNo.{CallerNo}
 use Rattle.nio_base.specs.declared.numbers.ChanNo.{ChanNo}
 use Rattle.nio_base.specs.declared.numbers.KeyId.{KeyId}
 use Rattle.nio_event.proofs.Holds.{clear_is_true}
-use Rattle.nio_event.proofs.Lasts.{keys_mark_lasts}
+use Rattle.nio_event.proofs.Lasts.{keys_high_lasts}
 use Rattle.nio_event.proofs.Legal.{legal_induction}
 use Rattle.nio_event.proofs.OneMore.{state_after-more}
 use Rattle.nio_event.proofs.Put.{put_keeps}
@@ -19,7 +19,7 @@ use Rattle.nio_event.specs.Acts.{effect}
 use Rattle.nio_event.specs.Answers.{Answers}
 use Rattle.nio_event.specs.Conditions.{Condition, holds}
 use Rattle.nio_event.specs.Histories.{state_after, mine, IsStep, IsLegal}
-use Rattle.nio_event.specs.OwnEvents.{OwnClaim, notes, is_clear, own_claim}
+use Rattle.nio_event.specs.OwnEvents.{OwnClaim, notes_key, is_clear, own_claim}
 use Rattle.nio_event.specs.Sets.{in_key_set, is_in_key_set}
 use Rattle.nio_event.specs.Sound.{IsSound}
 use Rattle.nio_event.specs.State.{State}
@@ -38,7 +38,7 @@ use Rattle.nio_orderly.specs.Owed.{publishes_key, key_of}
 pub record KeysStand (st : State) : Type 0 where
   pub noted : (s i : ℕ) → in_key_set (st.key s i) ≡ true → st.noted (st.key s i).chan.0 s ≡ Some (key_of st s i)
   pub unblocked : (s i : ℕ) → in_key_set (st.key s i) ≡ true → (st.chan (st.key s i).chan.0).blocking ≡ false
-  pub below : (s i : ℕ) → in_key_set (st.key s i) ≡ true → nat_lt i (st.keys_mark s) ≡ true
+  pub below : (s i : ℕ) → in_key_set (st.key s i) ≡ true → nat_lt i (st.keys_high s) ≡ true
 
 -- ---- a key of the key set is claimed
 
@@ -69,7 +69,7 @@ not_clear l past me c s i fit legal stand held clear in_set of_channel =
 pub record Published (past : List Event) (me : CallerNo) (c s : ℕ) (k : KeyId) : Type 0 where
   pub noted : (state_after past).noted c s ≡ Some k
   pub unblocked : ((state_after past).chan c).blocking ≡ false
-  pub below : nat_lt k.index ((state_after past).keys_mark s) ≡ true
+  pub below : nat_lt k.index ((state_after past).keys_high s) ≡ true
   pub claim : OwnClaim
   pub its : own_claim s k.index (mine me past) ≡ Some claim
   pub prepared : is_prepared s k.index (mine me past) ≡ true
@@ -77,7 +77,7 @@ pub record Published (past : List Event) (me : CallerNo) (c s : ℕ) (k : KeyId)
 
 -- what is prepared is below the mark
 pub prepared_below : (l : Limits) (n : CallerNo) (events : List Event) (s i : ℕ) → IsLegal l events → is_prepared s i (mine n events) ≡ true
-    → nat_lt i ((state_after events).keys_mark s) ≡ true
+    → nat_lt i ((state_after events).keys_high s) ≡ true
 prepared_below l n events s i legal prepared = below_left l n events s i legal (prepared_left s i (mine n events) prepared)
 
 pub published : (l : Limits) (past : List Event) (e : Event) → IsFit l → IsLegal l past → IsStep l past e → IsCareful (past ++ e ∷ [])
@@ -124,13 +124,13 @@ publish_spares st me c s k act publish P here = subst (λ a. P (effect st me a))
 
 -- the noted key of a channel with a key of the key set isn't changed
 noted_step : (l : Limits) (past : List Event) (e : Event) → IsFit l → IsLegal l past → IsStep l past e → KeysStand (state_after past)
-    → (s i : ℕ) → in_key_set ((state_after past).key s i) ≡ true → notes ((state_after past).key s i).chan.0 s e.act ≡ false
+    → (s i : ℕ) → in_key_set ((state_after past).key s i) ≡ true → notes_key ((state_after past).key s i).chan.0 s e.act ≡ false
 noted_step l past e fit legal step stand s i in_set = by_act e.act step.condition
   where
     st : State
     st = state_after past
 
-    by_act : (act : Act) → Condition l (mine e.caller past) st e.caller act → notes (st.key s i).chan.0 s act ≡ false
+    by_act : (act : Act) → Condition l (mine e.caller past) st e.caller act → notes_key (st.key s i).chan.0 s act ≡ false
     by_act (Enrol c' s' j q found) may = by_same ((c'.0 == (st.key s i).chan.0) && (s'.0 == s)) refl
       where
         by_same : (b : Bool) → ((c'.0 == (st.key s i).chan.0) && (s'.0 == s)) ≡ b → b ≡ false
@@ -176,7 +176,7 @@ keys_stand_step l past e fit legal step careful stand = record {
   noted = λ s i in_set. elim (came st me e.act step.answers s i in_set) [
     | inl was ↦
         noted_other st me e.act (st'.key s i).chan.0 s (Some (key_of st' s i))
-        (subst (λ (c : ChanNo). notes c.0 s e.act ≡ false) (sym was.channel) (noted_step l past e fit legal step stand s i was.in_set))
+        (subst (λ (c : ChanNo). notes_key c.0 s e.act ≡ false) (sym was.channel) (noted_step l past e fit legal step stand s i was.in_set))
         (subst (λ (c : ChanNo). st.noted c.0 s ≡ Some (key_of st' s i)) (sym was.channel) (stand.noted s i was.in_set ∙ ap (λ (q : ℕ). Some (key i q)) (sym was.serial)))
     | inr new ↦
         publish_spares st me (st'.key s i).chan.0 s (key_of st' s i) e.act (is_publish (st'.key s i).chan.0 s (key_of st' s i) e.act new)
@@ -209,8 +209,8 @@ keys_stand_step l past e fit legal step careful stand = record {
     made : (s i : ℕ) → publishes_key (st'.key s i).chan.0 s (key_of st' s i) e.act ≡ true → Published past me (st'.key s i).chan.0 s (key_of st' s i)
     made s i new = published l past e fit legal step careful (st'.key s i).chan.0 s (key_of st' s i) new
 
-    still : (s i : ℕ) → nat_lt i (st.keys_mark s) ≡ true → nat_lt i (st'.keys_mark s) ≡ true
-    still s i below = lt-ltb i (st'.keys_mark s) (keys_mark_lasts st me e.act s i (ltb-true i (st.keys_mark s) below))
+    still : (s i : ℕ) → nat_lt i (st.keys_high s) ≡ true → nat_lt i (st'.keys_high s) ≡ true
+    still s i below = lt-ltb i (st'.keys_high s) (keys_high_lasts st me e.act s i (ltb-true i (st.keys_high s) below))
 
 -- in every legal and careful history the keys stand so
 pub keys_stand : (l : Limits) → IsFit l → (events : List Event) → IsLegal l events → IsCareful events → KeysStand (state_after events)

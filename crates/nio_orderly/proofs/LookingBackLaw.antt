@@ -14,7 +14,7 @@ use Rattle.nio_event.proofs.Told.{or_right}
 use Rattle.nio_event.specs.Answers.{Answers}
 use Rattle.nio_event.specs.Conditions.{is_held_by}
 use Rattle.nio_event.specs.Histories.{state_after, event_of, mine, IsStep, IsLegal}
-use Rattle.nio_event.specs.Lasting.{the_hold}
+use Rattle.nio_event.specs.Permanent.{the_hold}
 use Rattle.nio_event.specs.OwnEvents.{OwnClaim, has, count, under, takes_hold, sets_mode, releases, own_claim}
 use Rattle.nio_event.specs.State.{State}
 use Rattle.nio_event.specs.declared.act.Act.{Act}

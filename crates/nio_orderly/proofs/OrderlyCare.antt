@@ -23,7 +23,7 @@ use Rattle.nio_orderly.specs.Waited.{waits}
 use Rattle.nio_orderly.specs.Orderly.{AreRuns, HasMadeCalls}
 use Rattle.nio_orderly.specs.Owed.{owes, publisher_duty, clearing_duty}
 use Rattle.nio_orderly.specs.Settled.{claimed_key, IsSettled}
-use Rattle.nio_steps.specs.ChannelCalls.{open_channel_plan, is_open_plan, is_blocking_plan, is_registered_plan, key_for_plan, set_blocking_plan, close_channel_plan}
+use Rattle.nio_steps.specs.ChannelCalls.{open_channel_plan, is_open_plan, is_blocking_plan, is_registered_plan, key_for_plan, try_set_blocking_plan, close_channel_plan}
 use Rattle.nio_steps.specs.KeyCalls.{find_selector_plan, find_channel_plan, find_plan, is_valid_plan, interest_plan, set_interest_plan, interest_or_plan, interest_and_plan, ready_plan, cancel_plan, unselect_plan, attach_plan, attachment_plan}
 use Rattle.nio_steps.specs.PipeCalls.{pipe_plan, pipe_lacks_memory, try_read_plan, try_write_plan}
 use Rattle.nio_steps.specs.SelectCalls.{open_selector_plan, try_begin_plan, begin_lacks_memory, told_plan, leave_plan, shut_plan, try_finish_plan, keys_plan, selected_keys_plan, list_lacks_memory, wakeup_plan, interrupt_plan, interrupted_plan}
@@ -51,7 +51,7 @@ plain_is_kept l (is_open c answer) acts is run = kept_run l (is_open_plan c) act
 plain_is_kept l (is_blocking c answer) acts is run = kept_run l (is_blocking_plan c) acts answer (is_blocking-keeps c) run
 plain_is_kept l (is_registered c answer) acts is run = kept_run l (is_registered_plan l c) acts answer (is_registered-keeps l c) run
 plain_is_kept l (key_for c s answer) acts is run = kept_run l (key_for_plan c s) acts answer (key_for-keeps c s) run
-plain_is_kept l (try_set_blocking c on answer) acts is run = kept_run l (set_blocking_plan l c on) acts answer (set_blocking-keeps l c on) run
+plain_is_kept l (try_set_blocking c on answer) acts is run = kept_run l (try_set_blocking_plan l c on) acts answer (set_blocking-keeps l c on) run
 plain_is_kept l (try_register s c ops att answer) acts is run = register-kept l s c ops att acts answer run
 plain_is_kept l (close_channel c answer) acts is run = kept_run l (close_channel_plan l c) acts answer (close_channel-keeps l c) run
 plain_is_kept l (open_selector answer) acts is run = kept_run l (open_selector_plan l) acts answer (open_selector-keeps l) run

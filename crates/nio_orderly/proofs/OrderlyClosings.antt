@@ -3,12 +3,12 @@ use Rattle.std.proofs.Common.{◌≡◌, ℕ, Bool, true, false, ◌||◌, if◌
 use Rattle.nio_base.specs.declared.limits.Limits.{Limits}
 use Rattle.nio_base.specs.declared.numbers.ChanNo.{ChanNo}
 use Rattle.nio_base.specs.declared.numbers.SelNo.{SelNo}
-use Rattle.nio_event.proofs.LastsOnceSound.{lasting_stands}
+use Rattle.nio_event.proofs.LastsOnceSound.{permanent_stands}
 use Rattle.nio_event.proofs.Soundness.{not_true}
 use Rattle.nio_event.proofs.Stays.{beginnings_are_legal}
 use Rattle.nio_event.specs.Conditions.{is_closer, is_held_by}
 use Rattle.nio_event.specs.Histories.{state_after, mine, event_of, IsLegal}
-use Rattle.nio_event.specs.Lasting.{selector_closed_by}
+use Rattle.nio_event.specs.Permanent.{selector_closed_by}
 use Rattle.nio_event.specs.OwnEvents.{has, since_first, since_entered, enters}
 use Rattle.nio_event.specs.Sets.{is_valid}
 use Rattle.nio_event.specs.declared.act.Act.{Act}
@@ -116,7 +116,7 @@ finish_closes l n s events own acts legal orderly did run = record {
 
     closer_now : is_closer (state_after events) n s ≡ true
     closer_now = subst (λ evs. is_held_by n ((state_after evs).closer s.0) ≡ true) (sym cut.parts)
-        (lasting_stands l cut.past (event_of n (Enter s None) ∷ cut.later) (subst (IsLegal l) cut.parts legal) (selector_closed_by s n)
+        (permanent_stands l cut.past (event_of n (Enter s None) ∷ cut.later) (subst (IsLegal l) cut.parts legal) (selector_closed_by s n)
         (legal.steps cut.past (event_of n (Enter s None)) cut.later cut.parts).condition.1)
 
     by_test : (i : ℕ) (b : Bool) → has (enters s.0) own ≡ b

@@ -16,7 +16,7 @@ use Rattle.nio_orderly.specs.Examples.{unnoted_key}
 use Rattle.nio_orderly.specs.Made.{Made, IsRun, draw, open_selector, open_channel, try_set_blocking, try_register, close_channel}
 use Rattle.nio_orderly.specs.OrderlyExamples.{closed_in_registration, its_key, calls_of_u, calls_of_v, ClosedInRegistration, StepsOfNoCalls}
 use Rattle.nio_orderly.specs.Orderly.{AreRuns, AreCallsOf, HasMadeCalls}
-use Rattle.nio_steps.specs.ChannelCalls.{open_channel_plan, set_blocking_plan, register_plan, close_channel_plan}
+use Rattle.nio_steps.specs.ChannelCalls.{open_channel_plan, try_set_blocking_plan, try_register_plan, close_channel_plan}
 use Rattle.nio_steps.specs.KeyCalls.{cancel_plan}
 use Rattle.nio_steps.specs.SelectCalls.{open_selector_plan}
 use Rattle.nio_steps.specs.Sweeps.{sweep, seek}
@@ -104,11 +104,11 @@ unfolding open_channel_plan seek
 opens_channel = refl ▸ refl ▸ refl ▸ refl
 
 sets_blocking : IsRun small_limits (try_set_blocking c false (Ok tt)) (take 5 (drop 5 own_u))
-unfolding set_blocking_plan
+unfolding try_set_blocking_plan
 sets_blocking = refl ▸ refl ▸ refl ▸ refl ▸ refl ▸ refl
 
 registers : IsRun small_limits (try_register s c 1 7 (Ok its_key)) (drop 10 own_u)
-unfolding register_plan seek
+unfolding try_register_plan seek
 registers = refl ▸ refl ▸ refl ▸ refl ▸ refl ▸ refl ▸ refl ▸ refl ▸ refl ▸ refl ▸ refl ▸ refl ▸ refl ▸ refl ▸ refl ▸ refl ▸ refl ▸ refl
 
 closes_channel : IsRun small_limits (close_channel c true) (drop 1 own_v)

@@ -19,8 +19,8 @@ use Rattle.nio_event.proofs.Told.{either}
 use Rattle.nio_event.specs.Acts.{effect}
 use Rattle.nio_event.specs.Conditions.{Condition, is_held_by, holds, may_publish}
 use Rattle.nio_event.specs.Histories.{state_after, mine, IsStep, IsLegal}
-use Rattle.nio_event.specs.Lasting.{the_hold}
-use Rattle.nio_event.specs.OwnEvents.{OwnClaim, has, count, under, own_claim, notes, finds_unblocked}
+use Rattle.nio_event.specs.Permanent.{the_hold}
+use Rattle.nio_event.specs.OwnEvents.{OwnClaim, has, count, under, own_claim, notes_key, finds_unblocked}
 use Rattle.nio_event.specs.Pins.{IsOfClaim}
 use Rattle.nio_event.specs.State.{State}
 use Rattle.nio_event.specs.declared.act.Act.{Act}
@@ -31,7 +31,7 @@ use Rattle.nio_orderly.proofs.ActLists.{count-more, has_counts}
 use Rattle.nio_orderly.proofs.Careful.{key_noted_for, careful_last}
 use Rattle.nio_orderly.proofs.KeySet.{is_false}
 use Rattle.nio_orderly.proofs.LookingBack.{MayPublish}
-use Rattle.nio_orderly.specs.Careful.{notes_for, notes_key, is_prepared, IsCareful}
+use Rattle.nio_orderly.specs.Careful.{notes_for, notes_this_key, is_prepared, IsCareful}
 use Rattle.nio_orderly.specs.Owed.{publishes_key}
 
 -- ---- which act it is
@@ -63,7 +63,7 @@ is_publish c s k act told = absurd (cc told)
 
 -- ---- the noted key
 
-pub noted_other : (st : State) (me : CallerNo) (act : Act) (c s : ℕ) (o : Option KeyId) → notes c s act ≡ false → st.noted c s ≡ o → (effect st me act).noted c s ≡ o
+pub noted_other : (st : State) (me : CallerNo) (act : Act) (c s : ℕ) (o : Option KeyId) → notes_key c s act ≡ false → st.noted c s ≡ o → (effect st me act).noted c s ≡ o
 noted_other st me (Enrol c' s' i serial found) c s o spared = λ now.
     put_at_keeps (λ m t x. ((c'.0 == m) && (s'.0 == t)) ≡ false → x ≡ o) st.noted c'.0 s'.0 _
     (λ _ spared'. absurd (both_ways ((c'.0 == c'.0) && (s'.0 == s'.0)) (same_two c'.0 s'.0) spared')) c s (λ _. now) spared
@@ -76,11 +76,11 @@ noted_by_holder l own st me n (Enrol k s' i serial found) c s o may held other =
     (λ _ held'. absurd (spares_not me n true (one_holder me n (st.hold k.0) may.3 held') refl (ap (λ b. b && true) other))) c s (λ _. now) held
 noted_by_holder l own st me n act c s o may held other = λ now. now
 
-not_for_not_there : (c s : ℕ) (act : Act) → notes_for c act ≡ false → notes c s act ≡ false
+not_for_not_there : (c s : ℕ) (act : Act) → notes_for c act ≡ false → notes_key c s act ≡ false
 not_for_not_there c s (Enrol c' s' i serial found) none = ap (λ b. b && (s'.0 == s)) none
 not_for_not_there c s act none = refl
 
-key_noted : (st : State) (me : CallerNo) (act : Act) (c s i q : ℕ) → notes_key c s i q act ≡ true → (effect st me act).noted c s ≡ Some (record { index = i; serial = q })
+key_noted : (st : State) (me : CallerNo) (act : Act) (c s i q : ℕ) → notes_this_key c s i q act ≡ true → (effect st me act).noted c s ≡ Some (record { index = i; serial = q })
 key_noted st me (Enrol c' s' i' serial found) c s i q told =
     let four = and_parts ((c'.0 == c) && (s'.0 == s) && (i' == i)) (serial == q) told in
     let three = and_parts ((c'.0 == c) && (s'.0 == s)) (i' == i) four.0 in
@@ -97,19 +97,19 @@ no_such (act ∷ own) = no_such own
 
 -- under its hold a caller noted this key and no other for the channel: so it is noted
 pub noted_under : (l : Limits) (n : CallerNo) (c : ChanNo) (s i q : ℕ) (events : List Event) → IsLegal l events → is_held_by n ((state_after events).hold c.0) ≡ true
-    → count (notes_for c.0) (under c.0 (mine n events)) ≡ 1 → has (notes_key c.0 s i q) (under c.0 (mine n events)) ≡ true
+    → count (notes_for c.0) (under c.0 (mine n events)) ≡ 1 → has (notes_this_key c.0 s i q) (under c.0 (mine n events)) ≡ true
     → (state_after events).noted c.0 s ≡ Some (record { index = i; serial = q })
 noted_under l n c s i q events legal held once had =
     let since = held_since l n c events legal held in
     let known = knows_while l n (the_hold c) (λ _. false) Knows own_step other_step since.before since.later since.keeps (no_such (mine n since.later)) (λ one. absurd cc)
-    (sym (ap (count (notes_for c.0)) since.own) ∙ once) (sym (ap (has (notes_key c.0 s i q)) since.own) ∙ had) in
+    (sym (ap (count (notes_for c.0)) since.own) ∙ once) (sym (ap (has (notes_this_key c.0 s i q)) since.own) ∙ had) in
     subst (λ evs. (state_after evs).noted c.0 s ≡ key) (sym since.whole) known
   where
     key : Option KeyId
     key = Some (record { index = i; serial = q })
 
     Knows : List Act → State → Type 0
-    Knows did st = count (notes_for c.0) did ≡ 1 → has (notes_key c.0 s i q) did ≡ true → st.noted c.0 s ≡ key
+    Knows did st = count (notes_for c.0) did ≡ 1 → has (notes_this_key c.0 s i q) did ≡ true → st.noted c.0 s ≡ key
 
     other_step : (past : List Event) (e : Event) → IsLegal l past → IsStep l past e → is_held_by n ((state_after past).hold c.0) ≡ true → (e.caller.0 == n.0) ≡ false
         → (did : List Act) → Knows did (state_after past) → Knows did (effect (state_after past) e.caller e.act)
@@ -123,13 +123,13 @@ noted_under l n c s i q events legal held once had =
         more : count (notes_for c.0) did + cond (notes_for c.0 e.act) 1 0 ≡ 1
         more = sym (count-more (notes_for c.0) did e.act) ∙ one
 
-        had_or : (has (notes_key c.0 s i q) did ≡ true) ⊎ (notes_key c.0 s i q e.act ≡ true)
-        had_or = either (has (notes_key c.0 s i q) did) (notes_key c.0 s i q e.act) (sym (has-more (notes_key c.0 s i q) did e.act) ∙ some)
+        had_or : (has (notes_this_key c.0 s i q) did ≡ true) ⊎ (notes_this_key c.0 s i q e.act ≡ true)
+        had_or = either (has (notes_this_key c.0 s i q) did) (notes_this_key c.0 s i q e.act) (sym (has-more (notes_this_key c.0 s i q) did e.act) ∙ some)
 
         by_note : (b : Bool) → notes_for c.0 e.act ≡ b → (effect (state_after past) e.caller e.act).noted c.0 s ≡ key
         by_note true noted = elim had_or [
           | inl before ↦
-              let few = has_counts (notes_for c.0) (notes_key c.0 s i q) (key_noted_for c.0 s i q) did before in
+              let few = has_counts (notes_for c.0) (notes_this_key c.0 s i q) (key_noted_for c.0 s i q) did before in
               let now : ◌≡◌ {A = ℕ} (cond (notes_for c.0 e.act) 1 0) 1 = ap (λ b. cond b 1 0) noted in
               absurd (omega (arith, more, few, now))
           | inr told ↦ key_noted (state_after past) e.caller e.act c.0 s i q told

@@ -18,9 +18,9 @@ use Rattle.nio_event.specs.declared.found.Stage.{Stage}
 use Rattle.nio_orderly.proofs.ActLists.{count-append, owes-settled, since_first_none}
 use Rattle.nio_orderly.proofs.Kept.{PublishKept, Kept, kept-calm, is_loud, first_or_later}
 use Rattle.nio_orderly.proofs.ListWords.{InFirst, InSecond, split_at, has-first, has-second, has-neither, no_such_act, count-none, count-one, since_from-none, since_first-append, until_released-done}
-use Rattle.nio_orderly.specs.Careful.{notes_for, notes_key, claims, leaves_below, finds_open, until_released, is_prepared}
+use Rattle.nio_orderly.specs.Careful.{notes_for, notes_this_key, claims, leaves_below, finds_open, until_released, is_prepared}
 use Rattle.nio_orderly.specs.Owed.{owes, publisher_duty, settles_key}
-use Rattle.nio_steps.specs.ChannelCalls.{under_hold, register_noted, register_over, claim_taken, claim_free, claim_at_bit, claim_in_word, search_free, words_below, claim_new, settle_key, publish_key, make_key, make_claimed, register_first, register_next, register_rest, register_unblocked, register_held, register_plan}
+use Rattle.nio_steps.specs.ChannelCalls.{under_hold, register_noted, register_over, claim_taken, claim_free, claim_at_bit, claim_in_word, search_free, words_below, claim_new, settle_key, publish_key, make_key, make_claimed, register_first, register_next, register_rest, register_unblocked, register_held, try_register_plan}
 use Rattle.nio_steps.specs.KeyCalls.{has_bit, is_within}
 use Rattle.nio_steps.specs.Names.{key}
 use Rattle.nio_steps.specs.Plan.{Plan, reply, ask, ◌>>=◌, ◌>>◌, when}
@@ -317,7 +317,7 @@ record Noted (s : SelNo) (c : ChanNo) (k : KeyId) (own : List Act) : Type 0 wher
   calm : has is_loud own ≡ false
   claim : own_claim s.0 k.index own ≡ Some (record { channel = c; serial = k.serial })
   prepared : is_prepared s.0 k.index own ≡ true
-  noted : has (notes_key c.0 s.0 k.index k.serial) (under c.0 own) ≡ true
+  noted : has (notes_this_key c.0 s.0 k.index k.serial) (under c.0 own) ≡ true
   alone : count (notes_for c.0) (under c.0 own) ≡ 1
 
 noted-now : (s : SelNo) (c : ChanNo) (k : KeyId) (own : List Act) (act : Act) → question_of act ≡ Question.enrol c s k.index k.serial → Prepared s c k own → Noted s c k (own ++ act ∷ [])
@@ -327,8 +327,8 @@ noted-now s c k own (Enrol c' s' i serial found) asks before = record {
   calm = has-neither is_loud own (enrolled ∷ []) quiet.calm refl;
   claim = claim-stays s.0 k.index own enrolled (Some (record { channel = c; serial = k.serial })) refl before.claimed.claim;
   prepared = prepared-more s.0 k.index own enrolled refl before.prepared;
-  noted = ap (has (notes_key c.0 s.0 k.index k.serial)) (since_from-more (takes_hold c.0) own enrolled)
-      ∙ has-second (notes_key c.0 s.0 k.index k.serial) (under c.0 own) (enrolled ∷ []) (ap (λ b. b || false) its_key);
+  noted = ap (has (notes_this_key c.0 s.0 k.index k.serial)) (since_from-more (takes_hold c.0) own enrolled)
+      ∙ has-second (notes_this_key c.0 s.0 k.index k.serial) (under c.0 own) (enrolled ∷ []) (ap (λ b. b || false) its_key);
   alone = ap (count (notes_for c.0)) (since_from-more (takes_hold c.0) own enrolled)
       ∙ one_in_all (count-append (notes_for c.0) (under c.0 own) (enrolled ∷ []))
       (count-none (notes_for c.0) (under c.0 own) (since_from-none (notes_for c.0) (takes_hold c.0) own quiet.unnoted)) (count-one (notes_for c.0) enrolled its_channel);
@@ -636,8 +636,8 @@ under_hold-leads l s c own steps quiet leads = λ held asks.
     (leads (own ++ held ∷ []) (record { held = has-second (takes_hold c.0) own (held ∷ []) (ap (λ b. b || false) (takes-it c held asks free)); quiet = more }))
     (λ xs answer here released asks'. registers-kept l s c xs released asks' here))
 
-register-leads : (l : Limits) (s : SelNo) (c : ChanNo) (ops att : ℕ) → Leads (λ own _. Kept l own) [] (register_plan l s c ops att)
-unfolding register_plan
+register-leads : (l : Limits) (s : SelNo) (c : ChanNo) (ops att : ℕ) → Leads (λ own _. Kept l own) [] (try_register_plan l s c ops att)
+unfolding try_register_plan
 register-leads l s c ops att = λ look asks.
     let quiet = quiet-one c look (ap still asks) in
     let found = channel_in (answer_of look) in
@@ -645,5 +645,5 @@ register-leads l s c ops att = λ look asks.
     (λ _. leads_if (λ own _. Kept l own) (look ∷ []) found.closed (reply (Err ChannelError.ClosedChannel)) (under_hold c (register_held l s c ops att)) (λ _. kept-calm l (look ∷ []) quiet.calm)
     (λ _. under_hold-leads l s c (look ∷ []) (register_held l s c ops att) quiet (λ own holding. held-leads l s c ops att own holding)))
 
-pub register-kept : (l : Limits) (s : SelNo) (c : ChanNo) (ops att : ℕ) (acts : List Act) (answer : Result KeyNo ChannelError) → Completes (register_plan l s c ops att) acts answer → Kept l acts
-register-kept l s c ops att acts answer run = leads_run (λ own _. Kept l own) [] (register_plan l s c ops att) acts answer (register-leads l s c ops att) run
+pub register-kept : (l : Limits) (s : SelNo) (c : ChanNo) (ops att : ℕ) (acts : List Act) (answer : Result KeyNo ChannelError) → Completes (try_register_plan l s c ops att) acts answer → Kept l acts
+register-kept l s c ops att acts answer run = leads_run (λ own _. Kept l own) [] (try_register_plan l s c ops att) acts answer (register-leads l s c ops att) run

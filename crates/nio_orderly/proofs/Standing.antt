@@ -5,7 +5,7 @@ use Rattle.std.specs.Prelude.{nat_lt}
 use Rattle.std.proofs.lemmas.Bool.{and_parts, ltb-true, lt-ltb}
 use Rattle.nio_base.specs.declared.limits.Limits.{Limits}
 use Rattle.nio_base.specs.declared.numbers.CallerNo.{CallerNo}
-use Rattle.nio_event.proofs.Lasts.{keys_mark_lasts, entered_lasts, made_lasts}
+use Rattle.nio_event.proofs.Lasts.{keys_high_lasts, entered_lasts, made_lasts}
 use Rattle.nio_event.proofs.Legal.{legal_induction}
 use Rattle.nio_event.proofs.OneMore.{state_after-more}
 use Rattle.nio_event.proofs.Put.{put_keeps, put_both, put-same, put_at_keeps}
@@ -82,22 +82,22 @@ entered_told l n events s legal had = has_told l (enters s) (λ st. st.entered s
     n events legal had
 
 -- an index that a caller found or raised the keys' mark above is below the mark
-left_below : (st : State) (me : CallerNo) (act : Act) (s i : ℕ) → Answers st me act → leaves_below s i act ≡ true → nat_lt i ((effect st me act).keys_mark s) ≡ true
+left_below : (st : State) (me : CallerNo) (act : Act) (s i : ℕ) → Answers st me act → leaves_below s i act ≡ true → nat_lt i ((effect st me act).keys_high s) ≡ true
 left_below st me (LookKeys k found) s i answers told =
     let both = and_parts (k.0 == s) (nat_lt i found) told in
     let same : k.0 ≡ s = eqb-true k.0 s both.0 in
-    let stands : found ≡ st.keys_mark k.0 = cc in
-    subst (λ (m : ℕ). nat_lt i (st.keys_mark m) ≡ true) same (subst (λ (m : ℕ). nat_lt i m ≡ true) stands both.1)
+    let stands : found ≡ st.keys_high k.0 = cc in
+    subst (λ (m : ℕ). nat_lt i (st.keys_high m) ≡ true) same (subst (λ (m : ℕ). nat_lt i m ≡ true) stands both.1)
 left_below st me (RaiseKeys k n found) s i answers told =
     let both = and_parts (k.0 == s) (nat_lt i n) told in
     let same : k.0 ≡ s = eqb-true k.0 s both.0 in
     let lower : i < n = ltb-true i n both.1 in
-    subst (λ (m : ℕ). nat_lt i ((effect st me (RaiseKeys k n found)).keys_mark m) ≡ true) same
-    (subst (λ (m : ℕ). nat_lt i m ≡ true) (sym (put-same st.keys_mark k.0 (max (st.keys_mark k.0) n))) (lt-ltb i (max (st.keys_mark k.0) n) (omega arith)))
+    subst (λ (m : ℕ). nat_lt i ((effect st me (RaiseKeys k n found)).keys_high m) ≡ true) same
+    (subst (λ (m : ℕ). nat_lt i m ≡ true) (sym (put-same st.keys_high k.0 (max (st.keys_high k.0) n))) (lt-ltb i (max (st.keys_high k.0) n) (omega arith)))
 left_below st me act s i answers told = absurd (cc told)
 
-pub below_left : (l : Limits) (n : CallerNo) (events : List Event) (s i : ℕ) → IsLegal l events → has (leaves_below s i) (mine n events) ≡ true → nat_lt i ((state_after events).keys_mark s) ≡ true
-below_left l n events s i legal had = has_told l (leaves_below s i) (λ st. nat_lt i (st.keys_mark s))
-    (λ past e step before. lt-ltb i _ (keys_mark_lasts (state_after past) e.caller e.act s i (ltb-true i _ before)))
+pub below_left : (l : Limits) (n : CallerNo) (events : List Event) (s i : ℕ) → IsLegal l events → has (leaves_below s i) (mine n events) ≡ true → nat_lt i ((state_after events).keys_high s) ≡ true
+below_left l n events s i legal had = has_told l (leaves_below s i) (λ st. nat_lt i (st.keys_high s))
+    (λ past e step before. lt-ltb i _ (keys_high_lasts (state_after past) e.caller e.act s i (ltb-true i _ before)))
     (λ past e step. left_below (state_after past) e.caller e.act s i step.answers)
     n events legal had

@@ -16,11 +16,11 @@ use Rattle.nio_orderly.specs.Waited.{waits, AreCallsFrom, WaitingCallsAreCalls, 
 use Rattle.nio_steps.proofs.BeginLaws.{begin-parts}
 use Rattle.nio_steps.proofs.Lists.{all-one}
 use Rattle.nio_steps.proofs.Walks.{Always, always_bind, always_if, always_any, always_run}
-use Rattle.nio_steps.specs.ChannelCalls.{set_blocking_plan, register_plan, finds_held}
+use Rattle.nio_steps.specs.ChannelCalls.{try_set_blocking_plan, try_register_plan, finds_held}
 use Rattle.nio_steps.specs.PipeCalls.{Waits, waits_for_bytes, try_read_plan, try_write_plan}
 use Rattle.nio_steps.specs.Plan.{reply, ◌>>◌}
 use Rattle.nio_steps.specs.Runs.{Completes}
-use Rattle.nio_steps.specs.SelectCalls.{Selection, Begins, begin_finds_busy, Poll, Tells, goes_on_after, ToldReply, done, again, told_plan, mark_entry, after_marks, is_again, why_over, sweep_key, end_selection, SelectReply, selected, not_begun, left, SelectsRest, ShutReply, closing, already_closed, FinishReply, closed, busy, finish_finds_busy, ClosesRest, shut_plan, try_finish_plan}
+use Rattle.nio_steps.specs.SelectCalls.{Selection, Begins, begin_finds_busy, Poll, Tells, goes_on_after, ToldReply, done, again, told_plan, mark_entry, after_marks, is_again, why_ended, remove_if_cancelled, end_selection, SelectReply, selected, not_begun, left, SelectsRest, ShutReply, closing, already_closed, FinishReply, closed, busy, finish_finds_busy, ClosesRest, shut_plan, try_finish_plan}
 use Rattle.nio_steps.specs.Steps.{flag_in, gate_in, end_wake, give_turn}
 use Rattle.nio_steps.specs.Sweeps.{sweep_over}
 use Rattle.nio_steps.specs.Waiting.{Then, Run, acts_of, Tries, Repeats, Retries}
@@ -103,14 +103,14 @@ repeats_calls l Shape goes_on Stays Over call repeats acts answer done' last now
 abbrev IsMadeOfCalls : {R : Type 0} → Limits → (List Act → R → Type 0) → (Ongoing → R → Ongoing) → Type 0
 IsMadeOfCalls {R} l Shape leaves = (now : Ongoing) (acts : List Act) (answer : R) → Shape acts answer → AreCallsFrom l now acts (leaves now answer)
 
-set_blocking-calls : (l : Limits) (c : ChanNo) (on : Bool) → IsMadeOfCalls l (Retries (Completes (set_blocking_plan l c on)) finds_held) (λ now _. now)
+set_blocking-calls : (l : Limits) (c : ChanNo) (on : Bool) → IsMadeOfCalls l (Retries (Completes (try_set_blocking_plan l c on)) finds_held) (λ now _. now)
 set_blocking-calls l c on now acts answer retries =
-    calls_from l now acts now (repeats_calls l (λ (_ : Unit {0}). Completes (set_blocking_plan l c on)) (λ _. finds_held) (Now now) (Now now) (λ _ r. try_set_blocking c on r)
+    calls_from l now acts now (repeats_calls l (λ (_ : Unit {0}). Completes (try_set_blocking_plan l c on)) (λ _. finds_held) (Now now) (Now now) (λ _ r. try_set_blocking c on r)
     (λ now' _ xs r here run _. (refl, run, tt, here)) acts answer retries (λ now' _ xs here run. one_call l now' xs (Now now) (try_set_blocking c on answer) refl run tt here) now refl)
 
-register-calls : (l : Limits) (s : SelNo) (c : ChanNo) (ops att : ℕ) → IsMadeOfCalls l (Retries (Completes (register_plan l s c ops att)) finds_held) (λ now _. now)
+register-calls : (l : Limits) (s : SelNo) (c : ChanNo) (ops att : ℕ) → IsMadeOfCalls l (Retries (Completes (try_register_plan l s c ops att)) finds_held) (λ now _. now)
 register-calls l s c ops att now acts answer retries =
-    calls_from l now acts now (repeats_calls l (λ (_ : Unit {0}). Completes (register_plan l s c ops att)) (λ _. finds_held) (Now now) (Now now) (λ _ r. try_register s c ops att r)
+    calls_from l now acts now (repeats_calls l (λ (_ : Unit {0}). Completes (try_register_plan l s c ops att)) (λ _. finds_held) (Now now) (Now now) (λ _ r. try_register s c ops att r)
     (λ now' _ xs r here run _. (refl, run, tt, here)) acts answer retries (λ now' _ xs here run. one_call l now' xs (Now now) (try_register s c ops att answer) refl run tt here) now refl)
 
 read-calls : (l : Limits) (source : ChanNo) (none : Bool) → IsMadeOfCalls l (Waits (try_read_plan l source) none) (λ now _. now)
@@ -172,7 +172,7 @@ GoesOn selection (again next) = next ≡ selection
 
 ends-over : (selection : Selection) (answer : Selected) → Always (λ _ r. GoesOn selection r) (end_selection selection answer)
 ends-over selection answer =
-    always_bind (λ _ _. Unit {0}) (λ _ r. GoesOn selection r) (sweep_over selection.kept (λ i _. sweep_key selection.selector i) tt)
+    always_bind (λ _ _. Unit {0}) (λ _ r. GoesOn selection r) (sweep_over selection.kept (λ i _. remove_if_cancelled selection.selector i) tt)
     (λ _. (end_wake selection.selector >> give_turn selection.selector >> reply (done answer))) (always_any _) (λ _ _ _ woken asks given asks'. tt)
 
 told-goes_on : (selection : Selection) (pairs : List (ℕ × ℕ)) (elapsed : Bool) → Always (λ _ r. GoesOn selection r) (told_plan selection pairs elapsed)
@@ -182,7 +182,7 @@ told-goes_on selection pairs elapsed =
     (λ xs count _ look asks look' asks'.
     let gate = gate_in (answer_of look) in
     let is_interrupted = flag_in (answer_of look') in
-    let answer : Selected = record { count = count; why = why_over selection.mode count gate is_interrupted } in
+    let answer : Selected = record { count = count; why = why_ended selection.mode count gate is_interrupted } in
     always_if (λ _ r. GoesOn selection r) (is_again selection.mode count gate is_interrupted elapsed) (reply (again selection)) (end_selection selection answer) (λ _. refl)
     (λ _. ends-over selection answer))
 

@@ -22,9 +22,9 @@ notes_for c (Enrol c' s i serial found) = c'.0 == c
 notes_for c _ = false
 
 -- it noted the key of index i with this serial for channel c in selector s
-abbrev pub notes_key : ℕ → ℕ → ℕ → ℕ → Act → Bool
-notes_key c s i q (Enrol c' s' i' serial found) = (c'.0 == c) && (s'.0 == s) && (i' == i) && (serial == q)
-notes_key c s i q _ = false
+abbrev pub notes_this_key : ℕ → ℕ → ℕ → ℕ → Act → Bool
+notes_this_key c s i q (Enrol c' s' i' serial found) = (c'.0 == c) && (s'.0 == s) && (i' == i) && (serial == q)
+notes_this_key c s i q _ = false
 
 -- it claimed index i of selector s, for its first key or again
 abbrev pub claims : ℕ → ℕ → Act → Bool
@@ -64,7 +64,7 @@ is_prepared s i own = has (finds_open s) (since_from (claims s i) (since_first (
 -- caller's claim of the index
 pub record KeepsRules (s i : ℕ) (claim : OwnClaim) (before later : List Act) : Type 0 where
   -- under the hold it noted the key before, and no other key for the channel before or later
-  pub noted : IsTrue (has (notes_key claim.channel.0 s i claim.serial) (under claim.channel.0 before))
+  pub noted : IsTrue (has (notes_this_key claim.channel.0 s i claim.serial) (under claim.channel.0 before))
   pub noted_alone : count (notes_for claim.channel.0) (its_hold claim.channel.0 before later) ≡ 1
   -- under the hold it didn't set the mode
   pub mode : IsFalse (has (sets_mode claim.channel.0) (its_hold claim.channel.0 before later))

@@ -11,7 +11,7 @@ use Rattle.nio_event.specs.State.{put}
 use Rattle.nio_event.specs.declared.act.Act.{Act}
 use Rattle.nio_event.specs.declared.act.Act.TheVariants.{DrawBit}
 use Rattle.nio_event.specs.declared.found.Mode.{Mode}
-use Rattle.nio_steps.specs.ChannelCalls.{open_channel_plan, is_open_plan, is_blocking_plan, is_registered_plan, key_for_plan, set_blocking_plan, register_plan, close_channel_plan, SetsBlocking, Registers}
+use Rattle.nio_steps.specs.ChannelCalls.{open_channel_plan, is_open_plan, is_blocking_plan, is_registered_plan, key_for_plan, try_set_blocking_plan, try_register_plan, close_channel_plan, SetsBlocking, Registers}
 use Rattle.nio_steps.specs.KeyCalls.{find_selector_plan, find_channel_plan, find_plan, is_valid_plan, interest_plan, set_interest_plan, interest_or_plan, interest_and_plan, ready_plan, cancel_plan, unselect_plan, attach_plan, attachment_plan}
 use Rattle.nio_steps.specs.PipeCalls.{PipeEnds, MakesPipe, try_read_plan, try_write_plan, Reads, Writes}
 use Rattle.nio_steps.specs.Runs.{Completes}
@@ -98,8 +98,8 @@ IsRun l (is_open c answer) acts = Completes (is_open_plan c) acts answer
 IsRun l (is_blocking c answer) acts = Completes (is_blocking_plan c) acts answer
 IsRun l (is_registered c answer) acts = Completes (is_registered_plan l c) acts answer
 IsRun l (key_for c s answer) acts = Completes (key_for_plan c s) acts answer
-IsRun l (try_set_blocking c on answer) acts = Completes (set_blocking_plan l c on) acts answer
-IsRun l (try_register s c ops att answer) acts = Completes (register_plan l s c ops att) acts answer
+IsRun l (try_set_blocking c on answer) acts = Completes (try_set_blocking_plan l c on) acts answer
+IsRun l (try_register s c ops att answer) acts = Completes (try_register_plan l s c ops att) acts answer
 IsRun l (close_channel c answer) acts = Completes (close_channel_plan l c) acts answer
 IsRun l (open_selector answer) acts = Completes (open_selector_plan l) acts answer
 IsRun l (try_begin s mode answer) acts = Begins s mode acts answer

@@ -195,8 +195,8 @@ module _ (rules : Rules) (l : Limits) (st : ScriptState) (me : CallerNo) (P : Ca
       selector_named s
       (either (not (is_caller me (st.shared.closer s.0)) || st.shared.entered s.0) (says word reply.NotClosing refl)
       (either (is_some (st.shared.turn s.0)) (says word reply.Busy refl) (h.close_end s)))
-  each_call (call.Keys s) = selector_named s (either (st.shared.gate s.0).shut (says (call.Keys s) reply.ClosedSelector refl) (says_names (call.Keys s) (map (key_at st.shared s.0) (filter (λ i. in_key_set (st.shared.key s.0 i)) (below (st.shared.keys_mark s.0))))))
-  each_call (call.Selected s) = selector_named s (either (st.shared.gate s.0).shut (says (call.Selected s) reply.ClosedSelector refl) (says_names (call.Selected s) (map (key_at st.shared s.0) (filter (λ i. in_selected_set st.shared s.0 i) (below (st.shared.keys_mark s.0))))))
+  each_call (call.Keys s) = selector_named s (either (st.shared.gate s.0).shut (says (call.Keys s) reply.ClosedSelector refl) (says_names (call.Keys s) (map (key_at st.shared s.0) (filter (λ i. in_key_set (st.shared.key s.0 i)) (below (st.shared.keys_high s.0))))))
+  each_call (call.Selected s) = selector_named s (either (st.shared.gate s.0).shut (says (call.Selected s) reply.ClosedSelector refl) (says_names (call.Selected s) (map (key_at st.shared s.0) (filter (λ i. in_selected_set st.shared s.0 i) (below (st.shared.keys_high s.0))))))
   each_call (call.Interrupt target) = either (nat_lt target.0 l.callers) (h.interrupt target) (says (call.Interrupt target) reply.NoCaller refl)
   each_call call.Interrupted = h.interrupted
 

@@ -71,7 +71,7 @@ swept_valid k true e set = by (in_cancelled_set k) refl set
 -- a selection that begins
 module _ (rules : Rules) (st : ScriptState) (me : CallerNo) (t : SelNo) (how : Mode) where
   abbrev bound : ℕ
-  bound = st.shared.keys_mark t.0
+  bound = st.shared.keys_high t.0
 
   abbrev swept : State
   swept = without_cancelled rules st.shared t.0

@@ -13,12 +13,12 @@ use Rattle.nio_plain.specs.ScriptState.{ScriptState, with_shared}
 use Rattle.nio_plain.specs.declared.plain.Plain.{Plain}
 
 -- a key is claimed in a selector that is made
-pub claimed-made : (p : Plain) (s i : ℕ) → i < (rows_of p s).keys_mark → s < length p.selectors.items
+pub claimed-made : (p : Plain) (s i : ℕ) → i < (rows_of p s).keys_high → s < length p.selectors.items
 claimed-made p s i h =
     ⊎_elim
     (λ (l : s < length p.selectors.items). l)
     (λ (l : length p.selectors.items ≤ s).
-    let none = ap (λ (r : SelectorRow). r.keys_mark) (places_past selector_row no_selector p.selectors.items s l) in
+    let none = ap (λ (r : SelectorRow). r.keys_high) (places_past selector_row no_selector p.selectors.items s l) in
     absurd (omega arith))
     (cases_lt s (length p.selectors.items))
 

@@ -20,7 +20,7 @@ with_row st s r = record st {
     noted = λ c. put (st.shared.noted c) s (r.noted c);
     gate = put st.shared.gate s r.gate;
     turn = put st.shared.turn s r.turn;
-    keys_mark = put st.shared.keys_mark s r.keys_mark;
+    keys_high = put st.shared.keys_high s r.keys_high;
     key = put st.shared.key s (λ i. (r.keys i).stage);
     interest = put st.shared.interest s (λ i. (r.keys i).interest);
     mark = put st.shared.mark s (λ i. (r.keys i).mark);
@@ -69,7 +69,7 @@ module _ (interrupted : ℕ → Bool) (mark : ℕ) (chan : ℕ → Chan) where
         noted = λ c. put_part (λ (q : SelectorRow). q.noted c) row s r j;
         gate = put_part (λ (q : SelectorRow). q.gate) row s r j;
         turn = put_part (λ (q : SelectorRow). q.turn) row s r j;
-        keys_mark = put_part (λ (q : SelectorRow). q.keys_mark) row s r j;
+        keys_high = put_part (λ (q : SelectorRow). q.keys_high) row s r j;
         key = put_part (λ (q : SelectorRow). λ (i : ℕ). (q.keys i).stage) row s r j;
         interest = put_part (λ (q : SelectorRow). λ (i : ℕ). (q.keys i).interest) row s r j;
         mark = put_part (λ (q : SelectorRow). λ (i : ℕ). (q.keys i).mark) row s r j;

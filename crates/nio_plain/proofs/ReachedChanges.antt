@@ -92,7 +92,7 @@ keeps_left rules l st r s sound = record {
     selected = sound.selected;
     closings = sound.closings;
     looks = here_or_there s (λ b t. LookSound (cond b None (st.selection t)) (cond b None (st.shared.turn t)) (st.shared.key t)) (look-none None (st.shared.key s)) (λ t e. sound.looks t);
-    bounds = here_or_there s (λ b t. BoundSound rules (cond b None (st.selection t)) (st.shared.keys_mark t) (st.shared.key t)) (bound-none rules (st.shared.keys_mark s) (st.shared.key s)) (λ t e. sound.bounds t);
+    bounds = here_or_there s (λ b t. BoundSound rules (cond b None (st.selection t)) (st.shared.keys_high t) (st.shared.key t)) (bound-none rules (st.shared.keys_high s) (st.shared.key s)) (λ t e. sound.bounds t);
   };
   stays = same_stays st.shared.key st.shared.entered;
 }

@@ -6,7 +6,7 @@ use Rattle.nio_base.specs.declared.limits.Limits.{Limits}
 use Rattle.nio_base.specs.declared.numbers.KeyId.{KeyId}
 use Rattle.nio_event.proofs.Put.{put_keeps}
 use Rattle.nio_event.specs.Sets.{fits, in_key_set, is_in_key_set, is_valid}
-use Rattle.nio_event.specs.State.{State, put, with_selector, with_chan, with_channels_mark}
+use Rattle.nio_event.specs.State.{State, put, with_selector, with_chan, with_channels_high}
 use Rattle.nio_event.specs.declared.found.Chan.{Chan}
 use Rattle.nio_event.specs.declared.found.Stage.{Stage}
 use Rattle.nio_event.specs.declared.reply.Reply.{Reply}
@@ -47,8 +47,8 @@ keeps_selector rules l st r s within sound = record {
 }
 
 -- channels that are other than before, as the keys want them
-keeps_channels : (rules : Rules) (l : Limits) (st : ScriptState) (r : Reply) (chan : ℕ → Chan) (channels_mark : ℕ) → ChannelsSound chan st.shared.key → Sound rules l st → Keeps rules l st (answered st r (record st.shared { chan = chan; channels_mark = channels_mark }))
-keeps_channels rules l st r chan channels_mark channels sound = record {
+keeps_channels : (rules : Rules) (l : Limits) (st : ScriptState) (r : Reply) (chan : ℕ → Chan) (channels_high : ℕ) → ChannelsSound chan st.shared.key → Sound rules l st → Keeps rules l st (answered st r (record st.shared { chan = chan; channels_high = channels_high }))
+keeps_channels rules l st r chan channels_high channels sound = record {
   sound = record {
     keys = record {
       selectors = sound.keys.selectors;
@@ -67,7 +67,7 @@ keeps_channels rules l st r chan channels_mark channels sound = record {
 }
 
 -- a channel that wasn't made has no key
-pub keeps_channel : (rules : Rules) (l : Limits) (st : ScriptState) (r : Reply) (c : ℕ) (new : Chan) (mark : ℕ) → new.made ≡ true → new.closed ≡ false → (st.shared.chan c).made ≡ false → Sound rules l st → Keeps rules l st (answered st r (with_channels_mark (with_chan st.shared c new) mark))
+pub keeps_channel : (rules : Rules) (l : Limits) (st : ScriptState) (r : Reply) (c : ℕ) (new : Chan) (mark : ℕ) → new.made ≡ true → new.closed ≡ false → (st.shared.chan c).made ≡ false → Sound rules l st → Keeps rules l st (answered st r (with_channels_high (with_chan st.shared c new) mark))
 keeps_channel rules l st r c new mark made is_open unmade sound =
     let key = st.shared.key in
     let channels = sound.keys.channels in
@@ -97,7 +97,7 @@ keeps_mode rules l st r c on allowed sound =
     let new : Chan = record (st.shared.chan c) { blocking = on } in
     let off : (s i : ℕ) → in_key_set (key s i) ≡ true → c ≡ (key s i).chan.0 → on ≡ false = λ s i h of_channel.
     false_from_ne_true on (λ t. both_ways (on && is_registered l st.shared c) allowed (and_from on (is_registered l st.shared c) t (in_set-registered rules l st c s i sound h (sym of_channel)))) in
-    keeps_channels rules l st r (put st.shared.chan c new) st.shared.channels_mark
+    keeps_channels rules l st r (put st.shared.chan c new) st.shared.channels_high
     (record {
       made = λ s i h. put_keeps (λ _ (x : Chan). x.made ≡ true) st.shared.chan c new (λ old. old) (key s i).chan.0 (channels.made s i h);
       non_blocking = λ s i h.
@@ -143,7 +143,7 @@ module _ (rules : Rules) (l : Limits) (st : ScriptState) (c : ℕ) where
       let without : ScriptState = with_shared st (record st.shared { key = cancelled }) in
       let first = keeps_cancelled rules l st r cancelled (λ s i. cancelled_at s i (key_of closed c s) refl) (λ s i. in_set-cancelled (has_index (key_of closed c s) i) (st.shared.key s i)) sound in
       let channels = first.sound.keys.channels in
-      let second = keeps_channels rules l without r (put st.shared.chan c new) st.shared.channels_mark
+      let second = keeps_channels rules l without r (put st.shared.chan c new) st.shared.channels_high
       (record {
         made = λ s i h. put_keeps (λ _ (x : Chan). x.made ≡ true) st.shared.chan c new (λ old. old) (cancelled s i).chan.0 (channels.made s i h);
         non_blocking = λ s i h. put_keeps (λ _ (x : Chan). x.blocking ≡ false) st.shared.chan c new (λ old. old) (cancelled s i).chan.0 (channels.non_blocking s i h);

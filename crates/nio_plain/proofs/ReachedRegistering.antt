@@ -28,7 +28,7 @@ use Rattle.nio_plain.specs.declared.rules.Rules.TheVariants.{First}
 pub record IsNext (rules : Rules) (st : ScriptState) (s : ℕ) (k : KeyId) : Type 0 where
   pub out : in_key_set (st.shared.key s k.index) ≡ false
   pub older : (q : ℕ) → was_published (st.shared.key s k.index) q ≡ true → q < k.serial
-  pub beyond : rules ≡ First → st.shared.keys_mark s ≤ k.index
+  pub beyond : rules ≡ First → st.shared.keys_high s ≤ k.index
 
 published-older : (k : Stage) (q : ℕ) → was_published k q ≡ true → q < suc k.serial
 published-older k q h =
@@ -58,9 +58,9 @@ module _ (rules : Rules) (l : Limits) (st : ScriptState) (s : ℕ) (sound : Soun
     beyond = λ e. absurd (both_ways (st.shared.free s i) (sound.free.none e s i) free);
   }
 
-  of_mark : IsNext rules st s (record { index = st.shared.keys_mark s; serial = 0 })
+  of_mark : IsNext rules st s (record { index = st.shared.keys_high s; serial = 0 })
   of_mark =
-      let mark = st.shared.keys_mark s in
+      let mark = st.shared.keys_high s in
       let k = st.shared.key s mark in
       let unpublished : k.published ≡ false = false_from_ne_true k.published (λ h. let low = sound.keys.indexes.below s mark h in absurd (omega arith)) in
       record {
@@ -70,14 +70,14 @@ module _ (rules : Rules) (l : Limits) (st : ScriptState) (s : ℕ) (sound : Soun
       }
 
   of_next : (o : Option ℕ) → free_index st.shared s ≡ o → (k : KeyId) → next_by l st.shared s o ≡ Some k → IsNext rules st s k
-  of_next None e k now = by_room (nat_lt (st.shared.keys_mark s) l.keys) now
+  of_next None e k now = by_room (nat_lt (st.shared.keys_high s) l.keys) now
     where
-      by_room : (b : Bool) → cond b (Some (record { index = st.shared.keys_mark s; serial = 0 })) None ≡ Some k → IsNext rules st s k
-      by_room true now' = subst (IsNext rules st s) (some_same (record { index = st.shared.keys_mark s; serial = 0 }) k now') of_mark
+      by_room : (b : Bool) → cond b (Some (record { index = st.shared.keys_high s; serial = 0 })) None ≡ Some k → IsNext rules st s k
+      by_room true now' = subst (IsNext rules st s) (some_same (record { index = st.shared.keys_high s; serial = 0 }) k now') of_mark
       by_room false now' = absurd (both_ways false refl (ap is_some now'))
   of_next (Some i) e k now =
       subst (IsNext rules st s) (some_same (record { index = i; serial = suc (st.shared.key s i).serial }) k now)
-      (of_free i (found_below (λ n. st.shared.free s n) (st.shared.keys_mark s) i e).0)
+      (of_free i (found_below (λ n. st.shared.free s n) (st.shared.keys_high s) i e).0)
 
   pub next-is : (k : KeyId) → next_key l st.shared s ≡ Some k → IsNext rules st s k
   next-is k e = of_next (free_index st.shared s) refl k e
@@ -95,7 +95,7 @@ module _ (rules : Rules) (l : Limits) (st : ScriptState) (s c : ℕ) (sound : So
   noted = put_at st.shared.noted c s (Some k)
 
   abbrev mark : ℕ
-  mark = max (st.shared.keys_mark s) (suc k.index)
+  mark = max (st.shared.keys_high s) (suc k.index)
 
   abbrev free : ℕ → ℕ → Bool
   free = put_at st.shared.free s k.index false
@@ -129,12 +129,12 @@ module _ (rules : Rules) (l : Limits) (st : ScriptState) (s c : ℕ) (sound : So
       })
       t j h
 
-  new-indexes : st.shared.selector s ≡ true → IndexesSound st.shared.selector (put st.shared.keys_mark s mark) keys
+  new-indexes : st.shared.selector s ≡ true → IndexesSound st.shared.selector (put st.shared.keys_high s mark) keys
   new-indexes made = record {
     claimed = each (λ _ _ x. x.published ≡ true → x.claimed ≡ true) (λ _. refl) sound.keys.indexes.claimed;
-    below = each (λ t j x. x.published ≡ true → j < put st.shared.keys_mark s mark t)
-        (λ _. subst (λ (n : ℕ). k.index < n) (sym (put-same st.shared.keys_mark s mark)) (omega arith))
-        (λ t j h. put_keeps (λ _ n. j < n) st.shared.keys_mark s mark (λ old. omega arith) t (sound.keys.indexes.below t j h));
+    below = each (λ t j x. x.published ≡ true → j < put st.shared.keys_high s mark t)
+        (λ _. subst (λ (n : ℕ). k.index < n) (sym (put-same st.shared.keys_high s mark)) (omega arith))
+        (λ t j h. put_keeps (λ _ n. j < n) st.shared.keys_high s mark (λ old. omega arith) t (sound.keys.indexes.below t j h));
     made = each (λ t _ x. x.published ≡ true → st.shared.selector t ≡ true) (λ _. made) sound.keys.indexes.made;
     fresh = each (λ _ _ x. x.published ≡ false → x.serial ≡ 0) (λ h. absurd (both_ways true h refl)) sound.keys.indexes.fresh;
   }
@@ -197,9 +197,9 @@ module _ (rules : Rules) (l : Limits) (st : ScriptState) (s c : ℕ) (sound : So
       (λ j q h. stands (λ (x : Stage). is_in_key_set x q ≡ true) t j (and_parts (fits (st.shared.key t j) q) _ h).1 h)
       (sound.looks t)
 
-  new-bound : (t : ℕ) → BoundSound rules (st.selection t) (put st.shared.keys_mark s mark t) (keys t)
+  new-bound : (t : ℕ) → BoundSound rules (st.selection t) (put st.shared.keys_high s mark t) (keys t)
   new-bound t = record {
-    within = λ x e. put_keeps (λ _ n. x.bound ≤ n) st.shared.keys_mark s mark (λ old. omega arith) t ((sound.bounds t).within x e);
+    within = λ x e. put_keeps (λ _ n. x.bound ≤ n) st.shared.keys_high s mark (λ old. omega arith) t ((sound.bounds t).within x e);
     below = (sound.bounds t).below;
     all = λ f x e i less in_set.
         put_at_keeps (λ u j (y : Stage). (x : Selection) → st.selection u ≡ Some x → j < x.bound → in_key_set y ≡ true → is_looked x.looked (record { index = j; serial = y.serial }) ≡ true) st.shared.key s k.index stage

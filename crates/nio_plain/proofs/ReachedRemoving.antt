@@ -84,8 +84,8 @@ look-none turn key = record {
   in_set = λ x e k l. absurd (both_ways false refl (ap is_some e));
 }
 
-pub bound-none : (rules : Rules) (keys_mark : ℕ) (key : ℕ → Stage) → BoundSound rules None keys_mark key
-bound-none rules keys_mark key = record {
+pub bound-none : (rules : Rules) (keys_high : ℕ) (key : ℕ → Stage) → BoundSound rules None keys_high key
+bound-none rules keys_high key = record {
   within = λ x e. absurd (both_ways false refl (ap is_some e));
   below = λ x e k l. absurd (both_ways false refl (ap is_some e));
   all = λ f x e i l h. absurd (both_ways false refl (ap is_some e));
@@ -131,14 +131,14 @@ looked-has p serial f i (x ∷ xs) (suc n) l e h = by_set (p x) (looked-has p se
     by_set false rest = rest
 
 -- the looked keys are in the key set
-looked_keys-are : (st : State) (s : ℕ) (k : KeyId) → is_looked (looked_keys st s) k ≡ true → (k.index < st.keys_mark s) × (in_key_set (st.key s k.index) ≡ true) × ((st.key s k.index).serial ≡ k.serial)
+looked_keys-are : (st : State) (s : ℕ) (k : KeyId) → is_looked (looked_keys st s) k ≡ true → (k.index < st.keys_high s) × (in_key_set (st.key s k.index) ≡ true) × ((st.key s k.index).serial ≡ k.serial)
 looked_keys-are st s k h =
-    looked-in (λ i. in_key_set (st.key s i)) (λ i. (st.key s i).serial) (st.interest s) (λ i. i < st.keys_mark s) k (below (st.keys_mark s)) (below_all (st.keys_mark s)) h
+    looked-in (λ i. in_key_set (st.key s i)) (λ i. (st.key s i).serial) (st.interest s) (λ i. i < st.keys_high s) k (below (st.keys_high s)) (below_all (st.keys_high s)) h
 
-looked_keys-all : (st : State) (s i : ℕ) → i < st.keys_mark s → in_key_set (st.key s i) ≡ true → is_looked (looked_keys st s) (key_at st s i) ≡ true
+looked_keys-all : (st : State) (s i : ℕ) → i < st.keys_high s → in_key_set (st.key s i) ≡ true → is_looked (looked_keys st s) (key_at st s i) ≡ true
 looked_keys-all st s i l h =
-    let there = below_contains (st.keys_mark s) i l in
-    looked-has (λ n. in_key_set (st.key s n)) (λ n. (st.key s n).serial) (st.interest s) i (below (st.keys_mark s)) there.0 there.1 there.2 h
+    let there = below_contains (st.keys_high s) i l in
+    looked-has (λ n. in_key_set (st.key s n)) (λ n. (st.key s n).serial) (st.interest s) i (below (st.keys_high s)) there.0 there.1 there.2 h
 
 look-begun : (selection : Selection) (me : CallerNo) (key : ℕ → Stage) → ((k : KeyId) → is_looked selection.looked k ≡ true → is_in_key_set (key k.index) k.serial ≡ true) → LookSound (Some selection) (Some me) key
 look-begun selection me key looked = record {
@@ -146,11 +146,11 @@ look-begun selection me key looked = record {
   in_set = λ x e k l. looked k (subst (λ (y : Selection). is_looked y.looked k ≡ true) (sym (some_same selection x e)) l);
 }
 
-bound-begun : (rules : Rules) (st : State) (s : ℕ) (how : Mode) → BoundSound rules (Some (record { mode = how; bound = st.keys_mark s; looked = looked_keys st s })) (st.keys_mark s) (st.key s)
+bound-begun : (rules : Rules) (st : State) (s : ℕ) (how : Mode) → BoundSound rules (Some (record { mode = how; bound = st.keys_high s; looked = looked_keys st s })) (st.keys_high s) (st.key s)
 bound-begun rules st s how =
-    let new : Selection = record { mode = how; bound = st.keys_mark s; looked = looked_keys st s } in
+    let new : Selection = record { mode = how; bound = st.keys_high s; looked = looked_keys st s } in
     record {
-      within = λ x e. subst (λ (y : Selection). y.bound ≤ st.keys_mark s) (some_same new x e) (omega arith);
+      within = λ x e. subst (λ (y : Selection). y.bound ≤ st.keys_high s) (some_same new x e) (omega arith);
       below = λ x e k. subst (λ (y : Selection). is_looked y.looked k ≡ true → k.index < y.bound) (some_same new x e) (λ l. (looked_keys-are st s k l).0);
       all = λ f x e i. subst (λ (y : Selection). i < y.bound → in_key_set (st.key s i) ≡ true → is_looked y.looked (key_at st s i) ≡ true) (some_same new x e) (looked_keys-all st s i);
     }
@@ -162,8 +162,8 @@ keeps_begun rules l st me s how sound =
     let left = (selection_begun rules st me s how).left.shared in
     let after = removed_where goes key in
     let aged = removed-aged goes key in
-    let begun : Selection = record { mode = how; bound = st.shared.keys_mark s; looked = looked_keys left s } in
-    let keys = keys-aged key after aged l st.shared.selector st.shared.keys_mark st.shared.noted st.shared.chan sound.keys in
+    let begun : Selection = record { mode = how; bound = st.shared.keys_high s; looked = looked_keys left s } in
+    let keys = keys-aged key after aged l st.shared.selector st.shared.keys_high st.shared.noted st.shared.chan sound.keys in
     record {
       sound = record {
         keys = keys;
@@ -176,9 +176,9 @@ keeps_begun rules l st me s how sound =
             let claimed = keys.indexes.claimed s k.index (and_parts (after s k.index).published _ are.1).0 in
             and_from (fits (after s k.index) k.serial) (in_key_set (after s k.index)) (and_from (after s k.index).claimed _ claimed (eq-eqb (after s k.index).serial k.serial are.2)) are.1))
             (λ t e. look-elsewhere goes key t (λ i. ap (λ b. b && in_cancelled_set (key s i)) e) (st.selection t) (st.shared.turn t) (sound.looks t));
-        bounds = here_or_there s (λ b t. BoundSound rules (cond b (Some begun) (st.selection t)) (st.shared.keys_mark t) (after t))
+        bounds = here_or_there s (λ b t. BoundSound rules (cond b (Some begun) (st.selection t)) (st.shared.keys_high t) (after t))
             (bound-begun rules left s how)
-            (λ t e. bound-aged key after aged rules t (st.selection t) (st.shared.keys_mark t) (sound.bounds t));
+            (λ t e. bound-aged key after aged rules t (st.selection t) (st.shared.keys_high t) (sound.bounds t));
       };
       stays = stays-aged key after aged st.shared.entered st.shared.entered (λ t h. h);
     }
@@ -221,7 +221,7 @@ keeps_ended rules l st s selection pairs own sound r =
     let aged = removed-aged goes key in
     record {
       sound = record {
-        keys = keys-aged key after aged l st.shared.selector st.shared.keys_mark st.shared.noted st.shared.chan sound.keys;
+        keys = keys-aged key after aged l st.shared.selector st.shared.keys_high st.shared.noted st.shared.chan sound.keys;
         free = free-removed rules goes (comes_back rules) key st.shared.free (none_comes_back rules) sound.free;
         selected = selected-removed goes key marks.mark (selected-marked st.shared s selection.looked pairs ((sound.looks s).in_set selection own) sound.selected);
         closings = λ t. put_keeps (λ n (g : GateWord). ClosingSound g.shut (st.shared.closer n) (st.shared.entered n) (after n)) st.shared.gate s gate (λ h. h) t
@@ -229,9 +229,9 @@ keeps_ended rules l st s selection pairs own sound r =
         looks = here_or_there s (λ b t. LookSound (cond b None (st.selection t)) (cond b None (st.shared.turn t)) (after t))
             (look-none None (after s))
             (λ t e. look-elsewhere goes key t (λ i. ap (λ b. b && (is_looked selection.looked (key_at st.shared s i) && in_cancelled_set (key s i))) e) (st.selection t) (st.shared.turn t) (sound.looks t));
-        bounds = here_or_there s (λ b t. BoundSound rules (cond b None (st.selection t)) (st.shared.keys_mark t) (after t))
-            (bound-none rules (st.shared.keys_mark s) (after s))
-            (λ t e. bound-aged key after aged rules t (st.selection t) (st.shared.keys_mark t) (sound.bounds t));
+        bounds = here_or_there s (λ b t. BoundSound rules (cond b None (st.selection t)) (st.shared.keys_high t) (after t))
+            (bound-none rules (st.shared.keys_high s) (after s))
+            (λ t e. bound-aged key after aged rules t (st.selection t) (st.shared.keys_high t) (sound.bounds t));
       };
       stays = stays-aged key after aged st.shared.entered st.shared.entered (λ t h. h);
     }
@@ -255,7 +255,7 @@ keeps_closed rules l st s r has_closer free sound =
     let aged = removed-aged goes key in
     record {
       sound = record {
-        keys = keys-aged key after aged l st.shared.selector st.shared.keys_mark st.shared.noted st.shared.chan sound.keys;
+        keys = keys-aged key after aged l st.shared.selector st.shared.keys_high st.shared.noted st.shared.chan sound.keys;
         free = free-removed rules goes (λ _. false) key st.shared.free (λ e k. refl) sound.free;
         selected = selected-removed goes key st.shared.mark sound.selected;
         closings = here_or_there s (λ b t. ClosingSound (st.shared.gate t).shut (st.shared.closer t) (cond b true (st.shared.entered t)) (after t))
@@ -268,7 +268,7 @@ keeps_closed rules l st s r has_closer free sound =
         looks = here_or_there s (λ b t. LookSound (st.selection t) (st.shared.turn t) (after t))
             (look-free (st.selection s) (st.shared.turn s) (key s) (after s) free (sound.looks s))
             (λ t e. look-elsewhere goes key t (λ i. ap (λ b. b && (key s i).claimed) e) (st.selection t) (st.shared.turn t) (sound.looks t));
-        bounds = λ t. bound-aged key after aged rules t (st.selection t) (st.shared.keys_mark t) (sound.bounds t);
+        bounds = λ t. bound-aged key after aged rules t (st.selection t) (st.shared.keys_high t) (sound.bounds t);
       };
       stays = stays-aged key after aged st.shared.entered (put st.shared.entered s true) (put_keeps (λ _ b. b ≡ true) st.shared.entered s true (λ _. refl));
     }

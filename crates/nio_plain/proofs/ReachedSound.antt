@@ -22,9 +22,9 @@ use Rattle.nio_plain.specs.declared.rules.Rules.TheVariants.{First}
 
 -- a published key is claimed, stands below its selector's mark, and its selector is made; an index with no
 -- published key has serial 0
-pub record IndexesSound (selector : ℕ → Bool) (keys_mark : ℕ → ℕ) (key : ℕ → ℕ → Stage) : Type 0 where
+pub record IndexesSound (selector : ℕ → Bool) (keys_high : ℕ → ℕ) (key : ℕ → ℕ → Stage) : Type 0 where
   pub claimed : (s i : ℕ) → (key s i).published ≡ true → (key s i).claimed ≡ true
-  pub below : (s i : ℕ) → (key s i).published ≡ true → i < keys_mark s
+  pub below : (s i : ℕ) → (key s i).published ≡ true → i < keys_high s
   pub made : (s i : ℕ) → (key s i).published ≡ true → selector s ≡ true
   pub fresh : (s i : ℕ) → (key s i).published ≡ false → (key s i).serial ≡ 0
 
@@ -62,8 +62,8 @@ pub record LookSound (selection : Option Selection) (turn : Option CallerNo) (ke
 
 -- of one selector: what a selection in progress looks at is below its bound, and by the first rules it looks
 -- at each key of the key set there
-pub record BoundSound (rules : Rules) (selection : Option Selection) (keys_mark : ℕ) (key : ℕ → Stage) : Type 0 where
-  pub within : (x : Selection) → selection ≡ Some x → x.bound ≤ keys_mark
+pub record BoundSound (rules : Rules) (selection : Option Selection) (keys_high : ℕ) (key : ℕ → Stage) : Type 0 where
+  pub within : (x : Selection) → selection ≡ Some x → x.bound ≤ keys_high
   pub below : (x : Selection) → selection ≡ Some x → (k : KeyId) → is_looked x.looked k ≡ true → k.index < x.bound
   pub all : rules ≡ First → (x : Selection) → selection ≡ Some x → (i : ℕ) → i < x.bound → in_key_set (key i) ≡ true → is_looked x.looked (record { index = i; serial = (key i).serial }) ≡ true
 
@@ -73,20 +73,20 @@ pub record FreeSound (rules : Rules) (free : ℕ → ℕ → Bool) (key : ℕ �
   pub none : rules ≡ First → (s i : ℕ) → free s i ≡ false
 
 -- of all keys
-pub record KeysSound (l : Limits) (selector : ℕ → Bool) (keys_mark : ℕ → ℕ) (noted : ℕ → ℕ → Option KeyId) (chan : ℕ → Chan) (key : ℕ → ℕ → Stage) : Type 0 where
+pub record KeysSound (l : Limits) (selector : ℕ → Bool) (keys_high : ℕ → ℕ) (noted : ℕ → ℕ → Option KeyId) (chan : ℕ → Chan) (key : ℕ → ℕ → Stage) : Type 0 where
   pub selectors : (s : ℕ) → selector s ≡ true → s < l.selectors
-  pub indexes : IndexesSound selector keys_mark key
+  pub indexes : IndexesSound selector keys_high key
   pub notes : NotesSound noted key
   pub channels : ChannelsSound chan key
   pub cancelled : CancelledSound key
 
 pub record Sound (rules : Rules) (l : Limits) (st : ScriptState) : Type 0 where
-  pub keys : KeysSound l st.shared.selector st.shared.keys_mark st.shared.noted st.shared.chan st.shared.key
+  pub keys : KeysSound l st.shared.selector st.shared.keys_high st.shared.noted st.shared.chan st.shared.key
   pub free : FreeSound rules st.shared.free st.shared.key
   pub selected : SelectedSound st.shared.key st.shared.mark
   pub closings : (s : ℕ) → ClosingSound (st.shared.gate s).shut (st.shared.closer s) (st.shared.entered s) (st.shared.key s)
   pub looks : (s : ℕ) → LookSound (st.selection s) (st.shared.turn s) (st.shared.key s)
-  pub bounds : (s : ℕ) → BoundSound rules (st.selection s) (st.shared.keys_mark s) (st.shared.key s)
+  pub bounds : (s : ℕ) → BoundSound rules (st.selection s) (st.shared.keys_high s) (st.shared.key s)
 
 pub sound-opening : (rules : Rules) (l : Limits) → Sound rules l script_opening
 sound-opening rules l = record {
@@ -251,8 +251,8 @@ module _ (k after : Stage) (aged : Aged k after) where
 
 -- every key has aged, each in its way
 module _ (key after : ℕ → ℕ → Stage) (aged : (s i : ℕ) → Aged (key s i) (after s i)) where
-  indexes-aged : (selector : ℕ → Bool) (keys_mark : ℕ → ℕ) → IndexesSound selector keys_mark key → IndexesSound selector keys_mark after
-  indexes-aged selector keys_mark sound = record {
+  indexes-aged : (selector : ℕ → Bool) (keys_high : ℕ → ℕ) → IndexesSound selector keys_high key → IndexesSound selector keys_high after
+  indexes-aged selector keys_high sound = record {
     claimed = λ s i h. (aged s i).claimed ∙ sound.claimed s i (sym (aged s i).published ∙ h);
     below = λ s i h. sound.below s i (sym (aged s i).published ∙ h);
     made = λ s i h. sound.made s i (sym (aged s i).published ∙ h);
@@ -273,10 +273,10 @@ module _ (key after : ℕ → ℕ → Stage) (aged : (s i : ℕ) → Aged (key s
     is_open = λ s i h. ap (λ x. (chan x.0).closed) (aged s i).chan ∙ sound.is_open s i ((aged s i).valid h);
   }
 
-  pub keys-aged : (l : Limits) (selector : ℕ → Bool) (keys_mark : ℕ → ℕ) (noted : ℕ → ℕ → Option KeyId) (chan : ℕ → Chan) → KeysSound l selector keys_mark noted chan key → KeysSound l selector keys_mark noted chan after
-  keys-aged l selector keys_mark noted chan sound = record {
+  pub keys-aged : (l : Limits) (selector : ℕ → Bool) (keys_high : ℕ → ℕ) (noted : ℕ → ℕ → Option KeyId) (chan : ℕ → Chan) → KeysSound l selector keys_high noted chan key → KeysSound l selector keys_high noted chan after
+  keys-aged l selector keys_high noted chan sound = record {
     selectors = sound.selectors;
-    indexes = indexes-aged selector keys_mark sound.indexes;
+    indexes = indexes-aged selector keys_high sound.indexes;
     notes = notes-aged noted sound.notes;
     channels = channels-aged chan sound.channels;
     cancelled = λ s i h. (aged s i).cancelled (sound.cancelled s i) h;
@@ -289,8 +289,8 @@ module _ (key after : ℕ → ℕ → Stage) (aged : (s i : ℕ) → Aged (key s
     entered_empty = λ h i. aged-out (key s i) (after s i) (aged s i) (sound.entered_empty h i);
   }
 
-  pub bound-aged : (rules : Rules) (s : ℕ) (selection : Option Selection) (keys_mark : ℕ) → BoundSound rules selection keys_mark (key s) → BoundSound rules selection keys_mark (after s)
-  bound-aged rules s selection keys_mark sound = record {
+  pub bound-aged : (rules : Rules) (s : ℕ) (selection : Option Selection) (keys_high : ℕ) → BoundSound rules selection keys_high (key s) → BoundSound rules selection keys_high (after s)
+  bound-aged rules s selection keys_high sound = record {
     within = sound.within;
     below = sound.below;
     all = λ e x h i l in_set.
@@ -323,7 +323,7 @@ keeps_cancelled rules l st r after aged kept sound =
     let key = st.shared.key in
     record {
       sound = record {
-        keys = keys-aged key after aged l st.shared.selector st.shared.keys_mark st.shared.noted st.shared.chan sound.keys;
+        keys = keys-aged key after aged l st.shared.selector st.shared.keys_high st.shared.noted st.shared.chan sound.keys;
         free = free-aged key after aged rules st.shared.free sound.free;
         selected = λ s i h. kept s i (sound.selected s i h);
         closings = λ s. closing-aged key after aged s (st.shared.gate s).shut (st.shared.closer s) (st.shared.entered s) (sound.closings s);
@@ -332,7 +332,7 @@ keeps_cancelled rules l st r after aged kept sound =
             let both = and_parts (fits (key s i) q) (in_key_set (key s i)) h in
             and_from (fits (after s i) q) (in_key_set (after s i)) (aged-fits (key s i) (after s i) (aged s i) q ∙ both.0) (kept s i both.1))
             (sound.looks s);
-        bounds = λ s. bound-aged key after aged rules s (st.selection s) (st.shared.keys_mark s) (sound.bounds s);
+        bounds = λ s. bound-aged key after aged rules s (st.selection s) (st.shared.keys_high s) (sound.bounds s);
       };
       stays = stays-aged key after aged st.shared.entered st.shared.entered (λ s h. h);
     }

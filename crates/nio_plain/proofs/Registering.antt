@@ -92,7 +92,7 @@ module _ (interrupted : ℕ → Bool) (mark : ℕ) (chan : ℕ → Chan) (row : 
       state-row interrupted mark chan s row r
       ∙ (ap (λ (m : ScriptState). with_shared m (record m.shared {
         noted = λ n. put (st.shared.noted n) s (r.noted n);
-        keys_mark = put st.shared.keys_mark s r.keys_mark;
+        keys_high = put st.shared.keys_high s r.keys_high;
         key = put st.shared.key s (λ i. (r.keys i).stage);
         interest = put st.shared.interest s (λ i. (r.keys i).interest);
         mark = put st.shared.mark s (λ i. (r.keys i).mark);
@@ -101,7 +101,7 @@ module _ (interrupted : ℕ → Bool) (mark : ℕ) (chan : ℕ → Chan) (row : 
       })) (same_row interrupted mark chan s row)
       ∙ (λ j. with_shared st (record st.shared {
         noted = λ n. noted_at (λ t. (row t).noted n) s (eqb n c) (Some k) j;
-        keys_mark = put st.shared.keys_mark s r.keys_mark;
+        keys_high = put st.shared.keys_high s r.keys_high;
         key = part_put interrupted mark chan row s k.index x (λ (q : KeyRow). q.stage) j;
         interest = part_put interrupted mark chan row s k.index x (λ (q : KeyRow). q.interest) j;
         mark = part_put interrupted mark chan row s k.index x (λ (q : KeyRow). q.mark) j;

@@ -71,19 +71,19 @@ module _ (rules : Rules) (interrupted : ℕ → Bool) (mark : ℕ) (chan : ℕ �
     abbrev st : ScriptState
     st = state_from interrupted mark chan row
 
-    pub looked-begun : looked_keys (without_cancelled rules st.shared s) s ≡ looked_below (row s).keys (row s).keys_mark
+    pub looked-begun : looked_keys (without_cancelled rules st.shared s) s ≡ looked_below (row s).keys (row s).keys_high
     looked-begun =
         let stage : ℕ → Stage = λ i. ((row s).keys i).stage in
         let goes : ℕ → Bool = λ i. eqb s s && in_cancelled_set (stage i) in
         let in_set = same_function (λ i. valid_after (stage i) (eqb s s) (eq-eqb s s refl)) in
         let name : ℕ → KeyId × ℕ = λ i. (record { index = i; serial = (cond (goes i) (removed_key (stage i)) (stage i)).serial }, ((row s).keys i).interest) in
         let named : ◌≡◌ {A = ℕ → KeyId × ℕ} name (λ i. (record { index = i; serial = (stage i).serial }, ((row s).keys i).interest)) = same_function (λ i j. (record { index = i; serial = serial_after (stage i) (goes i) j }, ((row s).keys i).interest)) in
-        ap (λ (p : ℕ → Bool). map name (filter p (below (row s).keys_mark))) in_set
-        ∙ ap (λ (f : ℕ → KeyId × ℕ). map f (filter (λ i. is_valid (stage i)) (below (row s).keys_mark))) named
+        ap (λ (p : ℕ → Bool). map name (filter p (below (row s).keys_high))) in_set
+        ∙ ap (λ (f : ℕ → KeyId × ℕ). map f (filter (λ i. is_valid (stage i)) (below (row s).keys_high))) named
 
     pub state-begun : (me : CallerNo) (how : Mode) → state_from interrupted mark chan (put row s (with_selection_begun rules (row s) me how)) ≡ (selection_begun rules st me s how).left
     state-begun me how =
-        let n = (row s).keys_mark in
+        let n = (row s).keys_high in
         let sel : List (KeyId × ℕ) → Option Selection = λ looked. Some (record { mode = how; bound = n; looked = looked }) in
         let looked = looked_below (row s).keys n in
         let selects = makes-selecting interrupted mark chan s (Some me) (sel looked) in

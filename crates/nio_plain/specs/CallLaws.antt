@@ -160,7 +160,7 @@ pub record IsBegunBy (me : CallerNo) (c : Call) (done : Answered) (s : ℕ) (sel
   pub answered : done.reply ≡ reply.Looked selection.looked
   pub present : All (λ p. p.0 ≡ key_at done.left.shared s p.0.index) selection.looked
   pub valid : All (λ p. IsTrue (is_valid (done.left.shared.key s p.0.index)) × (p.1 ≡ done.left.shared.interest s p.0.index)) selection.looked
-  pub all : (i : ℕ) → i < done.left.shared.keys_mark s → IsTrue (in_key_set (done.left.shared.key s i))
+  pub all : (i : ℕ) → i < done.left.shared.keys_high s → IsTrue (in_key_set (done.left.shared.key s i))
       → Contains selection.looked (key_at done.left.shared s i, done.left.shared.interest s i)
 
 -- a selection that is in progress after a call was so before, or the call began it

@@ -73,7 +73,7 @@ pub record SelectorRow : Type 0 where
   pub selection : Option Selection
   pub closer : Option CallerNo
   pub entered : Bool
-  pub keys_mark : ℕ
+  pub keys_high : ℕ
   pub keys : ℕ → KeyRow
   pub noted : ℕ → Option KeyId
 
@@ -85,7 +85,7 @@ no_selector = record {
   selection = None;
   closer = None;
   entered = false;
-  keys_mark = 0;
+  keys_high = 0;
   keys = λ _. no_key;
   noted = λ _. None;
 }
@@ -103,12 +103,12 @@ key_in r c = if_in_set r.keys (r.noted c)
 
 -- the key that a selector with so many indexes gives next
 abbrev pub free_in : SelectorRow → Option ℕ
-free_in r = find (λ i. (r.keys i).free) (below r.keys_mark)
+free_in r = find (λ i. (r.keys i).free) (below r.keys_high)
 
 abbrev pub next_by_row : ℕ → SelectorRow → Option ℕ → Option KeyId
 next_by_row limit r (Some i) = Some (record { index = i; serial = suc (r.keys i).stage.serial })
 next_by_row limit r None =
-    if nat_lt r.keys_mark limit then Some (record { index = r.keys_mark; serial = 0 }) else None
+    if nat_lt r.keys_high limit then Some (record { index = r.keys_high; serial = 0 }) else None
 
 abbrev pub next_in : ℕ → SelectorRow → Option KeyId
 next_in limit r = next_by_row limit r (free_in r)
@@ -116,7 +116,7 @@ next_in limit r = next_by_row limit r (free_in r)
 -- a selector with a new key, and with another key in the place of one
 abbrev pub with_key_added : SelectorRow → ℕ → KeyId → KeyRow → SelectorRow
 with_key_added r c k key = record r {
-  keys_mark = max r.keys_mark (suc k.index);
+  keys_high = max r.keys_high (suc k.index);
   keys = put r.keys k.index key;
   noted = put r.noted c (Some k);
 }
@@ -190,7 +190,7 @@ abbrev pub with_selection_begun : Rules → SelectorRow → CallerNo → Mode �
 with_selection_begun rules r me mode = record r {
   turn = Some me;
   selection =
-      Some (record { mode = mode; bound = r.keys_mark; looked = looked_below r.keys r.keys_mark });
+      Some (record { mode = mode; bound = r.keys_high; looked = looked_below r.keys r.keys_high });
   keys = swept rules r.keys;
 }
 
@@ -242,25 +242,25 @@ selector_row s = record {
   selection = selection_of s.selecting;
   closer = closer_of s.closing;
   entered = has_finished s.closing;
-  keys_mark = length s.keys.items;
+  keys_high = length s.keys.items;
   keys = places key_row no_key s.keys.items;
   noted = λ c. get nat_cmp s.noted c;
 }
 
 -- the state whose parts are these, by the caller, the channel and the selector
 abbrev pub state_from : (ℕ → Bool) → ℕ → (ℕ → Chan) → (ℕ → SelectorRow) → ScriptState
-state_from interrupted channels_mark chan selector = record {
+state_from interrupted channels_high chan selector = record {
   shared = record {
     drawn = λ _. false;
     interrupted = interrupted;
     selector = λ s. (selector s).made;
-    channels_mark = channels_mark;
+    channels_high = channels_high;
     chan = chan;
     hold = λ _. None;
     noted = λ c s. (selector s).noted c;
     gate = λ s. (selector s).gate;
     turn = λ s. (selector s).turn;
-    keys_mark = λ s. (selector s).keys_mark;
+    keys_high = λ s. (selector s).keys_high;
     key = λ s i. ((selector s).keys i).stage;
     interest = λ s i. ((selector s).keys i).interest;
     mark = λ s i. ((selector s).keys i).mark;

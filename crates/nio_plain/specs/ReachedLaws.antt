@@ -36,7 +36,7 @@ SetsAreWithinKeySet = (rules : Rules) (l : Limits) (calls : List ScriptCall) →
 abbrev pub KeysAreBelowTheMark : Type 0
 KeysAreBelowTheMark = (rules : Rules) (l : Limits) (calls : List ScriptCall) (s i : ℕ)
     → let st = (left_by_script rules l calls).shared in
-    IsTrue (in_key_set (st.key s i)) → i < st.keys_mark s
+    IsTrue (in_key_set (st.key s i)) → i < st.keys_high s
 
 -- the keys that a selection in progress looks at are in the key set
 abbrev pub LookedAreInKeySet : Type 0

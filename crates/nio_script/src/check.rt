@@ -14,7 +14,7 @@ ghost use Rattle.nio_script.specs.Run.{left_by_call, ReadsText};
 
 use crate::history::{HistoryCall, parse_history};
 use crate::input::{LONGEST_INPUT, read_input};
-use crate::output::{note, write_out};
+use crate::output::{offer, write_out};
 use crate::run::refuse;
 use crate::script::ScriptError;
 use crate::status::Status;
@@ -142,7 +142,7 @@ fn say_illegal<K: Sink>(alloc: Global, wrong: &Wrong, output: &mut K) -> Status
     let Ok(text) = illegal_line(alloc, wrong) else {
         return Status::Memory;
     };
-    note(output, &text);
+    offer(output, &text);
     Status::Illegal { line: wrong.number }
 }
 

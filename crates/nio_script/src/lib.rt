@@ -4,7 +4,7 @@
 pub use check::run_check;
 pub use history::{HistoryCall, parse_history};
 pub use input::{LONGEST_INPUT, read_input};
-pub use output::{note, write_all, write_out};
+pub use output::{offer, write_all, write_out};
 pub use run::run_script;
 pub use script::{ScriptError, parse_script};
 pub use status::Status;

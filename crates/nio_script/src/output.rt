@@ -45,7 +45,7 @@ pub fn write_out<K: Sink>(sink: &mut K, bytes: &[u8]) -> Result<(), Status>
 }
 
 /// Writes all the bytes, and then flushes once. That the sink fails meanwhile is told to nobody.
-pub fn note<K: Sink>(output: &mut K, bytes: &[u8])
+pub fn offer<K: Sink>(output: &mut K, bytes: &[u8])
     ensures said { Notes K.Sink output.old output.new bytes.now }
     ensures later { K.faults output.old ≤ K.faults output.new }
 {

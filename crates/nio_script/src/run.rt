@@ -10,7 +10,7 @@ ghost use Rattle.nio_script.specs.Output.{WritesPrefix, IsWritten, Notes, Gather
 ghost use Rattle.nio_script.specs.Run.{line_for, left_by_call, bad_line, ReadsText, IsAnswered, IsCutShort, IsRefused, IsUntouched, EndsText, EndsScript};
 
 use crate::input::{LONGEST_INPUT, read_input};
-use crate::output::{note, put_line, write_out};
+use crate::output::{offer, put_line, write_out};
 use crate::script::{ScriptError, parse_script};
 use crate::status::Status;
 use nio_bytes::{Sink, Source};
@@ -82,7 +82,7 @@ pub fn refuse<K: Sink>(alloc: Global, line: u64, output: &mut K) -> Status
     let Ok(text) = format!(in alloc; "bad line {line}\n") else {
         return Status::Memory;
     };
-    note(output, text.as_bytes());
+    offer(output, text.as_bytes());
     Status::BadScript { line }
 }
 

@@ -21,14 +21,14 @@ use Rattle.nio_steps.proofs.EachLaws.{each_run}
 use Rattle.nio_steps.proofs.Either.{neither}
 use Rattle.nio_steps.proofs.Lists.{contains-none}
 use Rattle.nio_steps.proofs.LookedLaws.{key-look}
-use Rattle.nio_steps.proofs.SelectionAsks.{AsksAt, AsksMark, each_look, each_sweep_key, each_entry}
+use Rattle.nio_steps.proofs.SelectionAsks.{AsksAt, AsksMark, each_look, each_remove_if_cancelled, each_entry}
 use Rattle.nio_steps.proofs.SelectionLaws.{count-append, count-none}
 use Rattle.nio_steps.proofs.Visits.{OneVisit, Turns, visits_once}
 use Rattle.nio_steps.proofs.Walks.{Always, always_if, always_bind, always_weaker, always_itself}
 use Rattle.nio_steps.proofs.Each.{Each}
 use Rattle.nio_steps.specs.Plan.{Plan, reply, ◌>>=◌, ◌>>◌, when}
 use Rattle.nio_steps.specs.Runs.{Completes}
-use Rattle.nio_steps.specs.SelectCalls.{LookedOver, look_over, look_valid, looked_key, remove_cancelled, mark_entry, mark_told, mark_looked, mark_again, told_bits, gains_nothing, sweep_key}
+use Rattle.nio_steps.specs.SelectCalls.{LookedOver, look_over, look_valid, looked_key, remove_cancelled, mark_entry, mark_told, mark_looked, mark_again, told_bits, gains_nothing, remove_if_cancelled}
 use Rattle.nio_steps.specs.Steps.{put_free, mark, mark_in, stage_in, operations_in, exchange_in}
 use Rattle.nio_steps.specs.Sweeps.{sweep_over}
 use Rattle.nio_steps.specs.declared.looked.LookedKey.{LookedKey}
@@ -354,8 +354,8 @@ module _ (s : SelNo) (i : ℕ) where
     is_swept : At acts ≤ 1 → Swept acts u
     is_cancelled : At acts ≤ 3 → FoundCancelled acts → Swept acts u
 
-  sweep-here : (e : ℕ) → e ≡ i → Always Swept (sweep_key s e)
-  sweep-here e same = subst (λ (k : ℕ). Always Swept (sweep_key s k)) (sym same) at_i
+  sweep-here : (e : ℕ) → e ≡ i → Always Swept (remove_if_cancelled s e)
+  sweep-here e same = subst (λ (k : ℕ). Always Swept (remove_if_cancelled s k)) (sym same) at_i
     where
       cancelled : (look : Act) (xs : List Act) → question_of look ≡ Question.look_key s i → in_cancelled_set (stage_in (answer_of look)) ≡ true → length xs ≤ 2 → (u : Unit {0}) → Swept (look ∷ xs) u
       cancelled look xs asks is fits u =
@@ -367,7 +367,7 @@ module _ (s : SelNo) (i : ℕ) where
             cancelled = is;
           })
 
-      at_i : Always Swept (sweep_key s i)
+      at_i : Always Swept (remove_if_cancelled s i)
       at_i = λ look asks.
           let stage = stage_in (answer_of look) in
           always_if (λ xs u. Swept (look ∷ xs) u) (in_cancelled_set stage) (remove_cancelled s i stage >> reply tt) (reply tt)
@@ -376,8 +376,8 @@ module _ (s : SelNo) (i : ℕ) where
           (λ xs u fits. cancelled look (remove ∷ (xs ++ [])) asks is (subst (λ ys. length (remove ∷ ys) ≤ 2) (sym (append-nil xs)) (omega arith)) tt))
           (λ _. is_swept (short (look ∷ []) 1 (omega arith)))
 
-  sweep-aside : (e : ℕ) → (e ≡ i → ⊥) → Always (λ zs _. At zs ≡ 0) (sweep_key s e)
-  sweep-aside e other = runs_always NotAt (λ _. ⊤) (λ zs _. At zs ≡ 0) (sweep_key s e) (each_sweep_key NotAt s e (other-asks e other)) (λ acts _ each _. none-counted (acts_at s.0 i) acts each)
+  sweep-aside : (e : ℕ) → (e ≡ i → ⊥) → Always (λ zs _. At zs ≡ 0) (remove_if_cancelled s e)
+  sweep-aside e other = runs_always NotAt (λ _. ⊤) (λ zs _. At zs ≡ 0) (remove_if_cancelled s e) (each_remove_if_cancelled NotAt s e (other-asks e other)) (λ acts _ each _. none-counted (acts_at s.0 i) acts each)
 
   swept-on : (acts zs : List Act) (u v : Unit {0}) → At zs ≡ 0 → Swept acts u → Swept (acts ++ zs) v
   swept-on acts zs u v none (is_swept fits) = is_swept (more acts zs 1 fits none)
@@ -401,11 +401,11 @@ module _ (s : SelNo) (i : ℕ) where
         cancelled = found.cancelled;
       })
 
-  pub sweeps-visits : (kept : List ℕ) → AllPairs (λ a b. a < b) kept → Always (OneVisit (λ k. k) i Unswept Swept kept) (sweep_over kept (λ k _. sweep_key s k) tt)
+  pub sweeps-visits : (kept : List ℕ) → AllPairs (λ a b. a < b) kept → Always (OneVisit (λ k. k) i Unswept Swept kept) (sweep_over kept (λ k _. remove_if_cancelled s k) tt)
   sweeps-visits kept rising =
-      visits_once (λ k. k) i Unswept Swept kept (λ k _. sweep_key s k) tt rising refl (record {
-        other_before = λ e acts u other none. always_weaker (λ zs _. At zs ≡ 0) (λ zs z. Unswept (acts ++ zs) z) (sweep_key s e)
+      visits_once (λ k. k) i Unswept Swept kept (λ k _. remove_if_cancelled s k) tt rising refl (record {
+        other_before = λ e acts u other none. always_weaker (λ zs _. At zs ≡ 0) (λ zs z. Unswept (acts ++ zs) z) (remove_if_cancelled s e)
             (λ zs z aside. omega (arith, count-append (acts_at s.0 i) acts zs)) (sweep-aside e other);
-        other_after = λ e acts u other swept. always_weaker (λ zs _. At zs ≡ 0) (λ zs z. Swept (acts ++ zs) z) (sweep_key s e) (λ zs z aside. swept-on acts zs u z aside swept) (sweep-aside e other);
-        here = λ e acts u same none. always_weaker Swept (λ zs z. Swept (acts ++ zs) z) (sweep_key s e) (λ zs z swept. swept-later acts zs z none swept) (sweep-here e same);
+        other_after = λ e acts u other swept. always_weaker (λ zs _. At zs ≡ 0) (λ zs z. Swept (acts ++ zs) z) (remove_if_cancelled s e) (λ zs z aside. swept-on acts zs u z aside swept) (sweep-aside e other);
+        here = λ e acts u same none. always_weaker Swept (λ zs z. Swept (acts ++ zs) z) (remove_if_cancelled s e) (λ zs z swept. swept-later acts zs z none swept) (sweep-here e same);
       })

@@ -21,7 +21,7 @@ use Rattle.nio_event.specs.Answers.{is_same_mark, exchange_from}
 use Rattle.nio_event.specs.Conditions.{Condition, has_turn, has_begun}
 use Rattle.nio_event.specs.Histories.{state_after, mine, event_of, IsStep, IsLegal}
 use Rattle.nio_event.specs.Holders.{Keeps}
-use Rattle.nio_event.specs.Lasting.{a_selection}
+use Rattle.nio_event.specs.Permanent.{a_selection}
 use Rattle.nio_event.specs.OwnEvents.{has, count, gives_turn}
 use Rattle.nio_event.specs.Pins.{removes}
 use Rattle.nio_event.specs.Sets.{fits, in_key_set, in_cancelled_set, is_valid, is_in_key_set}

@@ -29,7 +29,7 @@ use Rattle.nio_steps.proofs.Either.{neither, by_first, by_second}
 use Rattle.nio_steps.proofs.Lists.{contains-middle}
 use Rattle.nio_steps.proofs.LookedLaws.{free-look}
 use Rattle.nio_steps.proofs.OrderLaws.{lists_in_order, list-rises, IsListed, Rises, over-rises}
-use Rattle.nio_steps.proofs.SelectionAsks.{AsksAt, AsksMark, each_list, each_look, each_marks, each_sweep_key, goes_any}
+use Rattle.nio_steps.proofs.SelectionAsks.{AsksAt, AsksMark, each_list, each_look, each_marks, each_remove_if_cancelled, goes_any}
 use Rattle.nio_steps.proofs.SelectionLaws.{marks-no_remove, removes_none, NoGive, asks_give, no_gives, not-gives}
 use Rattle.nio_steps.proofs.Visits.{OneVisit}
 use Rattle.nio_steps.proofs.Walks.{Always, always_if, always_bind, always_itself, always_run, always_sweep}
@@ -39,7 +39,7 @@ use Rattle.nio_steps.specs.KeyCalls.{has_bit}
 use Rattle.nio_steps.specs.Laws.{IsInOrder}
 use Rattle.nio_steps.specs.Plan.{reply}
 use Rattle.nio_steps.specs.Runs.{Completes}
-use Rattle.nio_steps.specs.SelectCalls.{Selection, Poll, Tells, ToldReply, done, again, not_free, list_word, list_below, look_over, mark_entry, sweep_key, is_again, end_selection, after_marks, told_plan}
+use Rattle.nio_steps.specs.SelectCalls.{Selection, Poll, Tells, ToldReply, done, again, not_free, list_word, list_below, look_over, mark_entry, remove_if_cancelled, is_again, end_selection, after_marks, told_plan}
 use Rattle.nio_steps.specs.Steps.{flag_in, gate_in, word_in}
 use Rattle.nio_steps.specs.Sweeps.{sweep_over}
 use Rattle.nio_steps.specs.declared.selected.Selected.{Selected}
@@ -74,7 +74,7 @@ record Ended (selection : Selection) (poll : Poll) (acts : List Act) : Type 0 wh
   runs_marks : Completes (sweep_over selection.looked (mark_entry selection.selector poll.pairs) 0) marks marked
   asks_gate : question_of gate ≡ Question.look_gate selection.selector
   asks_status : question_of status ≡ Question.look_interrupt
-  runs_sweeps : Completes (sweep_over selection.kept (λ i _. sweep_key selection.selector i) tt) sweeps tt
+  runs_sweeps : Completes (sweep_over selection.kept (λ i _. remove_if_cancelled selection.selector i) tt) sweeps tt
   asks_wake : question_of wake ≡ Question.end_wake selection.selector
   asks_gives : question_of gives ≡ Question.give_turn selection.selector
 
@@ -92,8 +92,8 @@ module _ (selection : Selection) (poll : Poll) where
       (λ marks number runs gate asks_gate status asks_status.
       always_if (λ xs r. IsEnded (marks ++ gate ∷ status ∷ xs) r) (is_again selection.mode number (gate_in (answer_of gate)) (flag_in (answer_of status)) poll.elapsed) (reply (again selection)) (end_selection selection _)
       (λ _. tt)
-      (λ _. always_bind (Completes (sweep_over selection.kept (λ i _. sweep_key s i) tt)) (λ xs r. IsEnded (marks ++ gate ∷ status ∷ xs) r) (sweep_over selection.kept (λ i _. sweep_key s i) tt) _
-      (always_itself (sweep_over selection.kept (λ i _. sweep_key s i) tt))
+      (λ _. always_bind (Completes (sweep_over selection.kept (λ i _. remove_if_cancelled s i) tt)) (λ xs r. IsEnded (marks ++ gate ∷ status ∷ xs) r) (sweep_over selection.kept (λ i _. remove_if_cancelled s i) tt) _
+      (always_itself (sweep_over selection.kept (λ i _. remove_if_cancelled s i) tt))
       (λ sweeps u runs' wake asks_wake gives asks_gives. record {
         marks = marks;
         marked = number;
@@ -198,8 +198,8 @@ module _ (selection : Selection) (poll : Poll) (answer : Selected) (found woken 
         (each_marks Asks s poll.pairs selection.looked (λ k d _. marks _)) ended.runs_marks).0
 
     of_sweeps : All (λ act. Asks (question_of act)) ended.sweeps
-    of_sweeps = (each_run Asks (λ _. ⊤) (sweep_over selection.kept (λ i _. sweep_key s i) tt) ended.sweeps tt
-        (each_over Asks (λ _. ⊤) (λ _. ⊤) selection.kept (λ i _. sweep_key s i) tt (λ k d _. tt) tt (λ i _ _ _. each_sweep_key Asks s i (at i))) ended.runs_sweeps).0
+    of_sweeps = (each_run Asks (λ _. ⊤) (sweep_over selection.kept (λ i _. remove_if_cancelled s i) tt) ended.sweeps tt
+        (each_over Asks (λ _. ⊤) (λ _. ⊤) selection.kept (λ i _. remove_if_cancelled s i) tt (λ k d _. tt) tt (λ i _ _ _. each_remove_if_cancelled Asks s i (at i))) ended.runs_sweeps).0
 
   -- where the two calls are cut
   first_cut : (first ≡ begun.gate ∷ begun.take ∷ []) × (BeginLook s found ≡ begun.look) × (second ≡ begun.keys ∷ (begun.lists ++ begun.over))
@@ -276,8 +276,8 @@ module _ (selection : Selection) (poll : Poll) (answer : Selected) (found woken 
       selection.looked order.kept)) ended.runs_marks).0)
 
   sweeps_among : length ended.sweeps ≤ total (λ i. At_i i ended.sweeps) begun.listed
-  sweeps_among = length-among s begun.listed ended.sweeps (is_among ended.sweeps (each_run Among (λ _. ⊤) (sweep_over selection.kept (λ i _. sweep_key s i) tt) ended.sweeps tt
-      (each_over Among (Contains begun.listed) (λ _. ⊤) selection.kept (λ i _. sweep_key s i) tt kept_listed tt (λ i _ there _. each_sweep_key Among s i (at_among i there))) ended.runs_sweeps).0)
+  sweeps_among = length-among s begun.listed ended.sweeps (is_among ended.sweeps (each_run Among (λ _. ⊤) (sweep_over selection.kept (λ i _. remove_if_cancelled s i) tt) ended.sweeps tt
+      (each_over Among (Contains begun.listed) (λ _. ⊤) selection.kept (λ i _. remove_if_cancelled s i) tt kept_listed tt (λ i _ there _. each_remove_if_cancelled Among s i (at_among i there))) ended.runs_sweeps).0)
 
   -- as many as are listed were found not free
   found_listed : length begun.listed ≤ count_below selection.bound (λ k. has (finds_listed s.0 k) second)
@@ -362,7 +362,7 @@ module _ (selection : Selection) (poll : Poll) (answer : Selected) (found woken 
         by_visit (inr visited) = absurd (All-contains (λ entry. entry.index ≡ i → ⊥) selection.looked visited.at none visited.there visited.is)
 
     swept_in : (i : ℕ) → OneVisit (λ k. k) i (Unswept s i) (Swept s i) selection.kept ended.sweeps tt
-    swept_in i = always_run (OneVisit (λ k. k) i (Unswept s i) (Swept s i) selection.kept) (sweep_over selection.kept (λ k _. sweep_key s k) tt) ended.sweeps tt (sweeps-visits s i selection.kept order.kept_rise) ended.runs_sweeps
+    swept_in i = always_run (OneVisit (λ k. k) i (Unswept s i) (Swept s i) selection.kept) (sweep_over selection.kept (λ k _. remove_if_cancelled s k) tt) ended.sweeps tt (sweeps-visits s i selection.kept order.kept_rise) ended.runs_sweeps
 
     marked_in : (i : ℕ) → FoundValid s i begun.over → At_i i ended.marks ≤ 2 + count (unselects_at s.0 i) done_in
     marked_in i valid = by_visit (always_run (OneVisit (λ entry. entry.index) i (Unmarked s i) (Marked s i) selection.looked) (sweep_over selection.looked (mark_entry s poll.pairs) 0) ended.marks ended.marked

@@ -8,7 +8,7 @@ use Rattle.std.proofs.lemmas.List.Elements.{All-contains, Contains-append_left, 
 use Rattle.nio_base.specs.declared.numbers.SelNo.{SelNo}
 use Rattle.nio_event.proofs.Stays.{facts_are_permanent}
 use Rattle.nio_event.specs.Histories.{state_after, mine, event_of, IsLegal}
-use Rattle.nio_event.specs.Lasting.{key_claimed}
+use Rattle.nio_event.specs.Permanent.{key_claimed}
 use Rattle.nio_event.specs.Questions.{Question, question_of, answer_of}
 use Rattle.nio_event.specs.Sets.{was_claimed, was_removed}
 use Rattle.nio_event.specs.declared.act.Act.{Act}

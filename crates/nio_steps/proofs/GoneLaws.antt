@@ -16,7 +16,7 @@ use Rattle.nio_event.proofs.Soundness.{legal-sound}
 use Rattle.nio_event.proofs.Stays.{facts_are_permanent}
 use Rattle.nio_event.specs.Answers.{free_word}
 use Rattle.nio_event.specs.Histories.{state_after, mine, event_of, IsStep, IsLegal}
-use Rattle.nio_event.specs.Lasting.{key_published, key_cancelled, key_removed}
+use Rattle.nio_event.specs.Permanent.{key_published, key_cancelled, key_removed}
 use Rattle.nio_event.specs.Sets.{in_cancelled_set, is_valid, fits, was_claimed, was_published, was_cancelled, was_removed}
 use Rattle.nio_event.specs.State.{State}
 use Rattle.nio_event.specs.declared.act.Act.{Act}

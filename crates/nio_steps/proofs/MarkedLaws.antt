@@ -15,7 +15,7 @@ use Rattle.nio_event.proofs.Selections.{key_set_stays}
 use Rattle.nio_event.proofs.Soundness.{legal-sound, beyond-claimed}
 use Rattle.nio_event.specs.Histories.{state_after, mine, event_of, IsLegal}
 use Rattle.nio_event.specs.Holders.{Keeps}
-use Rattle.nio_event.specs.Lasting.{a_selection}
+use Rattle.nio_event.specs.Permanent.{a_selection}
 use Rattle.nio_event.specs.OwnEvents.{has, gives_turn}
 use Rattle.nio_event.specs.Pins.{removes}
 use Rattle.nio_event.specs.Questions.{question_of, answer_of}

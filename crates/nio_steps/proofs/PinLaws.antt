@@ -19,7 +19,7 @@ use Rattle.nio_event.specs.declared.found.Stage.{Stage}
 use Rattle.nio_steps.proofs.PinBack.{NoPins, no_pins, again, OnlyPin, PinsFound, Leaves, leaves_reply, leaves_ask, leaves_bind, leaves_if, leaves_sweep, leaves_over, leaves_seek, leaves_pinned, leaves_under_pin, found_leaves, leaves_pins, found_seek, claim-none, claim-only, claim_again-none, claim_again-only, leaves-none, no_pins-append, only_pin-append, gives_back}
 use Rattle.nio_steps.proofs.WaitingPins.{retries-give, selects-give, closes-give, waits-give}
 use Rattle.nio_steps.proofs.Walks.{Always, always_weaker, always_bind, always_if}
-use Rattle.nio_steps.specs.ChannelCalls.{open_channel_plan, opened, is_open_plan, is_blocking_plan, is_registered_plan, noted_in_set, key_for_plan, under_hold, set_mode_held, set_blocking_plan, register_noted, register_over, claim_taken, claim_free, claim_in_word, search_free, words_below, claim_new, make_key, make_claimed, register_first, register_next, register_new, register_rest, register_held, register_plan, cancel_at, close_channel_plan}
+use Rattle.nio_steps.specs.ChannelCalls.{open_channel_plan, opened_channel, is_open_plan, is_blocking_plan, is_registered_plan, noted_in_set, key_for_plan, under_hold, set_mode_held, try_set_blocking_plan, register_noted, register_over, claim_taken, claim_free, claim_in_word, search_free, words_below, claim_new, make_key, make_claimed, register_first, register_next, register_new, register_rest, register_held, try_register_plan, cancel_at, close_channel_plan}
 use Rattle.nio_steps.specs.KeyCalls.{has_bit, is_within, find_selector_plan, find_channel_plan, find_plan, is_valid_plan, on_valid, if_valid, on_supported, look_set, put_set, add_set, keep_set, look_ready, interest_plan, set_interest_plan, interest_or_plan, interest_and_plan, ready_plan, cancel_plan, cancel_present, unselect_plan, unselect_present, attach_plan, attach_present, attachment_plan, attachment_present}
 use Rattle.nio_steps.specs.PinLaws.{PinsAreGivenBack}
 use Rattle.nio_steps.specs.PipeCalls.{pipe_plan, without_sink, with_sink, with_source, if_interrupted, if_open, if_unbroken, try_read_plan, try_write_plan}
@@ -94,13 +94,13 @@ attachment-leaves k = leaves_under_pin k.sel k.index (attachment_present k) (λ 
 
 -- ---- channels
 
-opened-leaves : (made : Option ChanNo) → Leaves (opened made)
-opened-leaves None = search still
-opened-leaves (Some c) = search still
+opened_channel-leaves : (made : Option ChanNo) → Leaves (opened_channel made)
+opened_channel-leaves None = search still
+opened_channel-leaves (Some c) = search still
 
 open_channel-leaves : (l : Limits) (kind : Kind) → Leaves (open_channel_plan l kind)
 unfolding open_channel_plan
-open_channel-leaves l kind = search (still, opened-leaves) depth 12
+open_channel-leaves l kind = search (still, opened_channel-leaves) depth 12
 
 is_open-leaves : (c : ChanNo) → Leaves (is_open_plan c)
 unfolding is_open_plan
@@ -128,8 +128,8 @@ under_hold-leaves c steps here = leaves_ask _ _ refl (λ answer. leaves_if _ _ _
 mode_held-leaves : (l : Limits) (c : ChanNo) (on : Bool) → Leaves (set_mode_held l c on)
 mode_held-leaves l c on = search (still, key_for-leaves) depth 12
 
-set_blocking-leaves : (l : Limits) (c : ChanNo) (on : Bool) → Leaves (set_blocking_plan l c on)
-unfolding set_blocking_plan
+set_blocking-leaves : (l : Limits) (c : ChanNo) (on : Bool) → Leaves (try_set_blocking_plan l c on)
+unfolding try_set_blocking_plan
 set_blocking-leaves l c on = leaves_ask _ _ refl (λ answer. leaves_if _ _ _ (leaves_reply _) (under_hold-leaves c (set_mode_held l c on) (mode_held-leaves l c on)))
 
 over-leaves : (s : SelNo) (ops att : ℕ) (noted : Option KeyId) → Leaves (register_over s ops att noted)
@@ -216,8 +216,8 @@ rest-leaves l s c ops att (Some answer) = leaves_reply answer
 held-leaves : (l : Limits) (s : SelNo) (c : ChanNo) (ops att : ℕ) → Leaves (register_held l s c ops att)
 held-leaves l s c ops att = search (still, over-leaves, rest-leaves) depth 12
 
-register-leaves : (l : Limits) (s : SelNo) (c : ChanNo) (ops att : ℕ) → Leaves (register_plan l s c ops att)
-unfolding register_plan
+register-leaves : (l : Limits) (s : SelNo) (c : ChanNo) (ops att : ℕ) → Leaves (try_register_plan l s c ops att)
+unfolding try_register_plan
 register-leaves l s c ops att =
     leaves_ask _ _ refl (λ answer.
     let found = channel_in answer in
@@ -374,8 +374,8 @@ pins_are_given_back = record {
   is_blocking = λ c. gives_back (is_blocking_plan c) (is_blocking-leaves c);
   is_registered = λ l c. gives_back (is_registered_plan l c) (is_registered-leaves l c);
   key_for = λ c s. gives_back (key_for_plan c s) (key_for-leaves c s);
-  try_set_blocking = λ l c on. gives_back (set_blocking_plan l c on) (set_blocking-leaves l c on);
-  try_register = λ l s c ops att. gives_back (register_plan l s c ops att) (register-leaves l s c ops att);
+  try_set_blocking = λ l c on. gives_back (try_set_blocking_plan l c on) (set_blocking-leaves l c on);
+  try_register = λ l s c ops att. gives_back (try_register_plan l s c ops att) (register-leaves l s c ops att);
   close_channel = λ l c. gives_back (close_channel_plan l c) (close_channel-leaves l c);
   open_selector = λ l. gives_back (open_selector_plan l) (open_selector-leaves l);
   try_begin = λ s mode lacks. gives_back (try_begin_plan s mode lacks) (begin-leaves s mode lacks);
@@ -391,8 +391,8 @@ pins_are_given_back = record {
   pipe = λ l lacks. gives_back (pipe_plan l lacks) (pipe-leaves l lacks);
   try_read = λ l source. gives_back (try_read_plan l source) (try_read-leaves l source);
   try_write = λ l source sink. gives_back (try_write_plan l source sink) (try_write-leaves l source sink);
-  set_blocking = λ l c on. retries-give (gives_back (set_blocking_plan l c on) (set_blocking-leaves l c on));
-  register = λ l s c ops att. retries-give (gives_back (register_plan l s c ops att) (register-leaves l s c ops att));
+  set_blocking = λ l c on. retries-give (gives_back (try_set_blocking_plan l c on) (set_blocking-leaves l c on));
+  register = λ l s c ops att. retries-give (gives_back (try_register_plan l s c ops att) (register-leaves l s c ops att));
   select = λ s mode polls. selects-give s mode polls
       (λ acts answer. gives_back (try_begin_plan s mode _) (begin-leaves s mode _) acts answer)
       (λ selection poll. gives_back (told_plan selection poll.pairs poll.elapsed) (told-leaves selection poll.pairs poll.elapsed))

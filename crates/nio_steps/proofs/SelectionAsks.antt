@@ -11,7 +11,7 @@ use Rattle.nio_event.specs.declared.found.Stage.{Stage}
 use Rattle.nio_steps.proofs.EachLaws.{each_bind, each_if, each_when, each_sweep, each_over}
 use Rattle.nio_steps.proofs.Each.{Each}
 use Rattle.nio_steps.specs.Plan.{reply, ◌>>=◌, ◌>>◌}
-use Rattle.nio_steps.specs.SelectCalls.{Selection, ToldReply, done, LookedOver, told_bits, list_word, list_below, look_over, look_on, look_valid, looked_key, remove_cancelled, mark_entry, mark_told, mark_looked, mark_again, gains_nothing, sweep_key, end_selection}
+use Rattle.nio_steps.specs.SelectCalls.{Selection, ToldReply, done, LookedOver, told_bits, list_word, list_below, look_over, look_on, look_valid, looked_key, remove_cancelled, mark_entry, mark_told, mark_looked, mark_again, gains_nothing, remove_if_cancelled, end_selection}
 use Rattle.nio_steps.specs.Steps.{put_free, mark, mark_in, stage_in, operations_in, exchange_in}
 use Rattle.nio_steps.specs.Sweeps.{sweep_over}
 use Rattle.nio_steps.specs.declared.looked.LookedKey.{LookedKey}
@@ -45,8 +45,8 @@ module _ (Asks : Question → Type 0) (s : SelNo) (i : ℕ) (asks : AsksAt Asks 
   pub each_look : (Left : LookedOver → Type 0) (found : LookedOver) → GoesOver Left i found → Each Asks Left (look_over s i found)
   each_look Left found goes = (asks.looks, λ answer. each_on Left found (stage_in answer) goes)
 
-  pub each_sweep_key : Each Asks (λ _. ⊤) (sweep_key s i)
-  each_sweep_key = (asks.looks, λ answer. each_when Asks (in_cancelled_set (stage_in answer)) (remove_cancelled s i (stage_in answer)) (each_remove (stage_in answer)))
+  pub each_remove_if_cancelled : Each Asks (λ _. ⊤) (remove_if_cancelled s i)
+  each_remove_if_cancelled = (asks.looks, λ answer. each_when Asks (in_cancelled_set (stage_in answer)) (remove_cancelled s i (stage_in answer)) (each_remove (stage_in answer)))
 
 -- where nothing is said of what it has
 pub goes_any : (i : ℕ) (found : LookedOver) → GoesOver (λ _. ⊤) i found
@@ -88,6 +88,6 @@ each_marks Asks s pairs entries asks =
 pub each_end : (Asks : Question → Type 0) (Replies : ToldReply → Type 0) (selection : Selection) (answer : Selected) → All (AsksAt Asks selection.selector) selection.kept
     → Asks (Question.end_wake selection.selector) → Asks (Question.give_turn selection.selector) → Replies (done answer) → Each Asks Replies (end_selection selection answer)
 each_end Asks Replies selection answer asks ends gives fits =
-    each_bind Asks (λ _. ⊤) Replies (sweep_over selection.kept (λ i _. sweep_key selection.selector i) tt) _
-    (each_over Asks (AsksAt Asks selection.selector) (λ _. ⊤) selection.kept (λ i _. sweep_key selection.selector i) tt asks tt (λ i _ at _. each_sweep_key Asks selection.selector i at))
+    each_bind Asks (λ _. ⊤) Replies (sweep_over selection.kept (λ i _. remove_if_cancelled selection.selector i) tt) _
+    (each_over Asks (AsksAt Asks selection.selector) (λ _. ⊤) selection.kept (λ i _. remove_if_cancelled selection.selector i) tt asks tt (λ i _ at _. each_remove_if_cancelled Asks selection.selector i at))
     (λ _ _. (ends, λ _. (gives, λ _. fits)))

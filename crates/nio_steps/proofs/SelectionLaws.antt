@@ -24,7 +24,7 @@ use Rattle.nio_steps.proofs.Each.{Each}
 use Rattle.nio_steps.specs.Laws.{BeginsSelection, AgainGoesOn, CountsSelection}
 use Rattle.nio_steps.specs.Plan.{reply, ◌>>=◌}
 use Rattle.nio_steps.specs.Runs.{Completes}
-use Rattle.nio_steps.specs.SelectCalls.{Selection, ToldReply, Begins, told_plan, told_bits, mark_entry, mark_told, mark_looked, mark_again, one_if, gains_nothing, is_again, sweep_key, end_selection, after_marks, again, done}
+use Rattle.nio_steps.specs.SelectCalls.{Selection, ToldReply, Begins, told_plan, told_bits, mark_entry, mark_told, mark_looked, mark_again, one_if, gains_nothing, is_again, remove_if_cancelled, end_selection, after_marks, again, done}
 use Rattle.nio_steps.specs.Selections.{marks_on, IsBegun}
 use Rattle.nio_steps.specs.Steps.{mark, flag_in, gate_in, mark_in, exchange_in}
 use Rattle.nio_steps.specs.Sweeps.{sweep_over}
@@ -207,8 +207,8 @@ KeepsTurn s acts (again next) = (has (gives_turn s) acts ≡ false) × (has (rem
 
 any-done : (s : ℕ) (xs : List Act) (selection : Selection) (answer : Selected) → Always (λ acts r. KeepsTurn s (xs ++ acts) r) (end_selection selection answer)
 any-done s xs selection answer =
-    always_bind (λ _ _. ⊤) (λ acts r. KeepsTurn s (xs ++ acts) r) (sweep_over selection.kept (λ i _. sweep_key selection.selector i) tt) _
-    (always_any (sweep_over selection.kept (λ i _. sweep_key selection.selector i) tt)) (λ _ _ _ _ _ _ _. tt)
+    always_bind (λ _ _. ⊤) (λ acts r. KeepsTurn s (xs ++ acts) r) (sweep_over selection.kept (λ i _. remove_if_cancelled selection.selector i) tt) _
+    (always_any (sweep_over selection.kept (λ i _. remove_if_cancelled selection.selector i) tt)) (λ _ _ _ _ _ _ _. tt)
 
 after-keeps : (selection : Selection) (elapsed : Bool) (n : ℕ) → Always (KeepsTurn selection.selector.0) (after_marks selection elapsed n)
 after-keeps selection elapsed n = λ look asks look' asks'.

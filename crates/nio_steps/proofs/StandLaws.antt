@@ -13,7 +13,7 @@ use Rattle.nio_event.proofs.Stays.{facts_are_permanent, only_itself_gives_back}
 use Rattle.nio_event.specs.Acts.{effect}
 use Rattle.nio_event.specs.Conditions.{has_turn, has_begun, is_held_by, is_closer}
 use Rattle.nio_event.specs.Histories.{state_after, mine, event_of, IsLegal}
-use Rattle.nio_event.specs.Lasting.{a_selection, selector_closed_by}
+use Rattle.nio_event.specs.Permanent.{a_selection, selector_closed_by}
 use Rattle.nio_event.specs.OwnEvents.{has, gives_turn}
 use Rattle.nio_event.specs.Questions.{Question, question_of, answer_of}
 use Rattle.nio_event.specs.State.{put}

@@ -13,7 +13,7 @@ use Rattle.nio_event.specs.declared.found.Mode.{Mode}
 use Rattle.nio_event.specs.declared.found.Mode.TheVariants.{Now as WithoutWaiting, Wait, For}
 use Rattle.nio_event.specs.declared.found.Stage.{Stage}
 use Rattle.nio_event.specs.declared.reply.Why.TheVariants.{Ready, Closed, Now, Woken, Interrupted, Elapsed}
-use Rattle.nio_steps.specs.ChannelCalls.{open_channel_plan, is_open_plan, is_blocking_plan, is_registered_plan, key_for_plan, set_blocking_plan, register_plan, close_channel_plan}
+use Rattle.nio_steps.specs.ChannelCalls.{open_channel_plan, is_open_plan, is_blocking_plan, is_registered_plan, key_for_plan, try_set_blocking_plan, try_register_plan, close_channel_plan}
 use Rattle.nio_steps.specs.KeyCalls.{find_selector_plan, find_channel_plan, find_plan, is_valid_plan, interest_plan, set_interest_plan, interest_or_plan, interest_and_plan, ready_plan, cancel_plan, unselect_plan, attach_plan, attachment_plan}
 use Rattle.nio_steps.specs.Names.{selector, channel}
 use Rattle.nio_steps.specs.Perform.{perform}
@@ -31,7 +31,7 @@ use Rattle.nio_steps.specs.declared.refusal.PipeMakeError.{PipeMakeError}
 
 -- all that the cases compute with
 plans : Unit {0}
-unfolding not_free count_below pipe_plan try_read_plan try_write_plan open_channel_plan is_open_plan is_blocking_plan is_registered_plan key_for_plan set_blocking_plan register_plan close_channel_plan find_selector_plan find_channel_plan find_plan is_valid_plan interest_plan set_interest_plan interest_or_plan interest_and_plan ready_plan cancel_plan unselect_plan attach_plan attachment_plan open_selector_plan try_begin_plan told_plan leave_plan shut_plan try_finish_plan keys_plan selected_keys_plan wakeup_plan interrupt_plan interrupted_plan sweep seek sweep_over bits_below
+unfolding not_free count_below pipe_plan try_read_plan try_write_plan open_channel_plan is_open_plan is_blocking_plan is_registered_plan key_for_plan try_set_blocking_plan try_register_plan close_channel_plan find_selector_plan find_channel_plan find_plan is_valid_plan interest_plan set_interest_plan interest_or_plan interest_and_plan ready_plan cancel_plan unselect_plan attach_plan attachment_plan open_selector_plan try_begin_plan told_plan leave_plan shut_plan try_finish_plan keys_plan selected_keys_plan wakeup_plan interrupt_plan interrupted_plan sweep seek sweep_over bits_below
 plans = tt
 
 -- ---- names
@@ -69,7 +69,7 @@ End st = Unit {0}
 abbrev Setup : Kind → ℕ → (State → Type 0) → State → Type 0
 Setup kind ops later =
     Says t1 (open_selector_plan limits) (Ok s0) (Says t1 (open_channel_plan limits kind) (Ok c0)
-    (Says t1 (set_blocking_plan limits c0 false) (Ok tt) (Says t1 (register_plan limits s0 c0 ops 0) (Ok k0) later)))
+    (Says t1 (try_set_blocking_plan limits c0 false) (Ok tt) (Says t1 (try_register_plan limits s0 c0 ops 0) (Ok k0) later)))
 
 -- a selection that looks at key 0, or at no key
 abbrev sel : Mode → ℕ → Selection
@@ -89,7 +89,7 @@ unfolding plans
 one_selection = (refl, (refl, (refl, (refl, (refl, (refl, tt))))))
 
 refusals_before_non_blocking : Says t1 (open_selector_plan limits) (Ok s0) (Says t1 (open_channel_plan limits Source) (Ok c0)
-    (Says t1 (register_plan limits s0 c0 1 0) (Err ChannelError.IllegalBlockingMode) (Says t1 (register_plan limits s0 c0 4 0) (Err ChannelError.IllegalOps) End))) opening
+    (Says t1 (try_register_plan limits s0 c0 1 0) (Err ChannelError.IllegalBlockingMode) (Says t1 (try_register_plan limits s0 c0 4 0) (Err ChannelError.IllegalOps) End))) opening
 unfolding plans
 refusals_before_non_blocking = (refl, (refl, (refl, (refl, tt))))
 
@@ -130,9 +130,9 @@ unfolding plans
 cancel_during_selection = (refl, (refl, (refl, (refl, (refl, (refl, (refl, (refl, (refl, tt)))))))))
 
 cancelled_key_until_selection : Setup Source 1 (Says t1 (cancel_plan k0) tt (Says t1 (key_for_plan c0 s0) (Some k0)
-    (Says t1 (register_plan limits s0 c0 1 0) (Err ChannelError.CancelledKey) (Says t1 (try_begin_plan s0 WithoutWaiting false) (Ok (no_key WithoutWaiting))
+    (Says t1 (try_register_plan limits s0 c0 1 0) (Err ChannelError.CancelledKey) (Says t1 (try_begin_plan s0 WithoutWaiting false) (Ok (no_key WithoutWaiting))
     (Says t1 (told_plan (no_key WithoutWaiting) [] false) (done (record { count = 0; why = Now })) (Says t1 (key_for_plan c0 s0) None
-    (Says t1 (register_plan limits s0 c0 1 0) (Ok (k 0 1)) End))))))) opening
+    (Says t1 (try_register_plan limits s0 c0 1 0) (Ok (k 0 1)) End))))))) opening
 unfolding plans
 cancelled_key_until_selection = (refl, (refl, (refl, (refl, (refl, (refl, (refl, (refl, (refl, (refl, (refl, tt)))))))))))
 
@@ -150,7 +150,7 @@ unfolding plans
 busy_turn = (refl, (refl, (refl, (refl, (refl, (refl, (refl, (refl, (refl, (refl, tt))))))))))
 
 closed_channel_cancels_keys : Setup Source 1 (Says t2 (close_channel_plan limits c0) true (Says t1 (interest_plan k0) (Err KeyError.CancelledKey)
-    (Says t1 (set_blocking_plan limits c0 true) (Err ChannelError.ClosedChannel) (Says t2 (close_channel_plan limits c0) false
+    (Says t1 (try_set_blocking_plan limits c0 true) (Err ChannelError.ClosedChannel) (Says t2 (close_channel_plan limits c0) false
     (Says t1 (is_valid_plan k0) false (Says t1 (is_open_plan c0) false End)))))) opening
 unfolding plans
 closed_channel_cancels_keys = (refl, (refl, (refl, (refl, (refl, (refl, (refl, (refl, (refl, (refl, tt))))))))))
@@ -175,8 +175,8 @@ failed_poll_keeps_wakeup : Setup Source 1 (Says t2 (wakeup_plan s0) tt (Begins t
 unfolding plans
 failed_poll_keeps_wakeup = (refl, (refl, (refl, (refl, (refl, (refl, (refl, (refl, (refl, tt)))))))))
 
-attachments : Setup Source 1 (Says t1 (attach_plan k0 7) 0 (Says t1 (register_plan limits s0 c0 0 0) (Ok k0) (Says t1 (attachment_plan k0) 7 (Says t1 (interest_plan k0) (Ok 0)
-    (Says t1 (register_plan limits s0 c0 1 18446744073709551615) (Ok k0) (Says t1 (attach_plan k0 0) 18446744073709551615 End)))))) opening
+attachments : Setup Source 1 (Says t1 (attach_plan k0 7) 0 (Says t1 (try_register_plan limits s0 c0 0 0) (Ok k0) (Says t1 (attachment_plan k0) 7 (Says t1 (interest_plan k0) (Ok 0)
+    (Says t1 (try_register_plan limits s0 c0 1 18446744073709551615) (Ok k0) (Says t1 (attach_plan k0 0) 18446744073709551615 End)))))) opening
 unfolding plans
 attachments = (refl, (refl, (refl, (refl, (refl, (refl, (refl, (refl, (refl, (refl, tt))))))))))
 
@@ -193,12 +193,12 @@ abbrev Opens : ℕ → (State → Type 0) → State → Type 0
 Opens n = Says t1 (open_channel_plan few Source) (Ok (channel n))
 
 abbrev Unblocks : ℕ → (State → Type 0) → State → Type 0
-Unblocks n = Says t1 (set_blocking_plan few (channel n) false) (Ok tt)
+Unblocks n = Says t1 (try_set_blocking_plan few (channel n) false) (Ok tt)
 
 small_limits : Says t1 (open_selector_plan few) (Ok s0) (Says t1 (open_selector_plan few) (Err (record {}))
     (Opens 0 (Opens 1 (Opens 2 (Opens 3 (Says t1 (open_channel_plan few Source) (Err ChannelError.ChannelsSpent)
-    (Unblocks 0 (Unblocks 1 (Unblocks 2 (Says t1 (register_plan few s0 (channel 0) 1 0) (Ok k0) (Says t1 (register_plan few s0 (channel 1) 1 0) (Ok (k 1 0))
-    (Says t1 (register_plan few s0 (channel 2) 1 0) (Err ChannelError.Full) (Says t1 (register_plan few s0 (channel 0) 0 0) (Ok k0) End))))))))))))) opening
+    (Unblocks 0 (Unblocks 1 (Unblocks 2 (Says t1 (try_register_plan few s0 (channel 0) 1 0) (Ok k0) (Says t1 (try_register_plan few s0 (channel 1) 1 0) (Ok (k 1 0))
+    (Says t1 (try_register_plan few s0 (channel 2) 1 0) (Err ChannelError.Full) (Says t1 (try_register_plan few s0 (channel 0) 0 0) (Ok k0) End))))))))))))) opening
 unfolding plans
 small_limits = (refl, (refl, (refl, (refl, (refl, (refl, (refl, (refl, (refl, (refl, (refl, (refl, (refl, (refl, tt))))))))))))))
 
@@ -211,7 +211,7 @@ no_memory = (refl, (refl, (refl, (refl, (refl, (refl, (refl, (refl, tt))))))))
 -- names that are made or not, and a channel's mode
 names : Setup Source 1 (Says t1 (find_selector_plan limits 0) (Some s0) (Says t1 (find_selector_plan limits 1) None (Says t1 (find_selector_plan limits 2) None
     (Says t1 (find_channel_plan limits 0) (Some c0) (Says t1 (find_channel_plan limits 1) None (Says t1 (find_plan limits s0 0 0) (Some k0) (Says t1 (find_plan limits s0 1 0) None
-    (Says t1 (find_plan limits s0 4 0) None (Says t1 (is_blocking_plan c0) false (Says t1 (set_blocking_plan limits c0 true) (Err ChannelError.IllegalBlockingMode)
+    (Says t1 (find_plan limits s0 4 0) None (Says t1 (is_blocking_plan c0) false (Says t1 (try_set_blocking_plan limits c0 true) (Err ChannelError.IllegalBlockingMode)
     (Says t1 (keys_plan s0 false) (Ok (k0 ∷ [])) (Says t1 (selected_keys_plan s0 false) (Ok []) End)))))))))))) opening
 unfolding plans
 names = (refl, (refl, (refl, (refl, (refl, (refl, (refl, (refl, (refl, (refl, (refl, (refl, (refl, (refl, (refl, (refl, tt))))))))))))))))
@@ -226,7 +226,7 @@ abbrev removed : Stage
 removed = record { claimed = true; published = true; cancelled = true; removed = true; chan = c0; serial = 0 }
 
 abbrev Registers : ChanNo → ℕ → Result KeyNo ChannelError → (State → Type 0) → State → Type 0
-Registers c att = Says t1 (register_plan one_key s0 c 1 att)
+Registers c att = Says t1 (try_register_plan one_key s0 c 1 att)
 
 index_given_again : Says t1 (open_selector_plan one_key) (Ok s0) (Opens 0 (Opens 1 (Unblocks 0 (Unblocks 1 (Registers c0 5 (Ok k0)
     (Says t1 (cancel_plan k0) tt (Says t1 (try_begin_plan s0 WithoutWaiting false) (Ok (no_key WithoutWaiting))
@@ -242,7 +242,7 @@ index_given_again = (refl, (refl, (refl, (refl, (refl, (refl, (refl, (refl, (ref
 abbrev ends : PipeEnds
 ends = record { source = channel 0; sink = channel 1 }
 
-pipes : Says t1 (pipe_plan few false) (Ok ends) (Says t1 (try_read_plan few (channel 0)) (Ok true) (Says t1 (set_blocking_plan few (channel 1) false) (Ok tt)
+pipes : Says t1 (pipe_plan few false) (Ok ends) (Says t1 (try_read_plan few (channel 0)) (Ok true) (Says t1 (try_set_blocking_plan few (channel 1) false) (Ok tt)
     (Says t1 (try_write_plan few (channel 0) (channel 1)) (Ok false) (Says t2 (interrupt_plan t1) tt (Says t1 (try_read_plan few (channel 0)) (Err PipeError.ClosedByInterrupt)
     (Says t1 (try_read_plan few (channel 0)) (Err PipeError.ClosedChannel) (Says t1 (try_write_plan few (channel 0) (channel 1)) (Err PipeError.BrokenPipe)
     (Opens 2 (Says t1 (pipe_plan few true) (Err PipeMakeError.Memory) (Says t1 (pipe_plan few false) (Err PipeMakeError.ChannelsSpent)

@@ -28,9 +28,9 @@ makes_channel kind c = do
   was ← make_channel c kind
   reply (if was then None else Some c)
 
-abbrev pub opened : Option ChanNo → Plan (Result ChanNo ChannelError)
-opened None = reply (Err ChannelsSpent)
-opened (Some c) = do
+abbrev pub opened_channel : Option ChanNo → Plan (Result ChanNo ChannelError)
+opened_channel None = reply (Err ChannelsSpent)
+opened_channel (Some c) = do
   raise_channels (c.0 + 1)
   reply (Ok c)
 
@@ -38,7 +38,7 @@ unfoldable pub open_channel_plan : Limits → Kind → Plan (Result ChanNo Chann
 open_channel_plan l kind = do
   mark ← look_channels
   made ← seek_to l.channels mark (λ n. makes_channel kind (channel n))
-  opened made
+  opened_channel made
 
 -- ---- one look
 
@@ -109,8 +109,8 @@ set_mode_held l c on = do
   found ← look_channel c
   if found.closed then reply (Err ClosedChannel) else set_mode_open l c on
 
-unfoldable pub set_blocking_plan : Limits → ChanNo → Bool → Plan (Result (Unit {0}) ChannelError)
-set_blocking_plan l c on = do
+unfoldable pub try_set_blocking_plan : Limits → ChanNo → Bool → Plan (Result (Unit {0}) ChannelError)
+try_set_blocking_plan l c on = do
   found ← look_channel c
   if found.closed then reply (Err ClosedChannel) else under_hold c (set_mode_held l c on)
 
@@ -261,8 +261,8 @@ register_held l s c ops att = do
   if found.closed then reply (Err ClosedChannel) else
       (if found.blocking then reply (Err IllegalBlockingMode) else register_unblocked l s c ops att)
 
-unfoldable pub register_plan : Limits → SelNo → ChanNo → ℕ → ℕ → Plan (Result KeyNo ChannelError)
-register_plan l s c ops att = do
+unfoldable pub try_register_plan : Limits → SelNo → ChanNo → ℕ → ℕ → Plan (Result KeyNo ChannelError)
+try_register_plan l s c ops att = do
   found ← look_channel c
   if not (is_within ops (valid_operations found.kind)) then reply (Err IllegalOps) else
       (if found.closed then reply (Err ClosedChannel) else under_hold c (register_held l s c ops att))
@@ -307,7 +307,7 @@ finds_held (Err Full) = false
 
 -- setting a channel's mode, and registering, until nobody else has the hold
 abbrev pub SetsBlocking : Limits → ChanNo → Bool → List Act → Result (Unit {0}) ChannelError → Type 0
-SetsBlocking l c on = Retries (Completes (set_blocking_plan l c on)) finds_held
+SetsBlocking l c on = Retries (Completes (try_set_blocking_plan l c on)) finds_held
 
 abbrev pub Registers : Limits → SelNo → ChanNo → ℕ → ℕ → List Act → Result KeyNo ChannelError → Type 0
-Registers l s c ops att = Retries (Completes (register_plan l s c ops att)) finds_held
+Registers l s c ops att = Retries (Completes (try_register_plan l s c ops att)) finds_held

@@ -10,7 +10,7 @@ use Rattle.nio_base.specs.declared.numbers.SelNo.{SelNo}
 use Rattle.nio_event.specs.OwnEvents.{keeps_pin}
 use Rattle.nio_event.specs.declared.act.Act.{Act}
 use Rattle.nio_event.specs.declared.found.Mode.{Mode}
-use Rattle.nio_steps.specs.ChannelCalls.{open_channel_plan, is_open_plan, is_blocking_plan, is_registered_plan, key_for_plan, set_blocking_plan, register_plan, close_channel_plan, SetsBlocking, Registers}
+use Rattle.nio_steps.specs.ChannelCalls.{open_channel_plan, is_open_plan, is_blocking_plan, is_registered_plan, key_for_plan, try_set_blocking_plan, try_register_plan, close_channel_plan, SetsBlocking, Registers}
 use Rattle.nio_steps.specs.KeyCalls.{find_selector_plan, find_channel_plan, find_plan, is_valid_plan, interest_plan, set_interest_plan, interest_or_plan, interest_and_plan, ready_plan, cancel_plan, unselect_plan, attach_plan, attachment_plan}
 use Rattle.nio_steps.specs.PipeCalls.{pipe_plan, try_read_plan, try_write_plan, Reads, Writes}
 use Rattle.nio_steps.specs.Runs.{Completes}
@@ -39,8 +39,8 @@ pub record PinsAreGivenBack : Type 0 where
   pub is_blocking : (c : ChanNo) → GivesPinsBack (Completes (is_blocking_plan c))
   pub is_registered : (l : Limits) (c : ChanNo) → GivesPinsBack (Completes (is_registered_plan l c))
   pub key_for : (c : ChanNo) (s : SelNo) → GivesPinsBack (Completes (key_for_plan c s))
-  pub try_set_blocking : (l : Limits) (c : ChanNo) (on : Bool) → GivesPinsBack (Completes (set_blocking_plan l c on))
-  pub try_register : (l : Limits) (s : SelNo) (c : ChanNo) (ops att : ℕ) → GivesPinsBack (Completes (register_plan l s c ops att))
+  pub try_set_blocking : (l : Limits) (c : ChanNo) (on : Bool) → GivesPinsBack (Completes (try_set_blocking_plan l c on))
+  pub try_register : (l : Limits) (s : SelNo) (c : ChanNo) (ops att : ℕ) → GivesPinsBack (Completes (try_register_plan l s c ops att))
   pub close_channel : (l : Limits) (c : ChanNo) → GivesPinsBack (Completes (close_channel_plan l c))
   pub open_selector : (l : Limits) → GivesPinsBack (Completes (open_selector_plan l))
   pub try_begin : (s : SelNo) (mode : Mode) (lacks : Bool) → GivesPinsBack (Completes (try_begin_plan s mode lacks))

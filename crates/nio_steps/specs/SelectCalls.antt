@@ -205,8 +205,8 @@ is_again mode count gate interrupted elapsed =
     may_wait mode && (count == 0) && not gate.woken && not gate.shut && not interrupted && not (is_timed mode && elapsed)
 
 -- why the selection is over: the first that holds
-abbrev pub why_over : Mode → ℕ → GateWord → Bool → Why
-why_over mode count gate interrupted =
+abbrev pub why_ended : Mode → ℕ → GateWord → Bool → Why
+why_ended mode count gate interrupted =
     if not (count == 0) then Ready else
     (if gate.shut then Closed else
     (if not (may_wait mode) then Now else
@@ -214,8 +214,8 @@ why_over mode count gate interrupted =
     (if interrupted then Interrupted else Elapsed))))
 
 -- a key that was cancelled meanwhile is removed
-abbrev pub sweep_key : SelNo → ℕ → Plan (Unit {0})
-sweep_key s i = do
+abbrev pub remove_if_cancelled : SelNo → ℕ → Plan (Unit {0})
+remove_if_cancelled s i = do
   stage ← look_key s i
   when (in_cancelled_set stage) (remove_cancelled s i stage)
 
@@ -227,7 +227,7 @@ pub data ToldReply : Type 0 where
 -- the keys that were cancelled meanwhile are removed, the wakeup is used up, and the turn is free
 abbrev pub end_selection : Selection → Selected → Plan ToldReply
 end_selection selection answer = do
-  sweep_over selection.kept (λ i _. sweep_key selection.selector i) tt
+  sweep_over selection.kept (λ i _. remove_if_cancelled selection.selector i) tt
   end_wake selection.selector
   give_turn selection.selector
   reply (done answer)
@@ -238,7 +238,7 @@ after_marks selection elapsed count = do
   gate ← look_gate selection.selector
   interrupted ← look_interrupt
   if is_again selection.mode count gate interrupted elapsed then reply (again selection) else
-      end_selection selection (record { count = count; why = why_over selection.mode count gate interrupted })
+      end_selection selection (record { count = count; why = why_ended selection.mode count gate interrupted })
 
 -- `pairs` is what the poller told, and `elapsed` whether it said that the time is over
 unfoldable pub told_plan : Selection → List (ℕ × ℕ) → Bool → Plan ToldReply

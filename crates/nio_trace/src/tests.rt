@@ -20,7 +20,7 @@ fn gathered(bytes: &[u8], last: &u8) -> Result<Trace<u8>, AllocError>
     let mut trace = Trace::new();
     trace.extend(bytes);
     trace.push(last);
-    trace.note::<u16, Bytes>(&0x0203);
+    trace.extend_from::<u16, Bytes>(&0x0203);
     trace.clone()
 }
 

@@ -1,4 +1,4 @@
-//! The list, and how items get into it. `new` and `note` are proved by hand, from what a trace
+//! The list, and how items get into it. `new` and `extend_from` are proved by hand, from what a trace
 //! owns, which is nothing; every other call is made of them.
 ghost use Rattle.std.specs.Prelude.{◌≡◌, List, [], ◌∷◌, ◌++◌};
 
@@ -42,7 +42,7 @@ impl<T> Trace<T> {
     }
 
     /// Adds the items that `M` reads off a value. No program has to make them.
-    pub fn note<X, M: Reading<X, T>>(&mut self, _from: &X)
+    pub fn extend_from<X, M: Reading<X, T>>(&mut self, _from: &X)
         ensures { self.new ≡ self.old ++ M.items _from.now }
     {}
 
@@ -50,14 +50,14 @@ impl<T> Trace<T> {
     pub fn push(&mut self, item: &T)
         ensures { self.new ≡ self.old ++ item.now ∷ [] }
     {
-        self.note::<T, One>(item);
+        self.extend_from::<T, One>(item);
     }
 
     /// Puts items at the end.
     pub fn extend(&mut self, items: &[T])
         ensures { self.new ≡ self.old ++ items.now }
     {
-        self.note::<&[T], All>(&items);
+        self.extend_from::<&[T], All>(&items);
     }
 
     /// A second trace with the same list.
@@ -65,7 +65,7 @@ impl<T> Trace<T> {
         ensures { result ≡ self.now }
     {
         let mut trace = Trace::new();
-        trace.note::<Trace<T>, Whole>(self);
+        trace.extend_from::<Trace<T>, Whole>(self);
         trace
     }
 }

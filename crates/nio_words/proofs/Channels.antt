@@ -21,7 +21,7 @@ use Rattle.nio_words.proofs.Fields.{bit-lt, reads, sets, clears_top, exchanges, 
 use Rattle.nio_words.specs.Decodings.{is_set, kind_of, chan_of}
 use Rattle.nio_words.specs.Encodings.{bit, kind_code, channel_word}
 use Rattle.nio_words.specs.Instructions.{applied, put_bit}
-use Rattle.nio_words.specs.Owed.{IsMoment, Moves}
+use Rattle.nio_words.specs.Moves.{IsMoment, Moves}
 use Rattle.nio_words.specs.declared.instruction.Instruction.TheVariants.{Load, SetBit, Exchange}
 use Rattle.nio_words.specs.declared.part.Part.TheVariants.{Chan}
 

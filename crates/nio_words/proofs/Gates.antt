@@ -13,7 +13,7 @@ use Rattle.nio_event.specs.declared.act.Act.TheVariants.{Wake, LookGate, BeginLo
 use Rattle.nio_event.specs.declared.found.GateWord.{GateWord}
 use Rattle.nio_words.specs.Decodings.{is_set, gate_of}
 use Rattle.nio_words.specs.Encodings.{bit, gate_word}
-use Rattle.nio_words.specs.Owed.{Moves}
+use Rattle.nio_words.specs.Moves.{Moves}
 use Rattle.nio_words.specs.declared.instruction.Instruction.TheVariants.{Load, SetBit, ClearBit}
 use Rattle.nio_words.specs.declared.part.Part.TheVariants.{Gate}
 

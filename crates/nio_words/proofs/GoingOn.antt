@@ -13,7 +13,7 @@ use Rattle.nio_event.proofs.SelectedKeys.{selections_keep_keys}
 use Rattle.nio_event.proofs.Selections.{selects_alone as selects_alone_there, key_set_stays, marks_stay, wakeup_stays}
 use Rattle.nio_event.proofs.Stays.{facts_are_permanent, invalid_keys_stay_invalid, only_itself_gives_back}
 use Rattle.nio_event.specs.Histories.{state_after, mine, IsLegal}
-use Rattle.nio_event.specs.Lasting.{OwnFact, a_selection, is_had_by, gives_back}
+use Rattle.nio_event.specs.Permanent.{OwnFact, a_selection, is_had_by, gives_back}
 use Rattle.nio_event.specs.Holders.{IsAtMostUnselected}
 use Rattle.nio_event.specs.OwnEvents.{has, last, noted_found, is_clear_by}
 use Rattle.nio_event.specs.Pins.{IsSameKey, IsKeptInSelection}

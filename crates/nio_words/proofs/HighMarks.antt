@@ -9,7 +9,7 @@ use Rattle.nio_event.specs.Conditions.{IsSelector}
 use Rattle.nio_event.specs.Questions.{number}
 use Rattle.nio_event.specs.declared.act.Act.TheVariants.{LookChannels, RaiseChannels, LookKeys, RaiseKeys}
 use Rattle.nio_words.specs.Decodings.{number_of}
-use Rattle.nio_words.specs.Owed.{Moves}
+use Rattle.nio_words.specs.Moves.{Moves}
 use Rattle.nio_words.specs.declared.instruction.Instruction.TheVariants.{Load, Max}
 use Rattle.nio_words.specs.declared.part.Part.TheVariants.{ChannelsMark, KeysMark}
 
@@ -24,7 +24,7 @@ look_channels_moves l me = record {
   word = λ st now. refl;
   small = λ n small. small;
   proper = λ st now. tt;
-  answers = λ st now. ap number (reads_number st.channels_mark now.small);
+  answers = λ st now. ap number (reads_number st.channels_high now.small);
 }
 
 pub raise_channels_moves : (l : Limits) (me : CallerNo) (k : ℕ) → k < 2 ^ 32 → Moves l me ChannelsMark (Max k) (λ n. RaiseChannels k (number_of n))
@@ -35,7 +35,7 @@ raise_channels_moves l me k few = record {
   word = λ st now. refl;
   small = λ n small. omega arith;
   proper = λ st now. tt;
-  answers = λ st now. ap number (reads_number st.channels_mark now.small);
+  answers = λ st now. ap number (reads_number st.channels_high now.small);
 }
 
 pub look_keys_moves : (l : Limits) (me : CallerNo) (s : SelNo) → IsSelector l s → Moves l me (KeysMark s.0) Load (λ n. LookKeys s (number_of n))
@@ -46,7 +46,7 @@ look_keys_moves l me s below = record {
   word = λ st now. refl;
   small = λ n small. small;
   proper = λ st now. tt;
-  answers = λ st now. ap number (reads_number (st.keys_mark s.0) now.small);
+  answers = λ st now. ap number (reads_number (st.keys_high s.0) now.small);
 }
 
 pub raise_keys_moves : (l : Limits) (me : CallerNo) (s : SelNo) (k : ℕ) → IsSelector l s → k < 2 ^ 32 → Moves l me (KeysMark s.0) (Max k) (λ n. RaiseKeys s k (number_of n))
@@ -54,8 +54,8 @@ raise_keys_moves l me s k below few = record {
   within = below;
   bit = tt;
   part = λ n. refl;
-  word = λ st now. sym (put-same st.keys_mark s.0 (max (st.keys_mark s.0) k));
+  word = λ st now. sym (put-same st.keys_high s.0 (max (st.keys_high s.0) k));
   small = λ n small. omega arith;
   proper = λ st now. tt;
-  answers = λ st now. ap number (reads_number (st.keys_mark s.0) now.small);
+  answers = λ st now. ap number (reads_number (st.keys_high s.0) now.small);
 }

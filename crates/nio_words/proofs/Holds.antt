@@ -11,7 +11,7 @@ use Rattle.nio_event.specs.declared.act.Act.TheVariants.{TryHoldBit, Release}
 use Rattle.nio_words.proofs.Fields.{reads_holder, takes, exchange_small}
 use Rattle.nio_words.specs.Decodings.{holder_of}
 use Rattle.nio_words.specs.Encodings.{holder_word}
-use Rattle.nio_words.specs.Owed.{Moves}
+use Rattle.nio_words.specs.Moves.{Moves}
 use Rattle.nio_words.specs.declared.instruction.Instruction.TheVariants.{Swap, Exchange}
 use Rattle.nio_words.specs.declared.part.Part.TheVariants.{Hold}
 

@@ -10,7 +10,7 @@ use Rattle.nio_event.specs.Conditions.{IsKey}
 use Rattle.nio_event.specs.Questions.{operations}
 use Rattle.nio_event.specs.declared.act.Act.TheVariants.{LookInterest, SwapInterest, OrInterest, AndInterest}
 use Rattle.nio_words.specs.Decodings.{operations_of}
-use Rattle.nio_words.specs.Owed.{Moves}
+use Rattle.nio_words.specs.Moves.{Moves}
 use Rattle.nio_words.specs.declared.instruction.Instruction.TheVariants.{Load, Or, And, Swap}
 use Rattle.nio_words.specs.declared.part.Part.TheVariants.{Interest}
 

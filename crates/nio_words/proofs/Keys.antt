@@ -28,7 +28,7 @@ use Rattle.nio_words.proofs.Stages.{reads_claimed, reads_stage, publishes_stage,
 use Rattle.nio_words.specs.Decodings.{is_set, stage_of, was_pinned}
 use Rattle.nio_words.specs.Encodings.{bit, stage_word}
 use Rattle.nio_words.specs.Instructions.{applied}
-use Rattle.nio_words.specs.Owed.{IsMoment, Moves}
+use Rattle.nio_words.specs.Moves.{IsMoment, Moves}
 use Rattle.nio_words.specs.declared.instruction.Instruction.TheVariants.{Load, SetBit, Add, Subtract, Exchange}
 use Rattle.nio_words.specs.declared.part.Part.TheVariants.{Key}
 

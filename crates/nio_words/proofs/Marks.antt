@@ -20,7 +20,7 @@ use Rattle.nio_event.specs.declared.found.Mark.{Mark as KeyMark}
 use Rattle.nio_words.proofs.Fields.{bit-lt, reads, clears_top, exchange_small}
 use Rattle.nio_words.specs.Decodings.{is_set, mark_of, exchange_found}
 use Rattle.nio_words.specs.Encodings.{bit, mark_word}
-use Rattle.nio_words.specs.Owed.{Moves}
+use Rattle.nio_words.specs.Moves.{Moves}
 use Rattle.nio_words.specs.declared.instruction.Instruction.TheVariants.{Load, ClearBit, Swap, Exchange}
 use Rattle.nio_words.specs.declared.part.Part.TheVariants.{Mark}
 

@@ -13,7 +13,7 @@ use Rattle.nio_event.specs.declared.act.Act.TheVariants.{LookReg, Enrol}
 use Rattle.nio_words.proofs.Fields.{reads_noted}
 use Rattle.nio_words.specs.Decodings.{noted_of}
 use Rattle.nio_words.specs.Encodings.{noted_word}
-use Rattle.nio_words.specs.Owed.{Moves}
+use Rattle.nio_words.specs.Moves.{Moves}
 use Rattle.nio_words.specs.declared.instruction.Instruction.TheVariants.{Load, Swap}
 use Rattle.nio_words.specs.declared.part.Part.TheVariants.{Noted}
 

@@ -6,7 +6,7 @@ use Rattle.nio_base.specs.declared.numbers.SelNo.{SelNo}
 use Rattle.nio_event.proofs.Put.{put_at-same}
 use Rattle.nio_event.specs.Conditions.{IsKey}
 use Rattle.nio_event.specs.declared.act.Act.TheVariants.{SwapNote, LookNote}
-use Rattle.nio_words.specs.Owed.{Moves}
+use Rattle.nio_words.specs.Moves.{Moves}
 use Rattle.nio_words.specs.declared.instruction.Instruction.TheVariants.{Load, Swap}
 use Rattle.nio_words.specs.declared.part.Part.TheVariants.{Note}
 

@@ -9,7 +9,7 @@ use Rattle.nio_event.specs.declared.act.Act.TheVariants.{MakeSelector, LookSelec
 use Rattle.nio_words.proofs.Bits.{reads_bit, sets_bit, one_bit-lt}
 use Rattle.nio_words.specs.Decodings.{is_set}
 use Rattle.nio_words.specs.Instructions.{one_bit}
-use Rattle.nio_words.specs.Owed.{Moves}
+use Rattle.nio_words.specs.Moves.{Moves}
 use Rattle.nio_words.specs.declared.instruction.Instruction.TheVariants.{Load, SetBit}
 use Rattle.nio_words.specs.declared.part.Part.TheVariants.{Selectors}
 

@@ -25,7 +25,7 @@ use Rattle.nio_words.specs.Passes.{view_of, seen, Holds, IsPassOf, IsReady}
 use Rattle.nio_words.specs.Places.{place}
 use Rattle.nio_words.specs.Rule.{HasBit, IsKept}
 use Rattle.nio_words.specs.Telling.{Adds}
-use Rattle.nio_words.specs.Owed.{IsMoment, Moves}
+use Rattle.nio_words.specs.Moves.{IsMoment, Moves}
 use Rattle.nio_words.specs.Steps.{Steps}
 use Rattle.nio_words.specs.declared.instruction.Instruction.{Instruction}
 use Rattle.nio_words.specs.declared.part.Part.{Part}

@@ -15,7 +15,7 @@ use Rattle.nio_event.specs.Answers.{Answers}
 use Rattle.nio_event.specs.Conditions.{is_made, is_claimed}
 use Rattle.nio_event.specs.Found.{is_look, finds}
 use Rattle.nio_event.specs.Histories.{state_after, event_of, mine, HistoryClause, IsLegal}
-use Rattle.nio_event.specs.Lasting.{LastingFact, stands, channel_made, key_published}
+use Rattle.nio_event.specs.Permanent.{PermanentFact, stands, channel_made, key_published}
 use Rattle.nio_event.specs.OwnEvents.{has}
 use Rattle.nio_event.specs.PassViews.{PassView, Holds as HoldsNumber, known, ActsClause, HasKey}
 use Rattle.nio_event.specs.Sets.{was_published}
@@ -67,7 +67,7 @@ look_tells {me = me} {act = act} {v0 = v0} {v1 = v1} clause looks =
     (looks_tell v0.limits me act (v0.seen ++ leaves.between) [] (subst (IsLegal v0.limits) whole clause.history.legal) looks)
 
 -- what the act found tells that the fact stands
-pub found_now : {me : CallerNo} {act : Act} {v0 v1 : PassView} (f : LastingFact) → ActsClause me (act ∷ []) v0 v1 → IsTrue (finds act f) → IsTrue (stands f (known v1))
+pub found_now : {me : CallerNo} {act : Act} {v0 v1 : PassView} (f : PermanentFact) → ActsClause me (act ∷ []) v0 v1 → IsTrue (finds act f) → IsTrue (stands f (known v1))
 found_now {me = me} {act = act} {v0 = v0} {v1 = v1} f clause told =
     found_stands v0.limits me v1.seen clause.history.legal f
     (ap (has (λ x. finds x f)) clause.history.own ∙ (has-more (λ x. finds x f) (mine me v0.seen) act ∙ or_right (has (λ x. finds x f) (mine me v0.seen)) (finds act f) told))

@@ -60,13 +60,13 @@ encoding st Callers = bits_below 64 st.drawn
 encoding st Interrupts = bits_below 64 st.interrupted
 -- bit s: selector s is made
 encoding st Selectors = selectors_word st
-encoding st ChannelsMark = st.channels_mark
+encoding st ChannelsMark = st.channels_high
 encoding st (Chan c) = channel_word (st.chan c)
 encoding st (Hold c) = holder_word (st.hold c)
 encoding st (Noted c s) = noted_word (st.noted c s)
 encoding st (Gate s) = gate_word (st.gate s)
 encoding st (Turn s) = holder_word (st.turn s)
-encoding st (KeysMark s) = st.keys_mark s
+encoding st (KeysMark s) = st.keys_high s
 encoding st (Key s i) = stage_word (st.key s i) (pins st s i)
 encoding st (Interest s i) = st.interest s i
 encoding st (Mark s i) = mark_word (st.mark s i)

@@ -9,8 +9,8 @@ use Rattle.nio_base.specs.declared.numbers.KeyId.{KeyId}
 use Rattle.nio_base.specs.declared.numbers.SelNo.{SelNo}
 use Rattle.nio_event.specs.Histories.{mine, HistoryClause}
 use Rattle.nio_event.specs.Holders.{Keeps as KeepsHistory, marks, ends_wakeup, IsAtMostUnselected}
-use Rattle.nio_event.specs.Lasting.{LastingFact, stands, OwnFact, a_selection, the_hold, a_pin, is_had_by, gives_back}
-use Rattle.nio_event.specs.OwnEvents.{has, last, sets_mode, notes, publishes, noted_found, is_clear_by}
+use Rattle.nio_event.specs.Permanent.{PermanentFact, stands, OwnFact, a_selection, the_hold, a_pin, is_had_by, gives_back}
+use Rattle.nio_event.specs.OwnEvents.{has, last, sets_mode, notes_key, publishes, noted_found, is_clear_by}
 use Rattle.nio_event.specs.Pins.{IsSameKey, IsKeptInSelection, removes}
 use Rattle.nio_event.specs.Sets.{was_published, is_valid_key, is_in_key_set}
 use Rattle.nio_event.specs.Turns.{selects_on}
@@ -85,7 +85,7 @@ HistoriesGoOn = (w : Words) (me : CallerNo) (what : OwnFact) (acts : List Act) (
 -- it stands in what any later pass has seen
 abbrev pub FactsStand : Type 0
 FactsStand = (w : Words) (before after : Pass) → IsLater w before after
-    → (f : LastingFact) → IsTrue (stands f (state_seen before)) → IsTrue (stands f (state_seen after))
+    → (f : PermanentFact) → IsTrue (stands f (state_seen before)) → IsTrue (stands f (state_seen after))
 
 -- so does it stand that a published key isn't valid
 abbrev pub InvalidKeysStand : Type 0
@@ -116,7 +116,7 @@ ModeStands = (w : Words) (me : CallerNo) (c : ChanNo) (acts : List Act) (before 
 -- which key is noted for a channel stays while a caller holds it and notes none itself
 abbrev pub NotedStands : Type 0
 NotedStands = (w : Words) (me : CallerNo) (c : ChanNo) (acts : List Act) (before after : Pass) → Keeps w me (the_hold c) acts before after
-    → (s : SelNo) → IsFalse (has (notes c.0 s.0) acts)
+    → (s : SelNo) → IsFalse (has (notes_key c.0 s.0) acts)
     → (state_seen after).noted c.0 s.0 ≡ (state_seen before).noted c.0 s.0
 
 -- what a caller last found noted for a channel, or noted itself, while it held the channel is noted there

@@ -6,10 +6,10 @@ pub mod Rule
 pub mod Passes
 pub mod Sharing
 pub mod Parts
-pub mod Said
+pub mod Details
 pub mod Steps
 pub mod Telling
-pub mod Owed
+pub mod Moves
 pub mod Drawing
 pub mod Whole
 pub mod Laws

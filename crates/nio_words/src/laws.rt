@@ -22,7 +22,7 @@ pub fn going_on_law()
 
 /// What is drawn, made, claimed, published, cancelled, removed, closed or shut, and what is below a mark, is so
 /// in what every later pass has seen, and a key that was published and isn't valid isn't valid there.
-pub fn lasting_law()
+pub fn permanent_law()
     ensures facts { FactsStand }
     ensures invalid { InvalidKeysStand }
 {}

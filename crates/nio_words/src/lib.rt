@@ -3,7 +3,7 @@
 #![tactic(auto)]
 
 pub use drawing::DrawError;
-pub use laws::{going_on_law, hold_law, lasting_law, own_law, selection_law, whole_law};
+pub use laws::{going_on_law, hold_law, own_law, permanent_law, selection_law, whole_law};
 pub use words::{Pass, Words};
 
 mod decode;

@@ -3,7 +3,7 @@ ghost use Rattle.std.specs.Prelude.{◌≡◌, ◌<◌};
 ghost use Rattle.nio_words.specs.Instructions.{applied, IsInWord};
 ghost use Rattle.nio_words.specs.Passes.{IsReady, limits_of};
 ghost use Rattle.nio_words.specs.Telling.{Doing, MayDo, any_step};
-ghost use Rattle.nio_words.specs.Owed.{Moves};
+ghost use Rattle.nio_words.specs.Moves.{Moves};
 ghost use Rattle.nio_words.specs.Steps.{Steps};
 ghost use Rattle.nio_words.specs.Rule.{IsKept};
 ghost use Rattle.atomic_table.specs.Table.{Allows};
@@ -19,7 +19,7 @@ use std::marker::Brand;
 
 /// What the part and the instruction of a step leave out of the event that it adds.
 #[derive(Clone, Copy)]
-pub enum Said {
+pub enum Details {
     OfKind(Kind),
     ForChannel(ChanNo),
     /// The channel, and the stage from which an index is claimed again.
@@ -89,7 +89,7 @@ impl Words {
         self.perform::<Brand>(&mut p.seat, word, instruction)
     }
 
-    /// The same for a step that its part and its instruction don't tell whole. `_said` is what they
+    /// The same for a step that its part and its instruction don't tell whole. `_details` is what they
     /// leave out, and the proof alone needs it.
     #[inline(always)]
     pub(crate) fn step_that(
@@ -98,7 +98,7 @@ impl Words {
         me: CallerNo,
         part: Part,
         instruction: Instruction,
-        _said: Said,
+        _details: Details,
     ) -> u64
         ghost doing: { Doing }
         requires ready { IsReady self.now p.old doing.who }

@@ -10,7 +10,7 @@
 //!   what its act does to the part, and finds what the act finds (`Moves`);
 //! - where it reads or writes a word of a new shape, the decoding, in `decode.rt` and
 //!   `specs/Decodings.antt`, or the word, in `encode.rt`;
-//! - where its event has numbers that the part and the instruction don't tell, a line of `Said`.
+//! - where its event has numbers that the part and the instruction don't tell, a line of `Details`.
 //!
 //! That its condition stays true while others step is proved of all kinds in `nio_event`.
 

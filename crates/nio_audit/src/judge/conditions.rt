@@ -11,7 +11,7 @@ impl Judge {
     ghost use Rattle.nio_audit.specs.Allowing.{may_clear_out_by, may_publish_by, state_of, IsAllowed};
     ghost use Rattle.nio_audit.specs.Found.{is_clear_for};
     ghost use Rattle.nio_audit.specs.Remembering.{knowledge_of};
-    ghost use Rattle.nio_event.specs.Conditions.{has_begun, has_entered, has_pin, has_taken, has_turn, holds, is_claimed, is_closer, is_made, may_put_due, may_sweep, IsChannel, IsKey, IsSelector};
+    ghost use Rattle.nio_event.specs.Conditions.{has_begun, has_entered, has_pin, has_taken, has_turn, holds, is_claimed, is_closer, is_made, may_put_due, may_remove_cancelled, IsChannel, IsKey, IsSelector};
 
     /// Whether the caller may make the step.
     pub(crate) fn allows(&self, me: CallerNo, act: &Act) -> bool
@@ -177,9 +177,9 @@ impl Judge {
     }
 
     fn may_remove(&self, me: CallerNo, sel: SelNo, index: u32) -> bool
-        ensures { result ≡ (may_sweep (state_of self.now) me sel index || may_clear_out_by (state_of self.now) (knowledge_of self.now.memory) me sel index) }
+        ensures { result ≡ (may_remove_cancelled (state_of self.now) me sel index || may_clear_out_by (state_of self.now) (knowledge_of self.now.memory) me sel index) }
     {
-        self.state.may_sweep(me, sel, index)
+        self.state.may_remove_cancelled(me, sel, index)
             || self.state.has_entered(me, sel) && self.memory.found_below(me, sel, index)
     }
 

@@ -1,7 +1,7 @@
 //! The words of a line that name something: `t1`, `s0`, `c2`, `k3`, `k3.1`, and `k3:5`.
 ghost use Rattle.std.specs.Prelude.{◌≡◌, ℕ, ◌<◌, ◌≤◌, ◌^◌, ◌∷◌, ◌++◌, All, ◌≢◌, IfSome};
 ghost use Rattle.std.specs.Fmt.{decimal};
-ghost use Rattle.nio_event.specs.Arguments.{IsKey, IsNumber, IsPair, IsSerial};
+ghost use Rattle.nio_event.specs.Arguments.{IsKeyName, IsNumber, IsPair, IsSerial};
 ghost use Rattle.nio_event.specs.Reading.{Reads};
 ghost use Rattle.nio_event.specs.Words.{caller_word, selector_word, channel_word, key_word, pair_word};
 
@@ -29,7 +29,7 @@ pub fn read_channel(word: &[u8]) -> Option<ChanNo>
 
 /// A key's index, and its serial behind a point, where that isn't 0.
 pub fn read_key(word: &[u8]) -> Option<KeyId>
-    ensures { Reads IsKey key_word word.now result }
+    ensures { Reads IsKeyName key_word word.now result }
 {
     match cut_at(word, b'.') {
         None => {

@@ -17,7 +17,7 @@ abbrev pub listed : ScriptState → SelNo → (ℕ → Bool) → Answered
 listed st s in_set =
     with_named_selector st s
     (if (st.shared.gate s.0).shut then unchanged st reply.ClosedSelector
-    else unchanged st (names_or_none (map (key_at st.shared s.0) (filter in_set (below (st.shared.keys_mark s.0))))))
+    else unchanged st (names_or_none (map (key_at st.shared s.0) (filter in_set (below (st.shared.keys_high s.0))))))
 
 unfoldable pub keys_call : ScriptState → SelNo → Answered
 keys_call st s = listed st s (λ i. in_key_set (st.shared.key s.0 i))

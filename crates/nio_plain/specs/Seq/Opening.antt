@@ -3,7 +3,7 @@
 use Rattle.std.specs.Prelude.{ℕ, ◌+◌, true, false, not, Option, Some, None, find}
 use Rattle.nio_base.specs.declared.kind.Kind.{Kind}
 use Rattle.nio_base.specs.declared.limits.Limits.{Limits}
-use Rattle.nio_event.specs.State.{with_selector, with_chan, with_channels_mark}
+use Rattle.nio_event.specs.State.{with_selector, with_chan, with_channels_high}
 use Rattle.nio_event.specs.declared.reply.Reply.TheVariants as reply
 use Rattle.nio_plain.specs.ScriptState.{ScriptState}
 use Rattle.nio_plain.specs.Seq.Answers.{Answered, unchanged, answered}
@@ -23,7 +23,7 @@ channel_made st kind None = unchanged st reply.ChannelsSpent
 channel_made st kind (Some c) =
     let opened = with_chan st.shared c
     (record { made = true; kind = kind; closed = false; blocking = true }) in
-    answered st (reply.Channel (record { 0 = c })) (with_channels_mark opened (c + 1))
+    answered st (reply.Channel (record { 0 = c })) (with_channels_high opened (c + 1))
 
 unfoldable pub channel_call : Limits → ScriptState → Kind → Answered
 channel_call l st kind =

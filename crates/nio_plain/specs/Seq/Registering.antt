@@ -9,7 +9,7 @@ use Rattle.nio_base.specs.declared.limits.Limits.{Limits}
 use Rattle.nio_base.specs.declared.numbers.ChanNo.{ChanNo}
 use Rattle.nio_base.specs.declared.numbers.KeyId.{KeyId}
 use Rattle.nio_base.specs.declared.numbers.SelNo.{SelNo}
-use Rattle.nio_event.specs.State.{State, unmarked, with_noted, with_keys_mark, with_key, with_interest, with_mark, with_note, with_free}
+use Rattle.nio_event.specs.State.{State, unmarked, with_noted, with_keys_high, with_key, with_interest, with_mark, with_note, with_free}
 use Rattle.nio_event.specs.declared.found.Stage.{Stage}
 use Rattle.nio_event.specs.declared.reply.Reply.TheVariants as reply
 use Rattle.nio_plain.specs.ScriptState.{ScriptState}
@@ -29,14 +29,14 @@ given_or_kept (Some att) kept = if att == 0 then kept else att
 
 -- the least free index of a selector
 abbrev pub free_index : State → ℕ → Option ℕ
-free_index st s = find (λ i. st.free s i) (below (st.keys_mark s))
+free_index st s = find (λ i. st.free s i) (below (st.keys_high s))
 
 -- the key that a selector gives next, by the least free index; none where every index is claimed and
 -- none is free
 abbrev pub next_by : Limits → State → ℕ → Option ℕ → Option KeyId
 next_by l st s (Some i) = Some (record { index = i; serial = suc (st.key s i).serial })
 next_by l st s None =
-    if nat_lt (st.keys_mark s) l.keys then Some (record { index = st.keys_mark s; serial = 0 }) else None
+    if nat_lt (st.keys_high s) l.keys then Some (record { index = st.keys_high s; serial = 0 }) else None
 
 abbrev pub next_key : Limits → State → ℕ → Option KeyId
 next_key l st s = next_by l st s (free_index st s)
@@ -55,7 +55,7 @@ new_stage c serial = record {
 abbrev pub with_new_key : State → ℕ → ℕ → KeyId → ℕ → ℕ → State
 with_new_key st s c k ops att =
     let i = k.index in
-    let claimed = with_keys_mark (with_free (with_key st s i (new_stage c k.serial)) s i false) s (max (st.keys_mark s) (suc i)) in
+    let claimed = with_keys_high (with_free (with_key st s i (new_stage c k.serial)) s i false) s (max (st.keys_high s) (suc i)) in
     with_note (with_mark (with_interest (with_noted claimed c s (Some k)) s i ops) s i unmarked) s i att
 
 abbrev pub registered_new : ScriptState → ℕ → ℕ → ℕ → ℕ → Option KeyId → Answered

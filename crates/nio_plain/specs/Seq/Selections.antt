@@ -31,7 +31,7 @@ without_cancelled rules st s = without_keys_where st s (λ i. in_cancelled_set (
 -- the key set with its interests, in rising order of the indexes
 abbrev pub looked_keys : State → ℕ → List (KeyId × ℕ)
 looked_keys st s =
-    map (λ i. (key_at st s i, st.interest s i)) (filter (λ i. in_key_set (st.key s i)) (below (st.keys_mark s)))
+    map (λ i. (key_at st s i, st.interest s i)) (filter (λ i. in_key_set (st.key s i)) (below (st.keys_high s)))
 
 -- how long a line's selection waits: a negative time is refused, and 0 waits without limit
 abbrev pub timed : ℤ → Option Mode
@@ -52,7 +52,7 @@ selection_begun rules st me s how =
       reply = reply.Looked looked;
       left =
           with_selection (with_shared st (with_begun (with_turn swept s (Some me)) s true)) s
-          (Some (record { mode = how; bound = st.shared.keys_mark s; looked = looked }));
+          (Some (record { mode = how; bound = st.shared.keys_high s; looked = looked }));
     }
 
 abbrev pub begun_with : Rules → ScriptState → CallerNo → ℕ → Option Mode → Answered

@@ -43,7 +43,7 @@ impl Plain {
     pub(super) fn key(&self, sel: SelNo, id: KeyId) -> Result<Key, Reply>
         ensures through { IfOk result (λ _. LetsThrough (with_named_key (state_of self.now) sel id)) }
         ensures row { IfOk result (λ key. (places selector_row no_selector self.now.selectors.items sel.0).keys id.index ≡ key_row key) }
-        ensures claimed { IfOk result (λ _. id.index < (state_of self.now).shared.keys_mark sel.0) }
+        ensures claimed { IfOk result (λ _. id.index < (state_of self.now).shared.keys_high sel.0) }
         ensures refused { IfErr result (Refuses (state_of self.now) (with_named_key (state_of self.now) sel id)) }
     {
         if sel.0 as usize >= self.selectors.len() {
@@ -64,7 +64,7 @@ impl Plain {
     pub(super) fn valid_key(&self, sel: SelNo, id: KeyId) -> Result<Key, Reply>
         ensures through { IfOk result (λ _. LetsThrough (with_valid_key (state_of self.now) sel id)) }
         ensures row { IfOk result (λ key. (places selector_row no_selector self.now.selectors.items sel.0).keys id.index ≡ key_row key) }
-        ensures claimed { IfOk result (λ _. id.index < (state_of self.now).shared.keys_mark sel.0) }
+        ensures claimed { IfOk result (λ _. id.index < (state_of self.now).shared.keys_high sel.0) }
         ensures refused { IfErr result (Refuses (state_of self.now) (with_valid_key (state_of self.now) sel id)) }
     {
         let key = match self.key(sel, id) {
@@ -79,7 +79,7 @@ impl Plain {
 
     /// Puts a key in the place of one.
     pub(super) fn put_key(&mut self, sel: SelNo, index: u32, key: Key)
-        requires { index < (state_of self.old).shared.keys_mark sel.0 }
+        requires { index < (state_of self.old).shared.keys_high sel.0 }
         ensures left { state_of self.new ≡ with_key_row (state_of self.old) sel.0 index (key_row key) }
         ensures kept { Kept self.old self.new }
     {

@@ -124,7 +124,7 @@ impl Key {
     }
 
     /// The same of the key with this serial alone.
-    fn sweep_key(&mut self, serial: u32, rules: Rules)
+    fn remove_if_cancelled(&mut self, serial: u32, rules: Rules)
         ensures { key_row self.new ≡ (if fits (key_row self.old).stage serial then swept_key rules (key_row self.old) else key_row self.old) }
     {
         if self.fits(serial) {
@@ -323,7 +323,7 @@ impl Selector {
         ensures { selector_row self.new ≡ record (selector_row self.old) { keys = swept_looked rules (selector_row self.old).keys looked.now } }
     {
         for &(id, _) in looked {
-            self.keys[id.index as usize].sweep_key(id.serial, rules);
+            self.keys[id.index as usize].remove_if_cancelled(id.serial, rules);
         }
     }
 
@@ -335,7 +335,7 @@ impl Selector {
         caller: CallerNo,
         mode: Mode,
     ) -> Result<Pairs, AllocError>
-        ensures looked { IfOk result (λ pairs. pairs ≡ looked_below (selector_row self.old).keys (selector_row self.old).keys_mark) }
+        ensures looked { IfOk result (λ pairs. pairs ≡ looked_below (selector_row self.old).keys (selector_row self.old).keys_high) }
         ensures left { OnOk result (selector_row self.new ≡ with_selection_begun rules (selector_row self.old) caller mode) }
         ensures memory { OnErr result (selector_row self.new ≡ selector_row self.old) }
     {

@@ -10,7 +10,7 @@ use crate::decode::{chan_of, is_set};
 use crate::encode;
 use crate::instruction::Instruction;
 use crate::part::Part;
-use crate::step::Said;
+use crate::step::Details;
 use crate::words::{Pass, Words};
 use nio_base::{CallerNo, ChanNo, Kind};
 use nio_event::Chan;
@@ -34,7 +34,7 @@ impl Words {
             me,
             Part::Chan(c.0),
             Instruction::Exchange(0, new),
-            Said::OfKind(kind),
+            Details::OfKind(kind),
         );
         is_set(found, 0)
     }
@@ -58,7 +58,7 @@ impl Words {
         ensures { Steps self.now p.old p.new me (SetMode c blocking result) }
     {
         let instruction = Instruction::to_put_bit(BLOCKING, blocking);
-        let found = self.step_that(p, me, Part::Chan(c.0), instruction, Said::Mode(blocking));
+        let found = self.step_that(p, me, Part::Chan(c.0), instruction, Details::Mode(blocking));
         chan_of(found)
     }
 

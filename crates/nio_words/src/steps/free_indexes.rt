@@ -8,7 +8,7 @@ ghost use Rattle.nio_words.specs.Steps.{Steps};
 use crate::decode::is_set;
 use crate::instruction::Instruction;
 use crate::part::Part;
-use crate::step::Said;
+use crate::step::Details;
 use crate::words::{Pass, Words};
 use nio_base::{CallerNo, SelNo};
 
@@ -36,7 +36,7 @@ impl Words {
             me,
             Part::Free(s.0, i / 64),
             Instruction::SetBit(i % 64),
-            Said::Number(i),
+            Details::Number(i),
         );
     }
 
@@ -51,7 +51,7 @@ impl Words {
             me,
             Part::Free(s.0, i / 64),
             Instruction::ClearBit(i % 64),
-            Said::Number(i),
+            Details::Number(i),
         );
         is_set(found, i % 64)
     }

@@ -8,7 +8,7 @@ ghost use Rattle.nio_words.specs.Steps.{Steps};
 use crate::decode::number_of;
 use crate::instruction::Instruction;
 use crate::part::Part;
-use crate::step::Said;
+use crate::step::Details;
 use crate::words::{Pass, Words};
 use nio_base::{CallerNo, SelNo};
 
@@ -35,7 +35,7 @@ impl Words {
             me,
             Part::ChannelsMark,
             Instruction::Max(least),
-            Said::Number(n),
+            Details::Number(n),
         );
         number_of(found)
     }
@@ -64,7 +64,7 @@ impl Words {
             me,
             Part::KeysMark(s.0),
             Instruction::Max(least),
-            Said::Number(n),
+            Details::Number(n),
         );
         number_of(found)
     }

@@ -1,6 +1,6 @@
 //! Steps on the word of an index: the stage of its key, and the pins on it.
 ghost use Rattle.std.specs.Prelude.{◌≡◌, ◌<◌, ◌||◌, not, IsTrue, Some};
-ghost use Rattle.nio_event.specs.Conditions.{IsChannel, IsKey, AllClaimed, is_claimed, holds, has_pin, has_taken, may_publish, may_sweep, may_clear_out};
+ghost use Rattle.nio_event.specs.Conditions.{IsChannel, IsKey, AllClaimed, is_claimed, holds, has_pin, has_taken, may_publish, may_remove_cancelled, may_clear_out};
 ghost use Rattle.nio_event.specs.OwnEvents.{last, own_claim, since_taken, stage_found};
 ghost use Rattle.nio_event.specs.State.{last_serial};
 ghost use Rattle.nio_event.specs.declared.act.Act.TheVariants.{LookKey, CancelKey, Claim, Publish, Remove, Pin, Unpin, ClaimAgain};
@@ -11,7 +11,7 @@ use crate::decode::{is_set, stage_of};
 use crate::encode::{self, PIN};
 use crate::instruction::Instruction;
 use crate::part::Part;
-use crate::step::Said;
+use crate::step::Details;
 use crate::words::{Pass, Words};
 use nio_base::{CallerNo, ChanNo, SelNo};
 use nio_event::Stage;
@@ -61,7 +61,7 @@ impl Words {
             me,
             Part::Key(s.0, i),
             Instruction::Exchange(0, new),
-            Said::ForChannel(c),
+            Details::ForChannel(c),
         );
         is_set(found, 0)
     }
@@ -81,7 +81,7 @@ impl Words {
     pub fn remove(&self, p: &mut Pass, me: CallerNo, s: SelNo, i: u32) -> Stage
         requires ready { IsReady self.now p.old me }
         requires key { IsKey (limits_of self.now) s i }
-        requires may { IsTrue (may_sweep (state_seen p.old) me s i || may_clear_out (state_seen p.old) (acts_seen p.old me) me s i) }
+        requires may { IsTrue (may_remove_cancelled (state_seen p.old) me s i || may_clear_out (state_seen p.old) (acts_seen p.old me) me s i) }
         ensures { Steps self.now p.old p.new me (Remove s i result) }
     {
         let found = self.step(p, me, Part::Key(s.0, i), Instruction::SetBit(REMOVED));
@@ -137,7 +137,7 @@ impl Words {
             me,
             Part::Key(s.0, i),
             Instruction::Exchange(old, new),
-            Said::Again(c, from),
+            Details::Again(c, from),
         );
         found != old
     }

@@ -10,7 +10,7 @@ use crate::decode::{is_set, mark_of};
 use crate::encode;
 use crate::instruction::Instruction;
 use crate::part::Part;
-use crate::step::Said;
+use crate::step::Details;
 use crate::words::{Pass, Words};
 use nio_base::{CallerNo, Ops, SelNo};
 use nio_event::Mark;
@@ -78,7 +78,7 @@ impl Words {
             me,
             Part::Mark(s.0, i),
             Instruction::Exchange(old, new),
-            Said::Told(from.selected, from.ready, told),
+            Details::Told(from.selected, from.ready, told),
         );
         if found == old {
             Ok(())

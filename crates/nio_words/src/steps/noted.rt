@@ -10,7 +10,7 @@ use crate::decode::noted_of;
 use crate::encode;
 use crate::instruction::Instruction;
 use crate::part::Part;
-use crate::step::Said;
+use crate::step::Details;
 use crate::words::{Pass, Words};
 use nio_base::{CallerNo, ChanNo, KeyId, SelNo};
 
@@ -52,7 +52,7 @@ impl Words {
             me,
             Part::Noted(c.0, s.0),
             Instruction::Swap(new),
-            Said::Noted(key),
+            Details::Noted(key),
         );
         noted_of(found)
     }

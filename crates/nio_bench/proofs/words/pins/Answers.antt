@@ -8,7 +8,7 @@ use Rattle.nio_event.proofs.Finds.{step_leaves}
 use Rattle.nio_event.proofs.Put.{put-same}
 use Rattle.nio_event.specs.Conditions.{holds, is_held_by, has_pin}
 use Rattle.nio_event.specs.Histories.{state_after}
-use Rattle.nio_event.specs.Lasting.{channel_made}
+use Rattle.nio_event.specs.Permanent.{channel_made}
 use Rattle.nio_event.specs.PassViews.{PassView, Holds, known, ActsClause}
 use Rattle.nio_event.specs.declared.act.Act.TheVariants.{TryHoldBit, Claim}
 use Rattle.nio_words.proofs.Pins.{pin_then, pin_after}

@@ -2,7 +2,7 @@ use Rattle.std.proofs.Common.{◌≡◌, true, false, None, refl, rules}
 use Rattle.std.specs.Prelude.{is_some}
 use Rattle.nio_event.proofs.PassViews.{channel_after}
 use Rattle.nio_steps.proofs.CallLaws.{returned, left_ask, left_then, left_else, left_after, ran_then}
-use Rattle.nio_steps.specs.ChannelCalls.{set_blocking_plan}
+use Rattle.nio_steps.specs.ChannelCalls.{try_set_blocking_plan}
 use Rattle.nio_words.proofs.Stepping.{still_ready}
 use Rattle.nio_words.proofs.Views.{step_acts}
 use Rattle.nio_channel.proofs.Held.{takes_the_hold}
@@ -12,7 +12,7 @@ pub try_hold_bit-requires-clause-made : goal.try_hold_bit-requires-clause-made
 try_hold_bit-requires-clause-made c = (channel_after (step_acts c.look_channel.ensures refl) c.requires.channel).made
 
 pub returns-then-is_some-clause-call : goal.returns-then-is_some-clause-call
-unfolding set_blocking_plan
+unfolding try_set_blocking_plan
 returns-then-is_some-clause-call c =
     let held : is_some c.try_hold_bit.result ≡ true = search rules in
     returned (left_ask _ (step_acts c.look_channel.ensures refl) (left_else _ _ _ c.if-look_channel.false (left_ask _ (step_acts c.try_hold_bit.ensures refl)
@@ -24,7 +24,7 @@ set_mode_held-answer-requires c =
     takes_the_hold c.try_hold_bit.ensures free (still_ready _ _ _ _ _ _ c.look_channel.ensures c.requires.ready) c.requires.channel.inside
 
 pub returns-clause-call : goal.returns-clause-call
-unfolding set_blocking_plan
+unfolding try_set_blocking_plan
 returns-clause-call c =
     let free : is_some c.try_hold_bit.result ≡ false = search rules in
     returned (left_ask _ (step_acts c.look_channel.ensures refl) (left_else _ _ _ c.if-look_channel.false (left_ask _ (step_acts c.try_hold_bit.ensures refl)

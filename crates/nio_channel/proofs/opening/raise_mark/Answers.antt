@@ -1,5 +1,5 @@
 use Rattle.std.proofs.Common.{refl, rules}
-use Rattle.nio_event.specs.Lasting.{channel_made}
+use Rattle.nio_event.specs.Permanent.{channel_made}
 use Rattle.nio_words.proofs.Views.{step_acts}
 use Rattle.nio_channel.proofs.Made.{lasts_over}
 use Rattle.nio_channel.proofs.opening.raise_mark.Goals as goal

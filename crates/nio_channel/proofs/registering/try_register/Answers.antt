@@ -1,10 +1,9 @@
-use Rattle.std.proofs.Common.{◌≡◌, true, false, not, None, refl, rules, sym, subst}
+use Rattle.std.proofs.Common.{◌≡◌, true, false, not, None, refl, rules}
 use Rattle.std.specs.Prelude.{is_some}
 use Rattle.nio_base.specs.Kind.{valid_operations}
-use Rattle.nio_base.specs.declared.numbers.SelNo.{SelNo}
 use Rattle.nio_event.proofs.PassViews.{channel_after, key_after}
 use Rattle.nio_steps.proofs.CallLaws.{returned, left_ask, left_then, left_else, left_after, ran_then}
-use Rattle.nio_steps.specs.ChannelCalls.{register_plan}
+use Rattle.nio_steps.specs.ChannelCalls.{try_register_plan}
 use Rattle.nio_steps.specs.KeyCalls.{is_within}
 use Rattle.nio_words.proofs.Pins.{no_pin_stays}
 use Rattle.nio_words.proofs.Stepping.{still_ready}
@@ -15,7 +14,7 @@ use Rattle.nio_channel.proofs.Registered.{its_answer, cancelled_after}
 use Rattle.nio_channel.proofs.registering.try_register.Goals as goal
 
 pub returns-then-not-supports-clause-call : goal.returns-then-not-supports-clause-call
-unfolding register_plan
+unfolding try_register_plan
 returns-then-not-supports-clause-call c =
     let outside : not (is_within c.args.ops (valid_operations c.look_channel-found.result.kind)) ≡ true = search rules in
     returned (left_ask _ (step_acts c.look_channel-found.ensures refl) (left_then _ _ _ outside (left_after (step_acts c.look_channel-found.ensures refl))))
@@ -30,7 +29,7 @@ pub try_hold_bit-requires-clause-made : goal.try_hold_bit-requires-clause-made
 try_hold_bit-requires-clause-made c = (channel_after (step_acts c.look_channel-found.ensures refl) c.requires.channel).made
 
 pub returns-then-is_some-clause-call : goal.returns-then-is_some-clause-call
-unfolding register_plan
+unfolding try_register_plan
 returns-then-is_some-clause-call c =
     let within : not (is_within c.args.ops (valid_operations c.look_channel-found.result.kind)) ≡ false = search rules in
     let held : is_some c.try_hold_bit.result ≡ true = search rules in
@@ -53,7 +52,7 @@ pub register_held-answer-requires-clause-unpinned : goal.register_held-answer-re
 register_held-answer-requires-clause-unpinned c = no_pin_stays (step_acts c.try_hold_bit.ensures refl) refl (no_pin_stays (step_acts c.look_channel-found.ensures refl) refl c.requires.unpinned)
 
 pub returns-clause-call : goal.returns-clause-call
-unfolding register_plan
+unfolding try_register_plan
 returns-clause-call c =
     let within : not (is_within c.args.ops (valid_operations c.look_channel-found.result.kind)) ≡ false = search rules in
     let free : is_some c.try_hold_bit.result ≡ false = search rules in

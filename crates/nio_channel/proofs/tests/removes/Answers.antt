@@ -2,7 +2,7 @@ use Rattle.std.proofs.Common.{◌≡◌, true, false, None, refl, rules}
 use Rattle.nio_event.proofs.PassViews.{channel_after, key_after}
 use Rattle.nio_event.specs.Acts.{frees_index}
 use Rattle.nio_event.specs.Conditions.{has_turn, has_begun}
-use Rattle.nio_event.specs.Lasting.{the_turn, a_selection}
+use Rattle.nio_event.specs.Permanent.{the_turn, a_selection}
 use Rattle.nio_event.specs.Sets.{in_cancelled_set}
 use Rattle.nio_words.proofs.Views.{step_acts}
 use Rattle.nio_words.specs.Passes.{state_seen}

@@ -75,5 +75,5 @@ returns-clause-claimed c =
     let p = c.args.self.now in
     let x = c.index-selector.result.now in
     let within : c.args.sel.0 < length p.selectors.items = omega (arith, p.selectors.ok.0) in
-    let mark = ap (λ (r : SelectorRow). r.keys_mark) (places_at selector_row no_selector p.selectors.items c.args.sel.0 x within c.index-selector.ensures) in
+    let mark = ap (λ (r : SelectorRow). r.keys_high) (places_at selector_row no_selector p.selectors.items c.args.sel.0 x within c.index-selector.ensures) in
     omega (arith, x.keys.ok.0, mark)

@@ -17,7 +17,7 @@ put_key-requires c =
     let p = c.args.self.now in
     let x = c.index_mut.result.now in
     let made = claimed-made p c.args.sel.0 c.args.index c.requires in
-    let mark = ap (λ (r : SelectorRow). r.keys_mark) (places_at selector_row no_selector p.selectors.items c.args.sel.0 x made c.index_mut.ensures.value) in
+    let mark = ap (λ (r : SelectorRow). r.keys_high) (places_at selector_row no_selector p.selectors.items c.args.sel.0 x made c.index_mut.ensures.value) in
     omega (arith, x.keys.ok.0, c.requires, mark)
 
 pub returns-clause-left : goal.returns-clause-left

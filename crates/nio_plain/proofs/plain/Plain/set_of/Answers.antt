@@ -34,7 +34,7 @@ returns c =
     let row = read_row p s c.in-Ok.place x c.in-Ok.ensures.place within c.index-selector.ensures in
     let opened = ap (λ (r : SelectorRow). r.gate.shut) row ∙ sym c.if-is_shut.ensures in
     let names : List KeyId → Answered = λ ks. unchanged (state_of p) (names_or_none ks) in
-    let of_row = ap (λ (r : SelectorRow). names (map (key_id r.keys) (filter (λ i. is_listed (r.keys i) selected) (below r.keys_mark)))) row in
+    let of_row = ap (λ (r : SelectorRow). names (map (key_id r.keys) (filter (λ i. is_listed (r.keys i) selected) (below r.keys_high)))) row in
     let read = ap (λ ys. listed_below (places key_row no_key ys) selected (length ys)) c.deref.ensures.value in
     let told = c.names_or_none.ensures ∙ ap names_or_none (c.in_ok-names.ensures ∙ read) in
     unchanged_as p _ _

@@ -1,8 +1,8 @@
 use Rattle.nio_event.specs.declared.act.Act.TheVariants.{Enrol}
 use Rattle.nio_words.specs.Decodings.{noted_of}
 use Rattle.nio_words.specs.Parts.{channel_in, selector_in}
-use Rattle.nio_words.specs.Said.{key_said}
+use Rattle.nio_words.specs.Details.{key_of_details}
 use Rattle.nio_words.proofs.words.Words.enrol.Given as goal
 
 abbrev pub ghost-step_that : goal.ghost-step_that
-ghost-step_that a = record { who = a.me; act = λ n. Enrol (channel_in a.part) (selector_in a.part) (key_said a._said).index (key_said a._said).serial (noted_of n) }
+ghost-step_that a = record { who = a.me; act = λ n. Enrol (channel_in a.part) (selector_in a.part) (key_of_details a._details).index (key_of_details a._details).serial (noted_of n) }

@@ -1,7 +1,7 @@
 use Rattle.nio_event.specs.declared.act.Act.TheVariants.{PutFree}
 use Rattle.nio_words.specs.Parts.{selector_in}
-use Rattle.nio_words.specs.Said.{number_said}
+use Rattle.nio_words.specs.Details.{number_of_details}
 use Rattle.nio_words.proofs.words.Words.put_free.Given as goal
 
 abbrev pub ghost-step_that : goal.ghost-step_that
-ghost-step_that a = record { who = a.me; act = λ n. PutFree (selector_in a.part) (number_said a._said) }
+ghost-step_that a = record { who = a.me; act = λ n. PutFree (selector_in a.part) (number_of_details a._details) }

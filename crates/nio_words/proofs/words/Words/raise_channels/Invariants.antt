@@ -1,7 +1,7 @@
 use Rattle.nio_event.specs.declared.act.Act.TheVariants.{RaiseChannels}
 use Rattle.nio_words.specs.Decodings.{number_of}
-use Rattle.nio_words.specs.Said.{number_said}
+use Rattle.nio_words.specs.Details.{number_of_details}
 use Rattle.nio_words.proofs.words.Words.raise_channels.Given as goal
 
 abbrev pub ghost-step_that : goal.ghost-step_that
-ghost-step_that a = record { who = a.me; act = λ n. RaiseChannels (number_said a._said) (number_of n) }
+ghost-step_that a = record { who = a.me; act = λ n. RaiseChannels (number_of_details a._details) (number_of n) }

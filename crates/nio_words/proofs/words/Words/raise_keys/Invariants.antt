@@ -1,8 +1,8 @@
 use Rattle.nio_event.specs.declared.act.Act.TheVariants.{RaiseKeys}
 use Rattle.nio_words.specs.Decodings.{number_of}
 use Rattle.nio_words.specs.Parts.{selector_in}
-use Rattle.nio_words.specs.Said.{number_said}
+use Rattle.nio_words.specs.Details.{number_of_details}
 use Rattle.nio_words.proofs.words.Words.raise_keys.Given as goal
 
 abbrev pub ghost-step_that : goal.ghost-step_that
-ghost-step_that a = record { who = a.me; act = λ n. RaiseKeys (selector_in a.part) (number_said a._said) (number_of n) }
+ghost-step_that a = record { who = a.me; act = λ n. RaiseKeys (selector_in a.part) (number_of_details a._details) (number_of n) }

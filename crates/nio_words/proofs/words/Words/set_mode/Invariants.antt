@@ -1,8 +1,8 @@
 use Rattle.nio_event.specs.declared.act.Act.TheVariants.{SetMode}
 use Rattle.nio_words.specs.Decodings.{chan_of}
 use Rattle.nio_words.specs.Parts.{channel_in}
-use Rattle.nio_words.specs.Said.{mode_said}
+use Rattle.nio_words.specs.Details.{mode_of_details}
 use Rattle.nio_words.proofs.words.Words.set_mode.Given as goal
 
 abbrev pub ghost-step_that : goal.ghost-step_that
-ghost-step_that a = record { who = a.me; act = λ n. SetMode (channel_in a.part) (mode_said a._said) (chan_of n) }
+ghost-step_that a = record { who = a.me; act = λ n. SetMode (channel_in a.part) (mode_of_details a._details) (chan_of n) }

@@ -2,8 +2,8 @@ use Rattle.std.specs.Prelude.{◌%◌}
 use Rattle.nio_event.specs.declared.act.Act.TheVariants.{TakeFree}
 use Rattle.nio_words.specs.Decodings.{is_set}
 use Rattle.nio_words.specs.Parts.{selector_in}
-use Rattle.nio_words.specs.Said.{number_said}
+use Rattle.nio_words.specs.Details.{number_of_details}
 use Rattle.nio_words.proofs.words.Words.take_free.Given as goal
 
 abbrev pub ghost-step_that : goal.ghost-step_that
-ghost-step_that a = record { who = a.me; act = λ n. TakeFree (selector_in a.part) (number_said a._said) (is_set n (number_said a._said % 64)) }
+ghost-step_that a = record { who = a.me; act = λ n. TakeFree (selector_in a.part) (number_of_details a._details) (is_set n (number_of_details a._details % 64)) }

@@ -19,7 +19,7 @@ returns-in_ok-insert-clause-ok c =
     let keys = places-set key_row no_key xs id.index key within in
     let mark = kept ∙ len in
     λ i. record (selector_row self) {
-      keys_mark = mark i;
+      keys_high = mark i;
       keys = keys i;
       noted = noted i;
     }
@@ -37,7 +37,7 @@ returns-in_ok-push-clause-ok c =
     let keys = ap (places key_row no_key) pushed ∙ (places-push key_row no_key xs key ∙ ap (λ n. put (places key_row no_key xs) n (key_row key)) index) in
     let noted = get-insert self.noted c.insert-else-index-len.new.self key.chan.0 id c.in_ok-insert-2.ensures.updates in
     λ i. record (selector_row self) {
-      keys_mark = mark i;
+      keys_high = mark i;
       keys = keys i;
       noted = noted i;
     }

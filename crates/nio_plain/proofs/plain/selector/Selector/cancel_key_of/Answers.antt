@@ -22,6 +22,6 @@ returns-in-Some c =
     let cancelled = set_there ∙ (sym (cancelled-one keys i) ∙ by_name) in
     let len = length-set xs i key in
     λ j. record (selector_row c.args.self.now) {
-      keys_mark = len j;
+      keys_high = len j;
       keys = cancelled j;
     }

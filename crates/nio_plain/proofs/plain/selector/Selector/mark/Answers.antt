@@ -28,7 +28,7 @@ loop-id-preserved c =
     let other_keys : SelectorRow → SelectorRow = λ r. record r { keys = marked_keys keys (take (j + 1) looked) (λ i. get_or told i 0) } in
     record {
       marked = (λ i. record (selector_row s) {
-        keys_mark = len i;
+        keys_high = len i;
         keys = step i;
       }) ∙ ap other_keys c.loop-id.invariant.marked;
       long = c.loop-id.invariant.long;

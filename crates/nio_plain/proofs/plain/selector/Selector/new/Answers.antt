@@ -10,7 +10,7 @@ pub returns : goal.returns
 returns c =
     let none = ap (places key_row no_key) c.new.ensures.items ∙ places-nil key_row no_key in
     λ i. record new_selector {
-      keys_mark = length (c.new.ensures.items i);
+      keys_high = length (c.new.ensures.items i);
       keys = none i;
       noted = λ k. lookup (is_at (nat_cmp k)) (c.new-2.ensures.empty i);
     }

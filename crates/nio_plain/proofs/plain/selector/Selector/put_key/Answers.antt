@@ -11,6 +11,6 @@ returns c =
     let keys = places-set key_row no_key xs c.args.index c.args.key within in
     let len = length-set xs c.args.index c.args.key in
     λ i. record (selector_row c.args.self.now) {
-      keys_mark = len i;
+      keys_high = len i;
       keys = keys i;
     }

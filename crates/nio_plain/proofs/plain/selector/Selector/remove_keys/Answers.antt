@@ -18,7 +18,7 @@ loop-index-preserved c =
     let other_keys : SelectorRow → SelectorRow = λ r. record r { keys = changed (removed_row (λ _. false)) keys (i + 1) } in
     record {
       emptied = (λ j. record (selector_row s) {
-        keys_mark = len j;
+        keys_high = len j;
         keys = step j;
       }) ∙ ap other_keys c.loop-index.invariant.emptied;
       long = c.loop-index.invariant.long;

@@ -17,7 +17,7 @@ loop-index-preserved c =
     let other_keys : SelectorRow → SelectorRow = λ r. record r { keys = changed (swept_key c.args.rules) keys (i + 1) } in
     record {
       swept = (λ j. record (selector_row s) {
-        keys_mark = len j;
+        keys_high = len j;
         keys = step j;
       }) ∙ ap other_keys c.loop-index.invariant.swept;
       long = c.loop-index.invariant.long;

@@ -1,13 +1,13 @@
 -- No step is run: the trace is turned to the longer list.
 use Rattle.nio_trace.proofs.Names.{◌≡◌, List, [], ◌∷◌, ◌++◌, refl, proved, leaves, Fml, ftrue, fsep, flft, SProp, emp, fact, fact_i, tables, RefOf, yes, param, bounded, RattleType, owns, MutRef, mut_vals, mut_Tells, shr_vals, shr_Tells, plain, types_at, nothing, Stays, walk_of, stay_ref, Goes-ref, stay_dropped, Goes-dropped, inst_fn, a_type, dcons, dnil, named, Val, vunit, vptr, alloc_all, pass_all, free_all, look_at, sets, ‵, raw, ◌⊛◌, ◌$◌, ◌∵◌, !, qed, by, move, keep, split, join, fsplit, fjoin, feq_i, use0, use2, later, await, enter, of_opd, unit_lit, returns}
 use Rattle.nio_trace.proofs.Owned.{Row, lengthened}
-use Rattle.nio_trace.specs.contracts.trace.Trace.note.{ended, clauses}
-use Rattle.nio_trace.specs.contracts.trace.Trace.note.Key.{name as #self}
-use Rattle.nio_trace.proofs.trace.Trace.note.Statement.{statement}
-use Rattle.nio_trace.proofs.trace.Trace.note.Code as code
+use Rattle.nio_trace.specs.contracts.trace.Trace.extend_from.{ended, clauses}
+use Rattle.nio_trace.specs.contracts.trace.Trace.extend_from.Key.{name as #self}
+use Rattle.nio_trace.proofs.trace.Trace.extend_from.Statement.{statement}
+use Rattle.nio_trace.proofs.trace.Trace.extend_from.Code as code
 
-pub note_spec : {M : Type 1} → statement M
-note_spec 𝓤 𝓛 𝓜 𝓡 wired T X N _ _ _ g d _ =
+pub extend_from_spec : {M : Type 1} → statement M
+extend_from_spec 𝓤 𝓛 𝓜 𝓡 wired T X N _ _ _ g d _ =
     let H = 𝓛.H in let 𝓣 = tables 𝓤 H 𝓜 𝓡 𝓡.env in let En = ended T X N g d in let R : RattleType = param 0 T in let S : RattleType = param 1 X in let c = clauses T X N g d 𝓛 𝓜.mem 𝓡.returns in
     let inst = bounded (a_type ∷ a_type ∷ a_type ∷ []) (T, (X, (N, tt))) (dcons d dnil) in let fn = inst_fn inst code.function in
     let self = plain (λ _. Row R) in let from = RefOf (1 ∷ []) tt (plain (λ _. S)) (λ _. tt) in

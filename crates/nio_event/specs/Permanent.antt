@@ -11,23 +11,23 @@ use Rattle.nio_event.specs.State.{State}
 use Rattle.nio_event.specs.declared.act.Act.{Act}
 
 -- what is permanent. A key is named by its selector, its index and its serial
-pub data LastingFact : Type 0 where
-  caller_drawn : ℕ → LastingFact
-  selector_made : ℕ → LastingFact
-  selector_shut : ℕ → LastingFact
-  selector_closed_by : SelNo → CallerNo → LastingFact
-  selector_entered : ℕ → LastingFact
-  channel_made : ℕ → LastingFact
-  channel_closed : ℕ → LastingFact
-  index_claimed : ℕ → ℕ → LastingFact
-  key_claimed : ℕ → ℕ → ℕ → LastingFact
-  key_published : ℕ → ℕ → ℕ → LastingFact
-  key_cancelled : ℕ → ℕ → ℕ → LastingFact
-  key_removed : ℕ → ℕ → ℕ → LastingFact
-  below_keys_mark : ℕ → ℕ → LastingFact
-  below_channels_mark : ℕ → LastingFact
+pub data PermanentFact : Type 0 where
+  caller_drawn : ℕ → PermanentFact
+  selector_made : ℕ → PermanentFact
+  selector_shut : ℕ → PermanentFact
+  selector_closed_by : SelNo → CallerNo → PermanentFact
+  selector_entered : ℕ → PermanentFact
+  channel_made : ℕ → PermanentFact
+  channel_closed : ℕ → PermanentFact
+  index_claimed : ℕ → ℕ → PermanentFact
+  key_claimed : ℕ → ℕ → ℕ → PermanentFact
+  key_published : ℕ → ℕ → ℕ → PermanentFact
+  key_cancelled : ℕ → ℕ → ℕ → PermanentFact
+  key_removed : ℕ → ℕ → ℕ → PermanentFact
+  below_keys_high : ℕ → ℕ → PermanentFact
+  below_channels_high : ℕ → PermanentFact
 
-abbrev pub stands : LastingFact → State → Bool
+abbrev pub stands : PermanentFact → State → Bool
 stands (caller_drawn n) st = st.drawn n
 stands (selector_made s) st = st.selector s
 stands (selector_shut s) st = (st.gate s).shut
@@ -40,8 +40,8 @@ stands (key_claimed s i serial) st = was_claimed (st.key s i) serial
 stands (key_published s i serial) st = was_published (st.key s i) serial
 stands (key_cancelled s i serial) st = was_cancelled (st.key s i) serial
 stands (key_removed s i serial) st = was_removed (st.key s i) serial
-stands (below_keys_mark s i) st = nat_lt i (st.keys_mark s)
-stands (below_channels_mark c) st = nat_lt c st.channels_mark
+stands (below_keys_high s i) st = nat_lt i (st.keys_high s)
+stands (below_channels_high c) st = nat_lt c st.channels_high
 
 -- what a caller has until it gives it back itself
 pub data OwnFact : Type 0 where
