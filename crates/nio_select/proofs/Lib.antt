@@ -1,3 +1,4 @@
 pub mod Made
 pub mod Claimed
 pub mod Entered
+pub mod Listings

@@ -18,7 +18,7 @@ pub loop-i-preserved : goal.loop-i-preserved
 loop-i-preserved c = (
   may_clear_stays c.remove.ensures refl c.loop-i.invariant.0,
   sweep_turn _ _ _ _ _ (λ _. reply closed) (search rules) c.loop-i.invariant.1
-  (returned (left_ask _ (step_acts c.remove.ensures refl) (left_after (step_acts c.remove.ensures refl)))),
+      (returned (left_ask _ (step_acts c.remove.ensures refl) (left_after (step_acts c.remove.ensures refl)))),
 )
 
 pub returns-clause-call : goal.returns-clause-call
