@@ -179,7 +179,7 @@ fn add_not_free(listed: &mut Vec<u32>, word: u64, j: u32, bound: u32)
     ensures capacity { vec_capacity listed.old ≤ vec_capacity listed.new }
 {
     let mut b = 0;
-    for _ in 0..64 {
+    while b < 64 {
         let rest = !word >> b;
         if rest == 0 {
             return;
@@ -189,9 +189,6 @@ fn add_not_free(listed: &mut Vec<u32>, word: u64, j: u32, bound: u32)
             add(listed, 64 * j + b);
         }
         b += 1;
-        if b == 64 {
-            return;
-        }
     }
 }
 
