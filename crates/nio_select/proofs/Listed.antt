@@ -1,6 +1,8 @@
 -- The lists of a selection rise, as the calls that make them tell.
 use Rattle.std.proofs.Common.{◌≡◌, ℕ, ◌<◌, List, refl, sym, subst, arith, ◌∙◌, map, length}
-use Rattle.std.specs.Prelude.{⊤}
+use Rattle.std.specs.Prelude.{⊤, get_or}
+use Rattle.std.proofs.Math.ListN.{get_or-map}
+use Rattle.std.proofs.lemmas.List.{length-map}
 use Rattle.std.specs.List.{All, AllPairs}
 use Rattle.nio_base.specs.declared.numbers.CallerNo.{CallerNo}
 use Rattle.nio_base.specs.declared.numbers.SelNo.{SelNo}
@@ -31,3 +33,9 @@ pub looked_rise : (s : SelNo) (over : List ℕ) {me : CallerNo} {v0 v1 : PassVie
     → CallClause me (Completes (sweep_over over (look_over s) nothing_found)) v0 v1 found → AllPairs (λ x y. x.index < y.index) found.looked
 looked_rise s over {me = me} {v0 = v0} {v1 = v1} {found = found} rising call =
     (each_run (λ _. ⊤) (Rises over) (sweep_over over (look_over s) nothing_found) (done_between me v0 v1) found (over-rises s over rising) call.shape).1.looked_rise
+
+-- what holds of each two of the values holds of those that they are the values of
+pub pairs_back : {A B : Type 0} (f : A → B) (R : B → B → Type 0) (xs : List A) → AllPairs R (map f xs) → AllPairs (λ x y. R (f x) (f y)) xs
+pairs_back f R xs pairs i j d less below =
+    let inside : j < length (map f xs) = subst (λ (n : ℕ). j < n) (sym (length-map xs f)) below in
+    subst (λ x. R x (f (get_or xs j d))) (get_or-map f xs i d) (subst (λ y. R (get_or (map f xs) i (f d)) y) (get_or-map f xs j d) (pairs i j (f d) less inside))
