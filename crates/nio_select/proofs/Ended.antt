@@ -8,6 +8,8 @@ use Rattle.nio_event.specs.Conditions.{has_turn, has_begun}
 use Rattle.nio_event.specs.PassViews.{PassView, ActsClause}
 use Rattle.nio_event.specs.declared.act.Act.TheVariants.{LookGate, LookInterrupt, EndWake, GiveTurn}
 use Rattle.nio_event.specs.declared.found.GateWord.{GateWord}
+use Rattle.nio_event.specs.declared.found.Mode.{Mode}
+use Rattle.nio_event.specs.declared.reply.Why.{Why}
 use Rattle.nio_steps.proofs.CallLaws.{returned, left_ask, left_then, left_else, left_after, left_of_call, ran_then}
 use Rattle.nio_steps.proofs.StandLaws.{selections_stand}
 use Rattle.nio_steps.specs.Calls.{CallClause}
@@ -50,3 +52,14 @@ ended {me = me} {s = s} {kept = kept} {v0 = v0} {v3 = v3} selection answer on is
   where
     removing : SelNo → List ℕ → Plan ToldReply
     removing s' kept' = remove_kept s' kept' >>= λ _. end_wake s' >> (give_turn s' >> reply (done answer))
+
+-- after the marks the selection is over
+pub over : {me : CallerNo} {s : SelNo} {gate : GateWord} {interrupted : Bool} {answer : ToldReply} {v0 v1 v2 v3 : PassView} (selection : Selection) (elapsed : Bool) (count : ℕ)
+    (mode : Mode) (why : Why) → s ≡ selection.selector → mode ≡ selection.mode → ActsClause me (LookGate s gate ∷ []) v0 v1 → ActsClause me (LookInterrupt interrupted ∷ []) v1 v2
+    → is_again mode count gate interrupted elapsed ≡ false → why ≡ why_ended mode count gate interrupted
+    → CallClause me (Completes (end_selection selection (record { count = count; why = why }))) v2 v3 answer → CallClause me (Completes (after_marks selection elapsed count)) v0 v3 answer
+over {me = me} {gate = gate} {interrupted = interrupted} {answer = answer} {v0 = v0} {v1 = v1} {v2 = v2} {v3 = v3} selection elapsed count mode why on same looks asks goes is ends =
+    let look = subst (λ (s' : SelNo). ActsClause me (LookGate s' gate ∷ []) v0 v1) on looks in
+    let is' : why ≡ why_ended selection.mode count gate interrupted = is ∙ ap (λ (m : Mode). why_ended m count gate interrupted) same in
+    let ends' = subst (λ (w : Why). CallClause me (Completes (end_selection selection (record { count = count; why = w }))) v2 v3 answer) is' ends in
+    returned (left_ask _ look (left_ask _ asks (left_else _ _ _ (ap (λ (m : Mode). is_again m count gate interrupted elapsed) (sym same) ∙ goes) (left_of_call ends'))))
