@@ -4,6 +4,7 @@ pub mod Entered
 pub mod Listings
 pub mod Noted
 pub mod Ended
+pub mod Inside
 pub mod Begun
 pub mod FreeBits
 pub mod Listed
