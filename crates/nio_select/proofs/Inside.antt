@@ -81,7 +81,7 @@ kept_inside {w = w} {p = p} {me = me} {selection = selection} ready selects =
     All-weaker (λ i. i < selection.bound) (λ i. i < (limits_of w).keys) (λ i below. omega arith) selection.kept (in_order (view w p) me selection selects).below
 
 -- so are those of the looked list
-looked_inside : {w : Words} {p : Pass} {me : CallerNo} {selection : Selection} → IsReady w p me → Selects (view w p) me selection
+pub looked_inside : {w : Words} {p : Pass} {me : CallerNo} {selection : Selection} → IsReady w p me → Selects (view w p) me selection
     → All (λ entry. entry.index < (limits_of w).keys) selection.looked
 looked_inside {w = w} {p = p} {me = me} {selection = selection} ready selects =
     All-weaker (λ entry. Contains selection.kept entry.index) (λ entry. entry.index < (limits_of w).keys)

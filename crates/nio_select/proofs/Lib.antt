@@ -5,6 +5,7 @@ pub mod Listings
 pub mod Noted
 pub mod Ended
 pub mod Inside
+pub mod Again
 pub mod Begun
 pub mod FreeBits
 pub mod Listed
