@@ -1,3 +1,4 @@
 pub mod Begun
 pub mod FreeBits
 pub mod Listed
+pub mod Progress
