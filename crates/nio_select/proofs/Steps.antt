@@ -6,6 +6,7 @@ use Rattle.std.proofs.lemmas.List.{append_cancel_left}
 use Rattle.std.proofs.lemmas.List.Folds.{list_any-append}
 use Rattle.nio_base.specs.Limits.{IsFit}
 use Rattle.nio_base.specs.declared.limits.Limits.{Limits}
+use Rattle.nio_base.specs.declared.numbers.SelNo.{SelNo}
 use Rattle.nio_event.specs.Answers.{count_below}
 use Rattle.nio_event.specs.Histories.{state_after, mine, event_of, IsLegal}
 use Rattle.nio_event.specs.OwnEvents.{has, count, gives_turn}
@@ -45,13 +46,13 @@ count_below-le (suc n) p q allows = by_test (p n) refl (count_below-le n p q all
     one : Bool → ℕ
     one b = if b then 1 else 0
 
-    by_test : (b : Bool) → p n ≡ b → count_below n p ≤ count_below n q → count_below n p + (if p n then 1 else 0) ≤ count_below n q + (if q n then 1 else 0)
+    by_test : (b : Bool) → p n ≡ b → count_below n p ≤ count_below n q → count_below n p + one (p n) ≤ count_below n q + one (q n)
     by_test true is rest =
-        let here : (if p n then 1 else 0) ≡ 1 = ap (λ (b : Bool). if b then 1 else 0) is in
-        let there : (if q n then 1 else 0) ≡ 1 = ap (λ (b : Bool). if b then 1 else 0) (allows n is) in
+        let here : one (p n) ≡ one true = ap one is in
+        let there : one (q n) ≡ one true = ap one (allows n is) in
         omega (arith, here, there, rest)
     by_test false is rest =
-        let here : (if p n then 1 else 0) ≡ 0 = ap (λ (b : Bool). if b then 1 else 0) is in
+        let here : one (p n) ≡ one false = ap one is in
         omega (arith, here, rest)
 
 has_later : (p : Act → Bool) (first : List Act) (act : Act) (second : List Act) → has p second ≡ true → has p (first ++ act ∷ second) ≡ true
@@ -60,10 +61,19 @@ has_later p first act second there = list_any-append p first (act ∷ second) �
 pub calls_are_bounded : SelectionIsBounded → CallsAreBounded
 calls_are_bounded law me before_begin after_begin before_told after_told selection poll answer window fit is its = bounded
   where
+    s : SelNo
     s = selection.selector
+
+    look : Act
     look = BeginLook s its.found
+
+    ends : Act
     ends = EndWake s its.woken
+
+    e : Event
     e = event_of me look
+
+    e' : Event
     e' = event_of me ends
 
     a : List Event
@@ -134,7 +144,10 @@ calls_are_bounded law me before_begin after_begin before_told after_told selecti
       unremoved = sym (ap (has (removes_on s.0)) between_is) ∙ is.keeps_keys;
     }
 
-    at_most = law before_told.limits me its.past window its.rest selection poll answer its.found its.woken first second between third fourth
+    at_most : length (first ++ look ∷ second) + length (third ++ ends ∷ fourth)
+        ≤ 8 + words_below selection.bound + 6 * count_below selection.bound (λ k. has (finds_listed s.0 k) second) + count (disturbs s.0 selection.bound) (map (λ x. x.act) window)
+    at_most =
+        law before_told.limits me its.past window its.rest selection poll answer its.found its.woken first second between third fourth
         (subst IsFit is.tells.acts.limits fit) (subst (IsLegal before_told.limits) its.parts is.tells.acts.history.legal) window_acts whole
 
     found_fewer : count_below selection.bound (λ k. has (finds_listed s.0 k) second) ≤ count_below selection.bound (λ k. has (finds_listed s.0 k) (done_between me before_begin after_begin))
