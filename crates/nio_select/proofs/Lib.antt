@@ -4,3 +4,4 @@ pub mod Listed
 pub mod Progress
 pub mod GoneOn
 pub mod Steps
+pub mod Windows

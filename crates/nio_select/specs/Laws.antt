@@ -69,3 +69,10 @@ CallsAreBounded =
     let in_told = done_between me before_told after_told in
     length in_begin + length in_told
     ≤ 8 + words_below bound + 6 * count_below bound (λ i. has (finds_listed s.0 i) in_begin) + count (disturbs s.0 bound) (map (λ e. e.act) window)
+
+-- Each whole selection has such a window.
+abbrev pub SelectionsHaveWindows : Type 0
+SelectionsHaveWindows =
+    (me : CallerNo) (before_begin after_begin before_told after_told : PassView) (selection : Selection) (poll : Poll) (answer : Selected)
+    → IsSelection me before_begin after_begin before_told after_told selection poll answer
+    → (window : List Event) × IsWindow me before_begin after_begin before_told after_told selection.selector window

@@ -1,6 +1,6 @@
 //! What follows from the contracts of the calls of a selection, and from the laws of their plans. The functions do
 //! nothing: their contracts are laws.
-ghost use Rattle.nio_select.specs.Laws.{CancelledKeysAreGone, CallsAreBounded};
+ghost use Rattle.nio_select.specs.Laws.{CancelledKeysAreGone, SelectionsHaveWindows, CallsAreBounded};
 
 use nio_steps::{begin_law, bound_law};
 
@@ -14,7 +14,8 @@ pub fn gone_law()
 
 /// The steps of a selection are bounded by what it finds and by what other callers cancel and unselect meanwhile.
 pub fn steps_law()
-    ensures { CallsAreBounded }
+    ensures windows { SelectionsHaveWindows }
+    ensures bounded { CallsAreBounded }
 {
     bound_law()
 }
