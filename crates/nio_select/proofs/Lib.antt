@@ -9,3 +9,7 @@ pub mod Again
 pub mod Begun
 pub mod FreeBits
 pub mod Listed
+pub mod Progress
+pub mod GoneOn
+pub mod Steps
+pub mod Windows
