@@ -35,7 +35,7 @@ use Rattle.nio_select.specs.declared.asked.Slot.{Slot}
 
 -- ---- the bound
 
-keys-act : (s : SelNo) (act : Act) → question_of act ≡ Question.look_keys s → act ≡ LookKeys s (number_in (answer_of act))
+pub keys-act : (s : SelNo) (act : Act) → question_of act ≡ Question.look_keys s → act ≡ LookKeys s (number_in (answer_of act))
 keys-act s (LookKeys s' found) asks = cc asks
 keys-act s _ asks = absurd (cc asks)
 

@@ -13,3 +13,5 @@ pub mod Progress
 pub mod GoneOn
 pub mod Steps
 pub mod Windows
+pub mod Alone
+pub mod Closed
