@@ -5,3 +5,5 @@ pub use recorder::{RecordError, Recorder};
 
 mod making;
 mod recorder;
+#[cfg(test)]
+mod tests;

@@ -1,6 +1,7 @@
 //! The step that an act names, and the act with what the step found.
 ghost use Rattle.std.specs.Prelude.{◌≡◌, None, IfSome};
 ghost use Rattle.nio_event.specs.Conditions.{Condition};
+ghost use Rattle.nio_event.specs.Questions.{question_of};
 ghost use Rattle.nio_words.specs.Passes.{IsReady, acts_seen, limits_of, state_seen};
 ghost use Rattle.nio_words.specs.Steps.{Steps};
 
@@ -13,6 +14,7 @@ pub(crate) fn make_step(w: &Words, p: &mut Pass, me: CallerNo, act: Act) -> Opti
     requires ready { IsReady w.now p.old me }
     requires may { Condition (limits_of w.now) (acts_seen p.old me) (state_seen p.old) me act }
     ensures made { IfSome result (Steps w.now p.old p.new me) }
+    ensures asked { IfSome result (λ made. question_of made ≡ question_of act) }
     ensures nothing { result ≡ None → p.new ≡ p.old }
 {
     match act {

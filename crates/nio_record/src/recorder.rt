@@ -1,11 +1,13 @@
 //! A table of two callers, and what they did on it.
-ghost use Rattle.std.specs.Prelude.{◌≡◌, ◌+◌, ◌<◌, ◌≤◌, [], ◌∷◌, ◌++◌, IfOk};
+ghost use Rattle.std.specs.Prelude.{◌≡◌, ◌+◌, ◌<◌, ◌≤◌, [], ◌∷◌, ◌++◌, IfOk, OnErr};
 ghost use Rattle.std.specs.Vec.{vec_len, vec_capacity};
 ghost use Rattle.nio_event.specs.Histories.{event_of};
-ghost use Rattle.nio_record.specs.Recorded.{IsRecorded};
+ghost use Rattle.nio_record.specs.Recorded.{IsRecorded, table_limits, written};
+ghost use Rattle.nio_audit.specs.Audit.{MayStep};
+ghost use Rattle.nio_event.specs.Questions.{question_of};
 
 use crate::making::make_step;
-use nio_audit::may_step;
+use nio_audit::{AuditError, may_step};
 use nio_base::{CallerNo, Limits};
 use nio_event::{Act, Event};
 use nio_words::{DrawError, Pass, Words};
@@ -24,6 +26,15 @@ pub enum RecordError {
 impl From<AllocError> for RecordError {
     fn from(_: AllocError) -> RecordError {
         RecordError::Memory
+    }
+}
+
+impl From<AuditError> for RecordError {
+    fn from(error: AuditError) -> RecordError {
+        match error {
+            AuditError::NotAStep { .. } => RecordError::NoStep,
+            AuditError::Memory => RecordError::Memory,
+        }
     }
 }
 
@@ -60,7 +71,8 @@ impl Recorder {
     pub fn make(alloc: Global, limits: Limits) -> Result<Recorder, RecordError>
         requires fit { IsFit limits }
         requires two { 2 ≤ limits.callers }
-        ensures { IfOk result IsRecorded }
+        ensures recorded { IfOk result IsRecorded }
+        ensures limits { IfOk result (λ made. table_limits made ≡ limits) }
     {
         let (words, mut pass) = Words::make(alloc, limits)?;
         let (first, second) = (CallerNo(0), CallerNo(1));
@@ -78,15 +90,18 @@ impl Recorder {
     }
 
     /// Makes the step, whatever `act` says of what it finds, and writes it down. Answers the act with what it found.
+    /// A draw is no step of a caller that is drawn: `NoStep`.
     pub fn step(&mut self, alloc: Global, caller: CallerNo, act: Act) -> Result<Act, RecordError>
         requires { IsRecorded self.old }
-        ensures { IsRecorded self.new }
+        ensures recorded { IsRecorded self.new }
+        ensures limits { table_limits self.new ≡ table_limits self.old }
+        ensures asked { IfOk result (λ made. question_of made ≡ question_of act) }
+        ensures written { IfOk result (λ made. written self.new ≡ written self.old ++ event_of caller made ∷ []) }
+        ensures refused { OnErr result (written self.new ≡ written self.old) }
+        ensures may { IfOk result (λ _. MayStep (table_limits self.old) (written self.old) caller act) }
     {
         let limits = self.words.limits();
-        if !self.pass.holds(caller) {
-            return Err(RecordError::NoStep);
-        }
-        if may_step(alloc, limits, &self.events, caller, &act) != Ok(true) {
+        if !self.pass.holds(caller) || !may_step(alloc, limits, &self.events, caller, &act)? {
             return Err(RecordError::NoStep);
         }
         self.events.reserve(1)?;
@@ -98,7 +113,9 @@ impl Recorder {
     }
 
     /// All that was done, oldest first.
-    pub fn events(&self) -> &[Event] {
+    pub fn events(&self) -> &[Event]
+        ensures { result.now ≡ written self.now }
+    {
         &self.events
     }
 }
