@@ -13,3 +13,4 @@ pub mod Beginning
 pub mod Marks
 pub mod Marking
 pub mod Telling
+pub mod Claiming
