@@ -14,3 +14,4 @@ pub mod Marks
 pub mod Marking
 pub mod Telling
 pub mod Claiming
+pub mod Making
