@@ -15,3 +15,4 @@ pub mod Marking
 pub mod Telling
 pub mod Claiming
 pub mod Making
+pub mod Registering
