@@ -16,3 +16,4 @@ pub mod Telling
 pub mod Claiming
 pub mod Making
 pub mod Registering
+pub mod Facts
