@@ -17,3 +17,4 @@ pub mod Claiming
 pub mod Making
 pub mod Registering
 pub mod Facts
+pub mod Calls
