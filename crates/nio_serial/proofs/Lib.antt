@@ -18,3 +18,4 @@ pub mod Making
 pub mod Registering
 pub mod Facts
 pub mod Calls
+pub mod Lines
