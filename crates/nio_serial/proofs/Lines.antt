@@ -161,3 +161,57 @@ module _ (l : Limits) (st : State) (now : Progress) (me : CallerNo) (fit : IsFit
       by_published made false e =
           is ∙ (selector-through ds s made _ ∙ (cond-false (was_published (st.key s.0 k.index) k.serial) inner (unchanged ds reply.NoKey) e
           ∙ ap (λ (b : Bool). comes_to (perform me (if b then plan else refused now reply.NoKey) st)) (sym e)))
+
+  -- ---- every line
+
+  abbrev made : Call → Plan Said
+  made word = call_plan l now me word
+
+  named-amounts : (word : Call) → call_of Now l ds me word ≡ comes_to (perform me (if_named l now word (call_plan l now me word)) st)
+  unfolding call_of if_named blocking_call is_blocking_call is_open_call is_registered_call key_for_call register_call closec_call valid_call interest_call ready_call iset_call ior_call iand_call cancel_call unselect_call attach_call attachment_call begin_call told_call failed_call wakeup_call close_call close_end_call keys_call selected_call interrupt_call
+  named-amounts call.Selector = call-amounts l st now me between call.Selector tt
+  named-amounts (call.Channel kind) = call-amounts l st now me between (call.Channel kind) tt
+  named-amounts (call.Blocking c on) = channel-line c _ _ (made (call.Blocking c on)) refl (call-amounts l st now me between (call.Blocking c on))
+  named-amounts (call.IsBlocking c) = channel-line c _ _ (made (call.IsBlocking c)) refl (call-amounts l st now me between (call.IsBlocking c))
+  named-amounts (call.IsOpen c) = channel-line c _ _ (made (call.IsOpen c)) refl (call-amounts l st now me between (call.IsOpen c))
+  named-amounts (call.IsRegistered c) = channel-line c _ _ (made (call.IsRegistered c)) refl (call-amounts l st now me between (call.IsRegistered c))
+  named-amounts (call.KeyFor c s) =
+      channel-line c _ _ (if_selector l now s (made (call.KeyFor c s))) refl
+      (λ there. selector-line s _ _ (made (call.KeyFor c s)) (channel-through ds c there _) (λ named. call-amounts l st now me between (call.KeyFor c s) (there, named)))
+  named-amounts (call.Register s c ops att) =
+      selector-line s _ _ (if_channel l now c (made (call.Register s c ops att))) refl
+      (λ there. channel-line c _ _ (made (call.Register s c ops att)) (selector-through ds s there _) (λ named. call-amounts l st now me between (call.Register s c ops att) (there, named)))
+  named-amounts (call.Closec c) = channel-line c _ _ (made (call.Closec c)) refl (call-amounts l st now me between (call.Closec c))
+  named-amounts (call.Valid s k) = key-line s k _ _ (made (call.Valid s k)) refl (call-amounts l st now me between (call.Valid s k))
+  named-amounts (call.Interest s k) = key-line s k _ _ (made (call.Interest s k)) refl (call-amounts l st now me between (call.Interest s k))
+  named-amounts (call.Ready s k) = key-line s k _ _ (made (call.Ready s k)) refl (call-amounts l st now me between (call.Ready s k))
+  named-amounts (call.Iset s k ops) = key-line s k _ _ (made (call.Iset s k ops)) refl (call-amounts l st now me between (call.Iset s k ops))
+  named-amounts (call.Ior s k ops) = key-line s k _ _ (made (call.Ior s k ops)) refl (call-amounts l st now me between (call.Ior s k ops))
+  named-amounts (call.Iand s k ops) = key-line s k _ _ (made (call.Iand s k ops)) refl (call-amounts l st now me between (call.Iand s k ops))
+  named-amounts (call.Cancel s k) = key-line s k _ _ (made (call.Cancel s k)) refl (call-amounts l st now me between (call.Cancel s k))
+  named-amounts (call.Unselect s k) = key-line s k _ _ (made (call.Unselect s k)) refl (call-amounts l st now me between (call.Unselect s k))
+  named-amounts (call.Attach s k att) = key-line s k _ _ (made (call.Attach s k att)) refl (call-amounts l st now me between (call.Attach s k att))
+  named-amounts (call.Attachment s k) = key-line s k _ _ (made (call.Attachment s k)) refl (call-amounts l st now me between (call.Attachment s k))
+  named-amounts (call.Begin s waiting) = selector-line s _ _ (made (call.Begin s waiting)) refl (call-amounts l st now me between (call.Begin s waiting))
+  named-amounts (call.Told s elapsed pairs) = selector-line s _ _ (made (call.Told s elapsed pairs)) refl (call-amounts l st now me between (call.Told s elapsed pairs))
+  named-amounts (call.Failed s) = selector-line s _ _ (made (call.Failed s)) refl (call-amounts l st now me between (call.Failed s))
+  named-amounts (call.Wakeup s) = selector-line s _ _ (made (call.Wakeup s)) refl (call-amounts l st now me between (call.Wakeup s))
+  named-amounts (call.Close s) = selector-line s _ _ (made (call.Close s)) refl (call-amounts l st now me between (call.Close s))
+  named-amounts (call.CloseEnd s) = selector-line s _ _ (made (call.CloseEnd s)) refl (call-amounts l st now me between (call.CloseEnd s))
+  named-amounts (call.Keys s) = selector-line s _ _ (made (call.Keys s)) refl (call-amounts l st now me between (call.Keys s))
+  named-amounts (call.Selected s) = selector-line s _ _ (made (call.Selected s)) refl (call-amounts l st now me between (call.Selected s))
+  named-amounts (call.Interrupt target) = by_target (nat_lt target.0 l.callers) refl
+    where
+      by_target : (b : Bool) → nat_lt target.0 l.callers ≡ b
+          → interrupt_call l ds target ≡ comes_to (perform me (if b then call_plan l now me (call.Interrupt target) else refused now reply.NoCaller) st)
+      by_target true e = call-amounts l st now me between (call.Interrupt target) (ltb-true target.0 l.callers e)
+      by_target false e = cond-false (nat_lt target.0 l.callers) _ _ e
+  named-amounts call.Interrupted = call-amounts l st now me between call.Interrupted tt
+
+  pub line-amounts : (word : Call) → seq Now l ds me word ≡ comes_to (perform me (line_plan l now me word) st)
+  unfolding seq line_plan
+  line-amounts word = by_caller (nat_lt me.0 l.callers)
+    where
+      by_caller : (b : Bool) → cond b (call_of Now l ds me word) (unchanged ds reply.NoCaller) ≡ comes_to (perform me (if b then if_named l now word (call_plan l now me word) else refused now reply.NoCaller) st)
+      by_caller true = named-amounts word
+      by_caller false = refl
