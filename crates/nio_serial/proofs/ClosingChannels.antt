@@ -161,7 +161,7 @@ module _ (st : State) (me : CallerNo) (c : ChanNo) (free : (s i : ℕ) → st.pi
 -- ---- the call
 
 -- the channel's key at an index is in the key set
-index_in_set : (st : State) (s i : ℕ) (noted : Option KeyId) → has_index (if_in_key_set st s noted) i ≡ true → in_key_set (st.key s i) ≡ true
+pub index_in_set : (st : State) (s i : ℕ) (noted : Option KeyId) → has_index (if_in_key_set st s noted) i ≡ true → in_key_set (st.key s i) ≡ true
 index_in_set st s i None e = absurd (both_ways false refl e)
 index_in_set st s i (Some k) e = by_set (is_in_key_set (st.key s k.index) k.serial) refl e
   where

@@ -19,3 +19,4 @@ pub mod Registering
 pub mod Facts
 pub mod Calls
 pub mod Lines
+pub mod Resting
