@@ -20,3 +20,4 @@ pub mod Facts
 pub mod Calls
 pub mod Lines
 pub mod Resting
+pub mod RestingCalls

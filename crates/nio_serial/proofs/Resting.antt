@@ -218,3 +218,84 @@ module _ (l : Limits) (st : State) (rest : Rests l st) (goes : ℕ → ℕ → B
           or_false true = refl
           or_false false = refl
       exact s i false e open_ = rest.frees.exactly s i (kept s open_)
+
+-- ---- one key
+
+-- a key that the index gets: a free one below the mark, or the one at the mark
+module _ (l : Limits) (st : State) (rest : Rests l st) (s c : ℕ) (k : KeyId) (low : k.index ≤ st.keys_mark s) (room : k.index < l.keys) where
+  abbrev top : ℕ
+  top = max (st.keys_mark s) (suc k.index)
+
+  below_top : (j : ℕ) → (j == k.index) ≡ false → nat_lt j top ≡ nat_lt j (st.keys_mark s)
+  below_top j other =
+      let ne : j ≢ k.index = λ e. both_ways (j == k.index) other (eq-eqb j k.index e) in
+      ⊎_elim
+      (λ (below : j < st.keys_mark s). lt-ltb j top (omega arith) ∙ sym (lt-ltb j (st.keys_mark s) below))
+      (λ (above : st.keys_mark s ≤ j). le-ltb j top (omega arith) ∙ sym (le-ltb j (st.keys_mark s) above))
+      (cases_lt j (st.keys_mark s))
+
+  abbrev key_after : ℕ → ℕ → Stage
+  key_after = put_at st.key s k.index (new_stage c k.serial)
+
+  abbrev mark_after : ℕ → ℕ
+  mark_after = put st.keys_mark s top
+
+  exact_after : (g : Stage → Bool) → g (new_stage c k.serial) ≡ true → ((t j : ℕ) → g (st.key t j) ≡ nat_lt j (st.keys_mark t)) → (t j : ℕ) → g (key_after t j) ≡ nat_lt j (mark_after t)
+  exact_after g new old t j = by_selector (t == s) refl (j == k.index) refl
+    where
+      by_selector : (b : Bool) → (t == s) ≡ b → (i : Bool) → (j == k.index) ≡ i → g (cond (b && i) (new_stage c k.serial) (st.key t j)) ≡ nat_lt j (cond b top (st.keys_mark t))
+      by_selector true same true e = new ∙ sym (lt-ltb j top (let there : j ≡ k.index = eqb-true j k.index e in omega arith))
+      by_selector true same false e = old t j ∙ (ap (λ n. nat_lt j (st.keys_mark n)) (eqb-true t s same) ∙ sym (below_top j e))
+      by_selector false other i e = old t j
+
+  pub keys-new : KeysRest l mark_after key_after (put_at st.mark s k.index unmarked) (put_at st.free s k.index false)
+  keys-new = record {
+    within = λ n. put_keeps (λ m x. x ≤ l.keys) st.keys_mark s top (λ h. omega arith) n (rest.keys.within n);
+    claimed = exact_after (λ x. x.claimed) refl rest.keys.claimed;
+    published = exact_after (λ x. x.published) refl rest.keys.published;
+    fresh = λ t j above. fresh_after t j (t == s) refl (j == k.index) refl above;
+  }
+    where
+      fresh_after : (t j : ℕ) (b : Bool) → (t == s) ≡ b → (i : Bool) → (j == k.index) ≡ i → nat_lt j (cond b top (st.keys_mark t)) ≡ false
+          → Fresh (cond (b && i) (new_stage c k.serial) (st.key t j)) (cond (b && i) unmarked (st.mark t j)) (cond (b && i) false (st.free t j))
+      fresh_after t j true same true e above =
+          let there : j ≡ k.index = eqb-true j k.index e in
+          let past : top ≤ j = ltb-false j top above in
+          absurd (omega arith)
+      fresh_after t j true same false e above = rest.keys.fresh t j (ap (λ n. nat_lt j (st.keys_mark n)) (eqb-true t s same) ∙ (sym (below_top j e) ∙ above))
+      fresh_after t j false other i e above = rest.keys.fresh t j above
+
+  pub frees-new : FreesRest st.entered key_after (put_at st.free s k.index false)
+  frees-new = record {
+    removed = λ t j h. by_place ((t == s) && (j == k.index)) t j h;
+    exactly = λ t j open_. exact ((t == s) && (j == k.index)) t j open_;
+  }
+    where
+      by_place : (b : Bool) (t j : ℕ) → cond b false (st.free t j) ≡ true → (cond b (new_stage c k.serial) (st.key t j)).removed ≡ true
+      by_place true t j h = absurd (both_ways false refl h)
+      by_place false t j h = rest.frees.removed t j h
+
+      exact : (b : Bool) (t j : ℕ) → st.entered t ≡ false → cond b false (st.free t j) ≡ ((cond b (new_stage c k.serial) (st.key t j)).removed && nat_lt (cond b (new_stage c k.serial) (st.key t j)).serial last_serial)
+      exact true t j open_ = refl
+      exact false t j open_ = rest.frees.exactly t j open_
+
+-- a key that is taken out of the selected set
+pub keys-unselected : (l : Limits) (st : State) → Rests l st → (s i : ℕ) → KeysRest l st.keys_mark st.key (put_at st.mark s i (unselected (st.mark s i))) st.free
+keys-unselected l st rest s i =
+    keys-kept l st.keys_mark st.key st.key st.mark (put_at st.mark s i (unselected (st.mark s i))) st.free st.free rest.keys (λ _ _. refl) (λ _ _. refl)
+    (λ t j above fresh. record {
+      key = fresh.key;
+      mark = put_at_keeps (λ _ _ (x : Mark). x ≡ unmarked) st.mark s i (unselected (st.mark s i)) (λ h n. record (h n) { selected = false }) t j fresh.mark;
+      free = fresh.free;
+    })
+
+-- one key that is cancelled where it is in the key set
+pub one_cancelled : (st : State) (s : ℕ) (k : KeyId) (t i : ℕ)
+    → put_at st.key s k.index (cancelled_in_set (st.key s k.index) k.serial) t i
+    ≡ cond (((t == s) && (i == k.index)) && is_in_key_set (st.key s k.index) k.serial) (cancelled_key (st.key t i)) (st.key t i)
+one_cancelled st s k t i =
+    put_at-is st.key (λ t' i'. cond (((t' == s) && (i' == k.index)) && is_in_key_set (st.key s k.index) k.serial) (cancelled_key (st.key t' i')) (st.key t' i')) s k.index
+    (cancelled_in_set (st.key s k.index) k.serial)
+    (λ j. cond ((sym (eq-eqb s s refl) j && sym (eq-eqb k.index k.index refl) j) && is_in_key_set (st.key s k.index) k.serial) (cancelled_key (st.key s k.index)) (st.key s k.index))
+    (λ t' i' other. ap (λ b. cond (b && is_in_key_set (st.key s k.index) k.serial) (cancelled_key (st.key t' i')) (st.key t' i')) (sym other))
+    t i
