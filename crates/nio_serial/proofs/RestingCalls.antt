@@ -72,3 +72,197 @@ module _ (l : Limits) (st : ScriptState) (sound : Sound Now l st) (rest : Rests 
   -- parts of which no other rests
   beside : (interrupted : ℕ → Bool) (interest note : ℕ → ℕ → ℕ) → Rests l (record st.shared { interrupted = interrupted; interest = interest; note = note })
   beside interrupted interest note = record { unused = rest.unused; channels = rest.channels; keys = rest.keys; frees = rest.frees }
+
+  -- ---- opening, mode, registering and closing of channels
+
+  rests-selector_call : Keeps (selector_call l st)
+  unfolding selector_call
+  rests-selector_call = by_found (find (λ s. not (st.shared.selector s)) (below l.selectors))
+    where
+      by_found : (o : Option ℕ) → Keeps (selector_made st o)
+      by_found None = rest
+      by_found (Some s) = record { unused = rest.unused; channels = rest.channels; keys = rest.keys; frees = rest.frees }
+
+  rests-channel_call : (kind : Kind) → Keeps (channel_call l st kind)
+  unfolding channel_call
+  rests-channel_call kind = ⊎_elim here spent (cases_lt m l.channels)
+    where
+      m : ℕ
+      m = st.shared.channels_mark
+
+      unmade : ℕ → Bool
+      unmade c = not (st.shared.chan c).made
+
+      below_made : (c : ℕ) → c < m → (st.shared.chan c).made ≡ true
+      below_made c low = rest.channels.made c ∙ lt-ltb c m low
+
+      above_unmade : (c : ℕ) → m ≤ c → (st.shared.chan c).made ≡ false
+      above_unmade c high = rest.channels.made c ∙ le-ltb c m high
+
+      here : m < l.channels → Keeps (channel_made st kind (find unmade (below l.channels)))
+      here room = subst (λ o. Keeps (channel_made st kind o)) (sym (find_unmade (λ c. (st.shared.chan c).made) l.channels m below_made above_unmade room))
+          (record {
+            unused = rest.unused;
+            channels = channels-more l m st.shared.chan rest.channels room (record { made = true; kind = kind; closed = false; blocking = true }) refl;
+            keys = rest.keys;
+            frees = rest.frees;
+          })
+
+      spent : l.channels ≤ m → Keeps (channel_made st kind (find unmade (below l.channels)))
+      spent full = subst (λ o. Keeps (channel_made st kind o)) (sym (find_spent (λ c. (st.shared.chan c).made) l.channels m below_made above_unmade full)) rest
+
+  rests-blocking_call : (c : ChanNo) (on : Bool) → Keeps (blocking_call l st c on)
+  unfolding blocking_call
+  rests-blocking_call c on =
+      named_channel c _ (denied (st.shared.chan c.0).closed reply.ClosedChannel _
+      (λ _. denied (on && is_registered l st.shared c.0) reply.IllegalBlockingMode _
+      (λ _. record { unused = rest.unused; channels = channels-changed l st.shared.channels_mark st.shared.chan rest.channels c.0 (record (st.shared.chan c.0) { blocking = on }) refl; keys = rest.keys; frees = rest.frees })))
+
+  -- the index that a new key gets
+  next_low : (s : ℕ) (k : KeyId) → next_key l st.shared s ≡ Some k → (k.index ≤ st.shared.keys_mark s) × (k.index < l.keys)
+  next_low s k e = by_free (free_index st.shared s) refl e
+    where
+      by_free : (o : Option ℕ) → free_index st.shared s ≡ o → next_by l st.shared s o ≡ Some k → (k.index ≤ st.shared.keys_mark s) × (k.index < l.keys)
+      by_free (Some i) is now =
+          let low : i < st.shared.keys_mark s = (found_below (λ j. st.shared.free s j) (st.shared.keys_mark s) i is).1 in
+          let within = rest.keys.within s in
+          let index : i ≡ k.index = ap (λ o. index_or o) now in
+          (omega arith, omega arith)
+        where
+          index_or : Option KeyId → ℕ
+          index_or None = 0
+          index_or (Some m) = m.index
+      by_free None is now = by_room (nat_lt (st.shared.keys_mark s) l.keys) refl now
+        where
+          index_or : Option KeyId → ℕ
+          index_or None = 0
+          index_or (Some m) = m.index
+
+          by_room : (b : Bool) → nat_lt (st.shared.keys_mark s) l.keys ≡ b → cond b (Some (record { index = st.shared.keys_mark s; serial = 0 })) None ≡ Some k → (k.index ≤ st.shared.keys_mark s) × (k.index < l.keys)
+          by_room true e' now' =
+              let room : st.shared.keys_mark s < l.keys = ltb-true (st.shared.keys_mark s) l.keys e' in
+              let index : st.shared.keys_mark s ≡ k.index = ap (λ o. index_or o) now' in
+              (omega arith, omega arith)
+          by_room false e' now' = absurd cc
+
+  rests_new : (s c ops note : ℕ) (o : Option KeyId) → next_key l st.shared s ≡ o → Keeps (registered_new st s c ops note o)
+  rests_new s c ops note None e = rest
+  rests_new s c ops note (Some k) e =
+      let low = next_low s k e in
+      record {
+        unused = rest.unused;
+        channels = rest.channels;
+        keys = keys-new l st.shared rest s c k low.0 low.1;
+        frees = frees-new l st.shared rest s c k low.0 low.1;
+      }
+
+  rests_registered : (s c ops : ℕ) (att : Option ℕ) (o : Option KeyId) → Keeps (registered l st s c ops att o)
+  rests_registered s c ops att None = denied (st.shared.gate s).shut reply.ClosedSelector _ (λ _. rests_new s c ops (given_or_none att) (next_key l st.shared s) refl)
+  rests_registered s c ops att (Some k) =
+      let i = k.index in
+      denied (st.shared.key s i).cancelled reply.CancelledKey _
+      (λ _. denied (st.shared.gate s).shut reply.ClosedSelector _
+      (λ _. beside st.shared.interrupted (put_at st.shared.interest s i ops) (put_at st.shared.note s i (given_or_kept att (st.shared.note s i)))))
+
+  rests-register_call : (s : SelNo) (c : ChanNo) (ops : ℕ) (att : Option ℕ) → Keeps (register_call l st s c ops att)
+  unfolding register_call
+  rests-register_call s c ops att =
+      named_selector s _ (named_channel c _
+      (denied (not (are_legal (st.shared.chan c.0).kind ops)) reply.IllegalOps _
+      (λ _. denied (st.shared.chan c.0).closed reply.ClosedChannel _
+      (λ _. denied (st.shared.chan c.0).blocking reply.IllegalBlockingMode _
+      (λ _. rests_registered s.0 c.0 ops att (key_of st.shared c.0 s.0))))))
+
+  rests-closec_call : (me : CallerNo) (c : ChanNo) → Keeps (closec_call st me c)
+  unfolding closec_call
+  rests-closec_call me c =
+      let test : ℕ → ℕ → Bool = λ s i. has_index (key_of st.shared c.0 s) i in
+      let within = λ (s i : ℕ). index_in_set st.shared s i (st.shared.noted c.0 s) in
+      named_channel c _ (denied (st.shared.chan c.0).closed reply.Already _
+      (λ _. record {
+        unused = rest.unused;
+        channels = channels-changed l st.shared.channels_mark st.shared.chan rest.channels c.0 (record (st.shared.chan c.0) { closed = true }) refl;
+        keys = keys-cancelled l st.shared rest test within;
+        frees = frees-cancelled l st.shared rest test within;
+      }))
+
+  rests-is_blocking_call : (c : ChanNo) → Keeps (is_blocking_call st c)
+  unfolding is_blocking_call
+  rests-is_blocking_call c = named_channel c _ rest
+
+  rests-is_open_call : (c : ChanNo) → Keeps (is_open_call st c)
+  unfolding is_open_call
+  rests-is_open_call c = named_channel c _ rest
+
+  rests-is_registered_call : (c : ChanNo) → Keeps (is_registered_call l st c)
+  unfolding is_registered_call
+  rests-is_registered_call c = named_channel c _ rest
+
+  rests-key_for_call : (c : ChanNo) (s : SelNo) → Keeps (key_for_call st c s)
+  unfolding key_for_call
+  rests-key_for_call c s = named_channel c _ (named_selector s _ rest)
+
+  -- ---- keys
+
+  rests-cancel_call : (s : SelNo) (k : KeyId) → Keeps (cancel_call st s k)
+  unfolding cancel_call
+  rests-cancel_call s k =
+      let test : ℕ → ℕ → Bool = λ t i. ((t == s.0) && (i == k.index)) && is_in_key_set (st.shared.key s.0 k.index) k.serial in
+      let same : (λ t i. cond (test t i) (cancelled_key (st.shared.key t i)) (st.shared.key t i)) ≡ put_at st.shared.key s.0 k.index (cancelled_in_set (st.shared.key s.0 k.index) k.serial) = λ j t i. sym (one_cancelled st.shared s.0 k t i) j in
+      named_key s k _ (record {
+        unused = rest.unused;
+        channels = rest.channels;
+        keys = subst (λ f. KeysRest l st.shared.keys_mark f st.shared.mark st.shared.free) same (keys-cancelled l st.shared rest test within);
+        frees = subst (λ f. FreesRest st.shared.entered f st.shared.free) same (frees-cancelled l st.shared rest test within);
+      })
+    where
+      within : (t i : ℕ) → (((t == s.0) && (i == k.index)) && is_in_key_set (st.shared.key s.0 k.index) k.serial) ≡ true → in_key_set (st.shared.key t i) ≡ true
+      within t i h =
+          let both = and_parts ((t == s.0) && (i == k.index)) (is_in_key_set (st.shared.key s.0 k.index) k.serial) h in
+          let place = and_parts (t == s.0) (i == k.index) both.0 in
+          let there = (and_parts (fits (st.shared.key s.0 k.index) k.serial) (in_key_set (st.shared.key s.0 k.index)) both.1).1 in
+          subst (λ (n : ℕ). in_key_set (st.shared.key n i) ≡ true) (sym (eqb-true t s.0 place.0)) (subst (λ (n : ℕ). in_key_set (st.shared.key s.0 n) ≡ true) (sym (eqb-true i k.index place.1)) there)
+
+  rests-valid_call : (s : SelNo) (k : KeyId) → Keeps (valid_call st s k)
+  unfolding valid_call
+  rests-valid_call s k = named_key s k _ rest
+
+  rests-interest_call : (s : SelNo) (k : KeyId) → Keeps (interest_call st s k)
+  unfolding interest_call
+  rests-interest_call s k = valid_key s k _ rest
+
+  rests-ready_call : (s : SelNo) (k : KeyId) → Keeps (ready_call st s k)
+  unfolding ready_call
+  rests-ready_call s k = valid_key s k _ rest
+
+  interest_set : (s i ops : ℕ) → Rests l (record st.shared { interest = put_at st.shared.interest s i ops })
+  interest_set s i ops = record { unused = rest.unused; channels = rest.channels; keys = rest.keys; frees = rest.frees }
+
+  note_set : (s i att : ℕ) → Rests l (record st.shared { note = put_at st.shared.note s i att })
+  note_set s i att = record { unused = rest.unused; channels = rest.channels; keys = rest.keys; frees = rest.frees }
+
+  rests-iset_call : (s : SelNo) (k : KeyId) (ops : ℕ) → Keeps (iset_call st s k ops)
+  unfolding iset_call
+  rests-iset_call s k ops = valid_key s k _ (allowed (are_legal_at st.shared s.0 k.index ops) reply.IllegalOps _ (λ _. interest_set s.0 k.index ops))
+
+  rests-ior_call : (s : SelNo) (k : KeyId) (ops : ℕ) → Keeps (ior_call st s k ops)
+  unfolding ior_call
+  rests-ior_call s k ops = valid_key s k _ (allowed (are_legal_at st.shared s.0 k.index ops) reply.IllegalOps _ (λ _. interest_set s.0 k.index (bit_or (st.shared.interest s.0 k.index) ops)))
+
+  rests-iand_call : (s : SelNo) (k : KeyId) (ops : ℕ) → Keeps (iand_call st s k ops)
+  unfolding iand_call
+  rests-iand_call s k ops = valid_key s k _ (interest_set s.0 k.index (bit_and (st.shared.interest s.0 k.index) ops))
+
+  rests-unselect_call : (s : SelNo) (k : KeyId) → Keeps (unselect_call st s k)
+  unfolding unselect_call
+  rests-unselect_call s k =
+      named_key s k _ (allowed (is_in_selected_set st.shared s.0 k) reply.No _
+      (λ _. record { unused = rest.unused; channels = rest.channels; keys = keys-unselected l st.shared rest s.0 k.index; frees = rest.frees }))
+
+  rests-attach_call : (s : SelNo) (k : KeyId) (att : ℕ) → Keeps (attach_call st s k att)
+  unfolding attach_call
+  rests-attach_call s k att = named_key s k _ (allowed (fits (st.shared.key s.0 k.index) k.serial) (reply.Number 0) _ (λ _. note_set s.0 k.index att))
+
+  rests-attachment_call : (s : SelNo) (k : KeyId) → Keeps (attachment_call st s k)
+  unfolding attachment_call
+  rests-attachment_call s k = named_key s k _ rest
