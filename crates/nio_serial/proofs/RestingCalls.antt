@@ -1,6 +1,6 @@
 -- Each documented call keeps that nothing is at work.
-use Rattle.std.proofs.Common.{◌≡◌, ℕ, suc, ◌+◌, ◌<◌, ◌≤◌, max, ◌==◌, nat_lt, Bool, true, false, cond, not, ◌&&◌, ◌||◌, Option, Some, None, is_some, find, List, bit_and, bit_or, ⊎_elim, refl, ap, sym, ◌∙◌, subst, arith, eqb-true, add-one}
-use Rattle.std.proofs.lemmas.Bool.{both_ways, and_parts, false_from_ne_true, lt-ltb, le-ltb, ltb-true, cases_lt}
+use Rattle.std.proofs.Common.{◌≡◌, ℕ, suc, ◌+◌, ◌<◌, ◌≤◌, max, ◌==◌, nat_lt, Bool, true, false, cond, not, ◌&&◌, ◌||◌, Option, Some, None, is_some, find, List, [], ◌∷◌, bit_and, bit_or, ⊎_elim, refl, ap, sym, ◌∙◌, subst, arith, eqb-true, add-one}
+use Rattle.std.proofs.lemmas.Bool.{both_ways, and_parts, or_parts, false_from_ne_true, lt-ltb, le-ltb, ltb-true, cases_lt}
 use lib.Bits.{and_zero_r}
 use Rattle.nio_base.specs.declared.kind.Kind.{Kind}
 use Rattle.nio_base.specs.declared.limits.Limits.{Limits}
@@ -28,10 +28,10 @@ use Rattle.nio_plain.specs.Seq.Closing.{close_call, close_end_call}
 use Rattle.nio_plain.specs.Seq.Keys.{with_valid_key, are_legal_at, is_in_selected_set, valid_call, interest_call, ready_call, iset_call, ior_call, iand_call, unselect_call, attach_call, attachment_call}
 use Rattle.nio_plain.specs.Seq.Listing.{listed, keys_call, selected_call}
 use Rattle.nio_plain.specs.Seq.Modes.{is_registered, blocking_call, is_blocking_call, is_open_call, is_registered_call, key_of, key_for_call}
-use Rattle.nio_plain.specs.Seq.Names.{below, key_at, with_named_channel, with_named_selector, with_named_key}
+use Rattle.nio_plain.specs.Seq.Names.{below, key_at, is_same_key, with_named_channel, with_named_selector, with_named_key}
 use Rattle.nio_plain.specs.Seq.Opening.{selector_made, selector_call, channel_made, channel_call}
 use Rattle.nio_plain.specs.Seq.Registering.{are_legal, given_or_none, given_or_kept, free_index, next_by, next_key, registered, registered_new, register_call}
-use Rattle.nio_plain.specs.Seq.Removing.{comes_back}
+use Rattle.nio_plain.specs.Seq.Removing.{removed_key, unselected, comes_back}
 use Rattle.nio_plain.specs.Seq.Selections.{all_told, looked_interest, told_bits, marked, is_looked, mode_of, begun_with, begin_call, updated_count, is_again, told_selection, is_caller, own_selection, told_call, left_selection, failed_call}
 use Rattle.nio_plain.specs.Seq.Wakeups.{wakeup_call, interrupt_call, interrupted_call}
 use Rattle.nio_plain.specs.declared.rules.Rules.{Rules}
@@ -266,3 +266,213 @@ module _ (l : Limits) (st : ScriptState) (sound : Sound Now l st) (rest : Rests 
   rests-attachment_call : (s : SelNo) (k : KeyId) → Keeps (attachment_call st s k)
   unfolding attachment_call
   rests-attachment_call s k = named_key s k _ rest
+
+  -- ---- selections
+
+  -- the cancelled keys that pass the test are removed by a selection
+  module _ (s : ℕ) (test : ℕ → Bool) (cancelled : (i : ℕ) → test i ≡ true → in_cancelled_set (st.shared.key s i) ≡ true) (marks : ℕ → ℕ → Mark)
+      (quiet : (t i : ℕ) → nat_lt i (st.shared.keys_mark t) ≡ false → marks t i ≡ st.shared.mark t i) where
+    abbrev goes : ℕ → ℕ → Bool
+    goes t i = (t == s) && test i
+
+    goes_in_set : (t i : ℕ) → goes t i ≡ true → in_key_set (st.shared.key t i) ≡ true
+    goes_in_set t i h =
+        let both = and_parts (t == s) (test i) h in
+        subst (λ (n : ℕ). in_key_set (st.shared.key n i) ≡ true) (sym (eqb-true t s both.0)) (and_parts (in_key_set (st.shared.key s i)) (st.shared.key s i).cancelled (cancelled i both.1)).0
+
+    swept_keys : KeysRest l st.shared.keys_mark (λ t i. cond (goes t i) (removed_key (st.shared.key t i)) (st.shared.key t i)) (λ t i. cond (goes t i) (unselected (marks t i)) (marks t i)) (λ t i. (goes t i && comes_back Now (st.shared.key t i)) || st.shared.free t i)
+    swept_keys =
+        keys-removed l st.shared rest goes (comes_back Now) st.shared.entered marks
+        (λ t i h. (and_parts (st.shared.key t i).published (not (st.shared.key t i).removed) (goes_in_set t i h)).0)
+        quiet (λ _ h. h) (λ t i _ h. (goes_in_set t i h, refl))
+
+    swept_frees : FreesRest st.shared.entered (λ t i. cond (goes t i) (removed_key (st.shared.key t i)) (st.shared.key t i)) (λ t i. (goes t i && comes_back Now (st.shared.key t i)) || st.shared.free t i)
+    swept_frees =
+        frees-removed l st.shared rest goes (comes_back Now) st.shared.entered marks
+        (λ t i h. (and_parts (st.shared.key t i).published (not (st.shared.key t i).removed) (goes_in_set t i h)).0)
+        quiet (λ _ h. h) (λ t i _ h. (goes_in_set t i h, refl))
+
+  rests_begun : (me : CallerNo) (s : ℕ) (o : Option Mode) → Keeps (begun_with Now st me s o)
+  rests_begun me s None = rest
+  rests_begun me s (Some how) =
+      denied (st.shared.gate s).shut reply.ClosedSelector _ (λ _. denied (is_some (st.shared.turn s)) reply.Busy _
+      (λ _. record {
+        unused = rest.unused;
+        channels = rest.channels;
+        keys = swept_keys s (λ i. in_cancelled_set (st.shared.key s i)) (λ i h. h) st.shared.mark (λ _ _ _. refl);
+        frees = swept_frees s (λ i. in_cancelled_set (st.shared.key s i)) (λ i h. h) st.shared.mark (λ _ _ _. refl);
+      }))
+
+  rests-begin_call : (me : CallerNo) (s : SelNo) (waiting : Waiting) → Keeps (begin_call Now st me s waiting)
+  unfolding begin_call
+  rests-begin_call me s waiting = named_selector s _ (rests_begun me s.0 (mode_of waiting))
+
+  -- an index above the mark isn't looked at
+  module _ (s : ℕ) (x : Selection) (is : st.selection s ≡ Some x) (pairs : List (KeyId × ℕ)) where
+    unlooked : (i : ℕ) → nat_lt i (st.shared.keys_mark s) ≡ false → is_looked x.looked (key_at st.shared s i) ≡ false
+    unlooked i above = false_from_ne_true (is_looked x.looked (key_at st.shared s i)) (λ h.
+        let in_set = (sound.looks s).in_set x is (key_at st.shared s i) h in
+        both_ways (in_key_set (st.shared.key s i)) (above-out l st.shared.keys_mark st.shared.key st.shared.mark st.shared.free rest.keys s i above)
+        (and_parts (fits (st.shared.key s i) (st.shared.key s i).serial) (in_key_set (st.shared.key s i)) in_set).1)
+
+    no_interest : (looked : List (KeyId × ℕ)) (k : KeyId) → is_looked looked k ≡ false → looked_interest looked k ≡ 0
+    no_interest [] k out = refl
+    no_interest (q ∷ looked) k out =
+        let parts = or_parts (is_same_key q.0 k) (is_looked looked k) out in
+        ap (λ b. cond b q.1 (looked_interest looked k)) parts.0 ∙ no_interest looked k parts.1
+
+    abbrev marks : ℕ → ℕ → Mark
+    marks t i = cond (t == s) (marked (st.shared.mark t i) (told_bits x.looked pairs (key_at st.shared t i))) (st.shared.mark t i)
+
+    quiet_marks : (t i : ℕ) → nat_lt i (st.shared.keys_mark t) ≡ false → marks t i ≡ st.shared.mark t i
+    quiet_marks t i above = by_selector (t == s) refl
+      where
+        here : nat_lt i (st.shared.keys_mark s) ≡ false → marked (st.shared.mark s i) (told_bits x.looked pairs (key_at st.shared s i)) ≡ st.shared.mark s i
+        here above' =
+            let k = key_at st.shared s i in
+            ap (marked (st.shared.mark s i)) (ap (bit_and (all_told pairs k)) (no_interest x.looked k (unlooked i above')) ∙ and_zero_r (all_told pairs k))
+
+        by_selector : (b : Bool) → (t == s) ≡ b → cond b (marked (st.shared.mark t i) (told_bits x.looked pairs (key_at st.shared t i))) (st.shared.mark t i) ≡ st.shared.mark t i
+        by_selector true there =
+            subst (λ (n : ℕ). nat_lt i (st.shared.keys_mark n) ≡ false → marked (st.shared.mark n i) (told_bits x.looked pairs (key_at st.shared n i)) ≡ st.shared.mark n i) (sym (eqb-true t s there)) here above
+        by_selector false other = refl
+
+    rests_told : (me : CallerNo) (elapsed : Bool) → Keeps (told_selection Now st me s pairs elapsed (Some x))
+    rests_told me elapsed =
+        let test : ℕ → Bool = λ i. is_looked x.looked (key_at st.shared s i) && in_cancelled_set (st.shared.key s i) in
+        let cancelled = λ (i : ℕ) (h : (is_looked x.looked (key_at st.shared s i) && in_cancelled_set (st.shared.key s i)) ≡ true). (and_parts (is_looked x.looked (key_at st.shared s i)) (in_cancelled_set (st.shared.key s i)) h).1 in
+        denied (is_again (st.shared.gate s) (st.shared.interrupted me.0) x.mode elapsed (updated_count st.shared s x.looked pairs)) reply.Again _
+        (λ _. record {
+          unused = rest.unused;
+          channels = rest.channels;
+          keys = swept_keys s test cancelled marks quiet_marks;
+          frees = swept_frees s test cancelled marks quiet_marks;
+        })
+
+  own_is : (me : CallerNo) (s : ℕ) (x : Selection) → own_selection st me s ≡ Some x → st.selection s ≡ Some x
+  own_is me s x e = by_caller (is_caller me (st.shared.turn s)) e
+    where
+      by_caller : (b : Bool) → cond b (st.selection s) None ≡ Some x → st.selection s ≡ Some x
+      by_caller true now = now
+      by_caller false now = absurd cc
+
+  rests-told_call : (me : CallerNo) (s : SelNo) (elapsed : Bool) (pairs : List (KeyId × ℕ)) → Keeps (told_call Now st me s elapsed pairs)
+  unfolding told_call
+  rests-told_call me s elapsed pairs = named_selector s _ (by_own (own_selection st me s.0) (own_is me s.0))
+    where
+      by_own : (o : Option Selection) → ((x : Selection) → o ≡ Some x → st.selection s.0 ≡ Some x) → Keeps (told_selection Now st me s.0 pairs elapsed o)
+      by_own None own = rest
+      by_own (Some x) own = rests_told s.0 x (own x refl) pairs me elapsed
+
+  rests-failed_call : (me : CallerNo) (s : SelNo) → Keeps (failed_call st me s)
+  unfolding failed_call
+  rests-failed_call me s = named_selector s _ (by_own (own_selection st me s.0))
+    where
+      by_own : (o : Option Selection) → Keeps (left_selection st s.0 o)
+      by_own None = rest
+      by_own (Some x) = record { unused = rest.unused; channels = rest.channels; keys = rest.keys; frees = rest.frees }
+
+  -- ---- wakeups, interrupts, closing, and the sets
+
+  rests-wakeup_call : (s : SelNo) → Keeps (wakeup_call st s)
+  unfolding wakeup_call
+  rests-wakeup_call s = named_selector s _ (record { unused = rest.unused; channels = rest.channels; keys = rest.keys; frees = rest.frees })
+
+  rests-interrupt_call : (target : CallerNo) → Keeps (interrupt_call l st target)
+  unfolding interrupt_call
+  rests-interrupt_call target = allowed (nat_lt target.0 l.callers) reply.NoCaller _ (λ _. beside (put st.shared.interrupted target.0 true) st.shared.interest st.shared.note)
+
+  rests-interrupted_call : (me : CallerNo) → Keeps (interrupted_call st me)
+  unfolding interrupted_call
+  rests-interrupted_call me = beside (put st.shared.interrupted me.0 false) st.shared.interest st.shared.note
+
+  rests-close_call : (me : CallerNo) (s : SelNo) → Keeps (close_call st me s)
+  unfolding close_call
+  rests-close_call me s =
+      named_selector s _ (denied (st.shared.gate s.0).shut reply.Already _ (λ _. record { unused = rest.unused; channels = rest.channels; keys = rest.keys; frees = rest.frees }))
+
+  -- the claimed keys of a selector are removed, and none of their indexes becomes free
+  module _ (s : ℕ) where
+    abbrev empties : ℕ → ℕ → Bool
+    empties t i = (t == s) && (st.shared.key s i).claimed
+
+    abbrev none : Stage → Bool
+    none k = false
+
+    claimed_published : (t i : ℕ) → empties t i ≡ true → (st.shared.key t i).published ≡ true
+    claimed_published t i h =
+        let both = and_parts (t == s) (st.shared.key s i).claimed h in
+        subst (λ (n : ℕ). (st.shared.key n i).published ≡ true) (sym (eqb-true t s both.0)) (rest.keys.published s i ∙ (sym (rest.keys.claimed s i) ∙ both.1))
+
+    abbrev ended : ℕ → Bool
+    ended = put st.shared.entered s true
+
+    kept_open : (t : ℕ) → ended t ≡ false → st.shared.entered t ≡ false
+    kept_open t h = by_selector (t == s) h
+      where
+        by_selector : (b : Bool) → cond b true (st.shared.entered t) ≡ false → st.shared.entered t ≡ false
+        by_selector true e = absurd (both_ways true e refl)
+        by_selector false e = e
+
+    none_go : (t i : ℕ) → ended t ≡ false → empties t i ≡ true → (in_key_set (st.shared.key t i) ≡ true) × (none (st.shared.key t i) ≡ nat_lt (st.shared.key t i).serial last_serial)
+    none_go t i h goes_ = absurd (both_ways true (sym (ap (λ b. cond b true (st.shared.entered t)) (and_parts (t == s) (st.shared.key s i).claimed goes_).0) ∙ h) refl)
+
+    emptied_keys : KeysRest l st.shared.keys_mark (λ t i. cond (empties t i) (removed_key (st.shared.key t i)) (st.shared.key t i)) (λ t i. cond (empties t i) (unselected (st.shared.mark t i)) (st.shared.mark t i)) (λ t i. (empties t i && false) || st.shared.free t i)
+    emptied_keys = keys-removed l st.shared rest empties none ended st.shared.mark claimed_published (λ _ _ _. refl) kept_open none_go
+
+    emptied_frees : FreesRest ended (λ t i. cond (empties t i) (removed_key (st.shared.key t i)) (st.shared.key t i)) (λ t i. (empties t i && false) || st.shared.free t i)
+    emptied_frees = frees-removed l st.shared rest empties none ended st.shared.mark claimed_published (λ _ _ _. refl) kept_open none_go
+
+  rests-close_end_call : (me : CallerNo) (s : SelNo) → Keeps (close_end_call st me s)
+  unfolding close_end_call
+  rests-close_end_call me s =
+      named_selector s _ (denied (not (is_caller me (st.shared.closer s.0)) || st.shared.entered s.0) reply.NotClosing _
+      (λ _. denied (is_some (st.shared.turn s.0)) reply.Busy _
+      (λ _. record { unused = rest.unused; channels = rest.channels; keys = emptied_keys s.0; frees = emptied_frees s.0 })))
+
+  rests_listed : (s : SelNo) (in_set : ℕ → Bool) → Keeps (listed st s in_set)
+  rests_listed s in_set = named_selector s _ (denied (st.shared.gate s.0).shut reply.ClosedSelector _ (λ _. rest))
+
+  rests-keys_call : (s : SelNo) → Keeps (keys_call st s)
+  unfolding keys_call
+  rests-keys_call s = rests_listed s _
+
+  rests-selected_call : (s : SelNo) → Keeps (selected_call st s)
+  unfolding selected_call
+  rests-selected_call s = rests_listed s _
+
+  rests-call_of : (me : CallerNo) (word : Call) → Keeps (call_of Now l st me word)
+  unfolding call_of
+  rests-call_of me call.Selector = rests-selector_call
+  rests-call_of me (call.Channel kind) = rests-channel_call kind
+  rests-call_of me (call.Blocking c on) = rests-blocking_call c on
+  rests-call_of me (call.IsBlocking c) = rests-is_blocking_call c
+  rests-call_of me (call.IsOpen c) = rests-is_open_call c
+  rests-call_of me (call.IsRegistered c) = rests-is_registered_call c
+  rests-call_of me (call.KeyFor c s) = rests-key_for_call c s
+  rests-call_of me (call.Register s c ops att) = rests-register_call s c ops att
+  rests-call_of me (call.Closec c) = rests-closec_call me c
+  rests-call_of me (call.Valid s k) = rests-valid_call s k
+  rests-call_of me (call.Interest s k) = rests-interest_call s k
+  rests-call_of me (call.Ready s k) = rests-ready_call s k
+  rests-call_of me (call.Iset s k ops) = rests-iset_call s k ops
+  rests-call_of me (call.Ior s k ops) = rests-ior_call s k ops
+  rests-call_of me (call.Iand s k ops) = rests-iand_call s k ops
+  rests-call_of me (call.Cancel s k) = rests-cancel_call s k
+  rests-call_of me (call.Unselect s k) = rests-unselect_call s k
+  rests-call_of me (call.Attach s k att) = rests-attach_call s k att
+  rests-call_of me (call.Attachment s k) = rests-attachment_call s k
+  rests-call_of me (call.Begin s waiting) = rests-begin_call me s waiting
+  rests-call_of me (call.Told s elapsed pairs) = rests-told_call me s elapsed pairs
+  rests-call_of me (call.Failed s) = rests-failed_call me s
+  rests-call_of me (call.Wakeup s) = rests-wakeup_call s
+  rests-call_of me (call.Close s) = rests-close_call me s
+  rests-call_of me (call.CloseEnd s) = rests-close_end_call me s
+  rests-call_of me (call.Keys s) = rests-keys_call s
+  rests-call_of me (call.Selected s) = rests-selected_call s
+  rests-call_of me (call.Interrupt target) = rests-interrupt_call target
+  rests-call_of me call.Interrupted = rests-interrupted_call me
+
+  pub rests-seq : (me : CallerNo) (word : Call) → Keeps (seq Now l st me word)
+  unfolding seq
+  rests-seq me word = allowed (nat_lt me.0 l.callers) reply.NoCaller (call_of Now l st me word) (λ _. rests-call_of me word)
