@@ -277,3 +277,18 @@ module _ (st : State) (now : Progress) (me : CallerNo) (x : Selection) (pairs : 
           let to_woken = and_parts (((count == 0) && going) && not gate.woken) (not gate.shut) to_shut.0 in
           let to_going = and_parts ((count == 0) && going) (not gate.woken) to_woken.0 in
           eqb-true count 0 (and_parts (count == 0) going to_going.0).0
+
+  -- what the call answers, and the state that it leaves: the selection goes on, or is over
+  pub told-cases : (elapsed : Bool) (P : Performed ToldReply → Type 0) → P (record { answer = again x; state = marked_st }) → ((answer : Selected) → P (record { answer = done answer; state = ended }))
+      → P (perform me (told_plan x (by_index x pairs) elapsed) st)
+  unfolding told_plan
+  told-cases elapsed P goes_on_ over =
+      subst P (sym (perform_then_on me (sweep_over x.looked (mark_entry x.selector (by_index x pairs)) 0) (after_marks x elapsed) st count marked_st (marks-performed st me x pairs rises in_set)))
+      (by_test (is_again_by_look x.mode count (st.gate s) (st.interrupted me.0) elapsed))
+    where
+      answer : Selected
+      answer = record { count = count; why = why_over x.mode count (st.gate s) (st.interrupted me.0) }
+
+      by_test : (b : Bool) → P (perform me (if b then Plan.reply (again x) else end_selection x answer) marked_st)
+      by_test true = goes_on_
+      by_test false = subst P (sym (ending-performed answer)) (over answer)
