@@ -35,7 +35,7 @@ lt_other j n other =
     (cases_lt j n)
 
 -- the indexes of the selector below n
-abbrev below_in : ℕ → ℕ → ℕ → ℕ → Bool
+abbrev pub below_in : ℕ → ℕ → ℕ → ℕ → Bool
 below_in s n t j = (t == s) && nat_lt j n
 
 below_more : (s n t j : ℕ) → ((t == s) && (j == n)) ≡ false → below_in s (n + 1) t j ≡ below_in s n t j
@@ -97,3 +97,16 @@ close_end-amounts st now me s begun none_due exact made own not_entered =
       where
         now_entered : (st.entered s.0 || true) ≡ true
         now_entered = λ j. not_entered j || true
+
+-- what the call answers, and the state that it leaves: a caller selects, or the closing has ended
+pub finish-cases : (st : State) (me : CallerNo) (s : SelNo) → st.begun s.0 ≡ is_some (st.turn s.0) → (none_due : (i : ℕ) → st.put_due s.0 i ≡ false) → st.entered s.0 ≡ false
+    → (P : Performed FinishReply → Type 0) → P (record { answer = busy; state = st })
+    → P (record { answer = closed; state = removed_where (with_entered st s.0 (st.entered s.0 || true)) (below_in s.0 (st.keys_mark s.0)) (λ _. false) })
+    → P (perform me (try_finish_plan s) st)
+unfolding try_finish_plan
+finish-cases st me s begun none_due not_entered P selecting ends = by_turn (st.turn s.0) refl
+  where
+    by_turn : (o : Option CallerNo) → st.turn s.0 ≡ o → P (perform me (cond (is_some o) (Plan.reply busy) (remove_keys s)) (with_entered st s.0 (st.entered s.0 || is_none o)))
+    by_turn (Some n) is =
+        subst P (λ j. record { answer = busy; state = record st { entered = sym (put-here st.entered s.0 (st.entered s.0 || false) (not_entered ∙ (λ i. sym not_entered i || false))) j } }) selecting
+    by_turn None is = subst P (sym (remove_keys-performed (with_entered st s.0 (st.entered s.0 || true)) me s (begun ∙ ap is_some is) none_due)) ends

@@ -21,3 +21,4 @@ pub mod Calls
 pub mod Lines
 pub mod Resting
 pub mod RestingCalls
+pub mod Showing
