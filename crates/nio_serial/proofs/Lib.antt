@@ -22,3 +22,5 @@ pub mod Lines
 pub mod Resting
 pub mod RestingCalls
 pub mod Showing
+pub mod Steady
+pub mod Staying

@@ -80,7 +80,7 @@ module _ (l : Limits) (st : State) (now : Progress) (me : CallerNo) (fit : IsFit
       let marks = between.at_rest.marks.keys_within s in
       fresh_unpublished (st.key s i) q (between.at_rest.marks.fresh s i (le-ltb i (st.keys_mark s) (omega arith))).key
 
-  selector-found : (n : ℕ) → perform me (find_selector_plan l n) st ≡ record { answer = if st.selector n then Some (selector n) else None; state = st }
+  pub selector-found : (n : ℕ) → perform me (find_selector_plan l n) st ≡ record { answer = if st.selector n then Some (selector n) else None; state = st }
   unfolding find_selector_plan
   selector-found n = by_limit (nat_lt n l.selectors) refl
     where
@@ -121,7 +121,7 @@ module _ (l : Limits) (st : State) (now : Progress) (me : CallerNo) (fit : IsFit
 
   -- ---- a line with its look-ups
 
-  found-is : {A : Type 0} (b : Bool) (a : A) (r : Reply) (plan : Plan Said) → perform me (if_found now r plan (if b then Some a else None)) st ≡ perform me (if b then plan else refused now r) st
+  pub found-is : {A : Type 0} (b : Bool) (a : A) (r : Reply) (plan : Plan Said) → perform me (if_found now r plan (if b then Some a else None)) st ≡ perform me (if b then plan else refused now r) st
   found-is true a r plan = refl
   found-is false a r plan = refl
 

@@ -75,7 +75,7 @@ module _ (l : Limits) (st : State) (now : Progress) (me : CallerNo) (between : I
 
   -- ---- selections
 
-  begin-shows : (s : SelNo) (o : Option Mode) → Shows (perform me (begin_line now me s o) st)
+  pub begin-shows : (s : SelNo) (o : Option Mode) → Shows (perform me (begin_line now me s o) st)
   begin-shows s None = between.shown
   begin-shows s (Some mode) =
       let due = none_due l st now between s.0 in
@@ -119,7 +119,7 @@ module _ (l : Limits) (st : State) (now : Progress) (me : CallerNo) (between : I
         subst (λ (n : SelNo). Shows (perform me (makes (leave_plan x) (λ _. reply.Left) (λ _. with_selection now n None)) st)) selector-is
         (shows-selection _ x.selector None refl refl refl refl (λ z e. absurd cc))
 
-  told-shows : (s : SelNo) (elapsed : Bool) (pairs : List (KeyId × ℕ)) (o : Option Selecting) → now.selection s.0 ≡ o → Shows (perform me (told_line now s elapsed pairs (if_own me o)) st)
+  pub told-shows : (s : SelNo) (elapsed : Bool) (pairs : List (KeyId × ℕ)) (o : Option Selecting) → now.selection s.0 ≡ o → Shows (perform me (told_line now s elapsed pairs (if_own me o)) st)
   told-shows s elapsed pairs None is = between.shown
   told-shows s elapsed pairs (Some y) is = by_caller (y.caller.0 == me.0)
     where
@@ -127,7 +127,7 @@ module _ (l : Limits) (st : State) (now : Progress) (me : CallerNo) (between : I
       by_caller true = told-one s y is elapsed pairs
       by_caller false = between.shown
 
-  failed-shows : (s : SelNo) (o : Option Selecting) → now.selection s.0 ≡ o → Shows (perform me (failed_line now s (if_own me o)) st)
+  pub failed-shows : (s : SelNo) (o : Option Selecting) → now.selection s.0 ≡ o → Shows (perform me (failed_line now s (if_own me o)) st)
   failed-shows s None is = between.shown
   failed-shows s (Some y) is = by_caller (y.caller.0 == me.0)
     where
@@ -141,7 +141,7 @@ module _ (l : Limits) (st : State) (now : Progress) (me : CallerNo) (between : I
   abbrev closing_by : Bool → Option CallerNo → Option CallerNo
   closing_by entered closer = if entered then None else closer
 
-  close-shows : (s : SelNo) → Shows (perform me (makes (shut_plan s) shut_reply (after_shut now me s)) st)
+  pub close-shows : (s : SelNo) → Shows (perform me (makes (shut_plan s) shut_reply (after_shut now me s)) st)
   unfolding shut_plan
   close-shows s = by_shut (st.gate s.0).shut refl
     where
@@ -161,7 +161,7 @@ module _ (l : Limits) (st : State) (now : Progress) (me : CallerNo) (between : I
             closing = put_both (λ n a b. a ≡ closing_by (st.entered n) b) now.closing st.closer s.0 (Some me) (Some me) (λ j. closing_by (sym not_entered j) (Some me)) t was.closing;
           }
 
-  close_end-shows : (s : SelNo) → Shows (perform me (close_end_line now me s) st)
+  pub close_end-shows : (s : SelNo) → Shows (perform me (close_end_line now me s) st)
   close_end-shows s = by_caller (is_caller me (now.closing s.0)) refl
     where
       line : Bool → Plan Said
