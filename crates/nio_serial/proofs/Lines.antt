@@ -167,7 +167,7 @@ module _ (l : Limits) (st : State) (now : Progress) (me : CallerNo) (fit : IsFit
   abbrev made : Call → Plan Said
   made word = call_plan l now me word
 
-  named-amounts : (word : Call) → call_of Now l ds me word ≡ comes_to (perform me (if_named l now word (call_plan l now me word)) st)
+  pub named-amounts : (word : Call) → call_of Now l ds me word ≡ comes_to (perform me (if_named l now word (call_plan l now me word)) st)
   unfolding call_of if_named blocking_call is_blocking_call is_open_call is_registered_call key_for_call register_call closec_call valid_call interest_call ready_call iset_call ior_call iand_call cancel_call unselect_call attach_call attachment_call begin_call told_call failed_call wakeup_call close_call close_end_call keys_call selected_call interrupt_call
   named-amounts call.Selector = call-amounts l st now me between call.Selector tt
   named-amounts (call.Channel kind) = call-amounts l st now me between (call.Channel kind) tt
