@@ -24,3 +24,4 @@ pub mod RestingCalls
 pub mod Showing
 pub mod Steady
 pub mod Staying
+pub mod Histories

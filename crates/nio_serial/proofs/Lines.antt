@@ -94,7 +94,7 @@ module _ (l : Limits) (st : State) (now : Progress) (me : CallerNo) (fit : IsFit
           ap (λ (b : Bool). record { answer = if b then Some (selector n) else None; state = st }) (bit-selector st n (omega arith))
       by_limit false e = ap (λ (b : Bool). record { answer = if b then Some (selector n) else None; state = st }) (sym (selector_within n e))
 
-  channel-found : (n : ℕ) → perform me (find_channel_plan l n) st ≡ record { answer = if (st.chan n).made then Some (channel n) else None; state = st }
+  pub channel-found : (n : ℕ) → perform me (find_channel_plan l n) st ≡ record { answer = if (st.chan n).made then Some (channel n) else None; state = st }
   unfolding find_channel_plan
   channel-found n = by_limit (nat_lt n l.channels) refl
     where
@@ -108,7 +108,7 @@ module _ (l : Limits) (st : State) (now : Progress) (me : CallerNo) (fit : IsFit
   abbrev named_key : SelNo → ℕ → ℕ → KeyNo
   named_key s i q = record { sel = s; index = i; serial = q }
 
-  key-found : (s : SelNo) (i q : ℕ) → perform me (find_plan l s i q) st ≡ record { answer = if was_published (st.key s.0 i) q then Some (named_key s i q) else None; state = st }
+  pub key-found : (s : SelNo) (i q : ℕ) → perform me (find_plan l s i q) st ≡ record { answer = if was_published (st.key s.0 i) q then Some (named_key s i q) else None; state = st }
   unfolding find_plan
   key-found s i q = by_limit (nat_lt i l.keys) refl
     where

@@ -40,7 +40,7 @@ use Rattle.nio_serial.proofs.Showing.{Shows, shows-same, refused-shows, begin-sh
 use Rattle.nio_serial.proofs.Steady.{IsSteady, steady-selector, steady-channel, steady-blocking, steady-is_blocking, steady-is_open, steady-is_registered, steady-key_for, steady-register, steady-closec, steady-valid, steady-interest, steady-ready, steady-iset, steady-ior, steady-iand, steady-cancel, steady-unselect, steady-attach, steady-attachment, steady-wakeup, steady-keys, steady-selected, steady-interrupt, steady-interrupted}
 use Rattle.nio_serial.specs.Between.{IsLeft, IsAtRest, IsShownBy, IsBetween}
 use Rattle.nio_serial.specs.Documented.{Progress, nothing_yet, settled_state, documented}
-use Rattle.nio_serial.specs.Laws.{BeginsBetween, StaysBetween}
+use Rattle.nio_serial.specs.Laws.{BeginsBetween, LinesStayBetween}
 use Rattle.nio_serial.specs.Lines.{Said, comes_to, makes, asks, refused, if_caller, if_found, if_selector, if_channel, if_key, if_named, own_selection, call_plan, line_plan}
 
 -- ---- a line that begins and ends nothing leaves the progress
@@ -190,5 +190,5 @@ begins-between l = record {
   shown = λ s. record { turn = refl; begun = refl; on = λ x is. absurd cc; closing = refl };
 }
 
-pub stays-between : StaysBetween
-stays-between l st now me word fit between = line-stays l st now me fit between word
+pub lines-stay : LinesStayBetween
+lines-stay l st now me word fit between = line-stays l st now me fit between word

@@ -1,7 +1,24 @@
 //! The laws, as the contracts of functions that do nothing.
-ghost use Rattle.nio_serial.specs.Laws.{BeginsBetween};
+ghost use Rattle.nio_serial.specs.Laws.{CallsAmount, LinesAmount, BeginsBetween, CallsStayBetween, LinesStayBetween, CallRunsAmount, LineRunsAmount};
 
-/// What holds between two calls holds at the beginning.
+/// The steps of a call between which nobody comes amount to the documented call: the reply and the state
+/// are its own. So do those of a script's line with its look-ups.
+pub fn amounts_law()
+    ensures calls { CallsAmount }
+    ensures lines { LinesAmount }
+{}
+
+/// What holds between two calls of a serial history holds at the beginning, after each call, and after
+/// each line.
 pub fn between_law()
     ensures begins { BeginsBetween }
+    ensures calls { CallsStayBetween }
+    ensures lines { LinesStayBetween }
+{}
+
+/// A run of a call in a legal history, with no event of another caller between, has the reply and leaves
+/// the state of the documented call. So does a run of a line.
+pub fn runs_law()
+    ensures calls { CallRunsAmount }
+    ensures lines { LineRunsAmount }
 {}
