@@ -1,23 +1,21 @@
 -- Beginning a selection amounts to the documented call.
 use Rattle.std.proofs.Common.{◌≡◌, ℕ, zero, suc, ◌<◌, ◌==◌, nat_lt, Bool, true, false, cond, not, ◌&&◌, ◌||◌, if◌then◌else◌, Option, Some, None, option_map, is_some, Result, Ok, Err, List, [], ◌∷◌, ◌++◌, map, filter, refl, ap, sym, ◌∙◌, subst, ⊎_elim, arith, eq-eqb}
-use Rattle.std.proofs.lemmas.Bool.{both_ways, false_from_ne_true, and_parts, cases_eq, lt-ltb, ltb-true, not-true, cond-true, cond-false, or_left, or_right}
+use Rattle.std.proofs.lemmas.Bool.{both_ways, false_from_ne_true, and_parts, cases_eq, lt-ltb, ltb-true, not-true, or_left, or_right}
 use Rattle.std.proofs.lemmas.List.Elements.{All-filter, All-contains, All-map}
 use Rattle.std.proofs.lemmas.List.Kept.{AllPairs-cons, AllPairs-filter}
 use Rattle.std.proofs.lemmas.List.Folds.{list_any-append}
 use Rattle.std.specs.List.{AllPairs, Contains, list_any}
 use Rattle.nio_base.specs.declared.numbers.CallerNo.{CallerNo}
-use Rattle.nio_base.specs.declared.numbers.KeyId.{KeyId}
 use Rattle.nio_base.specs.declared.numbers.SelNo.{SelNo}
 use Rattle.nio_event.specs.Acts.{taken_by}
 use Rattle.nio_event.specs.Sets.{in_key_set, in_cancelled_set, is_valid}
 use Rattle.nio_event.specs.State.{State, put, with_turn, with_begun}
 use Rattle.nio_event.specs.declared.found.Mode.{Mode}
 use Rattle.nio_event.specs.declared.found.Stage.{Stage}
-use Rattle.nio_event.specs.declared.reply.Reply.{Reply}
 use Rattle.nio_event.specs.declared.reply.Reply.TheVariants as reply
 use Rattle.nio_plain.proofs.Found.{below_all}
-use Rattle.nio_plain.specs.ScriptState.{ScriptState, Selection as ScriptSelection}
-use Rattle.nio_plain.specs.Seq.Answers.{Answered, unchanged}
+use Rattle.nio_plain.specs.ScriptState.{ScriptState}
+use Rattle.nio_plain.specs.Seq.Answers.{unchanged}
 use Rattle.nio_plain.specs.Seq.Names.{below, key_at}
 use Rattle.nio_plain.specs.Seq.Removing.{removed_key, without_keys_where}
 use Rattle.nio_plain.specs.Seq.Selections.{without_cancelled, looked_keys, selection_begun, begun_with}
@@ -31,13 +29,12 @@ use Rattle.nio_steps.specs.Steps.{look_keys}
 use Rattle.nio_steps.specs.Sweeps.{sweep_over}
 use Rattle.nio_steps.specs.declared.looked.LookedKey.{LookedKey}
 use Rattle.nio_steps.specs.declared.refusal.BeginError.{BeginError}
-use Rattle.nio_steps.specs.declared.refusal.BeginError.TheVariants as BeginError
 use Rattle.nio_serial.proofs.Base.{put-here, put-twice, put-under, settled-cancelled, branch}
 use Rattle.nio_serial.proofs.FreeWords.{is_not_free, filter-same, list_below-performed}
 use Rattle.nio_serial.proofs.Removing.{settled-removed}
-use Rattle.nio_serial.proofs.Sweeping.{has_index, has_next, goes, swept, looked_over, look-performed}
+use Rattle.nio_serial.proofs.Sweeping.{has_index, has_next, swept, looked_over, look-performed}
 use Rattle.nio_serial.specs.Between.{IsOn}
-use Rattle.nio_serial.specs.Documented.{Progress, Selecting, settled, settled_state, looked_pair, shown, documented, amounts}
+use Rattle.nio_serial.specs.Documented.{Progress, settled, settled_state, looked_pair, shown, documented, amounts}
 use Rattle.nio_serial.specs.Lines.{after_begin}
 use Rattle.nio_serial.specs.Replies.{begin_reply}
 
@@ -228,7 +225,7 @@ module _ (st : State) (now : Progress) (me : CallerNo) (s : SelNo)
     left = record {
       shared = sym state-is j;
       selection = (ap (λ looked. put ds.selection s.0 (Some (record { mode = mode; bound = mark; looked = looked }))) (sym looked-is)
-      ∙ sym (put-under (λ _ o. option_map (λ x. shown x.selection) o) now.selection s.0 (Some (record { caller = me; selection = begun mode })))) j;
+          ∙ sym (put-under (λ _ o. option_map (λ x. shown x.selection) o) now.selection s.0 (Some (record { caller = me; selection = begun mode })))) j;
     };
   }
 

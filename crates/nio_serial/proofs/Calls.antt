@@ -1,5 +1,5 @@
 -- Each call, made on the table with its names found, amounts to the documented one.
-use Rattle.std.proofs.Common.{◌≡◌, ℕ, ◌<◌, ◌==◌, nat_lt, Bool, true, false, cond, not, ◌||◌, if◌then◌else◌, Option, Some, None, option_map, is_some, List, map, refl, ap, sym, ◌∙◌, subst, arith}
+use Rattle.std.proofs.Common.{◌≡◌, ℕ, ◌==◌, nat_lt, Bool, true, false, cond, not, ◌||◌, if◌then◌else◌, Option, Some, None, option_map, List, map, refl, ap, sym, ◌∙◌, subst, arith}
 use Rattle.std.proofs.lemmas.Bool.{le-ltb, or_left, or_right, cond-true}
 use Rattle.nio_base.specs.declared.limits.Limits.{Limits}
 use Rattle.nio_base.specs.declared.numbers.CallerNo.{CallerNo}
@@ -16,7 +16,7 @@ use Rattle.nio_event.specs.declared.reply.Reply.TheVariants as reply
 use Rattle.nio_plain.proofs.Naming.{selector-through}
 use Rattle.nio_plain.specs.ScriptState.{ScriptState}
 use Rattle.nio_plain.specs.Seq.{call_of}
-use Rattle.nio_plain.specs.Seq.Answers.{Answered, unchanged, yes_or_no}
+use Rattle.nio_plain.specs.Seq.Answers.{unchanged, yes_or_no}
 use Rattle.nio_plain.specs.Seq.Closing.{close_end_call}
 use Rattle.nio_plain.specs.Seq.Registering.{given_or_none}
 use Rattle.nio_plain.specs.Seq.Selections.{mode_of, begun_with, begin_call, is_looked, is_caller, told_selection, told_call, left_selection, failed_call}
@@ -25,7 +25,7 @@ use Rattle.nio_steps.proofs.PerformLaws.{perform-bind}
 use Rattle.nio_steps.specs.ChannelCalls.{open_channel_plan, is_open_plan, is_blocking_plan, is_registered_plan, key_for_plan, set_blocking_plan, register_plan, close_channel_plan}
 use Rattle.nio_steps.specs.KeyCalls.{is_valid_plan, interest_plan, set_interest_plan, interest_or_plan, interest_and_plan, ready_plan, cancel_plan, unselect_plan, attach_plan, attachment_plan}
 use Rattle.nio_steps.specs.Names.{key}
-use Rattle.nio_steps.specs.Perform.{Performed, perform}
+use Rattle.nio_steps.specs.Perform.{perform}
 use Rattle.nio_steps.specs.Plan.{Plan}
 use Rattle.nio_steps.specs.SelectCalls.{Selection, open_selector_plan, try_begin_plan, told_plan, leave_plan, shut_plan, try_finish_plan, keys_plan, selected_keys_plan, wakeup_plan, interrupt_plan, interrupted_plan}
 use Rattle.nio_serial.proofs.Beginning.{begin-amounts}
@@ -38,9 +38,9 @@ use Rattle.nio_serial.proofs.Listing.{keys-amounts, selected-amounts}
 use Rattle.nio_serial.proofs.Registering.{register-amounts}
 use Rattle.nio_serial.proofs.Simple.{is_blocking-amounts, is_open-amounts, is_registered-amounts, key_for-amounts, wakeup-amounts, close-amounts, interrupt-amounts, interrupted-amounts, selector-amounts, channel-amounts}
 use Rattle.nio_serial.proofs.Telling.{told-amounts, failed-amounts}
-use Rattle.nio_serial.specs.Between.{IsOn, IsShownBy, IsBetween}
+use Rattle.nio_serial.specs.Between.{IsOn, IsBetween}
 use Rattle.nio_serial.specs.Documented.{Progress, Selecting, looked_pair, shown, documented, amounts}
-use Rattle.nio_serial.specs.Laws.{IsMadeKey, IsNamed, CallsAmount}
+use Rattle.nio_serial.specs.Laws.{IsNamed}
 use Rattle.nio_serial.specs.Lines.{Said, comes_to, makes, asks, refused, with_selection, if_own, own_selection, after_begin, after_told, after_shut, after_finish, begin_line, by_index, told_line, failed_line, close_end_line, call_plan}
 use Rattle.nio_serial.specs.Replies.{find_reply, set_reply, put_reply, channel_reply, mode_reply, register_reply, closed_reply, selector_reply, begin_reply, told_reply, shut_reply, finish_reply, list_reply}
 

@@ -1,6 +1,6 @@
 -- The search for an index of a new key, performed: the least free one, or else the first that never had a key.
-use Rattle.std.proofs.Common.{◌≡◌, ℕ, zero, suc, ◌+◌, ◌-◌, ◌*◌, ◌/◌, ◌<◌, ◌≤◌, ◌==◌, nat_lt, max, Bool, true, false, cond, not, ◌&&◌, ◌||◌, if◌then◌else◌, Option, Some, None, option_map, find, List, [], ◌∷◌, ◌++◌, refl, ap, sym, ◌∙◌, subst, append_assoc, arith}
-use Rattle.std.proofs.lemmas.Bool.{cases_lt, lt-ltb, le-ltb, cond-true, not-true, not-false, and_parts, and_left}
+use Rattle.std.proofs.Common.{◌≡◌, ℕ, zero, suc, ◌+◌, ◌-◌, ◌*◌, ◌/◌, ◌<◌, ◌≤◌, ◌==◌, nat_lt, Bool, true, false, cond, not, ◌&&◌, ◌||◌, if◌then◌else◌, Option, Some, None, option_map, find, List, [], ◌∷◌, ◌++◌, refl, ap, sym, ◌∙◌, append_assoc, arith}
+use Rattle.std.proofs.lemmas.Bool.{lt-ltb, le-ltb, and_parts}
 use Rattle.std.proofs.lemmas.List.{append-nil}
 use Rattle.nio_base.specs.declared.limits.Limits.{Limits}
 use Rattle.nio_base.specs.declared.numbers.CallerNo.{CallerNo}
@@ -8,20 +8,17 @@ use Rattle.nio_base.specs.declared.numbers.ChanNo.{ChanNo}
 use Rattle.nio_base.specs.declared.numbers.KeyId.{KeyId}
 use Rattle.nio_base.specs.declared.numbers.SelNo.{SelNo}
 use Rattle.nio_event.specs.Acts.{new_key}
-use Rattle.nio_event.specs.Answers.{count_below, pins, is_pinned, free_word}
+use Rattle.nio_event.specs.Answers.{count_below, is_pinned, free_word}
 use Rattle.nio_event.specs.State.{State, put, put_at, with_key, with_pin, with_free, with_taker}
-use Rattle.nio_event.specs.declared.found.Stage.{Stage}
 use Rattle.nio_plain.specs.Seq.Names.{below}
-use Rattle.nio_plain.specs.Seq.Registering.{free_index}
-use Rattle.nio_steps.proofs.PerformLaws.{perform_then, perform_else, perform_then_on, perform_seek, indexes, indexes-push, found_at}
+use Rattle.nio_steps.proofs.PerformLaws.{perform_then_on, perform_seek, indexes, indexes-push, found_at}
 use Rattle.nio_steps.proofs.SweepLaws.{seek_to-turn, seek_to-done}
 use Rattle.nio_steps.specs.ChannelCalls.{claim_taken, claim_free, claim_at_bit, claim_in_word, words_below, search_free, claim_new}
-use Rattle.nio_steps.specs.KeyCalls.{has_bit}
 use Rattle.nio_steps.specs.Perform.{Performed, perform}
 use Rattle.nio_steps.specs.Plan.{Plan, ◌>>=◌}
 use Rattle.nio_steps.specs.Steps.{put_free}
 use Rattle.nio_steps.specs.Sweeps.{found_or, seek_to}
-use Rattle.nio_serial.proofs.Base.{put_at-here, put_at-back}
+use Rattle.nio_serial.proofs.Base.{put_at-back}
 use Rattle.nio_serial.proofs.Finding.{indexes-below}
 use Rattle.nio_serial.proofs.FreeWords.{bit-free, below-indexes}
 
@@ -108,10 +105,13 @@ module _ (st : State) (me : CallerNo) (s : SelNo) (c : ChanNo) (unpinned : (i n 
   free-performed i is =
       ap (λ (b : Bool). perform me (if b then claim_taken s c i else Plan.reply None) (with_taker (with_free st s.0 i false) s.0 i (if b then Some me else st.taker s.0 i))) is
       ∙ (ap (λ (b : Bool). perform me (if b then (put_free s i >>= (λ _. Plan.reply None)) else Plan.reply (Some (next_at i))) (again b)) (not_pinned i)
-      ∙ (λ j. record { answer = Some (next_at i); state = record (claimed_again i) {
-        pinned = put_at st.pinned s.0 i (put (st.pinned s.0 i) me.0 (unpinned i me.0 j || true));
-        taker = put_at-back st.taker s.0 i (Some me) None (untaken i) j;
-      } }))
+      ∙ (λ j. record {
+        answer = Some (next_at i);
+        state = record (claimed_again i) {
+          pinned = put_at st.pinned s.0 i (put (st.pinned s.0 i) me.0 (unpinned i me.0 j || true));
+          taker = put_at-back st.taker s.0 i (Some me) None (untaken i) j;
+        };
+      }))
     where
       taken : State
       taken = with_taker (with_free st s.0 i false) s.0 i (Some me)

@@ -11,12 +11,11 @@ use Rattle.nio_event.specs.declared.found.Mark.{Mark}
 use Rattle.nio_event.specs.declared.found.Stage.{Stage}
 use Rattle.nio_plain.proofs.ReachedCalls.{sound-left}
 use Rattle.nio_plain.proofs.ReachedSound.{Sound, sound-opening}
-use Rattle.nio_plain.specs.ScriptState.{ScriptState, Selection as ScriptSelection, script_opening}
+use Rattle.nio_plain.specs.ScriptState.{ScriptState, script_opening}
 use Rattle.nio_plain.specs.Seq.Selections.{is_looked, is_caller, own_selection}
 use Rattle.nio_plain.specs.declared.rules.Rules.TheVariants.{Now}
-use Rattle.nio_steps.specs.SelectCalls.{Selection}
-use Rattle.nio_serial.specs.Between.{IsLeft, IsAtRest, IsShownBy, IsBetween, IsOn}
-use Rattle.nio_serial.specs.Documented.{Progress, Selecting, settled, settled_mark, settled_state, looked_pair, shown, documented}
+use Rattle.nio_serial.specs.Between.{IsLeft, IsBetween}
+use Rattle.nio_serial.specs.Documented.{Progress, Selecting, settled, settled_mark, looked_pair, shown, documented}
 use Rattle.nio_serial.specs.Lines.{if_own}
 use Rattle.nio_serial.specs.Lines.{own_selection as own_now}
 

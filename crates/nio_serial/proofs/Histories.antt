@@ -1,5 +1,5 @@
 -- Calls whose names are found, and runs of calls and lines in legal histories.
-use Rattle.std.proofs.Common.{◌≡◌, ℕ, ◌<◌, nat_lt, Bool, true, cond, if◌then◌else◌, Option, Some, None, List, ◌++◌, map, refl, ap, sym, ◌∙◌, subst}
+use Rattle.std.proofs.Common.{◌≡◌, Bool, if◌then◌else◌, Some, None, refl, ap, ◌∙◌, subst}
 use Rattle.std.proofs.lemmas.Bool.{lt-ltb}
 use Rattle.nio_base.specs.Limits.{IsFit}
 use Rattle.nio_base.specs.declared.limits.Limits.{Limits}
@@ -8,31 +8,23 @@ use Rattle.nio_base.specs.declared.numbers.ChanNo.{ChanNo}
 use Rattle.nio_base.specs.declared.numbers.KeyId.{KeyId}
 use Rattle.nio_base.specs.declared.numbers.SelNo.{SelNo}
 use Rattle.nio_event.specs.Conditions.{IsCaller}
-use Rattle.nio_event.specs.Histories.{state_after, event_of, IsLegal}
-use Rattle.nio_event.specs.Sets.{was_published}
+use Rattle.nio_event.specs.Histories.{state_after}
 use Rattle.nio_event.specs.State.{State}
-use Rattle.nio_event.specs.declared.act.Act.{Act}
 use Rattle.nio_event.specs.declared.call.Call.{Call}
 use Rattle.nio_event.specs.declared.call.Call.TheVariants as call
-use Rattle.nio_event.specs.declared.event.Event.{Event}
-use Rattle.nio_event.specs.declared.reply.Reply.{Reply}
 use Rattle.nio_event.specs.declared.reply.Reply.TheVariants as reply
-use Rattle.nio_plain.specs.Seq.{call_of, seq}
-use Rattle.nio_plain.specs.Seq.Answers.{Answered}
-use Rattle.nio_plain.specs.declared.rules.Rules.TheVariants.{Now}
 use Rattle.nio_steps.proofs.PerformLaws.{perform_then_on, perform_ran}
 use Rattle.nio_steps.specs.KeyCalls.{find_selector_plan, find_channel_plan, find_plan}
 use Rattle.nio_steps.specs.Names.{selector, channel}
 use Rattle.nio_steps.specs.Perform.{Performed, perform}
 use Rattle.nio_steps.specs.Plan.{Plan, ◌>>=◌}
-use Rattle.nio_steps.specs.Runs.{Completes}
 use Rattle.nio_serial.proofs.Calls.{call-amounts}
 use Rattle.nio_serial.proofs.Lines.{selector-found, channel-found, key-found, line-amounts}
 use Rattle.nio_serial.proofs.Staying.{line-stays}
 use Rattle.nio_serial.specs.Between.{IsBetween}
-use Rattle.nio_serial.specs.Documented.{Progress, documented}
-use Rattle.nio_serial.specs.Laws.{IsMadeSelector, IsMadeChannel, IsMadeKey, IsNamed, CallsAmount, LinesAmount, CallsStayBetween, Amounts, CallRunsAmount, LineRunsAmount}
-use Rattle.nio_serial.specs.Lines.{Said, comes_to, refused, if_caller, if_found, if_selector, if_channel, if_key, if_named, call_plan, line_plan}
+use Rattle.nio_serial.specs.Documented.{Progress}
+use Rattle.nio_serial.specs.Laws.{IsMadeSelector, IsMadeChannel, IsMadeKey, IsNamed, CallsAmount, LinesAmount, CallsStayBetween, CallRunsAmount, LineRunsAmount}
+use Rattle.nio_serial.specs.Lines.{Said, comes_to, refused, if_found, if_selector, if_channel, if_key, if_named, call_plan, line_plan}
 
 -- ---- names that are found
 

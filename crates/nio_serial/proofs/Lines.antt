@@ -1,5 +1,5 @@
 -- A line of a script, made on the table with its look-ups, amounts to the documented call.
-use Rattle.std.proofs.Common.{◌≡◌, ℕ, ◌<◌, ◌≤◌, ◌==◌, nat_lt, Bool, true, false, cond, not, ◌&&◌, ◌||◌, if◌then◌else◌, Option, Some, None, is_some, List, refl, ap, sym, ◌∙◌, subst, arith}
+use Rattle.std.proofs.Common.{◌≡◌, ℕ, ◌<◌, ◌≤◌, ◌==◌, nat_lt, Bool, true, false, cond, not, ◌&&◌, ◌||◌, if◌then◌else◌, Option, Some, None, refl, ap, sym, ◌∙◌, arith}
 use Rattle.std.proofs.lemmas.Bool.{both_ways, ltb-true, ltb-false, lt-ltb, le-ltb, false_from_ne_true, cond-false}
 use Rattle.nio_base.specs.Limits.{IsFit}
 use Rattle.nio_base.specs.declared.limits.Limits.{Limits}
@@ -10,7 +10,7 @@ use Rattle.nio_base.specs.declared.numbers.KeyNo.{KeyNo}
 use Rattle.nio_base.specs.declared.numbers.SelNo.{SelNo}
 use Rattle.nio_event.proofs.Bits.{bits_below-at}
 use Rattle.nio_event.specs.Answers.{selectors_word}
-use Rattle.nio_event.specs.Sets.{fits, was_published}
+use Rattle.nio_event.specs.Sets.{was_published}
 use Rattle.nio_event.specs.State.{State, unclaimed}
 use Rattle.nio_event.specs.declared.call.Call.{Call}
 use Rattle.nio_event.specs.declared.call.Call.TheVariants as call
@@ -27,22 +27,21 @@ use Rattle.nio_plain.specs.Seq.Keys.{valid_call, interest_call, ready_call, iset
 use Rattle.nio_plain.specs.Seq.Listing.{keys_call, selected_call}
 use Rattle.nio_plain.specs.Seq.Modes.{blocking_call, is_blocking_call, is_open_call, is_registered_call, key_for_call}
 use Rattle.nio_plain.specs.Seq.Names.{with_named_channel, with_named_selector, with_named_key}
-use Rattle.nio_plain.specs.Seq.Opening.{selector_call, channel_call}
 use Rattle.nio_plain.specs.Seq.Registering.{register_call}
 use Rattle.nio_plain.specs.Seq.Selections.{begin_call, told_call, failed_call}
-use Rattle.nio_plain.specs.Seq.Wakeups.{wakeup_call, interrupt_call, interrupted_call}
+use Rattle.nio_plain.specs.Seq.Wakeups.{wakeup_call, interrupt_call}
 use Rattle.nio_plain.specs.declared.rules.Rules.TheVariants.{Now}
 use Rattle.nio_steps.proofs.PerformLaws.{perform_then_on}
 use Rattle.nio_steps.specs.KeyCalls.{has_bit, find_selector_plan, find_channel_plan, find_plan}
 use Rattle.nio_steps.specs.Names.{selector, channel}
-use Rattle.nio_steps.specs.Perform.{Performed, perform}
+use Rattle.nio_steps.specs.Perform.{perform}
 use Rattle.nio_steps.specs.Plan.{Plan, ◌>>=◌}
 use Rattle.nio_steps.specs.Steps.{look_selectors, look_channel, look_key}
 use Rattle.nio_serial.proofs.Calls.{call-amounts}
 use Rattle.nio_serial.proofs.Facts.{sound, channels}
 use Rattle.nio_serial.specs.Between.{IsBetween}
-use Rattle.nio_serial.specs.Documented.{Progress, settled, documented, amounts}
-use Rattle.nio_serial.specs.Lines.{Said, comes_to, refused, if_caller, if_found, if_selector, if_channel, if_key, if_named, call_plan, line_plan}
+use Rattle.nio_serial.specs.Documented.{Progress, settled, documented}
+use Rattle.nio_serial.specs.Lines.{Said, comes_to, refused, if_found, if_selector, if_channel, if_key, if_named, call_plan, line_plan}
 
 -- ---- look-ups
 

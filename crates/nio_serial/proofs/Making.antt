@@ -1,5 +1,5 @@
 -- The making of a new key, performed on a state in which nobody else is at work.
-use Rattle.std.proofs.Common.{◌≡◌, ℕ, suc, ◌+◌, ◌<◌, ◌≤◌, max, ◌==◌, nat_lt, Bool, true, false, cond, if◌then◌else◌, Option, Some, None, find, Result, Ok, Err, ⊎_elim, refl, ap, sym, ◌∙◌, subst, add-one, arith}
+use Rattle.std.proofs.Common.{◌≡◌, ℕ, suc, ◌+◌, ◌<◌, ◌≤◌, max, nat_lt, Bool, true, false, if◌then◌else◌, Option, Some, None, Result, Ok, Err, refl, ap, sym, ◌∙◌, add-one, arith}
 use Rattle.std.proofs.lemmas.Bool.{ltb-true, ltb-false}
 use Rattle.nio_base.specs.declared.limits.Limits.{Limits}
 use Rattle.nio_base.specs.declared.numbers.CallerNo.{CallerNo}
@@ -9,12 +9,11 @@ use Rattle.nio_base.specs.declared.numbers.KeyNo.{KeyNo}
 use Rattle.nio_base.specs.declared.numbers.SelNo.{SelNo}
 use Rattle.nio_event.proofs.Put.{put_at-same}
 use Rattle.nio_event.specs.Acts.{new_key}
-use Rattle.nio_event.specs.State.{State, unmarked, put, put_at, with_noted, with_keys_mark, with_interest, with_mark, with_note, with_pin}
+use Rattle.nio_event.specs.State.{State, unmarked, put, put_at, with_noted, with_keys_mark, with_interest, with_mark, with_note}
 use Rattle.nio_event.specs.declared.found.Stage.{Stage}
 use Rattle.nio_plain.proofs.Found.{found_below}
-use Rattle.nio_plain.specs.Seq.Names.{below}
 use Rattle.nio_plain.specs.Seq.Registering.{free_index, next_by, next_key, new_stage, with_new_key}
-use Rattle.nio_steps.proofs.PerformLaws.{perform-bind, perform_else, perform_then_on}
+use Rattle.nio_steps.proofs.PerformLaws.{perform_else, perform_then_on}
 use Rattle.nio_steps.specs.ChannelCalls.{claim_new, search_free, settle_key, publish_key, make_key, make_claimed, register_first, register_again, register_next, register_new}
 use Rattle.nio_steps.specs.Names.{key}
 use Rattle.nio_steps.specs.Perform.{Performed, perform}
@@ -22,7 +21,6 @@ use Rattle.nio_steps.specs.Plan.{Plan, when, ◌>>=◌, ◌>>◌}
 use Rattle.nio_steps.specs.Steps.{cancel_key, unpin}
 use Rattle.nio_steps.specs.Sweeps.{seek_to}
 use Rattle.nio_steps.specs.declared.refusal.ChannelError.{ChannelError}
-use Rattle.nio_steps.specs.declared.refusal.ChannelError.TheVariants as ChannelError
 use Rattle.nio_serial.proofs.Base.{put-here, put_at-here, put_at-twice, pin-back}
 use Rattle.nio_serial.proofs.Claiming.{claimed_again, next_at, found, search-performed, claimed_first, first-performed, full-performed}
 
@@ -62,31 +60,58 @@ module _ (l : Limits) (st : State) (me : CallerNo) (s : SelNo) (c : ChanNo) (ops
   made None = record { answer = Err ChannelError.Full; state = st }
   made (Some k) = record { answer = Ok (key s k); state = with_new_key st s.0 c.0 k ops att }
 
+  -- a claimed index is made the key, whatever key stood there before
+  module _ (k : KeyId) (claimed : State) (is : claimed.key ≡ put_at st.key s.0 k.index (new_key c k.serial))
+      (pinned_is : claimed.pinned ≡ put_at st.pinned s.0 k.index (put (st.pinned s.0 k.index) me.0 true))
+      (gate_is : claimed.gate ≡ st.gate) (chan_is : claimed.chan ≡ st.chan) where
+    there : claimed.key s.0 k.index ≡ new_key c k.serial
+    there = ap (λ f. f s.0 k.index) is ∙ put_at-same st.key s.0 k.index (new_key c k.serial)
+
+    key-made : put_at claimed.key s.0 k.index (new_stage c.0 k.serial) ≡ put_at st.key s.0 k.index (new_stage c.0 k.serial)
+    key-made = ap (λ f. put_at f s.0 k.index (new_stage c.0 k.serial)) is ∙ put_at-twice st.key s.0 k.index (new_key c k.serial) (new_stage c.0 k.serial)
+
+    pins-made : put_at claimed.pinned s.0 k.index (put (claimed.pinned s.0 k.index) me.0 false) ≡ st.pinned
+    pins-made = ap (λ f. put_at f s.0 k.index (put (f s.0 k.index) me.0 false)) pinned_is ∙ pin-back st.pinned s.0 k.index me.0 (unpinned k.index me.0)
+
+    claimed-made : perform me (make_claimed s c ops att k) claimed
+        ≡ record {
+          answer = Ok (key s k);
+          state = record (with_noted (with_note (with_interest claimed s.0 k.index ops) s.0 k.index att) c.0 s.0 (Some k)) {
+            key = put_at st.key s.0 k.index (new_stage c.0 k.serial);
+            pinned = st.pinned;
+          };
+        }
+    claimed-made =
+        made-performed claimed me s c ops att k there (ap (λ f. (f s.0).shut) gate_is ∙ not_shut) (ap (λ f. (f c.0).closed) chan_is ∙ is_open)
+        ∙ (λ j. record { answer = Ok (key s k); state = record (with_noted (with_note (with_interest claimed s.0 k.index ops) s.0 k.index att) c.0 s.0 (Some k)) { key = key-made j; pinned = pins-made j } })
+
   again-made : (i : ℕ) → i < mark → perform me (register_again s c ops att (next_at st me s c unpinned untaken i)) (claimed_again st me s c unpinned untaken i)
       ≡ made (Some (next_at st me s c unpinned untaken i))
   again-made i low =
-      let k = next_at st me s c unpinned untaken i in
-      let claimed = claimed_again st me s c unpinned untaken i in
-      made-performed (with_mark claimed s.0 i unmarked) me s c ops att k (put_at-same st.key s.0 i (new_key c k.serial)) not_shut is_open
-      ∙ (λ j. record { answer = Ok (key s k); state = record (with_new_key st s.0 c.0 k ops att) {
-        key = put_at-twice st.key s.0 i (new_key c k.serial) (new_stage c.0 k.serial) j;
-        pinned = pin-back st.pinned s.0 i me.0 (unpinned i me.0) j;
-        keys_mark = sym (put-here st.keys_mark s.0 (max mark (suc i)) (omega arith)) j;
-      } })
+      claimed-made k (with_mark (claimed_again st me s c unpinned untaken i) s.0 i unmarked) refl refl refl refl
+      ∙ (λ j. record { answer = Ok (key s k); state = record (with_new_key st s.0 c.0 k ops att) { keys_mark = sym (put-here st.keys_mark s.0 (max mark (suc i)) (omega arith)) j } })
+    where
+      k : KeyId
+      k = next_at st me s c unpinned untaken i
 
   first-made : mark < l.keys → perform me (seek_to l.keys mark (claim_new s c) >>= register_first s c ops att) st ≡ made (Some (record { index = mark; serial = 0 }))
   first-made room =
-      let k : KeyId = record { index = mark; serial = 0 } in
-      let claimed = claimed_first st me s c exact (λ i. unpinned i me.0) in
       perform_then_on me (seek_to l.keys mark (claim_new s c)) (register_first s c ops att) st (Some k) claimed (first-performed st me s c exact (λ i. unpinned i me.0) l room)
-      ∙ (made-performed (with_keys_mark claimed s.0 (max mark (mark + 1))) me s c ops att k (put_at-same st.key s.0 mark (new_key c 0)) not_shut is_open
-      ∙ (λ j. record { answer = Ok (key s k); state = record (with_new_key st s.0 c.0 k ops att) {
-        key = put_at-twice st.key s.0 mark (new_key c 0) (new_stage c.0 0) j;
-        pinned = pin-back st.pinned s.0 mark me.0 (unpinned mark me.0) j;
-        keys_mark = put st.keys_mark s.0 (max mark (add-one mark j));
-        mark = sym (put_at-here st.mark s.0 mark unmarked fresh_mark) j;
-        free = sym (put_at-here st.free s.0 mark false fresh_free) j;
-      } }))
+      ∙ (claimed-made k (with_keys_mark claimed s.0 (max mark (mark + 1))) refl refl refl refl
+      ∙ (λ j. record {
+        answer = Ok (key s k);
+        state = record (with_new_key st s.0 c.0 k ops att) {
+          keys_mark = put st.keys_mark s.0 (max mark (add-one mark j));
+          mark = sym (put_at-here st.mark s.0 mark unmarked fresh_mark) j;
+          free = sym (put_at-here st.free s.0 mark false fresh_free) j;
+        };
+      }))
+    where
+      k : KeyId
+      k = record { index = mark; serial = 0 }
+
+      claimed : State
+      claimed = claimed_first st me s c exact (λ i. unpinned i me.0)
 
   first-full : l.keys ≤ mark → perform me (seek_to l.keys mark (claim_new s c) >>= register_first s c ops att) st ≡ made None
   first-full full =

@@ -1,24 +1,20 @@
 -- Between two calls of a script nothing is at work: each documented call keeps that.
-use Rattle.std.proofs.Common.{◌≡◌, ◌≢◌, ℕ, suc, ◌+◌, ◌<◌, ◌≤◌, max, ◌==◌, nat_lt, Bool, true, false, cond, not, ◌&&◌, ◌||◌, Option, Some, None, is_some, find, List, bit_and, bit_or, refl, ap, sym, ◌∙◌, subst, ⊎_elim, arith, eqb-true, eq-eqb}
-use Rattle.std.proofs.lemmas.Bool.{both_ways, and_parts, and_left, or_parts, or_cases, not-true, not-false, false_from_ne_true, lt-ltb, le-ltb, ltb-true, ltb-false, cases_lt, ne_eqb, cond-false}
-use lib.Bits.{and_zero_r}
-use Rattle.nio_base.specs.declared.kind.Kind.{Kind}
+use Rattle.std.proofs.Common.{◌≡◌, ◌≢◌, ℕ, suc, ◌+◌, ◌<◌, ◌≤◌, max, ◌==◌, nat_lt, Bool, true, false, cond, not, ◌&&◌, ◌||◌, Option, None, refl, ap, sym, ◌∙◌, ⊎_elim, arith, eqb-true, eq-eqb}
+use Rattle.std.proofs.lemmas.Bool.{both_ways, and_parts, and_left, not-true, false_from_ne_true, lt-ltb, le-ltb, ltb-false, cases_lt}
 use Rattle.nio_base.specs.declared.limits.Limits.{Limits}
 use Rattle.nio_base.specs.declared.numbers.CallerNo.{CallerNo}
 use Rattle.nio_base.specs.declared.numbers.KeyId.{KeyId}
-use Rattle.nio_event.proofs.Put.{put_keeps, put_at_keeps, put-same}
-use Rattle.nio_event.specs.Sets.{in_key_set, in_cancelled_set, is_in_key_set, fits}
+use Rattle.nio_event.proofs.Put.{put_keeps, put_at_keeps}
+use Rattle.nio_event.specs.Sets.{in_key_set, is_in_key_set}
 use Rattle.nio_event.specs.State.{State, unclaimed, unmarked, last_serial, put, put_at}
 use Rattle.nio_event.specs.declared.found.Chan.{Chan}
 use Rattle.nio_event.specs.declared.found.Mark.{Mark}
 use Rattle.nio_event.specs.declared.found.Stage.{Stage}
-use Rattle.nio_plain.specs.Seq.Cancelling.{cancelled_key, cancelled_in_set, has_index}
-use Rattle.nio_plain.specs.Seq.Modes.{if_in_key_set, key_of}
+use Rattle.nio_plain.specs.Seq.Cancelling.{cancelled_key, cancelled_in_set}
 use Rattle.nio_plain.specs.Seq.Registering.{new_stage}
 use Rattle.nio_plain.specs.Seq.Removing.{removed_key, unselected}
-use Rattle.nio_serial.proofs.ClosingChannels.{index_in_set}
 use Rattle.nio_serial.proofs.Removing.{put_at-is}
-use Rattle.nio_serial.specs.Between.{IsUnused, IsFresh, HasExactMarks, AreFree, IsAtRest}
+use Rattle.nio_serial.specs.Between.{IsAtRest}
 
 -- ---- the parts
 

@@ -1,5 +1,5 @@
 -- Each documented call keeps that nothing is at work.
-use Rattle.std.proofs.Common.{◌≡◌, ℕ, suc, ◌+◌, ◌<◌, ◌≤◌, max, ◌==◌, nat_lt, Bool, true, false, cond, not, ◌&&◌, ◌||◌, Option, Some, None, is_some, find, List, [], ◌∷◌, bit_and, bit_or, ⊎_elim, refl, ap, sym, ◌∙◌, subst, arith, eqb-true, add-one}
+use Rattle.std.proofs.Common.{◌≡◌, ℕ, ◌<◌, ◌≤◌, ◌==◌, nat_lt, Bool, true, false, cond, not, ◌&&◌, ◌||◌, Option, Some, None, is_some, find, List, [], ◌∷◌, bit_and, bit_or, ⊎_elim, refl, ap, sym, ◌∙◌, subst, arith, eqb-true}
 use Rattle.std.proofs.lemmas.Bool.{both_ways, and_parts, or_parts, false_from_ne_true, lt-ltb, le-ltb, ltb-true, cases_lt}
 use lib.Bits.{and_zero_r}
 use Rattle.nio_base.specs.declared.kind.Kind.{Kind}
@@ -9,7 +9,7 @@ use Rattle.nio_base.specs.declared.numbers.ChanNo.{ChanNo}
 use Rattle.nio_base.specs.declared.numbers.KeyId.{KeyId}
 use Rattle.nio_base.specs.declared.numbers.SelNo.{SelNo}
 use Rattle.nio_event.specs.Sets.{fits, in_key_set, in_cancelled_set, was_published, is_in_key_set, is_valid_key}
-use Rattle.nio_event.specs.State.{State, last_serial, put, put_at}
+use Rattle.nio_event.specs.State.{last_serial, put, put_at}
 use Rattle.nio_event.specs.declared.call.Call.{Call}
 use Rattle.nio_event.specs.declared.call.Call.TheVariants as call
 use Rattle.nio_event.specs.declared.call.Waiting.{Waiting}
@@ -22,7 +22,7 @@ use Rattle.nio_plain.proofs.Found.{find_unmade, find_spent, found_below}
 use Rattle.nio_plain.proofs.ReachedSound.{Sound, by_test}
 use Rattle.nio_plain.specs.ScriptState.{ScriptState, Selection}
 use Rattle.nio_plain.specs.Seq.{call_of, seq}
-use Rattle.nio_plain.specs.Seq.Answers.{Answered, unchanged, answered}
+use Rattle.nio_plain.specs.Seq.Answers.{Answered, unchanged}
 use Rattle.nio_plain.specs.Seq.Cancelling.{cancelled_key, cancelled_in_set, has_index, closec_call, cancel_call}
 use Rattle.nio_plain.specs.Seq.Closing.{close_call, close_end_call}
 use Rattle.nio_plain.specs.Seq.Keys.{with_valid_key, are_legal_at, is_in_selected_set, valid_call, interest_call, ready_call, iset_call, ior_call, iand_call, unselect_call, attach_call, attachment_call}
@@ -34,10 +34,9 @@ use Rattle.nio_plain.specs.Seq.Registering.{are_legal, given_or_none, given_or_k
 use Rattle.nio_plain.specs.Seq.Removing.{removed_key, unselected, comes_back}
 use Rattle.nio_plain.specs.Seq.Selections.{all_told, looked_interest, told_bits, marked, is_looked, mode_of, begun_with, begin_call, updated_count, is_again, told_selection, is_caller, own_selection, told_call, left_selection, failed_call}
 use Rattle.nio_plain.specs.Seq.Wakeups.{wakeup_call, interrupt_call, interrupted_call}
-use Rattle.nio_plain.specs.declared.rules.Rules.{Rules}
 use Rattle.nio_plain.specs.declared.rules.Rules.TheVariants.{Now}
 use Rattle.nio_serial.proofs.ClosingChannels.{index_in_set}
-use Rattle.nio_serial.proofs.Resting.{Unused, ChannelsRest, KeysRest, FreesRest, Rests, channels-changed, channels-more, above-out, keys-cancelled, frees-cancelled, keys-removed, frees-removed, keys-new, frees-new, keys-unselected, one_cancelled}
+use Rattle.nio_serial.proofs.Resting.{KeysRest, FreesRest, Rests, channels-changed, channels-more, above-out, keys-cancelled, frees-cancelled, keys-removed, frees-removed, keys-new, frees-new, keys-unselected, one_cancelled}
 
 module _ (l : Limits) (st : ScriptState) (sound : Sound Now l st) (rest : Rests l st.shared) where
   abbrev Keeps : Answered → Type 0

@@ -1,38 +1,30 @@
 -- What is in progress stays what the state shows, after each line.
-use Rattle.std.proofs.Common.{◌≡◌, ℕ, ◌<◌, ◌==◌, nat_lt, Bool, true, false, cond, not, ◌||◌, if◌then◌else◌, Option, Some, None, option_map, is_some, Result, Ok, Err, List, map, refl, ap, sym, ◌∙◌, subst}
+use Rattle.std.proofs.Common.{◌≡◌, ℕ, ◌==◌, Bool, true, false, cond, ◌||◌, if◌then◌else◌, Option, Some, None, option_map, is_some, List, map, refl, ap, sym, ◌∙◌, subst}
 use Rattle.std.specs.Prelude.{⊤}
 use Rattle.std.proofs.lemmas.Bool.{both_ways, false_from_ne_true}
 use Rattle.nio_base.specs.declared.limits.Limits.{Limits}
 use Rattle.nio_base.specs.declared.numbers.CallerNo.{CallerNo}
-use Rattle.nio_base.specs.declared.numbers.ChanNo.{ChanNo}
 use Rattle.nio_base.specs.declared.numbers.KeyId.{KeyId}
 use Rattle.nio_base.specs.declared.numbers.SelNo.{SelNo}
 use Rattle.nio_event.proofs.Put.{put_keeps, put_both}
-use Rattle.nio_event.specs.Acts.{effect}
-use Rattle.nio_event.specs.Answers.{act_from}
-use Rattle.nio_event.specs.Questions.{Question, answer_of}
 use Rattle.nio_event.specs.Sets.{is_in_key_set}
 use Rattle.nio_event.specs.State.{State, put, with_gate, with_closer}
 use Rattle.nio_event.specs.declared.found.Mode.{Mode}
 use Rattle.nio_event.specs.declared.reply.Reply.{Reply}
 use Rattle.nio_event.specs.declared.reply.Reply.TheVariants as reply
 use Rattle.nio_plain.specs.Seq.Selections.{is_looked, is_caller}
-use Rattle.nio_steps.proofs.Each.{Each}
-use Rattle.nio_steps.proofs.EachLaws.{each_bind}
 use Rattle.nio_steps.proofs.PerformLaws.{perform-bind}
 use Rattle.nio_steps.specs.Perform.{Performed, perform}
-use Rattle.nio_steps.specs.Plan.{Plan, ask, ◌>>=◌}
-use Rattle.nio_steps.specs.SelectCalls.{Selection, try_begin_plan, told_plan, ToldReply, leave_plan, shut_plan, ShutReply, closing, already_closed, try_finish_plan, FinishReply}
-use Rattle.nio_steps.specs.declared.looked.LookedKey.{LookedKey}
-use Rattle.nio_steps.specs.declared.refusal.BeginError.{BeginError}
+use Rattle.nio_steps.specs.Plan.{Plan}
+use Rattle.nio_steps.specs.SelectCalls.{Selection, try_begin_plan, told_plan, leave_plan, shut_plan, closing, already_closed, try_finish_plan}
 use Rattle.nio_serial.proofs.Base.{put-here}
 use Rattle.nio_serial.proofs.Beginning.{begin-cases, begun-on}
 use Rattle.nio_serial.proofs.ClosingSelectors.{finish-cases}
 use Rattle.nio_serial.proofs.Facts.{sound, untaken, none_due, published, free, begun, looked_in_set}
 use Rattle.nio_serial.proofs.Telling.{told-cases}
 use Rattle.nio_serial.specs.Between.{IsOn, IsShownBy, IsBetween}
-use Rattle.nio_serial.specs.Documented.{Progress, Selecting, looked_pair, shown, documented}
-use Rattle.nio_serial.specs.Lines.{Said, makes, refused, with_selection, with_closing, if_own, own_selection, after_begin, after_told, after_shut, after_finish, begin_line, by_index, told_line, failed_line, close_end_line}
+use Rattle.nio_serial.specs.Documented.{Progress, Selecting, looked_pair}
+use Rattle.nio_serial.specs.Lines.{Said, makes, refused, with_selection, if_own, after_begin, after_told, after_shut, after_finish, begin_line, by_index, told_line, failed_line, close_end_line}
 use Rattle.nio_serial.specs.Replies.{begin_reply, told_reply, shut_reply, finish_reply}
 
 -- what a performed line leaves in progress is what its state shows

@@ -1,5 +1,5 @@
 -- What holds between two calls holds at the beginning and after each line.
-use Rattle.std.proofs.Common.{◌≡◌, ℕ, ◌<◌, nat_lt, Bool, true, false, cond, not, if◌then◌else◌, Option, Some, None, is_some, List, [], ◌∷◌, ◌++◌, refl, ap, sym, ◌∙◌, subst, arith}
+use Rattle.std.proofs.Common.{◌≡◌, nat_lt, Bool, true, false, if◌then◌else◌, Option, is_some, List, [], ◌∷◌, ◌++◌, refl, ap, sym, ◌∙◌, subst, arith}
 use Rattle.std.specs.Prelude.{⊤}
 use Rattle.std.proofs.lemmas.Bool.{both_ways, le-ltb}
 use Rattle.nio_base.specs.Limits.{IsFit}
@@ -10,38 +10,36 @@ use Rattle.nio_base.specs.declared.numbers.KeyId.{KeyId}
 use Rattle.nio_base.specs.declared.numbers.SelNo.{SelNo}
 use Rattle.nio_event.specs.Acts.{effect}
 use Rattle.nio_event.specs.Answers.{act_from}
-use Rattle.nio_event.specs.Questions.{Question, answer_of}
-use Rattle.nio_event.specs.Sets.{was_published}
-use Rattle.nio_event.specs.State.{State, opening}
+use Rattle.nio_event.specs.Questions.{answer_of}
+use Rattle.nio_event.specs.State.{State}
 use Rattle.nio_event.specs.declared.call.Call.{Call}
 use Rattle.nio_event.specs.declared.call.Call.TheVariants as call
 use Rattle.nio_event.specs.declared.call.ScriptCall.{ScriptCall}
 use Rattle.nio_event.specs.declared.reply.Reply.{Reply}
 use Rattle.nio_event.specs.declared.reply.Reply.TheVariants as reply
-use Rattle.nio_plain.specs.Answer.{left_from, left_by_script}
+use Rattle.nio_plain.specs.Answer.{left_from}
 use Rattle.nio_plain.specs.ScriptState.{ScriptState, script_opening}
 use Rattle.nio_plain.specs.Seq.{call_of, seq}
-use Rattle.nio_plain.specs.Seq.Answers.{Answered, unchanged}
+use Rattle.nio_plain.specs.Seq.Answers.{Answered}
 use Rattle.nio_plain.specs.Seq.Selections.{mode_of}
-use Rattle.nio_plain.specs.declared.rules.Rules.{Rules}
 use Rattle.nio_plain.specs.declared.rules.Rules.TheVariants.{Now}
 use Rattle.nio_steps.proofs.Each.{Each}
 use Rattle.nio_steps.proofs.EachLaws.{each_bind, each_if}
 use Rattle.nio_steps.proofs.PerformLaws.{perform_then_on}
 use Rattle.nio_steps.specs.KeyCalls.{find_selector_plan, find_channel_plan, find_plan}
 use Rattle.nio_steps.specs.Names.{selector}
-use Rattle.nio_steps.specs.Perform.{Performed, perform}
+use Rattle.nio_steps.specs.Perform.{perform}
 use Rattle.nio_steps.specs.Plan.{Plan, ask, ◌>>=◌}
 use Rattle.nio_serial.proofs.Facts.{sound}
 use Rattle.nio_serial.proofs.Lines.{selector-found, found-is, named-amounts, line-amounts}
 use Rattle.nio_serial.proofs.Resting.{rests-from, rests-is}
 use Rattle.nio_serial.proofs.RestingCalls.{rests-seq}
-use Rattle.nio_serial.proofs.Showing.{Shows, shows-same, refused-shows, begin-shows, told-shows, failed-shows, close-shows, close_end-shows}
+use Rattle.nio_serial.proofs.Showing.{Shows, shows-same, begin-shows, told-shows, failed-shows, close-shows, close_end-shows}
 use Rattle.nio_serial.proofs.Steady.{IsSteady, steady-selector, steady-channel, steady-blocking, steady-is_blocking, steady-is_open, steady-is_registered, steady-key_for, steady-register, steady-closec, steady-valid, steady-interest, steady-ready, steady-iset, steady-ior, steady-iand, steady-cancel, steady-unselect, steady-attach, steady-attachment, steady-wakeup, steady-keys, steady-selected, steady-interrupt, steady-interrupted}
 use Rattle.nio_serial.specs.Between.{IsLeft, IsAtRest, IsShownBy, IsBetween}
-use Rattle.nio_serial.specs.Documented.{Progress, nothing_yet, settled_state, documented}
+use Rattle.nio_serial.specs.Documented.{Progress, documented}
 use Rattle.nio_serial.specs.Laws.{BeginsBetween, LinesStayBetween}
-use Rattle.nio_serial.specs.Lines.{Said, comes_to, makes, asks, refused, if_caller, if_found, if_selector, if_channel, if_key, if_named, own_selection, call_plan, line_plan}
+use Rattle.nio_serial.specs.Lines.{Said, comes_to, asks, refused, if_found, if_selector, if_channel, if_key, if_named, call_plan, line_plan}
 
 -- ---- a line that begins and ends nothing leaves the progress
 

@@ -1,5 +1,5 @@
 -- The documented calls that begin and end nothing: they leave turns and closings as they are.
-use Rattle.std.proofs.Common.{◌≡◌, ℕ, nat_lt, Bool, true, false, cond, not, ◌&&◌, Option, Some, None, find, refl}
+use Rattle.std.proofs.Common.{◌≡◌, ℕ, nat_lt, Bool, cond, not, ◌&&◌, Option, Some, None, find, refl}
 use Rattle.nio_base.specs.declared.kind.Kind.{Kind}
 use Rattle.nio_base.specs.declared.limits.Limits.{Limits}
 use Rattle.nio_base.specs.declared.numbers.CallerNo.{CallerNo}
@@ -14,7 +14,7 @@ use Rattle.nio_plain.specs.ScriptState.{ScriptState}
 use Rattle.nio_plain.specs.Seq.Answers.{Answered, unchanged}
 use Rattle.nio_plain.specs.Seq.Cancelling.{closec_call, cancel_call}
 use Rattle.nio_plain.specs.Seq.Keys.{with_valid_key, are_legal_at, is_in_selected_set, valid_call, interest_call, ready_call, iset_call, ior_call, iand_call, unselect_call, attach_call, attachment_call}
-use Rattle.nio_plain.specs.Seq.Listing.{listed, keys_call, selected_call}
+use Rattle.nio_plain.specs.Seq.Listing.{keys_call, selected_call}
 use Rattle.nio_plain.specs.Seq.Modes.{is_registered, blocking_call, is_blocking_call, is_open_call, is_registered_call, key_of, key_for_call}
 use Rattle.nio_plain.specs.Seq.Names.{below, with_named_channel, with_named_selector, with_named_key}
 use Rattle.nio_plain.specs.Seq.Opening.{selector_made, selector_call, channel_made, channel_call}

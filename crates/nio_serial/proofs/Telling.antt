@@ -1,28 +1,24 @@
 -- Telling a selection, and leaving it, amount to the documented calls.
-use Rattle.std.proofs.Common.{◌≡◌, ℕ, ◌+◌, ◌<◌, ◌==◌, Bool, true, false, cond, not, ◌&&◌, ◌||◌, if◌then◌else◌, Option, Some, None, option_map, List, [], ◌∷◌, map, count_by, bit_and, bit_or, refl, ap, sym, ◌∙◌, subst, arith, eqb-true, eq-eqb}
-use Rattle.std.proofs.lemmas.Bool.{both_ways, and_parts, and_from, or_parts, not-true}
+use Rattle.std.proofs.Common.{◌≡◌, ℕ, ◌+◌, ◌<◌, ◌==◌, Bool, true, false, cond, not, ◌&&◌, ◌||◌, if◌then◌else◌, Some, None, option_map, List, [], ◌∷◌, map, count_by, bit_and, bit_or, refl, ap, sym, ◌∙◌, subst, arith, eqb-true, eq-eqb}
+use Rattle.std.proofs.lemmas.Bool.{both_ways, and_parts, or_parts}
 use Rattle.std.proofs.lemmas.List.Sums.{sum_by-cons}
 use Rattle.std.proofs.lemmas.List.{map-append}
 use Rattle.std.proofs.lemmas.List.Elements.{Contains-push, Contains-append_left, Contains-append_right}
-use Rattle.std.specs.List.{AllPairs, Contains, list_any}
+use Rattle.std.specs.List.{AllPairs, Contains}
 use lib.Bits.{and_zero_r}
 use Rattle.nio_base.specs.declared.numbers.CallerNo.{CallerNo}
 use Rattle.nio_base.specs.declared.numbers.KeyId.{KeyId}
-use Rattle.nio_base.specs.declared.numbers.SelNo.{SelNo}
 use Rattle.nio_event.specs.Sets.{in_cancelled_set, is_in_key_set}
-use Rattle.nio_event.specs.State.{State, put, with_turn, with_begun, with_gate, with_no_put_due}
+use Rattle.nio_event.specs.State.{State, with_turn, with_begun, with_gate}
 use Rattle.nio_event.specs.declared.found.GateWord.{GateWord}
 use Rattle.nio_event.specs.declared.found.Mark.{Mark}
 use Rattle.nio_event.specs.declared.found.Mode.{Mode}
 use Rattle.nio_event.specs.declared.found.Mode.TheVariants as mode
 use Rattle.nio_event.specs.declared.found.Stage.{Stage}
-use Rattle.nio_event.specs.declared.reply.Reply.{Reply}
 use Rattle.nio_event.specs.declared.reply.Reply.TheVariants as reply
-use Rattle.nio_event.specs.declared.reply.Why.{Why}
-use Rattle.nio_event.specs.declared.reply.Why.TheVariants as why
 use Rattle.nio_plain.proofs.Lists.{same-is}
 use Rattle.nio_plain.specs.ScriptState.{ScriptState}
-use Rattle.nio_plain.specs.Seq.Answers.{Answered, unchanged}
+use Rattle.nio_plain.specs.Seq.Answers.{Answered}
 use Rattle.nio_plain.specs.Seq.Names.{is_same_key, key_at}
 use Rattle.nio_plain.specs.Seq.Removing.{without_keys_where}
 use Rattle.nio_plain.specs.Seq.Selections.{all_told, looked_interest, told_bits, is_looked, marked, is_updated, with_marks, goes_on, is_again, why_ended, selection_ended, told_selection, left_selection}
@@ -30,14 +26,14 @@ use Rattle.nio_plain.specs.declared.rules.Rules.TheVariants.{Now}
 use Rattle.nio_steps.proofs.Lists.{parted}
 use Rattle.nio_steps.proofs.PerformLaws.{perform_then_on}
 use Rattle.nio_steps.specs.Perform.{Performed, perform}
-use Rattle.nio_steps.specs.Plan.{Plan, ◌>>=◌, ◌>>◌}
-use Rattle.nio_steps.specs.SelectCalls.{Selection, may_wait, mark_entry, sweep_key, after_marks, end_selection, told_plan, leave_plan, ToldReply, done, again, is_again as is_again_by_look, why_over}
+use Rattle.nio_steps.specs.Plan.{Plan, ◌>>◌}
+use Rattle.nio_steps.specs.SelectCalls.{Selection, mark_entry, sweep_key, after_marks, end_selection, told_plan, leave_plan, ToldReply, done, again, is_again as is_again_by_look, why_over}
 use Rattle.nio_steps.specs.Steps.{end_wake, give_turn}
 use Rattle.nio_steps.specs.Sweeps.{sweep_over}
 use Rattle.nio_steps.specs.declared.looked.LookedKey.{LookedKey}
 use Rattle.nio_steps.specs.declared.selected.Selected.{Selected}
 use Rattle.nio_serial.proofs.Base.{put-under, settled-cancelled, branch}
-use Rattle.nio_serial.proofs.Marking.{looked-middle, updated, counts, stands, serial-is, not-removed, marks-performed}
+use Rattle.nio_serial.proofs.Marking.{looked-middle, updated, counts, serial-is, not-removed, marks-performed}
 use Rattle.nio_serial.proofs.Marks.{marked-same}
 use Rattle.nio_serial.proofs.Removing.{settled-removed}
 use Rattle.nio_serial.proofs.Sweeping.{has_index, has_next, swept, sweep-performed}

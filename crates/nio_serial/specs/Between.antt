@@ -1,8 +1,7 @@
 -- What holds between two calls of a serial history, in which each call ends before the next begins.
-use Rattle.std.specs.Prelude.{◌≡◌, ℕ, ◌<◌, ◌≤◌, nat_lt, Bool, ◌&&◌, if◌then◌else◌, IsTrue, IsFalse, Option, Some, None, option_map, is_some, List, map}
+use Rattle.std.specs.Prelude.{◌≡◌, ℕ, ◌<◌, ◌≤◌, nat_lt, ◌&&◌, if◌then◌else◌, IsTrue, IsFalse, Some, None, option_map, is_some, List, map}
 use Rattle.std.specs.List.{AllPairs}
 use Rattle.nio_base.specs.declared.limits.Limits.{Limits}
-use Rattle.nio_base.specs.declared.numbers.CallerNo.{CallerNo}
 use Rattle.nio_event.specs.State.{State, unclaimed, unmarked, last_serial}
 use Rattle.nio_event.specs.declared.call.ScriptCall.{ScriptCall}
 use Rattle.nio_plain.specs.Answer.{left_by_script}
