@@ -1,5 +1,5 @@
 -- Calls whose names are found, and runs of calls and lines in legal histories.
-use Rattle.std.proofs.Common.{◌≡◌, Bool, if◌then◌else◌, Some, None, refl, ap, ◌∙◌, subst}
+use Rattle.std.proofs.Common.{List, sym, ◌≡◌, Bool, if◌then◌else◌, Some, None, refl, ap, ◌∙◌, subst}
 use Rattle.std.proofs.lemmas.Bool.{lt-ltb}
 use Rattle.nio_base.specs.Limits.{IsFit}
 use Rattle.nio_base.specs.declared.limits.Limits.{Limits}
@@ -9,10 +9,15 @@ use Rattle.nio_base.specs.declared.numbers.KeyId.{KeyId}
 use Rattle.nio_base.specs.declared.numbers.SelNo.{SelNo}
 use Rattle.nio_event.specs.Conditions.{IsCaller}
 use Rattle.nio_event.specs.Histories.{state_after}
+use Rattle.nio_event.specs.Histories.{IsLegal}
+use Rattle.nio_event.specs.PassViews.{PassView, known, done_between}
 use Rattle.nio_event.specs.State.{State}
 use Rattle.nio_event.specs.declared.call.Call.{Call}
 use Rattle.nio_event.specs.declared.call.Call.TheVariants as call
 use Rattle.nio_event.specs.declared.reply.Reply.TheVariants as reply
+use Rattle.nio_event.specs.declared.event.Event.{Event}
+use Rattle.nio_plain.specs.Seq.{seq}
+use Rattle.nio_plain.specs.declared.rules.Rules.TheVariants.{Now}
 use Rattle.nio_steps.proofs.PerformLaws.{perform_then_on, perform_ran}
 use Rattle.nio_steps.specs.KeyCalls.{find_selector_plan, find_channel_plan, find_plan}
 use Rattle.nio_steps.specs.Names.{selector, channel}
@@ -22,8 +27,8 @@ use Rattle.nio_serial.proofs.Calls.{call-amounts}
 use Rattle.nio_serial.proofs.Lines.{selector-found, channel-found, key-found, line-amounts}
 use Rattle.nio_serial.proofs.Staying.{line-stays}
 use Rattle.nio_serial.specs.Between.{IsBetween}
-use Rattle.nio_serial.specs.Documented.{Progress}
-use Rattle.nio_serial.specs.Laws.{IsMadeSelector, IsMadeChannel, IsMadeKey, IsNamed, CallsAmount, LinesAmount, CallsStayBetween, CallRunsAmount, LineRunsAmount}
+use Rattle.nio_serial.specs.Documented.{Progress, documented}
+use Rattle.nio_serial.specs.Laws.{IsMadeSelector, IsMadeChannel, IsMadeKey, IsNamed, CallsAmount, LinesAmount, DrawsStayBetween, CallsStayBetween, Amounts, CallRunsAmount, LineRunsAmount, PassLinesAmount}
 use Rattle.nio_serial.specs.Lines.{Said, comes_to, refused, if_found, if_selector, if_channel, if_key, if_named, call_plan, line_plan}
 
 -- ---- names that are found
@@ -110,3 +115,20 @@ line-runs-amount l now me word past acts said fit between legal whole =
       answered = lines-amount l (state_after past) now me word fit between ∙ ap comes_to ran;
       between = subst (λ (done : Performed Said). IsBetween l done.state done.answer.left) ran (line-stays l (state_after past) now me fit between word);
     }
+
+pub pass-lines-amount : PassLinesAmount
+pass-lines-amount now me word old new said fit only between call =
+    let acts = done_between me old new in
+    let grown = (call.acts.only only).1 in
+    subst (λ (events : List Event). Amounts old.limits (seq Now old.limits (documented (known old) now) me word) events said) (sym grown)
+    (line-runs-amount old.limits now me word old.seen acts said fit between (subst (IsLegal old.limits) grown call.acts.history.legal) call.shape)
+
+-- ---- draws
+
+-- who is drawn isn't told apart
+pub draws-stay : DrawsStayBetween
+draws-stay l st now n between = record {
+  left = record { calls = between.left.calls; left = between.left.left };
+  at_rest = between.at_rest;
+  shown = λ s. let was = between.shown s in record { turn = was.turn; begun = was.begun; on = was.on; closing = was.closing };
+}

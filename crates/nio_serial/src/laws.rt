@@ -1,5 +1,5 @@
 //! The laws, as the contracts of functions that do nothing.
-ghost use Rattle.nio_serial.specs.Laws.{CallsAmount, LinesAmount, BeginsBetween, CallsStayBetween, LinesStayBetween, CallRunsAmount, LineRunsAmount};
+ghost use Rattle.nio_serial.specs.Laws.{CallsAmount, LinesAmount, BeginsBetween, DrawsStayBetween, CallsStayBetween, LinesStayBetween, CallRunsAmount, LineRunsAmount, PassLinesAmount};
 
 /// The steps of a call between which nobody comes amount to the documented call: the reply and the state
 /// are its own. So do those of a script's line with its look-ups.
@@ -8,17 +8,19 @@ pub fn amounts_law()
     ensures lines { LinesAmount }
 {}
 
-/// What holds between two calls of a serial history holds at the beginning, after each call, and after
-/// each line.
+/// What holds between two calls of a serial history holds at the beginning, after each draw, after each
+/// call, and after each line.
 pub fn between_law()
     ensures begins { BeginsBetween }
+    ensures draws { DrawsStayBetween }
     ensures calls { CallsStayBetween }
     ensures lines { LinesStayBetween }
 {}
 
 /// A run of a call in a legal history, with no event of another caller between, has the reply and leaves
-/// the state of the documented call. So does a run of a line.
+/// the state of the documented call. So does a run of a line, and a line on the only pass of a table.
 pub fn runs_law()
     ensures calls { CallRunsAmount }
     ensures lines { LineRunsAmount }
+    ensures only { PassLinesAmount }
 {}
