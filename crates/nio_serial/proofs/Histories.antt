@@ -10,7 +10,7 @@ use Rattle.nio_base.specs.declared.numbers.SelNo.{SelNo}
 use Rattle.nio_event.specs.Conditions.{IsCaller}
 use Rattle.nio_event.specs.Histories.{state_after}
 use Rattle.nio_event.specs.Histories.{IsLegal}
-use Rattle.nio_event.specs.PassViews.{PassView, known, done_between}
+use Rattle.nio_event.specs.PassViews.{known, done_between}
 use Rattle.nio_event.specs.State.{State}
 use Rattle.nio_event.specs.declared.call.Call.{Call}
 use Rattle.nio_event.specs.declared.call.Call.TheVariants as call

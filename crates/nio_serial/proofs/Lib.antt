@@ -25,3 +25,4 @@ pub mod Showing
 pub mod Steady
 pub mod Staying
 pub mod Histories
+pub mod Serial

@@ -1,5 +1,6 @@
 //! The laws, as the contracts of functions that do nothing.
 ghost use Rattle.nio_serial.specs.Laws.{CallsAmount, LinesAmount, BeginsBetween, DrawsStayBetween, CallsStayBetween, LinesStayBetween, CallRunsAmount, LineRunsAmount, PassLinesAmount};
+ghost use Rattle.nio_serial.specs.Serial.{SerialLinesAmount};
 
 /// The steps of a call between which nobody comes amount to the documented call: the reply and the state
 /// are its own. So do those of a script's line with its look-ups.
@@ -23,4 +24,10 @@ pub fn runs_law()
     ensures calls { CallRunsAmount }
     ensures lines { LineRunsAmount }
     ensures only { PassLinesAmount }
+{}
+
+/// Where lines don't overlap, a legal history of them is a run of their script by the documented system, by
+/// the rules of now: each line has its reply, and the state that is left is the script's.
+pub fn serial_law()
+    ensures { SerialLinesAmount }
 {}
