@@ -23,12 +23,12 @@ use Rattle.nio_steps.specs.KeyCalls.{find_selector_plan, find_channel_plan, find
 use Rattle.nio_steps.specs.Names.{selector, channel}
 use Rattle.nio_steps.specs.Perform.{Performed, perform}
 use Rattle.nio_steps.specs.Plan.{Plan, ◌>>=◌}
-use Rattle.nio_serial.proofs.Calls.{call-amounts}
+use Rattle.nio_serial.proofs.Calls.{call-amounts, told-by-index}
 use Rattle.nio_serial.proofs.Lines.{selector-found, channel-found, key-found, line-amounts}
 use Rattle.nio_serial.proofs.Staying.{line-stays}
 use Rattle.nio_serial.specs.Between.{IsBetween}
 use Rattle.nio_serial.specs.Documented.{Progress, documented}
-use Rattle.nio_serial.specs.Laws.{IsMadeSelector, IsMadeChannel, IsMadeKey, IsNamed, CallsAmount, LinesAmount, DrawsStayBetween, CallsStayBetween, Amounts, CallRunsAmount, LineRunsAmount, PassLinesAmount}
+use Rattle.nio_serial.specs.Laws.{IsMadeSelector, IsMadeChannel, IsMadeKey, IsNamed, CallsAmount, LinesAmount, DrawsStayBetween, CallsStayBetween, Amounts, CallRunsAmount, LineRunsAmount, PassLinesAmount, ToldAmounts}
 use Rattle.nio_serial.specs.Lines.{Said, comes_to, refused, if_found, if_selector, if_channel, if_key, if_named, call_plan, line_plan}
 
 -- ---- names that are found
@@ -132,3 +132,8 @@ draws-stay l st now n between = record {
   at_rest = between.at_rest;
   shown = λ s. let was = between.shown s in record { turn = was.turn; begun = was.begun; on = was.on; closing = was.closing };
 }
+
+-- ---- a `told` by index
+
+pub told-amounts-by-index : ToldAmounts
+told-amounts-by-index l st now me s x told elapsed between made own = told-by-index l st now me between s x told elapsed made own

@@ -26,6 +26,9 @@ use Rattle.nio_serial.proofs.Base.{put_at-here}
 or_assoc : (a b c : ℕ) → bit_or (bit_or a b) c ≡ bit_or a (bit_or b c)
 or_assoc a b c = same_from_bits (bit_or (bit_or a b) c) (bit_or a (bit_or b c)) (λ i. simp bit_at_or (omega arith))
 
+pub or_self : (a : ℕ) → bit_or a a ≡ a
+or_self a = same_from_bits (bit_or a a) a (λ i. simp bit_at_or (omega arith))
+
 or_absorbs : (a b : ℕ) → bit_or b (bit_and a b) ≡ b
 or_absorbs a b = same_from_bits (bit_or b (bit_and a b)) b (λ i. simp (bit_at_or, bit_at_and) (omega arith))
 

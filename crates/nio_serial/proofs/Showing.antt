@@ -21,6 +21,7 @@ use Rattle.nio_serial.proofs.Base.{put-here}
 use Rattle.nio_serial.proofs.Beginning.{begin-cases, begun-on}
 use Rattle.nio_serial.proofs.ClosingSelectors.{finish-cases}
 use Rattle.nio_serial.proofs.Facts.{sound, untaken, none_due, published, free, begun, looked_in_set}
+use Rattle.nio_serial.proofs.Marking.{by_index-tells}
 use Rattle.nio_serial.proofs.Telling.{told-cases}
 use Rattle.nio_serial.specs.Between.{IsOn, IsShownBy, IsBetween}
 use Rattle.nio_serial.specs.Documented.{Progress, Selecting, looked_pair}
@@ -101,7 +102,7 @@ module _ (l : Limits) (st : State) (now : Progress) (me : CallerNo) (between : I
     told-one elapsed pairs =
         made-shows me (told_plan x (by_index x pairs) elapsed) told_reply (after_told now s) st
         (subst (λ (n : SelNo). ShowsBy (after_told now n) (perform me (told_plan x (by_index x pairs) elapsed) st)) selector-is
-        (told-cases st now me x pairs on.rises in_set on.kept (none_due l st now between) (untaken l st now between x.selector.0) elapsed (ShowsBy (after_told now x.selector))
+        (told-cases st now me x pairs (by_index x pairs) on.rises in_set (by_index-tells st x pairs in_set) on.kept (none_due l st now between) (untaken l st now between x.selector.0) elapsed (ShowsBy (after_told now x.selector))
         (shows-same _ refl refl refl refl)
         (λ answer. shows-selection _ x.selector None refl refl refl refl (λ z e. absurd cc))))
 

@@ -1,5 +1,5 @@
 -- The laws of calls that don't overlap.
-use Rattle.std.specs.Prelude.{◌≡◌, ◌<◌, true, List, ◌++◌, map, IsTrue, ⊤}
+use Rattle.std.specs.Prelude.{◌≡◌, ℕ, ◌<◌, Bool, true, Some, List, ◌++◌, map, IsTrue, ⊤}
 use Rattle.nio_base.specs.Limits.{IsFit}
 use Rattle.nio_base.specs.declared.limits.Limits.{Limits}
 use Rattle.nio_base.specs.declared.numbers.CallerNo.{CallerNo}
@@ -21,9 +21,11 @@ use Rattle.nio_plain.specs.declared.rules.Rules.TheVariants.{Now}
 use Rattle.nio_steps.specs.Calls.{CallClause}
 use Rattle.nio_steps.specs.Perform.{perform}
 use Rattle.nio_steps.specs.Runs.{Completes}
+use Rattle.nio_steps.specs.SelectCalls.{Selection, told_of, told_plan}
 use Rattle.nio_serial.specs.Between.{IsBetween}
-use Rattle.nio_serial.specs.Documented.{Progress, nothing_yet, documented}
-use Rattle.nio_serial.specs.Lines.{Said, comes_to, call_plan, line_plan}
+use Rattle.nio_serial.specs.Documented.{Progress, nothing_yet, looked_pair, documented, amounts}
+use Rattle.nio_serial.specs.Lines.{Said, comes_to, own_selection, after_told, call_plan, line_plan}
+use Rattle.nio_serial.specs.Replies.{told_reply}
 
 -- ---- the names of a call
 
@@ -75,6 +77,16 @@ abbrev pub CallsAmount : Type 0
 CallsAmount = (l : Limits) (st : State) (now : Progress) (me : CallerNo) (word : Call)
     → IsBetween l st now → IsNamed l st word
     → call_of Now l (documented st now) me word ≡ comes_to (perform me (call_plan l now me word) st)
+
+-- the told pairs of a selection, each looked key with what was told of its index
+abbrev pub by_key : Selection → List (ℕ × ℕ) → List (KeyId × ℕ)
+by_key x told = map (λ entry. ((looked_pair entry).0, told_of told entry.index)) x.looked
+
+-- A `told` gives what the poller told by index: it amounts to the documented call that names the looked keys.
+abbrev pub ToldAmounts : Type 0
+ToldAmounts = (l : Limits) (st : State) (now : Progress) (me : CallerNo) (s : SelNo) (x : Selection) (told : List (ℕ × ℕ)) (elapsed : Bool)
+    → IsBetween l st now → IsMadeSelector st s → own_selection now me s ≡ Some x
+    → call_of Now l (documented st now) me (call.Told s elapsed (by_key x told)) ≡ amounts told_reply (after_told now s) (perform me (told_plan x told elapsed) st)
 
 -- so do those of a line with its look-ups
 abbrev pub LinesAmount : Type 0

@@ -1,11 +1,13 @@
 //! The laws, as the contracts of functions that do nothing.
-ghost use Rattle.nio_serial.specs.Laws.{CallsAmount, LinesAmount, BeginsBetween, DrawsStayBetween, CallsStayBetween, LinesStayBetween, CallRunsAmount, LineRunsAmount, PassLinesAmount};
+ghost use Rattle.nio_serial.specs.Laws.{CallsAmount, ToldAmounts, LinesAmount, BeginsBetween, DrawsStayBetween, CallsStayBetween, LinesStayBetween, CallRunsAmount, LineRunsAmount, PassLinesAmount};
 ghost use Rattle.nio_serial.specs.Serial.{SerialLinesAmount};
 
 /// The steps of a call between which nobody comes amount to the documented call: the reply and the state
-/// are its own. So do those of a script's line with its look-ups.
+/// are its own. So do those of a `told` by index, which names the looked keys, and those of a script's line
+/// with its look-ups.
 pub fn amounts_law()
     ensures calls { CallsAmount }
+    ensures told { ToldAmounts }
     ensures lines { LinesAmount }
 {}
 
