@@ -23,12 +23,16 @@ use Rattle.nio_steps.specs.KeyCalls.{find_selector_plan, find_channel_plan, find
 use Rattle.nio_steps.specs.Names.{selector, channel}
 use Rattle.nio_steps.specs.Perform.{Performed, perform}
 use Rattle.nio_steps.specs.Plan.{Plan, ◌>>=◌}
+use Rattle.nio_steps.specs.SelectCalls.{list_key, list_selected, keys_plan, selected_keys_plan}
+use Rattle.nio_serial.proofs.Beginning.{begin-lacking}
+use Rattle.nio_serial.proofs.Facts.{none_due, begun}
+use Rattle.nio_serial.proofs.Listing.{list-lacking}
 use Rattle.nio_serial.proofs.Calls.{call-amounts, told-by-index}
 use Rattle.nio_serial.proofs.Lines.{selector-found, channel-found, key-found, line-amounts}
 use Rattle.nio_serial.proofs.Staying.{line-stays}
 use Rattle.nio_serial.specs.Between.{IsBetween}
 use Rattle.nio_serial.specs.Documented.{Progress, documented}
-use Rattle.nio_serial.specs.Laws.{IsMadeSelector, IsMadeChannel, IsMadeKey, IsNamed, CallsAmount, LinesAmount, DrawsStayBetween, CallsStayBetween, Amounts, CallRunsAmount, LineRunsAmount, PassLinesAmount, ToldAmounts}
+use Rattle.nio_serial.specs.Laws.{IsMadeSelector, IsMadeChannel, IsMadeKey, IsNamed, CallsAmount, LinesAmount, DrawsStayBetween, CallsStayBetween, Amounts, CallRunsAmount, LineRunsAmount, PassLinesAmount, ToldAmounts, LackingLeaves}
 use Rattle.nio_serial.specs.Lines.{Said, comes_to, refused, if_found, if_selector, if_channel, if_key, if_named, call_plan, line_plan}
 
 -- ---- names that are found
@@ -137,3 +141,13 @@ draws-stay l st now n between = record {
 
 pub told-amounts-by-index : ToldAmounts
 told-amounts-by-index l st now me s x told elapsed between made own = told-by-index l st now me between s x told elapsed made own
+
+-- ---- calls for which there is no memory
+
+pub lacking-leaves : LackingLeaves
+unfolding keys_plan selected_keys_plan
+lacking-leaves l st now me s mode between = record {
+  begins = begin-lacking st me s mode (none_due l st now between) (begun l st now between s.0);
+  keys = list-lacking st me s list_key;
+  selected = list-lacking st me s list_selected;
+}

@@ -16,12 +16,13 @@ use Rattle.nio_event.specs.declared.call.Call.{Call}
 use Rattle.nio_event.specs.declared.call.Call.TheVariants as call
 use Rattle.nio_plain.specs.Seq.{call_of, seq}
 use Rattle.nio_event.specs.declared.event.Event.{Event}
+use Rattle.nio_event.specs.declared.found.Mode.{Mode}
 use Rattle.nio_plain.specs.Seq.Answers.{Answered}
 use Rattle.nio_plain.specs.declared.rules.Rules.TheVariants.{Now}
 use Rattle.nio_steps.specs.Calls.{CallClause}
 use Rattle.nio_steps.specs.Perform.{perform}
 use Rattle.nio_steps.specs.Runs.{Completes}
-use Rattle.nio_steps.specs.SelectCalls.{Selection, told_of, told_plan}
+use Rattle.nio_steps.specs.SelectCalls.{Selection, told_of, told_plan, try_begin_plan, keys_plan, selected_keys_plan}
 use Rattle.nio_serial.specs.Between.{IsBetween}
 use Rattle.nio_serial.specs.Documented.{Progress, nothing_yet, looked_pair, documented, amounts}
 use Rattle.nio_serial.specs.Lines.{Said, comes_to, own_selection, after_told, call_plan, line_plan}
@@ -114,6 +115,15 @@ LinesStayBetween = (l : Limits) (st : State) (now : Progress) (me : CallerNo) (w
     → IsFit l → IsBetween l st now
     → let done = perform me (line_plan l now me word) st in
     IsBetween l done.state done.answer.left
+
+-- A call for which there is no memory leaves the state as it was: it has no reply, and nothing is in progress by it.
+pub record LacksOnlyMemory (me : CallerNo) (s : SelNo) (mode : Mode) (st : State) : Type 0 where
+  pub begins : (perform me (try_begin_plan s mode true) st).state ≡ st
+  pub keys : (perform me (keys_plan s true) st).state ≡ st
+  pub selected : (perform me (selected_keys_plan s true) st).state ≡ st
+
+abbrev pub LackingLeaves : Type 0
+LackingLeaves = (l : Limits) (st : State) (now : Progress) (me : CallerNo) (s : SelNo) (mode : Mode) → IsBetween l st now → LacksOnlyMemory me s mode st
 
 -- ---- the same of histories
 

@@ -1,14 +1,15 @@
 //! The laws, as the contracts of functions that do nothing.
-ghost use Rattle.nio_serial.specs.Laws.{CallsAmount, ToldAmounts, LinesAmount, BeginsBetween, DrawsStayBetween, CallsStayBetween, LinesStayBetween, CallRunsAmount, LineRunsAmount, PassLinesAmount};
+ghost use Rattle.nio_serial.specs.Laws.{CallsAmount, ToldAmounts, LinesAmount, BeginsBetween, DrawsStayBetween, CallsStayBetween, LinesStayBetween, CallRunsAmount, LineRunsAmount, PassLinesAmount, LackingLeaves};
 ghost use Rattle.nio_serial.specs.Serial.{SerialLinesAmount};
 
 /// The steps of a call between which nobody comes amount to the documented call: the reply and the state
 /// are its own. So do those of a `told` by index, which names the looked keys, and those of a script's line
-/// with its look-ups.
+/// with its look-ups. A call for which there is no memory leaves the state as it was.
 pub fn amounts_law()
     ensures calls { CallsAmount }
     ensures told { ToldAmounts }
     ensures lines { LinesAmount }
+    ensures lacking { LackingLeaves }
 {}
 
 /// What holds between two calls of a serial history holds at the beginning, after each draw, after each
