@@ -120,9 +120,6 @@ module _ (st : State) (now : Progress) (me : CallerNo) (s : SelNo)
 
   -- ---- what the plan does
 
-  plan : Mode → ℕ → Plan (Result Selection BeginError)
-  plan mode bound = begin_below s mode bound false
-
   below-performed : (mode : Mode) → perform me (begin_below s mode mark false) turned ≡ record { answer = Ok (begun mode); state = left }
   below-performed mode =
       perform_then_on me (list_below s mark) _ turned listed turned (list_below-performed turned me s mark)

@@ -73,13 +73,13 @@ module _ (l : Limits) (st : State) (now : Progress) (me : CallerNo) (between : I
   begin-shows s (Some mode) =
       let due = none_due l st now between s.0 in
       let idle = untaken l st now between s.0 in
-      let pub_ = published l st now between s.0 in
+      let exact = published l st now between s.0 in
       let out = free l st now between s.0 in
       made-shows me (try_begin_plan s mode false) begin_reply (after_begin now me s) st
-      (begin-cases st now me s due idle pub_ out mode (ShowsBy (after_begin now me s))
+      (begin-cases st now me s due idle exact out mode (ShowsBy (after_begin now me s))
       (λ t. between.shown t) (λ t. between.shown t)
       (λ _. shows-selection _ s (Some (record { caller = me; selection = _ })) refl refl refl refl
-      (λ y e. subst (λ (x : Option Selecting). OnOf s x) e (begun-on st now me s due idle pub_ out mode))))
+      (λ y e. subst (λ (x : Option Selecting). OnOf s x) e (begun-on st now me s due idle exact out mode))))
     where
       OnOf : SelNo → Option Selecting → Type 0
       OnOf s' None = ⊤

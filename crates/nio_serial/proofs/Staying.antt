@@ -87,13 +87,13 @@ module _ (l : Limits) (st : State) (now : Progress) (me : CallerNo) (fit : IsFit
   steady-shows : (word : Call) → Leaves now (named word) → IsSteady ds (call_of Now l ds me word) → Shows (perform me (named word) st)
   steady-shows word leaves steady t =
       let done = perform me (named word) st in
-      let amounts_ = named-amounts l st now me fit between word in
+      let same = named-amounts l st now me fit between word in
       subst (λ (p : Progress). IsShownBy done.state p t) (sym (each-performed (λ said. said.left ≡ now) me (named word) st leaves))
       (shows-same l st now me between done.state
-      (sym (ap (λ (a : Answered). a.left.shared.turn) amounts_) ∙ steady.turn)
-      (sym (ap (λ (a : Answered). a.left.shared.begun) amounts_) ∙ steady.begun)
-      (sym (ap (λ (a : Answered). a.left.shared.closer) amounts_) ∙ steady.closer)
-      (sym (ap (λ (a : Answered). a.left.shared.entered) amounts_) ∙ steady.entered) t)
+      (sym (ap (λ (a : Answered). a.left.shared.turn) same) ∙ steady.turn)
+      (sym (ap (λ (a : Answered). a.left.shared.begun) same) ∙ steady.begun)
+      (sym (ap (λ (a : Answered). a.left.shared.closer) same) ∙ steady.closer)
+      (sym (ap (λ (a : Answered). a.left.shared.entered) same) ∙ steady.entered) t)
 
   selector-shows : (s : SelNo) (plan : Plan Said) → Shows (perform me plan st) → Shows (perform me (if_selector l now s plan) st)
   selector-shows s plan shows =
@@ -161,10 +161,10 @@ module _ (l : Limits) (st : State) (now : Progress) (me : CallerNo) (fit : IsFit
   pub line-stays : (word : Call) → let done = perform me (line_plan l now me word) st in IsBetween l done.state done.answer.left
   line-stays word =
       let done = perform me (line_plan l now me word) st in
-      let amounts_ : seq Now l ds me word ≡ comes_to done = line-amounts l st now me fit between word in
+      let same : seq Now l ds me word ≡ comes_to done = line-amounts l st now me fit between word in
       record {
-        left = subst (λ (a : Answered). IsLeft l a.left) amounts_ (line-left word);
-        at_rest = subst (λ (a : Answered). IsAtRest l a.left.shared) amounts_ (rests-is l (seq Now l ds me word).left.shared (rests-seq l ds (sound l st now between) (rests-from l ds.shared between.at_rest) me word));
+        left = subst (λ (a : Answered). IsLeft l a.left) same (line-left word);
+        at_rest = subst (λ (a : Answered). IsAtRest l a.left.shared) same (rests-is l (seq Now l ds me word).left.shared (rests-seq l ds (sound l st now between) (rests-from l ds.shared between.at_rest) me word));
         shown = line-shows word;
       }
 

@@ -279,7 +279,7 @@ module _ (st : State) (now : Progress) (me : CallerNo) (x : Selection) (pairs : 
   pub told-cases : (elapsed : Bool) (P : Performed ToldReply → Type 0) → P (record { answer = again x; state = marked_st }) → ((answer : Selected) → P (record { answer = done answer; state = ended }))
       → P (perform me (told_plan x told elapsed) st)
   unfolding told_plan
-  told-cases elapsed P goes_on_ over =
+  told-cases elapsed P continues over =
       subst P (sym (perform_then_on me (sweep_over x.looked (mark_entry x.selector told) 0) (after_marks x elapsed) st count marked_st (marks-performed st me x pairs told rises in_set tells)))
       (by_test (is_again_by_look x.mode count (st.gate s) (st.interrupted me.0) elapsed))
     where
@@ -287,5 +287,5 @@ module _ (st : State) (now : Progress) (me : CallerNo) (x : Selection) (pairs : 
       answer = record { count = count; why = why_over x.mode count (st.gate s) (st.interrupted me.0) }
 
       by_test : (b : Bool) → P (perform me (if b then Plan.reply (again x) else end_selection x answer) marked_st)
-      by_test true = goes_on_
+      by_test true = continues
       by_test false = subst P (sym (ending-performed answer)) (over answer)
