@@ -22,7 +22,7 @@ use Rattle.nio_plain.specs.declared.rules.Rules.TheVariants.{Now}
 use Rattle.nio_steps.specs.Calls.{CallClause}
 use Rattle.nio_steps.specs.Perform.{perform}
 use Rattle.nio_steps.specs.Runs.{Completes}
-use Rattle.nio_steps.specs.SelectCalls.{Selection, told_of, told_plan, try_begin_plan, keys_plan, selected_keys_plan}
+use Rattle.nio_steps.specs.SelectCalls.{Selection, told_of, told_plan, try_begin_plan, keys_plan, selected_keys_plan, ToldReply}
 use Rattle.nio_serial.specs.Between.{IsBetween}
 use Rattle.nio_serial.specs.Documented.{Progress, nothing_yet, looked_pair, documented, amounts}
 use Rattle.nio_serial.specs.Lines.{Said, comes_to, own_selection, after_told, call_plan, line_plan}
@@ -110,6 +110,12 @@ CallsStayBetween = (l : Limits) (st : State) (now : Progress) (me : CallerNo) (w
     → let done = perform me (call_plan l now me word) st in
     IsBetween l done.state done.answer.left
 
+abbrev pub ToldStaysBetween : Type 0
+ToldStaysBetween = (l : Limits) (st : State) (now : Progress) (me : CallerNo) (s : SelNo) (x : Selection) (told : List (ℕ × ℕ)) (elapsed : Bool)
+    → IsCaller l me → IsBetween l st now → IsMadeSelector st s → own_selection now me s ≡ Some x
+    → let done = perform me (told_plan x told elapsed) st in
+    IsBetween l done.state (after_told now s done.answer)
+
 abbrev pub LinesStayBetween : Type 0
 LinesStayBetween = (l : Limits) (st : State) (now : Progress) (me : CallerNo) (word : Call)
     → IsFit l → IsBetween l st now
@@ -139,6 +145,14 @@ CallRunsAmount = (l : Limits) (now : Progress) (me : CallerNo) (word : Call) (pa
     → IsFit l → IsCaller l me → IsBetween l (state_after past) now → IsNamed l (state_after past) word
     → IsLegal l (past ++ map (event_of me) acts) → Completes (call_plan l now me word) acts said
     → Amounts l (call_of Now l (documented (state_after past) now) me word) (past ++ map (event_of me) acts) said
+
+-- the same of a `told` by index
+abbrev pub ToldRunsAmount : Type 0
+ToldRunsAmount = (l : Limits) (now : Progress) (me : CallerNo) (s : SelNo) (x : Selection) (told : List (ℕ × ℕ)) (elapsed : Bool) (past : List Event) (acts : List Act) (answer : ToldReply)
+    → IsCaller l me → IsBetween l (state_after past) now → IsMadeSelector (state_after past) s → own_selection now me s ≡ Some x
+    → IsLegal l (past ++ map (event_of me) acts) → Completes (told_plan x told elapsed) acts answer
+    → Amounts l (call_of Now l (documented (state_after past) now) me (call.Told s elapsed (by_key x told))) (past ++ map (event_of me) acts)
+    (record { reply = told_reply answer; left = after_told now s answer })
 
 -- the same of a line
 abbrev pub LineRunsAmount : Type 0
