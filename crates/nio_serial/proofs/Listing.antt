@@ -1,16 +1,12 @@
 -- Listing the key set and the selected set amounts to the documented calls.
-use Rattle.std.proofs.Common.{◌≡◌, ℕ, ◌+◌, Bool, true, false, cond, ◌&&◌, Result, Ok, Err, List, [], ◌∷◌, ◌++◌, map, filter, refl, ap, sym, ◌∙◌, add-one, arith}
+use Rattle.std.proofs.Common.{◌≡◌, ℕ, ◌+◌, Bool, true, false, cond, ◌&&◌, Result, Ok, Err, List, [], ◌∷◌, ◌++◌, map, filter, refl, ap, sym, ◌∙◌, add-one, arith, if◌then◌else◌}
 use Rattle.std.proofs.lemmas.List.{append-nil, map-append}
 use Rattle.std.proofs.lemmas.List.Elements.{filter-append}
 use Rattle.nio_base.specs.declared.numbers.CallerNo.{CallerNo}
-use Rattle.nio_base.specs.declared.numbers.KeyId.{KeyId}
 use Rattle.nio_base.specs.declared.numbers.KeyNo.{KeyNo}
 use Rattle.nio_base.specs.declared.numbers.SelNo.{SelNo}
 use Rattle.nio_event.specs.Sets.{in_key_set, in_selected_set}
 use Rattle.nio_event.specs.State.{State, with_pin}
-use Rattle.nio_event.specs.declared.found.Stage.{Stage}
-use Rattle.nio_event.specs.declared.reply.Reply.{Reply}
-use Rattle.nio_event.specs.declared.reply.Reply.TheVariants as reply
 use Rattle.nio_plain.proofs.Naming.{selector-through}
 use Rattle.nio_plain.specs.ScriptState.{ScriptState}
 use Rattle.nio_plain.specs.Seq.Answers.{Answered, unchanged}
@@ -23,9 +19,8 @@ use Rattle.nio_steps.specs.SelectCalls.{present_key, list_key, list_present, lis
 use Rattle.nio_steps.specs.Steps.{look_mark}
 use Rattle.nio_steps.specs.Sweeps.{sweep_to}
 use Rattle.nio_steps.specs.declared.refusal.ListError.{ListError}
-use Rattle.nio_steps.specs.declared.refusal.ListError.TheVariants as ListError
 use Rattle.nio_serial.proofs.Base.{pin-back, cancelled_parts, branch, unpinned, perform_pinned}
-use Rattle.nio_serial.specs.Documented.{Progress, settled_state, documented, amounts}
+use Rattle.nio_serial.specs.Documented.{Progress, documented, amounts}
 use Rattle.nio_serial.specs.Replies.{key_id, list_reply}
 
 filter-push : (p : ℕ → Bool) (n : ℕ) → filter p (below (n + 1)) ≡ filter p (below n) ++ cond (p n) (n ∷ []) []
@@ -102,3 +97,11 @@ module _ (st : State) (now : Progress) (me : CallerNo) (s : SelNo) (made : st.se
     selected-amounts =
         ap (listed ds s) (λ j i. cancelled_parts (st.key s.0 i).published (st.key s.0 i).removed (st.mark s.0 i).selected j)
         ∙ listed-amounts list_selected (in_selected_set st s.0) one-performed
+
+-- a list for which there is no memory
+pub list-lacking : (st : State) (me : CallerNo) (s : SelNo) (list_one : SelNo → ℕ → List KeyNo → Plan (List KeyNo)) → (perform me (list_plan list_one s true) st).state ≡ st
+list-lacking st me s list_one = by_shut (st.gate s.0).shut
+  where
+    by_shut : (b : Bool) → (perform me (if b then Plan.reply (Err ListError.ClosedSelector) else list_open list_one s true) st).state ≡ st
+    by_shut true = refl
+    by_shut false = refl
