@@ -1,0 +1,10 @@
+pub mod Asked
+pub mod InProgress
+pub mod Listed
+pub mod Begun
+pub mod Lists
+pub mod Entered
+pub mod Beginning
+pub mod Noted
+pub mod Kept
+pub mod Laws
