@@ -2,6 +2,7 @@
 ghost use Rattle.std.specs.Prelude.{◌≡◌, None, IfSome};
 ghost use Rattle.nio_event.specs.Conditions.{Condition};
 ghost use Rattle.nio_event.specs.Questions.{question_of};
+ghost use Rattle.nio_record.specs.Recorded.{IsDraw};
 ghost use Rattle.nio_words.specs.Passes.{IsReady, acts_seen, limits_of, state_seen};
 ghost use Rattle.nio_words.specs.Steps.{Steps};
 
@@ -16,6 +17,7 @@ pub(crate) fn make_step(w: &Words, p: &mut Pass, me: CallerNo, act: Act) -> Opti
     ensures made { IfSome result (Steps w.now p.old p.new me) }
     ensures asked { IfSome result (λ made. question_of made ≡ question_of act) }
     ensures nothing { result ≡ None → p.new ≡ p.old }
+    ensures draw { result ≡ None → IsDraw act }
 {
     match act {
         Act::DrawBit(_, _) => None,

@@ -1,9 +1,9 @@
 //! A table of two callers, and what they did on it.
-ghost use Rattle.std.specs.Prelude.{◌≡◌, ◌+◌, ◌<◌, ◌≤◌, [], ◌∷◌, ◌++◌, IfOk, OnErr};
+ghost use Rattle.std.specs.Prelude.{◌≡◌, ◌+◌, ◌<◌, ◌≤◌, [], ◌∷◌, ◌++◌, IfOk, OnErr, Err, ◌⊎◌};
+ghost use Rattle.nio_record.specs.declared.recorder.RecordError.TheVariants.{NoStep};
 ghost use Rattle.std.specs.Vec.{vec_len, vec_capacity};
 ghost use Rattle.nio_event.specs.Histories.{event_of};
-ghost use Rattle.nio_record.specs.Recorded.{IsRecorded, table_limits, written};
-ghost use Rattle.nio_audit.specs.Audit.{MayStep};
+ghost use Rattle.nio_record.specs.Recorded.{IsDraw, IsRecorded, MayMake, table_limits, written};
 ghost use Rattle.nio_event.specs.Questions.{question_of};
 
 use crate::making::make_step;
@@ -26,15 +26,6 @@ pub enum RecordError {
 impl From<AllocError> for RecordError {
     fn from(_: AllocError) -> RecordError {
         RecordError::Memory
-    }
-}
-
-impl From<AuditError> for RecordError {
-    fn from(error: AuditError) -> RecordError {
-        match error {
-            AuditError::NotAStep { .. } => RecordError::NoStep,
-            AuditError::Memory => RecordError::Memory,
-        }
     }
 }
 
@@ -98,13 +89,22 @@ impl Recorder {
         ensures asked { IfOk result (λ made. question_of made ≡ question_of act) }
         ensures written { IfOk result (λ made. written self.new ≡ written self.old ++ event_of caller made ∷ []) }
         ensures refused { OnErr result (written self.new ≡ written self.old) }
-        ensures may { IfOk result (λ _. MayStep (table_limits self.old) (written self.old) caller act) }
+        ensures no_step { result ≡ Err NoStep → ¬ MayMake self.old caller act ⊎ IsDraw act }
+        ensures may { IfOk result (λ _. MayMake self.old caller act) }
     {
         let limits = self.words.limits();
-        if !self.pass.holds(caller) || !may_step(alloc, limits, &self.events, caller, &act)? {
+        if !self.pass.holds(caller) {
             return Err(RecordError::NoStep);
         }
-        self.events.reserve(1)?;
+        match may_step(alloc, limits, &self.events, caller, &act) {
+            Ok(true) => {}
+            Ok(false) => return Err(RecordError::NoStep),
+            Err(AuditError::Memory) => return Err(RecordError::Memory),
+            Err(AuditError::NotAStep { .. }) => unreachable!(),
+        }
+        if self.events.reserve(1).is_err() {
+            return Err(RecordError::Memory);
+        }
         let Some(made) = make_step(&self.words, &mut self.pass, caller, act) else {
             return Err(RecordError::NoStep);
         };
