@@ -7,12 +7,13 @@ ghost use Rattle.nio_steps.specs.Calls.{CallClause};
 ghost use Rattle.nio_steps.specs.ChannelCalls.{words_below as count_words_below};
 ghost use Rattle.nio_steps.specs.Runs.{Completes};
 ghost use Rattle.nio_steps.specs.SelectCalls.{Begins, list_word as lists_word, list_below as lists_below, look_over as looks_over, look_valid as looks_valid, not_free};
+ghost use Rattle.nio_steps.specs.Sweeps.{sweep_over};
 ghost use Rattle.nio_words.specs.Passes.{IsReady, limits_of, state_seen};
 ghost use Rattle.nio_words.specs.Views.{view};
 ghost use Rattle.nio_select.specs.Beginning.{BeginsOpen, BeginsWithTurn, BeginsBelow};
 ghost use Rattle.nio_select.specs.Begun.{HasBegun};
 ghost use Rattle.nio_select.specs.InProgress.{Selects};
-ghost use Rattle.nio_select.specs.Lists.{found_in, HasRoom};
+ghost use Rattle.nio_select.specs.Lists.{nothing_found, found_in, HasRoom, GrewByOne};
 
 use crate::asked::{Asked, Slot};
 use crate::lists::{Found, add};
@@ -104,7 +105,7 @@ fn begin_below(
     ensures call { CallClause me (BeginsBelow sel mode bound) (view w.now p.old) (view w.now p.new) result }
     ensures ready { IsReady w.now p.new me }
 {
-    let words = words_below(bound);
+    let words = words_below(w, bound);
     let room = 64 * words as usize;
     let listed = Vec::with_capacity(alloc, room);
     let found = Found::with_room(alloc, room);
@@ -124,8 +125,8 @@ fn begin_below(
 }
 
 // How many times 64 indexes there are below `mark`, the last ones counted too.
-fn words_below(mark: u32) -> u32
-    requires { mark ≤ 262144 }
+fn words_below(w: &Words, mark: u32) -> u32
+    requires { mark ≤ (limits_of w.now).keys }
     ensures { result ≡ count_words_below mark }
 {
     (mark + 63) / 64
@@ -142,7 +143,7 @@ fn list_below(w: &Words, p: &mut Pass, me: CallerNo, sel: SelNo, bound: u32, lis
     ensures below { All (λ i. i < bound) listed.new.items }
     ensures count { vec_len listed.new ≤ 64 * count_words_below bound }
 {
-    for j in 0..words_below(bound) {
+    for j in 0..words_below(w, bound) {
         list_word(w, p, me, sel, bound, j, listed);
     }
 }
@@ -178,7 +179,7 @@ fn add_not_free(listed: &mut Vec<u32>, word: u64, j: u32, bound: u32)
     ensures capacity { vec_capacity listed.old ≤ vec_capacity listed.new }
 {
     let mut b = 0;
-    for _ in 0..64 {
+    while b < 64 {
         let rest = !word >> b;
         if rest == 0 {
             return;
@@ -188,9 +189,6 @@ fn add_not_free(listed: &mut Vec<u32>, word: u64, j: u32, bound: u32)
             add(listed, 64 * j + b);
         }
         b += 1;
-        if b == 64 {
-            return;
-        }
     }
 }
 
@@ -203,13 +201,27 @@ fn look_at_listed(
     sel: SelNo,
     listed: &[u32],
     found: &mut Found,
-) {
+)
+    requires begun { HasBegun w.now p.old me sel }
+    requires inside { All (λ i. i < (limits_of w.now).keys) listed.now }
+    requires nothing { found_in found.old ≡ nothing_found }
+    requires room { HasRoom found.old (length listed.now) }
+    ensures call { CallClause me (Completes (sweep_over listed.now (looks_over sel) nothing_found)) (view w.now p.old) (view w.now p.new) (found_in found.new) }
+    ensures begun { HasBegun w.now p.new me sel }
+{
     for i in listed {
         look_over(w, p, me, sel, *i, found);
     }
 }
 
-fn look_over(w: &Words, p: &mut Pass, me: CallerNo, sel: SelNo, i: u32, found: &mut Found) {
+fn look_over(w: &Words, p: &mut Pass, me: CallerNo, sel: SelNo, i: u32, found: &mut Found)
+    requires begun { HasBegun w.now p.old me sel }
+    requires key { IsKey (limits_of w.now) sel i }
+    requires room { HasRoom found.old 1 }
+    ensures call { CallClause me (Completes (looks_over sel i (found_in found.old))) (view w.now p.old) (view w.now p.new) (found_in found.new) }
+    ensures begun { HasBegun w.now p.new me sel }
+    ensures grew { GrewByOne found.old found.new }
+{
     let stage = w.look_key(p, me, sel, i);
     if is_in_cancelled_set(stage) {
         remove_cancelled(w, p, me, sel, i, stage);
@@ -228,7 +240,14 @@ fn look_valid(
     i: u32,
     stage: Stage,
     found: &mut Found,
-) {
+)
+    requires begun { HasBegun w.now p.old me sel }
+    requires key { IsKey (limits_of w.now) sel i }
+    requires room { HasRoom found.old 1 }
+    ensures call { CallClause me (Completes (looks_valid sel i stage (found_in found.old))) (view w.now p.old) (view w.now p.new) (found_in found.new) }
+    ensures begun { HasBegun w.now p.new me sel }
+    ensures grew { GrewByOne found.old found.new }
+{
     let interest = w.look_interest(p, me, sel, i);
     let key = LookedKey {
         index: i,

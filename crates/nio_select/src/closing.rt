@@ -40,6 +40,7 @@ pub enum Finish {
 }
 
 /// Begins to close a selector: selections and registrations are refused from then on.
+#[tactic(auto, unfolding(nio_steps::specs::SelectCalls::shut_plan))]
 pub fn shut(w: &Words, p: &mut Pass, me: CallerNo, sel: SelNo) -> Shutting
     requires ready { IsReady w.now p.old me }
     requires selector { HasSelector (view w.now p.old) sel }

@@ -1,6 +1,7 @@
 //! The lists that a selection makes, with room for all that it may find.
-ghost use Rattle.std.specs.Prelude.{◌≡◌, ◌+◌, ◌<◌, ◌≤◌, ◌++◌, [], ◌∷◌};
+ghost use Rattle.std.specs.Prelude.{◌≡◌, ◌+◌, ◌<◌, ◌≤◌, ◌++◌, [], ◌∷◌, IfOk};
 ghost use Rattle.std.specs.Vec.{vec_len, vec_capacity};
+ghost use Rattle.nio_select.specs.Lists.{nothing_found, found_in, HasRoom};
 
 use crate::asked::Slot;
 use std::alloc::{AllocError, Global};
@@ -14,7 +15,10 @@ pub(crate) struct Found {
 
 impl Found {
     // Nothing, with room for so many indexes.
-    pub(crate) fn with_room(alloc: Global, room: usize) -> Result<Found, AllocError> {
+    pub(crate) fn with_room(alloc: Global, room: usize) -> Result<Found, AllocError>
+        ensures nothing { IfOk result (λ found. found_in found ≡ nothing_found) }
+        ensures room { IfOk result (λ found. HasRoom found room) }
+    {
         Ok(Found {
             slots: Vec::with_capacity(alloc, room)?,
             kept: Vec::with_capacity(alloc, room)?,

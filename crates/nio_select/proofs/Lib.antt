@@ -1,0 +1,8 @@
+pub mod Made
+pub mod Claimed
+pub mod Entered
+pub mod Listings
+pub mod Noted
+pub mod Begun
+pub mod FreeBits
+pub mod Listed
