@@ -6,3 +6,7 @@ pub mod Noted
 pub mod Begun
 pub mod FreeBits
 pub mod Listed
+pub mod Progress
+pub mod GoneOn
+pub mod Steps
+pub mod Windows

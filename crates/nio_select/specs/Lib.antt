@@ -6,3 +6,4 @@ pub mod Lists
 pub mod Entered
 pub mod Beginning
 pub mod Noted
+pub mod Laws
