@@ -5,6 +5,7 @@
 use anyhow::bail;
 use std::env;
 
+mod channels;
 mod group;
 mod relay;
 mod words;
@@ -13,10 +14,12 @@ fn main(rt: HostRuntime) -> anyhow::Result<()> {
     let word = env::args(&rt)?.nth(1);
     match word.as_deref() {
         None => {
+            channels::run(&rt, 4)?;
             group::run(&rt, 4)?;
             relay::run(&rt, 4)?;
             println!(rt; "ok")?;
         }
+        Some("channels") => channels::measure(&rt)?,
         Some("group") => group::measure(&rt)?,
         Some("relay") => relay::measure(&rt)?,
         Some("words") => words::measure(&rt)?,

@@ -1,7 +1,7 @@
 -- Indexes that are claimed, and the caller's claim of one.
-use Rattle.std.proofs.Common.{◌≡◌, ℕ, suc, ◌+◌, ◌<◌, ◌≤◌, Bool, true, false, ◌&&◌, if◌then◌else◌, [], ◌∷◌, ◌++◌, refl, ap, sym, ◌∙◌, subst, below_more, Some, None, List, add-one, eq-eqb}
+use Rattle.std.proofs.Common.{◌≡◌, ℕ, suc, ◌+◌, ◌<◌, ◌≤◌, Bool, true, false, if◌then◌else◌, [], ◌∷◌, ◌++◌, refl, ap, sym, ◌∙◌, subst, below_more, Some, None, List, add-one, eq-eqb}
 use Rattle.std.specs.Option.{option_or}
-use Rattle.std.proofs.lemmas.Bool.{and_parts, ltb-true}
+use Rattle.std.proofs.lemmas.Bool.{ltb-true}
 use Rattle.nio_base.specs.declared.numbers.CallerNo.{CallerNo}
 use Rattle.nio_base.specs.declared.numbers.ChanNo.{ChanNo}
 use Rattle.nio_base.specs.declared.numbers.KeyId.{KeyId}
@@ -17,7 +17,7 @@ use Rattle.nio_event.specs.Acts.{new_key}
 use Rattle.nio_event.specs.Conditions.{IsKey, AllClaimed, is_claimed, is_held_by, has_taken}
 use Rattle.nio_event.specs.Histories.{state_after}
 use Rattle.nio_event.specs.Permanent.{index_claimed}
-use Rattle.nio_event.specs.OwnEvents.{OwnClaim, last, takes_free, since_taken, stage_found, own_claim, is_unpublished}
+use Rattle.nio_event.specs.OwnEvents.{last, takes_free, since_taken, stage_found, own_claim, is_unpublished}
 use Rattle.nio_event.specs.PassViews.{PassView, Holds, known, ActsClause, HasNoPin}
 use Rattle.nio_event.specs.Sets.{can_come_back}
 use Rattle.nio_event.specs.State.{State, last_serial}
@@ -27,7 +27,7 @@ use Rattle.nio_event.specs.declared.found.Stage.{Stage}
 use Rattle.nio_words.proofs.Pins.{changes_pins, stays_pinned, only_claimed, only_claimed_again}
 use Rattle.nio_words.proofs.Stepping.{still_ready}
 use Rattle.nio_words.proofs.Views.{finds_drawn, step_acts, look_tells}
-use Rattle.nio_words.specs.Passes.{IsReady, acts_seen, limits_of, seen, state_seen}
+use Rattle.nio_words.specs.Passes.{IsReady, acts_seen, limits_of}
 use Rattle.nio_words.specs.Steps.{Steps}
 use Rattle.nio_words.specs.Views.{view}
 use Rattle.nio_words.specs.declared.words.Pass.{Pass}

@@ -1,5 +1,5 @@
 -- What stands under the hold of a channel after one step more.
-use Rattle.std.proofs.Common.{◌≡◌, ℕ, ◌<◌, ◌==◌, Bool, true, false, ◌&&◌, ◌||◌, Option, Some, None, List, [], ◌∷◌, ◌++◌, refl, ap, sym, ◌∙◌, subst, below_more, arith, ◌+◌, not, eq-eqb, if◌then◌else◌}
+use Rattle.std.proofs.Common.{◌≡◌, ℕ, ◌==◌, Bool, true, false, ◌&&◌, ◌||◌, Option, Some, None, [], ◌∷◌, ◌++◌, refl, ap, sym, ◌∙◌, subst, below_more, arith, ◌+◌, not, eq-eqb, if◌then◌else◌}
 use Rattle.std.specs.Prelude.{nat_lt, IfSome, IsTrue}
 use Rattle.std.proofs.lemmas.Bool.{and_parts, and_from, or_right, ne_eqb}
 use Rattle.nio_base.specs.declared.numbers.CallerNo.{CallerNo}

@@ -1,5 +1,5 @@
 -- For the tests: what two callers have between their calls stays.
-use Rattle.std.proofs.Common.{◌≡◌, ◌≢◌, ℕ, ◌==◌, true, false, Bool, not, ◌&&◌, ◌||◌, Option, None, List, [], ◌∷◌, ◌++◌, refl, ap, sym, ◌∙◌, subst, eqb-true, eq-eqb, arith}
+use Rattle.std.proofs.Common.{◌≡◌, ◌≢◌, ℕ, true, false, Bool, not, ◌&&◌, ◌||◌, Option, None, List, ◌++◌, refl, ap, sym, ◌∙◌, eqb-true, eq-eqb, arith}
 use Rattle.std.specs.Int.{bit_at}
 use Rattle.std.proofs.lemmas.Bool.{and_parts, and_from, or_left, or_right}
 use Rattle.nio_base.specs.declared.numbers.CallerNo.{CallerNo}

@@ -1,5 +1,5 @@
 -- What the caller's own acts under a hold tell after one act more.
-use Rattle.std.proofs.Common.{◌≡◌, ℕ, ◌==◌, Bool, true, false, not, ◌&&◌, ◌||◌, if◌then◌else◌, Option, Some, None, List, [], ◌∷◌, ◌++◌, refl, ap, sym, ◌∙◌}
+use Rattle.std.proofs.Common.{◌≡◌, ℕ, ◌==◌, Bool, true, false, not, ◌&&◌, ◌||◌, if◌then◌else◌, Option, Some, None, List, [], ◌∷◌, ◌++◌, refl, ap, ◌∙◌}
 use Rattle.std.specs.Option.{option_or}
 use Rattle.std.proofs.lemmas.Bool.{or_left, or_right, or_from}
 use Rattle.nio_base.specs.declared.numbers.ChanNo.{ChanNo}
@@ -10,7 +10,7 @@ use Rattle.nio_event.proofs.LastsAlone.{same_two}
 use Rattle.nio_event.proofs.OneMore.{has-more, last-more, since_from-more}
 use Rattle.nio_event.specs.Found.{finds}
 use Rattle.nio_event.specs.Permanent.{channel_closed}
-use Rattle.nio_event.specs.OwnEvents.{OwnClaim, is_yes, has, last, under, takes_hold, releases, finds_outside, is_outside, stage_found, noted_found, notes_key, publishes, since_key_noted, claim_changed, own_claim, leaves_unpublished, is_unpublished, is_clear, is_clear_by}
+use Rattle.nio_event.specs.OwnEvents.{OwnClaim, is_yes, has, last, under, takes_hold, releases, finds_outside, is_outside, noted_found, notes_key, publishes, since_key_noted, claim_changed, own_claim, leaves_unpublished, is_unpublished, is_clear, is_clear_by}
 use Rattle.nio_event.specs.Sets.{is_in_key_set}
 use Rattle.nio_event.specs.declared.act.Act.{Act}
 use Rattle.nio_event.specs.declared.act.Act.TheVariants.{LookChannel, Claim, Publish, LookReg, Enrol, TryHoldBit, Release, SetMode, Pin, Unpin, ClaimAgain, LookKey}

@@ -1,7 +1,7 @@
 -- What stands of the key that a registration answers.
-use Rattle.std.proofs.Common.{◌≡◌, ℕ, suc, ◌+◌, ◌==◌, Bool, true, false, not, ◌&&◌, ◌||◌, if◌then◌else◌, Option, Some, None, List, [], ◌∷◌, ◌++◌, refl, ap, sym, ◌∙◌, subst, append_assoc, eq-eqb}
+use Rattle.std.proofs.Common.{◌≡◌, ℕ, ◌==◌, Bool, true, false, ◌&&◌, ◌||◌, Option, Some, None, List, [], ◌∷◌, ◌++◌, refl, ap, sym, ◌∙◌, subst, append_assoc, eq-eqb}
 use Rattle.std.specs.Prelude.{nat_lt}
-use Rattle.std.proofs.lemmas.Bool.{and_parts, and_from, or_right}
+use Rattle.std.proofs.lemmas.Bool.{and_from, or_right}
 use Rattle.std.proofs.lemmas.List.{append-nil}
 use Rattle.nio_base.specs.declared.numbers.CallerNo.{CallerNo}
 use Rattle.nio_base.specs.declared.numbers.ChanNo.{ChanNo}
@@ -22,12 +22,12 @@ use Rattle.nio_event.specs.Found.{finds, Leaves}
 use Rattle.nio_event.specs.Histories.{state_after, event_of, mine, IsLegal}
 use Rattle.nio_event.specs.Permanent.{channel_closed, key_published, key_cancelled}
 use Rattle.nio_event.specs.OwnEvents.{has, last, under, takes_hold, finds_unblocked, noted_found, own_claim, is_clear}
-use Rattle.nio_event.specs.PassViews.{PassView, Holds as HoldsNumber, known, ActsClause, HasKey}
+use Rattle.nio_event.specs.PassViews.{Holds as HoldsNumber, HasKey}
 use Rattle.nio_event.specs.Pins.{IsOfClaim}
-use Rattle.nio_event.specs.Sets.{fits, in_key_set, is_in_key_set, is_valid_key, was_published, was_cancelled}
+use Rattle.nio_event.specs.Sets.{fits, is_in_key_set, was_published}
 use Rattle.nio_event.specs.State.{State}
 use Rattle.nio_event.specs.declared.act.Act.{Act}
-use Rattle.nio_event.specs.declared.act.Act.TheVariants.{LookKey, LookChannel, CancelKey, SwapInterest, SwapNote, Enrol, Publish, Pin, Unpin, Release}
+use Rattle.nio_event.specs.declared.act.Act.TheVariants.{LookChannel, CancelKey, Enrol, Publish, Pin, Release}
 use Rattle.nio_event.specs.declared.event.Event.{Event}
 use Rattle.nio_event.specs.declared.found.Chan.{Chan}
 use Rattle.nio_event.specs.declared.found.Stage.{Stage}
@@ -40,10 +40,10 @@ use Rattle.nio_words.specs.Steps.{Steps}
 use Rattle.nio_words.specs.Views.{view}
 use Rattle.nio_words.specs.declared.words.Pass.{Pass}
 use Rattle.nio_words.specs.declared.words.Words.{Words}
-use Rattle.nio_channel.proofs.Held.{own_more, hold_stays, unblocked_over, unblocked_stays, in_set_published}
+use Rattle.nio_channel.proofs.Held.{own_more, unblocked_over, unblocked_stays, in_set_published}
 use Rattle.nio_channel.proofs.Made.{lasts_over}
 use Rattle.nio_channel.proofs.Own.{is_quiet, under-more, told_quiet, told_enrol, told_over, clear_pinned, claim_published, claim_stays}
-use Rattle.nio_channel.specs.Held.{HoldsChannel, HoldsUnblocked, MayNote, KnowsNoted, KnowsKey, HasClaimed, HasPublished, HasRegistered}
+use Rattle.nio_channel.specs.Held.{HoldsUnblocked, MayNote, KnowsNoted, KnowsKey, HasClaimed, HasPublished, HasRegistered}
 use Rattle.nio_channel.specs.Registered.{found_closed, IsKeyOf, IsCancelledWhereClosed}
 
 -- ---- the noted key

@@ -1,4 +1,17 @@
-//! Calls on channels.
+//! The calls on channels over the shared table: opening a channel, setting its mode, registering it with a
+//! selector, finding its keys, closing it. Each says as its clause `call` which steps it makes and what it answers;
+//! `nio_steps` (specs/ChannelCalls.antt) has these plans.
+//!
+//! Registering a channel and setting its mode are done under the hold of the channel. `register` and `set_blocking`
+//! take the runtime: they wait until nobody else has the hold, and let other threads run between two tries. All
+//! other calls return without waiting for anybody; where another caller has the hold, `try_register` and
+//! `try_set_blocking` answer `Busy`. `close_channel` needs no hold, so it goes through also while another caller
+//! registers the channel or selects.
+//!
+//! No call takes memory. Registering looks for a free index in one word for each 64 indexes that were ever used;
+//! `is_registered`, `close_channel` and setting blocking mode look in every selector that there may be.
+//!
+//! A caller that registers or closes has no pin when it calls, and has none when the call returns.
 #![tactic(auto)]
 
 pub use closing::close_channel;

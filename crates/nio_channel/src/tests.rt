@@ -1,12 +1,13 @@
-//! Each call on a channel with its answer and with each refusal; an index that is given to a second
-//! key; two threads that register and close one channel; and the largest table.
-ghost use Rattle.std.specs.Prelude.{◌≡◌, IfOk};
+//! Each call on a channel with its answer and with each refusal; calls that wait for the hold of a channel; an
+//! index that is given to a second key; two threads that register and close one channel; and the largest table.
+ghost use Rattle.std.specs.Prelude.{◌≡◌, IfOk, IsTrue};
 ghost use Rattle.nio_base.specs.declared.numbers.ChanNo.{ChanNo as AChannel};
 ghost use Rattle.nio_base.specs.declared.numbers.KeyNo.{KeyNo as AKey};
 ghost use Rattle.nio_event.specs.Conditions.{IsKey, IsSelector};
 ghost use Rattle.nio_event.specs.PassViews.{HasChannel, HasKey, HasNoPin, HasSelector};
 ghost use Rattle.nio_words.specs.Passes.{IsReady, limits_of, seen};
 ghost use Rattle.nio_words.specs.Views.{view};
+ghost use Rattle.nio_channel.specs.Held.{HoldsChannel};
 ghost use Rattle.nio_channel.specs.Idle.{AreIdle, drawn};
 
 use crate::closing::cancel;
@@ -14,6 +15,7 @@ use crate::*;
 use nio_base::{CallerNo, ChanNo, KeyId, KeyNo, Kind, Limits, Ops, SelNo};
 use nio_words::{Pass, Words};
 use std::process::Abort;
+use std::sync::Wait;
 use std::test::Fail;
 use std::thread::join;
 
@@ -47,6 +49,8 @@ enum OnChannel {
     SetBlocking(bool),
     Register(u8, u64),
     Close,
+    /// The channel's key is cancelled, where it has one.
+    Cancel,
     /// The other caller takes the hold of the channel.
     Hold,
     /// Closing the selector begins.
@@ -98,6 +102,10 @@ fn answer(w: &Words, p: &mut Pass, chan: ChanNo, call: OnChannel) -> Told
             Told::Registered(try_register(w, p, ZERO, S, chan, Ops::of(ops), att))
         }
         OnChannel::Close => Told::Flag(close_channel(w, p, ZERO, chan)),
+        OnChannel::Cancel => {
+            cancels_its_key(w, p, chan);
+            Told::Done
+        }
         OnChannel::Hold => {
             w.try_hold_bit(p, ONE, chan);
             Told::Done
@@ -176,9 +184,16 @@ fn calls_on_a_channel(rt: HostRuntime) -> Result<(), Fail> {
             OnChannel::Register(1, 0),
             Told::Registered(Err(ChannelError::ClosedSelector)),
         ),
+        (0, OnChannel::Cancel, Told::Done),
+        (
+            0,
+            OnChannel::Register(1, 0),
+            Told::Registered(Err(ChannelError::CancelledKey)),
+        ),
         (0, OnChannel::Close, Told::Flag(true)),
         (0, OnChannel::Close, Told::Flag(false)),
         (0, OnChannel::IsOpen, Told::Flag(false)),
+        (0, OnChannel::IsRegistered, Told::Flag(true)),
         (0, OnChannel::KeyFor, Told::Key(Some(key(0)))),
         (
             0,
@@ -233,6 +248,18 @@ fn cancels(w: &Words, p: &mut Pass, key: KeyNo)
         serial: key.serial,
     };
     cancel(w, p, ZERO, key.sel, k);
+}
+
+/// Cancels the channel's key, where it has one.
+fn cancels_its_key(w: &Words, p: &mut Pass, chan: ChanNo)
+    requires idle { AreIdle w.now p.old }
+    requires channel { HasChannel (view w.now p.old) chan }
+    ensures idle { AreIdle w.now p.new }
+    ensures channels { (c : AChannel) → HasChannel (view w.now p.old) c → HasChannel (view w.now p.new) c }
+{
+    if let Some(key) = key_for(w, p, ZERO, chan, S) {
+        cancels(w, p, key);
+    }
 }
 
 /// A selection removes the cancelled key of index 0, and makes the index free.
@@ -293,6 +320,67 @@ fn an_index_is_given_to_a_second_key(rt: HostRuntime) -> Result<(), Fail> {
         Err(ChannelError::Full)
     );
     assert_eq!(rt; registered(&words, &mut p, second), Ok(key(1)));
+    Ok(())
+}
+
+/// The other caller takes the hold of the channel. Says whether nobody had it.
+fn holds(w: &Words, p: &mut Pass, chan: ChanNo) -> bool
+    requires ready { IsReady w.now p.old ONE }
+    requires channel { HasChannel (view w.now p.old) chan }
+    ensures { IsTrue result → HoldsChannel w.now p.new ONE chan }
+{
+    w.try_hold_bit(p, ONE, chan).is_none()
+}
+
+/// The other caller gives the hold back.
+fn gives_back(w: &Words, mut p: Pass, chan: ChanNo) -> Pass
+    requires { HoldsChannel w.now p ONE chan }
+    ensures { IsReady w.now result ONE }
+{
+    w.release(&mut p, ONE, chan);
+    p
+}
+
+/// Makes the channel non-blocking and registers it, as soon as nobody else has the hold.
+fn waits_and_registers<R: Wait>(
+    rt: &R,
+    w: &Words,
+    mut p: Pass,
+    chan: ChanNo,
+) -> (Pass, Result<(), ChannelError>, Result<KeyNo, ChannelError>)
+    requires ready { IsReady w.now p ZERO }
+    requires unpinned { HasNoPin (view w.now p) ZERO }
+    requires selector { HasSelector (view w.now p) S }
+    requires channel { HasChannel (view w.now p) chan }
+    ensures { IsReady w.now result.0 ZERO }
+{
+    let mode = set_blocking(rt, w, &mut p, ZERO, chan, false);
+    let key = register(rt, w, &mut p, ZERO, S, chan, Ops::READ, 0);
+    (p, mode, key)
+}
+
+#[test]
+fn calls_wait_for_the_hold(rt: HostRuntime) -> Result<(), Fail> {
+    let (words, mut p) = Words::make(rt.alloc(), SMALL)?;
+    words.draw(&mut p, ZERO)?;
+    words.draw(&mut p, ONE)?;
+    set_up(&words, &mut p);
+    let chan = open(&words, &mut p, Kind::Source)?;
+    let mut q = words.hand_over(&mut p, ONE)?;
+    assert!(rt; holds(&words, &mut q, chan));
+    let ((_p, mode, registered), _q) = join(
+        &rt,
+        || -> (Pass, Result<(), ChannelError>, Result<KeyNo, ChannelError>)
+            requires { IsReady words p ZERO × HasNoPin (view words p) ZERO × HasSelector (view words p) S × HasChannel (view words p) chan }
+            ensures { IsReady words result.0 ZERO }
+        { waits_and_registers(&rt, &words, p, chan) },
+        || -> Pass
+            requires { HoldsChannel words q ONE chan }
+            ensures { IsReady words result ONE }
+        { gives_back(&words, q, chan) },
+    );
+    assert!(rt; mode == Ok(()));
+    assert!(rt; registered == Ok(key(0)));
     Ok(())
 }
 

@@ -1,4 +1,4 @@
-use Rattle.std.proofs.Common.{◌≡◌, ◌+◌, suc, ◌<◌, true, ℕ, Some, refl, ap, sym, add-one, arith, rules}
+use Rattle.std.proofs.Common.{◌≡◌, ◌<◌, true, ℕ, Some, refl, ap, sym, add-one, rules}
 use Rattle.std.proofs.lemmas.Bool.{or_left}
 use Rattle.nio_event.specs.Conditions.{has_taken, may_put_due}
 use Rattle.nio_event.specs.Permanent.{a_taken_index}
@@ -7,10 +7,10 @@ use Rattle.nio_steps.proofs.CallLaws.{returned, left_ask, left_after}
 use Rattle.nio_steps.specs.Plan.{reply}
 use Rattle.nio_words.proofs.Pins.{no_pin_stays}
 use Rattle.nio_words.proofs.Views.{step_acts}
-use Rattle.nio_words.specs.Passes.{acts_seen, state_seen}
+use Rattle.nio_words.specs.Passes.{state_seen}
 use Rattle.nio_channel.proofs.Chains.{left_at}
-use Rattle.nio_channel.proofs.Claimed.{taken_serial, found_since_taken, has_claimed_again}
-use Rattle.nio_channel.proofs.Held.{own_more, had_stays, may_note_stays}
+use Rattle.nio_channel.proofs.Claimed.{taken_serial, has_claimed_again}
+use Rattle.nio_channel.proofs.Held.{had_stays, may_note_stays}
 use Rattle.nio_channel.proofs.claiming.claim_taken.Goals as goal
 
 pub claim_again-requires-clause-holds : goal.claim_again-requires-clause-holds

@@ -1,4 +1,3 @@
-use Rattle.std.proofs.Common.{false}
 use Rattle.nio_steps.specs.Calls.{PartClause}
 use Rattle.nio_steps.specs.ChannelCalls.{registered_or, is_registered_plan}
 use Rattle.nio_steps.specs.Plan.{reply, ◌>>=◌}

@@ -1,4 +1,4 @@
-use Rattle.std.proofs.Common.{◌≡◌, ◌||◌, refl, ap, sym, rules}
+use Rattle.std.proofs.Common.{◌≡◌, ◌||◌, ap, rules}
 use Rattle.std.specs.Prelude.{is_some}
 use Rattle.nio_steps.proofs.CallLaws.{returned, ran_then}
 use Rattle.nio_steps.specs.Plan.{reply}

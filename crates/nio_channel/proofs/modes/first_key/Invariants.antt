@@ -1,7 +1,7 @@
 use Rattle.nio_steps.specs.Calls.{PartClause}
 use Rattle.nio_steps.specs.Plan.{reply, ◌>>=◌}
 use Rattle.nio_steps.specs.Sweeps.{seek_to}
-use Rattle.nio_words.specs.Passes.{limits_of, state_seen}
+use Rattle.nio_words.specs.Passes.{limits_of}
 use Rattle.nio_words.specs.Views.{view}
 use Rattle.nio_channel.specs.Held.{HoldsChannel, IsClearBelow}
 use Rattle.nio_steps.specs.ChannelCalls.{first_key, key_for_plan}

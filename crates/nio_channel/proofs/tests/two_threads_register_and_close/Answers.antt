@@ -1,4 +1,4 @@
-use Rattle.std.proofs.Common.{◌≡◌, inl, refl}
+use Rattle.std.proofs.Common.{inl, refl}
 use Rattle.nio_channel.specs.Idle.{zero, one}
 use Rattle.nio_channel.proofs.Idle.{zero_other, unpinned_same, selector_same, channel_same}
 use Rattle.nio_channel.proofs.tests.two_threads_register_and_close.Goals as goal

@@ -11,7 +11,7 @@ returns-in-Some-Script-clause-legal g c = λ words done.
 
 pub returns-in-None-clause-usage_said : goal.returns-in-None-clause-usage_said
 returns-in-None-clause-usage_said g c = λ usage. record {
-  said = subst (Notes g.K.Sink c.args.output.now c.note.new.output) c.as_bytes.ensures.value c.note.ensures.said;
+  said = subst (Notes g.K.Sink c.args.output.now c.offer.new.output) c.as_bytes.ensures.value c.offer.ensures.said;
   unread = refl;
   uncalled = refl;
 }

@@ -1,0 +1,157 @@
+-- The histories of whole calls, and of steps that no calls make, by computing.
+use Rattle.std.proofs.Common.{◌≡◌, ℕ, ◌<◌, true, false, Ok, List, [], ◌∷◌, ◌++◌, take, drop, append_assoc, refl, sym, subst, arith, lit<, lit≤}
+use Rattle.std.proofs.lemmas.List.{append-nil}
+use Rattle.nio_base.specs.declared.kind.Kind.TheVariants.{Source}
+use Rattle.nio_base.specs.declared.limits.Limits.{Limits}
+use Rattle.nio_event.proofs.Legal.{legal_empty, legal_more}
+use Rattle.nio_event.specs.Answers.{bits_below, count_below}
+use Rattle.nio_event.specs.Histories.{state_after, mine, IsStep, IsLegal}
+use Rattle.nio_event.specs.Worked.{u, v, s, c, small_limits}
+use Rattle.nio_event.specs.declared.act.Act.{Act}
+use Rattle.nio_event.specs.declared.event.Event.{Event}
+use Rattle.nio_orderly.proofs.CallLists.{run_one}
+use Rattle.nio_orderly.proofs.Examples.{for_each_caller, cancellation_is_lost}
+use Rattle.nio_orderly.proofs.OrderlyCare.{orderly_is_careful}
+use Rattle.nio_orderly.specs.Examples.{unnoted_key}
+use Rattle.nio_orderly.specs.Made.{Made, IsRun, draw, open_selector, open_channel, try_set_blocking, try_register, close_channel}
+use Rattle.nio_orderly.specs.OrderlyExamples.{closed_in_registration, its_key, calls_of_u, calls_of_v, ClosedInRegistration, StepsOfNoCalls}
+use Rattle.nio_orderly.specs.Orderly.{AreRuns, AreCallsOf, HasMadeCalls}
+use Rattle.nio_steps.specs.ChannelCalls.{open_channel_plan, try_set_blocking_plan, try_register_plan, close_channel_plan}
+use Rattle.nio_steps.specs.KeyCalls.{cancel_plan}
+use Rattle.nio_steps.specs.SelectCalls.{open_selector_plan}
+use Rattle.nio_steps.specs.Sweeps.{sweep, seek}
+
+-- each of the events is a step, one after the other
+abbrev AreSteps : Limits → List Event → List Event → Type 0
+AreSteps l past [] = Unit {0}
+AreSteps l past (e ∷ later) = IsStep l past e × AreSteps l (past ++ e ∷ []) later
+
+legal_by_steps : (l : Limits) (past later : List Event) → IsLegal l past → AreSteps l past later → IsLegal l (past ++ later)
+legal_by_steps l past [] legal steps = subst (IsLegal l) (sym (append-nil past)) legal
+legal_by_steps l past (e ∷ later) legal steps =
+    subst (IsLegal l) (append_assoc past (e ∷ []) later) (legal_by_steps l (past ++ e ∷ []) later (legal_more l past e legal steps.0) steps.1)
+
+below_one : (P : ℕ → Type 0) → P 0 → (n : ℕ) → n < 1 → P n
+below_one P first n below =
+    let is_first : 0 ≡ n = omega arith in
+    subst P is_first first
+
+-- one thing, and then the others
+infixr 5 ◌▸◌
+abbrev ◌▸◌ : {A B : Type 0} → A → B → A × B
+first ▸ later = (first, later)
+
+its_steps : AreSteps small_limits [] closed_in_registration
+unfolding bits_below count_below
+its_steps =
+    record { by_caller = lit< tt; condition = (lit< tt, refl, refl); answers = refl } ▸
+    record { by_caller = lit< tt; condition = (lit< tt, refl, refl); answers = refl } ▸
+    -- u opens a selector and a channel
+    record { by_caller = lit< tt; condition = lit< tt; answers = refl } ▸
+    record { by_caller = lit< tt; condition = tt; answers = refl } ▸
+    record { by_caller = lit< tt; condition = (lit< tt, λ n below. absurd (omega arith)); answers = refl } ▸
+    record { by_caller = lit< tt; condition = (lit≤ tt, below_one (λ k. ((state_after (take 5 closed_in_registration)).chan k).made ≡ true) refl); answers = refl } ▸
+    -- it sets non-blocking mode
+    record { by_caller = lit< tt; condition = lit< tt; answers = refl } ▸
+    record { by_caller = lit< tt; condition = (lit< tt, refl); answers = refl } ▸
+    record { by_caller = lit< tt; condition = lit< tt; answers = refl } ▸
+    record { by_caller = lit< tt; condition = (lit< tt, refl, λ e. absurd cc); answers = refl } ▸
+    record { by_caller = lit< tt; condition = (lit< tt, refl); answers = refl } ▸
+    -- it registers the channel, till the key is published
+    record { by_caller = lit< tt; condition = lit< tt; answers = refl } ▸
+    record { by_caller = lit< tt; condition = (lit< tt, refl); answers = refl } ▸
+    record { by_caller = lit< tt; condition = lit< tt; answers = refl } ▸
+    record { by_caller = lit< tt; condition = (lit< tt, lit< tt); answers = refl } ▸
+    record { by_caller = lit< tt; condition = lit< tt; answers = refl } ▸
+    record { by_caller = lit< tt; condition = lit< tt; answers = refl } ▸
+    record { by_caller = lit< tt; condition = ((lit< tt, lit< tt), lit< tt, refl, λ n below. absurd (omega arith)); answers = refl } ▸
+    record { by_caller = lit< tt; condition = (lit< tt, lit≤ tt, below_one (λ k. ((state_after (take 18 closed_in_registration)).key 0 k).claimed ≡ true) refl); answers = refl } ▸
+    record { by_caller = lit< tt; condition = lit< tt; answers = refl } ▸
+    record { by_caller = lit< tt; condition = ((lit< tt, lit< tt), refl); answers = refl } ▸
+    record { by_caller = lit< tt; condition = ((lit< tt, lit< tt), refl); answers = refl } ▸
+    record { by_caller = lit< tt; condition = (lit< tt, (lit< tt, lit< tt), refl, refl, refl); answers = refl } ▸
+    record { by_caller = lit< tt; condition = ((lit< tt, lit< tt), refl); answers = refl } ▸
+    -- v closes the channel, and cancels its key
+    record { by_caller = lit< tt; condition = (lit< tt, refl); answers = refl } ▸
+    record { by_caller = lit< tt; condition = (lit< tt, lit< tt); answers = refl } ▸
+    record { by_caller = lit< tt; condition = ((lit< tt, lit< tt), refl, refl); answers = refl } ▸
+    record { by_caller = lit< tt; condition = ((lit< tt, lit< tt), refl, refl); answers = refl } ▸
+    record { by_caller = lit< tt; condition = ((lit< tt, lit< tt), refl); answers = refl } ▸
+    -- u goes on with its registration
+    record { by_caller = lit< tt; condition = lit< tt; answers = refl } ▸
+    record { by_caller = lit< tt; condition = ((lit< tt, lit< tt), refl, refl); answers = refl } ▸
+    record { by_caller = lit< tt; condition = ((lit< tt, lit< tt), refl); answers = refl } ▸
+    record { by_caller = lit< tt; condition = (lit< tt, refl); answers = refl } ▸
+    tt
+
+-- ---- the calls
+
+next_call : (l : Limits) (call : Made) (calls : List Made) (xs ys : List Act) → IsRun l call xs → AreRuns l calls ys → AreRuns l (call ∷ calls) (xs ++ ys)
+next_call l call calls xs ys run later = record { first = xs; second = ys; parts = refl; is_first = run; is_second = later }
+
+abbrev own_u : List Act
+own_u = mine u closed_in_registration
+
+abbrev own_v : List Act
+own_v = mine v closed_in_registration
+
+opens_selector : IsRun small_limits (open_selector (Ok s)) (take 1 (drop 1 own_u))
+unfolding open_selector_plan seek
+opens_selector = refl ▸ refl
+
+opens_channel : IsRun small_limits (open_channel Source (Ok c)) (take 3 (drop 2 own_u))
+unfolding open_channel_plan seek
+opens_channel = refl ▸ refl ▸ refl ▸ refl
+
+sets_blocking : IsRun small_limits (try_set_blocking c false (Ok tt)) (take 5 (drop 5 own_u))
+unfolding try_set_blocking_plan
+sets_blocking = refl ▸ refl ▸ refl ▸ refl ▸ refl ▸ refl
+
+registers : IsRun small_limits (try_register s c 1 7 (Ok its_key)) (drop 10 own_u)
+unfolding try_register_plan seek
+registers = refl ▸ refl ▸ refl ▸ refl ▸ refl ▸ refl ▸ refl ▸ refl ▸ refl ▸ refl ▸ refl ▸ refl ▸ refl ▸ refl ▸ refl ▸ refl ▸ refl ▸ refl
+
+closes_channel : IsRun small_limits (close_channel c true) (drop 1 own_v)
+unfolding close_channel_plan cancel_plan sweep
+closes_channel = refl ▸ refl ▸ refl ▸ refl ▸ refl ▸ refl
+
+runs_u : AreRuns small_limits calls_of_u own_u
+runs_u =
+    next_call small_limits (draw u) (drop 1 calls_of_u) (take 1 own_u) (drop 1 own_u) refl
+    (next_call small_limits (open_selector (Ok s)) (drop 2 calls_of_u) (take 1 (drop 1 own_u)) (drop 2 own_u) opens_selector
+    (next_call small_limits (open_channel Source (Ok c)) (drop 3 calls_of_u) (take 3 (drop 2 own_u)) (drop 5 own_u) opens_channel
+    (next_call small_limits (try_set_blocking c false (Ok tt)) (drop 4 calls_of_u) (take 5 (drop 5 own_u)) (drop 10 own_u) sets_blocking
+    (run_one small_limits (try_register s c 1 7 (Ok its_key)) (drop 10 own_u) registers))))
+
+runs_v : AreRuns small_limits calls_of_v own_v
+runs_v = next_call small_limits (draw v) (drop 1 calls_of_v) (take 1 own_v) (drop 1 own_v) refl (run_one small_limits (close_channel c true) (drop 1 own_v) closes_channel)
+
+calls_u : AreCallsOf small_limits own_u calls_of_u
+calls_u = record { runs = runs_u; in_order = tt ▸ tt ▸ tt ▸ tt ▸ tt ▸ tt }
+
+calls_v : AreCallsOf small_limits own_v calls_of_v
+calls_v = record { runs = runs_v; in_order = tt ▸ tt ▸ tt }
+
+made_u : HasMadeCalls small_limits own_u
+made_u = record { calls = calls_of_u; are = calls_u }
+
+made_v : HasMadeCalls small_limits own_v
+made_v = record { calls = calls_of_v; are = calls_v }
+
+made_none : HasMadeCalls small_limits []
+made_none = record { calls = []; are = record { runs = refl; in_order = tt } }
+
+pub closed_in_registration_is_whole : ClosedInRegistration
+closed_in_registration_is_whole = record {
+  legal = legal_by_steps small_limits [] closed_in_registration (legal_empty small_limits) its_steps;
+  whole = for_each_caller closed_in_registration refl (HasMadeCalls small_limits) made_u made_v made_none;
+  of_u = calls_u;
+  of_v = calls_v;
+  cancelled = refl;
+}
+
+pub steps_of_no_calls : StepsOfNoCalls
+steps_of_no_calls = record {
+  legal = cancellation_is_lost.legal;
+  disorderly = λ l orderly. cancellation_is_lost.careless (orderly_is_careful l unnoted_key orderly);
+}

@@ -1,0 +1,11 @@
+pub mod Made
+pub mod Orderly
+pub mod OrderlyLaws
+pub mod Careful
+pub mod Owed
+pub mod Settled
+pub mod AfterClosing
+pub mod OrderlyCare
+pub mod Examples
+pub mod Waited
+pub mod OrderlyExamples

@@ -1,0 +1,78 @@
+-- Histories of whole calls, and one of steps that no calls make.
+use Rattle.std.specs.Prelude.{◌≡◌, true, false, Some, None, Ok, List, [], ◌∷◌}
+use Rattle.nio_base.specs.declared.kind.Kind.TheVariants.{Source}
+use Rattle.nio_base.specs.declared.limits.Limits.{Limits}
+use Rattle.nio_base.specs.declared.numbers.KeyNo.{KeyNo}
+use Rattle.nio_event.specs.Histories.{state_after, mine, event_of, IsLegal}
+use Rattle.nio_event.specs.Worked.{u, v, s, c, chan, gate, stage, noted, small_limits}
+use Rattle.nio_event.specs.declared.act.Act.TheVariants.{DrawBit, MakeSelector, LookGate, CancelKey, SwapInterest, SwapNote, MakeChannel, LookChannel, Claim, RaiseKeys, LookKeys, Publish, LookReg, Enrol, LookChannels, RaiseChannels, TryHoldBit, Release, SetMode, CloseBit, Pin, Unpin}
+use Rattle.nio_event.specs.declared.event.Event.{Event}
+use Rattle.nio_orderly.specs.Examples.{unnoted_key}
+use Rattle.nio_orderly.specs.Made.{Made, draw, open_selector, open_channel, try_set_blocking, try_register, close_channel}
+use Rattle.nio_orderly.specs.Orderly.{AreCallsOf, IsWhole, IsOrderly}
+
+-- caller u opens a selector and a channel and registers the channel; caller v closes the channel when u has published
+-- the key, and u finds it closed
+abbrev pub closed_in_registration : List Event
+closed_in_registration =
+    event_of u (DrawBit u false) ∷
+    event_of v (DrawBit v false) ∷
+    -- u opens a selector and a channel
+    event_of u (MakeSelector s false) ∷
+    event_of u (LookChannels 0) ∷
+    event_of u (MakeChannel c Source false) ∷
+    event_of u (RaiseChannels 1 0) ∷
+    -- it sets non-blocking mode
+    event_of u (LookChannel c (chan false true)) ∷
+    event_of u (TryHoldBit c None) ∷
+    event_of u (LookChannel c (chan false true)) ∷
+    event_of u (SetMode c false (chan false true)) ∷
+    event_of u (Release c) ∷
+    -- it registers the channel, till the key is published
+    event_of u (LookChannel c (chan false false)) ∷
+    event_of u (TryHoldBit c None) ∷
+    event_of u (LookChannel c (chan false false)) ∷
+    event_of u (LookReg c s None) ∷
+    event_of u (LookGate s (gate false false)) ∷
+    event_of u (LookKeys s 0) ∷
+    event_of u (Claim s 0 c false) ∷
+    event_of u (RaiseKeys s 1 0) ∷
+    event_of u (LookGate s (gate false false)) ∷
+    event_of u (SwapInterest s 0 1 0) ∷
+    event_of u (SwapNote s 0 7 0) ∷
+    event_of u (Enrol c s 0 0 None) ∷
+    event_of u (Publish s 0 (stage 0 false false false)) ∷
+    -- v closes the channel, and cancels its key
+    event_of v (CloseBit c false) ∷
+    event_of v (LookReg c s (Some (noted 0 0))) ∷
+    event_of v (Pin s 0 (stage 0 true false false)) ∷
+    event_of v (CancelKey s 0 (stage 0 true false false)) ∷
+    event_of v (Unpin s 0) ∷
+    -- u goes on with its registration
+    event_of u (LookChannel c (chan true false)) ∷
+    event_of u (CancelKey s 0 (stage 0 true true false)) ∷
+    event_of u (Unpin s 0) ∷
+    event_of u (Release c) ∷ []
+
+abbrev pub its_key : KeyNo
+its_key = record { sel = s; index = 0; serial = 0 }
+
+abbrev pub calls_of_u : List Made
+calls_of_u = draw u ∷ open_selector (Ok s) ∷ open_channel Source (Ok c) ∷ try_set_blocking c false (Ok tt) ∷ try_register s c 1 7 (Ok its_key) ∷ []
+
+abbrev pub calls_of_v : List Made
+calls_of_v = draw v ∷ close_channel c true ∷ []
+
+-- the history is legal and whole
+pub record ClosedInRegistration : Type 0 where
+  pub legal : IsLegal small_limits closed_in_registration
+  pub whole : IsWhole small_limits closed_in_registration
+  pub of_u : AreCallsOf small_limits (mine u closed_in_registration) calls_of_u
+  pub of_v : AreCallsOf small_limits (mine v closed_in_registration) calls_of_v
+  pub cancelled : (state_after closed_in_registration).key 0 0 ≡ stage 0 true true false
+
+-- A registration notes its key before it publishes it: who publishes one without noting it makes no whole calls. The
+-- history is legal, so its steps alone don't tell.
+pub record StepsOfNoCalls : Type 0 where
+  pub legal : IsLegal small_limits unnoted_key
+  pub disorderly : (l : Limits) → ¬ IsOrderly l unnoted_key

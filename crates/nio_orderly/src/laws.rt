@@ -1,0 +1,78 @@
+//! Laws of orderly and of careful histories. Each is the contract of a function that does nothing.
+ghost use Rattle.nio_orderly.specs.AfterClosing.{OnlyPublishersOwe, ClosedSelectorsHaveNoKey};
+ghost use Rattle.nio_orderly.specs.Careful.{BeginningsAreCareful};
+ghost use Rattle.nio_orderly.specs.OrderlyLaws.{BeginningsAreOrderly, WholeIsOrderly, OneCallMore, OrderlyEndsInCall, SerialIsWhole, SerialCallMore};
+ghost use Rattle.nio_orderly.specs.Examples.{DebtStands, CancellationIsLost};
+ghost use Rattle.nio_orderly.specs.OrderlyCare.{OrderlyIsCareful, WholeIsSettled, OrderlyOwes, WholeLosesNoKey, CloseChannelCloses, FinishCloses, AfterCloseChannel, NoKeyAfterCloseChannel, NoKeyAfterFinish, NoKeyAfterClose};
+ghost use Rattle.nio_orderly.specs.OrderlyExamples.{ClosedInRegistration, StepsOfNoCalls};
+ghost use Rattle.nio_orderly.specs.Owed.{NothingIsLost};
+ghost use Rattle.nio_orderly.specs.Settled.{SettledLosesNoKey};
+ghost use Rattle.nio_orderly.specs.Waited.{WaitingCallsAreCalls, CallsWithoutWaiting};
+
+/// A beginning of an orderly history is orderly: each caller made whole calls, and a beginning of one more. In a
+/// serial history each caller makes whole calls, and so it does after one call more. A call that waits is a
+/// list of whole calls that don't.
+pub fn orderly_law()
+    ensures beginnings { BeginningsAreOrderly }
+    ensures whole { WholeIsOrderly }
+    ensures more { OneCallMore }
+    ensures ends { OrderlyEndsInCall }
+    ensures serial { SerialIsWhole }
+    ensures serial_more { SerialCallMore }
+    ensures waits { WaitingCallsAreCalls }
+    ensures unwaiting { CallsWithoutWaiting }
+{}
+
+/// An orderly history is careful, whether it is legal or not, and a caller that has finished its calls owes
+/// nothing. So in a legal and orderly history what is owed is owed by a caller that has still to do it, and in a
+/// whole one no closed channel and no selector that its closer has entered has a valid key.
+pub fn orderly_care_law()
+    ensures careful { OrderlyIsCareful }
+    ensures settled { WholeIsSettled }
+    ensures owed { OrderlyOwes }
+    ensures none_lost { WholeLosesNoKey }
+{}
+
+/// What a closing leaves in a legal and orderly history, whatever other callers do then. After a
+/// `close_channel` that answers true only who publishes a key of the channel has still to cancel it, and once each
+/// call is finished none is valid. After a `try_finish` that answers Closed, or a `close` that answers true, no key of
+/// the selector is valid any more.
+pub fn closing_calls_law()
+    ensures closes { CloseChannelCloses }
+    ensures finishes { FinishCloses }
+    ensures channel { AfterCloseChannel }
+    ensures no_key_of_channel { NoKeyAfterCloseChannel }
+    ensures no_key_of_selector { NoKeyAfterFinish }
+    ensures no_key_after_close { NoKeyAfterClose }
+{}
+
+/// A channel that is closed while it is registered: the callers make whole calls, and the key is cancelled. A legal
+/// history whose steps are those of no calls.
+pub fn orderly_examples_law()
+    ensures whole { ClosedInRegistration }
+    ensures disorderly { StepsOfNoCalls }
+{}
+
+/// No cancellation is lost. In a legal and careful history, where a key is valid though its channel is closed or
+/// its selector is shut, a caller has still to cancel or remove it. So where no caller owes that, no closed
+/// channel and no selector that its closer has entered has a valid key. A beginning of a careful history is careful.
+pub fn owed_law()
+    ensures owed { NothingIsLost }
+    ensures settled { SettledLosesNoKey }
+    ensures beginnings { BeginningsAreCareful }
+{}
+
+/// Once a caller has closed a channel and cancelled its keys, only who publishes a key of the channel has still
+/// to cancel it. Once a caller has closed a selector, entered it and removed its keys, no key of it is valid any
+/// more.
+pub fn after_closing_law()
+    ensures channel { OnlyPublishersOwe }
+    ensures selector { ClosedSelectorsHaveNoKey }
+{}
+
+/// There is a legal and careful history in which a debt stands, and a legal history that isn't careful in which a
+/// cancellation is lost.
+pub fn owed_examples_law()
+    ensures debt { DebtStands }
+    ensures lost { CancellationIsLost }
+{}

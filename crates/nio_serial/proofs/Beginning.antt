@@ -1,0 +1,236 @@
+-- Beginning a selection amounts to the documented call.
+use Rattle.std.proofs.Common.{◌≡◌, ℕ, zero, suc, ◌<◌, ◌==◌, nat_lt, Bool, true, false, cond, not, ◌&&◌, ◌||◌, if◌then◌else◌, Option, Some, None, option_map, is_some, Result, Ok, Err, List, [], ◌∷◌, ◌++◌, map, filter, refl, ap, sym, ◌∙◌, subst, ⊎_elim, arith, eq-eqb}
+use Rattle.std.proofs.lemmas.Bool.{both_ways, false_from_ne_true, and_parts, cases_eq, lt-ltb, ltb-true, not-true, cond-true, cond-false, or_left, or_right}
+use Rattle.std.proofs.lemmas.List.Elements.{All-filter, All-contains}
+use Rattle.std.proofs.lemmas.List.Folds.{list_any-append}
+use Rattle.std.specs.List.{Contains, list_any}
+use Rattle.nio_base.specs.declared.numbers.CallerNo.{CallerNo}
+use Rattle.nio_base.specs.declared.numbers.KeyId.{KeyId}
+use Rattle.nio_base.specs.declared.numbers.SelNo.{SelNo}
+use Rattle.nio_event.specs.Acts.{taken_by}
+use Rattle.nio_event.specs.Sets.{in_key_set, in_cancelled_set, is_valid}
+use Rattle.nio_event.specs.State.{State, put, with_turn, with_begun}
+use Rattle.nio_event.specs.declared.found.Mode.{Mode}
+use Rattle.nio_event.specs.declared.found.Stage.{Stage}
+use Rattle.nio_event.specs.declared.reply.Reply.{Reply}
+use Rattle.nio_event.specs.declared.reply.Reply.TheVariants as reply
+use Rattle.nio_plain.proofs.Found.{below_all}
+use Rattle.nio_plain.specs.ScriptState.{ScriptState, Selection as ScriptSelection}
+use Rattle.nio_plain.specs.Seq.Answers.{Answered, unchanged}
+use Rattle.nio_plain.specs.Seq.Names.{below, key_at}
+use Rattle.nio_plain.specs.Seq.Removing.{removed_key, without_keys_where}
+use Rattle.nio_plain.specs.Seq.Selections.{without_cancelled, looked_keys, selection_begun, begun_with}
+use Rattle.nio_plain.specs.declared.rules.Rules.TheVariants.{Now}
+use Rattle.nio_steps.proofs.Lists.{contains-middle}
+use Rattle.nio_steps.proofs.PerformLaws.{perform_then_on}
+use Rattle.nio_steps.specs.Perform.{Performed, perform}
+use Rattle.nio_steps.specs.Plan.{Plan, ◌>>=◌}
+use Rattle.nio_steps.specs.SelectCalls.{Selection, LookedOver, given_back, list_below, look_over, looked_key, begin_below, begin_with_turn, begin_open, try_begin_plan}
+use Rattle.nio_steps.specs.Steps.{look_keys}
+use Rattle.nio_steps.specs.Sweeps.{sweep_over}
+use Rattle.nio_steps.specs.declared.looked.LookedKey.{LookedKey}
+use Rattle.nio_steps.specs.declared.refusal.BeginError.{BeginError}
+use Rattle.nio_steps.specs.declared.refusal.BeginError.TheVariants as BeginError
+use Rattle.nio_serial.proofs.Base.{put-here, put-twice, put-under, settled-cancelled, branch}
+use Rattle.nio_serial.proofs.FreeWords.{is_not_free, filter-same, list_below-performed}
+use Rattle.nio_serial.proofs.Removing.{settled-removed}
+use Rattle.nio_serial.proofs.Sweeping.{has_index, has_next, goes, swept, looked_over, look-performed}
+use Rattle.nio_serial.specs.Documented.{Progress, Selecting, settled, settled_state, looked_pair, shown, documented, amounts}
+use Rattle.nio_serial.specs.Lines.{after_begin}
+use Rattle.nio_serial.specs.Replies.{begin_reply}
+
+-- ---- lists
+
+filter-filter : (p q : ℕ → Bool) (xs : List ℕ) → filter p (filter q xs) ≡ filter (λ i. q i && p i) xs
+filter-filter p q [] = refl
+filter-filter p q (x ∷ xs) = by_test (q x) (filter-filter p q xs)
+  where
+    by_test : (b : Bool) → filter p (filter q xs) ≡ filter (λ i. q i && p i) xs
+        → filter p (cond b (x ∷ filter q xs) (filter q xs)) ≡ cond (b && p x) (x ∷ filter (λ i. q i && p i) xs) (filter (λ i. q i && p i) xs)
+    by_test true rest = ap (λ ys. cond (p x) (x ∷ ys) ys) rest
+    by_test false rest = rest
+
+any-filter : (p q : ℕ → Bool) (xs : List ℕ) → list_any p (filter q xs) ≡ list_any (λ i. q i && p i) xs
+any-filter p q [] = refl
+any-filter p q (x ∷ xs) = by_test (q x) (any-filter p q xs)
+  where
+    by_test : (b : Bool) → list_any p (filter q xs) ≡ list_any (λ i. q i && p i) xs
+        → list_any p (cond b (x ∷ filter q xs) (filter q xs)) ≡ ((b && p x) || list_any (λ i. q i && p i) xs)
+    by_test true rest = ap (λ b. p x || b) rest
+    by_test false rest = rest
+
+any-below : (p : ℕ → Bool) (n i : ℕ) → i < n → p i ≡ true → list_any p (below n) ≡ true
+any-below p zero i low is = absurd (omega arith)
+any-below p (suc n) i low is =
+    list_any-append p (below n) (n ∷ [])
+    ∙ ⊎_elim
+    (λ (e : i ≡ n). or_right (list_any p (below n)) (p n || false) (or_left (p n) false (subst (λ (k : ℕ). p k ≡ true) e is)))
+    (λ (other : i ≡ n → ⊥). or_left (list_any p (below n)) (p n || false) (any-below p n i (omega arith) is))
+    (cases_eq i n)
+
+-- the indexes below n that pass the test have an index that does
+pub index-there : (q : ℕ → Bool) (n i : ℕ) → i < n → q i ≡ true → has_index i (filter q (below n)) ≡ true
+index-there q n i low is =
+    any-filter (λ j. j == i) q (below n) ∙ any-below (λ j. q j && (j == i)) n i low (λ j. is j && eq-eqb i i refl j)
+
+or_true : (b : Bool) → (b || true) ≡ true
+or_true true = refl
+or_true false = refl
+
+-- ---- the call
+
+module _ (st : State) (now : Progress) (me : CallerNo) (s : SelNo)
+    (none_due : (i : ℕ) → st.put_due s.0 i ≡ false) (untaken : (i : ℕ) → st.taker s.0 i ≡ None)
+    (published : (i : ℕ) → (st.key s.0 i).published ≡ nat_lt i (st.keys_high s.0)) (free : (i : ℕ) → st.free s.0 i ≡ true → (st.key s.0 i).removed ≡ true) where
+  abbrev ds : ScriptState
+  ds = documented st now
+
+  abbrev mark : ℕ
+  mark = st.keys_high s.0
+
+  -- the selection's turn
+  abbrev turned : State
+  turned = with_begun (with_turn st s.0 (Some me)) s.0 true
+
+  -- the indexes that it lists
+  abbrev listed : List ℕ
+  listed = filter (is_not_free turned me s) (below mark)
+
+  abbrev over : LookedOver
+  over = looked_over turned me s none_due untaken listed
+
+  abbrev left : State
+  left = swept turned me s none_due untaken listed
+
+  abbrev begun : Mode → Selection
+  begun mode = record { selector = s; mode = mode; bound = mark; looked = over.looked; kept = over.kept }
+
+  listed_published : (past : List ℕ) (e : ℕ) (later : List ℕ) → listed ≡ past ++ e ∷ later → (st.key s.0 e).published ≡ true
+  listed_published past e later parts =
+      let low : e < mark = All-contains (λ i. i < mark) listed e (All-filter (is_not_free turned me s) (λ i. i < mark) (below mark) (below_all mark)) (subst (λ xs. Contains xs e) (sym parts) (contains-middle past e later)) in
+      published e ∙ lt-ltb e mark low
+
+  -- ---- what the plan does
+
+  plan : Mode → ℕ → Plan (Result Selection BeginError)
+  plan mode bound = begin_below s mode bound false
+
+  below-performed : (mode : Mode) → perform me (begin_below s mode mark false) turned ≡ record { answer = Ok (begun mode); state = left }
+  below-performed mode =
+      perform_then_on me (list_below s mark) _ turned listed turned (list_below-performed turned me s mark)
+      ∙ perform_then_on me (sweep_over listed (look_over s) (record { looked = []; kept = [] })) _ turned over left (look-performed turned me s none_due untaken listed listed_published)
+
+  open-performed : (mode : Mode) → st.turn s.0 ≡ None → (st.gate s.0).shut ≡ false → perform me (begin_open s mode false) st ≡ record { answer = Ok (begun mode); state = left }
+  open-performed mode no_turn not_shut =
+      ap (λ (o : Option CallerNo). perform me (if is_some o then Plan.reply (Err BeginError.Busy) else begin_with_turn s mode false) (with_begun (with_turn st s.0 (taken_by me o)) s.0 (is_some o && st.begun s.0))) no_turn
+      ∙ (ap (λ (b : Bool). perform me (if b then given_back s (Err BeginError.ClosedSelector) else (look_keys s >>= (λ bound. begin_below s mode bound false))) (with_begun taken s.0 (taken.begun s.0 || not b))) not_shut
+      ∙ (ap (λ (f : ℕ → Bool). perform me (begin_below s mode mark false) (record turned { begun = f })) (ap (λ (b : Bool). put taken.begun s.0 b) (or_true (taken.begun s.0)) ∙ put-twice st.begun s.0 false true)
+      ∙ below-performed mode))
+    where
+      taken : State
+      taken = with_begun (with_turn st s.0 (Some me)) s.0 false
+
+  -- ---- what it comes to
+
+  abbrev swept_ds : State
+  swept_ds = without_cancelled Now ds.shared s.0
+
+  cancelled-listed : (i : ℕ) → (has_index i listed && in_cancelled_set (st.key s.0 i)) ≡ in_cancelled_set (settled (st.key s.0 i))
+  cancelled-listed i = by_test (in_cancelled_set (st.key s.0 i)) refl ∙ sym (settled-cancelled (st.key s.0 i))
+    where
+      k : Stage
+      k = st.key s.0 i
+
+      none_of : (b : Bool) → (b && false) ≡ false
+      none_of true = refl
+      none_of false = refl
+
+      by_test : (b : Bool) → in_cancelled_set k ≡ b → (has_index i listed && b) ≡ b
+      by_test true is =
+          let in_set = (and_parts (in_key_set k) k.cancelled is).0 in
+          let parts = and_parts k.published (not k.removed) in_set in
+          let low : i < mark = ltb-true i mark (sym (published i) ∙ parts.0) in
+          let not_free : st.free s.0 i ≡ false = false_from_ne_true (st.free s.0 i) (λ h. both_ways k.removed (not-true k.removed parts.1) (free i h)) in
+          ap (λ b. b && true) (index-there (is_not_free turned me s) mark i low (ap not not_free))
+      by_test false is = none_of (has_index i listed)
+
+  state-is : settled_state left ≡ with_begun (with_turn swept_ds s.0 (Some me)) s.0 true
+  state-is =
+      settled-removed turned has_next s.0 (λ i. has_index i listed && in_cancelled_set (st.key s.0 i)) (λ _. refl)
+      ∙ ap (λ (test : ℕ → Bool). without_keys_where (settled_state turned) s.0 test has_next) (λ j i. cancelled-listed i j)
+
+  -- the valid keys that are listed are the key set that is left
+  in_set_after : (k : Stage) → in_key_set (cond (in_cancelled_set (settled k)) (removed_key (settled k)) (settled k)) ≡ is_valid k
+  in_set_after k = by_test (in_cancelled_set (settled k)) refl
+    where
+      none_of : (b : Bool) → (b && false) ≡ false
+      none_of true = refl
+      none_of false = refl
+
+      not_valid : (in_set c : Bool) → (in_set && c) ≡ true → (in_set && not c) ≡ false
+      not_valid true true e = refl
+      not_valid true false e = absurd (both_ways false refl e)
+      not_valid false c e = absurd (both_ways false refl e)
+
+      stays_valid : (in_set c : Bool) → (in_set && c) ≡ false → in_set ≡ (in_set && not c)
+      stays_valid true true e = absurd (both_ways true e refl)
+      stays_valid true false e = refl
+      stays_valid false c e = refl
+
+      by_test : (b : Bool) → in_cancelled_set (settled k) ≡ b → in_key_set (cond b (removed_key (settled k)) (settled k)) ≡ is_valid k
+      by_test true is = none_of k.published ∙ sym (not_valid (in_key_set k) k.cancelled (sym (settled-cancelled k) ∙ is))
+      by_test false is = stays_valid (in_key_set k) k.cancelled (sym (settled-cancelled k) ∙ is)
+
+  goes_there : (i : ℕ) → swept_ds.key s.0 i ≡ cond (in_cancelled_set (settled (st.key s.0 i))) (removed_key (settled (st.key s.0 i))) (settled (st.key s.0 i))
+  goes_there i = ap (λ b. cond (b && in_cancelled_set (settled (st.key s.0 i))) (removed_key (settled (st.key s.0 i))) (settled (st.key s.0 i))) (eq-eqb s.0 s.0 refl)
+
+  listed-valid : (i : ℕ) → i < mark → (not (st.free s.0 i) && is_valid (st.key s.0 i)) ≡ in_key_set (swept_ds.key s.0 i)
+  listed-valid i low = by_free (st.free s.0 i) refl ∙ sym (ap in_key_set (goes_there i) ∙ in_set_after (st.key s.0 i))
+    where
+      removed_invalid : (p r c : Bool) → r ≡ true → false ≡ ((p && not r) && not c)
+      removed_invalid true true c e = refl
+      removed_invalid true false c e = absurd (both_ways false refl e)
+      removed_invalid false r c e = refl
+
+      by_free : (b : Bool) → st.free s.0 i ≡ b → (not b && is_valid (st.key s.0 i)) ≡ is_valid (st.key s.0 i)
+      by_free true is = removed_invalid (st.key s.0 i).published (st.key s.0 i).removed (st.key s.0 i).cancelled (free i is)
+      by_free false is = refl
+
+  serial-same : (b : Bool) (k : Stage) → k.serial ≡ (cond b (removed_key (settled k)) (settled k)).serial
+  serial-same true k = refl
+  serial-same false k = refl
+
+  pairs-are : (xs : List ℕ) → map looked_pair (map (λ i. looked_key i (st.key s.0 i) (st.interest s.0 i)) xs) ≡ map (λ i. (key_at swept_ds s.0 i, swept_ds.interest s.0 i)) xs
+  pairs-are [] = refl
+  pairs-are (i ∷ xs) = λ j. (record { index = i; serial = serial-same ((s.0 == s.0) && in_cancelled_set (settled (st.key s.0 i))) (st.key s.0 i) j }, st.interest s.0 i) ∷ pairs-are xs j
+
+  looked-is : map looked_pair over.looked ≡ looked_keys swept_ds s.0
+  looked-is =
+      pairs-are (filter (λ i. is_valid (st.key s.0 i)) listed)
+      ∙ ap (map (λ i. (key_at swept_ds s.0 i, swept_ds.interest s.0 i)))
+      (filter-filter (λ i. is_valid (st.key s.0 i)) (is_not_free turned me s) (below mark)
+      ∙ filter-same (λ i. not (st.free s.0 i) && is_valid (st.key s.0 i)) (λ i. in_key_set (swept_ds.key s.0 i)) mark listed-valid)
+
+  begun-is : (mode : Mode) → selection_begun Now ds me s.0 mode ≡ amounts begin_reply (after_begin now me s) (record { answer = Ok (begun mode); state = left })
+  begun-is mode = λ j. record {
+    reply = reply.Looked (sym looked-is j);
+    left = record {
+      shared = sym state-is j;
+      selection = (ap (λ looked. put ds.selection s.0 (Some (record { mode = mode; bound = mark; looked = looked }))) (sym looked-is)
+      ∙ sym (put-under (λ _ o. option_map (λ x. shown x.selection) o) now.selection s.0 (Some (record { caller = me; selection = begun mode })))) j;
+    };
+  }
+
+  pub begin-amounts : (mode : Mode) → begun_with Now ds me s.0 (Some mode) ≡ amounts begin_reply (after_begin now me s) (perform me (try_begin_plan s mode false) st)
+  unfolding try_begin_plan
+  begin-amounts mode =
+      branch (amounts begin_reply (after_begin now me s)) me (Plan.reply (Err BeginError.ClosedSelector)) (begin_open s mode false) st _ _ (st.gate s.0).shut (st.gate s.0).shut refl
+      (λ _. refl)
+      (λ not_shut. by_turn (st.turn s.0) refl not_shut)
+    where
+      by_turn : (o : Option CallerNo) → st.turn s.0 ≡ o → (st.gate s.0).shut ≡ false
+          → cond (is_some o) (unchanged ds reply.Busy) (selection_begun Now ds me s.0 mode) ≡ amounts begin_reply (after_begin now me s) (perform me (begin_open s mode false) st)
+      by_turn (Some n) is not_shut =
+          sym (ap (λ (o : Option CallerNo). amounts begin_reply (after_begin now me s) (perform me (if is_some o then Plan.reply (Err BeginError.Busy) else begin_with_turn s mode false) (with_begun (with_turn st s.0 (taken_by me o)) s.0 (is_some o && st.begun s.0)))) is
+          ∙ (λ j. record { reply = reply.Busy; left = documented (record st { turn = put-here st.turn s.0 (Some n) is j; begun = put-here st.begun s.0 (st.begun s.0) refl j }) now }))
+      by_turn None is not_shut = begun-is mode ∙ sym (ap (amounts begin_reply (after_begin now me s)) (open-performed mode is not_shut))

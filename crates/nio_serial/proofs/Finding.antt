@@ -1,0 +1,123 @@
+-- A channel's key, and searches and sweeps over the selectors, performed.
+use Rattle.std.proofs.Common.{◌≡◌, ℕ, zero, suc, ◌+◌, ◌-◌, ◌<◌, Bool, true, false, cond, ◌||◌, Option, Some, None, option_map, is_some, find, List, [], ◌∷◌, ◌++◌, refl, ap, sym, ◌∙◌, add-one, arith}
+use Rattle.std.proofs.lemmas.List.Folds.{list_any-append}
+use Rattle.std.specs.List.{list_any}
+use Rattle.nio_base.specs.declared.limits.Limits.{Limits}
+use Rattle.nio_base.specs.declared.numbers.CallerNo.{CallerNo}
+use Rattle.nio_base.specs.declared.numbers.ChanNo.{ChanNo}
+use Rattle.nio_base.specs.declared.numbers.KeyId.{KeyId}
+use Rattle.nio_base.specs.declared.numbers.KeyNo.{KeyNo}
+use Rattle.nio_base.specs.declared.numbers.SelNo.{SelNo}
+use Rattle.nio_event.specs.Sets.{is_in_key_set}
+use Rattle.nio_event.specs.State.{State}
+use Rattle.nio_plain.specs.Seq.Modes.{if_in_key_set, key_of, is_registered}
+use Rattle.nio_plain.specs.Seq.Names.{below}
+use Rattle.nio_steps.proofs.PerformLaws.{perform_then_on, perform_sweep, perform_seek, indexes, indexes-push, found_at}
+use Rattle.nio_steps.specs.ChannelCalls.{key_for_plan, noted_in_set, registered_or, is_registered_plan, first_key}
+use Rattle.nio_steps.specs.Names.{selector, key}
+use Rattle.nio_steps.specs.Perform.{Performed, perform}
+use Rattle.nio_steps.specs.Plan.{Plan}
+
+-- ---- numbers in rising order
+
+pub indexes-below : (n : ℕ) → indexes 0 n ≡ below n
+unfolding indexes
+indexes-below zero = refl
+indexes-below (suc n) =
+    let same : 0 + n ≡ n = omega arith in
+    indexes-push 0 n ∙ (λ j. indexes-below n j ++ same j ∷ [])
+
+-- what a search from 0 finds is what a search of the numbers below the limit finds
+pub find-below : (p : ℕ → Bool) (n : ℕ) → find p (indexes 0 (n - 0)) ≡ find p (below n)
+find-below p n =
+    let same : n - 0 ≡ n = omega arith in
+    ap (λ k. find p (indexes 0 k)) same ∙ ap (find p) (indexes-below n)
+
+pub found-any : (p : ℕ → Bool) (xs : List ℕ) → is_some (find p xs) ≡ list_any p xs
+found-any p [] = refl
+found-any p (x ∷ xs) = by_test (p x) (found-any p xs)
+  where
+    by_test : (b : Bool) → is_some (find p xs) ≡ list_any p xs → is_some (cond b (Some x) (find p xs)) ≡ (b || list_any p xs)
+    by_test true rest = refl
+    by_test false rest = rest
+
+pub any-push : (p : ℕ → Bool) (n : ℕ) → list_any p (below (n + 1)) ≡ (list_any p (below n) || p n)
+any-push p n = ap (λ k. list_any p (below k)) (add-one n) ∙ (list_any-append p (below n) (n ∷ []) ∙ ap (λ b. list_any p (below n) || b) (or_false (p n)))
+  where
+    or_false : (b : Bool) → (b || false) ≡ b
+    or_false true = refl
+    or_false false = refl
+
+-- ---- a channel's key
+
+-- the look at the noted key, and where it is in the key set
+noted_performed : (me : CallerNo) (s : SelNo) (noted : Option KeyId) (st : State)
+    → perform me (noted_in_set s noted) st ≡ record { answer = option_map (key s) (if_in_key_set st s.0 noted); state = st }
+noted_performed me s None st = refl
+noted_performed me s (Some k) st = by_set (is_in_key_set (st.key s.0 k.index) k.serial)
+  where
+    by_set : (b : Bool) → ◌≡◌ {A = Performed (Option KeyNo)} (record { answer = cond b (Some (key s k)) None; state = st }) (record { answer = option_map (key s) (cond b (Some k) None); state = st })
+    by_set true = refl
+    by_set false = refl
+
+pub key_for-performed : (me : CallerNo) (c : ChanNo) (s : SelNo) (st : State)
+    → perform me (key_for_plan c s) st ≡ record { answer = option_map (key s) (key_of st c.0 s.0); state = st }
+unfolding key_for_plan
+key_for-performed me c s st = noted_performed me s (st.noted c.0 s.0) st
+
+mapped_some : {A B : Type 0} (f : A → B) (o : Option A) → is_some (option_map f o) ≡ is_some o
+mapped_some f None = refl
+mapped_some f (Some x) = refl
+
+-- the channel has a key in the selector
+abbrev pub has_key : State → ℕ → ℕ → Bool
+has_key st c s = is_some (key_of st c s)
+
+pub registered-performed : (l : Limits) (me : CallerNo) (c : ChanNo) (st : State)
+    → perform me (is_registered_plan l c) st ≡ record { answer = is_registered l st c.0; state = st }
+unfolding is_registered_plan
+registered-performed l me c st =
+    perform_sweep me l.selectors 0 (registered_or c) (λ n. list_any (has_key st c.0) (below n)) (λ _. st) (omega arith)
+    (λ n _ _.
+    let before = list_any (has_key st c.0) (below n) in
+    perform_then_on me (key_for_plan c (selector n)) (λ here. Plan.reply (before || is_some here)) st _ st (key_for-performed me c (selector n) st)
+    ∙ ap (λ b. record { answer = b; state = st }) (ap (λ b. before || b) (mapped_some (key (selector n)) (key_of st c.0 n)) ∙ sym (any-push (has_key st c.0) n)))
+
+-- the key that is found, or any where there is none
+key_or : SelNo → Option KeyId → KeyNo
+key_or s None = record { sel = s; index = 0; serial = 0 }
+key_or s (Some k) = key s k
+
+none_mapped : (s : SelNo) (o : Option KeyId) → is_some o ≡ false → option_map (key s) o ≡ None
+none_mapped s None e = refl
+none_mapped s (Some k) e = absurd cc
+
+some_mapped : (s : SelNo) (o : Option KeyId) → is_some o ≡ true → option_map (key s) o ≡ Some (key_or s o)
+unfolding key_or
+some_mapped s None e = absurd cc
+some_mapped s (Some k) e = refl
+
+-- the search for the first key of the channel leaves the state, and finds one exactly where the channel is registered
+pub record FindsKey (l : Limits) (me : CallerNo) (c : ChanNo) (st : State) : Type 0 where
+  pub found : Option KeyNo
+  pub performed : perform me (first_key l c) st ≡ record { answer = found; state = st }
+  pub where_registered : is_some found ≡ is_registered l st c.0
+
+pub first_key-performed : (l : Limits) (me : CallerNo) (c : ChanNo) (st : State) → FindsKey l me c st
+first_key-performed l me c st =
+    let p = has_key st c.0 in
+    let x : ℕ → KeyNo = λ n. key_or (selector n) (key_of st c.0 n) in
+    let o = find p (indexes 0 (l.selectors - 0)) in
+    record {
+      found = option_map x o;
+      performed =
+          perform_seek me l.selectors 0 (λ n. key_for_plan c (selector n)) p x st (λ _. st) (omega arith)
+          (λ n _ _ no_. key_for-performed me c (selector n) st ∙ ap (λ a. record { answer = a; state = st }) (none_mapped (selector n) (key_of st c.0 n) no_))
+          (λ n _ _ yes_. key_for-performed me c (selector n) st ∙ ap (λ a. record { answer = a; state = st }) (some_mapped (selector n) (key_of st c.0 n) yes_))
+          ∙ found_same x o;
+      where_registered = mapped_some x o ∙ (ap is_some (find-below p l.selectors) ∙ found-any p (below l.selectors));
+    }
+  where
+    found_same : (x : ℕ → KeyNo) (o : Option ℕ) → found_at st x (λ _. st) o ≡ record { answer = option_map x o; state = st }
+    found_same x None = refl
+    found_same x (Some n) = refl

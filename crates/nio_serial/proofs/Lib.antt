@@ -1,0 +1,15 @@
+pub mod Base
+pub mod KeyCalls
+pub mod Finding
+pub mod Simple
+pub mod Blocking
+pub mod ClosingChannels
+pub mod Removing
+pub mod ClosingSelectors
+pub mod Listing
+pub mod FreeWords
+pub mod Sweeping
+pub mod Beginning
+pub mod Marks
+pub mod Marking
+pub mod Telling

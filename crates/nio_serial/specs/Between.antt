@@ -1,0 +1,68 @@
+-- What holds between two calls of a serial history, in which each call ends before the next begins.
+use Rattle.std.specs.Prelude.{◌≡◌, ℕ, ◌<◌, nat_lt, Bool, ◌&&◌, if◌then◌else◌, IsTrue, IsFalse, Option, Some, None, option_map, is_some, List, map}
+use Rattle.std.specs.List.{AllPairs}
+use Rattle.nio_base.specs.declared.limits.Limits.{Limits}
+use Rattle.nio_base.specs.declared.numbers.CallerNo.{CallerNo}
+use Rattle.nio_event.specs.State.{State, unclaimed, unmarked, last_serial}
+use Rattle.nio_event.specs.declared.call.ScriptCall.{ScriptCall}
+use Rattle.nio_plain.specs.Answer.{left_by_script}
+use Rattle.nio_plain.specs.ScriptState.{ScriptState}
+use Rattle.nio_plain.specs.declared.rules.Rules.TheVariants.{Now}
+use Rattle.nio_steps.specs.SelectCalls.{Selection}
+use Rattle.nio_serial.specs.Documented.{Progress, Selecting, documented}
+
+-- nobody holds a channel, has a pin on an index, has taken one, or has still to put one
+pub record IsUnused (st : State) : Type 0 where
+  pub unheld : (c : ℕ) → st.hold c ≡ None
+  pub unpinned : (s i n : ℕ) → IsFalse (st.pinned s i n)
+  pub untaken : (s i : ℕ) → st.taker s i ≡ None
+  pub none_due : (s i : ℕ) → IsFalse (st.put_due s i)
+
+-- an index that was never claimed is as it was in the opening state
+pub record IsFresh (st : State) (s i : ℕ) : Type 0 where
+  pub key : st.key s i ≡ unclaimed
+  pub mark : st.mark s i ≡ unmarked
+  pub free : IsFalse (st.free s i)
+
+-- the marks are exact: what is below them is made, or has had a published key, and nothing else is or has
+pub record HasExactMarks (st : State) : Type 0 where
+  pub channels : (c : ℕ) → (st.chan c).made ≡ nat_lt c st.channels_high
+  pub claimed : (s i : ℕ) → (st.key s i).claimed ≡ nat_lt i (st.keys_high s)
+  pub published : (s i : ℕ) → (st.key s i).published ≡ nat_lt i (st.keys_high s)
+  pub fresh : (s i : ℕ) → IsFalse (nat_lt i (st.keys_high s)) → IsFresh st s i
+
+-- A free index has a removed key. While the closing of its selector hasn't ended, an index with a removed key is free
+-- exactly where there is a next serial: a selection removed the key. A closing removes keys without freeing them.
+pub record AreFree (st : State) : Type 0 where
+  pub removed : (s i : ℕ) → IsTrue (st.free s i) → IsTrue (st.key s i).removed
+  pub exactly : (s i : ℕ) → IsFalse (st.entered s) → st.free s i ≡ ((st.key s i).removed && nat_lt (st.key s i).serial last_serial)
+
+pub record IsAtRest (st : State) : Type 0 where
+  pub unused : IsUnused st
+  pub marks : HasExactMarks st
+  pub free : AreFree st
+
+-- a selection in progress on the selector: it looks at each index once, in rising order, and keeps these indexes
+pub record IsOn (s : ℕ) (x : Selection) : Type 0 where
+  pub selector : x.selector.0 ≡ s
+  pub rises : AllPairs (λ a b. a.index < b.index) x.looked
+  pub kept : x.kept ≡ map (λ entry. entry.index) x.looked
+
+-- whom the progress shows is who selects or closes by the state
+pub record IsShownBy (st : State) (now : Progress) (s : ℕ) : Type 0 where
+  pub turn : st.turn s ≡ option_map (λ x. x.caller) (now.selection s)
+  pub begun : st.begun s ≡ is_some (now.selection s)
+  pub on : (x : Selecting) → now.selection s ≡ Some x → IsOn s x.selection
+  pub closing : now.closing s ≡ (if st.entered s then None else st.closer s)
+
+-- the state is one that a script leaves, by the rules of now
+pub record IsLeft (l : Limits) (st : ScriptState) : Type 0 where
+  pub calls : List ScriptCall
+  pub left : st ≡ left_by_script Now l calls
+
+-- All that holds between two calls: what a script sees is a state that a script leaves, in which nothing is at work,
+-- and what is in progress is what the state shows.
+pub record IsBetween (l : Limits) (st : State) (now : Progress) : Type 0 where
+  pub left : IsLeft l (documented st now)
+  pub at_rest : IsAtRest (documented st now).shared
+  pub shown : (s : ℕ) → IsShownBy st now s

@@ -1,0 +1,85 @@
+-- The laws of calls that don't overlap.
+use Rattle.std.specs.Prelude.{◌≡◌, ℕ, ◌<◌, IsTrue, ⊤}
+use Rattle.nio_base.specs.Limits.{IsFit}
+use Rattle.nio_base.specs.declared.limits.Limits.{Limits}
+use Rattle.nio_base.specs.declared.numbers.CallerNo.{CallerNo}
+use Rattle.nio_base.specs.declared.numbers.ChanNo.{ChanNo}
+use Rattle.nio_base.specs.declared.numbers.KeyId.{KeyId}
+use Rattle.nio_base.specs.declared.numbers.SelNo.{SelNo}
+use Rattle.nio_event.specs.Sets.{was_published}
+use Rattle.nio_event.specs.State.{State, opening}
+use Rattle.nio_event.specs.declared.call.Call.{Call}
+use Rattle.nio_event.specs.declared.call.Call.TheVariants as call
+use Rattle.nio_plain.specs.Seq.{call_of, seq}
+use Rattle.nio_plain.specs.declared.rules.Rules.TheVariants.{Now}
+use Rattle.nio_steps.specs.Perform.{perform}
+use Rattle.nio_serial.specs.Between.{IsBetween}
+use Rattle.nio_serial.specs.Documented.{Progress, nothing_yet, documented}
+use Rattle.nio_serial.specs.Lines.{comes_to, call_plan, line_plan}
+
+-- ---- the names of a call
+
+abbrev pub IsMadeSelector : State → SelNo → Type 0
+IsMadeSelector st s = IsTrue (st.selector s.0)
+
+abbrev pub IsMadeChannel : State → ChanNo → Type 0
+IsMadeChannel st c = IsTrue (st.chan c.0).made
+
+abbrev pub IsMadeKey : State → SelNo → KeyId → Type 0
+IsMadeKey st s k = IsMadeSelector st s × IsTrue (was_published (st.key s.0 k.index) k.serial)
+
+-- the selector and the channel that the call names are made, its key was published, and its caller may be drawn
+abbrev pub IsNamed : Limits → State → Call → Type 0
+IsNamed l st call.Selector = ⊤
+IsNamed l st (call.Channel kind) = ⊤
+IsNamed l st (call.Blocking c on) = IsMadeChannel st c
+IsNamed l st (call.IsBlocking c) = IsMadeChannel st c
+IsNamed l st (call.IsOpen c) = IsMadeChannel st c
+IsNamed l st (call.IsRegistered c) = IsMadeChannel st c
+IsNamed l st (call.KeyFor c s) = IsMadeChannel st c × IsMadeSelector st s
+IsNamed l st (call.Register s c ops att) = IsMadeSelector st s × IsMadeChannel st c
+IsNamed l st (call.Closec c) = IsMadeChannel st c
+IsNamed l st (call.Valid s k) = IsMadeKey st s k
+IsNamed l st (call.Interest s k) = IsMadeKey st s k
+IsNamed l st (call.Ready s k) = IsMadeKey st s k
+IsNamed l st (call.Iset s k ops) = IsMadeKey st s k
+IsNamed l st (call.Ior s k ops) = IsMadeKey st s k
+IsNamed l st (call.Iand s k ops) = IsMadeKey st s k
+IsNamed l st (call.Cancel s k) = IsMadeKey st s k
+IsNamed l st (call.Unselect s k) = IsMadeKey st s k
+IsNamed l st (call.Attach s k att) = IsMadeKey st s k
+IsNamed l st (call.Attachment s k) = IsMadeKey st s k
+IsNamed l st (call.Begin s waiting) = IsMadeSelector st s
+IsNamed l st (call.Told s elapsed pairs) = IsMadeSelector st s
+IsNamed l st (call.Failed s) = IsMadeSelector st s
+IsNamed l st (call.Wakeup s) = IsMadeSelector st s
+IsNamed l st (call.Close s) = IsMadeSelector st s
+IsNamed l st (call.CloseEnd s) = IsMadeSelector st s
+IsNamed l st (call.Keys s) = IsMadeSelector st s
+IsNamed l st (call.Selected s) = IsMadeSelector st s
+IsNamed l st (call.Interrupt target) = target.0 < l.callers
+IsNamed l st call.Interrupted = ⊤
+
+-- ---- the laws
+
+-- the steps of a call that nobody comes between amount to the documented call
+abbrev pub CallsAmount : Type 0
+CallsAmount = (l : Limits) (st : State) (now : Progress) (me : CallerNo) (word : Call)
+    → IsBetween l st now → IsNamed l st word
+    → call_of Now l (documented st now) me word ≡ comes_to (perform me (call_plan l now me word) st)
+
+-- so do those of a line with its look-ups
+abbrev pub LinesAmount : Type 0
+LinesAmount = (l : Limits) (st : State) (now : Progress) (me : CallerNo) (word : Call)
+    → IsFit l → IsBetween l st now
+    → seq Now l (documented st now) me word ≡ comes_to (perform me (line_plan l now me word) st)
+
+-- between two calls it stands so: at the beginning, and after each line
+abbrev pub BeginsBetween : Type 0
+BeginsBetween = (l : Limits) → IsBetween l opening nothing_yet
+
+abbrev pub StaysBetween : Type 0
+StaysBetween = (l : Limits) (st : State) (now : Progress) (me : CallerNo) (word : Call)
+    → IsFit l → IsBetween l st now
+    → let done = perform me (line_plan l now me word) st in
+    IsBetween l done.state done.answer.left

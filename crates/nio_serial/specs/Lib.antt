@@ -1,0 +1,5 @@
+pub mod Documented
+pub mod Replies
+pub mod Lines
+pub mod Between
+pub mod Laws
