@@ -3,6 +3,7 @@ pub mod Claimed
 pub mod Entered
 pub mod Listings
 pub mod Noted
+pub mod Ended
 pub mod Begun
 pub mod FreeBits
 pub mod Listed

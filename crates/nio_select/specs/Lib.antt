@@ -7,3 +7,4 @@ pub mod Entered
 pub mod Beginning
 pub mod Noted
 pub mod Laws
+pub mod Kept
