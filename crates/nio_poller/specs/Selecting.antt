@@ -1,15 +1,15 @@
--- What a whole selection promises: its steps, its polls, and what it marks.
-use Rattle.std.specs.Prelude.{◌≡◌, ℕ, ◌≤◌, IsTrue, Option, Some, None, Result, Ok, Err, List, [], ◌++◌, map, Unit, ⊤, ⊥}
+-- What a whole selection promises: its steps, its polls, what it marks, and its answer.
+use Rattle.std.specs.Prelude.{◌≡◌, ℕ, ℤ, IsTrue, ◌⊎◌, Option, Some, None, Result, Ok, Err, List, [], ◌++◌, map}
 use Rattle.std.specs.List.{Contains}
 use Rattle.nio_base.specs.declared.numbers.CallerNo.{CallerNo}
 use Rattle.nio_base.specs.declared.numbers.ChanNo.{ChanNo}
 use Rattle.nio_base.specs.declared.numbers.SelNo.{SelNo}
-use Rattle.nio_bytes.specs.Cause.{Rose}
 use Rattle.nio_event.specs.PassViews.{PassView, done_between}
-use Rattle.nio_event.specs.declared.act.Act.{Act}
+use Rattle.nio_event.specs.Timeout.{mode_for}
 use Rattle.nio_event.specs.declared.act.Act.TheVariants.{Mark as MarkKey}
 use Rattle.nio_event.specs.declared.found.Mark.{Mark as KeyMark}
 use Rattle.nio_event.specs.declared.found.Mode.{Mode}
+use Rattle.nio_event.specs.declared.timeout.NegativeTimeout.{NegativeTimeout as TooLow}
 use Rattle.nio_steps.specs.Calls.{CallClause}
 use Rattle.nio_steps.specs.KeyCalls.{is_within}
 use Rattle.nio_steps.specs.SelectCalls.{Selection, Poll, Selects, SelectReply, selected, not_begun, left}
@@ -17,7 +17,7 @@ use Rattle.nio_steps.specs.declared.looked.LookedKey.{LookedKey}
 use Rattle.nio_steps.specs.declared.refusal.BeginError.{BeginError}
 use Rattle.nio_steps.specs.declared.refusal.BeginError.TheVariants as begin_error
 use Rattle.nio_steps.specs.declared.selected.Selected.{Selected}
-use Rattle.nio_poller.specs.Polls.{Polled}
+use Rattle.nio_poller.specs.Polled.{Polled}
 use Rattle.nio_poller.specs.declared.selecting.SelectError.{SelectError}
 use Rattle.nio_poller.specs.declared.selecting.SelectError.TheVariants.{NegativeTimeout, ClosedSelector, PollFault, Memory}
 
@@ -37,27 +37,43 @@ looked_by (Err refusal) = []
 -- Where the poller tells its polls, the call added these, in order, each asked for this list with this mode.
 abbrev pub AddsPolls : Option (List Polled) → Option (List Polled) → List LookedKey → Mode → List Poll → Type 0
 AddsPolls None now asked mode polls = now ≡ None
-AddsPolls (Some before) now asked mode polls = now ≡ Some (before ++ map (λ poll. record { asked = asked; mode = mode; answer = poll }) polls)
+AddsPolls (Some before) now asked mode polls = now ≡ Some (before ++ map (λ (poll : Poll). record { asked = asked; mode = mode; answer = poll }) polls)
 
--- a mark that succeeded is of a looked key, with operations that its channel is ready for
-pub record MarksReady (ready : ChanNo → ℕ) (asked : List LookedKey) (i told : ℕ) : Type 0 where
+-- a mark is of a looked key, with operations that its channel is ready for
+pub record MarksReady (ready : ChanNo → ℕ) (looked : List LookedKey) (i told : ℕ) : Type 0 where
   pub entry : LookedKey
-  pub looked : Contains asked entry
+  pub is_looked : Contains looked entry
   pub at_index : entry.index ≡ i
   pub bits : IsTrue (is_within told (ready entry.channel))
 
--- A whole selection of a caller on a pass, before and after, with a poller: `ready` and `polls` are what the
--- poller says of itself.
+-- each mark that succeeded between these moments is such a one
+abbrev pub AllMarksReady : (ChanNo → ℕ) → List LookedKey → CallerNo → PassView → PassView → Type 0
+AllMarksReady ready looked me old new =
+    (s : SelNo) (i told : ℕ) (from : KeyMark) → Contains (done_between me old new) (MarkKey s i from told (Ok tt)) → MarksReady ready looked i told
+
+-- A whole selection of a caller on a pass, before and after, with a poller that tells these polls before and after,
+-- and after it that the channels are ready so.
 pub record SelectClause (me : CallerNo) (s : SelNo) (mode : Mode) (old new : PassView) (polls_old polls_new : Option (List Polled)) (ready : ChanNo → ℕ) (result : Result Selected SelectError) : Type 0 where
   -- the polls whose answers the selection was told
   pub polls : List Poll
+  -- what the steps reply
   pub reply : SelectReply
   pub call : CallClause me (Selects s mode polls) old new reply
   pub answers : Answers reply result
   pub adds : AddsPolls polls_old polls_new (looked_by call.shape.middle) mode polls
-  pub marks : (i told : ℕ) (from : KeyMark) → Contains (done_between me old new) (MarkKey s i from told (Ok tt)) → MarksReady ready (looked_by call.shape.middle) i told
+  pub marks : AllMarksReady ready (looked_by call.shape.middle) me old new
 
--- a selection has no fault but where a poll failed in this call
-pub record HasFaultCause (before now : ℕ) (result : Result Selected SelectError) : Type 0 where
-  pub later : before ≤ now
-  pub failed : result ≡ Err PollFault → Rose before now
+-- nothing was done, and no poll was asked
+pub record IsRefused (old new : PassView) (polls_old polls_new : Option (List Polled)) (result : Result Selected SelectError) : Type 0 where
+  pub same : new ≡ old
+  pub unasked : polls_new ≡ polls_old
+  pub answer : result ≡ Err NegativeTimeout
+
+-- with this mode, or refused
+abbrev pub TimedBy : Result Mode TooLow → CallerNo → SelNo → PassView → PassView → Option (List Polled) → Option (List Polled) → (ChanNo → ℕ) → Result Selected SelectError → Type 0
+TimedBy (Ok mode) me s old new polls_old polls_new ready result = SelectClause me s mode old new polls_old polls_new ready result
+TimedBy (Err too_low) me s old new polls_old polls_new ready result = IsRefused old new polls_old polls_new result
+
+-- a whole selection for so many milliseconds
+abbrev pub TimedClause : CallerNo → SelNo → ℤ → PassView → PassView → Option (List Polled) → Option (List Polled) → (ChanNo → ℕ) → Result Selected SelectError → Type 0
+TimedClause me s ms = TimedBy (mode_for ms) me s

@@ -7,11 +7,11 @@
 #![tactic(auto)]
 
 pub use bell::{Bell, NoBell};
-pub use nio_event::NegativeTimeout;
 pub use poller::{PollError, Poller};
 pub use scripted::Scripted;
 pub use selecting::{SelectError, select, select_for, select_now};
 pub use sleeper::{Sleeper, SleeperBell};
+pub use told_poll::ToldPoll;
 pub use waking::{close, interrupt, interrupted, wakeup};
 
 mod bell;
@@ -19,4 +19,5 @@ mod poller;
 mod scripted;
 mod selecting;
 mod sleeper;
+mod told_poll;
 mod waking;

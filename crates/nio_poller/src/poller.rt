@@ -1,5 +1,7 @@
 //! What says which channels are ready.
 ghost use Rattle.std.specs.Prelude.{◌≡◌, IfOk};
+ghost use Rattle.nio_poller.specs.Polls.{CountsFaults, AddsPoll, told_of_channel};
+ghost use Rattle.nio_poller.specs.declared.poller.PollError.TheVariants.{Fault};
 
 use nio_event::Mode;
 use nio_select::{Asked, Told};
@@ -20,9 +22,9 @@ pub enum PollError {
 
 /// Says which channels are ready for what. Readiness is told by level: what isn't used up is told again.
 pub trait Poller {
-    ghost use Rattle.std.specs.Prelude.{◌≡◌, ℕ, Option, List};
+    ghost use Rattle.std.specs.Prelude.{ℕ, Option, List};
     ghost use Rattle.nio_base.specs.declared.numbers.ChanNo.{ChanNo};
-    ghost use Rattle.nio_poller.specs.Polls.{Polled, HasPollCause, AddsPoll, told_of_channel};
+    ghost use Rattle.nio_poller.specs.Polled.{Polled};
 
     // How often a poll has failed.
     ghost poll_faults: { Self → ℕ };
@@ -46,7 +48,7 @@ pub trait Poller {
         asked: &Asked,
         mode: Mode,
     ) -> Result<Told, PollError>
-        ensures cause { HasPollCause (poll_faults self.old) (poll_faults self.new) result }
+        ensures cause { CountsFaults Fault (poll_faults self.old) (poll_faults self.new) result }
         ensures ready { IfOk result (λ told. (c : ChanNo) → ready self.new c ≡ told_of_channel asked.now told.pairs.items c) }
         ensures polls { AddsPoll (polls self.old) (polls self.new) asked.now mode result }
         ensures kept { kept self.old self.new };

@@ -1,10 +1,19 @@
 //! Whole selections.
-ghost use Rattle.std.specs.Prelude.{◌≡◌, ◌≢◌, ◌<◌, ◌↔◌, Err};
+ghost use Rattle.std.specs.Prelude.{◌≡◌, ◌≢◌, Err, Ok, IfOk};
 ghost use Rattle.nio_event.specs.PassViews.{HasSelector};
 ghost use Rattle.nio_event.specs.declared.found.Mode.TheVariants as mode;
+ghost use Rattle.nio_select.specs.InProgress.{Selects, IfAgain};
+ghost use Rattle.nio_steps.specs.Calls.{CallClause};
+ghost use Rattle.nio_steps.specs.SelectCalls.{Begins, begin_finds_busy};
+ghost use Rattle.nio_steps.specs.Waiting.{Retries};
+ghost use Rattle.nio_steps.specs.declared.refusal.BeginError.TheVariants.{Busy};
 ghost use Rattle.nio_words.specs.Passes.{IsReady};
 ghost use Rattle.nio_words.specs.Views.{view};
-ghost use Rattle.nio_poller.specs.Selecting.{SelectClause, HasFaultCause, TimedClause};
+ghost use Rattle.nio_poller.specs.Polls.{CountsFaults};
+ghost use Rattle.nio_poller.specs.Selecting.{SelectClause, TimedClause};
+ghost use Rattle.nio_poller.specs.Telling.{PollsOnce, PollsClause};
+ghost use Rattle.nio_poller.specs.declared.poller.PollError.TheVariants.{Fault};
+ghost use Rattle.nio_poller.specs.declared.selecting.SelectError.TheVariants.{PollFault};
 
 use crate::poller::{PollError, Poller};
 use nio_base::{CallerNo, SelNo};
@@ -48,7 +57,7 @@ pub fn select<R: Wait, P: Poller>(
     requires ready { IsReady w.now p.old me }
     requires selector { HasSelector (view w.now p.old) sel }
     ensures call { SelectClause me sel mode.Wait (view w.now p.old) (view w.now p.new) (P.polls poller.old) (P.polls poller.new) (P.ready poller.new) result }
-    ensures cause { HasFaultCause (P.poll_faults poller.old) (P.poll_faults poller.new) result }
+    ensures cause { CountsFaults PollFault (P.poll_faults poller.old) (P.poll_faults poller.new) result }
     ensures kept { P.kept poller.old poller.new }
     ensures ready { IsReady w.now p.new me }
 {
@@ -68,15 +77,16 @@ pub fn select_now<R: Wait, P: Poller>(
     requires ready { IsReady w.now p.old me }
     requires selector { HasSelector (view w.now p.old) sel }
     ensures call { SelectClause me sel mode.Now (view w.now p.old) (view w.now p.new) (P.polls poller.old) (P.polls poller.new) (P.ready poller.new) result }
-    ensures cause { HasFaultCause (P.poll_faults poller.old) (P.poll_faults poller.new) result }
+    ensures cause { CountsFaults PollFault (P.poll_faults poller.old) (P.poll_faults poller.new) result }
     ensures kept { P.kept poller.old poller.new }
     ensures ready { IsReady w.now p.new me }
 {
     select_in(rt, alloc, w, p, me, sel, poller, Mode::Now)
 }
 
-/// The same as `select`, for at most `ms` milliseconds; 0 waits without limit: Java's `select(long)`. The time is the
-/// poller's: it is over where a poll says so.
+/// The same as `select`, for at most `ms` milliseconds; 0 waits without limit: Java's `select(long)`. Each poll of the
+/// selection is asked to wait for the whole time, and the selection is over where a poll says that it has passed. So a
+/// selection that goes on after a poll that returned early can wait for longer than `ms` in all.
 pub fn select_for<R: Wait, P: Poller>(
     rt: &R,
     alloc: Global,
@@ -90,7 +100,7 @@ pub fn select_for<R: Wait, P: Poller>(
     requires ready { IsReady w.now p.old me }
     requires selector { HasSelector (view w.now p.old) sel }
     ensures call { TimedClause me sel ms (view w.now p.old) (view w.now p.new) (P.polls poller.old) (P.polls poller.new) (P.ready poller.new) result }
-    ensures cause { HasFaultCause (P.poll_faults poller.old) (P.poll_faults poller.new) result }
+    ensures cause { CountsFaults PollFault (P.poll_faults poller.old) (P.poll_faults poller.new) result }
     ensures kept { P.kept poller.old poller.new }
     ensures ready { IsReady w.now p.new me }
 {
@@ -113,13 +123,15 @@ fn select_in<R: Wait, P: Poller>(
     requires ready { IsReady w.now p.old me }
     requires selector { HasSelector (view w.now p.old) sel }
     ensures call { SelectClause me sel mode (view w.now p.old) (view w.now p.new) (P.polls poller.old) (P.polls poller.new) (P.ready poller.new) result }
-    ensures cause { HasFaultCause (P.poll_faults poller.old) (P.poll_faults poller.new) result }
+    ensures cause { CountsFaults PollFault (P.poll_faults poller.old) (P.poll_faults poller.new) result }
     ensures kept { P.kept poller.old poller.new }
     ensures ready { IsReady w.now p.new me }
 {
     match begin(rt, alloc, w, p, me, sel, mode) {
         Ok(selection) => poll_until_over(rt, alloc, w, p, me, selection, poller),
-        Err(refusal) => Err(SelectError::from(refusal)),
+        Err(BeginError::ClosedSelector) => Err(SelectError::ClosedSelector),
+        Err(BeginError::Memory) => Err(SelectError::Memory),
+        Err(BeginError::Busy) => unreachable!(),
     }
 }
 
@@ -132,13 +144,19 @@ fn begin<R: Wait>(
     me: CallerNo,
     sel: SelNo,
     mode: Mode,
-) -> Result<Selecting, BeginError> {
+) -> Result<Selecting, BeginError>
+    requires ready { IsReady w.now p.old me }
+    requires selector { HasSelector (view w.now p.old) sel }
+    ensures call { CallClause me (Retries (Begins sel mode) begin_finds_busy) (view w.now p.old) (view w.now p.new) result }
+    ensures ready { IsReady w.now p.new me }
+    ensures begun { IfOk result (Selects (view w.now p.new) me) }
+    ensures waits { result ≢ Err Busy }
+{
     for _ in rt.forever() {
-        let answer = try_begin(alloc, w, p, me, sel, mode);
-        if !is_busy(&answer) {
-            return answer;
+        match try_begin(alloc, w, p, me, sel, mode) {
+            Err(BeginError::Busy) => thread::yield_now(),
+            answer => return answer,
         }
-        thread::yield_now();
     }
     unreachable!()
 }
@@ -153,19 +171,48 @@ fn poll_until_over<R: Wait, P: Poller>(
     me: CallerNo,
     selection: Selecting,
     poller: &mut P,
-) -> Result<Selected, SelectError> {
+) -> Result<Selected, SelectError>
+    requires ready { IsReady w.now p.old me }
+    requires begun { Selects (view w.now p.old) me selection }
+    ensures call { PollsClause me selection (view w.now p.old) (view w.now p.new) (P.polls poller.old) (P.polls poller.new) (P.ready poller.new) result }
+    ensures cause { CountsFaults PollFault (P.poll_faults poller.old) (P.poll_faults poller.new) result }
+    ensures kept { P.kept poller.old poller.new }
+    ensures ready { IsReady w.now p.new me }
+{
     let mut selection = selection;
     for _ in rt.forever() {
-        match poller.poll(rt, alloc, selection.asked(), selection.mode()) {
-            Ok(told) => match selection.told(w, p, me, &told) {
-                After::Done(answer) => return Ok(answer),
-                After::Again(next) => selection = next,
-            },
-            Err(error) => {
-                selection.leave(w, p, me);
-                return Err(SelectError::from(error));
-            }
+        match poll_once(rt, alloc, w, p, me, selection, poller) {
+            Ok(After::Again(next)) => selection = next,
+            Ok(After::Done(answer)) => return Ok(answer),
+            Err(PollError::Fault) => return Err(SelectError::PollFault),
+            Err(PollError::Memory) => return Err(SelectError::Memory),
         }
     }
     unreachable!()
+}
+
+fn poll_once<R: Wait, P: Poller>(
+    rt: &R,
+    alloc: Global,
+    w: &Words,
+    p: &mut Pass,
+    me: CallerNo,
+    selection: Selecting,
+    poller: &mut P,
+) -> Result<After, PollError>
+    requires ready { IsReady w.now p.old me }
+    requires begun { Selects (view w.now p.old) me selection }
+    ensures call { PollsOnce me selection (view w.now p.old) (view w.now p.new) (P.polls poller.old) (P.polls poller.new) (P.ready poller.new) result }
+    ensures cause { CountsFaults Fault (P.poll_faults poller.old) (P.poll_faults poller.new) result }
+    ensures kept { P.kept poller.old poller.new }
+    ensures ready { IsReady w.now p.new me }
+    ensures goes_on { IfOk result (λ after. IfAgain after (Selects (view w.now p.new) me)) }
+{
+    match poller.poll(rt, alloc, selection.asked(), selection.mode()) {
+        Ok(told) => Ok(selection.told(w, p, me, &told)),
+        Err(error) => {
+            selection.leave(w, p, me);
+            Err(error)
+        }
+    }
 }

@@ -1,4 +1,9 @@
 //! A poller that only waits for its bell.
+ghost use Rattle.std.specs.Prelude.{◌≡◌, true, [], refl, None, IfOk};
+ghost use Rattle.nio_event.specs.declared.found.Mode.TheVariants.{Wait as WithoutLimit};
+ghost use Rattle.nio_poller.specs.Polls.{CountsFaults, AddsPoll, told_of_channel};
+ghost use Rattle.nio_poller.specs.declared.poller.PollError.TheVariants.{Fault};
+
 use crate::bell::Bell;
 use crate::poller::{PollError, Poller};
 use nio_event::Mode;
@@ -18,4 +23,63 @@ pub struct Sleeper {
 #[derive(Drop)]
 pub struct SleeperBell {
     parker: Arc<Parker>,
+}
+
+impl Sleeper {
+    /// A sleeper and its bell.
+    pub fn pair(alloc: Global) -> Result<(Sleeper, SleeperBell), AllocError> {
+        let parker = Arc::new(alloc, Parker::new())?;
+        let bell = SleeperBell {
+            parker: parker.clone()?,
+        };
+        Ok((Sleeper { parker }, bell))
+    }
+}
+
+impl Poller for Sleeper {
+    ghost use Rattle.std.specs.Prelude.{⊤};
+    ghost use Rattle.nio_base.specs.declared.numbers.ChanNo.{ChanNo};
+
+    ghost poll_faults = { λ _. 0 };
+
+    ghost ready = { λ _ _. 0 };
+
+    ghost polls = { λ _. None };
+
+    ghost kept = { λ _ _. ⊤ };
+
+    fn poll<R: Wait>(
+        &mut self,
+        rt: &R,
+        alloc: Global,
+        asked: &Asked,
+        mode: Mode,
+    ) -> Result<Told, PollError>
+        // As every poller.
+        ensures cause { CountsFaults Fault 0 0 result }
+        ensures ready { IfOk result (λ told. (c : ChanNo) → 0 ≡ told_of_channel asked.now told.pairs.items c) }
+        ensures polls { AddsPoll None None asked.now mode result }
+
+        // It tells nothing.
+        ensures nothing { IfOk result (λ told. told.pairs.items ≡ []) }
+    {
+        let waits = mode == Mode::Wait;
+        if waits {
+            self.parker.park(rt);
+        }
+        Ok(Told {
+            pairs: Vec::new(alloc),
+            elapsed: !waits,
+        })
+    }
+
+    ghost kept_same = { λ _. tt };
+
+    ghost kept_on = { λ _ _ _ _ _. tt };
+}
+
+impl Bell for SleeperBell {
+    fn ring(&self) {
+        self.parker.unpark();
+    }
 }

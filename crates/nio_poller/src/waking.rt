@@ -1,10 +1,11 @@
 //! Calls that end a selection's wait: waking, closing, interrupting.
-ghost use Rattle.std.specs.Prelude.{◌≡◌, ◌<◌};
 ghost use Rattle.nio_event.specs.Conditions.{IsCaller};
 ghost use Rattle.nio_event.specs.PassViews.{HasSelector};
 ghost use Rattle.nio_steps.specs.Calls.{CallClause};
 ghost use Rattle.nio_steps.specs.Runs.{Completes};
-ghost use Rattle.nio_steps.specs.SelectCalls.{wakeup_plan, interrupt_plan, interrupted_plan, Closes};
+ghost use Rattle.nio_select.specs.InProgress.{Closes as IsClosingIt};
+ghost use Rattle.nio_steps.specs.SelectCalls.{wakeup_plan, interrupt_plan, interrupted_plan, Closes, try_finish_plan, finish_finds_busy, closed};
+ghost use Rattle.nio_steps.specs.Waiting.{Retries};
 ghost use Rattle.nio_words.specs.Passes.{IsReady, limits_of};
 ghost use Rattle.nio_words.specs.Views.{view};
 
@@ -56,7 +57,12 @@ pub fn close<R: Wait, B: Bell>(
 }
 
 // Finishes the closing once nobody selects.
-fn finish<R: Wait>(rt: &R, w: &Words, p: &mut Pass, me: CallerNo, closing: Closing) {
+fn finish<R: Wait>(rt: &R, w: &Words, p: &mut Pass, me: CallerNo, closing: Closing)
+    requires ready { IsReady w.now p.old me }
+    requires closing { IsClosingIt (view w.now p.old) me closing }
+    ensures call { CallClause me (Retries (Completes (try_finish_plan closing)) finish_finds_busy) (view w.now p.old) (view w.now p.new) closed }
+    ensures ready { IsReady w.now p.new me }
+{
     let mut closing = closing;
     for _ in rt.forever() {
         match closing.try_finish(w, p, me) {
