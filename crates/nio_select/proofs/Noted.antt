@@ -22,6 +22,7 @@ use Rattle.nio_steps.proofs.Lists.{pairs-head, pairs-tail}
 use Rattle.nio_steps.specs.Plan.{Plan, reply, ◌>>=◌}
 use Rattle.nio_steps.specs.SelectCalls.{told_of, mark_told, mark_entry}
 use Rattle.nio_steps.specs.Sweeps.{sweep_over}
+use Rattle.nio_steps.specs.declared.looked.LookedKey.{LookedKey}
 use Rattle.nio_select.specs.Asked.{no_entry}
 use Rattle.nio_select.specs.Noted.{Rise, with_told, noted, noted_more, mark_slot}
 use Rattle.nio_select.specs.declared.asked.Slot.{Slot}
@@ -156,3 +157,11 @@ pub slot_marked : {me : CallerNo} {v0 v1 : PassView} {marked told : ℕ} (s : Se
 slot_marked {me = me} {v0 = v0} {v1 = v1} {marked = marked} {told = told} s slot read count same is call =
     subst (λ (x : Slot). CallClause me (Completes (mark_slot s x count)) v0 v1 (count + marked)) same
     (returned (ran_then (λ n. reply (count + n)) (subst (λ (bits : ℕ). CallClause me (Completes (mark_told s read.key.index bits)) v0 v1 marked) is call) (left_after_call call)))
+
+-- so the keys that were asked are marked as told
+pub marked_as_told : {me : CallerNo} {v0 v1 : PassView} {count : ℕ} (s : SelNo) (pairs : List (ℕ × ℕ)) (slots : List Slot) (asked : List LookedKey) (read : List Slot)
+    → read ≡ noted pairs slots → map (λ (slot : Slot). slot.key) slots ≡ asked → CallClause me (Completes (sweep_over read (mark_slot s) 0)) v0 v1 count
+    → CallClause me (Completes (sweep_over asked (mark_entry s pairs) 0)) v0 v1 count
+marked_as_told {me = me} {v0 = v0} {v1 = v1} {count = count} s pairs slots asked read is view call =
+    subst (λ (plan : Plan ℕ). CallClause me (Completes plan) v0 v1 count)
+    (ap (λ (xs : List Slot). sweep_over xs (mark_slot s) 0) is ∙ (marks_noted s pairs slots 0 ∙ ap (λ (entries : List LookedKey). sweep_over entries (mark_entry s pairs) 0) view)) call

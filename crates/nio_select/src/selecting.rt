@@ -12,7 +12,7 @@ ghost use Rattle.nio_select.specs.Kept.{remove_kept as removes_kept};
 
 use crate::asked::Asked;
 use crate::removing::remove_if_cancelled;
-use crate::telling::{is_again, mark_all, note_told, why_ended};
+use crate::telling::{is_again, mark_asked, why_ended};
 use crate::told::Told;
 use nio_base::{CallerNo, SelNo};
 use nio_event::Mode;
@@ -70,9 +70,8 @@ impl Selecting {
         ensures goes_on { IfAgain result (Selects (view w.now p.new) me) }
     {
         let mut selection = self;
-        note_told(&mut selection.asked.slots, told.pairs.as_slice());
-        let slots = selection.asked.slots.as_slice();
-        let count = mark_all(w, p, me, selection.selector, slots);
+        let pairs = told.pairs.as_slice();
+        let count = mark_asked(w, p, me, selection.selector, &mut selection.asked, pairs);
         selection.after_marks(w, p, me, told.elapsed, count)
     }
 

@@ -4,20 +4,39 @@ ghost use Rattle.std.specs.List.{HoldsAt};
 ghost use Rattle.nio_event.specs.Conditions.{IsKey};
 ghost use Rattle.nio_steps.specs.Calls.{CallClause};
 ghost use Rattle.nio_steps.specs.Runs.{Completes};
-ghost use Rattle.nio_steps.specs.SelectCalls.{is_again as goes_on, why_ended as why, mark_told as marks_told, mark_looked as marks_looked, mark_again as marks_again, gains_nothing as nothing_gained};
+ghost use Rattle.nio_steps.specs.SelectCalls.{is_again as goes_on, why_ended as why, mark_entry as marks_entry, mark_told as marks_told, mark_looked as marks_looked, mark_again as marks_again, gains_nothing as nothing_gained};
 ghost use Rattle.nio_steps.specs.Sweeps.{sweep_over};
 ghost use Rattle.nio_words.specs.Passes.{IsReady, limits_of};
 ghost use Rattle.nio_words.specs.Views.{view};
 ghost use Rattle.nio_select.specs.Begun.{HasBegun};
 ghost use Rattle.nio_select.specs.Noted.{Rise, AreCountable, noted, noted_more, mark_slot as marks_slot};
 
-use crate::asked::Slot;
+use crate::asked::{Asked, Slot};
 use nio_base::{CallerNo, Ops, SelNo};
 use nio_event::{GateWord, Mark, Mode, Why};
 use nio_words::{Pass, Words};
 
+// Marks the keys of which something was told that they are interested in. Answers how many marks succeeded.
+pub(crate) fn mark_asked(
+    w: &Words,
+    p: &mut Pass,
+    me: CallerNo,
+    sel: SelNo,
+    asked: &mut Asked,
+    pairs: &[(u32, Ops)],
+) -> u32
+    requires begun { HasBegun w.now p.old me sel }
+    requires keys { All (λ entry. entry.index < (limits_of w.now).keys) asked.old }
+    ensures call { CallClause me (Completes (sweep_over asked.old (marks_entry sel pairs.now) 0)) (view w.now p.old) (view w.now p.new) result }
+    ensures begun { HasBegun w.now p.new me sel }
+    ensures same { asked.new ≡ asked.old }
+{
+    note_told(&mut asked.slots, pairs);
+    mark_all(w, p, me, sel, asked.slots.as_slice())
+}
+
 // Puts beside each key what was told of it.
-pub(crate) fn note_told(slots: &mut Vec<Slot>, pairs: &[(u32, Ops)])
+fn note_told(slots: &mut Vec<Slot>, pairs: &[(u32, Ops)])
     requires rise { Rise slots.old.items }
     ensures { slots.new.items ≡ noted pairs.now slots.old.items }
 {
@@ -64,8 +83,8 @@ fn find(slots: &[Slot], index: u32, next: usize) -> Option<usize>
         .ok()
 }
 
-// Marks the keys of which something was told that they are interested in. Answers how many marks succeeded.
-pub(crate) fn mark_all(w: &Words, p: &mut Pass, me: CallerNo, sel: SelNo, slots: &[Slot]) -> u32
+// Marks the keys with what is noted of them. Answers how many marks succeeded.
+fn mark_all(w: &Words, p: &mut Pass, me: CallerNo, sel: SelNo, slots: &[Slot]) -> u32
     requires begun { HasBegun w.now p.old me sel }
     requires countable { AreCountable (limits_of w.now) sel slots.now }
     ensures call { CallClause me (Completes (sweep_over slots.now (marks_slot sel) 0)) (view w.now p.old) (view w.now p.new) result }
