@@ -1,2 +1,6 @@
 mod Trying
+mod Marks
+mod Quiet
+mod Scripts
 mod Telling
+mod Whole

@@ -6,6 +6,7 @@ use Rattle.nio_base.specs.declared.numbers.ChanNo.{ChanNo}
 use Rattle.nio_base.specs.declared.numbers.SelNo.{SelNo}
 use Rattle.nio_event.specs.PassViews.{PassView, done_between}
 use Rattle.nio_event.specs.Timeout.{mode_for}
+use Rattle.nio_event.specs.declared.act.Act.{Act}
 use Rattle.nio_event.specs.declared.act.Act.TheVariants.{Mark as MarkKey}
 use Rattle.nio_event.specs.declared.found.Mark.{Mark as KeyMark}
 use Rattle.nio_event.specs.declared.found.Mode.{Mode}
@@ -46,10 +47,9 @@ pub record MarksReady (ready : ChanNo → ℕ) (looked : List LookedKey) (i told
   pub at_index : entry.index ≡ i
   pub bits : IsTrue (is_within told (ready entry.channel))
 
--- each mark that succeeded between these moments is such a one
-abbrev pub AllMarksReady : (ChanNo → ℕ) → List LookedKey → CallerNo → PassView → PassView → Type 0
-AllMarksReady ready looked me old new =
-    (s : SelNo) (i told : ℕ) (from : KeyMark) → Contains (done_between me old new) (MarkKey s i from told (Ok tt)) → MarksReady ready looked i told
+-- each mark among these acts that succeeded is such a one
+abbrev pub MarksAllReady : (ChanNo → ℕ) → List LookedKey → List Act → Type 0
+MarksAllReady ready looked acts = (s : SelNo) (i told : ℕ) (from : KeyMark) → Contains acts (MarkKey s i from told (Ok tt)) → MarksReady ready looked i told
 
 -- A whole selection of a caller on a pass, before and after, with a poller that tells these polls before and after,
 -- and after it that the channels are ready so.
@@ -61,7 +61,7 @@ pub record SelectClause (me : CallerNo) (s : SelNo) (mode : Mode) (old new : Pas
   pub call : CallClause me (Selects s mode polls) old new reply
   pub answers : Answers reply result
   pub adds : AddsPolls polls_old polls_new (looked_by call.shape.middle) mode polls
-  pub marks : AllMarksReady ready (looked_by call.shape.middle) me old new
+  pub marks : MarksAllReady ready (looked_by call.shape.middle) (done_between me old new)
 
 -- nothing was done, and no poll was asked
 pub record IsRefused (old new : PassView) (polls_old polls_new : Option (List Polled)) (result : Result Selected SelectError) : Type 0 where

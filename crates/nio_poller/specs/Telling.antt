@@ -2,7 +2,7 @@
 use Rattle.std.specs.Prelude.{◌≡◌, ℕ, Option, Result, Ok, Err, List, [], ◌∷◌}
 use Rattle.nio_base.specs.declared.numbers.CallerNo.{CallerNo}
 use Rattle.nio_base.specs.declared.numbers.ChanNo.{ChanNo}
-use Rattle.nio_event.specs.PassViews.{PassView}
+use Rattle.nio_event.specs.PassViews.{PassView, done_between}
 use Rattle.nio_select.specs.InProgress.{told_reply}
 use Rattle.nio_select.specs.declared.selecting.After.{After}
 use Rattle.nio_steps.specs.Calls.{CallClause}
@@ -11,7 +11,7 @@ use Rattle.nio_steps.specs.SelectCalls.{Selection, Poll, Tells, SelectsRest, Sel
 use Rattle.nio_steps.specs.declared.selected.Selected.{Selected}
 use Rattle.nio_poller.specs.Polled.{Polled}
 use Rattle.nio_poller.specs.Polls.{told_of_channel}
-use Rattle.nio_poller.specs.Selecting.{Answers, AddsPolls, AllMarksReady}
+use Rattle.nio_poller.specs.Selecting.{Answers, AddsPolls, MarksAllReady}
 use Rattle.nio_poller.specs.declared.poller.PollError.{PollError}
 use Rattle.nio_poller.specs.declared.selecting.SelectError.{SelectError}
 
@@ -38,4 +38,4 @@ pub record PollsClause (me : CallerNo) (selection : Selection) (old new : PassVi
   pub call : CallClause me (SelectsRest polls (Ok selection)) old new reply
   pub answers : Answers reply result
   pub adds : AddsPolls polls_old polls_new selection.looked selection.mode polls
-  pub marks : AllMarksReady ready selection.looked me old new
+  pub marks : MarksAllReady ready selection.looked (done_between me old new)

@@ -154,8 +154,10 @@ fn begin<R: Wait>(
 {
     for _ in rt.forever() {
         match try_begin(alloc, w, p, me, sel, mode) {
+            Ok(selection) => return Ok(selection),
             Err(BeginError::Busy) => thread::yield_now(),
-            answer => return answer,
+            Err(BeginError::ClosedSelector) => return Err(BeginError::ClosedSelector),
+            Err(BeginError::Memory) => return Err(BeginError::Memory),
         }
     }
     unreachable!()

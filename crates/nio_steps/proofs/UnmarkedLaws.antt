@@ -31,10 +31,19 @@ module _ (n : ℕ) (s : SelNo) (mode : Mode) (lacks : Bool) where
 
   begin-unmarked : Each (NoMark n) (λ _. ⊤) (try_begin_plan s mode lacks)
   unfolding try_begin_plan
-  begin-unmarked = (refl, λ gate. each_if (NoMark n) (λ _. ⊤) (gate_in gate).shut (reply (Err BeginError.ClosedSelector)) (begin_open s mode lacks) (λ _. tt)
-      (λ _. (refl, λ take. each_if (NoMark n) (λ _. ⊤) (is_some (holder_in take)) (reply (Err BeginError.Busy)) (begin_with_turn s mode lacks) (λ _. tt)
-      (λ _. (refl, λ look. each_if (NoMark n) (λ _. ⊤) (gate_in look).shut (given_back s (Err BeginError.ClosedSelector)) _ (λ _. (refl, λ _. tt))
-      (λ _. (refl, λ keys. below-unmarked _)))))))
+  begin-unmarked = (
+    refl,
+    λ gate. each_if (NoMark n) (λ _. ⊤) (gate_in gate).shut (reply (Err BeginError.ClosedSelector)) (begin_open s mode lacks) (λ _. tt)
+        (λ _. (
+          refl,
+          λ take. each_if (NoMark n) (λ _. ⊤) (is_some (holder_in take)) (reply (Err BeginError.Busy)) (begin_with_turn s mode lacks) (λ _. tt)
+              (λ _. (
+                refl,
+                λ look. each_if (NoMark n) (λ _. ⊤) (gate_in look).shut (given_back s (Err BeginError.ClosedSelector)) _ (λ _. (refl, λ _. tt))
+                    (λ _. (refl, λ keys. below-unmarked _)),
+              )),
+        )),
+  )
 
 -- beginning a selection marks no key, on any selector
 pub begin_unmarked : (n : ℕ) (s : SelNo) (mode : Mode) (acts : List Act) (answer : Result Selection BeginError) → Begins s mode acts answer → has (marks_on n) acts ≡ false

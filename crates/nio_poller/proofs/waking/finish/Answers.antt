@@ -1,19 +1,15 @@
-use Rattle.std.proofs.Common.{rules, ◌≡◌, ℕ, ◌+◌, ◌-◌, ◌*◌, ◌<◌, ◌≤◌, length, ◌/◌, ◌%◌, Bool, true, false, nat_eq, nat_lt, List, [], ◌∷◌, ◌++◌, slice_index_or, slice_set, bit_and, bit_or, Fits, w8, w32, w64, Bor, MutBor}
-use Rattle.nio_event.specs.Conditions.{IsCaller}
-use Rattle.nio_event.specs.PassViews.{HasSelector}
-use Rattle.nio_steps.specs.Calls.{CallClause}
-use Rattle.nio_steps.specs.Runs.{Completes}
-use Rattle.nio_select.specs.InProgress.{Closes as IsClosingIt}
-use Rattle.nio_steps.specs.SelectCalls.{wakeup_plan, interrupt_plan, interrupted_plan, Closes, try_finish_plan, finish_finds_busy, closed}
-use Rattle.nio_steps.specs.Waiting.{Retries}
-use Rattle.nio_words.specs.Passes.{IsReady, limits_of}
-use Rattle.nio_words.specs.Views.{view}
+use Rattle.std.proofs.Common.{◌≡◌, true, ◌∙◌, refl, rules}
+use Rattle.nio_select.specs.InProgress.{finish_reply}
+use Rattle.nio_steps.specs.SelectCalls.{finish_finds_busy}
+use Rattle.nio_poller.proofs.Trying.{finish_more, finish_last}
 use Rattle.nio_poller.proofs.waking.finish.Goals as goal
 
--- src/waking.rt:69:31
-pub returns-in-Closed-clause-call : goal.returns-in-Closed-clause-call
-returns-in-Closed-clause-call g c = ?
-
--- src/waking.rt:67:5
 pub loop-preserved : goal.loop-preserved
-loop-preserved g c = ?
+loop-preserved g c =
+    let busy = c.in-Busy.ensures in
+    (busy.ready, busy.still.1, busy.still.0 ∙ c.loop.invariant.2, finish_more _ _ _ c.loop.invariant.2 c.loop.invariant.3 busy.call refl)
+
+pub returns-in-Closed-clause-call : goal.returns-in-Closed-clause-call
+returns-in-Closed-clause-call g c =
+    let over = c.in-Closed.ensures in
+    finish_last _ _ _ c.loop.invariant.2 c.loop.invariant.3 over.call refl
