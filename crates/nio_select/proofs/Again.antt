@@ -1,5 +1,5 @@
 -- A selection that is told, and goes on.
-use Rattle.std.proofs.Common.{◌≡◌, ℕ, Bool, List, ◌++◌, refl, ap, sym, ◌∙◌, subst}
+use Rattle.std.proofs.Common.{◌≡◌, ℕ, List, ap, sym, subst}
 use Rattle.nio_base.specs.declared.numbers.CallerNo.{CallerNo}
 use Rattle.nio_base.specs.declared.numbers.SelNo.{SelNo}
 use Rattle.nio_event.specs.Conditions.{IsSelector}
@@ -10,7 +10,6 @@ use Rattle.nio_steps.proofs.CallLaws.{call_as, returned, ran_then, left_of_call}
 use Rattle.nio_steps.proofs.EachLaws.{each_run, split}
 use Rattle.nio_steps.proofs.SelectionLaws.{NoMark, Replies, after-replies, again_goes_on}
 use Rattle.nio_steps.specs.Calls.{CallClause}
-use Rattle.nio_steps.specs.Plan.{Plan}
 use Rattle.nio_steps.specs.Runs.{Completes}
 use Rattle.nio_steps.specs.SelectCalls.{Selection, Poll, Tells, ToldReply, again, mark_entry, after_marks, told_plan}
 use Rattle.nio_steps.specs.Selections.{IsBegun}

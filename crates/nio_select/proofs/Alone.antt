@@ -1,16 +1,13 @@
 -- Only the selecting caller does what only it does.
 use Rattle.std.proofs.Common.{◌≡◌, ◌||◌, Bool, true, false, List, [], ◌∷◌, ◌++◌, refl, ap, sym, ◌∙◌, subst, append_assoc}
 use Rattle.std.proofs.lemmas.List.Folds.{list_any-append}
-use Rattle.nio_base.specs.declared.numbers.CallerNo.{CallerNo}
 use Rattle.nio_event.proofs.Legal.{legal_beginning}
 use Rattle.nio_event.proofs.Selections.{selects_alone}
 use Rattle.nio_event.specs.Histories.{mine, IsLegal}
 use Rattle.nio_event.specs.OwnEvents.{has, gives_turn}
-use Rattle.nio_event.specs.PassViews.{PassView, done_between}
+use Rattle.nio_event.specs.PassViews.{done_between}
 use Rattle.nio_event.specs.declared.act.Act.{Act}
-use Rattle.nio_event.specs.declared.event.Event.{Event}
 use Rattle.nio_steps.proofs.StandLaws.{selections_stand}
-use Rattle.nio_steps.specs.SelectCalls.{Selection}
 use Rattle.nio_words.proofs.Beginnings.{mine-append}
 use Rattle.nio_select.proofs.GoneOn.{done_in}
 use Rattle.nio_select.specs.Laws.{SelectionsAreAlone}

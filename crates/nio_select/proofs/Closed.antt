@@ -1,15 +1,13 @@
 -- What a closing that has finished found and removed.
 use Rattle.std.proofs.Common.{◌≡◌, ℕ, true, List, [], ◌∷◌, ◌++◌, refl, ap, sym, ◌∙◌, subst, append_assoc}
 use Rattle.std.specs.Prelude.{⊤, is_some}
-use Rattle.nio_base.specs.declared.numbers.CallerNo.{CallerNo}
 use Rattle.nio_base.specs.declared.numbers.SelNo.{SelNo}
 use Rattle.nio_event.specs.Histories.{state_after, mine, event_of, IsLegal}
-use Rattle.nio_event.specs.PassViews.{PassView, done_between}
-use Rattle.nio_event.specs.Questions.{question_of, answer_of}
+use Rattle.nio_event.specs.PassViews.{done_between}
+use Rattle.nio_event.specs.Questions.{answer_of}
 use Rattle.nio_event.specs.Sets.{was_claimed, was_removed}
 use Rattle.nio_event.specs.declared.act.Act.{Act}
 use Rattle.nio_event.specs.declared.act.Act.TheVariants.{LookKeys}
-use Rattle.nio_event.specs.declared.event.Event.{Event}
 use Rattle.nio_steps.proofs.OwnActs.{cut_at}
 use Rattle.nio_steps.proofs.Walks.{Always, always_run, always_bind, always_if, always_any}
 use Rattle.nio_steps.specs.Laws.{ClosedRemovesKeys}
@@ -59,9 +57,12 @@ closings_find_marks old new me s call =
     let look = always_run (LooksWhereClosed s) (try_finish_plan s) (done_between me old new) closed (finish-looks s) call.shape in
     let own : mine me more.0 ≡ (look.enters ∷ []) ++ LookKeys s look.mark ∷ look.rest = sym (done_in me old new more.0 more.1) ∙ look.parts in
     let cut = cut_at me more.0 (look.enters ∷ []) (LookKeys s look.mark) look.rest own in
-    let e = event_of me (LookKeys s look.mark) in
-    (look.mark, old.seen ++ cut.past, record {
-      later = cut.later;
-      parts = sym more.1 ∙ (ap (λ events. old.seen ++ events) cut.parts ∙ sym (append_assoc old.seen cut.past (e ∷ cut.later)));
-      after = (cut.past, refl);
-    })
+    let e = event_of me (LookKeys s look.mark) in (
+      look.mark,
+      old.seen ++ cut.past,
+      record {
+        later = cut.later;
+        parts = sym more.1 ∙ (ap (λ events. old.seen ++ events) cut.parts ∙ sym (append_assoc old.seen cut.past (e ∷ cut.later)));
+        after = (cut.past, refl);
+      },
+    )

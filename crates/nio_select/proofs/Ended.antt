@@ -1,22 +1,21 @@
 -- What puts the calls of a selection together.
-use Rattle.std.proofs.Common.{◌≡◌, ℕ, ◌<◌, ◌≤◌, Bool, true, false, List, [], ◌∷◌, ◌++◌, refl, ap, sym, ◌∙◌, subst}
-use Rattle.std.specs.Prelude.{IsTrue}
+use Rattle.std.proofs.Common.{◌≡◌, ℕ, Bool, true, false, List, [], ◌∷◌, ap, sym, ◌∙◌, subst}
 use Rattle.std.proofs.lemmas.Bool.{and_parts}
 use Rattle.nio_base.specs.declared.numbers.CallerNo.{CallerNo}
 use Rattle.nio_base.specs.declared.numbers.SelNo.{SelNo}
-use Rattle.nio_event.specs.Conditions.{has_turn, has_begun}
+use Rattle.nio_event.specs.Conditions.{has_turn}
 use Rattle.nio_event.specs.PassViews.{PassView, ActsClause}
 use Rattle.nio_event.specs.declared.act.Act.TheVariants.{LookGate, LookInterrupt, EndWake, GiveTurn}
 use Rattle.nio_event.specs.declared.found.GateWord.{GateWord}
 use Rattle.nio_event.specs.declared.found.Mode.{Mode}
 use Rattle.nio_event.specs.declared.reply.Why.{Why}
-use Rattle.nio_steps.proofs.CallLaws.{returned, left_ask, left_then, left_else, left_after, left_of_call, ran_then}
+use Rattle.nio_steps.proofs.CallLaws.{returned, left_ask, left_else, left_after, left_of_call, ran_then}
 use Rattle.nio_steps.proofs.StandLaws.{selections_stand}
 use Rattle.nio_steps.specs.Calls.{CallClause}
 use Rattle.nio_steps.specs.Plan.{Plan, reply, ◌>>=◌, ◌>>◌}
 use Rattle.nio_steps.specs.Runs.{Completes}
-use Rattle.nio_steps.specs.SelectCalls.{Selection, ToldReply, done, again, is_again, why_ended, end_selection, after_marks}
-use Rattle.nio_steps.specs.Steps.{look_interrupt, end_wake, give_turn}
+use Rattle.nio_steps.specs.SelectCalls.{Selection, ToldReply, done, is_again, why_ended, end_selection, after_marks}
+use Rattle.nio_steps.specs.Steps.{end_wake, give_turn}
 use Rattle.nio_steps.specs.declared.selected.Selected.{Selected}
 use Rattle.nio_words.specs.Passes.{IsReady, limits_of, seen, state_seen}
 use Rattle.nio_words.specs.Views.{view}

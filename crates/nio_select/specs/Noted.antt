@@ -1,5 +1,5 @@
 -- What is noted beside the keys that a selection looked at, and the marking of them by it.
-use Rattle.std.specs.Prelude.{◌≡◌, ℕ, ◌+◌, ◌==◌, ◌<◌, ◌^◌, List, length, map, bit_and, bit_or, if◌then◌else◌}
+use Rattle.std.specs.Prelude.{ℕ, ◌+◌, ◌==◌, ◌<◌, ◌^◌, List, length, map, bit_and, bit_or, if◌then◌else◌}
 use Rattle.std.specs.List.{All, AllPairs}
 use Rattle.nio_base.specs.declared.limits.Limits.{Limits}
 use Rattle.nio_base.specs.declared.numbers.SelNo.{SelNo}

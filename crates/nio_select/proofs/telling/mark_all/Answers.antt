@@ -1,5 +1,5 @@
-use Rattle.std.proofs.Common.{◌≡◌, ◌<◌, length, refl, ap, subst, sym, arith, get_or}
-use Rattle.nio_steps.proofs.CallLaws.{returned, ran_then, left_after_call, left_reply, left_start}
+use Rattle.std.proofs.Common.{arith}
+use Rattle.nio_steps.proofs.CallLaws.{returned, left_reply, left_start}
 use Rattle.nio_steps.proofs.SweepLaws.{over_turn_at, over_done_at}
 use Rattle.nio_steps.specs.Plan.{reply}
 use Rattle.nio_select.specs.Noted.{mark_slot}

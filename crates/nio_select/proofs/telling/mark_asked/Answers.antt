@@ -1,11 +1,6 @@
-use Rattle.std.proofs.Common.{List, map, subst, sym, ap, ◌∙◌}
-use Rattle.nio_steps.specs.Calls.{CallClause}
-use Rattle.nio_steps.specs.Runs.{Completes}
-use Rattle.nio_steps.specs.SelectCalls.{mark_entry}
-use Rattle.nio_steps.specs.Sweeps.{sweep_over}
+use Rattle.std.proofs.Common.{map, subst, sym, ap, ◌∙◌}
 use Rattle.nio_words.specs.Passes.{limits_of}
-use Rattle.nio_words.specs.Views.{view}
-use Rattle.nio_select.specs.Noted.{Rise, AreCountable, noted, mark_slot}
+use Rattle.nio_select.specs.Noted.{Rise, AreCountable, noted}
 use Rattle.nio_select.specs.declared.asked.Slot.{Slot}
 use Rattle.nio_select.proofs.Inside.{countable}
 use Rattle.nio_select.proofs.Noted.{noted-keys, noted-rise, marked_as_told}

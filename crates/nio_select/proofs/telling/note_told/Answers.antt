@@ -1,5 +1,5 @@
-use Rattle.std.proofs.Common.{◌≡◌, sym, subst, take}
-use Rattle.nio_select.specs.Noted.{Rise, noted}
+use Rattle.std.proofs.Common.{sym, subst, take}
+use Rattle.nio_select.specs.Noted.{Rise}
 use Rattle.nio_select.proofs.Noted.{noted_next, noted-rise}
 use Rattle.nio_select.proofs.telling.note_told.Goals as goal
 

@@ -1,6 +1,5 @@
 use Rattle.std.proofs.Common.{◌<◌, List, ℕ, ap, sym, ◌∙◌, subst}
 use Rattle.std.specs.List.{All}
-use Rattle.nio_steps.specs.SelectCalls.{Selection}
 use Rattle.nio_steps.specs.declared.looked.LookedKey.{LookedKey}
 use Rattle.nio_words.specs.Passes.{limits_of}
 use Rattle.nio_select.specs.Begun.{HasBegun}
