@@ -1,4 +1,5 @@
 mod Trying
+pub mod Ready
 mod Marks
 mod Quiet
 mod Scripts
