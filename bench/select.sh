@@ -9,7 +9,7 @@ trap 'rm -rf "$made"' EXIT
 gcc -O2 -o "$made/atomics" select_atomics.c
 (cd ../crates/nio_bench && rt run) >"$made/log" 2>&1 || { cat "$made/log"; exit 1; }
 cp ../crates/nio_bench/out/nio_bench "$made/calls"
-runs() { for _ in 1 2 3 4 5; do "$@" 2>/dev/null; done; }
+runs() { for _ in 1 2; do "$@" 2>/dev/null; done; }
 {
     runs "$made/calls" select | sed 's/^/nio /'
     runs "$made/atomics" | sed 's/^/c /'

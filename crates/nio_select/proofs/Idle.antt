@@ -1,6 +1,7 @@
 -- For the tests: what two callers have between their calls stays, and so does what one has in progress beside calls of
 -- the other.
-use Rattle.std.proofs.Common.{sym, subst, eq-eqb, List}
+use Rattle.std.proofs.Common.{sym, subst, eq-eqb, List, Option, Some, None}
+use Rattle.std.specs.Prelude.{IfSome}
 use Rattle.std.specs.Int.{bit_at}
 use Rattle.nio_base.specs.declared.limits.Limits.{Limits}
 use Rattle.nio_base.specs.declared.numbers.SelNo.{SelNo}
@@ -62,3 +63,8 @@ closes_beside {s = s} clause held has = record {
   inside = subst (λ (l : Limits). IsSelector l s) (sym clause.limits) has.inside;
   closing = subst (λ own. IsClosing own s) (sym (clause.history.others one held (λ same. zero_other (sym same)))) has.closing;
 }
+
+-- what is in progress, if anything, still is
+pub some_still : {A : Type 0} {P Q : A → Type 0} (o : Option A) → IfSome o P → ((x : A) → P x → Q x) → IfSome o Q
+some_still (Some x) here still = still x here
+some_still None here still = here

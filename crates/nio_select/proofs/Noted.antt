@@ -1,5 +1,6 @@
 -- What is noted beside the keys that a selection looked at.
 use Rattle.std.proofs.Common.{◌≡◌, ◌≢◌, ℕ, zero, suc, ◌+◌, ◌<◌, ◌≤◌, ◌==◌, Bool, true, false, if◌then◌else◌, List, [], ◌∷◌, ◌++◌, length, get_or, set, map, take, Result, Ok, Err, MatchOption, refl, ap, sym, ◌∙◌, subst, arith, ne_eqb, eq-eqb}
+use Rattle.std.specs.Int.Bits.{and_zero_l}
 use Rattle.std.specs.List.{All, HoldsAt}
 use Rattle.std.specs.List.Sorted.{IsSearchInRange, IsBinarySearchResult, IsNonDecreasingBy}
 use Rattle.std.specs.Ordering.{nat_cmp, ordering_index}
@@ -14,9 +15,10 @@ use Rattle.std.proofs.lemmas.List.Sorted.{IsNonDecreasingBy-from_default}
 use Rattle.std.proofs.lemmas.List.Sums.{fold-append}
 use Rattle.nio_base.specs.declared.numbers.CallerNo.{CallerNo}
 use Rattle.nio_base.specs.declared.numbers.SelNo.{SelNo}
+use Rattle.nio_event.specs.Histories.{IsLegal}
 use Rattle.nio_event.specs.PassViews.{PassView}
-use Rattle.nio_steps.proofs.CallLaws.{returned, ran_then, left_after_call}
-use Rattle.nio_steps.specs.Calls.{CallClause}
+use Rattle.nio_steps.proofs.CallLaws.{returned, ran_then, left_start, left_after_call}
+use Rattle.nio_steps.specs.Calls.{CallClause, PartClause}
 use Rattle.nio_steps.specs.Runs.{Completes}
 use Rattle.nio_steps.proofs.Lists.{pairs-head, pairs-tail}
 use Rattle.nio_steps.specs.Plan.{Plan, reply, ◌>>=◌}
@@ -165,3 +167,17 @@ pub marked_as_told : {me : CallerNo} {v0 v1 : PassView} {count : ℕ} (s : SelNo
 marked_as_told {me = me} {v0 = v0} {v1 = v1} {count = count} s pairs slots asked read is view call =
     subst (λ (plan : Plan ℕ). CallClause me (Completes plan) v0 v1 count)
     (ap (λ (xs : List Slot). sweep_over xs (mark_slot s) 0) is ∙ (marks_noted s pairs slots 0 ∙ ap (λ (entries : List LookedKey). sweep_over entries (mark_entry s pairs) 0) view)) call
+
+-- where nothing is told, no key is marked
+marks_nothing : (s : SelNo) (asked : List LookedKey) → sweep_over asked (mark_entry s []) 0 ≡ reply 0
+unfolding sweep_over
+marks_nothing s [] = refl
+marks_nothing s (entry ∷ later) =
+    ap (λ (bits : ℕ). mark_told s entry.index bits >>= (λ (marked : ℕ). reply (0 + marked)) >>= (λ (count : ℕ). sweep_over later (mark_entry s []) count)) (and_zero_l entry.interest)
+    ∙ marks_nothing s later
+
+pub nothing_told : {me : CallerNo} (pass : PassView) (s : SelNo) (asked : List LookedKey) (pairs : List (ℕ × ℕ)) → length pairs ≡ 0 → IsLegal pass.limits pass.seen
+    → CallClause me (Completes (sweep_over asked (mark_entry s pairs) 0)) pass pass 0
+nothing_told {me = me} pass s asked [] none legal =
+    let plan = sweep_over asked (mark_entry s []) 0 in returned (subst (λ (rest : Plan ℕ). PartClause me plan pass pass rest) (marks_nothing s asked) (left_start me plan pass legal))
+nothing_told pass s asked (pair ∷ pairs) none legal = absurd (omega (arith, none))

@@ -1,7 +1,8 @@
 -- The lists that a selection makes.
-use Rattle.std.specs.Prelude.{◌+◌, ◌≤◌, ℕ, [], map}
+use Rattle.std.specs.Prelude.{◌+◌, ◌≤◌, ◌++◌, ℕ, [], ◌∷◌, map}
 use Rattle.std.specs.Vec.{vec_len, vec_capacity}
 use Rattle.nio_steps.specs.SelectCalls.{LookedOver}
+use Rattle.nio_steps.specs.declared.looked.LookedKey.{LookedKey}
 use Rattle.nio_select.specs.declared.lists.Found.{Found}
 
 -- what a selection found, in the words of its plan
@@ -10,6 +11,10 @@ found_in found = record { looked = map (λ slot. slot.key) found.slots.items; ke
 
 abbrev pub nothing_found : LookedOver
 nothing_found = record { looked = []; kept = [] }
+
+-- with a key more that was looked at
+abbrev pub looked_more : LookedOver → LookedKey → LookedOver
+looked_more found entry = record { looked = found.looked ++ entry ∷ []; kept = found.kept ++ entry.index ∷ [] }
 
 -- both lists have room for so many more
 pub record HasRoom (found : Found) (more : ℕ) : Type 0 where

@@ -6,14 +6,14 @@ ghost use Rattle.nio_event.specs.PassViews.{HasSelector};
 ghost use Rattle.nio_steps.specs.Calls.{CallClause};
 ghost use Rattle.nio_steps.specs.ChannelCalls.{words_below as count_words_below};
 ghost use Rattle.nio_steps.specs.Runs.{Completes};
-ghost use Rattle.nio_steps.specs.SelectCalls.{Begins, list_word as lists_word, list_below as lists_below, look_over as looks_over, look_valid as looks_valid, not_free};
+ghost use Rattle.nio_steps.specs.SelectCalls.{Begins, list_word as lists_word, list_below as lists_below, look_over as looks_over, look_valid as looks_valid, looked_key, not_free};
 ghost use Rattle.nio_steps.specs.Sweeps.{sweep_over};
 ghost use Rattle.nio_words.specs.Passes.{IsReady, limits_of, state_seen};
 ghost use Rattle.nio_words.specs.Views.{view};
 ghost use Rattle.nio_select.specs.Beginning.{BeginsOpen, BeginsWithTurn, BeginsBelow};
 ghost use Rattle.nio_select.specs.Begun.{HasBegun};
 ghost use Rattle.nio_select.specs.InProgress.{Selects};
-ghost use Rattle.nio_select.specs.Lists.{nothing_found, found_in, HasRoom, GrewByOne};
+ghost use Rattle.nio_select.specs.Lists.{nothing_found, found_in, looked_more, HasRoom, GrewByOne};
 
 use crate::asked::{Asked, Slot};
 use crate::lists::{Found, add};
@@ -249,6 +249,15 @@ fn look_valid(
     ensures grew { GrewByOne found.old found.new }
 {
     let interest = w.look_interest(p, me, sel, i);
+    add_looked(found, i, stage, interest);
+}
+
+// Adds a key to those that were looked at. It makes no step: an entry that is built across a step is copied once more.
+fn add_looked(found: &mut Found, i: u32, stage: Stage, interest: Ops)
+    requires { HasRoom found.old 1 }
+    ensures found { found_in found.new ≡ looked_more (found_in found.old) (looked_key i stage interest) }
+    ensures grew { GrewByOne found.old found.new }
+{
     let key = LookedKey {
         index: i,
         serial: stage.serial,

@@ -33,5 +33,5 @@ pub(crate) fn add<T: Copy + Drop>(list: &mut Vec<T>, item: T)
     ensures len { vec_len list.new ≡ vec_len list.old + 1 }
     ensures capacity { vec_capacity list.old ≤ vec_capacity list.new }
 {
-    let _added = list.push(item);
+    list.push_reserved(item);
 }

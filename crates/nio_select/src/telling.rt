@@ -31,6 +31,9 @@ pub(crate) fn mark_asked(
     ensures begun { HasBegun w.now p.new me sel }
     ensures same { asked.new ≡ asked.old }
 {
+    if pairs.is_empty() {
+        return 0;
+    }
     note_told(&mut asked.slots, pairs);
     mark_all(w, p, me, sel, asked.slots.as_slice())
 }

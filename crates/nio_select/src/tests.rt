@@ -4,7 +4,7 @@ ghost use Rattle.std.specs.Prelude.{◌≡◌, IfSome};
 ghost use Rattle.nio_base.specs.declared.numbers.SelNo.{SelNo as Selector};
 ghost use Rattle.nio_channel.specs.Idle.{AreIdle, drawn, zero, one};
 ghost use Rattle.nio_event.specs.Conditions.{IsSelector};
-ghost use Rattle.nio_event.specs.PassViews.{HasKey, HasNoPin, HasSelector};
+ghost use Rattle.nio_event.specs.PassViews.{HasChannel, HasKey, HasNoPin, HasSelector};
 ghost use Rattle.nio_steps.specs.SelectCalls.{Selection};
 ghost use Rattle.nio_words.specs.Passes.{IsReady, limits_of, seen};
 ghost use Rattle.nio_words.specs.Views.{view};
@@ -12,9 +12,7 @@ ghost use Rattle.nio_select.specs.InProgress.{Selects, Closes};
 
 use crate::*;
 use nio_base::{CallerNo, ChanNo, KeyNo, Kind, Limits, Ops, SelNo};
-use nio_channel::{
-    ChannelError, close_channel, key_for, open_channel, try_register, try_set_blocking,
-};
+use nio_channel::{ChannelError, close_channel, open_channel, try_register, try_set_blocking};
 use nio_event::Why;
 use nio_keys::{KeyError, cancel, find, find_channel, ready, unselect};
 use nio_words::{Pass, Words};
@@ -379,4 +377,244 @@ fn why_selections_end(rt: HostRuntime) -> Result<(), Fail> {
             ),
         ],
     )
+}
+
+/// The other caller begins a selection and leaves it.
+fn begins_beside(alloc: Global, w: &Words, p: &mut Pass) -> Reply
+    requires { AreIdle w.now p.old }
+    ensures idle { AreIdle w.now p.new }
+    ensures selecting { (selection : Selection) → Selects (view w.now p.old) zero selection → Selects (view w.now p.new) zero selection }
+{
+    match try_begin(alloc, w, p, ONE, S, Mode::Now) {
+        Ok(selection) => {
+            selection.leave(w, p, ONE);
+            Reply::Nothing
+        }
+        Err(error) => Reply::NotBegun(error),
+    }
+}
+
+/// The other caller begins to close the selector.
+fn shuts(w: &Words, p: &mut Pass) -> Option<Closing>
+    requires { AreIdle w.now p.old }
+    ensures idle { AreIdle w.now p.new }
+    ensures selecting { (selection : Selection) → Selects (view w.now p.old) zero selection → Selects (view w.now p.new) zero selection }
+    ensures closing { IfSome result (Closes (view w.now p.new) one) }
+{
+    match shut(w, p, ONE, S) {
+        Shutting::Closing(closing) => Some(closing),
+        Shutting::AlreadyClosed => None,
+    }
+}
+
+/// The other caller tries to finish its closing, where one is in progress.
+fn finishes(w: &Words, p: &mut Pass, closing: Option<Closing>) -> Option<Closing>
+    requires idle { AreIdle w.now p.old }
+    requires closing { IfSome closing (Closes (view w.now p.old) one) }
+    ensures idle { AreIdle w.now p.new }
+    ensures selecting { (selection : Selection) → Selects (view w.now p.old) zero selection → Selects (view w.now p.new) zero selection }
+    ensures closing { IfSome result (Closes (view w.now p.new) one) }
+{
+    let Some(closing) = closing else {
+        return None;
+    };
+    match closing.try_finish(w, p, ONE) {
+        Finish::Busy(closing) => Some(closing),
+        Finish::Closed => None,
+    }
+}
+
+/// Whether a closing is in progress. It is let go.
+fn is_in_progress(closing: Option<Closing>) -> bool {
+    match closing {
+        Some(closing) => {
+            closing.forget();
+            true
+        }
+        None => false,
+    }
+}
+
+/// A selection that is told this after the other caller tried to begin one and to close the selector: what the other's
+/// beginning answers, whether its closing is in progress before the telling, what the telling answers, and whether the
+/// closing is in progress after it.
+fn is_told_beside(
+    alloc: Global,
+    w: &Words,
+    p: &mut Pass,
+    selection: Selecting,
+    told: &Told,
+) -> (Reply, bool, Reply, bool)
+    requires idle { AreIdle w.now p.old }
+    requires begun { Selects (view w.now p.old) zero selection }
+    ensures { AreIdle w.now p.new }
+{
+    let busy = begins_beside(alloc, w, p);
+    let closing = shuts(w, p);
+    let closing = finishes(w, p, closing);
+    let waits = closing.is_some();
+    let ended = is_told(w, p, selection, told);
+    let closing = finishes(w, p, closing);
+    (busy, waits, ended, is_in_progress(closing))
+}
+
+#[test]
+fn a_selector_is_closed(rt: HostRuntime) -> Result<(), Fail> {
+    let (words, mut p) = Words::make(rt.alloc(), SMALL)?;
+    words.draw(&mut p, ZERO)?;
+    words.draw(&mut p, ONE)?;
+    set_up(&words, &mut p);
+    let told = told(rt.alloc(), NOTHING, false)?;
+    let selection = try_begin(rt.alloc(), &words, &mut p, ZERO, S, Mode::Wait)?;
+    let (busy, waits, ended, goes_on) = is_told_beside(
+        rt.alloc(),
+        &words,
+        &mut p,
+        selection,
+        &told,
+    );
+    assert!(rt; busy == Reply::NotBegun(BeginError::Busy));
+    assert!(rt; waits && !goes_on);
+    assert!(rt; ended == Reply::Done(0, Why::Closed));
+    let closed = Reply::Listed(Err(ListError::ClosedSelector));
+    let rows = [
+        (Call::Keys, closed),
+        (Call::SelectedKeys, closed),
+        (Call::Begin, Reply::NotBegun(BeginError::ClosedSelector)),
+    ];
+    for (call, reply) in rows {
+        let found = answer(rt.alloc(), &words, &mut p, call);
+        assert!(rt; found == reply);
+    }
+    Ok(())
+}
+
+/// How often a thread selects.
+const ROUNDS: u32 = 20;
+
+/// Selects in rounds.
+fn selects_in_rounds(alloc: Global, w: &Words, mut p: Pass) -> Pass
+    requires ready { IsReady w.now p ZERO }
+    requires selector { HasSelector (view w.now p) S }
+    ensures { IsReady w.now result ZERO }
+{
+    for _ in 0..ROUNDS {
+        selects_once(alloc, w, &mut p);
+    }
+    p
+}
+
+/// A selection that is told nothing and then, where it goes on, that all keys are ready. Says whether it ended.
+fn selects_once(alloc: Global, w: &Words, p: &mut Pass) -> bool
+    requires ready { IsReady w.now p.old ZERO }
+    requires selector { HasSelector (view w.now p.old) S }
+    ensures ready { IsReady w.now p.new ZERO }
+    ensures selector { HasSelector (view w.now p.new) S }
+{
+    let nothing = told(alloc, NOTHING, false);
+    let all = told(alloc, [(0, BOTH), (1, BOTH), (2, BOTH)], false);
+    let (Ok(nothing), Ok(all)) = (nothing, all) else {
+        return false;
+    };
+    selects_twice(alloc, w, p, &nothing, &all)
+}
+
+/// A selection that is told the one and then, where it goes on, the other. Says whether it ended.
+fn selects_twice(alloc: Global, w: &Words, p: &mut Pass, first: &Told, second: &Told) -> bool
+    requires ready { IsReady w.now p.old ZERO }
+    requires selector { HasSelector (view w.now p.old) S }
+    ensures ready { IsReady w.now p.new ZERO }
+    ensures selector { HasSelector (view w.now p.new) S }
+{
+    let Ok(selection) = try_begin(alloc, w, p, ZERO, S, Mode::Wait) else {
+        return false;
+    };
+    match selection.told(w, p, ZERO, first) {
+        After::Done(_answer) => true,
+        After::Again(selection) => ends(w, p, selection, second),
+    }
+}
+
+/// Tells the selection this. Says whether that ended it.
+fn ends(w: &Words, p: &mut Pass, selection: Selecting, told: &Told) -> bool
+    requires ready { IsReady w.now p.old ZERO }
+    requires selector { HasSelector (view w.now p.old) S }
+    requires begun { Selects (view w.now p.old) zero selection }
+    ensures ready { IsReady w.now p.new ZERO }
+    ensures selector { HasSelector (view w.now p.new) S }
+{
+    match selection.told(w, p, ZERO, told) {
+        After::Done(_answer) => true,
+        After::Again(selection) => {
+            selection.leave(w, p, ZERO);
+            false
+        }
+    }
+}
+
+/// Registers the channel, cancels its key and wakes the selector.
+fn registers_and_wakes(w: &Words, p: &mut Pass, chan: ChanNo)
+    requires ready { IsReady w.now p.old ONE }
+    requires unpinned { HasNoPin (view w.now p.old) ONE }
+    requires selector { HasSelector (view w.now p.old) S }
+    requires channel { HasChannel (view w.now p.old) chan }
+    ensures ready { IsReady w.now p.new ONE }
+    ensures unpinned { HasNoPin (view w.now p.new) ONE }
+    ensures channel { HasChannel (view w.now p.new) chan }
+{
+    w.wake(p, ONE, S);
+    if let Ok(key) = try_register(w, p, ONE, S, chan, Ops::of(BOTH), 0) {
+        cancel(w, p, ONE, key);
+    }
+}
+
+/// Registers the channel, cancels its key, wakes the selector and closes the channel. Says whether this closed it.
+fn registers_and_closes(w: &Words, mut p: Pass, chan: ChanNo) -> (Pass, bool)
+    requires ready { IsReady w.now p ONE }
+    requires unpinned { HasNoPin (view w.now p) ONE }
+    requires selector { HasSelector (view w.now p) S }
+    requires channel { HasChannel (view w.now p) chan }
+    ensures { IsReady w.now result.0 ONE }
+{
+    registers_and_wakes(w, &mut p, chan);
+    let closed = close_channel(w, &mut p, ONE, chan);
+    (p, closed)
+}
+
+fn first_stream(w: &Words, p: &mut Pass) -> Option<ChanNo>
+    requires { AreIdle w.now p.old }
+    ensures idle { AreIdle w.now p.new }
+    ensures found { IfSome result (HasChannel (view w.now p.new)) }
+{
+    find_channel(w, p, ZERO, 0)
+}
+
+#[test]
+fn one_of_two_threads_selects(rt: HostRuntime) -> Result<(), Fail> {
+    let (words, mut p) = Words::make(rt.alloc(), SMALL)?;
+    words.draw(&mut p, ZERO)?;
+    words.draw(&mut p, ONE)?;
+    set_up(&words, &mut p);
+    open_streams(&words, &mut p)?;
+    let Some(chan) = first_stream(&words, &mut p) else {
+        panic!(rt; "no channel was opened")
+    };
+    let q = words.hand_over(&mut p, ONE)?;
+    let alloc = rt.alloc();
+    let (mut p, (q, closed)) = join(
+        &rt,
+        || -> Pass
+            requires { IsReady words p ZERO × HasSelector (view words p) S }
+            ensures { IsReady words result ZERO }
+        { selects_in_rounds(alloc, &words, p) },
+        || -> (Pass, bool)
+            requires { IsReady words q ONE × HasNoPin (view words q) ONE × HasSelector (view words q) S × HasChannel (view words q) chan }
+            ensures { IsReady words result.0 ONE }
+        { registers_and_closes(&words, q, chan) },
+    );
+    assert!(rt; closed);
+    words.join(&mut p, q);
+    let stage = words.look_key(&mut p, ZERO, S, 0);
+    assert!(rt; stage.claimed && !stage.is_valid_key(stage.serial));
+    Ok(())
 }

@@ -1,9 +1,10 @@
-use Rattle.std.proofs.Common.{map, subst, sym, ap, ◌∙◌}
+use Rattle.std.proofs.Common.{◌≡◌, length, map, subst, sym, ap, ◌∙◌, rules}
 use Rattle.nio_words.specs.Passes.{limits_of}
+use Rattle.nio_words.specs.Views.{view}
 use Rattle.nio_select.specs.Noted.{Rise, AreCountable, noted}
 use Rattle.nio_select.specs.declared.asked.Slot.{Slot}
 use Rattle.nio_select.proofs.Inside.{countable}
-use Rattle.nio_select.proofs.Noted.{noted-keys, noted-rise, marked_as_told}
+use Rattle.nio_select.proofs.Noted.{noted-keys, noted-rise, marked_as_told, nothing_told}
 use Rattle.nio_select.proofs.telling.mark_asked.Goals as goal
 
 pub mark_all-requires-clause-countable : goal.mark_all-requires-clause-countable
@@ -25,3 +26,8 @@ returns-clause-call c =
 pub returns-clause-same : goal.returns-clause-same
 returns-clause-same c =
     ap (map (λ (slot : Slot). slot.key)) c.note_told.ensures ∙ (noted-keys c.args.pairs.now c.asked.inside.slots.items ∙ c.asked.view_is)
+
+pub returns-then-is_empty-clause-call : goal.returns-then-is_empty-clause-call
+returns-then-is_empty-clause-call c =
+    let none : length c.args.pairs.now ≡ 0 = search rules in
+    nothing_told (view c.args.w.now c.args.p.now) c.args.sel c.args.asked.now c.args.pairs.now none c.requires.begun.ready.pass.legal
