@@ -2,6 +2,7 @@
 //! selects it when a poller tells that it is ready. Then it waits in a selection until the second caller, in a thread
 //! of its own, wakes it.
 #![tactic(auto)]
+
 ghost use Rattle.std.specs.Prelude.{◌≡◌, IfOk};
 ghost use Rattle.nio_event.specs.PassViews.{HasSelector};
 ghost use Rattle.nio_words.specs.Passes.{IsPassOf, IsReady, seen};
@@ -54,9 +55,9 @@ fn main(rt: HostRuntime) -> anyhow::Result<()> {
         || -> Result<Selected, SelectError>
             requires { IsReady words p FIRST × HasSelector (view words p) sel }
         { sleeps(&rt, rt.alloc(), &words, p, sel, sleeper) },
-        || requires { IsReady words q SECOND × HasSelector (view words q) sel } {
-            wakes(&words, q, sel, &bell)
-        },
+        ||
+            requires { IsReady words q SECOND × HasSelector (view words q) sel }
+        { wakes(&words, q, sel, &bell) },
     );
     let selected = answer?;
     println!(rt; "selected: {} ({:?})", selected.count, selected.why)?;
@@ -68,8 +69,8 @@ fn set_up<R: Wait>(rt: &R, w: &Words, p: &mut Pass) -> anyhow::Result<(SelNo, Ke
     requires first { IsReady w.now p.old FIRST }
     requires second { IsReady w.now p.old SECOND }
     requires seen { seen p.old ≡ drawn }
-    ensures first { IsReady w.now p.new FIRST }
-    ensures second { IsReady w.now p.new SECOND }
+    ensures first { IfOk result (λ _. IsReady w.now p.new FIRST) }
+    ensures second { IfOk result (λ _. IsReady w.now p.new SECOND) }
     ensures selector { IfOk result (λ made. HasSelector (view w.now p.new) made.0) }
 {
     let sel = open_selector(w, p, FIRST)?;
