@@ -1,7 +1,9 @@
--- Indexes that are claimed, and the caller's claim of one.
-use Rattle.std.proofs.Common.{◌≡◌, ℕ, suc, ◌+◌, ◌<◌, ◌≤◌, Bool, true, false, if◌then◌else◌, [], ◌∷◌, ◌++◌, refl, ap, sym, ◌∙◌, subst, below_more, Some, None, List, add-one, eq-eqb}
+-- Indexes that are claimed, the caller's claim of one, and words that show no index as free.
+use Rattle.std.proofs.Common.{◌≡◌, ℕ, zero, suc, ◌+◌, ◌*◌, ◌<◌, ◌≤◌, ◌==◌, ◌&&◌, Bool, true, false, if◌then◌else◌, [], ◌∷◌, ◌++◌, refl, ap, sym, ◌∙◌, subst, below_more, Some, None, List, add-one, eq-eqb}
 use Rattle.std.specs.Option.{option_or}
+use Rattle.std.specs.Prelude.{nat_lt}
 use Rattle.std.proofs.lemmas.Bool.{ltb-true}
+use Rattle.std.proofs.lemmas.Nat.Bits.{bit_at-zero}
 use Rattle.nio_base.specs.declared.numbers.CallerNo.{CallerNo}
 use Rattle.nio_base.specs.declared.numbers.ChanNo.{ChanNo}
 use Rattle.nio_base.specs.declared.numbers.KeyId.{KeyId}
@@ -24,6 +26,9 @@ use Rattle.nio_event.specs.State.{State, last_serial}
 use Rattle.nio_event.specs.declared.act.Act.{Act}
 use Rattle.nio_event.specs.declared.act.Act.TheVariants.{LookKey, Claim, LookKeys, TakeFree, ClaimAgain}
 use Rattle.nio_event.specs.declared.found.Stage.{Stage}
+use Rattle.nio_steps.specs.ChannelCalls.{claim_free, claim_at_bit}
+use Rattle.nio_steps.specs.Plan.{reply, ◌>>=◌}
+use Rattle.nio_steps.specs.Sweeps.{found_or, seek, seek_to}
 use Rattle.nio_words.proofs.Pins.{changes_pins, stays_pinned, only_claimed, only_claimed_again}
 use Rattle.nio_words.proofs.Stepping.{still_ready}
 use Rattle.nio_words.proofs.Views.{finds_drawn, step_acts, look_tells}
@@ -127,3 +132,17 @@ has_claimed_again {w = w} {p = p} {q = q} {me = me} {c = c} {s = s} {i = i} {fro
       ∙ ap (λ (n : ℕ). Some (record { channel = c; serial = n })) (sym (add-one from.serial)));
   unpublished = ap (is_unpublished s.0 i) (own_more steps refl) ∙ unpublished_now s i (ClaimAgain s i c from false) (acts_seen p me) refl;
 }
+
+-- ---- a word that shows no index as free
+
+-- no bit of it is set, so that none of its indexes is tried
+no_bit : (s : SelNo) (c : ChanNo) (mark j n b : ℕ) → seek n b (claim_at_bit s c mark j 0) ≡ reply None
+unfolding seek
+no_bit s c mark j zero b = refl
+no_bit s c mark j (suc n) b =
+    ap (λ (bit : ℕ). (if (bit == 1) && nat_lt (64 * j + b) mark then claim_free s c (64 * j + b) else reply None) >>= found_or (seek n (b + 1) (claim_at_bit s c mark j 0))) (bit_at-zero b)
+    ∙ no_bit s c mark j n (b + 1)
+
+-- for such a word nothing is done
+pub none_free : (s : SelNo) (c : ChanNo) (mark j word : ℕ) → word ≡ 0 → seek_to 64 0 (claim_at_bit s c mark j word) ≡ reply None
+none_free s c mark j word none = ap (λ (found : ℕ). seek_to 64 0 (claim_at_bit s c mark j found)) none ∙ no_bit s c mark j 64 0

@@ -69,6 +69,9 @@ fn search_word(
     ensures claimed { IfSome result (HasClaimed w.now p.new me chan sel) }
 {
     let word = w.look_free(p, me, sel, j);
+    if word == 0 {
+        return None;
+    }
     search_bits(w, p, me, sel, chan, mark, j, word)
 }
 
