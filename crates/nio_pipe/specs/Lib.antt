@@ -1,0 +1,5 @@
+pub mod Answers
+pub mod Calls
+pub mod Kept
+pub mod Opened
+pub mod Pipe
