@@ -1,5 +1,6 @@
 pub mod Answers
 pub mod Calls
+pub mod Held
 pub mod Kept
 pub mod Opened
 pub mod Pipe

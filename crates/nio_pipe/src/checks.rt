@@ -84,7 +84,8 @@ pub(crate) fn check_write(
     Ok(blocking)
 }
 
-/// The channels of a pipe.
+// The channels of a pipe.
+#[derive(Clone, Copy)]
 pub(crate) struct Ends {
     pub(crate) source: ChanNo,
     pub(crate) sink: ChanNo,

@@ -2,6 +2,9 @@
 #![tactic(auto)]
 
 pub use answers::{PipeRead, PipeWrite};
+pub use held::{CAPACITY, HeldPipe, held_pipe};
+pub use nio_steps::{PipeError, PipeMakeError};
 
 mod answers;
 mod checks;
+mod held;
