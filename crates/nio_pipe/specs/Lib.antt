@@ -1,5 +1,7 @@
 pub mod Answers
 pub mod Calls
+pub mod Counts
+pub mod Ends
 pub mod Held
 pub mod Kept
 pub mod Opened

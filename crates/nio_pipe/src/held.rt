@@ -180,8 +180,9 @@ impl HeldPipe {
         ensures closed { IsClosed (view w.now p.new) self.old.sink }
         ensures pipe { self.new ≡ after_end self.old }
     {
+        let closes = close_channel(w, p, me, self.sink);
         self.marked = true;
-        close_channel(w, p, me, self.sink)
+        closes
     }
 
     /// A pipe is lawful. Call it where a proof needs that.

@@ -4,7 +4,10 @@
 pub use answers::{PipeRead, PipeWrite};
 pub use held::{CAPACITY, HeldPipe, held_pipe};
 pub use nio_steps::{PipeError, PipeMakeError};
+pub use sink::PipeSink;
 
 mod answers;
 mod checks;
 mod held;
+mod sink;
+mod source;

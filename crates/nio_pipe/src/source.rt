@@ -1,0 +1,172 @@
+//! The end of a pipe that is read from.
+ghost use Rattle.std.specs.Prelude.{◌≡◌};
+ghost use Rattle.rtrb.specs.Ring.{consumer_capacity, known_items, received as popped};
+ghost use Rattle.nio_pipe.specs.Counts.{count_of, left_to, marks_taken, IsReached};
+
+use crate::answers::{PipeRead, read_answer};
+use crate::checks::check_open;
+use crate::sink::PipeSink;
+use nio_base::{CallerNo, ChanNo};
+use nio_channel::close_channel;
+use nio_steps::PipeError;
+use nio_words::{Pass, Words};
+use rtrb::Consumer;
+
+/// The end of a pipe that is read from. It can move to a thread of its own.
+#[derive(Drop)]
+pub struct PipeSource {
+    pub(crate) chan: ChanNo,
+    pub(crate) bytes: Consumer<u8>,
+    pub(crate) marks: Consumer<u64>,
+    // how many bytes were read, modulo 2^64
+    count: u64,
+    // the end mark, once it was taken from the ring: the sink's count
+    mark: Option<u64>,
+    // how many bytes wait up to the end mark, once all of them were seen
+    pub(crate) to_end: Option<usize>,
+    ghost sized: { consumer_capacity bytes ≡ 65536 },
+    ghost counted: { count ≡ count_of (popped bytes) },
+    ghost took: { popped marks ≡ marks_taken mark },
+    ghost reached: { IsReached (popped bytes) (known_items bytes) mark to_end },
+}
+
+impl PipeSource {
+    ghost use Rattle.std.specs.Prelude.{◌<◌, ◌≤◌, ◌⊎◌, [], length, None, Some, IfSome, IsSome, OnOk, IfOk, Ok, Err};
+    ghost use Rattle.nio_event.specs.PassViews.{HasChannel, HasNoPin};
+    ghost use Rattle.nio_steps.specs.Calls.{CallClause};
+    ghost use Rattle.nio_steps.specs.ChannelCalls.{close_channel_plan};
+    ghost use Rattle.nio_steps.specs.Runs.{Completes};
+    ghost use Rattle.nio_steps.specs.declared.refusal.PipeError.TheVariants.{ClosedByInterrupt};
+    ghost use Rattle.nio_words.specs.Passes.{IsReady, limits_of};
+    ghost use Rattle.nio_words.specs.Views.{view};
+    ghost use Rattle.nio_pipe.specs.Answers.{bytes_read, read_answer as answer_of_read};
+    ghost use Rattle.nio_pipe.specs.Calls.{IsClosed, TriesRead};
+    ghost use Rattle.nio_pipe.specs.Ends.{received, known, knows_end, sent, is_marked, pipe_of, AreEnds, GivesBytes, IsAtEnd, IsSameSource, IsSameSink, KnowsNothing, TakesBytes};
+    ghost use Rattle.nio_pipe.specs.Pipe.{IsLawful};
+    ghost use Rattle.nio_pipe.specs.Pipe.{IsAtEnd as IsPipeAtEnd};
+    ghost use Rattle.nio_pipe.specs.declared.answers.PipeRead.TheVariants.{End, NotYet};
+
+    // The source of a pipe into which nothing was written.
+    pub(crate) fn make(chan: ChanNo, bytes: Consumer<u8>, marks: Consumer<u64>) -> PipeSource
+        requires sized { consumer_capacity bytes ≡ 65536 }
+        requires fresh { popped bytes ≡ [] }
+        requires unmarked { popped marks ≡ [] }
+        ensures bytes { result.bytes ≡ bytes }
+        ensures marks { result.marks ≡ marks }
+        ensures channel { result.chan ≡ chan }
+        ensures end { result.to_end ≡ None }
+    {
+        PipeSource {
+            chan,
+            bytes,
+            marks,
+            count: 0,
+            mark: None,
+            to_end: None,
+        }
+    }
+
+    pub fn chan(&self) -> ChanNo
+        ensures { result ≡ self.now.chan }
+    {
+        self.chan
+    }
+
+    /// Reads as many bytes as are found to wait and fit into the slice. At the end mark, with every byte
+    /// read, it answers `End`.
+    pub fn try_read(
+        &mut self,
+        w: &Words,
+        p: &mut Pass,
+        me: CallerNo,
+        into: &mut [u8],
+    ) -> Result<PipeRead, PipeError>
+        requires ready { IsReady w.now p.old me }
+        requires channel { HasChannel (view w.now p.old) self.old.chan }
+        requires unpinned { HasNoPin (view w.now p.old) me }
+        ensures call { CallClause me (TriesRead (limits_of w.now) self.old.chan) (view w.now p.old) (view w.now p.new) result }
+        ensures ready { IsReady w.now p.new me }
+        ensures unpinned { HasNoPin (view w.now p.new) me }
+        ensures closed { result ≡ Err ClosedByInterrupt → IsClosed (view w.now p.new) self.old.chan }
+        ensures same { IsSameSource self.old self.new }
+        ensures bytes { GivesBytes self.old self.new into.old into.new (bytes_read result) }
+        ensures answer { IfOk result (λ answer. answer ≡ answer_of_read (length into.old) (bytes_read result) (knows_end self.new)) }
+        ensures most { OnOk result (bytes_read result < length into.old → known self.new ≡ []) }
+        ensures not_yet { result ≡ Ok NotYet → KnowsNothing self.old × KnowsNothing self.new }
+        ensures end { result ≡ Ok End → IsAtEnd self.new }
+    {
+        check_open(w, p, me, self.chan)?;
+        Ok(self.give(into))
+    }
+
+    // Reads what is found to wait, and looks for the end mark where no byte waits.
+    fn give(&mut self, into: &mut [u8]) -> PipeRead
+        ensures same { IsSameSource self.old self.new }
+        ensures bytes { GivesBytes self.old self.new into.old into.new (bytes_read (Ok result)) }
+        ensures answer { result ≡ answer_of_read (length into.old) (bytes_read (Ok result)) (knows_end self.new) }
+        ensures most { bytes_read (Ok result) < length into.old → known self.new ≡ [] }
+        ensures not_yet { result ≡ NotYet → KnowsNothing self.old × KnowsNothing self.new }
+        ensures end { result ≡ End → IsAtEnd self.new }
+    {
+        self.look();
+        let given = self.pop(into);
+        read_answer(into.len(), given, self.to_end.is_some())
+    }
+
+    // Looks for the end mark where no byte waits.
+    fn look(&mut self)
+        ensures { Looks self.old self.new }
+    {
+        if self.to_end.is_none() && self.bytes.is_empty() {
+            self.look_for_end();
+        }
+    }
+
+    // Takes the end mark, if it is there. What was written before it can be seen then.
+    fn look_for_end(&mut self)
+        requires end { self.old.to_end ≡ None }
+        requires empty { known_items self.old.bytes ≡ [] }
+        ensures { Looks self.old self.new }
+    {
+        if self.mark.is_none() {
+            self.mark = self.marks.pop().ok();
+        }
+        self.bytes.slots();
+        self.reach_end();
+    }
+
+    // Works out how many bytes wait up to the mark, and notes it where all of them were seen.
+    fn reach_end(&mut self)
+        ensures bytes { self.new.bytes ≡ self.old.bytes }
+        ensures marks { self.new.marks ≡ self.old.marks }
+        ensures channel { self.new.chan ≡ self.old.chan }
+        ensures reached { IfSome self.old.mark (λ mark. left_to mark self.old.count ≤ length (known_items self.old.bytes) → self.new.to_end ≡ Some (left_to mark self.old.count)) }
+        ensures kept { self.new.to_end ≡ self.old.to_end ⊎ IsSome self.old.mark }
+    {
+        if let Some(mark) = self.mark {
+            let left = mark.wrapping_sub(self.count);
+            if left <= self.bytes.cached_slots() as u64 {
+                self.to_end = Some(left as usize);
+            }
+        }
+    }
+
+    // Reads as many bytes as are found to wait, up to the end mark where it is known.
+    fn pop(&mut self, into: &mut [u8]) -> usize
+        ensures same { IsSameSource self.old self.new }
+        ensures bytes { GivesBytes self.old self.new into.old into.new result }
+        ensures most { result < length into.old → known self.new ≡ [] }
+        ensures end { knows_end self.new ≡ knows_end self.old }
+    {
+        let room = match self.to_end {
+            Some(left) => left.min(into.len()),
+            None => into.len(),
+        };
+        let given = self.bytes.pop_partial_slice(&mut into[..room]);
+        self.count = self.count.wrapping_add(given as u64);
+        if let Some(left) = self.to_end {
+            self.to_end = Some(left - given);
+        }
+        given
+    }
+}
