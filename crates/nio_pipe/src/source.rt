@@ -41,7 +41,7 @@ impl PipeSource {
     ghost use Rattle.nio_words.specs.Views.{view};
     ghost use Rattle.nio_pipe.specs.Answers.{bytes_read, read_answer as answer_of_read};
     ghost use Rattle.nio_pipe.specs.Calls.{IsClosed, TriesRead};
-    ghost use Rattle.nio_pipe.specs.Ends.{received, known, knows_end, sent, is_marked, pipe_of, AreEnds, GivesBytes, IsAtEnd, IsSameSource, IsSameSink, KnowsNothing, TakesBytes};
+    ghost use Rattle.nio_pipe.specs.Ends.{received, known, knows_end, sent, is_marked, pipe_of, AreEnds, GivesBytes, IsAtEnd, IsSameSource, IsSameSink, KnowsNothing, Looks, TakesBytes};
     ghost use Rattle.nio_pipe.specs.Pipe.{IsLawful};
     ghost use Rattle.nio_pipe.specs.Pipe.{IsAtEnd as IsPipeAtEnd};
     ghost use Rattle.nio_pipe.specs.declared.answers.PipeRead.TheVariants.{End, NotYet};
@@ -158,15 +158,36 @@ impl PipeSource {
         ensures most { result < length into.old → known self.new ≡ [] }
         ensures end { knows_end self.new ≡ knows_end self.old }
     {
-        let room = match self.to_end {
-            Some(left) => left.min(into.len()),
-            None => into.len(),
-        };
+        match self.to_end {
+            Some(left) => self.pop_to_end(into, left),
+            None => self.pop_seen(into),
+        }
+    }
+
+    fn pop_seen(&mut self, into: &mut [u8]) -> usize
+        requires { self.old.to_end ≡ None }
+        ensures same { IsSameSource self.old self.new }
+        ensures bytes { GivesBytes self.old self.new into.old into.new result }
+        ensures most { result < length into.old → known self.new ≡ [] }
+        ensures end { self.new.to_end ≡ None }
+    {
+        let given = self.bytes.pop_partial_slice(into);
+        self.count = self.count.wrapping_add(given as u64);
+        given
+    }
+
+    // Reads bytes that were all seen, of which so many are left up to the end mark.
+    fn pop_to_end(&mut self, into: &mut [u8], left: usize) -> usize
+        requires { self.old.to_end ≡ Some left }
+        ensures same { IsSameSource self.old self.new }
+        ensures bytes { GivesBytes self.old self.new into.old into.new result }
+        ensures most { result < length into.old → known self.new ≡ [] }
+        ensures end { IsSome self.new.to_end }
+    {
+        let room = left.min(into.len());
         let given = self.bytes.pop_partial_slice(&mut into[..room]);
         self.count = self.count.wrapping_add(given as u64);
-        if let Some(left) = self.to_end {
-            self.to_end = Some(left - given);
-        }
+        self.to_end = Some(left - given);
         given
     }
 }
