@@ -1,5 +1,6 @@
 -- What the two ends of a pipe know, when they read, write and look.
-use Rattle.std.proofs.Common.{◌≡◌, ℕ, ◌+◌, ◌-◌, ◌%◌, ◌^◌, ◌<◌, ◌≤◌, List, [], ◌∷◌, ◌++◌, length, min, take, drop, Option, Some, None, refl, ap, sym, ◌∙◌, subst, arith, append_assoc, length-append}
+use Rattle.std.proofs.Common.{◌≡◌, ℕ, ◌+◌, ◌-◌, ◌%◌, ◌^◌, ◌<◌, ◌≤◌, true, false, IsTrue, List, [], ◌∷◌, ◌++◌, length, min, take, drop, Option, Some, None, refl, ap, sym, ◌∙◌, subst, arith, append_assoc, length-append}
+use Rattle.std.specs.Prelude.{is_some}
 use Rattle.std.proofs.lemmas.List.{append-nil, length-take-le, length-take, take-append-le}
 use Rattle.std.proofs.lemmas.Slice.{drop-append-drop}
 use Rattle.std.proofs.Math.Seq.{take-append-add}
@@ -17,6 +18,16 @@ gives_nothing s into = record {
   known = prefix_self (known s);
   end_stays = λ knows. knows;
 }
+
+-- ---- looking for the end, where no byte waits
+
+pub known_nothing : (to_end : Option ℕ) (items more : List ℕ) → to_end ≡ None → items ≡ [] → IsPrefix (known_of to_end items) more
+known_nothing to_end items more none empty =
+    let nothing : known_of to_end items ≡ [] = ap (λ t. known_of t items) none ∙ empty in
+    subst (λ xs. IsPrefix xs more) (sym nothing) (more, refl)
+
+pub knew_end : (old new : Option ℕ) → old ≡ None → IsTrue (is_some old) → IsTrue (is_some new)
+knew_end old new none knows = let clash : false ≡ true = sym (ap is_some none) ∙ knows in absurd (cc clash)
 
 -- ---- reading up to the end
 

@@ -1,6 +1,6 @@
 //! The end of a pipe that is read from.
 ghost use Rattle.std.specs.Prelude.{◌≡◌};
-ghost use Rattle.rtrb.specs.Ring.{consumer_capacity, known_items, received as popped};
+ghost use Rattle.rtrb.specs.Ring.{consumer_capacity, known_items, received as popped, SameConsumer};
 ghost use Rattle.nio_pipe.specs.Counts.{count_of, left_to, marks_taken, IsReached};
 
 use crate::answers::{PipeRead, read_answer};
@@ -128,11 +128,20 @@ impl PipeSource {
         requires empty { known_items self.old.bytes ≡ [] }
         ensures { Looks self.old self.new }
     {
+        self.take_mark();
+        self.bytes.slots();
+        self.reach_end();
+    }
+
+    fn take_mark(&mut self)
+        ensures bytes { self.new.bytes ≡ self.old.bytes }
+        ensures marks { SameConsumer self.old.marks self.new.marks }
+        ensures channel { self.new.chan ≡ self.old.chan }
+        ensures end { self.new.to_end ≡ self.old.to_end }
+    {
         if self.mark.is_none() {
             self.mark = self.marks.pop().ok();
         }
-        self.bytes.slots();
-        self.reach_end();
     }
 
     // Works out how many bytes wait up to the mark, and notes it where all of them were seen.
