@@ -1,12 +1,12 @@
 -- What the two ends of a pipe know, when they read, write and look.
-use Rattle.std.proofs.Common.{◌≡◌, ℕ, ◌+◌, ◌-◌, ◌%◌, ◌^◌, ◌<◌, ◌≤◌, true, false, IsTrue, List, [], ◌∷◌, ◌++◌, length, min, take, drop, Option, Some, None, refl, ap, sym, ◌∙◌, subst, arith, append_assoc, length-append}
-use Rattle.std.specs.Prelude.{is_some}
-use Rattle.std.proofs.lemmas.List.{append-nil, length-take-le, length-take, take-append-le}
+use Rattle.std.proofs.Common.{◌≡◌, ℕ, ◌+◌, ◌-◌, ◌%◌, ◌^◌, ◌<◌, ◌≤◌, Bool, true, false, if◌then◌else◌, IsTrue, List, [], ◌∷◌, ◌++◌, length, min, take, drop, Option, Some, None, refl, ap, sym, ◌∙◌, subst, arith, append_assoc, length-append}
+use Rattle.std.specs.Prelude.{is_some, IfSome, IfNone}
+use Rattle.std.proofs.lemmas.List.{append-nil, length-take-le, length-take, take-append-le, take-append-drop}
 use Rattle.std.proofs.lemmas.Slice.{drop-append-drop}
-use Rattle.std.proofs.Math.Seq.{take-append-add}
+use Rattle.std.proofs.Math.Seq.{take-append-add, take-length}
 use mathlib.Core.List.{IsPrefix}
-use Rattle.nio_words.proofs.Beginnings.{prefix_self, prefix_length}
-use Rattle.nio_pipe.specs.Counts.{known_of, IsReached}
+use Rattle.nio_words.proofs.Beginnings.{prefix_self, prefix_length, prefix_trans}
+use Rattle.nio_pipe.specs.Counts.{count_of, marks_left, marks_taken, left_to, known_of, IsReached}
 use Rattle.nio_pipe.specs.Ends.{GivesBytes, known}
 use Rattle.nio_pipe.specs.declared.source.PipeSource.{PipeSource}
 
@@ -91,3 +91,108 @@ module _ (items items' popped popped' into there : List ℕ) (left room given : 
           let whole : left ≡ length (take given there) + (left - given) = omega (arith, length-given, all_given, pops.room_is) in
           let parts : take left (take given there ++ items') ≡ take given there ++ take (left - given) items' = ap (λ (n : ℕ). take n (take given there ++ items')) whole ∙ take-append-add (take given there) items' (left - given) in
           ([], append-nil (take left items) ∙ (sym there_left ∙ (ap (take left) pops.next.1 ∙ (parts ∙ ap (λ xs. xs ++ take (left - given) items') (sym front)))))
+
+-- ---- both ends in one hand
+
+-- the bytes R that were received, those that wait (K) and those that were sent (S); what each end has counted, the
+-- mark that the source took, and how far the end was known to be before and after the source worked it out
+pub record Beside (R K S : List ℕ) (marked : Bool) (read written : ℕ) (mark to_end to_end' : Option ℕ) : Type 0 where
+  pub whole : R ++ K ≡ S
+  pub few : length K ≤ 65536
+  pub read_is : read ≡ count_of R
+  pub written_is : written ≡ count_of S
+  pub marks : marks_taken mark ≡ marks_left marked written
+  pub reached : IfSome mark (λ m. left_to m read ≤ length K → to_end' ≡ Some (left_to m read))
+  pub kept : IfNone mark (to_end' ≡ to_end)
+  pub told : (n : ℕ) → to_end ≡ Some n → mark ≡ Some ((length R + n) % 2 ^ 64)
+
+left_is : (r k : ℕ) → k ≤ 65536 → left_to ((r + k) % 2 ^ 64) (r % 2 ^ 64) ≡ k
+left_is r k few = omega arith
+
+mark_left : (mark : Option ℕ) (written : ℕ) → marks_taken mark ≡ marks_left true written → mark ≡ Some written
+mark_left None written is = absurd (cc is)
+mark_left (Some m) written is = let same : m ≡ written = cc is in ap Some same
+
+no_mark_left : (mark : Option ℕ) (written : ℕ) → marks_taken mark ≡ marks_left false written → mark ≡ None
+no_mark_left None written is = refl
+no_mark_left (Some m) written is = absurd (cc is)
+
+-- the end is known exactly where the mark was left, and is as far as all that wait
+to_end_is : (R K S : List ℕ) (marked : Bool) (read written : ℕ) (mark to_end to_end' : Option ℕ) → Beside R K S marked read written mark to_end to_end'
+    → to_end' ≡ (if marked then Some (length K) else None)
+to_end_is R K S true read written mark to_end to_end' beside =
+    let is : mark ≡ Some written = mark_left mark written beside.marks in
+    let count : left_to written read ≡ length K = ap (λ n. left_to n read) beside.written_is ∙ (ap (left_to (count_of S)) beside.read_is
+    ∙ (ap (λ (n : ℕ). left_to (n % 2 ^ 64) (count_of R)) (sym (ap length beside.whole) ∙ length-append R K) ∙ left_is (length R) (length K) beside.few)) in
+    let reached : left_to written read ≤ length K → to_end' ≡ Some (left_to written read) = subst (λ m. IfSome m (λ m. left_to m read ≤ length K → to_end' ≡ Some (left_to m read))) is beside.reached in
+    reached (omega arith) ∙ ap Some count
+to_end_is R K S false read written mark to_end to_end' beside = by_end to_end refl
+  where
+    none : mark ≡ None
+    none = no_mark_left mark written beside.marks
+
+    kept : to_end' ≡ to_end
+    kept = subst (λ m. IfNone m (to_end' ≡ to_end)) none beside.kept
+
+    by_end : (t : Option ℕ) → to_end ≡ t → to_end' ≡ None
+    by_end None is = kept ∙ is
+    by_end (Some n) is = let clash : None ≡ Some ((length R + n) % 2 ^ 64) = sym none ∙ beside.told n is in absurd (cc clash)
+
+no_items : (xs : List ℕ) → length xs ≡ 0 → xs ≡ []
+no_items [] is = refl
+no_items (x ∷ xs) is = absurd (omega (arith, is))
+
+module _ (R K S : List ℕ) (marked : Bool) (read written : ℕ) (mark to_end to_end' : Option ℕ) (beside : Beside R K S marked read written mark to_end to_end') where
+  pub end_known : is_some to_end' ≡ marked
+  end_known = ap is_some (to_end_is R K S marked read written mark to_end to_end' beside) ∙ by_mark marked
+    where
+      by_mark : (b : Bool) → is_some (if b then Some (length K) else None) ≡ b
+      by_mark true = refl
+      by_mark false = refl
+
+  pub all_known : known_of to_end' K ≡ K
+  all_known = ap (λ t. known_of t K) (to_end_is R K S marked read written mark to_end to_end' beside) ∙ by_mark marked
+    where
+      by_mark : (b : Bool) → known_of (if b then Some (length K) else None) K ≡ K
+      by_mark true = take-length K
+      by_mark false = refl
+
+  -- what was known is what is known now, and more
+  pub known_grows : (items : List ℕ) → ((n : ℕ) → to_end ≡ Some n → n ≤ length items) → IsPrefix items K → IsPrefix (known_of to_end items) (known_of to_end' K)
+  known_grows items seen grows = subst (IsPrefix (known_of to_end items)) (sym all_known) (by_end to_end)
+    where
+      by_end : (t : Option ℕ) → IsPrefix (known_of t items) K
+      by_end None = grows
+      by_end (Some n) = prefix_trans (take n items) items K (drop n items, take-append-drop n items) grows
+
+  marked_then : (n : ℕ) → to_end ≡ Some n → marked ≡ true
+  marked_then n is = by_mark marked refl
+    where
+      by_mark : (b : Bool) → marked ≡ b → marked ≡ true
+      by_mark true was = was
+      by_mark false was =
+          let left : marks_taken mark ≡ marks_left false written = beside.marks ∙ ap (λ b. marks_left b written) was in
+          let clash : None ≡ Some ((length R + n) % 2 ^ 64) = sym (no_mark_left mark written left) ∙ beside.told n is in
+          absurd (cc clash)
+
+  pub end_lasts : is_some to_end ≡ true → is_some to_end' ≡ true
+  end_lasts knew = end_known ∙ by_end to_end refl knew
+    where
+      by_end : (t : Option ℕ) → to_end ≡ t → is_some t ≡ true → marked ≡ true
+      by_end None is knows = absurd (cc knows)
+      by_end (Some n) is knows = marked_then n is
+
+  -- a source that had told the end has received every byte
+  pub was_whole : (items : List ℕ) → ((n : ℕ) → to_end ≡ Some n → n ≤ length items) → is_some to_end ≡ true → known_of to_end items ≡ [] → (marked ≡ true) × (R ≡ S)
+  was_whole items seen knew nothing = by_end to_end refl knew nothing
+    where
+      by_end : (t : Option ℕ) → to_end ≡ t → is_some t ≡ true → known_of t items ≡ [] → (marked ≡ true) × (R ≡ S)
+      by_end None is knows none = absurd (cc knows)
+      by_end (Some n) is knows none =
+          let left : marked ≡ true = marked_then n is in
+          let n_is : n ≡ 0 = omega (arith, seen n is, length-take-le n items (seen n is), ap length none) in
+          let marks : mark ≡ Some written = mark_left mark written (beside.marks ∙ ap (λ b. marks_left b written) left) in
+          let same : written ≡ (length R + n) % 2 ^ 64 = cc (sym marks ∙ beside.told n is) in
+          let total : length S ≡ length R + length K = sym (ap length beside.whole) ∙ length-append R K in
+          let none_waits : length K ≡ 0 = omega (arith, beside.few, beside.written_is) in
+          (left, sym (append-nil R) ∙ (ap (λ xs. R ++ xs) (sym (no_items K none_waits)) ∙ beside.whole))

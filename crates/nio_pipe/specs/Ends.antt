@@ -75,6 +75,13 @@ pub record IsSameSink (old new : PipeSink) : Type 0 where
   pub channel : new.chan ≡ old.chan
   pub other : new.source ≡ old.source
 
+-- the sink was looked at beside the source: it may know of more free places
+pub record LooksBeside (old new : PipeSink) : Type 0 where
+  pub same : IsSameSink old new
+  pub sent : sent new ≡ sent old
+  pub free : free old ≤ free new
+  pub mark : is_marked new ≡ is_marked old
+
 -- a write that took so many bytes from the front of the slice
 pub record TakesBytes (old new : PipeSink) (slice : List ℕ) (taken : ℕ) : Type 0 where
   pub fit : taken ≤ length slice

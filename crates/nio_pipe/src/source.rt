@@ -1,6 +1,6 @@
 //! The end of a pipe that is read from.
 ghost use Rattle.std.specs.Prelude.{◌≡◌};
-ghost use Rattle.rtrb.specs.Ring.{consumer_capacity, known_items, received as popped, SameConsumer};
+ghost use Rattle.rtrb.specs.Ring.{consumer_capacity, known_items, received as popped, sent as pushed, SameConsumer};
 ghost use Rattle.nio_pipe.specs.Counts.{count_of, left_to, marks_taken, IsReached};
 
 use crate::answers::{PipeRead, read_answer};
@@ -31,7 +31,7 @@ pub struct PipeSource {
 }
 
 impl PipeSource {
-    ghost use Rattle.std.specs.Prelude.{◌<◌, ◌≤◌, ◌⊎◌, [], length, None, Some, IfSome, IsSome, OnOk, IfOk, Ok, Err};
+    ghost use Rattle.std.specs.Prelude.{◌<◌, ◌≤◌, ◌++◌, [], length, None, Some, IfNone, IfSome, IsSome, OnOk, IfOk, Ok, Err};
     ghost use Rattle.nio_event.specs.PassViews.{HasChannel, HasNoPin};
     ghost use Rattle.nio_steps.specs.Calls.{CallClause};
     ghost use Rattle.nio_steps.specs.ChannelCalls.{close_channel_plan};
@@ -41,7 +41,7 @@ impl PipeSource {
     ghost use Rattle.nio_words.specs.Views.{view};
     ghost use Rattle.nio_pipe.specs.Answers.{bytes_read, read_answer as answer_of_read};
     ghost use Rattle.nio_pipe.specs.Calls.{IsClosed, TriesRead};
-    ghost use Rattle.nio_pipe.specs.Ends.{received, known, knows_end, sent, is_marked, pipe_of, AreEnds, GivesBytes, IsAtEnd, IsSameSource, IsSameSink, KnowsNothing, Looks, TakesBytes};
+    ghost use Rattle.nio_pipe.specs.Ends.{received, known, knows_end, sent, is_marked, pipe_of, AreEnds, GivesBytes, IsAtEnd, IsSameSource, IsSameSink, KnowsNothing, Looks, LooksBeside};
     ghost use Rattle.nio_pipe.specs.Pipe.{IsLawful};
     ghost use Rattle.nio_pipe.specs.Pipe.{IsAtEnd as IsPipeAtEnd};
     ghost use Rattle.nio_pipe.specs.declared.answers.PipeRead.TheVariants.{End, NotYet};
@@ -99,6 +99,56 @@ impl PipeSource {
         Ok(self.give(into))
     }
 
+    /// How many bytes wait, for a hand that has both ends. The source then knows of all of them, and of the
+    /// end mark.
+    pub fn beside(&mut self, sink: &mut PipeSink) -> usize
+        requires { AreEnds self.old sink.old }
+        ensures waiting { result ≡ length (known self.new) }
+        ensures whole { received self.new ++ known self.new ≡ sent sink.new }
+        ensures end { knows_end self.new ≡ is_marked sink.new }
+        ensures source { Looks self.old self.new }
+        ensures sink { LooksBeside sink.old sink.new }
+        ensures ends { AreEnds self.new sink.new }
+        ensures lawful { IsLawful (pipe_of self.new sink.new) }
+        ensures told { IsAtEnd self.old → IsPipeAtEnd (pipe_of self.new sink.new) }
+    {
+        self.take_mark_beside(sink);
+        let waiting = self.bytes.slots_beside(&mut sink.bytes);
+        self.reach_end();
+        waiting
+    }
+
+    // Takes the end mark, where it was left.
+    fn take_mark_beside(&mut self, sink: &mut PipeSink)
+        requires { AreEnds self.old sink.old }
+        ensures bytes { self.new.bytes ≡ self.old.bytes }
+        ensures marks { SameConsumer self.old.marks self.new.marks }
+        ensures channel { self.new.chan ≡ self.old.chan }
+        ensures to_end { self.new.to_end ≡ self.old.to_end }
+        ensures mark { marks_taken self.new.mark ≡ pushed sink.new.marks }
+        ensures sink_bytes { sink.new.bytes ≡ sink.old.bytes }
+        ensures sink { LooksBeside sink.old sink.new }
+    {
+        let left = self.marks.slots_beside(&mut sink.marks);
+        if self.mark.is_none() && left > 0 {
+            self.mark = Some(self.marks.pop_known());
+        }
+    }
+
+    /// Closes the source's channel. Says whether this call closed it.
+    pub fn close(&mut self, w: &Words, p: &mut Pass, me: CallerNo) -> bool
+        requires ready { IsReady w.now p.old me }
+        requires channel { HasChannel (view w.now p.old) self.old.chan }
+        requires unpinned { HasNoPin (view w.now p.old) me }
+        ensures call { CallClause me (Completes (close_channel_plan (limits_of w.now) self.old.chan)) (view w.now p.old) (view w.now p.new) result }
+        ensures ready { IsReady w.now p.new me }
+        ensures unpinned { HasNoPin (view w.now p.new) me }
+        ensures closed { IsClosed (view w.now p.new) self.old.chan }
+        ensures same { self.new ≡ self.old }
+    {
+        close_channel(w, p, me, self.chan)
+    }
+
     // Reads what is found to wait, and looks for the end mark where no byte waits.
     fn give(&mut self, into: &mut [u8]) -> PipeRead
         ensures same { IsSameSource self.old self.new }
@@ -150,7 +200,7 @@ impl PipeSource {
         ensures marks { self.new.marks ≡ self.old.marks }
         ensures channel { self.new.chan ≡ self.old.chan }
         ensures reached { IfSome self.old.mark (λ mark. left_to mark self.old.count ≤ length (known_items self.old.bytes) → self.new.to_end ≡ Some (left_to mark self.old.count)) }
-        ensures kept { self.new.to_end ≡ self.old.to_end ⊎ IsSome self.old.mark }
+        ensures kept { IfNone self.old.mark (self.new.to_end ≡ self.old.to_end) }
     {
         if let Some(mark) = self.mark {
             let left = mark.wrapping_sub(self.count);
