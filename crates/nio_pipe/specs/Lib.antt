@@ -4,5 +4,6 @@ pub mod Counts
 pub mod Ends
 pub mod Held
 pub mod Kept
+pub mod Making
 pub mod Opened
 pub mod Pipe

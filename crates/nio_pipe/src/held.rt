@@ -11,18 +11,22 @@ ghost use Rattle.nio_words.specs.Views.{view};
 ghost use Rattle.nio_pipe.specs.Answers.{bytes_read, read_answer as answer_of_read, write_answer as answer_of_write};
 ghost use Rattle.nio_pipe.specs.Calls.{HasEnds, IsClosed, TriesRead, TriesWrite};
 ghost use Rattle.nio_pipe.specs.Held.{pipe_made};
+ghost use Rattle.nio_pipe.specs.Making.{AreParts};
 ghost use Rattle.nio_pipe.specs.Pipe.{after_end, after_read, after_write, IsAtEnd, IsLawful, new_pipe, room_of, waiting};
 ghost use Rattle.nio_pipe.specs.declared.answers.PipeRead.TheVariants.{End};
 
 use crate::answers::{PipeRead, PipeWrite, leaves_mark, read_answer, write_answer};
 use crate::checks::{check_open, check_write, open_ends};
+use crate::making::Rings;
+use crate::sink::PipeSink;
+use crate::source::PipeSource;
 use circular_buffer::HeapCircularBuffer;
 use nio_base::{CallerNo, ChanNo};
 use nio_channel::close_channel;
 use nio_steps::{PipeError, PipeMakeError};
 use nio_trace::Trace;
 use nio_words::{Pass, Words};
-use std::alloc::Global;
+use std::alloc::{AllocError, Global};
 use std::marker::Model;
 
 /// How many bytes wait in a pipe at most.
@@ -183,6 +187,28 @@ impl HeldPipe {
         let closes = close_channel(w, p, me, self.sink);
         self.marked = true;
         closes
+    }
+
+    /// Parts the pipe into its two ends, with the same waiting bytes and the same mark. After want of
+    /// memory the pipe is gone, and its channels stay as they are.
+    pub fn part(self, alloc: Global) -> Result<(PipeSource, PipeSink), AllocError>
+        ensures { IfOk result (λ ends. AreParts self ends.0 ends.1) }
+    {
+        let HeldPipe {
+            source,
+            sink,
+            buffer,
+            sent: _,
+            received: _,
+            marked,
+        } = self;
+        let rings = Rings::make(alloc)?;
+        let (mut source, mut sink) = rings.ends(source, sink);
+        let (first, second) = buffer.as_slices();
+        sink.take_over(first, second, marked);
+        source.beside(&mut sink);
+        sink.look_beside(&mut source);
+        Ok((source, sink))
     }
 
     /// A pipe is lawful. Call it where a proof needs that.

@@ -3,11 +3,14 @@
 
 pub use answers::{PipeRead, PipeWrite};
 pub use held::{CAPACITY, HeldPipe, held_pipe};
+pub use making::pipe;
 pub use nio_steps::{PipeError, PipeMakeError};
 pub use sink::PipeSink;
+pub use source::PipeSource;
 
 mod answers;
 mod checks;
 mod held;
+mod making;
 mod sink;
 mod source;

@@ -5,6 +5,7 @@ ghost use Rattle.nio_pipe.specs.Counts.{count_of, marks_left};
 
 use crate::answers::{PipeWrite, leaves_mark, write_answer};
 use crate::checks::check_write;
+use crate::source::PipeSource;
 use nio_base::{CallerNo, ChanNo};
 use nio_channel::close_channel;
 use nio_steps::PipeError;
@@ -28,7 +29,7 @@ pub struct PipeSink {
 }
 
 impl PipeSink {
-    ghost use Rattle.std.specs.Prelude.{◌≤◌, ◌+◌, ◌||◌, [], length, min, true, OnOk, IfOk, Ok, Err};
+    ghost use Rattle.std.specs.Prelude.{◌≤◌, ◌+◌, ◌++◌, ◌||◌, [], length, min, true, IsFalse, OnOk, IfOk, Ok, Err};
     ghost use Rattle.nio_event.specs.PassViews.{HasChannel, HasNoPin};
     ghost use Rattle.nio_steps.specs.Calls.{CallClause};
     ghost use Rattle.nio_steps.specs.ChannelCalls.{close_channel_plan};
@@ -38,7 +39,7 @@ impl PipeSink {
     ghost use Rattle.nio_words.specs.Views.{view};
     ghost use Rattle.nio_pipe.specs.Answers.{bytes_written, leaves_mark as answer_leaves_mark, write_answer as answer_of_write};
     ghost use Rattle.nio_pipe.specs.Calls.{HasEnds, IsClosed, TriesWrite};
-    ghost use Rattle.nio_pipe.specs.Ends.{sent, free, is_marked, IsSameSink, TakesBytes};
+    ghost use Rattle.nio_pipe.specs.Ends.{received, knows_end, sent, free, is_marked, AreEnds, IsSameSink, Looks, LooksBeside, TakesBytes};
     ghost use Rattle.nio_pipe.specs.declared.answers.PipeWrite.TheVariants.{NotYet};
 
     // The sink of a pipe into which nothing was written.
@@ -139,6 +140,35 @@ impl PipeSink {
             self.marks.push_reserved(self.count);
             self.marked = true;
         }
+    }
+
+    // Takes over the bytes that wait in another pipe, which stand in two slices, and its mark.
+    pub(crate) fn take_over(&mut self, first: &[u8], second: &[u8], marked: bool)
+        requires empty { sent self.old ≡ [] }
+        requires free { free self.old ≡ 65536 }
+        requires unmarked { IsFalse (is_marked self.old) }
+        requires few { length first.now + length second.now ≤ 65536 }
+        ensures same { IsSameSink self.old self.new }
+        ensures sent { sent self.new ≡ first.now ++ second.now }
+        ensures mark { is_marked self.new ≡ marked }
+    {
+        self.push(first);
+        self.push(second);
+        if marked {
+            self.leave_mark();
+        }
+    }
+
+    // Looks at the ring beside the source, which finds every free place.
+    pub(crate) fn look_beside(&mut self, source: &mut PipeSource)
+        requires { AreEnds source.old self.old }
+        ensures sink { LooksBeside self.old self.new }
+        ensures source { Looks source.old source.new }
+        ensures ends { AreEnds source.new self.new }
+        ensures end { knows_end source.new ≡ knows_end source.old }
+        ensures free { IsFalse (is_marked self.new) → free self.new + length (sent self.new) ≡ 65536 + length (received source.new) }
+    {
+        self.bytes.slots_beside(&mut source.bytes);
     }
 
     /// Closes the sink's channel and leaves the end mark. Says whether this call closed it.
