@@ -7,7 +7,7 @@ use Rattle.std.proofs.Math.Seq.{take-append-add, take-length}
 use mathlib.Core.List.{IsPrefix}
 use Rattle.nio_words.proofs.Beginnings.{prefix_self, prefix_length, prefix_trans}
 use Rattle.nio_pipe.specs.Counts.{count_of, marks_left, marks_taken, left_to, known_of, IsReached}
-use Rattle.nio_pipe.specs.Ends.{GivesBytes, known}
+use Rattle.nio_pipe.specs.Ends.{GivesBytes, IsSameSource, KnowsNothing, SourceLooks, known, knows_end, received}
 use Rattle.nio_pipe.specs.declared.source.PipeSource.{PipeSource}
 
 pub gives_nothing : (s : PipeSource) (into : List ℕ) → GivesBytes s s into into 0
@@ -28,6 +28,56 @@ known_nothing to_end items more none empty =
 
 pub knew_end : (old new : Option ℕ) → old ≡ None → IsTrue (is_some old) → IsTrue (is_some new)
 knew_end old new none knows = let clash : false ≡ true = sym (ap is_some none) ∙ knows in absurd (cc clash)
+
+-- ---- looking and then reading
+
+pub looks_none : (s : PipeSource) → SourceLooks s s
+looks_none s = record {
+  same = record { bytes = ((refl, refl, refl, refl), refl); marks = ((refl, refl, refl, refl), refl); channel = refl };
+  received = refl;
+  known = prefix_self (known s);
+  end_stays = λ knows. knows;
+}
+
+pub gives_after : {a b c : PipeSource} {before after : List ℕ} {n : ℕ} → SourceLooks a b → GivesBytes b c before after n → GivesBytes a c before after n
+gives_after {a = a} {b = b} {c = c} {after = after} {n = n} looks gives = record {
+  fit = gives.fit;
+  received = gives.received ∙ ap (λ xs. xs ++ take n after) looks.received;
+  rest = gives.rest;
+  known = prefix_trans (known a) (known b) (take n after ++ known c) looks.known gives.known;
+  end_stays = λ knows. gives.end_stays (looks.end_stays knows);
+}
+
+same_source : {a b c : PipeSource} → IsSameSource a b → IsSameSource b c → IsSameSource a c
+same_source first second = record {
+  bytes = ((second.bytes.0.0 ∙ first.bytes.0.0, second.bytes.0.1 ∙ first.bytes.0.1, second.bytes.0.2 ∙ first.bytes.0.2, second.bytes.0.3 ∙ first.bytes.0.3), second.bytes.1 ∙ first.bytes.1);
+  marks = ((second.marks.0.0 ∙ first.marks.0.0, second.marks.0.1 ∙ first.marks.0.1, second.marks.0.2 ∙ first.marks.0.2, second.marks.0.3 ∙ first.marks.0.3), second.marks.1 ∙ first.marks.1);
+  channel = second.channel ∙ first.channel;
+}
+
+-- a read that gave nothing is a look
+pub looks_more : {a b c : PipeSource} {before after : List ℕ} → SourceLooks a b → IsSameSource b c → GivesBytes b c before after 0 → SourceLooks a c
+looks_more {a = a} {b = b} {c = c} looks same gives = record {
+  same = same_source looks.same same;
+  received = gives.received ∙ (append-nil (received b) ∙ looks.received);
+  known = prefix_trans (known a) (known b) (known c) looks.known gives.known;
+  end_stays = λ knows. gives.end_stays (looks.end_stays knows);
+}
+
+no_front : (xs ys : List ℕ) → xs ++ ys ≡ [] → xs ≡ []
+no_front [] ys is = refl
+no_front (x ∷ xs) ys is = absurd (cc is)
+
+-- who knows nothing after looks knew nothing before them
+pub knew_nothing : {a b : PipeSource} → SourceLooks a b → KnowsNothing b → KnowsNothing a
+knew_nothing {a = a} {b = b} looks none = record {
+  no_byte = no_front (known a) looks.known.0 (looks.known.1 ∙ none.no_byte);
+  no_mark = by_test (knows_end a) refl;
+}
+  where
+    by_test : (knows : Bool) → knows_end a ≡ knows → knows_end a ≡ false
+    by_test true is = let clash : true ≡ false = sym (looks.end_stays is) ∙ none.no_mark in absurd (cc clash)
+    by_test false is = is
 
 -- ---- reading up to the end
 

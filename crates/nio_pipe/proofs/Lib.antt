@@ -1,3 +1,4 @@
 pub mod EndLemmas
 pub mod KeptLemmas
 pub mod Opening
+pub mod Waits

@@ -40,3 +40,24 @@ leaves_mark (Err ClosedChannel) = true
 leaves_mark (Err ClosedByInterrupt) = true
 leaves_mark (Err AsynchronousClose) = true
 leaves_mark (Err BrokenPipe) = false
+
+-- no byte was read, and more may come
+abbrev pub read_waits : Result PipeRead PipeError → Bool
+read_waits (Ok (PipeRead.Bytes n)) = false
+read_waits (Ok PipeRead.End) = false
+read_waits (Ok PipeRead.NotYet) = true
+read_waits (Err refusal) = false
+
+-- no byte was written, for want of a free place
+abbrev pub write_waits : Result PipeWrite PipeError → Bool
+write_waits (Ok (PipeWrite.Bytes n)) = false
+write_waits (Ok PipeWrite.NotYet) = true
+write_waits (Err refusal) = false
+
+-- A call that waited is refused so: a channel that was found open before was closed by another caller meanwhile.
+abbrev pub refusal_after : Bool → PipeError → PipeError
+refusal_after false refusal = refusal
+refusal_after true ClosedChannel = AsynchronousClose
+refusal_after true ClosedByInterrupt = ClosedByInterrupt
+refusal_after true AsynchronousClose = AsynchronousClose
+refusal_after true BrokenPipe = BrokenPipe

@@ -9,6 +9,7 @@ use Rattle.nio_steps.specs.Plan.{Plan}
 use Rattle.nio_steps.specs.Runs.{Completes}
 use Rattle.nio_steps.specs.declared.refusal.PipeError.{PipeError}
 use Rattle.nio_steps.specs.declared.refusal.PipeError.TheVariants.{ClosedChannel, ClosedByInterrupt, AsynchronousClose, BrokenPipe}
+use Rattle.nio_pipe.specs.Answers.{read_waits, write_waits}
 use Rattle.nio_pipe.specs.declared.answers.PipeRead.{PipeRead}
 use Rattle.nio_pipe.specs.declared.answers.PipeWrite.{PipeWrite}
 
@@ -23,6 +24,17 @@ TriesRead l source = RefusesBy (try_read_plan l source)
 
 abbrev pub TriesWrite : Limits → ChanNo → ChanNo → List Act → Result PipeWrite PipeError → Type 0
 TriesWrite l source sink = RefusesBy (try_write_plan l source sink)
+
+-- The same of a call that waits: `none` says whether its last run found no bytes, or no room.
+abbrev pub WaitsBy : {A : Type 0} → (Bool → List Act → Result Bool PipeError → Type 0) → Bool → List Act → Result A PipeError → Type 0
+WaitsBy Shape none acts (Ok answer) = (blocking : Bool) × Shape none acts (Ok blocking)
+WaitsBy Shape none acts (Err refusal) = Shape none acts (Err refusal)
+
+abbrev pub WaitsToRead : Limits → ChanNo → List Act → Result PipeRead PipeError → Type 0
+WaitsToRead l source acts answer = WaitsBy (Reads l source) (read_waits answer) acts answer
+
+abbrev pub WaitsToWrite : Limits → ChanNo → ChanNo → List Act → Result PipeWrite PipeError → Type 0
+WaitsToWrite l source sink acts answer = WaitsBy (Writes l source sink) (write_waits answer) acts answer
 
 -- the channel is closed, as far as the pass has seen
 abbrev pub IsClosed : PassView → ChanNo → Type 0

@@ -40,7 +40,7 @@ pub record IsSameSource (old new : PipeSource) : Type 0 where
   pub channel : new.chan ≡ old.chan
 
 -- the source has looked: it may know of more
-pub record Looks (old new : PipeSource) : Type 0 where
+pub record SourceLooks (old new : PipeSource) : Type 0 where
   pub same : IsSameSource old new
   pub received : received new ≡ received old
   pub known : IsPrefix (known old) (known new)
@@ -76,7 +76,7 @@ pub record IsSameSink (old new : PipeSink) : Type 0 where
   pub other : new.source ≡ old.source
 
 -- the sink was looked at beside the source: it may know of more free places
-pub record LooksBeside (old new : PipeSink) : Type 0 where
+pub record SinkLooks (old new : PipeSink) : Type 0 where
   pub same : IsSameSink old new
   pub sent : sent new ≡ sent old
   pub free : free old ≤ free new

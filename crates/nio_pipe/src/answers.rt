@@ -1,6 +1,6 @@
 //! What reading and writing answer.
-ghost use Rattle.std.specs.Prelude.{◌≡◌};
-ghost use Rattle.nio_pipe.specs.Answers.{leaves_mark as answer_leaves_mark, read_answer as answer_of_read, write_answer as answer_of_write};
+ghost use Rattle.std.specs.Prelude.{◌≡◌, ◌&&◌, Ok, Err};
+ghost use Rattle.nio_pipe.specs.Answers.{leaves_mark as answer_leaves_mark, read_answer as answer_of_read, read_waits, refusal_after as refusal_of_wait, write_answer as answer_of_write, write_waits};
 
 use nio_steps::PipeError;
 
@@ -61,5 +61,35 @@ pub(crate) fn leaves_mark(refusal: PipeError) -> bool
         | PipeError::ClosedByInterrupt
         | PipeError::AsynchronousClose => true,
         PipeError::BrokenPipe => false,
+    }
+}
+
+// Whether a read that waits has to be tried again.
+pub(crate) fn read_goes_on(answer: PipeRead, blocking: bool) -> bool
+    ensures { result ≡ (read_waits (Ok answer) && blocking) }
+{
+    match answer {
+        PipeRead::Bytes(_) | PipeRead::End => false,
+        PipeRead::NotYet => blocking,
+    }
+}
+
+// Whether a write that waits has to be tried again.
+pub(crate) fn write_goes_on(answer: PipeWrite, blocking: bool) -> bool
+    ensures { result ≡ (write_waits (Ok answer) && blocking) }
+{
+    match answer {
+        PipeWrite::Bytes(_) => false,
+        PipeWrite::NotYet => blocking,
+    }
+}
+
+// How a call is refused that waited, or didn't.
+pub(crate) fn refusal_after(waited: bool, refusal: PipeError) -> PipeError
+    ensures { result ≡ refusal_of_wait waited refusal }
+{
+    match refusal {
+        PipeError::ClosedChannel if waited => PipeError::AsynchronousClose,
+        _ => refusal,
     }
 }

@@ -3,7 +3,7 @@ ghost use Rattle.std.specs.Prelude.{◌≡◌, ◌<◌, false};
 ghost use Rattle.rtrb.specs.Ring.{known_free, producer_capacity, sent as pushed};
 ghost use Rattle.nio_pipe.specs.Counts.{count_of, marks_left};
 
-use crate::answers::{PipeWrite, leaves_mark, write_answer};
+use crate::answers::{PipeWrite, leaves_mark, refusal_after, write_answer, write_goes_on};
 use crate::checks::check_write;
 use crate::source::PipeSource;
 use nio_base::{CallerNo, ChanNo};
@@ -11,6 +11,8 @@ use nio_channel::close_channel;
 use nio_steps::PipeError;
 use nio_words::{Pass, Words};
 use rtrb::Producer;
+use std::sync::Wait;
+use std::thread;
 
 /// The end of a pipe that is written into. It can move to a thread of its own.
 #[derive(Drop)]
@@ -38,8 +40,8 @@ impl PipeSink {
     ghost use Rattle.nio_words.specs.Passes.{IsReady, limits_of};
     ghost use Rattle.nio_words.specs.Views.{view};
     ghost use Rattle.nio_pipe.specs.Answers.{bytes_written, leaves_mark as answer_leaves_mark, write_answer as answer_of_write};
-    ghost use Rattle.nio_pipe.specs.Calls.{HasEnds, IsClosed, TriesWrite};
-    ghost use Rattle.nio_pipe.specs.Ends.{received, knows_end, sent, free, is_marked, AreEnds, IsSameSink, Looks, LooksBeside, TakesBytes};
+    ghost use Rattle.nio_pipe.specs.Calls.{HasEnds, IsClosed, TriesWrite, WaitsToWrite};
+    ghost use Rattle.nio_pipe.specs.Ends.{received, knows_end, sent, free, is_marked, AreEnds, IsSameSink, SourceLooks, SinkLooks, TakesBytes};
     ghost use Rattle.nio_pipe.specs.declared.answers.PipeWrite.TheVariants.{NotYet};
 
     // The sink of a pipe into which nothing was written.
@@ -111,6 +113,55 @@ impl PipeSink {
         }
     }
 
+    /// `try_write`, again and again while it answers `NotYet` and the channel is in blocking mode.
+    pub fn write<R: Wait>(
+        &mut self,
+        rt: &R,
+        w: &Words,
+        p: &mut Pass,
+        me: CallerNo,
+        from: &[u8],
+    ) -> Result<PipeWrite, PipeError>
+        requires ready { IsReady w.now p.old me }
+        requires ends { HasEnds (view w.now p.old) self.old.source self.old.chan }
+        requires unpinned { HasNoPin (view w.now p.old) me }
+        ensures call { CallClause me (WaitsToWrite (limits_of w.now) self.old.source self.old.chan) (view w.now p.old) (view w.now p.new) result }
+        ensures ready { IsReady w.now p.new me }
+        ensures unpinned { HasNoPin (view w.now p.new) me }
+        ensures closed { result ≡ Err ClosedByInterrupt → IsClosed (view w.now p.new) self.old.chan }
+        ensures same { IsSameSink self.old self.new }
+        ensures bytes { TakesBytes self.old self.new from.now (bytes_written result) }
+        ensures mark { is_marked self.new ≡ (is_marked self.old || answer_leaves_mark result) }
+        ensures answer { IfOk result (λ answer. answer ≡ answer_of_write (length from.now) (bytes_written result)) }
+        ensures least { OnOk result (min (length from.now) (free self.old) ≤ bytes_written result) }
+        ensures most { OnOk result (bytes_written result < length from.now → free self.new ≡ 0) }
+        ensures places { OnOk result (free self.old ≤ free self.new + bytes_written result) }
+        ensures not_yet { result ≡ Ok NotYet → (free self.old ≡ 0) × (free self.new ≡ 0) }
+    {
+        let source = self.source;
+        let chan = self.chan;
+        let mut waited = false;
+        for _ in rt.forever() {
+            match check_write(w, p, me, source, chan) {
+                Ok(blocking) => {
+                    let answer = self.push(from);
+                    if !write_goes_on(answer, blocking) {
+                        return Ok(answer);
+                    }
+                }
+                Err(refusal) => {
+                    if leaves_mark(refusal) {
+                        self.leave_mark();
+                    }
+                    return Err(refusal_after(waited, refusal));
+                }
+            }
+            waited = true;
+            thread::yield_now();
+        }
+        unreachable!()
+    }
+
     // Writes as many bytes as are found to have room.
     pub(crate) fn push(&mut self, from: &[u8]) -> PipeWrite
         ensures same { IsSameSink self.old self.new }
@@ -159,11 +210,11 @@ impl PipeSink {
         }
     }
 
-    // Looks at the ring beside the source, which finds every free place.
+    // SourceLooks at the ring beside the source, which finds every free place.
     pub(crate) fn look_beside(&mut self, source: &mut PipeSource)
         requires { AreEnds source.old self.old }
-        ensures sink { LooksBeside self.old self.new }
-        ensures source { Looks source.old source.new }
+        ensures sink { SinkLooks self.old self.new }
+        ensures source { SourceLooks source.old source.new }
         ensures ends { AreEnds source.new self.new }
         ensures end { knows_end source.new ≡ knows_end source.old }
         ensures free { IsFalse (is_marked self.new) → free self.new + length (sent self.new) ≡ 65536 + length (received source.new) }

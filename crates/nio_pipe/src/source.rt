@@ -3,7 +3,7 @@ ghost use Rattle.std.specs.Prelude.{◌≡◌};
 ghost use Rattle.rtrb.specs.Ring.{consumer_capacity, known_items, received as popped, sent as pushed, SameConsumer};
 ghost use Rattle.nio_pipe.specs.Counts.{count_of, left_to, marks_taken, IsReached};
 
-use crate::answers::{PipeRead, read_answer};
+use crate::answers::{PipeRead, read_answer, read_goes_on, refusal_after};
 use crate::checks::check_open;
 use crate::sink::PipeSink;
 use nio_base::{CallerNo, ChanNo};
@@ -11,6 +11,8 @@ use nio_channel::close_channel;
 use nio_steps::PipeError;
 use nio_words::{Pass, Words};
 use rtrb::Consumer;
+use std::sync::Wait;
+use std::thread;
 
 /// The end of a pipe that is read from. It can move to a thread of its own.
 #[derive(Drop)]
@@ -40,8 +42,8 @@ impl PipeSource {
     ghost use Rattle.nio_words.specs.Passes.{IsReady, limits_of};
     ghost use Rattle.nio_words.specs.Views.{view};
     ghost use Rattle.nio_pipe.specs.Answers.{bytes_read, read_answer as answer_of_read};
-    ghost use Rattle.nio_pipe.specs.Calls.{IsClosed, TriesRead};
-    ghost use Rattle.nio_pipe.specs.Ends.{received, known, knows_end, sent, is_marked, pipe_of, AreEnds, GivesBytes, IsAtEnd, IsSameSource, IsSameSink, KnowsNothing, Looks, LooksBeside};
+    ghost use Rattle.nio_pipe.specs.Calls.{IsClosed, TriesRead, WaitsToRead};
+    ghost use Rattle.nio_pipe.specs.Ends.{received, known, knows_end, sent, is_marked, pipe_of, AreEnds, GivesBytes, IsAtEnd, IsSameSource, IsSameSink, KnowsNothing, SourceLooks, SinkLooks};
     ghost use Rattle.nio_pipe.specs.Pipe.{IsLawful};
     ghost use Rattle.nio_pipe.specs.Pipe.{IsAtEnd as IsPipeAtEnd};
     ghost use Rattle.nio_pipe.specs.declared.answers.PipeRead.TheVariants.{End, NotYet};
@@ -99,6 +101,47 @@ impl PipeSource {
         Ok(self.give(into))
     }
 
+    /// `try_read`, again and again while it answers `NotYet` and the channel is in blocking mode.
+    pub fn read<R: Wait>(
+        &mut self,
+        rt: &R,
+        w: &Words,
+        p: &mut Pass,
+        me: CallerNo,
+        into: &mut [u8],
+    ) -> Result<PipeRead, PipeError>
+        requires ready { IsReady w.now p.old me }
+        requires channel { HasChannel (view w.now p.old) self.old.chan }
+        requires unpinned { HasNoPin (view w.now p.old) me }
+        ensures call { CallClause me (WaitsToRead (limits_of w.now) self.old.chan) (view w.now p.old) (view w.now p.new) result }
+        ensures ready { IsReady w.now p.new me }
+        ensures unpinned { HasNoPin (view w.now p.new) me }
+        ensures closed { result ≡ Err ClosedByInterrupt → IsClosed (view w.now p.new) self.old.chan }
+        ensures same { IsSameSource self.old self.new }
+        ensures bytes { GivesBytes self.old self.new into.old into.new (bytes_read result) }
+        ensures answer { IfOk result (λ answer. answer ≡ answer_of_read (length into.old) (bytes_read result) (knows_end self.new)) }
+        ensures most { OnOk result (bytes_read result < length into.old → known self.new ≡ []) }
+        ensures not_yet { result ≡ Ok NotYet → KnowsNothing self.old × KnowsNothing self.new }
+        ensures end { result ≡ Ok End → IsAtEnd self.new }
+    {
+        let chan = self.chan;
+        let mut waited = false;
+        for _ in rt.forever() {
+            match check_open(w, p, me, chan) {
+                Ok(blocking) => {
+                    let answer = self.give(into);
+                    if !read_goes_on(answer, blocking) {
+                        return Ok(answer);
+                    }
+                }
+                Err(refusal) => return Err(refusal_after(waited, refusal)),
+            }
+            waited = true;
+            thread::yield_now();
+        }
+        unreachable!()
+    }
+
     /// How many bytes wait, for a hand that has both ends. The source then knows of all of them, and of the
     /// end mark.
     pub fn beside(&mut self, sink: &mut PipeSink) -> usize
@@ -106,8 +149,8 @@ impl PipeSource {
         ensures waiting { result ≡ length (known self.new) }
         ensures whole { received self.new ++ known self.new ≡ sent sink.new }
         ensures end { knows_end self.new ≡ is_marked sink.new }
-        ensures source { Looks self.old self.new }
-        ensures sink { LooksBeside sink.old sink.new }
+        ensures source { SourceLooks self.old self.new }
+        ensures sink { SinkLooks sink.old sink.new }
         ensures ends { AreEnds self.new sink.new }
         ensures lawful { IsLawful (pipe_of self.new sink.new) }
         ensures told { IsAtEnd self.old → IsPipeAtEnd (pipe_of self.new sink.new) }
@@ -127,7 +170,7 @@ impl PipeSource {
         ensures to_end { self.new.to_end ≡ self.old.to_end }
         ensures mark { marks_taken self.new.mark ≡ pushed sink.new.marks }
         ensures sink_bytes { sink.new.bytes ≡ sink.old.bytes }
-        ensures sink { LooksBeside sink.old sink.new }
+        ensures sink { SinkLooks sink.old sink.new }
     {
         let left = self.marks.slots_beside(&mut sink.marks);
         if self.mark.is_none() && left > 0 {
@@ -163,9 +206,9 @@ impl PipeSource {
         read_answer(into.len(), given, self.to_end.is_some())
     }
 
-    // Looks for the end mark where no byte waits.
+    // SourceLooks for the end mark where no byte waits.
     fn look(&mut self)
-        ensures { Looks self.old self.new }
+        ensures { SourceLooks self.old self.new }
     {
         if self.to_end.is_none() && self.bytes.is_empty() {
             self.look_for_end();
@@ -176,7 +219,7 @@ impl PipeSource {
     fn look_for_end(&mut self)
         requires end { self.old.to_end ≡ None }
         requires empty { known_items self.old.bytes ≡ [] }
-        ensures { Looks self.old self.new }
+        ensures { SourceLooks self.old self.new }
     {
         self.take_mark();
         self.bytes.slots();
