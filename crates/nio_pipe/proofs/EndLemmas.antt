@@ -7,7 +7,8 @@ use Rattle.std.proofs.Math.Seq.{take-append-add, take-length}
 use mathlib.Core.List.{IsPrefix}
 use Rattle.nio_words.proofs.Beginnings.{prefix_self, prefix_length, prefix_trans}
 use Rattle.nio_pipe.specs.Counts.{count_of, marks_left, marks_taken, left_to, known_of, IsReached}
-use Rattle.nio_pipe.specs.Ends.{GivesBytes, IsSameSource, KnowsNothing, SourceLooks, known, knows_end, received}
+use Rattle.nio_pipe.specs.Ends.{GivesBytes, IsSameSource, KnowsNothing, SourceLooks, known, knows_end, received, IsSameSink, SinkLooks, TakesBytes, sent, free, is_marked}
+use Rattle.nio_pipe.specs.declared.sink.PipeSink.{PipeSink}
 use Rattle.nio_pipe.specs.declared.source.PipeSource.{PipeSource}
 
 pub gives_nothing : (s : PipeSource) (into : List ℕ) → GivesBytes s s into into 0
@@ -246,3 +247,27 @@ module _ (R K S : List ℕ) (marked : Bool) (read written : ℕ) (mark to_end to
           let total : length S ≡ length R + length K = sym (ap length beside.whole) ∙ length-append R K in
           let none_waits : length K ≡ 0 = omega (arith, beside.few, beside.written_is) in
           (left, sym (append-nil R) ∙ (ap (λ xs. R ++ xs) (sym (no_items K none_waits)) ∙ beside.whole))
+
+-- ---- the sink
+
+pub sink_looks_none : (s : PipeSink) → SinkLooks s s
+sink_looks_none s = record {
+  same = record { bytes = ((refl, refl, refl, refl), refl); marks = ((refl, refl, refl, refl), refl); channel = refl; other = refl };
+  sent = refl;
+  free = omega arith;
+  mark = refl;
+}
+
+-- a write that took nothing is a look
+pub sink_looks_more : {a b c : PipeSink} {slice : List ℕ} → SinkLooks a b → IsSameSink b c → TakesBytes b c slice 0 → is_marked c ≡ is_marked b → free b ≤ free c + 0 → SinkLooks a c
+sink_looks_more {a = a} {b = b} {c = c} looks same takes mark places = record {
+  same = record {
+    bytes = ((same.bytes.0.0 ∙ looks.same.bytes.0.0, same.bytes.0.1 ∙ looks.same.bytes.0.1, same.bytes.0.2 ∙ looks.same.bytes.0.2, same.bytes.0.3 ∙ looks.same.bytes.0.3), same.bytes.1 ∙ looks.same.bytes.1);
+    marks = ((same.marks.0.0 ∙ looks.same.marks.0.0, same.marks.0.1 ∙ looks.same.marks.0.1, same.marks.0.2 ∙ looks.same.marks.0.2, same.marks.0.3 ∙ looks.same.marks.0.3), same.marks.1 ∙ looks.same.marks.1);
+    channel = same.channel ∙ looks.same.channel;
+    other = same.other ∙ looks.same.other;
+  };
+  sent = takes.sent ∙ (append-nil (sent b) ∙ looks.sent);
+  free = omega (arith, looks.free, places);
+  mark = mark ∙ looks.mark;
+}
