@@ -3,6 +3,7 @@ pub mod Calls
 pub mod Counts
 pub mod Ends
 pub mod Held
+pub mod Idle
 pub mod Kept
 pub mod Making
 pub mod Opened

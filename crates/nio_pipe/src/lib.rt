@@ -14,3 +14,5 @@ mod held;
 mod making;
 mod sink;
 mod source;
+#[cfg(test)]
+mod tests;

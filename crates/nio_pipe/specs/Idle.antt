@@ -1,0 +1,15 @@
+-- For the tests: a caller between its calls on a pipe.
+use Rattle.nio_base.specs.declared.numbers.CallerNo.{CallerNo}
+use Rattle.nio_base.specs.declared.numbers.ChanNo.{ChanNo}
+use Rattle.nio_event.specs.PassViews.{HasNoPin}
+use Rattle.nio_words.specs.Passes.{IsReady}
+use Rattle.nio_words.specs.Views.{view}
+use Rattle.nio_words.specs.declared.words.Pass.{Pass}
+use Rattle.nio_words.specs.declared.words.Words.{Words}
+use Rattle.nio_pipe.specs.Calls.{HasEnds}
+
+-- the caller may step with the pass, has no pin, and may call a pipe with these channels
+pub record MayUse (w : Words) (p : Pass) (me : CallerNo) (a b : ChanNo) : Type 0 where
+  pub ready : IsReady w p me
+  pub unpinned : HasNoPin (view w p) me
+  pub ends : HasEnds (view w p) a b

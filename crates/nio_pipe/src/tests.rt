@@ -1,0 +1,454 @@
+//! A pipe in one hand, with each answer and each refusal; one that is filled to the brim by its two ends; one
+//! that is parted with bytes in it; two ends in two threads; and readers that an interrupt or a close ends.
+ghost use Rattle.std.specs.Prelude.{◌≡◌, IfOk};
+ghost use Rattle.nio_channel.specs.Idle.{AreIdle, drawn};
+ghost use Rattle.nio_event.specs.Conditions.{IsCaller, IsSelector};
+ghost use Rattle.nio_words.specs.Passes.{IsReady, limits_of, seen};
+ghost use Rattle.nio_words.specs.Views.{view};
+ghost use Rattle.nio_pipe.specs.Calls.{HasEnds};
+ghost use Rattle.nio_pipe.specs.Ends.{AreEnds, IsSameSource, IsSameSink};
+ghost use Rattle.nio_pipe.specs.Idle.{MayUse};
+ghost use Rattle.nio_pipe.specs.Making.{AreParts};
+
+use crate::*;
+use nio_base::{CallerNo, ChanNo, Limits, SelNo};
+use nio_channel::{close_channel, try_set_blocking};
+use nio_words::{Pass, Words};
+use std::alloc::Global;
+use std::sync::Wait;
+use std::test::Fail;
+use std::thread;
+use std::thread::join;
+
+const SMALL: Limits = Limits {
+    callers: 2,
+    selectors: 1,
+    channels: 7,
+    keys: 1,
+};
+
+const ZERO: CallerNo = CallerNo(0);
+
+const ONE: CallerNo = CallerNo(1);
+
+const S: SelNo = SelNo(0);
+
+/// A call of the first caller on a pipe, or what goes before one.
+#[derive(Clone, Copy)]
+enum OnPipe {
+    /// Reads into a slice of this length.
+    Read(usize),
+    /// Writes a slice of this length.
+    Write(usize),
+    CloseSource,
+    CloseSink,
+    /// The caller is interrupted.
+    Interrupt,
+    /// Both channels are set to non-blocking mode.
+    Unblock,
+}
+
+#[derive(Clone, Copy, Debug, PartialEq, Eq)]
+enum Told {
+    Read(Result<PipeRead, PipeError>),
+    Write(Result<PipeWrite, PipeError>),
+    Closes(bool),
+    Done,
+}
+
+/// Makes a selector, in a table where nothing was done but two draws.
+fn set_up(w: &Words, p: &mut Pass)
+    requires zero { IsReady w.now p.old ZERO }
+    requires one { IsReady w.now p.old ONE }
+    requires seen { seen p.old ≡ drawn }
+    requires selector { IsSelector (limits_of w.now) S }
+    ensures { AreIdle w.now p.new }
+{
+    w.make_selector(p, ZERO, S);
+}
+
+fn made(alloc: Global, w: &Words, p: &mut Pass) -> Result<HeldPipe, PipeMakeError>
+    requires { AreIdle w.now p.old }
+    ensures idle { AreIdle w.now p.new }
+    ensures ends { IfOk result (λ pipe. HasEnds (view w.now p.new) pipe.source pipe.sink) }
+{
+    held_pipe(alloc, w, p, ZERO)
+}
+
+fn unblock(w: &Words, p: &mut Pass, source: ChanNo, sink: ChanNo)
+    requires { MayUse w.now p.old ZERO source sink }
+    ensures { MayUse w.now p.new ZERO source sink }
+{
+    let _ = try_set_blocking(w, p, ZERO, source, false);
+    let _ = try_set_blocking(w, p, ZERO, sink, false);
+}
+
+fn answer(w: &Words, p: &mut Pass, pipe: &mut HeldPipe, bytes: &mut [u8], call: OnPipe) -> Told
+    requires { MayUse w.now p.old ZERO pipe.old.source pipe.old.sink }
+    ensures { MayUse w.now p.new ZERO pipe.new.source pipe.new.sink }
+{
+    match call {
+        OnPipe::Read(count) => {
+            let count = count.min(bytes.len());
+            let into = &mut bytes[..count];
+            Told::Read(pipe.try_read(w, p, ZERO, into))
+        }
+        OnPipe::Write(count) => {
+            let count = count.min(bytes.len());
+            let from = &bytes[..count];
+            Told::Write(pipe.try_write(w, p, ZERO, from))
+        }
+        OnPipe::CloseSource => Told::Closes(pipe.close_source(w, p, ZERO)),
+        OnPipe::CloseSink => Told::Closes(pipe.close_sink(w, p, ZERO)),
+        OnPipe::Interrupt => {
+            w.set_interrupt(p, ZERO, ZERO);
+            Told::Done
+        }
+        OnPipe::Unblock => {
+            unblock(w, p, pipe.source(), pipe.sink());
+            Told::Done
+        }
+    }
+}
+
+const FILLS_AND_ENDS: &[(OnPipe, Told)] = &[
+    (OnPipe::Read(0), Told::Read(Ok(PipeRead::Bytes(0)))),
+    (OnPipe::Write(0), Told::Write(Ok(PipeWrite::Bytes(0)))),
+    (OnPipe::Read(5), Told::Read(Ok(PipeRead::NotYet))),
+    (OnPipe::Write(65_537), Told::Write(Ok(PipeWrite::Bytes(65_536)))),
+    (OnPipe::Write(1), Told::Write(Ok(PipeWrite::NotYet))),
+    (OnPipe::Read(1), Told::Read(Ok(PipeRead::Bytes(1)))),
+    (OnPipe::Write(2), Told::Write(Ok(PipeWrite::Bytes(1)))),
+    (OnPipe::CloseSink, Told::Closes(true)),
+    (OnPipe::CloseSink, Told::Closes(false)),
+    (OnPipe::Write(1), Told::Write(Err(PipeError::ClosedChannel))),
+    (OnPipe::Read(65_537), Told::Read(Ok(PipeRead::Bytes(65_536)))),
+    (OnPipe::Read(0), Told::Read(Ok(PipeRead::Bytes(0)))),
+    (OnPipe::Read(1), Told::Read(Ok(PipeRead::End))),
+    (OnPipe::CloseSource, Told::Closes(true)),
+    (OnPipe::Read(1), Told::Read(Err(PipeError::ClosedChannel))),
+];
+
+const IS_INTERRUPTED: &[(OnPipe, Told)] = &[
+    (OnPipe::Interrupt, Told::Done),
+    (OnPipe::Write(1), Told::Write(Err(PipeError::ClosedByInterrupt))),
+    (OnPipe::Write(1), Told::Write(Err(PipeError::ClosedChannel))),
+    (OnPipe::Read(1), Told::Read(Err(PipeError::ClosedByInterrupt))),
+    (OnPipe::CloseSink, Told::Closes(false)),
+];
+
+/// The caller is still interrupted.
+const BREAKS: &[(OnPipe, Told)] = &[
+    (OnPipe::Unblock, Told::Done),
+    (OnPipe::Write(2), Told::Write(Ok(PipeWrite::Bytes(2)))),
+    (OnPipe::CloseSource, Told::Closes(true)),
+    (OnPipe::Write(0), Told::Write(Err(PipeError::BrokenPipe))),
+];
+
+#[test]
+fn a_pipe_in_one_hand(rt: HostRuntime) -> Result<(), Fail> {
+    let (words, mut p) = Words::make(rt.alloc(), SMALL)?;
+    words.draw(&mut p, ZERO)?;
+    words.draw(&mut p, ONE)?;
+    set_up(&words, &mut p);
+    let mut bytes = vec![in rt.alloc(); 0u8; 65_537]?;
+    for calls in [FILLS_AND_ENDS, IS_INTERRUPTED, BREAKS] {
+        let mut pipe = made(rt.alloc(), &words, &mut p)?;
+        for (call, told) in calls {
+            assert!(rt; answer(&words, &mut p, &mut pipe, &mut bytes, *call) == *told);
+        }
+    }
+    let refused = made(rt.alloc(), &words, &mut p).err();
+    assert!(rt; refused == Some(PipeMakeError::ChannelsSpent));
+    Ok(())
+}
+
+fn ends_made(
+    alloc: Global,
+    w: &Words,
+    p: &mut Pass,
+) -> Result<(PipeSource, PipeSink), PipeMakeError>
+    requires { AreIdle w.now p.old }
+    ensures idle { AreIdle w.now p.new }
+    ensures channels { IfOk result (λ ends. HasEnds (view w.now p.new) ends.0.chan ends.1.chan) }
+    ensures ends { IfOk result (λ ends. AreEnds ends.0 ends.1) }
+{
+    pipe(alloc, w, p, ZERO)
+}
+
+fn reads(
+    w: &Words,
+    p: &mut Pass,
+    source: &mut PipeSource,
+    sink: &PipeSink,
+    into: &mut [u8],
+) -> Result<PipeRead, PipeError>
+    requires { MayUse w.now p.old ZERO source.old.chan sink.now.chan }
+    ensures same { IsSameSource source.old source.new }
+    ensures idle { MayUse w.now p.new ZERO source.new.chan sink.now.chan }
+{
+    source.try_read(w, p, ZERO, into)
+}
+
+fn writes(
+    w: &Words,
+    p: &mut Pass,
+    source: &PipeSource,
+    sink: &mut PipeSink,
+    from: &[u8],
+) -> Result<PipeWrite, PipeError>
+    requires ends { AreEnds source.now sink.old }
+    requires idle { MayUse w.now p.old ZERO source.now.chan sink.old.chan }
+    ensures same { IsSameSink sink.old sink.new }
+    ensures idle { MayUse w.now p.new ZERO source.now.chan sink.new.chan }
+{
+    sink.try_write(w, p, ZERO, from)
+}
+
+fn closes(w: &Words, p: &mut Pass, source: &PipeSource, sink: &mut PipeSink) -> bool
+    requires { MayUse w.now p.old ZERO source.now.chan sink.old.chan }
+    ensures same { IsSameSink sink.old sink.new }
+    ensures idle { MayUse w.now p.new ZERO source.now.chan sink.new.chan }
+{
+    sink.close(w, p, ZERO)
+}
+
+#[test]
+fn one_hand_fills_a_pipe_to_the_brim(rt: HostRuntime) -> Result<(), Fail> {
+    let (words, mut p) = Words::make(rt.alloc(), SMALL)?;
+    words.draw(&mut p, ZERO)?;
+    words.draw(&mut p, ONE)?;
+    set_up(&words, &mut p);
+    let (mut source, mut sink) = ends_made(rt.alloc(), &words, &mut p)?;
+    unblock(&words, &mut p, source.chan(), sink.chan());
+    let from = vec![in rt.alloc(); 7u8; 65_537]?;
+    let mut into = vec![in rt.alloc(); 0u8; 65_537]?;
+    let written = writes(&words, &mut p, &source, &mut sink, &from);
+    assert!(rt; written == Ok(PipeWrite::Bytes(65_536)));
+    let written = writes(&words, &mut p, &source, &mut sink, &[8]);
+    assert!(rt; written == Ok(PipeWrite::NotYet));
+    let read = reads(&words, &mut p, &mut source, &sink, &mut into[..1]);
+    assert!(rt; read == Ok(PipeRead::Bytes(1)));
+    let written = writes(&words, &mut p, &source, &mut sink, &[8]);
+    assert!(rt; written == Ok(PipeWrite::Bytes(1)));
+    assert!(rt; closes(&words, &mut p, &source, &mut sink));
+    let read = reads(&words, &mut p, &mut source, &sink, &mut into);
+    assert!(rt; read == Ok(PipeRead::Bytes(65_536)));
+    assert!(rt; into[65_534..65_536] == [7, 8]);
+    let read = reads(&words, &mut p, &mut source, &sink, &mut into);
+    assert!(rt; read == Ok(PipeRead::End));
+    assert!(rt; source.beside(&mut sink) == 0);
+    Ok(())
+}
+
+/// Fills a pipe with three bytes, reads one and closes the sink.
+fn filled(w: &Words, p: &mut Pass, pipe: &mut HeldPipe) -> bool
+    requires { MayUse w.now p.old ZERO pipe.old.source pipe.old.sink }
+    ensures { MayUse w.now p.new ZERO pipe.new.source pipe.new.sink }
+{
+    let mut into = [0];
+    let written = pipe.try_write(w, p, ZERO, &[1, 2, 3]);
+    let read = pipe.try_read(w, p, ZERO, &mut into);
+    pipe.close_sink(w, p, ZERO);
+    written == Ok(PipeWrite::Bytes(3)) && read == Ok(PipeRead::Bytes(1)) && into == [1]
+}
+
+#[test]
+fn a_pipe_is_parted_with_bytes_in_it(rt: HostRuntime) -> Result<(), Fail> {
+    let (words, mut p) = Words::make(rt.alloc(), SMALL)?;
+    words.draw(&mut p, ZERO)?;
+    words.draw(&mut p, ONE)?;
+    set_up(&words, &mut p);
+    let mut pipe = made(rt.alloc(), &words, &mut p)?;
+    assert!(rt; filled(&words, &mut p, &mut pipe));
+    let (mut source, mut sink) = pipe.part(rt.alloc())?;
+    assert!(rt; source.beside(&mut sink) == 2);
+    let mut into = [0; 9];
+    let read = reads(&words, &mut p, &mut source, &sink, &mut into);
+    assert!(rt; read == Ok(PipeRead::Bytes(2)) && into[..2] == [2, 3]);
+    let read = reads(&words, &mut p, &mut source, &sink, &mut into);
+    assert!(rt; read == Ok(PipeRead::End));
+    Ok(())
+}
+
+/// How many bytes go from one thread to the other, and how often each tries at most.
+const TOTAL: usize = 200_000;
+
+const TRIES: u32 = 100_000_000;
+
+/// Byte j is j modulo 251.
+fn fill(piece: &mut [u8], from: usize)
+    requires { from < 1000000 }
+{
+    let mut next = (from % 251) as u8;
+    for byte in piece {
+        *byte = next;
+        next = if next == 250 { 0 } else { next + 1 };
+    }
+}
+
+/// Writes all bytes in pieces, and closes the sink. Says whether that was done.
+fn writes_all(w: &Words, mut p: Pass, me: CallerNo, mut sink: PipeSink) -> (Pass, PipeSink, bool)
+    requires { MayUse w.now p me sink.source sink.chan }
+    ensures pass { IsReady w.now result.0 me }
+    ensures same { IsSameSink sink result.1 }
+{
+    let mut piece = [0u8; 1000];
+    let mut sent = 0;
+    for _ in 0..TRIES {
+        if sent == TOTAL {
+            sink.close(w, &mut p, me);
+            return (p, sink, true);
+        }
+        let count = (TOTAL - sent).min(piece.len());
+        fill(&mut piece[..count], sent);
+        match sink.try_write(w, &mut p, me, &piece[..count]) {
+            Ok(PipeWrite::Bytes(taken)) => sent += taken,
+            Ok(PipeWrite::NotYet) => thread::yield_now(),
+            Err(_) => return (p, sink, false),
+        }
+    }
+    (p, sink, false)
+}
+
+/// Whether these are the bytes from this one on.
+fn are_next(bytes: &[u8], from: usize) -> bool {
+    let mut next = (from % 251) as u8;
+    for byte in bytes {
+        if *byte != next {
+            return false;
+        }
+        next = if next == 250 { 0 } else { next + 1 };
+    }
+    true
+}
+
+/// Reads all bytes until the end. Says whether they were the right ones.
+fn reads_all(w: &Words, mut p: Pass, me: CallerNo, mut source: PipeSource, other: ChanNo) -> (Pass, PipeSource, bool)
+    requires { MayUse w.now p me source.chan other }
+    ensures pass { IsReady w.now result.0 me }
+    ensures same { IsSameSource source result.1 }
+{
+    let mut into = [0u8; 700];
+    let mut received: usize = 0;
+    for _ in 0..TRIES {
+        match source.try_read(w, &mut p, me, &mut into) {
+            Ok(PipeRead::Bytes(given)) => {
+                if given > into.len() || received > TOTAL || !are_next(&into[..given], received) {
+                    return (p, source, false);
+                }
+                received += given;
+            }
+            Ok(PipeRead::End) => return (p, source, received == TOTAL),
+            Ok(PipeRead::NotYet) => thread::yield_now(),
+            Err(_) => return (p, source, false),
+        }
+    }
+    (p, source, false)
+}
+
+#[test]
+fn two_threads_have_one_end_each(rt: HostRuntime) -> Result<(), Fail> {
+    let (words, mut p) = Words::make(rt.alloc(), SMALL)?;
+    words.draw(&mut p, ZERO)?;
+    words.draw(&mut p, ONE)?;
+    set_up(&words, &mut p);
+    let (source, sink) = ends_made(rt.alloc(), &words, &mut p)?;
+    unblock(&words, &mut p, source.chan(), sink.chan());
+    let other = sink.chan();
+    let q = words.hand_over(&mut p, ONE)?;
+    let ((mut p, mut source, read), (q, mut sink, written)) = join(
+        &rt,
+        || -> (Pass, PipeSource, bool)
+            requires { MayUse words p ZERO source.chan other }
+            ensures pass { IsReady words result.0 ZERO }
+            ensures same { IsSameSource source result.1 }
+        { reads_all(&words, p, ZERO, source, other) },
+        || -> (Pass, PipeSink, bool)
+            requires { MayUse words q ONE sink.source sink.chan }
+            ensures pass { IsReady words result.0 ONE }
+            ensures same { IsSameSink sink result.1 }
+        { writes_all(&words, q, ONE, sink) },
+    );
+    assert!(rt; read && written);
+    words.join(&mut p, q);
+    assert!(rt; source.beside(&mut sink) == 0);
+    Ok(())
+}
+
+/// Reads until there is another answer than bytes.
+fn reads_on<R: Wait>(
+    rt: &R,
+    w: &Words,
+    mut p: Pass,
+    mut source: PipeSource,
+    other: ChanNo,
+) -> Option<Result<PipeRead, PipeError>>
+    requires { MayUse w.now p ZERO source.chan other }
+{
+    let mut into = [0u8; 700];
+    for _ in 0..TRIES {
+        let read = source.read(rt, w, &mut p, ZERO, &mut into);
+        if !matches!(read, Ok(PipeRead::Bytes(_))) {
+            return Some(read);
+        }
+    }
+    None
+}
+
+/// Writes one byte more than a pipe holds, which waits for the reader, and then closes the source or
+/// interrupts the reader. Says what the two writes answered.
+fn writes_and_ends<R: Wait>(
+    rt: &R,
+    w: &Words,
+    mut q: Pass,
+    mut sink: PipeSink,
+    bytes: &[u8],
+    closes: bool,
+) -> (Result<PipeWrite, PipeError>, Result<PipeWrite, PipeError>)
+    requires idle { MayUse w.now q ONE sink.source sink.chan }
+    requires zero { IsCaller (limits_of w.now) ZERO }
+{
+    let source = sink.source;
+    let first = sink.write(rt, w, &mut q, ONE, bytes);
+    let second = sink.write(rt, w, &mut q, ONE, &[7]);
+    if closes {
+        close_channel(w, &mut q, ONE, source);
+    } else {
+        w.set_interrupt(&mut q, ONE, ZERO);
+    }
+    (first, second)
+}
+
+#[test]
+fn a_reader_that_waits_is_ended(rt: HostRuntime) -> Result<(), Fail> {
+    let bytes = vec![in rt.alloc(); 7u8; 65_536]?;
+    for closes in [true, false] {
+        let (words, mut p) = Words::make(rt.alloc(), SMALL)?;
+        words.draw(&mut p, ZERO)?;
+        words.draw(&mut p, ONE)?;
+        set_up(&words, &mut p);
+        let (source, sink) = ends_made(rt.alloc(), &words, &mut p)?;
+        let other = sink.chan();
+        let q = words.hand_over(&mut p, ONE)?;
+        let (read, written) = join(
+            &rt,
+            || -> Option<Result<PipeRead, PipeError>>
+                requires { MayUse words p ZERO source.chan other }
+            { reads_on(&rt, &words, p, source, other) },
+            || -> (Result<PipeWrite, PipeError>, Result<PipeWrite, PipeError>)
+                requires { MayUse words q ONE sink.source sink.chan × IsCaller (limits_of words) ZERO }
+            { writes_and_ends(&rt, &words, q, sink, &bytes, closes) },
+        );
+        assert!(rt; written == (Ok(PipeWrite::Bytes(65_536)), Ok(PipeWrite::Bytes(1))));
+        // Where the close comes between two reads the later one finds the channel closed.
+        assert!(rt;
+            match read {
+                Some(Err(PipeError::AsynchronousClose | PipeError::ClosedChannel)) => closes,
+                Some(Err(PipeError::ClosedByInterrupt)) => !closes,
+                _ => false,
+            }
+        );
+    }
+    Ok(())
+}
