@@ -1,14 +1,13 @@
 //! A pipe in one hand, with each answer and each refusal; one that is filled to the brim by its two ends; one
 //! that is parted with bytes in it; two ends in two threads; and readers that an interrupt or a close ends.
-ghost use Rattle.std.specs.Prelude.{◌≡◌, IfOk};
-ghost use Rattle.nio_channel.specs.Idle.{AreIdle, drawn};
-ghost use Rattle.nio_event.specs.Conditions.{IsCaller, IsSelector};
-ghost use Rattle.nio_words.specs.Passes.{IsReady, limits_of, seen};
+ghost use Rattle.std.specs.Prelude.{◌≤◌, length, IfOk};
+ghost use Rattle.nio_channel.specs.Idle.{AreIdle};
+ghost use Rattle.nio_event.specs.Conditions.{IsCaller};
+ghost use Rattle.nio_words.specs.Passes.{limits_of};
 ghost use Rattle.nio_words.specs.Views.{view};
 ghost use Rattle.nio_pipe.specs.Calls.{HasEnds};
 ghost use Rattle.nio_pipe.specs.Ends.{AreEnds, IsSameSource, IsSameSink};
 ghost use Rattle.nio_pipe.specs.Idle.{MayUse};
-ghost use Rattle.nio_pipe.specs.Making.{AreParts};
 
 use crate::*;
 use nio_base::{CallerNo, ChanNo, Limits, SelNo};
@@ -18,7 +17,7 @@ use std::alloc::Global;
 use std::sync::Wait;
 use std::test::Fail;
 use std::thread;
-use std::thread::join;
+use std::thread::{Threads, join};
 
 const SMALL: Limits = Limits {
     callers: 2,
@@ -56,15 +55,15 @@ enum Told {
     Done,
 }
 
-/// Makes a selector, in a table where nothing was done but two draws.
-fn set_up(w: &Words, p: &mut Pass)
-    requires zero { IsReady w.now p.old ZERO }
-    requires one { IsReady w.now p.old ONE }
-    requires seen { seen p.old ≡ drawn }
-    requires selector { IsSelector (limits_of w.now) S }
-    ensures { AreIdle w.now p.new }
+/// A table where nothing was done but two draws and the making of a selector.
+fn table(alloc: Global) -> Result<(Words, Pass), Fail>
+    ensures { IfOk result (λ made. AreIdle made.0 made.1) }
 {
-    w.make_selector(p, ZERO, S);
+    let (words, mut p) = Words::make(alloc, SMALL)?;
+    words.draw(&mut p, ZERO)?;
+    words.draw(&mut p, ONE)?;
+    words.make_selector(&mut p, ZERO, S);
+    Ok((words, p))
 }
 
 fn made(alloc: Global, w: &Words, p: &mut Pass) -> Result<HeldPipe, PipeMakeError>
@@ -147,10 +146,7 @@ const BREAKS: &[(OnPipe, Told)] = &[
 
 #[test]
 fn a_pipe_in_one_hand(rt: HostRuntime) -> Result<(), Fail> {
-    let (words, mut p) = Words::make(rt.alloc(), SMALL)?;
-    words.draw(&mut p, ZERO)?;
-    words.draw(&mut p, ONE)?;
-    set_up(&words, &mut p);
+    let (words, mut p) = table(rt.alloc())?;
     let mut bytes = vec![in rt.alloc(); 0u8; 65_537]?;
     for calls in [FILLS_AND_ENDS, IS_INTERRUPTED, BREAKS] {
         let mut pipe = made(rt.alloc(), &words, &mut p)?;
@@ -215,10 +211,7 @@ fn closes(w: &Words, p: &mut Pass, source: &PipeSource, sink: &mut PipeSink) -> 
 
 #[test]
 fn one_hand_fills_a_pipe_to_the_brim(rt: HostRuntime) -> Result<(), Fail> {
-    let (words, mut p) = Words::make(rt.alloc(), SMALL)?;
-    words.draw(&mut p, ZERO)?;
-    words.draw(&mut p, ONE)?;
-    set_up(&words, &mut p);
+    let (words, mut p) = table(rt.alloc())?;
     let (mut source, mut sink) = ends_made(rt.alloc(), &words, &mut p)?;
     unblock(&words, &mut p, source.chan(), sink.chan());
     let from = vec![in rt.alloc(); 7u8; 65_537]?;
@@ -227,14 +220,14 @@ fn one_hand_fills_a_pipe_to_the_brim(rt: HostRuntime) -> Result<(), Fail> {
     assert!(rt; written == Ok(PipeWrite::Bytes(65_536)));
     let written = writes(&words, &mut p, &source, &mut sink, &[8]);
     assert!(rt; written == Ok(PipeWrite::NotYet));
-    let read = reads(&words, &mut p, &mut source, &sink, &mut into[..1]);
+    let read = reads(&words, &mut p, &mut source, &sink, &mut [0]);
     assert!(rt; read == Ok(PipeRead::Bytes(1)));
     let written = writes(&words, &mut p, &source, &mut sink, &[8]);
     assert!(rt; written == Ok(PipeWrite::Bytes(1)));
     assert!(rt; closes(&words, &mut p, &source, &mut sink));
     let read = reads(&words, &mut p, &mut source, &sink, &mut into);
     assert!(rt; read == Ok(PipeRead::Bytes(65_536)));
-    assert!(rt; into[65_534..65_536] == [7, 8]);
+    assert!(rt; into.get(65_534) == Some(&7) && into.get(65_535) == Some(&8));
     let read = reads(&words, &mut p, &mut source, &sink, &mut into);
     assert!(rt; read == Ok(PipeRead::End));
     assert!(rt; source.beside(&mut sink) == 0);
@@ -255,10 +248,7 @@ fn filled(w: &Words, p: &mut Pass, pipe: &mut HeldPipe) -> bool
 
 #[test]
 fn a_pipe_is_parted_with_bytes_in_it(rt: HostRuntime) -> Result<(), Fail> {
-    let (words, mut p) = Words::make(rt.alloc(), SMALL)?;
-    words.draw(&mut p, ZERO)?;
-    words.draw(&mut p, ONE)?;
-    set_up(&words, &mut p);
+    let (words, mut p) = table(rt.alloc())?;
     let mut pipe = made(rt.alloc(), &words, &mut p)?;
     assert!(rt; filled(&words, &mut p, &mut pipe));
     let (mut source, mut sink) = pipe.part(rt.alloc())?;
@@ -278,56 +268,54 @@ const TRIES: u32 = 100_000_000;
 
 /// Byte j is j modulo 251.
 fn fill(piece: &mut [u8], from: usize)
-    requires { from < 1000000 }
+    requires from { from ≤ 200000 }
+    requires length { length piece.old ≤ 1000 }
 {
-    let mut next = (from % 251) as u8;
-    for byte in piece {
-        *byte = next;
-        next = if next == 250 { 0 } else { next + 1 };
+    for (i, byte) in piece.iter_mut().enumerate() {
+        *byte = ((from + i) % 251) as u8;
     }
 }
 
 /// Writes all bytes in pieces, and closes the sink. Says whether that was done.
-fn writes_all(w: &Words, mut p: Pass, me: CallerNo, mut sink: PipeSink) -> (Pass, PipeSink, bool)
+fn writes_all(w: &Words, mut p: Pass, me: CallerNo, mut sink: PipeSink) -> (PipeSink, bool)
     requires { MayUse w.now p me sink.source sink.chan }
-    ensures pass { IsReady w.now result.0 me }
-    ensures same { IsSameSink sink result.1 }
+    ensures { IsSameSink sink result.0 }
 {
     let mut piece = [0u8; 1000];
     let mut sent = 0;
     for _ in 0..TRIES {
         if sent == TOTAL {
             sink.close(w, &mut p, me);
-            return (p, sink, true);
+            return (sink, true);
         }
         let count = (TOTAL - sent).min(piece.len());
         fill(&mut piece[..count], sent);
         match sink.try_write(w, &mut p, me, &piece[..count]) {
             Ok(PipeWrite::Bytes(taken)) => sent += taken,
             Ok(PipeWrite::NotYet) => thread::yield_now(),
-            Err(_) => return (p, sink, false),
+            Err(_) => return (sink, false),
         }
     }
-    (p, sink, false)
+    (sink, false)
 }
 
 /// Whether these are the bytes from this one on.
-fn are_next(bytes: &[u8], from: usize) -> bool {
-    let mut next = (from % 251) as u8;
-    for byte in bytes {
-        if *byte != next {
+fn are_next(bytes: &[u8], from: usize) -> bool
+    requires from { from ≤ 200000 }
+    requires length { length bytes.now ≤ 1000 }
+{
+    for (i, byte) in bytes.iter().enumerate() {
+        if usize::from(*byte) != (from + i) % 251 {
             return false;
         }
-        next = if next == 250 { 0 } else { next + 1 };
     }
     true
 }
 
 /// Reads all bytes until the end. Says whether they were the right ones.
-fn reads_all(w: &Words, mut p: Pass, me: CallerNo, mut source: PipeSource, other: ChanNo) -> (Pass, PipeSource, bool)
+fn reads_all(w: &Words, mut p: Pass, me: CallerNo, mut source: PipeSource, other: ChanNo) -> (PipeSource, bool)
     requires { MayUse w.now p me source.chan other }
-    ensures pass { IsReady w.now result.0 me }
-    ensures same { IsSameSource source result.1 }
+    ensures { IsSameSource source result.0 }
 {
     let mut into = [0u8; 700];
     let mut received: usize = 0;
@@ -335,44 +323,55 @@ fn reads_all(w: &Words, mut p: Pass, me: CallerNo, mut source: PipeSource, other
         match source.try_read(w, &mut p, me, &mut into) {
             Ok(PipeRead::Bytes(given)) => {
                 if given > into.len() || received > TOTAL || !are_next(&into[..given], received) {
-                    return (p, source, false);
+                    return (source, false);
                 }
                 received += given;
             }
-            Ok(PipeRead::End) => return (p, source, received == TOTAL),
+            Ok(PipeRead::End) => return (source, received == TOTAL),
             Ok(PipeRead::NotYet) => thread::yield_now(),
-            Err(_) => return (p, source, false),
+            Err(_) => return (source, false),
         }
     }
-    (p, source, false)
+    (source, false)
+}
+
+/// Carries all bytes through the pipe, its ends in two threads. Says whether they came over, and how many
+/// bytes then wait.
+fn carries<R: Threads + Sync>(
+    rt: &R,
+    w: &Words,
+    p: Pass,
+    q: Pass,
+    source: PipeSource,
+    sink: PipeSink,
+) -> (bool, usize)
+    requires ends { AreEnds source sink }
+    requires reader { MayUse w.now p ZERO source.chan sink.chan }
+    requires writer { MayUse w.now q ONE sink.source sink.chan }
+{
+    let other = sink.chan();
+    let ((mut source, read), (mut sink, written)) = join(
+        rt,
+        || -> (PipeSource, bool)
+            requires { MayUse w.now p ZERO source.chan other }
+            ensures { IsSameSource source result.0 }
+        { reads_all(w, p, ZERO, source, other) },
+        || -> (PipeSink, bool)
+            requires { MayUse w.now q ONE sink.source sink.chan }
+            ensures { IsSameSink sink result.0 }
+        { writes_all(w, q, ONE, sink) },
+    );
+    (read && written, source.beside(&mut sink))
 }
 
 #[test]
 fn two_threads_have_one_end_each(rt: HostRuntime) -> Result<(), Fail> {
-    let (words, mut p) = Words::make(rt.alloc(), SMALL)?;
-    words.draw(&mut p, ZERO)?;
-    words.draw(&mut p, ONE)?;
-    set_up(&words, &mut p);
+    let (words, mut p) = table(rt.alloc())?;
     let (source, sink) = ends_made(rt.alloc(), &words, &mut p)?;
     unblock(&words, &mut p, source.chan(), sink.chan());
-    let other = sink.chan();
     let q = words.hand_over(&mut p, ONE)?;
-    let ((mut p, mut source, read), (q, mut sink, written)) = join(
-        &rt,
-        || -> (Pass, PipeSource, bool)
-            requires { MayUse words p ZERO source.chan other }
-            ensures pass { IsReady words result.0 ZERO }
-            ensures same { IsSameSource source result.1 }
-        { reads_all(&words, p, ZERO, source, other) },
-        || -> (Pass, PipeSink, bool)
-            requires { MayUse words q ONE sink.source sink.chan }
-            ensures pass { IsReady words result.0 ONE }
-            ensures same { IsSameSink sink result.1 }
-        { writes_all(&words, q, ONE, sink) },
-    );
-    assert!(rt; read && written);
-    words.join(&mut p, q);
-    assert!(rt; source.beside(&mut sink) == 0);
+    let (came_over, waiting) = carries(&rt, &words, p, q, source, sink);
+    assert!(rt; came_over && waiting == 0);
     Ok(())
 }
 
@@ -420,26 +419,41 @@ fn writes_and_ends<R: Wait>(
     (first, second)
 }
 
+/// A reader in one thread, which waits, and in the other a writer that ends it.
+fn meet<R: Threads + Wait + Sync>(
+    rt: &R,
+    w: &Words,
+    p: Pass,
+    q: Pass,
+    source: PipeSource,
+    sink: PipeSink,
+    bytes: &[u8],
+    closes: bool,
+) -> (Option<Result<PipeRead, PipeError>>, (Result<PipeWrite, PipeError>, Result<PipeWrite, PipeError>))
+    requires reader { MayUse w.now p ZERO source.chan sink.chan }
+    requires writer { MayUse w.now q ONE sink.source sink.chan }
+    requires zero { IsCaller (limits_of w.now) ZERO }
+{
+    let other = sink.chan();
+    join(
+        rt,
+        || -> Option<Result<PipeRead, PipeError>>
+            requires { MayUse w.now p ZERO source.chan other }
+        { reads_on(rt, w, p, source, other) },
+        || -> (Result<PipeWrite, PipeError>, Result<PipeWrite, PipeError>)
+            requires { MayUse w.now q ONE sink.source sink.chan × IsCaller (limits_of w.now) ZERO }
+        { writes_and_ends(rt, w, q, sink, bytes, closes) },
+    )
+}
+
 #[test]
 fn a_reader_that_waits_is_ended(rt: HostRuntime) -> Result<(), Fail> {
     let bytes = vec![in rt.alloc(); 7u8; 65_536]?;
     for closes in [true, false] {
-        let (words, mut p) = Words::make(rt.alloc(), SMALL)?;
-        words.draw(&mut p, ZERO)?;
-        words.draw(&mut p, ONE)?;
-        set_up(&words, &mut p);
+        let (words, mut p) = table(rt.alloc())?;
         let (source, sink) = ends_made(rt.alloc(), &words, &mut p)?;
-        let other = sink.chan();
         let q = words.hand_over(&mut p, ONE)?;
-        let (read, written) = join(
-            &rt,
-            || -> Option<Result<PipeRead, PipeError>>
-                requires { MayUse words p ZERO source.chan other }
-            { reads_on(&rt, &words, p, source, other) },
-            || -> (Result<PipeWrite, PipeError>, Result<PipeWrite, PipeError>)
-                requires { MayUse words q ONE sink.source sink.chan × IsCaller (limits_of words) ZERO }
-            { writes_and_ends(&rt, &words, q, sink, &bytes, closes) },
-        );
+        let (read, written) = meet(&rt, &words, p, q, source, sink, &bytes, closes);
         assert!(rt; written == (Ok(PipeWrite::Bytes(65_536)), Ok(PipeWrite::Bytes(1))));
         // Where the close comes between two reads the later one finds the channel closed.
         assert!(rt;
