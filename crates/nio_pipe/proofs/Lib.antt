@@ -2,3 +2,4 @@ pub mod EndLemmas
 pub mod KeptLemmas
 pub mod Opening
 pub mod Waits
+pub mod Idle

@@ -1,19 +1,20 @@
 //! A pipe in one hand, with each answer and each refusal; one that is filled to the brim by its two ends; one
 //! that is parted with bytes in it; two ends in two threads; and readers that an interrupt or a close ends.
-ghost use Rattle.std.specs.Prelude.{◌≤◌, length, IfOk};
-ghost use Rattle.nio_channel.specs.Idle.{AreIdle};
-ghost use Rattle.nio_event.specs.Conditions.{IsCaller};
-ghost use Rattle.nio_words.specs.Passes.{limits_of};
+ghost use Rattle.std.specs.Prelude.{◌≡◌, ◌≤◌, length, IfOk};
+ghost use Rattle.nio_channel.specs.Idle.{AreIdle, drawn};
+ghost use Rattle.nio_event.specs.Conditions.{IsCaller, IsSelector};
+ghost use Rattle.nio_words.specs.Passes.{IsReady, limits_of, seen};
 ghost use Rattle.nio_words.specs.Views.{view};
+ghost use Rattle.nio_pipe.specs.Answers.{bytes_written};
 ghost use Rattle.nio_pipe.specs.Calls.{HasEnds};
 ghost use Rattle.nio_pipe.specs.Ends.{AreEnds, IsSameSource, IsSameSink};
-ghost use Rattle.nio_pipe.specs.Idle.{MayUse};
+ghost use Rattle.nio_pipe.specs.Idle.{HasBoth, MayUse};
 
 use crate::*;
 use nio_base::{CallerNo, ChanNo, Limits, SelNo};
 use nio_channel::{close_channel, try_set_blocking};
 use nio_words::{Pass, Words};
-use std::alloc::Global;
+use std::alloc::{AllocError, Global};
 use std::sync::Wait;
 use std::test::Fail;
 use std::thread;
@@ -55,14 +56,24 @@ enum Told {
     Done,
 }
 
-/// A table where nothing was done but two draws and the making of a selector.
+/// Makes a selector, in a table where nothing was done but two draws.
+fn set_up(w: &Words, p: &mut Pass)
+    requires zero { IsReady w.now p.old ZERO }
+    requires one { IsReady w.now p.old ONE }
+    requires seen { seen p.old ≡ drawn }
+    requires selector { IsSelector (limits_of w.now) S }
+    ensures { AreIdle w.now p.new }
+{
+    w.make_selector(p, ZERO, S);
+}
+
 fn table(alloc: Global) -> Result<(Words, Pass), Fail>
     ensures { IfOk result (λ made. AreIdle made.0 made.1) }
 {
     let (words, mut p) = Words::make(alloc, SMALL)?;
     words.draw(&mut p, ZERO)?;
     words.draw(&mut p, ONE)?;
-    words.make_selector(&mut p, ZERO, S);
+    set_up(&words, &mut p);
     Ok((words, p))
 }
 
@@ -175,89 +186,129 @@ fn ends_made(
 fn reads(
     w: &Words,
     p: &mut Pass,
+    me: CallerNo,
     source: &mut PipeSource,
-    sink: &PipeSink,
+    other: ChanNo,
     into: &mut [u8],
 ) -> Result<PipeRead, PipeError>
-    requires { MayUse w.now p.old ZERO source.old.chan sink.now.chan }
+    requires { MayUse w.now p.old me source.old.chan other }
     ensures same { IsSameSource source.old source.new }
-    ensures idle { MayUse w.now p.new ZERO source.new.chan sink.now.chan }
+    ensures may { MayUse w.now p.new me source.new.chan other }
 {
-    source.try_read(w, p, ZERO, into)
+    source.try_read(w, p, me, into)
 }
 
 fn writes(
     w: &Words,
     p: &mut Pass,
-    source: &PipeSource,
+    me: CallerNo,
     sink: &mut PipeSink,
     from: &[u8],
 ) -> Result<PipeWrite, PipeError>
-    requires ends { AreEnds source.now sink.old }
-    requires idle { MayUse w.now p.old ZERO source.now.chan sink.old.chan }
+    requires { MayUse w.now p.old me sink.old.source sink.old.chan }
     ensures same { IsSameSink sink.old sink.new }
-    ensures idle { MayUse w.now p.new ZERO source.now.chan sink.new.chan }
+    ensures may { MayUse w.now p.new me sink.new.source sink.new.chan }
+    ensures few { bytes_written result ≤ length from.now }
 {
-    sink.try_write(w, p, ZERO, from)
+    sink.try_write(w, p, me, from)
 }
 
-fn closes(w: &Words, p: &mut Pass, source: &PipeSource, sink: &mut PipeSink) -> bool
-    requires { MayUse w.now p.old ZERO source.now.chan sink.old.chan }
+fn closes(w: &Words, p: &mut Pass, me: CallerNo, sink: &mut PipeSink) -> bool
+    requires { MayUse w.now p.old me sink.old.source sink.old.chan }
     ensures same { IsSameSink sink.old sink.new }
-    ensures idle { MayUse w.now p.new ZERO source.now.chan sink.new.chan }
+    ensures may { MayUse w.now p.new me sink.new.source sink.new.chan }
 {
-    sink.close(w, p, ZERO)
+    sink.close(w, p, me)
 }
+
+/// A call of the first caller on the ends of a pipe, both in its hand.
+fn answer_at_ends(
+    w: &Words,
+    p: &mut Pass,
+    source: &mut PipeSource,
+    sink: &mut PipeSink,
+    bytes: &mut [u8],
+    call: OnPipe,
+) -> Told
+    requires { HasBoth w.now p.old source.old sink.old }
+    ensures { HasBoth w.now p.new source.new sink.new }
+{
+    match call {
+        OnPipe::Read(count) => {
+            let count = count.min(bytes.len());
+            let into = &mut bytes[..count];
+            Told::Read(reads(w, p, ZERO, source, sink.chan(), into))
+        }
+        OnPipe::Write(count) => {
+            let count = count.min(bytes.len());
+            Told::Write(writes(w, p, ZERO, sink, &bytes[..count]))
+        }
+        OnPipe::CloseSource => Told::Closes(source.close(w, p, ZERO)),
+        OnPipe::CloseSink => Told::Closes(closes(w, p, ZERO, sink)),
+        OnPipe::Interrupt => Told::Done,
+        OnPipe::Unblock => {
+            unblock(w, p, source.chan(), sink.chan());
+            Told::Done
+        }
+    }
+}
+
+const FILLS_TO_THE_BRIM: &[(OnPipe, Told)] = &[
+    (OnPipe::Unblock, Told::Done),
+    (OnPipe::Write(65_537), Told::Write(Ok(PipeWrite::Bytes(65_536)))),
+    (OnPipe::Write(1), Told::Write(Ok(PipeWrite::NotYet))),
+    (OnPipe::Read(1), Told::Read(Ok(PipeRead::Bytes(1)))),
+    (OnPipe::Write(1), Told::Write(Ok(PipeWrite::Bytes(1)))),
+    (OnPipe::CloseSink, Told::Closes(true)),
+    (OnPipe::Read(65_537), Told::Read(Ok(PipeRead::Bytes(65_536)))),
+    (OnPipe::Read(1), Told::Read(Ok(PipeRead::End))),
+    (OnPipe::CloseSource, Told::Closes(true)),
+];
 
 #[test]
 fn one_hand_fills_a_pipe_to_the_brim(rt: HostRuntime) -> Result<(), Fail> {
     let (words, mut p) = table(rt.alloc())?;
     let (mut source, mut sink) = ends_made(rt.alloc(), &words, &mut p)?;
-    unblock(&words, &mut p, source.chan(), sink.chan());
-    let from = vec![in rt.alloc(); 7u8; 65_537]?;
-    let mut into = vec![in rt.alloc(); 0u8; 65_537]?;
-    let written = writes(&words, &mut p, &source, &mut sink, &from);
-    assert!(rt; written == Ok(PipeWrite::Bytes(65_536)));
-    let written = writes(&words, &mut p, &source, &mut sink, &[8]);
-    assert!(rt; written == Ok(PipeWrite::NotYet));
-    let read = reads(&words, &mut p, &mut source, &sink, &mut [0]);
-    assert!(rt; read == Ok(PipeRead::Bytes(1)));
-    let written = writes(&words, &mut p, &source, &mut sink, &[8]);
-    assert!(rt; written == Ok(PipeWrite::Bytes(1)));
-    assert!(rt; closes(&words, &mut p, &source, &mut sink));
-    let read = reads(&words, &mut p, &mut source, &sink, &mut into);
-    assert!(rt; read == Ok(PipeRead::Bytes(65_536)));
-    assert!(rt; into.get(65_534) == Some(&7) && into.get(65_535) == Some(&8));
-    let read = reads(&words, &mut p, &mut source, &sink, &mut into);
-    assert!(rt; read == Ok(PipeRead::End));
-    assert!(rt; source.beside(&mut sink) == 0);
+    let mut bytes = vec![in rt.alloc(); 7u8; 65_537]?;
+    for (call, told) in FILLS_TO_THE_BRIM {
+        let answer = answer_at_ends(&words, &mut p, &mut source, &mut sink, &mut bytes, *call);
+        assert!(rt; answer == *told);
+    }
     Ok(())
 }
 
-/// Fills a pipe with three bytes, reads one and closes the sink.
-fn filled(w: &Words, p: &mut Pass, pipe: &mut HeldPipe) -> bool
-    requires { MayUse w.now p.old ZERO pipe.old.source pipe.old.sink }
-    ensures { MayUse w.now p.new ZERO pipe.new.source pipe.new.sink }
+const BEFORE_PARTING: &[(OnPipe, Told)] = &[
+    (OnPipe::Write(3), Told::Write(Ok(PipeWrite::Bytes(3)))),
+    (OnPipe::Read(1), Told::Read(Ok(PipeRead::Bytes(1)))),
+    (OnPipe::CloseSink, Told::Closes(true)),
+];
+
+fn parted(
+    alloc: Global,
+    w: &Words,
+    p: &Pass,
+    pipe: HeldPipe,
+) -> Result<(PipeSource, PipeSink), AllocError>
+    requires { MayUse w.now p.now ZERO pipe.source pipe.sink }
+    ensures { IfOk result (λ ends. HasBoth w.now p.now ends.0 ends.1) }
 {
-    let mut into = [0];
-    let written = pipe.try_write(w, p, ZERO, &[1, 2, 3]);
-    let read = pipe.try_read(w, p, ZERO, &mut into);
-    pipe.close_sink(w, p, ZERO);
-    written == Ok(PipeWrite::Bytes(3)) && read == Ok(PipeRead::Bytes(1)) && into == [1]
+    pipe.part(alloc)
 }
 
 #[test]
 fn a_pipe_is_parted_with_bytes_in_it(rt: HostRuntime) -> Result<(), Fail> {
     let (words, mut p) = table(rt.alloc())?;
     let mut pipe = made(rt.alloc(), &words, &mut p)?;
-    assert!(rt; filled(&words, &mut p, &mut pipe));
-    let (mut source, mut sink) = pipe.part(rt.alloc())?;
-    assert!(rt; source.beside(&mut sink) == 2);
-    let mut into = [0; 9];
-    let read = reads(&words, &mut p, &mut source, &sink, &mut into);
-    assert!(rt; read == Ok(PipeRead::Bytes(2)) && into[..2] == [2, 3]);
-    let read = reads(&words, &mut p, &mut source, &sink, &mut into);
-    assert!(rt; read == Ok(PipeRead::End));
+    let mut bytes = [1, 2, 3];
+    for (call, told) in BEFORE_PARTING {
+        assert!(rt; answer(&words, &mut p, &mut pipe, &mut bytes, *call) == *told);
+    }
+    let (mut source, mut sink) = parted(rt.alloc(), &words, &p, pipe)?;
+    let read = answer_at_ends(&words, &mut p, &mut source, &mut sink, &mut bytes, OnPipe::Read(3));
+    assert!(rt; read == Told::Read(Ok(PipeRead::Bytes(2))) && bytes == [2, 3, 3]);
+    let read = answer_at_ends(&words, &mut p, &mut source, &mut sink, &mut bytes, OnPipe::Read(3));
+    assert!(rt; read == Told::Read(Ok(PipeRead::End)));
+    assert!(rt; source.beside(&mut sink) == 0);
     Ok(())
 }
 
@@ -285,18 +336,32 @@ fn writes_all(w: &Words, mut p: Pass, me: CallerNo, mut sink: PipeSink) -> (Pipe
     let mut sent = 0;
     for _ in 0..TRIES {
         if sent == TOTAL {
-            sink.close(w, &mut p, me);
+            closes(w, &mut p, me, &mut sink);
             return (sink, true);
         }
         let count = (TOTAL - sent).min(piece.len());
         fill(&mut piece[..count], sent);
-        match sink.try_write(w, &mut p, me, &piece[..count]) {
-            Ok(PipeWrite::Bytes(taken)) => sent += taken,
-            Ok(PipeWrite::NotYet) => thread::yield_now(),
-            Err(_) => return (sink, false),
+        let written = writes(w, &mut p, me, &mut sink, &piece[..count]);
+        if written.is_err() {
+            return (sink, false);
         }
+        sent += count_of(written);
     }
     (sink, false)
+}
+
+/// How many bytes were written. Where there was no place, the other thread may run.
+fn count_of(written: Result<PipeWrite, PipeError>) -> usize
+    ensures { result ≡ bytes_written written }
+{
+    match written {
+        Ok(PipeWrite::Bytes(taken)) => taken,
+        Ok(PipeWrite::NotYet) => {
+            thread::yield_now();
+            0
+        }
+        Err(_) => 0,
+    }
 }
 
 /// Whether these are the bytes from this one on.
@@ -320,7 +385,7 @@ fn reads_all(w: &Words, mut p: Pass, me: CallerNo, mut source: PipeSource, other
     let mut into = [0u8; 700];
     let mut received: usize = 0;
     for _ in 0..TRIES {
-        match source.try_read(w, &mut p, me, &mut into) {
+        match reads(w, &mut p, me, &mut source, other, &mut into) {
             Ok(PipeRead::Bytes(given)) => {
                 if given > into.len() || received > TOTAL || !are_next(&into[..given], received) {
                     return (source, false);
@@ -368,8 +433,8 @@ fn carries<R: Threads + Sync>(
 fn two_threads_have_one_end_each(rt: HostRuntime) -> Result<(), Fail> {
     let (words, mut p) = table(rt.alloc())?;
     let (source, sink) = ends_made(rt.alloc(), &words, &mut p)?;
-    unblock(&words, &mut p, source.chan(), sink.chan());
     let q = words.hand_over(&mut p, ONE)?;
+    unblock(&words, &mut p, source.chan(), sink.chan());
     let (came_over, waiting) = carries(&rt, &words, p, q, source, sink);
     assert!(rt; came_over && waiting == 0);
     Ok(())
