@@ -23,7 +23,7 @@ use std::thread::{Threads, join};
 const SMALL: Limits = Limits {
     callers: 2,
     selectors: 1,
-    channels: 7,
+    channels: 3,
     keys: 1,
 };
 
@@ -93,6 +93,13 @@ fn unblock(w: &Words, p: &mut Pass, source: ChanNo, sink: ChanNo)
     let _ = try_set_blocking(w, p, ZERO, sink, false);
 }
 
+fn unblock_ends(w: &Words, p: &mut Pass, source: &PipeSource, sink: &PipeSink)
+    requires { MayUse w.now p.old ZERO source.now.chan sink.now.chan }
+    ensures { MayUse w.now p.new ZERO source.now.chan sink.now.chan }
+{
+    unblock(w, p, source.chan(), sink.chan());
+}
+
 fn answer(w: &Words, p: &mut Pass, pipe: &mut HeldPipe, bytes: &mut [u8], call: OnPipe) -> Told
     requires { MayUse w.now p.old ZERO pipe.old.source pipe.old.sink }
     ensures { MayUse w.now p.new ZERO pipe.new.source pipe.new.sink }
@@ -147,8 +154,9 @@ const IS_INTERRUPTED: &[(OnPipe, Told)] = &[
     (OnPipe::CloseSink, Told::Closes(false)),
 ];
 
-/// The caller is still interrupted.
+/// In non-blocking mode an interrupt does nothing.
 const BREAKS: &[(OnPipe, Told)] = &[
+    (OnPipe::Interrupt, Told::Done),
     (OnPipe::Unblock, Told::Done),
     (OnPipe::Write(2), Told::Write(Ok(PipeWrite::Bytes(2)))),
     (OnPipe::CloseSource, Told::Closes(true)),
@@ -157,14 +165,21 @@ const BREAKS: &[(OnPipe, Told)] = &[
 
 #[test]
 fn a_pipe_in_one_hand(rt: HostRuntime) -> Result<(), Fail> {
-    let (words, mut p) = table(rt.alloc())?;
     let mut bytes = vec![in rt.alloc(); 0u8; 65_537]?;
     for calls in [FILLS_AND_ENDS, IS_INTERRUPTED, BREAKS] {
+        let (words, mut p) = table(rt.alloc())?;
         let mut pipe = made(rt.alloc(), &words, &mut p)?;
         for (call, told) in calls {
             assert!(rt; answer(&words, &mut p, &mut pipe, &mut bytes, *call) == *told);
         }
     }
+    Ok(())
+}
+
+#[test]
+fn no_number_is_left_for_a_sink(rt: HostRuntime) -> Result<(), Fail> {
+    let (words, mut p) = table(rt.alloc())?;
+    made(rt.alloc(), &words, &mut p)?;
     let refused = made(rt.alloc(), &words, &mut p).err();
     assert!(rt; refused == Some(PipeMakeError::ChannelsSpent));
     Ok(())
@@ -247,7 +262,7 @@ fn answer_at_ends(
         OnPipe::CloseSink => Told::Closes(closes(w, p, ZERO, sink)),
         OnPipe::Interrupt => Told::Done,
         OnPipe::Unblock => {
-            unblock(w, p, source.chan(), sink.chan());
+            unblock_ends(w, p, source, sink);
             Told::Done
         }
     }
@@ -434,7 +449,7 @@ fn two_threads_have_one_end_each(rt: HostRuntime) -> Result<(), Fail> {
     let (words, mut p) = table(rt.alloc())?;
     let (source, sink) = ends_made(rt.alloc(), &words, &mut p)?;
     let q = words.hand_over(&mut p, ONE)?;
-    unblock(&words, &mut p, source.chan(), sink.chan());
+    unblock_ends(&words, &mut p, &source, &sink);
     let (came_over, waiting) = carries(&rt, &words, p, q, source, sink);
     assert!(rt; came_over && waiting == 0);
     Ok(())
