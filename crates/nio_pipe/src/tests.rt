@@ -128,6 +128,25 @@ fn answer(w: &Words, p: &mut Pass, pipe: &mut HeldPipe, bytes: &mut [u8], call: 
     }
 }
 
+/// Whether each call is answered so.
+fn are_answered(
+    w: &Words,
+    p: &mut Pass,
+    pipe: &mut HeldPipe,
+    bytes: &mut [u8],
+    calls: &[(OnPipe, Told)],
+) -> bool
+    requires { MayUse w.now p.old ZERO pipe.old.source pipe.old.sink }
+    ensures { MayUse w.now p.new ZERO pipe.new.source pipe.new.sink }
+{
+    for (call, told) in calls {
+        if answer(w, p, pipe, bytes, *call) != *told {
+            return false;
+        }
+    }
+    true
+}
+
 const FILLS_AND_ENDS: &[(OnPipe, Told)] = &[
     (OnPipe::Read(0), Told::Read(Ok(PipeRead::Bytes(0)))),
     (OnPipe::Write(0), Told::Write(Ok(PipeWrite::Bytes(0)))),
@@ -169,9 +188,7 @@ fn a_pipe_in_one_hand(rt: HostRuntime) -> Result<(), Fail> {
     for calls in [FILLS_AND_ENDS, IS_INTERRUPTED, BREAKS] {
         let (words, mut p) = table(rt.alloc())?;
         let mut pipe = made(rt.alloc(), &words, &mut p)?;
-        for (call, told) in calls {
-            assert!(rt; answer(&words, &mut p, &mut pipe, &mut bytes, *call) == *told);
-        }
+        assert!(rt; are_answered(&words, &mut p, &mut pipe, &mut bytes, calls));
     }
     Ok(())
 }
@@ -315,9 +332,7 @@ fn a_pipe_is_parted_with_bytes_in_it(rt: HostRuntime) -> Result<(), Fail> {
     let (words, mut p) = table(rt.alloc())?;
     let mut pipe = made(rt.alloc(), &words, &mut p)?;
     let mut bytes = [1, 2, 3];
-    for (call, told) in BEFORE_PARTING {
-        assert!(rt; answer(&words, &mut p, &mut pipe, &mut bytes, *call) == *told);
-    }
+    assert!(rt; are_answered(&words, &mut p, &mut pipe, &mut bytes, BEFORE_PARTING));
     let (mut source, mut sink) = parted(rt.alloc(), &words, &p, pipe)?;
     let read = answer_at_ends(&words, &mut p, &mut source, &mut sink, &mut bytes, OnPipe::Read(3));
     assert!(rt; read == Told::Read(Ok(PipeRead::Bytes(2))) && bytes == [2, 3, 3]);

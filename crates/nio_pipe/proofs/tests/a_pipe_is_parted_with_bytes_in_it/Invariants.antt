@@ -1,6 +1,0 @@
-use Rattle.nio_channel.specs.Idle.{zero}
-use Rattle.nio_pipe.specs.Idle.{MayUse}
-use Rattle.nio_pipe.proofs.tests.a_pipe_is_parted_with_bytes_in_it.Given as goal
-
-abbrev pub invariant-loop-call : goal.invariant-loop-call
-invariant-loop-call g l = MayUse l.words l.p zero l.pipe.source l.pipe.sink
