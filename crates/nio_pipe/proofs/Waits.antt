@@ -75,16 +75,16 @@ pub tried_more : {me : CallerNo} {plan : Plan (Result Bool PipeError)} {waited :
 tried_more {plan = plan} found tried run again =
     calls_then (λ acts (_ : Unit {0}). Tried plan true acts) tt
     (λ xs ys here made.
-        let run : Run Bool (Result Bool PipeError) = record { given = true; acts = ys; answer = found } in
-        record {
-          tries = record {
-            runs = here.tries.runs ++ run ∷ [];
-            parts = ap (λ acts. acts ++ ys) here.tries.parts ∙ sym (acts_of-push here.tries.runs run);
-            made = All-push (λ r. Completes plan r.acts r.answer) here.tries.runs run here.tries.made made;
-            again = All-push (λ r. IsTrue (waits_for_bytes r.given r.answer)) here.tries.runs run here.tries.again again;
-          };
-          some = some-push here.tries.runs run;
-        }) tried run
+    let run : Run Bool (Result Bool PipeError) = record { given = true; acts = ys; answer = found } in
+    record {
+      tries = record {
+        runs = here.tries.runs ++ run ∷ [];
+        parts = ap (λ acts. acts ++ ys) here.tries.parts ∙ sym (acts_of-push here.tries.runs run);
+        made = All-push (λ r. Completes plan r.acts r.answer) here.tries.runs run here.tries.made made;
+        again = All-push (λ r. IsTrue (waits_for_bytes r.given r.answer)) here.tries.runs run here.tries.again again;
+      };
+      some = some-push here.tries.runs run;
+    }) tried run
 
 pub tried_last : {me : CallerNo} {plan : Plan (Result Bool PipeError)} {waited : Bool} {v0 v1 v2 : PassView} (none : Bool) (found : Result Bool PipeError)
     → TriedClause me plan waited v0 v1 → CallClause me (Completes plan) v1 v2 found → waits_for_bytes none found ≡ false → CallClause me (Waits plan none) v0 v2 (answer_after waited found)

@@ -57,9 +57,8 @@ pub(crate) fn leaves_mark(refusal: PipeError) -> bool
     ensures { result ≡ answer_leaves_mark (Err refusal) }
 {
     match refusal {
-        PipeError::ClosedChannel
-        | PipeError::ClosedByInterrupt
-        | PipeError::AsynchronousClose => true,
+        PipeError::ClosedChannel | PipeError::ClosedByInterrupt | PipeError::AsynchronousClose =>
+            true,
         PipeError::BrokenPipe => false,
     }
 }

@@ -108,12 +108,7 @@ pub(crate) fn open_ends(w: &Words, p: &mut Pass, me: CallerNo) -> Result<Ends, P
     }
 }
 
-fn open_sink(
-    w: &Words,
-    p: &mut Pass,
-    me: CallerNo,
-    source: ChanNo,
-) -> Result<Ends, PipeMakeError>
+fn open_sink(w: &Words, p: &mut Pass, me: CallerNo, source: ChanNo) -> Result<Ends, PipeMakeError>
     requires ready { IsReady w.now p.old me }
     requires source { HasChannel (view w.now p.old) source }
     requires unpinned { HasNoPin (view w.now p.old) me }

@@ -151,14 +151,20 @@ const FILLS_AND_ENDS: &[(OnPipe, Told)] = &[
     (OnPipe::Read(0), Told::Read(Ok(PipeRead::Bytes(0)))),
     (OnPipe::Write(0), Told::Write(Ok(PipeWrite::Bytes(0)))),
     (OnPipe::Read(5), Told::Read(Ok(PipeRead::NotYet))),
-    (OnPipe::Write(65_537), Told::Write(Ok(PipeWrite::Bytes(65_536)))),
+    (
+        OnPipe::Write(65_537),
+        Told::Write(Ok(PipeWrite::Bytes(65_536))),
+    ),
     (OnPipe::Write(1), Told::Write(Ok(PipeWrite::NotYet))),
     (OnPipe::Read(1), Told::Read(Ok(PipeRead::Bytes(1)))),
     (OnPipe::Write(2), Told::Write(Ok(PipeWrite::Bytes(1)))),
     (OnPipe::CloseSink, Told::Closes(true)),
     (OnPipe::CloseSink, Told::Closes(false)),
     (OnPipe::Write(1), Told::Write(Err(PipeError::ClosedChannel))),
-    (OnPipe::Read(65_537), Told::Read(Ok(PipeRead::Bytes(65_536)))),
+    (
+        OnPipe::Read(65_537),
+        Told::Read(Ok(PipeRead::Bytes(65_536))),
+    ),
     (OnPipe::Read(0), Told::Read(Ok(PipeRead::Bytes(0)))),
     (OnPipe::Read(1), Told::Read(Ok(PipeRead::End))),
     (OnPipe::CloseSource, Told::Closes(true)),
@@ -167,9 +173,15 @@ const FILLS_AND_ENDS: &[(OnPipe, Told)] = &[
 
 const IS_INTERRUPTED: &[(OnPipe, Told)] = &[
     (OnPipe::Interrupt, Told::Done),
-    (OnPipe::Write(1), Told::Write(Err(PipeError::ClosedByInterrupt))),
+    (
+        OnPipe::Write(1),
+        Told::Write(Err(PipeError::ClosedByInterrupt)),
+    ),
     (OnPipe::Write(1), Told::Write(Err(PipeError::ClosedChannel))),
-    (OnPipe::Read(1), Told::Read(Err(PipeError::ClosedByInterrupt))),
+    (
+        OnPipe::Read(1),
+        Told::Read(Err(PipeError::ClosedByInterrupt)),
+    ),
     (OnPipe::CloseSink, Told::Closes(false)),
 ];
 
@@ -287,12 +299,18 @@ fn answer_at_ends(
 
 const FILLS_TO_THE_BRIM: &[(OnPipe, Told)] = &[
     (OnPipe::Unblock, Told::Done),
-    (OnPipe::Write(65_537), Told::Write(Ok(PipeWrite::Bytes(65_536)))),
+    (
+        OnPipe::Write(65_537),
+        Told::Write(Ok(PipeWrite::Bytes(65_536))),
+    ),
     (OnPipe::Write(1), Told::Write(Ok(PipeWrite::NotYet))),
     (OnPipe::Read(1), Told::Read(Ok(PipeRead::Bytes(1)))),
     (OnPipe::Write(1), Told::Write(Ok(PipeWrite::Bytes(1)))),
     (OnPipe::CloseSink, Told::Closes(true)),
-    (OnPipe::Read(65_537), Told::Read(Ok(PipeRead::Bytes(65_536)))),
+    (
+        OnPipe::Read(65_537),
+        Told::Read(Ok(PipeRead::Bytes(65_536))),
+    ),
     (OnPipe::Read(1), Told::Read(Ok(PipeRead::End))),
     (OnPipe::CloseSource, Told::Closes(true)),
 ];
@@ -334,9 +352,23 @@ fn a_pipe_is_parted_with_bytes_in_it(rt: HostRuntime) -> Result<(), Fail> {
     let mut bytes = [1, 2, 3];
     assert!(rt; are_answered(&words, &mut p, &mut pipe, &mut bytes, BEFORE_PARTING));
     let (mut source, mut sink) = parted(rt.alloc(), &words, &p, pipe)?;
-    let read = answer_at_ends(&words, &mut p, &mut source, &mut sink, &mut bytes, OnPipe::Read(3));
+    let read = answer_at_ends(
+        &words,
+        &mut p,
+        &mut source,
+        &mut sink,
+        &mut bytes,
+        OnPipe::Read(3),
+    );
     assert!(rt; read == Told::Read(Ok(PipeRead::Bytes(2))) && bytes == [2, 3, 3]);
-    let read = answer_at_ends(&words, &mut p, &mut source, &mut sink, &mut bytes, OnPipe::Read(3));
+    let read = answer_at_ends(
+        &words,
+        &mut p,
+        &mut source,
+        &mut sink,
+        &mut bytes,
+        OnPipe::Read(3),
+    );
     assert!(rt; read == Told::Read(Ok(PipeRead::End)));
     assert!(rt; source.beside(&mut sink) == 0);
     Ok(())
@@ -408,7 +440,13 @@ fn are_next(bytes: &[u8], from: usize) -> bool
 }
 
 /// Reads all bytes until the end. Says whether they were the right ones.
-fn reads_all(w: &Words, mut p: Pass, me: CallerNo, mut source: PipeSource, other: ChanNo) -> (PipeSource, bool)
+fn reads_all(
+    w: &Words,
+    mut p: Pass,
+    me: CallerNo,
+    mut source: PipeSource,
+    other: ChanNo,
+) -> (PipeSource, bool)
     requires { MayUse w.now p me source.chan other }
     ensures { IsSameSource source result.0 }
 {
@@ -524,7 +562,10 @@ fn meet<R: Threads + Wait + Sync>(
     sink: PipeSink,
     bytes: &[u8],
     closes: bool,
-) -> (Option<Result<PipeRead, PipeError>>, (Result<PipeWrite, PipeError>, Result<PipeWrite, PipeError>))
+) -> (
+    Option<Result<PipeRead, PipeError>>,
+    (Result<PipeWrite, PipeError>, Result<PipeWrite, PipeError>),
+)
     requires reader { MayUse w.now p ZERO source.chan sink.chan }
     requires writer { MayUse w.now q ONE sink.source sink.chan }
     requires zero { IsCaller (limits_of w.now) ZERO }

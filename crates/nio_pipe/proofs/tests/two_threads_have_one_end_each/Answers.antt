@@ -6,6 +6,6 @@ pub unblock_ends-requires : goal.unblock_ends-requires
 unblock_ends-requires g c = may_stay c.in_ok-q.ensures (may_idle c.in_ok-source.ensures.idle c.in_ok-source.ensures.channels)
 
 pub carries-came_over-requires-clause-writer : goal.carries-came_over-requires-clause-writer
-carries-came_over-requires-clause-writer g c κs outlives =
+carries-came_over-requires-clause-writer g c κs =
     let made = c.in_ok-source.ensures in
     may_same made.ends.channel refl (may_go c.in_ok-q.ensures made.idle made.channels)

@@ -21,7 +21,7 @@ pub returns : goal.returns
 returns c =
     let look = c.look_beside.ensures in
     let all : known c.beside.new.self ≡ waiting c.args.self =
-        ap (λ xs. xs ++ known c.beside.new.self) (sym (none_read c)) ∙ (c.beside.ensures.whole ∙ (c.beside.ensures.sink.sent ∙ taken_over c)) in
+    ap (λ xs. xs ++ known c.beside.new.self) (sym (none_read c)) ∙ (c.beside.ensures.whole ∙ (c.beside.ensures.sink.sent ∙ taken_over c)) in
     let whole : sent c.look_beside.new.self ≡ waiting c.args.self = look.sink.sent ∙ (c.beside.ensures.sink.sent ∙ taken_over c) in
     let none : received c.look_beside.new.source ≡ [] = look.source.received ∙ none_read c in
     record {

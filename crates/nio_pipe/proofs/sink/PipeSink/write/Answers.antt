@@ -26,9 +26,9 @@ loop-preserved g c =
     let both = and_parts (write_waits (Ok c.push-answer.result)) c.in-Ok.blocking goes in
     let none = found_no_place c.push-answer.result both.0 in
     let takes : TakesBytes c.loop.self c.push-answer.new.self c.args.from.now 0 =
-        subst (λ answer. TakesBytes c.loop.self c.push-answer.new.self c.args.from.now (bytes_written (Ok answer))) none c.push-answer.ensures.bytes in
+    subst (λ answer. TakesBytes c.loop.self c.push-answer.new.self c.args.from.now (bytes_written (Ok answer))) none c.push-answer.ensures.bytes in
     let places : free c.loop.self ≤ free c.push-answer.new.self + 0 =
-        subst (λ answer. free c.loop.self ≤ free c.push-answer.new.self + bytes_written (Ok answer)) none c.push-answer.ensures.places in
+    subst (λ answer. free c.loop.self ≤ free c.push-answer.new.self + bytes_written (Ok answer)) none c.push-answer.ensures.places in
     record {
       ready = c.in-Ok.ensures.ready;
       ends = record { source = channel_after c.in-Ok.ensures.call.acts c.loop.invariant.ends.source; sink = channel_after c.in-Ok.ensures.call.acts c.loop.invariant.ends.sink };

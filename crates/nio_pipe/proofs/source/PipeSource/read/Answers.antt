@@ -27,7 +27,7 @@ loop-preserved g c =
     let goes : (read_waits (Ok c.give-answer.result) && c.in-Ok.blocking) ≡ true = search rules in
     let both = and_parts (read_waits (Ok c.give-answer.result)) c.in-Ok.blocking goes in
     let gives : GivesBytes c.loop.self c.give-answer.new.self c.loop.into c.give-answer.new.into 0 =
-        subst (λ answer. GivesBytes c.loop.self c.give-answer.new.self c.loop.into c.give-answer.new.into (bytes_read (Ok answer))) (found_nothing c.give-answer.result both.0) c.give-answer.ensures.bytes in
+    subst (λ answer. GivesBytes c.loop.self c.give-answer.new.self c.loop.into c.give-answer.new.into (bytes_read (Ok answer))) (found_nothing c.give-answer.result both.0) c.give-answer.ensures.bytes in
     record {
       ready = c.in-Ok.ensures.ready;
       channel = channel_after c.in-Ok.ensures.call.acts c.loop.invariant.channel;
