@@ -1,10 +1,10 @@
 -- A pipe in one hand, told from its traces and its ring.
-use Rattle.std.proofs.Common.{◌≡◌, ℕ, ◌≤◌, List, ◌++◌, length, drop, Bool, sym, ap, ◌∙◌, subst}
+use Rattle.std.proofs.Common.{◌≡◌, ℕ, ◌≤◌, List, length, drop, Bool, sym, ap, ◌∙◌, subst}
 use Rattle.std.proofs.Math.Seq.{drop-append_seam}
 use Rattle.circular_buffer.specs.Buffer.{Buffer}
 use Rattle.nio_base.specs.declared.numbers.ChanNo.{ChanNo}
 use Rattle.nio_pipe.specs.Kept.{IsKept}
-use Rattle.nio_pipe.specs.Pipe.{Pipe, IsLawful}
+use Rattle.nio_pipe.specs.Pipe.{IsLawful}
 
 -- what waits is what the ring has
 pub waiting-items : (sent received : List ℕ) (buffer : Buffer ℕ) → IsKept sent received buffer → drop (length received) sent ≡ buffer.items

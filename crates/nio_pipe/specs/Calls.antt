@@ -1,14 +1,13 @@
 -- The steps of the calls on pipes, with what these calls answer.
-use Rattle.std.specs.Prelude.{◌≡◌, Bool, true, false, Result, Ok, Err, IsTrue, List}
+use Rattle.std.specs.Prelude.{Bool, Result, Ok, Err, IsTrue, List}
 use Rattle.nio_base.specs.declared.limits.Limits.{Limits}
 use Rattle.nio_base.specs.declared.numbers.ChanNo.{ChanNo}
 use Rattle.nio_event.specs.PassViews.{PassView, known, HasChannel}
 use Rattle.nio_event.specs.declared.act.Act.{Act}
-use Rattle.nio_steps.specs.PipeCalls.{PipeEnds, MakesPipe, try_read_plan, try_write_plan, Reads, Writes}
+use Rattle.nio_steps.specs.PipeCalls.{try_read_plan, try_write_plan, Reads, Writes}
 use Rattle.nio_steps.specs.Plan.{Plan}
 use Rattle.nio_steps.specs.Runs.{Completes}
 use Rattle.nio_steps.specs.declared.refusal.PipeError.{PipeError}
-use Rattle.nio_steps.specs.declared.refusal.PipeError.TheVariants.{ClosedChannel, ClosedByInterrupt, AsynchronousClose, BrokenPipe}
 use Rattle.nio_pipe.specs.Answers.{read_waits, write_waits}
 use Rattle.nio_pipe.specs.declared.answers.PipeRead.{PipeRead}
 use Rattle.nio_pipe.specs.declared.answers.PipeWrite.{PipeWrite}

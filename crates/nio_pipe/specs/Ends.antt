@@ -1,9 +1,8 @@
 -- What contracts see of the two ends of a pipe.
-use Rattle.std.specs.Prelude.{◌≡◌, ℕ, ◌+◌, ◌-◌, ◌≤◌, List, [], ◌++◌, length, take, drop, Bool, true, false, if◌then◌else◌, ◌||◌, is_some, IsTrue, IsFalse}
+use Rattle.std.specs.Prelude.{◌≡◌, ℕ, ◌≤◌, List, [], ◌++◌, length, take, drop, Bool, if◌then◌else◌, is_some, IsTrue, IsFalse}
 use mathlib.Core.List.{IsPrefix}
 use Rattle.rtrb.specs.Ring.{known_free, known_items, IsPair, SameConsumer, SameProducer}
 use Rattle.rtrb.specs.Ring.{sent as pushed, received as popped}
-use Rattle.nio_base.specs.declared.numbers.ChanNo.{ChanNo}
 use Rattle.nio_pipe.specs.Counts.{known_of}
 use Rattle.nio_pipe.specs.Pipe.{Pipe}
 use Rattle.nio_pipe.specs.declared.sink.PipeSink.{PipeSink}

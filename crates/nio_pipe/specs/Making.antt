@@ -1,5 +1,5 @@
 -- The making of a pipe with two ends, and the parting of one that is in one hand.
-use Rattle.std.specs.Prelude.{◌≡◌, ◌-◌, [], length, false, IsFalse, Result, Ok, Err}
+use Rattle.std.specs.Prelude.{◌≡◌, [], IsFalse, Result, Ok, Err}
 use mathlib.Core.List.{IsPrefix}
 use Rattle.rtrb.specs.Ring.{known_free, known_items, producer_capacity, consumer_capacity, IsPair}
 use Rattle.rtrb.specs.Ring.{sent as pushed, received as popped}

@@ -1,6 +1,6 @@
 use Rattle.std.proofs.Common.{refl}
 use Rattle.nio_event.proofs.PassViews.{channel_after}
-use Rattle.nio_steps.proofs.CallLaws.{returned, left_ask, left_then, left_after, left_after_call, ran_then}
+use Rattle.nio_steps.proofs.CallLaws.{returned, left_ask, left_then, left_after_call, ran_then}
 use Rattle.nio_words.proofs.Pins.{no_pin_stays}
 use Rattle.nio_words.proofs.Views.{step_acts}
 use Rattle.nio_pipe.proofs.checks.check_interrupt.Goals as goal

@@ -2,7 +2,6 @@ use Rattle.std.proofs.Common.{false}
 use Rattle.nio_event.proofs.PassViews.{channel_after}
 use Rattle.nio_steps.proofs.PinBack.{no_pin_after}
 use Rattle.nio_steps.proofs.PinLaws.{pins_are_given_back}
-use Rattle.nio_words.specs.Passes.{limits_of}
 use Rattle.nio_pipe.proofs.Idle.{may_after}
 use Rattle.nio_pipe.proofs.tests.unblock.Goals as goal
 

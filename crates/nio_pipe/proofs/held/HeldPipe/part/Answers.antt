@@ -1,6 +1,6 @@
-use Rattle.std.proofs.Common.{◌≡◌, ◌++◌, ◌+◌, [], length, ap, sym, ◌∙◌, subst, arith}
+use Rattle.std.proofs.Common.{◌≡◌, ◌++◌, [], length, ap, sym, ◌∙◌, subst, arith}
 use mathlib.Core.List.{IsPrefix}
-use Rattle.nio_pipe.specs.Ends.{received, known, sent, free, is_marked}
+use Rattle.nio_pipe.specs.Ends.{received, known, sent, is_marked}
 use Rattle.nio_pipe.specs.Pipe.{waiting}
 use Rattle.nio_pipe.proofs.KeptLemmas.{waiting-items}
 use Rattle.nio_pipe.proofs.held.HeldPipe.part.Goals as goal

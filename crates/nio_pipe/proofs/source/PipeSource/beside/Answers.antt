@@ -1,4 +1,4 @@
-use Rattle.std.proofs.Common.{◌≡◌, ◌+◌, ◌%◌, ◌^◌, ◌≤◌, ◌++◌, Some, length, ap, sym, ◌∙◌, subst, arith}
+use Rattle.std.proofs.Common.{◌≡◌, ◌+◌, ◌%◌, ◌^◌, ◌++◌, Some, length, ap, sym, ◌∙◌, subst, arith}
 use Rattle.std.specs.Prelude.{is_some}
 use mathlib.Core.List.{IsPrefix}
 use Rattle.rtrb.specs.Ring.{known_items, received as popped, sent as pushed, SameConsumer}

@@ -1,10 +1,10 @@
-use Rattle.std.proofs.Common.{◌≡◌, ℕ, ◌&&◌, true, false, Ok, Err, refl, ap, sym, ◌∙◌, subst, rules}
+use Rattle.std.proofs.Common.{◌≡◌, ◌&&◌, true, false, Ok, Err, refl, sym, ◌∙◌, subst, rules}
 use Rattle.std.proofs.lemmas.Bool.{and_parts}
 use Rattle.nio_event.proofs.PassViews.{channel_after}
 use Rattle.nio_steps.specs.Calls.{CallClause}
 use Rattle.nio_words.specs.Passes.{limits_of}
 use Rattle.nio_words.specs.Views.{view}
-use Rattle.nio_pipe.specs.Answers.{bytes_read, read_waits, refusal_after}
+use Rattle.nio_pipe.specs.Answers.{bytes_read, read_waits}
 use Rattle.nio_pipe.specs.Calls.{WaitsToRead}
 use Rattle.nio_pipe.specs.Ends.{GivesBytes}
 use Rattle.nio_pipe.specs.declared.answers.PipeRead.TheVariants.{NotYet}

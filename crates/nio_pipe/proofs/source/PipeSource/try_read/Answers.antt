@@ -1,4 +1,3 @@
-use Rattle.std.proofs.Common.{refl}
 use Rattle.std.proofs.lemmas.Result.{err_from_is_err_and}
 use Rattle.nio_pipe.proofs.EndLemmas.{gives_nothing}
 use Rattle.nio_pipe.proofs.source.PipeSource.try_read.Goals as goal
