@@ -3,12 +3,17 @@ use Rattle.std.specs.Prelude.{◌≡◌, ℕ, ◌≤◌, List, [], ◌++◌, len
 use mathlib.Core.List.{IsPrefix}
 use Rattle.rtrb.specs.Ring.{known_free, known_items, IsPair, SameConsumer, SameProducer}
 use Rattle.rtrb.specs.Ring.{sent as pushed, received as popped}
+use Rattle.nio_base.specs.declared.numbers.ChanNo.{ChanNo}
 use Rattle.nio_pipe.specs.Counts.{known_of}
 use Rattle.nio_pipe.specs.Pipe.{Pipe}
 use Rattle.nio_pipe.specs.declared.sink.PipeSink.{PipeSink}
 use Rattle.nio_pipe.specs.declared.source.PipeSource.{PipeSource}
 
 -- ---- the source
+
+-- its channel
+abbrev pub source_chan : PipeSource → ChanNo
+source_chan source = source.chan
 
 -- all bytes that were read from it, in order
 abbrev pub received : PipeSource → List ℕ
@@ -54,6 +59,13 @@ pub record GivesBytes (old new : PipeSource) (before after : List ℕ) (given : 
   pub end_stays : IsTrue (knows_end old) → IsTrue (knows_end new)
 
 -- ---- the sink
+
+-- its channel, and that of the source, at which it looks too
+abbrev pub sink_chan : PipeSink → ChanNo
+sink_chan sink = sink.chan
+
+abbrev pub other_chan : PipeSink → ChanNo
+other_chan sink = sink.source
 
 -- all bytes that were written into it, in order
 abbrev pub sent : PipeSink → List ℕ

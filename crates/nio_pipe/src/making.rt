@@ -6,6 +6,7 @@ ghost use Rattle.nio_steps.specs.PipeCalls.{MakesPipe};
 ghost use Rattle.nio_words.specs.Passes.{IsReady, limits_of};
 ghost use Rattle.nio_words.specs.Views.{view};
 ghost use Rattle.nio_pipe.specs.Calls.{HasEnds};
+ghost use Rattle.nio_pipe.specs.Ends.{sink_chan, source_chan};
 ghost use Rattle.nio_pipe.specs.Making.{ends_made, AreNew, AreEmpty};
 
 use crate::checks::open_ends;
@@ -30,7 +31,7 @@ pub fn pipe(
     ensures call { CallClause me (MakesPipe (limits_of w.now)) (view w.now p.old) (view w.now p.new) (ends_made result) }
     ensures ready { IsReady w.now p.new me }
     ensures unpinned { HasNoPin (view w.now p.new) me }
-    ensures channels { IfOk result (λ ends. HasEnds (view w.now p.new) ends.0.chan ends.1.chan) }
+    ensures channels { IfOk result (λ ends. HasEnds (view w.now p.new) (source_chan ends.0) (sink_chan ends.1)) }
     ensures ends { IfOk result (λ ends. AreNew ends.0 ends.1) }
 {
     let rings = Rings::make(alloc)?;

@@ -41,7 +41,7 @@ impl PipeSink {
     ghost use Rattle.nio_words.specs.Views.{view};
     ghost use Rattle.nio_pipe.specs.Answers.{bytes_written, leaves_mark as answer_leaves_mark, write_answer as answer_of_write};
     ghost use Rattle.nio_pipe.specs.Calls.{HasEnds, IsClosed, TriesWrite, WaitsToWrite};
-    ghost use Rattle.nio_pipe.specs.Ends.{received, knows_end, sent, free, is_marked, AreEnds, IsSameSink, SourceLooks, SinkLooks, TakesBytes};
+    ghost use Rattle.nio_pipe.specs.Ends.{other_chan, sink_chan, received, knows_end, sent, free, is_marked, AreEnds, IsSameSink, SourceLooks, SinkLooks, TakesBytes};
     ghost use Rattle.nio_pipe.specs.declared.answers.PipeWrite.TheVariants.{NotYet};
 
     // The sink of a pipe into which nothing was written.
@@ -72,7 +72,7 @@ impl PipeSink {
     }
 
     pub fn chan(&self) -> ChanNo
-        ensures { result ≡ self.now.chan }
+        ensures { result ≡ sink_chan self.now }
     {
         self.chan
     }
@@ -87,12 +87,12 @@ impl PipeSink {
         from: &[u8],
     ) -> Result<PipeWrite, PipeError>
         requires ready { IsReady w.now p.old me }
-        requires ends { HasEnds (view w.now p.old) self.old.source self.old.chan }
+        requires ends { HasEnds (view w.now p.old) (other_chan self.old) (sink_chan self.old) }
         requires unpinned { HasNoPin (view w.now p.old) me }
-        ensures call { CallClause me (TriesWrite (limits_of w.now) self.old.source self.old.chan) (view w.now p.old) (view w.now p.new) result }
+        ensures call { CallClause me (TriesWrite (limits_of w.now) (other_chan self.old) (sink_chan self.old)) (view w.now p.old) (view w.now p.new) result }
         ensures ready { IsReady w.now p.new me }
         ensures unpinned { HasNoPin (view w.now p.new) me }
-        ensures closed { result ≡ Err ClosedByInterrupt → IsClosed (view w.now p.new) self.old.chan }
+        ensures closed { result ≡ Err ClosedByInterrupt → IsClosed (view w.now p.new) (sink_chan self.old) }
         ensures same { IsSameSink self.old self.new }
         ensures bytes { TakesBytes self.old self.new from.now (bytes_written result) }
         ensures mark { is_marked self.new ≡ (is_marked self.old || answer_leaves_mark result) }
@@ -123,12 +123,12 @@ impl PipeSink {
         from: &[u8],
     ) -> Result<PipeWrite, PipeError>
         requires ready { IsReady w.now p.old me }
-        requires ends { HasEnds (view w.now p.old) self.old.source self.old.chan }
+        requires ends { HasEnds (view w.now p.old) (other_chan self.old) (sink_chan self.old) }
         requires unpinned { HasNoPin (view w.now p.old) me }
-        ensures call { CallClause me (WaitsToWrite (limits_of w.now) self.old.source self.old.chan) (view w.now p.old) (view w.now p.new) result }
+        ensures call { CallClause me (WaitsToWrite (limits_of w.now) (other_chan self.old) (sink_chan self.old)) (view w.now p.old) (view w.now p.new) result }
         ensures ready { IsReady w.now p.new me }
         ensures unpinned { HasNoPin (view w.now p.new) me }
-        ensures closed { result ≡ Err ClosedByInterrupt → IsClosed (view w.now p.new) self.old.chan }
+        ensures closed { result ≡ Err ClosedByInterrupt → IsClosed (view w.now p.new) (sink_chan self.old) }
         ensures same { IsSameSink self.old self.new }
         ensures bytes { TakesBytes self.old self.new from.now (bytes_written result) }
         ensures mark { is_marked self.new ≡ (is_marked self.old || answer_leaves_mark result) }
@@ -225,12 +225,12 @@ impl PipeSink {
     /// Closes the sink's channel and leaves the end mark. Says whether this call closed it.
     pub fn close(&mut self, w: &Words, p: &mut Pass, me: CallerNo) -> bool
         requires ready { IsReady w.now p.old me }
-        requires channel { HasChannel (view w.now p.old) self.old.chan }
+        requires channel { HasChannel (view w.now p.old) (sink_chan self.old) }
         requires unpinned { HasNoPin (view w.now p.old) me }
-        ensures call { CallClause me (Completes (close_channel_plan (limits_of w.now) self.old.chan)) (view w.now p.old) (view w.now p.new) result }
+        ensures call { CallClause me (Completes (close_channel_plan (limits_of w.now) (sink_chan self.old))) (view w.now p.old) (view w.now p.new) result }
         ensures ready { IsReady w.now p.new me }
         ensures unpinned { HasNoPin (view w.now p.new) me }
-        ensures closed { IsClosed (view w.now p.new) self.old.chan }
+        ensures closed { IsClosed (view w.now p.new) (sink_chan self.old) }
         ensures same { IsSameSink self.old self.new }
         ensures sent { sent self.new ≡ sent self.old }
         ensures mark { is_marked self.new ≡ true }

@@ -43,7 +43,7 @@ impl PipeSource {
     ghost use Rattle.nio_words.specs.Views.{view};
     ghost use Rattle.nio_pipe.specs.Answers.{bytes_read, read_answer as answer_of_read};
     ghost use Rattle.nio_pipe.specs.Calls.{IsClosed, TriesRead, WaitsToRead};
-    ghost use Rattle.nio_pipe.specs.Ends.{received, known, knows_end, sent, is_marked, pipe_of, AreEnds, GivesBytes, IsAtEnd, IsSameSource, IsSameSink, KnowsNothing, SourceLooks, SinkLooks};
+    ghost use Rattle.nio_pipe.specs.Ends.{source_chan, received, known, knows_end, sent, is_marked, pipe_of, AreEnds, GivesBytes, IsAtEnd, IsSameSource, IsSameSink, KnowsNothing, SourceLooks, SinkLooks};
     ghost use Rattle.nio_pipe.specs.Pipe.{IsLawful};
     ghost use Rattle.nio_pipe.specs.Pipe.{IsAtEnd as IsPipeAtEnd};
     ghost use Rattle.nio_pipe.specs.declared.answers.PipeRead.TheVariants.{End, NotYet};
@@ -69,7 +69,7 @@ impl PipeSource {
     }
 
     pub fn chan(&self) -> ChanNo
-        ensures { result ≡ self.now.chan }
+        ensures { result ≡ source_chan self.now }
     {
         self.chan
     }
@@ -84,12 +84,12 @@ impl PipeSource {
         into: &mut [u8],
     ) -> Result<PipeRead, PipeError>
         requires ready { IsReady w.now p.old me }
-        requires channel { HasChannel (view w.now p.old) self.old.chan }
+        requires channel { HasChannel (view w.now p.old) (source_chan self.old) }
         requires unpinned { HasNoPin (view w.now p.old) me }
-        ensures call { CallClause me (TriesRead (limits_of w.now) self.old.chan) (view w.now p.old) (view w.now p.new) result }
+        ensures call { CallClause me (TriesRead (limits_of w.now) (source_chan self.old)) (view w.now p.old) (view w.now p.new) result }
         ensures ready { IsReady w.now p.new me }
         ensures unpinned { HasNoPin (view w.now p.new) me }
-        ensures closed { result ≡ Err ClosedByInterrupt → IsClosed (view w.now p.new) self.old.chan }
+        ensures closed { result ≡ Err ClosedByInterrupt → IsClosed (view w.now p.new) (source_chan self.old) }
         ensures same { IsSameSource self.old self.new }
         ensures bytes { GivesBytes self.old self.new into.old into.new (bytes_read result) }
         ensures answer { IfOk result (λ answer. answer ≡ answer_of_read (length into.old) (bytes_read result) (knows_end self.new)) }
@@ -111,12 +111,12 @@ impl PipeSource {
         into: &mut [u8],
     ) -> Result<PipeRead, PipeError>
         requires ready { IsReady w.now p.old me }
-        requires channel { HasChannel (view w.now p.old) self.old.chan }
+        requires channel { HasChannel (view w.now p.old) (source_chan self.old) }
         requires unpinned { HasNoPin (view w.now p.old) me }
-        ensures call { CallClause me (WaitsToRead (limits_of w.now) self.old.chan) (view w.now p.old) (view w.now p.new) result }
+        ensures call { CallClause me (WaitsToRead (limits_of w.now) (source_chan self.old)) (view w.now p.old) (view w.now p.new) result }
         ensures ready { IsReady w.now p.new me }
         ensures unpinned { HasNoPin (view w.now p.new) me }
-        ensures closed { result ≡ Err ClosedByInterrupt → IsClosed (view w.now p.new) self.old.chan }
+        ensures closed { result ≡ Err ClosedByInterrupt → IsClosed (view w.now p.new) (source_chan self.old) }
         ensures same { IsSameSource self.old self.new }
         ensures bytes { GivesBytes self.old self.new into.old into.new (bytes_read result) }
         ensures answer { IfOk result (λ answer. answer ≡ answer_of_read (length into.old) (bytes_read result) (knows_end self.new)) }
@@ -181,12 +181,12 @@ impl PipeSource {
     /// Closes the source's channel. Says whether this call closed it.
     pub fn close(&mut self, w: &Words, p: &mut Pass, me: CallerNo) -> bool
         requires ready { IsReady w.now p.old me }
-        requires channel { HasChannel (view w.now p.old) self.old.chan }
+        requires channel { HasChannel (view w.now p.old) (source_chan self.old) }
         requires unpinned { HasNoPin (view w.now p.old) me }
-        ensures call { CallClause me (Completes (close_channel_plan (limits_of w.now) self.old.chan)) (view w.now p.old) (view w.now p.new) result }
+        ensures call { CallClause me (Completes (close_channel_plan (limits_of w.now) (source_chan self.old))) (view w.now p.old) (view w.now p.new) result }
         ensures ready { IsReady w.now p.new me }
         ensures unpinned { HasNoPin (view w.now p.new) me }
-        ensures closed { IsClosed (view w.now p.new) self.old.chan }
+        ensures closed { IsClosed (view w.now p.new) (source_chan self.old) }
         ensures same { self.new ≡ self.old }
     {
         close_channel(w, p, me, self.chan)
