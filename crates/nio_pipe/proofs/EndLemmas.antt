@@ -1,0 +1,273 @@
+-- What the two ends of a pipe know, when they read, write and look.
+use Rattle.std.proofs.Common.{◌≡◌, ℕ, ◌+◌, ◌-◌, ◌%◌, ◌^◌, ◌<◌, ◌≤◌, Bool, true, false, if◌then◌else◌, IsTrue, List, [], ◌∷◌, ◌++◌, length, min, take, drop, Option, Some, None, refl, ap, sym, ◌∙◌, subst, arith, length-append}
+use Rattle.std.specs.Prelude.{is_some, IfSome, IfNone}
+use Rattle.std.proofs.lemmas.List.{append-nil, length-take-le, length-take, take-append-le, take-append-drop}
+use Rattle.std.proofs.lemmas.Slice.{drop-append-drop}
+use Rattle.std.proofs.Math.Seq.{take-append-add, take-length}
+use mathlib.Core.List.{IsPrefix}
+use Rattle.nio_words.proofs.Beginnings.{prefix_self, prefix_length, prefix_trans}
+use Rattle.nio_pipe.specs.Counts.{count_of, marks_left, marks_taken, left_to, known_of, IsReached}
+use Rattle.nio_pipe.specs.Ends.{GivesBytes, IsSameSource, KnowsNothing, SourceLooks, known, knows_end, received, IsSameSink, SinkLooks, TakesBytes, sent, free, is_marked}
+use Rattle.nio_pipe.specs.declared.sink.PipeSink.{PipeSink}
+use Rattle.nio_pipe.specs.declared.source.PipeSource.{PipeSource}
+
+pub gives_nothing : (s : PipeSource) (into : List ℕ) → GivesBytes s s into into 0
+gives_nothing s into = record {
+  fit = omega arith;
+  received = sym (append-nil _);
+  rest = refl;
+  known = prefix_self (known s);
+  end_stays = λ knows. knows;
+}
+
+-- ---- looking for the end, where no byte waits
+
+pub known_nothing : (to_end : Option ℕ) (items more : List ℕ) → to_end ≡ None → items ≡ [] → IsPrefix (known_of to_end items) more
+known_nothing to_end items more none empty =
+    let nothing : known_of to_end items ≡ [] = ap (λ t. known_of t items) none ∙ empty in
+    subst (λ xs. IsPrefix xs more) (sym nothing) (more, refl)
+
+pub knew_end : (old new : Option ℕ) → old ≡ None → IsTrue (is_some old) → IsTrue (is_some new)
+knew_end old new none knows = let clash : false ≡ true = sym (ap is_some none) ∙ knows in absurd (cc clash)
+
+-- ---- looking and then reading
+
+pub looks_none : (s : PipeSource) → SourceLooks s s
+looks_none s = record {
+  same = record { bytes = ((refl, refl, refl, refl), refl); marks = ((refl, refl, refl, refl), refl); channel = refl };
+  received = refl;
+  known = prefix_self (known s);
+  end_stays = λ knows. knows;
+}
+
+pub gives_after : {a b c : PipeSource} {before after : List ℕ} {n : ℕ} → SourceLooks a b → GivesBytes b c before after n → GivesBytes a c before after n
+gives_after {a = a} {b = b} {c = c} {after = after} {n = n} looks gives = record {
+  fit = gives.fit;
+  received = gives.received ∙ ap (λ xs. xs ++ take n after) looks.received;
+  rest = gives.rest;
+  known = prefix_trans (known a) (known b) (take n after ++ known c) looks.known gives.known;
+  end_stays = λ knows. gives.end_stays (looks.end_stays knows);
+}
+
+same_source : {a b c : PipeSource} → IsSameSource a b → IsSameSource b c → IsSameSource a c
+same_source first second = record {
+  bytes = ((second.bytes.0.0 ∙ first.bytes.0.0, second.bytes.0.1 ∙ first.bytes.0.1, second.bytes.0.2 ∙ first.bytes.0.2, second.bytes.0.3 ∙ first.bytes.0.3), second.bytes.1 ∙ first.bytes.1);
+  marks = ((second.marks.0.0 ∙ first.marks.0.0, second.marks.0.1 ∙ first.marks.0.1, second.marks.0.2 ∙ first.marks.0.2, second.marks.0.3 ∙ first.marks.0.3), second.marks.1 ∙ first.marks.1);
+  channel = second.channel ∙ first.channel;
+}
+
+-- a read that gave nothing is a look
+pub looks_more : {a b c : PipeSource} {before after : List ℕ} → SourceLooks a b → IsSameSource b c → GivesBytes b c before after 0 → SourceLooks a c
+looks_more {a = a} {b = b} {c = c} looks same gives = record {
+  same = same_source looks.same same;
+  received = gives.received ∙ (append-nil (received b) ∙ looks.received);
+  known = prefix_trans (known a) (known b) (known c) looks.known gives.known;
+  end_stays = λ knows. gives.end_stays (looks.end_stays knows);
+}
+
+no_front : (xs ys : List ℕ) → xs ++ ys ≡ [] → xs ≡ []
+no_front [] ys is = refl
+no_front (x ∷ xs) ys is = absurd (cc is)
+
+-- who knows nothing after looks knew nothing before them
+pub knew_nothing : {a b : PipeSource} → SourceLooks a b → KnowsNothing b → KnowsNothing a
+knew_nothing {a = a} {b = b} looks none = record {
+  no_byte = no_front (known a) looks.known.0 (looks.known.1 ∙ none.no_byte);
+  no_mark = by_test (knows_end a) refl;
+}
+  where
+    by_test : (knows : Bool) → knows_end a ≡ knows → knows_end a ≡ false
+    by_test true is = let clash : true ≡ false = sym (looks.end_stays is) ∙ none.no_mark in absurd (cc clash)
+    by_test false is = is
+
+-- ---- reading up to the end
+
+-- Bytes were read into a slice, of those up to the end, all of which were seen. `there` is what stands in the part
+-- of the slice that was lent, `items` and `items'` what was seen in the ring before and after.
+pub record PopsToEnd (items items' popped popped' into there : List ℕ) (left room given : ℕ) : Type 0 where
+  pub seen : left ≤ length items
+  pub room_is : room ≡ min left (length into)
+  pub fits : given ≤ length (take room into)
+  pub popped_is : popped' ≡ popped ++ take given there
+  pub next : IsPrefix items (take given there ++ items')
+  pub most : given < length (take room into) → length items' ≡ 0
+  pub part : length there ≡ length (take room into)
+
+module _ (items items' popped popped' into there : List ℕ) (left room given : ℕ) (pops : PopsToEnd items items' popped popped' into there left room given) where
+  lent : length (take room into) ≡ room
+  lent = omega (arith, length-take room into, pops.room_is)
+
+  part_is : length there ≡ room
+  part_is = pops.part ∙ lent
+
+  fits_in : given ≤ room
+  fits_in = omega (arith, pops.fits, lent)
+
+  length-given : length (take given there) ≡ given
+  length-given = length-take-le given there (omega (arith, fits_in, part_is))
+
+  next_length : length items ≤ given + length items'
+  next_length = omega (arith, prefix_length items (take given there ++ items') pops.next, length-append (take given there) items', length-given)
+
+  all_given : given ≡ room
+  all_given = let long : length items ≤ given + length items' = next_length in grind (arith, lent, fits_in, pops.most, pops.seen, pops.room_is)
+
+  pub reached_after : (mark : Option ℕ) → mark ≡ Some ((length popped + left) % 2 ^ 64) → IsReached popped' items' mark (Some (left - given))
+  reached_after mark told = record {
+    seen = λ n is. let same : left - given ≡ n = cc is in omega (arith, next_length);
+    told = λ n is.
+        let same : left - given ≡ n = cc is in
+        let total : length popped + left ≡ length popped' + n = omega (arith, ap length pops.popped_is, length-append popped (take given there), length-given, all_given, pops.room_is) in
+        told ∙ ap (λ (k : ℕ). Some (k % 2 ^ 64)) total;
+  }
+
+  pub given-fits : given ≤ length into
+  given-fits = omega (arith, fits_in, pops.room_is)
+
+  front : take given (there ++ drop room into) ≡ take given there
+  front = take-append-le given there (drop room into) (omega (arith, fits_in, part_is))
+
+  pub given-received : popped' ≡ popped ++ take given (there ++ drop room into)
+  given-received = pops.popped_is ∙ ap (λ xs. popped ++ xs) (sym front)
+
+  pub given-rest : drop given (there ++ drop room into) ≡ drop given into
+  given-rest = drop-append-drop room into there given (omega (arith, all_given)) part_is
+
+  pub given-known : (to_end : Option ℕ) → to_end ≡ Some left → IsPrefix (known_of to_end items) (take given (there ++ drop room into) ++ take (left - given) items')
+  given-known to_end is = subst (λ t. IsPrefix (known_of t items) (take given (there ++ drop room into) ++ take (left - given) items')) (sym is) up_to_left
+    where
+      up_to_left : IsPrefix (take left items) (take given (there ++ drop room into) ++ take (left - given) items')
+      up_to_left =
+          let there_left : take left (items ++ pops.next.0) ≡ take left items = take-append-le left items pops.next.0 pops.seen in
+          let whole : left ≡ length (take given there) + (left - given) = omega (arith, length-given, all_given, pops.room_is) in
+          let parts : take left (take given there ++ items') ≡ take given there ++ take (left - given) items' = ap (λ (n : ℕ). take n (take given there ++ items')) whole ∙ take-append-add (take given there) items' (left - given) in
+          ([], append-nil (take left items) ∙ (sym there_left ∙ (ap (take left) pops.next.1 ∙ (parts ∙ ap (λ xs. xs ++ take (left - given) items') (sym front)))))
+
+-- ---- both ends in one hand
+
+-- the bytes R that were received, those that wait (K) and those that were sent (S); what each end has counted, the
+-- mark that the source took, and how far the end was known to be before and after the source worked it out
+pub record Beside (R K S : List ℕ) (marked : Bool) (read written : ℕ) (mark to_end to_end' : Option ℕ) : Type 0 where
+  pub whole : R ++ K ≡ S
+  pub few : length K ≤ 65536
+  pub read_is : read ≡ count_of R
+  pub written_is : written ≡ count_of S
+  pub marks : marks_taken mark ≡ marks_left marked written
+  pub reached : IfSome mark (λ m. left_to m read ≤ length K → to_end' ≡ Some (left_to m read))
+  pub kept : IfNone mark (to_end' ≡ to_end)
+  pub told : (n : ℕ) → to_end ≡ Some n → mark ≡ Some ((length R + n) % 2 ^ 64)
+
+left_is : (r k : ℕ) → k ≤ 65536 → left_to ((r + k) % 2 ^ 64) (r % 2 ^ 64) ≡ k
+left_is r k few = omega arith
+
+mark_left : (mark : Option ℕ) (written : ℕ) → marks_taken mark ≡ marks_left true written → mark ≡ Some written
+mark_left None written is = absurd (cc is)
+mark_left (Some m) written is = let same : m ≡ written = cc is in ap Some same
+
+no_mark_left : (mark : Option ℕ) (written : ℕ) → marks_taken mark ≡ marks_left false written → mark ≡ None
+no_mark_left None written is = refl
+no_mark_left (Some m) written is = absurd (cc is)
+
+-- the end is known exactly where the mark was left, and is as far as all that wait
+to_end_is : (R K S : List ℕ) (marked : Bool) (read written : ℕ) (mark to_end to_end' : Option ℕ) → Beside R K S marked read written mark to_end to_end'
+    → to_end' ≡ (if marked then Some (length K) else None)
+to_end_is R K S true read written mark to_end to_end' beside =
+    let is : mark ≡ Some written = mark_left mark written beside.marks in
+    let count : left_to written read ≡ length K = ap (λ n. left_to n read) beside.written_is ∙ (ap (left_to (count_of S)) beside.read_is
+    ∙ (ap (λ (n : ℕ). left_to (n % 2 ^ 64) (count_of R)) (sym (ap length beside.whole) ∙ length-append R K) ∙ left_is (length R) (length K) beside.few)) in
+    let reached : left_to written read ≤ length K → to_end' ≡ Some (left_to written read) = subst (λ m. IfSome m (λ m. left_to m read ≤ length K → to_end' ≡ Some (left_to m read))) is beside.reached in
+    reached (omega arith) ∙ ap Some count
+to_end_is R K S false read written mark to_end to_end' beside = by_end to_end refl
+  where
+    none : mark ≡ None
+    none = no_mark_left mark written beside.marks
+
+    kept : to_end' ≡ to_end
+    kept = subst (λ m. IfNone m (to_end' ≡ to_end)) none beside.kept
+
+    by_end : (t : Option ℕ) → to_end ≡ t → to_end' ≡ None
+    by_end None is = kept ∙ is
+    by_end (Some n) is = let clash : None ≡ Some ((length R + n) % 2 ^ 64) = sym none ∙ beside.told n is in absurd (cc clash)
+
+no_items : (xs : List ℕ) → length xs ≡ 0 → xs ≡ []
+no_items [] is = refl
+no_items (x ∷ xs) is = absurd (omega (arith, is))
+
+module _ (R K S : List ℕ) (marked : Bool) (read written : ℕ) (mark to_end to_end' : Option ℕ) (beside : Beside R K S marked read written mark to_end to_end') where
+  pub end_known : is_some to_end' ≡ marked
+  end_known = ap is_some (to_end_is R K S marked read written mark to_end to_end' beside) ∙ by_mark marked
+    where
+      by_mark : (b : Bool) → is_some (if b then Some (length K) else None) ≡ b
+      by_mark true = refl
+      by_mark false = refl
+
+  pub all_known : known_of to_end' K ≡ K
+  all_known = ap (λ t. known_of t K) (to_end_is R K S marked read written mark to_end to_end' beside) ∙ by_mark marked
+    where
+      by_mark : (b : Bool) → known_of (if b then Some (length K) else None) K ≡ K
+      by_mark true = take-length K
+      by_mark false = refl
+
+  -- what was known is what is known now, and more
+  pub known_grows : (items : List ℕ) → ((n : ℕ) → to_end ≡ Some n → n ≤ length items) → IsPrefix items K → IsPrefix (known_of to_end items) (known_of to_end' K)
+  known_grows items seen grows = subst (IsPrefix (known_of to_end items)) (sym all_known) (by_end to_end)
+    where
+      by_end : (t : Option ℕ) → IsPrefix (known_of t items) K
+      by_end None = grows
+      by_end (Some n) = prefix_trans (take n items) items K (drop n items, take-append-drop n items) grows
+
+  marked_then : (n : ℕ) → to_end ≡ Some n → marked ≡ true
+  marked_then n is = by_mark marked refl
+    where
+      by_mark : (b : Bool) → marked ≡ b → marked ≡ true
+      by_mark true was = was
+      by_mark false was =
+          let left : marks_taken mark ≡ marks_left false written = beside.marks ∙ ap (λ b. marks_left b written) was in
+          let clash : None ≡ Some ((length R + n) % 2 ^ 64) = sym (no_mark_left mark written left) ∙ beside.told n is in
+          absurd (cc clash)
+
+  pub end_lasts : is_some to_end ≡ true → is_some to_end' ≡ true
+  end_lasts knew = end_known ∙ by_end to_end refl knew
+    where
+      by_end : (t : Option ℕ) → to_end ≡ t → is_some t ≡ true → marked ≡ true
+      by_end None is knows = absurd (cc knows)
+      by_end (Some n) is knows = marked_then n is
+
+  -- a source that had told the end has received every byte
+  pub was_whole : (items : List ℕ) → ((n : ℕ) → to_end ≡ Some n → n ≤ length items) → is_some to_end ≡ true → known_of to_end items ≡ [] → (marked ≡ true) × (R ≡ S)
+  was_whole items seen knew nothing = by_end to_end refl knew nothing
+    where
+      by_end : (t : Option ℕ) → to_end ≡ t → is_some t ≡ true → known_of t items ≡ [] → (marked ≡ true) × (R ≡ S)
+      by_end None is knows none = absurd (cc knows)
+      by_end (Some n) is knows none =
+          let left : marked ≡ true = marked_then n is in
+          let n_is : n ≡ 0 = omega (arith, seen n is, length-take-le n items (seen n is), ap length none) in
+          let marks : mark ≡ Some written = mark_left mark written (beside.marks ∙ ap (λ b. marks_left b written) left) in
+          let same : written ≡ (length R + n) % 2 ^ 64 = cc (sym marks ∙ beside.told n is) in
+          let total : length S ≡ length R + length K = sym (ap length beside.whole) ∙ length-append R K in
+          let none_waits : length K ≡ 0 = omega (arith, beside.few, beside.written_is) in
+          (left, sym (append-nil R) ∙ (ap (λ xs. R ++ xs) (sym (no_items K none_waits)) ∙ beside.whole))
+
+-- ---- the sink
+
+pub sink_looks_none : (s : PipeSink) → SinkLooks s s
+sink_looks_none s = record {
+  same = record { bytes = ((refl, refl, refl, refl), refl); marks = ((refl, refl, refl, refl), refl); channel = refl; other = refl };
+  sent = refl;
+  free = omega arith;
+  mark = refl;
+}
+
+-- a write that took nothing is a look
+pub sink_looks_more : {a b c : PipeSink} {slice : List ℕ} → SinkLooks a b → IsSameSink b c → TakesBytes b c slice 0 → is_marked c ≡ is_marked b → free b ≤ free c + 0 → SinkLooks a c
+sink_looks_more {a = a} {b = b} {c = c} looks same takes mark places = record {
+  same = record {
+    bytes = ((same.bytes.0.0 ∙ looks.same.bytes.0.0, same.bytes.0.1 ∙ looks.same.bytes.0.1, same.bytes.0.2 ∙ looks.same.bytes.0.2, same.bytes.0.3 ∙ looks.same.bytes.0.3), same.bytes.1 ∙ looks.same.bytes.1);
+    marks = ((same.marks.0.0 ∙ looks.same.marks.0.0, same.marks.0.1 ∙ looks.same.marks.0.1, same.marks.0.2 ∙ looks.same.marks.0.2, same.marks.0.3 ∙ looks.same.marks.0.3), same.marks.1 ∙ looks.same.marks.1);
+    channel = same.channel ∙ looks.same.channel;
+    other = same.other ∙ looks.same.other;
+  };
+  sent = takes.sent ∙ (append-nil (sent b) ∙ looks.sent);
+  free = omega (arith, looks.free, places);
+  mark = mark ∙ looks.mark;
+}

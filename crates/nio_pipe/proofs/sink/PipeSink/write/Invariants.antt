@@ -1,0 +1,17 @@
+use Rattle.nio_event.specs.PassViews.{HasNoPin}
+use Rattle.nio_steps.specs.PipeCalls.{try_write_plan}
+use Rattle.nio_words.specs.Passes.{IsReady, limits_of}
+use Rattle.nio_words.specs.Views.{view}
+use Rattle.nio_pipe.specs.Calls.{HasEnds}
+use Rattle.nio_pipe.specs.Ends.{SinkLooks}
+use Rattle.nio_pipe.proofs.Waits.{TriedClause}
+use Rattle.nio_pipe.proofs.sink.PipeSink.write.Given as goal
+
+abbrev pub invariant-loop : goal.invariant-loop
+invariant-loop g l = record {
+  ready : IsReady l.w l.p l.me;
+  ends : HasEnds (view l.w l.p) l.fn.self.source l.fn.self.chan;
+  unpinned : HasNoPin (view l.w l.p) l.me;
+  tried : TriedClause l.me (try_write_plan (limits_of l.w) l.fn.self.source l.fn.self.chan) l.waited (view l.w l.fn.p) (view l.w l.p);
+  looks : SinkLooks l.fn.self l.self;
+}

@@ -1,0 +1,18 @@
+use Rattle.std.proofs.Common.{◌≡◌}
+use Rattle.nio_event.specs.PassViews.{HasChannel, HasNoPin}
+use Rattle.nio_steps.specs.PipeCalls.{try_read_plan}
+use Rattle.nio_words.specs.Passes.{IsReady, limits_of}
+use Rattle.nio_words.specs.Views.{view}
+use Rattle.nio_pipe.specs.Ends.{SourceLooks}
+use Rattle.nio_pipe.proofs.Waits.{TriedClause}
+use Rattle.nio_pipe.proofs.source.PipeSource.read.Given as goal
+
+abbrev pub invariant-loop : goal.invariant-loop
+invariant-loop g l = record {
+  ready : IsReady l.w l.p l.me;
+  channel : HasChannel (view l.w l.p) l.fn.self.chan;
+  unpinned : HasNoPin (view l.w l.p) l.me;
+  tried : TriedClause l.me (try_read_plan (limits_of l.w) l.fn.self.chan) l.waited (view l.w l.fn.p) (view l.w l.p);
+  looks : SourceLooks l.fn.self l.self;
+  into : l.into ≡ l.fn.into;
+}

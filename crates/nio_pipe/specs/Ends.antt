@@ -1,0 +1,111 @@
+-- What contracts see of the two ends of a pipe.
+use Rattle.std.specs.Prelude.{◌≡◌, ℕ, ◌≤◌, List, [], ◌++◌, length, take, drop, Bool, if◌then◌else◌, is_some, IsTrue, IsFalse}
+use mathlib.Core.List.{IsPrefix}
+use Rattle.rtrb.specs.Ring.{known_free, known_items, IsPair, SameConsumer, SameProducer}
+use Rattle.rtrb.specs.Ring.{sent as pushed, received as popped}
+use Rattle.nio_base.specs.declared.numbers.ChanNo.{ChanNo}
+use Rattle.nio_pipe.specs.Counts.{known_of}
+use Rattle.nio_pipe.specs.Pipe.{Pipe}
+use Rattle.nio_pipe.specs.declared.sink.PipeSink.{PipeSink}
+use Rattle.nio_pipe.specs.declared.source.PipeSource.{PipeSource}
+
+-- ---- the source
+
+-- its channel
+abbrev pub source_chan : PipeSource → ChanNo
+source_chan source = source.chan
+
+-- all bytes that were read from it, in order
+abbrev pub received : PipeSource → List ℕ
+received source = popped source.bytes
+
+-- the bytes that it knows to wait: the next reads give them
+abbrev pub known : PipeSource → List ℕ
+known source = known_of source.to_end (known_items source.bytes)
+
+-- it knows of the end mark: no byte comes after the known ones
+abbrev pub knows_end : PipeSource → Bool
+knows_end source = is_some source.to_end
+
+-- it knows of no waiting byte and of no mark
+pub record KnowsNothing (source : PipeSource) : Type 0 where
+  pub no_byte : known source ≡ []
+  pub no_mark : IsFalse (knows_end source)
+
+-- it knows of the mark, and has received every byte
+pub record IsAtEnd (source : PipeSource) : Type 0 where
+  pub marked : IsTrue (knows_end source)
+  pub no_byte : known source ≡ []
+
+-- the same end of the same pipe
+pub record IsSameSource (old new : PipeSource) : Type 0 where
+  pub bytes : SameConsumer old.bytes new.bytes
+  pub marks : SameConsumer old.marks new.marks
+  pub channel : new.chan ≡ old.chan
+
+-- the source has looked: it may know of more
+pub record SourceLooks (old new : PipeSource) : Type 0 where
+  pub same : IsSameSource old new
+  pub received : received new ≡ received old
+  pub known : IsPrefix (known old) (known new)
+  pub end_stays : IsTrue (knows_end old) → IsTrue (knows_end new)
+
+-- a read that gave so many bytes: the next ones that wait, which now stand at the front of the slice
+pub record GivesBytes (old new : PipeSource) (before after : List ℕ) (given : ℕ) : Type 0 where
+  pub fit : given ≤ length before
+  pub received : received new ≡ received old ++ take given after
+  pub rest : drop given after ≡ drop given before
+  pub known : IsPrefix (known old) (take given after ++ known new)
+  pub end_stays : IsTrue (knows_end old) → IsTrue (knows_end new)
+
+-- ---- the sink
+
+-- its channel, and that of the source, at which it looks too
+abbrev pub sink_chan : PipeSink → ChanNo
+sink_chan sink = sink.chan
+
+abbrev pub other_chan : PipeSink → ChanNo
+other_chan sink = sink.source
+
+-- all bytes that were written into it, in order
+abbrev pub sent : PipeSink → List ℕ
+sent sink = pushed sink.bytes
+
+-- it has left its end mark
+abbrev pub is_marked : PipeSink → Bool
+is_marked sink = sink.marked
+
+-- the places that it knows to be free; none once it has left its mark, since it takes no more bytes then
+abbrev pub free : PipeSink → ℕ
+free sink = if is_marked sink then 0 else known_free sink.bytes
+
+-- the same end of the same pipe
+pub record IsSameSink (old new : PipeSink) : Type 0 where
+  pub bytes : SameProducer old.bytes new.bytes
+  pub marks : SameProducer old.marks new.marks
+  pub channel : new.chan ≡ old.chan
+  pub other : new.source ≡ old.source
+
+-- the sink was looked at beside the source: it may know of more free places
+pub record SinkLooks (old new : PipeSink) : Type 0 where
+  pub same : IsSameSink old new
+  pub sent : sent new ≡ sent old
+  pub free : free old ≤ free new
+  pub mark : is_marked new ≡ is_marked old
+
+-- a write that took so many bytes from the front of the slice
+pub record TakesBytes (old new : PipeSink) (slice : List ℕ) (taken : ℕ) : Type 0 where
+  pub fit : taken ≤ length slice
+  pub sent : sent new ≡ sent old ++ take taken slice
+
+-- ---- both
+
+-- the two ends of one pipe
+pub record AreEnds (source : PipeSource) (sink : PipeSink) : Type 0 where
+  pub bytes : IsPair sink.bytes source.bytes
+  pub marks : IsPair sink.marks source.marks
+  pub channel : sink.source ≡ source.chan
+
+-- the pipe, for a hand that has both ends
+abbrev pub pipe_of : PipeSource → PipeSink → Pipe
+pipe_of source sink = record { source = source.chan; sink = sink.chan; sent = sent sink; received = received source; marked = is_marked sink }

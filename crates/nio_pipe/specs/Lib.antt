@@ -1,0 +1,10 @@
+pub mod Answers
+pub mod Calls
+pub mod Counts
+pub mod Ends
+pub mod Held
+pub mod Idle
+pub mod Kept
+pub mod Making
+pub mod Opened
+pub mod Pipe

@@ -1,0 +1,295 @@
+//! The end of a pipe that is read from.
+ghost use Rattle.std.specs.Prelude.{◌≡◌};
+ghost use Rattle.rtrb.specs.Ring.{consumer_capacity, known_items, received as popped, sent as pushed, SameConsumer};
+ghost use Rattle.nio_pipe.specs.Counts.{count_of, left_to, marks_taken, IsReached};
+
+use crate::answers::{PipeRead, read_answer, read_goes_on, refusal_after};
+use crate::checks::check_open;
+use crate::sink::PipeSink;
+use nio_base::{CallerNo, ChanNo};
+use nio_channel::close_channel;
+use nio_steps::PipeError;
+use nio_words::{Pass, Words};
+use rtrb::Consumer;
+use std::sync::Wait;
+use std::thread;
+
+/// The end of a pipe that is read from. It can move to a thread of its own.
+#[derive(Drop)]
+pub struct PipeSource {
+    pub(crate) chan: ChanNo,
+    pub(crate) bytes: Consumer<u8>,
+    pub(crate) marks: Consumer<u64>,
+    // how many bytes were read, modulo 2^64
+    count: u64,
+    // the end mark, once it was taken from the ring: the sink's count
+    mark: Option<u64>,
+    // how many bytes wait up to the end mark, once all of them were seen
+    pub(crate) to_end: Option<usize>,
+    ghost sized: { consumer_capacity bytes ≡ 65536 },
+    ghost counted: { count ≡ count_of (popped bytes) },
+    ghost took: { popped marks ≡ marks_taken mark },
+    ghost reached: { IsReached (popped bytes) (known_items bytes) mark to_end },
+}
+
+impl PipeSource {
+    ghost use Rattle.std.specs.Prelude.{◌<◌, ◌≤◌, ◌++◌, [], length, None, Some, IfNone, IfSome, IsSome, OnOk, IfOk, Ok, Err};
+    ghost use Rattle.nio_event.specs.PassViews.{HasChannel, HasNoPin};
+    ghost use Rattle.nio_steps.specs.Calls.{CallClause};
+    ghost use Rattle.nio_steps.specs.ChannelCalls.{close_channel_plan};
+    ghost use Rattle.nio_steps.specs.Runs.{Completes};
+    ghost use Rattle.nio_steps.specs.declared.refusal.PipeError.TheVariants.{ClosedByInterrupt};
+    ghost use Rattle.nio_words.specs.Passes.{IsReady, limits_of};
+    ghost use Rattle.nio_words.specs.Views.{view};
+    ghost use Rattle.nio_pipe.specs.Answers.{bytes_read, read_answer as answer_of_read};
+    ghost use Rattle.nio_pipe.specs.Calls.{IsClosed, TriesRead, WaitsToRead};
+    ghost use Rattle.nio_pipe.specs.Ends.{source_chan, received, known, knows_end, sent, is_marked, pipe_of, AreEnds, GivesBytes, IsAtEnd, IsSameSource, IsSameSink, KnowsNothing, SourceLooks, SinkLooks};
+    ghost use Rattle.nio_pipe.specs.Pipe.{IsLawful};
+    ghost use Rattle.nio_pipe.specs.Pipe.{IsAtEnd as IsPipeAtEnd};
+    ghost use Rattle.nio_pipe.specs.declared.answers.PipeRead.TheVariants.{End, NotYet};
+
+    // The source of a pipe into which nothing was written.
+    pub(crate) fn make(chan: ChanNo, bytes: Consumer<u8>, marks: Consumer<u64>) -> PipeSource
+        requires sized { consumer_capacity bytes ≡ 65536 }
+        requires fresh { popped bytes ≡ [] }
+        requires unmarked { popped marks ≡ [] }
+        ensures bytes { result.bytes ≡ bytes }
+        ensures marks { result.marks ≡ marks }
+        ensures channel { result.chan ≡ chan }
+        ensures end { result.to_end ≡ None }
+    {
+        PipeSource {
+            chan,
+            bytes,
+            marks,
+            count: 0,
+            mark: None,
+            to_end: None,
+        }
+    }
+
+    pub fn chan(&self) -> ChanNo
+        ensures { result ≡ source_chan self.now }
+    {
+        self.chan
+    }
+
+    /// Reads as many bytes as are found to wait and fit into the slice. At the end mark, with every byte
+    /// read, it answers `End`.
+    pub fn try_read(
+        &mut self,
+        w: &Words,
+        p: &mut Pass,
+        me: CallerNo,
+        into: &mut [u8],
+    ) -> Result<PipeRead, PipeError>
+        requires ready { IsReady w.now p.old me }
+        requires channel { HasChannel (view w.now p.old) (source_chan self.old) }
+        requires unpinned { HasNoPin (view w.now p.old) me }
+        ensures call { CallClause me (TriesRead (limits_of w.now) (source_chan self.old)) (view w.now p.old) (view w.now p.new) result }
+        ensures ready { IsReady w.now p.new me }
+        ensures unpinned { HasNoPin (view w.now p.new) me }
+        ensures closed { result ≡ Err ClosedByInterrupt → IsClosed (view w.now p.new) (source_chan self.old) }
+        ensures same { IsSameSource self.old self.new }
+        ensures bytes { GivesBytes self.old self.new into.old into.new (bytes_read result) }
+        ensures answer { IfOk result (λ answer. answer ≡ answer_of_read (length into.old) (bytes_read result) (knows_end self.new)) }
+        ensures most { OnOk result (bytes_read result < length into.old → known self.new ≡ []) }
+        ensures not_yet { result ≡ Ok NotYet → KnowsNothing self.old × KnowsNothing self.new }
+        ensures end { result ≡ Ok End → IsAtEnd self.new }
+    {
+        check_open(w, p, me, self.chan)?;
+        Ok(self.give(into))
+    }
+
+    /// `try_read`, again and again while it answers `NotYet` and the channel is in blocking mode.
+    pub fn read<R: Wait>(
+        &mut self,
+        rt: &R,
+        w: &Words,
+        p: &mut Pass,
+        me: CallerNo,
+        into: &mut [u8],
+    ) -> Result<PipeRead, PipeError>
+        requires ready { IsReady w.now p.old me }
+        requires channel { HasChannel (view w.now p.old) (source_chan self.old) }
+        requires unpinned { HasNoPin (view w.now p.old) me }
+        ensures call { CallClause me (WaitsToRead (limits_of w.now) (source_chan self.old)) (view w.now p.old) (view w.now p.new) result }
+        ensures ready { IsReady w.now p.new me }
+        ensures unpinned { HasNoPin (view w.now p.new) me }
+        ensures closed { result ≡ Err ClosedByInterrupt → IsClosed (view w.now p.new) (source_chan self.old) }
+        ensures same { IsSameSource self.old self.new }
+        ensures bytes { GivesBytes self.old self.new into.old into.new (bytes_read result) }
+        ensures answer { IfOk result (λ answer. answer ≡ answer_of_read (length into.old) (bytes_read result) (knows_end self.new)) }
+        ensures most { OnOk result (bytes_read result < length into.old → known self.new ≡ []) }
+        ensures not_yet { result ≡ Ok NotYet → KnowsNothing self.old × KnowsNothing self.new }
+        ensures end { result ≡ Ok End → IsAtEnd self.new }
+    {
+        let chan = self.chan;
+        let mut waited = false;
+        for _ in rt.forever() {
+            match check_open(w, p, me, chan) {
+                Ok(blocking) => {
+                    let answer = self.give(into);
+                    if !read_goes_on(answer, blocking) {
+                        return Ok(answer);
+                    }
+                }
+                Err(refusal) => return Err(refusal_after(waited, refusal)),
+            }
+            waited = true;
+            thread::yield_now();
+        }
+        unreachable!()
+    }
+
+    /// How many bytes wait, for a hand that has both ends. The source then knows of all of them, and of the
+    /// end mark.
+    pub fn beside(&mut self, sink: &mut PipeSink) -> usize
+        requires { AreEnds self.old sink.old }
+        ensures waiting { result ≡ length (known self.new) }
+        ensures whole { received self.new ++ known self.new ≡ sent sink.new }
+        ensures end { knows_end self.new ≡ is_marked sink.new }
+        ensures source { SourceLooks self.old self.new }
+        ensures sink { SinkLooks sink.old sink.new }
+        ensures ends { AreEnds self.new sink.new }
+        ensures lawful { IsLawful (pipe_of self.new sink.new) }
+        ensures told { IsAtEnd self.old → IsPipeAtEnd (pipe_of self.new sink.new) }
+    {
+        self.take_mark_beside(sink);
+        let waiting = self.bytes.slots_beside(&mut sink.bytes);
+        self.reach_end();
+        waiting
+    }
+
+    // Takes the end mark, where it was left.
+    fn take_mark_beside(&mut self, sink: &mut PipeSink)
+        requires { AreEnds self.old sink.old }
+        ensures bytes { self.new.bytes ≡ self.old.bytes }
+        ensures marks { SameConsumer self.old.marks self.new.marks }
+        ensures channel { self.new.chan ≡ self.old.chan }
+        ensures to_end { self.new.to_end ≡ self.old.to_end }
+        ensures mark { marks_taken self.new.mark ≡ pushed sink.new.marks }
+        ensures sink_bytes { sink.new.bytes ≡ sink.old.bytes }
+        ensures sink { SinkLooks sink.old sink.new }
+    {
+        let left = self.marks.slots_beside(&mut sink.marks);
+        if self.mark.is_none() && left > 0 {
+            self.mark = Some(self.marks.pop_known());
+        }
+    }
+
+    /// Closes the source's channel. Says whether this call closed it.
+    pub fn close(&mut self, w: &Words, p: &mut Pass, me: CallerNo) -> bool
+        requires ready { IsReady w.now p.old me }
+        requires channel { HasChannel (view w.now p.old) (source_chan self.old) }
+        requires unpinned { HasNoPin (view w.now p.old) me }
+        ensures call { CallClause me (Completes (close_channel_plan (limits_of w.now) (source_chan self.old))) (view w.now p.old) (view w.now p.new) result }
+        ensures ready { IsReady w.now p.new me }
+        ensures unpinned { HasNoPin (view w.now p.new) me }
+        ensures closed { IsClosed (view w.now p.new) (source_chan self.old) }
+        ensures same { self.new ≡ self.old }
+    {
+        close_channel(w, p, me, self.chan)
+    }
+
+    // Reads what is found to wait, and looks for the end mark where no byte waits.
+    fn give(&mut self, into: &mut [u8]) -> PipeRead
+        ensures same { IsSameSource self.old self.new }
+        ensures bytes { GivesBytes self.old self.new into.old into.new (bytes_read (Ok result)) }
+        ensures answer { result ≡ answer_of_read (length into.old) (bytes_read (Ok result)) (knows_end self.new) }
+        ensures most { bytes_read (Ok result) < length into.old → known self.new ≡ [] }
+        ensures not_yet { result ≡ NotYet → KnowsNothing self.old × KnowsNothing self.new }
+        ensures end { result ≡ End → IsAtEnd self.new }
+    {
+        self.look();
+        let given = self.pop(into);
+        read_answer(into.len(), given, self.to_end.is_some())
+    }
+
+    // SourceLooks for the end mark where no byte waits.
+    fn look(&mut self)
+        ensures { SourceLooks self.old self.new }
+    {
+        if self.to_end.is_none() && self.bytes.is_empty() {
+            self.look_for_end();
+        }
+    }
+
+    // Takes the end mark, if it is there. What was written before it can be seen then.
+    fn look_for_end(&mut self)
+        requires end { self.old.to_end ≡ None }
+        requires empty { known_items self.old.bytes ≡ [] }
+        ensures { SourceLooks self.old self.new }
+    {
+        self.take_mark();
+        self.bytes.slots();
+        self.reach_end();
+    }
+
+    fn take_mark(&mut self)
+        ensures bytes { self.new.bytes ≡ self.old.bytes }
+        ensures marks { SameConsumer self.old.marks self.new.marks }
+        ensures channel { self.new.chan ≡ self.old.chan }
+        ensures end { self.new.to_end ≡ self.old.to_end }
+    {
+        if self.mark.is_none() {
+            self.mark = self.marks.pop().ok();
+        }
+    }
+
+    // Works out how many bytes wait up to the mark, and notes it where all of them were seen.
+    fn reach_end(&mut self)
+        ensures bytes { self.new.bytes ≡ self.old.bytes }
+        ensures marks { self.new.marks ≡ self.old.marks }
+        ensures channel { self.new.chan ≡ self.old.chan }
+        ensures reached { IfSome self.old.mark (λ mark. left_to mark self.old.count ≤ length (known_items self.old.bytes) → self.new.to_end ≡ Some (left_to mark self.old.count)) }
+        ensures kept { IfNone self.old.mark (self.new.to_end ≡ self.old.to_end) }
+    {
+        if let Some(mark) = self.mark {
+            let left = mark.wrapping_sub(self.count);
+            if left <= self.bytes.cached_slots() as u64 {
+                self.to_end = Some(left as usize);
+            }
+        }
+    }
+
+    // Reads as many bytes as are found to wait, up to the end mark where it is known.
+    fn pop(&mut self, into: &mut [u8]) -> usize
+        ensures same { IsSameSource self.old self.new }
+        ensures bytes { GivesBytes self.old self.new into.old into.new result }
+        ensures most { result < length into.old → known self.new ≡ [] }
+        ensures end { knows_end self.new ≡ knows_end self.old }
+    {
+        match self.to_end {
+            Some(left) => self.pop_to_end(into, left),
+            None => self.pop_seen(into),
+        }
+    }
+
+    fn pop_seen(&mut self, into: &mut [u8]) -> usize
+        requires { self.old.to_end ≡ None }
+        ensures same { IsSameSource self.old self.new }
+        ensures bytes { GivesBytes self.old self.new into.old into.new result }
+        ensures most { result < length into.old → known self.new ≡ [] }
+        ensures end { self.new.to_end ≡ None }
+    {
+        let given = self.bytes.pop_partial_slice(into);
+        self.count = self.count.wrapping_add(given as u64);
+        given
+    }
+
+    // Reads bytes that were all seen, of which so many are left up to the end mark.
+    fn pop_to_end(&mut self, into: &mut [u8], left: usize) -> usize
+        requires { self.old.to_end ≡ Some left }
+        ensures same { IsSameSource self.old self.new }
+        ensures bytes { GivesBytes self.old self.new into.old into.new result }
+        ensures most { result < length into.old → known self.new ≡ [] }
+        ensures end { IsSome self.new.to_end }
+    {
+        let room = left.min(into.len());
+        let given = self.bytes.pop_partial_slice(&mut into[..room]);
+        self.count = self.count.wrapping_add(given as u64);
+        self.to_end = Some(left - given);
+        given
+    }
+}
