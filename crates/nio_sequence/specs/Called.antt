@@ -1,5 +1,5 @@
 -- Which call of the documented system a call on the table is: its word with what it was given, and its reply.
-use Rattle.std.specs.Prelude.{ℕ, ◌≤◌, pos, Bool, true, false, Option, Some, None, Result, Ok, Err, ⊤}
+use Rattle.std.specs.Prelude.{ℕ, ◌≤◌, pos, Bool, true, false, Err, ⊤}
 use Rattle.nio_base.specs.declared.limits.Limits.{Limits}
 use Rattle.nio_base.specs.declared.numbers.KeyNo.{KeyNo}
 use Rattle.nio_event.specs.Conditions.{IsCaller}
@@ -21,13 +21,14 @@ use Rattle.nio_steps.specs.SelectCalls.{begin_lacks_memory, list_lacks_memory, s
 
 -- ---- the documented call
 
--- a call of a script, and its reply
-pub record Answering : Type 0 where
-  pub call : Call
-  pub reply : Reply
-
-abbrev pub answering : Call → Reply → Option Answering
-answering word said = Some (record { call = word; reply = said })
+-- what the documented system has for a call on the table
+pub data Scripted : Type 0 where
+  -- this call, with this reply
+  as_call : Call → Reply → Scripted
+  -- nothing: the call draws, or only looks a name up
+  unseen : Scripted
+  -- no single call: it is a call on a pipe, or one that waits, which is several calls that don't wait
+  unscripted : Scripted
 
 -- how long a selection waits, as a line says it
 abbrev pub waiting_of : Mode → Waiting
@@ -35,51 +36,49 @@ waiting_of Mode.Now = waiting.Now
 waiting_of Mode.Wait = waiting.Wait
 waiting_of (Mode.For ms) = waiting.For (pos ms)
 
--- The call of a script that the call is. None is one that only looks a name up, or draws, one on a pipe, and one that
--- waits: that is several calls that don't wait.
-abbrev pub script_call : Made → Option Answering
-script_call (draw n) = None
-script_call (find_selector n answer) = None
-script_call (find_channel n answer) = None
-script_call (find s i serial answer) = None
-script_call (is_valid k answer) = answering (call.Valid k.sel (key_id k)) (yes_or_no answer)
-script_call (interest k answer) = answering (call.Interest k.sel (key_id k)) (set_reply answer)
-script_call (set_interest k ops answer) = answering (call.Iset k.sel (key_id k) ops) (put_reply answer)
-script_call (interest_or k ops answer) = answering (call.Ior k.sel (key_id k) ops) (set_reply answer)
-script_call (interest_and k ops answer) = answering (call.Iand k.sel (key_id k) ops) (set_reply answer)
-script_call (ready k answer) = answering (call.Ready k.sel (key_id k)) (set_reply answer)
-script_call (cancel k) = answering (call.Cancel k.sel (key_id k)) reply.«Ok»
-script_call (unselect k answer) = answering (call.Unselect k.sel (key_id k)) (yes_or_no answer)
-script_call (attach k att answer) = answering (call.Attach k.sel (key_id k) att) (reply.Number answer)
-script_call (attachment k answer) = answering (call.Attachment k.sel (key_id k)) (reply.Number answer)
-script_call (open_channel kind answer) = answering (call.Channel kind) (channel_reply answer)
-script_call (is_open c answer) = answering (call.IsOpen c) (yes_or_no answer)
-script_call (is_blocking c answer) = answering (call.IsBlocking c) (yes_or_no answer)
-script_call (is_registered c answer) = answering (call.IsRegistered c) (yes_or_no answer)
-script_call (key_for c s answer) = answering (call.KeyFor c s) (find_reply answer)
-script_call (try_set_blocking c on answer) = answering (call.Blocking c on) (mode_reply answer)
-script_call (try_register s c ops att answer) = answering (call.Register s c ops (Some att)) (register_reply answer)
-script_call (close_channel c answer) = answering (call.Closec c) (closed_reply answer)
-script_call (open_selector answer) = answering call.Selector (selector_reply answer)
-script_call (try_begin s mode answer) = answering (call.Begin s (waiting_of mode)) (begin_reply answer)
-script_call (told selection poll answer) = answering (call.Told selection.selector poll.elapsed (by_key selection poll.pairs)) (told_reply answer)
-script_call (leave selection) = answering (call.Failed selection.selector) reply.Left
-script_call (shut s answer) = answering (call.Close s) (shut_reply answer)
-script_call (try_finish s answer) = answering (call.CloseEnd s) (finish_reply answer)
-script_call (keys s answer) = answering (call.Keys s) (list_reply answer)
-script_call (selected_keys s answer) = answering (call.Selected s) (list_reply answer)
-script_call (wakeup s) = answering (call.Wakeup s) reply.«Ok»
-script_call (interrupt n) = answering (call.Interrupt n) reply.«Ok»
-script_call (interrupted answer) = answering call.Interrupted (yes_or_no answer)
-script_call (pipe answer) = None
-script_call (try_read source answer) = None
-script_call (try_write source sink answer) = None
-script_call (set_blocking c on answer) = None
-script_call (register s c ops att answer) = None
-script_call (select s mode polls answer) = None
-script_call (close s answer) = None
-script_call (read source none answer) = None
-script_call (write source sink none answer) = None
+abbrev pub script_call : Made → Scripted
+script_call (draw n) = unseen
+script_call (find_selector n answer) = unseen
+script_call (find_channel n answer) = unseen
+script_call (find s i serial answer) = unseen
+script_call (is_valid k answer) = as_call (call.Valid k.sel (key_id k)) (yes_or_no answer)
+script_call (interest k answer) = as_call (call.Interest k.sel (key_id k)) (set_reply answer)
+script_call (set_interest k ops answer) = as_call (call.Iset k.sel (key_id k) ops) (put_reply answer)
+script_call (interest_or k ops answer) = as_call (call.Ior k.sel (key_id k) ops) (set_reply answer)
+script_call (interest_and k ops answer) = as_call (call.Iand k.sel (key_id k) ops) (set_reply answer)
+script_call (ready k answer) = as_call (call.Ready k.sel (key_id k)) (set_reply answer)
+script_call (cancel k) = as_call (call.Cancel k.sel (key_id k)) reply.«Ok»
+script_call (unselect k answer) = as_call (call.Unselect k.sel (key_id k)) (yes_or_no answer)
+script_call (attach k att answer) = as_call (call.Attach k.sel (key_id k) att) (reply.Number answer)
+script_call (attachment k answer) = as_call (call.Attachment k.sel (key_id k)) (reply.Number answer)
+script_call (open_channel kind answer) = as_call (call.Channel kind) (channel_reply answer)
+script_call (is_open c answer) = as_call (call.IsOpen c) (yes_or_no answer)
+script_call (is_blocking c answer) = as_call (call.IsBlocking c) (yes_or_no answer)
+script_call (is_registered c answer) = as_call (call.IsRegistered c) (yes_or_no answer)
+script_call (key_for c s answer) = as_call (call.KeyFor c s) (find_reply answer)
+script_call (try_set_blocking c on answer) = as_call (call.Blocking c on) (mode_reply answer)
+script_call (try_register s c ops att answer) = as_call (call.Register s c ops (Some att)) (register_reply answer)
+script_call (close_channel c answer) = as_call (call.Closec c) (closed_reply answer)
+script_call (open_selector answer) = as_call call.Selector (selector_reply answer)
+script_call (try_begin s mode answer) = as_call (call.Begin s (waiting_of mode)) (begin_reply answer)
+script_call (told selection poll answer) = as_call (call.Told selection.selector poll.elapsed (by_key selection poll.pairs)) (told_reply answer)
+script_call (leave selection) = as_call (call.Failed selection.selector) reply.Left
+script_call (shut s answer) = as_call (call.Close s) (shut_reply answer)
+script_call (try_finish s answer) = as_call (call.CloseEnd s) (finish_reply answer)
+script_call (keys s answer) = as_call (call.Keys s) (list_reply answer)
+script_call (selected_keys s answer) = as_call (call.Selected s) (list_reply answer)
+script_call (wakeup s) = as_call (call.Wakeup s) reply.«Ok»
+script_call (interrupt n) = as_call (call.Interrupt n) reply.«Ok»
+script_call (interrupted answer) = as_call call.Interrupted (yes_or_no answer)
+script_call (pipe answer) = unscripted
+script_call (try_read source answer) = unscripted
+script_call (try_write source sink answer) = unscripted
+script_call (set_blocking c on answer) = unscripted
+script_call (register s c ops att answer) = unscripted
+script_call (select s mode polls answer) = unscripted
+script_call (close s answer) = unscripted
+script_call (read source none answer) = unscripted
+script_call (write source sink none answer) = unscripted
 
 -- the call's reply is that there was no memory
 abbrev pub lacks_memory : Made → Bool

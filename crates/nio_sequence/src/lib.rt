@@ -1,13 +1,11 @@
-// A library with one function.
+//! Where calls don't overlap, the table is the sequential selector of Java.
+//!
+//! `specs/Called` says which call of the documented system a call on the table is, and what it names, and
+//! `specs/Left` what a serial history leaves: a state between two calls, and what its calls left in progress.
+//! `specs/Laws` has the laws: every serial history leaves such a state, one call more has the documented reply and
+//! leaves the documented state, and a history of calls of a script is a run of that script.
 #![tactic(auto)]
 
-ghost use Rattle.std.specs.Prelude.{◌≡◌};
-ghost use Rattle.nio_sequence.specs.Echo.{echo_of};
+pub use laws::seq_law;
 
-// The `ensures` clause is the contract: what `echo` returns is `echo_of` of its argument, a definition
-// in `specs/Echo.antt`, which a caller's clause can cite too.
-pub fn echo(x: usize) -> usize
-    ensures { result ≡ echo_of x }
-{
-    x
-}
+mod laws;
