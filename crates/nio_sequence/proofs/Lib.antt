@@ -1,0 +1,3 @@
+pub mod Progress
+pub mod Calls
+pub mod Pipes

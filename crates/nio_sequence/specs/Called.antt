@@ -1,5 +1,5 @@
 -- Which call of the documented system a call on the table is: its word with what it was given, and its reply.
-use Rattle.std.specs.Prelude.{ℕ, ◌≤◌, pos, Bool, true, false, Err, ⊤}
+use Rattle.std.specs.Prelude.{ℕ, ◌≤◌, pos, Bool, true, false, Some, ⊤}
 use Rattle.nio_base.specs.declared.limits.Limits.{Limits}
 use Rattle.nio_base.specs.declared.numbers.KeyNo.{KeyNo}
 use Rattle.nio_event.specs.Conditions.{IsCaller}
@@ -17,6 +17,7 @@ use Rattle.nio_plain.specs.Seq.Answers.{yes_or_no}
 use Rattle.nio_serial.specs.Laws.{IsMadeSelector, IsMadeChannel, IsMadeKey, by_key}
 use Rattle.nio_serial.specs.Replies.{key_id, find_reply, set_reply, put_reply, channel_reply, mode_reply, register_reply, closed_reply, selector_reply, begin_reply, told_reply, shut_reply, finish_reply, list_reply}
 use Rattle.nio_steps.specs.PipeCalls.{pipe_lacks_memory}
+use Rattle.nio_steps.specs.declared.refusal.BeginError.{BeginError}
 use Rattle.nio_steps.specs.SelectCalls.{begin_lacks_memory, list_lacks_memory, selected, not_begun, left}
 
 -- ---- the documented call
@@ -121,7 +122,9 @@ lacks_memory (try_write source sink answer) = false
 lacks_memory (set_blocking c on answer) = false
 lacks_memory (register s c ops att answer) = false
 lacks_memory (select s mode polls (selected answer)) = false
-lacks_memory (select s mode polls (not_begun refusal)) = begin_lacks_memory (Err {A = Unit {0}} refusal)
+lacks_memory (select s mode polls (not_begun BeginError.ClosedSelector)) = false
+lacks_memory (select s mode polls (not_begun BeginError.Busy)) = false
+lacks_memory (select s mode polls (not_begun BeginError.Memory)) = true
 lacks_memory (select s mode polls left) = false
 lacks_memory (close s answer) = false
 lacks_memory (read source none answer) = false
