@@ -1,3 +1,4 @@
 pub mod Progress
 pub mod Calls
 pub mod Pipes
+pub mod Waiting

@@ -1,0 +1,235 @@
+-- Calls that wait, and calls on pipes, made between two calls: what they leave.
+use Rattle.std.proofs.Common.{◌≡◌, ℕ, ◌==◌, Bool, true, false, Option, Some, None, Result, Ok, Err, List, [], ◌∷◌, ◌++◌, map, refl, ap, sym, ◌∙◌, subst, append_assoc}
+use Rattle.std.specs.List.{All}
+use Rattle.std.proofs.lemmas.List.{append-nil, map-append}
+use Rattle.std.proofs.lemmas.List.Elements.{All-head, All-tail}
+use Rattle.nio_base.specs.Limits.{IsFit}
+use Rattle.nio_base.specs.declared.limits.Limits.{Limits}
+use Rattle.nio_base.specs.declared.numbers.CallerNo.{CallerNo}
+use Rattle.nio_base.specs.declared.numbers.ChanNo.{ChanNo}
+use Rattle.nio_base.specs.declared.numbers.SelNo.{SelNo}
+use Rattle.nio_event.proofs.Legal.{legal_beginning}
+use Rattle.nio_event.proofs.Put.{put-same}
+use Rattle.nio_event.proofs.Stays.{facts_are_permanent}
+use Rattle.nio_event.specs.Conditions.{IsCaller}
+use Rattle.nio_event.specs.Histories.{state_after, event_of, IsLegal}
+use Rattle.nio_event.specs.Permanent.{PermanentFact}
+use Rattle.nio_event.specs.State.{State, put}
+use Rattle.nio_event.specs.declared.act.Act.{Act}
+use Rattle.nio_event.specs.declared.event.Event.{Event}
+use Rattle.nio_event.specs.declared.found.Mode.{Mode}
+use Rattle.nio_orderly.specs.Made.{Made, IsRun, Ongoing, selecting, closes_on, after_call, try_set_blocking, try_register, try_begin, told, leave, shut, try_finish, pipe, try_read, try_write, set_blocking, register, select, close, read, write}
+use Rattle.nio_serial.proofs.Base.{put-twice}
+use Rattle.nio_serial.specs.Between.{IsOn, IsBetween}
+use Rattle.nio_serial.specs.Documented.{Progress, Selecting}
+use Rattle.nio_serial.specs.Laws.{IsMadeSelector, IsMadeChannel}
+use Rattle.nio_serial.specs.Lines.{with_selection, with_closing, after_begin, after_told, after_shut, after_finish}
+use Rattle.nio_steps.proofs.PerformLaws.{perform_ran}
+use Rattle.nio_steps.specs.ChannelCalls.{try_set_blocking_plan, try_register_plan, finds_held}
+use Rattle.nio_steps.specs.Perform.{Performed, perform}
+use Rattle.nio_steps.specs.PipeCalls.{PipeEnds, pipe_plan, pipe_lacks_memory, try_read_plan, try_write_plan, waits_for_bytes, Waits}
+use Rattle.nio_steps.specs.Plan.{Plan}
+use Rattle.nio_steps.specs.Runs.{Completes}
+use Rattle.nio_steps.specs.SelectCalls.{Selection, Begins, begin_finds_busy, Poll, Tells, goes_on_after, ToldReply, done, again, SelectReply, selected, not_begun, left, SelectsRest, TellsAll, TellsAndLeaves, ShutReply, closing, already_closed, FinishReply, closed, busy, finish_finds_busy, ClosesRest, shut_plan, try_finish_plan}
+use Rattle.nio_steps.specs.Waiting.{Then, Run, acts_of, Tries, Repeats, Retries}
+use Rattle.nio_steps.specs.declared.refusal.BeginError.{BeginError}
+use Rattle.nio_steps.specs.declared.refusal.ChannelError.{ChannelError}
+use Rattle.nio_steps.specs.declared.refusal.PipeError.{PipeError}
+use Rattle.nio_steps.specs.declared.refusal.PipeMakeError.{PipeMakeError}
+use Rattle.nio_sequence.proofs.Calls.{after, IsScripted, EndsAs, Ends, ends}
+use Rattle.nio_sequence.proofs.Pipes.{read-leaves, write-leaves, pipe-leaves}
+use Rattle.nio_sequence.specs.Called.{Scripted, unscripted, script_call, lacks_memory, HasTime, HasNames}
+use Rattle.nio_sequence.specs.Left.{after_made, IsOngoing}
+
+unscripted-is : (l : Limits) (past : List Event) (now : Progress) (me : CallerNo) (acts : List Act) (x : Progress) (b : Bool) → IsScripted l past now me acts x b unscripted
+unscripted-is l past now me acts x true = tt
+unscripted-is l past now me acts x false = tt
+
+pub joined : (past : List Event) (me : CallerNo) (xs ys : List Act) → after (after past me xs) me ys ≡ after past me (xs ++ ys)
+joined past me xs ys = append_assoc past (map (event_of me) xs) (map (event_of me) ys) ∙ ap (λ es. past ++ es) (sym (map-append (event_of me) xs ys))
+
+module _ (l : Limits) (me : CallerNo) where
+  pub begins-legal : (past : List Event) (xs ys : List Act) → IsLegal l (after past me (xs ++ ys)) → IsLegal l (after past me xs)
+  begins-legal past xs ys legal = legal_beginning l (after past me xs) (map (event_of me) ys) (subst (IsLegal l) (sym (joined past me xs ys)) legal)
+
+  pub then-legal : (past : List Event) (xs ys : List Act) → IsLegal l (after past me (xs ++ ys)) → IsLegal l (after (after past me xs) me ys)
+  then-legal past xs ys legal = subst (IsLegal l) (sym (joined past me xs ys)) legal
+
+  -- ---- the same call again and again
+
+  module _ {X R : Type 0} (Shape : X → List Act → R → Type 0) (goes_on : X → R → Bool) (P : List Event → Type 0)
+      (each : (past : List Event) (x : X) (acts : List Act) (r : R) → P past → IsLegal l (after past me acts) → Shape x acts r → goes_on x r ≡ true → P (after past me acts)) where
+    runs_keep : (runs : List (Run X R)) (past : List Event) → P past → IsLegal l (after past me (acts_of runs))
+        → All (λ r. Shape r.given r.acts r.answer) runs → All (λ r. goes_on r.given r.answer ≡ true) runs → P (after past me (acts_of runs))
+    runs_keep [] past here legal made goes = subst P (sym (append-nil past)) here
+    runs_keep (run ∷ later) past here legal made goes =
+        subst P (joined past me run.acts (acts_of later))
+        (runs_keep later (after past me run.acts)
+        (each past run.given run.acts run.answer here (begins-legal past run.acts (acts_of later) legal) (All-head (λ r. Shape r.given r.acts r.answer) run later made) (All-head (λ r. goes_on r.given r.answer ≡ true) run later goes))
+        (then-legal past run.acts (acts_of later) legal)
+        (All-tail (λ r. Shape r.given r.acts r.answer) run later made) (All-tail (λ r. goes_on r.given r.answer ≡ true) run later goes))
+
+    pub tries_keep : (past : List Event) (acts : List Act) → P past → IsLegal l (after past me acts) → Tries Shape goes_on acts → P (after past me acts)
+    tries_keep past acts here legal tries =
+        subst (λ xs. P (after past me xs)) (sym tries.parts)
+        (runs_keep tries.runs past here (subst (λ xs. IsLegal l (after past me xs)) tries.parts legal) tries.made tries.again)
+
+    -- the last of the runs
+    pub record LastRun (past : List Event) (acts : List Act) (answer : R) : Type 0 where
+      pub before : List Event
+      pub here : P before
+      pub last : List Act
+      pub given : X
+      pub legal : IsLegal l (after before me last)
+      pub made : Shape given last answer
+      pub same : after before me last ≡ after past me acts
+
+    pub last_run : (past : List Event) (acts : List Act) (answer : R) → P past → IsLegal l (after past me acts) → Repeats Shape goes_on acts answer → LastRun past acts answer
+    last_run past acts answer here legal runs =
+        let legal' = subst (λ xs. IsLegal l (after past me xs)) runs.parts legal in
+        record {
+          before = after past me runs.before;
+          here = tries_keep past runs.before here (begins-legal past runs.before runs.last.acts legal') runs.tries;
+          last = runs.last.acts;
+          given = runs.last.given;
+          legal = then-legal past runs.before runs.last.acts legal';
+          made = subst (Shape runs.last.given runs.last.acts) runs.answers runs.made;
+          same = joined past me runs.before runs.last.acts ∙ ap (λ xs. after past me xs) (sym runs.parts);
+        }
+
+module _ (l : Limits) (me : CallerNo) (fit : IsFit l) (by : IsCaller l me) where
+  selector-stays : (past : List Event) (acts : List Act) (s : SelNo) → IsLegal l (after past me acts) → IsMadeSelector (state_after past) s → IsMadeSelector (state_after (after past me acts)) s
+  selector-stays past acts s legal made = facts_are_permanent l past (after past me acts) (map (event_of me) acts, refl) legal (PermanentFact.selector_made s.0) made
+
+  channel-stays : (past : List Event) (acts : List Act) (c : ChanNo) → IsLegal l (after past me acts) → IsMadeChannel (state_after past) c → IsMadeChannel (state_after (after past me acts)) c
+  channel-stays past acts c legal made = facts_are_permanent l past (after past me acts) (map (event_of me) acts, refl) legal (PermanentFact.channel_made c.0) made
+
+  -- what a call leaves that begins and ends nothing
+  leaves-now : (past : List Event) (now : Progress) (o : Ongoing) (acts : List Act) (lacks : Bool) → IsBetween l (state_after (after past me acts)) now → IsOngoing me now o → EndsAs l past now me acts now o lacks unscripted
+  leaves-now past now o acts lacks there at = record { between = there; own = at; others = λ n o' other at'. at'; is = unscripted-is l past now me acts now lacks }
+
+  -- ---- the hold of a channel
+
+  module _ (past : List Event) (now : Progress) (o : Ongoing) (between : IsBetween l (state_after past) now) (at : IsOngoing me now o) where
+    abbrev WithChannel : ChanNo → List Event → Type 0
+    WithChannel c p = IsBetween l (state_after p) now × IsMadeChannel (state_after p) c
+
+    abbrev WithBoth : SelNo → ChanNo → List Event → Type 0
+    WithBoth s c p = IsBetween l (state_after p) now × (IsMadeSelector (state_after p) s × IsMadeChannel (state_after p) c)
+
+    pub blocking-ends : (c : ChanNo) (on : Bool) (answer : Result (Unit {0}) ChannelError) (acts : List Act) → IsRun l (set_blocking c on answer) acts → IsLegal l (after past me acts) → IsMadeChannel (state_after past) c
+        → Ends l past now me o acts (set_blocking c on answer)
+    blocking-ends c on answer acts run legal made =
+        let it = last_run l me _ _ (WithChannel c)
+        (λ p x xs r here legal' run' _. (one p xs r here legal' run', channel-stays p xs c legal' here.1)) past acts answer (between, made) legal run in
+        leaves-now past now o acts false (subst (λ es. IsBetween l (state_after es) now) it.same (one it.before it.last answer it.here it.legal it.made)) at
+      where
+        one : (p : List Event) (xs : List Act) (r : Result (Unit {0}) ChannelError) → WithChannel c p → IsLegal l (after p me xs) → Completes (try_set_blocking_plan l c on) xs r → IsBetween l (state_after (after p me xs)) now
+        one p xs r here legal' run' = (ends l p now me fit by here.0 o (try_set_blocking c on r) xs refl run' legal' here.1 at tt).between
+
+    pub register-ends : (s : SelNo) (c : ChanNo) (ops att : ℕ) (answer : Result _ ChannelError) (acts : List Act) → IsRun l (register s c ops att answer) acts → IsLegal l (after past me acts)
+        → IsMadeSelector (state_after past) s → IsMadeChannel (state_after past) c → Ends l past now me o acts (register s c ops att answer)
+    register-ends s c ops att answer acts run legal made made' =
+        let it = last_run l me _ _ (WithBoth s c)
+        (λ p x xs r here legal' run' _. (one p xs r here legal' run', (selector-stays p xs s legal' here.1.0, channel-stays p xs c legal' here.1.1))) past acts answer (between, (made, made')) legal run in
+        leaves-now past now o acts false (subst (λ es. IsBetween l (state_after es) now) it.same (one it.before it.last answer it.here it.legal it.made)) at
+      where
+        one : (p : List Event) (xs : List Act) (r : Result _ ChannelError) → WithBoth s c p → IsLegal l (after p me xs) → Completes (try_register_plan l s c ops att) xs r → IsBetween l (state_after (after p me xs)) now
+        one p xs r here legal' run' = (ends l p now me fit by here.0 o (try_register s c ops att r) xs refl run' legal' here.1 at tt).between
+
+    -- ---- pipes
+
+    ran-between : {R : Type 0} (p : List Event) (plan : Plan R) (xs : List Act) (r : R) → IsBetween l (perform me plan (state_after p)).state now → IsLegal l (after p me xs) → Completes plan xs r → IsBetween l (state_after (after p me xs)) now
+    ran-between {R = R} p plan xs r there legal' run' = subst (λ (d : Performed R). IsBetween l d.state now) (perform_ran l me plan p xs r legal' run') there
+
+    pub pipe-ends : (answer : Result PipeEnds PipeMakeError) (acts : List Act) → IsRun l (pipe answer) acts → IsLegal l (after past me acts) → Ends l past now me o acts (pipe answer)
+    pipe-ends answer acts run legal =
+        leaves-now past now o acts (pipe_lacks_memory answer)
+        (ran-between past (pipe_plan l (pipe_lacks_memory answer)) acts answer (pipe-leaves l now me fit by (state_after past) (pipe_lacks_memory answer) between) legal run) at
+
+    pub try_read-ends : (c : ChanNo) (answer : Result Bool PipeError) (acts : List Act) → IsRun l (try_read c answer) acts → IsLegal l (after past me acts) → IsMadeChannel (state_after past) c → Ends l past now me o acts (try_read c answer)
+    try_read-ends c answer acts run legal made =
+        leaves-now past now o acts false (ran-between past (try_read_plan l c) acts answer (read-leaves l (state_after past) now me fit by between c made) legal run) at
+
+    pub try_write-ends : (source c : ChanNo) (answer : Result Bool PipeError) (acts : List Act) → IsRun l (try_write source c answer) acts → IsLegal l (after past me acts) → IsMadeChannel (state_after past) c
+        → Ends l past now me o acts (try_write source c answer)
+    try_write-ends source c answer acts run legal made =
+        leaves-now past now o acts false (ran-between past (try_write_plan l source c) acts answer (write-leaves l (state_after past) now me fit by between source c made) legal run) at
+
+    pub read-ends : (c : ChanNo) (none : Bool) (answer : Result Bool PipeError) (acts : List Act) → IsRun l (read c none answer) acts → IsLegal l (after past me acts) → IsMadeChannel (state_after past) c → Ends l past now me o acts (read c none answer)
+    read-ends c none answer acts run legal made =
+        let it = last_run l me _ _ (WithChannel c)
+        (λ p x xs r here legal' run' _. (one p xs r here legal' run', channel-stays p xs c legal' here.1)) past acts run.found (between, made) legal run.runs in
+        leaves-now past now o acts false (subst (λ es. IsBetween l (state_after es) now) it.same (one it.before it.last run.found it.here it.legal it.made)) at
+      where
+        one : (p : List Event) (xs : List Act) (r : Result Bool PipeError) → WithChannel c p → IsLegal l (after p me xs) → Completes (try_read_plan l c) xs r → IsBetween l (state_after (after p me xs)) now
+        one p xs r here legal' run' = ran-between p (try_read_plan l c) xs r (read-leaves l (state_after p) now me fit by here.0 c here.1) legal' run'
+
+    pub write-ends : (source c : ChanNo) (none : Bool) (answer : Result Bool PipeError) (acts : List Act) → IsRun l (write source c none answer) acts → IsLegal l (after past me acts) → IsMadeChannel (state_after past) c
+        → Ends l past now me o acts (write source c none answer)
+    write-ends source c none answer acts run legal made =
+        let it = last_run l me _ _ (WithChannel c)
+        (λ p x xs r here legal' run' _. (one p xs r here legal' run', channel-stays p xs c legal' here.1)) past acts run.found (between, made) legal run.runs in
+        leaves-now past now o acts false (subst (λ es. IsBetween l (state_after es) now) it.same (one it.before it.last run.found it.here it.legal it.made)) at
+      where
+        one : (p : List Event) (xs : List Act) (r : Result Bool PipeError) → WithChannel c p → IsLegal l (after p me xs) → Completes (try_write_plan l source c) xs r → IsBetween l (state_after (after p me xs)) now
+        one p xs r here legal' run' = ran-between p (try_write_plan l source c) xs r (write-leaves l (state_after p) now me fit by here.0 source c here.1) legal' run'
+
+  -- ---- one call and then another
+
+  abbrev WithSelector : Progress → SelNo → List Event → Type 0
+  WithSelector now s p = IsBetween l (state_after p) now × IsMadeSelector (state_after p) s
+
+  -- what two calls leave that make one
+  two-end : (past : List Event) (now middle x : Progress) (o o' : Ongoing) (first second acts : List Act) (lacks lacks' : Bool) (a a' : Scripted) (between_ends : List Event) (final : Progress) (ongoing : Ongoing) (lacks'' : Bool)
+      → EndsAs l past now me first middle o lacks a → EndsAs l between_ends middle me second x o' lacks' a'
+      → after between_ends me second ≡ after past me acts → x ≡ final → o' ≡ ongoing → EndsAs l past now me acts final ongoing lacks'' unscripted
+  two-end past now middle x o o' first second acts lacks lacks' a a' between_ends final ongoing lacks'' one two same left_is ongoing_is = record {
+    between = subst (λ es. IsBetween l (state_after es) final) same (subst (IsBetween l (state_after (after between_ends me second))) left_is two.between);
+    own = subst (λ w. IsOngoing me w ongoing) left_is (subst (IsOngoing me x) ongoing_is two.own);
+    others = λ n k other at. subst (λ w. IsOngoing n w k) left_is (two.others n k other (one.others n k other at));
+    is = unscripted-is l past now me acts final lacks'';
+  }
+
+  -- an earlier beginning of what is done in the same position
+  moved : (before past : List Event) (now : Progress) (last acts : List Act) (x : Progress) (o : Ongoing) (lacks lacks' : Bool) (a : Scripted) → EndsAs l before now me last x o lacks a → after before me last ≡ after past me acts
+      → EndsAs l past now me acts x o lacks' unscripted
+  moved before past now last acts x o lacks lacks' a one same = record {
+    between = subst (λ es. IsBetween l (state_after es) x) same one.between;
+    own = one.own;
+    others = one.others;
+    is = unscripted-is l past now me acts x lacks';
+  }
+
+  -- ---- closing
+
+  module _ (past : List Event) (now : Progress) (o : Ongoing) (between : IsBetween l (state_after past) now) (at : IsOngoing me now o) (s : SelNo) (made : IsMadeSelector (state_after past) s) where
+    finish-again : (w : Progress) (k : Ongoing) (p : List Event) (xs : List Act) (r : FinishReply) → IsOngoing me w k → k.closes s.0 ≡ true → WithSelector w s p → IsLegal l (after p me xs) → Completes (try_finish_plan s) xs r → finish_finds_busy r ≡ true → WithSelector w s (after p me xs)
+    finish-again w k p xs closed at' may here legal run goes = absurd (cc goes)
+    finish-again w k p xs busy at' may here legal run goes = ((ends l p w me fit by here.0 k (try_finish s busy) xs refl run legal here.1 at' may).between, selector-stays p xs s legal here.1)
+
+    close-rest : (first second acts : List Act) (middle : ShutReply) (answer : Bool) → acts ≡ first ++ second → IsLegal l (after past me acts) → Completes (shut_plan s) first middle → ClosesRest s middle second answer
+        → Ends l past now me o acts (close s answer)
+    close-rest first second acts already_closed answer parts legal run rest =
+        let legal' = begins-legal l me past first second (subst (λ xs. IsLegal l (after past me xs)) parts legal) in
+        let one = ends l past now me fit by between o (shut s already_closed) first refl run legal' made at tt in
+        subst (λ (b : Bool). Ends l past now me o acts (close s b)) (sym rest.0)
+        (moved past past now first acts now o false false _ one (ap (λ xs. after past me xs) (sym (append-nil first) ∙ (ap (λ xs. first ++ xs) (sym rest.1) ∙ sym parts))))
+    close-rest first second acts closing answer parts legal run rest =
+        let whole = subst (λ xs. IsLegal l (after past me xs)) parts legal in
+        let legal' = begins-legal l me past first second whole in
+        let one = ends l past now me fit by between o (shut s closing) first refl run legal' made at tt in
+        let w = after_shut now me s closing in
+        let k = closes_on o s true in
+        let may : k.closes s.0 ≡ true = put-same o.closes s.0 true in
+        let it = last_run l me _ _ (WithSelector w s) (λ p x xs r here legal'' run' goes. finish-again w k p xs r one.own may here legal'' run' goes)
+        (after past me first) second closed (one.between, selector-stays past first s legal' made) (then-legal l me past first second whole) rest.1 in
+        let two = ends l it.before w me fit by it.here.0 k (try_finish s closed) it.last refl it.made it.legal it.here.1 one.own may in
+        subst (λ (b : Bool). Ends l past now me o acts (close s b)) (sym rest.0)
+        (two-end past now w (after_finish w s closed) k (closes_on k s false) first it.last acts false false _ _ it.before (with_closing now s None) (closes_on o s false) false one two
+        (it.same ∙ (joined past me first second ∙ ap (λ xs. after past me xs) (sym parts)))
+        (ap (λ f. record now { closing = f }) (put-twice now.closing s.0 (Some me) None))
+        (ap (λ f. record o { closes = f }) (put-twice o.closes s.0 true false)))
+
+    pub close-ends : (answer : Bool) (acts : List Act) → IsRun l (close s answer) acts → IsLegal l (after past me acts) → Ends l past now me o acts (close s answer)
+    close-ends answer acts run legal = close-rest run.first run.second acts run.middle answer run.parts legal run.runs_first run.runs_second
