@@ -233,3 +233,102 @@ module _ (l : Limits) (me : CallerNo) (fit : IsFit l) (by : IsCaller l me) where
 
     pub close-ends : (answer : Bool) (acts : List Act) → IsRun l (close s answer) acts → IsLegal l (after past me acts) → Ends l past now me o acts (close s answer)
     close-ends answer acts run legal = close-rest run.first run.second acts run.middle answer run.parts legal run.runs_first run.runs_second
+
+  -- ---- selecting
+
+  -- a selection in progress of this caller, and what is over or left then
+  module _ (past : List Event) (now : Progress) (o : Ongoing) (between : IsBetween l (state_after past) now) (at : IsOngoing me now o) (s : SelNo) (made : IsMadeSelector (state_after past) s) (mode : Mode) (time : HasTime mode) where
+    begin-again : (p : List Event) (xs : List Act) (r : Result Selection BeginError) → WithSelector now s p → IsLegal l (after p me xs) → Begins s mode xs r → begin_finds_busy r ≡ true → WithSelector now s (after p me xs)
+    begin-again p xs (Ok x) here legal run goes = absurd (cc goes)
+    begin-again p xs (Err BeginError.ClosedSelector) here legal run goes = absurd (cc goes)
+    begin-again p xs (Err BeginError.Memory) here legal run goes = absurd (cc goes)
+    begin-again p xs (Err BeginError.Busy) here legal run goes =
+        ((ends l p now me fit by here.0 o (try_begin s mode (Err BeginError.Busy)) xs refl run legal (here.1, time) at tt).between, selector-stays p xs s legal here.1)
+
+    module _ (x : Selection) where
+      -- with the selection in progress
+      abbrev now_on : Progress
+      now_on = after_begin now me s (Ok x)
+
+      abbrev o_on : Ongoing
+      o_on = selecting o s (Some x)
+
+      on-selector : (p : List Event) → IsBetween l (state_after p) now_on → x.selector.0 ≡ s.0
+      on-selector p there = ((there.shown s.0).on (record { caller = me; selection = x }) (put-same now.selection s.0 (Some (record { caller = me; selection = x })))).selector
+
+      may-tell : x.selector.0 ≡ s.0 → o_on.selection x.selector.0 ≡ Some x
+      may-tell same = ap (λ (k : ℕ). o_on.selection k) same ∙ put-same o.selection s.0 (Some x)
+
+      its-selector : x.selector.0 ≡ s.0 → (p : List Event) → IsMadeSelector (state_after p) s → IsMadeSelector (state_after p) x.selector
+      its-selector same p here = ap (λ (k : ℕ). (state_after p).selector k) same ∙ here
+
+      over-now : x.selector.0 ≡ s.0 → with_selection now_on x.selector None ≡ with_selection now s None
+      over-now same =
+          ap (λ (k : ℕ). record now { selection = put now_on.selection k None }) same
+          ∙ ap (λ f. record now { selection = f }) (put-twice now.selection s.0 (Some (record { caller = me; selection = x })) None)
+
+      over-ongoing : x.selector.0 ≡ s.0 → selecting o_on x.selector None ≡ selecting o s None
+      over-ongoing same =
+          ap (λ (k : ℕ). record o { selection = put o_on.selection k None }) same
+          ∙ ap (λ f. record o { selection = f }) (put-twice o.selection s.0 (Some x) None)
+
+      tell-again : x.selector.0 ≡ s.0 → IsOngoing me now_on o_on → (p : List Event) (poll : Poll) (xs : List Act) (r : ToldReply) → WithSelector now_on s p → IsLegal l (after p me xs) → Tells x poll xs r → goes_on_after poll r ≡ true
+          → WithSelector now_on s (after p me xs)
+      tell-again same at' p poll xs (done a) here legal run goes = absurd (cc goes)
+      tell-again same at' p poll xs (again next) here legal run goes =
+          ((ends l p now_on me fit by here.0 o_on (told x poll (again next)) xs refl run legal (its-selector same p here.1) at' (may-tell same)).between, selector-stays p xs s legal here.1)
+
+      abbrev Begun : List Event → List Act → Type 0
+      Begun p xs = EndsAs l p now me xs now_on o_on false unscripted
+
+      rest-selected : (first second acts : List Act) (polls : List Poll) (answer : _) → acts ≡ first ++ second → IsLegal l (after past me acts) → Begun past first → IsMadeSelector (state_after (after past me first)) s → TellsAll x polls second answer
+          → Ends l past now me o acts (select s mode polls (selected answer))
+      rest-selected first second acts polls answer parts legal one there rest =
+          let whole = subst (λ xs. IsLegal l (after past me xs)) parts legal in
+          let same = on-selector (after past me first) one.between in
+          let it = last_run l me _ _ (WithSelector now_on s) (tell-again same one.own) (after past me first) second (done answer) (one.between, there) (then-legal l me past first second whole) rest.tells in
+          let two = ends l it.before now_on me fit by it.here.0 o_on (told x it.given (done answer)) it.last refl it.made it.legal (its-selector same it.before it.here.1) one.own (may-tell same) in
+          two-end past now now_on (with_selection now_on x.selector None) o_on (selecting o_on x.selector None) first it.last acts false false _ _ it.before (with_selection now s None) (selecting o s None) false one two
+          (it.same ∙ (joined past me first second ∙ ap (λ xs. after past me xs) (sym parts))) (over-now same) (over-ongoing same)
+
+      rest-left : (first second acts : List Act) (polls : List Poll) → acts ≡ first ++ second → IsLegal l (after past me acts) → Begun past first → IsMadeSelector (state_after (after past me first)) s → TellsAndLeaves x polls second
+          → Ends l past now me o acts (select s mode polls left)
+      rest-left first second acts polls parts legal one there rest =
+          let whole = subst (λ xs. IsLegal l (after past me xs)) parts legal in
+          let same = on-selector (after past me first) one.between in
+          let p = after past me first in
+          let legal_rest = subst (λ xs. IsLegal l (after p me xs)) rest.parts (then-legal l me past first second whole) in
+          let here = tries_keep l me _ _ (WithSelector now_on s) (tell-again same one.own) p rest.told (one.between, there) (begins-legal l me p rest.told rest.leaves legal_rest) rest.tells in
+          let before = after p me rest.told in
+          let two = ends l before now_on me fit by here.0 o_on (leave x) rest.leaves refl rest.left (then-legal l me p rest.told rest.leaves legal_rest) (its-selector same before here.1) one.own (may-tell same) in
+          two-end past now now_on (with_selection now_on x.selector None) o_on (selecting o_on x.selector None) first rest.leaves acts false false _ _ before (with_selection now s None) (selecting o s None) false one two
+          (joined p me rest.told rest.leaves ∙ (ap (λ xs. after p me xs) (sym rest.parts) ∙ (joined past me first second ∙ ap (λ xs. after past me xs) (sym parts)))) (over-now same) (over-ongoing same)
+
+    select-rest : (first second acts : List Act) (polls : List Poll) (middle : Result Selection BeginError) (answer : SelectReply) → acts ≡ first ++ second → IsLegal l (after past me acts) → Retries (Begins s mode) begin_finds_busy first middle → SelectsRest polls middle second answer
+        → Ends l past now me o acts (select s mode polls answer)
+    select-rest first second acts polls middle answer parts legal runs rest = by_middle middle answer it one rest
+      where
+        first_legal : IsLegal l (after past me first)
+        first_legal = begins-legal l me past first second (subst (λ xs. IsLegal l (after past me xs)) parts legal)
+
+        it : LastRun l me (λ (_ : Unit {0}). Begins s mode) (λ _. begin_finds_busy) (WithSelector now s) (λ p _ xs r here legal' run' goes. begin-again p xs r here legal' run' goes) past first middle
+        it = last_run l me _ _ (WithSelector now s) (λ p _ xs r here legal' run' goes. begin-again p xs r here legal' run' goes) past first middle (between, made) first_legal runs
+
+        one : Ends l it.before now me o it.last (try_begin s mode middle)
+        one = ends l it.before now me fit by it.here.0 o (try_begin s mode middle) it.last refl it.made it.legal (it.here.1, time) at tt
+
+        there : IsMadeSelector (state_after (after past me first)) s
+        there = selector-stays past first s first_legal made
+
+        by_middle : (m : Result Selection BeginError) (a : SelectReply) → (run : LastRun l me (λ (_ : Unit {0}). Begins s mode) (λ _. begin_finds_busy) (WithSelector now s) (λ p _ xs r here legal' run' goes. begin-again p xs r here legal' run' goes) past first m)
+            → Ends l run.before now me o run.last (try_begin s mode m) → SelectsRest polls m second a → Ends l past now me o acts (select s mode polls a)
+        by_middle (Ok x) (selected a) run one' rest' = rest-selected x first second acts polls a parts legal (moved run.before past now run.last first (now_on x) (o_on x) false false _ one' run.same) there rest'
+        by_middle (Ok x) (not_begun refusal) run one' rest' = absurd rest'
+        by_middle (Ok x) left run one' rest' = rest-left x first second acts polls parts legal (moved run.before past now run.last first (now_on x) (o_on x) false false _ one' run.same) there rest'
+        by_middle (Err refusal) a run one' rest' =
+            subst (λ (b : SelectReply). Ends l past now me o acts (select s mode polls b)) (sym rest'.2)
+            (moved run.before past now run.last acts now o _ _ _ one'
+            (run.same ∙ ap (λ xs. after past me xs) (sym (append-nil first) ∙ (ap (λ xs. first ++ xs) (sym rest'.0) ∙ sym parts))))
+
+    pub select-ends : (polls : List Poll) (answer : SelectReply) (acts : List Act) → IsRun l (select s mode polls answer) acts → IsLegal l (after past me acts) → Ends l past now me o acts (select s mode polls answer)
+    select-ends polls answer acts run legal = select-rest run.first run.second acts polls run.middle answer run.parts legal run.runs_first run.runs_second
