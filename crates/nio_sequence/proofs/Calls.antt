@@ -1,5 +1,5 @@
 -- Each call that doesn't wait, made between two calls: what it leaves.
-use Rattle.std.proofs.Common.{◌≡◌, ℕ, zero, suc, ◌==◌, nat_lt, Bool, true, false, cond, if◌then◌else◌, Option, Some, None, option_map, Result, Ok, Err, List, [], ◌∷◌, ◌++◌, map, refl, ap, sym, ◌∙◌, subst, arith}
+use Rattle.std.proofs.Common.{◌≡◌, ℕ, zero, suc, ◌==◌, nat_lt, Bool, true, false, not, ◌&&◌, cond, if◌then◌else◌, Option, Some, None, option_map, Result, Ok, Err, List, [], ◌∷◌, ◌++◌, map, refl, ap, sym, ◌∙◌, subst, arith}
 use Rattle.std.specs.Prelude.{is_some, IsTrue}
 use Rattle.std.proofs.lemmas.Bool.{both_ways, lt-ltb, cond-true}
 use Rattle.nio_base.specs.Limits.{IsFit}
@@ -24,6 +24,7 @@ use Rattle.nio_event.specs.declared.found.Mode.{Mode}
 use Rattle.nio_event.specs.declared.reply.Reply.{Reply}
 use Rattle.nio_event.specs.declared.reply.Reply.TheVariants as reply
 use Rattle.nio_orderly.specs.Made.{Made, IsRun, Ongoing, after_call, MayCome, draw, find_selector, find_channel, find, is_valid, interest, set_interest, interest_or, interest_and, ready, cancel, unselect, attach, attachment, open_channel, is_open, is_blocking, is_registered, key_for, try_set_blocking, try_register, close_channel, open_selector, try_begin, told, leave, shut, try_finish, keys, selected_keys, wakeup, interrupt, interrupted, pipe, try_read, try_write, set_blocking, register, select, close, read, write}
+use Rattle.nio_orderly.specs.Waited.{waits}
 use Rattle.nio_plain.proofs.Naming.{selector-through}
 use Rattle.nio_plain.specs.ScriptState.{ScriptState}
 use Rattle.nio_plain.specs.Seq.{call_of, seq}
@@ -80,9 +81,9 @@ pub record EndsAs (l : Limits) (past : List Event) (now : Progress) (me : Caller
 abbrev pub Ends : Limits → List Event → Progress → CallerNo → Ongoing → List Act → Made → Type 0
 Ends l past now me ongoing acts call = EndsAs l past now me acts (after_made now me call) (after_call ongoing call) (lacks_memory call) (script_call call)
 
--- the call has a word in a script, or a script doesn't see it
+-- the call doesn't wait, and isn't on a pipe
 abbrev pub IsPlain : Made → Type 0
-IsPlain made = IsTrue (is_of_script (script_call made))
+IsPlain made = IsTrue (is_of_script (script_call made) && not (waits made))
 
 -- ---- plans
 

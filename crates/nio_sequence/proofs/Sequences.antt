@@ -6,7 +6,7 @@ use Rattle.std.proofs.lemmas.List.Elements.{All-head, All-tail}
 use Rattle.nio_base.specs.Limits.{IsFit}
 use Rattle.nio_base.specs.declared.limits.Limits.{Limits}
 use Rattle.nio_base.specs.declared.numbers.CallerNo.{CallerNo}
-use Rattle.nio_event.proofs.Legal.{legal_beginning}
+use Rattle.nio_event.proofs.Legal.{legal_beginning, legal_empty}
 use Rattle.nio_event.specs.Conditions.{IsCaller}
 use Rattle.nio_event.specs.Histories.{state_after, event_of, IsLegal}
 use Rattle.nio_event.specs.declared.act.Act.{Act}
@@ -14,9 +14,9 @@ use Rattle.nio_event.specs.declared.call.Call.{Call}
 use Rattle.nio_event.specs.declared.call.ScriptCall.{ScriptCall}
 use Rattle.nio_event.specs.declared.event.Event.{Event}
 use Rattle.nio_event.specs.declared.reply.Reply.{Reply}
-use Rattle.nio_orderly.proofs.CallLists.{calls-by, calls-append}
+use Rattle.nio_orderly.proofs.CallLists.{calls-by, calls-append, serial_call_more}
 use Rattle.nio_orderly.specs.Made.{Made, IsRun, Ongoing, nothing_ongoing, after_call, after_calls, MayCome, AreInOrder, draw, find_selector, find_channel, find, is_valid, interest, set_interest, interest_or, interest_and, ready, cancel, unselect, attach, attachment, open_channel, is_open, is_blocking, is_registered, key_for, try_set_blocking, try_register, close_channel, open_selector, try_begin, told, leave, shut, try_finish, keys, selected_keys, wakeup, interrupt, interrupted, pipe, try_read, try_write, set_blocking, register, select, close, read, write}
-use Rattle.nio_orderly.specs.Orderly.{MadeBy, AreRunsBy, calls_of}
+use Rattle.nio_orderly.specs.Orderly.{MadeBy, IsRunBy, AreRunsBy, calls_of}
 use Rattle.nio_plain.specs.Answer.{left_from}
 use Rattle.nio_plain.specs.ScriptState.{ScriptState}
 use Rattle.nio_plain.specs.Seq.Answers.{Answered}
@@ -27,8 +27,8 @@ use Rattle.nio_serial.specs.Documented.{Progress, nothing_yet, documented}
 use Rattle.nio_serial.specs.Serial.{replies_from}
 use Rattle.nio_sequence.proofs.Calls.{after, IsScripted, Ends, ends}
 use Rattle.nio_sequence.proofs.Waiting.{blocking-ends, register-ends, select-ends, close-ends, read-ends, write-ends, pipe-ends, try_read-ends, try_write-ends}
-use Rattle.nio_sequence.specs.Called.{Scripted, as_call, unseen, unscripted, script_call, lacks_memory, HasNames}
-use Rattle.nio_sequence.specs.Laws.{is_of_script, AreOfScript, line_of, reply_of, script_of, replies_of, SequencesStand, one_more, IsNextCall, IsDocumented, NextCallIsDocumented, SequencesAreScripts}
+use Rattle.nio_sequence.specs.Called.{Scripted, as_call, unseen, unscripted, script_call, lacks_memory, HasNames, IsNamedCall}
+use Rattle.nio_sequence.specs.Laws.{is_of_script, AreOfScript, line_of, reply_of, script_of, replies_of, SequencesStand, one_more, IsNextCall, IsDocumented, NextCallIsDocumented, SequencesGrow, NothingIsSequence, SequencesAreScripts}
 use Rattle.nio_sequence.specs.Left.{after_made, in_progress, IsOngoing, AreNamed, IsSequence, IsLeftBy}
 
 -- ---- every call
@@ -226,3 +226,42 @@ next_call_is_documented l past made now me acts call word said fit next =
         ongoing = λ n. subst (IsOngoing n (after_made now me call)) (after-next made one n) (each-ongoing l past now o one acts done stands.ongoing n);
       };
     }
+
+-- ---- longer histories
+
+record GrowsFrom (l : Limits) (past : List Event) (made : List MadeBy) (events : List Event) : Type 0 where
+  runs : AreRunsBy l made events
+  named : AreNamed l past made events runs
+
+grow_from : (l : Limits) (made : List MadeBy) (past events added : List Event) (runs : AreRunsBy l made events) → AreNamed l past made events runs → (one : MadeBy) → IsRunBy l one added → IsNamedCall l (state_after (past ++ events)) one
+    → GrowsFrom l past (made ++ one ∷ []) (events ++ added)
+grow_from l [] past events added runs named one run names = record {
+  runs = record { first = added; second = []; parts = ap (λ es. es ++ added) runs ∙ sym (append-nil added); is_first = run; is_second = refl };
+  named = (subst (λ es. IsNamedCall l (state_after es) one) (ap (λ es. past ++ es) runs ∙ append-nil past) names, tt);
+}
+grow_from l (first ∷ made) past events added runs named one run names =
+    let rest = grow_from l made (past ++ runs.first) runs.second added runs.is_second named.1 one run
+    (subst (λ es. IsNamedCall l (state_after es) one) (ap (λ es. past ++ es) runs.parts ∙ sym (append_assoc past runs.first runs.second)) names) in
+    record {
+      runs = record {
+        first = runs.first;
+        second = runs.second ++ added;
+        parts = ap (λ es. es ++ added) runs.parts ∙ append_assoc runs.first runs.second added;
+        is_first = runs.is_first;
+        is_second = rest.runs;
+      };
+      named = (named.0, rest.named);
+    }
+
+pub sequences_grow : SequencesGrow
+sequences_grow l past made me acts call sequence legal run names may =
+    let one : MadeBy = record { caller = me; call = call } in
+    let grown = grow_from l made [] past (map (event_of me) acts) sequence.serial.runs sequence.named one (record { acts = acts; runs = run; events_are = refl }) names in
+    record {
+      legal = legal;
+      serial = record { runs = grown.runs; in_order = (serial_call_more l past acts made me call sequence.serial may run).in_order };
+      named = grown.named;
+    }
+
+pub nothing_is_sequence : NothingIsSequence
+nothing_is_sequence l = record { legal = legal_empty l; serial = record { runs = refl; in_order = λ n. tt }; named = tt }

@@ -34,6 +34,20 @@ use Rattle.nio_steps.specs.SelectCalls.{Selection, Begins, begin_finds_busy, Pol
 use Rattle.nio_steps.specs.Waiting.{Then, Run, acts_of, Tries, Repeats, Retries}
 use Rattle.nio_steps.specs.declared.refusal.BeginError.{BeginError}
 use Rattle.nio_steps.specs.declared.refusal.ChannelError.{ChannelError}
+use Rattle.nio_steps.specs.declared.refusal.ChannelError.TheVariants.{Busy}
+use Rattle.nio_base.specs.declared.numbers.KeyNo.{KeyNo}
+use Rattle.nio_event.specs.declared.call.Call.{Call}
+use Rattle.nio_event.specs.declared.call.Call.TheVariants as call
+use Rattle.nio_event.specs.declared.reply.Reply.{Reply}
+use Rattle.nio_event.specs.declared.reply.Reply.TheVariants as reply
+use Rattle.nio_plain.proofs.CallLawsRefusals.{refusals_change_nothing}
+use Rattle.nio_plain.specs.CallLaws.{is_without_effect}
+use Rattle.nio_plain.specs.Seq.{seq}
+use Rattle.nio_plain.specs.Seq.Answers.{Answered}
+use Rattle.nio_plain.specs.declared.rules.Rules.TheVariants.{Now}
+use Rattle.nio_serial.specs.Documented.{documented}
+use Rattle.nio_serial.specs.Replies.{mode_reply, register_reply}
+use Rattle.nio_sequence.specs.Called.{as_call}
 use Rattle.nio_steps.specs.declared.refusal.PipeError.{PipeError}
 use Rattle.nio_steps.specs.declared.refusal.PipeMakeError.{PipeMakeError}
 use Rattle.nio_sequence.proofs.Calls.{after, IsScripted, EndsAs, Ends, ends}
@@ -117,25 +131,57 @@ module _ (l : Limits) (me : CallerNo) (fit : IsFit l) (by : IsCaller l me) where
     abbrev WithBoth : SelNo → ChanNo → List Event → Type 0
     WithBoth s c p = IsBetween l (state_after p) now × (IsMadeSelector (state_after p) s × IsMadeChannel (state_after p) c)
 
+    -- and a script sees the state as it was
+    abbrev SeenSame : List Event → Type 0
+    SeenSame p = documented (state_after p) now ≡ documented (state_after past) now
+
+    -- a try that finds the hold taken is refused, and a refusal changes nothing
+    busy-same : (p : List Event) (xs : List Act) (word : Call) → is_without_effect word reply.Busy ≡ true
+        → seq Now l (documented (state_after p) now) me word ≡ record { reply = reply.Busy; left = documented (state_after (after p me xs)) now } → SeenSame p → SeenSame (after p me xs)
+    busy-same p xs word refuses is same =
+        sym (ap (λ (a : Answered). a.left) is)
+        ∙ (refusals_change_nothing Now l (documented (state_after p) now) me word (ap (λ (a : Answered). is_without_effect word a.reply) is ∙ refuses) ∙ same)
+
+    -- the last try, with the answer of the call
+    last-ends : (p : List Event) (xs acts : List Act) (word : Call) (r : Reply) → EndsAs l p now me xs now o false (as_call word r) → SeenSame p → after p me xs ≡ after past me acts → EndsAs l past now me acts now o false (as_call word r)
+    last-ends p xs acts word r one seen same = record {
+      between = subst (λ es. IsBetween l (state_after es) now) same one.between;
+      own = one.own;
+      others = one.others;
+      is = ap (λ st. seq Now l st me word) (sym seen) ∙ (one.is ∙ ap (λ es. record { reply = r; left = documented (state_after es) now }) same);
+    }
+
     pub blocking-ends : (c : ChanNo) (on : Bool) (answer : Result (Unit {0}) ChannelError) (acts : List Act) → IsRun l (set_blocking c on answer) acts → IsLegal l (after past me acts) → IsMadeChannel (state_after past) c
         → Ends l past now me o acts (set_blocking c on answer)
     blocking-ends c on answer acts run legal made =
-        let it = last_run l me _ _ (WithChannel c)
-        (λ p x xs r here legal' run' _. (one p xs r here legal' run', channel-stays p xs c legal' here.1)) past acts answer (between, made) legal run in
-        leaves-now past now o acts false (subst (λ es. IsBetween l (state_after es) now) it.same (one it.before it.last answer it.here it.legal it.made)) at
+        let it = last_run l me _ _ (λ p. WithChannel c p × SeenSame p) (λ p x xs r here legal' run' goes. once_more p xs r here legal' run' goes) past acts answer ((between, made), refl) legal run in
+        last-ends it.before it.last acts (call.Blocking c on) (mode_reply answer) (one it.before it.last answer it.here.0 it.legal it.made) it.here.1 it.same
       where
-        one : (p : List Event) (xs : List Act) (r : Result (Unit {0}) ChannelError) → WithChannel c p → IsLegal l (after p me xs) → Completes (try_set_blocking_plan l c on) xs r → IsBetween l (state_after (after p me xs)) now
-        one p xs r here legal' run' = (ends l p now me fit by here.0 o (try_set_blocking c on r) xs refl run' legal' here.1 at tt).between
+        one : (p : List Event) (xs : List Act) (r : Result (Unit {0}) ChannelError) → WithChannel c p → IsLegal l (after p me xs) → Completes (try_set_blocking_plan l c on) xs r → Ends l p now me o xs (try_set_blocking c on r)
+        one p xs r here legal' run' = ends l p now me fit by here.0 o (try_set_blocking c on r) xs refl run' legal' here.1 at tt
 
-    pub register-ends : (s : SelNo) (c : ChanNo) (ops att : ℕ) (answer : Result _ ChannelError) (acts : List Act) → IsRun l (register s c ops att answer) acts → IsLegal l (after past me acts)
+        once_more : (p : List Event) (xs : List Act) (r : Result (Unit {0}) ChannelError) → WithChannel c p × SeenSame p → IsLegal l (after p me xs) → Completes (try_set_blocking_plan l c on) xs r → finds_held r ≡ true
+            → WithChannel c (after p me xs) × SeenSame (after p me xs)
+        once_more p xs (Err Busy) here legal' run' goes =
+            let done = one p xs (Err Busy) here.0 legal' run' in
+            ((done.between, channel-stays p xs c legal' here.0.1), busy-same p xs (call.Blocking c on) refl done.is here.1)
+        once_more p xs _ here legal' run' goes = absurd (cc goes)
+
+    pub register-ends : (s : SelNo) (c : ChanNo) (ops att : ℕ) (answer : Result KeyNo ChannelError) (acts : List Act) → IsRun l (register s c ops att answer) acts → IsLegal l (after past me acts)
         → IsMadeSelector (state_after past) s → IsMadeChannel (state_after past) c → Ends l past now me o acts (register s c ops att answer)
     register-ends s c ops att answer acts run legal made made' =
-        let it = last_run l me _ _ (WithBoth s c)
-        (λ p x xs r here legal' run' _. (one p xs r here legal' run', (selector-stays p xs s legal' here.1.0, channel-stays p xs c legal' here.1.1))) past acts answer (between, (made, made')) legal run in
-        leaves-now past now o acts false (subst (λ es. IsBetween l (state_after es) now) it.same (one it.before it.last answer it.here it.legal it.made)) at
+        let it = last_run l me _ _ (λ p. WithBoth s c p × SeenSame p) (λ p x xs r here legal' run' goes. once_more p xs r here legal' run' goes) past acts answer ((between, (made, made')), refl) legal run in
+        last-ends it.before it.last acts (call.Register s c ops (Some att)) (register_reply answer) (one it.before it.last answer it.here.0 it.legal it.made) it.here.1 it.same
       where
-        one : (p : List Event) (xs : List Act) (r : Result _ ChannelError) → WithBoth s c p → IsLegal l (after p me xs) → Completes (try_register_plan l s c ops att) xs r → IsBetween l (state_after (after p me xs)) now
-        one p xs r here legal' run' = (ends l p now me fit by here.0 o (try_register s c ops att r) xs refl run' legal' here.1 at tt).between
+        one : (p : List Event) (xs : List Act) (r : Result KeyNo ChannelError) → WithBoth s c p → IsLegal l (after p me xs) → Completes (try_register_plan l s c ops att) xs r → Ends l p now me o xs (try_register s c ops att r)
+        one p xs r here legal' run' = ends l p now me fit by here.0 o (try_register s c ops att r) xs refl run' legal' here.1 at tt
+
+        once_more : (p : List Event) (xs : List Act) (r : Result KeyNo ChannelError) → WithBoth s c p × SeenSame p → IsLegal l (after p me xs) → Completes (try_register_plan l s c ops att) xs r → finds_held r ≡ true
+            → WithBoth s c (after p me xs) × SeenSame (after p me xs)
+        once_more p xs (Err Busy) here legal' run' goes =
+            let done = one p xs (Err Busy) here.0 legal' run' in
+            ((done.between, (selector-stays p xs s legal' here.0.1.0, channel-stays p xs c legal' here.0.1.1)), busy-same p xs (call.Register s c ops (Some att)) refl done.is here.1)
+        once_more p xs _ here legal' run' goes = absurd (cc goes)
 
     -- ---- pipes
 

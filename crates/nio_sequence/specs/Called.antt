@@ -28,7 +28,7 @@ pub data Scripted : Type 0 where
   as_call : Call → Reply → Scripted
   -- nothing: the call draws, or only looks a name up
   unseen : Scripted
-  -- no single call: it is a call on a pipe, or one that waits, which is several calls that don't wait
+  -- no call: it is on a pipe, or it is a whole selection or closing, which is several calls
   unscripted : Scripted
 
 -- how long a selection waits, as a line says it
@@ -74,8 +74,8 @@ script_call (interrupted answer) = as_call call.Interrupted (yes_or_no answer)
 script_call (pipe answer) = unscripted
 script_call (try_read source answer) = unscripted
 script_call (try_write source sink answer) = unscripted
-script_call (set_blocking c on answer) = unscripted
-script_call (register s c ops att answer) = unscripted
+script_call (set_blocking c on answer) = as_call (call.Blocking c on) (mode_reply answer)
+script_call (register s c ops att answer) = as_call (call.Register s c ops (Some att)) (register_reply answer)
 script_call (select s mode polls answer) = unscripted
 script_call (close s answer) = unscripted
 script_call (read source none answer) = unscripted

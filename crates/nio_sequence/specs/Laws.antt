@@ -19,7 +19,7 @@ use Rattle.nio_plain.specs.Answer.{left_by_script}
 use Rattle.nio_plain.specs.Seq.{seq}
 use Rattle.nio_plain.specs.declared.rules.Rules.TheVariants.{Now}
 use Rattle.nio_serial.specs.Documented.{Progress, nothing_yet, documented}
-use Rattle.nio_sequence.specs.Called.{Scripted, as_call, unseen, unscripted, script_call, lacks_memory, HasNames}
+use Rattle.nio_sequence.specs.Called.{Scripted, as_call, unseen, unscripted, script_call, lacks_memory, HasNames, IsNamedCall}
 use Rattle.nio_sequence.specs.Left.{after_made, in_progress, IsSequence, IsLeftBy}
 
 -- ---- what every serial history leaves
@@ -63,6 +63,18 @@ abbrev pub NextCallIsDocumented : Type 0
 NextCallIsDocumented =
     (l : Limits) (past : List Event) (made : List MadeBy) (now : Progress) (me : CallerNo) (acts : List Act) (call : Made) (word : Call) (said : Reply)
     → IsFit l → IsNextCall l past made now me acts call word said → IsDocumented l past made now me acts call word said
+
+-- the history with the call is one again, whatever the call is
+abbrev pub SequencesGrow : Type 0
+SequencesGrow =
+    (l : Limits) (past : List Event) (made : List MadeBy) (me : CallerNo) (acts : List Act) (call : Made)
+    → IsSequence l past made → IsLegal l (past ++ map (event_of me) acts) → IsRun l call acts
+    → IsNamedCall l (state_after past) (record { caller = me; call = call }) → MayCome (after_calls nothing_ongoing (calls_of me made)) call
+    → IsSequence l (past ++ map (event_of me) acts) (one_more made me call)
+
+-- and nothing is one
+abbrev pub NothingIsSequence : Type 0
+NothingIsSequence = (l : Limits) → IsSequence l [] []
 
 -- ---- the script of a history
 
