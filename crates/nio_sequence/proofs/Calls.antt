@@ -38,7 +38,7 @@ use Rattle.nio_serial.proofs.Lines.{selector-found, channel-found, key-found}
 use Rattle.nio_serial.specs.Between.{IsBetween}
 use Rattle.nio_serial.specs.Documented.{Progress, Selecting, documented, shown}
 use Rattle.nio_serial.specs.Laws.{IsMadeSelector, IsNamed, Amounts, by_key}
-use Rattle.nio_serial.specs.Lines.{Said, makes, asks, refused, begin_line, failed_line, close_end_line, call_plan, own_selection, after_begin, after_told, after_shut, after_finish, with_selection, with_closing}
+use Rattle.nio_serial.specs.Lines.{Said, makes, asks, refused, begin_line, failed_line, close_end_line, call_plan, own_selection, after_begin, after_told, after_shut, after_finish, with_selection}
 use Rattle.nio_serial.specs.Replies.{key_id, find_reply, set_reply, put_reply, channel_reply, mode_reply, register_reply, closed_reply, selector_reply, begin_reply, told_reply, shut_reply, finish_reply, list_reply}
 use Rattle.nio_steps.proofs.EachLaws.{each_run, split}
 use Rattle.nio_steps.proofs.PerformLaws.{perform_ran}
@@ -46,15 +46,14 @@ use Rattle.nio_steps.proofs.RunLaws.{follows_bind}
 use Rattle.nio_steps.proofs.SelectionLaws.{NoMark, Replies, after-replies}
 use Rattle.nio_steps.specs.KeyCalls.{find_selector_plan, find_channel_plan, find_plan, is_valid_plan, interest_plan, set_interest_plan, interest_or_plan, interest_and_plan, ready_plan, cancel_plan, unselect_plan, attach_plan, attachment_plan}
 use Rattle.nio_steps.specs.ChannelCalls.{open_channel_plan, is_open_plan, is_blocking_plan, is_registered_plan, key_for_plan, try_set_blocking_plan, try_register_plan, close_channel_plan}
-use Rattle.nio_steps.specs.Names.{selector}
 use Rattle.nio_steps.specs.Perform.{perform}
-use Rattle.nio_steps.specs.Plan.{Plan, ◌>>=◌}
+use Rattle.nio_steps.specs.Plan.{Plan}
 use Rattle.nio_steps.specs.Runs.{Completes}
-use Rattle.nio_steps.specs.SelectCalls.{Selection, open_selector_plan, wakeup_plan, interrupt_plan, interrupted_plan, try_begin_plan, begin_lacks_memory, told_plan, mark_entry, after_marks, Poll, ToldReply, done, again, leave_plan, shut_plan, ShutReply, closing, already_closed, try_finish_plan, FinishReply, closed, busy, keys_plan, selected_keys_plan}
+use Rattle.nio_steps.specs.SelectCalls.{Selection, open_selector_plan, wakeup_plan, interrupt_plan, interrupted_plan, try_begin_plan, told_plan, mark_entry, after_marks, Poll, ToldReply, done, again, leave_plan, shut_plan, ShutReply, closing, already_closed, try_finish_plan, FinishReply, closed, busy, keys_plan, selected_keys_plan}
 use Rattle.nio_steps.specs.Sweeps.{sweep_over}
 use Rattle.nio_steps.specs.declared.refusal.BeginError.{BeginError}
 use Rattle.nio_steps.specs.declared.refusal.ListError.{ListError}
-use Rattle.nio_sequence.proofs.Progress.{put_selection, put_closing, put_same, Own, own-is, own_of_caller, closing_of_caller, others_begun, others_ended, others_shut, others_closed}
+use Rattle.nio_sequence.proofs.Progress.{put_selection, put_closing, put_same, own-is, own_of_caller, closing_of_caller, others_begun, others_ended, others_shut, others_closed}
 use Rattle.nio_sequence.specs.Called.{Scripted, as_call, unseen, unscripted, waiting_of, script_call, lacks_memory, HasTime, HasNames}
 use Rattle.nio_sequence.specs.Laws.{is_of_script}
 use Rattle.nio_sequence.specs.Left.{after_made, IsOngoing}

@@ -1,6 +1,5 @@
 -- What serial histories leave: call by call, from the opening state on.
 use Rattle.std.proofs.Common.{◌≡◌, ℕ, ◌==◌, Bool, true, false, not, ◌&&◌, IsTrue, if◌then◌else◌, List, [], ◌∷◌, ◌++◌, map, refl, ap, sym, ◌∙◌, subst, append_assoc, eqb-true, eq-eqb}
-use Rattle.std.specs.List.{All}
 use Rattle.std.proofs.lemmas.List.{append-nil}
 use Rattle.std.proofs.lemmas.List.Elements.{All-head, All-tail}
 use Rattle.nio_base.specs.Limits.{IsFit}
@@ -10,7 +9,6 @@ use Rattle.nio_event.proofs.Legal.{legal_beginning, legal_empty}
 use Rattle.nio_event.specs.Conditions.{IsCaller}
 use Rattle.nio_event.specs.Histories.{state_after, event_of, IsLegal}
 use Rattle.nio_event.specs.declared.act.Act.{Act}
-use Rattle.nio_event.specs.declared.call.Call.{Call}
 use Rattle.nio_event.specs.declared.call.ScriptCall.{ScriptCall}
 use Rattle.nio_event.specs.declared.event.Event.{Event}
 use Rattle.nio_event.specs.declared.reply.Reply.{Reply}
@@ -28,7 +26,7 @@ use Rattle.nio_serial.specs.Serial.{replies_from}
 use Rattle.nio_sequence.proofs.Calls.{after, IsScripted, Ends, ends}
 use Rattle.nio_sequence.proofs.Waiting.{blocking-ends, register-ends, select-ends, close-ends, read-ends, write-ends, pipe-ends, try_read-ends, try_write-ends}
 use Rattle.nio_sequence.specs.Called.{Scripted, as_call, unseen, unscripted, script_call, lacks_memory, HasNames, IsNamedCall}
-use Rattle.nio_sequence.specs.Laws.{is_of_script, AreOfScript, line_of, reply_of, script_of, replies_of, SequencesStand, one_more, IsNextCall, IsDocumented, NextCallIsDocumented, SequencesGrow, NothingIsSequence, SequencesAreScripts}
+use Rattle.nio_sequence.specs.Laws.{is_of_script, AreOfScript, line_of, reply_of, script_of, replies_of, SequencesStand, NextCallIsDocumented, SequencesGrow, NothingIsSequence, SequencesAreScripts}
 use Rattle.nio_sequence.specs.Left.{after_made, in_progress, IsOngoing, AreNamed, IsSequence, IsLeftBy}
 
 -- ---- every call

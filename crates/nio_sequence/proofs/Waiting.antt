@@ -1,5 +1,5 @@
 -- Calls that wait, and calls on pipes, made between two calls: what they leave.
-use Rattle.std.proofs.Common.{◌≡◌, ℕ, ◌==◌, Bool, true, false, Option, Some, None, Result, Ok, Err, List, [], ◌∷◌, ◌++◌, map, refl, ap, sym, ◌∙◌, subst, append_assoc}
+use Rattle.std.proofs.Common.{◌≡◌, ℕ, Bool, true, false, Some, None, Result, Ok, Err, List, [], ◌∷◌, ◌++◌, map, refl, ap, sym, ◌∙◌, subst, append_assoc}
 use Rattle.std.specs.List.{All}
 use Rattle.std.proofs.lemmas.List.{append-nil, map-append}
 use Rattle.std.proofs.lemmas.List.Elements.{All-head, All-tail}
@@ -14,24 +14,24 @@ use Rattle.nio_event.proofs.Stays.{facts_are_permanent}
 use Rattle.nio_event.specs.Conditions.{IsCaller}
 use Rattle.nio_event.specs.Histories.{state_after, event_of, IsLegal}
 use Rattle.nio_event.specs.Permanent.{PermanentFact}
-use Rattle.nio_event.specs.State.{State, put}
+use Rattle.nio_event.specs.State.{put}
 use Rattle.nio_event.specs.declared.act.Act.{Act}
 use Rattle.nio_event.specs.declared.event.Event.{Event}
 use Rattle.nio_event.specs.declared.found.Mode.{Mode}
-use Rattle.nio_orderly.specs.Made.{Made, IsRun, Ongoing, selecting, closes_on, after_call, try_set_blocking, try_register, try_begin, told, leave, shut, try_finish, pipe, try_read, try_write, set_blocking, register, select, close, read, write}
+use Rattle.nio_orderly.specs.Made.{IsRun, Ongoing, selecting, closes_on, try_set_blocking, try_register, try_begin, told, leave, shut, try_finish, pipe, try_read, try_write, set_blocking, register, select, close, read, write}
 use Rattle.nio_serial.proofs.Base.{put-twice}
-use Rattle.nio_serial.specs.Between.{IsOn, IsBetween}
-use Rattle.nio_serial.specs.Documented.{Progress, Selecting}
+use Rattle.nio_serial.specs.Between.{IsBetween}
+use Rattle.nio_serial.specs.Documented.{Progress}
 use Rattle.nio_serial.specs.Laws.{IsMadeSelector, IsMadeChannel}
-use Rattle.nio_serial.specs.Lines.{with_selection, with_closing, after_begin, after_told, after_shut, after_finish}
+use Rattle.nio_serial.specs.Lines.{with_selection, with_closing, after_begin, after_shut, after_finish}
 use Rattle.nio_steps.proofs.PerformLaws.{perform_ran}
 use Rattle.nio_steps.specs.ChannelCalls.{try_set_blocking_plan, try_register_plan, finds_held}
 use Rattle.nio_steps.specs.Perform.{Performed, perform}
-use Rattle.nio_steps.specs.PipeCalls.{PipeEnds, pipe_plan, pipe_lacks_memory, try_read_plan, try_write_plan, waits_for_bytes, Waits}
+use Rattle.nio_steps.specs.PipeCalls.{PipeEnds, pipe_plan, pipe_lacks_memory, try_read_plan, try_write_plan}
 use Rattle.nio_steps.specs.Plan.{Plan}
 use Rattle.nio_steps.specs.Runs.{Completes}
 use Rattle.nio_steps.specs.SelectCalls.{Selection, Begins, begin_finds_busy, Poll, Tells, goes_on_after, ToldReply, done, again, SelectReply, selected, not_begun, left, SelectsRest, TellsAll, TellsAndLeaves, ShutReply, closing, already_closed, FinishReply, closed, busy, finish_finds_busy, ClosesRest, shut_plan, try_finish_plan}
-use Rattle.nio_steps.specs.Waiting.{Then, Run, acts_of, Tries, Repeats, Retries}
+use Rattle.nio_steps.specs.Waiting.{Run, acts_of, Tries, Repeats, Retries}
 use Rattle.nio_steps.specs.declared.refusal.BeginError.{BeginError}
 use Rattle.nio_steps.specs.declared.refusal.ChannelError.{ChannelError}
 use Rattle.nio_steps.specs.declared.refusal.ChannelError.TheVariants.{Busy}
@@ -52,8 +52,8 @@ use Rattle.nio_steps.specs.declared.refusal.PipeError.{PipeError}
 use Rattle.nio_steps.specs.declared.refusal.PipeMakeError.{PipeMakeError}
 use Rattle.nio_sequence.proofs.Calls.{after, IsScripted, EndsAs, Ends, ends}
 use Rattle.nio_sequence.proofs.Pipes.{read-leaves, write-leaves, pipe-leaves}
-use Rattle.nio_sequence.specs.Called.{Scripted, unscripted, script_call, lacks_memory, HasTime, HasNames}
-use Rattle.nio_sequence.specs.Left.{after_made, IsOngoing}
+use Rattle.nio_sequence.specs.Called.{Scripted, unscripted, HasTime}
+use Rattle.nio_sequence.specs.Left.{IsOngoing}
 
 unscripted-is : (l : Limits) (past : List Event) (now : Progress) (me : CallerNo) (acts : List Act) (x : Progress) (b : Bool) → IsScripted l past now me acts x b unscripted
 unscripted-is l past now me acts x true = tt

@@ -1,5 +1,5 @@
 -- Which call of the documented system a call on the table is: its word with what it was given, and its reply.
-use Rattle.std.specs.Prelude.{ℕ, ◌≤◌, pos, Bool, true, false, Some, ⊤}
+use Rattle.std.specs.Prelude.{◌≤◌, pos, Bool, true, false, Some, ⊤}
 use Rattle.nio_base.specs.declared.limits.Limits.{Limits}
 use Rattle.nio_base.specs.declared.numbers.KeyNo.{KeyNo}
 use Rattle.nio_event.specs.Conditions.{IsCaller}

@@ -1,5 +1,5 @@
 -- What a serial history leaves: what is in progress by its calls, and what holds of the state.
-use Rattle.std.specs.Prelude.{◌≡◌, ℕ, Bool, true, false, Option, Some, None, Result, Ok, Err, List, [], ◌∷◌, ◌++◌, ⊤}
+use Rattle.std.specs.Prelude.{◌≡◌, ℕ, true, false, None, List, [], ◌∷◌, ◌++◌, ⊤}
 use Rattle.nio_base.specs.declared.limits.Limits.{Limits}
 use Rattle.nio_base.specs.declared.numbers.CallerNo.{CallerNo}
 use Rattle.nio_event.specs.Histories.{state_after, IsLegal}
@@ -8,7 +8,7 @@ use Rattle.nio_orderly.specs.Made.{Made, Ongoing, nothing_ongoing, after_calls, 
 use Rattle.nio_orderly.specs.Orderly.{MadeBy, AreRunsBy, calls_of, IsSerial}
 use Rattle.nio_plain.specs.Seq.Selections.{is_caller}
 use Rattle.nio_serial.specs.Between.{IsBetween}
-use Rattle.nio_serial.specs.Documented.{Progress, nothing_yet}
+use Rattle.nio_serial.specs.Documented.{Progress}
 use Rattle.nio_serial.specs.Lines.{with_selection, with_closing, own_selection, after_begin, after_told, after_shut, after_finish}
 use Rattle.nio_steps.specs.Names.{selector}
 use Rattle.nio_steps.specs.SelectCalls.{selected, not_begun, left}
