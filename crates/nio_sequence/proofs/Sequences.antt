@@ -19,6 +19,8 @@ use Rattle.nio_plain.specs.Answer.{left_from}
 use Rattle.nio_plain.specs.ScriptState.{ScriptState}
 use Rattle.nio_plain.specs.Seq.Answers.{Answered}
 use Rattle.nio_plain.specs.declared.rules.Rules.TheVariants.{Now}
+use Rattle.nio_event.specs.State.{State}
+use Rattle.nio_serial.proofs.Facts.{sound}
 use Rattle.nio_serial.proofs.Staying.{begins-between}
 use Rattle.nio_serial.specs.Between.{IsBetween}
 use Rattle.nio_serial.specs.Documented.{Progress, nothing_yet, documented}
@@ -27,7 +29,7 @@ use Rattle.nio_sequence.proofs.Calls.{after, IsScripted, Ends, ends}
 use Rattle.nio_sequence.proofs.Waiting.{blocking-ends, register-ends, select-ends, close-ends, read-ends, write-ends, pipe-ends, try_read-ends, try_write-ends}
 use Rattle.nio_sequence.specs.Called.{Scripted, as_call, unseen, unscripted, script_call, lacks_memory, HasNames, IsNamedCall}
 use Rattle.nio_sequence.specs.Laws.{is_of_script, AreOfScript, line_of, reply_of, script_of, replies_of, SequencesStand, NextCallIsDocumented, SequencesGrow, NothingIsSequence, SequencesAreScripts}
-use Rattle.nio_sequence.specs.Left.{after_made, in_progress, IsOngoing, AreNamed, IsSequence, IsLeftBy}
+use Rattle.nio_sequence.specs.Left.{after_made, in_progress, IsOngoing, AreNamed, AreNoted, IsSequence, IsLeftBy}
 
 -- ---- every call
 
@@ -183,8 +185,11 @@ module _ (l : Limits) (fit : IsFit l) where
   stand events made sequence =
       stand_from made [] nothing_yet (λ _. nothing_ongoing) events sequence.serial.runs sequence.legal sequence.named (begins-between l) (λ n. record { selection = λ s. refl; closes = λ s. refl }) sequence.serial.in_order
 
+are-noted : (l : Limits) (st : State) (now : Progress) → IsBetween l st now → AreNoted st
+are-noted l st now between s i in_set = (sound l st now between).keys.notes.in_set s i in_set
+
 pub sequences_stand : SequencesStand
-sequences_stand l events made fit sequence = let all = stand l fit events made sequence in record { between = all.between; ongoing = all.ongoing }
+sequences_stand l events made fit sequence = let all = stand l fit events made sequence in record { between = all.between; noted = are-noted l (state_after events) (in_progress nothing_yet made) all.between; ongoing = all.ongoing }
 
 pub sequences_are_scripts : SequencesAreScripts
 sequences_are_scripts l events made fit sequence of = let all = stand l fit events made sequence in record { replies = all.replies of; left = all.left of }
@@ -221,6 +226,7 @@ next_call_is_documented l past made now me acts call word said fit next =
       leaves = sym (ap (λ (a : Answered). a.left) is);
       stands = record {
         between = done.between;
+        noted = are-noted l (state_after (after past me acts)) (after_made now me call) done.between;
         ongoing = λ n. subst (IsOngoing n (after_made now me call)) (after-next made one n) (each-ongoing l past now o one acts done stands.ongoing n);
       };
     }

@@ -141,7 +141,7 @@ HasTime (Mode.For ms) = 1 ≤ ms
 abbrev pub HasKey : State → KeyNo → Type 0
 HasKey st k = IsMadeKey st k.sel (key_id k)
 
--- the selectors and channels that the call names are made, and its key was published
+-- the selectors and channels that the call names are made, its key was published, and a selection has a time to wait
 abbrev pub HasNames : State → Made → Type 0
 HasNames st (draw n) = ⊤
 HasNames st (find_selector n answer) = ⊤

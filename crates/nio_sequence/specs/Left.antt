@@ -1,7 +1,9 @@
 -- What a serial history leaves: what is in progress by its calls, and what holds of the state.
-use Rattle.std.specs.Prelude.{◌≡◌, ℕ, true, false, None, List, [], ◌∷◌, ◌++◌, ⊤}
+use Rattle.std.specs.Prelude.{◌≡◌, ℕ, true, false, None, List, [], ◌∷◌, ◌++◌, ⊤, IsTrue, Some}
 use Rattle.nio_base.specs.declared.limits.Limits.{Limits}
 use Rattle.nio_base.specs.declared.numbers.CallerNo.{CallerNo}
+use Rattle.nio_event.specs.State.{State}
+use Rattle.nio_event.specs.Sets.{in_key_set}
 use Rattle.nio_event.specs.Histories.{state_after, IsLegal}
 use Rattle.nio_event.specs.declared.event.Event.{Event}
 use Rattle.nio_orderly.specs.Made.{Made, Ongoing, nothing_ongoing, after_calls, draw, find_selector, find_channel, find, is_valid, interest, set_interest, interest_or, interest_and, ready, cancel, unselect, attach, attachment, open_channel, is_open, is_blocking, is_registered, key_for, try_set_blocking, try_register, close_channel, open_selector, try_begin, told, leave, shut, try_finish, keys, selected_keys, wakeup, interrupt, interrupted, pipe, try_read, try_write, set_blocking, register, select, close, read, write}
@@ -88,7 +90,14 @@ pub record IsSequence (l : Limits) (events : List Event) (made : List MadeBy) : 
   pub serial : IsSerial l events made
   pub named : AreNamed l [] made events serial.runs
 
+-- each key of a key set is noted for its channel
+abbrev pub AreNoted : State → Type 0
+AreNoted st = (s i : ℕ) → IsTrue (in_key_set (st.key s i)) → st.noted (st.key s i).chan.0 s ≡ Some (record { index = i; serial = (st.key s i).serial })
+
 -- What it leaves: a state between two calls, with what its calls left in progress, for each of its callers.
 pub record IsLeftBy (l : Limits) (events : List Event) (made : List MadeBy) (now : Progress) : Type 0 where
+  -- nobody holds a channel, has a pin or uses an index; the marks are exact; a turn is that of a selection in progress,
+  -- and a selector that is shut and not yet closed is that of a closing in progress
   pub between : IsBetween l (state_after events) now
+  pub noted : AreNoted (state_after events)
   pub ongoing : (n : CallerNo) → IsOngoing n now (after_calls nothing_ongoing (calls_of n made))
