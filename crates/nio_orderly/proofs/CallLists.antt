@@ -168,7 +168,7 @@ mine-by n m (act ∷ acts) false by =
     ap (λ (b : Bool). map (λ (e : Event). e.act) (cond b (event_of m act ∷ rest) rest)) by ∙ mine-by n m acts false by
 
 -- one call more, of a caller or of another
-calls-by : (n : CallerNo) (made : MadeBy) (later : List MadeBy) (b : Bool) → (made.caller.0 == n.0) ≡ b → calls_of n (made ∷ later) ≡ (if b then made.call ∷ calls_of n later else calls_of n later)
+pub calls-by : (n : CallerNo) (made : MadeBy) (later : List MadeBy) (b : Bool) → (made.caller.0 == n.0) ≡ b → calls_of n (made ∷ later) ≡ (if b then made.call ∷ calls_of n later else calls_of n later)
 calls-by n made later true by =
     let rest = filter (λ (m : MadeBy). m.caller.0 == n.0) later in
     ap (λ (b : Bool). map (λ (m : MadeBy). m.call) (cond b (made ∷ rest) rest)) by
@@ -176,7 +176,7 @@ calls-by n made later false by =
     let rest = filter (λ (m : MadeBy). m.caller.0 == n.0) later in
     ap (λ (b : Bool). map (λ (m : MadeBy). m.call) (cond b (made ∷ rest) rest)) by
 
-calls-append : (n : CallerNo) (made later : List MadeBy) → calls_of n (made ++ later) ≡ calls_of n made ++ calls_of n later
+pub calls-append : (n : CallerNo) (made later : List MadeBy) → calls_of n (made ++ later) ≡ calls_of n made ++ calls_of n later
 calls-append n made later =
     let by = λ (m : MadeBy). m.caller.0 == n.0 in
     ap (map (λ (m : MadeBy). m.call)) (filter-append by made later) ∙ map-append (λ (m : MadeBy). m.call) (filter by made) (filter by later)

@@ -1,0 +1,100 @@
+-- What callers have in progress, where a progress shows it: what a call puts in progress, for its caller and for others.
+use Rattle.std.proofs.Common.{◌≡◌, ℕ, ◌==◌, Bool, true, false, if◌then◌else◌, Option, Some, None, refl, ap, sym, ◌∙◌, eqb-true, eq-eqb}
+use Rattle.nio_base.specs.declared.numbers.CallerNo.{CallerNo}
+use Rattle.nio_event.proofs.Put.{put_keeps, put_both}
+use Rattle.nio_event.specs.State.{put}
+use Rattle.nio_orderly.specs.Made.{Ongoing}
+use Rattle.nio_plain.specs.Seq.Selections.{is_caller}
+use Rattle.nio_serial.specs.Documented.{Progress, Selecting}
+use Rattle.nio_serial.specs.Lines.{if_own, own_selection}
+use Rattle.nio_steps.specs.Names.{selector}
+use Rattle.nio_steps.specs.SelectCalls.{Selection}
+use Rattle.nio_sequence.specs.Left.{IsOngoing}
+
+-- ---- of the caller itself
+
+pub put_selection : (me : CallerNo) (now : Progress) (o : Ongoing) (s : ℕ) (x : Option Selection) (y : Option Selecting) → x ≡ if_own me y → IsOngoing me now o
+    → IsOngoing me (record now { selection = put now.selection s y }) (record o { selection = put o.selection s x })
+put_selection me now o s x y own at = record {
+  selection = λ t. put_both (λ _ a b. a ≡ if_own me b) o.selection now.selection s x y own t (at.selection t);
+  closes = at.closes;
+}
+
+pub put_closing : (me : CallerNo) (now : Progress) (o : Ongoing) (s : ℕ) (x : Bool) (y : Option CallerNo) → x ≡ is_caller me y → IsOngoing me now o
+    → IsOngoing me (record now { closing = put now.closing s y }) (record o { closes = put o.closes s x })
+put_closing me now o s x y own at = record {
+  selection = at.selection;
+  closes = λ t. put_both (λ _ a b. a ≡ is_caller me b) o.closes now.closing s x y own t (at.closes t);
+}
+
+-- what stands there is put again
+pub put_same : (me : CallerNo) (now : Progress) (o : Ongoing) (s : ℕ) (x : Option Selection) → x ≡ o.selection s → IsOngoing me now o → IsOngoing me now (record o { selection = put o.selection s x })
+put_same me now o s x is at = record {
+  selection = λ t. put_keeps (λ k a. a ≡ own_selection now me (selector k)) o.selection s x (λ was. is ∙ was) t (at.selection t);
+  closes = at.closes;
+}
+
+-- the caller's own selection is in progress
+pub record Own (me : CallerNo) (o : Option Selecting) (x : Selection) : Type 0 where
+  pub its : Selecting
+  pub is : o ≡ Some its
+  pub by : (its.caller.0 == me.0) ≡ true
+
+pub own-is : (me : CallerNo) (o : Option Selecting) (x : Selection) → if_own me o ≡ Some x → Own me o x
+own-is me None x is = absurd (cc is)
+own-is me (Some y) x is = by_test (y.caller.0 == me.0) refl is
+  where
+    by_test : (b : Bool) → (y.caller.0 == me.0) ≡ b → (if b then Some y.selection else None) ≡ Some x → Own me (Some y) x
+    by_test true by is' = record { its = y; is = refl; by = by }
+    by_test false by is' = absurd (cc is')
+
+pub own_of_caller : (me : CallerNo) (x : Selection) → Some x ≡ if_own me (Some (record { caller = me; selection = x }))
+own_of_caller me x = ap (λ (b : Bool). if b then Some x else None) (sym (eq-eqb me.0 me.0 refl))
+
+pub closing_of_caller : (me : CallerNo) → true ≡ is_caller me (Some me)
+closing_of_caller me = sym (eq-eqb me.0 me.0 refl)
+
+-- ---- of the others
+
+module _ (me n : CallerNo) (other : (me.0 == n.0) ≡ false) where
+  -- whoever is this caller isn't the other one
+  not_other : (k : ℕ) → (k == me.0) ≡ true → (k == n.0) ≡ false
+  not_other k is = ap (λ (m : ℕ). m == n.0) (eqb-true k me.0 is) ∙ other
+
+  none_of_other : (y : Selecting) → (y.caller.0 == me.0) ≡ true → if_own n (Some y) ≡ None
+  none_of_other y is = ap (λ (b : Bool). if b then Some y.selection else None) (not_other y.caller.0 is)
+
+  -- a selection of this caller is begun where there was none
+  pub others_begun : (now : Progress) (o : Ongoing) (s : ℕ) (x : Selection) → now.selection s ≡ None → IsOngoing n now o
+      → IsOngoing n (record now { selection = put now.selection s (Some (record { caller = me; selection = x })) }) o
+  others_begun now o s x none at = record {
+    selection = λ t. put_keeps (λ k y. o.selection k ≡ if_own n y) now.selection s (Some (record { caller = me; selection = x }))
+        (λ was. was ∙ (ap (if_own n) none ∙ sym (none_of_other (record { caller = me; selection = x }) (eq-eqb me.0 me.0 refl)))) t (at.selection t);
+    closes = at.closes;
+  }
+
+  -- or is over
+  pub others_ended : (now : Progress) (o : Ongoing) (s : ℕ) (y : Selecting) → now.selection s ≡ Some y → (y.caller.0 == me.0) ≡ true → IsOngoing n now o
+      → IsOngoing n (record now { selection = put now.selection s None }) o
+  others_ended now o s y is by at = record {
+    selection = λ t. put_keeps (λ k z. o.selection k ≡ if_own n z) now.selection s None (λ was. was ∙ (ap (if_own n) is ∙ none_of_other y by)) t (at.selection t);
+    closes = at.closes;
+  }
+
+  none_closing : (o : Option CallerNo) → is_caller me o ≡ true → is_caller n o ≡ false
+  none_closing None is = refl
+  none_closing (Some m) is = not_other m.0 is
+
+  -- a closing of this caller is begun where there was none
+  pub others_shut : (now : Progress) (o : Ongoing) (s : ℕ) → now.closing s ≡ None → IsOngoing n now o → IsOngoing n (record now { closing = put now.closing s (Some me) }) o
+  others_shut now o s none at = record {
+    selection = at.selection;
+    closes = λ t. put_keeps (λ k y. o.closes k ≡ is_caller n y) now.closing s (Some me) (λ was. was ∙ (ap (is_caller n) none ∙ sym other)) t (at.closes t);
+  }
+
+  -- or is over
+  pub others_closed : (now : Progress) (o : Ongoing) (s : ℕ) → is_caller me (now.closing s) ≡ true → IsOngoing n now o → IsOngoing n (record now { closing = put now.closing s None }) o
+  others_closed now o s by at = record {
+    selection = at.selection;
+    closes = λ t. put_keeps (λ k y. o.closes k ≡ is_caller n y) now.closing s None (λ was. was ∙ none_closing (now.closing s) by) t (at.closes t);
+  }
