@@ -1,0 +1,7 @@
+pub mod Asked
+pub mod InProgress
+pub mod Listed
+pub mod Begun
+pub mod Lists
+pub mod Entered
+pub mod Beginning
