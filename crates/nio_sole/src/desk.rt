@@ -1,4 +1,6 @@
 //! What one caller after the other uses the table with.
+ghost use Rattle.std.specs.Prelude.{◌≡◌};
+
 use nio_base::CallerNo;
 use nio_select::{Closing, Selecting};
 use nio_words::Pass;
@@ -38,12 +40,10 @@ impl Desk {
     }
 }
 
-ghost use Rattle.std.specs.Prelude.{◌≡◌};
-
 fn forget_selections(mut selections: Vec<Option<Begun>>) {
     while let Some(place) = selections.pop() {
-        if let Some(begun) = place {
-            begun.selection.forget();
+        if let Some(Begun { caller: _caller, selection }) = place {
+            selection.forget();
         }
     }
     selections.destroy_empty();
@@ -51,8 +51,8 @@ fn forget_selections(mut selections: Vec<Option<Begun>>) {
 
 fn forget_closings(mut closings: Vec<Option<Shut>>) {
     while let Some(place) = closings.pop() {
-        if let Some(shut) = place {
-            shut.closing.forget();
+        if let Some(Shut { caller: _caller, closing }) = place {
+            closing.forget();
         }
     }
     closings.destroy_empty();

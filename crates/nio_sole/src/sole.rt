@@ -1,4 +1,5 @@
 //! The table as the system of a script.
+ghost use Rattle.nio_sole.specs.OneProof.{stands_prop};
 ghost use Rattle.nio_sole.specs.Stands.{Stands};
 
 use crate::desk::Desk;
@@ -8,12 +9,13 @@ use nio_words::{Pass, Words};
 pub struct Sole<'a> {
     words: &'a Words,
     desk: Desk,
-    ghost stands: { Stands words.now desk },
+    ghost stands: { Stands words.now desk } by { stands_prop words.now desk },
 }
 
 impl<'a> Sole<'a> {
     /// Forgets the selections and closings in progress, without a step, and gives the pass.
     pub fn into_pass(self) -> Pass {
-        self.desk.into_pass()
+        let Sole { words: _words, desk } = self;
+        desk.into_pass()
     }
 }
