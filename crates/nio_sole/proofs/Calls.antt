@@ -6,6 +6,7 @@ use Rattle.nio_base.specs.declared.limits.Limits.{Limits}
 use Rattle.nio_base.specs.declared.numbers.CallerNo.{CallerNo}
 use Rattle.nio_base.specs.declared.numbers.ChanNo.{ChanNo}
 use Rattle.nio_base.specs.declared.numbers.KeyId.{KeyId}
+use Rattle.nio_base.specs.declared.numbers.KeyNo.{KeyNo}
 use Rattle.nio_base.specs.declared.numbers.SelNo.{SelNo}
 use Rattle.nio_event.proofs.Put.{put_keeps, put_both}
 use Rattle.nio_event.specs.OwnEvents.{has}
@@ -39,7 +40,7 @@ use Rattle.nio_steps.specs.Names.{selector, key}
 use Rattle.nio_steps.specs.Plan.{Plan, ◌>>=◌}
 use Rattle.nio_steps.specs.Runs.{Completes}
 use Rattle.nio_steps.specs.SelectCalls.{Selection, open_selector_plan, try_begin_plan, begin_lacks_memory, begin_with_turn, begin_below, given_back, list_below, look_over, told_plan, mark_entry, after_marks, Poll, ToldReply, done, again, leave_plan, shut_plan, ShutReply, closing, already_closed, try_finish_plan, FinishReply, closed, busy, keys_plan, selected_keys_plan, list_lacks_memory, list_plan, list_open, list_all, list_key, list_selected, wakeup_plan, interrupt_plan, interrupted_plan}
-use Rattle.nio_steps.specs.Steps.{gate_in, holder_in, number_in}
+use Rattle.nio_steps.specs.Steps.{flag_in, gate_in, holder_in, number_in}
 use Rattle.nio_steps.specs.Sweeps.{sweep_over, sweep_to}
 use Rattle.nio_steps.specs.declared.refusal.BeginError.{BeginError}
 use Rattle.nio_steps.specs.declared.refusal.BeginError.TheVariants as BeginError
@@ -166,3 +167,282 @@ module _ (l : Limits) (me : CallerNo) (now : Progress) where
 -- the line's answer
 leads_answer : (l : Limits) (me : CallerNo) (left : Progress) (r : Reply) → Leads l me left (Plan.reply (record { reply = r; left = left }))
 leads_answer l me left r = leads_refused l me left r
+
+-- ---- what is put in progress
+
+put_selection : (me : CallerNo) (now : Progress) (ongoing : Ongoing) (s : ℕ) (x : Option Selection) (y : Option Selecting) → x ≡ if_own me y → IsOngoing me now ongoing
+    → IsOngoing me (record now { selection = put now.selection s y }) (record ongoing { selection = put ongoing.selection s x })
+put_selection me now ongoing s x y own at = record {
+  selection = λ t. put_both (λ _ a b. a ≡ if_own me b) ongoing.selection now.selection s x y own t (at.selection t);
+  closes = at.closes;
+}
+
+put_closing : (me : CallerNo) (now : Progress) (ongoing : Ongoing) (s : ℕ) (x : Bool) (y : Option CallerNo) → x ≡ is_caller me y → IsOngoing me now ongoing
+    → IsOngoing me (record now { closing = put now.closing s y }) (record ongoing { closes = put ongoing.closes s x })
+put_closing me now ongoing s x y own at = record {
+  selection = at.selection;
+  closes = λ t. put_both (λ _ a b. a ≡ is_caller me b) ongoing.closes now.closing s x y own t (at.closes t);
+}
+
+-- ---- other callers
+
+other_number : (me n : CallerNo) → n ≢ me → (k : ℕ) → (k == me.0) ≡ true → (k == n.0) ≡ false
+other_number me n other k is = by_test (k == n.0) refl
+  where
+    by_test : (b : Bool) → (k == n.0) ≡ b → b ≡ false
+    by_test true same = absurd (other (ap (λ (j : ℕ). record { 0 = j }) (sym (eqb-true k n.0 same) ∙ eqb-true k me.0 is)))
+    by_test false same = refl
+
+-- a selection of this caller, whether it goes on or not, is none of another
+none_of_other : (me n : CallerNo) → n ≢ me → (x : Selecting) → (x.caller.0 == me.0) ≡ true → if_own n (Some x) ≡ None
+none_of_other me n other x is = ap (λ b. if b then Some x.selection else None) (other_number me n other x.caller.0 is)
+
+-- who begins a selection takes the turn, and the others have none there
+leaves_begun : (me n : CallerNo) (now : Progress) (s : SelNo) (x : Selection) (acts : List Act) → n ≢ me → has (takes_turn s.0) acts ≡ true
+    → LeavesTo n now acts (with_selection now s (Some (record { caller = me; selection = x })))
+leaves_begun me n now s x acts other taken = record { selection = at; closes = λ t. inl refl }
+  where
+    y : Option Selecting
+    y = Some (record { caller = me; selection = x })
+
+    left : Progress
+    left = with_selection now s y
+
+    by_test : (t : ℕ) (b : Bool) → (t == s.0) ≡ b → (if_own n (if b then y else now.selection t) ≡ if_own n (now.selection t)) ⊎ IsTakenFrom n t acts left
+    by_test t true is =
+        let same : t ≡ s.0 = eqb-true t s.0 is in
+        inr (record {
+          taken = ap (λ (k : ℕ). has (takes_turn k) acts) same ∙ taken;
+          none = ap (λ b. if_own n (if b then y else now.selection t)) is ∙ none_of_other me n other (record { caller = me; selection = x }) (eq-eqb me.0 me.0 refl);
+        })
+    by_test t false is = inl refl
+
+    at : (t : ℕ) → (own_selection left n (selector t) ≡ own_selection now n (selector t)) ⊎ IsTakenFrom n t acts left
+    at t = by_equal (t == s.0) refl
+      where
+        by_equal : (b : Bool) → (t == s.0) ≡ b → (if_own n (if (t == s.0) then y else now.selection t) ≡ if_own n (now.selection t)) ⊎ IsTakenFrom n t acts left
+        by_equal b is = subst (λ (c : Bool). (if_own n (if c then y else now.selection t) ≡ if_own n (now.selection t)) ⊎ IsTakenFrom n t acts left) (sym is) (by_test t b is)
+
+-- the end of a selection of this caller leaves those of the others
+leaves_ended : (me n : CallerNo) (now : Progress) (s : SelNo) (x : Selecting) (acts : List Act) → n ≢ me → now.selection s.0 ≡ Some x → (x.caller.0 == me.0) ≡ true
+    → LeavesTo n now acts (with_selection now s None)
+leaves_ended me n now s x acts other was by = record {
+  selection = λ t. inl (put_keeps (λ k y. if_own n y ≡ if_own n (now.selection k)) now.selection s.0 None (λ _. sym (ap (if_own n) was ∙ none_of_other me n other x by)) t refl);
+  closes = λ t. inl refl;
+}
+
+-- who shuts a selector
+leaves_shut : (me n : CallerNo) (now : Progress) (s : SelNo) (acts : List Act) → n ≢ me → has (shuts s.0) acts ≡ true → LeavesTo n now acts (with_closing now s (Some me))
+leaves_shut me n now s acts other shut_so = record { selection = λ t. inl refl; closes = λ t. by_equal t (t == s.0) refl }
+  where
+    left : Progress
+    left = with_closing now s (Some me)
+
+    by_test : (t : ℕ) (b : Bool) → (t == s.0) ≡ b → (is_caller n (if b then Some me else now.closing t) ≡ is_caller n (now.closing t)) ⊎ IsShutFrom n t acts left
+    by_test t true is =
+        let same : t ≡ s.0 = eqb-true t s.0 is in
+        inr (record {
+          shut_so = ap (λ (k : ℕ). has (shuts k) acts) same ∙ shut_so;
+          none = ap (λ b. is_caller n (if b then Some me else now.closing t)) is ∙ other_number me n other me.0 (eq-eqb me.0 me.0 refl);
+        })
+    by_test t false is = inl refl
+
+    by_equal : (t : ℕ) (b : Bool) → (t == s.0) ≡ b → (is_caller n (if (t == s.0) then Some me else now.closing t) ≡ is_caller n (now.closing t)) ⊎ IsShutFrom n t acts left
+    by_equal t b is = subst (λ (c : Bool). (is_caller n (if c then Some me else now.closing t) ≡ is_caller n (now.closing t)) ⊎ IsShutFrom n t acts left) (sym is) (by_test t b is)
+
+none_closing : (me n : CallerNo) → n ≢ me → (o : Option CallerNo) → is_caller me o ≡ true → is_caller n o ≡ false
+none_closing me n other None is = refl
+none_closing me n other (Some m) is = other_number me n other m.0 is
+
+-- the end of its closing
+leaves_closed : (me n : CallerNo) (now : Progress) (s : SelNo) (acts : List Act) → n ≢ me → is_caller me (now.closing s.0) ≡ true → LeavesTo n now acts (with_closing now s None)
+leaves_closed me n now s acts other by = record {
+  selection = λ t. inl refl;
+  closes = λ t. inl (put_keeps (λ k y. is_caller n y ≡ is_caller n (now.closing k)) now.closing s.0 None (λ _. sym (none_closing me n other (now.closing s.0) by)) t refl);
+}
+
+-- ---- beginning a selection
+
+abbrev anything : {R : Type 0} → List Act → R → Type 0
+anything acts r = Unit {0}
+
+-- a `try_begin` that has memory doesn't answer that it lacks it
+begin_has_memory : (s : SelNo) (mode : Mode) → Always (λ _ r. begin_lacks_memory r ≡ false) (try_begin_plan s mode false)
+unfolding try_begin_plan
+begin_has_memory s mode = λ gate asks. always_if (λ _ r. begin_lacks_memory r ≡ false) (gate_in (answer_of gate)).shut (Plan.reply (Err BeginError.ClosedSelector)) _ (λ _. refl)
+    (λ _ take asks'. always_if (λ _ r. begin_lacks_memory r ≡ false) (is_some (holder_in (answer_of take))) (Plan.reply (Err BeginError.Busy)) (begin_with_turn s mode false) (λ _. refl)
+    (λ _ look asks''. always_if (λ _ r. begin_lacks_memory r ≡ false) (gate_in (answer_of look)).shut (given_back s (Err BeginError.ClosedSelector)) _ (λ _ give _. refl)
+    (λ _ looked asks'''. let bound = number_in (answer_of looked) in
+    always_bind anything (λ _ r. begin_lacks_memory r ≡ false) (list_below s bound) _ (always_any (list_below s bound))
+    (λ _ listed _. always_bind anything (λ _ r. begin_lacks_memory r ≡ false) (sweep_over listed (look_over s) (record { looked = []; kept = [] })) _ (always_any _) (λ _ _ _. refl)))))
+
+-- a `try_begin` that answers Ok found the turn free
+begin_takes : (s : SelNo) (mode : Mode) (lacks : Bool) → Always (λ acts r. is_ok r ≡ true → has (takes_turn s.0) acts ≡ true) (try_begin_plan s mode lacks)
+unfolding try_begin_plan
+begin_takes s mode lacks = λ gate asks. always_if (λ acts r. is_ok r ≡ true → has (takes_turn s.0) (gate ∷ acts) ≡ true) (gate_in (answer_of gate)).shut (Plan.reply (Err BeginError.ClosedSelector)) _ (λ _ ok. absurd (cc ok))
+    (λ _ take asks'. by_take gate take asks')
+  where
+    by_take : (gate take : Act) → question_of take ≡ Question.take_turn s
+        → Always (λ acts r. is_ok r ≡ true → has (takes_turn s.0) (gate ∷ take ∷ acts) ≡ true) (if is_some (holder_in (answer_of take)) then Plan.reply (Err BeginError.Busy) else begin_with_turn s mode lacks)
+    by_take gate (TakeTurn s' (Some n)) asks = λ ok. absurd (cc ok)
+    by_take gate (TakeTurn s' None) asks =
+        let same : s'.0 ≡ s.0 = ap (λ (x : SelNo). x.0) (cc asks) in
+        always_weaker anything (λ acts r. is_ok r ≡ true → has (takes_turn s.0) (gate ∷ TakeTurn s' None ∷ acts) ≡ true) (begin_with_turn s mode lacks)
+        (λ acts r _ _. has-second (takes_turn s.0) (gate ∷ []) (TakeTurn s' None ∷ acts) (ap (λ b. b || has (takes_turn s.0) acts) (eq-eqb s'.0 s.0 same)))
+        (always_any (begin_with_turn s mode lacks))
+    by_take gate _ asks = absurd (cc asks)
+
+-- ---- telling
+
+-- a `told` that answers Again goes on with the same selection
+again-same : (x next : Selection) (pairs : List (ℕ × ℕ)) (elapsed : Bool) (acts : List Act) → Completes (told_plan x pairs elapsed) acts (again next) → next ≡ x
+unfolding told_plan
+again-same x next pairs elapsed acts run =
+    let parts = split (sweep_over x.looked (mark_entry x.selector pairs) 0) (after_marks x elapsed) acts (again next) run in
+    (each_run (NoMark x.selector.0) (Replies x parts.middle) (after_marks x elapsed parts.middle) parts.second (again next) (after-replies x elapsed parts.middle) parts.runs_second).1.0
+
+-- ---- shutting
+
+-- a `shut` that answers Closing found the selector not shut
+shut_shuts : (s : SelNo) → Always (λ acts r. r ≡ closing → has (shuts s.0) acts ≡ true) (shut_plan s)
+unfolding shut_plan
+shut_shuts s = λ act asks. by_act act asks
+  where
+    by_act : (act : Act) → question_of act ≡ Question.shut_bit s → Always (λ acts r. r ≡ closing → has (shuts s.0) (act ∷ acts) ≡ true) (Plan.reply (if flag_in (answer_of act) then already_closed else closing))
+    by_act (ShutBit s' true) asks = λ is. absurd (cc is)
+    by_act (ShutBit s' false) asks = λ _. let same : s'.0 ≡ s.0 = ap (λ (x : SelNo). x.0) (cc asks) in ap (λ b. b || false) (eq-eqb s'.0 s.0 same)
+    by_act _ asks = absurd (cc asks)
+
+-- ---- listing
+
+-- a listing that has memory doesn't answer that it lacks it
+list_has_memory : (list_one : SelNo → ℕ → List KeyNo → Plan (List KeyNo)) (s : SelNo) → Always (λ _ r. list_lacks_memory r ≡ false) (list_plan list_one s false)
+list_has_memory list_one s = λ gate asks. always_if (λ _ r. list_lacks_memory r ≡ false) (gate_in (answer_of gate)).shut (Plan.reply (Err ListError.ClosedSelector)) (list_open list_one s false) (λ _. refl)
+    (λ _ looked asks'. let bound = number_in (answer_of looked) in
+    always_bind anything (λ _ r. list_lacks_memory r ≡ false) (sweep_to bound 0 (list_one s) []) _ (always_any _) (λ _ _ _. refl))
+
+-- ---- each call
+
+-- the caller's own selection is one of those in progress
+record Own (me : CallerNo) (o : Option Selecting) (x : Selection) : Type 0 where
+  its : Selecting
+  is : o ≡ Some its
+  by : (its.caller.0 == me.0) ≡ true
+  same : its.selection ≡ x
+
+own-is : (me : CallerNo) (o : Option Selecting) (x : Selection) → if_own me o ≡ Some x → Own me o x
+own-is me None x is = absurd (cc is)
+own-is me (Some y) x is = by_test (y.caller.0 == me.0) refl is
+  where
+    by_test : (b : Bool) → (y.caller.0 == me.0) ≡ b → (if b then Some y.selection else None) ≡ Some x → Own me (Some y) x
+    by_test true by is' = record { its = y; is = refl; by = by; same = cc is' }
+    by_test false by is' = absurd (cc is')
+
+-- the selections in progress are on their selectors
+abbrev pub AreOn : Progress → Type 0
+AreOn now = (s : ℕ) (x : Selecting) → now.selection s ≡ Some x → x.selection.selector.0 ≡ s
+
+module _ (l : Limits) (me : CallerNo) (now : Progress) where
+  -- a call that leaves what is in progress
+  leads_ask : {R : Type 0} (plan : Plan R) (call : R → Made) (said : R → Reply)
+      → ((ongoing : Ongoing) (acts : List Act) (a : R) → Completes plan acts a → IsOngoing me now ongoing → Comes l me now ongoing (call a) acts now) → Leads l me now (asks now plan said)
+  leads_ask plan call said comes = leads_call l me now plan call (λ _. now) _ comes (λ a. leads_answer l me now (said a))
+
+  leads_begin : (s : SelNo) (mode : Option Mode) → Leads l me now (begin_line now me s mode)
+  leads_begin s None = leads_refused l me now _
+  leads_begin s (Some mode) = leads_call l me now (try_begin_plan s mode false) (λ a. try_begin s mode a) (after_begin now me s) _ comes (λ a. leads_answer l me (after_begin now me s a) (begin_reply a))
+    where
+      comes : (ongoing : Ongoing) (acts : List Act) (a : Result Selection BeginError) → Completes (try_begin_plan s mode false) acts a → IsOngoing me now ongoing
+          → Comes l me now ongoing (try_begin s mode a) acts (after_begin now me s a)
+      comes ongoing acts (Ok x) run at = record {
+        run = run;
+        may = tt;
+        after = put_selection me now ongoing s.0 (Some x) (Some (record { caller = me; selection = x })) (ap (λ b. if b then Some x else None) (sym (eq-eqb me.0 me.0 refl))) at;
+        others = λ n other. leaves_begun me n now s x acts other (always_run (λ acts' r. is_ok r ≡ true → has (takes_turn s.0) acts' ≡ true) (try_begin_plan s mode false) acts (Ok x) (begin_takes s mode false) run refl);
+      }
+      comes ongoing acts (Err refusal) run at =
+          quiet l me now ongoing (try_begin s mode (Err refusal)) acts
+          (subst (λ b. Completes (try_begin_plan s mode b) acts (Err refusal))
+          (sym (always_run (λ _ r. begin_lacks_memory r ≡ false) (try_begin_plan s mode false) acts (Err refusal) (begin_has_memory s mode) run)) run) tt at
+
+  -- a `try_begin` that may lack memory, and begins nothing
+  pub leads_begin_memory : (s : SelNo) (mode : Mode) (said : Result Selection BeginError → Reply) → Leads l me now (asks now (try_begin_plan s mode true) said)
+  leads_begin_memory s mode said = ?
+
+  leads_told : (s : SelNo) (elapsed : Bool) (pairs : List (KeyId × ℕ)) (o : Option Selection) → AreOn now → own_selection now me s ≡ o → Leads l me now (told_line now s elapsed pairs o)
+  leads_told s elapsed pairs None on own = leads_refused l me now _
+  leads_told s elapsed pairs (Some x) on own =
+      leads_call l me now (told_plan x (by_index x pairs) elapsed) (λ a. told x poll a) (after_told now s) _ comes (λ a. leads_answer l me (after_told now s a) (told_reply a))
+    where
+      poll : Poll
+      poll = record { pairs = by_index x pairs; elapsed = elapsed }
+
+      its : Own me (now.selection s.0) x
+      its = own-is me (now.selection s.0) x own
+
+      on_it : x.selector.0 ≡ s.0
+      on_it = ap (λ (y : Selection). y.selector.0) (sym its.same) ∙ on s.0 its.its its.is
+
+      may_come : (ongoing : Ongoing) → IsOngoing me now ongoing → ongoing.selection x.selector.0 ≡ Some x
+      may_come ongoing at = ap ongoing.selection on_it ∙ (at.selection s.0 ∙ own)
+
+      comes : (ongoing : Ongoing) (acts : List Act) (a : ToldReply) → Completes (told_plan x (by_index x pairs) elapsed) acts a → IsOngoing me now ongoing
+          → Comes l me now ongoing (told x poll a) acts (after_told now s a)
+      comes ongoing acts (done answer) run at = record {
+        run = run;
+        may = may_come ongoing at;
+        after = subst (λ (k : ℕ). IsOngoing me (with_selection now s None) (record ongoing { selection = put ongoing.selection k None })) (sym on_it) (put_selection me now ongoing s.0 None None refl at);
+        others = λ n other. leaves_ended me n now s its.its acts other its.is its.by;
+      }
+      comes ongoing acts (again next) run at =
+          quiet l me now ongoing (told x poll (again next)) acts run (may_come ongoing at)
+          (record {
+            selection = λ t. put_keeps (λ k y. y ≡ if_own me (now.selection k)) ongoing.selection x.selector.0 (Some next)
+                (λ here. ap Some (again-same x next (by_index x pairs) elapsed acts run) ∙ (sym (may_come ongoing at) ∙ here)) t (at.selection t);
+            closes = at.closes;
+          })
+
+  leads_failed : (s : SelNo) (o : Option Selection) → AreOn now → own_selection now me s ≡ o → Leads l me now (failed_line now s o)
+  leads_failed s None on own = leads_refused l me now _
+  leads_failed s (Some x) on own =
+      leads_call l me now (leave_plan x) (λ _. leave x) (λ _. with_selection now s None) _
+      (λ ongoing acts a run at. record {
+        run = run;
+        may = ap ongoing.selection on_it ∙ (at.selection s.0 ∙ own);
+        after = subst (λ (k : ℕ). IsOngoing me (with_selection now s None) (record ongoing { selection = put ongoing.selection k None })) (sym on_it) (put_selection me now ongoing s.0 None None refl at);
+        others = λ n other. leaves_ended me n now s its.its acts other its.is its.by;
+      })
+      (λ a. leads_answer l me (with_selection now s None) reply.Left)
+    where
+      its : Own me (now.selection s.0) x
+      its = own-is me (now.selection s.0) x own
+
+      on_it : x.selector.0 ≡ s.0
+      on_it = ap (λ (y : Selection). y.selector.0) (sym its.same) ∙ on s.0 its.its its.is
+
+  leads_close : (s : SelNo) → Leads l me now (makes (shut_plan s) shut_reply (after_shut now me s))
+  leads_close s = leads_call l me now (shut_plan s) (λ a. shut s a) (after_shut now me s) _ comes (λ a. leads_answer l me (after_shut now me s a) (shut_reply a))
+    where
+      comes : (ongoing : Ongoing) (acts : List Act) (a : ShutReply) → Completes (shut_plan s) acts a → IsOngoing me now ongoing → Comes l me now ongoing (shut s a) acts (after_shut now me s a)
+      comes ongoing acts closing run at = record {
+        run = run;
+        may = tt;
+        after = put_closing me now ongoing s.0 true (Some me) (sym (eq-eqb me.0 me.0 refl)) at;
+        others = λ n other. leaves_shut me n now s acts other (always_run (λ acts' r. r ≡ closing → has (shuts s.0) acts' ≡ true) (shut_plan s) acts closing (shut_shuts s) run refl);
+      }
+      comes ongoing acts already_closed run at = quiet l me now ongoing (shut s already_closed) acts run tt at
+
+  leads_close_end : (s : SelNo) → Leads l me now (close_end_line now me s)
+  leads_close_end s = leads_if l me now (is_caller me (now.closing s.0)) _ _ finishes (λ _. leads_refused l me now _)
+    where
+      finishes : is_caller me (now.closing s.0) ≡ true → Leads l me now (makes (try_finish_plan s) finish_reply (after_finish now s))
+      finishes by = leads_call l me now (try_finish_plan s) (λ a. try_finish s a) (after_finish now s) _ comes (λ a. leads_answer l me (after_finish now s a) (finish_reply a))
+        where
+          comes : (ongoing : Ongoing) (acts : List Act) (a : FinishReply) → Completes (try_finish_plan s) acts a → IsOngoing me now ongoing → Comes l me now ongoing (try_finish s a) acts (after_finish now s a)
+          comes ongoing acts closed run at = record {
+            run = run;
+            may = at.closes s.0 ∙ by;
+            after = put_closing me now ongoing s.0 false None refl at;
+            others = λ n other. leaves_closed me n now s acts other by;
+          }
+          comes ongoing acts busy run at = quiet l me now ongoing (try_finish s busy) acts run (at.closes s.0 ∙ by) at
