@@ -1,3 +1,4 @@
 pub mod Made
+pub mod MadeLaws
 pub mod Stands
 pub mod OneProof

@@ -1,0 +1,5 @@
+use Rattle.nio_sole.proofs.Calls.{lines_are_calls}
+use Rattle.nio_sole.proofs.laws.sole_law.Goals as goal
+
+pub returns : goal.returns
+returns c = record { lines = lines_are_calls }
