@@ -2,3 +2,5 @@ pub mod Made
 pub mod MadeLaws
 pub mod Stands
 pub mod OneProof
+pub mod Named
+pub mod Asked

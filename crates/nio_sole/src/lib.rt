@@ -4,6 +4,11 @@
 pub use laws::sole_law;
 pub use sole::Sole;
 
+mod channels;
 mod desk;
+mod keys;
 mod laws;
+mod names;
+mod replies;
+mod selectors;
 mod sole;
