@@ -9,7 +9,7 @@ use Rattle.nio_words.proofs.Views.{step_acts}
 use Rattle.nio_sole.proofs.selectors.interrupted.Goals as goal
 
 pub returns : goal.returns
-unfolding call_plan, interrupted_plan
+unfolding call_plan interrupted_plan
 returns c = record {
   call = λ now. asks_ran yes_or_no now (returned (left_one _ (step_acts c.take_interrupt.ensures refl))) c.yes_or_no.ensures;
   ready = still_ready _ _ _ _ _ _ c.take_interrupt.ensures c.requires.ready;

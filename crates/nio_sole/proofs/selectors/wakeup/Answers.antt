@@ -9,7 +9,7 @@ use Rattle.nio_words.proofs.Views.{step_acts}
 use Rattle.nio_sole.proofs.selectors.wakeup.Goals as goal
 
 pub returns : goal.returns
-unfolding call_plan, wakeup_plan
+unfolding call_plan wakeup_plan
 returns c = record {
   call = λ now. asks_ran (λ _. reply.«Ok») now (returned (left_one _ (step_acts c.wake.ensures refl))) refl;
   ready = still_ready _ _ _ _ _ _ c.wake.ensures c.requires.ready;
