@@ -372,13 +372,13 @@ list_without_memory list_one s = λ gate asks_gate.
 -- ---- each call
 
 -- the caller's own selection is one of those in progress
-record Own (me : CallerNo) (o : Option Selecting) (x : Selection) : Type 0 where
-  its : Selecting
-  is : o ≡ Some its
-  by : (its.caller.0 == me.0) ≡ true
-  same : its.selection ≡ x
+pub record Own (me : CallerNo) (o : Option Selecting) (x : Selection) : Type 0 where
+  pub its : Selecting
+  pub is : o ≡ Some its
+  pub by : (its.caller.0 == me.0) ≡ true
+  pub same : its.selection ≡ x
 
-own-is : (me : CallerNo) (o : Option Selecting) (x : Selection) → if_own me o ≡ Some x → Own me o x
+pub own-is : (me : CallerNo) (o : Option Selecting) (x : Selection) → if_own me o ≡ Some x → Own me o x
 own-is me None x is = absurd (cc is)
 own-is me (Some y) x is = by_test (y.caller.0 == me.0) refl is
   where
