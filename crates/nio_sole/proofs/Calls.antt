@@ -38,8 +38,8 @@ use Rattle.nio_steps.specs.ChannelCalls.{open_channel_plan, is_open_plan, is_blo
 use Rattle.nio_steps.specs.KeyCalls.{find_selector_plan, find_channel_plan, find_plan, is_valid_plan, interest_plan, set_interest_plan, interest_or_plan, interest_and_plan, ready_plan, cancel_plan, unselect_plan, attach_plan, attachment_plan}
 use Rattle.nio_steps.specs.Names.{selector, key}
 use Rattle.nio_steps.specs.Plan.{Plan, ◌>>=◌}
-use Rattle.nio_steps.specs.Runs.{Completes}
-use Rattle.nio_steps.specs.SelectCalls.{Selection, open_selector_plan, try_begin_plan, begin_lacks_memory, begin_with_turn, begin_below, given_back, list_below, look_over, told_plan, mark_entry, after_marks, Poll, ToldReply, done, again, leave_plan, shut_plan, ShutReply, closing, already_closed, try_finish_plan, FinishReply, closed, busy, keys_plan, selected_keys_plan, list_lacks_memory, list_plan, list_open, list_all, list_key, list_selected, wakeup_plan, interrupt_plan, interrupted_plan}
+use Rattle.nio_steps.specs.Runs.{Follows, Completes}
+use Rattle.nio_steps.specs.SelectCalls.{Selection, open_selector_plan, try_begin_plan, begin_lacks_memory, begin_open, begin_with_turn, given_back, list_below, look_over, told_plan, mark_entry, after_marks, Poll, ToldReply, done, again, leave_plan, shut_plan, ShutReply, closing, already_closed, try_finish_plan, FinishReply, closed, busy, keys_plan, selected_keys_plan, list_lacks_memory, list_plan, list_open, list_all, list_key, list_selected, wakeup_plan, interrupt_plan, interrupted_plan}
 use Rattle.nio_steps.specs.Steps.{flag_in, gate_in, holder_in, number_in}
 use Rattle.nio_steps.specs.Sweeps.{sweep_over, sweep_to}
 use Rattle.nio_steps.specs.declared.refusal.BeginError.{BeginError}
@@ -321,16 +321,64 @@ list_has_memory list_one s = λ gate asks. always_if (λ _ r. list_lacks_memory 
     (λ _ looked asks'. let bound = number_in (answer_of looked) in
     always_bind anything (λ _ r. list_lacks_memory r ≡ false) (sweep_to bound 0 (list_one s) []) _ (always_any _) (λ _ _ _. refl))
 
+-- ---- want of memory
+
+-- a branch of a plan that was taken
+taken-follows : {R : Type 0} (b : Bool) (x y : Plan R) (acts : List Act) (rest : Plan R) → b ≡ true → Follows x acts rest → Follows (if b then x else y) acts rest
+taken-follows b x y acts rest is here = subst (λ c. Follows (if c then x else y) acts rest) (sym is) here
+
+else-follows : {R : Type 0} (b : Bool) (x y : Plan R) (acts : List Act) (rest : Plan R) → b ≡ false → Follows y acts rest → Follows (if b then x else y) acts rest
+else-follows b x y acts rest is here = subst (λ c. Follows (if c then x else y) acts rest) (sym is) here
+
+-- a `try_begin` without memory is the call with its answer, and begins nothing
+begin_without_memory : (s : SelNo) (mode : Mode) → Always (λ acts r. Completes (try_begin_plan s mode (begin_lacks_memory r)) acts r × (is_ok r ≡ false)) (try_begin_plan s mode true)
+unfolding try_begin_plan
+begin_without_memory s mode = λ gate asks_gate.
+    always_if (λ acts r. Completes (try_begin_plan s mode (begin_lacks_memory r)) (gate ∷ acts) r × (is_ok r ≡ false))
+    (gate_in (answer_of gate)).shut (Plan.reply (Err BeginError.ClosedSelector)) (begin_open s mode true)
+    (λ is. ((asks_gate, taken-follows (gate_in (answer_of gate)).shut _ _ [] _ is refl), refl))
+    (λ opens take asks_take.
+    always_if (λ acts r. Completes (try_begin_plan s mode (begin_lacks_memory r)) (gate ∷ take ∷ acts) r × (is_ok r ≡ false))
+    (is_some (holder_in (answer_of take))) (Plan.reply (Err BeginError.Busy)) (begin_with_turn s mode true)
+    (λ is. ((asks_gate, else-follows (gate_in (answer_of gate)).shut _ _ (take ∷ []) _ opens (asks_take, taken-follows (is_some (holder_in (answer_of take))) _ _ [] _ is refl)), refl))
+    (λ takes look asks_look.
+    always_if (λ acts r. Completes (try_begin_plan s mode (begin_lacks_memory r)) (gate ∷ take ∷ look ∷ acts) r × (is_ok r ≡ false))
+    (gate_in (answer_of look)).shut (given_back s (Err BeginError.ClosedSelector)) _
+    (λ is give asks_give. (
+      (
+        asks_gate,
+        else-follows (gate_in (answer_of gate)).shut _ _ (take ∷ look ∷ give ∷ []) _ opens
+        (asks_take, else-follows (is_some (holder_in (answer_of take))) _ _ (look ∷ give ∷ []) _ takes (asks_look, taken-follows (gate_in (answer_of look)).shut _ _ (give ∷ []) _ is (asks_give, refl))),
+      ),
+      refl,
+    ))
+    (λ still looked asks_keys give asks_give. (
+      (
+        asks_gate,
+        else-follows (gate_in (answer_of gate)).shut _ _ (take ∷ look ∷ looked ∷ give ∷ []) _ opens
+        (asks_take, else-follows (is_some (holder_in (answer_of take))) _ _ (look ∷ looked ∷ give ∷ []) _ takes
+        (asks_look, else-follows (gate_in (answer_of look)).shut _ _ (looked ∷ give ∷ []) _ still (asks_keys, (asks_give, refl)))),
+      ),
+      refl,
+    ))))
+
+-- a listing without memory is the call with its answer
+list_without_memory : (list_one : SelNo → ℕ → List KeyNo → Plan (List KeyNo)) (s : SelNo) → Always (λ acts r. Completes (list_plan list_one s (list_lacks_memory r)) acts r) (list_plan list_one s true)
+list_without_memory list_one s = λ gate asks_gate.
+    always_if (λ acts r. Completes (list_plan list_one s (list_lacks_memory r)) (gate ∷ acts) r) (gate_in (answer_of gate)).shut (Plan.reply (Err ListError.ClosedSelector)) (list_open list_one s true)
+    (λ is. (asks_gate, taken-follows (gate_in (answer_of gate)).shut _ _ [] _ is refl))
+    (λ opens looked asks_keys. (asks_gate, else-follows (gate_in (answer_of gate)).shut _ _ (looked ∷ []) _ opens (asks_keys, refl)))
+
 -- ---- each call
 
 -- the caller's own selection is one of those in progress
-record Own (me : CallerNo) (o : Option Selecting) (x : Selection) : Type 0 where
-  its : Selecting
-  is : o ≡ Some its
-  by : (its.caller.0 == me.0) ≡ true
-  same : its.selection ≡ x
+pub record Own (me : CallerNo) (o : Option Selecting) (x : Selection) : Type 0 where
+  pub its : Selecting
+  pub is : o ≡ Some its
+  pub by : (its.caller.0 == me.0) ≡ true
+  pub same : its.selection ≡ x
 
-own-is : (me : CallerNo) (o : Option Selecting) (x : Selection) → if_own me o ≡ Some x → Own me o x
+pub own-is : (me : CallerNo) (o : Option Selecting) (x : Selection) → if_own me o ≡ Some x → Own me o x
 own-is me None x is = absurd (cc is)
 own-is me (Some y) x is = by_test (y.caller.0 == me.0) refl is
   where
@@ -364,10 +412,6 @@ module _ (l : Limits) (me : CallerNo) (now : Progress) where
           quiet l me now ongoing (try_begin s mode (Err refusal)) acts
           (subst (λ b. Completes (try_begin_plan s mode b) acts (Err refusal))
           (sym (always_run (λ _ r. begin_lacks_memory r ≡ false) (try_begin_plan s mode false) acts (Err refusal) (begin_has_memory s mode) run)) run) tt at
-
-  -- a `try_begin` that may lack memory, and begins nothing
-  pub leads_begin_memory : (s : SelNo) (mode : Mode) (said : Result Selection BeginError → Reply) → Leads l me now (asks now (try_begin_plan s mode true) said)
-  leads_begin_memory s mode said = ?
 
   leads_told : (s : SelNo) (elapsed : Bool) (pairs : List (KeyId × ℕ)) (o : Option Selection) → AreOn now → own_selection now me s ≡ o → Leads l me now (told_line now s elapsed pairs o)
   leads_told s elapsed pairs None on own = leads_refused l me now _
@@ -446,3 +490,162 @@ module _ (l : Limits) (me : CallerNo) (now : Progress) where
             others = λ n other. leaves_closed me n now s acts other by;
           }
           comes ongoing acts busy run at = quiet l me now ongoing (try_finish s busy) acts run (at.closes s.0 ∙ by) at
+
+  -- want of memory
+
+  pub leads_begin_memory : (s : SelNo) (mode : Mode) (said : Result Selection BeginError → Reply) → Leads l me now (asks now (try_begin_plan s mode true) said)
+  leads_begin_memory s mode said = leads_ask (try_begin_plan s mode true) (λ a. try_begin s mode a) said comes
+    where
+      comes : (ongoing : Ongoing) (acts : List Act) (a : Result Selection BeginError) → Completes (try_begin_plan s mode true) acts a → IsOngoing me now ongoing
+          → Comes l me now ongoing (try_begin s mode a) acts now
+      comes ongoing acts a run at =
+          by_answer a (always_run (λ acts' r. Completes (try_begin_plan s mode (begin_lacks_memory r)) acts' r × (is_ok r ≡ false)) (try_begin_plan s mode true) acts a (begin_without_memory s mode) run)
+        where
+          by_answer : (r : Result Selection BeginError) → Completes (try_begin_plan s mode (begin_lacks_memory r)) acts r × (is_ok r ≡ false) → Comes l me now ongoing (try_begin s mode r) acts now
+          by_answer (Ok x) without = absurd (cc without.1)
+          by_answer (Err refusal) without = quiet l me now ongoing (try_begin s mode (Err refusal)) acts without.0 tt at
+
+  pub leads_keys_memory : (s : SelNo) (said : Result (List KeyNo) ListError → Reply) → Leads l me now (asks now (keys_plan s true) said)
+  unfolding keys_plan
+  leads_keys_memory s said =
+      leads_ask (keys_plan s true) (λ a. keys s a) said
+      (λ ongoing acts a run at. quiet l me now ongoing (keys s a) acts (always_run (λ acts' r. Completes (list_plan list_key s (list_lacks_memory r)) acts' r) (list_plan list_key s true) acts a (list_without_memory list_key s) run) tt at)
+
+  pub leads_selected_memory : (s : SelNo) (said : Result (List KeyNo) ListError → Reply) → Leads l me now (asks now (selected_keys_plan s true) said)
+  unfolding selected_keys_plan
+  leads_selected_memory s said =
+      leads_ask (selected_keys_plan s true) (λ a. selected_keys s a) said
+      (λ ongoing acts a run at.
+      quiet l me now ongoing (selected_keys s a) acts
+      (always_run (λ acts' r. Completes (list_plan list_selected s (list_lacks_memory r)) acts' r) (list_plan list_selected s true) acts a (list_without_memory list_selected s) run) tt at)
+
+  leads_keys : (s : SelNo) → Leads l me now (asks now (keys_plan s false) list_reply)
+  unfolding keys_plan
+  leads_keys s =
+      leads_ask (keys_plan s false) (λ a. keys s a) list_reply
+      (λ ongoing acts a run at.
+      quiet l me now ongoing (keys s a) acts
+      (subst (λ b. Completes (list_plan list_key s b) acts a) (sym (always_run (λ _ r. list_lacks_memory r ≡ false) (list_plan list_key s false) acts a (list_has_memory list_key s) run)) run) tt at)
+
+  leads_selected : (s : SelNo) → Leads l me now (asks now (selected_keys_plan s false) list_reply)
+  unfolding selected_keys_plan
+  leads_selected s =
+      leads_ask (selected_keys_plan s false) (λ a. selected_keys s a) list_reply
+      (λ ongoing acts a run at.
+      quiet l me now ongoing (selected_keys s a) acts
+      (subst (λ b. Completes (list_plan list_selected s b) acts a) (sym (always_run (λ _ r. list_lacks_memory r ≡ false) (list_plan list_selected s false) acts a (list_has_memory list_selected s) run)) run) tt at)
+
+  -- the call of a line
+  leads_plan : (word : Call) → AreOn now → Leads l me now (call_plan l now me word)
+  unfolding call_plan
+  leads_plan call.Selector on = leads_ask (open_selector_plan l) (λ a. open_selector a) selector_reply (λ o acts a run at. quiet l me now o (open_selector a) acts run tt at)
+  leads_plan (call.Channel kind) on = leads_ask (open_channel_plan l kind) (λ a. open_channel kind a) channel_reply (λ o acts a run at. quiet l me now o (open_channel kind a) acts run tt at)
+  leads_plan (call.Blocking c on') on = leads_ask (try_set_blocking_plan l c on') (λ a. try_set_blocking c on' a) mode_reply (λ o acts a run at. quiet l me now o (try_set_blocking c on' a) acts run tt at)
+  leads_plan (call.IsBlocking c) on = leads_ask (is_blocking_plan c) (λ a. is_blocking c a) yes_or_no (λ o acts a run at. quiet l me now o (is_blocking c a) acts run tt at)
+  leads_plan (call.IsOpen c) on = leads_ask (is_open_plan c) (λ a. is_open c a) yes_or_no (λ o acts a run at. quiet l me now o (is_open c a) acts run tt at)
+  leads_plan (call.IsRegistered c) on = leads_ask (is_registered_plan l c) (λ a. is_registered c a) yes_or_no (λ o acts a run at. quiet l me now o (is_registered c a) acts run tt at)
+  leads_plan (call.KeyFor c s) on = leads_ask (key_for_plan c s) (λ a. key_for c s a) find_reply (λ o acts a run at. quiet l me now o (key_for c s a) acts run tt at)
+  leads_plan (call.Register s c ops att) on =
+      leads_ask (try_register_plan l s c ops (given_or_none att)) (λ a. try_register s c ops (given_or_none att) a) register_reply
+      (λ o acts a run at. quiet l me now o (try_register s c ops (given_or_none att) a) acts run tt at)
+  leads_plan (call.Closec c) on = leads_ask (close_channel_plan l c) (λ a. close_channel c a) closed_reply (λ o acts a run at. quiet l me now o (close_channel c a) acts run tt at)
+  leads_plan (call.Valid s k) on = leads_ask (is_valid_plan (key s k)) (λ a. is_valid (key s k) a) yes_or_no (λ o acts a run at. quiet l me now o (is_valid (key s k) a) acts run tt at)
+  leads_plan (call.Interest s k) on = leads_ask (interest_plan (key s k)) (λ a. interest (key s k) a) set_reply (λ o acts a run at. quiet l me now o (interest (key s k) a) acts run tt at)
+  leads_plan (call.Ready s k) on = leads_ask (ready_plan (key s k)) (λ a. ready (key s k) a) set_reply (λ o acts a run at. quiet l me now o (ready (key s k) a) acts run tt at)
+  leads_plan (call.Iset s k ops) on = leads_ask (set_interest_plan (key s k) ops) (λ a. set_interest (key s k) ops a) put_reply (λ o acts a run at. quiet l me now o (set_interest (key s k) ops a) acts run tt at)
+  leads_plan (call.Ior s k ops) on = leads_ask (interest_or_plan (key s k) ops) (λ a. interest_or (key s k) ops a) set_reply (λ o acts a run at. quiet l me now o (interest_or (key s k) ops a) acts run tt at)
+  leads_plan (call.Iand s k ops) on = leads_ask (interest_and_plan (key s k) ops) (λ a. interest_and (key s k) ops a) set_reply (λ o acts a run at. quiet l me now o (interest_and (key s k) ops a) acts run tt at)
+  leads_plan (call.Cancel s k) on = leads_ask (cancel_plan (key s k)) (λ _. cancel (key s k)) (λ _. reply.«Ok») (λ o acts a run at. quiet l me now o (cancel (key s k)) acts run tt at)
+  leads_plan (call.Unselect s k) on = leads_ask (unselect_plan (key s k)) (λ a. unselect (key s k) a) yes_or_no (λ o acts a run at. quiet l me now o (unselect (key s k) a) acts run tt at)
+  leads_plan (call.Attach s k att) on =
+      leads_ask (attach_plan (key s k) att) (λ a. attach (key s k) att a) (λ before. reply.Number before) (λ o acts a run at. quiet l me now o (attach (key s k) att a) acts run tt at)
+  leads_plan (call.Attachment s k) on = leads_ask (attachment_plan (key s k)) (λ a. attachment (key s k) a) (λ att. reply.Number att) (λ o acts a run at. quiet l me now o (attachment (key s k) a) acts run tt at)
+  leads_plan (call.Begin s waiting) on = leads_begin s (mode_of waiting)
+  leads_plan (call.Told s elapsed pairs) on = leads_told s elapsed pairs (own_selection now me s) on refl
+  leads_plan (call.Failed s) on = leads_failed s (own_selection now me s) on refl
+  leads_plan (call.Wakeup s) on = leads_ask (wakeup_plan s) (λ _. wakeup s) (λ _. reply.«Ok») (λ o acts a run at. quiet l me now o (wakeup s) acts run tt at)
+  leads_plan (call.Close s) on = leads_close s
+  leads_plan (call.CloseEnd s) on = leads_close_end s
+  leads_plan (call.Keys s) on = leads_keys s
+  leads_plan (call.Selected s) on = leads_selected s
+  leads_plan (call.Interrupt target) on = leads_ask (interrupt_plan target) (λ _. interrupt target) (λ _. reply.«Ok») (λ o acts a run at. quiet l me now o (interrupt target) acts run tt at)
+  leads_plan call.Interrupted on = leads_ask interrupted_plan (λ a. interrupted a) yes_or_no (λ o acts a run at. quiet l me now o (interrupted a) acts run tt at)
+
+  -- ---- the look-ups
+
+  leads_caller : (n : CallerNo) (plan : Plan Said) → Leads l me now plan → Leads l me now (if_caller l now n plan)
+  leads_caller n plan later = leads_if l me now (nat_lt n.0 l.callers) plan _ (λ _. later) (λ _. leads_refused l me now _)
+
+  leads_found : {A : Type 0} (r : Reply) (plan : Plan Said) → Leads l me now plan → (found : Option A) → Leads l me now (if_found now r plan found)
+  leads_found r plan later found = leads_if l me now (is_some found) plan _ (λ _. later) (λ _. leads_refused l me now _)
+
+  leads_selector : (s : SelNo) (plan : Plan Said) → Leads l me now plan → Leads l me now (if_selector l now s plan)
+  leads_selector s plan later =
+      leads_call l me now (find_selector_plan l s.0) (λ a. find_selector s.0 a) (λ _. now) (if_found now reply.NoSelector plan)
+      (λ o acts a run at. quiet l me now o (find_selector s.0 a) acts run tt at) (leads_found reply.NoSelector plan later)
+
+  leads_channel : (c : ChanNo) (plan : Plan Said) → Leads l me now plan → Leads l me now (if_channel l now c plan)
+  leads_channel c plan later =
+      leads_call l me now (find_channel_plan l c.0) (λ a. find_channel c.0 a) (λ _. now) (if_found now reply.NoChannel plan)
+      (λ o acts a run at. quiet l me now o (find_channel c.0 a) acts run tt at) (leads_found reply.NoChannel plan later)
+
+  leads_key : (s : SelNo) (k : KeyId) (plan : Plan Said) → Leads l me now plan → Leads l me now (if_key l now s k plan)
+  leads_key s k plan later =
+      leads_selector s _
+      (leads_call l me now (find_plan l s k.index k.serial) (λ a. find s k.index k.serial a) (λ _. now) (if_found now reply.NoKey plan)
+      (λ o acts a run at. quiet l me now o (find s k.index k.serial a) acts run tt at) (leads_found reply.NoKey plan later))
+
+  pub leads_named : (word : Call) (plan : Plan Said) → Leads l me now plan → Leads l me now (if_named l now word plan)
+  unfolding if_named
+  leads_named call.Selector plan later = later
+  leads_named (call.Channel kind) plan later = later
+  leads_named (call.Blocking c on) plan later = leads_channel c plan later
+  leads_named (call.IsBlocking c) plan later = leads_channel c plan later
+  leads_named (call.IsOpen c) plan later = leads_channel c plan later
+  leads_named (call.IsRegistered c) plan later = leads_channel c plan later
+  leads_named (call.KeyFor c s) plan later = leads_channel c _ (leads_selector s plan later)
+  leads_named (call.Register s c ops att) plan later = leads_selector s _ (leads_channel c plan later)
+  leads_named (call.Closec c) plan later = leads_channel c plan later
+  leads_named (call.Valid s k) plan later = leads_key s k plan later
+  leads_named (call.Interest s k) plan later = leads_key s k plan later
+  leads_named (call.Ready s k) plan later = leads_key s k plan later
+  leads_named (call.Iset s k ops) plan later = leads_key s k plan later
+  leads_named (call.Ior s k ops) plan later = leads_key s k plan later
+  leads_named (call.Iand s k ops) plan later = leads_key s k plan later
+  leads_named (call.Cancel s k) plan later = leads_key s k plan later
+  leads_named (call.Unselect s k) plan later = leads_key s k plan later
+  leads_named (call.Attach s k att) plan later = leads_key s k plan later
+  leads_named (call.Attachment s k) plan later = leads_key s k plan later
+  leads_named (call.Begin s waiting) plan later = leads_selector s plan later
+  leads_named (call.Told s elapsed pairs) plan later = leads_selector s plan later
+  leads_named (call.Failed s) plan later = leads_selector s plan later
+  leads_named (call.Wakeup s) plan later = leads_selector s plan later
+  leads_named (call.Close s) plan later = leads_selector s plan later
+  leads_named (call.CloseEnd s) plan later = leads_selector s plan later
+  leads_named (call.Keys s) plan later = leads_selector s plan later
+  leads_named (call.Selected s) plan later = leads_selector s plan later
+  leads_named (call.Interrupt target) plan later = leads_caller target plan later
+  leads_named call.Interrupted plan later = later
+
+  -- a whole line
+  pub leads_line : (word : Call) → AreOn now → Leads l me now (line_plan l now me word)
+  unfolding line_plan
+  leads_line word on = leads_caller me _ (leads_named word _ (leads_plan word on))
+
+-- ---- the law
+
+-- what a run along the plan made
+pub made_along : (l : Limits) (me : CallerNo) (now : Progress) (plan : Plan Said) (own acts : List Act) (said : Said) → Leads l me now plan → HasMade l own me now → Completes plan acts said
+    → HasMade l (own ++ acts) me said.left
+made_along l me now plan own acts said leads made run = (always_run (λ xs r. Line l me now own xs r.left) plan acts said (leads.always own made) run).made
+
+-- and what it leaves to another caller
+pub leaves_along : (l : Limits) (me n : CallerNo) (now : Progress) (plan : Plan Said) (own acts : List Act) (said : Said) → Leads l me now plan → HasMade l own me now → Completes plan acts said → n ≢ me
+    → LeavesTo n now acts said.left
+leaves_along l me n now plan own acts said leads made run other = (always_run (λ xs r. Line l me now own xs r.left) plan acts said (leads.always own made) run).others n other
+
+pub between_on : (l : Limits) (st : State) (now : Progress) → IsBetween l st now → AreOn now
+between_on l st now between s x is = ((between.shown s).on x is).selector
+
+pub lines_are_calls : LinesAreCalls
+lines_are_calls l st now me word own acts said between made run = made_along l me now (line_plan l now me word) own acts said (leads_line l me now word (between_on l st now between)) made run
