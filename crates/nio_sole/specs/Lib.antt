@@ -4,3 +4,6 @@ pub mod Stands
 pub mod OneProof
 pub mod Named
 pub mod Asked
+pub mod Makes
+pub mod Taking
+pub mod Told

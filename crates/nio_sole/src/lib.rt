@@ -5,10 +5,12 @@ pub use laws::sole_law;
 pub use sole::Sole;
 
 mod channels;
+mod closing;
 mod desk;
 mod keys;
 mod laws;
 mod names;
+mod pairs;
 mod replies;
 mod selectors;
 mod sole;
