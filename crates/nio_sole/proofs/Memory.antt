@@ -1,5 +1,5 @@
 -- A call that lacks memory leaves the state as it was, where nobody comes between its steps.
-use Rattle.std.proofs.Common.{◌≡◌, ℕ, ◌==◌, nat_lt, Bool, true, false, not, ◌&&◌, ◌||◌, cond, if◌then◌else◌, Option, Some, None, option_map, is_some, Result, Ok, Err, List, refl, ap, sym, ◌∙◌, subst}
+use Rattle.std.proofs.Common.{◌≡◌, ℕ, ◌==◌, nat_lt, Bool, true, false, not, ◌&&◌, ◌||◌, if◌then◌else◌, Option, Some, None, option_map, is_some, Result, Err, List, refl, ap, sym, ◌∙◌}
 use Rattle.nio_base.specs.declared.limits.Limits.{Limits}
 use Rattle.nio_base.specs.declared.numbers.CallerNo.{CallerNo}
 use Rattle.nio_base.specs.declared.numbers.KeyNo.{KeyNo}
@@ -8,7 +8,6 @@ use Rattle.nio_event.proofs.Put.{put_keeps}
 use Rattle.nio_event.specs.Acts.{taken_by}
 use Rattle.nio_event.specs.PassViews.{PassView, known}
 use Rattle.nio_event.specs.State.{State, put, with_turn, with_begun}
-use Rattle.nio_event.specs.declared.call.Call.{Call}
 use Rattle.nio_event.specs.declared.call.Call.TheVariants as call
 use Rattle.nio_event.specs.declared.call.Waiting.{Waiting}
 use Rattle.nio_event.specs.declared.found.Mode.{Mode}
@@ -22,15 +21,13 @@ use Rattle.nio_steps.proofs.PerformLaws.{perform-bind, perform_call}
 use Rattle.nio_steps.specs.Calls.{CallClause}
 use Rattle.nio_steps.specs.KeyCalls.{has_bit, find_selector_plan}
 use Rattle.nio_steps.specs.Names.{selector}
-use Rattle.nio_steps.specs.Perform.{Performed, perform}
+use Rattle.nio_steps.specs.Perform.{perform}
 use Rattle.nio_steps.specs.Plan.{Plan, ◌>>=◌}
 use Rattle.nio_steps.specs.Runs.{Completes}
 use Rattle.nio_steps.specs.SelectCalls.{Selection, try_begin_plan, begin_open, begin_with_turn, begin_below, given_back, list_plan, list_open, list_key, list_selected, keys_plan, selected_keys_plan}
 use Rattle.nio_steps.specs.Steps.{look_keys, look_selectors}
 use Rattle.nio_steps.specs.declared.refusal.BeginError.{BeginError}
-use Rattle.nio_steps.specs.declared.refusal.BeginError.TheVariants as BeginError
 use Rattle.nio_steps.specs.declared.refusal.ListError.{ListError}
-use Rattle.nio_steps.specs.declared.refusal.ListError.TheVariants as ListError
 
 -- the plan, performed on the state, leaves it
 abbrev pub Rests : {R : Type 0} → CallerNo → Plan R → State → Type 0

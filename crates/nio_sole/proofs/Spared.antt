@@ -1,6 +1,6 @@
 -- What a call leaves of a selection on a selector: it gives the turn back, marks and removes a key there only where it
 -- begins, tells, leaves or closes on that selector.
-use Rattle.std.proofs.Common.{◌≡◌, ℕ, suc, ◌+◌, ◌*◌, nat_lt, Bool, true, false, not, ◌&&◌, if◌then◌else◌, Option, Some, None, Result, Ok, Err, List, [], ◌∷◌, ◌++◌, refl, ap, sym, subst, append_assoc, zero, ◌-◌, ◌==◌}
+use Rattle.std.proofs.Common.{◌≡◌, ℕ, suc, ◌+◌, nat_lt, Bool, false, not, if◌then◌else◌, Option, Some, None, Result, Ok, Err, List, [], refl, zero, ◌-◌, ◌==◌}
 use Rattle.nio_base.specs.Kind.{valid_operations}
 use Rattle.nio_base.specs.declared.kind.Kind.TheVariants.{Source, Sink}
 use Rattle.nio_base.specs.declared.kind.Kind.{Kind}
@@ -11,8 +11,8 @@ use Rattle.nio_base.specs.declared.numbers.KeyId.{KeyId}
 use Rattle.nio_base.specs.declared.numbers.KeyNo.{KeyNo}
 use Rattle.nio_base.specs.declared.numbers.SelNo.{SelNo}
 use Rattle.nio_event.specs.OwnEvents.{has, gives_turn}
-use Rattle.nio_event.specs.Questions.{Question, Answer, question_of, answer_of}
-use Rattle.nio_event.specs.Sets.{in_cancelled_set, is_valid}
+use Rattle.nio_event.specs.Questions.{Question, Answer, question_of}
+use Rattle.nio_event.specs.Sets.{in_cancelled_set, is_valid as stage_is_valid}
 use Rattle.nio_event.specs.State.{last_serial}
 use Rattle.nio_event.specs.Turns.{removes_on}
 use Rattle.nio_event.specs.declared.act.Act.TheVariants.{GiveTurn, Remove, Mark}
@@ -24,25 +24,23 @@ use Rattle.nio_event.specs.declared.found.Stage.{Stage}
 use Rattle.nio_steps.proofs.Each.{Each}
 use Rattle.nio_steps.proofs.EachLaws.{each_bind, each_if, each_sweep, each_over, each_run}
 use Rattle.nio_steps.proofs.Lists.{all_any}
-use Rattle.nio_steps.specs.ChannelCalls.{open_channel_plan, opened_channel, is_open_plan, is_blocking_plan, is_registered_plan, noted_in_set, key_for_plan, under_hold, set_mode_held, try_set_blocking_plan, register_noted, register_over, claim_taken, claim_free, claim_in_word, search_free, words_below, claim_new, make_key, make_claimed, register_first, register_next, register_new, register_rest, register_held, try_register_plan, cancel_at, close_channel_plan}
-use Rattle.nio_steps.specs.KeyCalls.{has_bit, is_within, under_pin, find_selector_plan, find_channel_plan, find_plan, is_valid_plan, on_valid, if_valid, on_supported, look_set, put_set, add_set, keep_set, look_ready, interest_plan, set_interest_plan, interest_or_plan, interest_and_plan, ready_plan, cancel_plan, cancel_present, unselect_plan, unselect_present, attach_plan, attach_present, attachment_plan, attachment_present}
+use Rattle.nio_steps.specs.ChannelCalls.{open_channel_plan, opened_channel, is_open_plan, is_blocking_plan, is_registered_plan, noted_in_set, key_for_plan, under_hold, set_mode_held, try_set_blocking_plan, register_noted, register_over, claim_taken, claim_free, claim_in_word, search_free, claim_new, make_key, make_claimed, register_first, register_next, register_new, register_rest, register_held, try_register_plan, cancel_at, close_channel_plan}
+use Rattle.nio_steps.specs.KeyCalls.{is_within, under_pin, find_selector_plan, find_channel_plan, find_plan, is_valid_plan, on_valid, if_valid, on_supported, look_set, put_set, add_set, keep_set, look_ready, interest_plan, set_interest_plan, interest_or_plan, interest_and_plan, ready_plan, cancel_plan, cancel_present, unselect_plan, unselect_present, attach_plan, attach_present, attachment_plan, attachment_present}
 use Rattle.nio_steps.specs.Names.{key}
 use Rattle.nio_steps.specs.PipeCalls.{pipe_plan, without_sink, with_sink, with_source, if_interrupted, if_open, if_unbroken, try_read_plan, try_write_plan}
-use Rattle.nio_steps.specs.Plan.{Plan, reply, ask, ◌>>=◌, ◌>>◌, when}
+use Rattle.nio_steps.specs.Plan.{Plan, reply, ask, ◌>>=◌, when}
 use Rattle.nio_steps.specs.Runs.{Completes}
 use Rattle.nio_steps.specs.SelectCalls.{Selection, LookedOver, open_selector_plan, try_begin_plan, begin_below, look_over, told_plan, mark_entry, mark_again, after_marks, leave_plan, shut_plan, try_finish_plan, keys_plan, list_selected, list_present, selected_keys_plan, wakeup_plan, interrupt_plan, interrupted_plan, given_back, list_below, remove_key, remove_cancelled, remove_if_cancelled, mark_told, gains_nothing, told_bits}
 use Rattle.nio_steps.specs.Selections.{marks_on}
-use Rattle.nio_steps.specs.Steps.{cancel_key, put_free, mark_in, exchange_in, flag_in, stage_in, word_in, channel_in, number_in}
+use Rattle.nio_steps.specs.Steps.{cancel_key, mark_in, exchange_in, flag_in, stage_in, channel_in, number_in}
 use Rattle.nio_steps.specs.Sweeps.{seek_to, seek, sweep_to, sweep_over, found_or}
 use Rattle.nio_steps.specs.declared.looked.LookedKey.{LookedKey}
-use Rattle.nio_steps.specs.declared.refusal.BeginError.TheVariants as BeginError
 use Rattle.nio_steps.specs.declared.refusal.BeginError.{BeginError}
 use Rattle.nio_steps.specs.declared.refusal.ChannelError.{ChannelError}
 use Rattle.nio_steps.specs.declared.refusal.KeyError.{KeyError}
 use Rattle.nio_steps.specs.declared.refusal.PipeError.{PipeError}
 use Rattle.std.proofs.lemmas.List.Elements.{All-weaker}
 use Rattle.std.proofs.lemmas.List.Folds.{list_any_none}
-use Rattle.std.proofs.lemmas.List.{append-nil}
 use Rattle.std.specs.List.{All}
 use Rattle.std.specs.Prelude.{⊤}
 
@@ -131,142 +129,142 @@ ruleset still = (spares_reply, spares_ask, spares_bind, spares_if, spares_sweep,
 spares_under_pin : {A : Type 0} {t : ℕ} (s : SelNo) (i : ℕ) (steps : Stage → Plan A) → ((stage : Stage) → Spares t (steps stage)) → Spares t (under_pin s i steps)
 spares_under_pin s i steps each = spares_ask _ _ refl (λ answer. spares_bind _ _ (each (stage_in answer)) (λ a. spares_ask _ _ refl (λ _. spares_reply a)))
 
-find_selector-spares : {t : ℕ} (l : Limits) (n : ℕ) → Spares t (find_selector_plan l n)
+pub find_selector-spares : {t : ℕ} (l : Limits) (n : ℕ) → Spares t (find_selector_plan l n)
 unfolding find_selector_plan
 find_selector-spares l n = search still depth 12
 
-find_channel-spares : {t : ℕ} (l : Limits) (n : ℕ) → Spares t (find_channel_plan l n)
+pub find_channel-spares : {t : ℕ} (l : Limits) (n : ℕ) → Spares t (find_channel_plan l n)
 unfolding find_channel_plan
 find_channel-spares l n = search still depth 12
 
-find-spares : {t : ℕ} (l : Limits) (s : SelNo) (i serial : ℕ) → Spares t (find_plan l s i serial)
+pub find-spares : {t : ℕ} (l : Limits) (s : SelNo) (i serial : ℕ) → Spares t (find_plan l s i serial)
 unfolding find_plan
 find-spares l s i serial = search still depth 12
 
-is_valid-spares : {t : ℕ} (k : KeyNo) → Spares t (is_valid_plan k)
+pub is_valid-spares : {t : ℕ} (k : KeyNo) → Spares t (is_valid_plan k)
 unfolding is_valid_plan
 is_valid-spares k = search still depth 12
 
-on_valid-spares : {A : Type 0} {t : ℕ} (k : KeyNo) (steps : Stage → Plan (Result A KeyError)) → ((stage : Stage) → Spares t (steps stage)) → Spares t (on_valid k steps)
+pub on_valid-spares : {A : Type 0} {t : ℕ} (k : KeyNo) (steps : Stage → Plan (Result A KeyError)) → ((stage : Stage) → Spares t (steps stage)) → Spares t (on_valid k steps)
 on_valid-spares k steps each = spares_under_pin k.sel k.index (if_valid k steps) (λ stage. spares_if _ _ (steps stage) (spares_reply _) (each stage))
 
-interest-spares : {t : ℕ} (k : KeyNo) → Spares t (interest_plan k)
+pub interest-spares : {t : ℕ} (k : KeyNo) → Spares t (interest_plan k)
 unfolding interest_plan
 interest-spares k = on_valid-spares k (λ _. look_set k) (λ stage. search still depth 12)
 
-set_interest-spares : {t : ℕ} (k : KeyNo) (ops : ℕ) → Spares t (set_interest_plan k ops)
+pub set_interest-spares : {t : ℕ} (k : KeyNo) (ops : ℕ) → Spares t (set_interest_plan k ops)
 unfolding set_interest_plan
 set_interest-spares k ops = on_valid-spares k (on_supported ops (put_set k ops)) (λ stage. search still depth 12)
 
-interest_or-spares : {t : ℕ} (k : KeyNo) (ops : ℕ) → Spares t (interest_or_plan k ops)
+pub interest_or-spares : {t : ℕ} (k : KeyNo) (ops : ℕ) → Spares t (interest_or_plan k ops)
 unfolding interest_or_plan
 interest_or-spares k ops = on_valid-spares k (on_supported ops (add_set k ops)) (λ stage. search still depth 12)
 
-interest_and-spares : {t : ℕ} (k : KeyNo) (ops : ℕ) → Spares t (interest_and_plan k ops)
+pub interest_and-spares : {t : ℕ} (k : KeyNo) (ops : ℕ) → Spares t (interest_and_plan k ops)
 unfolding interest_and_plan
 interest_and-spares k ops = on_valid-spares k (λ _. keep_set k ops) (λ stage. search still depth 12)
 
-ready-spares : {t : ℕ} (k : KeyNo) → Spares t (ready_plan k)
+pub ready-spares : {t : ℕ} (k : KeyNo) → Spares t (ready_plan k)
 unfolding ready_plan
 ready-spares k = on_valid-spares k (λ _. look_ready k) (λ stage. search still depth 12)
 
-cancel-spares : {t : ℕ} (k : KeyNo) → Spares t (cancel_plan k)
+pub cancel-spares : {t : ℕ} (k : KeyNo) → Spares t (cancel_plan k)
 unfolding cancel_plan
 cancel-spares k = spares_under_pin k.sel k.index (cancel_present k) (λ stage. search still depth 12)
 
-unselect-spares : {t : ℕ} (k : KeyNo) → Spares t (unselect_plan k)
+pub unselect-spares : {t : ℕ} (k : KeyNo) → Spares t (unselect_plan k)
 unfolding unselect_plan
 unselect-spares k = spares_under_pin k.sel k.index (unselect_present k) (λ stage. search still depth 12)
 
-attach-spares : {t : ℕ} (k : KeyNo) (att : ℕ) → Spares t (attach_plan k att)
+pub attach-spares : {t : ℕ} (k : KeyNo) (att : ℕ) → Spares t (attach_plan k att)
 unfolding attach_plan
 attach-spares k att = spares_under_pin k.sel k.index (attach_present k att) (λ stage. search still depth 12)
 
-attachment-spares : {t : ℕ} (k : KeyNo) → Spares t (attachment_plan k)
+pub attachment-spares : {t : ℕ} (k : KeyNo) → Spares t (attachment_plan k)
 unfolding attachment_plan
 attachment-spares k = spares_under_pin k.sel k.index (attachment_present k) (λ stage. search still depth 12)
 
 -- ---- channels
 
-opened_channel-spares : {t : ℕ} (made : Option ChanNo) → Spares t (opened_channel made)
+pub opened_channel-spares : {t : ℕ} (made : Option ChanNo) → Spares t (opened_channel made)
 opened_channel-spares None = search still
 opened_channel-spares (Some c) = search still
 
-open_channel-spares : {t : ℕ} (l : Limits) (kind : Kind) → Spares t (open_channel_plan l kind)
+pub open_channel-spares : {t : ℕ} (l : Limits) (kind : Kind) → Spares t (open_channel_plan l kind)
 unfolding open_channel_plan
 open_channel-spares l kind = search (still, opened_channel-spares) depth 12
 
-is_open-spares : {t : ℕ} (c : ChanNo) → Spares t (is_open_plan c)
+pub is_open-spares : {t : ℕ} (c : ChanNo) → Spares t (is_open_plan c)
 unfolding is_open_plan
 is_open-spares c = search still depth 12
 
-is_blocking-spares : {t : ℕ} (c : ChanNo) → Spares t (is_blocking_plan c)
+pub is_blocking-spares : {t : ℕ} (c : ChanNo) → Spares t (is_blocking_plan c)
 unfolding is_blocking_plan
 is_blocking-spares c = search still depth 12
 
-noted-spares : {t : ℕ} (s : SelNo) (noted : Option KeyId) → Spares t (noted_in_set s noted)
+pub noted-spares : {t : ℕ} (s : SelNo) (noted : Option KeyId) → Spares t (noted_in_set s noted)
 noted-spares s None = search still
 noted-spares s (Some k) = search still
 
-key_for-spares : {t : ℕ} (c : ChanNo) (s : SelNo) → Spares t (key_for_plan c s)
+pub key_for-spares : {t : ℕ} (c : ChanNo) (s : SelNo) → Spares t (key_for_plan c s)
 unfolding key_for_plan
 key_for-spares c s = search (still, noted-spares) depth 12
 
-is_registered-spares : {t : ℕ} (l : Limits) (c : ChanNo) → Spares t (is_registered_plan l c)
+pub is_registered-spares : {t : ℕ} (l : Limits) (c : ChanNo) → Spares t (is_registered_plan l c)
 unfolding is_registered_plan
 is_registered-spares l c = search (still, key_for-spares) depth 12
 
-under_hold-spares : {A : Type 0} {t : ℕ} (c : ChanNo) (steps : Plan (Result A ChannelError)) → Spares t steps → Spares t (under_hold c steps)
+pub under_hold-spares : {A : Type 0} {t : ℕ} (c : ChanNo) (steps : Plan (Result A ChannelError)) → Spares t steps → Spares t (under_hold c steps)
 under_hold-spares c steps here = spares_ask _ _ refl (λ answer. spares_if _ _ _ (spares_reply _) (spares_bind steps _ here (λ a. spares_ask _ _ refl (λ _. spares_reply a))))
 
-mode_held-spares : {t : ℕ} (l : Limits) (c : ChanNo) (on : Bool) → Spares t (set_mode_held l c on)
+pub mode_held-spares : {t : ℕ} (l : Limits) (c : ChanNo) (on : Bool) → Spares t (set_mode_held l c on)
 mode_held-spares l c on = search (still, key_for-spares) depth 12
 
-set_blocking-spares : {t : ℕ} (l : Limits) (c : ChanNo) (on : Bool) → Spares t (try_set_blocking_plan l c on)
+pub set_blocking-spares : {t : ℕ} (l : Limits) (c : ChanNo) (on : Bool) → Spares t (try_set_blocking_plan l c on)
 unfolding try_set_blocking_plan
 set_blocking-spares l c on = spares_ask _ _ refl (λ answer. spares_if _ _ _ (spares_reply _) (under_hold-spares c (set_mode_held l c on) (mode_held-spares l c on)))
 
-over-spares : {t : ℕ} (s : SelNo) (ops att : ℕ) (noted : Option KeyId) → Spares t (register_over s ops att noted)
+pub over-spares : {t : ℕ} (s : SelNo) (ops att : ℕ) (noted : Option KeyId) → Spares t (register_over s ops att noted)
 over-spares s ops att None = search still depth 12
 over-spares s ops att (Some k) = spares_under_pin s k.index (register_noted s ops att k) (λ stage. search still depth 16)
 
-taken-spares : {t : ℕ} (s : SelNo) (c : ChanNo) (i : ℕ) → Spares t (claim_taken s c i)
+pub taken-spares : {t : ℕ} (s : SelNo) (c : ChanNo) (i : ℕ) → Spares t (claim_taken s c i)
 taken-spares s c i = search still depth 12
 
-free-spares : {t : ℕ} (s : SelNo) (c : ChanNo) (i : ℕ) → Spares t (claim_free s c i)
+pub free-spares : {t : ℕ} (s : SelNo) (c : ChanNo) (i : ℕ) → Spares t (claim_free s c i)
 free-spares s c i = search (still, taken-spares) depth 12
 
-word-spares : {t : ℕ} (s : SelNo) (c : ChanNo) (mark j : ℕ) → Spares t (claim_in_word s c mark j)
+pub word-spares : {t : ℕ} (s : SelNo) (c : ChanNo) (mark j : ℕ) → Spares t (claim_in_word s c mark j)
 word-spares s c mark j = search (still, free-spares) depth 12
 
-make_key-spares : {t : ℕ} (s : SelNo) (c : ChanNo) (ops att : ℕ) (k : KeyId) → Spares t (make_key s c ops att k)
+pub make_key-spares : {t : ℕ} (s : SelNo) (c : ChanNo) (ops att : ℕ) (k : KeyId) → Spares t (make_key s c ops att k)
 make_key-spares s c ops att k =
     spares_ask _ _ refl (λ gate. spares_if _ _ _ (spares_reply _)
     (spares_ask _ _ refl (λ _. spares_ask _ _ refl (λ _. spares_ask _ _ refl (λ _. spares_ask _ _ refl (λ before. spares_if _ _ _ (spares_reply _)
     (spares_ask _ _ refl (λ found. spares_bind (when (channel_in found).closed (cancel_key s k.index)) _ (search still) (λ _. spares_reply _)))))))))
 
-claimed-spares : {t : ℕ} (s : SelNo) (c : ChanNo) (ops att : ℕ) (k : KeyId) → Spares t (make_claimed s c ops att k)
+pub claimed-spares : {t : ℕ} (s : SelNo) (c : ChanNo) (ops att : ℕ) (k : KeyId) → Spares t (make_claimed s c ops att k)
 claimed-spares s c ops att k = spares_bind (make_key s c ops att k) _ (make_key-spares s c ops att k) (λ answer. spares_ask _ _ refl (λ _. spares_reply answer))
 
-first-spares : {t : ℕ} (s : SelNo) (c : ChanNo) (ops att : ℕ) (found : Option KeyId) → Spares t (register_first s c ops att found)
+pub first-spares : {t : ℕ} (s : SelNo) (c : ChanNo) (ops att : ℕ) (found : Option KeyId) → Spares t (register_first s c ops att found)
 first-spares s c ops att None = spares_reply _
 first-spares s c ops att (Some k) = spares_ask _ _ refl (λ _. claimed-spares s c ops att k)
 
-next-spares : {t : ℕ} (l : Limits) (s : SelNo) (c : ChanNo) (ops att mark : ℕ) (found : Option KeyId) → Spares t (register_next l s c ops att mark found)
+pub next-spares : {t : ℕ} (l : Limits) (s : SelNo) (c : ChanNo) (ops att mark : ℕ) (found : Option KeyId) → Spares t (register_next l s c ops att mark found)
 next-spares l s c ops att mark None = spares_bind (seek_to l.keys mark (claim_new s c)) (register_first s c ops att) (search still depth 12) (first-spares s c ops att)
 next-spares l s c ops att mark (Some k) = spares_ask _ _ refl (λ _. claimed-spares s c ops att k)
 
-new-spares : {t : ℕ} (l : Limits) (s : SelNo) (c : ChanNo) (ops att : ℕ) → Spares t (register_new l s c ops att)
+pub new-spares : {t : ℕ} (l : Limits) (s : SelNo) (c : ChanNo) (ops att : ℕ) → Spares t (register_new l s c ops att)
 new-spares l s c ops att = spares_ask _ _ refl (λ look. let mark = number_in look in spares_bind (search_free s c mark) (register_next l s c ops att mark) (search (still, word-spares) depth 12) (next-spares l s c ops att mark))
 
-rest-spares : {t : ℕ} (l : Limits) (s : SelNo) (c : ChanNo) (ops att : ℕ) (over : Option (Result KeyNo ChannelError)) → Spares t (register_rest l s c ops att over)
+pub rest-spares : {t : ℕ} (l : Limits) (s : SelNo) (c : ChanNo) (ops att : ℕ) (over : Option (Result KeyNo ChannelError)) → Spares t (register_rest l s c ops att over)
 rest-spares l s c ops att None = new-spares l s c ops att
 rest-spares l s c ops att (Some answer) = spares_reply answer
 
-held-spares : {t : ℕ} (l : Limits) (s : SelNo) (c : ChanNo) (ops att : ℕ) → Spares t (register_held l s c ops att)
+pub held-spares : {t : ℕ} (l : Limits) (s : SelNo) (c : ChanNo) (ops att : ℕ) → Spares t (register_held l s c ops att)
 held-spares l s c ops att = search (still, over-spares, rest-spares) depth 12
 
-register-spares : {t : ℕ} (l : Limits) (s : SelNo) (c : ChanNo) (ops att : ℕ) → Spares t (try_register_plan l s c ops att)
+pub register-spares : {t : ℕ} (l : Limits) (s : SelNo) (c : ChanNo) (ops att : ℕ) → Spares t (try_register_plan l s c ops att)
 unfolding try_register_plan
 register-spares l s c ops att =
     spares_ask _ _ refl (λ answer.
@@ -275,46 +273,46 @@ register-spares l s c ops att =
     (spares_if found.closed (reply (Err ChannelError.ClosedChannel)) (under_hold c (register_held l s c ops att)) (spares_reply (Err ChannelError.ClosedChannel))
     (under_hold-spares c (register_held l s c ops att) (held-spares l s c ops att))))
 
-cancel_at-spares : {t : ℕ} (s : SelNo) (noted : Option KeyId) → Spares t (cancel_at s noted)
+pub cancel_at-spares : {t : ℕ} (s : SelNo) (noted : Option KeyId) → Spares t (cancel_at s noted)
 cancel_at-spares s None = spares_reply tt
 cancel_at-spares s (Some k) = cancel-spares (key s k)
 
-close_channel-spares : {t : ℕ} (l : Limits) (c : ChanNo) → Spares t (close_channel_plan l c)
+pub close_channel-spares : {t : ℕ} (l : Limits) (c : ChanNo) → Spares t (close_channel_plan l c)
 unfolding close_channel_plan
 close_channel-spares l c = search (still, cancel_at-spares) depth 12
 
 -- ---- selections
 
-open_selector-spares : {t : ℕ} (l : Limits) → Spares t (open_selector_plan l)
+pub open_selector-spares : {t : ℕ} (l : Limits) → Spares t (open_selector_plan l)
 unfolding open_selector_plan
 open_selector-spares l = search still depth 12
 
-shut-spares : {t : ℕ} (s : SelNo) → Spares t (shut_plan s)
+pub shut-spares : {t : ℕ} (s : SelNo) → Spares t (shut_plan s)
 unfolding shut_plan
 shut-spares s = search still
 
-keys-spares : {t : ℕ} (s : SelNo) (lacks : Bool) → Spares t (keys_plan s lacks)
+pub keys-spares : {t : ℕ} (s : SelNo) (lacks : Bool) → Spares t (keys_plan s lacks)
 unfolding keys_plan
 keys-spares s lacks = search still depth 12
 
-list_selected-spares : {t : ℕ} (s : SelNo) (i : ℕ) (listed : List KeyNo) → Spares t (list_selected s i listed)
+pub list_selected-spares : {t : ℕ} (s : SelNo) (i : ℕ) (listed : List KeyNo) → Spares t (list_selected s i listed)
 list_selected-spares s i listed = spares_under_pin s i (list_present s i listed) (λ stage. search still depth 12)
 
-selected_keys-spares : {t : ℕ} (s : SelNo) (lacks : Bool) → Spares t (selected_keys_plan s lacks)
+pub selected_keys-spares : {t : ℕ} (s : SelNo) (lacks : Bool) → Spares t (selected_keys_plan s lacks)
 unfolding selected_keys_plan
 selected_keys-spares s lacks =
     spares_ask _ _ refl (λ gate. spares_if _ _ _ (spares_reply _) (spares_ask _ _ refl (λ bound. spares_if _ _ _ (spares_reply _)
     (spares_bind _ _ (spares_sweep (number_in bound) 0 (list_selected s) [] (λ i listed. list_selected-spares s i listed)) (λ listed. spares_reply _)))))
 
-wakeup-spares : {t : ℕ} (s : SelNo) → Spares t (wakeup_plan s)
+pub wakeup-spares : {t : ℕ} (s : SelNo) → Spares t (wakeup_plan s)
 unfolding wakeup_plan
 wakeup-spares s = search still
 
-interrupt-spares : {t : ℕ} (target : CallerNo) → Spares t (interrupt_plan target)
+pub interrupt-spares : {t : ℕ} (target : CallerNo) → Spares t (interrupt_plan target)
 unfolding interrupt_plan
 interrupt-spares target = search still
 
-interrupted-spares : {t : ℕ} → Spares t interrupted_plan
+pub interrupted-spares : {t : ℕ} → Spares t interrupted_plan
 unfolding interrupted_plan
 interrupted-spares = search still
 
@@ -333,7 +331,7 @@ module _ {t : ℕ} (s : SelNo) (other : (s.0 == t) ≡ false) where
       spares_ask _ _ refl (λ answer.
       let stage = stage_in answer in
       spares_if (in_cancelled_set stage) _ _ (spares_bind (remove_cancelled s i stage) _ (remove-spares i stage) (λ _. spares_reply found))
-      (spares_if (is_valid stage) _ _ (spares_ask _ _ refl (λ ops. spares_reply _)) (spares_if stage.removed _ _ (spares_reply found) (spares_reply _))))
+      (spares_if (stage_is_valid stage) _ _ (spares_ask _ _ refl (λ ops. spares_reply _)) (spares_if stage.removed _ _ (spares_reply found) (spares_reply _))))
 
   again-spares : (i told : ℕ) (found : Result (Unit {0}) KeyMark) → Spares t (mark_again s i told found)
   again-spares i told (Ok u) = spares_reply 1
@@ -356,7 +354,7 @@ module _ {t : ℕ} (s : SelNo) (other : (s.0 == t) ≡ false) where
       (spares_bind (list_below s bound) _ (search still depth 12)
       (λ listed. spares_bind (sweep_over listed (look_over s) (record { looked = []; kept = [] })) _ (spares_over listed (look_over s) (record { looked = []; kept = [] }) look_over-spares) (λ found. spares_reply _)))
 
-  begin-spares : (mode : Mode) (lacks : Bool) → Spares t (try_begin_plan s mode lacks)
+  pub begin-spares : (mode : Mode) (lacks : Bool) → Spares t (try_begin_plan s mode lacks)
   unfolding try_begin_plan
   begin-spares mode lacks =
       spares_ask _ _ refl (λ gate. spares_if _ _ _ (spares_reply _)
@@ -364,7 +362,7 @@ module _ {t : ℕ} (s : SelNo) (other : (s.0 == t) ≡ false) where
       (spares_ask _ _ refl (λ look. spares_if _ _ _ (gives-spares _)
       (spares_ask _ _ refl (λ keys. below-spares mode (number_in keys) lacks)))))))
 
-  finish-spares : Spares t (try_finish_plan s)
+  pub finish-spares : Spares t (try_finish_plan s)
   unfolding try_finish_plan
   finish-spares =
       spares_ask _ _ refl (λ holder. spares_if _ _ _ (spares_reply _)
@@ -372,7 +370,7 @@ module _ {t : ℕ} (s : SelNo) (other : (s.0 == t) ≡ false) where
       (spares_sweep (number_in keys) 0 (λ i _. remove_key s i) tt (λ i _. spares_ask _ _ other (λ _. spares_reply _))) (λ _. spares_reply _))))
 
 module _ {t : ℕ} (selection : Selection) (other : (selection.selector.0 == t) ≡ false) where
-  told-spares : (pairs : List (ℕ × ℕ)) (elapsed : Bool) → Spares t (told_plan selection pairs elapsed)
+  pub told-spares : (pairs : List (ℕ × ℕ)) (elapsed : Bool) → Spares t (told_plan selection pairs elapsed)
   unfolding told_plan
   told-spares pairs elapsed =
       spares_bind (sweep_over selection.looked (mark_entry selection.selector pairs) 0) (after_marks selection elapsed)
@@ -382,16 +380,16 @@ module _ {t : ℕ} (selection : Selection) (other : (selection.selector.0 == t) 
       (spares_over selection.kept (λ i _. remove_if_cancelled selection.selector i) tt (λ i _. remove_if-spares selection.selector other i))
       (λ _. spares_ask _ _ refl (λ _. spares_ask _ _ other (λ _. spares_reply _)))))))
 
-  leave-spares : Spares t (leave_plan selection)
+  pub leave-spares : Spares t (leave_plan selection)
   unfolding leave_plan
   leave-spares = spares_ask _ _ other (λ _. spares_reply _)
 
 -- ---- pipes
 
-without_sink-spares : {t : ℕ} (l : Limits) (source : ChanNo) → Spares t (without_sink l source)
+pub without_sink-spares : {t : ℕ} (l : Limits) (source : ChanNo) → Spares t (without_sink l source)
 without_sink-spares l source = spares_bind (close_channel_plan l source) _ (close_channel-spares l source) (λ _. spares_reply _)
 
-sink-spares : {t : ℕ} (l : Limits) (source : ChanNo) (made : Result ChanNo ChannelError) → Spares t (with_sink l source made)
+pub sink-spares : {t : ℕ} (l : Limits) (source : ChanNo) (made : Result ChanNo ChannelError) → Spares t (with_sink l source made)
 sink-spares l source (Ok sink) = spares_reply _
 sink-spares l source (Err ChannelError.ChannelsSpent) = without_sink-spares l source
 sink-spares l source (Err ChannelError.IllegalOps) = without_sink-spares l source
@@ -402,7 +400,7 @@ sink-spares l source (Err ChannelError.CancelledKey) = without_sink-spares l sou
 sink-spares l source (Err ChannelError.ClosedSelector) = without_sink-spares l source
 sink-spares l source (Err ChannelError.Full) = without_sink-spares l source
 
-source-spares : {t : ℕ} (l : Limits) (made : Result ChanNo ChannelError) → Spares t (with_source l made)
+pub source-spares : {t : ℕ} (l : Limits) (made : Result ChanNo ChannelError) → Spares t (with_source l made)
 source-spares l (Ok source) = spares_bind (open_channel_plan l Sink) (with_sink l source) (open_channel-spares l Sink) (sink-spares l source)
 source-spares l (Err ChannelError.ChannelsSpent) = spares_reply _
 source-spares l (Err ChannelError.IllegalOps) = spares_reply _
@@ -413,28 +411,27 @@ source-spares l (Err ChannelError.CancelledKey) = spares_reply _
 source-spares l (Err ChannelError.ClosedSelector) = spares_reply _
 source-spares l (Err ChannelError.Full) = spares_reply _
 
-pipe-spares : {t : ℕ} (l : Limits) (lacks : Bool) → Spares t (pipe_plan l lacks)
+pub pipe-spares : {t : ℕ} (l : Limits) (lacks : Bool) → Spares t (pipe_plan l lacks)
 unfolding pipe_plan
 pipe-spares l lacks = spares_if lacks _ _ (spares_reply _) (spares_bind (open_channel_plan l Source) (with_source l) (open_channel-spares l Source) (source-spares l))
 
-interrupted_there-spares : {t : ℕ} (l : Limits) (c : ChanNo) (interrupted : Bool) → Spares t (if_interrupted l c interrupted)
+pub interrupted_there-spares : {t : ℕ} (l : Limits) (c : ChanNo) (interrupted : Bool) → Spares t (if_interrupted l c interrupted)
 interrupted_there-spares l c interrupted =
     spares_if interrupted _ _ (spares_bind (close_channel_plan l c) _ (close_channel-spares l c) (λ _. spares_reply _)) (spares_reply _)
 
-open-spares : {t : ℕ} (l : Limits) (c : ChanNo) (found : Chan) → Spares t (if_open l c found)
+pub open-spares : {t : ℕ} (l : Limits) (c : ChanNo) (found : Chan) → Spares t (if_open l c found)
 open-spares l c found =
     spares_if found.closed _ _ (spares_reply _)
     (spares_if found.blocking _ _ (spares_ask _ _ refl (λ answer. interrupted_there-spares l c (flag_in answer))) (spares_reply _))
 
-unbroken-spares : {t : ℕ} (source : ChanNo) (found : Result Bool PipeError) → Spares t (if_unbroken source found)
+pub unbroken-spares : {t : ℕ} (source : ChanNo) (found : Result Bool PipeError) → Spares t (if_unbroken source found)
 unbroken-spares source (Ok blocking) = spares_ask _ _ refl (λ answer. spares_reply _)
 unbroken-spares source (Err refusal) = spares_reply _
 
-try_read-spares : {t : ℕ} (l : Limits) (source : ChanNo) → Spares t (try_read_plan l source)
+pub try_read-spares : {t : ℕ} (l : Limits) (source : ChanNo) → Spares t (try_read_plan l source)
 unfolding try_read_plan
 try_read-spares l source = spares_ask _ _ refl (λ answer. open-spares l source (channel_in answer))
 
-try_write-spares : {t : ℕ} (l : Limits) (source sink : ChanNo) → Spares t (try_write_plan l source sink)
+pub try_write-spares : {t : ℕ} (l : Limits) (source sink : ChanNo) → Spares t (try_write_plan l source sink)
 unfolding try_write_plan
 try_write-spares l source sink = spares_ask _ _ refl (λ answer. spares_bind (if_open l sink (channel_in answer)) (if_unbroken source) (open-spares l sink (channel_in answer)) (unbroken-spares source))
-
