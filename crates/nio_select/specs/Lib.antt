@@ -5,3 +5,4 @@ pub mod Begun
 pub mod Lists
 pub mod Entered
 pub mod Beginning
+pub mod Laws

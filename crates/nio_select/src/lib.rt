@@ -13,6 +13,7 @@
 pub use asked::Asked;
 pub use beginning::try_begin;
 pub use closing::{Closing, Finish, Shutting, shut};
+pub use laws::{gone_law, steps_law};
 pub use listing::{keys, selected_keys};
 pub use nio_event::Mode;
 pub use nio_steps::{BeginError, ListError, LookedKey, Selected, SelectorsSpent};
@@ -23,6 +24,7 @@ pub use told::Told;
 mod asked;
 mod beginning;
 mod closing;
+mod laws;
 mod listing;
 mod lists;
 mod opening;

@@ -3,7 +3,7 @@ ghost use Rattle.std.specs.Prelude.{◌≡◌, ◌+◌, ◌<◌, ◌≤◌, ◌=
 ghost use Rattle.nio_event.specs.Conditions.{IsKey};
 ghost use Rattle.nio_steps.specs.Calls.{CallClause};
 ghost use Rattle.nio_steps.specs.Runs.{Completes};
-ghost use Rattle.nio_steps.specs.SelectCalls.{is_again as goes_on, why_ended as why, told_of, mark_told as marks_told, mark_looked as marks_looked, mark_again as marks_again};
+ghost use Rattle.nio_steps.specs.SelectCalls.{is_again as goes_on, why_ended as why, told_of, mark_told as marks_told, mark_looked as marks_looked, mark_again as marks_again, gains_nothing as nothing_gained};
 ghost use Rattle.nio_words.specs.Passes.{IsReady, limits_of};
 ghost use Rattle.nio_words.specs.Views.{view};
 ghost use Rattle.nio_select.specs.Begun.{HasBegun};
@@ -69,11 +69,18 @@ fn mark_looked(w: &Words, p: &mut Pass, me: CallerNo, sel: SelNo, i: u32, told: 
     ensures most { result ≤ 1 }
 {
     let was = w.look_mark(p, me, sel, i);
-    if was.selected && told.within(was.ready) {
+    if gains_nothing(&was, told) {
         return 0;
     }
     let first = w.mark(p, me, sel, i, was, told);
     mark_again(w, p, me, sel, i, told, first)
+}
+
+// Whether the key is selected already, and ready for all that is told.
+fn gains_nothing(was: &Mark, told: Ops) -> bool
+    ensures { result ≡ nothing_gained was.now told }
+{
+    was.selected && told.within(was.ready)
 }
 
 // Where the mark had changed meanwhile, the key is marked once more.

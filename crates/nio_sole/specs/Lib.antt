@@ -1,2 +1,9 @@
 pub mod Made
 pub mod MadeLaws
+pub mod Stands
+pub mod OneProof
+pub mod Named
+pub mod Asked
+pub mod Makes
+pub mod Taking
+pub mod Told

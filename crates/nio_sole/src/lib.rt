@@ -1,6 +1,16 @@
-//! What callers have in progress, where one caller makes its call after the other.
+//! A script's calls on the shared table, one after the other.
 #![tactic(auto)]
 
 pub use laws::sole_law;
+pub use sole::Sole;
 
+mod channels;
+mod closing;
+mod desk;
+mod keys;
 mod laws;
+mod names;
+mod pairs;
+mod replies;
+mod selectors;
+mod sole;

@@ -1,0 +1,27 @@
+-- What a caller did between two moments of a pass.
+use Rattle.std.proofs.Common.{◌≡◌, ℕ, Ok, List, [], ◌∷◌, ◌++◌, IsTrue, length, drop, refl, ap, sym, ◌∙◌, subst, eq-eqb, append_assoc}
+use Rattle.std.specs.List.{All}
+use Rattle.std.proofs.Math.Seq.{drop-append_seam}
+use mathlib.Core.List.{IsPrefix}
+use Rattle.nio_base.specs.declared.limits.Limits.{Limits}
+use Rattle.nio_base.specs.declared.numbers.CallerNo.{CallerNo}
+use Rattle.nio_event.proofs.OneMore.{mine-own}
+use Rattle.nio_event.specs.Histories.{mine, event_of, IsLegal}
+use Rattle.nio_event.specs.PassViews.{PassView, done_between, ActsClause}
+use Rattle.nio_event.specs.declared.act.Act.{Act}
+use Rattle.nio_event.specs.declared.event.Event.{Event}
+use Rattle.nio_words.proofs.Beginnings.{mine-append}
+
+-- it is what the caller did in what was seen in between
+pub done_in : (me : CallerNo) (old new : PassView) (later : List Event) → old.seen ++ later ≡ new.seen → done_between me old new ≡ mine me later
+done_in me old new later parts =
+    ap (λ events. drop (length (mine me old.seen)) (mine me events)) (sym parts)
+    ∙ (ap (drop (length (mine me old.seen))) (mine-append me old.seen later) ∙ drop-append_seam (mine me old.seen) (mine me later))
+
+-- what the caller did first, and then the rest
+pub mine-cons : (me : CallerNo) (act : Act) (later : List Event) → mine me (event_of me act ∷ later) ≡ act ∷ mine me later
+mine-cons me act later = mine-append me (event_of me act ∷ []) later ∙ ap (λ acts. acts ++ mine me later) (mine-own me [] (event_of me act) (eq-eqb me.0 me.0 refl))
+
+-- what the caller did around one of its acts
+pub mine-around : (me : CallerNo) (before : List Event) (act : Act) (later : List Event) → mine me (before ++ event_of me act ∷ later) ≡ mine me before ++ act ∷ mine me later
+mine-around me before act later = mine-append me before (event_of me act ∷ later) ∙ ap (λ acts. mine me before ++ acts) (mine-cons me act later)

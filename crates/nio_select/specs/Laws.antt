@@ -1,0 +1,78 @@
+-- Laws of the calls of a selection, as passes see them.
+use Rattle.std.specs.Prelude.{◌≡◌, ℕ, ◌+◌, ◌*◌, ◌<◌, ◌≤◌, Ok, IsTrue, IsFalse, List, [], ◌∷◌, ◌++◌, length, map}
+use Rattle.std.specs.List.{All}
+use mathlib.Core.List.{IsPrefix}
+use Rattle.nio_base.specs.Limits.{IsFit}
+use Rattle.nio_base.specs.declared.numbers.CallerNo.{CallerNo}
+use Rattle.nio_base.specs.declared.numbers.SelNo.{SelNo}
+use Rattle.nio_event.specs.Answers.{count_below}
+use Rattle.nio_event.specs.Histories.{event_of}
+use Rattle.nio_event.specs.OwnEvents.{has, count, gives_turn}
+use Rattle.nio_event.specs.PassViews.{PassView, known, done_between}
+use Rattle.nio_event.specs.Sets.{was_published, was_cancelled, was_removed}
+use Rattle.nio_event.specs.Turns.{removes_on}
+use Rattle.nio_event.specs.declared.act.Act.TheVariants.{BeginLook, EndWake}
+use Rattle.nio_event.specs.declared.event.Event.{Event}
+use Rattle.nio_event.specs.declared.found.GateWord.{GateWord}
+use Rattle.nio_event.specs.declared.found.Mode.{Mode}
+use Rattle.nio_steps.specs.Bound.{disturbs, finds_listed}
+use Rattle.nio_steps.specs.Calls.{CallClause}
+use Rattle.nio_steps.specs.ChannelCalls.{words_below}
+use Rattle.nio_steps.specs.SelectCalls.{Selection, Begins, Poll, Tells, done}
+use Rattle.nio_steps.specs.declared.selected.Selected.{Selected}
+
+-- ---- cancelled keys
+
+-- A key that was published and cancelled before a `try_begin` that answers Ok with a bound above its index is removed
+-- after it, and isn't in the looked list.
+abbrev pub CancelledKeysAreGone : Type 0
+CancelledKeysAreGone =
+    (old new : PassView) (me : CallerNo) (s : SelNo) (mode : Mode) (selection : Selection) (i serial : ℕ)
+    → CallClause me (Begins s mode) old new (Ok selection)
+    → IsTrue (was_published ((known old).key s.0 i) serial) → IsTrue (was_cancelled ((known old).key s.0 i) serial) → i < selection.bound
+    → IsTrue (was_removed ((known new).key s.0 i) serial) × All (λ entry. ¬ ((entry.index ≡ i) × (entry.serial ≡ serial))) selection.looked
+
+-- ---- how many steps a selection makes
+
+-- A whole selection by two calls on a pass: the `try_begin` answered Ok, and the `told` ended the selection. Between
+-- the two the caller doesn't give the turn back and removes no key there.
+pub record IsSelection (me : CallerNo) (before_begin after_begin before_told after_told : PassView) (selection : Selection) (poll : Poll) (answer : Selected) : Type 0 where
+  pub begins : CallClause me (Begins selection.selector selection.mode) before_begin after_begin (Ok selection)
+  pub goes_on : IsPrefix after_begin.seen before_told.seen
+  pub keeps_turn : IsFalse (has (gives_turn selection.selector.0) (done_between me after_begin before_told))
+  pub keeps_keys : IsFalse (has (removes_on selection.selector.0) (done_between me after_begin before_told))
+  pub tells : CallClause me (Tells selection poll) before_told after_told (done answer)
+
+-- `window` is what happened, by any caller, between the look with which the selection begins and the step that ends the
+-- wakeup: the look stands in the `try_begin`, and that step in the `told`.
+pub record IsWindow (me : CallerNo) (before_begin after_begin before_told after_told : PassView) (s : SelNo) (window : List Event) : Type 0 where
+  pub past : List Event
+  pub found : GateWord
+  pub woken : GateWord
+  pub rest : List Event
+  pub parts : after_told.seen ≡ past ++ event_of me (BeginLook s found) ∷ (window ++ event_of me (EndWake s woken) ∷ rest)
+  pub begins_after : IsPrefix before_begin.seen past
+  pub begins_before : IsPrefix (past ++ event_of me (BeginLook s found) ∷ []) after_begin.seen
+  pub ends_after : IsPrefix before_told.seen (past ++ event_of me (BeginLook s found) ∷ window)
+
+-- The steps of the two calls are at most 8, one for each 64 indexes below the bound, 6 for each index below the bound
+-- that the `try_begin` found not free, and one for each time that anybody cancelled or unselected a key below the bound
+-- in the window.
+abbrev pub CallsAreBounded : Type 0
+CallsAreBounded =
+    (me : CallerNo) (before_begin after_begin before_told after_told : PassView) (selection : Selection) (poll : Poll) (answer : Selected) (window : List Event)
+    → IsFit after_told.limits → IsSelection me before_begin after_begin before_told after_told selection poll answer
+    → IsWindow me before_begin after_begin before_told after_told selection.selector window
+    → let s = selection.selector in
+    let bound = selection.bound in
+    let in_begin = done_between me before_begin after_begin in
+    let in_told = done_between me before_told after_told in
+    length in_begin + length in_told
+    ≤ 8 + words_below bound + 6 * count_below bound (λ i. has (finds_listed s.0 i) in_begin) + count (disturbs s.0 bound) (map (λ e. e.act) window)
+
+-- Each whole selection has such a window.
+abbrev pub SelectionsHaveWindows : Type 0
+SelectionsHaveWindows =
+    (me : CallerNo) (before_begin after_begin before_told after_told : PassView) (selection : Selection) (poll : Poll) (answer : Selected)
+    → IsSelection me before_begin after_begin before_told after_told selection poll answer
+    → (window : List Event) × IsWindow me before_begin after_begin before_told after_told selection.selector window

@@ -1,0 +1,21 @@
+//! What follows from the contracts of the calls of a selection, and from the laws of their plans. The functions do
+//! nothing: their contracts are laws.
+ghost use Rattle.nio_select.specs.Laws.{CancelledKeysAreGone, SelectionsHaveWindows, CallsAreBounded};
+
+use nio_steps::{begin_law, bound_law};
+
+/// A key that was cancelled before a selection began is removed once it has begun, and isn't among those that it
+/// looked at.
+pub fn gone_law()
+    ensures { CancelledKeysAreGone }
+{
+    begin_law()
+}
+
+/// The steps of a selection are bounded by what it finds and by what other callers cancel and unselect meanwhile.
+pub fn steps_law()
+    ensures windows { SelectionsHaveWindows }
+    ensures bounded { CallsAreBounded }
+{
+    bound_law()
+}
