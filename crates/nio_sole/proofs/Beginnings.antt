@@ -1,5 +1,5 @@
 -- What a caller made before its first line, and that what it made is whole calls.
-use Rattle.std.proofs.Common.{◌≡◌, ℕ, List, [], ◌∷◌, ◌++◌, false, refl}
+use Rattle.std.proofs.Common.{List, [], ◌∷◌, ◌++◌, false, refl}
 use Rattle.nio_base.specs.declared.limits.Limits.{Limits}
 use Rattle.nio_base.specs.declared.numbers.CallerNo.{CallerNo}
 use Rattle.nio_event.specs.declared.act.Act.{Act}

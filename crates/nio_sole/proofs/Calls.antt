@@ -13,7 +13,7 @@ use Rattle.nio_event.specs.OwnEvents.{has}
 use Rattle.nio_event.specs.Questions.{Question, question_of, answer_of}
 use Rattle.nio_event.specs.State.{State, put}
 use Rattle.nio_event.specs.declared.act.Act.{Act}
-use Rattle.nio_event.specs.declared.act.Act.TheVariants.{DrawBit, TakeTurn, ShutBit}
+use Rattle.nio_event.specs.declared.act.Act.TheVariants.{TakeTurn, ShutBit}
 use Rattle.nio_event.specs.declared.call.Call.{Call}
 use Rattle.nio_event.specs.declared.call.Call.TheVariants as call
 use Rattle.nio_event.specs.declared.found.Mode.{Mode}
@@ -21,7 +21,7 @@ use Rattle.nio_event.specs.declared.reply.Reply.{Reply}
 use Rattle.nio_event.specs.declared.reply.Reply.TheVariants as reply
 use Rattle.nio_orderly.proofs.CallLists.{one_call_more}
 use Rattle.nio_orderly.proofs.ListWords.{has-first, has-second}
-use Rattle.nio_orderly.specs.Made.{Made, IsRun, Ongoing, nothing_ongoing, after_call, after_calls, MayCome, draw, find_selector, find_channel, find, is_valid, interest, set_interest, interest_or, interest_and, ready, cancel, unselect, attach, attachment, open_channel, is_open, is_blocking, is_registered, key_for, try_set_blocking, try_register, close_channel, open_selector, try_begin, told, leave, shut, try_finish, keys, selected_keys, wakeup, interrupt, interrupted}
+use Rattle.nio_orderly.specs.Made.{Made, IsRun, Ongoing, nothing_ongoing, after_call, after_calls, MayCome, find_selector, find_channel, find, is_valid, interest, set_interest, interest_or, interest_and, ready, cancel, unselect, attach, attachment, open_channel, is_open, is_blocking, is_registered, key_for, try_set_blocking, try_register, close_channel, open_selector, try_begin, told, leave, shut, try_finish, keys, selected_keys, wakeup, interrupt, interrupted}
 use Rattle.nio_plain.specs.Seq.Answers.{yes_or_no}
 use Rattle.nio_plain.specs.Seq.Registering.{given_or_none}
 use Rattle.nio_plain.specs.Seq.Selections.{mode_of, is_caller}
@@ -39,13 +39,11 @@ use Rattle.nio_steps.specs.KeyCalls.{find_selector_plan, find_channel_plan, find
 use Rattle.nio_steps.specs.Names.{selector, key}
 use Rattle.nio_steps.specs.Plan.{Plan, ◌>>=◌}
 use Rattle.nio_steps.specs.Runs.{Follows, Completes}
-use Rattle.nio_steps.specs.SelectCalls.{Selection, open_selector_plan, try_begin_plan, begin_lacks_memory, begin_open, begin_with_turn, given_back, list_below, look_over, told_plan, mark_entry, after_marks, Poll, ToldReply, done, again, leave_plan, shut_plan, ShutReply, closing, already_closed, try_finish_plan, FinishReply, closed, busy, keys_plan, selected_keys_plan, list_lacks_memory, list_plan, list_open, list_all, list_key, list_selected, wakeup_plan, interrupt_plan, interrupted_plan}
+use Rattle.nio_steps.specs.SelectCalls.{Selection, open_selector_plan, try_begin_plan, begin_lacks_memory, begin_open, begin_with_turn, given_back, list_below, look_over, told_plan, mark_entry, after_marks, Poll, ToldReply, done, again, leave_plan, shut_plan, ShutReply, closing, already_closed, try_finish_plan, FinishReply, closed, busy, keys_plan, selected_keys_plan, list_lacks_memory, list_plan, list_open, list_key, list_selected, wakeup_plan, interrupt_plan, interrupted_plan}
 use Rattle.nio_steps.specs.Steps.{flag_in, gate_in, holder_in, number_in}
 use Rattle.nio_steps.specs.Sweeps.{sweep_over, sweep_to}
 use Rattle.nio_steps.specs.declared.refusal.BeginError.{BeginError}
-use Rattle.nio_steps.specs.declared.refusal.BeginError.TheVariants as BeginError
 use Rattle.nio_steps.specs.declared.refusal.ListError.{ListError}
-use Rattle.nio_steps.specs.declared.refusal.ListError.TheVariants as ListError
 
 -- ---- what another caller has in progress
 
@@ -295,7 +293,7 @@ begin_takes s mode lacks = λ gate asks. always_if (λ acts r. is_ok r ≡ true 
 -- ---- telling
 
 -- a `told` that answers Again goes on with the same selection
-again-same : (x next : Selection) (pairs : List (ℕ × ℕ)) (elapsed : Bool) (acts : List Act) → Completes (told_plan x pairs elapsed) acts (again next) → next ≡ x
+pub again-same : (x next : Selection) (pairs : List (ℕ × ℕ)) (elapsed : Bool) (acts : List Act) → Completes (told_plan x pairs elapsed) acts (again next) → next ≡ x
 unfolding told_plan
 again-same x next pairs elapsed acts run =
     let parts = split (sweep_over x.looked (mark_entry x.selector pairs) 0) (after_marks x elapsed) acts (again next) run in
@@ -348,16 +346,18 @@ begin_without_memory s mode = λ gate asks_gate.
       (
         asks_gate,
         else-follows (gate_in (answer_of gate)).shut _ _ (take ∷ look ∷ give ∷ []) _ opens
-        (asks_take, else-follows (is_some (holder_in (answer_of take))) _ _ (look ∷ give ∷ []) _ takes (asks_look, taken-follows (gate_in (answer_of look)).shut _ _ (give ∷ []) _ is (asks_give, refl))),
+            (asks_take, else-follows (is_some (holder_in (answer_of take))) _ _ (look ∷ give ∷ []) _ takes (asks_look, taken-follows (gate_in (answer_of look)).shut _ _ (give ∷ []) _ is (asks_give, refl))),
       ),
       refl,
     ))
     (λ still looked asks_keys give asks_give. (
       (
         asks_gate,
-        else-follows (gate_in (answer_of gate)).shut _ _ (take ∷ look ∷ looked ∷ give ∷ []) _ opens
-        (asks_take, else-follows (is_some (holder_in (answer_of take))) _ _ (look ∷ looked ∷ give ∷ []) _ takes
-        (asks_look, else-follows (gate_in (answer_of look)).shut _ _ (looked ∷ give ∷ []) _ still (asks_keys, (asks_give, refl)))),
+        else-follows (gate_in (answer_of gate)).shut _ _ (take ∷ look ∷ looked ∷ give ∷ []) _ opens (
+          asks_take,
+          else-follows (is_some (holder_in (answer_of take))) _ _ (look ∷ looked ∷ give ∷ []) _ takes
+              (asks_look, else-follows (gate_in (answer_of look)).shut _ _ (looked ∷ give ∷ []) _ still (asks_keys, (asks_give, refl))),
+        ),
       ),
       refl,
     ))))

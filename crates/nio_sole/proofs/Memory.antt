@@ -1,5 +1,5 @@
 -- A call that lacks memory leaves the state as it was, where nobody comes between its steps.
-use Rattle.std.proofs.Common.{◌≡◌, ℕ, ◌==◌, nat_lt, Bool, true, false, not, ◌&&◌, ◌||◌, cond, if◌then◌else◌, Option, Some, None, option_map, is_some, Result, Ok, Err, List, refl, ap, sym, ◌∙◌, subst}
+use Rattle.std.proofs.Common.{◌≡◌, ℕ, ◌==◌, nat_lt, Bool, true, false, not, ◌&&◌, ◌||◌, if◌then◌else◌, Option, Some, None, option_map, is_some, Result, Err, List, refl, ap, sym, ◌∙◌}
 use Rattle.nio_base.specs.declared.limits.Limits.{Limits}
 use Rattle.nio_base.specs.declared.numbers.CallerNo.{CallerNo}
 use Rattle.nio_base.specs.declared.numbers.KeyNo.{KeyNo}
@@ -8,7 +8,6 @@ use Rattle.nio_event.proofs.Put.{put_keeps}
 use Rattle.nio_event.specs.Acts.{taken_by}
 use Rattle.nio_event.specs.PassViews.{PassView, known}
 use Rattle.nio_event.specs.State.{State, put, with_turn, with_begun}
-use Rattle.nio_event.specs.declared.call.Call.{Call}
 use Rattle.nio_event.specs.declared.call.Call.TheVariants as call
 use Rattle.nio_event.specs.declared.call.Waiting.{Waiting}
 use Rattle.nio_event.specs.declared.found.Mode.{Mode}
@@ -22,15 +21,13 @@ use Rattle.nio_steps.proofs.PerformLaws.{perform-bind, perform_call}
 use Rattle.nio_steps.specs.Calls.{CallClause}
 use Rattle.nio_steps.specs.KeyCalls.{has_bit, find_selector_plan}
 use Rattle.nio_steps.specs.Names.{selector}
-use Rattle.nio_steps.specs.Perform.{Performed, perform}
+use Rattle.nio_steps.specs.Perform.{perform}
 use Rattle.nio_steps.specs.Plan.{Plan, ◌>>=◌}
 use Rattle.nio_steps.specs.Runs.{Completes}
 use Rattle.nio_steps.specs.SelectCalls.{Selection, try_begin_plan, begin_open, begin_with_turn, begin_below, given_back, list_plan, list_open, list_key, list_selected, keys_plan, selected_keys_plan}
 use Rattle.nio_steps.specs.Steps.{look_keys, look_selectors}
 use Rattle.nio_steps.specs.declared.refusal.BeginError.{BeginError}
-use Rattle.nio_steps.specs.declared.refusal.BeginError.TheVariants as BeginError
 use Rattle.nio_steps.specs.declared.refusal.ListError.{ListError}
-use Rattle.nio_steps.specs.declared.refusal.ListError.TheVariants as ListError
 
 -- the plan, performed on the state, leaves it
 abbrev pub Rests : {R : Type 0} → CallerNo → Plan R → State → Type 0
@@ -95,12 +92,12 @@ module _ (st : State) (me : CallerNo) (s : SelNo) where
 -- ---- with the look-up of the selector
 
 -- what follows a plan that leaves the state
-rests_then : {A B : Type 0} (me : CallerNo) (plan : Plan A) (f : A → Plan B) (st : State) → Rests me plan st → ((a : A) → Rests me (f a) st) → Rests me (plan >>= f) st
+pub rests_then : {A B : Type 0} (me : CallerNo) (plan : Plan A) (f : A → Plan B) (st : State) → Rests me plan st → ((a : A) → Rests me (f a) st) → Rests me (plan >>= f) st
 rests_then me plan f st here later =
     ap (λ p. p.state) (perform-bind me plan f st)
     ∙ (ap (λ x. (perform me (f (perform me plan st).answer) x).state) here ∙ later (perform me plan st).answer)
 
-find_selector-rests : (l : Limits) (me : CallerNo) (n : ℕ) (st : State) → Rests me (find_selector_plan l n) st
+pub find_selector-rests : (l : Limits) (me : CallerNo) (n : ℕ) (st : State) → Rests me (find_selector_plan l n) st
 unfolding find_selector_plan
 find_selector-rests l me n st = by_test (not (nat_lt n l.selectors))
   where
@@ -108,19 +105,19 @@ find_selector-rests l me n st = by_test (not (nat_lt n l.selectors))
     by_test true = refl
     by_test false = refl
 
-selector-rests : (l : Limits) (me : CallerNo) (now : Progress) (s : SelNo) (plan : Plan Said) (st : State) → Rests me plan st → Rests me (if_selector l now s plan) st
+pub selector-rests : (l : Limits) (me : CallerNo) (now : Progress) (s : SelNo) (plan : Plan Said) (st : State) → Rests me plan st → Rests me (if_selector l now s plan) st
 selector-rests l me now s plan st here = rests_then me (find_selector_plan l s.0) (if_found now reply.NoSelector plan) st (find_selector-rests l me s.0 st) (λ found. by_test (is_some found))
   where
     by_test : (b : Bool) → Rests me (if b then plan else refused now reply.NoSelector) st
     by_test true = here
     by_test false = refl
 
-asks-rests : {R : Type 0} (me : CallerNo) (now : Progress) (plan : Plan R) (said : R → Reply) (st : State) → Rests me plan st → Rests me (asks now plan said) st
+pub asks-rests : {R : Type 0} (me : CallerNo) (now : Progress) (plan : Plan R) (said : R → Reply) (st : State) → Rests me plan st → Rests me (asks now plan said) st
 asks-rests me now plan said st here = rests_then me plan _ st here (λ _. refl)
 
 -- ---- with the only pass
 
-stays_along : {R : Type 0} (me : CallerNo) (plan : Plan R) (old new : PassView) (answer : R) → old.only ≡ true → Rests me plan (known old) → CallClause me (Completes plan) old new answer → known new ≡ known old
+pub stays_along : {R : Type 0} (me : CallerNo) (plan : Plan R) (old new : PassView) (answer : R) → old.only ≡ true → Rests me plan (known old) → CallClause me (Completes plan) old new answer → known new ≡ known old
 stays_along me plan old new answer only rests call = sym (ap (λ p. p.state) (perform_call me plan old new answer call only)) ∙ rests
 
 module _ (me : CallerNo) (now : Progress) (s : SelNo) (old new : PassView) (only : old.only ≡ true) where

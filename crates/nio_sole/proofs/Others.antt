@@ -1,11 +1,10 @@
 -- What a line leaves of what the other callers have in progress, in a legal history; and what each caller made after it.
-use Rattle.std.proofs.Common.{◌≡◌, ℕ, ◌==◌, Bool, true, false, cond, if◌then◌else◌, Option, Some, None, option_map, is_some, List, [], ◌∷◌, ◌++◌, map, refl, ap, sym, ◌∙◌, subst, append_assoc, eqb-true, eq-eqb, ◌⊎◌, inl, inr}
+use Rattle.std.proofs.Common.{◌≡◌, ℕ, ◌==◌, Bool, true, false, cond, if◌then◌else◌, Option, Some, None, option_map, List, [], ◌∷◌, ◌++◌, map, refl, ap, sym, ◌∙◌, subst, append_assoc, eqb-true, eq-eqb, ◌⊎◌, inl, inr}
 use Rattle.std.specs.Prelude.{◌≢◌}
 use Rattle.std.specs.List.{filter}
 use Rattle.std.proofs.lemmas.List.{append-nil, map-append}
 use Rattle.nio_base.specs.declared.limits.Limits.{Limits}
 use Rattle.nio_base.specs.declared.numbers.CallerNo.{CallerNo}
-use Rattle.nio_base.specs.declared.numbers.SelNo.{SelNo}
 use Rattle.nio_event.proofs.Legal.{legal_beginning, legal_next}
 use Rattle.nio_event.proofs.Soundness.{legal-sound, held_some, both_ways}
 use Rattle.nio_event.proofs.Stays.{facts_are_permanent, only_itself_gives_back}
@@ -19,13 +18,13 @@ use Rattle.nio_event.specs.declared.act.Act.{Act}
 use Rattle.nio_event.specs.declared.act.Act.TheVariants.{TakeTurn, ShutBit}
 use Rattle.nio_event.specs.declared.call.Call.{Call}
 use Rattle.nio_event.specs.declared.event.Event.{Event}
-use Rattle.nio_orderly.proofs.OrderlyCare.{Opened, first_opened}
+use Rattle.nio_orderly.proofs.OrderlyCare.{first_opened}
 use Rattle.nio_plain.specs.Seq.Selections.{is_caller}
 use Rattle.nio_serial.specs.Between.{IsBetween}
-use Rattle.nio_serial.specs.Documented.{Progress, Selecting}
-use Rattle.nio_serial.specs.Lines.{Said, if_own, own_selection, line_plan}
-use Rattle.nio_sole.proofs.Calls.{takes_turn, shuts, IsTakenFrom, IsShutFrom, LeavesTo, Leads, leads_line, made_along, leaves_along, between_on, Own, own-is}
-use Rattle.nio_sole.specs.Made.{IsOngoing, HasMade}
+use Rattle.nio_serial.specs.Documented.{Progress}
+use Rattle.nio_serial.specs.Lines.{Said, own_selection, line_plan}
+use Rattle.nio_sole.proofs.Calls.{takes_turn, shuts, IsTakenFrom, IsShutFrom, LeavesTo, Leads, leads_line, made_along, leaves_along, between_on, own-is}
+use Rattle.nio_sole.specs.Made.{HasMade}
 use Rattle.nio_steps.proofs.OwnActs.{mine-append}
 use Rattle.nio_steps.specs.Calls.{CallClause}
 use Rattle.nio_steps.specs.Names.{selector}
@@ -83,7 +82,7 @@ one_of l me before p acts legal there =
     }
 
 -- a place that is free has no holder
-held_not_free : (n : CallerNo) (o : Option CallerNo) → is_held_by n o ≡ true → None ≡ o → ⊥
+pub held_not_free : (n : CallerNo) (o : Option CallerNo) → is_held_by n o ≡ true → None ≡ o → ⊥
 held_not_free n None held free = absurd (cc held)
 held_not_free n (Some m) held free = absurd (cc free)
 
