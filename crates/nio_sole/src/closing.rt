@@ -37,14 +37,14 @@ pub(crate) fn close_end(
     requires { MayMake w.now d.old me (Call.CloseEnd sel) }
     ensures { MakesCall (λ plan. plan) w.now d.old d.new me (Call.CloseEnd sel) result }
 {
-    let Some(closing) = take_closing(&mut d.closings, me, sel) else {
-        return Ok(Reply::NotClosing);
-    };
-    match closing.try_finish(w, &mut d.pass, me) {
-        Finish::Closed => Ok(Reply::Closed),
-        Finish::Busy(closing) => {
-            put_closing(&mut d.closings, sel, Shut { caller: me, closing });
-            Ok(Reply::Busy)
-        }
+    match take_closing(&mut d.closings, me, sel) {
+        None => Ok(Reply::NotClosing),
+        Some(closing) => match closing.try_finish(w, &mut d.pass, me) {
+            Finish::Closed => Ok(Reply::Closed),
+            Finish::Busy(closing) => {
+                put_closing(&mut d.closings, sel, Shut { caller: me, closing });
+                Ok(Reply::Busy)
+            }
+        },
     }
 }
