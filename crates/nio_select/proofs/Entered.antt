@@ -1,5 +1,5 @@
 -- What stands within the finishing of a closing after one step more.
-use Rattle.std.proofs.Common.{◌≡◌, ℕ, ◌<◌, ◌≤◌, ◌==◌, Bool, true, false, ◌&&◌, ◌||◌, if◌then◌else◌, Option, Some, None, List, [], ◌∷◌, ◌++◌, refl, ap, sym, ◌∙◌, subst, eq-eqb, cond}
+use Rattle.std.proofs.Common.{◌≡◌, ℕ, ◌<◌, ◌≤◌, ◌==◌, Bool, true, false, ◌&&◌, ◌||◌, if◌then◌else◌, Option, Some, None, List, [], ◌∷◌, ◌++◌, refl, ap, ◌∙◌, eq-eqb}
 use Rattle.std.specs.Prelude.{nat_lt, is_some, IsTrue}
 use Rattle.std.proofs.lemmas.Bool.{and_parts, and_from, or_left, or_right, lt-ltb}
 use Rattle.nio_base.specs.declared.numbers.CallerNo.{CallerNo}
@@ -7,17 +7,16 @@ use Rattle.nio_base.specs.declared.numbers.SelNo.{SelNo}
 use Rattle.nio_event.proofs.Finds.{step_leaves}
 use Rattle.nio_event.proofs.OneMore.{has-more}
 use Rattle.nio_event.proofs.Put.{put-same}
-use Rattle.nio_event.proofs.Within.{legal-within}
 use Rattle.nio_event.specs.Conditions.{IsSelector, is_closer, has_entered, may_remove_cancelled, may_clear_out}
 use Rattle.nio_event.specs.Histories.{state_after}
 use Rattle.nio_event.specs.OwnEvents.{has, enters, since_first, since_entered, finds_below}
-use Rattle.nio_event.specs.PassViews.{PassView, Holds, known, ActsClause}
+use Rattle.nio_event.specs.PassViews.{Holds, ActsClause}
 use Rattle.nio_event.specs.Permanent.{selector_closed_by, selector_entered}
 use Rattle.nio_event.specs.State.{State}
 use Rattle.nio_event.specs.declared.act.Act.{Act}
 use Rattle.nio_event.specs.declared.act.Act.TheVariants.{LookKeys, Enter}
 use Rattle.nio_words.proofs.Stepping.{still_ready}
-use Rattle.nio_words.proofs.Views.{finds_drawn, step_acts, look_tells}
+use Rattle.nio_words.proofs.Views.{finds_drawn, step_acts}
 use Rattle.nio_words.specs.Passes.{IsReady, acts_seen, limits_of, seen, state_seen}
 use Rattle.nio_words.specs.Steps.{Steps}
 use Rattle.nio_words.specs.Views.{view}

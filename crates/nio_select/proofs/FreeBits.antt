@@ -1,5 +1,5 @@
 -- The indexes that a word shows as not free, from one to the next.
-use Rattle.std.proofs.Common.{◌≡◌, ℕ, zero, suc, ◌+◌, ◌-◌, ◌*◌, ◌/◌, ◌%◌, ◌^◌, ◌<◌, ◌≤◌, ◌==◌, Bool, true, false, not, ◌&&◌, if◌then◌else◌, List, [], ◌∷◌, ◌++◌, refl, ap, sym, ◌∙◌, subst, arith, add-one, add_assoc, eq-eqb, ne_eqb}
+use Rattle.std.proofs.Common.{◌≡◌, ℕ, zero, suc, ◌+◌, ◌-◌, ◌*◌, ◌/◌, ◌%◌, ◌^◌, ◌<◌, ◌≤◌, Bool, true, false, not, ◌&&◌, if◌then◌else◌, List, [], ◌∷◌, ◌++◌, refl, ap, sym, ◌∙◌, arith, add-one, eq-eqb, ne_eqb}
 use Rattle.std.specs.Prelude.{nat_lt}
 use Rattle.std.specs.Int.{bit_at, bit_not, trailing_zeros, w64}
 use Rattle.std.proofs.Math.Nat.{div-div-eq-div-mul, div-le_self}

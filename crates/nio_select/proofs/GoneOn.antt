@@ -1,13 +1,10 @@
 -- What a caller did between two moments of a pass.
-use Rattle.std.proofs.Common.{◌≡◌, ℕ, Ok, List, [], ◌∷◌, ◌++◌, IsTrue, length, drop, refl, ap, sym, ◌∙◌, subst, eq-eqb, append_assoc}
-use Rattle.std.specs.List.{All}
+use Rattle.std.proofs.Common.{◌≡◌, List, [], ◌∷◌, ◌++◌, length, drop, refl, ap, sym, ◌∙◌, eq-eqb}
 use Rattle.std.proofs.Math.Seq.{drop-append_seam}
-use mathlib.Core.List.{IsPrefix}
-use Rattle.nio_base.specs.declared.limits.Limits.{Limits}
 use Rattle.nio_base.specs.declared.numbers.CallerNo.{CallerNo}
 use Rattle.nio_event.proofs.OneMore.{mine-own}
-use Rattle.nio_event.specs.Histories.{mine, event_of, IsLegal}
-use Rattle.nio_event.specs.PassViews.{PassView, done_between, ActsClause}
+use Rattle.nio_event.specs.Histories.{mine, event_of}
+use Rattle.nio_event.specs.PassViews.{PassView, done_between}
 use Rattle.nio_event.specs.declared.act.Act.{Act}
 use Rattle.nio_event.specs.declared.event.Event.{Event}
 use Rattle.nio_words.proofs.Beginnings.{mine-append}

@@ -2,6 +2,10 @@ pub mod Made
 pub mod Claimed
 pub mod Entered
 pub mod Listings
+pub mod Noted
+pub mod Ended
+pub mod Inside
+pub mod Again
 pub mod Begun
 pub mod FreeBits
 pub mod Listed
@@ -9,3 +13,5 @@ pub mod Progress
 pub mod GoneOn
 pub mod Steps
 pub mod Windows
+pub mod Alone
+pub mod Closed

@@ -1,5 +1,5 @@
 -- The lists of a selection rise, as the calls that make them tell.
-use Rattle.std.proofs.Common.{◌≡◌, ℕ, ◌<◌, List, refl, sym, subst, arith, ◌∙◌, map, length}
+use Rattle.std.proofs.Common.{ℕ, ◌<◌, List, sym, subst, map, length}
 use Rattle.std.specs.Prelude.{⊤, get_or}
 use Rattle.std.proofs.Math.ListN.{get_or-map}
 use Rattle.std.proofs.lemmas.List.{length-map}

@@ -1,5 +1,5 @@
 -- Selectors that are made, and what is permanent.
-use Rattle.std.proofs.Common.{◌≡◌, ℕ, Bool, true, [], ◌∷◌, ◌++◌, List, ap, ◌∙◌}
+use Rattle.std.proofs.Common.{◌≡◌, Bool, true, [], ◌∷◌, ◌++◌, List, ap, ◌∙◌}
 use Rattle.nio_base.specs.declared.numbers.CallerNo.{CallerNo}
 use Rattle.nio_base.specs.declared.numbers.SelNo.{SelNo}
 use Rattle.nio_event.proofs.Finds.{step_leaves}

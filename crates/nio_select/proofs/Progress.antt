@@ -1,5 +1,5 @@
 -- What a caller has in progress after a call.
-use Rattle.std.proofs.Common.{◌≡◌, ℕ, ◌<◌, Result, Ok, Err, IfOk, sym, subst}
+use Rattle.std.proofs.Common.{Result, Ok, Err, IfOk, sym, subst}
 use Rattle.nio_base.specs.declared.numbers.CallerNo.{CallerNo}
 use Rattle.nio_base.specs.declared.numbers.SelNo.{SelNo}
 use Rattle.nio_base.specs.declared.limits.Limits.{Limits}

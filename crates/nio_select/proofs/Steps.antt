@@ -1,16 +1,15 @@
 -- The laws of plans about selections, over the calls on a pass.
-use Rattle.std.proofs.Common.{◌≡◌, ℕ, zero, suc, ◌+◌, ◌*◌, ◌≤◌, Bool, true, false, ◌||◌, if◌then◌else◌, Ok, List, [], ◌∷◌, ◌++◌, IsTrue, map, length, refl, ap, sym, ◌∙◌, subst, arith, append_assoc}
-use Rattle.std.specs.List.{All, list_any}
+use Rattle.std.proofs.Common.{◌≡◌, ℕ, zero, suc, ◌+◌, ◌*◌, ◌≤◌, Bool, true, false, if◌then◌else◌, Ok, List, [], ◌∷◌, ◌++◌, IsTrue, map, length, refl, ap, sym, ◌∙◌, subst, arith, append_assoc}
+use Rattle.std.specs.List.{All}
 use Rattle.std.proofs.lemmas.Bool.{or_right}
 use Rattle.std.proofs.lemmas.List.{append_cancel_left}
 use Rattle.std.proofs.lemmas.List.Folds.{list_any-append}
 use Rattle.nio_base.specs.Limits.{IsFit}
-use Rattle.nio_base.specs.declared.limits.Limits.{Limits}
 use Rattle.nio_base.specs.declared.numbers.SelNo.{SelNo}
 use Rattle.nio_event.specs.Answers.{count_below}
 use Rattle.nio_event.specs.Histories.{state_after, mine, event_of, IsLegal}
 use Rattle.nio_event.specs.OwnEvents.{has, count, gives_turn}
-use Rattle.nio_event.specs.PassViews.{PassView, done_between}
+use Rattle.nio_event.specs.PassViews.{done_between}
 use Rattle.nio_event.specs.Sets.{was_removed}
 use Rattle.nio_event.specs.Turns.{removes_on}
 use Rattle.nio_event.specs.declared.act.Act.{Act}

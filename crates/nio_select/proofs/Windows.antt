@@ -1,10 +1,9 @@
 -- The look with which a selection begins and the step that ends the wakeup, and what happens in between.
-use Rattle.std.proofs.Common.{◌≡◌, ℕ, false, Ok, List, [], ◌∷◌, ◌++◌, refl, ap, sym, ◌∙◌, append_assoc}
+use Rattle.std.proofs.Common.{◌≡◌, Ok, List, [], ◌∷◌, ◌++◌, refl, ap, sym, ◌∙◌, append_assoc}
 use Rattle.std.specs.Prelude.{⊤}
-use Rattle.nio_base.specs.declared.numbers.CallerNo.{CallerNo}
 use Rattle.nio_base.specs.declared.numbers.SelNo.{SelNo}
-use Rattle.nio_event.specs.Histories.{mine, event_of}
-use Rattle.nio_event.specs.PassViews.{PassView, done_between}
+use Rattle.nio_event.specs.Histories.{event_of}
+use Rattle.nio_event.specs.PassViews.{done_between}
 use Rattle.nio_event.specs.Questions.{Question, question_of, answer_of}
 use Rattle.nio_event.specs.declared.act.Act.{Act}
 use Rattle.nio_event.specs.declared.act.Act.TheVariants.{BeginLook, EndWake}
@@ -20,7 +19,7 @@ use Rattle.nio_steps.specs.Steps.{gate_in}
 use Rattle.nio_steps.specs.Sweeps.{sweep_over}
 use Rattle.nio_steps.specs.declared.selected.Selected.{Selected}
 use Rattle.nio_select.proofs.GoneOn.{done_in}
-use Rattle.nio_select.specs.Laws.{SelectionsHaveWindows, IsSelection, IsWindow}
+use Rattle.nio_select.specs.Laws.{SelectionsHaveWindows, IsWindow}
 
 -- ---- the two steps in the acts of the two calls
 

@@ -6,20 +6,22 @@ use Rattle.nio_base.specs.Limits.{IsFit}
 use Rattle.nio_base.specs.declared.numbers.CallerNo.{CallerNo}
 use Rattle.nio_base.specs.declared.numbers.SelNo.{SelNo}
 use Rattle.nio_event.specs.Answers.{count_below}
-use Rattle.nio_event.specs.Histories.{event_of}
+use Rattle.nio_event.specs.Histories.{state_after, event_of, IsLegal}
 use Rattle.nio_event.specs.OwnEvents.{has, count, gives_turn}
 use Rattle.nio_event.specs.PassViews.{PassView, known, done_between}
-use Rattle.nio_event.specs.Sets.{was_published, was_cancelled, was_removed}
-use Rattle.nio_event.specs.Turns.{removes_on}
-use Rattle.nio_event.specs.declared.act.Act.TheVariants.{BeginLook, EndWake}
+use Rattle.nio_event.specs.Sets.{was_claimed, was_published, was_cancelled, was_removed}
+use Rattle.nio_event.specs.Turns.{removes_on, selects_on}
+use Rattle.nio_event.specs.declared.act.Act.TheVariants.{BeginLook, EndWake, LookKeys}
 use Rattle.nio_event.specs.declared.event.Event.{Event}
 use Rattle.nio_event.specs.declared.found.GateWord.{GateWord}
 use Rattle.nio_event.specs.declared.found.Mode.{Mode}
 use Rattle.nio_steps.specs.Bound.{disturbs, finds_listed}
 use Rattle.nio_steps.specs.Calls.{CallClause}
 use Rattle.nio_steps.specs.ChannelCalls.{words_below}
-use Rattle.nio_steps.specs.SelectCalls.{Selection, Begins, Poll, Tells, done}
+use Rattle.nio_steps.specs.Runs.{Completes}
+use Rattle.nio_steps.specs.SelectCalls.{Selection, Begins, Poll, Tells, done, closed, try_finish_plan}
 use Rattle.nio_steps.specs.declared.selected.Selected.{Selected}
+use Rattle.nio_select.specs.InProgress.{Selects}
 
 -- ---- cancelled keys
 
@@ -76,3 +78,37 @@ SelectionsHaveWindows =
     (me : CallerNo) (before_begin after_begin before_told after_told : PassView) (selection : Selection) (poll : Poll) (answer : Selected)
     → IsSelection me before_begin after_begin before_told after_told selection poll answer
     → (window : List Event) × IsWindow me before_begin after_begin before_told after_told selection.selector window
+
+-- ---- one selection at a time
+
+-- Of what is seen while a caller selects, until it gives the turn back, all marks and removals of keys of that selector
+-- and all ends of its wakeup are the caller's own.
+abbrev pub SelectionsAreAlone : Type 0
+SelectionsAreAlone =
+    (old new : PassView) (me : CallerNo) (selection : Selection) (between : List Event) (e : Event) (later : List Event)
+    → Selects old me selection → IsLegal old.limits new.seen → new.seen ≡ old.seen ++ (between ++ e ∷ later)
+    → IsFalse (has (gives_turn selection.selector.0) (done_between me old new))
+    → IsTrue (selects_on selection.selector.0 e.act) → e.caller ≡ me
+
+-- ---- closing
+
+-- between two moments of a pass the caller found this keys' mark, when this had happened
+pub record FindsMark (me : CallerNo) (old new : PassView) (s : SelNo) (mark : ℕ) (past : List Event) : Type 0 where
+  pub later : List Event
+  pub parts : new.seen ≡ past ++ event_of me (LookKeys s mark) ∷ later
+  pub after : IsPrefix old.seen past
+
+-- After a `try_finish` that answers Closed each key is removed whose index is below the mark that it found, and that was
+-- claimed before that look.
+abbrev pub ClosingsRemoveKeys : Type 0
+ClosingsRemoveKeys =
+    (old new : PassView) (me : CallerNo) (s : SelNo) (mark i serial : ℕ) (past : List Event)
+    → CallClause me (Completes (try_finish_plan s)) old new closed → FindsMark me old new s mark past
+    → IsTrue (was_claimed ((state_after past).key s.0 i) serial) → i < mark
+    → IsTrue (was_removed ((known new).key s.0 i) serial)
+
+-- Each such call found a mark.
+abbrev pub ClosingsFindMarks : Type 0
+ClosingsFindMarks =
+    (old new : PassView) (me : CallerNo) (s : SelNo) → CallClause me (Completes (try_finish_plan s)) old new closed
+    → (mark : ℕ) × (past : List Event) × FindsMark me old new s mark past

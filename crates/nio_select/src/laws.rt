@@ -1,8 +1,8 @@
 //! What follows from the contracts of the calls of a selection, and from the laws of their plans. The functions do
 //! nothing: their contracts are laws.
-ghost use Rattle.nio_select.specs.Laws.{CancelledKeysAreGone, SelectionsHaveWindows, CallsAreBounded};
+ghost use Rattle.nio_select.specs.Laws.{CancelledKeysAreGone, SelectionsHaveWindows, CallsAreBounded, SelectionsAreAlone, ClosingsRemoveKeys, ClosingsFindMarks};
 
-use nio_steps::{begin_law, bound_law};
+use nio_steps::{begin_law, bound_law, close_law};
 
 /// A key that was cancelled before a selection began is removed once it has begun, and isn't among those that it
 /// looked at.
@@ -18,4 +18,18 @@ pub fn steps_law()
     ensures bounded { CallsAreBounded }
 {
     bound_law()
+}
+
+/// While a caller selects nobody else marks or removes a key of the selector, or ends its wakeup.
+pub fn alone_law()
+    ensures { SelectionsAreAlone }
+{}
+
+/// A closing that has finished has found a keys' mark, and has removed each key with an index below it that was
+/// claimed before.
+pub fn closed_law()
+    ensures removes { ClosingsRemoveKeys }
+    ensures finds { ClosingsFindMarks }
+{
+    close_law()
 }

@@ -13,7 +13,7 @@
 pub use asked::Asked;
 pub use beginning::try_begin;
 pub use closing::{Closing, Finish, Shutting, shut};
-pub use laws::{gone_law, steps_law};
+pub use laws::{alone_law, closed_law, gone_law, steps_law};
 pub use listing::{keys, selected_keys};
 pub use nio_event::Mode;
 pub use nio_steps::{BeginError, ListError, LookedKey, Selected, SelectorsSpent};

@@ -8,10 +8,11 @@ ghost use Rattle.nio_words.specs.Passes.{IsReady, limits_of};
 ghost use Rattle.nio_words.specs.Views.{view};
 ghost use Rattle.nio_select.specs.Begun.{HasBegun};
 ghost use Rattle.nio_select.specs.InProgress.{Selects, poll_of, told_reply, IfAgain};
+ghost use Rattle.nio_select.specs.Kept.{remove_kept as removes_kept};
 
 use crate::asked::Asked;
 use crate::removing::remove_if_cancelled;
-use crate::telling::{is_again, mark_all, note_told, why_ended};
+use crate::telling::{is_again, mark_asked, why_ended};
 use crate::told::Told;
 use nio_base::{CallerNo, SelNo};
 use nio_event::Mode;
@@ -69,9 +70,8 @@ impl Selecting {
         ensures goes_on { IfAgain result (Selects (view w.now p.new) me) }
     {
         let mut selection = self;
-        note_told(&mut selection.asked.slots, told.pairs.as_slice());
-        let slots = selection.asked.slots.as_slice();
-        let count = mark_all(w, p, me, selection.selector, slots);
+        let pairs = told.pairs.as_slice();
+        let count = mark_asked(w, p, me, selection.selector, &mut selection.asked, pairs);
         selection.after_marks(w, p, me, told.elapsed, count)
     }
 
@@ -98,9 +98,7 @@ impl Selecting {
         ensures call { CallClause me (Completes (end_selection self answer)) (view w.now p.old) (view w.now p.new) (told_reply result) }
         ensures ready { IsReady w.now p.new me }
     {
-        for i in self.kept.iter() {
-            remove_if_cancelled(w, p, me, self.selector, *i);
-        }
+        remove_kept(w, p, me, self.selector, self.kept.as_slice());
         w.end_wake(p, me, self.selector);
         w.give_turn(p, me, self.selector);
         self.forget();
@@ -127,5 +125,17 @@ impl Selecting {
             asked: _asked,
             kept: _kept,
         } = self;
+    }
+}
+
+// Removes the keys of these indexes that were cancelled.
+fn remove_kept(w: &Words, p: &mut Pass, me: CallerNo, sel: SelNo, kept: &[u32])
+    requires begun { HasBegun w.now p.old me sel }
+    requires keys { All (λ i. i < (limits_of w.now).keys) kept.now }
+    ensures call { CallClause me (Completes (removes_kept sel kept.now)) (view w.now p.old) (view w.now p.new) result }
+    ensures begun { HasBegun w.now p.new me sel }
+{
+    for i in kept {
+        remove_if_cancelled(w, p, me, sel, *i);
     }
 }

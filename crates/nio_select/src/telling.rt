@@ -1,34 +1,80 @@
 //! The steps of a selection that is told what its poller answered.
-ghost use Rattle.std.specs.Prelude.{◌≡◌, ◌+◌, ◌<◌, ◌≤◌, ◌==◌, not, All, IsTrue, length, map};
+ghost use Rattle.std.specs.Prelude.{◌≡◌, ◌≢◌, ◌<◌, ◌≤◌, ◌==◌, not, [], All, IsTrue, MatchOption, length};
+ghost use Rattle.std.specs.List.{HoldsAt};
 ghost use Rattle.nio_event.specs.Conditions.{IsKey};
 ghost use Rattle.nio_steps.specs.Calls.{CallClause};
 ghost use Rattle.nio_steps.specs.Runs.{Completes};
-ghost use Rattle.nio_steps.specs.SelectCalls.{is_again as goes_on, why_ended as why, told_of, mark_told as marks_told, mark_looked as marks_looked, mark_again as marks_again, gains_nothing as nothing_gained};
+ghost use Rattle.nio_steps.specs.SelectCalls.{is_again as goes_on, why_ended as why, mark_entry as marks_entry, mark_told as marks_told, mark_looked as marks_looked, mark_again as marks_again, gains_nothing as nothing_gained};
+ghost use Rattle.nio_steps.specs.Sweeps.{sweep_over};
 ghost use Rattle.nio_words.specs.Passes.{IsReady, limits_of};
 ghost use Rattle.nio_words.specs.Views.{view};
 ghost use Rattle.nio_select.specs.Begun.{HasBegun};
+ghost use Rattle.nio_select.specs.Noted.{Rise, AreCountable, noted, noted_more, mark_slot as marks_slot};
 
-use crate::asked::Slot;
+use crate::asked::{Asked, Slot};
 use nio_base::{CallerNo, Ops, SelNo};
 use nio_event::{GateWord, Mark, Mode, Why};
 use nio_words::{Pass, Words};
 
+// Marks the keys of which something was told that they are interested in. Answers how many marks succeeded.
+pub(crate) fn mark_asked(
+    w: &Words,
+    p: &mut Pass,
+    me: CallerNo,
+    sel: SelNo,
+    asked: &mut Asked,
+    pairs: &[(u32, Ops)],
+) -> u32
+    requires begun { HasBegun w.now p.old me sel }
+    requires keys { All (λ entry. entry.index < (limits_of w.now).keys) asked.old }
+    ensures call { CallClause me (Completes (sweep_over asked.old (marks_entry sel pairs.now) 0)) (view w.now p.old) (view w.now p.new) result }
+    ensures begun { HasBegun w.now p.new me sel }
+    ensures same { asked.new ≡ asked.old }
+{
+    note_told(&mut asked.slots, pairs);
+    mark_all(w, p, me, sel, asked.slots.as_slice())
+}
+
 // Puts beside each key what was told of it.
-pub(crate) fn note_told(slots: &mut Vec<Slot>, pairs: &[(u32, Ops)]) {
-    for slot in slots.iter_mut() {
-        slot.told = Ops::NONE;
-    }
+fn note_told(slots: &mut Vec<Slot>, pairs: &[(u32, Ops)])
+    requires rise { Rise slots.old.items }
+    ensures { slots.new.items ≡ noted pairs.now slots.old.items }
+{
+    clear_told(slots);
     let mut next = 0;
     for (index, ops) in pairs {
-        if let Some(at) = find(slots.as_slice(), *index, next) {
-            slots[at].told = slots[at].told.union(*ops);
-            next = at + 1;
-        }
+        next = note_pair(slots, *index, *ops, next);
     }
 }
 
-// Where the key with this index stands. It looks at `next` first: pollers mostly tell of keys in rising order.
-fn find(slots: &[Slot], index: u32, next: usize) -> Option<usize> {
+fn clear_told(slots: &mut Vec<Slot>)
+    ensures { slots.new.items ≡ noted [] slots.old.items }
+{
+    for at in 0..slots.len() {
+        slots[at].told = Ops::NONE;
+    }
+}
+
+// Adds what one pair tells. It looks at `next` first: pollers mostly tell of keys in rising order. Answers where
+// the next pair may stand.
+fn note_pair(slots: &mut Vec<Slot>, index: u32, ops: Ops, next: usize) -> usize
+    requires rise { Rise slots.old.items }
+    ensures { slots.new.items ≡ noted_more (index, ops) slots.old.items }
+{
+    match find(slots.as_slice(), index, next) {
+        Some(at) => {
+            slots[at].told = slots[at].told.union(ops);
+            at + 1
+        }
+        None => next,
+    }
+}
+
+// Where the key with this index stands.
+fn find(slots: &[Slot], index: u32, next: usize) -> Option<usize>
+    requires rise { Rise slots.now }
+    ensures { MatchOption result (All (λ slot. slot.key.index ≢ index) slots.now) (λ at. (at < length slots.now) × HoldsAt (λ slot. slot.key.index ≡ index) slots.now at) }
+{
     if next < slots.len() && slots[next].key.index == index {
         return Some(next);
     }
@@ -37,8 +83,13 @@ fn find(slots: &[Slot], index: u32, next: usize) -> Option<usize> {
         .ok()
 }
 
-// Marks the keys of which something was told that they are interested in. Answers how many marks succeeded.
-pub(crate) fn mark_all(w: &Words, p: &mut Pass, me: CallerNo, sel: SelNo, slots: &[Slot]) -> u32 {
+// Marks the keys with what is noted of them. Answers how many marks succeeded.
+fn mark_all(w: &Words, p: &mut Pass, me: CallerNo, sel: SelNo, slots: &[Slot]) -> u32
+    requires begun { HasBegun w.now p.old me sel }
+    requires countable { AreCountable (limits_of w.now) sel slots.now }
+    ensures call { CallClause me (Completes (sweep_over slots.now (marks_slot sel) 0)) (view w.now p.old) (view w.now p.new) result }
+    ensures begun { HasBegun w.now p.new me sel }
+{
     let mut count = 0;
     for slot in slots {
         let told = slot.told.meet(slot.key.interest);

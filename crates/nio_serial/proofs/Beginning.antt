@@ -1,27 +1,26 @@
 -- Beginning a selection amounts to the documented call.
 use Rattle.std.proofs.Common.{◌≡◌, ℕ, zero, suc, ◌<◌, ◌==◌, nat_lt, Bool, true, false, cond, not, ◌&&◌, ◌||◌, if◌then◌else◌, Option, Some, None, option_map, is_some, Result, Ok, Err, List, [], ◌∷◌, ◌++◌, map, filter, refl, ap, sym, ◌∙◌, subst, ⊎_elim, arith, eq-eqb}
-use Rattle.std.proofs.lemmas.Bool.{both_ways, false_from_ne_true, and_parts, cases_eq, lt-ltb, ltb-true, not-true, cond-true, cond-false, or_left, or_right}
-use Rattle.std.proofs.lemmas.List.Elements.{All-filter, All-contains}
+use Rattle.std.proofs.lemmas.Bool.{both_ways, false_from_ne_true, and_parts, cases_eq, lt-ltb, ltb-true, not-true, or_left, or_right}
+use Rattle.std.proofs.lemmas.List.Elements.{All-filter, All-contains, All-map}
+use Rattle.std.proofs.lemmas.List.Kept.{AllPairs-cons, AllPairs-filter}
 use Rattle.std.proofs.lemmas.List.Folds.{list_any-append}
-use Rattle.std.specs.List.{Contains, list_any}
+use Rattle.std.specs.List.{AllPairs, Contains, list_any}
 use Rattle.nio_base.specs.declared.numbers.CallerNo.{CallerNo}
-use Rattle.nio_base.specs.declared.numbers.KeyId.{KeyId}
 use Rattle.nio_base.specs.declared.numbers.SelNo.{SelNo}
 use Rattle.nio_event.specs.Acts.{taken_by}
 use Rattle.nio_event.specs.Sets.{in_key_set, in_cancelled_set, is_valid}
 use Rattle.nio_event.specs.State.{State, put, with_turn, with_begun}
 use Rattle.nio_event.specs.declared.found.Mode.{Mode}
 use Rattle.nio_event.specs.declared.found.Stage.{Stage}
-use Rattle.nio_event.specs.declared.reply.Reply.{Reply}
 use Rattle.nio_event.specs.declared.reply.Reply.TheVariants as reply
 use Rattle.nio_plain.proofs.Found.{below_all}
-use Rattle.nio_plain.specs.ScriptState.{ScriptState, Selection as ScriptSelection}
-use Rattle.nio_plain.specs.Seq.Answers.{Answered, unchanged}
+use Rattle.nio_plain.specs.ScriptState.{ScriptState}
+use Rattle.nio_plain.specs.Seq.Answers.{unchanged}
 use Rattle.nio_plain.specs.Seq.Names.{below, key_at}
 use Rattle.nio_plain.specs.Seq.Removing.{removed_key, without_keys_where}
 use Rattle.nio_plain.specs.Seq.Selections.{without_cancelled, looked_keys, selection_begun, begun_with}
 use Rattle.nio_plain.specs.declared.rules.Rules.TheVariants.{Now}
-use Rattle.nio_steps.proofs.Lists.{contains-middle}
+use Rattle.nio_steps.proofs.Lists.{contains-middle, pairs-none, pairs-head, pairs-tail, pairs-push}
 use Rattle.nio_steps.proofs.PerformLaws.{perform_then_on}
 use Rattle.nio_steps.specs.Perform.{Performed, perform}
 use Rattle.nio_steps.specs.Plan.{Plan, ◌>>=◌}
@@ -30,12 +29,12 @@ use Rattle.nio_steps.specs.Steps.{look_keys}
 use Rattle.nio_steps.specs.Sweeps.{sweep_over}
 use Rattle.nio_steps.specs.declared.looked.LookedKey.{LookedKey}
 use Rattle.nio_steps.specs.declared.refusal.BeginError.{BeginError}
-use Rattle.nio_steps.specs.declared.refusal.BeginError.TheVariants as BeginError
 use Rattle.nio_serial.proofs.Base.{put-here, put-twice, put-under, settled-cancelled, branch}
 use Rattle.nio_serial.proofs.FreeWords.{is_not_free, filter-same, list_below-performed}
 use Rattle.nio_serial.proofs.Removing.{settled-removed}
-use Rattle.nio_serial.proofs.Sweeping.{has_index, has_next, goes, swept, looked_over, look-performed}
-use Rattle.nio_serial.specs.Documented.{Progress, Selecting, settled, settled_state, looked_pair, shown, documented, amounts}
+use Rattle.nio_serial.proofs.Sweeping.{has_index, has_next, swept, looked_over, look-performed}
+use Rattle.nio_serial.specs.Between.{IsOn}
+use Rattle.nio_serial.specs.Documented.{Progress, settled, settled_state, looked_pair, shown, documented, amounts}
 use Rattle.nio_serial.specs.Lines.{after_begin}
 use Rattle.nio_serial.specs.Replies.{begin_reply}
 
@@ -72,6 +71,15 @@ any-below p (suc n) i low is =
 pub index-there : (q : ℕ → Bool) (n i : ℕ) → i < n → q i ≡ true → has_index i (filter q (below n)) ≡ true
 index-there q n i low is =
     any-filter (λ j. j == i) q (below n) ∙ any-below (λ j. q j && (j == i)) n i low (λ j. is j && eq-eqb i i refl j)
+
+below-rises : (n : ℕ) → AllPairs (λ i j. i < j) (below n)
+below-rises zero = pairs-none (λ i j. i < j)
+below-rises (suc n) = pairs-push (λ i j. i < j) (below n) n (below-rises n) (below_all n)
+
+pairs-map : {X Y : Type 0} (f : X → Y) (R : Y → Y → Type 0) (xs : List X) → AllPairs (λ a b. R (f a) (f b)) xs → AllPairs R (map f xs)
+pairs-map f R [] pairs = pairs-none R
+pairs-map f R (x ∷ xs) pairs =
+    AllPairs-cons R (f x) (map f xs) (All-map (R (f x)) f xs (pairs-head (λ a b. R (f a) (f b)) x xs pairs)) (pairs-map f R xs (pairs-tail (λ a b. R (f a) (f b)) x xs pairs))
 
 or_true : (b : Bool) → (b || true) ≡ true
 or_true true = refl
@@ -217,7 +225,7 @@ module _ (st : State) (now : Progress) (me : CallerNo) (s : SelNo)
     left = record {
       shared = sym state-is j;
       selection = (ap (λ looked. put ds.selection s.0 (Some (record { mode = mode; bound = mark; looked = looked }))) (sym looked-is)
-      ∙ sym (put-under (λ _ o. option_map (λ x. shown x.selection) o) now.selection s.0 (Some (record { caller = me; selection = begun mode })))) j;
+          ∙ sym (put-under (λ _ o. option_map (λ x. shown x.selection) o) now.selection s.0 (Some (record { caller = me; selection = begun mode })))) j;
     };
   }
 
@@ -234,3 +242,34 @@ module _ (st : State) (now : Progress) (me : CallerNo) (s : SelNo)
           sym (ap (λ (o : Option CallerNo). amounts begin_reply (after_begin now me s) (perform me (if is_some o then Plan.reply (Err BeginError.Busy) else begin_with_turn s mode false) (with_begun (with_turn st s.0 (taken_by me o)) s.0 (is_some o && st.begun s.0)))) is
           ∙ (λ j. record { reply = reply.Busy; left = documented (record st { turn = put-here st.turn s.0 (Some n) is j; begun = put-here st.begun s.0 (st.begun s.0) refl j }) now }))
       by_turn None is not_shut = begun-is mode ∙ sym (ap (amounts begin_reply (after_begin now me s)) (open-performed mode is not_shut))
+
+  -- what the call answers, and the state that it leaves: it is refused, or the selection has begun
+  pub begin-cases : (mode : Mode) (P : Performed (Result Selection BeginError) → Type 0)
+      → P (record { answer = Err BeginError.ClosedSelector; state = st }) → P (record { answer = Err BeginError.Busy; state = st })
+      → (st.turn s.0 ≡ None → P (record { answer = Ok (begun mode); state = left }))
+      → P (perform me (try_begin_plan s mode false) st)
+  unfolding try_begin_plan
+  begin-cases mode P closed busy begins = by_shut (st.gate s.0).shut refl
+    where
+      by_turn : (o : Option CallerNo) → st.turn s.0 ≡ o → (st.gate s.0).shut ≡ false → P (perform me (begin_open s mode false) st)
+      by_turn (Some n) is not_shut =
+          subst P (sym (ap (λ (o : Option CallerNo). perform me (if is_some o then Plan.reply (Err BeginError.Busy) else begin_with_turn s mode false) (with_begun (with_turn st s.0 (taken_by me o)) s.0 (is_some o && st.begun s.0))) is
+          ∙ (λ j. record { answer = Err BeginError.Busy; state = record st { turn = put-here st.turn s.0 (Some n) is j; begun = put-here st.begun s.0 (st.begun s.0) refl j } }))) busy
+      by_turn None is not_shut = subst P (sym (open-performed mode is not_shut)) (begins is)
+
+      by_shut : (b : Bool) → (st.gate s.0).shut ≡ b → P (perform me (if b then Plan.reply (Err BeginError.ClosedSelector) else begin_open s mode false) st)
+      by_shut true e = closed
+      by_shut false e = by_turn (st.turn s.0) refl e
+
+  -- the selection that has begun looks at each index once, in rising order, and keeps these indexes
+  kept-are : (xs : List ℕ) → xs ≡ map (λ (e : LookedKey). e.index) (map (λ i. looked_key i (st.key s.0 i) (st.interest s.0 i)) xs)
+  kept-are [] = refl
+  kept-are (i ∷ xs) = ap (λ ys. i ∷ ys) (kept-are xs)
+
+  pub begun-on : (mode : Mode) → IsOn s.0 (begun mode)
+  begun-on mode = record {
+    selector = refl;
+    rises = pairs-map (λ i. looked_key i (st.key s.0 i) (st.interest s.0 i)) (λ (a b : LookedKey). a.index < b.index) (filter (λ i. is_valid (st.key s.0 i)) listed)
+        (AllPairs-filter (λ i j. i < j) (λ i. is_valid (st.key s.0 i)) listed (AllPairs-filter (λ i j. i < j) (is_not_free turned me s) (below mark) (below-rises mark)));
+    kept = kept-are (filter (λ i. is_valid (st.key s.0 i)) listed);
+  }

@@ -5,21 +5,19 @@ use Rattle.nio_base.specs.declared.numbers.CallerNo.{CallerNo}
 use Rattle.nio_base.specs.declared.numbers.ChanNo.{ChanNo}
 use Rattle.nio_base.specs.declared.numbers.KeyNo.{KeyNo}
 use Rattle.nio_event.specs.State.{State, with_chan, with_hold}
-use Rattle.nio_event.specs.declared.reply.Reply.{Reply}
 use Rattle.nio_event.specs.declared.reply.Reply.TheVariants as reply
 use Rattle.nio_plain.proofs.Naming.{channel-through}
 use Rattle.nio_plain.specs.ScriptState.{ScriptState}
 use Rattle.nio_plain.specs.Seq.Answers.{Answered, unchanged, answered}
 use Rattle.nio_plain.specs.Seq.Modes.{is_registered, blocking_call}
 use Rattle.nio_steps.proofs.PerformLaws.{perform_then_on, perform_else}
-use Rattle.nio_steps.specs.ChannelCalls.{first_key, set_mode_clear, key_where_blocking, set_mode_open, set_mode_held, try_set_blocking_plan, under_hold}
+use Rattle.nio_steps.specs.ChannelCalls.{first_key, set_mode_clear, set_mode_open, set_mode_held, try_set_blocking_plan, under_hold}
 use Rattle.nio_steps.specs.Perform.{Performed, perform}
 use Rattle.nio_steps.specs.Plan.{Plan, ◌>>=◌}
 use Rattle.nio_steps.specs.Steps.{set_mode}
 use Rattle.nio_steps.specs.declared.refusal.ChannelError.{ChannelError}
-use Rattle.nio_steps.specs.declared.refusal.ChannelError.TheVariants as ChannelError
 use Rattle.nio_serial.proofs.Base.{put-back, branch, released, perform_held}
-use Rattle.nio_serial.proofs.Finding.{FindsKey, first_key-performed}
+use Rattle.nio_serial.proofs.Finding.{first_key-performed}
 use Rattle.nio_serial.specs.Documented.{Progress, documented, amounts}
 use Rattle.nio_serial.specs.Replies.{mode_reply}
 

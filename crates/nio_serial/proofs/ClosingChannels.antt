@@ -1,6 +1,6 @@
 -- Closing a channel amounts to the documented call.
-use Rattle.std.proofs.Common.{◌≡◌, ◌≢◌, ℕ, suc, ◌+◌, ◌<◌, ◌≤◌, ◌==◌, nat_lt, Bool, true, false, cond, not, ◌&&◌, Option, Some, None, ⊎_elim, refl, ap, sym, ◌∙◌, subst, arith, eqb-true, eq-eqb}
-use Rattle.std.proofs.lemmas.Bool.{and_parts, and_left, and_right, both_ways, cases_eq, cases_lt, lt-ltb, le-ltb, ne_eqb, not-true, cond-true, cond-false}
+use Rattle.std.proofs.Common.{◌≡◌, ◌≢◌, ℕ, ◌+◌, ◌<◌, ◌≤◌, ◌==◌, nat_lt, Bool, true, false, cond, not, ◌&&◌, Option, Some, None, ⊎_elim, refl, ap, sym, ◌∙◌, subst, arith, eqb-true, eq-eqb}
+use Rattle.std.proofs.lemmas.Bool.{and_parts, and_left, and_right, both_ways, cases_eq, cases_lt, lt-ltb, le-ltb, ne_eqb, not-true, cond-false}
 use Rattle.nio_base.specs.declared.limits.Limits.{Limits}
 use Rattle.nio_base.specs.declared.numbers.CallerNo.{CallerNo}
 use Rattle.nio_base.specs.declared.numbers.ChanNo.{ChanNo}
@@ -12,12 +12,11 @@ use Rattle.nio_event.specs.State.{State, put_at, with_chan, with_key, with_pin}
 use Rattle.nio_event.specs.declared.found.Chan.{Chan}
 use Rattle.nio_event.specs.declared.found.Mark.{Mark}
 use Rattle.nio_event.specs.declared.found.Stage.{Stage}
-use Rattle.nio_event.specs.declared.reply.Reply.{Reply}
 use Rattle.nio_event.specs.declared.reply.Reply.TheVariants as reply
 use Rattle.nio_plain.proofs.Naming.{channel-through}
 use Rattle.nio_plain.specs.ScriptState.{ScriptState}
-use Rattle.nio_plain.specs.Seq.Answers.{Answered, unchanged, answered}
-use Rattle.nio_plain.specs.Seq.Cancelling.{cancelled_key, has_index, channel_closed, closec_call}
+use Rattle.nio_plain.specs.Seq.Answers.{answered}
+use Rattle.nio_plain.specs.Seq.Cancelling.{cancelled_key, has_index, closec_call}
 use Rattle.nio_plain.specs.Seq.Modes.{if_in_key_set, key_of}
 use Rattle.nio_steps.proofs.PerformLaws.{perform_then_on, perform_sweep}
 use Rattle.nio_steps.specs.ChannelCalls.{cancel_at, cancel_noted, cancel_keys, close_channel_plan}
@@ -161,7 +160,7 @@ module _ (st : State) (me : CallerNo) (c : ChanNo) (free : (s i : ℕ) → st.pi
 -- ---- the call
 
 -- the channel's key at an index is in the key set
-index_in_set : (st : State) (s i : ℕ) (noted : Option KeyId) → has_index (if_in_key_set st s noted) i ≡ true → in_key_set (st.key s i) ≡ true
+pub index_in_set : (st : State) (s i : ℕ) (noted : Option KeyId) → has_index (if_in_key_set st s noted) i ≡ true → in_key_set (st.key s i) ≡ true
 index_in_set st s i None e = absurd (both_ways false refl e)
 index_in_set st s i (Some k) e = by_set (is_in_key_set (st.key s k.index) k.serial) refl e
   where

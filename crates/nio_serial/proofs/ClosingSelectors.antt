@@ -1,16 +1,15 @@
 -- Ending the closing of a selector amounts to the documented call.
-use Rattle.std.proofs.Common.{◌≡◌, ◌≢◌, ℕ, ◌+◌, ◌<◌, ◌≤◌, ◌==◌, nat_lt, Bool, true, false, cond, not, ◌&&◌, ◌||◌, Option, Some, None, is_some, is_none, ⊎_elim, refl, ap, sym, ◌∙◌, subst, arith, eq-eqb, eqb-true}
-use Rattle.std.proofs.lemmas.Bool.{both_ways, and_right, and_parts, and_from, cases_eq, cases_lt, lt-ltb, le-ltb, not-true}
+use Rattle.std.proofs.Common.{◌≡◌, ◌≢◌, ℕ, ◌+◌, ◌<◌, ◌≤◌, ◌==◌, nat_lt, Bool, true, false, cond, not, ◌&&◌, ◌||◌, Option, Some, None, is_some, is_none, ⊎_elim, refl, ap, sym, ◌∙◌, subst, arith, eq-eqb}
+use Rattle.std.proofs.lemmas.Bool.{both_ways, and_right, and_from, cases_lt, lt-ltb, le-ltb}
 use Rattle.nio_base.specs.declared.numbers.CallerNo.{CallerNo}
 use Rattle.nio_base.specs.declared.numbers.SelNo.{SelNo}
 use Rattle.nio_event.specs.Acts.{frees_index}
 use Rattle.nio_event.specs.State.{State, put_at, with_entered}
 use Rattle.nio_event.specs.declared.found.Stage.{Stage}
-use Rattle.nio_event.specs.declared.reply.Reply.{Reply}
 use Rattle.nio_event.specs.declared.reply.Reply.TheVariants as reply
 use Rattle.nio_plain.proofs.Naming.{selector-through}
 use Rattle.nio_plain.specs.ScriptState.{ScriptState}
-use Rattle.nio_plain.specs.Seq.Answers.{Answered, unchanged, answered}
+use Rattle.nio_plain.specs.Seq.Answers.{unchanged, answered}
 use Rattle.nio_plain.specs.Seq.Closing.{close_end_call, without_keys}
 use Rattle.nio_plain.specs.Seq.Removing.{without_keys_where}
 use Rattle.nio_plain.specs.Seq.Selections.{is_caller}
@@ -20,7 +19,7 @@ use Rattle.nio_steps.specs.Plan.{Plan}
 use Rattle.nio_steps.specs.SelectCalls.{FinishReply, closed, busy, remove_key, remove_keys, try_finish_plan}
 use Rattle.nio_steps.specs.Sweeps.{sweep_to}
 use Rattle.nio_serial.proofs.Base.{put-here, put_at-here}
-use Rattle.nio_serial.proofs.Removing.{gone, removed_where, removed_none, removed_same, removed_more, settled-removed}
+use Rattle.nio_serial.proofs.Removing.{gone, removed_where, removed_none, removed_more, settled-removed}
 use Rattle.nio_serial.specs.Documented.{Progress, settled_state, documented, amounts}
 use Rattle.nio_serial.specs.Lines.{after_finish}
 use Rattle.nio_serial.specs.Replies.{finish_reply}
@@ -35,7 +34,7 @@ lt_other j n other =
     (cases_lt j n)
 
 -- the indexes of the selector below n
-abbrev below_in : ℕ → ℕ → ℕ → ℕ → Bool
+abbrev pub below_in : ℕ → ℕ → ℕ → ℕ → Bool
 below_in s n t j = (t == s) && nat_lt j n
 
 below_more : (s n t j : ℕ) → ((t == s) && (j == n)) ≡ false → below_in s (n + 1) t j ≡ below_in s n t j
@@ -55,11 +54,14 @@ module _ (st : State) (me : CallerNo) (s : SelNo) (idle : st.begun s.0 ≡ false
   turn : (n : ℕ) → perform me (remove_key s n) (stands n) ≡ record { answer = tt; state = stands (n + 1) }
   turn n =
       let now = stands n in
-      (λ j. record { answer = tt; state = record now {
-        key = put_at now.key s.0 n (gone (now.key s.0 n));
-        free = sym (put_at-here now.free s.0 n (none (st.key s.0 n) || now.free s.0 n) refl) j;
-        put_due = put_at-here st.put_due s.0 n (st.put_due s.0 n || (st.begun s.0 && frees_index (now.key s.0 n))) (none_due n ∙ (λ i. sym (none_due n) i || (sym idle i && frees_index (now.key s.0 n)))) j;
-      } })
+      (λ j. record {
+        answer = tt;
+        state = record now {
+          key = put_at now.key s.0 n (gone (now.key s.0 n));
+          free = sym (put_at-here now.free s.0 n (none (st.key s.0 n) || now.free s.0 n) refl) j;
+          put_due = put_at-here st.put_due s.0 n (st.put_due s.0 n || (st.begun s.0 && frees_index (now.key s.0 n))) (none_due n ∙ (λ i. sym (none_due n) i || (sym idle i && frees_index (now.key s.0 n)))) j;
+        };
+      })
       ∙ ap (λ x. record { answer = tt; state = x }) (removed_more st none (below_in s.0 n) (below_in s.0 (n + 1)) s.0 n
       (and_from (s.0 == s.0) (nat_lt n (n + 1)) (eq-eqb s.0 s.0 refl) (lt-ltb n (n + 1) (omega arith))) (below_more s.0 n))
 
@@ -89,11 +91,27 @@ close_end-amounts st now me s begun none_due exact made own not_entered =
         (sym (put-here st.entered s.0 (st.entered s.0 || false) (not_entered ∙ (λ j. sym not_entered j || false))))
     by_turn None is =
         let entered_st = with_entered st s.0 (st.entered s.0 || true) in
-        (λ j. record { reply = reply.Closed; left = record ds {
-          shared = without_keys_where (settled_state (with_entered st s.0 (sym now_entered j))) s.0 (λ i. exact i j) (λ _. false);
-        } })
+        (λ j. record {
+          reply = reply.Closed;
+          left = record ds {
+            shared = without_keys_where (settled_state (with_entered st s.0 (sym now_entered j))) s.0 (λ i. exact i j) (λ _. false);
+          };
+        })
         ∙ (ap (λ x. record { reply = reply.Closed; left = record ds { shared = x } }) (sym (settled-removed entered_st (λ _. false) s.0 (λ i. nat_lt i (st.keys_high s.0)) (λ _. refl)))
         ∙ sym (ap (amounts finish_reply (after_finish now s)) (remove_keys-performed entered_st me s (begun ∙ ap is_some is) none_due)))
       where
         now_entered : (st.entered s.0 || true) ≡ true
         now_entered = λ j. not_entered j || true
+
+-- what the call answers, and the state that it leaves: a caller selects, or the closing has ended
+pub finish-cases : (st : State) (me : CallerNo) (s : SelNo) → st.begun s.0 ≡ is_some (st.turn s.0) → (none_due : (i : ℕ) → st.put_due s.0 i ≡ false) → st.entered s.0 ≡ false
+    → (P : Performed FinishReply → Type 0) → P (record { answer = busy; state = st })
+    → P (record { answer = closed; state = removed_where (with_entered st s.0 (st.entered s.0 || true)) (below_in s.0 (st.keys_high s.0)) (λ _. false) })
+    → P (perform me (try_finish_plan s) st)
+unfolding try_finish_plan
+finish-cases st me s begun none_due not_entered P selecting ends = by_turn (st.turn s.0) refl
+  where
+    by_turn : (o : Option CallerNo) → st.turn s.0 ≡ o → P (perform me (cond (is_some o) (Plan.reply busy) (remove_keys s)) (with_entered st s.0 (st.entered s.0 || is_none o)))
+    by_turn (Some n) is =
+        subst P (λ j. record { answer = busy; state = record st { entered = sym (put-here st.entered s.0 (st.entered s.0 || false) (not_entered ∙ (λ i. sym not_entered i || false))) j } }) selecting
+    by_turn None is = subst P (sym (remove_keys-performed (with_entered st s.0 (st.entered s.0 || true)) me s (begun ∙ ap is_some is) none_due)) ends

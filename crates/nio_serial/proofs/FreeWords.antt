@@ -1,5 +1,5 @@
 -- The looks at which indexes are free, performed.
-use Rattle.std.proofs.Common.{◌≡◌, ℕ, zero, suc, ◌+◌, ◌-◌, ◌*◌, ◌/◌, ◌<◌, ◌≤◌, ◌==◌, nat_lt, Bool, true, false, cond, not, ◌&&◌, if◌then◌else◌, List, [], ◌∷◌, ◌++◌, filter, refl, ap, sym, ◌∙◌, subst, append_assoc, arith}
+use Rattle.std.proofs.Common.{◌≡◌, ℕ, zero, suc, ◌+◌, ◌-◌, ◌*◌, ◌/◌, ◌<◌, ◌≤◌, ◌==◌, nat_lt, Bool, true, false, cond, not, ◌&&◌, if◌then◌else◌, List, [], ◌∷◌, ◌++◌, filter, refl, ap, sym, ◌∙◌, append_assoc, arith}
 use Rattle.std.proofs.lemmas.Bool.{lt-ltb, le-ltb}
 use Rattle.std.proofs.lemmas.List.{append-nil}
 use Rattle.std.proofs.lemmas.List.Elements.{filter-append}
@@ -12,7 +12,7 @@ use Rattle.nio_plain.specs.Seq.Names.{below}
 use Rattle.nio_steps.proofs.PerformLaws.{perform_sweep, indexes, indexes-push}
 use Rattle.nio_steps.specs.ChannelCalls.{words_below}
 use Rattle.nio_steps.specs.KeyCalls.{has_bit}
-use Rattle.nio_steps.specs.Perform.{Performed, perform}
+use Rattle.nio_steps.specs.Perform.{perform}
 use Rattle.nio_steps.specs.SelectCalls.{not_free, list_word, list_below}
 
 -- a bit of the look is set where that index is free

@@ -1,13 +1,12 @@
 -- The calls on a key amount to the documented ones.
-use Rattle.std.proofs.Common.{◌≡◌, ℕ, Bool, true, false, cond, not, ◌==◌, ◌&&◌, Result, Ok, Err, bit_and, bit_or, refl, ap, sym, ◌∙◌}
+use Rattle.std.proofs.Common.{◌≡◌, ℕ, Bool, true, false, cond, not, ◌&&◌, Result, Err, bit_and, bit_or, refl, ap, sym, ◌∙◌}
 use Rattle.std.proofs.lemmas.Bool.{and_parts, both_ways, not-true}
 use Rattle.nio_base.specs.Kind.{valid_operations}
-use Rattle.nio_base.specs.declared.limits.Limits.{Limits}
 use Rattle.nio_base.specs.declared.numbers.CallerNo.{CallerNo}
 use Rattle.nio_base.specs.declared.numbers.KeyId.{KeyId}
 use Rattle.nio_base.specs.declared.numbers.SelNo.{SelNo}
 use Rattle.nio_event.specs.Sets.{fits, in_key_set, was_published, is_in_key_set, is_valid_key}
-use Rattle.nio_event.specs.State.{State, put_at, with_pin, with_key, with_mark, with_interest, with_note}
+use Rattle.nio_event.specs.State.{State, with_pin, with_key, with_mark, with_interest, with_note}
 use Rattle.nio_event.specs.declared.found.Mark.{Mark}
 use Rattle.nio_event.specs.declared.found.Stage.{Stage}
 use Rattle.nio_event.specs.declared.reply.Reply.{Reply}
@@ -15,7 +14,7 @@ use Rattle.nio_event.specs.declared.reply.Reply.TheVariants as reply
 use Rattle.nio_plain.proofs.Naming.{key-through}
 use Rattle.nio_plain.specs.ScriptState.{ScriptState}
 use Rattle.nio_plain.specs.Seq.Answers.{Answered, unchanged, answered, yes_or_no}
-use Rattle.nio_plain.specs.Seq.Cancelling.{cancel_call, cancelled_in_set, cancelled_key}
+use Rattle.nio_plain.specs.Seq.Cancelling.{cancel_call, cancelled_key}
 use Rattle.nio_plain.specs.Seq.Keys.{with_valid_key, valid_call, interest_call, ready_call, iset_call, ior_call, iand_call, unselect_call, attach_call, attachment_call, is_in_selected_set}
 use Rattle.nio_plain.specs.Seq.Names.{with_named_key}
 use Rattle.nio_steps.specs.KeyCalls.{under_pin, is_valid_plan, interest_plan, ready_plan, set_interest_plan, interest_or_plan, interest_and_plan, cancel_plan, unselect_plan, attach_plan, attachment_plan, on_valid, if_valid, is_within, look_set, look_ready, put_set, add_set, keep_set, on_supported, cancel_present, unselect_present, attach_present, attachment_present}
@@ -24,9 +23,8 @@ use Rattle.nio_steps.specs.Perform.{Performed, perform}
 use Rattle.nio_steps.specs.Plan.{Plan, when}
 use Rattle.nio_steps.specs.Steps.{cancel_key, unselect_bit, swap_note, look_note}
 use Rattle.nio_steps.specs.declared.refusal.KeyError.{KeyError}
-use Rattle.nio_steps.specs.declared.refusal.KeyError.TheVariants as KeyError
 use Rattle.nio_serial.proofs.Base.{pin-back, put_at-here, settled-valid_key, settled-key, settled-marked, in_set-is, branch, branch_not, unpinned, perform_pinned}
-use Rattle.nio_serial.specs.Documented.{Progress, settled, settled_mark, settled_state, documented, amounts}
+use Rattle.nio_serial.specs.Documented.{Progress, settled, settled_mark, documented, amounts}
 use Rattle.nio_serial.specs.Replies.{set_reply, put_reply}
 
 neither : (f i x : Bool) → (f && i) ≡ false → (f && (i && x)) ≡ false
@@ -167,6 +165,7 @@ module _ (st : State) (now : Progress) (me : CallerNo) (s : SelNo) (k : KeyId) (
     where
       m : Mark
       m = st.mark s.0 k.index
+
       by_set : (b : Bool) → is_in_key_set stage k.serial ≡ b
           → cond (is_in_selected_set ds.shared s.0 k) (answered ds reply.Yes (with_mark ds.shared s.0 k.index (record (settled_mark stage m) { selected = false }))) (unchanged ds reply.No)
           ≡ after yes_or_no (perform me (cond b (unselect_bit s k.index) (Plan.reply false)) held)

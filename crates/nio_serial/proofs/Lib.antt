@@ -13,3 +13,16 @@ pub mod Beginning
 pub mod Marks
 pub mod Marking
 pub mod Telling
+pub mod Claiming
+pub mod Making
+pub mod Registering
+pub mod Facts
+pub mod Calls
+pub mod Lines
+pub mod Resting
+pub mod RestingCalls
+pub mod Showing
+pub mod Steady
+pub mod Staying
+pub mod Histories
+pub mod Serial

@@ -3,14 +3,10 @@ use Rattle.std.proofs.Common.{◌≡◌, ℕ, ◌+◌, Bool, true, false, cond, 
 use Rattle.std.proofs.lemmas.List.{append-nil, map-append}
 use Rattle.std.proofs.lemmas.List.Elements.{filter-append}
 use Rattle.nio_base.specs.declared.numbers.CallerNo.{CallerNo}
-use Rattle.nio_base.specs.declared.numbers.KeyId.{KeyId}
 use Rattle.nio_base.specs.declared.numbers.KeyNo.{KeyNo}
 use Rattle.nio_base.specs.declared.numbers.SelNo.{SelNo}
 use Rattle.nio_event.specs.Sets.{in_key_set, in_selected_set}
 use Rattle.nio_event.specs.State.{State, with_pin}
-use Rattle.nio_event.specs.declared.found.Stage.{Stage}
-use Rattle.nio_event.specs.declared.reply.Reply.{Reply}
-use Rattle.nio_event.specs.declared.reply.Reply.TheVariants as reply
 use Rattle.nio_plain.proofs.Naming.{selector-through}
 use Rattle.nio_plain.specs.ScriptState.{ScriptState}
 use Rattle.nio_plain.specs.Seq.Answers.{Answered, unchanged}
@@ -23,9 +19,8 @@ use Rattle.nio_steps.specs.SelectCalls.{present_key, list_key, list_present, lis
 use Rattle.nio_steps.specs.Steps.{look_mark}
 use Rattle.nio_steps.specs.Sweeps.{sweep_to}
 use Rattle.nio_steps.specs.declared.refusal.ListError.{ListError}
-use Rattle.nio_steps.specs.declared.refusal.ListError.TheVariants as ListError
 use Rattle.nio_serial.proofs.Base.{pin-back, cancelled_parts, branch, unpinned, perform_pinned}
-use Rattle.nio_serial.specs.Documented.{Progress, settled_state, documented, amounts}
+use Rattle.nio_serial.specs.Documented.{Progress, documented, amounts}
 use Rattle.nio_serial.specs.Replies.{key_id, list_reply}
 
 filter-push : (p : ℕ → Bool) (n : ℕ) → filter p (below (n + 1)) ≡ filter p (below n) ++ cond (p n) (n ∷ []) []

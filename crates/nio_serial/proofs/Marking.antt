@@ -1,33 +1,31 @@
 -- The marks of a `told`, one after the other: the state after so many of them is the documented one for that part of the
 -- looked list, and as many were updated.
-use Rattle.std.proofs.Common.{◌≡◌, ℕ, ◌+◌, ◌<◌, ◌==◌, Bool, true, false, cond, not, ◌&&◌, ◌||◌, if◌then◌else◌, List, [], ◌∷◌, ◌++◌, map, count_by, bit_and, bit_or, refl, ap, sym, ◌∙◌, subst, arith, eqb-true, eq-eqb}
-use Rattle.std.proofs.lemmas.Bool.{both_ways, and_parts, and_from, or_left, or_right, not-true, cond-true, cond-false}
-use Rattle.std.proofs.lemmas.List.{append-nil, map-append}
+use Rattle.std.proofs.Common.{◌≡◌, ℕ, ◌+◌, ◌<◌, ◌==◌, Bool, true, false, cond, not, ◌&&◌, ◌||◌, List, [], ◌∷◌, ◌++◌, map, count_by, bit_and, refl, ap, sym, ◌∙◌, subst, arith, eqb-true, eq-eqb}
+use Rattle.std.proofs.lemmas.Bool.{both_ways, and_parts, or_left, or_right, not-true, cond-true, cond-false}
+use Rattle.std.proofs.lemmas.List.{map-append}
 use Rattle.std.proofs.lemmas.List.Elements.{All-map, All-head, All-tail}
 use Rattle.std.proofs.lemmas.List.Folds.{list_any-append}
 use Rattle.std.proofs.lemmas.List.Sums.{sum_by-append, sum_by-cons}
-use Rattle.std.specs.List.{All, AllPairs, list_any}
+use Rattle.std.specs.List.{AllPairs, list_any}
 use lib.Bits.{and_zero_r}
 use Rattle.nio_base.specs.declared.numbers.CallerNo.{CallerNo}
 use Rattle.nio_base.specs.declared.numbers.KeyId.{KeyId}
-use Rattle.nio_base.specs.declared.numbers.SelNo.{SelNo}
 use Rattle.nio_event.specs.Sets.{fits, in_key_set, is_in_key_set}
-use Rattle.nio_event.specs.State.{State, put_at, with_mark}
+use Rattle.nio_event.specs.State.{State, with_mark}
 use Rattle.nio_event.specs.declared.found.Mark.{Mark}
-use Rattle.nio_event.specs.declared.found.Stage.{Stage}
-use Rattle.nio_plain.proofs.Lists.{same-key, same-is, other-index, AreBelow, looked_interest-absent, looked_interest-last, looked_interest-others}
+use Rattle.nio_plain.proofs.Lists.{same-key, other-index, AreBelow, looked_interest-absent, looked_interest-last, looked_interest-others}
 use Rattle.nio_plain.specs.Seq.Names.{is_same_key, key_at}
 use Rattle.nio_plain.specs.Seq.Selections.{all_told, looked_interest, told_bits, is_looked, marked, is_updated, with_marks}
 use Rattle.nio_steps.proofs.Lists.{pairs-before}
 use Rattle.nio_steps.proofs.PerformLaws.{perform_then_on, perform_over}
-use Rattle.nio_steps.specs.Perform.{Performed, perform}
-use Rattle.nio_steps.specs.Plan.{Plan, ◌>>=◌}
+use Rattle.nio_steps.specs.Perform.{perform}
+use Rattle.nio_steps.specs.Plan.{Plan}
 use Rattle.nio_steps.specs.SelectCalls.{Selection, told_of, told_bits as told_bits_of, one_if, mark_told, mark_entry}
 use Rattle.nio_steps.specs.Sweeps.{sweep_over}
 use Rattle.nio_steps.specs.declared.looked.LookedKey.{LookedKey}
 use Rattle.nio_serial.proofs.Marks.{told-is, mark-performed}
 use Rattle.nio_serial.proofs.Removing.{put_at-is}
-use Rattle.nio_serial.specs.Documented.{settled_mark, looked_pair, shown}
+use Rattle.nio_serial.specs.Documented.{settled_mark, looked_pair}
 use Rattle.nio_serial.specs.Lines.{by_index}
 
 -- the interest of a key in a rising list

@@ -1,5 +1,5 @@
 -- The marks of a `told`: what the poller told of a looked key, and a mark of it, performed.
-use Rattle.std.proofs.Common.{◌≡◌, ℕ, suc, ◌+◌, ◌==◌, Bool, true, false, cond, not, ◌&&◌, ◌||◌, if◌then◌else◌, Result, Ok, Err, List, [], ◌∷◌, ◌++◌, map, filter, fold, bit_and, bit_or, refl, ap, sym, ◌∙◌, subst, arith, eqb-true, eq-eqb}
+use Rattle.std.proofs.Common.{◌≡◌, ℕ, ◌==◌, Bool, true, false, cond, not, ◌&&◌, ◌||◌, if◌then◌else◌, Ok, Err, List, [], ◌∷◌, map, filter, fold, bit_and, bit_or, refl, ap, sym, ◌∙◌, subst, arith, eqb-true, eq-eqb}
 use Rattle.std.proofs.lemmas.Bool.{both_ways, and_parts, and_from, not-false}
 use Rattle.std.proofs.lemmas.Nat.Bits.{bit_at_or, bit_at_and, same_from_bits}
 use Rattle.std.specs.Bool.{beq}
@@ -8,10 +8,10 @@ use Rattle.nio_base.specs.declared.numbers.CallerNo.{CallerNo}
 use Rattle.nio_base.specs.declared.numbers.KeyId.{KeyId}
 use Rattle.nio_base.specs.declared.numbers.SelNo.{SelNo}
 use Rattle.nio_event.specs.Acts.{selected_with, exchanged}
-use Rattle.nio_event.specs.Answers.{is_same_mark, exchange_from}
-use Rattle.nio_event.specs.State.{State, put_at, with_mark}
+use Rattle.nio_event.specs.Answers.{is_same_mark}
+use Rattle.nio_event.specs.State.{State, with_mark}
 use Rattle.nio_event.specs.declared.found.Mark.{Mark}
-use Rattle.nio_plain.proofs.Lists.{same-key, same-is}
+use Rattle.nio_plain.proofs.Lists.{same-is}
 use Rattle.nio_plain.specs.Seq.Names.{is_same_key}
 use Rattle.nio_plain.specs.Seq.Selections.{all_told, is_looked, marked, is_updated}
 use Rattle.nio_steps.specs.KeyCalls.{is_within}

@@ -1,14 +1,14 @@
 -- Keys that are removed one after the other: the state after so many of them, in closed form.
-use Rattle.std.proofs.Common.{◌≡◌, ℕ, ◌==◌, nat_lt, Bool, true, false, cond, not, ◌&&◌, ◌||◌, None, refl, ap, sym, ◌∙◌, subst, eqb-true, eq-eqb}
-use Rattle.std.proofs.lemmas.Bool.{and_parts, and_from}
+use Rattle.std.proofs.Common.{◌≡◌, ℕ, ◌==◌, nat_lt, Bool, true, false, cond, not, ◌&&◌, ◌||◌, None, refl, ap, sym, ◌∙◌, subst, eqb-true}
+use Rattle.std.proofs.lemmas.Bool.{and_parts}
 use Rattle.nio_base.specs.declared.numbers.CallerNo.{CallerNo}
 use Rattle.nio_base.specs.declared.numbers.SelNo.{SelNo}
 use Rattle.nio_event.specs.State.{State, put_at, last_serial, with_key, with_put_due}
 use Rattle.nio_event.specs.declared.found.Mark.{Mark}
 use Rattle.nio_event.specs.declared.found.Stage.{Stage}
 use Rattle.nio_plain.specs.Seq.Removing.{removed_key, unselected, without_keys_where}
-use Rattle.nio_steps.specs.Perform.{Performed, perform}
-use Rattle.nio_steps.specs.Plan.{Plan, when}
+use Rattle.nio_steps.specs.Perform.{perform}
+use Rattle.nio_steps.specs.Plan.{when}
 use Rattle.nio_steps.specs.SelectCalls.{remove_cancelled}
 use Rattle.nio_steps.specs.Steps.{put_free}
 use Rattle.nio_serial.proofs.Base.{put_at-here, put_at-back}
@@ -119,12 +119,18 @@ removal-performed st me s i none_due untaken = by_serial (nat_lt k.serial last_s
     by_serial : (b : Bool) → nat_lt k.serial last_serial ≡ b
         → perform me (when b (put_free s i)) (removed (nat_lt k.serial last_serial))
         ≡ record { answer = tt; state = record st { key = put_at st.key s.0 i (gone k); free = put_at st.free s.0 i (b || st.free s.0 i) } }
-    by_serial true e = λ j. record { answer = tt; state = record (with_key st s.0 i (gone k)) {
-      free = put_at st.free s.0 i true;
-      taker = put_at-here st.taker s.0 i None untaken j;
-      put_due = put_at-back st.put_due s.0 i (due (nat_lt k.serial last_serial)) false none_due j;
-    } }
-    by_serial false e = λ j. record { answer = tt; state = record (with_key st s.0 i (gone k)) {
-      free = sym (put_at-here st.free s.0 i (st.free s.0 i) refl) j;
-      put_due = put_at-here st.put_due s.0 i (due (nat_lt k.serial last_serial)) (none_due ∙ sym (ap due e ∙ (λ n. none_due n || not_due (st.begun s.0) (not k.removed) n))) j;
-    } }
+    by_serial true e = λ j. record {
+      answer = tt;
+      state = record (with_key st s.0 i (gone k)) {
+        free = put_at st.free s.0 i true;
+        taker = put_at-here st.taker s.0 i None untaken j;
+        put_due = put_at-back st.put_due s.0 i (due (nat_lt k.serial last_serial)) false none_due j;
+      };
+    }
+    by_serial false e = λ j. record {
+      answer = tt;
+      state = record (with_key st s.0 i (gone k)) {
+        free = sym (put_at-here st.free s.0 i (st.free s.0 i) refl) j;
+        put_due = put_at-here st.put_due s.0 i (due (nat_lt k.serial last_serial)) (none_due ∙ sym (ap due e ∙ (λ n. none_due n || not_due (st.begun s.0) (not k.removed) n))) j;
+      };
+    }

@@ -1,5 +1,5 @@
 -- The calls of one look at a channel, those of one step, and those that open: they amount to the documented ones.
-use Rattle.std.proofs.Common.{◌≡◌, ℕ, suc, ◌+◌, ◌-◌, ◌<◌, ◌≤◌, max, nat_lt, Bool, true, false, cond, not, Option, Some, None, option_map, is_some, find, List, ⊎_elim, refl, ap, sym, ◌∙◌, add-one, arith}
+use Rattle.std.proofs.Common.{◌≡◌, ℕ, suc, ◌+◌, ◌-◌, ◌<◌, ◌≤◌, max, nat_lt, Bool, true, false, cond, not, Option, Some, None, option_map, find, ⊎_elim, refl, ap, sym, ◌∙◌, arith}
 use Rattle.std.proofs.lemmas.Bool.{cases_lt, lt-ltb, le-ltb, not-true, not-false, cond-true}
 use Rattle.nio_base.specs.declared.kind.Kind.{Kind}
 use Rattle.nio_base.specs.declared.limits.Limits.{Limits}
@@ -21,13 +21,13 @@ use Rattle.nio_plain.specs.Seq.Modes.{key_of, name_or_none, is_blocking_call, is
 use Rattle.nio_plain.specs.Seq.Names.{below}
 use Rattle.nio_plain.specs.Seq.Opening.{selector_made, selector_call, channel_made, channel_call}
 use Rattle.nio_plain.specs.Seq.Wakeups.{wakeup_call, interrupt_call, interrupted_call}
-use Rattle.nio_steps.proofs.PerformLaws.{perform-bind, perform_then_on, perform_seek, perform_seek_yes, indexes, found_at}
+use Rattle.nio_steps.proofs.PerformLaws.{perform_then_on, perform_seek, indexes, found_at}
 use Rattle.nio_steps.proofs.SweepLaws.{seek_to-done}
 use Rattle.nio_steps.specs.ChannelCalls.{is_open_plan, is_blocking_plan, is_registered_plan, key_for_plan, makes_channel, opened_channel, open_channel_plan}
 use Rattle.nio_steps.specs.Names.{selector, channel, key}
 use Rattle.nio_steps.specs.Perform.{Performed, perform}
 use Rattle.nio_steps.specs.Plan.{Plan}
-use Rattle.nio_steps.specs.SelectCalls.{makes_selector, opened_selector, open_selector_plan, shut_plan, closing, already_closed, ShutReply, wakeup_plan, interrupt_plan, interrupted_plan}
+use Rattle.nio_steps.specs.SelectCalls.{makes_selector, opened_selector, open_selector_plan, shut_plan, closing, already_closed, wakeup_plan, interrupt_plan, interrupted_plan}
 use Rattle.nio_steps.specs.Sweeps.{seek_to}
 use Rattle.nio_serial.proofs.Base.{put-here}
 use Rattle.nio_serial.proofs.Finding.{find-below, key_for-performed, registered-performed}
@@ -81,13 +81,17 @@ module _ (st : State) (now : Progress) (me : CallerNo) where
       where
         shut_gate : GateWord
         shut_gate = record (st.gate s.0) { shut = true }
+
         by_shut : (b : Bool) → (st.gate s.0).shut ≡ b
             → cond b (unchanged ds reply.Already) (answered ds reply.Closing (with_closer (with_gate ds.shared s.0 (record (st.gate s.0) { shut = true })) s.0 (Some me)))
             ≡ amounts shut_reply (after_shut now me s) (record { answer = cond b already_closed closing; state = with_closer (with_gate st s.0 (record (st.gate s.0) { shut = true })) s.0 (cond b (st.closer s.0) (Some me)) })
-        by_shut true e = λ j. record { reply = reply.Already; left = documented (record st {
-          gate = sym (put-here st.gate s.0 (record (st.gate s.0) { shut = true }) (λ i. record (st.gate s.0) { shut = e i })) j;
-          closer = sym (put-here st.closer s.0 (st.closer s.0) refl) j;
-        }) now }
+        by_shut true e = λ j. record {
+          reply = reply.Already;
+          left = documented (record st {
+            gate = sym (put-here st.gate s.0 (record (st.gate s.0) { shut = true }) (λ i. record (st.gate s.0) { shut = e i })) j;
+            closer = sym (put-here st.closer s.0 (st.closer s.0) refl) j;
+          }) now;
+        }
         by_shut false e = refl
 
   pub interrupt-amounts : (l : Limits) (target : CallerNo) → target.0 < l.callers → interrupt_call l ds target ≡ stays (λ _. reply.«Ok») (perform me (interrupt_plan target) st)
@@ -115,6 +119,7 @@ module _ (st : State) (now : Progress) (me : CallerNo) where
     where
       made_already : ℕ → Bool → Performed (Option SelNo)
       made_already n b = record { answer = cond b None (Some (selector n)); state = with_selector st n true }
+
       by_found : (o : Option ℕ) → selector_made ds o
           ≡ stays selector_reply (record { answer = opened_selector (found_at st selector (λ n. with_selector st n true) o).answer; state = (found_at st selector (λ n. with_selector st n true) o).state })
       by_found None = refl
@@ -150,12 +155,12 @@ module _ (st : State) (now : Progress) (me : CallerNo) where
         here room =
             let m = st.channels_high in
             let sought : perform me (seek_to l.channels m makes) st ≡ record { answer = Some (channel m); state = left m } =
-                perform_seek me l.channels m makes unmade channel st left (omega arith)
-                (λ n _ _ is. let was : (st.chan n).made ≡ true = not-false (st.chan n).made is in
-                ap (λ b. record { answer = cond b None (Some (channel n)); state = with_chan st n (cond b (st.chan n) (new_channel kind)) }) was
-                ∙ ap (λ f. record { answer = None; state = record st { chan = f } }) (put-here st.chan n (st.chan n) refl))
-                (λ n _ _ is. ap (λ b. record { answer = cond b None (Some (channel n)); state = with_chan st n (cond b (st.chan n) (new_channel kind)) }) (not-true (st.chan n).made is))
-                ∙ ap (found_at st channel left) (first room) in
+            perform_seek me l.channels m makes unmade channel st left (omega arith)
+            (λ n _ _ is. let was : (st.chan n).made ≡ true = not-false (st.chan n).made is in
+            ap (λ b. record { answer = cond b None (Some (channel n)); state = with_chan st n (cond b (st.chan n) (new_channel kind)) }) was
+            ∙ ap (λ f. record { answer = None; state = record st { chan = f } }) (put-here st.chan n (st.chan n) refl))
+            (λ n _ _ is. ap (λ b. record { answer = cond b None (Some (channel n)); state = with_chan st n (cond b (st.chan n) (new_channel kind)) }) (not-true (st.chan n).made is))
+            ∙ ap (found_at st channel left) (first room) in
             ap (channel_made ds kind) (find_first unmade l.channels m room (ap not mark_unmade) below_made)
             ∙ (ap (λ n. answered ds (reply.Channel (channel m)) (with_channels_high (with_chan ds.shared m (new_channel kind)) n)) raised
             ∙ sym (ap (stays channel_reply) (perform_then_on me (seek_to l.channels m makes) opened_channel st (Some (channel m)) (left m) sought)))

@@ -1,18 +1,18 @@
 -- The sweeps of a selection over its indexes: the cancelled keys among those that it went over are removed.
-use Rattle.std.proofs.Common.{◌≡◌, ◌≢◌, ℕ, ◌==◌, nat_lt, Bool, true, false, cond, not, ◌&&◌, ◌||◌, if◌then◌else◌, None, List, [], ◌∷◌, ◌++◌, map, filter, refl, ap, sym, ◌∙◌, subst, ◌⊎◌, eqb-true, eq-eqb}
-use Rattle.std.proofs.lemmas.Bool.{and_parts, and_from, and_left, and_right, or_right, both_ways, ne_eqb, cond-true, cond-false, not-true}
+use Rattle.std.proofs.Common.{◌≡◌, ℕ, ◌==◌, nat_lt, Bool, true, false, cond, not, ◌&&◌, ◌||◌, if◌then◌else◌, None, List, [], ◌∷◌, ◌++◌, map, filter, refl, ap, sym, ◌∙◌, subst, eqb-true, eq-eqb}
+use Rattle.std.proofs.lemmas.Bool.{and_parts, and_from, and_left, and_right, or_right, both_ways, ne_eqb, cond-true, cond-false}
 use Rattle.std.proofs.lemmas.List.{append-nil, map-append}
 use Rattle.std.proofs.lemmas.List.Elements.{filter-append}
 use Rattle.std.proofs.lemmas.List.Folds.{list_any-append}
 use Rattle.std.specs.List.{list_any}
 use Rattle.nio_base.specs.declared.numbers.CallerNo.{CallerNo}
 use Rattle.nio_base.specs.declared.numbers.SelNo.{SelNo}
-use Rattle.nio_event.specs.Sets.{in_key_set, in_cancelled_set, is_valid}
+use Rattle.nio_event.specs.Sets.{in_cancelled_set, is_valid}
 use Rattle.nio_event.specs.State.{State, put_at, last_serial}
 use Rattle.nio_event.specs.declared.found.Stage.{Stage}
 use Rattle.nio_steps.proofs.PerformLaws.{perform_then, perform_else, perform_then_on, perform_over}
 use Rattle.nio_steps.specs.Perform.{Performed, perform}
-use Rattle.nio_steps.specs.Plan.{Plan, when, ◌>>=◌, ◌>>◌}
+use Rattle.nio_steps.specs.Plan.{Plan, when, ◌>>◌}
 use Rattle.nio_steps.specs.SelectCalls.{LookedOver, looked_key, remove_cancelled, look_valid, look_on, look_over, remove_if_cancelled}
 use Rattle.nio_steps.specs.Sweeps.{sweep_over}
 use Rattle.nio_steps.specs.declared.looked.LookedKey.{LookedKey}
@@ -165,7 +165,7 @@ module _ (st : State) (me : CallerNo) (s : SelNo) (none_due : (i : ℕ) → st.p
   looked-same : (past : List ℕ) (e : ℕ) → valid e ≡ false → looked_over past ≡ looked_over (past ++ e ∷ [])
   looked-same past e is =
       let same : filter valid past ≡ filter valid (past ++ e ∷ []) =
-          sym (append-nil (filter valid past)) ∙ (ap (λ b. filter valid past ++ cond b (e ∷ []) []) (sym is) ∙ sym (filter-append valid past (e ∷ []))) in
+      sym (append-nil (filter valid past)) ∙ (ap (λ b. filter valid past ++ cond b (e ∷ []) []) (sym is) ∙ sym (filter-append valid past (e ∷ []))) in
       λ j. record { looked = map entry (same j); kept = same j }
 
   not_valid_gone : (k : Stage) → is_valid (gone k) ≡ false

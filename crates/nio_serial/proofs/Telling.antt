@@ -1,28 +1,24 @@
 -- Telling a selection, and leaving it, amount to the documented calls.
-use Rattle.std.proofs.Common.{◌≡◌, ℕ, ◌+◌, ◌<◌, ◌==◌, Bool, true, false, cond, not, ◌&&◌, ◌||◌, if◌then◌else◌, Option, Some, None, option_map, List, [], ◌∷◌, map, count_by, bit_and, bit_or, refl, ap, sym, ◌∙◌, subst, arith, eqb-true, eq-eqb}
-use Rattle.std.proofs.lemmas.Bool.{both_ways, and_parts, and_from, or_parts, not-true}
+use Rattle.std.proofs.Common.{◌≡◌, ℕ, ◌+◌, ◌<◌, ◌==◌, Bool, true, false, cond, not, ◌&&◌, ◌||◌, if◌then◌else◌, Some, None, option_map, List, [], ◌∷◌, map, count_by, bit_and, bit_or, refl, ap, sym, ◌∙◌, subst, arith, eqb-true, eq-eqb}
+use Rattle.std.proofs.lemmas.Bool.{both_ways, and_parts, or_parts}
 use Rattle.std.proofs.lemmas.List.Sums.{sum_by-cons}
 use Rattle.std.proofs.lemmas.List.{map-append}
 use Rattle.std.proofs.lemmas.List.Elements.{Contains-push, Contains-append_left, Contains-append_right}
-use Rattle.std.specs.List.{AllPairs, Contains, list_any}
+use Rattle.std.specs.List.{AllPairs, Contains}
 use lib.Bits.{and_zero_r}
 use Rattle.nio_base.specs.declared.numbers.CallerNo.{CallerNo}
 use Rattle.nio_base.specs.declared.numbers.KeyId.{KeyId}
-use Rattle.nio_base.specs.declared.numbers.SelNo.{SelNo}
 use Rattle.nio_event.specs.Sets.{in_cancelled_set, is_in_key_set}
-use Rattle.nio_event.specs.State.{State, put, with_turn, with_begun, with_gate, with_no_put_due}
+use Rattle.nio_event.specs.State.{State, with_turn, with_begun, with_gate}
 use Rattle.nio_event.specs.declared.found.GateWord.{GateWord}
 use Rattle.nio_event.specs.declared.found.Mark.{Mark}
 use Rattle.nio_event.specs.declared.found.Mode.{Mode}
 use Rattle.nio_event.specs.declared.found.Mode.TheVariants as mode
 use Rattle.nio_event.specs.declared.found.Stage.{Stage}
-use Rattle.nio_event.specs.declared.reply.Reply.{Reply}
 use Rattle.nio_event.specs.declared.reply.Reply.TheVariants as reply
-use Rattle.nio_event.specs.declared.reply.Why.{Why}
-use Rattle.nio_event.specs.declared.reply.Why.TheVariants as why
 use Rattle.nio_plain.proofs.Lists.{same-is}
 use Rattle.nio_plain.specs.ScriptState.{ScriptState}
-use Rattle.nio_plain.specs.Seq.Answers.{Answered, unchanged}
+use Rattle.nio_plain.specs.Seq.Answers.{Answered}
 use Rattle.nio_plain.specs.Seq.Names.{is_same_key, key_at}
 use Rattle.nio_plain.specs.Seq.Removing.{without_keys_where}
 use Rattle.nio_plain.specs.Seq.Selections.{all_told, looked_interest, told_bits, is_looked, marked, is_updated, with_marks, goes_on, is_again, why_ended, selection_ended, told_selection, left_selection}
@@ -30,14 +26,14 @@ use Rattle.nio_plain.specs.declared.rules.Rules.TheVariants.{Now}
 use Rattle.nio_steps.proofs.Lists.{parted}
 use Rattle.nio_steps.proofs.PerformLaws.{perform_then_on}
 use Rattle.nio_steps.specs.Perform.{Performed, perform}
-use Rattle.nio_steps.specs.Plan.{Plan, ◌>>=◌, ◌>>◌}
-use Rattle.nio_steps.specs.SelectCalls.{Selection, may_wait, mark_entry, remove_if_cancelled, after_marks, end_selection, told_plan, leave_plan, ToldReply, done, again, is_again as is_again_by_look, why_ended as why_by_look}
+use Rattle.nio_steps.specs.Plan.{Plan, ◌>>◌}
+use Rattle.nio_steps.specs.SelectCalls.{Selection, mark_entry, remove_if_cancelled, after_marks, end_selection, told_plan, leave_plan, ToldReply, done, again, is_again as is_again_by_look, why_ended as why_by_look}
 use Rattle.nio_steps.specs.Steps.{end_wake, give_turn}
 use Rattle.nio_steps.specs.Sweeps.{sweep_over}
 use Rattle.nio_steps.specs.declared.looked.LookedKey.{LookedKey}
 use Rattle.nio_steps.specs.declared.selected.Selected.{Selected}
 use Rattle.nio_serial.proofs.Base.{put-under, settled-cancelled, branch}
-use Rattle.nio_serial.proofs.Marking.{looked-middle, updated, counts, stands, serial-is, not-removed, marks-performed}
+use Rattle.nio_serial.proofs.Marking.{looked-middle, updated, counts, serial-is, not-removed, marks-performed}
 use Rattle.nio_serial.proofs.Marks.{marked-same}
 use Rattle.nio_serial.proofs.Removing.{settled-removed}
 use Rattle.nio_serial.proofs.Sweeping.{has_index, has_next, swept, sweep-performed}
@@ -277,3 +273,18 @@ module _ (st : State) (now : Progress) (me : CallerNo) (x : Selection) (pairs : 
           let to_woken = and_parts (((count == 0) && going) && not gate.woken) (not gate.shut) to_shut.0 in
           let to_going = and_parts ((count == 0) && going) (not gate.woken) to_woken.0 in
           eqb-true count 0 (and_parts (count == 0) going to_going.0).0
+
+  -- what the call answers, and the state that it leaves: the selection goes on, or is over
+  pub told-cases : (elapsed : Bool) (P : Performed ToldReply → Type 0) → P (record { answer = again x; state = marked_st }) → ((answer : Selected) → P (record { answer = done answer; state = ended }))
+      → P (perform me (told_plan x (by_index x pairs) elapsed) st)
+  unfolding told_plan
+  told-cases elapsed P goes_on_ over =
+      subst P (sym (perform_then_on me (sweep_over x.looked (mark_entry x.selector (by_index x pairs)) 0) (after_marks x elapsed) st count marked_st (marks-performed st me x pairs rises in_set)))
+      (by_test (is_again_by_look x.mode count (st.gate s) (st.interrupted me.0) elapsed))
+    where
+      answer : Selected
+      answer = record { count = count; why = why_by_look x.mode count (st.gate s) (st.interrupted me.0) }
+
+      by_test : (b : Bool) → P (perform me (if b then Plan.reply (again x) else end_selection x answer) marked_st)
+      by_test true = goes_on_
+      by_test false = subst P (sym (ending-performed answer)) (over answer)

@@ -1,8 +1,7 @@
 -- What holds between two calls of a serial history, in which each call ends before the next begins.
-use Rattle.std.specs.Prelude.{◌≡◌, ℕ, ◌<◌, nat_lt, Bool, ◌&&◌, if◌then◌else◌, IsTrue, IsFalse, Option, Some, None, option_map, is_some, List, map}
+use Rattle.std.specs.Prelude.{◌≡◌, ℕ, ◌<◌, ◌≤◌, nat_lt, ◌&&◌, if◌then◌else◌, IsTrue, IsFalse, Some, None, option_map, is_some, List, map}
 use Rattle.std.specs.List.{AllPairs}
 use Rattle.nio_base.specs.declared.limits.Limits.{Limits}
-use Rattle.nio_base.specs.declared.numbers.CallerNo.{CallerNo}
 use Rattle.nio_event.specs.State.{State, unclaimed, unmarked, last_serial}
 use Rattle.nio_event.specs.declared.call.ScriptCall.{ScriptCall}
 use Rattle.nio_plain.specs.Answer.{left_by_script}
@@ -24,8 +23,11 @@ pub record IsFresh (st : State) (s i : ℕ) : Type 0 where
   pub mark : st.mark s i ≡ unmarked
   pub free : IsFalse (st.free s i)
 
--- the marks are exact: what is below them is made, or has had a published key, and nothing else is or has
-pub record HasExactMarks (st : State) : Type 0 where
+-- the marks are exact, and within the limits: what is below them is made, or has had a published key, and nothing else
+-- is or has
+pub record HasExactMarks (l : Limits) (st : State) : Type 0 where
+  pub channels_within : st.channels_high ≤ l.channels
+  pub keys_within : (s : ℕ) → st.keys_high s ≤ l.keys
   pub channels : (c : ℕ) → (st.chan c).made ≡ nat_lt c st.channels_high
   pub claimed : (s i : ℕ) → (st.key s i).claimed ≡ nat_lt i (st.keys_high s)
   pub published : (s i : ℕ) → (st.key s i).published ≡ nat_lt i (st.keys_high s)
@@ -37,9 +39,9 @@ pub record AreFree (st : State) : Type 0 where
   pub removed : (s i : ℕ) → IsTrue (st.free s i) → IsTrue (st.key s i).removed
   pub exactly : (s i : ℕ) → IsFalse (st.entered s) → st.free s i ≡ ((st.key s i).removed && nat_lt (st.key s i).serial last_serial)
 
-pub record IsAtRest (st : State) : Type 0 where
+pub record IsAtRest (l : Limits) (st : State) : Type 0 where
   pub unused : IsUnused st
-  pub marks : HasExactMarks st
+  pub marks : HasExactMarks l st
   pub free : AreFree st
 
 -- a selection in progress on the selector: it looks at each index once, in rising order, and keeps these indexes
@@ -64,5 +66,5 @@ pub record IsLeft (l : Limits) (st : ScriptState) : Type 0 where
 -- and what is in progress is what the state shows.
 pub record IsBetween (l : Limits) (st : State) (now : Progress) : Type 0 where
   pub left : IsLeft l (documented st now)
-  pub at_rest : IsAtRest (documented st now).shared
+  pub at_rest : IsAtRest l (documented st now).shared
   pub shown : (s : ℕ) → IsShownBy st now s

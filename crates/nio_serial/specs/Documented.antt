@@ -1,6 +1,6 @@
 -- From the table to the documented system: what a state of the table, with the selections in progress, is as a
 -- state of a script; and what a performed plan comes to there.
-use Rattle.std.specs.Prelude.{ℕ, Bool, false, not, ◌&&◌, Option, None, option_map, List, map}
+use Rattle.std.specs.Prelude.{ℕ, false, not, ◌&&◌, Option, None, option_map, map}
 use Rattle.nio_base.specs.declared.numbers.CallerNo.{CallerNo}
 use Rattle.nio_base.specs.declared.numbers.KeyId.{KeyId}
 use Rattle.nio_event.specs.State.{State}

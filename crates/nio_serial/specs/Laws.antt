@@ -1,21 +1,29 @@
 -- The laws of calls that don't overlap.
-use Rattle.std.specs.Prelude.{◌≡◌, ℕ, ◌<◌, IsTrue, ⊤}
+use Rattle.std.specs.Prelude.{◌≡◌, ◌<◌, true, List, ◌++◌, map, IsTrue, ⊤}
 use Rattle.nio_base.specs.Limits.{IsFit}
 use Rattle.nio_base.specs.declared.limits.Limits.{Limits}
 use Rattle.nio_base.specs.declared.numbers.CallerNo.{CallerNo}
 use Rattle.nio_base.specs.declared.numbers.ChanNo.{ChanNo}
 use Rattle.nio_base.specs.declared.numbers.KeyId.{KeyId}
 use Rattle.nio_base.specs.declared.numbers.SelNo.{SelNo}
+use Rattle.nio_event.specs.Conditions.{IsCaller}
+use Rattle.nio_event.specs.Histories.{state_after, event_of, IsLegal}
+use Rattle.nio_event.specs.PassViews.{PassView, known}
 use Rattle.nio_event.specs.Sets.{was_published}
-use Rattle.nio_event.specs.State.{State, opening}
+use Rattle.nio_event.specs.State.{State, opening, with_drawn}
+use Rattle.nio_event.specs.declared.act.Act.{Act}
 use Rattle.nio_event.specs.declared.call.Call.{Call}
 use Rattle.nio_event.specs.declared.call.Call.TheVariants as call
 use Rattle.nio_plain.specs.Seq.{call_of, seq}
+use Rattle.nio_event.specs.declared.event.Event.{Event}
+use Rattle.nio_plain.specs.Seq.Answers.{Answered}
 use Rattle.nio_plain.specs.declared.rules.Rules.TheVariants.{Now}
+use Rattle.nio_steps.specs.Calls.{CallClause}
 use Rattle.nio_steps.specs.Perform.{perform}
+use Rattle.nio_steps.specs.Runs.{Completes}
 use Rattle.nio_serial.specs.Between.{IsBetween}
 use Rattle.nio_serial.specs.Documented.{Progress, nothing_yet, documented}
-use Rattle.nio_serial.specs.Lines.{comes_to, call_plan, line_plan}
+use Rattle.nio_serial.specs.Lines.{Said, comes_to, call_plan, line_plan}
 
 -- ---- the names of a call
 
@@ -74,12 +82,52 @@ LinesAmount = (l : Limits) (st : State) (now : Progress) (me : CallerNo) (word :
     → IsFit l → IsBetween l st now
     → seq Now l (documented st now) me word ≡ comes_to (perform me (line_plan l now me word) st)
 
--- between two calls it stands so: at the beginning, and after each line
+-- Between two calls it stands so: at the beginning, after a draw, after each call, and after each line.
+
 abbrev pub BeginsBetween : Type 0
 BeginsBetween = (l : Limits) → IsBetween l opening nothing_yet
 
-abbrev pub StaysBetween : Type 0
-StaysBetween = (l : Limits) (st : State) (now : Progress) (me : CallerNo) (word : Call)
+abbrev pub DrawsStayBetween : Type 0
+DrawsStayBetween = (l : Limits) (st : State) (now : Progress) (n : CallerNo)
+    → IsBetween l st now → IsBetween l (with_drawn st n.0 true) now
+
+abbrev pub CallsStayBetween : Type 0
+CallsStayBetween = (l : Limits) (st : State) (now : Progress) (me : CallerNo) (word : Call)
+    → IsFit l → IsCaller l me → IsBetween l st now → IsNamed l st word
+    → let done = perform me (call_plan l now me word) st in
+    IsBetween l done.state done.answer.left
+
+abbrev pub LinesStayBetween : Type 0
+LinesStayBetween = (l : Limits) (st : State) (now : Progress) (me : CallerNo) (word : Call)
     → IsFit l → IsBetween l st now
     → let done = perform me (line_plan l now me word) st in
     IsBetween l done.state done.answer.left
+
+-- ---- the same of histories
+
+-- What a call with this documented answer comes to in a history: it has the reply of the documented call, and leaves the
+-- state of that call, between two calls again.
+pub record Amounts (l : Limits) (answer : Answered) (after : List Event) (said : Said) : Type 0 where
+  pub answered : answer ≡ record { reply = said.reply; left = documented (state_after after) said.left }
+  pub between : IsBetween l (state_after after) said.left
+
+-- a run of a call that is legal after a history, with no event of another caller between
+abbrev pub CallRunsAmount : Type 0
+CallRunsAmount = (l : Limits) (now : Progress) (me : CallerNo) (word : Call) (past : List Event) (acts : List Act) (said : Said)
+    → IsFit l → IsCaller l me → IsBetween l (state_after past) now → IsNamed l (state_after past) word
+    → IsLegal l (past ++ map (event_of me) acts) → Completes (call_plan l now me word) acts said
+    → Amounts l (call_of Now l (documented (state_after past) now) me word) (past ++ map (event_of me) acts) said
+
+-- the same of a line
+abbrev pub LineRunsAmount : Type 0
+LineRunsAmount = (l : Limits) (now : Progress) (me : CallerNo) (word : Call) (past : List Event) (acts : List Act) (said : Said)
+    → IsFit l → IsBetween l (state_after past) now
+    → IsLegal l (past ++ map (event_of me) acts) → Completes (line_plan l now me word) acts said
+    → Amounts l (seq Now l (documented (state_after past) now) me word) (past ++ map (event_of me) acts) said
+
+-- and of the only pass of a table, on which the line was made
+abbrev pub PassLinesAmount : Type 0
+PassLinesAmount = (now : Progress) (me : CallerNo) (word : Call) (old new : PassView) (said : Said)
+    → IsFit old.limits → IsTrue old.only → IsBetween old.limits (known old) now
+    → CallClause me (Completes (line_plan old.limits now me word)) old new said
+    → Amounts old.limits (seq Now old.limits (documented (known old) now) me word) new.seen said

@@ -9,13 +9,9 @@ use Rattle.nio_event.specs.declared.reply.Reply.TheVariants as reply
 use Rattle.nio_plain.specs.Seq.Listing.{names_or_none}
 use Rattle.nio_steps.specs.SelectCalls.{Selection, ToldReply, done, again, ShutReply, closing, already_closed, FinishReply, closed, busy}
 use Rattle.nio_steps.specs.declared.refusal.BeginError.{BeginError}
-use Rattle.nio_steps.specs.declared.refusal.BeginError.TheVariants as BeginError
 use Rattle.nio_steps.specs.declared.refusal.ChannelError.{ChannelError}
-use Rattle.nio_steps.specs.declared.refusal.ChannelError.TheVariants as ChannelError
 use Rattle.nio_steps.specs.declared.refusal.KeyError.{KeyError}
-use Rattle.nio_steps.specs.declared.refusal.KeyError.TheVariants as KeyError
 use Rattle.nio_steps.specs.declared.refusal.ListError.{ListError}
-use Rattle.nio_steps.specs.declared.refusal.ListError.TheVariants as ListError
 use Rattle.nio_steps.specs.declared.refusal.SelectorsSpent.{SelectorsSpent}
 use Rattle.nio_serial.specs.Documented.{shown}
 

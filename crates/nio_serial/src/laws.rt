@@ -1,7 +1,33 @@
 //! The laws, as the contracts of functions that do nothing.
-ghost use Rattle.nio_serial.specs.Laws.{BeginsBetween};
+ghost use Rattle.nio_serial.specs.Laws.{CallsAmount, LinesAmount, BeginsBetween, DrawsStayBetween, CallsStayBetween, LinesStayBetween, CallRunsAmount, LineRunsAmount, PassLinesAmount};
+ghost use Rattle.nio_serial.specs.Serial.{SerialLinesAmount};
 
-/// What holds between two calls holds at the beginning.
+/// The steps of a call between which nobody comes amount to the documented call: the reply and the state
+/// are its own. So do those of a script's line with its look-ups.
+pub fn amounts_law()
+    ensures calls { CallsAmount }
+    ensures lines { LinesAmount }
+{}
+
+/// What holds between two calls of a serial history holds at the beginning, after each draw, after each
+/// call, and after each line.
 pub fn between_law()
     ensures begins { BeginsBetween }
+    ensures draws { DrawsStayBetween }
+    ensures calls { CallsStayBetween }
+    ensures lines { LinesStayBetween }
+{}
+
+/// A run of a call in a legal history, with no event of another caller between, has the reply and leaves
+/// the state of the documented call. So does a run of a line, and a line on the only pass of a table.
+pub fn runs_law()
+    ensures calls { CallRunsAmount }
+    ensures lines { LineRunsAmount }
+    ensures only { PassLinesAmount }
+{}
+
+/// Where lines don't overlap, a legal history of them is a run of their script by the documented system, by
+/// the rules of now: each line has its reply, and the state that is left is the script's.
+pub fn serial_law()
+    ensures { SerialLinesAmount }
 {}

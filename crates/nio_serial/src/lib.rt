@@ -1,6 +1,13 @@
 //! Where calls don't overlap, their steps amount to the calls of the documented system.
+//!
+//! `specs/Documented` has the map from a state of the table, with the selections in progress, to a state of
+//! a script, and `specs/Lines` how the line of a script is made on the table: its look-ups, the plan of its
+//! call and its reply. `specs/Between` says what holds between two calls of a serial history, and
+//! `specs/Laws` has the laws: each call, performed on such a state, has the reply and leaves the state of
+//! the documented call, by the rules of now, and what holds between calls holds again. `specs/Serial` says the
+//! same of whole histories of lines.
 #![tactic(auto)]
 
-pub use laws::between_law;
+pub use laws::{amounts_law, between_law, runs_law, serial_law};
 
 mod laws;

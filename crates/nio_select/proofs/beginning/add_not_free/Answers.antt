@@ -1,4 +1,4 @@
-use Rattle.std.proofs.Common.{◌≡◌, ℕ, ◌+◌, ◌*◌, ◌<◌, ◌≤◌, List, ◌∷◌, [], ◌++◌, refl, ap, sym, ◌∙◌, arith, append_assoc}
+use Rattle.std.proofs.Common.{◌+◌, ◌*◌, ◌≤◌, ◌∷◌, [], ◌++◌, ap, sym, ◌∙◌, arith, append_assoc}
 use Rattle.std.specs.Int.{trailing_zeros, w64}
 use Rattle.std.specs.Vec.{vec_len, vec_capacity}
 use Rattle.nio_steps.specs.SelectCalls.{not_free}

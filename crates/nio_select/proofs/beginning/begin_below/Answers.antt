@@ -1,12 +1,10 @@
-use Rattle.std.proofs.Common.{◌≡◌, ℕ, ◌<◌, List, Result, Ok, false, map, refl, sym, subst}
+use Rattle.std.proofs.Common.{ℕ, ◌<◌, List, Ok, false, sym, subst}
 use Rattle.std.specs.List.{AllPairs}
 use Rattle.nio_steps.proofs.CallLaws.{returned, ran_then, left_after, call_as}
 use Rattle.nio_steps.specs.Calls.{CallClause}
-use Rattle.nio_steps.specs.Plan.{reply}
 use Rattle.nio_steps.specs.Runs.{Completes}
-use Rattle.nio_steps.specs.SelectCalls.{Selection, LookedOver, look_over, begin_below}
+use Rattle.nio_steps.specs.SelectCalls.{Selection, look_over, begin_below}
 use Rattle.nio_steps.specs.Sweeps.{sweep_over}
-use Rattle.nio_steps.specs.declared.refusal.BeginError.{BeginError}
 use Rattle.nio_words.specs.Views.{view}
 use Rattle.nio_select.specs.Beginning.{BeginsBelow}
 use Rattle.nio_select.specs.Lists.{nothing_found, found_in}

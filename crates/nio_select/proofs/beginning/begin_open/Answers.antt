@@ -1,4 +1,4 @@
-use Rattle.std.proofs.Common.{◌≡◌, None, true, false, refl, rules}
+use Rattle.std.proofs.Common.{◌≡◌, None, false, refl, rules}
 use Rattle.std.specs.Prelude.{is_some}
 use Rattle.nio_steps.proofs.CallLaws.{returned, left_ask, left_else, left_of_call, call_as}
 use Rattle.nio_steps.specs.Calls.{CallClause}

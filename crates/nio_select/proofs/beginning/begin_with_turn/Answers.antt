@@ -1,4 +1,4 @@
-use Rattle.std.proofs.Common.{Err, true, false, refl}
+use Rattle.std.proofs.Common.{Err, false, refl}
 use Rattle.nio_event.specs.Permanent.{the_turn}
 use Rattle.nio_steps.proofs.CallLaws.{returned, left_ask, left_then, left_else, left_after, left_of_call, call_as}
 use Rattle.nio_steps.specs.Calls.{CallClause}

@@ -1,4 +1,4 @@
-use Rattle.std.proofs.Common.{◌≡◌, ℕ, ◌<◌, ◌≤◌, List, length, refl, sym, ap, subst, arith}
+use Rattle.std.proofs.Common.{ℕ, List, length, sym, ap, subst, arith}
 use Rattle.nio_steps.proofs.CallLaws.{returned, left_reply, left_start}
 use Rattle.nio_steps.proofs.SweepLaws.{sweep_turn, sweep_done}
 use Rattle.nio_steps.specs.Calls.{PartClause}

@@ -1,4 +1,4 @@
-use Rattle.std.proofs.Common.{refl, sym, subst, arith}
+use Rattle.std.proofs.Common.{sym, subst, arith}
 use Rattle.nio_steps.proofs.CallLaws.{returned, left_reply, left_start}
 use Rattle.nio_steps.proofs.SweepLaws.{over_turn_at, over_done_at}
 use Rattle.nio_steps.specs.Calls.{PartClause}

@@ -1,4 +1,4 @@
-use Rattle.std.proofs.Common.{◌≡◌, ◌≤◌, Ok, vec_len}
+use Rattle.std.proofs.Common.{◌≤◌, Ok, vec_len}
 use Rattle.std.specs.Vec.{vec_capacity}
 use Rattle.nio_steps.specs.Calls.{PartClause}
 use Rattle.nio_steps.specs.Plan.{reply, ◌>>=◌}

@@ -1,0 +1,27 @@
+use Rattle.std.proofs.Common.{map, subst, sym, ap, ◌∙◌}
+use Rattle.nio_words.specs.Passes.{limits_of}
+use Rattle.nio_select.specs.Noted.{Rise, AreCountable, noted}
+use Rattle.nio_select.specs.declared.asked.Slot.{Slot}
+use Rattle.nio_select.proofs.Inside.{countable}
+use Rattle.nio_select.proofs.Noted.{noted-keys, noted-rise, marked_as_told}
+use Rattle.nio_select.proofs.telling.mark_asked.Goals as goal
+
+pub mark_all-requires-clause-countable : goal.mark_all-requires-clause-countable
+mark_all-requires-clause-countable c =
+    let slots = c.asked.inside.slots.items in
+    let pairs = c.args.pairs.now in
+    subst (AreCountable (limits_of c.args.w.now) c.args.sel) (sym (c.as_slice.ensures.value ∙ c.note_told.ensures))
+    (countable (limits_of c.args.w.now) c.args.sel (noted pairs slots) c.args.asked.now c.args.w.now.fit c.requires.begun.inside (noted-rise pairs slots c.asked.invariant)
+    (noted-keys pairs slots ∙ c.asked.view_is) c.requires.keys)
+
+pub invariant_of-asked : goal.invariant_of-asked
+invariant_of-asked c = subst Rise (sym c.note_told.ensures) (noted-rise c.args.pairs.now c.asked.inside.slots.items c.asked.invariant)
+
+pub returns-clause-call : goal.returns-clause-call
+returns-clause-call c =
+    marked_as_told c.args.sel c.args.pairs.now c.asked.inside.slots.items c.args.asked.now c.as_slice.result.now (c.as_slice.ensures.value ∙ c.note_told.ensures) c.asked.view_is
+    c.mark_all.ensures.call
+
+pub returns-clause-same : goal.returns-clause-same
+returns-clause-same c =
+    ap (map (λ (slot : Slot). slot.key)) c.note_told.ensures ∙ (noted-keys c.args.pairs.now c.asked.inside.slots.items ∙ c.asked.view_is)

@@ -1,0 +1,192 @@
+-- What holds between two calls holds at the beginning and after each line.
+use Rattle.std.proofs.Common.{◌≡◌, nat_lt, Bool, true, false, if◌then◌else◌, Option, is_some, List, [], ◌∷◌, ◌++◌, refl, ap, sym, ◌∙◌, subst, arith}
+use Rattle.std.specs.Prelude.{⊤}
+use Rattle.std.proofs.lemmas.Bool.{both_ways, le-ltb}
+use Rattle.nio_base.specs.Limits.{IsFit}
+use Rattle.nio_base.specs.declared.limits.Limits.{Limits}
+use Rattle.nio_base.specs.declared.numbers.CallerNo.{CallerNo}
+use Rattle.nio_base.specs.declared.numbers.ChanNo.{ChanNo}
+use Rattle.nio_base.specs.declared.numbers.KeyId.{KeyId}
+use Rattle.nio_base.specs.declared.numbers.SelNo.{SelNo}
+use Rattle.nio_event.specs.Acts.{effect}
+use Rattle.nio_event.specs.Answers.{act_from}
+use Rattle.nio_event.specs.Questions.{answer_of}
+use Rattle.nio_event.specs.State.{State}
+use Rattle.nio_event.specs.declared.call.Call.{Call}
+use Rattle.nio_event.specs.declared.call.Call.TheVariants as call
+use Rattle.nio_event.specs.declared.call.ScriptCall.{ScriptCall}
+use Rattle.nio_event.specs.declared.reply.Reply.{Reply}
+use Rattle.nio_event.specs.declared.reply.Reply.TheVariants as reply
+use Rattle.nio_plain.specs.Answer.{left_from}
+use Rattle.nio_plain.specs.ScriptState.{ScriptState, script_opening}
+use Rattle.nio_plain.specs.Seq.{call_of, seq}
+use Rattle.nio_plain.specs.Seq.Answers.{Answered}
+use Rattle.nio_plain.specs.Seq.Selections.{mode_of}
+use Rattle.nio_plain.specs.declared.rules.Rules.TheVariants.{Now}
+use Rattle.nio_steps.proofs.Each.{Each}
+use Rattle.nio_steps.proofs.EachLaws.{each_bind, each_if}
+use Rattle.nio_steps.proofs.PerformLaws.{perform_then_on}
+use Rattle.nio_steps.specs.KeyCalls.{find_selector_plan, find_channel_plan, find_plan}
+use Rattle.nio_steps.specs.Names.{selector}
+use Rattle.nio_steps.specs.Perform.{perform}
+use Rattle.nio_steps.specs.Plan.{Plan, ask, ◌>>=◌}
+use Rattle.nio_serial.proofs.Facts.{sound}
+use Rattle.nio_serial.proofs.Lines.{selector-found, found-is, named-amounts, line-amounts}
+use Rattle.nio_serial.proofs.Resting.{rests-from, rests-is}
+use Rattle.nio_serial.proofs.RestingCalls.{rests-seq}
+use Rattle.nio_serial.proofs.Showing.{Shows, shows-same, begin-shows, told-shows, failed-shows, close-shows, close_end-shows}
+use Rattle.nio_serial.proofs.Steady.{IsSteady, steady-selector, steady-channel, steady-blocking, steady-is_blocking, steady-is_open, steady-is_registered, steady-key_for, steady-register, steady-closec, steady-valid, steady-interest, steady-ready, steady-iset, steady-ior, steady-iand, steady-cancel, steady-unselect, steady-attach, steady-attachment, steady-wakeup, steady-keys, steady-selected, steady-interrupt, steady-interrupted}
+use Rattle.nio_serial.specs.Between.{IsLeft, IsAtRest, IsShownBy, IsBetween}
+use Rattle.nio_serial.specs.Documented.{Progress, documented}
+use Rattle.nio_serial.specs.Laws.{BeginsBetween, LinesStayBetween}
+use Rattle.nio_serial.specs.Lines.{Said, comes_to, asks, refused, if_found, if_selector, if_channel, if_key, if_named, call_plan, line_plan}
+
+-- ---- a line that begins and ends nothing leaves the progress
+
+each_any : {R : Type 0} (plan : Plan R) → Each (λ _. ⊤) (λ _. ⊤) plan
+each_any (Plan.reply r) = tt
+each_any (ask q next) = (tt, λ answer. each_any (next answer))
+
+each-performed : {R : Type 0} (P : R → Type 0) (me : CallerNo) (plan : Plan R) (st : State) → Each (λ _. ⊤) P plan → P (perform me plan st).answer
+each-performed P me (Plan.reply r) st each = each
+each-performed P me (ask q next) st each = let act = act_from st me q in each-performed P me (next (answer_of act)) (effect st me act) (each.1 (answer_of act))
+
+-- each reply of the plan leaves this in progress
+abbrev Leaves : Progress → Plan Said → Type 0
+Leaves now plan = Each (λ _. ⊤) (λ said. said.left ≡ now) plan
+
+asks-leaves : {R : Type 0} (now : Progress) (plan : Plan R) (said : R → Reply) → Leaves now (asks now plan said)
+asks-leaves now plan said = each_bind (λ _. ⊤) (λ _. ⊤) (λ s. s.left ≡ now) plan _ (each_any plan) (λ _ _. refl)
+
+found-leaves : {A : Type 0} (now : Progress) (r : Reply) (plan : Plan Said) (found : Option A) → Leaves now plan → Leaves now (if_found now r plan found)
+found-leaves now r plan found leaves = each_if (λ _. ⊤) (λ s. s.left ≡ now) (is_some found) plan (refused now r) (λ _. leaves) (λ _. refl)
+
+module _ (l : Limits) (now : Progress) where
+  selector-leaves : (s : SelNo) (plan : Plan Said) → Leaves now plan → Leaves now (if_selector l now s plan)
+  selector-leaves s plan leaves =
+      each_bind (λ _. ⊤) (λ _. ⊤) (λ x. x.left ≡ now) (find_selector_plan l s.0) (if_found now reply.NoSelector plan) (each_any (find_selector_plan l s.0)) (λ found _. found-leaves now reply.NoSelector plan found leaves)
+
+  channel-leaves : (c : ChanNo) (plan : Plan Said) → Leaves now plan → Leaves now (if_channel l now c plan)
+  channel-leaves c plan leaves =
+      each_bind (λ _. ⊤) (λ _. ⊤) (λ x. x.left ≡ now) (find_channel_plan l c.0) (if_found now reply.NoChannel plan) (each_any (find_channel_plan l c.0)) (λ found _. found-leaves now reply.NoChannel plan found leaves)
+
+  key-leaves : (s : SelNo) (k : KeyId) (plan : Plan Said) → Leaves now plan → Leaves now (if_key l now s k plan)
+  key-leaves s k plan leaves =
+      selector-leaves s (find_plan l s k.index k.serial >>= if_found now reply.NoKey plan)
+      (each_bind (λ _. ⊤) (λ _. ⊤) (λ x. x.left ≡ now) (find_plan l s k.index k.serial) (if_found now reply.NoKey plan) (each_any (find_plan l s k.index k.serial)) (λ found _. found-leaves now reply.NoKey plan found leaves))
+
+-- ---- after each line
+
+module _ (l : Limits) (st : State) (now : Progress) (me : CallerNo) (fit : IsFit l) (between : IsBetween l st now) where
+  abbrev ds : ScriptState
+  ds = documented st now
+
+  abbrev named : Call → Plan Said
+  named word = if_named l now word (call_plan l now me word)
+
+  steady-shows : (word : Call) → Leaves now (named word) → IsSteady ds (call_of Now l ds me word) → Shows (perform me (named word) st)
+  steady-shows word leaves steady t =
+      let done = perform me (named word) st in
+      let amounts_ = named-amounts l st now me fit between word in
+      subst (λ (p : Progress). IsShownBy done.state p t) (sym (each-performed (λ said. said.left ≡ now) me (named word) st leaves))
+      (shows-same l st now me between done.state
+      (sym (ap (λ (a : Answered). a.left.shared.turn) amounts_) ∙ steady.turn)
+      (sym (ap (λ (a : Answered). a.left.shared.begun) amounts_) ∙ steady.begun)
+      (sym (ap (λ (a : Answered). a.left.shared.closer) amounts_) ∙ steady.closer)
+      (sym (ap (λ (a : Answered). a.left.shared.entered) amounts_) ∙ steady.entered) t)
+
+  selector-shows : (s : SelNo) (plan : Plan Said) → Shows (perform me plan st) → Shows (perform me (if_selector l now s plan) st)
+  selector-shows s plan shows =
+      subst Shows (sym (perform_then_on me (find_selector_plan l s.0) (if_found now reply.NoSelector plan) st _ st (selector-found l st now me fit between s.0)
+      ∙ found-is l st now me fit between (st.selector s.0) (selector s.0) reply.NoSelector plan))
+      (by_made (st.selector s.0))
+    where
+      by_made : (b : Bool) → Shows (perform me (if b then plan else refused now reply.NoSelector) st)
+      by_made true = shows
+      by_made false = between.shown
+
+  named-shows : (word : Call) → Shows (perform me (named word) st)
+  unfolding call_of if_named call_plan
+  named-shows call.Selector = steady-shows call.Selector (asks-leaves now _ _) (steady-selector l ds)
+  named-shows (call.Channel kind) = steady-shows (call.Channel kind) (asks-leaves now _ _) (steady-channel l ds kind)
+  named-shows (call.Blocking c on) = steady-shows (call.Blocking c on) (channel-leaves l now c _ (asks-leaves now _ _)) (steady-blocking l ds c on)
+  named-shows (call.IsBlocking c) = steady-shows (call.IsBlocking c) (channel-leaves l now c _ (asks-leaves now _ _)) (steady-is_blocking l ds c)
+  named-shows (call.IsOpen c) = steady-shows (call.IsOpen c) (channel-leaves l now c _ (asks-leaves now _ _)) (steady-is_open l ds c)
+  named-shows (call.IsRegistered c) = steady-shows (call.IsRegistered c) (channel-leaves l now c _ (asks-leaves now _ _)) (steady-is_registered l ds c)
+  named-shows (call.KeyFor c s) = steady-shows (call.KeyFor c s) (channel-leaves l now c _ (selector-leaves l now s _ (asks-leaves now _ _))) (steady-key_for l ds c s)
+  named-shows (call.Register s c ops att) = steady-shows (call.Register s c ops att) (selector-leaves l now s _ (channel-leaves l now c _ (asks-leaves now _ _))) (steady-register l ds s c ops att)
+  named-shows (call.Closec c) = steady-shows (call.Closec c) (channel-leaves l now c _ (asks-leaves now _ _)) (steady-closec l ds me c)
+  named-shows (call.Valid s k) = steady-shows (call.Valid s k) (key-leaves l now s k _ (asks-leaves now _ _)) (steady-valid l ds s k)
+  named-shows (call.Interest s k) = steady-shows (call.Interest s k) (key-leaves l now s k _ (asks-leaves now _ _)) (steady-interest l ds s k)
+  named-shows (call.Ready s k) = steady-shows (call.Ready s k) (key-leaves l now s k _ (asks-leaves now _ _)) (steady-ready l ds s k)
+  named-shows (call.Iset s k ops) = steady-shows (call.Iset s k ops) (key-leaves l now s k _ (asks-leaves now _ _)) (steady-iset l ds s k ops)
+  named-shows (call.Ior s k ops) = steady-shows (call.Ior s k ops) (key-leaves l now s k _ (asks-leaves now _ _)) (steady-ior l ds s k ops)
+  named-shows (call.Iand s k ops) = steady-shows (call.Iand s k ops) (key-leaves l now s k _ (asks-leaves now _ _)) (steady-iand l ds s k ops)
+  named-shows (call.Cancel s k) = steady-shows (call.Cancel s k) (key-leaves l now s k _ (asks-leaves now _ _)) (steady-cancel l ds s k)
+  named-shows (call.Unselect s k) = steady-shows (call.Unselect s k) (key-leaves l now s k _ (asks-leaves now _ _)) (steady-unselect l ds s k)
+  named-shows (call.Attach s k att) = steady-shows (call.Attach s k att) (key-leaves l now s k _ (asks-leaves now _ _)) (steady-attach l ds s k att)
+  named-shows (call.Attachment s k) = steady-shows (call.Attachment s k) (key-leaves l now s k _ (asks-leaves now _ _)) (steady-attachment l ds s k)
+  named-shows (call.Begin s waiting) = selector-shows s _ (begin-shows l st now me between s (mode_of waiting))
+  named-shows (call.Told s elapsed pairs) = selector-shows s _ (told-shows l st now me between s elapsed pairs (now.selection s.0) refl)
+  named-shows (call.Failed s) = selector-shows s _ (failed-shows l st now me between s (now.selection s.0) refl)
+  named-shows (call.Wakeup s) = steady-shows (call.Wakeup s) (selector-leaves l now s _ (asks-leaves now _ _)) (steady-wakeup l ds s)
+  named-shows (call.Close s) = selector-shows s _ (close-shows l st now me between s)
+  named-shows (call.CloseEnd s) = selector-shows s _ (close_end-shows l st now me between s)
+  named-shows (call.Keys s) = steady-shows (call.Keys s) (selector-leaves l now s _ (asks-leaves now _ _)) (steady-keys l ds s)
+  named-shows (call.Selected s) = steady-shows (call.Selected s) (selector-leaves l now s _ (asks-leaves now _ _)) (steady-selected l ds s)
+  named-shows (call.Interrupt target) =
+      steady-shows (call.Interrupt target) (each_if (λ _. ⊤) (λ s. s.left ≡ now) (nat_lt target.0 l.callers) _ (refused now reply.NoCaller) (λ _. asks-leaves now _ _) (λ _. refl)) (steady-interrupt l ds target)
+  named-shows call.Interrupted = steady-shows call.Interrupted (asks-leaves now _ _) (steady-interrupted l ds me)
+
+  line-shows : (word : Call) → Shows (perform me (line_plan l now me word) st)
+  unfolding line_plan
+  line-shows word = by_caller (nat_lt me.0 l.callers)
+    where
+      by_caller : (b : Bool) → Shows (perform me (if b then if_named l now word (call_plan l now me word) else refused now reply.NoCaller) st)
+      by_caller true = named-shows word
+      by_caller false = between.shown
+
+  one_more : (calls : List ScriptCall) (c : ScriptCall) (from : ScriptState) → left_from Now l from (calls ++ c ∷ []) ≡ (seq Now l (left_from Now l from calls) c.caller c.call).left
+  one_more [] c from = refl
+  one_more (d ∷ calls) c from = one_more calls c (seq Now l from d.caller d.call).left
+
+  line-left : (word : Call) → IsLeft l (seq Now l ds me word).left
+  line-left word =
+      let c : ScriptCall = record { caller = me; call = word } in
+      record {
+        calls = between.left.calls ++ c ∷ [];
+        left = ap (λ (x : ScriptState). (seq Now l x me word).left) between.left.left ∙ sym (one_more between.left.calls c script_opening);
+      }
+
+  pub line-stays : (word : Call) → let done = perform me (line_plan l now me word) st in IsBetween l done.state done.answer.left
+  line-stays word =
+      let done = perform me (line_plan l now me word) st in
+      let amounts_ : seq Now l ds me word ≡ comes_to done = line-amounts l st now me fit between word in
+      record {
+        left = subst (λ (a : Answered). IsLeft l a.left) amounts_ (line-left word);
+        at_rest = subst (λ (a : Answered). IsAtRest l a.left.shared) amounts_ (rests-is l (seq Now l ds me word).left.shared (rests-seq l ds (sound l st now between) (rests-from l ds.shared between.at_rest) me word));
+        shown = line-shows word;
+      }
+
+-- ---- at the beginning
+
+pub begins-between : BeginsBetween
+begins-between l = record {
+  left = record { calls = []; left = refl };
+  at_rest = record {
+    unused = record { unheld = λ _. refl; unpinned = λ _ _ _. refl; untaken = λ _ _. refl; none_due = λ _ _. refl };
+    marks = record {
+      channels_within = omega arith;
+      keys_within = λ _. omega arith;
+      channels = λ c. sym (le-ltb c 0 (omega arith));
+      claimed = λ _ i. sym (le-ltb i 0 (omega arith));
+      published = λ _ i. sym (le-ltb i 0 (omega arith));
+      fresh = λ _ _ _. record { key = refl; mark = refl; free = refl };
+    };
+    free = record { removed = λ s i h. absurd (both_ways false refl h); exactly = λ _ _ _. refl };
+  };
+  shown = λ s. record { turn = refl; begun = refl; on = λ x is. absurd cc; closing = refl };
+}
+
+pub lines-stay : LinesStayBetween
+lines-stay l st now me word fit between = line-stays l st now me fit between word
