@@ -14,7 +14,7 @@ use Rattle.nio_steps.proofs.CallLaws.{call_as, returned, left_bind, left_of_call
 use Rattle.nio_steps.specs.Calls.{CallClause}
 use Rattle.nio_steps.specs.Plan.{Plan}
 use Rattle.nio_steps.specs.Runs.{Completes}
-use Rattle.nio_steps.specs.SelectCalls.{Selection, Begins, begin_lacks_memory, try_begin_plan, ListsKeys, ListsSelected, list_lacks_memory, keys_plan, selected_keys_plan}
+use Rattle.nio_steps.specs.SelectCalls.{Selection, Begins, begin_lacks_memory, try_begin_plan, ListsKeys, ListsSelected, list_lacks_memory, keys_plan, selected_keys_plan, Poll, Tells, ToldReply, told_plan}
 use Rattle.nio_steps.specs.declared.refusal.BeginError.{BeginError}
 use Rattle.nio_steps.specs.declared.refusal.ListError.{ListError}
 
@@ -69,3 +69,10 @@ pub failed_by : {me : CallerNo} (now : Progress) (s : SelNo) {own own' : Option 
     → own ≡ own' → CallClause me (Completes (failed_line now s own')) v0 v1 said → CallClause me (Completes (failed_line now s own)) v0 v1 said
 failed_by {me = me} now s {said = said} {v0 = v0} {v1 = v1} is call =
     subst (λ (x : Option Selection). CallClause me (Completes (failed_line now s x)) v0 v1 said) (sym is) call
+
+-- ---- what a selection is told
+
+pub tells_ran : {me : CallerNo} (x : Selection) (poll : Poll) (pairs : List (ℕ × ℕ)) {answer : ToldReply} {v0 v1 : PassView} → CallClause me (Tells x poll) v0 v1 answer → poll.pairs ≡ pairs
+    → CallClause me (Completes (told_plan x pairs poll.elapsed)) v0 v1 answer
+tells_ran x poll pairs {answer = answer} call same =
+    call_as (Completes (told_plan x pairs poll.elapsed)) answer (λ acts run. subst (λ (ps : List (ℕ × ℕ)). Completes (told_plan x ps poll.elapsed) acts answer) same run) call
