@@ -137,40 +137,40 @@ pub begin-requires : goal.begin-requires
 begin-requires c = may_make c.in-Begin.is c.requires
 
 pub returns-in-Begin : goal.returns-in-Begin
-returns-in-Begin c = makes_by c.in-Begin.is c.begin.ensures
+returns-in-Begin c = makes_by c.args.w.now c.args.d.now c.begin.new.d c.args.me c.begin.result c.in-Begin.is c.begin.ensures
 
 pub told-requires : goal.told-requires
 told-requires c = may_make c.in-Told.is c.requires
 
 pub returns-in-Told : goal.returns-in-Told
-returns-in-Told c = makes_by c.in-Told.is c.told.ensures
+returns-in-Told c = makes_by c.args.w.now c.args.d.now c.told.new.d c.args.me c.told.result c.in-Told.is c.told.ensures
 
 pub failed-requires : goal.failed-requires
 failed-requires c = may_make c.in-Failed.is c.requires
 
 pub returns-in-Failed : goal.returns-in-Failed
-returns-in-Failed c = makes_by c.in-Failed.is c.failed.ensures
+returns-in-Failed c = makes_by c.args.w.now c.args.d.now c.failed.new.d c.args.me c.failed.result c.in-Failed.is c.failed.ensures
 
 pub close-requires : goal.close-requires
 close-requires c = may_make c.in-Close.is c.requires
 
 pub returns-in-Close : goal.returns-in-Close
-returns-in-Close c = makes_by c.in-Close.is c.close.ensures
+returns-in-Close c = makes_by c.args.w.now c.args.d.now c.close.new.d c.args.me c.close.result c.in-Close.is c.close.ensures
 
 pub close_end-requires : goal.close_end-requires
 close_end-requires c = may_make c.in-CloseEnd.is c.requires
 
 pub returns-in-CloseEnd : goal.returns-in-CloseEnd
-returns-in-CloseEnd c = makes_by c.in-CloseEnd.is c.close_end.ensures
+returns-in-CloseEnd c = makes_by c.args.w.now c.args.d.now c.close_end.new.d c.args.me c.close_end.result c.in-CloseEnd.is c.close_end.ensures
 
 pub keys-requires : goal.keys-requires
 keys-requires c = may_make c.in-Keys.is c.requires
 
 pub returns-in-Keys : goal.returns-in-Keys
-returns-in-Keys c = makes_by c.in-Keys.is c.keys.ensures
+returns-in-Keys c = makes_by c.args.w.now c.args.d.now c.keys.new.d c.args.me c.keys.result c.in-Keys.is c.keys.ensures
 
 pub selected-requires : goal.selected-requires
 selected-requires c = may_make c.in-Selected.is c.requires
 
 pub returns-in-Selected : goal.returns-in-Selected
-returns-in-Selected c = makes_by c.in-Selected.is c.selected.ensures
+returns-in-Selected c = makes_by c.args.w.now c.args.d.now c.selected.new.d c.args.me c.selected.result c.in-Selected.is c.selected.ensures
