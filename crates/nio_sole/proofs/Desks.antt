@@ -129,9 +129,10 @@ pub progress_put_back : (w : Words) (d : Desk) (p : Pass) (s : SelNo) (taken aft
     → taken.items ≡ set d.closings.items s.0 None → vec_len taken ≡ vec_len d.closings → after.items ≡ set taken.items s.0 (Some y) → slot d.closings.items s.0 ≡ Some x → y.caller ≡ x.caller
     → progress_of (with_closings_in d p after) ≡ progress_of d
 progress_put_back w d p s taken after x y places inside items len items' was same =
+    let none : Option Shut = None in
     with_closings (progress_of d)
     (ap closings_of (items' ∙ ap (λ xs. set xs s.0 (Some y)) items)
-    ∙ (part_put (option_map (λ z. z.caller)) (set d.closings.items s.0 None) s.0 (Some y) (omega (arith, places.closings, length-set d.closings.items s.0 (None {A = Shut})))
+    ∙ (part_put (option_map (λ z. z.caller)) (set d.closings.items s.0 None) s.0 (Some y) (omega (arith, places.closings, length-set d.closings.items s.0 none))
     ∙ (ap (λ (f : ℕ → Option CallerNo). put f s.0 (Some y.caller)) (part_put (option_map (λ z. z.caller)) d.closings.items s.0 None (omega (arith, places.closings)))
     ∙ put_back (closings_of d.closings.items) s.0 None (Some y.caller) (ap (option_map (λ z. z.caller)) was ∙ ap Some (sym same)))))
 

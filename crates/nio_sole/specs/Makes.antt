@@ -1,11 +1,12 @@
 -- The calls of lines on a desk.
-use Rattle.std.specs.Prelude.{◌≡◌, true, Result, Ok, Err, ⊤}
+use Rattle.std.specs.Prelude.{◌≡◌, ℕ, Bool, true, false, List, Result, Ok, Err}
 use Rattle.std.specs.declared.alloc.AllocError.{AllocError}
-use Rattle.nio_base.specs.declared.limits.Limits.{Limits}
 use Rattle.nio_base.specs.declared.numbers.CallerNo.{CallerNo}
+use Rattle.nio_base.specs.declared.numbers.KeyId.{KeyId}
 use Rattle.nio_base.specs.declared.numbers.SelNo.{SelNo}
 use Rattle.nio_event.specs.declared.call.Call.{Call}
 use Rattle.nio_event.specs.declared.call.Call.TheVariants as call
+use Rattle.nio_event.specs.declared.call.Waiting.{Waiting}
 use Rattle.nio_event.specs.declared.found.Mode.{Mode}
 use Rattle.nio_event.specs.declared.reply.Reply.{Reply}
 use Rattle.nio_event.specs.declared.reply.Reply.TheVariants as reply
@@ -38,41 +39,44 @@ pub record Makes (w : Words) (old new : Desk) (me : CallerNo) (plan : Plan Said)
 
 -- ---- want of memory
 
--- What a call does that lacks memory: no step; a beginning or a listing that is refused for want of memory; or all of a
--- listing, whose reply lacks memory.
+-- A line that lacks memory: its look-ups alone were made; or the beginning or the listing was refused for want of memory;
+-- or the listing was made, and its reply lacks memory.
 pub data Want : Type 0 where
-  at_once : Want
-  begins : SelNo → Mode → Want
-  lists : SelNo → Want
-  lists_selected : SelNo → Want
-  says : SelNo → Want
-  says_selected : SelNo → Want
+  begin_unmade : SelNo → Waiting → Want
+  begin_refused : SelNo → Waiting → Mode → Want
+  told_unmade : SelNo → Bool → List (KeyId × ℕ) → Want
+  keys_refused : SelNo → Want
+  keys_unsaid : SelNo → Want
+  selected_refused : SelNo → Want
+  selected_unsaid : SelNo → Want
 
-abbrev pub want_plan : Limits → Progress → CallerNo → Want → Plan Said
-want_plan l now me at_once = refused now reply.Busy
-want_plan l now me (begins s mode) = asks now (try_begin_plan s mode true) begin_reply
-want_plan l now me (lists s) = asks now (keys_plan s true) list_reply
-want_plan l now me (lists_selected s) = asks now (selected_keys_plan s true) list_reply
-want_plan l now me (says s) = call_plan l now me (call.Keys s)
-want_plan l now me (says_selected s) = call_plan l now me (call.Selected s)
+abbrev pub word_of : Want → Call
+word_of (begin_unmade s waiting) = call.Begin s waiting
+word_of (begin_refused s waiting mode) = call.Begin s waiting
+word_of (told_unmade s elapsed pairs) = call.Told s elapsed pairs
+word_of (keys_refused s) = call.Keys s
+word_of (keys_unsaid s) = call.Keys s
+word_of (selected_refused s) = call.Selected s
+word_of (selected_unsaid s) = call.Selected s
 
--- only these words may lack memory so
-abbrev pub IsWantOf : Call → Want → Type 0
-IsWantOf word at_once = ⊤
-IsWantOf word (begins s mode) = ⊤
-IsWantOf word (lists s) = ⊤
-IsWantOf word (lists_selected s) = ⊤
-IsWantOf word (says s) = word ≡ call.Keys s
-IsWantOf word (says_selected s) = word ≡ call.Selected s
+abbrev pub want_plan : Progress → Want → Plan Said
+want_plan now (begin_unmade s waiting) = refused now reply.Busy
+want_plan now (begin_refused s waiting mode) = asks now (try_begin_plan s mode true) begin_reply
+want_plan now (told_unmade s elapsed pairs) = refused now reply.Busy
+want_plan now (keys_refused s) = asks now (keys_plan s true) list_reply
+want_plan now (keys_unsaid s) = asks now (keys_plan s false) list_reply
+want_plan now (selected_refused s) = asks now (selected_keys_plan s true) list_reply
+want_plan now (selected_unsaid s) = asks now (selected_keys_plan s false) list_reply
 
+-- the line lacks memory, and leaves what is in progress as it was
 pub record Lacks (around : Plan Said → Plan Said) (w : Words) (old new : Desk) (me : CallerNo) (word : Call) : Type 0 where
   pub want : Want
-  pub of : IsWantOf word want
+  pub is : word ≡ word_of want
   pub r : Reply
-  pub makes : Makes w old new me (around (want_plan (limits_of w) (progress_of old) me want)) r
+  pub makes : Makes w old new me (around (want_plan (progress_of old) want)) r
   pub same : progress_of new ≡ progress_of old
 
--- the call was made, or lacked memory
+-- the call was made, or lacks memory
 abbrev pub MakesCall : (Plan Said → Plan Said) → Words → Desk → Desk → CallerNo → Call → Result Reply AllocError → Type 0
 MakesCall around w old new me word (Ok r) = Makes w old new me (around (call_plan (limits_of w) (progress_of old) me word)) r
 MakesCall around w old new me word (Err _) = Lacks around w old new me word

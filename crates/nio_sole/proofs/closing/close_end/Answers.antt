@@ -12,7 +12,7 @@ use Rattle.nio_serial.specs.Replies.{finish_reply}
 use Rattle.nio_sole.proofs.Asking.{makes_ran}
 use Rattle.nio_sole.proofs.Desks.{progress_closing, places_closing, left_as, some_is, with_closings, put_back, part_put, its_selector, own_closing, places_taken, progress_put_back, places_put_back, nothing_there}
 use Rattle.nio_sole.proofs.Had.{closing_had}
-use Rattle.nio_sole.proofs.Pending.{closing_stands}
+use Rattle.nio_sole.proofs.Progress.{made_closing}
 use Rattle.nio_sole.specs.Stands.{progress_of, closings_of, slot}
 use Rattle.nio_sole.specs.declared.desk.Shut.{Shut}
 use Rattle.nio_steps.proofs.CallLaws.{returned, left_then, left_else, left_start, left_of_call}
@@ -43,7 +43,7 @@ try_finish-requires-clause-closing c =
     let own : is_caller c.args.me (closings_of d.closings.items s.0) ≡ true = own_closing c.args.me _ c.in-Some.ensures.taken.was in
     subst (Closes (view w d.pass) c.args.me) (sym same) (record {
       inside = c.requires.ask.named.inside;
-      closing = closing_had _ s (∥∥₁_map c.requires.made (λ made. closing_stands (limits_of w) (seen d.pass) c.args.me (progress_of d) s c.requires.ask.ready.pass.legal made own));
+      closing = closing_had _ s (∥∥₁_map c.requires.made (λ made. made_closing (limits_of w) (mine c.args.me (seen d.pass)) c.args.me (progress_of d) s made own));
     })
 
 pub returns-in-Closed : goal.returns-in-Closed
