@@ -1,5 +1,5 @@
 -- What a desk has in progress, once something was put into a place of it.
-use Rattle.std.proofs.Common.{◌≡◌, ◌≢◌, ℕ, ◌<◌, Option, Some, None, List, length, set, refl, sym, ap, ◌∙◌, subst, ⊎_elim, arith, vec_len, true, eq-eqb}
+use Rattle.std.proofs.Common.{◌≡◌, ◌≢◌, ℕ, ◌<◌, Option, Some, None, List, length, set, refl, sym, ap, ◌∙◌, subst, ⊎_elim, arith, vec_len, true, false, Bool, ◌==◌, if◌then◌else◌, eq-eqb, eqb-true}
 use Rattle.std.proofs.lemmas.Bool.{cases_eq}
 use Rattle.std.proofs.lemmas.List.{get_or-set_same, get_or-set_other, length-set}
 use Rattle.std.specs.Prelude.{option_map, Vec}
@@ -12,7 +12,7 @@ use Rattle.nio_base.specs.declared.numbers.SelNo.{SelNo}
 use Rattle.nio_plain.proofs.Places.{put_is, put-here, put-elsewhere}
 use Rattle.nio_plain.specs.Seq.Selections.{is_caller}
 use Rattle.nio_serial.specs.Documented.{Progress, Selecting}
-use Rattle.nio_serial.specs.Lines.{Said, with_closing, with_selection}
+use Rattle.nio_serial.specs.Lines.{Said, if_own, with_closing, with_selection}
 use Rattle.nio_sole.specs.Stands.{slot, selecting_of, selections_of, closings_of, progress_of, HasPlaces}
 use Rattle.nio_sole.specs.declared.desk.Begun.{Begun}
 use Rattle.nio_sole.specs.declared.desk.Desk.{Desk}
@@ -20,6 +20,7 @@ use Rattle.nio_sole.specs.declared.desk.Shut.{Shut}
 use Rattle.nio_steps.specs.Calls.{CallClause}
 use Rattle.nio_steps.specs.Plan.{Plan}
 use Rattle.nio_steps.specs.Runs.{Completes}
+use Rattle.nio_steps.specs.SelectCalls.{Selection}
 use Rattle.nio_words.specs.Passes.{limits_of}
 use Rattle.nio_words.specs.declared.words.Pass.{Pass}
 use Rattle.nio_words.specs.declared.words.Words.{Words}
@@ -145,3 +146,57 @@ pub places_put_back : (w : Words) (d : Desk) (p : Pass) (s : SelNo) (taken after
 places_put_back w d p s taken after y places inside items len items' len' on =
     let middle : HasPlaces w (with_closings_in d p taken) = places_closing w d p s taken None places inside items len (λ x is. nothing_there is) in
     places_closing w (with_closings_in d p taken) p s after (Some y) middle inside items' len' (λ x is. ap (λ (z : Shut). z.closing.0) (some_is is) ∙ on)
+
+-- ---- a selection that stood in its place
+
+pub places_selection_taken : {w : Words} {d : Desk} {p : Pass} {selections : Vec (Option Begun) Global} → HasPlaces w d → selections.items ≡ d.selections.items → vec_len selections ≡ vec_len d.selections
+    → HasPlaces w (with_selections_in d p selections)
+places_selection_taken places items len = record {
+  selections = len ∙ places.selections;
+  closings = places.closings;
+  selects = λ n x is. places.selects n x (sym (ap (λ xs. slot xs n) items) ∙ is);
+  closes = places.closes;
+}
+
+-- the caller's own selection that was taken out is put back
+pub progress_selection_back : (w : Words) (d : Desk) (p : Pass) (me : CallerNo) (s : SelNo) (taken after : Vec (Option Begun) Global) (y : Begun) → HasPlaces w d → s.0 < (limits_of w).selectors
+    → taken.items ≡ set d.selections.items s.0 None → vec_len taken ≡ vec_len d.selections → after.items ≡ set taken.items s.0 (Some y)
+    → y.caller ≡ me → if_own me (selections_of d.selections.items s.0) ≡ Some y.selection
+    → progress_of (with_selections_in d p after) ≡ progress_of d
+progress_selection_back w d p me s taken after y places inside items len items' by own =
+    let none : Option Begun = None in
+    with_selections (progress_of d)
+    (ap selections_of (items' ∙ ap (λ xs. set xs s.0 (Some y)) items)
+    ∙ (part_put (option_map selecting_of) (set d.selections.items s.0 None) s.0 (Some y) (omega (arith, places.selections, length-set d.selections.items s.0 none))
+    ∙ (ap (λ (f : ℕ → Option Selecting). put f s.0 (Some (selecting_of y))) (part_put (option_map selecting_of) d.selections.items s.0 None (omega (arith, places.selections)))
+    ∙ put_back (selections_of d.selections.items) s.0 None (Some (selecting_of y)) (own_is (selections_of d.selections.items s.0) own))))
+  where
+    own_is : (o : Option Selecting) → if_own me o ≡ Some y.selection → o ≡ Some (selecting_of y)
+    own_is None is = nothing_there is
+    own_is (Some z) is = by_test (z.caller.0 == me.0) refl is
+      where
+        by_test : (b : Bool) → (z.caller.0 == me.0) ≡ b → (if b then Some z.selection else None) ≡ Some y.selection → Some z ≡ Some (selecting_of y)
+        by_test true same is' =
+            let caller : z.caller ≡ y.caller = ap {B = CallerNo} (λ (n : ℕ). record { 0 = n }) (eqb-true z.caller.0 me.0 same) ∙ sym by in
+            let selection : z.selection ≡ y.selection = sym (some_is is') in
+            λ i. Some (record { caller = caller i; selection = selection i })
+        by_test false same is' = nothing_there is'
+
+pub places_selection_back : (w : Words) (d : Desk) (p : Pass) (s : SelNo) (taken after : Vec (Option Begun) Global) (y : Begun) → HasPlaces w d → s.0 < (limits_of w).selectors
+    → taken.items ≡ set d.selections.items s.0 None → vec_len taken ≡ vec_len d.selections → after.items ≡ set taken.items s.0 (Some y) → vec_len after ≡ vec_len taken → y.selection.selector.0 ≡ s.0
+    → HasPlaces w (with_selections_in d p after)
+places_selection_back w d p s taken after y places inside items len items' len' on =
+    let middle : HasPlaces w (with_selections_in d p taken) = places_selection w d p s taken None places inside items len (λ x is. nothing_there is) in
+    places_selection w (with_selections_in d p taken) p s after (Some y) middle inside items' len' (λ x is. ap (λ (z : Begun). z.selection.selector.0) (some_is is) ∙ on)
+
+-- it is on the selector
+pub own_on : (w : Words) (d : Desk) (me : CallerNo) (s : SelNo) (x : Selection) → HasPlaces w d → if_own me (selections_of d.selections.items s.0) ≡ Some x → x.selector ≡ s
+own_on w d me s x places own = ap (λ (n : ℕ). record { 0 = n }) (by_place (slot d.selections.items s.0) refl own)
+  where
+    by_place : (place : Option Begun) → slot d.selections.items s.0 ≡ place → if_own me (option_map selecting_of place) ≡ Some x → x.selector.0 ≡ s.0
+    by_place None at is = nothing_there is
+    by_place (Some z) at is = by_test (z.caller.0 == me.0) is
+      where
+        by_test : (b : Bool) → (if b then Some z.selection else None) ≡ Some x → x.selector.0 ≡ s.0
+        by_test true is' = ap (λ (y : Selection). y.selector.0) (some_is is') ∙ places.selects s.0 z at
+        by_test false is' = nothing_there is'

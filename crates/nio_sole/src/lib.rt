@@ -9,6 +9,7 @@ mod closing;
 mod desk;
 mod keys;
 mod laws;
+mod line;
 mod listing;
 mod names;
 mod pairs;
