@@ -22,13 +22,12 @@ use Rattle.nio_plain.specs.Seq.Listing.{listed, keys_call, selected_call}
 use Rattle.nio_plain.specs.declared.rules.Rules.TheVariants.{Now}
 use Rattle.nio_serial.specs.Between.{IsBetween}
 use Rattle.nio_serial.specs.Documented.{Progress, documented}
-use Rattle.nio_serial.specs.Laws.{LinesAmount, StaysBetween}
+use Rattle.nio_serial.proofs.Histories.{pass-lines-amount}
 use Rattle.nio_serial.specs.Lines.{Said, refused, comes_to, call_plan, if_found, if_selector, if_channel, if_key, if_named, line_plan}
 use Rattle.nio_sole.proofs.Calls.{Leads}
 use Rattle.nio_sole.proofs.Memory.{Rests, rests_then, selector-rests, stays_along}
 use Rattle.nio_sole.proofs.Others.{call_made, line_made}
 use Rattle.nio_sole.specs.Made.{HasMade}
-use Rattle.nio_steps.proofs.PerformLaws.{perform_call}
 use Rattle.nio_steps.specs.Calls.{CallClause}
 use Rattle.nio_steps.specs.KeyCalls.{find_channel_plan, find_plan}
 use Rattle.nio_steps.specs.Names.{channel}
@@ -107,11 +106,6 @@ pub record AreBetween (l : Limits) (v : PassView) (now : Progress) : Type 0 wher
   pub between : IsBetween l (known v) now
   pub made : (n : CallerNo) → HasMade l (mine n v.seen) n now
 
--- after the call it stands so, and the documented system comes to this
-pub record Amounts (l : Limits) (v0 : PassView) (now : Progress) (me : CallerNo) (word : Call) (v1 : PassView) (said : Said) : Type 0 where
-  pub stands : AreBetween l v1 said.left
-  pub amounts : seq Now l (documented (known v0) now) me word ≡ record { reply = said.reply; left = documented (known v1) said.left }
-
 -- a line whose caller may be drawn is its look-ups and its call
 pub line_of_named : (me : CallerNo) (now : Progress) (word : Call) (l : Limits) (v0 v1 : PassView) (said : Said) → nat_lt me.0 l.callers ≡ true
     → CallClause me (Completes (if_named l now word (call_plan l now me word))) v0 v1 said → CallClause me (Completes (line_plan l now me word)) v0 v1 said
@@ -120,18 +114,13 @@ line_of_named me now word l v0 v1 said drawn call =
     let plan = if_named l now word (call_plan l now me word) in
     subst (λ b. CallClause me (Completes (if b then plan else refused now reply.NoCaller)) v0 v1 said) (sym drawn) call
 
-pub line_stands : LinesAmount → StaysBetween → (me : CallerNo) (now : Progress) (word : Call) (v0 v1 : PassView) (said : Said) → IsFit v0.limits → v0.only ≡ true → AreBetween v0.limits v0 now
-    → CallClause me (Completes (line_plan v0.limits now me word)) v0 v1 said → Amounts v0.limits v0 now me word v1 said
-line_stands amount stays me now word v0 v1 said fit only before call = record {
-  stands = record {
-    between = subst (λ (p : Performed Said). IsBetween v0.limits p.state p.answer.left) performed (stays v0.limits (known v0) now me word fit before.between);
-    made = line_made me now word v0 v1 said only before.between call before.made;
-  };
-  amounts = amount v0.limits (known v0) now me word fit before.between ∙ ap comes_to performed;
-}
-  where
-    performed : perform me (line_plan v0.limits now me word) (known v0) ≡ record { answer = said; state = known v1 }
-    performed = perform_call me (line_plan v0.limits now me word) v0 v1 said call only
+-- after a line it stands so, and the line amounts to the documented one
+pub line_stands : (me : CallerNo) (now : Progress) (word : Call) (v0 v1 : PassView) (said : Said) → IsFit v0.limits → v0.only ≡ true → AreBetween v0.limits v0 now
+    → CallClause me (Completes (line_plan v0.limits now me word)) v0 v1 said
+    → AreBetween v0.limits v1 said.left × (seq Now v0.limits (documented (known v0) now) me word ≡ record { reply = said.reply; left = documented (known v1) said.left })
+line_stands me now word v0 v1 said fit only before call =
+    let amounts = pass-lines-amount now me word v0 v1 said fit only before.between call in
+    (record { between = amounts.between; made = line_made me now word v0 v1 said only before.between call before.made }, amounts.answered)
 
 -- ---- want of memory
 
