@@ -4,7 +4,6 @@ use Rattle.std.proofs.Math.Logic.{∥∥₁_map}
 use Rattle.nio_base.specs.declared.numbers.CallerNo.{CallerNo}
 use Rattle.nio_base.specs.declared.numbers.SelNo.{SelNo}
 use Rattle.nio_event.specs.Conditions.{IsSelector}
-use Rattle.nio_event.specs.Histories.{mine}
 use Rattle.nio_event.specs.PassViews.{HasSelector}
 use Rattle.nio_select.specs.InProgress.{Selects}
 use Rattle.nio_serial.specs.Lines.{if_own}
@@ -23,5 +22,5 @@ pub its_selects : (w : Words) (d : Desk) (me : CallerNo) (s : SelNo) (x : Select
     → ∥ HasMade (limits_of w) (acts_seen d.pass me) me (progress_of d) ∥₁ → if_own me (selections_of d.selections.items s.0) ≡ Some x → Selects (view w d.pass) me x
 its_selects w d me s x ready has places made own = record {
   inside = subst (λ (y : SelNo). IsSelector (limits_of w) y) (sym (own_on w d me s x places own)) has.inside;
-  begun = begun_had (mine me (seen d.pass)) x (∥∥₁_map made (λ m. (made_begun (limits_of w) (seen d.pass) me (progress_of d) s x ready.pass.legal m own).0));
+  begun = begun_had (limits_of w) (seen d.pass) me ready.pass.legal x (∥∥₁_map made (λ m. (made_begun (limits_of w) (seen d.pass) me (progress_of d) s x ready.pass.legal m own).0));
 }

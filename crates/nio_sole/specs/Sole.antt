@@ -11,6 +11,7 @@ use Rattle.nio_words.specs.Passes as passes
 use Rattle.nio_words.specs.declared.words.Pass.{Pass}
 use Rattle.nio_words.specs.declared.words.Words.{Words}
 
+-- its table
 abbrev pub words_of : Sole → Words
 words_of sole = sole.words.now
 
@@ -21,13 +22,14 @@ pass_of sole = sole.desk.pass
 abbrev pub limits_of : Sole → Limits
 limits_of sole = passes.limits_of (words_of sole)
 
+-- it answers by the rules of now
 abbrev pub rules_of : Sole → Rules
 rules_of sole = Now
 
 abbrev pub state_of : Sole → ScriptState
 state_of sole = state_at sole.desk
 
--- the limits stay, and the history goes on
+-- from one moment to a later one: the table stays, and the history goes on
 pub record Kept (before after : Sole) : Type 0 where
-  pub limits : limits_of after ≡ limits_of before
+  pub table : words_of after ≡ words_of before
   pub later : IsPrefix (passes.seen (pass_of before)) (passes.seen (pass_of after))

@@ -3,9 +3,14 @@ ghost use Rattle.nio_sole.specs.OneProof.{stands_prop};
 ghost use Rattle.nio_sole.specs.Stands.{Stands};
 
 use crate::desk::Desk;
+use crate::line::say_line;
+use nio_base::CallerNo;
+use nio_event::{Call, Reply};
+use nio_plain::System;
 use nio_words::{Pass, Words};
+use std::alloc::{AllocError, Global};
 
-/// A table that is used by one caller after the other.
+/// A table that callers use one after the other, and nobody else at the same time.
 pub struct Sole<'a> {
     words: &'a Words,
     desk: Desk,
@@ -13,9 +18,52 @@ pub struct Sole<'a> {
 }
 
 impl<'a> Sole<'a> {
-    /// Forgets the selections and closings in progress, without a step, and gives the pass.
-    pub fn into_pass(self) -> Pass {
-        let Sole { words: _words, desk } = self;
+    ghost use Rattle.std.specs.Prelude.{◌≡◌, ℕ, ◌<◌};
+    ghost use Rattle.nio_base.specs.declared.numbers.CallerNo.{CallerNo};
+    ghost use Rattle.nio_orderly.specs.Orderly.{IsWhole};
+    ghost use Rattle.nio_sole.specs.Sole.{limits_of, pass_of, words_of};
+    ghost use Rattle.nio_words.specs.Passes.{IsOnly, IsReady, seen};
+
+    /// Forgets the selections and closings in progress, without a step, and gives the pass: it is the table's only one,
+    /// and acts for each caller.
+    pub fn into_pass(self) -> Pass
+        ensures pass { result ≡ pass_of self.entry }
+        ensures ready { (n : CallerNo) → n.0 < (limits_of self.entry).callers → IsReady (words_of self.entry) result n }
+        ensures only { IsOnly result }
+        ensures whole { ∥ IsWhole (limits_of self.entry) (seen result) ∥₁ }
+    {
+        let Sole {
+            words: _words,
+            desk,
+        } = self;
         desk.into_pass()
     }
+}
+
+impl<'a> System for Sole<'a> {
+    ghost use Rattle.std.proofs.Common.{ap, ◌∙◌};
+    ghost use Rattle.std.specs.Prelude.{refl};
+    ghost use Rattle.nio_sole.specs.Sole.{Kept, limits_of, rules_of, state_of};
+    ghost use Rattle.nio_words.proofs.Beginnings.{prefix_self, prefix_trans};
+    ghost use Rattle.nio_words.specs.Passes as passes;
+
+    ghost limits = { limits_of };
+
+    ghost rules = { rules_of };
+
+    ghost state = { state_of };
+
+    ghost kept = { Kept };
+
+    fn call(&mut self, alloc: Global, caller: CallerNo, call: &Call) -> Result<Reply, AllocError> {
+        say_line(alloc, self.words, &mut self.desk, caller, call)
+    }
+
+    ghost kept_same = { λ y. record { table = refl; later = prefix_self _ } };
+
+    ghost kept_on = { λ x y z h k. record { table = k.table ∙ h.table; later = prefix_trans _ _ _ h.later k.later } };
+
+    ghost kept_limits = { λ y z h. ap passes.limits_of h.table };
+
+    ghost kept_rules = { λ y z h. refl };
 }
