@@ -23,5 +23,5 @@ pub its_selects : (w : Words) (d : Desk) (me : CallerNo) (s : SelNo) (x : Select
     → ∥ HasMade (limits_of w) (acts_seen d.pass me) me (progress_of d) ∥₁ → if_own me (selections_of d.selections.items s.0) ≡ Some x → Selects (view w d.pass) me x
 its_selects w d me s x ready has places made own = record {
   inside = subst (λ (y : SelNo). IsSelector (limits_of w) y) (sym (own_on w d me s x places own)) has.inside;
-  begun = begun_had (mine me (seen d.pass)) x (∥∥₁_map made (λ m. (made_begun (limits_of w) (seen d.pass) me (progress_of d) s x ready.pass.legal m own).0));
+  begun = begun_had (limits_of w) (seen d.pass) me ready.pass.legal x (∥∥₁_map made (λ m. (made_begun (limits_of w) (seen d.pass) me (progress_of d) s x ready.pass.legal m own).0));
 }
