@@ -7,3 +7,5 @@ pub mod Asked
 pub mod Makes
 pub mod Taking
 pub mod Told
+pub mod Said
+pub mod Sole

@@ -4,7 +4,8 @@ ghost use Rattle.nio_event.specs.PassViews.{HasNoPin};
 ghost use Rattle.nio_serial.specs.Lines.{if_named};
 ghost use Rattle.nio_sole.specs.Made.{HasMade};
 ghost use Rattle.nio_sole.specs.Makes.{MayMake, MakesCall};
-ghost use Rattle.nio_sole.specs.Stands.{HasPlaces, progress_of};
+ghost use Rattle.nio_sole.specs.Said.{SaysLine};
+ghost use Rattle.nio_sole.specs.Stands.{HasPlaces, Stands, progress_of};
 ghost use Rattle.nio_words.specs.Passes.{IsReady, limits_of, acts_seen};
 ghost use Rattle.nio_words.specs.Views.{view};
 
@@ -27,8 +28,25 @@ use nio_event::{Call, Reply};
 use nio_words::Words;
 use std::alloc::{AllocError, Global};
 
+// A line of a script.
+pub(crate) fn say_line(
+    alloc: Global,
+    w: &Words,
+    d: &mut Desk,
+    me: CallerNo,
+    call: &Call,
+) -> Result<Reply, AllocError>
+    requires { Stands w.now d.old }
+    ensures { SaysLine w.now d.old d.new me call.now result }
+{
+    if me.0 >= w.limits().callers {
+        return Ok(Reply::NoCaller);
+    }
+    line(alloc, w, d, me, call)
+}
+
 // A line of a caller that may be drawn.
-pub(crate) fn line(
+fn line(
     alloc: Global,
     w: &Words,
     d: &mut Desk,
