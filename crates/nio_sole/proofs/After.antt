@@ -31,6 +31,7 @@ use Rattle.nio_serial.specs.Between.{IsBetween}
 use Rattle.nio_serial.specs.Documented.{Progress, documented}
 use Rattle.nio_serial.specs.Lines.{Said, refused, if_named, call_plan}
 use Rattle.nio_serial.specs.Replies.{begin_reply, list_reply}
+use Rattle.nio_sole.proofs.Alone.{sole_view, alone}
 use Rattle.nio_sole.proofs.Calls.{Leads, leads_named, leads_refused, leads_begin_memory, leads_keys_memory, leads_selected_memory}
 use Rattle.nio_sole.proofs.Lines.{AreBetween, line_of_named, line_stands, named-rests, rest_stands, keys-same, selected-same}
 use Rattle.nio_sole.proofs.Memory.{stays_along, begin_memory_stays, keys_memory_stays, selected_memory_stays}
@@ -102,25 +103,24 @@ ready_after w p q me n acts clause pass ready = record {
 }
 
 pub stands_after : (w : Words) (d d' : Desk) (me : CallerNo) (plan : Plan Said) (r : Reply) → Stands w d → Makes w d d' me plan r
-    → ∥ AreBetween (limits_of w) (view w d'.pass) (progress_of d') ∥₁ → Stands w d'
+    → ∥ AreBetween (limits_of w) (sole_view w d'.pass) (progress_of d') ∥₁ → Stands w d'
 stands_after w d d' me plan r stands made after = record {
   fit = stands.fit;
   ready = λ n below. ready_after w d.pass d'.pass me n _ made.call.acts made.ready.pass (stands.ready n below);
-  only = (made.call.acts.only stands.only).0;
   places = made.places;
   between = ∥∥₁_map after (λ are. are.between);
   made = ∥∥₁_map after (λ are. are.made);
 }
 
-are_between : (w : Words) (d : Desk) → Stands w d → ∥ AreBetween (limits_of w) (view w d.pass) (progress_of d) ∥₁
+are_between : (w : Words) (d : Desk) → Stands w d → ∥ AreBetween (limits_of w) (sole_view w d.pass) (progress_of d) ∥₁
 are_between w d stands = ∥∥₁_map₂ stands.between stands.made (λ between made. record { between = between; made = made })
 
 line_said : (w : Words) (d d' : Desk) (me : CallerNo) (word : Call) (r : Reply) → Stands w d → nat_lt me.0 (limits_of w).callers ≡ true
     → Makes w d d' me (if_named (limits_of w) (progress_of d) word (call_plan (limits_of w) (progress_of d) me word)) r → SaysLine w d d' me word (Ok r)
 line_said w d d' me word r stands drawn made =
     let said : Said = record { reply = r; left = progress_of d' } in
-    let run = line_of_named me (progress_of d) word (limits_of w) (view w d.pass) (view w d'.pass) said drawn made.call in
-    let after = ∥∥₁_map (are_between w d stands) (λ before. line_stands me (progress_of d) word (view w d.pass) (view w d'.pass) said stands.fit stands.only before run) in
+    let run = line_of_named me (progress_of d) word (limits_of w) (sole_view w d.pass) (sole_view w d'.pass) said drawn (alone w d.pass d'.pass me stands.ready made.call) in
+    let after = ∥∥₁_map (are_between w d stands) (λ before. line_stands me (progress_of d) word (sole_view w d.pass) (sole_view w d'.pass) said stands.fit refl before run) in
     record {
       stands = stands_after w d d' me _ r stands made (∥∥₁_map after (λ x. x.0));
       reply = ∥∥₁_elim after (reply_set _ _) (λ x. sym (ap (λ a. a.reply) x.1));
@@ -180,10 +180,10 @@ lacks_said : (w : Words) (d d' : Desk) (me : CallerNo) (word : Call) (e : AllocE
 lacks_said w d d' me word e stands drawn lacks =
     let now = progress_of d in
     let said : Said = record { reply = lacks.r; left = progress_of d' } in
-    let call = subst (λ (x : Call). CallClause me (Completes (if_named (limits_of w) now x (want_plan now lacks.want))) (view w d.pass) (view w d'.pass) said) lacks.is lacks.makes.call in
-    let after = ∥∥₁_map (are_between w d stands) (λ before. wanted me now (view w d.pass) (view w d'.pass) stands.fit drawn stands.only before said lacks.same lacks.want call) in
+    let call = subst (λ (x : Call). CallClause me (Completes (if_named (limits_of w) now x (want_plan now lacks.want))) (sole_view w d.pass) (sole_view w d'.pass) said) lacks.is (alone w d.pass d'.pass me stands.ready lacks.makes.call) in
+    let after = ∥∥₁_map (are_between w d stands) (λ before. wanted me now (sole_view w d.pass) (sole_view w d'.pass) stands.fit drawn refl before said lacks.same lacks.want call) in
     record {
-      stands = stands_after w d d' me _ lacks.r stands lacks.makes (∥∥₁_map after (λ x. subst (λ (p : Progress). AreBetween (limits_of w) (view w d'.pass) p) (sym lacks.same) x.0));
+      stands = stands_after w d d' me _ lacks.r stands lacks.makes (∥∥₁_map after (λ x. subst (λ (p : Progress). AreBetween (limits_of w) (sole_view w d'.pass) p) (sym lacks.same) x.0));
       reply = tt;
       left = tt;
       memory = ap (documented (state_seen d'.pass)) lacks.same ∙ ∥∥₁_elim after (script_set _ _) (λ x. x.1);

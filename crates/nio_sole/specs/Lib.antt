@@ -9,3 +9,4 @@ pub mod Taking
 pub mod Told
 pub mod Said
 pub mod Sole
+pub mod Drawn

@@ -9,7 +9,7 @@ use Rattle.nio_sole.specs.Made.{HasMade}
 use Rattle.nio_sole.specs.declared.desk.Begun.{Begun}
 use Rattle.nio_sole.specs.declared.desk.Desk.{Desk}
 use Rattle.nio_sole.specs.declared.desk.Shut.{Shut}
-use Rattle.nio_words.specs.Passes.{IsReady, IsOnly, limits_of, state_seen, acts_seen}
+use Rattle.nio_words.specs.Passes.{IsReady, limits_of, state_seen, acts_seen}
 use Rattle.nio_words.specs.declared.words.Words.{Words}
 
 -- what stands at a place: nothing past the end
@@ -36,12 +36,11 @@ pub record HasPlaces (w : Words) (d : Desk) : Type 0 where
   pub selects : (s : ℕ) (x : Begun) → slot d.selections.items s ≡ Some x → x.selection.selector.0 ≡ s
   pub closes : (s : ℕ) (x : Shut) → slot d.closings.items s ≡ Some x → x.closing.0 ≡ s
 
--- Between two lines. The desk's pass is the table's only one and acts for each caller; no call is at work; each caller
--- made whole calls, and has in progress what the desk shows.
+-- Between two lines. The desk's pass acts for each caller, so that nothing happens but by it; no call is at work; each
+-- caller made whole calls, and has in progress what the desk shows.
 pub record Stands (w : Words) (d : Desk) : Type 0 where
   pub fit : IsFit (limits_of w)
   pub ready : (n : CallerNo) → n.0 < (limits_of w).callers → IsReady w d.pass n
-  pub only : IsOnly d.pass
   pub places : HasPlaces w d
   pub between : ∥ IsBetween (limits_of w) (state_seen d.pass) (progress_of d) ∥₁
   pub made : ∥ ((n : CallerNo) → HasMade (limits_of w) (acts_seen d.pass n) n (progress_of d)) ∥₁

@@ -44,14 +44,14 @@ impl Desk {
     }
 }
 
-fn forget_selections(mut selections: Vec<Option<Begun>>) {
+pub(crate) fn forget_selections(mut selections: Vec<Option<Begun>>) {
     while let Some(place) = selections.pop() {
         forget_selection(place);
     }
     selections.destroy_empty();
 }
 
-fn forget_selection(place: Option<Begun>) {
+pub(crate) fn forget_selection(place: Option<Begun>) {
     if let Some(Begun {
         caller: _caller,
         selection,
@@ -61,14 +61,14 @@ fn forget_selection(place: Option<Begun>) {
     }
 }
 
-fn forget_closings(mut closings: Vec<Option<Shut>>) {
+pub(crate) fn forget_closings(mut closings: Vec<Option<Shut>>) {
     while let Some(place) = closings.pop() {
         forget_closing(place);
     }
     closings.destroy_empty();
 }
 
-fn forget_closing(place: Option<Shut>) {
+pub(crate) fn forget_closing(place: Option<Shut>) {
     if let Some(Shut {
         caller: _caller,
         closing,

@@ -11,6 +11,7 @@ mod keys;
 mod laws;
 mod line;
 mod listing;
+mod making;
 mod names;
 mod pairs;
 mod replies;

@@ -4,6 +4,7 @@ ghost use Rattle.nio_sole.specs.Stands.{Stands};
 
 use crate::desk::Desk;
 use crate::line::say_line;
+use crate::making::open_desk;
 use nio_base::CallerNo;
 use nio_event::{Call, Reply};
 use nio_plain::System;
@@ -18,18 +19,30 @@ pub struct Sole<'a> {
 }
 
 impl<'a> Sole<'a> {
-    ghost use Rattle.std.specs.Prelude.{◌≡◌, ℕ, ◌<◌};
+    ghost use Rattle.std.specs.Prelude.{◌≡◌, ◌<◌, IfOk};
     ghost use Rattle.nio_base.specs.declared.numbers.CallerNo.{CallerNo};
     ghost use Rattle.nio_orderly.specs.Orderly.{IsWhole};
-    ghost use Rattle.nio_sole.specs.Sole.{limits_of, pass_of, words_of};
-    ghost use Rattle.nio_words.specs.Passes.{IsOnly, IsReady, seen};
+    ghost use Rattle.nio_plain.specs.ScriptState.{script_opening};
+    ghost use Rattle.nio_sole.specs.Sole.{limits_of, pass_of, state_of, words_of};
+    ghost use Rattle.nio_words.specs.Passes.{IsFirstPass, IsPassOf, IsReady, seen};
 
-    /// Forgets the selections and closings in progress, without a step, and gives the pass: it is the table's only one,
-    /// and acts for each caller.
+    /// Draws every number with the pass, and hands all of them over to a pass of its own. Nothing else may be done with
+    /// the table meanwhile: the pass that is left acts for nobody.
+    pub fn make(alloc: Global, words: &'a Words, pass: &mut Pass) -> Result<Sole<'a>, AllocError>
+        requires { IsFirstPass words.now pass.old }
+        ensures table { IfOk result (λ sole. words_of sole ≡ words.entry.now) }
+        ensures opening { IfOk result (λ sole. state_of sole ≡ script_opening) }
+        ensures pass { IsPassOf words.entry.now pass.new }
+    {
+        let desk = open_desk(alloc, words, pass)?;
+        Ok(Sole { words, desk })
+    }
+
+    /// Forgets the selections and closings in progress, without a step, and gives the pass, which acts
+    /// for each caller.
     pub fn into_pass(self) -> Pass
         ensures pass { result ≡ pass_of self.entry }
         ensures ready { (n : CallerNo) → n.0 < (limits_of self.entry).callers → IsReady (words_of self.entry) result n }
-        ensures only { IsOnly result }
         ensures whole { ∥ IsWhole (limits_of self.entry) (seen result) ∥₁ }
     {
         let Sole {
