@@ -1,5 +1,5 @@
 -- A word of bits that is made bit by bit.
-use Rattle.std.proofs.Common.{◌≡◌, ℕ, suc, ◌+◌, ◌<◌, Bool, true, false, cond, if◌then◌else◌, ◌^◌, ◌*◌, ◌%◌, arith, refl, ap, sym, ◌∙◌, add-one}
+use Rattle.std.proofs.Common.{◌≡◌, ℕ, ◌+◌, ◌<◌, Bool, true, false, if◌then◌else◌, ◌^◌, ◌*◌, ◌%◌, arith, refl, ap, sym, ◌∙◌, add-one}
 use Rattle.std.specs.Prelude.{bit_or}
 use Rattle.std.specs.Int.Bits.{or_zero_r}
 use Rattle.std.proofs.Math.Pow.{pow-lt}

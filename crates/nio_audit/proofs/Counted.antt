@@ -1,6 +1,6 @@
 -- The channels that are made, and the indexes of a selector that are claimed, are those below a number.
-use Rattle.std.proofs.Common.{◌≡◌, ℕ, suc, ◌+◌, ◌==◌, ◌<◌, ◌≤◌, max, nat_lt, Bool, true, false, not, cond, ◌&&◌, ◌↔◌, IsTrue, if◌then◌else◌, refl, ap, sym, ◌∙◌, subst, arith, eqb-true, eq-eqb}
-use Rattle.std.proofs.lemmas.Bool.{ltb-true, ltb-false, lt-ltb, le-ltb, and_parts, and_from}
+use Rattle.std.proofs.Common.{◌≡◌, ℕ, suc, ◌+◌, ◌==◌, ◌≤◌, max, nat_lt, Bool, true, false, ◌&&◌, ◌↔◌, IsTrue, if◌then◌else◌, refl, ap, sym, ◌∙◌, arith, eqb-true, eq-eqb}
+use Rattle.std.proofs.lemmas.Bool.{ltb-true, ltb-false, lt-ltb, le-ltb, and_parts}
 use Rattle.nio_audit.specs.Counting.{IsCounted, channels_after, keys_after}
 use Rattle.nio_base.specs.declared.limits.Limits.{Limits}
 use Rattle.nio_base.specs.declared.numbers.CallerNo.{CallerNo}
@@ -8,12 +8,11 @@ use Rattle.nio_base.specs.declared.numbers.SelNo.{SelNo}
 use Rattle.nio_event.proofs.Put.{put_keeps, put_at_keeps}
 use Rattle.nio_event.specs.Acts.{effect, new_key}
 use Rattle.nio_event.specs.Answers.{Answers}
-use Rattle.nio_event.specs.Conditions.{Condition, AllMade, AllClaimed, has_taken, is_held_by}
-use Rattle.nio_event.specs.Questions.{Answer, flag}
+use Rattle.nio_event.specs.Conditions.{Condition, AllMade, AllClaimed, is_held_by}
+use Rattle.nio_event.specs.Questions.{flag}
 use Rattle.nio_event.specs.Sound.{IsSound}
-use Rattle.nio_event.specs.State.{State, put, put_at}
+use Rattle.nio_event.specs.State.{State, put}
 use Rattle.nio_event.specs.declared.act.Act.{Act}
-use Rattle.nio_event.specs.declared.found.Stage.{Stage}
 use Rattle.nio_event.specs.declared.act.Act.TheVariants.{CancelKey, MakeChannel, Claim, Publish, Remove, SetMode, CloseBit, ClaimAgain}
 use Rattle.std.specs.Prelude.{List, Option, Some, None, is_some}
 

@@ -1,20 +1,14 @@
 -- The first event that isn't a step: there is at most one, and none in a legal history.
-use Rattle.std.proofs.Common.{◌≡◌, ℕ, zero, suc, ◌+◌, ◌<◌, ◌≤◌, nat_lt, Bool, true, false, List, [], ◌∷◌, ◌++◌, length, take, drop, get_or, drop-cons, refl, ap, sym, ◌∙◌, subst, arith}
+use Rattle.std.proofs.Common.{◌≡◌, ℕ, suc, ◌+◌, ◌<◌, nat_lt, Bool, true, false, List, [], ◌∷◌, ◌++◌, length, take, drop, get_or, drop-cons, refl, ap, sym, ◌∙◌, subst, arith}
 use Rattle.std.proofs.lemmas.Bool.{ltb-true, ltb-false}
 use Rattle.std.proofs.lemmas.List.{take-append-drop, length-take-le, take_more}
-use Rattle.nio_audit.specs.Following.{Follows}
+use Rattle.nio_audit.specs.Following.{Follows, HasJudged}
 use Rattle.nio_audit.specs.declared.judge.Judge.{Judge}
 use Rattle.nio_event.proofs.Legal.{legal_empty, legal_more}
 use Rattle.nio_audit.specs.Audit.{IsFirstNoStep}
 use Rattle.nio_base.specs.declared.limits.Limits.{Limits}
 use Rattle.nio_event.specs.Histories.{IsStep, IsLegal}
 use Rattle.nio_event.specs.declared.event.Event.{Event}
-
--- the judge followed these events, which are steps
-pub record HasJudged (j : Judge) (l : Limits) (past : List Event) : Type 0 where
-  pub limits : j.limits ≡ l
-  pub legal : IsLegal l past
-  pub follows : Follows j past
 
 pub judged-none : {j : Judge} {l : Limits} → j.limits ≡ l → Follows j [] → HasJudged j l []
 judged-none {l = l} limits follows = record { limits = limits; legal = legal_empty l; follows = follows }

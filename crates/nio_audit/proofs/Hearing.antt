@@ -1,9 +1,9 @@
 -- What callers remember, told by the words of conditions, and what one event more does to it.
-use Rattle.std.proofs.Common.{◌≡◌, ℕ, zero, suc, ◌+◌, ◌<◌, ◌≤◌, ◌==◌, max, nat_lt, Bool, true, false, not, cond, ◌||◌, ◌&&◌, if◌then◌else◌, Option, Some, None, is_some, List, [], ◌∷◌, ◌++◌, length, refl, ap, sym, ◌∙◌, subst, arith, eqb-true, eq-eqb, nat_eq}
+use Rattle.std.proofs.Common.{◌≡◌, ℕ, ◌+◌, ◌<◌, ◌==◌, max, nat_lt, Bool, true, false, not, cond, ◌||◌, ◌&&◌, if◌then◌else◌, Option, Some, None, is_some, List, [], ◌∷◌, ◌++◌, length, refl, ap, sym, ◌∙◌, arith, eqb-true}
 use Rattle.std.specs.Prelude.{unwrap_or, option_map}
 use Rattle.std.specs.Option.{option_or}
 use Rattle.std.proofs.lemmas.Bool.{ltb-true, ltb-false, lt-ltb, le-ltb}
-use Rattle.nio_audit.proofs.Latest.{latest-none, latest-own, latest-other, latest-le}
+use Rattle.nio_audit.proofs.Latest.{latest-own, latest-other}
 use Rattle.nio_audit.proofs.Truth.{or_false}
 use Rattle.nio_audit.specs.Latest.{latest}
 use Rattle.nio_audit.specs.Remembering.{outside_at}

@@ -1,14 +1,17 @@
 -- A judge that follows a history decides which event is a step, and follows the history with it.
-use Rattle.std.proofs.Common.{◌≡◌, ℕ, ◌+◌, ◌<◌, ◌↔◌, List, [], ◌∷◌, ◌++◌, length, refl, ap, sym, ◌∙◌, subst, arith}
+use Rattle.std.proofs.Common.{◌≡◌, ℕ, ◌+◌, ◌<◌, ◌↔◌, List, [], ◌∷◌, ◌++◌, length, ap, sym, ◌∙◌, subst, arith}
 use Rattle.std.proofs.lemmas.List.{length-append}
 use Rattle.nio_audit.proofs.Counted.{counted-step}
 use Rattle.nio_audit.proofs.Knowing.{remembers-more}
 use Rattle.nio_audit.proofs.Recalling.{allowed_iff}
 use Rattle.nio_audit.specs.Allowing.{state_of, IsAllowed}
+use Rattle.nio_audit.specs.Audit.{MayStep}
 use Rattle.nio_audit.specs.Bounds.{IsBounded}
 use Rattle.nio_audit.specs.Counting.{IsCounted, channels_after, keys_after}
 use Rattle.nio_audit.specs.DueIndexes.{IsBefore}
-use Rattle.nio_audit.specs.Following.{Follows}
+use Rattle.nio_audit.specs.Following.{Follows, HasJudged}
+use Rattle.nio_base.specs.declared.limits.Limits.{Limits}
+use Rattle.nio_base.specs.declared.numbers.CallerNo.{CallerNo}
 use Rattle.nio_audit.specs.Remembering.{Knowledge, knowledge_of, learned}
 use Rattle.nio_audit.specs.Remembers.{Remembers}
 use Rattle.nio_audit.specs.TableWords.{row}
@@ -83,3 +86,18 @@ follows-more {j = j} {j' = j'} {past = past} e f legal passed on = record {
       subst (IsBefore j'.dues) longer on.before;
   remembers = subst (λ (k : Knowledge). Remembers k (past ++ e ∷ [])) (sym on.knowledge) (remembers-more (knowledge_of j.memory) past e f.remembers);
 }
+
+-- the same whatever the step finds
+pub may_step_iff : {j : Judge} {l : Limits} {past : List Event} (me : CallerNo) (act : Act) → HasJudged j l past → (IsCaller j.limits me × IsAllowed j me act) ↔ MayStep l past me act
+may_step_iff {j = j} {l = l} {past = past} me act judged = (
+  λ may. record {
+    by_caller = subst (λ (l' : Limits). IsCaller l' me) judged.limits may.0;
+    condition = subst (λ (l' : Limits). Condition l' (mine me past) (state_after past) me act) judged.limits
+        (subst (λ (st : State). Condition j.limits (mine me past) st me act) judged.follows.state ((condition_iff (event_of me act) judged.follows).0 may.1));
+  },
+  λ may. (
+    subst (λ (l' : Limits). IsCaller l' me) (sym judged.limits) may.by_caller,
+    (condition_iff (event_of me act) judged.follows).1 (subst (λ (st : State). Condition j.limits (mine me past) st me act) (sym judged.follows.state)
+        (subst (λ (l' : Limits). Condition l' (mine me past) (state_after past) me act) (sym judged.limits) may.condition)),
+  ),
+)

@@ -1,13 +1,11 @@
 -- What callers know, after one event more.
-use Rattle.std.proofs.Common.{◌≡◌, ℕ, suc, ◌+◌, ◌==◌, max, Bool, true, false, not, cond, ◌||◌, ◌&&◌, if◌then◌else◌, Option, Some, None, List, [], ◌∷◌, ◌++◌, length, refl, ap, sym, ◌∙◌, subst, eqb-true, eq-eqb, arith, ◌<◌}
-use Rattle.std.specs.Prelude.{is_none}
-use Rattle.std.proofs.lemmas.Bool.{and_parts, and_from}
+use Rattle.std.proofs.Common.{◌≡◌, ℕ, suc, ◌+◌, ◌==◌, max, Bool, true, false, not, ◌||◌, ◌&&◌, if◌then◌else◌, Option, Some, None, List, [], ◌∷◌, ◌++◌, length, refl, ap, sym, ◌∙◌, subst, eqb-true, eq-eqb, arith}
 use Rattle.nio_audit.proofs.Hearing.{heard_hold, note_parts, heard_note, heard_parts, heard_index, heard_closing, raised, hold-own, hold-other, note-own, note-other, index-own, index-other, closing-own, closing-other}
 use Rattle.nio_audit.proofs.Latest.{latest-none}
 use Rattle.nio_audit.proofs.Truth.{or_false}
 use Rattle.std.proofs.lemmas.Bool.{le-ltb}
 use Rattle.nio_base.specs.declared.numbers.KeyId.{KeyId}
-use Rattle.nio_audit.specs.Remembering.{Knowledge, learned, nothing_known, learned_hold, learned_note, learned_index, learned_closing}
+use Rattle.nio_audit.specs.Remembering.{Knowledge, learned, nothing_known, learned_note, learned_index, learned_closing}
 use Rattle.nio_audit.specs.Remembers.{RemembersHold, RemembersNote, RemembersIndex, RemembersClosing, Remembers}
 use Rattle.nio_audit.specs.TableWords.{put_at_three}
 use Rattle.nio_audit.specs.declared.memory.ClosingMemory.{ClosingMemory}

@@ -1,5 +1,5 @@
 -- Which indexes selections have still to put, after a moment is set.
-use Rattle.std.proofs.Common.{◌≡◌, ℕ, ◌<◌, Bool, true, false, cond, ◌||◌, ◌&&◌, ◌==◌, if◌then◌else◌, refl, sym, ap, ◌∙◌, nat_lt, eqb-true, arith}
+use Rattle.std.proofs.Common.{◌≡◌, ℕ, ◌<◌, Bool, true, false, ◌||◌, ◌&&◌, ◌==◌, if◌then◌else◌, refl, sym, ap, ◌∙◌, nat_lt, eqb-true, arith}
 use Rattle.std.proofs.lemmas.Bool.{lt-ltb, le-ltb, and_parts}
 use mathlib.Core.Path.{fun_ext}
 use Rattle.nio_audit.proofs.Truth.{or_true, or_false}

@@ -1,5 +1,5 @@
 -- What a judge keeps is what the words of the conditions say of a caller's own events.
-use Rattle.std.proofs.Common.{◌≡◌, ℕ, ◌<◌, ◌≤◌, max, nat_lt, Bool, true, false, ◌&&◌, ◌||◌, ◌↔◌, IsTrue, if◌then◌else◌, refl, ap, sym, ◌∙◌, subst, arith}
+use Rattle.std.proofs.Common.{◌≡◌, ℕ, max, nat_lt, Bool, true, false, ◌&&◌, ◌||◌, ◌↔◌, IsTrue, if◌then◌else◌, refl, ap, sym, ◌∙◌, arith}
 use Rattle.std.specs.Prelude.{List, Option, Some, None, is_some, option_map}
 use Rattle.std.proofs.lemmas.Bool.{ltb-true}
 use Rattle.nio_audit.proofs.Counted.{all_made, all_claimed}
@@ -7,14 +7,11 @@ use Rattle.nio_audit.proofs.Hearing.{claim_of}
 use Rattle.nio_audit.proofs.Latest.{has-since, last-since, since_from-twice, latest-either}
 use Rattle.nio_audit.specs.Allowing.{Allowed, may_publish_by, may_clear_out_by}
 use Rattle.nio_audit.specs.Counting.{IsCounted}
-use Rattle.nio_audit.specs.Found.{unblocked_by, found_by, clear_key, clear_by, is_clear_for}
-use Rattle.nio_audit.specs.Remembering.{Knowledge, outside_at}
+use Rattle.nio_audit.specs.Found.{unblocked_by, found_by, clear_key, is_clear_for}
+use Rattle.nio_audit.specs.Remembering.{Knowledge}
 use Rattle.nio_audit.specs.Latest.{latest}
 use Rattle.nio_audit.specs.Remembers.{own_of, Remembers}
 use Rattle.nio_audit.specs.declared.memory.Claim.{Claim}
-use Rattle.nio_audit.specs.declared.memory.HoldMemory.{HoldMemory}
-use Rattle.nio_audit.specs.declared.memory.IndexMemory.{IndexMemory}
-use Rattle.nio_audit.specs.declared.memory.NoteMemory.{NoteMemory}
 use Rattle.nio_base.specs.declared.limits.Limits.{Limits}
 use Rattle.nio_base.specs.declared.numbers.CallerNo.{CallerNo}
 use Rattle.nio_base.specs.declared.numbers.ChanNo.{ChanNo}
@@ -22,12 +19,11 @@ use Rattle.nio_base.specs.declared.numbers.KeyId.{KeyId}
 use Rattle.nio_base.specs.declared.numbers.SelNo.{SelNo}
 use Rattle.nio_event.specs.Conditions.{Condition, may_publish, may_clear_out, may_remove_cancelled, holds, has_entered}
 use Rattle.nio_event.specs.Histories.{mine}
-use Rattle.nio_event.specs.OwnEvents.{OwnClaim, has, last, under, since_from, since_entered, since_taken, takes_hold, takes_free, finds_unblocked, finds_below, finds_outside, noted_found, notes_key, publishes, stage_found, since_key_noted, is_clear, is_clear_by, own_claim, is_unpublished}
+use Rattle.nio_event.specs.OwnEvents.{OwnClaim, has, last, under, since_taken, takes_hold, takes_free, finds_unblocked, finds_outside, noted_found, notes_key, publishes, stage_found, is_clear, is_clear_by, own_claim}
 use Rattle.nio_event.specs.State.{State}
 use Rattle.nio_event.specs.declared.act.Act.{Act}
 use Rattle.nio_event.specs.declared.act.Act.TheVariants.{MakeChannel, Claim as ClaimAct, RaiseKeys, RaiseChannels, Publish, Enrol, Remove, SetMode, ClearMark, ClaimAgain}
 use Rattle.nio_event.specs.declared.event.Event.{Event}
-use Rattle.nio_event.specs.declared.found.Stage.{Stage}
 
 module _ {k : Knowledge} {past : List Event} (h : Remembers k past) where
   unblocked-found : (n : CallerNo) (c : ℕ) → has (finds_unblocked c) (under c (mine n past)) ≡ unblocked_by (k.holds n.0 c)

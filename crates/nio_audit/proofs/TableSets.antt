@@ -1,5 +1,5 @@
 -- A table after a value is set, by one number, two and three.
-use Rattle.std.proofs.Common.{◌≡◌, ℕ, Bool, true, false, cond, ◌&&◌, if◌then◌else◌, Result, Ok, Err, OnOk, refl, ap, ◌∙◌, eqb-true, nat_eq}
+use Rattle.std.proofs.Common.{◌≡◌, ℕ, Bool, true, false, ◌&&◌, if◌then◌else◌, refl, ap, ◌∙◌, eqb-true, nat_eq}
 use mathlib.Core.Path.{fun_ext}
 use Rattle.nio_audit.specs.TableWords.{value_at, row, grid, cube, put_at_three}
 use Rattle.nio_audit.specs.declared.table.Cube.{Cube}

@@ -1,7 +1,10 @@
--- Which event of a list is the first that isn't a step.
+-- Which event of a list is the first that isn't a step, and which step may come after a list.
 use Rattle.std.specs.Prelude.{◌≡◌, ℕ, List, ◌∷◌, ◌++◌, length}
 use Rattle.nio_base.specs.declared.limits.Limits.{Limits}
-use Rattle.nio_event.specs.Histories.{IsStep, IsLegal}
+use Rattle.nio_base.specs.declared.numbers.CallerNo.{CallerNo}
+use Rattle.nio_event.specs.Conditions.{Condition, IsCaller}
+use Rattle.nio_event.specs.Histories.{state_after, mine, IsStep, IsLegal}
+use Rattle.nio_event.specs.declared.act.Act.{Act}
 use Rattle.nio_event.specs.declared.event.Event.{Event}
 
 -- the event at this place, counted from 0, isn't a step after those before it, and each of those is one
@@ -13,3 +16,8 @@ pub record IsFirstNoStep (l : Limits) (events : List Event) (place : ℕ) : Type
   pub place_is : length before ≡ place
   pub legal : IsLegal l before
   pub no_step : ¬ IsStep l before event
+
+-- the caller may make the step after these events, whatever the step finds
+pub record MayStep (l : Limits) (past : List Event) (me : CallerNo) (act : Act) : Type 0 where
+  pub by_caller : IsCaller l me
+  pub condition : Condition l (mine me past) (state_after past) me act

@@ -7,7 +7,8 @@ use Rattle.nio_audit.specs.Remembering.{knowledge_of}
 use Rattle.nio_audit.specs.Remembers.{Remembers}
 use Rattle.nio_audit.specs.TableWords.{row}
 use Rattle.nio_audit.specs.declared.judge.Judge.{Judge}
-use Rattle.nio_event.specs.Histories.{state_after}
+use Rattle.nio_base.specs.declared.limits.Limits.{Limits}
+use Rattle.nio_event.specs.Histories.{state_after, IsLegal}
 use Rattle.nio_event.specs.declared.event.Event.{Event}
 
 pub record Follows (j : Judge) (past : List Event) : Type 0 where
@@ -15,3 +16,9 @@ pub record Follows (j : Judge) (past : List Event) : Type 0 where
   pub counted : IsCounted (state_of j) j.counts.channels (row j.counts.keys)
   pub before : IsBefore j.dues (length past + 1)
   pub remembers : Remembers (knowledge_of j.memory) past
+
+-- the judge followed these events, which are steps
+pub record HasJudged (j : Judge) (l : Limits) (past : List Event) : Type 0 where
+  pub limits : j.limits ≡ l
+  pub legal : IsLegal l past
+  pub follows : Follows j past

@@ -1,5 +1,5 @@
 -- What callers know from their own acts, and what they know more after each.
-use Rattle.std.specs.Prelude.{ℕ, suc, max, Bool, true, false, ◌||◌, if◌then◌else◌, Option, Some, None, is_none}
+use Rattle.std.specs.Prelude.{ℕ, suc, max, Bool, true, false, ◌||◌, if◌then◌else◌, Some, None, is_none}
 use Rattle.nio_audit.specs.TableWords.{grid, cube, put_at_three}
 use Rattle.nio_audit.specs.declared.memory.Claim.{Claim}
 use Rattle.nio_audit.specs.declared.memory.ClosingMemory.{ClosingMemory}

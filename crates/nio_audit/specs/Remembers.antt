@@ -1,5 +1,5 @@
 -- What callers remember is what their own events say, by the words of the conditions.
-use Rattle.std.specs.Prelude.{◌≡◌, ℕ, ◌<◌, nat_lt, Bool, Option, Some, is_some, option_map, List}
+use Rattle.std.specs.Prelude.{◌≡◌, ℕ, ◌<◌, nat_lt, Some, is_some, option_map, List}
 use Rattle.nio_audit.specs.Latest.{latest}
 use Rattle.nio_audit.specs.Remembering.{Knowledge, outside_at}
 use Rattle.nio_audit.specs.declared.memory.Claim.{Claim}

@@ -1,13 +1,14 @@
-//! Whether a list of events is a legal history.
-ghost use Rattle.std.specs.Prelude.{◌≡◌, ◌≢◌, ◌↔◌, ℕ, IsOk};
-ghost use Rattle.nio_audit.specs.Audit.{IsFirstNoStep};
+//! Whether a list of events is a legal history, and which step may come next.
+ghost use Rattle.std.specs.Prelude.{◌≡◌, ◌≢◌, ◌↔◌, ℕ, IsOk, IfOk, IsTrue};
+ghost use Rattle.nio_audit.specs.Audit.{IsFirstNoStep, MayStep};
+ghost use Rattle.nio_audit.specs.Following.{HasJudged};
 ghost use Rattle.nio_audit.specs.declared.auditing.AuditError.TheVariants.{Memory, NotAStep};
 ghost use Rattle.nio_base.specs.Limits.{IsFit};
 ghost use Rattle.nio_event.specs.Histories.{IsLegal};
 
 use crate::judge::Judge;
-use nio_base::Limits;
-use nio_event::Event;
+use nio_base::{CallerNo, Limits};
+use nio_event::{Act, Event};
 use std::alloc::{AllocError, Global};
 use thiserror::Error;
 
@@ -37,11 +38,40 @@ pub fn audit(alloc: Global, limits: Limits, events: &[Event]) -> Result<(), Audi
     ensures ok { result ≢ Err Memory → IsOk result ↔ IsLegal limits events.now }
     ensures not_a_step { (at : ℕ) → result ≢ Err Memory → (result ≡ Err (NotAStep at)) ↔ IsFirstNoStep limits events.now at }
 {
+    judged(alloc, limits, events)?;
+    Ok(())
+}
+
+/// Whether the caller may make the step after these events, whatever the step finds. The events are judged as by
+/// `audit`, and where that answers an error, so does this.
+pub fn may_step(
+    alloc: Global,
+    limits: Limits,
+    events: &[Event],
+    caller: CallerNo,
+    act: &Act,
+) -> Result<bool, AuditError>
+    requires { IsFit limits }
+    ensures ok { result ≢ Err Memory → IsOk result ↔ IsLegal limits events.now }
+    ensures not_a_step { (at : ℕ) → result ≢ Err Memory → (result ≡ Err (NotAStep at)) ↔ IsFirstNoStep limits events.now at }
+    ensures may { IfOk result (λ may. IsTrue may ↔ MayStep limits events.now caller act.now) }
+{
+    let judge = judged(alloc, limits, events)?;
+    Ok(judge.may_step(caller, act))
+}
+
+/// What the events left, where they are a legal history.
+fn judged(alloc: Global, limits: Limits, events: &[Event]) -> Result<Judge, AuditError>
+    requires { IsFit limits }
+    ensures ok { result ≢ Err Memory → IsOk result ↔ IsLegal limits events.now }
+    ensures not_a_step { (at : ℕ) → result ≢ Err Memory → (result ≡ Err (NotAStep at)) ↔ IsFirstNoStep limits events.now at }
+    ensures judge { IfOk result (λ judge. HasJudged judge limits events.now) }
+{
     let mut judge = Judge::new(alloc, limits);
     for (at, event) in events.iter().enumerate() {
         if !judge.judge(&events[..at], event)? {
             return Err(AuditError::NotAStep { at: at as u64 });
         }
     }
-    Ok(())
+    Ok(judge)
 }

@@ -72,7 +72,14 @@ impl Judge {
         requires { IsFit self.now.limits }
         ensures { IsTrue result ↔ (IsCaller self.now.limits me × IsAllowed self.now me act.now × Answers (state_of self.now) me act.now) }
     {
-        me.0 < self.limits.callers && self.allows(me, act) && self.state.answers(me, act)
+        self.may_step(me, act) && self.state.answers(me, act)
+    }
+
+    /// Whether the caller may make the step, whatever it finds.
+    pub(crate) fn may_step(&self, me: CallerNo, act: &Act) -> bool
+        ensures { IsTrue result ↔ (IsCaller self.now.limits me × IsAllowed self.now me act.now) }
+    {
+        me.0 < self.limits.callers && self.allows(me, act)
     }
 
     /// Goes on by a step at this moment.

@@ -1,7 +1,7 @@
-//! A judge of events: whether a recorded run is a legal history.
+//! A judge of events: whether a recorded run is a legal history, and which step may come next.
 #![tactic(auto)]
 
-pub use auditing::{AuditError, audit};
+pub use auditing::{AuditError, audit, may_step};
 
 mod auditing;
 mod counts;

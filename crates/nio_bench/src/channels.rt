@@ -26,9 +26,11 @@ const TABLE: Limits = Limits {
     keys: CHANNELS,
 };
 
-const ME: CallerNo = CallerNo(0);
+/// The caller that makes the calls.
+pub const ME: CallerNo = CallerNo(0);
 
-const S: SelNo = SelNo(0);
+/// The selector that they are made on.
+pub const S: SelNo = SelNo(0);
 
 /// How long all calls of a kind took together.
 #[derive(Clone, Copy)]
@@ -86,7 +88,7 @@ impl Times {
 }
 
 /// Makes the selector, in a table where nothing was done but a draw.
-fn set_up(words: &Words, p: &mut Pass)
+pub fn set_up(words: &Words, p: &mut Pass)
     requires ready { IsReady words.now p.old ME }
     requires seen { seen p.old ≡ drawn }
     requires selector { IsSelector (limits_of words.now) S }

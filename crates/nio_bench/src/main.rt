@@ -3,12 +3,21 @@
 #![tactic(auto)]
 
 use anyhow::bail;
+use select::Load;
 use std::env;
 
 mod channels;
 mod group;
 mod relay;
+mod select;
 mod words;
+
+/// A small load of a selection.
+const SMALL: Load = Load {
+    indexes: 70,
+    live: 3,
+    every: 30,
+};
 
 fn main(rt: HostRuntime) -> anyhow::Result<()> {
     let word = env::args(&rt)?.nth(1);
@@ -17,11 +26,13 @@ fn main(rt: HostRuntime) -> anyhow::Result<()> {
             channels::run(&rt, 4)?;
             group::run(&rt, 4)?;
             relay::run(&rt, 4)?;
+            select::run(&rt, SMALL, 2)?;
             println!(rt; "ok")?;
         }
         Some("channels") => channels::measure(&rt)?,
         Some("group") => group::measure(&rt)?,
         Some("relay") => relay::measure(&rt)?,
+        Some("select") => select::measure(&rt)?,
         Some("words") => words::measure(&rt)?,
         Some(other) => bail!("no measure is named {other}"),
     }

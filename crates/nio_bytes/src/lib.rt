@@ -3,6 +3,7 @@
 //! caller can prove that it reports a fault only where there was one.
 #![tactic(auto)]
 
+pub use calls::Calls;
 pub use failed::Failed;
 pub use memory_sink::MemorySink;
 pub use memory_source::MemorySource;

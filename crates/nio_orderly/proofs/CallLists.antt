@@ -1,6 +1,5 @@
 -- Lists of calls, of what callers did in them, and of events.
 use Rattle.std.proofs.Common.{◌≡◌, ℕ, ◌==◌, Bool, true, false, cond, if◌then◌else◌, List, [], ◌∷◌, ◌++◌, map, refl, ap, sym, ◌∙◌, subst, append_assoc, eqb-true, ◌⊎◌, inl, inr}
-use Rattle.std.specs.Prelude.{⊤}
 use Rattle.std.specs.List.{filter}
 use Rattle.std.proofs.lemmas.List.{append-nil, map-append}
 use Rattle.std.proofs.lemmas.List.Elements.{filter-append}
@@ -11,8 +10,8 @@ use Rattle.nio_event.specs.declared.act.Act.{Act}
 use Rattle.nio_event.specs.declared.act.Act.TheVariants.{TakeInterrupt}
 use Rattle.nio_event.specs.declared.event.Event.{Event}
 use Rattle.nio_orderly.specs.Made.{Made, IsRun, Ongoing, nothing_ongoing, after_call, after_calls, MayCome, AreInOrder, interrupted}
-use Rattle.nio_orderly.specs.Orderly.{Parts, AreRuns, AreCallsOf, HasMadeCalls, MakesCalls, IsWhole, IsOrderly, MadeBy, IsRunBy, AreRunsBy, calls_of, IsSerial}
-use Rattle.nio_orderly.specs.OrderlyLaws.{BeginningsAreOrderly, WholeIsOrderly, OneCallMore, EndsInCall, OrderlyEndsInCall, SerialIsWhole, SerialCallMore}
+use Rattle.nio_orderly.specs.Orderly.{AreRuns, HasMadeCalls, MadeBy, AreRunsBy, calls_of}
+use Rattle.nio_orderly.specs.OrderlyLaws.{BeginningsAreOrderly, WholeIsOrderly, OneCallMore, OrderlyEndsInCall, SerialIsWhole, SerialCallMore}
 use Rattle.nio_steps.proofs.OwnActs.{mine-append}
 use Rattle.nio_steps.specs.SelectCalls.{interrupted_plan}
 
@@ -47,7 +46,7 @@ pub beginnings_are_orderly : BeginningsAreOrderly
 beginnings_are_orderly l past later orderly = λ n.
     let makes = orderly n in
     let same : mine n (past ++ later) ++ makes.later ≡ mine n past ++ (mine n later ++ makes.later) =
-        ap (λ acts. acts ++ makes.later) (mine-append n past later) ∙ append_assoc (mine n past) (mine n later) makes.later in
+    ap (λ acts. acts ++ makes.later) (mine-append n past later) ∙ append_assoc (mine n past) (mine n later) makes.later in
     record { later = mine n later ++ makes.later; whole = subst (HasMadeCalls l) same makes.whole }
 
 pub whole_is_orderly : WholeIsOrderly

@@ -1,7 +1,5 @@
 -- Each call but a registration is kept, whatever its plan finds.
-use Rattle.std.proofs.Common.{◌≡◌, ℕ, suc, ◌+◌, ◌*◌, nat_lt, Bool, true, false, not, ◌&&◌, if◌then◌else◌, Option, Some, None, Result, Ok, Err, List, [], ◌∷◌, ◌++◌, refl, ap, sym, subst, append_assoc}
-use Rattle.std.proofs.lemmas.List.{append-nil}
-use Rattle.nio_base.specs.Kind.{valid_operations}
+use Rattle.std.proofs.Common.{ℕ, Bool, Option, Some, None, Result, Ok, Err, List, [], refl}
 use Rattle.nio_base.specs.declared.kind.Kind.{Kind}
 use Rattle.nio_base.specs.declared.kind.Kind.TheVariants.{Source, Sink}
 use Rattle.nio_base.specs.declared.limits.Limits.{Limits}
@@ -10,22 +8,18 @@ use Rattle.nio_base.specs.declared.numbers.ChanNo.{ChanNo}
 use Rattle.nio_base.specs.declared.numbers.KeyId.{KeyId}
 use Rattle.nio_base.specs.declared.numbers.KeyNo.{KeyNo}
 use Rattle.nio_base.specs.declared.numbers.SelNo.{SelNo}
-use Rattle.nio_event.specs.Questions.{Question, question_of, answer_of}
-use Rattle.nio_event.specs.declared.act.Act.{Act}
 use Rattle.nio_event.specs.declared.found.Chan.{Chan}
 use Rattle.nio_event.specs.declared.found.Mark.{Mark as KeyMark}
 use Rattle.nio_event.specs.declared.found.Mode.{Mode}
 use Rattle.nio_event.specs.declared.found.Stage.{Stage}
-use Rattle.nio_orderly.proofs.ClosingsKept.{close_channel-keeps, try_finish-keeps}
-use Rattle.nio_orderly.proofs.Kept.{Kept, Keeps, keeps_reply, keeps_ask, keeps_bind, keeps_if, keeps_sweep, keeps_over, keeps_seek, kept_run}
-use Rattle.nio_steps.specs.ChannelCalls.{open_channel_plan, opened_channel, is_open_plan, is_blocking_plan, is_registered_plan, noted_in_set, key_for_plan, under_hold, set_mode_held, try_set_blocking_plan, register_noted, register_over, claim_taken, claim_free, claim_in_word, search_free, words_below, claim_new, make_key, make_claimed, register_first, register_next, register_new, register_rest, register_held, try_register_plan, cancel_at, close_channel_plan}
-use Rattle.nio_steps.specs.KeyCalls.{has_bit, is_within, under_pin, find_selector_plan, find_channel_plan, find_plan, is_valid_plan, on_valid, if_valid, on_supported, look_set, put_set, add_set, keep_set, look_ready, interest_plan, set_interest_plan, interest_or_plan, interest_and_plan, ready_plan, cancel_plan, cancel_present, unselect_plan, unselect_present, attach_plan, attach_present, attachment_plan, attachment_present}
+use Rattle.nio_orderly.proofs.ClosingsKept.{close_channel-keeps}
+use Rattle.nio_orderly.proofs.Kept.{Keeps, keeps_reply, keeps_ask, keeps_bind, keeps_if, keeps_sweep, keeps_over, keeps_seek}
+use Rattle.nio_steps.specs.ChannelCalls.{open_channel_plan, opened_channel, is_open_plan, is_blocking_plan, is_registered_plan, noted_in_set, key_for_plan, under_hold, set_mode_held, try_set_blocking_plan, register_noted, register_over, close_channel_plan}
+use Rattle.nio_steps.specs.KeyCalls.{under_pin, find_selector_plan, find_channel_plan, find_plan, is_valid_plan, on_valid, if_valid, on_supported, look_set, put_set, add_set, keep_set, look_ready, interest_plan, set_interest_plan, interest_or_plan, interest_and_plan, ready_plan, cancel_plan, cancel_present, unselect_plan, unselect_present, attach_plan, attach_present, attachment_plan, attachment_present}
 use Rattle.nio_steps.specs.PipeCalls.{pipe_plan, without_sink, with_sink, with_source, if_interrupted, if_open, if_unbroken, try_read_plan, try_write_plan}
-use Rattle.nio_steps.specs.Names.{key}
-use Rattle.nio_steps.specs.Plan.{Plan, reply, ◌>>◌, when}
-use Rattle.nio_steps.specs.SelectCalls.{Selection, LookedOver, open_selector_plan, try_begin_plan, begin_below, look_over, told_plan, mark_entry, mark_again, after_marks, leave_plan, shut_plan, try_finish_plan, keys_plan, list_selected, list_present, selected_keys_plan, wakeup_plan, interrupt_plan, interrupted_plan}
-use Rattle.nio_steps.specs.Steps.{cancel_key, put_free, flag_in, stage_in, word_in, channel_in, number_in}
-use Rattle.nio_steps.specs.Sweeps.{seek_to}
+use Rattle.nio_steps.specs.Plan.{Plan}
+use Rattle.nio_steps.specs.SelectCalls.{Selection, LookedOver, open_selector_plan, try_begin_plan, begin_below, look_over, told_plan, mark_entry, mark_again, after_marks, leave_plan, shut_plan, keys_plan, list_selected, list_present, selected_keys_plan, wakeup_plan, interrupt_plan, interrupted_plan}
+use Rattle.nio_steps.specs.Steps.{flag_in, stage_in, channel_in, number_in}
 use Rattle.nio_steps.specs.declared.looked.LookedKey.{LookedKey}
 use Rattle.nio_steps.specs.declared.refusal.ChannelError.{ChannelError}
 use Rattle.nio_steps.specs.declared.refusal.KeyError.{KeyError}
@@ -252,4 +246,3 @@ try_read-keeps l source = keeps_ask _ _ refl (λ answer. open-keeps l source (ch
 pub try_write-keeps : (l : Limits) (source sink : ChanNo) → Keeps l (try_write_plan l source sink)
 unfolding try_write_plan
 try_write-keeps l source sink = keeps_ask _ _ refl (λ answer. keeps_bind (if_open l sink (channel_in answer)) (if_unbroken source) (open-keeps l sink (channel_in answer)) (unbroken-keeps source))
-

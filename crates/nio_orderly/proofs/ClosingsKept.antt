@@ -1,30 +1,28 @@
 -- Closing a channel leaves no key of it to cancel, and finishing the closing of a selector no index to clear out.
-use Rattle.std.proofs.Common.{◌≡◌, ℕ, zero, suc, ◌+◌, ◌<◌, ◌≤◌, ◌==◌, nat_lt, Bool, true, false, not, ◌&&◌, ◌||◌, if◌then◌else◌, Option, Some, None, is_some, List, [], ◌∷◌, ◌++◌, refl, ap, sym, ◌∙◌, subst, eqb-true, eq-eqb, arith}
+use Rattle.std.proofs.Common.{◌≡◌, ℕ, ◌+◌, ◌<◌, ◌≤◌, ◌==◌, nat_lt, Bool, true, false, not, ◌&&◌, ◌||◌, if◌then◌else◌, Some, None, is_some, List, [], ◌∷◌, ◌++◌, refl, ap, sym, ◌∙◌, subst, eqb-true, eq-eqb, arith}
 use Rattle.std.proofs.lemmas.Bool.{ltb-true, ltb-false}
 use Rattle.std.proofs.lemmas.List.{append-nil}
 use Rattle.nio_base.specs.declared.limits.Limits.{Limits}
-use Rattle.nio_base.specs.declared.numbers.CallerNo.{CallerNo}
 use Rattle.nio_base.specs.declared.numbers.ChanNo.{ChanNo}
 use Rattle.nio_base.specs.declared.numbers.KeyId.{KeyId}
-use Rattle.nio_base.specs.declared.numbers.KeyNo.{KeyNo}
 use Rattle.nio_base.specs.declared.numbers.SelNo.{SelNo}
 use Rattle.nio_event.specs.OwnEvents.{has, is_outside, enters}
 use Rattle.nio_event.specs.Pins.{removes}
 use Rattle.nio_event.specs.Questions.{Question, question_of, answer_of}
-use Rattle.nio_event.specs.Sets.{fits, in_key_set, is_in_key_set}
+use Rattle.nio_event.specs.Sets.{fits, is_in_key_set}
 use Rattle.nio_event.specs.declared.act.Act.{Act}
 use Rattle.nio_event.specs.declared.act.Act.TheVariants.{CancelKey, LookKeys, LookReg, Remove, CloseBit, Enter, Pin}
 use Rattle.nio_event.specs.declared.found.Stage.{Stage}
 use Rattle.nio_orderly.proofs.ActLists.{owes-settled}
-use Rattle.nio_orderly.proofs.Kept.{Kept, kept-append, kept-one, kept-none, kept-calm, kept-closing, kept-entering, calm, Keeps, keeps_reply, keeps_ask, keeps_bind, keeps_if, keeps_sweep}
+use Rattle.nio_orderly.proofs.Kept.{Kept, kept-append, kept-one, kept-none, kept-calm, kept-closing, kept-entering, calm, Keeps}
 use Rattle.nio_orderly.proofs.ListWords.{has-first, has-second, has-neither, owes-later}
-use Rattle.nio_orderly.specs.Owed.{owes, closing_duty, clearing_duty, settles_key, cancels, looks_for_key, is_key, finds_key}
-use Rattle.nio_steps.proofs.Walks.{Always, always_weaker, always_bind, always_if, always_sweep}
+use Rattle.nio_orderly.specs.Owed.{owes, closing_duty, clearing_duty, settles_key, looks_for_key}
+use Rattle.nio_steps.proofs.Walks.{Always, always_weaker, always_bind, always_sweep}
 use Rattle.nio_steps.specs.ChannelCalls.{cancel_at, cancel_noted, cancel_keys, close_channel_plan}
-use Rattle.nio_steps.specs.KeyCalls.{cancel_present, cancel_plan}
+use Rattle.nio_steps.specs.KeyCalls.{cancel_plan}
 use Rattle.nio_steps.specs.Names.{selector, key}
 use Rattle.nio_steps.specs.Plan.{Plan, reply, ask, ◌>>=◌, ◌>>◌}
-use Rattle.nio_steps.specs.SelectCalls.{FinishReply, closed, busy, remove_key, remove_keys, try_finish_plan}
+use Rattle.nio_steps.specs.SelectCalls.{closed, busy, remove_key, remove_keys, try_finish_plan}
 use Rattle.nio_steps.specs.Steps.{flag_in, stage_in, number_in, noted_in, holder_in, unpin}
 use Rattle.nio_steps.specs.Sweeps.{sweep_to}
 
@@ -97,7 +95,7 @@ cancels_key l s k = λ pinned asks. by_test pinned asks (fits (stage_in (answer_
   where
     by_test : (pinned : Act) → question_of pinned ≡ Question.pin s k.index → (b : Bool) → (fits (stage_in (answer_of pinned)) k.serial && not (stage_in (answer_of pinned)).removed) ≡ b
         → Always (λ acts _. CancelsKey l s k (pinned ∷ acts))
-            ((if b then (ask (Question.cancel_key s k.index) (λ answer. reply (stage_in answer)) >> nothing_more) else nothing_more) >>= λ answer. (unpin s k.index >> reply answer))
+        ((if b then (ask (Question.cancel_key s k.index) (λ answer. reply (stage_in answer)) >> nothing_more) else nothing_more) >>= λ answer. (unpin s k.index >> reply answer))
     by_test pinned asks true is = λ cancelled asks' unpinned asks''. record {
       kept = kept-append l (pinned ∷ []) (cancelled ∷ unpinned ∷ []) (kept-one l pinned (ap calm asks)) (kept_two l cancelled unpinned (ap calm asks') (ap calm asks''));
       settles = has-second (settles_key s.0 k) (pinned ∷ []) (cancelled ∷ unpinned ∷ [])

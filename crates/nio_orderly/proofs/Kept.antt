@@ -1,6 +1,6 @@
 -- What whole calls keep, whatever their caller did before and does after them: each publish keeps the rules of
 -- careful histories, and of what a publish, a closing of a channel or an entering leaves to do, nothing is owed.
-use Rattle.std.proofs.Common.{◌≡◌, ℕ, zero, suc, ◌+◌, ◌-◌, ◌<◌, Bool, true, false, not, ◌||◌, if◌then◌else◌, Option, Some, None, List, [], ◌∷◌, ◌++◌, refl, ap, sym, ◌∙◌, subst, append_assoc, ◌⊎◌, inl, inr}
+use Rattle.std.proofs.Common.{◌≡◌, ℕ, zero, suc, ◌+◌, ◌-◌, ◌<◌, Bool, true, false, ◌||◌, if◌then◌else◌, Option, Some, None, List, [], ◌∷◌, ◌++◌, refl, ap, sym, ◌∙◌, subst, append_assoc, ◌⊎◌, inl, inr}
 use Rattle.std.proofs.lemmas.List.{append-nil}
 use Rattle.nio_base.specs.declared.limits.Limits.{Limits}
 use Rattle.nio_base.specs.declared.numbers.ChanNo.{ChanNo}
@@ -12,11 +12,10 @@ use Rattle.nio_event.specs.declared.act.Act.{Act}
 use Rattle.nio_event.specs.declared.act.Act.TheVariants.{Publish, CloseBit, Enter}
 use Rattle.nio_event.specs.declared.found.Stage.{Stage}
 use Rattle.nio_orderly.proofs.ActLists.{owes-settled}
-use Rattle.nio_orderly.proofs.ListWords.{InFirst, InSecond, split_at, nothing_there, has-first, has-second, no_such_act, since_from-opened, until_released-append, is_prepared-grows, own_claim-later}
+use Rattle.nio_orderly.proofs.ListWords.{InFirst, InSecond, split_at, has-first, has-second, no_such_act, since_from-opened, until_released-append, is_prepared-grows, own_claim-later}
 use Rattle.nio_orderly.specs.Careful.{until_released, its_hold, notes_for, notes_this_key, is_prepared}
 use Rattle.nio_orderly.specs.Owed.{owes, publisher_duty, closing_duty, clearing_duty}
 use Rattle.nio_steps.proofs.Walks.{Always, always_weaker, always_bind, always_if, always_run}
-use Rattle.nio_steps.specs.KeyCalls.{under_pin}
 use Rattle.nio_steps.specs.Plan.{Plan, reply, ask, ◌>>=◌}
 use Rattle.nio_steps.specs.Runs.{Completes}
 use Rattle.nio_steps.specs.Sweeps.{sweep, sweep_to, found_or, seek, seek_to, sweep_over}

@@ -1,13 +1,12 @@
 -- Lists of acts, in parts: where an act stands in them, and what each word over them says of both parts.
-use Rattle.std.proofs.Common.{◌≡◌, ℕ, zero, suc, ◌+◌, ◌≤◌, Bool, true, false, cond, not, ◌&&◌, ◌||◌, if◌then◌else◌, Option, Some, None, List, [], ◌∷◌, ◌++◌, refl, ap, sym, ◌∙◌, subst, append_assoc, arith, ◌⊎◌, inl, inr}
+use Rattle.std.proofs.Common.{◌≡◌, ℕ, Bool, true, false, cond, not, ◌&&◌, ◌||◌, if◌then◌else◌, Option, Some, None, List, [], ◌∷◌, ◌++◌, refl, ap, sym, ◌∙◌, append_assoc, arith, ◌⊎◌, inl, inr}
 use Rattle.std.specs.Prelude.{fold}
 use Rattle.std.specs.Option.{option_or}
-use Rattle.std.proofs.lemmas.List.{append-nil}
 use Rattle.std.proofs.lemmas.List.Sums.{fold-append, sum_by-cons}
-use Rattle.nio_event.specs.OwnEvents.{has, count, last, since_from, since_first, under, takes_hold, releases, OwnClaim, own_claim, claim_changed, or_none}
+use Rattle.nio_event.specs.OwnEvents.{has, count, last, since_from, since_first, releases, OwnClaim, own_claim, claim_changed, or_none}
 use Rattle.nio_event.specs.declared.act.Act.{Act}
 use Rattle.nio_orderly.proofs.ActLists.{has-append}
-use Rattle.nio_orderly.specs.Careful.{until_released, its_hold, notes_for, notes_this_key, finds_open, claims, leaves_below, is_prepared}
+use Rattle.nio_orderly.specs.Careful.{until_released, finds_open, claims, leaves_below, is_prepared}
 use Rattle.nio_orderly.specs.Owed.{Duty, owes}
 use Rattle.nio_steps.proofs.Either.{neither, not_first, not_second, by_first, by_second}
 

@@ -1,9 +1,6 @@
 -- What is left in orderly histories: what is owed, and what is left once a closing has answered.
-use Rattle.std.proofs.Common.{◌≡◌, ℕ, ◌<◌, ◌==◌, Bool, true, false, ◌||◌, if◌then◌else◌, Option, Some, None, is_some, List, [], ◌∷◌, ◌++◌, refl, ap, sym, ◌∙◌, subst, append_assoc, eq-eqb, ◌⊎◌, inl, inr}
-use mathlib.Core.List.{IsPrefix}
-use Rattle.std.proofs.lemmas.List.{append-nil}
+use Rattle.std.proofs.Common.{◌≡◌, ℕ, Bool, true, false, ◌||◌, if◌then◌else◌, Some, None, List, [], ◌∷◌, ◌++◌, refl, ap, sym, ◌∙◌, subst, append_assoc, eq-eqb, ◌⊎◌, inl, inr}
 use Rattle.nio_base.specs.declared.limits.Limits.{Limits}
-use Rattle.nio_base.specs.declared.numbers.CallerNo.{CallerNo}
 use Rattle.nio_base.specs.declared.numbers.ChanNo.{ChanNo}
 use Rattle.nio_base.specs.declared.numbers.SelNo.{SelNo}
 use Rattle.nio_event.proofs.LastsOnceSound.{permanent_stands}
@@ -13,29 +10,24 @@ use Rattle.nio_event.specs.Conditions.{is_closer, is_held_by}
 use Rattle.nio_event.specs.Histories.{state_after, mine, event_of, IsLegal}
 use Rattle.nio_event.specs.Permanent.{selector_closed_by}
 use Rattle.nio_event.specs.OwnEvents.{has, since_first, since_entered, enters}
-use Rattle.nio_event.specs.Questions.{Question, question_of, answer_of}
 use Rattle.nio_event.specs.Sets.{is_valid}
 use Rattle.nio_event.specs.declared.act.Act.{Act}
 use Rattle.nio_event.specs.declared.act.Act.TheVariants.{CloseBit, Enter}
-use Rattle.nio_event.specs.declared.event.Event.{Event}
 use Rattle.nio_orderly.proofs.ActLists.{owes-settled}
 use Rattle.nio_orderly.proofs.AfterClosing.{only_publishers_owe, closed_selectors_have_no_key, publisher_settled, settled_loses_no_key}
 use Rattle.nio_orderly.proofs.CallLists.{whole_is_orderly, beginnings_are_orderly}
-use Rattle.nio_orderly.proofs.Kept.{EnterKept, Kept}
+use Rattle.nio_orderly.proofs.Kept.{EnterKept}
 use Rattle.nio_orderly.proofs.ListWords.{InFirst, InSecond, split_at, no_such_act, has-second, since_first-append}
 use Rattle.nio_orderly.proofs.OrderlyCare.{run_is_kept, made_is_kept, orderly_is_careful, whole_is_settled, Opened, first_opened, IsEnter, is_enter, enter_settled}
 use Rattle.nio_orderly.proofs.Owed.{nothing_is_lost}
-use Rattle.nio_orderly.specs.AfterClosing.{HasClosedChannel, HasClosedSelector}
-use Rattle.nio_orderly.specs.Made.{IsRun, close_channel, try_finish}
-use Rattle.nio_orderly.specs.OrderlyCare.{OrderlyOwes, WholeLosesNoKey, CloseChannelCloses, FinishCloses, AfterCloseChannel, NoKeyAfterCloseChannel, NoKeyAfterFinish}
-use Rattle.nio_orderly.specs.Orderly.{IsWhole, IsOrderly}
+use Rattle.nio_orderly.specs.Made.{close_channel, try_finish}
+use Rattle.nio_orderly.specs.OrderlyCare.{OrderlyOwes, WholeLosesNoKey, CloseChannelCloses, FinishCloses, AfterCloseChannel, NoKeyAfterCloseChannel, NoKeyAfterFinish, NoKeyAfterClose}
+use Rattle.nio_orderly.specs.Orderly.{IsOrderly}
 use Rattle.nio_orderly.specs.Owed.{owes, clearing_duty, key_of}
 use Rattle.nio_steps.proofs.OwnActs.{Cut, cut_at}
-use Rattle.nio_steps.specs.ChannelCalls.{cancel_keys, close_channel_plan}
-use Rattle.nio_steps.specs.Plan.{reply}
+use Rattle.nio_steps.specs.ChannelCalls.{close_channel_plan}
 use Rattle.nio_steps.specs.Runs.{Completes}
-use Rattle.nio_steps.specs.SelectCalls.{closed, busy, remove_keys, try_finish_plan}
-use Rattle.nio_steps.specs.Steps.{flag_in, holder_in}
+use Rattle.nio_steps.specs.SelectCalls.{closed, try_finish_plan, ShutReply, closing, already_closed, ClosesRest}
 
 pub orderly_owes : OrderlyOwes
 orderly_owes l events fit legal orderly = nothing_is_lost l events fit legal (orderly_is_careful l events orderly)
@@ -167,3 +159,15 @@ no_key_after_finish l n s before after own acts fit goes_on legal orderly did ru
     closed_selectors_have_no_key l n s before after fit goes_on legal (orderly_is_careful l after orderly)
     (finish_closes l n s before own acts (beginnings_are_legal l before after goes_on legal)
     (beginnings_are_orderly l before goes_on.0 (subst (IsOrderly l) (sym goes_on.1) orderly)) did run)
+
+pub no_key_after_close : NoKeyAfterClose
+no_key_after_close l n s before after own acts fit goes_on legal orderly did both = by_reply both.middle both.runs_second
+  where
+    by_reply : (middle : ShutReply) → ClosesRest s middle both.second true → (i : ℕ) → is_valid ((state_after after).key s.0 i) ≡ false
+    by_reply already_closed second = absurd (cc second.0)
+    by_reply closing second =
+        let last = second.1.last in
+        let parts = did ∙ (ap (λ xs. own ++ xs) both.parts ∙ (ap (λ xs. own ++ (both.first ++ xs)) second.1.parts
+        ∙ (ap (λ xs. own ++ xs) (sym (append_assoc both.first second.1.before last.acts)) ∙ sym (append_assoc own (both.first ++ second.1.before) last.acts)))) in
+        no_key_after_finish l n s before after (own ++ (both.first ++ second.1.before)) last.acts fit goes_on legal orderly parts
+        (subst (Completes (try_finish_plan s) last.acts) second.1.answers second.1.made)

@@ -1,13 +1,12 @@
 -- The histories of whole calls, and of steps that no calls make, by computing.
-use Rattle.std.proofs.Common.{◌≡◌, ℕ, ◌<◌, ◌≤◌, true, false, Some, None, Ok, List, [], ◌∷◌, ◌++◌, take, drop, append_assoc, refl, sym, subst, arith, lit<, lit≤}
+use Rattle.std.proofs.Common.{◌≡◌, ℕ, ◌<◌, true, false, Ok, List, [], ◌∷◌, ◌++◌, take, drop, append_assoc, refl, sym, subst, arith, lit<, lit≤}
 use Rattle.std.proofs.lemmas.List.{append-nil}
 use Rattle.nio_base.specs.declared.kind.Kind.TheVariants.{Source}
 use Rattle.nio_base.specs.declared.limits.Limits.{Limits}
-use Rattle.nio_base.specs.declared.numbers.CallerNo.{CallerNo}
 use Rattle.nio_event.proofs.Legal.{legal_empty, legal_more}
 use Rattle.nio_event.specs.Answers.{bits_below, count_below}
 use Rattle.nio_event.specs.Histories.{state_after, mine, IsStep, IsLegal}
-use Rattle.nio_event.specs.Worked.{u, v, s, c, chan, gate, stage, noted, small_limits}
+use Rattle.nio_event.specs.Worked.{u, v, s, c, small_limits}
 use Rattle.nio_event.specs.declared.act.Act.{Act}
 use Rattle.nio_event.specs.declared.event.Event.{Event}
 use Rattle.nio_orderly.proofs.CallLists.{run_one}

@@ -1,10 +1,9 @@
 -- A registration that publishes a key keeps the rules of careful histories, and leaves no key to cancel.
-use Rattle.std.proofs.Common.{◌≡◌, ℕ, zero, suc, ◌+◌, ◌-◌, ◌*◌, ◌<◌, ◌==◌, nat_lt, Bool, true, false, not, ◌&&◌, ◌||◌, if◌then◌else◌, Option, Some, None, is_some, Result, Ok, Err, List, [], ◌∷◌, ◌++◌, refl, ap, sym, ◌∙◌, subst, append_assoc, eq-eqb, arith, ◌⊎◌, inl, inr}
+use Rattle.std.proofs.Common.{◌≡◌, ℕ, zero, suc, ◌+◌, ◌-◌, ◌*◌, ◌==◌, nat_lt, Bool, true, false, not, ◌&&◌, ◌||◌, if◌then◌else◌, Option, Some, None, is_some, Result, Ok, Err, List, [], ◌∷◌, ◌++◌, refl, ap, sym, ◌∙◌, subst, append_assoc, eq-eqb, arith, ◌⊎◌, inl, inr}
 use Rattle.std.proofs.lemmas.Bool.{and_parts, lt-ltb}
 use Rattle.std.proofs.lemmas.List.{append-nil}
 use Rattle.nio_base.specs.Kind.{valid_operations}
 use Rattle.nio_base.specs.declared.limits.Limits.{Limits}
-use Rattle.nio_base.specs.declared.numbers.CallerNo.{CallerNo}
 use Rattle.nio_base.specs.declared.numbers.ChanNo.{ChanNo}
 use Rattle.nio_base.specs.declared.numbers.KeyId.{KeyId}
 use Rattle.nio_base.specs.declared.numbers.KeyNo.{KeyNo}
@@ -18,11 +17,11 @@ use Rattle.nio_event.specs.declared.act.Act.TheVariants.{LookGate, CancelKey, Lo
 use Rattle.nio_event.specs.declared.found.Stage.{Stage}
 use Rattle.nio_orderly.proofs.ActLists.{count-append, owes-settled, since_first_none}
 use Rattle.nio_orderly.proofs.Kept.{PublishKept, Kept, kept-calm, is_loud, first_or_later}
-use Rattle.nio_orderly.proofs.ListWords.{InFirst, InSecond, split_at, nothing_there, has-first, has-second, has-neither, no_such_act, count-none, count-one, since_from-none, since_first-append, until_released-done}
-use Rattle.nio_orderly.specs.Careful.{notes_for, notes_this_key, claims, leaves_below, finds_open, until_released, its_hold, is_prepared}
+use Rattle.nio_orderly.proofs.ListWords.{InFirst, InSecond, split_at, has-first, has-second, has-neither, no_such_act, count-none, count-one, since_from-none, since_first-append, until_released-done}
+use Rattle.nio_orderly.specs.Careful.{notes_for, notes_this_key, claims, leaves_below, finds_open, until_released, is_prepared}
 use Rattle.nio_orderly.specs.Owed.{owes, publisher_duty, settles_key}
-use Rattle.nio_steps.specs.ChannelCalls.{under_hold, register_noted, register_over, claim_taken, claim_free, claim_at_bit, claim_in_word, search_free, words_below, claim_new, settle_key, publish_key, make_key, make_claimed, register_first, register_again, register_next, register_new, register_rest, register_unblocked, register_held, try_register_plan}
-use Rattle.nio_steps.specs.KeyCalls.{has_bit, is_within, under_pin}
+use Rattle.nio_steps.specs.ChannelCalls.{under_hold, register_noted, register_over, claim_taken, claim_free, claim_at_bit, claim_in_word, search_free, words_below, claim_new, settle_key, publish_key, make_key, make_claimed, register_first, register_next, register_rest, register_unblocked, register_held, try_register_plan}
+use Rattle.nio_steps.specs.KeyCalls.{has_bit, is_within}
 use Rattle.nio_steps.specs.Names.{key}
 use Rattle.nio_steps.specs.Plan.{Plan, reply, ask, ◌>>=◌, ◌>>◌, when}
 use Rattle.nio_steps.specs.Runs.{Completes}
@@ -420,24 +419,30 @@ settle-leads s c k before found noted = λ look asks.
     let published = before ++ Publish s k.index found ∷ [] in
     leads_bind (λ own _. Registers s c own) (λ own _. Registers s c own) (published ++ look ∷ []) (when (channel_in (answer_of look)).closed (cancel_key s k.index)) (λ _. reply (Ok (key s k)))
     (leads_if (λ own _. Registers s c own) (published ++ look ∷ []) (channel_in (answer_of look)).closed (cancel_key s k.index >> reply tt) (reply tt)
-    (λ closed cancelled asks'. inr (k, record {
-      before = before;
-      found = found;
-      later = look ∷ cancelled ∷ [];
-      parts = append_assoc published (look ∷ []) (cancelled ∷ []) ∙ append_assoc before (Publish s k.index found ∷ []) (look ∷ cancelled ∷ []);
-      noted = noted;
-      quiet = quiet-append c (look ∷ []) (cancelled ∷ []) (quiet-one c look (ap still asks)) (quiet-one c cancelled (ap still asks'));
-      settled = λ in_set serial. looked-closed c s k.index serial look cancelled asks asks';
-    }))
-    (λ open'. inr (k, record {
-      before = before;
-      found = found;
-      later = look ∷ [];
-      parts = append_assoc before (Publish s k.index found ∷ []) (look ∷ []);
-      noted = noted;
-      quiet = quiet-one c look (ap still asks);
-      settled = λ in_set serial. looked-open c s.0 k.index serial look asks open';
-    })))
+    (λ closed cancelled asks'. inr (
+      k,
+      record {
+        before = before;
+        found = found;
+        later = look ∷ cancelled ∷ [];
+        parts = append_assoc published (look ∷ []) (cancelled ∷ []) ∙ append_assoc before (Publish s k.index found ∷ []) (look ∷ cancelled ∷ []);
+        noted = noted;
+        quiet = quiet-append c (look ∷ []) (cancelled ∷ []) (quiet-one c look (ap still asks)) (quiet-one c cancelled (ap still asks'));
+        settled = λ in_set serial. looked-closed c s k.index serial look cancelled asks asks';
+      },
+    ))
+    (λ open'. inr (
+      k,
+      record {
+        before = before;
+        found = found;
+        later = look ∷ [];
+        parts = append_assoc before (Publish s k.index found ∷ []) (look ∷ []);
+        noted = noted;
+        quiet = quiet-one c look (ap still asks);
+        settled = λ in_set serial. looked-open c s.0 k.index serial look asks open';
+      },
+    )))
     (λ own _ here. here)
 
 published-leads : (s : SelNo) (c : ChanNo) (k : KeyId) (own : List Act) (published : Act) → question_of published ≡ Question.publish s k.index → Noted s c k own
@@ -446,18 +451,21 @@ published-leads s c k own (Publish s' i found) asks noted =
     let first : s' ≡ s = cc asks in
     let second : i ≡ k.index = cc asks in
     let now : own ++ Publish s' i found ∷ [] ≡ own ++ Publish s k.index found ∷ [] =
-        ap (λ (t : SelNo). own ++ Publish t i found ∷ []) first ∙ ap (λ (j : ℕ). own ++ Publish s j found ∷ []) second in
+    ap (λ (t : SelNo). own ++ Publish t i found ∷ []) first ∙ ap (λ (j : ℕ). own ++ Publish s j found ∷ []) second in
     subst (λ xs. Leads (λ ys _. Registers s c ys) xs (if found.removed then reply (Err ChannelError.ClosedSelector) else settle_key s c k)) (sym now)
     (leads_if (λ ys _. Registers s c ys) (own ++ Publish s k.index found ∷ []) found.removed (reply (Err ChannelError.ClosedSelector)) (settle_key s c k)
-    (λ removed. inr (k, record {
-      before = own;
-      found = found;
-      later = [];
-      parts = refl;
-      noted = noted;
-      quiet = quiet-none c;
-      settled = λ in_set serial. let clash : true ≡ false = sym removed ∙ in_set in absurd (cc clash);
-    }))
+    (λ removed. inr (
+      k,
+      record {
+        before = own;
+        found = found;
+        later = [];
+        parts = refl;
+        noted = noted;
+        quiet = quiet-none c;
+        settled = λ in_set serial. let clash : true ≡ false = sym removed ∙ in_set in absurd (cc clash);
+      },
+    ))
     (λ _. settle-leads s c k own found noted))
 published-leads s c k own _ asks noted = absurd (cc asks)
 

@@ -1,30 +1,26 @@
 -- A call that waits is a list of whole calls: the tries, and the one that says that it is over.
-use Rattle.std.proofs.Common.{◌≡◌, ℕ, ◌==◌, Bool, true, false, if◌then◌else◌, Option, Some, None, Result, Ok, Err, List, [], ◌∷◌, ◌++◌, refl, ap, sym, ◌∙◌, subst, append_assoc, eq-eqb}
+use Rattle.std.proofs.Common.{◌≡◌, ℕ, ◌==◌, Bool, true, false, if◌then◌else◌, Option, Some, None, Result, Ok, Err, List, [], ◌∷◌, ◌++◌, refl, ap, sym, ◌∙◌, subst, eq-eqb}
 use Rattle.std.specs.List.{All}
-use Rattle.std.proofs.lemmas.List.{append-nil}
-use Rattle.std.proofs.lemmas.List.Elements.{All-head, All-tail}
+use Rattle.std.proofs.lemmas.List.Elements.{All-nil, All-append, All-head, All-tail}
 use Rattle.nio_base.specs.declared.limits.Limits.{Limits}
-use Rattle.nio_base.specs.declared.numbers.CallerNo.{CallerNo}
 use Rattle.nio_base.specs.declared.numbers.ChanNo.{ChanNo}
 use Rattle.nio_base.specs.declared.numbers.SelNo.{SelNo}
-use Rattle.nio_event.specs.Histories.{state_after}
 use Rattle.nio_event.specs.Questions.{answer_of}
-use Rattle.nio_event.specs.Sets.{is_valid}
 use Rattle.nio_event.specs.State.{put}
 use Rattle.nio_event.specs.declared.act.Act.{Act}
 use Rattle.nio_event.specs.declared.found.Mode.{Mode}
 use Rattle.nio_orderly.proofs.CallLists.{runs_append, order_append, run_one}
-use Rattle.nio_orderly.proofs.OrderlyClosings.{no_key_after_finish}
-use Rattle.nio_orderly.specs.Made.{Made, IsRun, Ongoing, after_call, after_calls, MayCome, AreInOrder, try_set_blocking, try_register, try_begin, told, leave, shut, try_finish, try_read, try_write}
+use Rattle.nio_orderly.specs.Made.{Made, IsRun, Ongoing, nothing_ongoing, selecting, closes_on, after_call, after_calls, MayCome, AreInOrder, try_set_blocking, try_register, try_begin, told, leave, shut, try_finish, try_read, try_write, set_blocking, register, select, close, read, write}
 use Rattle.nio_orderly.specs.Orderly.{AreRuns}
-use Rattle.nio_orderly.specs.Waited.{AreCallsFrom, IsMadeOfCalls, WaitingCallsAreCalls, NoKeyAfterClose}
+use Rattle.nio_orderly.specs.Waited.{waits, AreCallsFrom, WaitingCallsAreCalls, CallsWithoutWaiting}
 use Rattle.nio_steps.proofs.BeginLaws.{begin-parts}
-use Rattle.nio_steps.proofs.Walks.{Always, always_weaker, always_bind, always_if, always_any, always_run}
+use Rattle.nio_steps.proofs.Lists.{all-one}
+use Rattle.nio_steps.proofs.Walks.{Always, always_bind, always_if, always_any, always_run}
 use Rattle.nio_steps.specs.ChannelCalls.{try_set_blocking_plan, try_register_plan, finds_held}
 use Rattle.nio_steps.specs.PipeCalls.{Waits, waits_for_bytes, try_read_plan, try_write_plan}
-use Rattle.nio_steps.specs.Plan.{Plan, reply, ◌>>=◌, ◌>>◌}
+use Rattle.nio_steps.specs.Plan.{reply, ◌>>◌}
 use Rattle.nio_steps.specs.Runs.{Completes}
-use Rattle.nio_steps.specs.SelectCalls.{Selection, Begins, begin_finds_busy, Poll, Tells, goes_on_after, ToldReply, done, again, told_plan, mark_entry, after_marks, is_again, why_ended, remove_if_cancelled, end_selection, TellsAll, TellsAndLeaves, SelectReply, selected, not_begun, left, SelectsRest, leave_plan, ShutReply, closing, already_closed, FinishReply, closed, busy, finish_finds_busy, ClosesRest, shut_plan, try_finish_plan}
+use Rattle.nio_steps.specs.SelectCalls.{Selection, Begins, begin_finds_busy, Poll, Tells, goes_on_after, ToldReply, done, again, told_plan, mark_entry, after_marks, is_again, why_ended, remove_if_cancelled, end_selection, SelectReply, selected, not_begun, left, SelectsRest, ShutReply, closing, already_closed, FinishReply, closed, busy, finish_finds_busy, ClosesRest, shut_plan, try_finish_plan}
 use Rattle.nio_steps.specs.Steps.{flag_in, gate_in, end_wake, give_turn}
 use Rattle.nio_steps.specs.Sweeps.{sweep_over}
 use Rattle.nio_steps.specs.Waiting.{Then, Run, acts_of, Tries, Repeats, Retries}
@@ -36,6 +32,7 @@ use Rattle.nio_steps.specs.declared.selected.Selected.{Selected}
 -- the acts are those of whole calls, after which so much is in progress
 record CallsTo (l : Limits) (now : Ongoing) (acts : List Act) (Then' : Ongoing → Type 0) : Type 0 where
   calls : List Made
+  unwaiting : All (λ call. waits call ≡ false) calls
   runs : AreRuns l calls acts
   in_order : AreInOrder now calls
   after : Then' (after_calls now calls)
@@ -45,30 +42,37 @@ after_calls-append now [] later = refl
 after_calls-append now (call ∷ calls) later = after_calls-append (after_call now call) calls later
 
 no_calls : (l : Limits) (now : Ongoing) (Then' : Ongoing → Type 0) → Then' now → CallsTo l now [] Then'
-no_calls l now Then' here = record { calls = []; runs = refl; in_order = tt; after = here }
+no_calls l now Then' here = record { calls = []; unwaiting = All-nil (λ call. waits call ≡ false); runs = refl; in_order = tt; after = here }
 
-one_call : (l : Limits) (now : Ongoing) (acts : List Act) (Then' : Ongoing → Type 0) (call : Made) → IsRun l call acts → MayCome now call → Then' (after_call now call) → CallsTo l now acts Then'
-one_call l now acts Then' call run may here = record { calls = call ∷ []; runs = run_one l call acts run; in_order = (may, tt); after = here }
+one_call : (l : Limits) (now : Ongoing) (acts : List Act) (Then' : Ongoing → Type 0) (call : Made) → waits call ≡ false → IsRun l call acts → MayCome now call → Then' (after_call now call)
+    → CallsTo l now acts Then'
+one_call l now acts Then' call is run may here = record { calls = call ∷ []; unwaiting = all-one (λ x. waits x ≡ false) call is; runs = run_one l call acts run; in_order = (may, tt); after = here }
 
 then_calls : (l : Limits) (now : Ongoing) (xs ys : List Act) (Mid Then' : Ongoing → Type 0) → CallsTo l now xs Mid → ((now' : Ongoing) → Mid now' → CallsTo l now' ys Then') → CallsTo l now (xs ++ ys) Then'
 then_calls l now xs ys Mid Then' first later =
     let second = later (after_calls now first.calls) first.after in
     record {
       calls = first.calls ++ second.calls;
+      unwaiting = All-append (λ call. waits call ≡ false) first.calls second.calls first.unwaiting second.unwaiting;
       runs = runs_append l first.calls second.calls xs ys first.runs second.runs;
       in_order = order_append now first.calls second.calls first.in_order second.in_order;
       after = subst Then' (sym (after_calls-append now first.calls second.calls)) second.after;
     }
 
-calls_from : (l : Limits) (now : Ongoing) (acts : List Act) (Then' : Ongoing → Type 0) → CallsTo l now acts Then' → AreCallsFrom l now acts
-calls_from l now acts Then' made = record { calls = made.calls; runs = made.runs; in_order = made.in_order }
+-- so much is in progress
+abbrev Now : Ongoing → Ongoing → Type 0
+Now after now = now ≡ after
+
+calls_from : (l : Limits) (now : Ongoing) (acts : List Act) (after : Ongoing) → CallsTo l now acts (Now after) → AreCallsFrom l now acts after
+calls_from l now acts after made = record { calls = made.calls; unwaiting = made.unwaiting; runs = made.runs; in_order = made.in_order; leaves = made.after }
 
 -- ---- the same call again and again
 
 -- each run of the shape is such a call, which may come, and leaves it so that it may come again
 abbrev MayRepeat : {X R : Type 0} → Limits → (X → List Act → R → Type 0) → (X → R → Bool) → (Ongoing → Type 0) → (X → R → Made) → Type 0
 MayRepeat {X} {R} l Shape goes_on Stays call =
-    (now : Ongoing) (x : X) (acts : List Act) (r : R) → Stays now → Shape x acts r → goes_on x r ≡ true → IsRun l (call x r) acts × MayCome now (call x r) × Stays (after_call now (call x r))
+    (now : Ongoing) (x : X) (acts : List Act) (r : R) → Stays now → Shape x acts r → goes_on x r ≡ true
+    → (waits (call x r) ≡ false) × IsRun l (call x r) acts × MayCome now (call x r) × Stays (after_call now (call x r))
 
 runs_calls : {X R : Type 0} (l : Limits) (Shape : X → List Act → R → Type 0) (goes_on : X → R → Bool) (Stays : Ongoing → Type 0) (call : X → R → Made) → MayRepeat l Shape goes_on Stays call
     → (runs : List (Run X R)) → All (λ run. Shape run.given run.acts run.answer) runs → All (λ run. goes_on run.given run.answer ≡ true) runs
@@ -76,7 +80,7 @@ runs_calls : {X R : Type 0} (l : Limits) (Shape : X → List Act → R → Type 
 runs_calls l Shape goes_on Stays call repeats [] made goes now here = no_calls l now Stays here
 runs_calls l Shape goes_on Stays call repeats (run ∷ later) made goes now here =
     let its = repeats now run.given run.acts run.answer here (All-head (λ r. Shape r.given r.acts r.answer) run later made) (All-head (λ r. goes_on r.given r.answer ≡ true) run later goes) in
-    then_calls l now run.acts (acts_of later) Stays Stays (one_call l now run.acts Stays (call run.given run.answer) its.0 its.1 its.2)
+    then_calls l now run.acts (acts_of later) Stays Stays (one_call l now run.acts Stays (call run.given run.answer) its.0 its.1 its.2 its.3)
     (λ now' here'. runs_calls l Shape goes_on Stays call repeats later (All-tail (λ r. Shape r.given r.acts r.answer) run later made) (All-tail (λ r. goes_on r.given r.answer ≡ true) run later goes) now' here')
 
 tries_calls : {X R : Type 0} (l : Limits) (Shape : X → List Act → R → Type 0) (goes_on : X → R → Bool) (Stays : Ongoing → Type 0) (call : X → R → Made) → MayRepeat l Shape goes_on Stays call
@@ -94,69 +98,70 @@ repeats_calls l Shape goes_on Stays Over call repeats acts answer done' last now
     (then_calls l now done'.before done'.last.acts Stays Over (tries_calls l Shape goes_on Stays call repeats done'.before done'.tries now here)
     (λ now' here'. last now' done'.last.given done'.last.acts here' (subst (Shape done'.last.given done'.last.acts) done'.answers done'.made)))
 
--- ---- calls that may come at any time
+-- ---- calls that leave what is in progress
 
-abbrev Always' : Ongoing → Type 0
-Always' now = Unit {0}
+abbrev IsMadeOfCalls : {R : Type 0} → Limits → (List Act → R → Type 0) → (Ongoing → R → Ongoing) → Type 0
+IsMadeOfCalls {R} l Shape leaves = (now : Ongoing) (acts : List Act) (answer : R) → Shape acts answer → AreCallsFrom l now acts (leaves now answer)
 
-set_blocking-calls : (l : Limits) (c : ChanNo) (on : Bool) → IsMadeOfCalls l (Retries (Completes (try_set_blocking_plan l c on)) finds_held)
-set_blocking-calls l c on now acts answer waits =
-    calls_from l now acts Always' (repeats_calls l (λ (_ : Unit {0}). Completes (try_set_blocking_plan l c on)) (λ _. finds_held) Always' Always' (λ _ r. try_set_blocking c on r)
-    (λ now' _ xs r _ run _. (run, tt, tt)) acts answer waits (λ now' _ xs _ run. one_call l now' xs Always' (try_set_blocking c on answer) run tt tt) now tt)
+set_blocking-calls : (l : Limits) (c : ChanNo) (on : Bool) → IsMadeOfCalls l (Retries (Completes (try_set_blocking_plan l c on)) finds_held) (λ now _. now)
+set_blocking-calls l c on now acts answer retries =
+    calls_from l now acts now (repeats_calls l (λ (_ : Unit {0}). Completes (try_set_blocking_plan l c on)) (λ _. finds_held) (Now now) (Now now) (λ _ r. try_set_blocking c on r)
+    (λ now' _ xs r here run _. (refl, run, tt, here)) acts answer retries (λ now' _ xs here run. one_call l now' xs (Now now) (try_set_blocking c on answer) refl run tt here) now refl)
 
-register-calls : (l : Limits) (s : SelNo) (c : ChanNo) (ops att : ℕ) → IsMadeOfCalls l (Retries (Completes (try_register_plan l s c ops att)) finds_held)
-register-calls l s c ops att now acts answer waits =
-    calls_from l now acts Always' (repeats_calls l (λ (_ : Unit {0}). Completes (try_register_plan l s c ops att)) (λ _. finds_held) Always' Always' (λ _ r. try_register s c ops att r)
-    (λ now' _ xs r _ run _. (run, tt, tt)) acts answer waits (λ now' _ xs _ run. one_call l now' xs Always' (try_register s c ops att answer) run tt tt) now tt)
+register-calls : (l : Limits) (s : SelNo) (c : ChanNo) (ops att : ℕ) → IsMadeOfCalls l (Retries (Completes (try_register_plan l s c ops att)) finds_held) (λ now _. now)
+register-calls l s c ops att now acts answer retries =
+    calls_from l now acts now (repeats_calls l (λ (_ : Unit {0}). Completes (try_register_plan l s c ops att)) (λ _. finds_held) (Now now) (Now now) (λ _ r. try_register s c ops att r)
+    (λ now' _ xs r here run _. (refl, run, tt, here)) acts answer retries (λ now' _ xs here run. one_call l now' xs (Now now) (try_register s c ops att answer) refl run tt here) now refl)
 
-read-calls : (l : Limits) (source : ChanNo) (none : Bool) → IsMadeOfCalls l (Waits (try_read_plan l source) none)
-read-calls l source none now acts answer waits =
-    calls_from l now acts Always' (repeats_calls l (λ (_ : Bool). Completes (try_read_plan l source)) waits_for_bytes Always' Always' (λ _ r. try_read source r)
-    (λ now' _ xs r _ run _. (run, tt, tt)) acts waits.found waits.runs (λ now' _ xs _ run. one_call l now' xs Always' (try_read source waits.found) run tt tt) now tt)
+read-calls : (l : Limits) (source : ChanNo) (none : Bool) → IsMadeOfCalls l (Waits (try_read_plan l source) none) (λ now _. now)
+read-calls l source none now acts answer reads =
+    calls_from l now acts now (repeats_calls l (λ (_ : Bool). Completes (try_read_plan l source)) waits_for_bytes (Now now) (Now now) (λ _ r. try_read source r)
+    (λ now' _ xs r here run _. (refl, run, tt, here)) acts reads.found reads.runs (λ now' _ xs here run. one_call l now' xs (Now now) (try_read source reads.found) refl run tt here) now refl)
 
-write-calls : (l : Limits) (source sink : ChanNo) (none : Bool) → IsMadeOfCalls l (Waits (try_write_plan l source sink) none)
-write-calls l source sink none now acts answer waits =
-    calls_from l now acts Always' (repeats_calls l (λ (_ : Bool). Completes (try_write_plan l source sink)) waits_for_bytes Always' Always' (λ _ r. try_write source sink r)
-    (λ now' _ xs r _ run _. (run, tt, tt)) acts waits.found waits.runs (λ now' _ xs _ run. one_call l now' xs Always' (try_write source sink waits.found) run tt tt) now tt)
+write-calls : (l : Limits) (source sink : ChanNo) (none : Bool) → IsMadeOfCalls l (Waits (try_write_plan l source sink) none) (λ now _. now)
+write-calls l source sink none now acts answer writes =
+    calls_from l now acts now (repeats_calls l (λ (_ : Bool). Completes (try_write_plan l source sink)) waits_for_bytes (Now now) (Now now) (λ _ r. try_write source sink r)
+    (λ now' _ xs r here run _. (refl, run, tt, here)) acts writes.found writes.runs (λ now' _ xs here run. one_call l now' xs (Now now) (try_write source sink writes.found) refl run tt here) now refl)
 
 -- ---- closing a selector
-
-abbrev IsClosed : SelNo → Ongoing → Type 0
-IsClosed s now = now.closes s.0 ≡ true
 
 put-there : {A : Type 0} (f : ℕ → A) (i : ℕ) (x : A) → put f i x i ≡ x
 put-there f i x = ap (λ b. if b then x else f i) (eq-eqb i i refl)
 
-close-calls : (l : Limits) (s : SelNo) → IsMadeOfCalls l (Then (Completes (shut_plan s)) (ClosesRest s))
-close-calls l s now acts answer both = subst (AreCallsFrom l now) (sym both.parts) (by_reply both.middle both.runs_first both.runs_second)
+put-twice : {A : Type 0} (f : ℕ → A) (i : ℕ) (x y : A) → put (put f i x) i y ≡ put f i y
+put-twice f i x y = λ j n. once n (n == i) j
   where
-    by_reply : (middle : ShutReply) → Completes (shut_plan s) both.first middle → ClosesRest s middle both.second answer → AreCallsFrom l now (both.first ++ both.second)
+    once : (n : ℕ) (b : Bool) → (if b then y else (if b then x else f n)) ≡ (if b then y else f n)
+    once n true = refl
+    once n false = refl
+
+close-calls : (l : Limits) (s : SelNo) → IsMadeOfCalls l (Then (Completes (shut_plan s)) (ClosesRest s)) (λ now answer. after_call now (close s answer))
+close-calls l s now acts answer both = subst (λ xs. AreCallsFrom l now xs (after_call now (close s answer))) (sym both.parts) (by_reply both.middle both.runs_first both.runs_second)
+  where
+    by_reply : (middle : ShutReply) → Completes (shut_plan s) both.first middle → ClosesRest s middle both.second answer → AreCallsFrom l now (both.first ++ both.second) (after_call now (close s answer))
     by_reply closing first second =
-        calls_from l now (both.first ++ both.second) Always'
-        (then_calls l now both.first both.second (IsClosed s) Always' (one_call l now both.first (IsClosed s) (shut s closing) first tt (put-there now.closes s.0 true))
-        (λ now' here. repeats_calls l (λ (_ : Unit {0}). Completes (try_finish_plan s)) (λ _. finish_finds_busy) (IsClosed s) Always' (λ _ r. try_finish s r)
-        (λ now'' _ xs r here' run busy'. (run, here', still now'' r here' busy')) both.second closed second.1
-        (λ now'' _ xs here' run. one_call l now'' xs Always' (try_finish s closed) run here' tt) now' here))
+        calls_from l now (both.first ++ both.second) (after_call now (close s answer))
+        (subst (λ b. CallsTo l now (both.first ++ both.second) (Now (after_call now (close s b)))) (sym second.0)
+        (then_calls l now both.first both.second (Now shut_now) (Now (closes_on now s false)) (one_call l now both.first (Now shut_now) (shut s closing) refl first tt refl)
+        (λ now' here. repeats_calls l (λ (_ : Unit {0}). Completes (try_finish_plan s)) (λ _. finish_finds_busy) (Now shut_now) (Now (closes_on now s false)) (λ _ r. try_finish s r)
+        (λ now'' _ xs r here' run goes. (refl, run, may now'' here', still now'' r here' goes)) both.second closed second.1
+        (λ now'' _ xs here' run. one_call l now'' xs (Now (closes_on now s false)) (try_finish s closed) refl run (may now'' here')
+        (ap (λ n. closes_on n s false) here' ∙ ap (λ f. record now { closes = f }) (put-twice now.closes s.0 true false))) now' here)))
       where
-        still : (now'' : Ongoing) (r : FinishReply) → now''.closes s.0 ≡ true → finish_finds_busy r ≡ true → (after_call now'' (try_finish s r)).closes s.0 ≡ true
+        shut_now : Ongoing
+        shut_now = closes_on now s true
+
+        may : (now'' : Ongoing) → now'' ≡ shut_now → now''.closes s.0 ≡ true
+        may now'' here' = ap (λ n. n.closes s.0) here' ∙ put-there now.closes s.0 true
+
+        still : (now'' : Ongoing) (r : FinishReply) → now'' ≡ shut_now → finish_finds_busy r ≡ true → after_call now'' (try_finish s r) ≡ shut_now
         still now'' busy here' is = here'
         still now'' closed here' is = absurd (cc is)
     by_reply already_closed first second =
-        calls_from l now (both.first ++ both.second) Always'
-        (then_calls l now both.first both.second Always' Always' (one_call l now both.first Always' (shut s already_closed) first tt tt)
-        (λ now' _. subst (λ xs. CallsTo l now' xs Always') (sym second.1) (no_calls l now' Always' tt)))
-
-pub no_key_after_close : NoKeyAfterClose
-no_key_after_close l n s before after own acts fit goes_on legal orderly did both = by_reply both.middle both.runs_second
-  where
-    by_reply : (middle : ShutReply) → ClosesRest s middle both.second true → (i : ℕ) → is_valid ((state_after after).key s.0 i) ≡ false
-    by_reply already_closed second = absurd (cc second.0)
-    by_reply closing second =
-        let last = second.1.last in
-        let parts = did ∙ (ap (λ xs. own ++ xs) both.parts ∙ (ap (λ xs. own ++ (both.first ++ xs)) second.1.parts
-            ∙ (ap (λ xs. own ++ xs) (sym (append_assoc both.first second.1.before last.acts)) ∙ sym (append_assoc own (both.first ++ second.1.before) last.acts)))) in
-        no_key_after_finish l n s before after (own ++ (both.first ++ second.1.before)) last.acts fit goes_on legal orderly parts
-        (subst (Completes (try_finish_plan s) last.acts) second.1.answers second.1.made)
+        calls_from l now (both.first ++ both.second) (after_call now (close s answer))
+        (subst (λ b. CallsTo l now (both.first ++ both.second) (Now (after_call now (close s b)))) (sym second.0)
+        (then_calls l now both.first both.second (Now now) (Now now) (one_call l now both.first (Now now) (shut s already_closed) refl first tt refl)
+        (λ now' here. subst (λ xs. CallsTo l now' xs (Now now)) (sym second.1) (no_calls l now' (Now now) here))))
 
 -- ---- selecting
 
@@ -181,61 +186,99 @@ told-goes_on selection pairs elapsed =
     always_if (λ _ r. GoesOn selection r) (is_again selection.mode count gate is_interrupted elapsed) (reply (again selection)) (end_selection selection answer) (λ _. refl)
     (λ _. ends-over selection answer))
 
-abbrev IsSelecting : Selection → Ongoing → Type 0
-IsSelecting selection now = now.selection selection.selector.0 ≡ Some selection
+-- the caller has this selection in progress, and else what it had before
+abbrev Selecting : Ongoing → Selection → Ongoing → Type 0
+Selecting now selection = Now (selecting now selection.selector (Some selection))
 
-told-repeats : (l : Limits) (selection : Selection) → MayRepeat l (Tells selection) goes_on_after (IsSelecting selection) (λ poll r. told selection poll r)
-told-repeats l selection now poll acts (done answer) here run goes = absurd (cc goes)
-told-repeats l selection now poll acts (again next) here run goes =
+may_tell : (now : Ongoing) (selection : Selection) (now' : Ongoing) → Selecting now selection now' → now'.selection selection.selector.0 ≡ Some selection
+may_tell now selection now' here = ap (λ n. n.selection selection.selector.0) here ∙ put-there now.selection selection.selector.0 (Some selection)
+
+then_selecting : (now : Ongoing) (selection : Selection) (now' : Ongoing) (x : Option Selection) → Selecting now selection now' → selecting now' selection.selector x ≡ selecting now selection.selector x
+then_selecting now selection now' x here =
+    ap (λ n. selecting n selection.selector x) here ∙ ap (λ f. record now { selection = f }) (put-twice now.selection selection.selector.0 (Some selection) x)
+
+told-repeats : (l : Limits) (now : Ongoing) (selection : Selection) → MayRepeat l (Tells selection) goes_on_after (Selecting now selection) (λ poll r. told selection poll r)
+told-repeats l now selection now' poll acts (done answer) here run goes = absurd (cc goes)
+told-repeats l now selection now' poll acts (again next) here run goes =
     let same : next ≡ selection = always_run (λ _ r. GoesOn selection r) (told_plan selection poll.pairs poll.elapsed) acts (again next) (told-goes_on selection poll.pairs poll.elapsed) run in
-    (run, here, put-there now.selection selection.selector.0 (Some next) ∙ ap Some same)
+    (refl, run, may_tell now selection now' here, ap (λ (x : Selection). selecting now' selection.selector (Some x)) same ∙ then_selecting now selection now' (Some selection) here)
 
-selection-calls : (l : Limits) (polls : List Poll) (selection : Selection) (acts : List Act) (answer : SelectReply) → SelectsRest polls (Ok selection) acts answer
-    → (now : Ongoing) → IsSelecting selection now → CallsTo l now acts Always'
-selection-calls l polls selection acts (selected answer) rest now here =
-    repeats_calls l (Tells selection) goes_on_after (IsSelecting selection) Always' (λ poll r. told selection poll r) (told-repeats l selection) acts (done answer) rest.tells
-    (λ now' poll xs here' run. one_call l now' xs Always' (told selection poll (done answer)) run here' tt) now here
-selection-calls l polls selection acts (not_begun refusal) rest now here = absurd rest
-selection-calls l polls selection acts left rest now here =
-    subst (λ xs. CallsTo l now xs Always') (sym rest.parts)
-    (then_calls l now rest.told rest.leaves (IsSelecting selection) Always'
-    (tries_calls l (Tells selection) goes_on_after (IsSelecting selection) (λ poll r. told selection poll r) (told-repeats l selection) rest.told rest.tells now here)
-    (λ now' here'. one_call l now' rest.leaves Always' (leave selection) rest.left here' tt))
+selection-calls : (l : Limits) (now : Ongoing) (polls : List Poll) (selection : Selection) (acts : List Act) (answer : SelectReply) → SelectsRest polls (Ok selection) acts answer
+    → (mode : Mode) (now' : Ongoing) → Selecting now selection now' → CallsTo l now' acts (Now (after_call now (select selection.selector mode polls answer)))
+selection-calls l now polls selection acts (selected answer) rest mode now' here =
+    repeats_calls l (Tells selection) goes_on_after (Selecting now selection) (Now (selecting now selection.selector None)) (λ poll r. told selection poll r) (told-repeats l now selection) acts (done answer) rest.tells
+    (λ now'' poll xs here' run. one_call l now'' xs (Now (selecting now selection.selector None)) (told selection poll (done answer)) refl run (may_tell now selection now'' here')
+    (then_selecting now selection now'' None here')) now' here
+selection-calls l now polls selection acts (not_begun refusal) rest mode now' here = absurd rest
+selection-calls l now polls selection acts left rest mode now' here =
+    subst (λ xs. CallsTo l now' xs (Now (selecting now selection.selector None))) (sym rest.parts)
+    (then_calls l now' rest.told rest.leaves (Selecting now selection) (Now (selecting now selection.selector None))
+    (tries_calls l (Tells selection) goes_on_after (Selecting now selection) (λ poll r. told selection poll r) (told-repeats l now selection) rest.told rest.tells now' here)
+    (λ now'' here'. one_call l now'' rest.leaves (Now (selecting now selection.selector None)) (leave selection) refl rest.left (may_tell now selection now'' here') (then_selecting now selection now'' None here')))
 
 -- what is in progress after a beginning
-abbrev AfterBegin : Result Selection BeginError → Ongoing → Type 0
-AfterBegin (Ok selection) now = IsSelecting selection now
-AfterBegin (Err refusal) now = Unit {0}
+abbrev AfterBegin : Ongoing → SelNo → Result Selection BeginError → Ongoing → Type 0
+AfterBegin now s (Ok selection) now' = (selection.selector ≡ s) × Selecting now selection now'
+AfterBegin now s (Err refusal) now' = now' ≡ now
 
-begins-calls : (l : Limits) (s : SelNo) (mode : Mode) (answer : Result Selection BeginError) (acts : List Act) → Begins s mode acts answer → (now : Ongoing) → CallsTo l now acts (AfterBegin answer)
-begins-calls l s mode (Ok selection) acts begins now =
-    one_call l now acts (IsSelecting selection) (try_begin s mode (Ok selection)) begins tt
-    (subst (λ (t : SelNo). put now.selection s.0 (Some selection) t.0 ≡ Some selection) (sym (begin-parts s mode acts selection begins).selector) (put-there now.selection s.0 (Some selection)))
-begins-calls l s mode (Err refusal) acts begins now = one_call l now acts (λ _. Unit {0}) (try_begin s mode (Err refusal)) begins tt tt
+begins-calls : (l : Limits) (s : SelNo) (mode : Mode) (now : Ongoing) (answer : Result Selection BeginError) (acts : List Act) → Begins s mode acts answer → (now' : Ongoing) → now' ≡ now
+    → CallsTo l now' acts (AfterBegin now s answer)
+begins-calls l s mode now (Ok selection) acts begins now' here =
+    let same : selection.selector ≡ s = (begin-parts s mode acts selection begins).selector in
+    one_call l now' acts (AfterBegin now s (Ok selection)) (try_begin s mode (Ok selection)) refl begins tt
+    (same, ap (λ n. selecting n s (Some selection)) here ∙ ap (λ (t : SelNo). selecting now t (Some selection)) (sym same))
+begins-calls l s mode now (Err refusal) acts begins now' here = one_call l now' acts (AfterBegin now s (Err refusal)) (try_begin s mode (Err refusal)) refl begins tt here
 
-begins-repeat : (l : Limits) (s : SelNo) (mode : Mode) → MayRepeat l (λ (_ : Unit {0}). Begins s mode) (λ _. begin_finds_busy) Always' (λ _ r. try_begin s mode r)
-begins-repeat l s mode now _ acts (Ok selection) _ run goes = absurd (cc goes)
-begins-repeat l s mode now _ acts (Err refusal) _ run goes = (run, tt, tt)
+begins-repeat : (l : Limits) (s : SelNo) (mode : Mode) (now : Ongoing) → MayRepeat l (λ (_ : Unit {0}). Begins s mode) (λ _. begin_finds_busy) (Now now) (λ _ r. try_begin s mode r)
+begins-repeat l s mode now now' _ acts (Ok selection) here run goes = absurd (cc goes)
+begins-repeat l s mode now now' _ acts (Err refusal) here run goes = (refl, run, tt, here)
 
-select-calls : (l : Limits) (s : SelNo) (mode : Mode) (polls : List Poll) → IsMadeOfCalls l (Then (Retries (Begins s mode) begin_finds_busy) (SelectsRest polls))
+select-calls : (l : Limits) (s : SelNo) (mode : Mode) (polls : List Poll)
+    → IsMadeOfCalls l (Then (Retries (Begins s mode) begin_finds_busy) (SelectsRest polls)) (λ now answer. after_call now (select s mode polls answer))
 select-calls l s mode polls now acts answer both =
-    subst (AreCallsFrom l now) (sym both.parts)
-    (calls_from l now (both.first ++ both.second) Always'
-    (then_calls l now both.first both.second (AfterBegin both.middle) Always'
-    (repeats_calls l (λ (_ : Unit {0}). Begins s mode) (λ _. begin_finds_busy) Always' (AfterBegin both.middle) (λ _ r. try_begin s mode r) (begins-repeat l s mode) both.first both.middle both.runs_first
-    (λ now' _ xs _ begins. begins-calls l s mode both.middle xs begins now') now tt)
+    subst (λ xs. AreCallsFrom l now xs (after_call now (select s mode polls answer))) (sym both.parts)
+    (calls_from l now (both.first ++ both.second) (after_call now (select s mode polls answer))
+    (then_calls l now both.first both.second (AfterBegin now s both.middle) (Now (after_call now (select s mode polls answer)))
+    (repeats_calls l (λ (_ : Unit {0}). Begins s mode) (λ _. begin_finds_busy) (Now now) (AfterBegin now s both.middle) (λ _ r. try_begin s mode r) (begins-repeat l s mode now) both.first both.middle both.runs_first
+    (λ now' _ xs here begins. begins-calls l s mode now both.middle xs begins now' here) now refl)
     (by_beginning both.middle both.runs_second)))
   where
-    by_beginning : (middle : Result Selection BeginError) → SelectsRest polls middle both.second answer → (now' : Ongoing) → AfterBegin middle now' → CallsTo l now' both.second Always'
-    by_beginning (Ok selection) rest now' here = selection-calls l polls selection both.second answer rest now' here
-    by_beginning (Err refusal) rest now' here = subst (λ xs. CallsTo l now' xs Always') (sym rest.0) (no_calls l now' Always' tt)
+    by_beginning : (middle : Result Selection BeginError) → SelectsRest polls middle both.second answer → (now' : Ongoing) → AfterBegin now s middle now'
+        → CallsTo l now' both.second (Now (after_call now (select s mode polls answer)))
+    by_beginning (Ok selection) rest now' here =
+        subst (λ (t : SelNo). CallsTo l now' both.second (Now (after_call now (select t mode polls answer)))) here.0 (selection-calls l now polls selection both.second answer rest mode now' here.1)
+    by_beginning (Err refusal) rest now' here =
+        subst (λ (r : SelectReply). CallsTo l now' both.second (Now (after_call now (select s mode polls r)))) (sym rest.2)
+        (subst (λ xs. CallsTo l now' xs (Now now)) (sym rest.0) (no_calls l now' (Now now) here))
 
 pub waiting_calls_are_calls : WaitingCallsAreCalls
-waiting_calls_are_calls = record {
-  set_blocking = set_blocking-calls;
-  register = register-calls;
-  select = select-calls;
-  close = close-calls;
-  read = read-calls;
-  write = write-calls;
-}
+waiting_calls_are_calls l (set_blocking c on answer) acts now is run = set_blocking-calls l c on now acts answer run
+waiting_calls_are_calls l (register s c ops att answer) acts now is run = register-calls l s c ops att now acts answer run
+waiting_calls_are_calls l (select s mode polls answer) acts now is run = select-calls l s mode polls now acts answer run
+waiting_calls_are_calls l (close s answer) acts now is run = close-calls l s now acts answer run
+waiting_calls_are_calls l (read source none answer) acts now is run = read-calls l source none now acts answer run
+waiting_calls_are_calls l (write source sink none answer) acts now is run = write-calls l source sink none now acts answer run
+waiting_calls_are_calls l _ acts now is run = absurd (cc is)
+
+-- ---- lists of calls
+
+call_unwaiting : (l : Limits) (call : Made) (acts : List Act) (now : Ongoing) → IsRun l call acts → MayCome now call → CallsTo l now acts (Now (after_call now call))
+call_unwaiting l call acts now run may = by_test (waits call) refl
+  where
+    by_test : (b : Bool) → waits call ≡ b → CallsTo l now acts (Now (after_call now call))
+    by_test true is =
+        let its = waiting_calls_are_calls l call acts now is run in
+        record { calls = its.calls; unwaiting = its.unwaiting; runs = its.runs; in_order = its.in_order; after = its.leaves }
+    by_test false is = one_call l now acts (Now (after_call now call)) call is run may refl
+
+calls_unwaiting : (l : Limits) (calls : List Made) (acts : List Act) (now now' : Ongoing) → now' ≡ now → AreRuns l calls acts → AreInOrder now calls → CallsTo l now' acts (Now (after_calls now calls))
+calls_unwaiting l [] acts now now' here none order = subst (λ xs. CallsTo l now' xs (Now now)) (sym none) (no_calls l now' (Now now) here)
+calls_unwaiting l (call ∷ calls) acts now now' here runs order =
+    subst (λ xs. CallsTo l now' xs (Now (after_calls (after_call now call) calls))) (sym runs.parts)
+    (subst (λ n. CallsTo l n (runs.first ++ runs.second) (Now (after_calls (after_call now call) calls))) (sym here)
+    (then_calls l now runs.first runs.second (Now (after_call now call)) (Now (after_calls (after_call now call) calls)) (call_unwaiting l call runs.first now runs.is_first order.0)
+    (λ now'' here'. calls_unwaiting l calls runs.second (after_call now call) now'' here' runs.is_second order.1)))
+
+pub calls_without_waiting : CallsWithoutWaiting
+calls_without_waiting l acts calls are =
+    calls_from l nothing_ongoing acts (after_calls nothing_ongoing calls) (calls_unwaiting l calls acts nothing_ongoing nothing_ongoing refl are.runs are.in_order)

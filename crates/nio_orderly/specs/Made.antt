@@ -1,10 +1,6 @@
 -- The calls that callers make, each with its reply; what a caller does in a call, and which call may come
 -- after others.
---
--- A call that waits makes others of these again and again: setting a mode and registering
--- (`SetsBlocking`, `Registers`), selecting (`Selects`), closing a selector (`Closes`), reading and writing
--- (`Reads`, `Writes`). What a caller does in it is what it does in a list of these calls.
-use Rattle.std.specs.Prelude.{◌≡◌, ℕ, Bool, true, false, IsTrue, Option, Some, None, Result, Ok, Err, List, [], ◌∷◌, ◌++◌, ⊤}
+use Rattle.std.specs.Prelude.{◌≡◌, ℕ, Bool, true, false, IsTrue, Option, Some, None, Result, Ok, Err, List, [], ◌∷◌, ⊤}
 use Rattle.nio_base.specs.declared.kind.Kind.{Kind}
 use Rattle.nio_base.specs.declared.limits.Limits.{Limits}
 use Rattle.nio_base.specs.declared.numbers.CallerNo.{CallerNo}
@@ -15,11 +11,11 @@ use Rattle.nio_event.specs.State.{put}
 use Rattle.nio_event.specs.declared.act.Act.{Act}
 use Rattle.nio_event.specs.declared.act.Act.TheVariants.{DrawBit}
 use Rattle.nio_event.specs.declared.found.Mode.{Mode}
-use Rattle.nio_steps.specs.ChannelCalls.{open_channel_plan, is_open_plan, is_blocking_plan, is_registered_plan, key_for_plan, try_set_blocking_plan, try_register_plan, close_channel_plan}
+use Rattle.nio_steps.specs.ChannelCalls.{open_channel_plan, is_open_plan, is_blocking_plan, is_registered_plan, key_for_plan, try_set_blocking_plan, try_register_plan, close_channel_plan, SetsBlocking, Registers}
 use Rattle.nio_steps.specs.KeyCalls.{find_selector_plan, find_channel_plan, find_plan, is_valid_plan, interest_plan, set_interest_plan, interest_or_plan, interest_and_plan, ready_plan, cancel_plan, unselect_plan, attach_plan, attachment_plan}
-use Rattle.nio_steps.specs.PipeCalls.{PipeEnds, MakesPipe, try_read_plan, try_write_plan}
+use Rattle.nio_steps.specs.PipeCalls.{PipeEnds, MakesPipe, try_read_plan, try_write_plan, Reads, Writes}
 use Rattle.nio_steps.specs.Runs.{Completes}
-use Rattle.nio_steps.specs.SelectCalls.{Selection, Begins, Poll, Tells, ToldReply, done, again, ShutReply, closing, already_closed, FinishReply, closed, busy, ListsKeys, ListsSelected, open_selector_plan, leave_plan, shut_plan, try_finish_plan, wakeup_plan, interrupt_plan, interrupted_plan}
+use Rattle.nio_steps.specs.SelectCalls.{Selection, Begins, Poll, Tells, ToldReply, done, again, ShutReply, closing, already_closed, FinishReply, closed, busy, ListsKeys, ListsSelected, open_selector_plan, leave_plan, shut_plan, try_finish_plan, wakeup_plan, interrupt_plan, interrupted_plan, SelectReply, selected, not_begun, left, Selects, Closes}
 use Rattle.nio_steps.specs.declared.refusal.BeginError.{BeginError}
 use Rattle.nio_steps.specs.declared.refusal.ChannelError.{ChannelError}
 use Rattle.nio_steps.specs.declared.refusal.KeyError.{KeyError}
@@ -67,8 +63,17 @@ pub data Made : Type 0 where
   interrupt : CallerNo → Made
   interrupted : Bool → Made
   pipe : Result PipeEnds PipeMakeError → Made
+  -- reading and writing: a refusal, or the mode that was found
   try_read : ChanNo → Result Bool PipeError → Made
   try_write : ChanNo → ChanNo → Result Bool PipeError → Made
+  -- the calls that wait. A selection is given what the poller answered; a call that reads or writes, whether there
+  -- were no bytes, or no room, at last
+  set_blocking : ChanNo → Bool → Result (Unit {0}) ChannelError → Made
+  register : SelNo → ChanNo → ℕ → ℕ → Result KeyNo ChannelError → Made
+  select : SelNo → Mode → List Poll → SelectReply → Made
+  close : SelNo → Bool → Made
+  read : ChanNo → Bool → Result Bool PipeError → Made
+  write : ChanNo → ChanNo → Bool → Result Bool PipeError → Made
 
 -- ---- what a caller does in a call
 
@@ -110,6 +115,12 @@ IsRun l (interrupted answer) acts = Completes interrupted_plan acts answer
 IsRun l (pipe answer) acts = MakesPipe l acts answer
 IsRun l (try_read source answer) acts = Completes (try_read_plan l source) acts answer
 IsRun l (try_write source sink answer) acts = Completes (try_write_plan l source sink) acts answer
+IsRun l (set_blocking c on answer) acts = SetsBlocking l c on acts answer
+IsRun l (register s c ops att answer) acts = Registers l s c ops att acts answer
+IsRun l (select s mode polls answer) acts = Selects s mode polls acts answer
+IsRun l (close s answer) acts = Closes s acts answer
+IsRun l (read source none answer) acts = Reads l source none acts answer
+IsRun l (write source sink none answer) acts = Writes l source sink none acts answer
 
 -- ---- what a caller has in progress
 
@@ -171,6 +182,15 @@ after_call now (interrupted answer) = now
 after_call now (pipe answer) = now
 after_call now (try_read source answer) = now
 after_call now (try_write source sink answer) = now
+after_call now (set_blocking c on answer) = now
+after_call now (register s c ops att answer) = now
+after_call now (select s mode polls (selected answer)) = selecting now s None
+after_call now (select s mode polls (not_begun refusal)) = now
+after_call now (select s mode polls left) = selecting now s None
+after_call now (close s true) = closes_on now s false
+after_call now (close s false) = now
+after_call now (read source none answer) = now
+after_call now (write source sink none answer) = now
 
 -- The call may come next: `told` and `leave` belong to the caller's selection in progress on that selector, and
 -- `try_finish` to its closing in progress.
@@ -211,6 +231,12 @@ MayCome now (interrupted answer) = ⊤
 MayCome now (pipe answer) = ⊤
 MayCome now (try_read source answer) = ⊤
 MayCome now (try_write source sink answer) = ⊤
+MayCome now (set_blocking c on answer) = ⊤
+MayCome now (register s c ops att answer) = ⊤
+MayCome now (select s mode polls answer) = ⊤
+MayCome now (close s answer) = ⊤
+MayCome now (read source none answer) = ⊤
+MayCome now (write source sink none answer) = ⊤
 
 -- each call of the list may come after those before it
 abbrev pub AreInOrder : Ongoing → List Made → Type 0

@@ -13,7 +13,7 @@ use Rattle.nio_event.specs.declared.act.Act.{Act}
 use Rattle.nio_event.specs.declared.event.Event.{Event}
 use Rattle.nio_orderly.specs.AfterClosing.{HasClosedChannel, HasClosedSelector}
 use Rattle.nio_orderly.specs.Careful.{IsCareful}
-use Rattle.nio_orderly.specs.Made.{IsRun, close_channel, try_finish}
+use Rattle.nio_orderly.specs.Made.{IsRun, close_channel, try_finish, close}
 use Rattle.nio_orderly.specs.Orderly.{IsWhole, IsOrderly}
 use Rattle.nio_orderly.specs.Owed.{publishes_key, publisher_duty, OwesSince, key_of, Owed}
 use Rattle.nio_orderly.specs.Settled.{IsSettled, HasNoLostKey}
@@ -72,4 +72,11 @@ abbrev pub NoKeyAfterFinish : Type 0
 NoKeyAfterFinish =
     (l : Limits) (n : CallerNo) (s : SelNo) (before after : List Event) (own acts : List Act) → IsFit l → IsPrefix before after → IsLegal l after → IsOrderly l after
     → mine n before ≡ own ++ acts → IsRun l (try_finish s closed) acts
+    → (i : ℕ) → IsFalse (is_valid ((state_after after).key s.0 i))
+
+-- so it is after a `close` that answers true
+abbrev pub NoKeyAfterClose : Type 0
+NoKeyAfterClose =
+    (l : Limits) (n : CallerNo) (s : SelNo) (before after : List Event) (own acts : List Act) → IsFit l → IsPrefix before after → IsLegal l after → IsOrderly l after
+    → mine n before ≡ own ++ acts → IsRun l (close s true) acts
     → (i : ℕ) → IsFalse (is_valid ((state_after after).key s.0 i))

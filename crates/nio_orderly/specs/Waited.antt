@@ -1,47 +1,71 @@
--- A call that waits is a list of whole calls.
-use Rattle.std.specs.Prelude.{◌≡◌, ℕ, Bool, true, IsFalse, Result, List, ◌++◌}
-use mathlib.Core.List.{IsPrefix}
-use Rattle.nio_base.specs.Limits.{IsFit}
+-- A call that waits is a list of whole calls that don't.
+use Rattle.std.specs.Prelude.{◌≡◌, Bool, true, false, IsTrue, IsFalse, List}
+use Rattle.std.specs.List.{All}
 use Rattle.nio_base.specs.declared.limits.Limits.{Limits}
-use Rattle.nio_base.specs.declared.numbers.CallerNo.{CallerNo}
-use Rattle.nio_base.specs.declared.numbers.ChanNo.{ChanNo}
-use Rattle.nio_base.specs.declared.numbers.KeyNo.{KeyNo}
-use Rattle.nio_base.specs.declared.numbers.SelNo.{SelNo}
-use Rattle.nio_event.specs.Histories.{state_after, mine, IsLegal}
-use Rattle.nio_event.specs.Sets.{is_valid}
 use Rattle.nio_event.specs.declared.act.Act.{Act}
-use Rattle.nio_event.specs.declared.event.Event.{Event}
-use Rattle.nio_event.specs.declared.found.Mode.{Mode}
-use Rattle.nio_orderly.specs.Made.{Made, Ongoing, AreInOrder}
-use Rattle.nio_orderly.specs.Orderly.{AreRuns, IsOrderly}
-use Rattle.nio_steps.specs.ChannelCalls.{SetsBlocking, Registers}
-use Rattle.nio_steps.specs.PipeCalls.{Reads, Writes}
-use Rattle.nio_steps.specs.SelectCalls.{Poll, SelectReply, Selects, Closes}
-use Rattle.nio_steps.specs.declared.refusal.ChannelError.{ChannelError}
-use Rattle.nio_steps.specs.declared.refusal.PipeError.{PipeError}
+use Rattle.nio_orderly.specs.Made.{Made, IsRun, Ongoing, nothing_ongoing, after_call, after_calls, AreInOrder, draw, find_selector, find_channel, find, is_valid, interest, set_interest, interest_or, interest_and, ready, cancel, unselect, attach, attachment, open_channel, is_open, is_blocking, is_registered, key_for, try_set_blocking, try_register, close_channel, open_selector, try_begin, told, leave, shut, try_finish, keys, selected_keys, wakeup, interrupt, interrupted, pipe, try_read, try_write, set_blocking, register, select, close, read, write}
+use Rattle.nio_orderly.specs.Orderly.{AreRuns, AreCallsOf}
 
--- the acts are those of whole calls that may come one after the other, for a caller that has so much in progress
-pub record AreCallsFrom (l : Limits) (now : Ongoing) (acts : List Act) : Type 0 where
+-- it is a call that waits
+abbrev pub waits : Made → Bool
+waits (draw n) = false
+waits (find_selector n answer) = false
+waits (find_channel n answer) = false
+waits (find s i serial answer) = false
+waits (is_valid k answer) = false
+waits (interest k answer) = false
+waits (set_interest k ops answer) = false
+waits (interest_or k ops answer) = false
+waits (interest_and k ops answer) = false
+waits (ready k answer) = false
+waits (cancel k) = false
+waits (unselect k answer) = false
+waits (attach k att answer) = false
+waits (attachment k answer) = false
+waits (open_channel kind answer) = false
+waits (is_open c answer) = false
+waits (is_blocking c answer) = false
+waits (is_registered c answer) = false
+waits (key_for c s answer) = false
+waits (try_set_blocking c on answer) = false
+waits (try_register s c ops att answer) = false
+waits (close_channel c answer) = false
+waits (open_selector answer) = false
+waits (try_begin s mode answer) = false
+waits (told selection poll answer) = false
+waits (leave selection) = false
+waits (shut s answer) = false
+waits (try_finish s answer) = false
+waits (keys s answer) = false
+waits (selected_keys s answer) = false
+waits (wakeup s) = false
+waits (interrupt n) = false
+waits (interrupted answer) = false
+waits (pipe answer) = false
+waits (try_read source answer) = false
+waits (try_write source sink answer) = false
+waits (set_blocking c on answer) = true
+waits (register s c ops att answer) = true
+waits (select s mode polls answer) = true
+waits (close s answer) = true
+waits (read source none answer) = true
+waits (write source sink none answer) = true
+
+-- The acts are those of whole calls that don't wait and that may come one after the other, for a caller that has so
+-- much in progress, and leave so much in progress.
+pub record AreCallsFrom (l : Limits) (now : Ongoing) (acts : List Act) (after : Ongoing) : Type 0 where
   pub calls : List Made
+  pub unwaiting : All (λ call. IsFalse (waits call)) calls
   pub runs : AreRuns l calls acts
   pub in_order : AreInOrder now calls
+  pub leaves : after_calls now calls ≡ after
 
--- a caller that makes a call of this shape makes whole calls in it, whatever it has in progress before
-abbrev pub IsMadeOfCalls : {R : Type 0} → Limits → (List Act → R → Type 0) → Type 0
-IsMadeOfCalls {R} l Shape = (now : Ongoing) (acts : List Act) (answer : R) → Shape acts answer → AreCallsFrom l now acts
+-- What a caller does in a call that waits is what it does in such calls, whatever it has in progress before.
+abbrev pub WaitingCallsAreCalls : Type 0
+WaitingCallsAreCalls =
+    (l : Limits) (call : Made) (acts : List Act) (now : Ongoing) → IsTrue (waits call) → IsRun l call acts → AreCallsFrom l now acts (after_call now call)
 
-pub record WaitingCallsAreCalls : Type 0 where
-  pub set_blocking : (l : Limits) (c : ChanNo) (on : Bool) → IsMadeOfCalls l (SetsBlocking l c on)
-  pub register : (l : Limits) (s : SelNo) (c : ChanNo) (ops att : ℕ) → IsMadeOfCalls l (Registers l s c ops att)
-  pub select : (l : Limits) (s : SelNo) (mode : Mode) (polls : List Poll) → IsMadeOfCalls l (Selects s mode polls)
-  pub close : (l : Limits) (s : SelNo) → IsMadeOfCalls l (Closes s)
-  pub read : (l : Limits) (source : ChanNo) (none : Bool) → IsMadeOfCalls l (Reads l source none)
-  pub write : (l : Limits) (source sink : ChanNo) (none : Bool) → IsMadeOfCalls l (Writes l source sink none)
-
--- After a `close` that answers true no key of the selector is valid, ever after. What the caller did last is the
--- call.
-abbrev pub NoKeyAfterClose : Type 0
-NoKeyAfterClose =
-    (l : Limits) (n : CallerNo) (s : SelNo) (before after : List Event) (own acts : List Act) → IsFit l → IsPrefix before after → IsLegal l after → IsOrderly l after
-    → mine n before ≡ own ++ acts → Closes s acts true
-    → (i : ℕ) → IsFalse (is_valid ((state_after after).key s.0 i))
+-- So whoever makes whole calls makes whole calls that don't wait.
+abbrev pub CallsWithoutWaiting : Type 0
+CallsWithoutWaiting =
+    (l : Limits) (acts : List Act) (calls : List Made) → AreCallsOf l acts calls → AreCallsFrom l nothing_ongoing acts (after_calls nothing_ongoing calls)

@@ -3,15 +3,15 @@ ghost use Rattle.nio_orderly.specs.AfterClosing.{OnlyPublishersOwe, ClosedSelect
 ghost use Rattle.nio_orderly.specs.Careful.{BeginningsAreCareful};
 ghost use Rattle.nio_orderly.specs.OrderlyLaws.{BeginningsAreOrderly, WholeIsOrderly, OneCallMore, OrderlyEndsInCall, SerialIsWhole, SerialCallMore};
 ghost use Rattle.nio_orderly.specs.Examples.{DebtStands, CancellationIsLost};
-ghost use Rattle.nio_orderly.specs.OrderlyCare.{OrderlyIsCareful, WholeIsSettled, OrderlyOwes, WholeLosesNoKey, CloseChannelCloses, FinishCloses, AfterCloseChannel, NoKeyAfterCloseChannel, NoKeyAfterFinish};
+ghost use Rattle.nio_orderly.specs.OrderlyCare.{OrderlyIsCareful, WholeIsSettled, OrderlyOwes, WholeLosesNoKey, CloseChannelCloses, FinishCloses, AfterCloseChannel, NoKeyAfterCloseChannel, NoKeyAfterFinish, NoKeyAfterClose};
 ghost use Rattle.nio_orderly.specs.OrderlyExamples.{ClosedInRegistration, StepsOfNoCalls};
 ghost use Rattle.nio_orderly.specs.Owed.{NothingIsLost};
 ghost use Rattle.nio_orderly.specs.Settled.{SettledLosesNoKey};
-ghost use Rattle.nio_orderly.specs.Waited.{WaitingCallsAreCalls, NoKeyAfterClose};
+ghost use Rattle.nio_orderly.specs.Waited.{WaitingCallsAreCalls, CallsWithoutWaiting};
 
 /// A beginning of an orderly history is orderly: each caller made whole calls, and a beginning of one more. In a
 /// serial history each caller makes whole calls, and so it does after one call more. A call that waits is a
-/// list of whole calls.
+/// list of whole calls that don't.
 pub fn orderly_law()
     ensures beginnings { BeginningsAreOrderly }
     ensures whole { WholeIsOrderly }
@@ -20,11 +20,12 @@ pub fn orderly_law()
     ensures serial { SerialIsWhole }
     ensures serial_more { SerialCallMore }
     ensures waits { WaitingCallsAreCalls }
+    ensures unwaiting { CallsWithoutWaiting }
 {}
 
-/// An orderly history is careful, whether it is legal or not, and where each caller has finished its calls no
-/// caller owes anything. So in a legal and orderly history what is owed is owed by a caller in the middle of a
-/// call, and in a whole one no closed channel and no selector that its closer has entered has a valid key.
+/// An orderly history is careful, whether it is legal or not, and a caller that has finished its calls owes
+/// nothing. So in a legal and orderly history what is owed is owed by a caller that has still to do it, and in a
+/// whole one no closed channel and no selector that its closer has entered has a valid key.
 pub fn orderly_care_law()
     ensures careful { OrderlyIsCareful }
     ensures settled { WholeIsSettled }

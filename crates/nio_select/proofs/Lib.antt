@@ -15,3 +15,4 @@ pub mod Steps
 pub mod Windows
 pub mod Alone
 pub mod Closed
+pub mod Idle

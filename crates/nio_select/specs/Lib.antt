@@ -6,5 +6,5 @@ pub mod Lists
 pub mod Entered
 pub mod Beginning
 pub mod Noted
-pub mod Kept
 pub mod Laws
+pub mod Kept

@@ -32,4 +32,6 @@ mod removing;
 mod selecting;
 mod stages;
 mod telling;
+#[cfg(test)]
+mod tests;
 mod told;

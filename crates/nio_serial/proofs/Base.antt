@@ -118,13 +118,13 @@ in_set-is k q whole =
 module _ {R : Type 0} (F : Performed R → Answered) (me : CallerNo) (P Q : Plan R) (st : State) (A B : Answered) where
   -- one test on both sides
   pub branch : (b c : Bool) → b ≡ c → (c ≡ true → A ≡ F (perform me P st)) → (c ≡ false → B ≡ F (perform me Q st)) → cond b A B ≡ F (perform me (if c then P else Q) st)
-  branch b true e yes_ no_ = ap (λ (x : Bool). cond x A B) e ∙ yes_ refl
-  branch b false e yes_ no_ = ap (λ (x : Bool). cond x A B) e ∙ no_ refl
+  branch b true e on_true on_false = ap (λ (x : Bool). cond x A B) e ∙ on_true refl
+  branch b false e on_true on_false = ap (λ (x : Bool). cond x A B) e ∙ on_false refl
 
   -- the plan asks the other way round
   pub branch_not : (b c : Bool) → b ≡ c → (c ≡ true → A ≡ F (perform me P st)) → (c ≡ false → B ≡ F (perform me Q st)) → cond b A B ≡ F (perform me (if not c then Q else P) st)
-  branch_not b true e yes_ no_ = ap (λ (x : Bool). cond x A B) e ∙ yes_ refl
-  branch_not b false e yes_ no_ = ap (λ (x : Bool). cond x A B) e ∙ no_ refl
+  branch_not b true e on_true on_false = ap (λ (x : Bool). cond x A B) e ∙ on_true refl
+  branch_not b false e on_true on_false = ap (λ (x : Bool). cond x A B) e ∙ on_false refl
 
 -- ---- under a pin
 

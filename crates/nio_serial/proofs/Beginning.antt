@@ -29,7 +29,7 @@ use Rattle.nio_steps.specs.Steps.{look_keys}
 use Rattle.nio_steps.specs.Sweeps.{sweep_over}
 use Rattle.nio_steps.specs.declared.looked.LookedKey.{LookedKey}
 use Rattle.nio_steps.specs.declared.refusal.BeginError.{BeginError}
-use Rattle.nio_serial.proofs.Base.{put-here, put-twice, put-under, settled-cancelled, branch}
+use Rattle.nio_serial.proofs.Base.{put-here, put-back, put-twice, put-under, settled-cancelled, branch}
 use Rattle.nio_serial.proofs.FreeWords.{is_not_free, filter-same, list_below-performed}
 use Rattle.nio_serial.proofs.Removing.{settled-removed}
 use Rattle.nio_serial.proofs.Sweeping.{has_index, has_next, swept, looked_over, look-performed}
@@ -119,9 +119,6 @@ module _ (st : State) (now : Progress) (me : CallerNo) (s : SelNo)
       published e ∙ lt-ltb e mark low
 
   -- ---- what the plan does
-
-  plan : Mode → ℕ → Plan (Result Selection BeginError)
-  plan mode bound = begin_below s mode bound false
 
   below-performed : (mode : Mode) → perform me (begin_below s mode mark false) turned ≡ record { answer = Ok (begun mode); state = left }
   below-performed mode =
@@ -273,3 +270,46 @@ module _ (st : State) (now : Progress) (me : CallerNo) (s : SelNo)
         (AllPairs-filter (λ i j. i < j) (λ i. is_valid (st.key s.0 i)) listed (AllPairs-filter (λ i j. i < j) (is_not_free turned me s) (below mark) (below-rises mark)));
     kept = kept-are (filter (λ i. is_valid (st.key s.0 i)) listed);
   }
+
+-- ---- a beginning for which there is no memory
+
+pub begin-lacking : (st : State) (me : CallerNo) (s : SelNo) (mode : Mode) → ((t i : ℕ) → st.put_due t i ≡ false) → st.begun s.0 ≡ is_some (st.turn s.0)
+    → (perform me (try_begin_plan s mode true) st).state ≡ st
+unfolding try_begin_plan
+begin-lacking st me s mode none_due begun = by_shut (st.gate s.0).shut refl
+  where
+    taken : State
+    taken = with_begun (with_turn st s.0 (Some me)) s.0 false
+
+    -- the turn is given back, whatever was begun
+    given : (b : Bool) → st.turn s.0 ≡ None
+        → record st {
+          turn = put (put st.turn s.0 (Some me)) s.0 None;
+          begun = put (put (put st.begun s.0 false) s.0 b) s.0 false;
+          put_due = λ t i. if t == s.0 then false else st.put_due t i;
+        } ≡ st
+    given b is =
+        let idle : st.begun s.0 ≡ false = begun ∙ ap is_some is in
+        λ j. record st {
+          turn = put-back st.turn s.0 (Some me) None is j;
+          begun = (put-twice (put st.begun s.0 false) s.0 b false ∙ (put-twice st.begun s.0 false false ∙ put-here st.begun s.0 false idle)) j;
+          put_due = λ t i. no_longer (t == s.0) (st.put_due t i) (none_due t i) j;
+        }
+      where
+        no_longer : (c x : Bool) → x ≡ false → cond c false x ≡ x
+        no_longer true x e = sym e
+        no_longer false x e = refl
+
+    by_look : (b : Bool) → st.turn s.0 ≡ None
+        → (perform me (if b then given_back s (Err BeginError.ClosedSelector) else (look_keys s >>= (λ bound. begin_below s mode bound true))) (with_begun taken s.0 (taken.begun s.0 || not b))).state ≡ st
+    by_look true is = given (taken.begun s.0 || false) is
+    by_look false is = given (taken.begun s.0 || true) is
+
+    by_turn : (o : Option CallerNo) → st.turn s.0 ≡ o
+        → (perform me (if is_some o then Plan.reply (Err BeginError.Busy) else begin_with_turn s mode true) (with_begun (with_turn st s.0 (taken_by me o)) s.0 (is_some o && st.begun s.0))).state ≡ st
+    by_turn (Some n) is = λ j. record st { turn = put-here st.turn s.0 (Some n) is j; begun = put-here st.begun s.0 (st.begun s.0) refl j }
+    by_turn None is = by_look (st.gate s.0).shut is
+
+    by_shut : (b : Bool) → (st.gate s.0).shut ≡ b → (perform me (if b then Plan.reply (Err BeginError.ClosedSelector) else begin_open s mode true) st).state ≡ st
+    by_shut true e = refl
+    by_shut false e = by_turn (st.turn s.0) refl

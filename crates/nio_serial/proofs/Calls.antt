@@ -14,6 +14,7 @@ use Rattle.nio_event.specs.declared.found.Mode.{Mode}
 use Rattle.nio_event.specs.declared.reply.Reply.{Reply}
 use Rattle.nio_event.specs.declared.reply.Reply.TheVariants as reply
 use Rattle.nio_plain.proofs.Naming.{selector-through}
+use Rattle.nio_plain.proofs.ReachedSound.{some_same}
 use Rattle.nio_plain.specs.ScriptState.{ScriptState}
 use Rattle.nio_plain.specs.Seq.{call_of}
 use Rattle.nio_plain.specs.Seq.Answers.{unchanged, yes_or_no}
@@ -37,10 +38,11 @@ use Rattle.nio_serial.proofs.KeyCalls.{valid-amounts, interest-amounts, ready-am
 use Rattle.nio_serial.proofs.Listing.{keys-amounts, selected-amounts}
 use Rattle.nio_serial.proofs.Registering.{register-amounts}
 use Rattle.nio_serial.proofs.Simple.{is_blocking-amounts, is_open-amounts, is_registered-amounts, key_for-amounts, wakeup-amounts, close-amounts, interrupt-amounts, interrupted-amounts, selector-amounts, channel-amounts}
+use Rattle.nio_serial.proofs.Marking.{by_index-tells, by_key-tells}
 use Rattle.nio_serial.proofs.Telling.{told-amounts, failed-amounts}
 use Rattle.nio_serial.specs.Between.{IsOn, IsBetween}
 use Rattle.nio_serial.specs.Documented.{Progress, Selecting, looked_pair, shown, documented, amounts}
-use Rattle.nio_serial.specs.Laws.{IsNamed}
+use Rattle.nio_serial.specs.Laws.{IsNamed, by_key}
 use Rattle.nio_serial.specs.Lines.{Said, comes_to, makes, asks, refused, with_selection, if_own, own_selection, after_begin, after_told, after_shut, after_finish, begin_line, by_index, told_line, failed_line, close_end_line, call_plan}
 use Rattle.nio_serial.specs.Replies.{find_reply, set_reply, put_reply, channel_reply, mode_reply, register_reply, closed_reply, selector_reply, begin_reply, told_reply, shut_reply, finish_reply, list_reply}
 
@@ -81,10 +83,16 @@ module _ (l : Limits) (st : State) (now : Progress) (me : CallerNo) (between : I
     in_set : (k : KeyId) → is_looked (map looked_pair x.looked) k ≡ true → is_in_key_set (st.key x.selector.0 k.index) k.serial ≡ true
     in_set = subst (λ (n : ℕ). (k : KeyId) → is_looked (map looked_pair x.looked) k ≡ true → is_in_key_set (st.key n k.index) k.serial ≡ true) (sym on.selector) (looked_in_set l st now between s.0 y is)
 
+    -- by what the poller told by index
+    told-index : (elapsed : Bool) (told : List (ℕ × ℕ)) → told_selection Now ds me s.0 (by_key x told) elapsed (Some (shown x)) ≡ amounts told_reply (after_told now s) (perform me (told_plan x told elapsed) st)
+    told-index elapsed told =
+        subst (λ (n : SelNo). told_selection Now ds me n.0 (by_key x told) elapsed (Some (shown x)) ≡ amounts told_reply (after_told now n) (perform me (told_plan x told elapsed) st)) selector-is
+        (told-amounts st now me x (by_key x told) told on.rises in_set (by_key-tells x told) on.kept (none_due l st now between) (untaken l st now between x.selector.0) elapsed)
+
     told-one : (elapsed : Bool) (pairs : List (KeyId × ℕ)) → told_selection Now ds me s.0 pairs elapsed (Some (shown x)) ≡ comes_to (perform me (told_line now s elapsed pairs (Some x)) st)
     told-one elapsed pairs =
         subst (λ (n : SelNo). told_selection Now ds me n.0 pairs elapsed (Some (shown x)) ≡ amounts told_reply (after_told now n) (perform me (told_plan x (by_index x pairs) elapsed) st)) selector-is
-        (told-amounts st now me x pairs on.rises in_set on.kept (none_due l st now between) (untaken l st now between x.selector.0) elapsed)
+        (told-amounts st now me x pairs (by_index x pairs) on.rises in_set (by_index-tells st x pairs in_set) on.kept (none_due l st now between) (untaken l st now between x.selector.0) elapsed)
         ∙ made-is me (told_plan x (by_index x pairs) elapsed) told_reply (after_told now s) st
 
     failed-one : left_selection ds s.0 (Some (shown x)) ≡ comes_to (perform me (failed_line now s (Some x)) st)
@@ -192,3 +200,24 @@ module _ (l : Limits) (st : State) (now : Progress) (me : CallerNo) (between : I
   call-amounts (call.Selected s) named = selected-amounts st now me s named (λ i. unpinned l st now between s.0 i me.0) ∙ asked-is (selected_keys_plan s false) list_reply
   call-amounts (call.Interrupt target) named = interrupt-amounts st now me l target named ∙ asked-is (interrupt_plan target) (λ _. reply.«Ok»)
   call-amounts call.Interrupted named = interrupted-amounts st now me ∙ asked-is interrupted_plan yes_or_no
+
+  -- a `told` with what the poller told by index
+  pub told-by-index : (s : SelNo) (x : Selection) (told : List (ℕ × ℕ)) (elapsed : Bool) → st.selector s.0 ≡ true → own_selection now me s ≡ Some x
+      → call_of Now l ds me (call.Told s elapsed (by_key x told)) ≡ amounts told_reply (after_told now s) (perform me (told_plan x told elapsed) st)
+  unfolding call_of told_call
+  told-by-index s x told elapsed made own =
+      selector-through ds s made _
+      ∙ (ap (told_selection Now ds me s.0 (by_key x told) elapsed) (own-is l st now between me s ∙ ap (option_map shown) own)
+      ∙ by_selection (now.selection s.0) refl own)
+    where
+      by_selection : (o : Option Selecting) → now.selection s.0 ≡ o → if_own me o ≡ Some x
+          → told_selection Now ds me s.0 (by_key x told) elapsed (Some (shown x)) ≡ amounts told_reply (after_told now s) (perform me (told_plan x told elapsed) st)
+      by_selection None is own' = absurd cc
+      by_selection (Some y) is own' = by_caller (y.caller.0 == me.0) own'
+        where
+          by_caller : (b : Bool) → cond b (Some y.selection) None ≡ Some x
+              → told_selection Now ds me s.0 (by_key x told) elapsed (Some (shown x)) ≡ amounts told_reply (after_told now s) (perform me (told_plan x told elapsed) st)
+          by_caller true now' =
+              subst (λ (z : Selection). told_selection Now ds me s.0 (by_key z told) elapsed (Some (shown z)) ≡ amounts told_reply (after_told now s) (perform me (told_plan z told elapsed) st))
+              (some_same y.selection x now') (told-index s y is elapsed told)
+          by_caller false now' = absurd cc

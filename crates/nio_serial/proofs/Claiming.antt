@@ -144,8 +144,8 @@ module _ (st : State) (me : CallerNo) (s : SelNo) (c : ChanNo) (unpinned : (i n 
     word-performed : (j : ℕ) → perform me (claim_in_word s c mark j) st ≡ found (find can (indexes (64 * j) 64))
     word-performed j =
         perform_seek me 64 0 (claim_at_bit s c mark j (free_word st s.0 j)) (λ b. can (64 * j + b)) (λ b. next_at (64 * j + b)) st (λ b. claimed_again (64 * j + b)) (omega arith)
-        (λ b _ low no_. bit-performed j b low false no_)
-        (λ b _ low yes_. bit-performed j b low true yes_)
+        (λ b _ low can_not. bit-performed j b low false can_not)
+        (λ b _ low can_be. bit-performed j b low true can_be)
         ∙ (shifted (find (λ b. can (64 * j + b)) (indexes 0 (64 - 0)))
         ∙ ap found (sym (find-shift can (64 * j) 0 64) ∙ ap (λ i. find can (indexes i 64)) start))
       where
@@ -199,14 +199,14 @@ module _ (st : State) (me : CallerNo) (s : SelNo) (c : ChanNo) (unpinned : (i n 
 
 module _ (st : State) (me : CallerNo) (s : SelNo) (c : ChanNo)
     (exact : (i : ℕ) → (st.key s.0 i).claimed ≡ nat_lt i (st.keys_high s.0)) (unpinned : (i : ℕ) → st.pinned s.0 i me.0 ≡ false) where
-  abbrev mark_ : ℕ
-  mark_ = st.keys_high s.0
+  abbrev top : ℕ
+  top = st.keys_high s.0
 
   -- the index at the mark is claimed, with a pin
   abbrev pub claimed_first : State
   claimed_first = record st {
-    key = put_at st.key s.0 mark_ (new_key c 0);
-    pinned = put_at st.pinned s.0 mark_ (put (st.pinned s.0 mark_) me.0 true);
+    key = put_at st.key s.0 top (new_key c 0);
+    pinned = put_at st.pinned s.0 top (put (st.pinned s.0 top) me.0 true);
   }
 
   claims : Bool → ℕ → Performed (Option KeyId)
@@ -215,16 +215,16 @@ module _ (st : State) (me : CallerNo) (s : SelNo) (c : ChanNo)
     state = with_pin (with_key st s.0 i (if b then st.key s.0 i else new_key c 0)) s.0 i me.0 (st.pinned s.0 i me.0 || not b);
   }
 
-  at_mark : perform me (claim_new s c mark_) st ≡ record { answer = Some (record { index = mark_; serial = 0 }); state = claimed_first }
+  at_mark : perform me (claim_new s c top) st ≡ record { answer = Some (record { index = top; serial = 0 }); state = claimed_first }
   unfolding claims
   at_mark =
-      ap (λ b. claims b mark_) (exact mark_ ∙ le-ltb mark_ mark_ (omega arith))
-      ∙ (λ j. record { answer = Some (record { index = mark_; serial = 0 }); state = record claimed_first { pinned = put_at st.pinned s.0 mark_ (put (st.pinned s.0 mark_) me.0 (unpinned mark_ j || true)) } })
+      ap (λ b. claims b top) (exact top ∙ le-ltb top top (omega arith))
+      ∙ (λ j. record { answer = Some (record { index = top; serial = 0 }); state = record claimed_first { pinned = put_at st.pinned s.0 top (put (st.pinned s.0 top) me.0 (unpinned top j || true)) } })
 
-  pub first-performed : (l : Limits) → mark_ < l.keys → perform me (seek_to l.keys mark_ (claim_new s c)) st ≡ record { answer = Some (record { index = mark_; serial = 0 }); state = claimed_first }
+  pub first-performed : (l : Limits) → top < l.keys → perform me (seek_to l.keys top (claim_new s c)) st ≡ record { answer = Some (record { index = top; serial = 0 }); state = claimed_first }
   first-performed l room =
-      ap (λ plan. perform me plan st) (seek_to-turn l.keys mark_ (claim_new s c) room)
-      ∙ perform_then_on me (claim_new s c mark_) (found_or (seek_to l.keys (mark_ + 1) (claim_new s c))) st (Some (record { index = mark_; serial = 0 })) claimed_first at_mark
+      ap (λ plan. perform me plan st) (seek_to-turn l.keys top (claim_new s c) room)
+      ∙ perform_then_on me (claim_new s c top) (found_or (seek_to l.keys (top + 1) (claim_new s c))) st (Some (record { index = top; serial = 0 })) claimed_first at_mark
 
-  pub full-performed : (l : Limits) → l.keys ≤ mark_ → perform me (seek_to l.keys mark_ (claim_new s c)) st ≡ record { answer = None; state = st }
-  full-performed l full = ap (λ plan. perform me plan st) (seek_to-done l.keys mark_ (claim_new s c) full)
+  pub full-performed : (l : Limits) → l.keys ≤ top → perform me (seek_to l.keys top (claim_new s c)) st ≡ record { answer = None; state = st }
+  full-performed l full = ap (λ plan. perform me plan st) (seek_to-done l.keys top (claim_new s c) full)

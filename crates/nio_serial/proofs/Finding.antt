@@ -112,8 +112,8 @@ first_key-performed l me c st =
       found = option_map x o;
       performed =
           perform_seek me l.selectors 0 (λ n. key_for_plan c (selector n)) p x st (λ _. st) (omega arith)
-          (λ n _ _ no_. key_for-performed me c (selector n) st ∙ ap (λ a. record { answer = a; state = st }) (none_mapped (selector n) (key_of st c.0 n) no_))
-          (λ n _ _ yes_. key_for-performed me c (selector n) st ∙ ap (λ a. record { answer = a; state = st }) (some_mapped (selector n) (key_of st c.0 n) yes_))
+          (λ n _ _ not_found. key_for-performed me c (selector n) st ∙ ap (λ a. record { answer = a; state = st }) (none_mapped (selector n) (key_of st c.0 n) not_found))
+          (λ n _ _ found. key_for-performed me c (selector n) st ∙ ap (λ a. record { answer = a; state = st }) (some_mapped (selector n) (key_of st c.0 n) found))
           ∙ found_same x o;
       where_registered = mapped_some x o ∙ (ap is_some (find-below p l.selectors) ∙ found-any p (below l.selectors));
     }

@@ -1,6 +1,12 @@
 -- Calls whose names are found, and runs of calls and lines in legal histories.
-use Rattle.std.proofs.Common.{List, sym, ◌≡◌, Bool, if◌then◌else◌, Some, None, refl, ap, ◌∙◌, subst}
-use Rattle.std.proofs.lemmas.Bool.{lt-ltb}
+use Rattle.nio_serial.proofs.Showing.{told-index-shows}
+use Rattle.nio_serial.proofs.RestingCalls.{rests-seq}
+use Rattle.nio_serial.proofs.Resting.{rests-from, rests-is}
+use Rattle.nio_serial.specs.Replies.{told_reply}
+use Rattle.nio_plain.specs.ScriptState.{ScriptState}
+use Rattle.nio_plain.specs.Seq.Answers.{Answered, unchanged}
+use Rattle.std.proofs.Common.{List, sym, ◌≡◌, Bool, if◌then◌else◌, Some, None, refl, ap, ◌∙◌, subst, nat_lt}
+use Rattle.std.proofs.lemmas.Bool.{lt-ltb, cond-true}
 use Rattle.nio_base.specs.Limits.{IsFit}
 use Rattle.nio_base.specs.declared.limits.Limits.{Limits}
 use Rattle.nio_base.specs.declared.numbers.CallerNo.{CallerNo}
@@ -16,20 +22,24 @@ use Rattle.nio_event.specs.declared.call.Call.{Call}
 use Rattle.nio_event.specs.declared.call.Call.TheVariants as call
 use Rattle.nio_event.specs.declared.reply.Reply.TheVariants as reply
 use Rattle.nio_event.specs.declared.event.Event.{Event}
-use Rattle.nio_plain.specs.Seq.{seq}
+use Rattle.nio_plain.specs.Seq.{seq, call_of}
 use Rattle.nio_plain.specs.declared.rules.Rules.TheVariants.{Now}
 use Rattle.nio_steps.proofs.PerformLaws.{perform_then_on, perform_ran}
 use Rattle.nio_steps.specs.KeyCalls.{find_selector_plan, find_channel_plan, find_plan}
 use Rattle.nio_steps.specs.Names.{selector, channel}
 use Rattle.nio_steps.specs.Perform.{Performed, perform}
 use Rattle.nio_steps.specs.Plan.{Plan, ◌>>=◌}
-use Rattle.nio_serial.proofs.Calls.{call-amounts}
+use Rattle.nio_steps.specs.SelectCalls.{list_key, list_selected, keys_plan, selected_keys_plan, told_plan, ToldReply}
+use Rattle.nio_serial.proofs.Beginning.{begin-lacking}
+use Rattle.nio_serial.proofs.Facts.{none_due, begun, sound}
+use Rattle.nio_serial.proofs.Listing.{list-lacking}
+use Rattle.nio_serial.proofs.Calls.{call-amounts, told-by-index}
 use Rattle.nio_serial.proofs.Lines.{selector-found, channel-found, key-found, line-amounts}
-use Rattle.nio_serial.proofs.Staying.{line-stays}
-use Rattle.nio_serial.specs.Between.{IsBetween}
-use Rattle.nio_serial.specs.Documented.{Progress, documented}
-use Rattle.nio_serial.specs.Laws.{IsMadeSelector, IsMadeChannel, IsMadeKey, IsNamed, CallsAmount, LinesAmount, DrawsStayBetween, CallsStayBetween, Amounts, CallRunsAmount, LineRunsAmount, PassLinesAmount}
-use Rattle.nio_serial.specs.Lines.{Said, comes_to, refused, if_found, if_selector, if_channel, if_key, if_named, call_plan, line_plan}
+use Rattle.nio_serial.proofs.Staying.{line-stays, left-more}
+use Rattle.nio_serial.specs.Between.{IsBetween, IsLeft, IsAtRest}
+use Rattle.nio_serial.specs.Documented.{Progress, documented, amounts}
+use Rattle.nio_serial.specs.Laws.{IsMadeSelector, IsMadeChannel, IsMadeKey, IsNamed, CallsAmount, LinesAmount, DrawsStayBetween, CallsStayBetween, Amounts, CallRunsAmount, LineRunsAmount, PassLinesAmount, ToldAmounts, LackingLeaves, by_key, ToldStaysBetween, ToldRunsAmount}
+use Rattle.nio_serial.specs.Lines.{Said, comes_to, refused, if_found, if_selector, if_channel, if_key, if_named, call_plan, line_plan, after_told}
 
 -- ---- names that are found
 
@@ -132,3 +142,43 @@ draws-stay l st now n between = record {
   at_rest = between.at_rest;
   shown = λ s. let was = between.shown s in record { turn = was.turn; begun = was.begun; on = was.on; closing = was.closing };
 }
+
+-- ---- a `told` by index
+
+pub told-amounts-by-index : ToldAmounts
+told-amounts-by-index l st now me s x told elapsed between made own = told-by-index l st now me between s x told elapsed made own
+
+-- ---- calls for which there is no memory
+
+pub lacking-leaves : LackingLeaves
+unfolding keys_plan selected_keys_plan
+lacking-leaves l st now me s mode between = record {
+  begins = begin-lacking st me s mode (none_due l st now between) (begun l st now between s.0);
+  keys = list-lacking st me s list_key;
+  selected = list-lacking st me s list_selected;
+}
+
+-- ---- a `told` by index stays between two calls
+
+seq-through : (l : Limits) (st : ScriptState) (me : CallerNo) (word : Call) → IsCaller l me → seq Now l st me word ≡ call_of Now l st me word
+unfolding seq
+seq-through l st me word below = cond-true (nat_lt me.0 l.callers) (call_of Now l st me word) (unchanged st reply.NoCaller) (lt-ltb me.0 l.callers below)
+
+pub told-stays : ToldStaysBetween
+told-stays l st now me s x told elapsed below between made own =
+    let ds = documented st now in
+    let word = call.Told s elapsed (by_key x told) in
+    let same : seq Now l ds me word ≡ amounts told_reply (after_told now s) (perform me (told_plan x told elapsed) st) = seq-through l ds me word below ∙ told-by-index l st now me between s x told elapsed made own in
+    record {
+      left = subst (λ (a : Answered). IsLeft l a.left) same (left-more l ds me word between.left);
+      at_rest = subst (λ (a : Answered). IsAtRest l a.left.shared) same (rests-is l (seq Now l ds me word).left.shared (rests-seq l ds (sound l st now between) (rests-from l ds.shared between.at_rest) me word));
+      shown = told-index-shows l st now me between s x told elapsed own;
+    }
+
+pub told-runs-amount : ToldRunsAmount
+told-runs-amount l now me s x told elapsed past acts answer below between made own legal whole =
+    let ran = perform_ran l me (told_plan x told elapsed) past acts answer legal whole in
+    record {
+      answered = told-by-index l (state_after past) now me between s x told elapsed made own ∙ ap (amounts told_reply (after_told now s)) ran;
+      between = subst (λ (done : Performed ToldReply). IsBetween l done.state (after_told now s done.answer)) ran (told-stays l (state_after past) now me s x told elapsed below between made own);
+    }

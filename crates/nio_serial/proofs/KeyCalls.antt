@@ -32,7 +32,7 @@ neither true true x e = absurd (both_ways true e refl)
 neither true false x e = refl
 neither false i x e = refl
 
-module _ (st : State) (now : Progress) (me : CallerNo) (s : SelNo) (k : KeyId) (unpinned_ : st.pinned s.0 k.index me.0 ≡ false)
+module _ (st : State) (now : Progress) (me : CallerNo) (s : SelNo) (k : KeyId) (free : st.pinned s.0 k.index me.0 ≡ false)
     (made : st.selector s.0 ≡ true) (published : was_published (st.key s.0 k.index) k.serial ≡ true) where
   abbrev ds : ScriptState
   ds = documented st now
@@ -49,7 +49,7 @@ module _ (st : State) (now : Progress) (me : CallerNo) (s : SelNo) (k : KeyId) (
 
   -- the pins are as before
   back : (F : (ℕ → ℕ → ℕ → Bool) → Answered) → F st.pinned ≡ F (with_pin held s.0 k.index me.0 false).pinned
-  back F = sym (ap F (pin-back st.pinned s.0 k.index me.0 unpinned_))
+  back F = sym (ap F (pin-back st.pinned s.0 k.index me.0 free))
 
   -- what is done with a named key, and with a valid one
   on_named : {A : Type 0} (said : A → Reply) (steps : Stage → Plan A) (done : Answered)

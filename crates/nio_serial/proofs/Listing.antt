@@ -1,5 +1,5 @@
 -- Listing the key set and the selected set amounts to the documented calls.
-use Rattle.std.proofs.Common.{◌≡◌, ℕ, ◌+◌, Bool, true, false, cond, ◌&&◌, Result, Ok, Err, List, [], ◌∷◌, ◌++◌, map, filter, refl, ap, sym, ◌∙◌, add-one, arith}
+use Rattle.std.proofs.Common.{◌≡◌, ℕ, ◌+◌, Bool, true, false, cond, ◌&&◌, Result, Ok, Err, List, [], ◌∷◌, ◌++◌, map, filter, refl, ap, sym, ◌∙◌, add-one, arith, if◌then◌else◌}
 use Rattle.std.proofs.lemmas.List.{append-nil, map-append}
 use Rattle.std.proofs.lemmas.List.Elements.{filter-append}
 use Rattle.nio_base.specs.declared.numbers.CallerNo.{CallerNo}
@@ -97,3 +97,11 @@ module _ (st : State) (now : Progress) (me : CallerNo) (s : SelNo) (made : st.se
     selected-amounts =
         ap (listed ds s) (λ j i. cancelled_parts (st.key s.0 i).published (st.key s.0 i).removed (st.mark s.0 i).selected j)
         ∙ listed-amounts list_selected (in_selected_set st s.0) one-performed
+
+-- a list for which there is no memory
+pub list-lacking : (st : State) (me : CallerNo) (s : SelNo) (list_one : SelNo → ℕ → List KeyNo → Plan (List KeyNo)) → (perform me (list_plan list_one s true) st).state ≡ st
+list-lacking st me s list_one = by_shut (st.gate s.0).shut
+  where
+    by_shut : (b : Bool) → (perform me (if b then Plan.reply (Err ListError.ClosedSelector) else list_open list_one s true) st).state ≡ st
+    by_shut true = refl
+    by_shut false = refl

@@ -1,19 +1,19 @@
 -- The marks of a `told`, one after the other: the state after so many of them is the documented one for that part of the
 -- looked list, and as many were updated.
-use Rattle.std.proofs.Common.{◌≡◌, ℕ, ◌+◌, ◌<◌, ◌==◌, Bool, true, false, cond, not, ◌&&◌, ◌||◌, List, [], ◌∷◌, ◌++◌, map, count_by, bit_and, refl, ap, sym, ◌∙◌, subst, arith, eqb-true, eq-eqb}
+use Rattle.std.proofs.Common.{◌≡◌, ℕ, ◌+◌, ◌<◌, ◌==◌, Bool, true, false, cond, not, ◌&&◌, ◌||◌, List, [], ◌∷◌, ◌++◌, map, count_by, bit_and, refl, ap, sym, ◌∙◌, subst, arith, eqb-true, eq-eqb, bit_or}
 use Rattle.std.proofs.lemmas.Bool.{both_ways, and_parts, or_left, or_right, not-true, cond-true, cond-false}
 use Rattle.std.proofs.lemmas.List.{map-append}
 use Rattle.std.proofs.lemmas.List.Elements.{All-map, All-head, All-tail}
 use Rattle.std.proofs.lemmas.List.Folds.{list_any-append}
 use Rattle.std.proofs.lemmas.List.Sums.{sum_by-append, sum_by-cons}
 use Rattle.std.specs.List.{AllPairs, list_any}
-use lib.Bits.{and_zero_r}
+use lib.Bits.{and_zero_r, or_zero_l, or_zero_r}
 use Rattle.nio_base.specs.declared.numbers.CallerNo.{CallerNo}
 use Rattle.nio_base.specs.declared.numbers.KeyId.{KeyId}
 use Rattle.nio_event.specs.Sets.{fits, in_key_set, is_in_key_set}
 use Rattle.nio_event.specs.State.{State, with_mark}
 use Rattle.nio_event.specs.declared.found.Mark.{Mark}
-use Rattle.nio_plain.proofs.Lists.{same-key, other-index, AreBelow, looked_interest-absent, looked_interest-last, looked_interest-others}
+use Rattle.nio_plain.proofs.Lists.{same-is, same-key, other-index, AreBelow, looked_interest-absent, looked_interest-last, looked_interest-others}
 use Rattle.nio_plain.specs.Seq.Names.{is_same_key, key_at}
 use Rattle.nio_plain.specs.Seq.Selections.{all_told, looked_interest, told_bits, is_looked, marked, is_updated, with_marks}
 use Rattle.nio_steps.proofs.Lists.{pairs-before}
@@ -23,9 +23,10 @@ use Rattle.nio_steps.specs.Plan.{Plan}
 use Rattle.nio_steps.specs.SelectCalls.{Selection, told_of, told_bits as told_bits_of, one_if, mark_told, mark_entry}
 use Rattle.nio_steps.specs.Sweeps.{sweep_over}
 use Rattle.nio_steps.specs.declared.looked.LookedKey.{LookedKey}
-use Rattle.nio_serial.proofs.Marks.{told-is, mark-performed}
+use Rattle.nio_serial.proofs.Marks.{or_self, told-is, mark-performed}
 use Rattle.nio_serial.proofs.Removing.{put_at-is}
 use Rattle.nio_serial.specs.Documented.{settled_mark, looked_pair}
+use Rattle.nio_serial.specs.Laws.{by_key}
 use Rattle.nio_serial.specs.Lines.{by_index}
 
 -- the interest of a key in a rising list
@@ -41,31 +42,60 @@ looked-middle past p later =
     list_any-append (λ (q : KeyId × ℕ). is_same_key q.0 p.0) past (p ∷ later)
     ∙ or_right (list_any (λ (q : KeyId × ℕ). is_same_key q.0 p.0) past) (is_same_key p.0 p.0 || is_looked later p.0) (or_left (is_same_key p.0 p.0) (is_looked later p.0) (same-key p.0))
 
-module _ (st : State) (me : CallerNo) (x : Selection) (pairs : List (KeyId × ℕ))
+-- a looked key is the present one of its index
+serial-at : (st : State) (s : ℕ) (k : KeyId) → is_in_key_set (st.key s k.index) k.serial ≡ true → (st.key s k.index).serial ≡ k.serial
+serial-at st s k in_set =
+    let fit = (and_parts (fits (st.key s k.index) k.serial) (in_key_set (st.key s k.index)) in_set).0 in
+    eqb-true (st.key s k.index).serial k.serial (and_parts (st.key s k.index).claimed ((st.key s k.index).serial == k.serial) fit).1
+
+-- the told pairs by index tell of each looked key what the pairs by key do
+pub by_index-tells : (st : State) (x : Selection) (pairs : List (KeyId × ℕ))
+    → ((k : KeyId) → is_looked (map looked_pair x.looked) k ≡ true → is_in_key_set (st.key x.selector.0 k.index) k.serial ≡ true)
+    → (k : KeyId) → is_looked (map looked_pair x.looked) k ≡ true → told_of (by_index x pairs) k.index ≡ all_told pairs k
+by_index-tells st x pairs in_set k there = told-is (map looked_pair x.looked) apart k there pairs
+  where
+    apart : (m n : KeyId) → is_looked (map looked_pair x.looked) m ≡ true → is_looked (map looked_pair x.looked) n ≡ true → m.index ≡ n.index → m.serial ≡ n.serial
+    apart m n first second same =
+        sym (serial-at st x.selector.0 m (in_set m first)) ∙ (ap (λ i. (st.key x.selector.0 i).serial) same ∙ serial-at st x.selector.0 n (in_set n second))
+
+-- and the pairs by key that are made of told pairs by index do too
+pub by_key-tells : (x : Selection) (told : List (ℕ × ℕ)) (k : KeyId) → is_looked (map looked_pair x.looked) k ≡ true → told_of told k.index ≡ all_told (by_key x told) k
+by_key-tells x told k there = sym (gathered x.looked ∙ ap (λ b. cond b (told_of told k.index) 0) there)
+  where
+    once : (b : Bool) (n : ℕ) → bit_or n (cond b n 0) ≡ n
+    once true n = or_self n
+    once false n = or_zero_r n
+
+    gathered : (xs : List LookedKey) → all_told (map (λ (e : LookedKey). ((looked_pair e).0, told_of told e.index)) xs) k ≡ cond (is_looked (map looked_pair xs) k) (told_of told k.index) 0
+    gathered [] = refl
+    gathered (e ∷ xs) = ap (λ n. bit_or (cond (is_same_key (looked_pair e).0 k) (told_of told e.index) 0) n) (gathered xs) ∙ by_same (is_same_key (looked_pair e).0 k) refl
+      where
+        by_same : (b : Bool) → is_same_key (looked_pair e).0 k ≡ b
+            → bit_or (cond b (told_of told e.index) 0) (cond (is_looked (map looked_pair xs) k) (told_of told k.index) 0) ≡ cond (b || is_looked (map looked_pair xs) k) (told_of told k.index) 0
+        by_same true same =
+            ap (λ i. bit_or (told_of told i) (cond (is_looked (map looked_pair xs) k) (told_of told k.index) 0)) (ap (λ m. m.index) (same-is (looked_pair e).0 k same))
+            ∙ once (is_looked (map looked_pair xs) k) (told_of told k.index)
+        by_same false other = or_zero_l (cond (is_looked (map looked_pair xs) k) (told_of told k.index) 0)
+
+-- `told` is what the poller told by index, and `pairs` by key: of each looked key the same
+module _ (st : State) (me : CallerNo) (x : Selection) (pairs : List (KeyId × ℕ)) (told : List (ℕ × ℕ))
     (rises : AllPairs (λ (a b : LookedKey). a.index < b.index) x.looked)
-    (in_set : (k : KeyId) → is_looked (map looked_pair x.looked) k ≡ true → is_in_key_set (st.key x.selector.0 k.index) k.serial ≡ true) where
+    (in_set : (k : KeyId) → is_looked (map looked_pair x.looked) k ≡ true → is_in_key_set (st.key x.selector.0 k.index) k.serial ≡ true)
+    (tells : (k : KeyId) → is_looked (map looked_pair x.looked) k ≡ true → told_of told k.index ≡ all_told pairs k) where
   abbrev s : ℕ
   s = x.selector.0
 
   abbrev looked : List (KeyId × ℕ)
   looked = map looked_pair x.looked
 
-  abbrev told : List (ℕ × ℕ)
-  told = by_index x pairs
-
   -- a looked key is the present one of its index
   pub serial-is : (k : KeyId) → is_looked looked k ≡ true → (st.key s k.index).serial ≡ k.serial
-  serial-is k there =
-      let fit = (and_parts (fits (st.key s k.index) k.serial) (in_key_set (st.key s k.index)) (in_set k there)).0 in
-      eqb-true (st.key s k.index).serial k.serial (and_parts (st.key s k.index).claimed ((st.key s k.index).serial == k.serial) fit).1
+  serial-is k there = serial-at st s k (in_set k there)
 
   pub not-removed : (k : KeyId) → is_looked looked k ≡ true → (st.key s k.index).removed ≡ false
   not-removed k there =
       let set = (and_parts (fits (st.key s k.index) k.serial) (in_key_set (st.key s k.index)) (in_set k there)).1 in
       not-true (st.key s k.index).removed (and_parts (st.key s k.index).published (not (st.key s k.index).removed) set).1
-
-  are_apart : (k m : KeyId) → is_looked looked k ≡ true → is_looked looked m ≡ true → k.index ≡ m.index → k.serial ≡ m.serial
-  are_apart k m first second same = sym (serial-is k first) ∙ (ap (λ i. (st.key s i).serial) same ∙ serial-is m second)
 
   -- whether a looked key is updated, as a script sees it
   abbrev pub updated : KeyId × ℕ → Bool
@@ -103,7 +133,7 @@ module _ (st : State) (me : CallerNo) (x : Selection) (pairs : List (KeyId × �
     key-is = λ j. record { index = e.index; serial = serial-is p.0 there j }
 
     told-here : told_of told e.index ≡ all_told pairs p.0
-    told-here = told-is looked are_apart p.0 there pairs
+    told-here = tells p.0 there
 
     -- nothing was told of its index before
     mark-before : (stands past).mark s e.index ≡ m

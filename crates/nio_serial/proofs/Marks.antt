@@ -26,6 +26,9 @@ use Rattle.nio_serial.proofs.Base.{put_at-here}
 or_assoc : (a b c : ℕ) → bit_or (bit_or a b) c ≡ bit_or a (bit_or b c)
 or_assoc a b c = same_from_bits (bit_or (bit_or a b) c) (bit_or a (bit_or b c)) (λ i. simp bit_at_or (omega arith))
 
+pub or_self : (a : ℕ) → bit_or a a ≡ a
+or_self a = same_from_bits (bit_or a a) a (λ i. simp bit_at_or (omega arith))
+
 or_absorbs : (a b : ℕ) → bit_or b (bit_and a b) ≡ b
 or_absorbs a b = same_from_bits (bit_or b (bit_and a b)) b (λ i. simp (bit_at_or, bit_at_and) (omega arith))
 
@@ -96,7 +99,7 @@ marked-with m told some = by_mark m.selected refl ∙ ap (λ b. if b then m else
 
 -- a mark that isn't updated is as it was
 pub marked-same : (m : Mark) (told : ℕ) → is_updated m told ≡ false → marked m told ≡ m
-marked-same m told no_ = by_told (told == 0) no_
+marked-same m told not_updated = by_told (told == 0) not_updated
   where
     by_gain : (b : Bool) → m.selected ≡ b → (not b || not (bit_or m.ready told == m.ready)) ≡ false → cond b (record m { ready = bit_or m.ready told }) (record { selected = true; ready = told }) ≡ m
     by_gain true is gains = λ j. record m { ready = eqb-true (bit_or m.ready told) m.ready (not-false (bit_or m.ready told == m.ready) gains) j }
@@ -126,9 +129,9 @@ mark-performed st me s i told = by_told (told == 0) refl
     Is p = p ≡ record { answer = one_if (is_updated m told); state = with_mark st s.0 i (marked m told) }
 
     stays : is_updated m told ≡ false → Is (record { answer = 0; state = st })
-    stays no_ = λ j. record {
-      answer = one_if (sym no_ j);
-      state = record st { mark = sym (put_at-here st.mark s.0 i (marked m told) (sym (marked-same m told no_))) j };
+    stays not_updated = λ j. record {
+      answer = one_if (sym not_updated j);
+      state = record st { mark = sym (put_at-here st.mark s.0 i (marked m told) (sym (marked-same m told not_updated))) j };
     }
 
     by_gain : (told == 0) ≡ false → (b : Bool) → gains_nothing m told ≡ b → Is (perform me (if b then Plan.reply 0 else (mark s i m told >>= mark_again s i told)) st)

@@ -57,9 +57,6 @@ module _ (l : Limits) (st : State) (me : CallerNo) (s : SelNo) (c : ChanNo) (ops
   abbrev Done : Type 0
   Done = Performed (Result KeyNo ChannelError)
 
-  abbrev refuses : ChannelError → Done
-  refuses e = record { answer = Err e; state = st }
-
   -- the channel has a valid key
   abbrev updated : KeyId → Done
   updated k = record { answer = Ok (key s k); state = with_note (with_interest st s.0 k.index ops) s.0 k.index (if att == 0 then st.note s.0 k.index else att) }
@@ -176,8 +173,8 @@ module _ (l : Limits) (st : State) (now : Progress) (me : CallerNo) (s : SelNo) 
     unregistered false not_shut = newly not_shut
 
     module _ (k : KeyId) where
-      abbrev stage_ : Stage
-      stage_ = st.key s.0 k.index
+      abbrev noted_stage : Stage
+      noted_stage = st.key s.0 k.index
 
       abbrev over : Bool → Bool → Bool → Performed (Option (Result KeyNo ChannelError))
       over = over_of l holding me s c ops att free untaken exact fresh_mark fresh_free is_open k
@@ -185,12 +182,12 @@ module _ (l : Limits) (st : State) (now : Progress) (me : CallerNo) (s : SelNo) 
       abbrev finish : Performed (Option (Result KeyNo ChannelError)) → Answered
       finish done = F (perform me (register_rest l s c ops att done.answer) done.state)
 
-      by_key : (in_set : Bool) → is_in_key_set stage_ k.serial ≡ in_set → (cancelled : Bool) → stage_.cancelled ≡ cancelled → (shut : Bool) → (st.gate s.0).shut ≡ shut
-          → registered l ds s.0 c.0 ops given (cond in_set (Some k) None) ≡ finish (over (in_set && cancelled) shut (is_valid_key stage_ k.serial))
+      by_key : (in_set : Bool) → is_in_key_set noted_stage k.serial ≡ in_set → (cancelled : Bool) → noted_stage.cancelled ≡ cancelled → (shut : Bool) → (st.gate s.0).shut ≡ shut
+          → registered l ds s.0 c.0 ops given (cond in_set (Some k) None) ≡ finish (over (in_set && cancelled) shut (is_valid_key noted_stage k.serial))
       by_key true e cancelled e' shut e'' =
-          let both = and_parts (fits stage_ k.serial) (in_key_set stage_) e in
-          let present : stage_.removed ≡ false = not-true stage_.removed (and_parts stage_.published (not stage_.removed) both.1).1 in
-          (λ j. by_tests (not (present j) && e' j) (e'' j)) ∙ with_key_there cancelled shut (λ out. valid_where (fits stage_ k.serial) (in_key_set stage_) stage_.cancelled e (e' ∙ out))
+          let both = and_parts (fits noted_stage k.serial) (in_key_set noted_stage) e in
+          let present : noted_stage.removed ≡ false = not-true noted_stage.removed (and_parts noted_stage.published (not noted_stage.removed) both.1).1 in
+          (λ j. by_tests (not (present j) && e' j) (e'' j)) ∙ with_key_there cancelled shut (λ out. valid_where (fits noted_stage k.serial) (in_key_set noted_stage) noted_stage.cancelled e (e' ∙ out))
         where
           done : Answered
           done = answered ds (reply.Key k) (with_note (with_interest ds.shared s.0 k.index ops) s.0 k.index (given_or_kept given (st.note s.0 k.index)))
@@ -198,7 +195,7 @@ module _ (l : Limits) (st : State) (now : Progress) (me : CallerNo) (s : SelNo) 
           by_tests : Bool → Bool → Answered
           by_tests x y = cond x (unchanged ds reply.CancelledKey) (cond y (unchanged ds reply.ClosedSelector) done)
 
-          with_key_there : (x y : Bool) → (x ≡ false → is_valid_key stage_ k.serial ≡ true) → by_tests x y ≡ finish (over x y (is_valid_key stage_ k.serial))
+          with_key_there : (x y : Bool) → (x ≡ false → is_valid_key noted_stage k.serial ≡ true) → by_tests x y ≡ finish (over x y (is_valid_key noted_stage k.serial))
           with_key_there true y valid = refused ChannelError.CancelledKey reply.CancelledKey refl
           with_key_there false true valid = refused ChannelError.ClosedSelector reply.ClosedSelector refl
           with_key_there false false valid =
@@ -209,7 +206,7 @@ module _ (l : Limits) (st : State) (now : Progress) (me : CallerNo) (s : SelNo) 
           ap (λ b. cond b (unchanged ds reply.ClosedSelector) (registered_new ds s.0 c.0 ops att (next_key l ds.shared s.0))) shut ∙ refused ChannelError.ClosedSelector reply.ClosedSelector refl
       by_key false e cancelled e' false not_shut =
           ap (λ b. cond b (unchanged ds reply.ClosedSelector) (registered_new ds s.0 c.0 ops att (next_key l ds.shared s.0))) not_shut
-          ∙ (newly not_shut ∙ ap (λ v. finish (over false false v)) (sym (not_valid (fits stage_ k.serial) (in_key_set stage_) stage_.cancelled e)))
+          ∙ (newly not_shut ∙ ap (λ v. finish (over false false v)) (sym (not_valid (fits noted_stage k.serial) (in_key_set noted_stage) noted_stage.cancelled e)))
 
     by_noted : (o : Option KeyId) → st.noted c.0 s.0 ≡ o
         → registered l ds s.0 c.0 ops given (if_in_key_set ds.shared s.0 o) ≡ F (perform me (register_over s ops att o >>= register_rest l s c ops att) holding)

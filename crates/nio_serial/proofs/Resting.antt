@@ -166,8 +166,8 @@ module _ (l : Limits) (st : State) (rest : Rests l st) (goes : ℕ → ℕ → B
   abbrev removed : ℕ → ℕ → Stage
   removed s i = cond (goes s i) (removed_key (st.key s i)) (st.key s i)
 
-  abbrev unmarked_ : ℕ → ℕ → Mark
-  unmarked_ s i = cond (goes s i) (unselected (marks s i)) (marks s i)
+  abbrev unselected_where : ℕ → ℕ → Mark
+  unselected_where s i = cond (goes s i) (unselected (marks s i)) (marks s i)
 
   abbrev freed : ℕ → ℕ → Bool
   freed s i = (goes s i && frees (st.key s i)) || st.free s i
@@ -183,9 +183,9 @@ module _ (l : Limits) (st : State) (rest : Rests l st) (goes : ℕ → ℕ → B
   stays_out : (s i : ℕ) → nat_lt i (st.keys_high s) ≡ false → goes s i ≡ false
   stays_out s i above = false_from_ne_true (goes s i) (λ h. both_ways (nat_lt i (st.keys_high s)) above (sym (rest.keys.published s i) ∙ published s i h))
 
-  pub keys-removed : KeysRest l st.keys_high removed unmarked_ freed
+  pub keys-removed : KeysRest l st.keys_high removed unselected_where freed
   keys-removed =
-      keys-kept l st.keys_high st.key removed st.mark unmarked_ st.free freed rest.keys
+      keys-kept l st.keys_high st.key removed st.mark unselected_where st.free freed rest.keys
       (λ s i. still_claimed (goes s i) (st.key s i)) (λ s i. still_published (goes s i) (st.key s i))
       (λ s i above fresh.
       let out = stays_out s i above in
@@ -196,7 +196,7 @@ module _ (l : Limits) (st : State) (rest : Rests l st) (goes : ℕ → ℕ → B
       })
 
   pub frees-removed : FreesRest ended removed freed
-  frees-removed = record { removed = λ s i h. by_goes s i (goes s i) h (rest.frees.removed s i); exactly = λ s i open_. exact s i (goes s i) refl open_ }
+  frees-removed = record { removed = λ s i h. by_goes s i (goes s i) h (rest.frees.removed s i); exactly = λ s i still_open. exact s i (goes s i) refl still_open }
     where
       by_goes : (s i : ℕ) (b : Bool) → ((b && frees (st.key s i)) || st.free s i) ≡ true → (st.free s i ≡ true → (st.key s i).removed ≡ true) → (cond b (removed_key (st.key s i)) (st.key s i)).removed ≡ true
       by_goes s i true h old = refl
@@ -204,16 +204,16 @@ module _ (l : Limits) (st : State) (rest : Rests l st) (goes : ℕ → ℕ → B
 
       exact : (s i : ℕ) (b : Bool) → goes s i ≡ b → ended s ≡ false
           → ((b && frees (st.key s i)) || st.free s i) ≡ ((cond b (removed_key (st.key s i)) (st.key s i)).removed && nat_lt (cond b (removed_key (st.key s i)) (st.key s i)).serial last_serial)
-      exact s i true e open_ =
-          let both = exactly s i open_ e in
+      exact s i true e still_open =
+          let both = exactly s i still_open e in
           let present : (st.key s i).removed ≡ false = not-true (st.key s i).removed (and_parts (st.key s i).published (not (st.key s i).removed) both.0).1 in
-          let not_free : st.free s i ≡ false = rest.frees.exactly s i (kept s open_) ∙ (λ j. present j && nat_lt (st.key s i).serial last_serial) in
+          let not_free : st.free s i ≡ false = rest.frees.exactly s i (kept s still_open) ∙ (λ j. present j && nat_lt (st.key s i).serial last_serial) in
           (λ j. both.1 j || not_free j) ∙ or_false (nat_lt (st.key s i).serial last_serial)
         where
           or_false : (b : Bool) → (b || false) ≡ b
           or_false true = refl
           or_false false = refl
-      exact s i false e open_ = rest.frees.exactly s i (kept s open_)
+      exact s i false e still_open = rest.frees.exactly s i (kept s still_open)
 
 -- ---- one key
 
@@ -264,7 +264,7 @@ module _ (l : Limits) (st : State) (rest : Rests l st) (s c : ℕ) (k : KeyId) (
   pub frees-new : FreesRest st.entered key_after (put_at st.free s k.index false)
   frees-new = record {
     removed = λ t j h. by_place ((t == s) && (j == k.index)) t j h;
-    exactly = λ t j open_. exact ((t == s) && (j == k.index)) t j open_;
+    exactly = λ t j still_open. exact ((t == s) && (j == k.index)) t j still_open;
   }
     where
       by_place : (b : Bool) (t j : ℕ) → cond b false (st.free t j) ≡ true → (cond b (new_stage c k.serial) (st.key t j)).removed ≡ true
@@ -272,8 +272,8 @@ module _ (l : Limits) (st : State) (rest : Rests l st) (s c : ℕ) (k : KeyId) (
       by_place false t j h = rest.frees.removed t j h
 
       exact : (b : Bool) (t j : ℕ) → st.entered t ≡ false → cond b false (st.free t j) ≡ ((cond b (new_stage c k.serial) (st.key t j)).removed && nat_lt (cond b (new_stage c k.serial) (st.key t j)).serial last_serial)
-      exact true t j open_ = refl
-      exact false t j open_ = rest.frees.exactly t j open_
+      exact true t j still_open = refl
+      exact false t j still_open = rest.frees.exactly t j still_open
 
 -- a key that is taken out of the selected set
 pub keys-unselected : (l : Limits) (st : State) → Rests l st → (s i : ℕ) → KeysRest l st.keys_high st.key (put_at st.mark s i (unselected (st.mark s i))) st.free

@@ -42,10 +42,6 @@ module _ (l : Limits) (st : ScriptState) (sound : Sound Now l st) (rest : Rests 
   abbrev Keeps : Answered → Type 0
   Keeps a = Rests l a.left.shared
 
-  -- a call that changes none of these parts
-  abbrev same : Rests l st.shared
-  same = rest
-
   allowed : (test : Bool) (r : Reply) (a : Answered) → (test ≡ true → Keeps a) → Keeps (cond test a (unchanged st r))
   allowed test r a h = by_test Keeps test a (unchanged st r) h (λ _. rest)
 
@@ -414,7 +410,7 @@ module _ (l : Limits) (st : ScriptState) (sound : Sound Now l st) (rest : Rests 
         by_selector false e = e
 
     none_go : (t i : ℕ) → ended t ≡ false → empties t i ≡ true → (in_key_set (st.shared.key t i) ≡ true) × (none (st.shared.key t i) ≡ nat_lt (st.shared.key t i).serial last_serial)
-    none_go t i h goes_ = absurd (both_ways true (sym (ap (λ b. cond b true (st.shared.entered t)) (and_parts (t == s) (st.shared.key s i).claimed goes_).0) ∙ h) refl)
+    none_go t i h going = absurd (both_ways true (sym (ap (λ b. cond b true (st.shared.entered t)) (and_parts (t == s) (st.shared.key s i).claimed going).0) ∙ h) refl)
 
     emptied_keys : KeysRest l st.shared.keys_high (λ t i. cond (empties t i) (removed_key (st.shared.key t i)) (st.shared.key t i)) (λ t i. cond (empties t i) (unselected (st.shared.mark t i)) (st.shared.mark t i)) (λ t i. (empties t i && false) || st.shared.free t i)
     emptied_keys = keys-removed l st.shared rest empties none ended st.shared.mark claimed_published (λ _ _ _. refl) kept_open none_go

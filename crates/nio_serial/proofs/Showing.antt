@@ -1,4 +1,6 @@
 -- What is in progress stays what the state shows, after each line.
+use Rattle.nio_plain.proofs.ReachedSound.{some_same}
+use Rattle.nio_serial.specs.Laws.{by_key}
 use Rattle.std.proofs.Common.{◌≡◌, ℕ, ◌==◌, Bool, true, false, cond, ◌||◌, if◌then◌else◌, Option, Some, None, option_map, is_some, List, map, refl, ap, sym, ◌∙◌, subst}
 use Rattle.std.specs.Prelude.{⊤}
 use Rattle.std.proofs.lemmas.Bool.{both_ways, false_from_ne_true}
@@ -21,10 +23,11 @@ use Rattle.nio_serial.proofs.Base.{put-here}
 use Rattle.nio_serial.proofs.Beginning.{begin-cases, begun-on}
 use Rattle.nio_serial.proofs.ClosingSelectors.{finish-cases}
 use Rattle.nio_serial.proofs.Facts.{sound, untaken, none_due, published, free, begun, looked_in_set}
+use Rattle.nio_serial.proofs.Marking.{by_key-tells}
 use Rattle.nio_serial.proofs.Telling.{told-cases}
 use Rattle.nio_serial.specs.Between.{IsOn, IsShownBy, IsBetween}
 use Rattle.nio_serial.specs.Documented.{Progress, Selecting, looked_pair}
-use Rattle.nio_serial.specs.Lines.{Said, makes, refused, with_selection, if_own, after_begin, after_told, after_shut, after_finish, begin_line, by_index, told_line, failed_line, close_end_line}
+use Rattle.nio_serial.specs.Lines.{Said, makes, refused, with_selection, if_own, after_begin, after_told, after_shut, after_finish, begin_line, by_index, told_line, failed_line, close_end_line, own_selection}
 use Rattle.nio_serial.specs.Replies.{begin_reply, told_reply, shut_reply, finish_reply}
 
 -- what a performed line leaves in progress is what its state shows
@@ -72,13 +75,13 @@ module _ (l : Limits) (st : State) (now : Progress) (me : CallerNo) (between : I
   begin-shows s (Some mode) =
       let due = none_due l st now between s.0 in
       let idle = untaken l st now between s.0 in
-      let pub_ = published l st now between s.0 in
+      let exact = published l st now between s.0 in
       let out = free l st now between s.0 in
       made-shows me (try_begin_plan s mode false) begin_reply (after_begin now me s) st
-      (begin-cases st now me s due idle pub_ out mode (ShowsBy (after_begin now me s))
+      (begin-cases st now me s due idle exact out mode (ShowsBy (after_begin now me s))
       (λ t. between.shown t) (λ t. between.shown t)
       (λ _. shows-selection _ s (Some (record { caller = me; selection = _ })) refl refl refl refl
-      (λ y e. subst (λ (x : Option Selecting). OnOf s x) e (begun-on st now me s due idle pub_ out mode))))
+      (λ y e. subst (λ (x : Option Selecting). OnOf s x) e (begun-on st now me s due idle exact out mode))))
     where
       OnOf : SelNo → Option Selecting → Type 0
       OnOf s' None = ⊤
@@ -97,13 +100,15 @@ module _ (l : Limits) (st : State) (now : Progress) (me : CallerNo) (between : I
     in_set : (k : KeyId) → is_looked (map looked_pair x.looked) k ≡ true → is_in_key_set (st.key x.selector.0 k.index) k.serial ≡ true
     in_set = subst (λ (n : ℕ). (k : KeyId) → is_looked (map looked_pair x.looked) k ≡ true → is_in_key_set (st.key n k.index) k.serial ≡ true) (sym on.selector) (looked_in_set l st now between s.0 y is)
 
-    told-one : (elapsed : Bool) (pairs : List (KeyId × ℕ)) → Shows (perform me (told_line now s elapsed pairs (Some x)) st)
-    told-one elapsed pairs =
-        made-shows me (told_plan x (by_index x pairs) elapsed) told_reply (after_told now s) st
-        (subst (λ (n : SelNo). ShowsBy (after_told now n) (perform me (told_plan x (by_index x pairs) elapsed) st)) selector-is
-        (told-cases st now me x pairs on.rises in_set on.kept (none_due l st now between) (untaken l st now between x.selector.0) elapsed (ShowsBy (after_told now x.selector))
+    told-index : (elapsed : Bool) (told : List (ℕ × ℕ)) → ShowsBy (after_told now s) (perform me (told_plan x told elapsed) st)
+    told-index elapsed told =
+        subst (λ (n : SelNo). ShowsBy (after_told now n) (perform me (told_plan x told elapsed) st)) selector-is
+        (told-cases st now me x (by_key x told) told on.rises in_set (by_key-tells x told) on.kept (none_due l st now between) (untaken l st now between x.selector.0) elapsed (ShowsBy (after_told now x.selector))
         (shows-same _ refl refl refl refl)
-        (λ answer. shows-selection _ x.selector None refl refl refl refl (λ z e. absurd cc))))
+        (λ answer. shows-selection _ x.selector None refl refl refl refl (λ z e. absurd cc)))
+
+    told-one : (elapsed : Bool) (pairs : List (KeyId × ℕ)) → Shows (perform me (told_line now s elapsed pairs (Some x)) st)
+    told-one elapsed pairs = made-shows me (told_plan x (by_index x pairs) elapsed) told_reply (after_told now s) st (told-index elapsed (by_index x pairs))
 
     failed-one : Shows (perform me (failed_line now s (Some x)) st)
     unfolding leave_plan
@@ -126,6 +131,18 @@ module _ (l : Limits) (st : State) (now : Progress) (me : CallerNo) (between : I
       by_caller : (b : Bool) → Shows (perform me (failed_line now s (cond b (Some y.selection) None)) st)
       by_caller true = failed-one s y is
       by_caller false = between.shown
+
+  -- a `told` by index
+  pub told-index-shows : (s : SelNo) (x : Selection) (told : List (ℕ × ℕ)) (elapsed : Bool) → own_selection now me s ≡ Some x → ShowsBy (after_told now s) (perform me (told_plan x told elapsed) st)
+  told-index-shows s x told elapsed own = by_selection (now.selection s.0) refl own
+    where
+      by_selection : (o : Option Selecting) → now.selection s.0 ≡ o → if_own me o ≡ Some x → ShowsBy (after_told now s) (perform me (told_plan x told elapsed) st)
+      by_selection None is own' = absurd cc
+      by_selection (Some y) is own' = by_caller (y.caller.0 == me.0) own'
+        where
+          by_caller : (b : Bool) → cond b (Some y.selection) None ≡ Some x → ShowsBy (after_told now s) (perform me (told_plan x told elapsed) st)
+          by_caller true same = subst (λ (z : Selection). ShowsBy (after_told now s) (perform me (told_plan z told elapsed) st)) (some_same y.selection x same) (told-index s y is elapsed told)
+          by_caller false same = absurd cc
 
   -- ---- closings
 

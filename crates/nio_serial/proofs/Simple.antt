@@ -9,7 +9,6 @@ use Rattle.nio_base.specs.declared.numbers.KeyId.{KeyId}
 use Rattle.nio_base.specs.declared.numbers.SelNo.{SelNo}
 use Rattle.nio_event.specs.State.{State, with_selector, with_chan, with_channels_high, with_gate, with_closer}
 use Rattle.nio_event.specs.Acts.{new_channel}
-use Rattle.nio_event.specs.declared.found.GateWord.{GateWord}
 use Rattle.nio_event.specs.declared.reply.Reply.{Reply}
 use Rattle.nio_event.specs.declared.reply.Reply.TheVariants as reply
 use Rattle.nio_plain.proofs.Found.{find_none, find_first}
@@ -79,9 +78,6 @@ module _ (st : State) (now : Progress) (me : CallerNo) where
     unfolding close_call shut_plan
     close-amounts = selector-through ds s made _ ∙ by_shut (st.gate s.0).shut refl
       where
-        shut_gate : GateWord
-        shut_gate = record (st.gate s.0) { shut = true }
-
         by_shut : (b : Bool) → (st.gate s.0).shut ≡ b
             → cond b (unchanged ds reply.Already) (answered ds reply.Closing (with_closer (with_gate ds.shared s.0 (record (st.gate s.0) { shut = true })) s.0 (Some me)))
             ≡ amounts shut_reply (after_shut now me s) (record { answer = cond b already_closed closing; state = with_closer (with_gate st s.0 (record (st.gate s.0) { shut = true })) s.0 (cond b (st.closer s.0) (Some me)) })

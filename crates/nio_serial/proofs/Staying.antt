@@ -75,6 +75,20 @@ module _ (l : Limits) (now : Progress) where
       selector-leaves s (find_plan l s k.index k.serial >>= if_found now reply.NoKey plan)
       (each_bind (λ _. ⊤) (λ _. ⊤) (λ x. x.left ≡ now) (find_plan l s k.index k.serial) (if_found now reply.NoKey plan) (each_any (find_plan l s k.index k.serial)) (λ found _. found-leaves now reply.NoKey plan found leaves))
 
+-- ---- scripts with one line more
+
+one_more : (l : Limits) (calls : List ScriptCall) (c : ScriptCall) (from : ScriptState) → left_from Now l from (calls ++ c ∷ []) ≡ (seq Now l (left_from Now l from calls) c.caller c.call).left
+one_more l [] c from = refl
+one_more l (d ∷ calls) c from = one_more l calls c (seq Now l from d.caller d.call).left
+
+pub left-more : (l : Limits) (st : ScriptState) (me : CallerNo) (word : Call) → IsLeft l st → IsLeft l (seq Now l st me word).left
+left-more l st me word was =
+    let c : ScriptCall = record { caller = me; call = word } in
+    record {
+      calls = was.calls ++ c ∷ [];
+      left = ap (λ (x : ScriptState). (seq Now l x me word).left) was.left ∙ sym (one_more l was.calls c script_opening);
+    }
+
 -- ---- after each line
 
 module _ (l : Limits) (st : State) (now : Progress) (me : CallerNo) (fit : IsFit l) (between : IsBetween l st now) where
@@ -87,13 +101,13 @@ module _ (l : Limits) (st : State) (now : Progress) (me : CallerNo) (fit : IsFit
   steady-shows : (word : Call) → Leaves now (named word) → IsSteady ds (call_of Now l ds me word) → Shows (perform me (named word) st)
   steady-shows word leaves steady t =
       let done = perform me (named word) st in
-      let amounts_ = named-amounts l st now me fit between word in
+      let same = named-amounts l st now me fit between word in
       subst (λ (p : Progress). IsShownBy done.state p t) (sym (each-performed (λ said. said.left ≡ now) me (named word) st leaves))
       (shows-same l st now me between done.state
-      (sym (ap (λ (a : Answered). a.left.shared.turn) amounts_) ∙ steady.turn)
-      (sym (ap (λ (a : Answered). a.left.shared.begun) amounts_) ∙ steady.begun)
-      (sym (ap (λ (a : Answered). a.left.shared.closer) amounts_) ∙ steady.closer)
-      (sym (ap (λ (a : Answered). a.left.shared.entered) amounts_) ∙ steady.entered) t)
+      (sym (ap (λ (a : Answered). a.left.shared.turn) same) ∙ steady.turn)
+      (sym (ap (λ (a : Answered). a.left.shared.begun) same) ∙ steady.begun)
+      (sym (ap (λ (a : Answered). a.left.shared.closer) same) ∙ steady.closer)
+      (sym (ap (λ (a : Answered). a.left.shared.entered) same) ∙ steady.entered) t)
 
   selector-shows : (s : SelNo) (plan : Plan Said) → Shows (perform me plan st) → Shows (perform me (if_selector l now s plan) st)
   selector-shows s plan shows =
@@ -146,25 +160,13 @@ module _ (l : Limits) (st : State) (now : Progress) (me : CallerNo) (fit : IsFit
       by_caller true = named-shows word
       by_caller false = between.shown
 
-  one_more : (calls : List ScriptCall) (c : ScriptCall) (from : ScriptState) → left_from Now l from (calls ++ c ∷ []) ≡ (seq Now l (left_from Now l from calls) c.caller c.call).left
-  one_more [] c from = refl
-  one_more (d ∷ calls) c from = one_more calls c (seq Now l from d.caller d.call).left
-
-  line-left : (word : Call) → IsLeft l (seq Now l ds me word).left
-  line-left word =
-      let c : ScriptCall = record { caller = me; call = word } in
-      record {
-        calls = between.left.calls ++ c ∷ [];
-        left = ap (λ (x : ScriptState). (seq Now l x me word).left) between.left.left ∙ sym (one_more between.left.calls c script_opening);
-      }
-
   pub line-stays : (word : Call) → let done = perform me (line_plan l now me word) st in IsBetween l done.state done.answer.left
   line-stays word =
       let done = perform me (line_plan l now me word) st in
-      let amounts_ : seq Now l ds me word ≡ comes_to done = line-amounts l st now me fit between word in
+      let same : seq Now l ds me word ≡ comes_to done = line-amounts l st now me fit between word in
       record {
-        left = subst (λ (a : Answered). IsLeft l a.left) amounts_ (line-left word);
-        at_rest = subst (λ (a : Answered). IsAtRest l a.left.shared) amounts_ (rests-is l (seq Now l ds me word).left.shared (rests-seq l ds (sound l st now between) (rests-from l ds.shared between.at_rest) me word));
+        left = subst (λ (a : Answered). IsLeft l a.left) same (left-more l ds me word between.left);
+        at_rest = subst (λ (a : Answered). IsAtRest l a.left.shared) same (rests-is l (seq Now l ds me word).left.shared (rests-seq l ds (sound l st now between) (rests-from l ds.shared between.at_rest) me word));
         shown = line-shows word;
       }
 

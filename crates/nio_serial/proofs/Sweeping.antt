@@ -68,8 +68,8 @@ module _ (st : State) (me : CallerNo) (s : SelNo) (none_due : (i : ℕ) → st.p
   goes_same past e stays t i = ap (λ b. (t == s.0) && b) (by_index (e == i) refl ∙ ap (λ b. b && test i) (sym (index-push i past e)))
     where
       or_more : (b x : Bool) → x ≡ false → (b && x) ≡ ((b || true) && x)
-      or_more true x no_ = refl
-      or_more false x no_ = sym no_
+      or_more true x is_false = refl
+      or_more false x is_false = sym is_false
 
       or_none : (b x : Bool) → (b && x) ≡ ((b || false) && x)
       or_none true x = refl
@@ -179,10 +179,10 @@ module _ (st : State) (me : CallerNo) (s : SelNo) (none_due : (i : ℕ) → st.p
 
   -- a published key is cancelled, or valid, or removed
   one_of : (p r c : Bool) → p ≡ true → ((p && not r) && c) ≡ false → ((p && not r) && not c) ≡ false → r ≡ true
-  one_of true true c pub_ out invalid = refl
-  one_of true false true pub_ out invalid = absurd (both_ways true out refl)
-  one_of true false false pub_ out invalid = absurd (both_ways true invalid refl)
-  one_of false r c pub_ out invalid = absurd (both_ways false refl pub_)
+  one_of true true c published out invalid = refl
+  one_of true false true published out invalid = absurd (both_ways true out refl)
+  one_of true false false published out invalid = absurd (both_ways true invalid refl)
+  one_of false r c published out invalid = absurd (both_ways false refl published)
 
   look_turn : (past : List ℕ) (e : ℕ) → (st.key s.0 e).published ≡ true
       → perform me (look_over s e (looked_over past)) (swept past) ≡ record { answer = looked_over (past ++ e ∷ []); state = swept (past ++ e ∷ []) }

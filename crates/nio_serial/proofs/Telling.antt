@@ -27,7 +27,7 @@ use Rattle.nio_steps.proofs.Lists.{parted}
 use Rattle.nio_steps.proofs.PerformLaws.{perform_then_on}
 use Rattle.nio_steps.specs.Perform.{Performed, perform}
 use Rattle.nio_steps.specs.Plan.{Plan, ◌>>◌}
-use Rattle.nio_steps.specs.SelectCalls.{Selection, mark_entry, remove_if_cancelled, after_marks, end_selection, told_plan, leave_plan, ToldReply, done, again, is_again as is_again_by_look, why_ended as why_by_look}
+use Rattle.nio_steps.specs.SelectCalls.{Selection, mark_entry, remove_if_cancelled, after_marks, end_selection, told_plan, leave_plan, ToldReply, done, again, is_again as is_again_by_look, why_ended as why_over, told_of}
 use Rattle.nio_steps.specs.Steps.{end_wake, give_turn}
 use Rattle.nio_steps.specs.Sweeps.{sweep_over}
 use Rattle.nio_steps.specs.declared.looked.LookedKey.{LookedKey}
@@ -38,7 +38,7 @@ use Rattle.nio_serial.proofs.Marks.{marked-same}
 use Rattle.nio_serial.proofs.Removing.{settled-removed}
 use Rattle.nio_serial.proofs.Sweeping.{has_index, has_next, swept, sweep-performed}
 use Rattle.nio_serial.specs.Documented.{Progress, settled, settled_mark, settled_state, looked_pair, shown, documented, amounts}
-use Rattle.nio_serial.specs.Lines.{by_index, after_told, with_selection}
+use Rattle.nio_serial.specs.Lines.{after_told, with_selection}
 use Rattle.nio_serial.specs.Replies.{told_reply}
 
 -- ---- whether it goes on, and why it ended
@@ -70,7 +70,7 @@ again-is (mode.For ms) count gate interrupted elapsed = by_bools (count == 0) (n
     by_bools true false c d false = refl
     by_bools false b c d e = refl
 
-why-is : (m : Mode) (count : ℕ) (gate : GateWord) (interrupted : Bool) → why_ended gate interrupted m count ≡ why_by_look m count gate interrupted
+why-is : (m : Mode) (count : ℕ) (gate : GateWord) (interrupted : Bool) → why_ended gate interrupted m count ≡ why_over m count gate interrupted
 why-is mode.Now count gate interrupted = refl
 why-is mode.Wait count gate interrupted = refl
 why-is (mode.For ms) count gate interrupted = refl
@@ -94,9 +94,10 @@ failed-amounts st now me x none_due = λ j. record {
 
 -- ---- telling
 
-module _ (st : State) (now : Progress) (me : CallerNo) (x : Selection) (pairs : List (KeyId × ℕ))
+module _ (st : State) (now : Progress) (me : CallerNo) (x : Selection) (pairs : List (KeyId × ℕ)) (told : List (ℕ × ℕ))
     (rises : AllPairs (λ (a b : LookedKey). a.index < b.index) x.looked)
     (in_set : (k : KeyId) → is_looked (map looked_pair x.looked) k ≡ true → is_in_key_set (st.key x.selector.0 k.index) k.serial ≡ true)
+    (tells : (k : KeyId) → is_looked (map looked_pair x.looked) k ≡ true → told_of told k.index ≡ all_told pairs k)
     (kept : x.kept ≡ map (λ (e : LookedKey). e.index) x.looked)
     (none_due : (t i : ℕ) → st.put_due t i ≡ false) (untaken : (i : ℕ) → st.taker x.selector.0 i ≡ None) where
   abbrev s : ℕ
@@ -109,7 +110,7 @@ module _ (st : State) (now : Progress) (me : CallerNo) (x : Selection) (pairs : 
   looked = map looked_pair x.looked
 
   abbrev count : ℕ
-  count = counts st me x pairs rises in_set x.looked
+  count = counts st me x pairs told rises in_set tells x.looked
 
   -- the state after the marks
   abbrev marked_st : State
@@ -120,18 +121,18 @@ module _ (st : State) (now : Progress) (me : CallerNo) (x : Selection) (pairs : 
 
   -- ---- no key is updated: the state is as it was
 
-  none_updated : (xs : List (KeyId × ℕ)) (k : KeyId) → is_looked xs k ≡ true → count_by (updated st me x pairs rises in_set) xs ≡ 0 → updated st me x pairs rises in_set (k, 0) ≡ false
+  none_updated : (xs : List (KeyId × ℕ)) (k : KeyId) → is_looked xs k ≡ true → count_by (updated st me x pairs told rises in_set tells) xs ≡ 0 → updated st me x pairs told rises in_set tells (k, 0) ≡ false
   none_updated [] k there none = absurd (both_ways false refl there)
   none_updated (q ∷ xs) k there none =
-      let f = updated st me x pairs rises in_set in
+      let f = updated st me x pairs told rises in_set tells in
       let parts : (cond (f q) 1 0) + count_by f xs ≡ 0 = sym (sum_by-cons (λ p. cond (f p) 1 0) q xs) ∙ none in
       by_head (is_same_key q.0 k) refl (f q) refl there parts (λ later rest. none_updated xs k later rest)
     where
-      by_head : (b : Bool) → is_same_key q.0 k ≡ b → (c : Bool) → updated st me x pairs rises in_set q ≡ c → (b || is_looked xs k) ≡ true → cond c 1 0 + count_by (updated st me x pairs rises in_set) xs ≡ 0
-          → (is_looked xs k ≡ true → count_by (updated st me x pairs rises in_set) xs ≡ 0 → updated st me x pairs rises in_set (k, 0) ≡ false)
-          → updated st me x pairs rises in_set (k, 0) ≡ false
+      by_head : (b : Bool) → is_same_key q.0 k ≡ b → (c : Bool) → updated st me x pairs told rises in_set tells q ≡ c → (b || is_looked xs k) ≡ true → cond c 1 0 + count_by (updated st me x pairs told rises in_set tells) xs ≡ 0
+          → (is_looked xs k ≡ true → count_by (updated st me x pairs told rises in_set tells) xs ≡ 0 → updated st me x pairs told rises in_set tells (k, 0) ≡ false)
+          → updated st me x pairs told rises in_set tells (k, 0) ≡ false
       by_head b same true up there' parts rest = absurd (omega arith)
-      by_head true same false up there' parts rest = subst (λ (m : KeyId). updated st me x pairs rises in_set (m, 0) ≡ false) (same-is q.0 k same) up
+      by_head true same false up there' parts rest = subst (λ (m : KeyId). updated st me x pairs told rises in_set tells (m, 0) ≡ false) (same-is q.0 k same) up
       by_head false same false up there' parts rest = rest there' (omega arith)
 
   interest-none : (xs : List (KeyId × ℕ)) (k : KeyId) → is_looked xs k ≡ false → looked_interest xs k ≡ 0
@@ -151,7 +152,7 @@ module _ (st : State) (now : Progress) (me : CallerNo) (x : Selection) (pairs : 
       here true there =
           let k = key_at st s i in
           marked-same (st.mark s i) (told_bits looked pairs k)
-          ((λ j. is_updated (record (st.mark s i) { selected = not (sym (not-removed st me x pairs rises in_set k there) j) && (st.mark s i).selected }) (told_bits looked pairs k))
+          ((λ j. is_updated (record (st.mark s i) { selected = not (sym (not-removed st me x pairs told rises in_set tells k there) j) && (st.mark s i).selected }) (told_bits looked pairs k))
           ∙ none_updated looked k there none)
       here false out = ap (marked (st.mark s i)) (untold (key_at st s i) out)
 
@@ -182,7 +183,7 @@ module _ (st : State) (now : Progress) (me : CallerNo) (x : Selection) (pairs : 
   quiet i removed = by_looked (is_looked looked (key_at st s i)) refl
     where
       by_looked : (b : Bool) → is_looked looked (key_at st s i) ≡ b → told_bits looked pairs (key_at st s i) ≡ 0
-      by_looked true there = absurd (both_ways (st.key s i).removed (not-removed st me x pairs rises in_set (key_at st s i) there) removed)
+      by_looked true there = absurd (both_ways (st.key s i).removed (not-removed st me x pairs told rises in_set tells (key_at st s i) there) removed)
       by_looked false out = untold (key_at st s i) out
 
   settled-marks : settled_state marked_st ≡ with_marks ds.shared s looked pairs
@@ -215,7 +216,7 @@ module _ (st : State) (now : Progress) (me : CallerNo) (x : Selection) (pairs : 
 
   serials-are : (e : LookedKey) → Contains x.looked e → (st.key s e.index).serial ≡ e.serial
   serials-are e there =
-      serial-is st me x pairs rises in_set (looked_pair e).0
+      serial-is st me x pairs told rises in_set tells (looked_pair e).0
       (let cut = parted x.looked e there in
       ap (λ xs. is_looked (map looked_pair xs) (looked_pair e).0) cut.parts
       ∙ (ap (λ xs. is_looked xs (looked_pair e).0) (map-append looked_pair cut.past (e ∷ cut.later)) ∙ looked-middle (map looked_pair cut.past) (looked_pair e) (map looked_pair cut.later)))
@@ -244,12 +245,12 @@ module _ (st : State) (now : Progress) (me : CallerNo) (x : Selection) (pairs : 
 
   -- ---- the call
 
-  pub told-amounts : (elapsed : Bool) → told_selection Now ds me s pairs elapsed (Some (shown x)) ≡ F (perform me (told_plan x (by_index x pairs) elapsed) st)
+  pub told-amounts : (elapsed : Bool) → told_selection Now ds me s pairs elapsed (Some (shown x)) ≡ F (perform me (told_plan x told elapsed) st)
   unfolding told_plan
   told-amounts elapsed =
       let gate = st.gate s in
       let interrupted = st.interrupted me.0 in
-      branch F me (Plan.reply (again x)) (end_selection x (record { count = count; why = why_by_look x.mode count gate interrupted })) marked_st _ _
+      branch F me (Plan.reply (again x)) (end_selection x (record { count = count; why = why_over x.mode count gate interrupted })) marked_st _ _
       (is_again gate interrupted x.mode elapsed count) (is_again_by_look x.mode count gate interrupted elapsed) (again-is x.mode count gate interrupted elapsed)
       (λ goes_on.
       let all : is_again gate interrupted x.mode elapsed count ≡ true = again-is x.mode count gate interrupted elapsed ∙ goes_on in
@@ -261,8 +262,8 @@ module _ (st : State) (now : Progress) (me : CallerNo) (x : Selection) (pairs : 
           selection = sym (put-under (λ _ o. option_map (λ y. shown y.selection) o) now.selection s None) j;
         };
       })
-      ∙ sym (ap F (ending-performed (record { count = count; why = why_by_look x.mode count gate interrupted }))))
-      ∙ sym (ap F (perform_then_on me (sweep_over x.looked (mark_entry x.selector (by_index x pairs)) 0) (after_marks x elapsed) st count marked_st (marks-performed st me x pairs rises in_set)))
+      ∙ sym (ap F (ending-performed (record { count = count; why = why_over x.mode count gate interrupted }))))
+      ∙ sym (ap F (perform_then_on me (sweep_over x.looked (mark_entry x.selector told) 0) (after_marks x elapsed) st count marked_st (marks-performed st me x pairs told rises in_set tells)))
     where
       first_of_all : is_again (st.gate s) (st.interrupted me.0) x.mode elapsed count ≡ true → count ≡ 0
       first_of_all all =
@@ -276,15 +277,15 @@ module _ (st : State) (now : Progress) (me : CallerNo) (x : Selection) (pairs : 
 
   -- what the call answers, and the state that it leaves: the selection goes on, or is over
   pub told-cases : (elapsed : Bool) (P : Performed ToldReply → Type 0) → P (record { answer = again x; state = marked_st }) → ((answer : Selected) → P (record { answer = done answer; state = ended }))
-      → P (perform me (told_plan x (by_index x pairs) elapsed) st)
+      → P (perform me (told_plan x told elapsed) st)
   unfolding told_plan
-  told-cases elapsed P goes_on_ over =
-      subst P (sym (perform_then_on me (sweep_over x.looked (mark_entry x.selector (by_index x pairs)) 0) (after_marks x elapsed) st count marked_st (marks-performed st me x pairs rises in_set)))
+  told-cases elapsed P continues over =
+      subst P (sym (perform_then_on me (sweep_over x.looked (mark_entry x.selector told) 0) (after_marks x elapsed) st count marked_st (marks-performed st me x pairs told rises in_set tells)))
       (by_test (is_again_by_look x.mode count (st.gate s) (st.interrupted me.0) elapsed))
     where
       answer : Selected
       answer = record { count = count; why = why_by_look x.mode count (st.gate s) (st.interrupted me.0) }
 
       by_test : (b : Bool) → P (perform me (if b then Plan.reply (again x) else end_selection x answer) marked_st)
-      by_test true = goes_on_
+      by_test true = continues
       by_test false = subst P (sym (ending-performed answer)) (over answer)

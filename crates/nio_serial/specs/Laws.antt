@@ -1,5 +1,5 @@
 -- The laws of calls that don't overlap.
-use Rattle.std.specs.Prelude.{◌≡◌, ◌<◌, true, List, ◌++◌, map, IsTrue, ⊤}
+use Rattle.std.specs.Prelude.{◌≡◌, ℕ, ◌<◌, Bool, true, Some, List, ◌++◌, map, IsTrue, ⊤}
 use Rattle.nio_base.specs.Limits.{IsFit}
 use Rattle.nio_base.specs.declared.limits.Limits.{Limits}
 use Rattle.nio_base.specs.declared.numbers.CallerNo.{CallerNo}
@@ -16,14 +16,17 @@ use Rattle.nio_event.specs.declared.call.Call.{Call}
 use Rattle.nio_event.specs.declared.call.Call.TheVariants as call
 use Rattle.nio_plain.specs.Seq.{call_of, seq}
 use Rattle.nio_event.specs.declared.event.Event.{Event}
+use Rattle.nio_event.specs.declared.found.Mode.{Mode}
 use Rattle.nio_plain.specs.Seq.Answers.{Answered}
 use Rattle.nio_plain.specs.declared.rules.Rules.TheVariants.{Now}
 use Rattle.nio_steps.specs.Calls.{CallClause}
 use Rattle.nio_steps.specs.Perform.{perform}
 use Rattle.nio_steps.specs.Runs.{Completes}
+use Rattle.nio_steps.specs.SelectCalls.{Selection, told_of, told_plan, try_begin_plan, keys_plan, selected_keys_plan, ToldReply}
 use Rattle.nio_serial.specs.Between.{IsBetween}
-use Rattle.nio_serial.specs.Documented.{Progress, nothing_yet, documented}
-use Rattle.nio_serial.specs.Lines.{Said, comes_to, call_plan, line_plan}
+use Rattle.nio_serial.specs.Documented.{Progress, nothing_yet, looked_pair, documented, amounts}
+use Rattle.nio_serial.specs.Lines.{Said, comes_to, own_selection, after_told, call_plan, line_plan}
+use Rattle.nio_serial.specs.Replies.{told_reply}
 
 -- ---- the names of a call
 
@@ -76,6 +79,16 @@ CallsAmount = (l : Limits) (st : State) (now : Progress) (me : CallerNo) (word :
     → IsBetween l st now → IsNamed l st word
     → call_of Now l (documented st now) me word ≡ comes_to (perform me (call_plan l now me word) st)
 
+-- the told pairs of a selection, each looked key with what was told of its index
+abbrev pub by_key : Selection → List (ℕ × ℕ) → List (KeyId × ℕ)
+by_key x told = map (λ entry. ((looked_pair entry).0, told_of told entry.index)) x.looked
+
+-- A `told` gives what the poller told by index: it amounts to the documented call that names the looked keys.
+abbrev pub ToldAmounts : Type 0
+ToldAmounts = (l : Limits) (st : State) (now : Progress) (me : CallerNo) (s : SelNo) (x : Selection) (told : List (ℕ × ℕ)) (elapsed : Bool)
+    → IsBetween l st now → IsMadeSelector st s → own_selection now me s ≡ Some x
+    → call_of Now l (documented st now) me (call.Told s elapsed (by_key x told)) ≡ amounts told_reply (after_told now s) (perform me (told_plan x told elapsed) st)
+
 -- so do those of a line with its look-ups
 abbrev pub LinesAmount : Type 0
 LinesAmount = (l : Limits) (st : State) (now : Progress) (me : CallerNo) (word : Call)
@@ -97,11 +110,26 @@ CallsStayBetween = (l : Limits) (st : State) (now : Progress) (me : CallerNo) (w
     → let done = perform me (call_plan l now me word) st in
     IsBetween l done.state done.answer.left
 
+abbrev pub ToldStaysBetween : Type 0
+ToldStaysBetween = (l : Limits) (st : State) (now : Progress) (me : CallerNo) (s : SelNo) (x : Selection) (told : List (ℕ × ℕ)) (elapsed : Bool)
+    → IsCaller l me → IsBetween l st now → IsMadeSelector st s → own_selection now me s ≡ Some x
+    → let done = perform me (told_plan x told elapsed) st in
+    IsBetween l done.state (after_told now s done.answer)
+
 abbrev pub LinesStayBetween : Type 0
 LinesStayBetween = (l : Limits) (st : State) (now : Progress) (me : CallerNo) (word : Call)
     → IsFit l → IsBetween l st now
     → let done = perform me (line_plan l now me word) st in
     IsBetween l done.state done.answer.left
+
+-- A call for which there is no memory leaves the state as it was: it has no reply, and nothing is in progress by it.
+pub record LacksOnlyMemory (me : CallerNo) (s : SelNo) (mode : Mode) (st : State) : Type 0 where
+  pub begins : (perform me (try_begin_plan s mode true) st).state ≡ st
+  pub keys : (perform me (keys_plan s true) st).state ≡ st
+  pub selected : (perform me (selected_keys_plan s true) st).state ≡ st
+
+abbrev pub LackingLeaves : Type 0
+LackingLeaves = (l : Limits) (st : State) (now : Progress) (me : CallerNo) (s : SelNo) (mode : Mode) → IsBetween l st now → LacksOnlyMemory me s mode st
 
 -- ---- the same of histories
 
@@ -117,6 +145,14 @@ CallRunsAmount = (l : Limits) (now : Progress) (me : CallerNo) (word : Call) (pa
     → IsFit l → IsCaller l me → IsBetween l (state_after past) now → IsNamed l (state_after past) word
     → IsLegal l (past ++ map (event_of me) acts) → Completes (call_plan l now me word) acts said
     → Amounts l (call_of Now l (documented (state_after past) now) me word) (past ++ map (event_of me) acts) said
+
+-- the same of a `told` by index
+abbrev pub ToldRunsAmount : Type 0
+ToldRunsAmount = (l : Limits) (now : Progress) (me : CallerNo) (s : SelNo) (x : Selection) (told : List (ℕ × ℕ)) (elapsed : Bool) (past : List Event) (acts : List Act) (answer : ToldReply)
+    → IsCaller l me → IsBetween l (state_after past) now → IsMadeSelector (state_after past) s → own_selection now me s ≡ Some x
+    → IsLegal l (past ++ map (event_of me) acts) → Completes (told_plan x told elapsed) acts answer
+    → Amounts l (call_of Now l (documented (state_after past) now) me (call.Told s elapsed (by_key x told))) (past ++ map (event_of me) acts)
+    (record { reply = told_reply answer; left = after_told now s answer })
 
 -- the same of a line
 abbrev pub LineRunsAmount : Type 0

@@ -1,12 +1,15 @@
 //! The laws, as the contracts of functions that do nothing.
-ghost use Rattle.nio_serial.specs.Laws.{CallsAmount, LinesAmount, BeginsBetween, DrawsStayBetween, CallsStayBetween, LinesStayBetween, CallRunsAmount, LineRunsAmount, PassLinesAmount};
+ghost use Rattle.nio_serial.specs.Laws.{CallsAmount, ToldAmounts, LinesAmount, BeginsBetween, DrawsStayBetween, CallsStayBetween, ToldStaysBetween, LinesStayBetween, CallRunsAmount, ToldRunsAmount, LineRunsAmount, PassLinesAmount, LackingLeaves};
 ghost use Rattle.nio_serial.specs.Serial.{SerialLinesAmount};
 
 /// The steps of a call between which nobody comes amount to the documented call: the reply and the state
-/// are its own. So do those of a script's line with its look-ups.
+/// are its own. So do those of a `told` by index, which names the looked keys, and those of a script's line
+/// with its look-ups. A call for which there is no memory leaves the state as it was.
 pub fn amounts_law()
     ensures calls { CallsAmount }
+    ensures told { ToldAmounts }
     ensures lines { LinesAmount }
+    ensures lacking { LackingLeaves }
 {}
 
 /// What holds between two calls of a serial history holds at the beginning, after each draw, after each
@@ -15,13 +18,16 @@ pub fn between_law()
     ensures begins { BeginsBetween }
     ensures draws { DrawsStayBetween }
     ensures calls { CallsStayBetween }
+    ensures told { ToldStaysBetween }
     ensures lines { LinesStayBetween }
 {}
 
 /// A run of a call in a legal history, with no event of another caller between, has the reply and leaves
-/// the state of the documented call. So does a run of a line, and a line on the only pass of a table.
+/// the state of the documented call. So does a run of a `told` by index, of a line, and a line on the only pass
+/// of a table.
 pub fn runs_law()
     ensures calls { CallRunsAmount }
+    ensures told { ToldRunsAmount }
     ensures lines { LineRunsAmount }
     ensures only { PassLinesAmount }
 {}

@@ -13,6 +13,7 @@ mod SelectionAsks
 pub mod ToldLaws
 pub mod BeginLaws
 pub mod SelectionLaws
+pub mod UnmarkedLaws
 pub mod OrderLaws
 pub mod OwnActs
 pub mod StandLaws

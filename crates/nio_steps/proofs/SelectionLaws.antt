@@ -50,7 +50,7 @@ pub not-gives : (s : ℕ) (act : Act) → asks_give s (question_of act) ≡ fals
 not-gives s (GiveTurn s') e = e
 not-gives s _ e = refl
 
-no_marks : (s : ℕ) (acts : List Act) → All (λ act. asks_mark s (question_of act) ≡ false) acts → has (marks_on s) acts ≡ false
+pub no_marks : (s : ℕ) (acts : List Act) → All (λ act. asks_mark s (question_of act) ≡ false) acts → has (marks_on s) acts ≡ false
 no_marks s acts each =
     list_any_none (marks_on s) acts (All-weaker (λ act. asks_mark s (question_of act) ≡ false) (λ act. marks_on s act ≡ false) (not-marks s) acts each)
 
@@ -95,7 +95,7 @@ count-none p (act ∷ acts) none =
     let all = count-cons p act acts in
     omega (arith, here, later, all)
 
-none-count : (p : Act → Bool) (acts : List Act) → count p acts ≡ 0 → has p acts ≡ false
+pub none-count : (p : Act → Bool) (acts : List Act) → count p acts ≡ 0 → has p acts ≡ false
 none-count p [] none = refl
 none-count p (act ∷ acts) none = by_test (p act) (sym (count-cons p act acts) ∙ none) (none-count p acts)
   where
@@ -146,7 +146,7 @@ entry-counts s pairs entry before =
     (mark_told-counts s entry.index told)
     (λ acts marked counted. let same = ap (count (marks_on s.0)) (append-nil acts) in omega (arith, counted, same))
 
-over-counts : (s : SelNo) (pairs : List (ℕ × ℕ)) (entries : List LookedKey) → Always (λ acts n. count (marks_on s.0) acts ≡ n) (sweep_over entries (mark_entry s pairs) 0)
+pub over-counts : (s : SelNo) (pairs : List (ℕ × ℕ)) (entries : List LookedKey) → Always (λ acts n. count (marks_on s.0) acts ≡ n) (sweep_over entries (mark_entry s pairs) 0)
 over-counts s pairs entries =
     always_over (λ _ acts n. count (marks_on s.0) acts ≡ n) entries (mark_entry s pairs) 0 refl
     (λ past entry later acts n _ counted. always_weaker (λ xs m. n + count (marks_on s.0) xs ≡ m) (λ xs m. count (marks_on s.0) (acts ++ xs) ≡ m) (mark_entry s pairs entry n)
@@ -223,7 +223,7 @@ after-keeps selection elapsed n = λ look asks look' asks'.
 
 -- ---- the laws
 
-none_of-append : (p : Act → Bool) (acts later : List Act) → has p acts ≡ false → has p later ≡ false → has p (acts ++ later) ≡ false
+pub none_of-append : (p : Act → Bool) (acts later : List Act) → has p acts ≡ false → has p later ≡ false → has p (acts ++ later) ≡ false
 none_of-append p acts later first second = list_any-append p acts later ∙ neither _ _ first second
 
 -- the selection that was begun, after acts that neither mark a key nor give the turn back

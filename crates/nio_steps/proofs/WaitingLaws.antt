@@ -9,14 +9,14 @@ use Rattle.nio_steps.proofs.CallLaws.{calls_then}
 use Rattle.nio_steps.specs.Calls.{CallClause}
 use Rattle.nio_steps.specs.Waiting.{Then, Run, acts_of, Tries, Repeats}
 
-acts_of-push : {X R : Type 0} (runs : List (Run X R)) (run : Run X R) → acts_of (runs ++ run ∷ []) ≡ acts_of runs ++ run.acts
+pub acts_of-push : {X R : Type 0} (runs : List (Run X R)) (run : Run X R) → acts_of (runs ++ run ∷ []) ≡ acts_of runs ++ run.acts
 acts_of-push [] run = append-nil run.acts
 acts_of-push (first ∷ later) run = ap (λ acts. first.acts ++ acts) (acts_of-push later run) ∙ sym (append_assoc first.acts (acts_of later) run.acts)
 
 -- ---- the acts
 
 -- no run was made yet
-pub tries_none : {X R : Type 0} (Shape : X → List Act → R → Type 0) (goes_on : X → R → Bool) → Tries Shape goes_on []
+unfoldable pub tries_none : {X R : Type 0} (Shape : X → List Act → R → Type 0) (goes_on : X → R → Bool) → Tries Shape goes_on []
 tries_none Shape goes_on = record {
   runs = [];
   parts = refl;
@@ -25,7 +25,7 @@ tries_none Shape goes_on = record {
 }
 
 -- one run more, after which the call is to be made again
-pub tries_more : {X R : Type 0} {Shape : X → List Act → R → Type 0} {goes_on : X → R → Bool} {acts : List Act} (x : X) (later : List Act) (answer : R)
+unfoldable pub tries_more : {X R : Type 0} {Shape : X → List Act → R → Type 0} {goes_on : X → R → Bool} {acts : List Act} (x : X) (later : List Act) (answer : R)
     → Tries Shape goes_on acts → Shape x later answer → goes_on x answer ≡ true → Tries Shape goes_on (acts ++ later)
 tries_more {Shape = Shape} {goes_on = goes_on} {acts = acts} x later answer tries made again =
     let run : Run _ _ = record { given = x; acts = later; answer = answer } in
@@ -37,7 +37,7 @@ tries_more {Shape = Shape} {goes_on = goes_on} {acts = acts} x later answer trie
     }
 
 -- the last run
-pub repeats_last : {X R : Type 0} {Shape : X → List Act → R → Type 0} {goes_on : X → R → Bool} {acts : List Act} (x : X) (later : List Act) (answer : R)
+unfoldable pub repeats_last : {X R : Type 0} {Shape : X → List Act → R → Type 0} {goes_on : X → R → Bool} {acts : List Act} (x : X) (later : List Act) (answer : R)
     → Tries Shape goes_on acts → Shape x later answer → goes_on x answer ≡ false → Repeats Shape goes_on (acts ++ later) answer
 repeats_last {acts = acts} x later answer tries made over = record {
   before = acts;

@@ -1,5 +1,4 @@
-use Rattle.nio_orderly.proofs.OrderlyClosings.{close_channel_closes, finish_closes, after_close_channel, no_key_after_close_channel, no_key_after_finish}
-use Rattle.nio_orderly.proofs.WaitedCalls.{no_key_after_close}
+use Rattle.nio_orderly.proofs.OrderlyClosings.{close_channel_closes, finish_closes, after_close_channel, no_key_after_close_channel, no_key_after_finish, no_key_after_close}
 use Rattle.nio_orderly.proofs.laws.closing_calls_law.Goals as goal
 
 pub returns : goal.returns

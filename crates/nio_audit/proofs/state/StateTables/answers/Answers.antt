@@ -1,6 +1,4 @@
-use Rattle.std.proofs.Common.{ℕ, ◌<◌, ◌*◌, subst}
 use Rattle.nio_audit.proofs.Answering.{flag_iff, word_iff}
-use Rattle.nio_audit.specs.Bounds.{IsReadable}
 use Rattle.nio_audit.proofs.state.StateTables.answers.Goals as goal
 
 pub returns-in-ClaimAgain : goal.returns-in-ClaimAgain

@@ -1,4 +1,4 @@
-use Rattle.std.proofs.Common.{ℕ, Bool, false, ◌<◌, subst}
+use Rattle.std.proofs.Common.{false, subst}
 use Rattle.nio_audit.specs.Bounds.{IsBounded}
 use Rattle.nio_audit.specs.StateOf.{state_with}
 use Rattle.nio_event.specs.declared.act.Act.{Act}

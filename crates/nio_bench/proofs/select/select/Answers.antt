@@ -1,0 +1,8 @@
+use Rattle.nio_steps.proofs.PinLaws.{pins_are_given_back}
+use Rattle.nio_bench.proofs.SetUp.{idle_call, begin_gives}
+use Rattle.nio_bench.proofs.select.select.Goals as goal
+
+pub returns : goal.returns
+returns g c =
+    idle_call (pins_are_given_back.told _ _ _) c.told.ensures.call c.told.ensures.ready
+    (idle_call (begin_gives _ _) c.try_begin.ensures.call c.try_begin.ensures.ready c.requires)

@@ -1,0 +1,259 @@
+//! Each call with its answers and the rings of its bell, in one hand; and a selection that waits while a second thread
+//! wakes it, interrupts its caller or closes its selector.
+ghost use Rattle.std.specs.Prelude.{IfOk};
+ghost use Rattle.nio_event.specs.Conditions.{IsCaller};
+ghost use Rattle.nio_event.specs.PassViews.{HasSelector};
+ghost use Rattle.nio_words.specs.Passes.{IsPassOf, IsReady, limits_of};
+ghost use Rattle.nio_words.specs.Views.{view};
+
+use crate::*;
+use nio_base::{CallerNo, Limits, SelNo};
+use nio_event::Why;
+use nio_select::{Told, open_selector};
+use nio_steps::{Selected, SelectorsSpent};
+use nio_words::{Pass, Words};
+use std::alloc::Global;
+use std::sync::Wait;
+use std::sync::atomic::{AtomicU64, Ordering};
+use std::test::Fail;
+use std::thread::{Threads, join};
+
+const SMALL: Limits = Limits {
+    callers: 2,
+    selectors: 1,
+    channels: 1,
+    keys: 1,
+};
+
+const ZERO: CallerNo = CallerNo(0);
+
+const ONE: CallerNo = CallerNo(1);
+
+/// A bell that counts its rings.
+#[derive(Drop)]
+struct Counting {
+    rings: AtomicU64,
+}
+
+impl Bell for Counting {
+    fn ring(&self) {
+        self.rings.fetch_add(1, Ordering::SeqCst);
+    }
+}
+
+/// A call of the first caller.
+#[derive(Clone, Copy)]
+enum OnSelector {
+    Select,
+    SelectNow,
+    SelectFor(i64),
+    Wakeup,
+    Interrupt,
+    Interrupted,
+    Close,
+}
+
+#[derive(Clone, Copy, Debug, PartialEq, Eq)]
+enum Reply {
+    Selected(Result<Selected, SelectError>),
+    Flag(bool),
+    Done,
+}
+
+fn answer<R: Wait>(
+    rt: &R,
+    alloc: Global,
+    w: &Words,
+    p: &mut Pass,
+    sel: SelNo,
+    poller: &mut Scripted,
+    bell: &Counting,
+    call: OnSelector,
+) -> Reply
+    requires ready { IsReady w.now p.old ZERO }
+    requires selector { HasSelector (view w.now p.old) sel }
+    ensures ready { IsReady w.now p.new ZERO }
+    ensures selector { HasSelector (view w.now p.new) sel }
+{
+    match call {
+        OnSelector::Select => Reply::Selected(select(rt, alloc, w, p, ZERO, sel, poller)),
+        OnSelector::SelectNow => Reply::Selected(select_now(rt, alloc, w, p, ZERO, sel, poller)),
+        OnSelector::SelectFor(ms) => {
+            Reply::Selected(select_for(rt, alloc, w, p, ZERO, sel, poller, ms))
+        }
+        OnSelector::Wakeup => {
+            wakeup(w, p, ZERO, sel, bell);
+            Reply::Done
+        }
+        OnSelector::Interrupt => {
+            interrupt(w, p, ZERO, ZERO, bell);
+            Reply::Done
+        }
+        OnSelector::Interrupted => Reply::Flag(interrupted(w, p, ZERO)),
+        OnSelector::Close => Reply::Flag(close(rt, w, p, ZERO, sel, bell)),
+    }
+}
+
+/// Nothing was ready, for this reason.
+fn nothing(why: Why) -> Reply {
+    Reply::Selected(Ok(Selected { count: 0, why }))
+}
+
+#[test]
+fn calls_on_a_selector(rt: HostRuntime) -> Result<(), Fail> {
+    let (words, mut p) = Words::make(rt.alloc(), SMALL)?;
+    words.draw(&mut p, ZERO)?;
+    let sel = open_selector(&words, &mut p, ZERO)?;
+    let mut poller = Scripted::make(Vec::new(rt.alloc()), vec![in rt.alloc(); 1_u64]?);
+    let bell = Counting {
+        rings: AtomicU64::new(0),
+    };
+    let rows = [
+        (OnSelector::SelectNow, nothing(Why::Now), 0),
+        (OnSelector::Wakeup, Reply::Done, 1),
+        // The poll fails, and the wakeup stays.
+        (
+            OnSelector::Select,
+            Reply::Selected(Err(SelectError::PollFault)),
+            1,
+        ),
+        (OnSelector::Select, nothing(Why::Woken), 1),
+        (
+            OnSelector::SelectFor(-1),
+            Reply::Selected(Err(SelectError::NegativeTimeout)),
+            1,
+        ),
+        (OnSelector::SelectFor(5), nothing(Why::Elapsed), 1),
+        (OnSelector::Interrupt, Reply::Done, 2),
+        (OnSelector::Select, nothing(Why::Interrupted), 2),
+        (OnSelector::Interrupted, Reply::Flag(true), 2),
+        (OnSelector::Interrupted, Reply::Flag(false), 2),
+        (OnSelector::Close, Reply::Flag(true), 3),
+        (OnSelector::Close, Reply::Flag(false), 4),
+        (
+            OnSelector::Select,
+            Reply::Selected(Err(SelectError::ClosedSelector)),
+            4,
+        ),
+    ];
+    for (call, reply, rings) in rows {
+        assert!(rt;
+            answer(
+                &rt,
+                rt.alloc(),
+                &words,
+                &mut p,
+                sel,
+                &mut poller,
+                &bell,
+                call
+            ) == reply
+        );
+        assert!(rt; bell.rings.load(Ordering::SeqCst) == rings);
+    }
+    Ok(())
+}
+
+/// How the second thread ends the wait of the first.
+#[derive(Clone, Copy)]
+enum Ending {
+    Wakes,
+    Interrupts,
+    Closes,
+}
+
+/// Selects, and waits for it.
+fn waits<R: Wait>(
+    rt: &R,
+    alloc: Global,
+    w: &Words,
+    mut p: Pass,
+    sel: SelNo,
+    mut sleeper: Sleeper,
+) -> (Pass, Result<Selected, SelectError>)
+    requires ready { IsReady w.now p ZERO }
+    requires selector { HasSelector (view w.now p) sel }
+    ensures { IsPassOf w.now result.0 }
+{
+    let answer = select(rt, alloc, w, &mut p, ZERO, sel, &mut sleeper);
+    (p, answer)
+}
+
+fn ends<R: Wait>(
+    rt: &R,
+    w: &Words,
+    mut p: Pass,
+    sel: SelNo,
+    bell: &SleeperBell,
+    how: Ending,
+) -> Pass
+    requires ready { IsReady w.now p ONE }
+    requires selector { HasSelector (view w.now p) sel }
+    requires caller { IsCaller (limits_of w.now) ZERO }
+    ensures { IsPassOf w.now result }
+{
+    match how {
+        Ending::Wakes => wakeup(w, &mut p, ONE, sel, bell),
+        Ending::Interrupts => interrupt(w, &mut p, ONE, ZERO, bell),
+        Ending::Closes => {
+            close(rt, w, &mut p, ONE, sel, bell);
+        }
+    }
+    p
+}
+
+fn wait_and_end<R: Threads + Wait + Sync>(
+    rt: &R,
+    alloc: Global,
+    how: Ending,
+) -> Result<Result<Selected, SelectError>, Fail> {
+    let (words, mut p) = Words::make(alloc, SMALL)?;
+    words.draw(&mut p, ZERO)?;
+    words.draw(&mut p, ONE)?;
+    let sel = open_selector(&words, &mut p, ZERO)?;
+    let (sleeper, bell) = Sleeper::pair(alloc)?;
+    let q = words.hand_over(&mut p, ONE)?;
+    let ((_p, answer), _q) = join(
+        rt,
+        || -> (Pass, Result<Selected, SelectError>)
+            requires { IsReady words p ZERO × HasSelector (view words p) sel }
+            ensures { IsPassOf words result.0 }
+        { waits(rt, alloc, &words, p, sel, sleeper) },
+        || -> Pass
+            requires { IsReady words q ONE × HasSelector (view words q) sel × IsCaller (limits_of words) ZERO }
+            ensures { IsPassOf words result }
+        { ends(rt, &words, q, sel, &bell, how) },
+    );
+    Ok(answer)
+}
+
+#[test]
+fn a_second_thread_ends_the_wait(rt: HostRuntime) -> Result<(), Fail> {
+    let woken = wait_and_end(&rt, rt.alloc(), Ending::Wakes)?;
+    assert!(rt;
+        woken
+            == Ok(Selected {
+                count: 0,
+                why: Why::Woken
+            })
+    );
+    let interrupted = wait_and_end(&rt, rt.alloc(), Ending::Interrupts)?;
+    assert!(rt;
+        interrupted
+            == Ok(Selected {
+                count: 0,
+                why: Why::Interrupted
+            })
+    );
+    // The selector may be closed before the selection begins.
+    let closed = wait_and_end(&rt, rt.alloc(), Ending::Closes)?;
+    assert!(rt;
+        closed
+            == Ok(Selected {
+                count: 0,
+                why: Why::Closed
+            })
+            || closed == Err(SelectError::ClosedSelector)
+    );
+    Ok(())
+}

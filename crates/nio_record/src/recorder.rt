@@ -1,0 +1,121 @@
+//! A table of two callers, and what they did on it.
+ghost use Rattle.std.specs.Prelude.{◌≡◌, ◌+◌, ◌<◌, ◌≤◌, [], ◌∷◌, ◌++◌, IfOk, OnErr, Err, ◌⊎◌};
+ghost use Rattle.nio_record.specs.declared.recorder.RecordError.TheVariants.{NoStep};
+ghost use Rattle.std.specs.Vec.{vec_len, vec_capacity};
+ghost use Rattle.nio_event.specs.Histories.{event_of};
+ghost use Rattle.nio_record.specs.Recorded.{IsDraw, IsRecorded, MayMake, table_limits, written};
+ghost use Rattle.nio_event.specs.Questions.{question_of};
+
+use crate::making::make_step;
+use nio_audit::{AuditError, may_step};
+use nio_base::{CallerNo, Limits};
+use nio_event::{Act, Event};
+use nio_words::{DrawError, Pass, Words};
+use std::alloc::{AllocError, Global};
+use thiserror::Error;
+
+/// Why a step wasn't made.
+#[derive(Clone, Copy, Debug, PartialEq, Eq, Error)]
+pub enum RecordError {
+    #[error("the caller may not make the step")]
+    NoStep,
+    #[error("there is no memory for the events")]
+    Memory,
+}
+
+impl From<AllocError> for RecordError {
+    fn from(_: AllocError) -> RecordError {
+        RecordError::Memory
+    }
+}
+
+impl From<DrawError> for RecordError {
+    fn from(_: DrawError) -> RecordError {
+        RecordError::NoStep
+    }
+}
+
+/// Writes down what the caller did, where there is room for it.
+fn add(events: &mut Vec<Event>, caller: CallerNo, act: &Act)
+    requires { vec_len events.old < vec_capacity events.old }
+    ensures items { events.new.items ≡ events.old.items ++ event_of caller act.now ∷ [] }
+    ensures capacity { vec_capacity events.old ≤ vec_capacity events.new }
+    ensures len { vec_len events.new ≡ vec_len events.old + 1 }
+{
+    if events.push(Event { caller, act: *act }).is_err() {
+        unreachable!()
+    }
+}
+
+/// A table, its only pass, which acts for callers 0 and 1, and all that they did.
+#[derive(Drop)]
+pub struct Recorder {
+    words: Words,
+    pass: Pass,
+    events: Vec<Event>,
+}
+
+impl Recorder {
+    ghost use Rattle.nio_base.specs.Limits.{IsFit};
+
+    /// A new table, after both callers drew their numbers.
+    pub fn make(alloc: Global, limits: Limits) -> Result<Recorder, RecordError>
+        requires fit { IsFit limits }
+        requires two { 2 ≤ limits.callers }
+        ensures recorded { IfOk result IsRecorded }
+        ensures limits { IfOk result (λ made. table_limits made ≡ limits) }
+    {
+        let (words, mut pass) = Words::make(alloc, limits)?;
+        let (first, second) = (CallerNo(0), CallerNo(1));
+        words.draw(&mut pass, first)?;
+        words.draw(&mut pass, second)?;
+        let mut events = Vec::new(alloc);
+        events.reserve(2)?;
+        add(&mut events, first, &Act::DrawBit(first, false));
+        add(&mut events, second, &Act::DrawBit(second, false));
+        Ok(Recorder {
+            words,
+            pass,
+            events,
+        })
+    }
+
+    /// Makes the step, whatever `act` says of what it finds, and writes it down. Answers the act with what it found.
+    /// A draw is no step of a caller that is drawn: `NoStep`.
+    pub fn step(&mut self, alloc: Global, caller: CallerNo, act: Act) -> Result<Act, RecordError>
+        requires { IsRecorded self.old }
+        ensures recorded { IsRecorded self.new }
+        ensures limits { table_limits self.new ≡ table_limits self.old }
+        ensures asked { IfOk result (λ made. question_of made ≡ question_of act) }
+        ensures written { IfOk result (λ made. written self.new ≡ written self.old ++ event_of caller made ∷ []) }
+        ensures refused { OnErr result (written self.new ≡ written self.old) }
+        ensures no_step { result ≡ Err NoStep → ¬ MayMake self.old caller act ⊎ IsDraw act }
+        ensures may { IfOk result (λ _. MayMake self.old caller act) }
+    {
+        let limits = self.words.limits();
+        if !self.pass.holds(caller) {
+            return Err(RecordError::NoStep);
+        }
+        match may_step(alloc, limits, &self.events, caller, &act) {
+            Ok(true) => {}
+            Ok(false) => return Err(RecordError::NoStep),
+            Err(AuditError::Memory) => return Err(RecordError::Memory),
+            Err(AuditError::NotAStep { .. }) => unreachable!(),
+        }
+        if self.events.reserve(1).is_err() {
+            return Err(RecordError::Memory);
+        }
+        let Some(made) = make_step(&self.words, &mut self.pass, caller, act) else {
+            return Err(RecordError::NoStep);
+        };
+        add(&mut self.events, caller, &made);
+        Ok(made)
+    }
+
+    /// All that was done, oldest first.
+    pub fn events(&self) -> &[Event]
+        ensures { result.now ≡ written self.now }
+    {
+        &self.events
+    }
+}

@@ -1,0 +1,382 @@
+//! Whole selections: what they ask and mark, why they end, and whose turn it is; keys that are cancelled before one;
+//! closing beside a selection; and two threads, one of which selects.
+ghost use Rattle.std.specs.Prelude.{◌≡◌, IfSome};
+ghost use Rattle.nio_base.specs.declared.numbers.SelNo.{SelNo as Selector};
+ghost use Rattle.nio_channel.specs.Idle.{AreIdle, drawn, zero, one};
+ghost use Rattle.nio_event.specs.Conditions.{IsSelector};
+ghost use Rattle.nio_event.specs.PassViews.{HasKey, HasNoPin, HasSelector};
+ghost use Rattle.nio_steps.specs.SelectCalls.{Selection};
+ghost use Rattle.nio_words.specs.Passes.{IsReady, limits_of, seen};
+ghost use Rattle.nio_words.specs.Views.{view};
+ghost use Rattle.nio_select.specs.InProgress.{Selects, Closes};
+
+use crate::*;
+use nio_base::{CallerNo, ChanNo, KeyNo, Kind, Limits, Ops, SelNo};
+use nio_channel::{
+    ChannelError, close_channel, key_for, open_channel, try_register, try_set_blocking,
+};
+use nio_event::Why;
+use nio_keys::{KeyError, cancel, find, find_channel, ready, unselect};
+use nio_words::{Pass, Words};
+use std::alloc::{AllocError, Global};
+use std::process::Abort;
+use std::test::Fail;
+use std::thread::join;
+
+const SMALL: Limits = Limits {
+    callers: 2,
+    selectors: 1,
+    channels: 3,
+    keys: 3,
+};
+
+const ZERO: CallerNo = CallerNo(0);
+
+const ONE: CallerNo = CallerNo(1);
+
+const S: SelNo = SelNo(0);
+
+/// What a key is registered for.
+const BOTH: u8 = 5;
+
+/// What a poller tells, as indexes with bits. Index 9 isn't asked.
+type Pairs = [(u32, u8); 3];
+
+const NOTHING: Pairs = [(9, 1), (9, 4), (9, 5)];
+
+/// A call of the first caller, or what goes before one.
+#[derive(Clone, Copy)]
+enum Call {
+    OpenSelector,
+    /// Registers the channel with this number.
+    Register(u32),
+    /// The three calls on the key with this index and serial.
+    Cancel(u32, u32),
+    Unselect(u32, u32),
+    Ready(u32, u32),
+    Keys,
+    SelectedKeys,
+    /// The other caller wakes the selector.
+    Wake,
+    /// The other caller interrupts the first, or the first takes its status.
+    Interrupt,
+    TakeInterrupt,
+    /// Begins a selection and leaves it.
+    Begin,
+    /// A selection that waits so and is told this, by a poller that says whether the time is over. Where it would
+    /// go on, it is left.
+    Select(Mode, Pairs, bool),
+}
+
+#[derive(Clone, Copy, Debug, PartialEq, Eq)]
+enum Reply {
+    Opened(Result<SelNo, SelectorsSpent>),
+    Registered(Result<KeyNo, ChannelError>),
+    Flag(bool),
+    Ready(Result<Ops, KeyError>),
+    /// How many keys, and the last of them.
+    Listed(Result<(usize, Option<KeyNo>), ListError>),
+    /// How many keys are asked, and the last of them.
+    Asked(usize, Option<(u32, ChanNo, Ops)>, Option<u32>),
+    NotBegun(BeginError),
+    Done(u32, Why),
+    Again,
+    /// There is no such channel or key.
+    Missing,
+    Nothing,
+}
+
+/// Makes a selector, in a table where nothing was done but two draws.
+fn set_up(w: &Words, p: &mut Pass)
+    requires zero { IsReady w.now p.old ZERO }
+    requires one { IsReady w.now p.old ONE }
+    requires seen { seen p.old ≡ drawn }
+    requires selector { IsSelector (limits_of w.now) S }
+    ensures { AreIdle w.now p.new }
+{
+    w.make_selector(p, ZERO, S);
+}
+
+/// Opens three streams and makes them non-blocking.
+fn open_streams(w: &Words, p: &mut Pass) -> Result<(), ChannelError>
+    requires { AreIdle w.now p.old }
+    ensures { AreIdle w.now p.new }
+{
+    for _ in 0..3 {
+        open_stream(w, p)?;
+    }
+    Ok(())
+}
+
+fn open_stream(w: &Words, p: &mut Pass) -> Result<(), ChannelError>
+    requires { AreIdle w.now p.old }
+    ensures { AreIdle w.now p.new }
+{
+    let chan = open_channel(w, p, ZERO, Kind::Stream)?;
+    try_set_blocking(w, p, ZERO, chan, false)
+}
+
+fn registers(w: &Words, p: &mut Pass, channel: u32) -> Reply
+    requires { AreIdle w.now p.old }
+    ensures { AreIdle w.now p.new }
+{
+    match find_channel(w, p, ZERO, channel) {
+        Some(chan) => Reply::Registered(try_register(w, p, ZERO, S, chan, Ops::of(BOTH), 0)),
+        None => Reply::Missing,
+    }
+}
+
+fn find_key(w: &Words, p: &mut Pass, index: u32, serial: u32) -> Option<KeyNo>
+    requires { AreIdle w.now p.old }
+    ensures idle { AreIdle w.now p.new }
+    ensures found { IfSome result (HasKey (view w.now p.new)) }
+{
+    find(w, p, ZERO, S, index, serial)
+}
+
+fn cancels(w: &Words, p: &mut Pass, index: u32, serial: u32) -> Reply
+    requires { AreIdle w.now p.old }
+    ensures { AreIdle w.now p.new }
+{
+    match find_key(w, p, index, serial) {
+        Some(key) => {
+            cancel(w, p, ZERO, key);
+            Reply::Nothing
+        }
+        None => Reply::Missing,
+    }
+}
+
+fn unselects(w: &Words, p: &mut Pass, index: u32, serial: u32) -> Reply
+    requires { AreIdle w.now p.old }
+    ensures { AreIdle w.now p.new }
+{
+    match find_key(w, p, index, serial) {
+        Some(key) => Reply::Flag(unselect(w, p, ZERO, key)),
+        None => Reply::Missing,
+    }
+}
+
+fn is_ready(w: &Words, p: &mut Pass, index: u32, serial: u32) -> Reply
+    requires { AreIdle w.now p.old }
+    ensures { AreIdle w.now p.new }
+{
+    match find_key(w, p, index, serial) {
+        Some(key) => Reply::Ready(ready(w, p, ZERO, key)),
+        None => Reply::Missing,
+    }
+}
+
+/// How many keys there are in a list, and the last of them.
+fn listed(list: Result<Vec<KeyNo>, ListError>) -> Reply {
+    match list {
+        Ok(keys) => Reply::Listed(Ok((keys.len(), keys.last().copied()))),
+        Err(error) => Reply::Listed(Err(error)),
+    }
+}
+
+/// How many keys a selection asks, and the last of them.
+fn asked(asked: &Asked) -> Reply {
+    let count = asked.len();
+    if count == 0 {
+        return Reply::Asked(0, None, None);
+    }
+    Reply::Asked(
+        count,
+        Some(asked.entry(count - 1)),
+        Some(asked.serial(count - 1)),
+    )
+}
+
+fn begins(alloc: Global, w: &Words, p: &mut Pass) -> Reply
+    requires { AreIdle w.now p.old }
+    ensures { AreIdle w.now p.new }
+{
+    match try_begin(alloc, w, p, ZERO, S, Mode::Wait) {
+        Ok(selection) => {
+            let reply = asked(selection.asked());
+            selection.leave(w, p, ZERO);
+            reply
+        }
+        Err(error) => Reply::NotBegun(error),
+    }
+}
+
+fn selects(alloc: Global, w: &Words, p: &mut Pass, mode: Mode, pairs: Pairs, elapsed: bool) -> Reply
+    requires { AreIdle w.now p.old }
+    ensures { AreIdle w.now p.new }
+{
+    let Ok(told) = told(alloc, pairs, elapsed) else {
+        return Reply::NotBegun(BeginError::Memory);
+    };
+    match try_begin(alloc, w, p, ZERO, S, mode) {
+        Ok(selection) => is_told(w, p, selection, &told),
+        Err(error) => Reply::NotBegun(error),
+    }
+}
+
+/// Tells the selection this. Where it would go on, it is left.
+fn is_told(w: &Words, p: &mut Pass, selection: Selecting, told: &Told) -> Reply
+    requires idle { AreIdle w.now p.old }
+    requires begun { Selects (view w.now p.old) zero selection }
+    ensures idle { AreIdle w.now p.new }
+    ensures closing { (s : Selector) → Closes (view w.now p.old) one s → Closes (view w.now p.new) one s }
+{
+    match selection.told(w, p, ZERO, told) {
+        After::Done(answer) => Reply::Done(answer.count, answer.why),
+        After::Again(selection) => {
+            selection.leave(w, p, ZERO);
+            Reply::Again
+        }
+    }
+}
+
+/// What a poller tells of these.
+fn told(alloc: Global, pairs: Pairs, elapsed: bool) -> Result<Told, AllocError> {
+    let mut told = Vec::with_capacity(alloc, 3)?;
+    for (index, bits) in pairs {
+        told.push((index, Ops::of(bits)))?;
+    }
+    Ok(Told {
+        pairs: told,
+        elapsed,
+    })
+}
+
+fn answer(alloc: Global, w: &Words, p: &mut Pass, call: Call) -> Reply
+    requires { AreIdle w.now p.old }
+    ensures { AreIdle w.now p.new }
+{
+    match call {
+        Call::OpenSelector => Reply::Opened(open_selector(w, p, ZERO)),
+        Call::Register(channel) => registers(w, p, channel),
+        Call::Cancel(index, serial) => cancels(w, p, index, serial),
+        Call::Unselect(index, serial) => unselects(w, p, index, serial),
+        Call::Ready(index, serial) => is_ready(w, p, index, serial),
+        Call::Keys => listed(keys(alloc, w, p, ZERO, S)),
+        Call::SelectedKeys => listed(selected_keys(alloc, w, p, ZERO, S)),
+        Call::Wake => Reply::Flag(w.wake(p, ONE, S)),
+        Call::Interrupt => Reply::Flag(w.set_interrupt(p, ONE, ZERO)),
+        Call::TakeInterrupt => Reply::Flag(w.take_interrupt(p, ZERO)),
+        Call::Begin => begins(alloc, w, p),
+        Call::Select(mode, pairs, elapsed) => selects(alloc, w, p, mode, pairs, elapsed),
+    }
+}
+
+/// Makes the calls, and compares each reply.
+fn follow<R: Alloc<A = Global> + Abort>(rt: &R, rows: &[(Call, Reply)]) -> Result<(), Fail> {
+    let (words, mut p) = Words::make(rt.alloc(), SMALL)?;
+    words.draw(&mut p, ZERO)?;
+    words.draw(&mut p, ONE)?;
+    set_up(&words, &mut p);
+    open_streams(&words, &mut p)?;
+    for (call, reply) in rows {
+        let found = answer(rt.alloc(), &words, &mut p, *call);
+        assert_eq!(rt; found, *reply);
+    }
+    Ok(())
+}
+
+/// The key with this index and serial.
+fn key(index: u32, serial: u32) -> KeyNo {
+    KeyNo {
+        sel: S,
+        index,
+        serial,
+    }
+}
+
+#[test]
+fn what_selections_mark(rt: HostRuntime) -> Result<(), Fail> {
+    follow(
+        &rt,
+        &[
+            (Call::OpenSelector, Reply::Opened(Err(SelectorsSpent))),
+            (Call::Begin, Reply::Asked(0, None, None)),
+            (Call::Register(2), Reply::Registered(Ok(key(0, 0)))),
+            (
+                Call::Begin,
+                Reply::Asked(1, Some((0, ChanNo(2), Ops::of(BOTH))), Some(0)),
+            ),
+            (
+                Call::Select(Mode::Now, [(0, 1), (9, 5), (0, 8)], false),
+                Reply::Done(1, Why::Ready),
+            ),
+            (Call::Ready(0, 0), Reply::Ready(Ok(Ops::READ))),
+            (
+                Call::Select(Mode::Now, [(0, 1), (9, 5), (0, 24)], false),
+                Reply::Done(0, Why::Now),
+            ),
+            (
+                Call::Select(Mode::Wait, [(0, 16), (0, 4), (0, 1)], false),
+                Reply::Done(1, Why::Ready),
+            ),
+            (Call::Ready(0, 0), Reply::Ready(Ok(Ops::of(BOTH)))),
+            (Call::SelectedKeys, Reply::Listed(Ok((1, Some(key(0, 0)))))),
+            (Call::Unselect(0, 0), Reply::Flag(true)),
+            (Call::SelectedKeys, Reply::Listed(Ok((0, None)))),
+            (
+                Call::Select(Mode::Now, [(0, 4), (0, 4), (9, 1)], false),
+                Reply::Done(1, Why::Ready),
+            ),
+            (Call::Ready(0, 0), Reply::Ready(Ok(Ops::WRITE))),
+        ],
+    )
+}
+
+#[test]
+fn a_cancelled_key_is_removed(rt: HostRuntime) -> Result<(), Fail> {
+    let nothing = Call::Select(Mode::Now, NOTHING, false);
+    follow(
+        &rt,
+        &[
+            (Call::Register(0), Reply::Registered(Ok(key(0, 0)))),
+            (Call::Register(1), Reply::Registered(Ok(key(1, 0)))),
+            (Call::Register(2), Reply::Registered(Ok(key(2, 0)))),
+            (Call::Cancel(1, 0), Reply::Nothing),
+            (Call::Keys, Reply::Listed(Ok((3, Some(key(2, 0)))))),
+            (
+                Call::Register(1),
+                Reply::Registered(Err(ChannelError::CancelledKey)),
+            ),
+            (nothing, Reply::Done(0, Why::Now)),
+            (nothing, Reply::Done(0, Why::Now)),
+            (Call::Keys, Reply::Listed(Ok((2, Some(key(2, 0)))))),
+            (
+                Call::Begin,
+                Reply::Asked(2, Some((2, ChanNo(2), Ops::of(BOTH))), Some(0)),
+            ),
+            (Call::Register(1), Reply::Registered(Ok(key(1, 1)))),
+            (Call::Keys, Reply::Listed(Ok((3, Some(key(2, 0)))))),
+            (Call::Ready(1, 0), Reply::Ready(Err(KeyError::CancelledKey))),
+        ],
+    )
+}
+
+#[test]
+fn why_selections_end(rt: HostRuntime) -> Result<(), Fail> {
+    let wait = Call::Select(Mode::Wait, NOTHING, true);
+    follow(
+        &rt,
+        &[
+            (Call::Register(0), Reply::Registered(Ok(key(0, 0)))),
+            (wait, Reply::Again),
+            (Call::Wake, Reply::Flag(false)),
+            (Call::Wake, Reply::Flag(true)),
+            (
+                Call::Begin,
+                Reply::Asked(1, Some((0, ChanNo(0), Ops::of(BOTH))), Some(0)),
+            ),
+            (wait, Reply::Done(0, Why::Woken)),
+            (wait, Reply::Again),
+            (Call::Interrupt, Reply::Flag(false)),
+            (wait, Reply::Done(0, Why::Interrupted)),
+            (Call::TakeInterrupt, Reply::Flag(true)),
+            (Call::Select(Mode::For(5), NOTHING, false), Reply::Again),
+            (
+                Call::Select(Mode::For(5), NOTHING, true),
+                Reply::Done(0, Why::Elapsed),
+            ),
+        ],
+    )
+}
