@@ -1,5 +1,5 @@
 -- What a desk has in progress, once something was put into a place of it.
-use Rattle.std.proofs.Common.{◌≡◌, ◌≢◌, ℕ, ◌<◌, Option, Some, None, List, length, set, refl, sym, ap, ◌∙◌, subst, ⊎_elim, arith, vec_len, true, false, Bool, ◌==◌, if◌then◌else◌, eq-eqb, eqb-true}
+use Rattle.std.proofs.Common.{◌≡◌, ◌≢◌, ℕ, zero, suc, ◌+◌, ◌<◌, [], ◌∷◌, ◌++◌, Option, Some, None, List, length, set, refl, sym, ap, ◌∙◌, subst, ⊎_elim, arith, vec_len, true, false, Bool, ◌==◌, if◌then◌else◌, eq-eqb, eqb-true}
 use Rattle.std.proofs.lemmas.Bool.{cases_eq}
 use Rattle.std.proofs.lemmas.List.{get_or-set_same, get_or-set_other, length-set}
 use Rattle.std.specs.Prelude.{option_map, Vec}
@@ -13,6 +13,7 @@ use Rattle.nio_plain.proofs.Places.{put_is, put-here, put-elsewhere}
 use Rattle.nio_plain.specs.Seq.Selections.{is_caller}
 use Rattle.nio_serial.specs.Documented.{Progress, Selecting}
 use Rattle.nio_serial.specs.Lines.{Said, if_own, with_closing, with_selection}
+use Rattle.nio_sole.specs.Drawn.{AreEmpty}
 use Rattle.nio_sole.specs.Stands.{slot, selecting_of, selections_of, closings_of, progress_of, HasPlaces}
 use Rattle.nio_sole.specs.declared.desk.Begun.{Begun}
 use Rattle.nio_sole.specs.declared.desk.Desk.{Desk}
@@ -200,3 +201,20 @@ own_on w d me s x places own = ap (λ (n : ℕ). record { 0 = n }) (by_place (sl
         by_test : (b : Bool) → (if b then Some z.selection else None) ≡ Some x → x.selector.0 ≡ s.0
         by_test true is' = ap (λ (y : Selection). y.selector.0) (some_is is') ∙ places.selects s.0 z at
         by_test false is' = nothing_there is'
+
+-- ---- places in which nothing stands
+
+none_more : {A : Type 0} (xs : List (Option A)) → ((s : ℕ) → slot xs s ≡ None) → (s : ℕ) → slot (xs ++ None ∷ []) s ≡ None
+none_more [] none zero = refl
+none_more [] none (suc s) = refl
+none_more (x ∷ xs) none zero = none zero
+none_more (x ∷ xs) none (suc s) = none_more xs (λ n. none (suc n)) s
+
+pub empty_more : {A : Type 0} {places after : Vec (Option A) Global} {count : ℕ} → AreEmpty places count → after.items ≡ places.items ++ None ∷ [] → vec_len after ≡ vec_len places + 1 → AreEmpty after (count + 1)
+empty_more {places = places} empty items len = record {
+  len = len ∙ ap (λ (n : ℕ). n + 1) empty.len;
+  none = λ s. ap (λ xs. slot xs s) items ∙ none_more places.items empty.none s;
+}
+
+pub empty_none : {A : Type 0} {places : Vec (Option A) Global} → places.items ≡ [] → vec_len places ≡ 0 → AreEmpty places 0
+empty_none items len = record { len = len; none = λ s. ap (λ xs. slot xs s) items }
