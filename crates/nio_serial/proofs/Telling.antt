@@ -284,7 +284,7 @@ module _ (st : State) (now : Progress) (me : CallerNo) (x : Selection) (pairs : 
       (by_test (is_again_by_look x.mode count (st.gate s) (st.interrupted me.0) elapsed))
     where
       answer : Selected
-      answer = record { count = count; why = why_by_look x.mode count (st.gate s) (st.interrupted me.0) }
+      answer = record { count = count; why = why_over x.mode count (st.gate s) (st.interrupted me.0) }
 
       by_test : (b : Bool) → P (perform me (if b then Plan.reply (again x) else end_selection x answer) marked_st)
       by_test true = continues

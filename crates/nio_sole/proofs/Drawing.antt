@@ -24,13 +24,14 @@ abbrev pub caller : ℕ → CallerNo
 caller k = record { 0 = k }
 
 pub none_drawn : (l : Limits) → AreDrawn l [] 0
-none_drawn l = record { opening = refl; between = begins-between l; made = λ n. made_nothing l n; undrawn = λ n _. refl }
+none_drawn l = record { opening = refl; between = begins-between l; made = λ n. made_nothing l n; drawn = λ n below. absurd (omega arith); undrawn = λ n _. refl }
 
 pub one_drawn : (l : Limits) (events : List Event) (k : ℕ) → AreDrawn l events k → AreDrawn l (events ++ event_of (caller k) (DrawBit (caller k) false) ∷ []) (k + 1)
 one_drawn l events k before = record {
   opening = ap (λ (x : State). documented x nothing_yet) state ∙ before.opening;
   between = subst (λ (x : State). IsBetween l x nothing_yet) (sym state) (draws-stay l st nothing_yet (caller k) before.between);
   made = λ n. by_caller n (k == n.0) refl;
+  drawn = λ n below. ap (λ (x : State). x.drawn n) state ∙ is_drawn n below (n == k) refl;
   undrawn = λ n above. ap (λ (x : State). x.drawn n) state ∙ (ap (λ b. if b then true else st.drawn n) (later n above) ∙ before.undrawn n (omega arith));
 }
   where
@@ -42,6 +43,15 @@ one_drawn l events k before = record {
 
     state : state_after (events ++ e ∷ []) ≡ record st { drawn = λ n. if n == k then true else st.drawn n }
     state = state_after-more events e
+
+    is_drawn : (n : ℕ) → n < k + 1 → (b : Bool) → (n == k) ≡ b → (if n == k then true else st.drawn n) ≡ true
+    is_drawn n below true is = ap (λ b. if b then true else st.drawn n) is
+    is_drawn n below false is =
+        ap (λ b. if b then true else st.drawn n) is
+        ∙ before.drawn n (earlier n below (λ same. let clash : false ≡ true = sym is ∙ eq-eqb n k same in absurd cc))
+      where
+        earlier : (a : ℕ) → a < k + 1 → (a ≡ k → ⊥) → a < k
+        earlier a below' other = omega arith
 
     later : (n : ℕ) → k + 1 ≤ n → (n == k) ≡ false
     later n above = by_test (n == k) refl

@@ -1,9 +1,9 @@
 -- What a caller that made whole calls has in progress it has begun, and hasn't ended.
-use Rattle.std.proofs.Common.{◌≡◌, ℕ, ◌==◌, Bool, true, false, if◌then◌else◌, Some, None, is_some, Ok, Err, List, [], ◌∷◌, ◌++◌, refl, ap, sym, ◌∙◌, subst, append_assoc, eqb-true, eq-eqb, ◌⊎◌, inl, inr}
+use Rattle.std.proofs.Common.{◌≡◌, ℕ, ◌==◌, Bool, true, false, if◌then◌else◌, IsFalse, All, Some, None, is_some, Ok, Err, List, [], ◌∷◌, ◌++◌, refl, ap, sym, ◌∙◌, subst, append_assoc, eqb-true, eq-eqb, ◌⊎◌, inl, inr}
 use Rattle.std.specs.List.{Contains}
 use Rattle.std.proofs.lemmas.Bool.{and_parts}
 use Rattle.std.proofs.lemmas.List.{append-nil}
-use Rattle.std.proofs.lemmas.List.Elements.{All-nil, All-cons, Contains-append_left, Contains-append_right}
+use Rattle.std.proofs.lemmas.List.Elements.{All-nil, All-cons, All-head, All-tail, Contains-append_left, Contains-append_right}
 use Rattle.nio_base.specs.declared.limits.Limits.{Limits}
 use Rattle.nio_base.specs.declared.numbers.CallerNo.{CallerNo}
 use Rattle.nio_base.specs.declared.numbers.SelNo.{SelNo}
@@ -20,8 +20,10 @@ use Rattle.nio_event.specs.declared.act.Act.TheVariants.{TakeTurn, Enter, ShutBi
 use Rattle.nio_event.specs.declared.event.Event.{Event}
 use Rattle.nio_event.specs.declared.found.Mode.{Mode}
 use Rattle.nio_orderly.proofs.ListWords.{has-neither}
-use Rattle.nio_orderly.specs.Made.{Made, IsRun, Ongoing, nothing_ongoing, after_call, after_calls, MayCome, AreInOrder, try_begin, told, leave, shut, try_finish}
+use Rattle.nio_orderly.specs.Made.{Made, IsRun, Ongoing, nothing_ongoing, after_call, after_calls, MayCome, AreInOrder, try_begin, told, leave, shut, try_finish, select, close}
+use Rattle.nio_orderly.proofs.WaitedCalls.{calls_without_waiting}
 use Rattle.nio_orderly.specs.Orderly.{AreRuns}
+use Rattle.nio_orderly.specs.Waited.{waits}
 use Rattle.nio_plain.specs.Seq.Selections.{is_caller}
 use Rattle.nio_serial.specs.Documented.{Progress}
 use Rattle.nio_serial.specs.Lines.{own_selection}
@@ -175,17 +177,19 @@ module _ (l : Limits) (events : List Event) (n : CallerNo) (legal : IsLegal l ev
   put-elsewhere : {A : Type 0} (f : ℕ → A) (s : ℕ) (x : A) (t : ℕ) → (s == t) ≡ false → put f s x t ≡ f t
   put-elsewhere f s x t is = ap (λ b. if b then x else f t) (other_number s t is)
 
-  selection-kept : (now : Ongoing) (call : Made) (t : ℕ) → is_on t call ≡ false → (after_call now call).selection t ≡ now.selection t
-  selection-kept now (try_begin s mode (Ok x)) t off = put-elsewhere now.selection s.0 (Some x) t off
-  selection-kept now (try_begin s mode (Err refusal)) t off = refl
-  selection-kept now (told x poll (done answer)) t off = put-elsewhere now.selection x.selector.0 None t off
-  selection-kept now (told x poll (again next)) t off = put-elsewhere now.selection x.selector.0 (Some next) t off
-  selection-kept now (leave x) t off = put-elsewhere now.selection x.selector.0 None t off
-  selection-kept now (shut s closing) t off = refl
-  selection-kept now (shut s already_closed) t off = refl
-  selection-kept now (try_finish s closed) t off = refl
-  selection-kept now (try_finish s busy) t off = refl
-  selection-kept now _ t off = refl
+  selection-kept : (now : Ongoing) (call : Made) (t : ℕ) → is_on t call ≡ false → waits call ≡ false → (after_call now call).selection t ≡ now.selection t
+  selection-kept now (try_begin s mode (Ok x)) t off at_once = put-elsewhere now.selection s.0 (Some x) t off
+  selection-kept now (try_begin s mode (Err refusal)) t off at_once = refl
+  selection-kept now (told x poll (done answer)) t off at_once = put-elsewhere now.selection x.selector.0 None t off
+  selection-kept now (told x poll (again next)) t off at_once = put-elsewhere now.selection x.selector.0 (Some next) t off
+  selection-kept now (leave x) t off at_once = put-elsewhere now.selection x.selector.0 None t off
+  selection-kept now (shut s closing) t off at_once = refl
+  selection-kept now (shut s already_closed) t off at_once = refl
+  selection-kept now (try_finish s closed) t off at_once = refl
+  selection-kept now (try_finish s busy) t off at_once = refl
+  selection-kept now (select s mode polls answer) t off at_once = absurd (cc at_once)
+  selection-kept now (close s answer) t off at_once = absurd (cc at_once)
+  selection-kept now _ t off at_once = refl
 
   module _ (own acts later : List Act) (did : mine n events ≡ own ++ (acts ++ later)) (now : Ongoing) (before : AreBegun own now) where
     -- a call that refuses, or closes, while the selection goes on
@@ -221,24 +225,25 @@ module _ (l : Limits) (events : List Event) (n : CallerNo) (legal : IsLegal l ev
         goes_on s t y (Enter s None) on is (no_free_entry s) (always_run (λ xs _. LeavesSelection s.0 xs ⊎ FindsFree s (Enter s None) xs) (try_finish_plan s) acts busy (finish-finds s) run)
     on-it _ may run t y on is = absurd (cc on)
 
-    call-begun : (call : Made) → MayCome now call → IsRun l call acts → AreBegun (own ++ acts) (after_call now call)
-    call-begun call may run t y is = by_test (is_on t call) refl
+    call-begun : (call : Made) → waits call ≡ false → MayCome now call → IsRun l call acts → AreBegun (own ++ acts) (after_call now call)
+    call-begun call at_once may run t y is = by_test (is_on t call) refl
       where
         by_test : (b : Bool) → is_on t call ≡ b → IsBegunOn t (own ++ acts) y
         by_test true on = on-it call may run t y on is
-        by_test false off = longer_on t own y acts (before t y (sym (selection-kept now call t off) ∙ is)) (call-leaves l t call acts off run)
+        by_test false off = longer_on t own y acts (before t y (sym (selection-kept now call t off at_once) ∙ is)) (call-leaves l t call acts off at_once run)
 
-  calls-begun : (own rest : List Act) (now : Ongoing) (calls : List Made) → mine n events ≡ own ++ rest → AreRuns l calls rest → AreInOrder now calls → AreBegun own now
+  calls-begun : (own rest : List Act) (now : Ongoing) (calls : List Made) → All (λ call. IsFalse (waits call)) calls → mine n events ≡ own ++ rest → AreRuns l calls rest → AreInOrder now calls → AreBegun own now
       → AreBegun (mine n events) (after_calls now calls)
-  calls-begun own rest now [] did runs order before = subst (λ xs. AreBegun xs now) (sym (did ∙ (ap (λ xs. own ++ xs) runs ∙ append-nil own))) before
-  calls-begun own rest now (call ∷ later) did runs order before =
+  calls-begun own rest now [] at_once did runs order before = subst (λ xs. AreBegun xs now) (sym (did ∙ (ap (λ xs. own ++ xs) runs ∙ append-nil own))) before
+  calls-begun own rest now (call ∷ later) at_once did runs order before =
       let did' : mine n events ≡ own ++ (runs.first ++ runs.second) = did ∙ ap (λ xs. own ++ xs) runs.parts in
-      calls-begun (own ++ runs.first) runs.second (after_call now call) later (did' ∙ sym (append_assoc own runs.first runs.second)) runs.is_second order.1
-      (call-begun own runs.first runs.second did' now before call order.0 runs.is_first)
+      calls-begun (own ++ runs.first) runs.second (after_call now call) later (All-tail (λ c. IsFalse (waits c)) call later at_once) (did' ∙ sym (append_assoc own runs.first runs.second)) runs.is_second order.1
+      (call-begun own runs.first runs.second did' now before call (All-head (λ c. IsFalse (waits c)) call later at_once) order.0 runs.is_first)
 
 pub ongoing_is_begun : OngoingIsBegun
 ongoing_is_begun l events n calls s x legal are is =
-    let here = calls-begun l events n legal [] (mine n events) nothing_ongoing calls refl are.runs are.in_order (λ t y none. absurd (cc none)) s.0 x is in
+    let plain = calls_without_waiting l (mine n events) calls are in
+    let here = calls-begun l events n legal [] (mine n events) nothing_ongoing plain.calls plain.unwaiting refl plain.runs plain.in_order (λ t y none. absurd (cc none)) s.0 x (ap (λ (now : Ongoing). now.selection s.0) plain.leaves ∙ is) in
     (here.begun, ap (λ (k : ℕ). record { 0 = k }) here.on)
 
 -- ---- closing
@@ -261,8 +266,8 @@ module _ (l : Limits) where
   closing-longer : (own acts : List Act) (now : Ongoing) → AreClosing own now → AreClosing (own ++ acts) now
   closing-longer own acts now before s is = Contains-append_left own acts (ShutBit s false) (before s is)
 
-  call-closing : (own acts : List Act) (now : Ongoing) (call : Made) → IsRun l call acts → AreClosing own now → AreClosing (own ++ acts) (after_call now call)
-  call-closing own acts now (shut s closing) run before t is = by_test (s.0 == t.0) refl
+  call-closing : (own acts : List Act) (now : Ongoing) (call : Made) → IsRun l call acts → waits call ≡ false → AreClosing own now → AreClosing (own ++ acts) (after_call now call)
+  call-closing own acts now (shut s closing) run at_once before t is = by_test (s.0 == t.0) refl
     where
       by_test : (b : Bool) → (s.0 == t.0) ≡ b → IsClosing (own ++ acts) t
       by_test true same =
@@ -276,27 +281,31 @@ module _ (l : Limits) where
               by_same : (c : Bool) → (b == a) ≡ c → c ≡ false
               by_same true same = absurd (both_ways (a == b) (eq-eqb a b (sym (eqb-true b a same))) is')
               by_same false same = refl
-  call-closing own acts now (try_finish s closed) run before t is = closing-longer own acts now before t (by_test (t.0 == s.0) is)
+  call-closing own acts now (try_finish s closed) run at_once before t is = closing-longer own acts now before t (by_test (t.0 == s.0) is)
     where
       by_test : (b : Bool) → (if b then false else now.closes t.0) ≡ true → now.closes t.0 ≡ true
       by_test true none = absurd (cc none)
       by_test false is' = is'
-  call-closing own acts now (try_begin s mode (Ok x)) run before t is = closing-longer own acts now before t is
-  call-closing own acts now (try_begin s mode (Err refusal)) run before t is = closing-longer own acts now before t is
-  call-closing own acts now (told x poll (done answer)) run before t is = closing-longer own acts now before t is
-  call-closing own acts now (told x poll (again next)) run before t is = closing-longer own acts now before t is
-  call-closing own acts now (shut s already_closed) run before t is = closing-longer own acts now before t is
-  call-closing own acts now (try_finish s busy) run before t is = closing-longer own acts now before t is
-  call-closing own acts now _ run before t is = closing-longer own acts now before t is
+  call-closing own acts now (try_begin s mode (Ok x)) run at_once before t is = closing-longer own acts now before t is
+  call-closing own acts now (try_begin s mode (Err refusal)) run at_once before t is = closing-longer own acts now before t is
+  call-closing own acts now (told x poll (done answer)) run at_once before t is = closing-longer own acts now before t is
+  call-closing own acts now (told x poll (again next)) run at_once before t is = closing-longer own acts now before t is
+  call-closing own acts now (shut s already_closed) run at_once before t is = closing-longer own acts now before t is
+  call-closing own acts now (try_finish s busy) run at_once before t is = closing-longer own acts now before t is
+  call-closing own acts now (select s mode polls answer) run at_once before t is = absurd (cc at_once)
+  call-closing own acts now (close s answer) run at_once before t is = absurd (cc at_once)
+  call-closing own acts now _ run at_once before t is = closing-longer own acts now before t is
 
-  calls-closing : (own rest : List Act) (now : Ongoing) (calls : List Made) → AreRuns l calls rest → AreClosing own now → AreClosing (own ++ rest) (after_calls now calls)
-  calls-closing own rest now [] runs before = subst (λ xs. AreClosing xs now) (sym (ap (λ xs. own ++ xs) runs ∙ append-nil own)) before
-  calls-closing own rest now (call ∷ later) runs before =
+  calls-closing : (own rest : List Act) (now : Ongoing) (calls : List Made) → All (λ call. IsFalse (waits call)) calls → AreRuns l calls rest → AreClosing own now → AreClosing (own ++ rest) (after_calls now calls)
+  calls-closing own rest now [] at_once runs before = subst (λ xs. AreClosing xs now) (sym (ap (λ xs. own ++ xs) runs ∙ append-nil own)) before
+  calls-closing own rest now (call ∷ later) at_once runs before =
       subst (λ xs. AreClosing xs (after_calls (after_call now call) later)) (append_assoc own runs.first runs.second ∙ ap (λ xs. own ++ xs) (sym runs.parts))
-      (calls-closing (own ++ runs.first) runs.second (after_call now call) later runs.is_second (call-closing own runs.first now call runs.is_first before))
+      (calls-closing (own ++ runs.first) runs.second (after_call now call) later (All-tail (λ c. IsFalse (waits c)) call later at_once) runs.is_second (call-closing own runs.first now call runs.is_first (All-head (λ c. IsFalse (waits c)) call later at_once) before))
 
 pub ongoing_is_closing : OngoingIsClosing
-ongoing_is_closing l acts calls s are is = calls-closing l [] acts nothing_ongoing calls are.runs (λ t none. absurd (cc none)) s is
+ongoing_is_closing l acts calls s are is =
+    let plain = calls_without_waiting l acts calls are in
+    calls-closing l [] acts nothing_ongoing plain.calls plain.unwaiting plain.runs (λ t none. absurd (cc none)) s (ap (λ (now : Ongoing). now.closes s.0) plain.leaves ∙ is)
 
 -- ---- by the progress that is kept of it
 

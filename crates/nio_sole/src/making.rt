@@ -2,10 +2,10 @@
 ghost use Rattle.std.specs.Prelude.{◌≡◌, ◌+◌, ◌<◌, ◌≤◌, ◌++◌, [], ◌∷◌, None, IfOk, vec_len};
 ghost use Rattle.std.specs.Vec.{vec_capacity};
 ghost use Rattle.nio_plain.specs.ScriptState.{script_opening};
-ghost use Rattle.nio_sole.specs.Drawn.{AreEmpty, HasDrawn};
+ghost use Rattle.nio_sole.specs.Drawn.{AreAllDrawn, AreEmpty, HasDrawn};
 ghost use Rattle.nio_sole.specs.Said.{state_at};
 ghost use Rattle.nio_sole.specs.Stands.{Stands};
-ghost use Rattle.nio_words.specs.Passes.{IsFirstPass, IsPassOf, limits_of};
+ghost use Rattle.nio_words.specs.Passes.{IsFirstPass, IsPassOf, limits_of, seen, state_seen};
 
 use crate::desk::{
     Begun, Desk, Shut, forget_closing, forget_closings, forget_selection, forget_selections,
@@ -20,7 +20,9 @@ pub(crate) fn open_desk(alloc: Global, w: &Words, p: &mut Pass) -> Result<Desk, 
     requires { IsFirstPass w.now p.old }
     ensures stands { IfOk result (Stands w.now) }
     ensures opening { IfOk result (λ d. state_at d ≡ script_opening) }
+    ensures drawn { IfOk result (λ d. AreAllDrawn (limits_of w.now) (state_seen d.pass)) }
     ensures pass { IsPassOf w.now p.new }
+    ensures sight { IfOk result (λ d. seen p.new ≡ seen d.pass) }
 {
     let count = w.limits().selectors;
     match no_selections(alloc, count) {
@@ -46,7 +48,9 @@ fn open_with(
     requires closings { AreEmpty closings (limits_of w.now).selectors }
     ensures stands { IfOk result (Stands w.now) }
     ensures opening { IfOk result (λ d. state_at d ≡ script_opening) }
+    ensures drawn { IfOk result (λ d. AreAllDrawn (limits_of w.now) (state_seen d.pass)) }
     ensures pass { IsPassOf w.now p.new }
+    ensures sight { IfOk result (λ d. seen p.new ≡ seen d.pass) }
 {
     draw_all(w, p);
     match w.split(p) {

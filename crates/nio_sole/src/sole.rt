@@ -23,8 +23,9 @@ impl<'a> Sole<'a> {
     ghost use Rattle.nio_base.specs.declared.numbers.CallerNo.{CallerNo};
     ghost use Rattle.nio_orderly.specs.Orderly.{IsWhole};
     ghost use Rattle.nio_plain.specs.ScriptState.{script_opening};
+    ghost use Rattle.nio_sole.specs.Drawn.{AreAllDrawn};
     ghost use Rattle.nio_sole.specs.Sole.{limits_of, pass_of, state_of, words_of};
-    ghost use Rattle.nio_words.specs.Passes.{IsFirstPass, IsPassOf, IsReady, seen};
+    ghost use Rattle.nio_words.specs.Passes.{IsFirstPass, IsPassOf, IsReady, seen, state_seen};
 
     /// Draws every number with the pass, and hands all of them over to a pass of its own. Nothing else may be done with
     /// the table meanwhile: the pass that is left acts for nobody.
@@ -32,7 +33,9 @@ impl<'a> Sole<'a> {
         requires { IsFirstPass words.now pass.old }
         ensures table { IfOk result (λ sole. words_of sole ≡ words.entry.now) }
         ensures opening { IfOk result (λ sole. state_of sole ≡ script_opening) }
+        ensures drawn { IfOk result (λ sole. AreAllDrawn (limits_of sole) (state_seen (pass_of sole))) }
         ensures pass { IsPassOf words.entry.now pass.new }
+        ensures sight { IfOk result (λ sole. seen pass.new ≡ seen (pass_of sole)) }
     {
         let desk = open_desk(alloc, words, pass)?;
         Ok(Sole { words, desk })
