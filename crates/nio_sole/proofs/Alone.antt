@@ -63,7 +63,7 @@ grown l held me acts before after all clause =
     (all_mine me later (λ past e rest parts. by_me me e (λ other.
     let step = clause.legal.steps (before ++ past) e rest (sym joined ∙ (ap (λ (es : List Event). before ++ es) parts ∙ sym (append_assoc before past (e ∷ rest)))) in
     let none : mine e.caller later ≡ [] = append_cancel_left (mine e.caller before) (mine e.caller later) []
-        (sym (mine-both e.caller before later) ∙ (ap (mine e.caller) joined ∙ (clause.others e.caller (all e.caller step.by_caller) other ∙ sym (append-nil (mine e.caller before))))) in
+    (sym (mine-both e.caller before later) ∙ (ap (mine e.caller) joined ∙ (clause.others e.caller (all e.caller step.by_caller) other ∙ sym (append-nil (mine e.caller before))))) in
     some_act e.caller past e rest refl (sym (ap (mine e.caller) parts) ∙ none))))
     ∙ ap (λ (xs : List Act). before ++ map (event_of me) xs) own)
 

@@ -9,18 +9,20 @@ use nio_words::Words;
 use std::alloc::AllocError;
 
 // Begins to close the selector.
-pub(crate) fn close(
-    w: &Words,
-    d: &mut Desk,
-    me: CallerNo,
-    sel: SelNo,
-) -> Result<Reply, AllocError>
+pub(crate) fn close(w: &Words, d: &mut Desk, me: CallerNo, sel: SelNo) -> Result<Reply, AllocError>
     requires { MayMake w.now d.old me (Call.Close sel) }
     ensures { MakesCall (λ plan. plan) w.now d.old d.new me (Call.Close sel) result }
 {
     match shut(w, &mut d.pass, me, sel) {
         Shutting::Closing(closing) => {
-            put_closing(&mut d.closings, sel, Shut { caller: me, closing });
+            put_closing(
+                &mut d.closings,
+                sel,
+                Shut {
+                    caller: me,
+                    closing,
+                },
+            );
             Ok(Reply::Closing)
         }
         Shutting::AlreadyClosed => Ok(Reply::Already),
@@ -42,7 +44,14 @@ pub(crate) fn close_end(
         Some(closing) => match closing.try_finish(w, &mut d.pass, me) {
             Finish::Closed => Ok(Reply::Closed),
             Finish::Busy(closing) => {
-                put_closing(&mut d.closings, sel, Shut { caller: me, closing });
+                put_closing(
+                    &mut d.closings,
+                    sel,
+                    Shut {
+                        caller: me,
+                        closing,
+                    },
+                );
                 Ok(Reply::Busy)
             }
         },

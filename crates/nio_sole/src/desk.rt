@@ -52,10 +52,12 @@ pub(crate) fn forget_selections(mut selections: Vec<Option<Begun>>) {
 }
 
 pub(crate) fn forget_selection(place: Option<Begun>) {
-    if let Some(Begun {
-        caller: _caller,
-        selection,
-    }) = place
+    if let Some(
+        Begun {
+            caller: _caller,
+            selection,
+        },
+    ) = place
     {
         selection.forget();
     }
@@ -69,10 +71,12 @@ pub(crate) fn forget_closings(mut closings: Vec<Option<Shut>>) {
 }
 
 pub(crate) fn forget_closing(place: Option<Shut>) {
-    if let Some(Shut {
-        caller: _caller,
-        closing,
-    }) = place
+    if let Some(
+        Shut {
+            caller: _caller,
+            closing,
+        },
+    ) = place
     {
         closing.forget();
     }
@@ -103,10 +107,12 @@ pub(crate) fn take_selection(
         return None;
     }
     match place.take() {
-        Some(Begun {
-            caller: _caller,
-            selection,
-        }) => Some(selection),
+        Some(
+            Begun {
+                caller: _caller,
+                selection,
+            },
+        ) => Some(selection),
         None => None,
     }
 }
@@ -146,10 +152,12 @@ pub(crate) fn take_closing(
         return None;
     }
     match place.take() {
-        Some(Shut {
-            caller: _caller,
-            closing,
-        }) => Some(closing),
+        Some(
+            Shut {
+                caller: _caller,
+                closing,
+            },
+        ) => Some(closing),
         None => None,
     }
 }

@@ -11,7 +11,16 @@ pub(crate) fn is_valid(w: &Words, p: &mut Pass, me: CallerNo, sel: SelNo, id: Ke
     requires { MayAsk w.now p.old me (Call.Valid sel id) }
     ensures { Asks w.now p.old p.new me (Call.Valid sel id) result }
 {
-    yes_or_no(nio_keys::is_valid(w, p, me, KeyNo { sel, index: id.index, serial: id.serial }))
+    yes_or_no(nio_keys::is_valid(
+        w,
+        p,
+        me,
+        KeyNo {
+            sel,
+            index: id.index,
+            serial: id.serial,
+        },
+    ))
 }
 
 #[tactic(auto, unfolding(nio_serial::specs::Lines::call_plan))]
@@ -19,7 +28,16 @@ pub(crate) fn interest(w: &Words, p: &mut Pass, me: CallerNo, sel: SelNo, id: Ke
     requires { MayAsk w.now p.old me (Call.Interest sel id) }
     ensures { Asks w.now p.old p.new me (Call.Interest sel id) result }
 {
-    set_reply(nio_keys::interest(w, p, me, KeyNo { sel, index: id.index, serial: id.serial }))
+    set_reply(nio_keys::interest(
+        w,
+        p,
+        me,
+        KeyNo {
+            sel,
+            index: id.index,
+            serial: id.serial,
+        },
+    ))
 }
 
 #[tactic(auto, unfolding(nio_serial::specs::Lines::call_plan))]
@@ -27,7 +45,16 @@ pub(crate) fn ready(w: &Words, p: &mut Pass, me: CallerNo, sel: SelNo, id: KeyId
     requires { MayAsk w.now p.old me (Call.Ready sel id) }
     ensures { Asks w.now p.old p.new me (Call.Ready sel id) result }
 {
-    set_reply(nio_keys::ready(w, p, me, KeyNo { sel, index: id.index, serial: id.serial }))
+    set_reply(nio_keys::ready(
+        w,
+        p,
+        me,
+        KeyNo {
+            sel,
+            index: id.index,
+            serial: id.serial,
+        },
+    ))
 }
 
 #[tactic(auto, unfolding(nio_serial::specs::Lines::call_plan))]
@@ -42,7 +69,17 @@ pub(crate) fn set_interest(
     requires { MayAsk w.now p.old me (Call.Iset sel id ops) }
     ensures { Asks w.now p.old p.new me (Call.Iset sel id ops) result }
 {
-    put_reply(nio_keys::set_interest(w, p, me, KeyNo { sel, index: id.index, serial: id.serial }, ops))
+    put_reply(nio_keys::set_interest(
+        w,
+        p,
+        me,
+        KeyNo {
+            sel,
+            index: id.index,
+            serial: id.serial,
+        },
+        ops,
+    ))
 }
 
 #[tactic(auto, unfolding(nio_serial::specs::Lines::call_plan))]
@@ -57,7 +94,17 @@ pub(crate) fn interest_or(
     requires { MayAsk w.now p.old me (Call.Ior sel id ops) }
     ensures { Asks w.now p.old p.new me (Call.Ior sel id ops) result }
 {
-    set_reply(nio_keys::interest_or(w, p, me, KeyNo { sel, index: id.index, serial: id.serial }, ops))
+    set_reply(nio_keys::interest_or(
+        w,
+        p,
+        me,
+        KeyNo {
+            sel,
+            index: id.index,
+            serial: id.serial,
+        },
+        ops,
+    ))
 }
 
 #[tactic(auto, unfolding(nio_serial::specs::Lines::call_plan))]
@@ -72,7 +119,17 @@ pub(crate) fn interest_and(
     requires { MayAsk w.now p.old me (Call.Iand sel id ops) }
     ensures { Asks w.now p.old p.new me (Call.Iand sel id ops) result }
 {
-    set_reply(nio_keys::interest_and(w, p, me, KeyNo { sel, index: id.index, serial: id.serial }, ops))
+    set_reply(nio_keys::interest_and(
+        w,
+        p,
+        me,
+        KeyNo {
+            sel,
+            index: id.index,
+            serial: id.serial,
+        },
+        ops,
+    ))
 }
 
 #[tactic(auto, unfolding(nio_serial::specs::Lines::call_plan))]
@@ -80,7 +137,16 @@ pub(crate) fn cancel(w: &Words, p: &mut Pass, me: CallerNo, sel: SelNo, id: KeyI
     requires { MayAsk w.now p.old me (Call.Cancel sel id) }
     ensures { Asks w.now p.old p.new me (Call.Cancel sel id) result }
 {
-    nio_keys::cancel(w, p, me, KeyNo { sel, index: id.index, serial: id.serial });
+    nio_keys::cancel(
+        w,
+        p,
+        me,
+        KeyNo {
+            sel,
+            index: id.index,
+            serial: id.serial,
+        },
+    );
     Reply::Ok
 }
 
@@ -89,7 +155,16 @@ pub(crate) fn unselect(w: &Words, p: &mut Pass, me: CallerNo, sel: SelNo, id: Ke
     requires { MayAsk w.now p.old me (Call.Unselect sel id) }
     ensures { Asks w.now p.old p.new me (Call.Unselect sel id) result }
 {
-    yes_or_no(nio_keys::unselect(w, p, me, KeyNo { sel, index: id.index, serial: id.serial }))
+    yes_or_no(nio_keys::unselect(
+        w,
+        p,
+        me,
+        KeyNo {
+            sel,
+            index: id.index,
+            serial: id.serial,
+        },
+    ))
 }
 
 #[tactic(auto, unfolding(nio_serial::specs::Lines::call_plan))]
@@ -104,7 +179,17 @@ pub(crate) fn attach(
     requires { MayAsk w.now p.old me (Call.Attach sel id att) }
     ensures { Asks w.now p.old p.new me (Call.Attach sel id att) result }
 {
-    Reply::Number(nio_keys::attach(w, p, me, KeyNo { sel, index: id.index, serial: id.serial }, att))
+    Reply::Number(nio_keys::attach(
+        w,
+        p,
+        me,
+        KeyNo {
+            sel,
+            index: id.index,
+            serial: id.serial,
+        },
+        att,
+    ))
 }
 
 #[tactic(auto, unfolding(nio_serial::specs::Lines::call_plan))]
@@ -112,5 +197,14 @@ pub(crate) fn attachment(w: &Words, p: &mut Pass, me: CallerNo, sel: SelNo, id: 
     requires { MayAsk w.now p.old me (Call.Attachment sel id) }
     ensures { Asks w.now p.old p.new me (Call.Attachment sel id) result }
 {
-    Reply::Number(nio_keys::attachment(w, p, me, KeyNo { sel, index: id.index, serial: id.serial }))
+    Reply::Number(nio_keys::attachment(
+        w,
+        p,
+        me,
+        KeyNo {
+            sel,
+            index: id.index,
+            serial: id.serial,
+        },
+    ))
 }

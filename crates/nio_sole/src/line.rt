@@ -16,8 +16,8 @@ use crate::channels::{
 use crate::closing::{close, close_end};
 use crate::desk::Desk;
 use crate::keys::{
-    attach, attachment, cancel, interest, interest_and, interest_or, is_valid, ready,
-    set_interest, unselect,
+    attach, attachment, cancel, interest, interest_and, interest_or, is_valid, ready, set_interest,
+    unselect,
 };
 use crate::listing;
 use crate::names::find_names;

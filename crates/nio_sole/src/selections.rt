@@ -151,12 +151,7 @@ pub(crate) fn told(
 }
 
 // Leaves the caller's own selection after a poll that failed.
-pub(crate) fn failed(
-    w: &Words,
-    d: &mut Desk,
-    me: CallerNo,
-    sel: SelNo,
-) -> Result<Reply, AllocError>
+pub(crate) fn failed(w: &Words, d: &mut Desk, me: CallerNo, sel: SelNo) -> Result<Reply, AllocError>
     requires { MayMake w.now d.old me (Call.Failed sel) }
     ensures { MakesCall (λ plan. plan) w.now d.old d.new me (Call.Failed sel) result }
 {

@@ -80,7 +80,7 @@ returns c =
     record {
       call = left_as (told_by now s c.args.elapsed c.args.pairs.now c.in-Some.ensures.taken.1 (makes_ran told_reply (after_told now s) told))
           (sym (progress_selection_back w d c.told.new.p c.args.me s c.take_selection.new.selections c.put_selection-in-Again.new.selections _ c.requires.places c.requires.ask.named.inside c.in-Some.ensures.taken.0 c.in-Some.ensures.len c.put_selection-in-Again.ensures.items refl
-              (c.in-Some.ensures.taken.1 ∙ ap Some (sym same))));
+          (c.in-Some.ensures.taken.1 ∙ ap Some (sym same))));
       ready = c.in-Again.ensures.ready;
       places = places_selection_back w d c.told.new.p s c.take_selection.new.selections c.put_selection-in-Again.new.selections _ c.requires.places c.requires.ask.named.inside c.in-Some.ensures.taken.0 c.in-Some.ensures.len c.put_selection-in-Again.ensures.items c.put_selection-in-Again.ensures.len
           (ap (λ (y : Selection). y.selector.0) same ∙ ap (λ (y : SelNo). y.0) (own_on w d c.args.me s x c.requires.places c.in-Some.ensures.taken.1));
