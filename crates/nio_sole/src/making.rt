@@ -1,5 +1,5 @@
 //! What the sole use of a table begins with: all numbers drawn, and nothing in progress.
-ghost use Rattle.std.specs.Prelude.{◌≡◌, ◌+◌, ◌<◌, ◌≤◌, ◌++◌, [], ◌∷◌, None, IfOk, vec_len};
+ghost use Rattle.std.specs.Prelude.{◌≡◌, ◌+◌, ◌<◌, ◌≤◌, ◌++◌, [], ◌∷◌, None, IfOk, OnErr, vec_len};
 ghost use Rattle.std.specs.Vec.{vec_capacity};
 ghost use Rattle.nio_plain.specs.ScriptState.{script_opening};
 ghost use Rattle.nio_sole.specs.Drawn.{AreEmpty, HasDrawn};
@@ -21,6 +21,7 @@ pub(crate) fn open_desk(alloc: Global, w: &Words, p: &mut Pass) -> Result<Desk, 
     ensures stands { IfOk result (Stands w.now) }
     ensures opening { IfOk result (λ d. state_at d ≡ script_opening) }
     ensures pass { IsPassOf w.now p.new }
+    ensures memory { OnErr result (p.new ≡ p.old) }
 {
     let count = w.limits().selectors;
     match no_selections(alloc, count) {
@@ -47,6 +48,7 @@ fn open_with(
     ensures stands { IfOk result (Stands w.now) }
     ensures opening { IfOk result (λ d. state_at d ≡ script_opening) }
     ensures pass { IsPassOf w.now p.new }
+    ensures memory { OnErr result (p.new ≡ p.old) }
 {
     draw_all(w, p);
     match w.split(p) {
