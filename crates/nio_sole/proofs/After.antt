@@ -1,12 +1,11 @@
 -- What a line leaves between two lines.
-use Rattle.std.proofs.Common.{◌≡◌, ℕ, ◌<◌, ◌≤◌, nat_lt, ◌==◌, Bool, true, false, if◌then◌else◌, Option, List, [], Result, Ok, Err, refl, sym, ap, ◌∙◌, subst, eqb-true, eq-eqb}
+use Rattle.std.proofs.Common.{◌≡◌, ℕ, ◌<◌, ◌≤◌, nat_lt, Bool, true, false, if◌then◌else◌, Option, List, [], Result, Ok, Err, refl, sym, ap, ◌∙◌, subst, eqb-true, eq-eqb}
 use Rattle.std.proofs.Math.Bool.{Bool-set}
 use Rattle.std.proofs.Math.Logic.{∥∥₁_elim, ∥∥₁_map, ∥∥₁_map₂}
 use Rattle.std.proofs.Math.Nat.{ℕ_set}
 use Rattle.std.proofs.lemmas.Bool.{lt-ltb, le-ltb}
 use Rattle.std.proofs.lemmas.List.{append-nil}
 use Rattle.std.specs.Int.{bit_at}
-use Rattle.std.specs.Prelude.{IsTrue, IsFalse}
 use Rattle.std.specs.declared.alloc.AllocError.{AllocError}
 use mathlib.Core.List as lists
 use mathlib.Core.Sum.{⊎_set}
@@ -14,7 +13,6 @@ use Rattle.nio_base.specs.Limits.{IsFit}
 use Rattle.nio_base.specs.declared.limits.Limits.{Limits}
 use Rattle.nio_base.specs.declared.numbers.CallerNo.{CallerNo}
 use Rattle.nio_base.specs.declared.numbers.KeyId.{KeyId}
-use Rattle.nio_base.specs.declared.numbers.SelNo.{SelNo}
 use Rattle.nio_event.specs.Histories.{mine}
 use Rattle.nio_event.specs.PassViews.{PassView, ActsClause, HasNoPin, known}
 use Rattle.nio_event.specs.declared.act.Act.{Act}
@@ -25,7 +23,7 @@ use Rattle.nio_event.specs.declared.reply.Reply.{Reply}
 use Rattle.nio_event.specs.declared.reply.Reply.TheVariants as reply
 use Rattle.nio_plain.specs.ScriptState.{ScriptState}
 use Rattle.nio_plain.specs.Seq.{seq, call_of}
-use Rattle.nio_plain.specs.Seq.Answers.{Answered, unchanged}
+use Rattle.nio_plain.specs.Seq.Answers.{unchanged}
 use Rattle.nio_plain.specs.declared.rules.Rules.TheVariants.{Now}
 use Rattle.nio_serial.specs.Between.{IsBetween}
 use Rattle.nio_serial.specs.Documented.{Progress, documented}
@@ -33,7 +31,7 @@ use Rattle.nio_serial.specs.Lines.{Said, refused, if_named, call_plan}
 use Rattle.nio_serial.specs.Replies.{begin_reply, list_reply}
 use Rattle.nio_sole.proofs.Alone.{sole_view, alone}
 use Rattle.nio_sole.proofs.Calls.{Leads, leads_named, leads_refused, leads_begin_memory, leads_keys_memory, leads_selected_memory}
-use Rattle.nio_sole.proofs.Lines.{AreBetween, line_of_named, line_stands, named-rests, rest_stands, keys-same, selected-same}
+use Rattle.nio_sole.proofs.Lines.{AreBetween, line_of_named, line_stands, named-rests, keys-same, selected-same}
 use Rattle.nio_sole.proofs.Memory.{stays_along, begin_memory_stays, keys_memory_stays, selected_memory_stays}
 use Rattle.nio_sole.proofs.Others.{call_made}
 use Rattle.nio_sole.specs.Made.{HasMade}

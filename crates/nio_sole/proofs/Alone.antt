@@ -1,5 +1,5 @@
 -- While a pass acts for each caller, nothing but its own acts happens.
-use Rattle.std.proofs.Common.{◌≡◌, ◌≢◌, ℕ, ◌<◌, ◌==◌, Bool, true, false, List, [], ◌∷◌, ◌++◌, map, cond, refl, ap, sym, ◌∙◌, subst, eqb-true, eq-eqb, append_assoc}
+use Rattle.std.proofs.Common.{◌≡◌, ◌≢◌, ℕ, ◌<◌, ◌==◌, Bool, true, false, List, [], ◌∷◌, ◌++◌, map, cond, refl, ap, sym, ◌∙◌, eqb-true, eq-eqb, append_assoc}
 use Rattle.std.proofs.lemmas.List.{append_cancel_left, append-nil, map-append}
 use Rattle.std.proofs.lemmas.List.Elements.{filter-append}
 use Rattle.std.specs.Int.{bit_at}
@@ -7,7 +7,7 @@ use Rattle.std.specs.Prelude.{filter}
 use Rattle.nio_base.specs.declared.limits.Limits.{Limits}
 use Rattle.nio_base.specs.declared.numbers.CallerNo.{CallerNo}
 use Rattle.nio_event.specs.Conditions.{IsCaller}
-use Rattle.nio_event.specs.Histories.{mine, is_by, event_of, IsLegal, HistoryClause}
+use Rattle.nio_event.specs.Histories.{mine, is_by, event_of, HistoryClause}
 use Rattle.nio_event.specs.PassViews.{PassView, done_between}
 use Rattle.nio_event.specs.declared.act.Act.{Act}
 use Rattle.nio_event.specs.declared.event.Event.{Event}

@@ -1,5 +1,5 @@
 -- A call of a line that leaves what is in progress as it is.
-use Rattle.std.proofs.Common.{◌≡◌, ℕ, Bool, Option, List, Result, refl, ap, sym, subst}
+use Rattle.std.proofs.Common.{◌≡◌, ℕ, Bool, Option, List, Result, sym, subst}
 use Rattle.nio_base.specs.declared.numbers.CallerNo.{CallerNo}
 use Rattle.nio_base.specs.declared.numbers.KeyId.{KeyId}
 use Rattle.nio_base.specs.declared.numbers.KeyNo.{KeyNo}

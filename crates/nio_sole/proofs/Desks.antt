@@ -1,5 +1,5 @@
 -- What a desk has in progress, once something was put into a place of it.
-use Rattle.std.proofs.Common.{◌≡◌, ◌≢◌, ℕ, zero, suc, ◌+◌, ◌<◌, [], ◌∷◌, ◌++◌, Option, Some, None, List, length, set, refl, sym, ap, ◌∙◌, subst, ⊎_elim, arith, vec_len, true, false, Bool, ◌==◌, if◌then◌else◌, eq-eqb, eqb-true}
+use Rattle.std.proofs.Common.{◌≡◌, ℕ, zero, suc, ◌+◌, ◌<◌, [], ◌∷◌, ◌++◌, Option, Some, None, List, length, set, refl, sym, ap, ◌∙◌, subst, ⊎_elim, arith, vec_len, true, false, Bool, ◌==◌, if◌then◌else◌, eq-eqb, eqb-true}
 use Rattle.std.proofs.lemmas.Bool.{cases_eq}
 use Rattle.std.proofs.lemmas.List.{get_or-set_same, get_or-set_other, length-set}
 use Rattle.std.specs.Prelude.{option_map, Vec}
@@ -9,7 +9,7 @@ use Rattle.nio_event.specs.State.{put}
 use Rattle.nio_event.specs.declared.reply.Reply.{Reply}
 use Rattle.nio_base.specs.declared.numbers.CallerNo.{CallerNo}
 use Rattle.nio_base.specs.declared.numbers.SelNo.{SelNo}
-use Rattle.nio_plain.proofs.Places.{put_is, put-here, put-elsewhere}
+use Rattle.nio_plain.proofs.Places.{put_is, put-elsewhere}
 use Rattle.nio_plain.specs.Seq.Selections.{is_caller}
 use Rattle.nio_serial.specs.Documented.{Progress, Selecting}
 use Rattle.nio_serial.specs.Lines.{Said, if_own, with_closing, with_selection}

@@ -1,12 +1,12 @@
 -- What a look-up of a line finds.
 use Rattle.std.specs.Prelude.{IfNone}
-use Rattle.std.proofs.Common.{◌≡◌, ℕ, nat_lt, Bool, true, false, not, if◌then◌else◌, Option, Some, None, List, [], ◌∷◌, refl, ap, sym, subst}
+use Rattle.std.proofs.Common.{◌≡◌, ℕ, nat_lt, Bool, true, false, not, if◌then◌else◌, Option, Some, None, List, [], ◌∷◌, ap, sym, subst}
 use Rattle.nio_base.specs.declared.limits.Limits.{Limits}
 use Rattle.nio_base.specs.declared.numbers.CallerNo.{CallerNo}
 use Rattle.nio_base.specs.declared.numbers.ChanNo.{ChanNo}
 use Rattle.nio_base.specs.declared.numbers.KeyNo.{KeyNo}
 use Rattle.nio_base.specs.declared.numbers.SelNo.{SelNo}
-use Rattle.nio_event.specs.PassViews.{PassView, done_between, ActsClause, HasSelector, HasChannel, HasKey, HasNoPin}
+use Rattle.nio_event.specs.PassViews.{PassView, done_between, ActsClause, HasNoPin}
 use Rattle.nio_event.specs.Questions.{Question, Answer, answer_of}
 use Rattle.nio_event.specs.declared.act.Act.{Act}
 use Rattle.nio_event.specs.declared.call.Call.{Call}
@@ -15,12 +15,10 @@ use Rattle.nio_event.specs.declared.reply.Reply.TheVariants as reply
 use Rattle.nio_serial.specs.Documented.{Progress, nothing_yet}
 use Rattle.nio_serial.specs.Lines.{Said, refused, if_named}
 use Rattle.nio_sole.specs.Named.{HasNames, Finds, after_names}
-use Rattle.nio_steps.proofs.CallLaws.{left_more, left_bind, left_of_call, left_start}
-use Rattle.nio_steps.proofs.PinBack.{no_pin_after}
-use Rattle.nio_steps.proofs.PinLaws.{pins_are_given_back}
-use Rattle.nio_steps.specs.Calls.{CallClause, PartClause}
+use Rattle.nio_steps.proofs.CallLaws.{left_more, left_start}
+use Rattle.nio_steps.specs.Calls.{PartClause}
 use Rattle.nio_steps.specs.KeyCalls.{find_selector_plan, find_channel_plan, find_plan}
-use Rattle.nio_steps.specs.Names.{selector, channel, key}
+use Rattle.nio_steps.specs.Names.{selector, channel}
 use Rattle.nio_steps.specs.Plan.{Plan, ask}
 use Rattle.nio_steps.specs.Runs.{Completes}
 use Rattle.nio_words.specs.Passes.{IsReady, limits_of}

@@ -1,5 +1,5 @@
 -- What a caller has in progress, from the mere fact that it has it: in a legal history there is one such selection.
-use Rattle.std.proofs.Common.{◌≡◌, ℕ, ◌==◌, Bool, true, false, ◌||◌, if◌then◌else◌, Some, None, is_some, Result, Ok, Err, List, [], ◌∷◌, ◌++◌, refl, ap, sym, ◌∙◌, subst, append_assoc, eqb-true, eq-eqb}
+use Rattle.std.proofs.Common.{◌≡◌, ℕ, Bool, true, false, ◌||◌, if◌then◌else◌, Some, None, is_some, Result, Ok, Err, List, [], ◌∷◌, ◌++◌, refl, ap, sym, ◌∙◌, subst, append_assoc, eqb-true, eq-eqb}
 use Rattle.std.specs.Prelude.{is_ok}
 use Rattle.std.proofs.Math.Bool.{Bool-set}
 use Rattle.std.proofs.Math.Logic.{∥∥₁_elim}
@@ -25,6 +25,7 @@ use Rattle.nio_event.specs.declared.event.Event.{Event}
 use Rattle.nio_event.specs.declared.found.Mode.{Mode}
 use Rattle.nio_orderly.proofs.ListWords.{has-neither, has-not_first, has-at, no_such_act}
 use Rattle.nio_orderly.proofs.OrderlyCare.{first_opened}
+use Rattle.nio_sole.proofs.Calls.{takes_turn, shuts}
 use Rattle.nio_steps.proofs.BeginLaws.{begin-parts}
 use Rattle.nio_steps.proofs.Lists.{parted, contains-middle}
 use Rattle.nio_steps.proofs.OwnActs.{cut_at}
@@ -137,11 +138,6 @@ last_place p act (x ∷ xs) (y ∷ ys) us vs is none none' same =
 
 -- ---- a beginning of a selection
 
--- it took the turn of selector s, which was free
-abbrev takes : ℕ → Act → Bool
-takes s (TakeTurn s' None) = s'.0 == s
-takes s _ = false
-
 -- a look at the gate, the taking of the turn, and acts that don't give it back
 record TakesFree (s : SelNo) (acts : List Act) : Type 0 where
   gate : Act
@@ -197,17 +193,17 @@ taken_so own x earlier beginning since parts run goes_on =
 
 module _ (l : Limits) (events : List Event) (n : CallerNo) (legal : IsLegal l events) where
   -- who took the turn and hasn't given it back doesn't take it again
-  not_again : (s : SelNo) (before later : List Act) → mine n events ≡ before ++ TakeTurn s None ∷ later → has (gives_turn s.0) later ≡ false → has (takes s.0) later ≡ false
-  not_again s before later did keeps = by_test (has (takes s.0) later) refl
+  not_again : (s : SelNo) (before later : List Act) → mine n events ≡ before ++ TakeTurn s None ∷ later → has (gives_turn s.0) later ≡ false → has (takes_turn s.0) later ≡ false
+  not_again s before later did keeps = by_test (has (takes_turn s.0) later) refl
     where
       act : Act
       act = TakeTurn s None
 
-      again : has (takes s.0) later ≡ true → ⊥
+      again : has (takes_turn s.0) later ≡ true → ⊥
       again there =
-          let second = first_opened (takes s.0) later there in
+          let second = first_opened (takes_turn s.0) later there in
           let is_act : second.act ≡ act = takes_is second.act second.opening in
-          let rest = since_first (takes s.0) later in
+          let rest = since_first (takes_turn s.0) later in
           let later_is : later ≡ second.before ++ act ∷ rest = second.parts ∙ ap (λ (a : Act). second.before ++ a ∷ rest) is_act in
           let cut = cut_at n events before act later did in
           let cut' = cut_at n cut.later second.before act rest (cut.mine_later ∙ later_is) in
@@ -218,12 +214,12 @@ module _ (l : Limits) (events : List Event) (n : CallerNo) (legal : IsLegal l ev
           both_ways (has (gives_turn s.0) second.before) (ap (has (gives_turn s.0)) (sym cut'.mine_past) ∙ given)
           (has-not_first (gives_turn s.0) second.before (act ∷ rest) (ap (has (gives_turn s.0)) (sym later_is) ∙ keeps))
         where
-          takes_is : (a : Act) → takes s.0 a ≡ true → a ≡ act
+          takes_is : (a : Act) → takes_turn s.0 a ≡ true → a ≡ act
           takes_is (TakeTurn s' None) is = ap (λ (k : ℕ). TakeTurn (record { 0 = k }) None) (eqb-true s'.0 s.0 is)
           takes_is (TakeTurn s' (Some m)) is = absurd (cc is)
           takes_is _ is = absurd (cc is)
 
-      by_test : (b : Bool) → has (takes s.0) later ≡ b → b ≡ false
+      by_test : (b : Bool) → has (takes_turn s.0) later ≡ b → b ≡ false
       by_test true there = absurd (again there)
       by_test false there = refl
 
@@ -257,7 +253,7 @@ module _ (l : Limits) (events : List Event) (n : CallerNo) (legal : IsLegal l ev
 
       place : LastPlace (t.0 ++ a.gate ∷ []) (u.0 ++ b.gate ∷ []) (a.rest ++ t.2) (b.rest ++ u.2)
       place =
-          last_place (takes x.selector.0) (TakeTurn x.selector None) (t.0 ++ a.gate ∷ []) (u.0 ++ b.gate ∷ []) (a.rest ++ t.2) (b.rest ++ u.2) (eq-eqb x.selector.0 x.selector.0 refl)
+          last_place (takes_turn x.selector.0) (TakeTurn x.selector None) (t.0 ++ a.gate ∷ []) (u.0 ++ b.gate ∷ []) (a.rest ++ t.2) (b.rest ++ u.2) (eq-eqb x.selector.0 x.selector.0 refl)
           (not_again x.selector (t.0 ++ a.gate ∷ []) (a.rest ++ t.2) a.parts a.keeps) (not_again x.selector (u.0 ++ b.gate ∷ []) (b.rest ++ u.2) b.parts b.keeps) (sym a.parts ∙ b.parts)
 
       pushed : LastPushed t.0 u.0 a.gate b.gate
@@ -303,10 +299,6 @@ module _ (l : Limits) (events : List Event) (n : CallerNo) (legal : IsLegal l ev
       }
 
 -- ---- closing
-
-abbrev shuts : ℕ → Act → Bool
-shuts s (ShutBit s' false) = s'.0 == s
-shuts s _ = false
 
 -- a selector that was merely shut was shut
 pub closing_had : (did : List Act) (s : SelNo) → ∥ IsClosing did s ∥₁ → IsClosing did s

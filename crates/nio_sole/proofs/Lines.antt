@@ -1,5 +1,5 @@
 -- What stands between two lines stands after each line, and after a call that lacked memory.
-use Rattle.std.proofs.Common.{◌≡◌, ℕ, nat_lt, Bool, true, false, not, if◌then◌else◌, Option, Some, None, is_some, refl, ap, sym, ◌∙◌, subst}
+use Rattle.std.proofs.Common.{◌≡◌, ℕ, nat_lt, Bool, true, false, not, if◌then◌else◌, Option, Some, None, is_some, refl, sym, subst}
 use Rattle.nio_base.specs.Limits.{IsFit}
 use Rattle.nio_base.specs.declared.limits.Limits.{Limits}
 use Rattle.nio_base.specs.declared.numbers.CallerNo.{CallerNo}
@@ -23,7 +23,7 @@ use Rattle.nio_plain.specs.declared.rules.Rules.TheVariants.{Now}
 use Rattle.nio_serial.specs.Between.{IsBetween}
 use Rattle.nio_serial.specs.Documented.{Progress, documented}
 use Rattle.nio_serial.proofs.Histories.{pass-lines-amount}
-use Rattle.nio_serial.specs.Lines.{Said, refused, comes_to, call_plan, if_found, if_selector, if_channel, if_key, if_named, line_plan}
+use Rattle.nio_serial.specs.Lines.{Said, refused, call_plan, if_found, if_selector, if_channel, if_key, if_named, line_plan}
 use Rattle.nio_sole.proofs.Calls.{Leads}
 use Rattle.nio_sole.proofs.Memory.{Rests, rests_then, selector-rests, stays_along}
 use Rattle.nio_sole.proofs.Others.{call_made, line_made}
@@ -31,7 +31,6 @@ use Rattle.nio_sole.specs.Made.{HasMade}
 use Rattle.nio_steps.specs.Calls.{CallClause}
 use Rattle.nio_steps.specs.KeyCalls.{find_channel_plan, find_plan}
 use Rattle.nio_steps.specs.Names.{channel}
-use Rattle.nio_steps.specs.Perform.{Performed, perform}
 use Rattle.nio_steps.specs.Plan.{Plan, ◌>>=◌}
 use Rattle.nio_steps.specs.Runs.{Completes}
 use Rattle.nio_steps.specs.Steps.{look_channel, look_key}

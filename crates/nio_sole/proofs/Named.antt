@@ -1,10 +1,8 @@
 -- From the look-ups of a line and its call to the line.
-use Rattle.std.proofs.Common.{◌≡◌, Option, None, Some, Result, Ok, Err, List, ◌++◌, refl, sym, subst}
+use Rattle.std.proofs.Common.{Option, None, Some, Result, Ok, Err, List, sym, subst}
 use Rattle.std.proofs.Math.Logic.{∥∥₁_map}
 use Rattle.std.specs.declared.alloc.AllocError.{AllocError}
 use Rattle.nio_base.specs.declared.numbers.CallerNo.{CallerNo}
-use Rattle.nio_event.specs.Histories.{mine}
-use Rattle.nio_event.specs.PassViews.{PassView}
 use Rattle.nio_event.specs.declared.call.Call.{Call}
 use Rattle.nio_event.specs.declared.reply.Reply.{Reply}
 use Rattle.nio_event.specs.declared.reply.Reply.TheVariants as reply
@@ -21,7 +19,7 @@ use Rattle.nio_steps.proofs.CallLaws.{returned, left_more, left_of_call}
 use Rattle.nio_steps.specs.Calls.{CallClause}
 use Rattle.nio_steps.specs.Plan.{Plan}
 use Rattle.nio_steps.specs.Runs.{Completes}
-use Rattle.nio_words.specs.Passes.{limits_of, seen, acts_seen}
+use Rattle.nio_words.specs.Passes.{limits_of, acts_seen}
 use Rattle.nio_words.specs.Views.{view}
 use Rattle.nio_words.specs.declared.words.Pass.{Pass}
 use Rattle.nio_words.specs.declared.words.Words.{Words}

@@ -45,6 +45,18 @@ use Rattle.nio_steps.specs.Selections.{marks_on, IsBegun, IsClosing}
 use Rattle.nio_steps.specs.Steps.{flag_in, gate_in, holder_in}
 use Rattle.nio_steps.specs.declared.refusal.BeginError.{BeginError}
 
+-- ---- numbers
+
+same_number : (a b : ℕ) → (a == b) ≡ true → (b == a) ≡ true
+same_number a b is = eq-eqb b a (sym (eqb-true a b is))
+
+other_number : (a b : ℕ) → (a == b) ≡ false → (b == a) ≡ false
+other_number a b is = by_test (b == a) refl
+  where
+    by_test : (c : Bool) → (b == a) ≡ c → c ≡ false
+    by_test true same = absurd (both_ways (a == b) (same_number b a same) is)
+    by_test false same = refl
+
 -- ---- a selection in progress
 
 record IsBegunOn (s : ℕ) (own : List Act) (x : Selection) : Type 0 where
@@ -161,16 +173,6 @@ module _ (l : Limits) (events : List Event) (n : CallerNo) (legal : IsLegal l ev
 
   -- ---- one call more
 
-  same_number : (a b : ℕ) → (a == b) ≡ true → (b == a) ≡ true
-  same_number a b is = eq-eqb b a (sym (eqb-true a b is))
-
-  other_number : (a b : ℕ) → (a == b) ≡ false → (b == a) ≡ false
-  other_number a b is = by_test (b == a) refl
-    where
-      by_test : (c : Bool) → (b == a) ≡ c → c ≡ false
-      by_test true same = absurd (both_ways (a == b) (same_number b a same) is)
-      by_test false same = refl
-
   put-there : {A : Type 0} (f : ℕ → A) (s : ℕ) (x : A) (t : ℕ) → (s == t) ≡ true → put f s x t ≡ x
   put-there f s x t is = ap (λ b. if b then x else f t) (same_number s t is)
 
@@ -273,14 +275,7 @@ module _ (l : Limits) where
       by_test true same =
           let s_is : s ≡ t = ap (λ (k : ℕ). record { 0 = k }) (eqb-true s.0 t.0 same) in
           subst (λ (k : SelNo). IsClosing (own ++ acts) k) s_is (Contains-append_right own acts (ShutBit s false) (always_run (λ xs r. r ≡ closing → Contains xs (ShutBit s false)) (shut_plan s) acts closing (shut-contains s) run refl))
-      by_test false other = closing-longer own acts now before t (sym (ap (λ b. if b then true else now.closes t.0) (other-number s.0 t.0 other)) ∙ is)
-        where
-          other-number : (a b : ℕ) → (a == b) ≡ false → (b == a) ≡ false
-          other-number a b is' = by_same (b == a) refl
-            where
-              by_same : (c : Bool) → (b == a) ≡ c → c ≡ false
-              by_same true same = absurd (both_ways (a == b) (eq-eqb a b (sym (eqb-true b a same))) is')
-              by_same false same = refl
+      by_test false other = closing-longer own acts now before t (sym (ap (λ b. if b then true else now.closes t.0) (other_number s.0 t.0 other)) ∙ is)
   call-closing own acts now (try_finish s closed) run at_once before t is = closing-longer own acts now before t (by_test (t.0 == s.0) is)
     where
       by_test : (b : Bool) → (if b then false else now.closes t.0) ≡ true → now.closes t.0 ≡ true

@@ -1,5 +1,4 @@
 -- The calls of lines, once their names are found.
-use Rattle.std.specs.Prelude.{◌≡◌}
 use Rattle.nio_base.specs.declared.numbers.CallerNo.{CallerNo}
 use Rattle.nio_event.specs.PassViews.{HasNoPin}
 use Rattle.nio_event.specs.declared.call.Call.{Call}

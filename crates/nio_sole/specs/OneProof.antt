@@ -1,5 +1,5 @@
 -- What stands between two lines is a fact: there is at most one proof of it.
-use Rattle.std.proofs.Common.{◌≡◌, Option, List}
+use Rattle.std.proofs.Common.{Option, List}
 use Rattle.std.proofs.Math.Bool.{Bool-set}
 use Rattle.std.proofs.Math.Nat.{ℕ_set}
 use Rattle.std.proofs.Props.{props}

@@ -1,5 +1,5 @@
 -- Taking what is in progress out of a desk.
-use Rattle.std.specs.Prelude.{◌≡◌, ℕ, Option, Some, None, List, slice_set, false}
+use Rattle.std.specs.Prelude.{◌≡◌, Option, Some, None, List, slice_set, false}
 use Rattle.nio_base.specs.declared.numbers.CallerNo.{CallerNo}
 use Rattle.nio_base.specs.declared.numbers.SelNo.{SelNo}
 use Rattle.nio_plain.specs.Seq.Selections.{is_caller}

@@ -18,3 +18,5 @@ mod replies;
 mod selections;
 mod selectors;
 mod sole;
+#[cfg(test)]
+mod tests;

@@ -1,5 +1,5 @@
 //! What the sole use of a table begins with: all numbers drawn, and nothing in progress.
-ghost use Rattle.std.specs.Prelude.{◌≡◌, ◌+◌, ◌<◌, ◌≤◌, ◌++◌, [], ◌∷◌, None, IfOk, vec_len};
+ghost use Rattle.std.specs.Prelude.{◌≡◌, ◌+◌, ◌<◌, ◌≤◌, ◌++◌, [], ◌∷◌, None, IfOk, OnErr, vec_len};
 ghost use Rattle.std.specs.Vec.{vec_capacity};
 ghost use Rattle.nio_plain.specs.ScriptState.{script_opening};
 ghost use Rattle.nio_sole.specs.Drawn.{AreAllDrawn, AreEmpty, HasDrawn};
@@ -23,6 +23,7 @@ pub(crate) fn open_desk(alloc: Global, w: &Words, p: &mut Pass) -> Result<Desk, 
     ensures drawn { IfOk result (λ d. AreAllDrawn (limits_of w.now) (state_seen d.pass)) }
     ensures pass { IsPassOf w.now p.new }
     ensures sight { IfOk result (λ d. seen p.new ≡ seen d.pass) }
+    ensures memory { OnErr result (p.new ≡ p.old) }
 {
     let count = w.limits().selectors;
     match no_selections(alloc, count) {
@@ -51,6 +52,7 @@ fn open_with(
     ensures drawn { IfOk result (λ d. AreAllDrawn (limits_of w.now) (state_seen d.pass)) }
     ensures pass { IsPassOf w.now p.new }
     ensures sight { IfOk result (λ d. seen p.new ≡ seen d.pass) }
+    ensures memory { OnErr result (p.new ≡ p.old) }
 {
     draw_all(w, p);
     match w.split(p) {

@@ -19,16 +19,18 @@ pub struct Sole<'a> {
 }
 
 impl<'a> Sole<'a> {
-    ghost use Rattle.std.specs.Prelude.{◌≡◌, ◌<◌, IfOk};
+    ghost use Rattle.std.specs.Prelude.{◌≡◌, ◌<◌, IfOk, OnErr};
     ghost use Rattle.nio_base.specs.declared.numbers.CallerNo.{CallerNo};
+    ghost use Rattle.nio_event.specs.PassViews.{HasNoPin};
     ghost use Rattle.nio_orderly.specs.Orderly.{IsWhole};
     ghost use Rattle.nio_plain.specs.ScriptState.{script_opening};
     ghost use Rattle.nio_sole.specs.Drawn.{AreAllDrawn};
     ghost use Rattle.nio_sole.specs.Sole.{limits_of, pass_of, state_of, words_of};
     ghost use Rattle.nio_words.specs.Passes.{IsFirstPass, IsPassOf, IsReady, seen, state_seen};
+    ghost use Rattle.nio_words.specs.Views.{view};
 
-    /// Draws every number with the pass, and hands all of them over to a pass of its own. Nothing else may be done with
-    /// the table meanwhile: the pass that is left acts for nobody.
+    /// Draws every number with the pass, and hands all of them over to a pass of its own. The pass that is left acts for
+    /// nobody. Want of memory leaves the pass as it was.
     pub fn make(alloc: Global, words: &'a Words, pass: &mut Pass) -> Result<Sole<'a>, AllocError>
         requires { IsFirstPass words.now pass.old }
         ensures table { IfOk result (λ sole. words_of sole ≡ words.entry.now) }
@@ -36,6 +38,7 @@ impl<'a> Sole<'a> {
         ensures drawn { IfOk result (λ sole. AreAllDrawn (limits_of sole) (state_seen (pass_of sole))) }
         ensures pass { IsPassOf words.entry.now pass.new }
         ensures sight { IfOk result (λ sole. seen pass.new ≡ seen (pass_of sole)) }
+        ensures memory { OnErr result (pass.new ≡ pass.old) }
     {
         let desk = open_desk(alloc, words, pass)?;
         Ok(Sole { words, desk })
@@ -46,6 +49,7 @@ impl<'a> Sole<'a> {
     pub fn into_pass(self) -> Pass
         ensures pass { result ≡ pass_of self.entry }
         ensures ready { (n : CallerNo) → n.0 < (limits_of self.entry).callers → IsReady (words_of self.entry) result n }
+        ensures unpinned { (n : CallerNo) → HasNoPin (view (words_of self.entry) result) n }
         ensures whole { ∥ IsWhole (limits_of self.entry) (seen result) ∥₁ }
     {
         let Sole {

@@ -1,4 +1,4 @@
-use Rattle.std.proofs.Common.{◌≡◌, ℕ, subst}
+use Rattle.std.proofs.Common.{ℕ, subst}
 use Rattle.nio_serial.specs.Lines.{call_plan}
 use Rattle.nio_serial.specs.Replies.{register_reply}
 use Rattle.nio_sole.proofs.Asking.{asks_ran}

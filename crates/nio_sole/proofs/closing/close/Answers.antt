@@ -1,5 +1,4 @@
-use Rattle.std.proofs.Common.{◌≡◌, Some, refl, sym, ap, ◌∙◌}
-use Rattle.std.specs.Prelude.{option_map}
+use Rattle.std.proofs.Common.{Some, sym, ap, ◌∙◌}
 use Rattle.nio_serial.specs.Lines.{call_plan, after_shut}
 use Rattle.nio_serial.specs.Replies.{shut_reply}
 use Rattle.nio_sole.proofs.Asking.{makes_ran}

@@ -1,20 +1,17 @@
-use Rattle.std.proofs.Common.{◌≡◌, ◌<◌, false, true, Option, Some, None, refl, sym, ap, ◌∙◌, subst, eq-eqb}
+use Rattle.std.proofs.Common.{◌≡◌, true, None, refl, sym, ap, ◌∙◌, subst}
 use Rattle.std.proofs.Math.Logic.{∥∥₁_map}
-use Rattle.std.specs.Prelude.{option_map}
-use Rattle.nio_base.specs.declared.numbers.CallerNo.{CallerNo}
 use Rattle.nio_base.specs.declared.numbers.SelNo.{SelNo}
 use Rattle.nio_event.specs.declared.reply.Reply.TheVariants as reply
 use Rattle.nio_event.specs.Histories.{mine}
 use Rattle.nio_plain.specs.Seq.Selections.{is_caller}
 use Rattle.nio_select.specs.InProgress.{Closes}
-use Rattle.nio_serial.specs.Lines.{call_plan, makes, refused, after_finish}
+use Rattle.nio_serial.specs.Lines.{call_plan, refused, after_finish}
 use Rattle.nio_serial.specs.Replies.{finish_reply}
 use Rattle.nio_sole.proofs.Asking.{makes_ran}
-use Rattle.nio_sole.proofs.Desks.{progress_closing, places_closing, left_as, some_is, with_closings, put_back, part_put, its_selector, own_closing, places_taken, progress_put_back, places_put_back, nothing_there}
+use Rattle.nio_sole.proofs.Desks.{progress_closing, places_closing, left_as, with_closings, its_selector, own_closing, places_taken, progress_put_back, places_put_back, nothing_there}
 use Rattle.nio_sole.proofs.Had.{closing_had}
 use Rattle.nio_sole.proofs.Progress.{made_closing}
-use Rattle.nio_sole.specs.Stands.{progress_of, closings_of, slot}
-use Rattle.nio_sole.specs.declared.desk.Shut.{Shut}
+use Rattle.nio_sole.specs.Stands.{progress_of, closings_of}
 use Rattle.nio_steps.proofs.CallLaws.{returned, left_then, left_else, left_start, left_of_call}
 use Rattle.nio_steps.specs.Calls.{CallClause}
 use Rattle.nio_steps.specs.Runs.{Completes}

@@ -1,4 +1,3 @@
-use Rattle.std.proofs.Common.{refl}
 use Rattle.nio_serial.specs.Lines.{call_plan}
 use Rattle.nio_serial.specs.Replies.{put_reply}
 use Rattle.nio_sole.proofs.Asking.{asks_ran}

@@ -1,5 +1,4 @@
-use Rattle.std.proofs.Common.{◌≡◌, Err, List, map, refl, ap, ◌∙◌, subst}
-use Rattle.nio_base.specs.declared.numbers.KeyNo.{KeyNo}
+use Rattle.std.proofs.Common.{Err, map, refl, ap, ◌∙◌, subst}
 use Rattle.nio_plain.specs.Seq.Listing.{names_or_none}
 use Rattle.nio_serial.specs.Lines.{call_plan}
 use Rattle.nio_serial.specs.Replies.{key_id, list_reply}

@@ -1,4 +1,3 @@
-use Rattle.nio_event.proofs.PassViews.{selector_after, channel_after}
 use Rattle.nio_sole.proofs.Finding.{missing_first, finds_both}
 use Rattle.nio_sole.proofs.names.look_up_key.Goals as goal
 

@@ -1,5 +1,5 @@
-use Rattle.std.proofs.Common.{◌≡◌, refl, subst}
-use Rattle.nio_event.specs.PassViews.{HasSelector, HasChannel, HasKey}
+use Rattle.std.proofs.Common.{subst}
+use Rattle.nio_event.specs.PassViews.{HasSelector}
 use Rattle.nio_event.specs.declared.reply.Reply.TheVariants as reply
 use Rattle.nio_serial.specs.Lines.{if_found}
 use Rattle.nio_sole.proofs.Finding.{selector_found}

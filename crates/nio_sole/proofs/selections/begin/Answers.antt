@@ -1,4 +1,4 @@
-use Rattle.std.proofs.Common.{sym, ◌∙◌}
+use Rattle.std.proofs.Common.{sym}
 use Rattle.nio_event.specs.declared.reply.Reply.TheVariants as reply
 use Rattle.nio_serial.specs.Lines.{call_plan}
 use Rattle.nio_sole.proofs.Asking.{begin_by, refused_at}
