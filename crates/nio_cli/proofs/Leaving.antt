@@ -1,5 +1,5 @@
 -- What a script leaves of the table, from what its calls did with the table's only use.
-use Rattle.std.proofs.Common.{◌≡◌, ℕ, ◌+◌, ◌<◌, ◌++◌, [], ◌∷◌, nat_lt, true, Bool, List, length, if◌then◌else◌, rules, refl, ap, sym, ◌∙◌, subst, ◌⊎◌, inr, arith}
+use Rattle.std.proofs.Common.{◌≡◌, ℕ, suc, ◌+◌, ◌<◌, ◌++◌, [], ◌∷◌, nat_lt, true, Bool, List, length, if◌then◌else◌, rules, refl, ap, sym, ◌∙◌, subst, ◌⊎◌, inl, inr, arith}
 use Rattle.std.proofs.Math.Logic.{∥∥₁_map}
 use Rattle.std.proofs.lemmas.List.{append-nil, length-append}
 use mathlib.Core.List.{IsPrefix}
@@ -39,7 +39,7 @@ longer_is xs ys begins = by_rest begins.0 begins.1
         either true = refl
         either _ = refl
     by_rest (e ∷ rest) joined =
-        let more : length ys ≡ length xs + (length rest + 1) = sym (ap length joined) ∙ length-append xs (e ∷ rest) in
+        let more : length ys ≡ length xs + suc (length rest) = sym (ap length joined) ∙ length-append xs (e ∷ rest) in
         let less : length xs < length ys = omega (arith, more) in
         let is_less : nat_lt (length xs) (length ys) ≡ true = search rules in
         ap (λ b. if b then ys else xs) is_less
@@ -50,6 +50,11 @@ owed_before l events before fit legal begins whole =
     let rest = begins.0 in
     orderly_owes l before fit (legal_beginning l before rest (subst (IsLegal l) (sym begins.1) legal))
     (beginnings_are_orderly l before rest (subst (IsOrderly l) (sym begins.1) (whole_is_orderly l events whole)))
+
+-- either way
+pub either_way : {A B C D : Type 0} → (A → C) → (B → D) → A ⊎ B → C ⊎ D
+either_way f g (inl a) = inl (f a)
+either_way f g (inr b) = inr (g b)
 
 module _ (w : Words) (first last : Sole) (kept : Kept first last) (table : words_of first ≡ w) where
   same_table : words_of last ≡ w
