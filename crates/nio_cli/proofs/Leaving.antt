@@ -1,5 +1,5 @@
 -- What a script leaves of the table, from what its calls did with the table's only use.
-use Rattle.std.proofs.Common.{◌≡◌, ℕ, suc, ◌+◌, ◌<◌, ◌++◌, [], ◌∷◌, nat_lt, true, Bool, List, length, if◌then◌else◌, rules, refl, ap, sym, ◌∙◌, subst, ◌⊎◌, inl, inr, arith}
+use Rattle.std.proofs.Common.{◌≡◌, suc, ◌+◌, ◌<◌, ◌++◌, [], ◌∷◌, nat_lt, true, Bool, List, length, if◌then◌else◌, rules, refl, ap, sym, ◌∙◌, subst, ◌⊎◌, inl, inr, arith}
 use Rattle.std.proofs.Math.Logic.{∥∥₁_map}
 use Rattle.std.proofs.lemmas.List.{append-nil, length-append}
 use mathlib.Core.List.{IsPrefix}
