@@ -2,6 +2,7 @@
 use Rattle.std.specs.Prelude.{◌≡◌, ◌⊎◌, List, [], ◌∷◌, ◌++◌, ℕ, codes}
 use Rattle.nio_bytes.specs.declared.sink.Sink as sink
 use Rattle.nio_script.specs.Output.{Notes}
+use Rattle.nio_words.specs.declared.words.Pass.{Pass}
 
 -- the one word `script`
 abbrev pub IsScriptCommand : List (List ℕ) → Type 0
@@ -25,8 +26,8 @@ usage_line =
     codes "usage: nio script | check | check-1 | race | proxy --way select|group --listen ADDR --target ADDR --conns N [--workers W] | load N"
     ++ 10 ∷ []
 
--- The usage was said, nothing was read, and no call was made.
-pub record IsUsage {S K Y : Type 0} (k : sink.Ghosts K) (input input' : S) (output output' : K) (run run' : Y) : Type 0 where
+-- The usage was said, nothing was read, and no step was made.
+pub record IsUsage {S K : Type 0} (k : sink.Ghosts K) (input input' : S) (output output' : K) (pass pass' : Pass) : Type 0 where
   pub said : Notes k output output' usage_line
   pub unread : input' ≡ input
-  pub uncalled : run' ≡ run
+  pub uncalled : pass' ≡ pass

@@ -2,8 +2,8 @@
 #![tactic(auto)]
 
 use nio_bytes::{StdSink, StdSource};
-use nio_plain::Plain;
 use nio_script::Status;
+use nio_words::Words;
 use run::{PROGRAM_LIMITS, run};
 use std::alloc::{AllocError, Global};
 use std::process::ExitCode;
@@ -27,12 +27,12 @@ fn status(rt: &(impl Env + Input + Print + AllocGlobal), alloc: Global) -> Statu
     let Ok(words) = arguments(rt) else {
         return Status::Memory;
     };
-    let Ok(mut system) = Plain::make(alloc, PROGRAM_LIMITS) else {
+    let Ok((table, mut pass)) = Words::make(alloc, PROGRAM_LIMITS) else {
         return Status::Memory;
     };
     let mut input = StdSource::over(rt.reader());
     let mut output = StdSink::over(io::writer(rt));
-    run(alloc, &words, &mut input, &mut output, &mut system)
+    run(alloc, &words, &mut input, &mut output, &table, &mut pass)
 }
 
 fn main(rt: HostRuntime) -> ExitCode {

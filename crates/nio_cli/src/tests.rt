@@ -1,7 +1,7 @@
 //! The program as a whole, over sources and sinks in memory.
 use crate::run::{PROGRAM_LIMITS, run};
 use nio_bytes::{MemorySink, MemorySource};
-use nio_plain::Plain;
+use nio_words::Words;
 use std::alloc::Global;
 use std::process::Abort;
 use std::test::Fail;
@@ -43,8 +43,8 @@ fn ends(
     let text = input.as_bytes().to_vec(alloc)?;
     let mut source = MemorySource::make(text, 12, faults(alloc, fail_read)?);
     let mut sink = MemorySink::make(alloc, 5, faults(alloc, fail_write)?, 8_192)?;
-    let mut system = Plain::make(alloc, PROGRAM_LIMITS)?;
-    let status = run(alloc, &given, &mut source, &mut sink, &mut system);
+    let (table, mut pass) = Words::make(alloc, PROGRAM_LIMITS)?;
+    let status = run(alloc, &given, &mut source, &mut sink, &table, &mut pass);
     assert_eq!(rt; status.code(), code, "{label}");
     assert_eq!(rt; sink.bytes(), written.as_bytes(), "{label}");
     Ok(())

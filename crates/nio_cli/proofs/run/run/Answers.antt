@@ -6,8 +6,8 @@ use Rattle.nio_cli.proofs.run.run.Goals as goal
 
 pub returns-in-Some-Script-clause-legal : goal.returns-in-Some-Script-clause-legal
 returns-in-Some-Script-clause-legal g c = λ words done.
-    let read = c.run_script.ensures.done done in
-    (read.0, read.1, writes_legal g.K.Sink g.Y.System c.args.output.now c.run_script.new.output c.args.system.now c.run_script.new.system PROGRAM_LIMITS read.0 c.requires.rules c.requires.limits read.2)
+    let read = c.run_on_table.ensures.script.done done in
+    (read.0, read.1, writes_legal g.K.Sink c.args.table.now c.args.output.now c.run_on_table.new.output c.run_on_table.new.pass PROGRAM_LIMITS read.0 c.requires.limits read.2)
 
 pub returns-in-None-clause-usage_said : goal.returns-in-None-clause-usage_said
 returns-in-None-clause-usage_said g c = λ usage. record {

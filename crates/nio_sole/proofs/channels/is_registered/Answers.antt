@@ -1,0 +1,11 @@
+use Rattle.nio_plain.specs.Seq.Answers.{yes_or_no}
+use Rattle.nio_serial.specs.Lines.{call_plan}
+use Rattle.nio_sole.proofs.Asking.{asks_ran}
+use Rattle.nio_sole.proofs.channels.is_registered.Goals as goal
+
+pub returns : goal.returns
+unfolding call_plan
+returns c = record {
+  call = λ now. asks_ran yes_or_no now c.is_registered.ensures.call c.yes_or_no.ensures;
+  ready = c.is_registered.ensures.ready;
+}

@@ -1,0 +1,17 @@
+use Rattle.std.proofs.Common.{refl}
+use Rattle.nio_event.specs.declared.reply.Reply.TheVariants as reply
+use Rattle.nio_serial.specs.Lines.{call_plan}
+use Rattle.nio_sole.proofs.Asking.{asks_ran}
+use Rattle.nio_steps.proofs.CallLaws.{returned, left_one}
+use Rattle.nio_steps.specs.Plan.{Plan}
+use Rattle.nio_steps.specs.SelectCalls.{interrupt_plan}
+use Rattle.nio_words.proofs.Stepping.{still_ready}
+use Rattle.nio_words.proofs.Views.{step_acts}
+use Rattle.nio_sole.proofs.selectors.interrupt.Goals as goal
+
+pub returns : goal.returns
+unfolding call_plan interrupt_plan
+returns c = record {
+  call = λ now. asks_ran {R = Unit {0}} {answer = tt} (λ _. reply.«Ok») now (returned (left_one (λ _. Plan.reply tt) (step_acts c.set_interrupt.ensures refl))) refl;
+  ready = still_ready _ _ _ _ _ _ c.set_interrupt.ensures c.requires.ready;
+}

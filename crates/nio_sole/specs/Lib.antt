@@ -1,0 +1,12 @@
+pub mod Made
+pub mod MadeLaws
+pub mod Stands
+pub mod OneProof
+pub mod Named
+pub mod Asked
+pub mod Makes
+pub mod Taking
+pub mod Told
+pub mod Said
+pub mod Sole
+pub mod Drawn

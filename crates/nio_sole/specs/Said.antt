@@ -1,0 +1,27 @@
+-- What a line on a desk says and leaves.
+use Rattle.std.specs.Prelude.{◌≡◌, Result, IfOk, OnErr}
+use Rattle.std.specs.declared.alloc.AllocError.{AllocError}
+use mathlib.Core.List.{IsPrefix}
+use Rattle.nio_base.specs.declared.numbers.CallerNo.{CallerNo}
+use Rattle.nio_event.specs.declared.call.Call.{Call}
+use Rattle.nio_event.specs.declared.reply.Reply.{Reply}
+use Rattle.nio_plain.specs.ScriptState.{ScriptState}
+use Rattle.nio_plain.specs.Seq.{seq}
+use Rattle.nio_plain.specs.declared.rules.Rules.TheVariants.{Now}
+use Rattle.nio_serial.specs.Documented.{documented}
+use Rattle.nio_sole.specs.Stands.{progress_of, Stands}
+use Rattle.nio_sole.specs.declared.desk.Desk.{Desk}
+use Rattle.nio_words.specs.Passes.{limits_of, state_seen, seen}
+use Rattle.nio_words.specs.declared.words.Words.{Words}
+
+-- the documented state
+abbrev pub state_at : Desk → ScriptState
+state_at d = documented (state_seen d.pass) (progress_of d)
+
+-- the line's reply and state are those of the documented system; a line that lacks memory leaves the state
+pub record SaysLine (w : Words) (old new : Desk) (me : CallerNo) (word : Call) (result : Result Reply AllocError) : Type 0 where
+  pub stands : Stands w new
+  pub reply : IfOk result (λ r. r ≡ (seq Now (limits_of w) (state_at old) me word).reply)
+  pub left : IfOk result (λ _. state_at new ≡ (seq Now (limits_of w) (state_at old) me word).left)
+  pub memory : OnErr result (state_at new ≡ state_at old)
+  pub later : IsPrefix (seen old.pass) (seen new.pass)

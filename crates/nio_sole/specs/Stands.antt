@@ -1,0 +1,46 @@
+-- What one caller after the other uses the table with, and what holds of it between two lines.
+use Rattle.std.specs.Prelude.{◌≡◌, ℕ, ◌<◌, Option, Some, None, option_map, List, vec_len}
+use Rattle.std.specs.List.{slice_index_or}
+use Rattle.nio_base.specs.Limits.{IsFit}
+use Rattle.nio_base.specs.declared.numbers.CallerNo.{CallerNo}
+use Rattle.nio_serial.specs.Between.{IsBetween}
+use Rattle.nio_serial.specs.Documented.{Progress, Selecting}
+use Rattle.nio_sole.specs.Made.{HasMade}
+use Rattle.nio_sole.specs.declared.desk.Begun.{Begun}
+use Rattle.nio_sole.specs.declared.desk.Desk.{Desk}
+use Rattle.nio_sole.specs.declared.desk.Shut.{Shut}
+use Rattle.nio_words.specs.Passes.{IsReady, limits_of, state_seen, acts_seen}
+use Rattle.nio_words.specs.declared.words.Words.{Words}
+
+-- what stands at a place: nothing past the end
+abbrev pub slot : {A : Type 0} → List (Option A) → ℕ → Option A
+slot xs n = slice_index_or xs n None
+
+abbrev pub selecting_of : Begun → Selecting
+selecting_of x = record { caller = x.caller; selection = x.selection }
+
+abbrev pub selections_of : List (Option Begun) → ℕ → Option Selecting
+selections_of selections s = option_map selecting_of (slot selections s)
+
+abbrev pub closings_of : List (Option Shut) → ℕ → Option CallerNo
+closings_of closings s = option_map (λ x. x.caller) (slot closings s)
+
+-- what the desk has in progress, by the selector's number
+abbrev pub progress_of : Desk → Progress
+progress_of d = record { selection = selections_of d.selections.items; closing = closings_of d.closings.items }
+
+-- there is a place for each selector, and what stands there is in progress on that selector
+pub record HasPlaces (w : Words) (d : Desk) : Type 0 where
+  pub selections : vec_len d.selections ≡ (limits_of w).selectors
+  pub closings : vec_len d.closings ≡ (limits_of w).selectors
+  pub selects : (s : ℕ) (x : Begun) → slot d.selections.items s ≡ Some x → x.selection.selector.0 ≡ s
+  pub closes : (s : ℕ) (x : Shut) → slot d.closings.items s ≡ Some x → x.closing.0 ≡ s
+
+-- Between two lines. The desk's pass acts for each caller, so that nothing happens but by it; no call is at work; each
+-- caller made whole calls, and has in progress what the desk shows.
+pub record Stands (w : Words) (d : Desk) : Type 0 where
+  pub fit : IsFit (limits_of w)
+  pub ready : (n : CallerNo) → n.0 < (limits_of w).callers → IsReady w d.pass n
+  pub places : HasPlaces w d
+  pub between : ∥ IsBetween (limits_of w) (state_seen d.pass) (progress_of d) ∥₁
+  pub made : ∥ ((n : CallerNo) → HasMade (limits_of w) (acts_seen d.pass n) n (progress_of d)) ∥₁

@@ -1,0 +1,91 @@
+//! The calls of lines on channels.
+ghost use Rattle.std.specs.Prelude.{◌≡◌};
+ghost use Rattle.nio_plain.specs.Seq.Registering.{given_or_none};
+ghost use Rattle.nio_sole.specs.Asked.{MayAsk, Asks};
+
+use crate::replies::{
+    channel_reply, closed_reply, find_reply, mode_reply, register_reply, yes_or_no,
+};
+use nio_base::{CallerNo, ChanNo, Kind, Ops, SelNo};
+use nio_channel::{try_register, try_set_blocking};
+use nio_event::{Call, Reply};
+use nio_words::{Pass, Words};
+
+#[tactic(auto, unfolding(nio_serial::specs::Lines::call_plan))]
+pub(crate) fn open_channel(w: &Words, p: &mut Pass, me: CallerNo, kind: Kind) -> Reply
+    requires { MayAsk w.now p.old me (Call.Channel kind) }
+    ensures { Asks w.now p.old p.new me (Call.Channel kind) result }
+{
+    channel_reply(nio_channel::open_channel(w, p, me, kind))
+}
+
+#[tactic(auto, unfolding(nio_serial::specs::Lines::call_plan))]
+pub(crate) fn set_blocking(w: &Words, p: &mut Pass, me: CallerNo, chan: ChanNo, on: bool) -> Reply
+    requires { MayAsk w.now p.old me (Call.Blocking chan on) }
+    ensures { Asks w.now p.old p.new me (Call.Blocking chan on) result }
+{
+    mode_reply(try_set_blocking(w, p, me, chan, on))
+}
+
+#[tactic(auto, unfolding(nio_serial::specs::Lines::call_plan))]
+pub(crate) fn is_blocking(w: &Words, p: &mut Pass, me: CallerNo, chan: ChanNo) -> Reply
+    requires { MayAsk w.now p.old me (Call.IsBlocking chan) }
+    ensures { Asks w.now p.old p.new me (Call.IsBlocking chan) result }
+{
+    yes_or_no(nio_channel::is_blocking(w, p, me, chan))
+}
+
+#[tactic(auto, unfolding(nio_serial::specs::Lines::call_plan))]
+pub(crate) fn is_open(w: &Words, p: &mut Pass, me: CallerNo, chan: ChanNo) -> Reply
+    requires { MayAsk w.now p.old me (Call.IsOpen chan) }
+    ensures { Asks w.now p.old p.new me (Call.IsOpen chan) result }
+{
+    yes_or_no(nio_channel::is_open(w, p, me, chan))
+}
+
+#[tactic(auto, unfolding(nio_serial::specs::Lines::call_plan))]
+pub(crate) fn is_registered(w: &Words, p: &mut Pass, me: CallerNo, chan: ChanNo) -> Reply
+    requires { MayAsk w.now p.old me (Call.IsRegistered chan) }
+    ensures { Asks w.now p.old p.new me (Call.IsRegistered chan) result }
+{
+    yes_or_no(nio_channel::is_registered(w, p, me, chan))
+}
+
+#[tactic(auto, unfolding(nio_serial::specs::Lines::call_plan))]
+pub(crate) fn key_for(w: &Words, p: &mut Pass, me: CallerNo, chan: ChanNo, sel: SelNo) -> Reply
+    requires { MayAsk w.now p.old me (Call.KeyFor chan sel) }
+    ensures { Asks w.now p.old p.new me (Call.KeyFor chan sel) result }
+{
+    find_reply(nio_channel::key_for(w, p, me, chan, sel))
+}
+
+#[tactic(auto, unfolding(nio_serial::specs::Lines::call_plan))]
+pub(crate) fn register(
+    w: &Words,
+    p: &mut Pass,
+    me: CallerNo,
+    sel: SelNo,
+    chan: ChanNo,
+    ops: Ops,
+    att: Option<u64>,
+) -> Reply
+    requires { MayAsk w.now p.old me (Call.Register sel chan ops att) }
+    ensures { Asks w.now p.old p.new me (Call.Register sel chan ops att) result }
+{
+    register_reply(try_register(w, p, me, sel, chan, ops, given_or_none(att)))
+}
+
+#[tactic(auto, unfolding(nio_serial::specs::Lines::call_plan))]
+pub(crate) fn close_channel(w: &Words, p: &mut Pass, me: CallerNo, chan: ChanNo) -> Reply
+    requires { MayAsk w.now p.old me (Call.Closec chan) }
+    ensures { Asks w.now p.old p.new me (Call.Closec chan) result }
+{
+    closed_reply(nio_channel::close_channel(w, p, me, chan))
+}
+
+// The attachment that the line gives, 0 for none.
+fn given_or_none(att: Option<u64>) -> u64
+    ensures { result ≡ given_or_none att }
+{
+    att.unwrap_or(0)
+}

@@ -1,0 +1,22 @@
+//! A script's calls on the shared table, one after the other.
+#![tactic(auto)]
+
+pub use laws::sole_law;
+pub use sole::Sole;
+
+mod channels;
+mod closing;
+mod desk;
+mod keys;
+mod laws;
+mod line;
+mod listing;
+mod making;
+mod names;
+mod pairs;
+mod replies;
+mod selections;
+mod selectors;
+mod sole;
+#[cfg(test)]
+mod tests;
