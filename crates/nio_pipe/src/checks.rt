@@ -16,7 +16,7 @@ use nio_channel::{close_channel, open_channel};
 use nio_steps::{PipeError, PipeMakeError};
 use nio_words::{Pass, Words};
 
-// SourceLooks whether the channel is open, and in blocking mode whether the caller is interrupted, which closes it.
+// Looks whether the channel is open, and in blocking mode whether the caller is interrupted, which closes it.
 // Answers whether the channel is in blocking mode.
 #[tactic(auto, unfolding(nio_steps::specs::PipeCalls::try_read_plan))]
 pub(crate) fn check_open(
@@ -43,7 +43,7 @@ pub(crate) fn check_open(
     check_interrupt(w, p, me, chan)
 }
 
-// SourceLooks whether the caller is interrupted, which closes the channel.
+// Looks whether the caller is interrupted, which closes the channel.
 fn check_interrupt(w: &Words, p: &mut Pass, me: CallerNo, chan: ChanNo) -> Result<bool, PipeError>
     requires ready { IsReady w.now p.old me }
     requires channel { HasChannel (view w.now p.old) chan }

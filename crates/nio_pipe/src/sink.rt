@@ -210,7 +210,7 @@ impl PipeSink {
         }
     }
 
-    // SourceLooks at the ring beside the source, which finds every free place.
+    // Looks at the ring beside the source, which finds every free place.
     pub(crate) fn look_beside(&mut self, source: &mut PipeSource)
         requires { AreEnds source.old self.old }
         ensures sink { SinkLooks self.old self.new }

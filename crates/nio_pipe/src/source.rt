@@ -206,7 +206,7 @@ impl PipeSource {
         read_answer(into.len(), given, self.to_end.is_some())
     }
 
-    // SourceLooks for the end mark where no byte waits.
+    // Looks for the end mark where no byte waits.
     fn look(&mut self)
         ensures { SourceLooks self.old self.new }
     {
