@@ -1,0 +1,59 @@
+-- What links have carried.
+use Rattle.std.specs.Prelude.{◌≡◌, ◌≢◌, ℕ, ◌≤◌, ◌<◌, Bool, true, false, Option, Some, None, option_map, IfSome, Result, Ok, Err, List, [], ◌++◌, length, take, drop, Unit}
+use Rattle.nio_base.specs.declared.numbers.ChanNo.{ChanNo}
+use Rattle.nio_link.specs.declared.net.Failed.{Failed}
+use Rattle.nio_link.specs.declared.net.Got.{Got}
+use Rattle.nio_link.specs.declared.net.Got.TheVariants as got
+use Rattle.nio_link.specs.declared.net.Put.{Put}
+use Rattle.nio_link.specs.declared.net.Put.TheVariants as put
+
+-- What a link has carried, each part where the net tells it: the bytes that reads gave, in order, and whether a read
+-- has told their end; the bytes that writes took, in order, and whether that side was shut.
+pub record Link : Type 0 where
+  pub got : Option (List ℕ)
+  pub ended : Option Bool
+  pub put : Option (List ℕ)
+  pub shut : Option Bool
+
+-- nothing was carried, as far as the net tells it
+pub record IsUnused (l : Link) : Type 0 where
+  pub got : IfSome l.got (λ bytes. bytes ≡ [])
+  pub ended : IfSome l.ended (λ x. x ≡ false)
+  pub put : IfSome l.put (λ bytes. bytes ≡ [])
+  pub shut : IfSome l.shut (λ x. x ≡ false)
+
+-- each channel but this one has the same
+abbrev pub IsSameBut : {A : Type 0} → ChanNo → (ChanNo → A) → (ChanNo → A) → Type 0
+IsSameBut c before now = (k : ChanNo) → k ≢ c → now k ≡ before k
+
+-- ---- reading
+
+-- The buffer has what was read at its front, and behind it what it had before.
+abbrev pub IsGot : List ℕ → List ℕ → Got → Type 0
+IsGot before now (got.Bytes n) = (1 ≤ n) × (n ≤ length before) × (length now ≡ length before) × (drop n now ≡ drop n before)
+IsGot before now got.End = now ≡ before
+IsGot before now got.NotYet = now ≡ before
+
+-- after a read that left the buffer so
+abbrev pub after_read : Result Got Failed → List ℕ → Link → Link
+after_read (Ok (got.Bytes n)) buffer l = record l { got = option_map (λ bytes. bytes ++ take n buffer) l.got }
+after_read (Ok got.End) buffer l = record l { ended = option_map (λ _. true) l.ended }
+after_read (Ok got.NotYet) buffer l = l
+after_read (Err _) buffer l = l
+
+-- ---- writing
+
+abbrev pub IsPut : List ℕ → Put → Type 0
+IsPut bytes (put.Bytes n) = (1 ≤ n) × (n ≤ length bytes)
+IsPut bytes put.NotYet = Unit {0}
+
+-- after a write of these bytes
+abbrev pub after_write : Result Put Failed → List ℕ → Link → Link
+after_write (Ok (put.Bytes n)) bytes l = record l { put = option_map (λ before. before ++ take n bytes) l.put }
+after_write (Ok put.NotYet) bytes l = l
+after_write (Err _) bytes l = l
+
+-- after shutting the side on which bytes are written
+abbrev pub after_shut : Result (Unit {0}) Failed → Link → Link
+after_shut (Ok _) l = record l { shut = option_map (λ _. true) l.shut }
+after_shut (Err _) l = l
