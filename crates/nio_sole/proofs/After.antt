@@ -14,7 +14,7 @@ use Rattle.nio_base.specs.declared.limits.Limits.{Limits}
 use Rattle.nio_base.specs.declared.numbers.CallerNo.{CallerNo}
 use Rattle.nio_base.specs.declared.numbers.KeyId.{KeyId}
 use Rattle.nio_event.specs.Histories.{mine}
-use Rattle.nio_event.specs.PassViews.{PassView, ActsClause, HasNoPin, known}
+use Rattle.nio_event.specs.PassViews.{PassView, ActsClause, HasNoPin, done_between, known}
 use Rattle.nio_event.specs.declared.act.Act.{Act}
 use Rattle.nio_event.specs.declared.call.Call.{Call}
 use Rattle.nio_event.specs.declared.call.Call.TheVariants as call
@@ -27,7 +27,7 @@ use Rattle.nio_plain.specs.Seq.Answers.{unchanged}
 use Rattle.nio_plain.specs.declared.rules.Rules.TheVariants.{Now}
 use Rattle.nio_serial.specs.Between.{IsBetween}
 use Rattle.nio_serial.specs.Documented.{Progress, documented}
-use Rattle.nio_serial.specs.Lines.{Said, refused, if_named, call_plan}
+use Rattle.nio_serial.specs.Lines.{Said, refused, if_named, call_plan, line_plan}
 use Rattle.nio_serial.specs.Replies.{begin_reply, list_reply}
 use Rattle.nio_sole.proofs.Alone.{sole_view, alone}
 use Rattle.nio_sole.proofs.Calls.{Leads, leads_named, leads_refused, leads_begin_memory, leads_keys_memory, leads_selected_memory}
@@ -81,6 +81,10 @@ seq-past : (l : Limits) (st : ScriptState) (me : CallerNo) (word : Call) → nat
 unfolding seq
 seq-past l st me word past = ap (λ (b : Bool). if b then call_of Now l st me word else unchanged st reply.NoCaller) past
 
+line-past : (l : Limits) (now : Progress) (me : CallerNo) (word : Call) → nat_lt me.0 l.callers ≡ false → line_plan l now me word ≡ refused now reply.NoCaller
+unfolding line_plan
+line-past l now me word past = ap (λ (b : Bool). if b then if_named l now word (call_plan l now me word) else refused now reply.NoCaller) past
+
 pub no_caller : (w : Words) (d : Desk) (me : CallerNo) (word : Call) → Stands w d → nat_lt me.0 (limits_of w).callers ≡ false → SaysLine w d d me word (Ok reply.NoCaller)
 no_caller w d me word stands past =
     let e = seq-past (limits_of w) (state_at d) me word past in
@@ -90,6 +94,11 @@ no_caller w d me word stands past =
       left = sym (ap (λ a. a.left) e);
       memory = tt;
       later = ([], append-nil (seen d.pass));
+      made = record {
+        acts = [];
+        grew = sym (append-nil (seen d.pass));
+        run = line-past (limits_of w) (progress_of d) me word past;
+      };
     }
 
 -- ---- after a line
@@ -125,6 +134,11 @@ line_said w d d' me word r stands drawn made =
       left = ∥∥₁_elim after (script_set _ _) (λ x. sym (ap (λ a. a.left) x.1));
       memory = tt;
       later = made.call.acts.history.goes_on;
+      made = record {
+        acts = done_between me (sole_view w d.pass) (sole_view w d'.pass);
+        grew = (run.acts.only refl).1;
+        run = run.shape;
+      };
     }
 
 -- ---- want of memory
@@ -186,6 +200,7 @@ lacks_said w d d' me word e stands drawn lacks =
       left = tt;
       memory = ap (documented (state_seen d'.pass)) lacks.same ∙ ∥∥₁_elim after (script_set _ _) (λ x. x.1);
       later = lacks.makes.call.acts.history.goes_on;
+      made = tt;
     }
 
 pub says_line : (w : Words) (d d' : Desk) (me : CallerNo) (word : Call) (result : Result Reply AllocError) → Stands w d → nat_lt me.0 (limits_of w).callers ≡ true

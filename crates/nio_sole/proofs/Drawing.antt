@@ -1,5 +1,5 @@
 -- The callers' numbers are drawn one after the other, before the first line.
-use Rattle.std.proofs.Common.{◌≡◌, ℕ, ◌+◌, ◌<◌, ◌≤◌, ◌==◌, Bool, true, false, if◌then◌else◌, List, [], ◌∷◌, ◌++◌, refl, ap, sym, ◌∙◌, subst, eqb-true, eq-eqb, arith}
+use Rattle.std.proofs.Common.{append_assoc, map, ◌≡◌, ℕ, ◌+◌, ◌<◌, ◌≤◌, ◌==◌, Bool, true, false, if◌then◌else◌, List, [], ◌∷◌, ◌++◌, refl, ap, sym, ◌∙◌, subst, eqb-true, eq-eqb, arith}
 use Rattle.std.proofs.lemmas.List.{append-nil}
 use Rattle.nio_base.specs.declared.limits.Limits.{Limits}
 use Rattle.nio_base.specs.declared.numbers.CallerNo.{CallerNo}
@@ -13,7 +13,8 @@ use Rattle.nio_serial.proofs.Staying.{begins-between}
 use Rattle.nio_serial.specs.Between.{IsBetween}
 use Rattle.nio_serial.specs.Documented.{nothing_yet, documented}
 use Rattle.nio_sole.proofs.Beginnings.{made_nothing, made_draw}
-use Rattle.nio_sole.specs.Drawn.{AreDrawn, HasDrawn}
+use Rattle.nio_serial.specs.Serial.{Entry, draw, line, history_of}
+use Rattle.nio_sole.specs.Drawn.{AreDrawn, HasDrawn, draws}
 use Rattle.nio_sole.specs.Made.{HasMade}
 use Rattle.nio_words.specs.Drawing.{Draws}
 use Rattle.nio_words.specs.Passes.{Holds, IsFirstPass, limits_of, seen}
@@ -23,11 +24,19 @@ use Rattle.nio_words.specs.declared.words.Words.{Words}
 abbrev pub caller : ℕ → CallerNo
 caller k = record { 0 = k }
 
+-- a draw more is its event more
+history-more : (entries : List Entry) (n : CallerNo) → history_of (entries ++ draw n ∷ []) ≡ history_of entries ++ event_of n (DrawBit n false) ∷ []
+history-more [] n = refl
+history-more (draw m ∷ entries) n = ap (λ (es : List Event). event_of m (DrawBit m false) ∷ es) (history-more entries n)
+history-more (line me word acts said ∷ entries) n =
+    ap (λ (es : List Event). map (event_of me) acts ++ es) (history-more entries n) ∙ sym (append_assoc (map (event_of me) acts) (history_of entries) (event_of n (DrawBit n false) ∷ []))
+
 pub none_drawn : (l : Limits) → AreDrawn l [] 0
-none_drawn l = record { opening = refl; between = begins-between l; made = λ n. made_nothing l n; drawn = λ n below. absurd (omega arith); undrawn = λ n _. refl }
+none_drawn l = record { are = refl; opening = refl; between = begins-between l; made = λ n. made_nothing l n; drawn = λ n below. absurd (omega arith); undrawn = λ n _. refl }
 
 pub one_drawn : (l : Limits) (events : List Event) (k : ℕ) → AreDrawn l events k → AreDrawn l (events ++ event_of (caller k) (DrawBit (caller k) false) ∷ []) (k + 1)
 one_drawn l events k before = record {
+  are = ap (λ (es : List Event). es ++ e ∷ []) before.are ∙ sym (history-more (draws k) (caller k));
   opening = ap (λ (x : State). documented x nothing_yet) state ∙ before.opening;
   between = subst (λ (x : State). IsBetween l x nothing_yet) (sym state) (draws-stay l st nothing_yet (caller k) before.between);
   made = λ n. by_caller n (k == n.0) refl;

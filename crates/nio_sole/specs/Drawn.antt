@@ -1,5 +1,5 @@
 -- What the sole use of a table begins with.
-use Rattle.std.specs.Prelude.{◌≡◌, ℕ, ◌<◌, ◌≤◌, false, IsTrue, Option, None, List, Vec, vec_len}
+use Rattle.std.specs.Prelude.{◌≡◌, ℕ, ◌<◌, ◌≤◌, ◌++◌, false, IsTrue, Option, None, List, [], ◌∷◌, Vec, vec_len}
 use Rattle.std.specs.declared.alloc.Global.{Global}
 use Rattle.nio_base.specs.declared.limits.Limits.{Limits}
 use Rattle.nio_base.specs.declared.numbers.CallerNo.{CallerNo}
@@ -9,15 +9,22 @@ use Rattle.nio_event.specs.declared.event.Event.{Event}
 use Rattle.nio_plain.specs.ScriptState.{script_opening}
 use Rattle.nio_serial.specs.Between.{IsBetween}
 use Rattle.nio_serial.specs.Documented.{nothing_yet, documented}
+use Rattle.nio_serial.specs.Serial.{Entry, draw, history_of}
 use Rattle.nio_sole.specs.Made.{HasMade}
 use Rattle.nio_sole.specs.Stands.{slot}
 use Rattle.nio_words.specs.Passes.{Holds, IsOnly, IsPassOf, limits_of, seen}
 use Rattle.nio_words.specs.declared.words.Pass.{Pass}
 use Rattle.nio_words.specs.declared.words.Words.{Words}
 
+-- the draws of so many numbers, from 0 up
+abbrev pub draws : ℕ → List Entry
+draws 0 = []
+draws (suc k) = draws k ++ draw (record { 0 = k }) ∷ []
+
 -- Draws alone were made: it stands between two calls, in the opening state of scripts; each caller made whole calls; each
 -- number below k is drawn, and no other.
 pub record AreDrawn (l : Limits) (events : List Event) (k : ℕ) : Type 0 where
+  pub are : events ≡ history_of (draws k)
   pub opening : documented (state_after events) nothing_yet ≡ script_opening
   pub between : IsBetween l (state_after events) nothing_yet
   pub made : (n : CallerNo) → HasMade l (mine n events) n nothing_yet

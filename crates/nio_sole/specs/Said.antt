@@ -1,22 +1,32 @@
 -- What a line on a desk says and leaves.
-use Rattle.std.specs.Prelude.{◌≡◌, Result, IfOk, OnErr}
+use Rattle.std.specs.Prelude.{◌≡◌, Result, IfOk, OnErr, List, ◌++◌, map}
 use Rattle.std.specs.declared.alloc.AllocError.{AllocError}
 use mathlib.Core.List.{IsPrefix}
 use Rattle.nio_base.specs.declared.numbers.CallerNo.{CallerNo}
+use Rattle.nio_event.specs.Histories.{event_of}
+use Rattle.nio_event.specs.declared.act.Act.{Act}
 use Rattle.nio_event.specs.declared.call.Call.{Call}
 use Rattle.nio_event.specs.declared.reply.Reply.{Reply}
 use Rattle.nio_plain.specs.ScriptState.{ScriptState}
 use Rattle.nio_plain.specs.Seq.{seq}
 use Rattle.nio_plain.specs.declared.rules.Rules.TheVariants.{Now}
 use Rattle.nio_serial.specs.Documented.{documented}
+use Rattle.nio_serial.specs.Lines.{line_plan}
 use Rattle.nio_sole.specs.Stands.{progress_of, Stands}
 use Rattle.nio_sole.specs.declared.desk.Desk.{Desk}
+use Rattle.nio_steps.specs.Runs.{Completes}
 use Rattle.nio_words.specs.Passes.{limits_of, state_seen, seen}
 use Rattle.nio_words.specs.declared.words.Words.{Words}
 
 -- the documented state
 abbrev pub state_at : Desk → ScriptState
 state_at d = documented (state_seen d.pass) (progress_of d)
+
+-- The line was made: what was seen grew by what its caller did in it.
+pub record MadeLine (w : Words) (old new : Desk) (me : CallerNo) (word : Call) (r : Reply) : Type 0 where
+  pub acts : List Act
+  pub grew : seen new.pass ≡ seen old.pass ++ map (event_of me) acts
+  pub run : Completes (line_plan (limits_of w) (progress_of old) me word) acts (record { reply = r; left = progress_of new })
 
 -- the line's reply and state are those of the documented system; a line that lacks memory leaves the state
 pub record SaysLine (w : Words) (old new : Desk) (me : CallerNo) (word : Call) (result : Result Reply AllocError) : Type 0 where
@@ -25,3 +35,4 @@ pub record SaysLine (w : Words) (old new : Desk) (me : CallerNo) (word : Call) (
   pub left : IfOk result (λ _. state_at new ≡ (seq Now (limits_of w) (state_at old) me word).left)
   pub memory : OnErr result (state_at new ≡ state_at old)
   pub later : IsPrefix (seen old.pass) (seen new.pass)
+  pub made : IfOk result (MadeLine w old new me word)

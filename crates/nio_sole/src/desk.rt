@@ -9,28 +9,29 @@ use nio_base::{CallerNo, SelNo};
 use nio_select::{Closing, Selecting};
 use nio_words::Pass;
 
-// A selection in progress, and its caller.
-pub(crate) struct Begun {
-    pub(crate) caller: CallerNo,
-    pub(crate) selection: Selecting,
+/// A selection in progress, and its caller.
+pub struct Begun {
+    pub caller: CallerNo,
+    pub selection: Selecting,
 }
 
-// A closing in progress, and its caller.
-pub(crate) struct Shut {
-    pub(crate) caller: CallerNo,
-    pub(crate) closing: Closing,
+/// A closing in progress, and its caller.
+pub struct Shut {
+    pub caller: CallerNo,
+    pub closing: Closing,
 }
 
-// The pass of every caller; and what is in progress, by the selector's number.
-pub(crate) struct Desk {
-    pub(crate) pass: Pass,
-    pub(crate) selections: Vec<Option<Begun>>,
-    pub(crate) closings: Vec<Option<Shut>>,
+/// A pass, which acts for one or more callers; and what they have in progress, by the selector's number: there is a
+/// place for each selector.
+pub struct Desk {
+    pub pass: Pass,
+    pub selections: Vec<Option<Begun>>,
+    pub closings: Vec<Option<Shut>>,
 }
 
 impl Desk {
-    // Lets all that is in progress go without a step.
-    pub(crate) fn into_pass(self) -> Pass
+    /// Lets all that is in progress go without a step.
+    pub fn into_pass(self) -> Pass
         ensures { result ≡ self.pass }
     {
         let Desk {
@@ -44,7 +45,8 @@ impl Desk {
     }
 }
 
-pub(crate) fn forget_selections(mut selections: Vec<Option<Begun>>) {
+/// Lets selections go without a step.
+pub fn forget_selections(mut selections: Vec<Option<Begun>>) {
     while let Some(place) = selections.pop() {
         forget_selection(place);
     }
@@ -63,7 +65,8 @@ pub(crate) fn forget_selection(place: Option<Begun>) {
     }
 }
 
-pub(crate) fn forget_closings(mut closings: Vec<Option<Shut>>) {
+/// Lets closings go without a step.
+pub fn forget_closings(mut closings: Vec<Option<Shut>>) {
     while let Some(place) = closings.pop() {
         forget_closing(place);
     }

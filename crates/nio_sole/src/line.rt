@@ -28,8 +28,8 @@ use nio_event::{Call, Reply};
 use nio_words::Words;
 use std::alloc::{AllocError, Global};
 
-// A line of a script.
-pub(crate) fn say_line(
+/// A line of a script, on a desk whose pass acts for every caller.
+pub fn say_line(
     alloc: Global,
     w: &Words,
     d: &mut Desk,
@@ -45,8 +45,9 @@ pub(crate) fn say_line(
     line(alloc, w, d, me, call)
 }
 
-// A line of a caller that may be drawn.
-fn line(
+/// A line of a caller that may be drawn, on a desk whose pass acts for it. Another caller's steps may come between its
+/// own.
+pub fn line(
     alloc: Global,
     w: &Words,
     d: &mut Desk,

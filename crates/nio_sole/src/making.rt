@@ -2,9 +2,11 @@
 ghost use Rattle.std.specs.Prelude.{◌≡◌, ◌+◌, ◌<◌, ◌≤◌, ◌++◌, [], ◌∷◌, None, IfOk, OnErr, vec_len};
 ghost use Rattle.std.specs.Vec.{vec_capacity};
 ghost use Rattle.nio_plain.specs.ScriptState.{script_opening};
-ghost use Rattle.nio_sole.specs.Drawn.{AreAllDrawn, AreEmpty, HasDrawn};
+ghost use Rattle.nio_serial.specs.Documented.{nothing_yet};
+ghost use Rattle.nio_serial.specs.Serial.{history_of};
+ghost use Rattle.nio_sole.specs.Drawn.{AreAllDrawn, AreEmpty, HasDrawn, draws};
 ghost use Rattle.nio_sole.specs.Said.{state_at};
-ghost use Rattle.nio_sole.specs.Stands.{Stands};
+ghost use Rattle.nio_sole.specs.Stands.{Stands, progress_of};
 ghost use Rattle.nio_words.specs.Passes.{IsFirstPass, IsPassOf, limits_of, seen, state_seen};
 
 use crate::desk::{
@@ -15,26 +17,36 @@ use nio_words::{Pass, Words};
 use std::alloc::{AllocError, Global};
 use std::mem;
 
-// Draws every number with the pass, and hands all of them over to the desk's. The memory is taken before.
-pub(crate) fn open_desk(alloc: Global, w: &Words, p: &mut Pass) -> Result<Desk, AllocError>
+/// Draws every number with the pass, and hands all of them over to the desk's. The memory is taken before.
+pub fn open_desk(alloc: Global, w: &Words, p: &mut Pass) -> Result<Desk, AllocError>
     requires { IsFirstPass w.now p.old }
     ensures stands { IfOk result (Stands w.now) }
     ensures opening { IfOk result (λ d. state_at d ≡ script_opening) }
     ensures drawn { IfOk result (λ d. AreAllDrawn (limits_of w.now) (state_seen d.pass)) }
     ensures pass { IsPassOf w.now p.new }
     ensures sight { IfOk result (λ d. seen p.new ≡ seen d.pass) }
+    ensures draws { IfOk result (λ d. seen d.pass ≡ history_of (draws (limits_of w.now).callers)) }
+    ensures idle { IfOk result (λ d. progress_of d ≡ nothing_yet) }
     ensures memory { OnErr result (p.new ≡ p.old) }
 {
-    let count = w.limits().selectors;
-    match no_selections(alloc, count) {
-        Err(error) => Err(error),
-        Ok(selections) => match no_closings(alloc, count) {
-            Err(error) => {
-                forget_selections(selections);
-                Err(error)
-            }
-            Ok(closings) => open_with(w, p, selections, closings),
-        },
+    let (selections, closings) = no_progress(alloc, w.limits().selectors)?;
+    open_with(w, p, selections, closings)
+}
+
+/// Places for so many selectors, with nothing in progress.
+pub fn no_progress(
+    alloc: Global,
+    count: u32,
+) -> Result<(Vec<Option<Begun>>, Vec<Option<Shut>>), AllocError>
+    ensures { IfOk result (λ places. AreEmpty places.0 count × AreEmpty places.1 count) }
+{
+    let selections = no_selections(alloc, count)?;
+    match no_closings(alloc, count) {
+        Ok(closings) => Ok((selections, closings)),
+        Err(error) => {
+            forget_selections(selections);
+            Err(error)
+        }
     }
 }
 
@@ -52,6 +64,8 @@ fn open_with(
     ensures drawn { IfOk result (λ d. AreAllDrawn (limits_of w.now) (state_seen d.pass)) }
     ensures pass { IsPassOf w.now p.new }
     ensures sight { IfOk result (λ d. seen p.new ≡ seen d.pass) }
+    ensures draws { IfOk result (λ d. seen d.pass ≡ history_of (draws (limits_of w.now).callers)) }
+    ensures idle { IfOk result (λ d. progress_of d ≡ nothing_yet) }
     ensures memory { OnErr result (p.new ≡ p.old) }
 {
     draw_all(w, p);

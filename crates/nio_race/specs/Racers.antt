@@ -1,0 +1,45 @@
+-- The callers of a race, each with a pass of its own.
+use Rattle.std.specs.Prelude.{◌≡◌, ℕ, ◌<◌, ◌++◌, IsFalse, List, [], length}
+use Rattle.std.specs.Vec.{vec_len, vec_capacity}
+use mathlib.Core.List.{IsPrefix}
+use Rattle.nio_event.specs.Conditions.{IsCaller}
+use Rattle.nio_event.specs.PassViews.{HasNoPin}
+use Rattle.nio_event.specs.declared.act.Act.{Act}
+use Rattle.nio_race_text.specs.declared.call.RaceLine.{RaceLine}
+use Rattle.nio_sole.specs.Made.{HasMade}
+use Rattle.nio_sole.specs.Stands.{HasPlaces, progress_of}
+use Rattle.nio_words.specs.Passes.{HoldSame, IsReady, acts_seen, limits_of, seen}
+use Rattle.nio_words.specs.Views.{view}
+use Rattle.nio_words.specs.declared.words.Words.{Words}
+use Rattle.nio_race.specs.Race.{calls_by}
+use Rattle.nio_race.specs.Runs.{AreRaceLines}
+use Rattle.nio_race.specs.declared.racer.Racer.{Racer}
+
+-- What stands of a racer between two lines: its pass acts for its caller, which has no call at work, made whole calls,
+-- and has in progress what its desk shows.
+pub record StandsAlone (w : Words) (r : Racer) : Type 0 where
+  pub caller : IsCaller (limits_of w) r.number
+  pub ready : IsReady w r.desk.pass r.number
+  pub unpinned : HasNoPin (view w r.desk.pass) r.number
+  pub places : HasPlaces w r.desk
+  pub made : ∥ HasMade (limits_of w) (acts_seen r.desk.pass r.number) r.number (progress_of r.desk) ∥₁
+
+-- it has made no line yet
+pub record IsSetOff (w : Words) (r : Racer) : Type 0 where
+  pub stands : StandsAlone w r
+  pub unanswered : r.replies.items ≡ []
+  pub in_memory : IsFalse r.lacks_memory
+
+-- it made its lines of the race, each with its reply
+pub record RanLines (w : Words) (race : List RaceLine) (before after : Racer) : Type 0 where
+  pub acts : List Act
+  pub grew : acts_seen after.desk.pass before.number ≡ acts_seen before.desk.pass before.number ++ acts
+  pub lines : AreRaceLines (limits_of w) before.number (progress_of before.desk) (calls_by before.number race) acts after.replies.items (progress_of after.desk)
+
+-- What has become of a racer: its pass goes on and holds the same numbers. Unless it lacks memory, it made its lines.
+pub record HasRaced (w : Words) (race : List RaceLine) (before after : Racer) : Type 0 where
+  pub number : after.number ≡ before.number
+  pub stands : StandsAlone w after
+  pub held : HoldSame before.desk.pass after.desk.pass
+  pub later : IsPrefix (seen before.desk.pass) (seen after.desk.pass)
+  pub run : IsFalse after.lacks_memory → RanLines w race before after

@@ -1,0 +1,95 @@
+-- What `go` leaves: a racer for each caller, with what the caller has in progress.
+use Rattle.std.specs.Prelude.{◌≡◌, ◌≢◌, ℕ, ◌<◌, ◌≤◌, ◌==◌, ◌++◌, IsFalse, if◌then◌else◌, Option, Some, None, List, [], ◌∷◌, length, All}
+use Rattle.std.specs.List.{slice_index_or}
+use Rattle.nio_base.specs.Limits.{IsFit}
+use Rattle.nio_base.specs.declared.numbers.CallerNo.{CallerNo}
+use Rattle.nio_event.specs.Histories.{mine}
+use Rattle.nio_event.specs.PassViews.{HasNoPin}
+use Rattle.nio_event.specs.declared.event.Event.{Event}
+use Rattle.nio_serial.specs.Documented.{Progress}
+use Rattle.nio_sole.specs.Made.{HasMade}
+use Rattle.nio_sole.specs.Stands.{HasPlaces, progress_of, slot}
+use Rattle.nio_sole.specs.declared.desk.Begun.{Begun}
+use Rattle.nio_sole.specs.declared.desk.Desk.{Desk}
+use Rattle.nio_sole.specs.declared.desk.Shut.{Shut}
+use Rattle.nio_words.specs.Passes.{Holds, IsPassOf, limits_of, seen}
+use Rattle.nio_words.specs.Sharing.{HandsOver}
+use Rattle.nio_words.specs.Views.{view}
+use Rattle.nio_words.specs.declared.words.Words.{Words}
+use Rattle.nio_race.specs.Race.{own_progress}
+use Rattle.nio_race.specs.Racers.{IsSetOff}
+use Rattle.nio_race.specs.declared.racer.Racer.{Racer}
+
+-- ---- what stands at a place
+
+abbrev pub own_begun : CallerNo → Option Begun → Option Begun
+own_begun n None = None
+own_begun n (Some x) = if x.caller.0 == n.0 then Some x else None
+
+abbrev pub other_begun : CallerNo → Option Begun → Option Begun
+other_begun n None = None
+other_begun n (Some x) = if x.caller.0 == n.0 then None else Some x
+
+abbrev pub own_shut : CallerNo → Option Shut → Option Shut
+own_shut n None = None
+own_shut n (Some x) = if x.caller.0 == n.0 then Some x else None
+
+abbrev pub other_shut : CallerNo → Option Shut → Option Shut
+other_shut n None = None
+other_shut n (Some x) = if x.caller.0 == n.0 then None else Some x
+
+-- At the places below `count` the caller's own was moved from the one list to the other, in which nothing stood.
+pub record MovedBelow {A : Type 0} (own other : Option A → Option A) (count : ℕ) (from from' to' : List (Option A)) : Type 0 where
+  pub moved : (s : ℕ) → s < count → slot to' s ≡ own (slot from s)
+  pub left : (s : ℕ) → s < count → slot from' s ≡ other (slot from s)
+  pub unmoved : (s : ℕ) → count ≤ s → slot to' s ≡ None
+  pub unleft : (s : ℕ) → count ≤ s → slot from' s ≡ slot from s
+
+-- ---- racers
+
+-- The caller's number and what it has in progress went from the desk to the racer; the others' stays.
+pub record TakesOver (w : Words) (d d' : Desk) (number : CallerNo) (r : Racer) : Type 0 where
+  pub number_is : r.number ≡ number
+  pub pass : HandsOver w number d.pass d'.pass r.desk.pass
+  pub places : HasPlaces w d'
+  pub own_places : HasPlaces w r.desk
+  pub own : progress_of r.desk ≡ own_progress number (progress_of d)
+  pub others : (n : CallerNo) → n ≢ number → own_progress n (progress_of d') ≡ own_progress n (progress_of d)
+  pub unanswered : r.replies.items ≡ []
+  pub in_memory : IsFalse r.lacks_memory
+
+pub record AddsRacer (w : Words) (d d' : Desk) (number : CallerNo) (racers racers' : List Racer) : Type 0 where
+  pub racer : Racer
+  pub takes_over : TakesOver w d d' number racer
+  pub added : racers' ≡ racers ++ racer ∷ []
+
+-- The desk has still what belongs to the callers from number k on: its pass acts for them, and it has in progress what
+-- they had in progress at `go`.
+pub record HasLeft (w : Words) (go : List Event) (now : Progress) (d : Desk) (k : ℕ) : Type 0 where
+  pub pass : IsPassOf w d.pass
+  pub sight : seen d.pass ≡ go
+  pub holds : (n : CallerNo) → k ≤ n.0 → n.0 < (limits_of w).callers → Holds d.pass n
+  pub places : HasPlaces w d
+  pub progress : (n : CallerNo) → k ≤ n.0 → own_progress n (progress_of d) ≡ own_progress n now
+
+-- what stood at `go`: no caller had a call at work, and each made whole calls
+pub record StoodAtGo (w : Words) (go : List Event) (now : Progress) : Type 0 where
+  pub fit : IsFit (limits_of w)
+  pub unpinned : (d : Desk) → seen d.pass ≡ go → (n : CallerNo) → HasNoPin (view w d.pass) n
+  pub made : ∥ ((n : CallerNo) → HasMade (limits_of w) (mine n go) n now) ∥₁
+
+-- the racer of caller k, at `go`
+pub record IsSetOffAt (w : Words) (go : List Event) (now : Progress) (k : ℕ) (r : Racer) : Type 0 where
+  pub number : r.number ≡ record { 0 = k }
+  pub set_off : IsSetOff w r
+  pub sight : seen r.desk.pass ≡ go
+  pub progress : progress_of r.desk ≡ own_progress (record { 0 = k }) now
+
+-- these are the racers of the first callers, in rising order
+pub record AreSetOff (w : Words) (go : List Event) (now : Progress) (count : ℕ) (racers : List Racer) : Type 0 where
+  pub count_is : length racers ≡ count
+  pub each : (k : ℕ) (r : Racer) → k < count → slice_index_or racers k r ≡ r → IsSetOffAt w go now k r
+
+-- their passes are ones of the table
+abbrev pub AreRacers : Words → List Racer → Type 0
+AreRacers w racers = All (λ r. IsPassOf w r.desk.pass) racers

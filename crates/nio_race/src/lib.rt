@@ -1,0 +1,12 @@
+//! Races: callers in threads of their own, over one table. A race text is a setup, whose lines are made one after the
+//! other, a line `go`, and the lines of the callers.
+#![tactic(auto)]
+
+pub use run::run_race;
+
+mod gather;
+mod output;
+mod racer;
+mod run;
+mod set_off;
+mod setup;
