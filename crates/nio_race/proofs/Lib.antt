@@ -1,1 +1,4 @@
+pub mod Gathering
+pub mod Promise
+pub mod SettingOff
 pub mod SettingUp

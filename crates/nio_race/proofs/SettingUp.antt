@@ -1,5 +1,5 @@
 -- The setup's lines are made one after the other.
-use Rattle.std.proofs.Common.{◌≡◌, ℕ, suc, ◌+◌, ◌<◌, List, [], ◌∷◌, ◌++◌, take, drop, length, map, IsTrue, Result, Ok, Err, refl, sym, ap, ◌∙◌, subst, append_assoc}
+use Rattle.std.proofs.Common.{◌≡◌, ℕ, zero, suc, ◌+◌, ◌<◌, List, [], ◌∷◌, ◌++◌, take, drop, length, map, IsTrue, Result, Ok, Err, refl, sym, ap, ◌∙◌, subst, append_assoc}
 use Rattle.std.proofs.lemmas.List.{append-nil}
 use Rattle.nio_base.specs.declared.limits.Limits.{Limits}
 use Rattle.nio_base.specs.declared.numbers.CallerNo.{CallerNo}
@@ -51,15 +51,15 @@ script-more (line me word acts said ∷ later) e = ap (λ (cs : List ScriptCall)
 -- ---- draws alone are no lines
 
 draws-lines : (l : Limits) (k : ℕ) → AreLines l nothing_yet (draws k)
-draws-lines l 0 = tt
+draws-lines l zero = tt
 draws-lines l (suc k) = lines-more l nothing_yet (draws k) (draw (record { 0 = k })) (draws-lines l k) tt
 
 draws-left : (k : ℕ) → left_in_progress nothing_yet (draws k) ≡ nothing_yet
-draws-left 0 = refl
+draws-left zero = refl
 draws-left (suc k) = left-more nothing_yet (draws k) (draw (record { 0 = k })) ∙ draws-left k
 
 draws-script : (k : ℕ) → script_of (draws k) ≡ []
-draws-script 0 = refl
+draws-script zero = refl
 draws-script (suc k) = script-more (draws k) (draw (record { 0 = k })) ∙ ap (λ (cs : List ScriptCall). cs ++ []) (draws-script k)
 
 pub begins_set_up : (w : Words) (d : Desk) → Stands w d → seen d.pass ≡ history_of (draws (limits_of w).callers) → progress_of d ≡ nothing_yet

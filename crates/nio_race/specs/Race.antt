@@ -1,5 +1,5 @@
 -- A race: a setup of lines one after the other, and then callers that run beside each other.
-use Rattle.std.specs.Prelude.{◌≡◌, ℕ, ◌+◌, ◌<◌, ◌≤◌, ◌==◌, ◌++◌, Bool, IsTrue, if◌then◌else◌, Option, Some, None, List, [], ◌∷◌, map, filter, length}
+use Rattle.std.specs.Prelude.{◌≡◌, ℕ, zero, suc, ◌+◌, ◌<◌, ◌≤◌, ◌==◌, ◌++◌, Bool, IsTrue, if◌then◌else◌, Option, Some, None, List, [], ◌∷◌, map, filter, length}
 use mathlib.Core.List.{IsPrefix}
 use Rattle.nio_base.specs.declared.limits.Limits.{Limits}
 use Rattle.nio_base.specs.declared.numbers.CallerNo.{CallerNo}
@@ -88,7 +88,7 @@ caller_text n number (call ∷ later) (r ∷ replies) = race_line_text n number 
 
 -- the lines of the callers from number k up, so many of them
 abbrev pub callers_text : ℕ → ℕ → List RaceLine → (CallerNo → List Reply) → List ℕ
-callers_text k 0 race replies = []
+callers_text k zero race replies = []
 callers_text k (suc count) race replies =
     let n : CallerNo = record { 0 = k } in
     caller_text n 1 (calls_by n race) (replies n) ++ callers_text (k + 1) count race replies

@@ -1,10 +1,10 @@
 -- What `go` leaves: a racer for each caller, with what the caller has in progress.
 use Rattle.std.specs.Prelude.{◌≡◌, ◌≢◌, ℕ, ◌<◌, ◌≤◌, ◌==◌, ◌++◌, IsFalse, if◌then◌else◌, Option, Some, None, List, [], ◌∷◌, length, All}
 use Rattle.std.specs.List.{slice_index_or}
-use Rattle.nio_base.specs.Limits.{IsFit}
 use Rattle.nio_base.specs.declared.numbers.CallerNo.{CallerNo}
-use Rattle.nio_event.specs.Histories.{mine}
-use Rattle.nio_event.specs.PassViews.{HasNoPin}
+use Rattle.nio_base.specs.declared.numbers.SelNo.{SelNo}
+use Rattle.nio_event.specs.Conditions.{has_pin}
+use Rattle.nio_event.specs.Histories.{mine, state_after}
 use Rattle.nio_event.specs.declared.event.Event.{Event}
 use Rattle.nio_serial.specs.Documented.{Progress}
 use Rattle.nio_sole.specs.Made.{HasMade}
@@ -14,7 +14,6 @@ use Rattle.nio_sole.specs.declared.desk.Desk.{Desk}
 use Rattle.nio_sole.specs.declared.desk.Shut.{Shut}
 use Rattle.nio_words.specs.Passes.{Holds, IsPassOf, limits_of, seen}
 use Rattle.nio_words.specs.Sharing.{HandsOver}
-use Rattle.nio_words.specs.Views.{view}
 use Rattle.nio_words.specs.declared.words.Words.{Words}
 use Rattle.nio_race.specs.Race.{own_progress}
 use Rattle.nio_race.specs.Racers.{IsSetOff}
@@ -74,8 +73,7 @@ pub record HasLeft (w : Words) (go : List Event) (now : Progress) (d : Desk) (k 
 
 -- what stood at `go`: no caller had a call at work, and each made whole calls
 pub record StoodAtGo (w : Words) (go : List Event) (now : Progress) : Type 0 where
-  pub fit : IsFit (limits_of w)
-  pub unpinned : (d : Desk) → seen d.pass ≡ go → (n : CallerNo) → HasNoPin (view w d.pass) n
+  pub unpinned : (n : CallerNo) (s : SelNo) (i : ℕ) → IsFalse (has_pin (state_after go) n s i)
   pub made : ∥ ((n : CallerNo) → HasMade (limits_of w) (mine n go) n now) ∥₁
 
 -- the racer of caller k, at `go`

@@ -1,4 +1,2 @@
 pub mod RaceLines
 pub mod RaceOutput
-pub mod RaceText
-pub mod Reading

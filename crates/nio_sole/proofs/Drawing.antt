@@ -1,5 +1,5 @@
 -- The callers' numbers are drawn one after the other, before the first line.
-use Rattle.std.proofs.Common.{append_assoc, map, ◌≡◌, ℕ, ◌+◌, ◌<◌, ◌≤◌, ◌==◌, Bool, true, false, if◌then◌else◌, List, [], ◌∷◌, ◌++◌, refl, ap, sym, ◌∙◌, subst, eqb-true, eq-eqb, arith}
+use Rattle.std.proofs.Common.{append_assoc, map, suc, ◌≡◌, ℕ, ◌+◌, ◌<◌, ◌≤◌, ◌==◌, Bool, true, false, if◌then◌else◌, List, [], ◌∷◌, ◌++◌, refl, ap, sym, ◌∙◌, subst, eqb-true, eq-eqb, arith}
 use Rattle.std.proofs.lemmas.List.{append-nil}
 use Rattle.nio_base.specs.declared.limits.Limits.{Limits}
 use Rattle.nio_base.specs.declared.numbers.CallerNo.{CallerNo}
@@ -36,7 +36,7 @@ none_drawn l = record { are = refl; opening = refl; between = begins-between l; 
 
 pub one_drawn : (l : Limits) (events : List Event) (k : ℕ) → AreDrawn l events k → AreDrawn l (events ++ event_of (caller k) (DrawBit (caller k) false) ∷ []) (k + 1)
 one_drawn l events k before = record {
-  are = ap (λ (es : List Event). es ++ e ∷ []) before.are ∙ sym (history-more (draws k) (caller k));
+  are = ap (λ (es : List Event). es ++ e ∷ []) before.are ∙ (sym (history-more (draws k) (caller k)) ∙ (let on : suc k ≡ k + 1 = omega arith in ap (λ m. history_of (draws m)) on));
   opening = ap (λ (x : State). documented x nothing_yet) state ∙ before.opening;
   between = subst (λ (x : State). IsBetween l x nothing_yet) (sym state) (draws-stay l st nothing_yet (caller k) before.between);
   made = λ n. by_caller n (k == n.0) refl;

@@ -1,5 +1,5 @@
 -- What the sole use of a table begins with.
-use Rattle.std.specs.Prelude.{◌≡◌, ℕ, ◌<◌, ◌≤◌, ◌++◌, false, IsTrue, Option, None, List, [], ◌∷◌, Vec, vec_len}
+use Rattle.std.specs.Prelude.{◌≡◌, ℕ, zero, suc, ◌<◌, ◌≤◌, ◌++◌, false, IsTrue, Option, None, List, [], ◌∷◌, Vec, vec_len}
 use Rattle.std.specs.declared.alloc.Global.{Global}
 use Rattle.nio_base.specs.declared.limits.Limits.{Limits}
 use Rattle.nio_base.specs.declared.numbers.CallerNo.{CallerNo}
@@ -18,7 +18,7 @@ use Rattle.nio_words.specs.declared.words.Words.{Words}
 
 -- the draws of so many numbers, from 0 up
 abbrev pub draws : ℕ → List Entry
-draws 0 = []
+draws zero = []
 draws (suc k) = draws k ++ draw (record { 0 = k }) ∷ []
 
 -- Draws alone were made: it stands between two calls, in the opening state of scripts; each caller made whole calls; each

@@ -3,7 +3,7 @@
 
 pub use desk::{Begun, Desk, Shut, forget_closings, forget_selections};
 pub use laws::sole_law;
-pub use line::{line, say_line};
+pub use line::{make_line, say_line};
 pub use making::{no_progress, open_desk};
 pub use sole::Sole;
 

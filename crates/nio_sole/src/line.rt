@@ -42,12 +42,12 @@ pub fn say_line(
     if me.0 >= w.limits().callers {
         return Ok(Reply::NoCaller);
     }
-    line(alloc, w, d, me, call)
+    make_line(alloc, w, d, me, call)
 }
 
 /// A line of a caller that may be drawn, on a desk whose pass acts for it. Another caller's steps may come between its
 /// own.
-pub fn line(
+pub fn make_line(
     alloc: Global,
     w: &Words,
     d: &mut Desk,

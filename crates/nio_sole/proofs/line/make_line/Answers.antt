@@ -1,5 +1,5 @@
 use Rattle.nio_sole.proofs.Named.{may_make_named, missing_made, line_made_of}
-use Rattle.nio_sole.proofs.line.line.Goals as goal
+use Rattle.nio_sole.proofs.line.make_line.Goals as goal
 
 pub call_of-requires : goal.call_of-requires
 call_of-requires c = may_make_named c.args.w.now c.args.d.now c.find_names.new.p c.args.me c.args.call.now c.in-None.ensures c.requires.places c.requires.made

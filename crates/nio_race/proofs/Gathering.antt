@@ -1,0 +1,37 @@
+-- The passes of a race are joined one after the other.
+use Rattle.std.proofs.Common.{◌≡◌, List, [], ◌∷◌, ◌++◌, All, inl, inr, refl, sym, ap, ◌∙◌, subst, append_assoc}
+use Rattle.nio_base.specs.declared.numbers.CallerNo.{CallerNo}
+use Rattle.nio_event.specs.Histories.{mine}
+use Rattle.nio_words.proofs.Beginnings.{prefix_self, prefix_trans}
+use Rattle.nio_words.specs.Passes.{Holds, IsPassOf, seen}
+use Rattle.nio_words.specs.Sharing.{Joins}
+use Rattle.nio_words.specs.declared.words.Pass.{Pass}
+use Rattle.nio_words.specs.declared.words.Words.{Words}
+use Rattle.nio_race.specs.Gathering.{StandsIn}
+use Rattle.nio_race.specs.SetOff.{AreRacers}
+use Rattle.nio_race.specs.declared.racer.Racer.{Racer}
+
+pub stands_self : (p : Pass) → StandsIn p p
+stands_self p = record { begins = prefix_self (seen p); holds = λ n held. held; own = λ n held. refl }
+
+pub stands_on : (a b c : Pass) → StandsIn a b → StandsIn b c → StandsIn a c
+stands_on a b c first later = record {
+  begins = prefix_trans _ _ _ first.begins later.begins;
+  holds = λ n held. later.holds n (first.holds n held);
+  own = λ n held. later.own n (first.holds n held) ∙ first.own n held;
+}
+
+pub joined_own : (w : Words) (before other after : Pass) → Joins w before other after → StandsIn before after
+joined_own w before other after joins = record { begins = joins.stands.begins; holds = λ n held. (joins.numbers n).1 (inl held); own = joins.stands.own }
+
+pub joined_other : (w : Words) (before other after : Pass) → Joins w before other after → StandsIn other after
+joined_other w before other after joins = record { begins = joins.other_stands.begins; holds = λ n held. (joins.numbers n).1 (inr held); own = joins.other_stands.own }
+
+-- some are joined, the last ones, and the others are still there
+pub record IsGathering (w : Words) (before now : Pass) (racers left : List Racer) : Type 0 where
+  pub pass : IsPassOf w now
+  pub own : StandsIn before now
+  pub joined : List Racer
+  pub parts : racers ≡ left ++ joined
+  pub each : All (λ r. StandsIn r.desk.pass now) joined
+  pub passes : AreRacers w left

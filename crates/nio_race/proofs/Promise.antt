@@ -1,0 +1,191 @@
+-- A race, put together from what each caller did.
+use Rattle.std.proofs.Common.{◌≡◌, ℕ, zero, suc, ◌+◌, ◌<◌, ◌≤◌, ◌==◌, Bool, true, false, if◌then◌else◌, IsFalse, List, [], ◌∷◌, ◌++◌, length, map, All, refl, sym, ap, ◌∙◌, subst, ⊎_elim, eqb-true, append_assoc, arith}
+use Rattle.std.proofs.Math.Logic.{∥∥₁_map, ∥∥₁_map₂}
+use Rattle.std.proofs.lemmas.Bool.{cases_lt}
+use Rattle.std.proofs.lemmas.List.{append-nil, get_or_past, get_or_push, length-append}
+use Rattle.std.specs.List.{slice_index_or}
+use Rattle.std.specs.Prelude.{filter}
+use mathlib.Core.List.{IsPrefix}
+use Rattle.nio_base.specs.Limits.{IsFit}
+use Rattle.nio_base.specs.declared.limits.Limits.{Limits}
+use Rattle.nio_base.specs.declared.numbers.CallerNo.{CallerNo}
+use Rattle.nio_event.proofs.Legal.{legal_beginning}
+use Rattle.nio_event.specs.Conditions.{IsCaller}
+use Rattle.nio_event.specs.Histories.{IsLegal, mine, is_by}
+use Rattle.nio_event.specs.declared.act.Act.{Act}
+use Rattle.nio_event.specs.declared.call.ScriptCall.{ScriptCall}
+use Rattle.nio_event.specs.declared.event.Event.{Event}
+use Rattle.nio_event.specs.declared.reply.Reply.{Reply}
+use Rattle.nio_orderly.proofs.CallLists.{beginnings_are_orderly, whole_is_orderly}
+use Rattle.nio_orderly.proofs.OrderlyClosings.{orderly_owes}
+use Rattle.nio_orderly.specs.Orderly.{HasMadeCalls, IsOrderly, IsWhole}
+use Rattle.nio_orderly.specs.Owed.{Owed}
+use Rattle.nio_race_text.specs.declared.call.RaceLine.{RaceLine}
+use Rattle.nio_serial.specs.Documented.{Progress}
+use Rattle.nio_sole.proofs.Beginnings.{made_whole}
+use Rattle.nio_sole.specs.Made.{HasMade}
+use Rattle.nio_sole.specs.Stands.{progress_of}
+use Rattle.nio_sole.specs.declared.desk.Desk.{Desk}
+use Rattle.nio_words.proofs.Beginnings.{prefix_trans}
+use Rattle.nio_words.specs.Passes.{Holds, IsPassOf, IsReady, limits_of, seen}
+use Rattle.nio_words.specs.declared.words.Pass.{Pass}
+use Rattle.nio_words.specs.declared.words.Words.{Words}
+use Rattle.nio_race.specs.Gathering.{StandsIn}
+use Rattle.nio_race.specs.Race.{HasRun, IsRace, IsSetUp, calls_by, own_progress, strange_replies}
+use Rattle.nio_race.specs.Racers.{HaveRaced, HasRaced, RanLines, replies_by}
+use Rattle.nio_race.specs.Runs.{AreRaceLines}
+use Rattle.nio_race.specs.SetOff.{AreSetOff, IsSetOffAt}
+use Rattle.nio_race.specs.Setup.{HasSetUp}
+use Rattle.nio_race.specs.declared.racer.Racer.{Racer}
+
+-- ---- lists
+
+-- what stands at a place of a list
+pub standing : {A : Type 0} (xs : List A) (k : ℕ) → k < length xs → (x : A) × (slice_index_or xs k x ≡ x)
+standing [] k below = absurd (omega (arith, below))
+standing (x ∷ xs) zero below = (x, refl)
+standing (x ∷ xs) (suc k) below = standing xs k (omega (arith, below))
+
+-- it is met by what all items meet
+pub all-at : {A : Type 0} (P : A → Type 0) (xs : List A) (k : ℕ) (x : A) → k < length xs → slice_index_or xs k x ≡ x → All P xs → P x
+all-at P [] k x below is all = absurd (omega (arith, below))
+all-at P (y ∷ ys) zero x below is all = subst P is all.0
+all-at P (y ∷ ys) (suc k) x below is all = all-at P ys k x (omega (arith, below)) is all.1
+
+map-at : {A B : Type 0} (f : A → B) (xs : List A) (k : ℕ) (x : A) (d : B) → k < length xs → slice_index_or xs k x ≡ x → slice_index_or (map f xs) k d ≡ f x
+map-at f [] k x d below is = absurd (omega (arith, below))
+map-at f (y ∷ ys) zero x d below is = ap f is
+map-at f (y ∷ ys) (suc k) x d below is = map-at f ys k x d (omega (arith, below)) is
+
+length-map : {A B : Type 0} (f : A → B) (xs : List A) → length (map f xs) ≡ length xs
+length-map f [] = refl
+length-map f (x ∷ xs) = ap suc (length-map f xs)
+
+-- what holds of each number below a limit, unseen, holds of all of them, unseen
+all_below : (P : ℕ → Type 0) (k : ℕ) → ((n : ℕ) → n < k → ∥ P n ∥₁) → ∥ ((n : ℕ) → n < k → P n) ∥₁
+all_below P zero each = inc (λ n below. absurd (omega (arith, below)))
+all_below P (suc k) each =
+    ∥∥₁_map₂ (all_below P k (λ n below. each n (omega (arith, below)))) (each k (omega arith))
+    (λ before here n below. ⊎_elim (λ (earlier : n < k). before n earlier) (λ (last : k ≤ n). let same : k ≡ n = omega (arith, below, last) in subst P same here) (cases_lt n k))
+
+-- ---- whole histories
+
+-- a number that isn't a caller's has no event
+stranger-later : (l : Limits) (h : List Event) (n : CallerNo) → IsLegal l h → l.callers ≤ n.0 → (before later : List Event) → h ≡ before ++ later → mine n later ≡ []
+stranger-later l h n legal past before [] is = refl
+stranger-later l h n legal past before (e ∷ later) is = by_test (e.caller.0 == n.0) refl
+  where
+    rest : mine n later ≡ []
+    rest = stranger-later l h n legal past (before ++ e ∷ []) later (is ∙ sym (append_assoc before (e ∷ []) later))
+
+    by_test : (b : Bool) → (e.caller.0 == n.0) ≡ b → map (λ (x : Event). x.act) (if b then e ∷ filter (is_by n) later else filter (is_by n) later) ≡ []
+    by_test true by =
+        let its : e.caller.0 < l.callers = (legal.steps before e later is).by_caller in
+        let same : e.caller.0 ≡ n.0 = eqb-true e.caller.0 n.0 by in
+        absurd (omega (arith, its, same, past))
+    by_test false by = rest
+
+stranger : (l : Limits) (h : List Event) (n : CallerNo) → IsLegal l h → l.callers ≤ n.0 → mine n h ≡ []
+stranger l h n legal past = stranger-later l h n legal past [] h refl
+
+pub whole_by_callers : (l : Limits) (h : List Event) → IsLegal l h → ((n : CallerNo) → n.0 < l.callers → ∥ HasMadeCalls l (mine n h) ∥₁) → ∥ IsWhole l h ∥₁
+whole_by_callers l h legal each =
+    ∥∥₁_map
+    (λ (all : (k : ℕ) → k < l.callers → HasMadeCalls l (mine (record { 0 = k }) h)). λ n. ⊎_elim
+    (λ (below : n.0 < l.callers). all n.0 below)
+    (λ (past : l.callers ≤ n.0). subst (HasMadeCalls l) (sym (stranger l h n legal past)) (record { calls = []; are = record { runs = refl; in_order = tt } }))
+    (cases_lt n.0 l.callers))
+    (all_below (λ k. HasMadeCalls l (mine (record { 0 = k }) h)) l.callers (λ k below. each (record { 0 = k }) below))
+
+-- at each moment of a whole history what is owed is owed by a caller that has still to do it
+pub owed_before : (l : Limits) (events before : List Event) → IsFit l → IsLegal l events → IsPrefix before events → IsWhole l events → Owed before
+owed_before l events before fit legal begins whole =
+    let rest = begins.0 in
+    orderly_owes l before fit (legal_beginning l before rest (subst (IsLegal l) (sym begins.1) legal))
+    (beginnings_are_orderly l before rest (subst (IsOrderly l) (sym begins.1) (whole_is_orderly l events whole)))
+
+-- ---- the promise
+
+module _ (w : Words) (setup : List ScriptCall) (race : List RaceLine) (d : Desk) (racers racers' : List Racer) (p : Pass)
+    (set_up : HasSetUp w d setup) (set_off : AreSetOff w (seen d.pass) (progress_of d) (limits_of w).callers racers)
+    (raced : HaveRaced w race racers racers') (memory : All (λ r. IsFalse r.lacks_memory) racers')
+    (pass : IsPassOf w p) (gathered : All (λ r. StandsIn r.desk.pass p) racers') where
+  -- what is known of caller k, by its racer before and after
+  record Known (n : CallerNo) : Type 0 where
+    pub before : Racer
+    pub after : Racer
+    pub at_go : IsSetOffAt w (seen d.pass) (progress_of d) n.0 before
+    pub raced_so : HasRaced w race before after
+    pub in_memory : IsFalse after.lacks_memory
+    pub stands_in : StandsIn after.desk.pass p
+    pub number : after.number ≡ n
+    pub own_number : before.number ≡ n
+    pub replied : replies_by race racers' n ≡ after.replies.items
+
+  known : (n : CallerNo) → n.0 < (limits_of w).callers → Known n
+  known n below =
+      let below_first : n.0 < length racers = subst (λ (k : ℕ). n.0 < k) (sym set_off.count_is) below in
+      let below_last : n.0 < length racers' = subst (λ (k : ℕ). n.0 < k) (sym raced.count) below_first in
+      let first = standing racers n.0 below_first in
+      let last = standing racers' n.0 below_last in
+      let at = set_off.each n.0 first.0 below first.1 in
+      let so = raced.each n.0 first.0 last.0 below_first first.1 last.1 in
+      record {
+        before = first.0;
+        after = last.0;
+        at_go = at;
+        raced_so = so;
+        in_memory = all-at (λ r. IsFalse r.lacks_memory) racers' n.0 last.0 below_last last.1 memory;
+        stands_in = all-at (λ r. StandsIn r.desk.pass p) racers' n.0 last.0 below_last last.1 gathered;
+        number = so.number ∙ at.number;
+        own_number = at.number;
+        replied = map-at (λ (r : Racer). r.replies.items) racers' n.0 last.0 (strange_replies (calls_by n race)) below_last last.1;
+      }
+
+  pub holds_each : (n : CallerNo) → n.0 < (limits_of w).callers → IsReady w p n
+  holds_each n below =
+      let k = known n below in
+      record { pass = pass; number = subst (λ (m : CallerNo). Holds p m) k.number (k.stands_in.holds k.after.number k.raced_so.stands.ready.number) }
+
+  has_run : (n : CallerNo) → n.0 < (limits_of w).callers → HasRun (limits_of w) n (seen d.pass) (progress_of d) (calls_by n race) (seen p) (replies_by race racers' n)
+  has_run n below =
+      let k = known n below in
+      let ran = k.raced_so.run k.in_memory in
+      let held = subst (λ (m : CallerNo). Holds k.after.desk.pass m) k.number k.raced_so.stands.ready.number in
+      record {
+        acts = ran.acts;
+        grew =
+            k.stands_in.own n held
+            ∙ (subst (λ (m : CallerNo). mine m (seen k.after.desk.pass) ≡ mine m (seen k.before.desk.pass) ++ ran.acts) k.own_number ran.grew
+            ∙ ap (λ (es : List Event). mine n es ++ ran.acts) k.at_go.sight);
+        last = progress_of k.after.desk;
+        lines =
+            subst (λ (rs : List Reply). AreRaceLines (limits_of w) n (own_progress n (progress_of d)) (calls_by n race) ran.acts rs (progress_of k.after.desk)) (sym k.replied)
+            (subst (λ (x : Progress). AreRaceLines (limits_of w) n x (calls_by n race) ran.acts k.after.replies.items (progress_of k.after.desk)) k.at_go.progress
+            (subst (λ (m : CallerNo). AreRaceLines (limits_of w) m (progress_of k.before.desk) (calls_by m race) ran.acts k.after.replies.items (progress_of k.after.desk)) k.own_number ran.lines));
+      }
+
+  whole : ∥ IsWhole (limits_of w) (seen p) ∥₁
+  whole = whole_by_callers (limits_of w) (seen p) pass.legal (λ n below.
+      let k = known n below in
+      let held = subst (λ (m : CallerNo). Holds k.after.desk.pass m) k.number k.raced_so.stands.ready.number in
+      ∥∥₁_map
+      (λ made. subst (HasMadeCalls (limits_of w)) (sym (k.stands_in.own n held))
+      (subst (λ (m : CallerNo). HasMadeCalls (limits_of w) (mine m (seen k.after.desk.pass))) k.number (made_whole (limits_of w) _ k.after.number _ made)))
+      k.raced_so.stands.made)
+
+  pub is_race : IsRace (limits_of w) setup race (seen p) (replies_by race racers')
+  is_race =
+      let first = known (record { 0 = 0 }) (omega (arith, set_up.stands.fit.some_callers)) in
+      record {
+        go = seen d.pass;
+        now = progress_of d;
+        set_up = set_up.set_up;
+        begins = prefix_trans _ _ _ (subst (λ (es : List Event). IsPrefix es (seen first.after.desk.pass)) first.at_go.sight first.raced_so.later) first.stands_in.begins;
+        run = has_run;
+        strangers = λ n past. get_or_past (map (λ (r : Racer). r.replies.items) racers') n.0 (strange_replies (calls_by n race))
+            (subst (λ (k : ℕ). k ≤ n.0) (sym (length-map (λ (r : Racer). r.replies.items) racers' ∙ raced.count ∙ set_off.count_is)) past);
+        legal = pass.legal;
+        whole = whole;
+        owed = λ before begins. ∥∥₁_map (λ here. owed_before (limits_of w) (seen p) before set_up.stands.fit pass.legal begins here) whole;
+      }
