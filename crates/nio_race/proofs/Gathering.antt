@@ -1,7 +1,9 @@
 -- The passes of a race are joined one after the other.
-use Rattle.std.proofs.Common.{◌≡◌, List, [], ◌∷◌, ◌++◌, All, inl, inr, refl, sym, ap, ◌∙◌, subst, append_assoc}
+use Rattle.std.proofs.Common.{◌≡◌, List, [], ◌∷◌, ◌++◌, All, inl, inr, refl, sym, ap, ◌∙◌, subst, append_assoc, arith}
 use Rattle.nio_base.specs.declared.numbers.CallerNo.{CallerNo}
 use Rattle.nio_event.specs.Histories.{mine}
+use Rattle.std.proofs.lemmas.List.{append-nil}
+use Rattle.std.proofs.lemmas.List.Elements.{All-cons}
 use Rattle.nio_words.proofs.Beginnings.{prefix_self, prefix_trans}
 use Rattle.nio_words.specs.Passes.{Holds, IsPassOf, seen}
 use Rattle.nio_words.specs.Sharing.{Joins}
@@ -35,3 +37,13 @@ pub record IsGathering (w : Words) (before now : Pass) (racers left : List Racer
   pub parts : racers ≡ left ++ joined
   pub each : All (λ r. StandsIn r.desk.pass now) joined
   pub passes : AreRacers w left
+
+pub begins : (w : Words) (p : Pass) (racers : List Racer) → IsPassOf w p → AreRacers w racers → IsGathering w p p racers racers
+begins w p racers pass passes = record {
+  pass = pass;
+  own = stands_self p;
+  joined = [];
+  parts = sym (append-nil racers);
+  each = λ k r below. absurd (omega (arith, below));
+  passes = passes;
+}

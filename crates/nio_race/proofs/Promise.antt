@@ -2,6 +2,7 @@
 use Rattle.std.proofs.Common.{◌≡◌, ℕ, zero, suc, ◌+◌, ◌<◌, ◌≤◌, ◌==◌, Bool, true, false, if◌then◌else◌, IsFalse, List, [], ◌∷◌, ◌++◌, length, map, All, refl, sym, ap, ◌∙◌, subst, ⊎_elim, eqb-true, append_assoc, arith}
 use Rattle.std.proofs.Math.Logic.{∥∥₁_map, ∥∥₁_map₂}
 use Rattle.std.proofs.lemmas.Bool.{cases_lt}
+use Rattle.std.proofs.lemmas.Grind.{merely}
 use Rattle.std.proofs.lemmas.List.{append-nil, get_or_past, get_or_push, length-append}
 use Rattle.std.specs.List.{slice_index_or}
 use Rattle.std.specs.Prelude.{filter}
@@ -48,9 +49,7 @@ standing (x ∷ xs) (suc k) below = standing xs k (omega (arith, below))
 
 -- it is met by what all items meet
 pub all-at : {A : Type 0} (P : A → Type 0) (xs : List A) (k : ℕ) (x : A) → k < length xs → slice_index_or xs k x ≡ x → All P xs → P x
-all-at P [] k x below is all = absurd (omega (arith, below))
-all-at P (y ∷ ys) zero x below is all = subst P is all.0
-all-at P (y ∷ ys) (suc k) x below is all = all-at P ys k x (omega (arith, below)) is all.1
+all-at P xs k x below is all = subst P is (all k x below)
 
 map-at : {A B : Type 0} (f : A → B) (xs : List A) (k : ℕ) (x : A) (d : B) → k < length xs → slice_index_or xs k x ≡ x → slice_index_or (map f xs) k d ≡ f x
 map-at f [] k x d below is = absurd (omega (arith, below))
@@ -63,7 +62,7 @@ length-map f (x ∷ xs) = ap suc (length-map f xs)
 
 -- what holds of each number below a limit, unseen, holds of all of them, unseen
 all_below : (P : ℕ → Type 0) (k : ℕ) → ((n : ℕ) → n < k → ∥ P n ∥₁) → ∥ ((n : ℕ) → n < k → P n) ∥₁
-all_below P zero each = inc (λ n below. absurd (omega (arith, below)))
+all_below P zero each = merely (λ n below. absurd (omega (arith, below)))
 all_below P (suc k) each =
     ∥∥₁_map₂ (all_below P k (λ n below. each n (omega (arith, below)))) (each k (omega arith))
     (λ before here n below. ⊎_elim (λ (earlier : n < k). before n earlier) (λ (last : k ≤ n). let same : k ≡ n = omega (arith, below, last) in subst P same here) (cases_lt n k))
@@ -73,29 +72,26 @@ all_below P (suc k) each =
 -- a number that isn't a caller's has no event
 stranger-later : (l : Limits) (h : List Event) (n : CallerNo) → IsLegal l h → l.callers ≤ n.0 → (before later : List Event) → h ≡ before ++ later → mine n later ≡ []
 stranger-later l h n legal past before [] is = refl
-stranger-later l h n legal past before (e ∷ later) is = by_test (e.caller.0 == n.0) refl
+stranger-later l h n legal past before (e ∷ later) is =
+    by_test (stranger-later l h n legal past (before ++ e ∷ []) later (is ∙ sym (append_assoc before (e ∷ []) later))) (e.caller.0 == n.0) refl
   where
-    rest : mine n later ≡ []
-    rest = stranger-later l h n legal past (before ++ e ∷ []) later (is ∙ sym (append_assoc before (e ∷ []) later))
-
-    by_test : (b : Bool) → (e.caller.0 == n.0) ≡ b → map (λ (x : Event). x.act) (if b then e ∷ filter (is_by n) later else filter (is_by n) later) ≡ []
-    by_test true by =
+    by_test : mine n later ≡ [] → (b : Bool) → (e.caller.0 == n.0) ≡ b → map (λ (x : Event). x.act) (if b then e ∷ filter (is_by n) later else filter (is_by n) later) ≡ []
+    by_test rest true by =
         let its : e.caller.0 < l.callers = (legal.steps before e later is).by_caller in
         let same : e.caller.0 ≡ n.0 = eqb-true e.caller.0 n.0 by in
         absurd (omega (arith, its, same, past))
-    by_test false by = rest
+    by_test rest false by = rest
 
 stranger : (l : Limits) (h : List Event) (n : CallerNo) → IsLegal l h → l.callers ≤ n.0 → mine n h ≡ []
 stranger l h n legal past = stranger-later l h n legal past [] h refl
 
 pub whole_by_callers : (l : Limits) (h : List Event) → IsLegal l h → ((n : CallerNo) → n.0 < l.callers → ∥ HasMadeCalls l (mine n h) ∥₁) → ∥ IsWhole l h ∥₁
 whole_by_callers l h legal each =
-    ∥∥₁_map
-    (λ (all : (k : ℕ) → k < l.callers → HasMadeCalls l (mine (record { 0 = k }) h)). λ n. ⊎_elim
+    ∥∥₁_map (all_below (λ k. HasMadeCalls l (mine (record { 0 = k }) h)) l.callers (λ k below. each (record { 0 = k }) below))
+    (λ all n. ⊎_elim
     (λ (below : n.0 < l.callers). all n.0 below)
     (λ (past : l.callers ≤ n.0). subst (HasMadeCalls l) (sym (stranger l h n legal past)) (record { calls = []; are = record { runs = refl; in_order = tt } }))
     (cases_lt n.0 l.callers))
-    (all_below (λ k. HasMadeCalls l (mine (record { 0 = k }) h)) l.callers (λ k below. each (record { 0 = k }) below))
 
 -- at each moment of a whole history what is owed is owed by a caller that has still to do it
 pub owed_before : (l : Limits) (events before : List Event) → IsFit l → IsLegal l events → IsPrefix before events → IsWhole l events → Owed before
@@ -169,10 +165,9 @@ module _ (w : Words) (setup : List ScriptCall) (race : List RaceLine) (d : Desk)
   whole = whole_by_callers (limits_of w) (seen p) pass.legal (λ n below.
       let k = known n below in
       let held = subst (λ (m : CallerNo). Holds k.after.desk.pass m) k.number k.raced_so.stands.ready.number in
-      ∥∥₁_map
+      ∥∥₁_map k.raced_so.stands.made
       (λ made. subst (HasMadeCalls (limits_of w)) (sym (k.stands_in.own n held))
-      (subst (λ (m : CallerNo). HasMadeCalls (limits_of w) (mine m (seen k.after.desk.pass))) k.number (made_whole (limits_of w) _ k.after.number _ made)))
-      k.raced_so.stands.made)
+      (subst (λ (m : CallerNo). HasMadeCalls (limits_of w) (mine m (seen k.after.desk.pass))) k.number (made_whole (limits_of w) _ k.after.number _ made))))
 
   pub is_race : IsRace (limits_of w) setup race (seen p) (replies_by race racers')
   is_race =
@@ -187,5 +182,5 @@ module _ (w : Words) (setup : List ScriptCall) (race : List RaceLine) (d : Desk)
             (subst (λ (k : ℕ). k ≤ n.0) (sym (length-map (λ (r : Racer). r.replies.items) racers' ∙ raced.count ∙ set_off.count_is)) past);
         legal = pass.legal;
         whole = whole;
-        owed = λ before begins. ∥∥₁_map (λ here. owed_before (limits_of w) (seen p) before set_up.stands.fit pass.legal begins here) whole;
+        owed = λ before begins. ∥∥₁_map whole (λ here. owed_before (limits_of w) (seen p) before set_up.stands.fit pass.legal begins here);
       }

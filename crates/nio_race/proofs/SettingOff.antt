@@ -3,7 +3,7 @@ use Rattle.std.proofs.Common.{◌≡◌, ◌≢◌, ℕ, suc, ◌+◌, ◌<◌, 
 use Rattle.std.proofs.Math.Bool.{Bool-set}
 use Rattle.std.proofs.Math.Logic.{∥∥₁_elim, ∥∥₁_map}
 use Rattle.std.proofs.lemmas.Bool.{cases_lt}
-use Rattle.std.proofs.lemmas.List.Elements.{All-append}
+use Rattle.std.proofs.lemmas.List.Elements.{All-push}
 use Rattle.std.proofs.lemmas.List.{get_or_past, get_or_push, get_or_append_left, length-append}
 use Rattle.nio_base.specs.declared.limits.Limits.{Limits}
 use Rattle.nio_base.specs.declared.numbers.CallerNo.{CallerNo}
@@ -21,7 +21,7 @@ use Rattle.nio_sole.specs.declared.desk.Begun.{Begun}
 use Rattle.nio_sole.specs.declared.desk.Desk.{Desk}
 use Rattle.nio_sole.specs.declared.desk.Shut.{Shut}
 use Rattle.nio_steps.specs.SelectCalls.{Selection}
-use Rattle.nio_words.specs.Passes.{limits_of, seen}
+use Rattle.nio_words.specs.Passes.{IsPassOf, limits_of, seen}
 use Rattle.nio_words.specs.declared.words.Words.{Words}
 use Rattle.nio_race.specs.Race.{own_progress, own_selection_of}
 use Rattle.nio_race.specs.SetOff.{own_begun, other_begun, own_shut, other_shut, AddsRacer, AreRacers, AreSetOff, HasLeft, IsSetOffAt, MovedBelow, StoodAtGo, TakesOver}
@@ -97,14 +97,14 @@ module _ (w : Words) (d d' r : Desk) (n : CallerNo) (places : HasPlaces w d)
     (lens : (vec_len d'.selections ≡ (limits_of w).selectors) × (vec_len r.selections ≡ (limits_of w).selectors) × (vec_len d'.closings ≡ (limits_of w).selectors) × (vec_len r.closings ≡ (limits_of w).selectors)) where
   pub moved_progress : progress_of r ≡ own_progress n (progress_of d)
   moved_progress = λ i. record {
-    selection = λ s. all_moved (own_begun n) (other_begun n) (limits_of w).selectors d.selections.items d'.selections.items r.selections.items begun places.selections (option_map selecting_of) (own_selection_of n) (own-begun-part n) refl s i;
-    closing = λ s. all_moved (own_shut n) (other_shut n) (limits_of w).selectors d.closings.items d'.closings.items r.closings.items shut places.closings (option_map (λ x. x.caller)) (own_closing n) (own-shut-part n) refl s i;
+    selection = λ s. all_moved (own_begun n) (other_begun n) (limits_of w).selectors d.selections.items d'.selections.items r.selections.items begun (omega (arith, places.selections)) (option_map selecting_of) (own_selection_of n) (own-begun-part n) refl s i;
+    closing = λ s. all_moved (own_shut n) (other_shut n) (limits_of w).selectors d.closings.items d'.closings.items r.closings.items shut (omega (arith, places.closings)) (option_map (λ x. x.caller)) (own_closing n) (own-shut-part n) refl s i;
   }
 
   pub left_progress : (m : CallerNo) → m ≢ n → own_progress m (progress_of d') ≡ own_progress m (progress_of d)
   left_progress m other = λ i. record {
-    selection = λ s. all_left (own_begun n) (other_begun n) (limits_of w).selectors d.selections.items d'.selections.items r.selections.items begun places.selections (option_map selecting_of) (own_selection_of m) (λ o. others-begun-part m n o other) s i;
-    closing = λ s. all_left (own_shut n) (other_shut n) (limits_of w).selectors d.closings.items d'.closings.items r.closings.items shut places.closings (option_map (λ x. x.caller)) (own_closing m) (λ o. others-shut-part m n o other) s i;
+    selection = λ s. all_left (own_begun n) (other_begun n) (limits_of w).selectors d.selections.items d'.selections.items r.selections.items begun (omega (arith, places.selections)) (option_map selecting_of) (own_selection_of m) (λ o. others-begun-part m n o other) s i;
+    closing = λ s. all_left (own_shut n) (other_shut n) (limits_of w).selectors d.closings.items d'.closings.items r.closings.items shut (omega (arith, places.closings)) (option_map (λ x. x.caller)) (own_closing m) (λ o. others-shut-part m n o other) s i;
   }
 
   from_own : {A : Type 0} (b : Bool) (x y : A) → (if b then Some x else None) ≡ Some y → Some x ≡ Some y
@@ -136,8 +136,8 @@ module _ (w : Words) (d d' r : Desk) (n : CallerNo) (places : HasPlaces w d)
 
   pub moved_places : HasPlaces w r
   moved_places = record {
-    selections = lens.1.0;
-    closings = lens.1.1.1;
+    selections = lens.1;
+    closings = lens.3;
     selects = λ s x is. ⊎_elim
         (λ (below : s < (limits_of w).selectors). places.selects s x (begun_own _ x (sym (begun.moved s below) ∙ is)))
         (λ (past : (limits_of w).selectors ≤ s). nothing_moved _ x (begun.unmoved s past) is)
@@ -151,7 +151,7 @@ module _ (w : Words) (d d' r : Desk) (n : CallerNo) (places : HasPlaces w d)
   pub left_places : HasPlaces w d'
   left_places = record {
     selections = lens.0;
-    closings = lens.1.1.0;
+    closings = lens.2;
     selects = λ s x is. ⊎_elim
         (λ (below : s < (limits_of w).selectors). places.selects s x (begun_other _ x (sym (begun.left s below) ∙ is)))
         (λ (past : (limits_of w).selectors ≤ s). places.selects s x (sym (begun.unleft s past) ∙ is))
@@ -233,11 +233,10 @@ racer_set_off w go now d d' k r below stood left takes =
           ready = record { pass = takes.pass.sees.given_pass; number = (takes.pass.given_number r.number).1 takes.number_is };
           unpinned = λ s i. subst (λ (es : List Event). IsFalse (has_pin (state_after es) r.number s i)) (sym sight) (stood.unpinned r.number s i);
           places = takes.own_places;
-          made = ∥∥₁_map
+          made = ∥∥₁_map stood.made
               (λ made. subst (λ (m : CallerNo). HasMade (limits_of w) (mine m (seen r.desk.pass)) m (progress_of r.desk)) (sym takes.number_is)
               (subst (λ (es : List Event). HasMade (limits_of w) (mine n es) n (progress_of r.desk)) (sym sight)
-              (subst (λ (p : Progress). HasMade (limits_of w) (mine n go) n p) (sym progress) (own_made (limits_of w) (mine n go) n now (made n)))))
-              stood.made;
+              (subst (λ (p : Progress). HasMade (limits_of w) (mine n go) n p) (sym progress) (own_made (limits_of w) (mine n go) n now (made n)))));
         };
         unanswered = takes.unanswered;
         in_memory = takes.in_memory;
@@ -272,7 +271,7 @@ pub begins : (w : Words) (d : Desk) (racers : List Racer) → Stands w d → rac
 begins w d racers stands none = record {
   left = first_left w d stands;
   set_off = subst (AreSetOff w (seen d.pass) (progress_of d) 0) (sym none) (none_set_off w (seen d.pass) (progress_of d));
-  racers_are = subst (AreRacers w) (sym none) tt;
+  racers_are = subst (AreRacers w) (sym none) (λ k r below. absurd (omega (arith, below)));
 }
 
 pub goes_on : (w : Words) (first d d' : Desk) (k : ℕ) (racers racers' : List Racer) → Stands w first → k < (limits_of w).callers → IsSettingOff w first d k racers
@@ -284,5 +283,5 @@ goes_on w first d d' k racers racers' stands below at adds =
       left = next_left w go now d d' k adds.racer at.left adds.takes_over;
       set_off = subst (AreSetOff w go now (k + 1)) (sym adds.added)
           (one_set_off w go now k racers adds.racer at.set_off (racer_set_off w go now d d' k adds.racer below (stood_at_go w first stands) at.left adds.takes_over));
-      racers_are = subst (AreRacers w) (sym adds.added) (All-append _ racers (adds.racer ∷ []) at.racers_are (adds.takes_over.pass.sees.given_pass, tt));
+      racers_are = subst (AreRacers w) (sym adds.added) (All-push (λ (r : Racer). IsPassOf w r.desk.pass) racers adds.racer at.racers_are adds.takes_over.pass.sees.given_pass);
     }

@@ -1,5 +1,5 @@
 -- What a caller does in a line after `go`, and what the line says.
-use Rattle.std.specs.Prelude.{◌≡◌, ◌++◌, ◌&&◌, Bool, true, false, ⊥, Option, Some, None, List, [], ◌∷◌, All}
+use Rattle.std.specs.Prelude.{◌≡◌, ◌++◌, ◌&&◌, Bool, true, false, Option, Some, None, List, [], ◌∷◌, All}
 use Rattle.nio_base.specs.declared.limits.Limits.{Limits}
 use Rattle.nio_base.specs.declared.numbers.CallerNo.{CallerNo}
 use Rattle.nio_base.specs.declared.numbers.SelNo.{SelNo}
@@ -90,17 +90,18 @@ pub record Blocks (now : Progress) (s : SelNo) (acts : List Act) (said : Said) :
   pub says : BlockSays answer said.reply
   pub leaves : said.left ≡ after_block now s answer
 
+-- how the line goes on once the selector was looked up
+abbrev pub BlocksOnFound : Progress → SelNo → Option SelNo → List Act → Said → Type 0
+BlocksOnFound now s None acts said = (acts ≡ []) × (said ≡ record { reply = reply.NoSelector; left = now })
+BlocksOnFound now s (Some found) acts said = Blocks now s acts said
+
 pub record LooksAndBlocks (l : Limits) (now : Progress) (s : SelNo) (acts : List Act) (said : Said) : Type 0 where
   pub found : Option SelNo
   pub look : List Act
   pub rest : List Act
   pub parts : acts ≡ look ++ rest
   pub looks : Completes (find_selector_plan l s.0) look found
-  pub blocks : BlocksOnFound found
-  where
-    BlocksOnFound : Option SelNo → Type 0
-    BlocksOnFound None = (rest ≡ []) × (said ≡ record { reply = reply.NoSelector; left = now })
-    BlocksOnFound (Some x) = Blocks now s rest said
+  pub blocks : BlocksOnFound now s found rest said
 
 -- ---- the lines of a caller
 

@@ -1,5 +1,9 @@
+use Rattle.std.proofs.Common.{ℕ, length}
 use Rattle.nio_race.proofs.Gathering.{IsGathering}
 use Rattle.nio_race.proofs.gather.gather.Given as goal
 
-abbrev pub invariant-loop : goal.invariant-loop
-invariant-loop l = IsGathering l.w l.initial.p l.p l.initial.racers.items l.racers.items
+abbrev pub decreases-loop-racer : goal.decreases-loop-racer
+decreases-loop-racer l = goal.left-loop-racer l
+
+abbrev pub invariant-loop-racer : goal.invariant-loop-racer
+invariant-loop-racer l = IsGathering l.w l.initial.p l.p l.initial.racers.items l.racers.items

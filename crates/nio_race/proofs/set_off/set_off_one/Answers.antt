@@ -1,0 +1,29 @@
+use Rattle.std.proofs.Common.{false, refl}
+use Rattle.nio_sole.specs.declared.desk.Desk.{Desk}
+use Rattle.nio_race.proofs.SettingOff.{left_places, left_progress, moved_places, moved_progress}
+use Rattle.nio_race.proofs.set_off.set_off_one.Goals as goal
+
+pub returns-in-Ok-clause-ok : goal.returns-in-Ok-clause-ok
+returns-in-Ok-clause-ok c =
+    let w = c.args.w.now in
+    let d = c.args.d.now in
+    let n = c.args.number in
+    let d' : Desk = record { pass = c.hand_over.new.p; selections = c.move_selections.new.from; closings = c.move_closings.new.from } in
+    let own : Desk = record { pass = c.in-Ok.pass; selections = c.move_selections.new.to; closings = c.move_closings.new.to } in
+    let begun = c.move_selections.ensures in
+    let shut = c.move_closings.ensures in
+    let lens = (begun.from, begun.to, shut.from, shut.to) in
+    record {
+      racer = record { number = n; desk = own; sleeper = c.in_ok-sleeper.sleeper; replies = c.in_ok-replies.replies; lacks_memory = false };
+      takes_over = record {
+        number_is = refl;
+        pass = c.in-Ok.ensures;
+        places = left_places w d d' own n c.requires.places begun.moved shut.moved lens;
+        own_places = moved_places w d d' own n c.requires.places begun.moved shut.moved lens;
+        own = moved_progress w d d' own n c.requires.places begun.moved shut.moved lens;
+        others = left_progress w d d' own n c.requires.places begun.moved shut.moved lens;
+        unanswered = c.in_ok-replies.ensures.items;
+        in_memory = refl;
+      };
+      added = c.push_reserved.ensures.items;
+    }

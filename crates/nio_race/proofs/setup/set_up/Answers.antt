@@ -1,0 +1,15 @@
+use Rattle.std.proofs.Common.{◌<◌, sym, subst, arith}
+use Rattle.nio_words.specs.Passes.{IsPassOf}
+use Rattle.nio_words.specs.declared.words.Pass.{Pass}
+use Rattle.nio_race.proofs.SettingUp.{begins_set_up}
+use Rattle.nio_race.proofs.setup.set_up.Goals as goal
+
+pub make_lines-requires-clause-set_up : goal.make_lines-requires-clause-set_up
+make_lines-requires-clause-set_up c =
+    let opened = c.in_ok-desk.ensures in
+    begins_set_up c.args.w.now c.in_ok-desk.desk opened.stands opened.draws opened.idle opened.drawn
+
+pub join-requires-clause-other : goal.join-requires-clause-other
+join-requires-clause-other c =
+    let stands = c.in-Err.ensures.stands in
+    subst (λ (p : Pass). IsPassOf c.args.w.now p) (sym c.into_pass.ensures) (stands.ready (record { 0 = 0 }) (omega (arith, stands.fit.some_callers))).pass

@@ -1,1 +1,0 @@
-//! Running a race text.
