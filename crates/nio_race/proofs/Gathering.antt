@@ -1,11 +1,9 @@
 -- The passes of a race are joined one after the other.
-use Rattle.std.proofs.Common.{◌≡◌, List, [], ◌∷◌, ◌++◌, All, inl, inr, refl, sym, ap, ◌∙◌, subst, append_assoc, arith}
-use Rattle.nio_base.specs.declared.numbers.CallerNo.{CallerNo}
-use Rattle.nio_event.specs.Histories.{mine}
-use Rattle.std.proofs.lemmas.List.{append-nil}
-use Rattle.std.proofs.lemmas.List.Elements.{All-cons}
+use Rattle.std.proofs.Common.{◌≡◌, ℕ, ◌<◌, length, List, [], ◌∷◌, ◌++◌, All, inl, inr, refl, sym, ap, ◌∙◌, subst, append_assoc, arith}
+use Rattle.std.proofs.lemmas.List.{append-nil, get_or_append_left, length-append}
+use Rattle.std.proofs.lemmas.List.Elements.{All-cons, All-weaker}
 use Rattle.nio_words.proofs.Beginnings.{prefix_self, prefix_trans}
-use Rattle.nio_words.specs.Passes.{Holds, IsPassOf, seen}
+use Rattle.nio_words.specs.Passes.{IsPassOf, seen}
 use Rattle.nio_words.specs.Sharing.{Joins}
 use Rattle.nio_words.specs.declared.words.Pass.{Pass}
 use Rattle.nio_words.specs.declared.words.Words.{Words}
@@ -47,3 +45,28 @@ begins w p racers pass passes = record {
   each = λ k r below. absurd (omega (arith, below));
   passes = passes;
 }
+
+-- a racer more was joined, the last of those that were left
+pub goes_on : (w : Words) (before now now' : Pass) (racers left left' : List Racer) (r : Racer) → IsGathering w before now racers left → left ≡ left' ++ r ∷ []
+    → IsPassOf w now' → StandsIn now now' → StandsIn r.desk.pass now' → IsGathering w before now' racers left'
+goes_on w before now now' racers left left' r at is pass own other = record {
+  pass = pass;
+  own = stands_on before now now' at.own own;
+  joined = r ∷ at.joined;
+  parts = at.parts ∙ (ap (λ (rs : List Racer). rs ++ at.joined) is ∙ append_assoc left' (r ∷ []) at.joined);
+  each = All-cons (λ (x : Racer). StandsIn x.desk.pass now') r at.joined other
+      (All-weaker (λ (x : Racer). StandsIn x.desk.pass now) (λ (x : Racer). StandsIn x.desk.pass now') (λ x there. stands_on x.desk.pass now now' there own) at.joined at.each);
+  passes = λ k x below.
+      let more : k < length (left' ++ r ∷ []) = subst (λ (m : ℕ). k < m) (sym (length-append left' (r ∷ []))) (omega (arith, below)) in
+      subst (λ (y : Racer). IsPassOf w y.desk.pass) (get_or_append_left left' (r ∷ []) x k below)
+      (subst (AreRacers w) is at.passes k x more);
+}
+
+nothing_in : {A : Type 0} (xs : List A) → length xs ≡ 0 → xs ≡ []
+nothing_in [] none = refl
+nothing_in (x ∷ xs) none = absurd (omega (arith, none))
+
+-- once none is left, all are joined
+pub all_joined : (w : Words) (before now : Pass) (racers left : List Racer) → IsGathering w before now racers left → length left ≡ 0 → All (λ r. StandsIn r.desk.pass now) racers
+all_joined w before now racers left at none =
+    subst (All (λ (r : Racer). StandsIn r.desk.pass now)) (sym (at.parts ∙ ap (λ (rs : List Racer). rs ++ at.joined) (nothing_in left none))) at.each

@@ -1,9 +1,9 @@
 -- A race, put together from what each caller did.
-use Rattle.std.proofs.Common.{◌≡◌, ℕ, zero, suc, ◌+◌, ◌<◌, ◌≤◌, ◌==◌, Bool, true, false, if◌then◌else◌, IsFalse, List, [], ◌∷◌, ◌++◌, length, map, All, refl, sym, ap, ◌∙◌, subst, ⊎_elim, eqb-true, append_assoc, arith}
+use Rattle.std.proofs.Common.{◌≡◌, ℕ, zero, suc, ◌<◌, ◌≤◌, ◌==◌, Bool, true, false, if◌then◌else◌, IsFalse, List, [], ◌∷◌, ◌++◌, length, map, All, refl, sym, ap, ◌∙◌, subst, ⊎_elim, eqb-true, append_assoc, arith}
 use Rattle.std.proofs.Math.Logic.{∥∥₁_map, ∥∥₁_map₂}
 use Rattle.std.proofs.lemmas.Bool.{cases_lt}
 use Rattle.std.proofs.lemmas.Grind.{merely}
-use Rattle.std.proofs.lemmas.List.{append-nil, get_or_past, get_or_push, length-append}
+use Rattle.std.proofs.lemmas.List.{get_or_past}
 use Rattle.std.specs.List.{slice_index_or}
 use Rattle.std.specs.Prelude.{filter}
 use mathlib.Core.List.{IsPrefix}
@@ -11,9 +11,7 @@ use Rattle.nio_base.specs.Limits.{IsFit}
 use Rattle.nio_base.specs.declared.limits.Limits.{Limits}
 use Rattle.nio_base.specs.declared.numbers.CallerNo.{CallerNo}
 use Rattle.nio_event.proofs.Legal.{legal_beginning}
-use Rattle.nio_event.specs.Conditions.{IsCaller}
 use Rattle.nio_event.specs.Histories.{IsLegal, mine, is_by}
-use Rattle.nio_event.specs.declared.act.Act.{Act}
 use Rattle.nio_event.specs.declared.call.ScriptCall.{ScriptCall}
 use Rattle.nio_event.specs.declared.event.Event.{Event}
 use Rattle.nio_event.specs.declared.reply.Reply.{Reply}
@@ -24,7 +22,6 @@ use Rattle.nio_orderly.specs.Owed.{Owed}
 use Rattle.nio_race_text.specs.declared.call.RaceLine.{RaceLine}
 use Rattle.nio_serial.specs.Documented.{Progress}
 use Rattle.nio_sole.proofs.Beginnings.{made_whole}
-use Rattle.nio_sole.specs.Made.{HasMade}
 use Rattle.nio_sole.specs.Stands.{progress_of}
 use Rattle.nio_sole.specs.declared.desk.Desk.{Desk}
 use Rattle.nio_words.proofs.Beginnings.{prefix_trans}
@@ -32,8 +29,8 @@ use Rattle.nio_words.specs.Passes.{Holds, IsPassOf, IsReady, limits_of, seen}
 use Rattle.nio_words.specs.declared.words.Pass.{Pass}
 use Rattle.nio_words.specs.declared.words.Words.{Words}
 use Rattle.nio_race.specs.Gathering.{StandsIn}
-use Rattle.nio_race.specs.Race.{HasRun, IsRace, IsSetUp, calls_by, own_progress, strange_replies}
-use Rattle.nio_race.specs.Racers.{HaveRaced, HasRaced, RanLines, replies_by}
+use Rattle.nio_race.specs.Race.{HasRun, IsRace, calls_by, own_progress, strange_replies}
+use Rattle.nio_race.specs.Racers.{HaveRaced, HasRaced, replies_by}
 use Rattle.nio_race.specs.Runs.{AreRaceLines}
 use Rattle.nio_race.specs.SetOff.{AreSetOff, IsSetOffAt}
 use Rattle.nio_race.specs.Setup.{HasSetUp}

@@ -1,5 +1,5 @@
 -- What a caller has in progress goes to its racer.
-use Rattle.std.proofs.Common.{◌≡◌, ◌≢◌, ℕ, suc, ◌+◌, ◌<◌, ◌≤◌, ◌==◌, Bool, true, false, if◌then◌else◌, Option, Some, None, option_map, List, [], ◌∷◌, ◌++◌, length, vec_len, IsFalse, refl, sym, ap, ◌∙◌, subst, ⊎_elim, eqb-true, eq-eqb, arith}
+use Rattle.std.proofs.Common.{◌≡◌, ◌≢◌, ℕ, ◌+◌, ◌<◌, ◌≤◌, ◌==◌, Bool, true, false, if◌then◌else◌, Option, Some, None, option_map, List, [], ◌∷◌, ◌++◌, length, vec_len, IsFalse, refl, sym, ap, ◌∙◌, subst, ⊎_elim, eqb-true, arith}
 use Rattle.std.proofs.Math.Bool.{Bool-set}
 use Rattle.std.proofs.Math.Logic.{∥∥₁_elim, ∥∥₁_map}
 use Rattle.std.proofs.lemmas.Bool.{cases_lt}
@@ -7,20 +7,18 @@ use Rattle.std.proofs.lemmas.List.Elements.{All-push}
 use Rattle.std.proofs.lemmas.List.{get_or_past, get_or_push, get_or_append_left, length-append}
 use Rattle.nio_base.specs.declared.limits.Limits.{Limits}
 use Rattle.nio_base.specs.declared.numbers.CallerNo.{CallerNo}
-use Rattle.nio_base.specs.declared.numbers.SelNo.{SelNo}
 use Rattle.nio_event.specs.Conditions.{IsCaller, has_pin}
 use Rattle.nio_event.specs.Histories.{mine, state_after}
 use Rattle.nio_event.specs.declared.act.Act.{Act}
 use Rattle.nio_event.specs.declared.event.Event.{Event}
 use Rattle.nio_plain.specs.Seq.Selections.{is_caller}
 use Rattle.nio_serial.specs.Documented.{Progress, Selecting}
-use Rattle.nio_serial.specs.Lines.{if_own, own_selection}
+use Rattle.nio_serial.specs.Lines.{if_own}
 use Rattle.nio_sole.specs.Made.{HasMade}
-use Rattle.nio_sole.specs.Stands.{slot, selecting_of, selections_of, closings_of, progress_of, HasPlaces, Stands}
+use Rattle.nio_sole.specs.Stands.{slot, selecting_of, progress_of, HasPlaces, Stands}
 use Rattle.nio_sole.specs.declared.desk.Begun.{Begun}
 use Rattle.nio_sole.specs.declared.desk.Desk.{Desk}
 use Rattle.nio_sole.specs.declared.desk.Shut.{Shut}
-use Rattle.nio_steps.specs.SelectCalls.{Selection}
 use Rattle.nio_words.specs.Passes.{IsPassOf, limits_of, seen}
 use Rattle.nio_words.specs.declared.words.Words.{Words}
 use Rattle.nio_race.specs.Race.{own_progress, own_selection_of}

@@ -1,10 +1,9 @@
 -- The setup's lines are made one after the other.
-use Rattle.std.proofs.Common.{◌≡◌, ℕ, zero, suc, ◌+◌, ◌<◌, List, [], ◌∷◌, ◌++◌, take, drop, length, map, IsTrue, Result, Ok, Err, false, refl, sym, ap, ◌∙◌, subst, append_assoc}
+use Rattle.std.proofs.Common.{◌≡◌, ℕ, zero, suc, ◌+◌, List, [], ◌∷◌, ◌++◌, take, drop, map, Ok, false, refl, sym, ap, ◌∙◌, subst, append_assoc}
 use Rattle.std.proofs.lemmas.List.{append-nil}
 use Rattle.nio_base.specs.declared.limits.Limits.{Limits}
-use Rattle.nio_base.specs.declared.numbers.CallerNo.{CallerNo}
 use Rattle.nio_event.proofs.Stays.{facts_are_permanent}
-use Rattle.nio_event.specs.Histories.{state_after, event_of}
+use Rattle.nio_event.specs.Histories.{event_of}
 use Rattle.nio_event.specs.Permanent.{caller_drawn}
 use Rattle.nio_event.specs.Replies.{history_line}
 use Rattle.nio_event.specs.declared.act.Act.TheVariants.{DrawBit}
@@ -22,7 +21,6 @@ use Rattle.nio_sole.specs.Stands.{Stands, progress_of}
 use Rattle.nio_sole.specs.declared.desk.Desk.{Desk}
 use Rattle.nio_words.specs.Passes.{limits_of, seen, state_seen}
 use Rattle.nio_words.specs.declared.words.Words.{Words}
-use Rattle.nio_race.specs.Race.{IsSetUp}
 use Rattle.nio_race.specs.Setup.{HasSetUp, SaysAndWrites}
 
 -- ---- entries and one more

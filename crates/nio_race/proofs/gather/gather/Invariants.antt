@@ -1,4 +1,3 @@
-use Rattle.std.proofs.Common.{ℕ, length}
 use Rattle.nio_race.proofs.Gathering.{IsGathering}
 use Rattle.nio_race.proofs.gather.gather.Given as goal
 

@@ -1,4 +1,4 @@
-use Rattle.std.proofs.Common.{◌≡◌, ◌≤◌}
+use Rattle.std.proofs.Common.{◌≡◌}
 use Rattle.std.specs.Prelude.{vec_len}
 use Rattle.nio_words.specs.Passes.{limits_of}
 use Rattle.nio_race.specs.SetOff.{MovedBelow, own_shut, other_shut}

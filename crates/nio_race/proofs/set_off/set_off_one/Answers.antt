@@ -1,6 +1,7 @@
-use Rattle.std.proofs.Common.{false, refl}
+use Rattle.std.proofs.Common.{List, [], ◌∷◌, ◌++◌, false, refl, ap, ◌∙◌}
 use Rattle.nio_sole.specs.declared.desk.Desk.{Desk}
 use Rattle.nio_race.proofs.SettingOff.{left_places, left_progress, moved_places, moved_progress}
+use Rattle.nio_race.specs.declared.racer.Racer.{Racer}
 use Rattle.nio_race.proofs.set_off.set_off_one.Goals as goal
 
 pub returns-in-Ok-clause-ok : goal.returns-in-Ok-clause-ok
@@ -12,18 +13,18 @@ returns-in-Ok-clause-ok c =
     let own : Desk = record { pass = c.in-Ok.pass; selections = c.move_selections.new.to; closings = c.move_closings.new.to } in
     let begun = c.move_selections.ensures in
     let shut = c.move_closings.ensures in
-    let lens = (begun.from, begun.to, shut.from, shut.to) in
+    let racer : Racer = record { number = n; desk = own; sleeper = c.in_ok-sleeper.sleeper; replies = c.in_ok-replies.replies; lacks_memory = false } in
     record {
-      racer = record { number = n; desk = own; sleeper = c.in_ok-sleeper.sleeper; replies = c.in_ok-replies.replies; lacks_memory = false };
+      racer = racer;
       takes_over = record {
         number_is = refl;
         pass = c.in-Ok.ensures;
-        places = left_places w d d' own n c.requires.places begun.moved shut.moved lens;
-        own_places = moved_places w d d' own n c.requires.places begun.moved shut.moved lens;
-        own = moved_progress w d d' own n c.requires.places begun.moved shut.moved lens;
-        others = left_progress w d d' own n c.requires.places begun.moved shut.moved lens;
+        places = left_places w d d' own n c.requires.places begun.moved shut.moved (begun.from, begun.to, shut.from, shut.to);
+        own_places = moved_places w d d' own n c.requires.places begun.moved shut.moved (begun.from, begun.to, shut.from, shut.to);
+        own = moved_progress w d d' own n c.requires.places begun.moved shut.moved (begun.from, begun.to, shut.from, shut.to);
+        others = left_progress w d d' own n c.requires.places begun.moved shut.moved (begun.from, begun.to, shut.from, shut.to);
         unanswered = c.in_ok-replies.ensures.items;
         in_memory = refl;
       };
-      added = c.push_reserved.ensures.items;
+      added = c.push_reserved.ensures.items ∙ ap (λ (rs : List Racer). rs ++ racer ∷ []) c.reserve.ensures.items;
     }

@@ -1,4 +1,4 @@
-use Rattle.std.proofs.Common.{◌<◌, sym, subst, arith}
+use Rattle.std.proofs.Common.{sym, subst, arith}
 use Rattle.nio_words.specs.Passes.{IsPassOf}
 use Rattle.nio_words.specs.declared.words.Pass.{Pass}
 use Rattle.nio_race.proofs.SettingUp.{begins_set_up}
