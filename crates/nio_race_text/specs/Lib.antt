@@ -1,2 +1,0 @@
-pub mod RaceLines
-pub mod RaceOutput
