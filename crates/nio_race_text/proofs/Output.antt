@@ -13,30 +13,33 @@ use Rattle.nio_event.specs.declared.reply.Reply.{Reply}
 use Rattle.nio_race_text.specs.RaceOutput.{race_line_text}
 use Rattle.nio_race_text.specs.declared.call.RaceCall.TheVariants.{Script}
 
--- Two words and their spaces, in either order, have as many bytes.
-module _ (number : ℕ) (caller : CallerNo) (call : Call) (reply : Reply) where
-  abbrev pub head : List ℕ
-  head = caller_word caller ++ codes " " ++ decimal number ++ codes " "
+-- The words of a caller and of a number with their spaces, in either order, and what follows.
+module _ (caller number space rest arrow reply newline : List ℕ) where
+  swapped_size : length (caller ++ space ++ number ++ space) ≡ length (number ++ space ++ (caller ++ space))
+  swapped_size = simp length-append (omega arith)
 
-  abbrev other : List ℕ
-  other = decimal number ++ codes " " ++ (caller_word caller ++ codes " ")
+  number_first : number ++ space ++ (caller ++ (space ++ rest)) ++ arrow ++ reply ++ newline
+      ≡ number ++ space ++ (caller ++ space) ++ (rest ++ arrow ++ reply ++ newline)
+  number_first = simp append_assoc refl
 
-  abbrev tail : List ℕ
-  tail = join_with_byte 32 (call_words call) ++ codes " -> " ++ reply_text reply ++ 10 ∷ []
+  caller_first : caller ++ space ++ number ++ space ++ (rest ++ arrow ++ reply ++ newline)
+      ≡ caller ++ space ++ number ++ space ++ rest ++ arrow ++ reply ++ newline
+  caller_first = simp append_assoc refl
 
-  as_many : length head ≡ length other
-  as_many = omega (arith, length-append {A = ℕ})
+  behind_swapped : drop (length (caller ++ space ++ number ++ space)) (number ++ space ++ (caller ++ (space ++ rest)) ++ arrow ++ reply ++ newline)
+      ≡ rest ++ arrow ++ reply ++ newline
+  behind_swapped =
+      ap (λ n. drop n (number ++ space ++ (caller ++ (space ++ rest)) ++ arrow ++ reply ++ newline)) swapped_size
+      ∙ ap (drop (length (number ++ space ++ (caller ++ space)))) number_first
+      ∙ drop-append_seam (number ++ space ++ (caller ++ space)) (rest ++ arrow ++ reply ++ newline)
 
-  history_parts : history_line number caller call reply ≡ other ++ tail
-  history_parts = simp append_assoc refl
-
-  race_parts : head ++ tail ≡ race_line_text caller number (Script call) reply
-  race_parts = simp append_assoc refl
-
-  -- the history's line from its third word on, behind the first two exchanged
-  pub exchanged : (line history rest : List ℕ) (size : ℕ) → line ≡ head → history ≡ history_line number caller call reply
-      → size ≡ length line → rest ≡ drop size history → line ++ rest ≡ race_line_text caller number (Script call) reply
-  exchanged line history rest size e f g h =
-      ap (λ l. l ++ rest) e
-      ∙ ap (λ r. head ++ r) (h ∙ ap (drop size) (f ∙ history_parts) ∙ ap (λ n. drop n (other ++ tail)) (g ∙ ap length e ∙ as_many) ∙ drop-append_seam other tail)
-      ∙ race_parts
+-- the history's line from its third word on, behind the first two exchanged
+pub exchanged : (number : ℕ) (caller : CallerNo) (call : Call) (reply : Reply) (line history rest : List ℕ) (size : ℕ)
+    → line ≡ caller_word caller ++ codes " " ++ decimal number ++ codes " " → history ≡ history_line number caller call reply
+    → size ≡ length line → rest ≡ drop size history → line ++ rest ≡ race_line_text caller number (Script call) reply
+exchanged number caller call reply line history rest size e f g h =
+    let words = join_with_byte 32 (call_words call) in
+    let behind = behind_swapped (caller_word caller) (decimal number) (codes " ") words (codes " -> ") (reply_text reply) (10 ∷ []) in
+    ap (λ l. l ++ rest) e
+    ∙ ap (λ r. caller_word caller ++ codes " " ++ decimal number ++ codes " " ++ r) (h ∙ ap (drop size) f ∙ ap (λ n. drop n (history_line number caller call reply)) (g ∙ ap length e) ∙ behind)
+    ∙ caller_first (caller_word caller) (decimal number) (codes " ") words (codes " -> ") (reply_text reply) (10 ∷ [])

@@ -29,7 +29,7 @@ returns-in_err-race-clause-bad c text n e is =
     let named : p.0 ≡ BadLine n = cc in
     let stops = c.in_err-race.ensures.bad n (ap Err (sym p.2 ∙ named)) in
     bad_race (e ∙ c.in-Some.ensures.parts) c.in_ok-setup-2.ensures.ok
-    (ap (λ k. k + 1) (c.len.ensures ∙ sym (length-map c.in-Some.front.now (λ r. r.now)))) stops
+    (ap (λ k. k + 1) (sym (length-map c.in-Some.front.now (λ r. r.now)))) stops
 
 pub returns-clause-ok : goal.returns-clause-ok
 returns-clause-ok c =
