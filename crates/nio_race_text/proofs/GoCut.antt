@@ -2,7 +2,7 @@
 use Rattle.std.proofs.Common.{◌≡◌, ◌≢◌, ℕ, ◌+◌, ◌-◌, ◌<◌, List, [], ◌∷◌, ◌++◌, get_or, length, drop, take, map, sym, ap, ◌∙◌, arith, All}
 use Rattle.std.specs.Borrow.{Bor}
 use Rattle.std.specs.List.{AllWithin, HoldsAt}
-use Rattle.std.proofs.lemmas.List.{drop-map, get_or-take, length-drop, length-map, length-take, take-map, take_all}
+use Rattle.std.proofs.lemmas.List.{drop-map, get_or-take, length-drop, length-take, take-map, take_all}
 use Rattle.std.proofs.lemmas.List.Elements.{All-from_all_within, All-map}
 use Rattle.nio_race_text.specs.RaceText.{go_line}
 use Rattle.nio_race_text.specs.Reading.{AreGoless, IsCutAtGo}

@@ -1,5 +1,5 @@
 -- A line behind `go` is one call of one caller; and a caller's line is neither blank nor `go`.
-use Rattle.std.proofs.Common.{◌≡◌, ◌≢◌, ℕ, ◌<◌, ◌^◌, ◌==◌, List, [], ◌∷◌, ◌++◌, drop, get_or, codes, None, inl, inr, refl, sym, ap, ◌∙◌, arith, All}
+use Rattle.std.proofs.Common.{◌≡◌, ◌≢◌, ℕ, ◌<◌, ◌^◌, ◌==◌, List, [], ◌∷◌, ◌++◌, drop, get_or, codes, None, inl, inr, refl, sym, ap, ◌∙◌, arith}
 use Rattle.std.specs.Fmt.{decimal}
 use Rattle.std.specs.List.{join_with_byte, slice_split}
 use Rattle.std.proofs.lemmas.Fmt.{decimal_injective}
@@ -9,7 +9,7 @@ use Rattle.nio_base.specs.declared.numbers.CallerNo.{CallerNo}
 use Rattle.nio_base.specs.declared.numbers.SelNo.{SelNo}
 use Rattle.nio_event.specs.Calls.{IsBlank, IsLine, call_words}
 use Rattle.nio_event.specs.CallWords.{call_word, call_word_text}
-use Rattle.nio_event.specs.Words.{caller_word, selector_word}
+use Rattle.nio_event.specs.Words.{caller_word}
 use Rattle.nio_event.specs.declared.call.Call.{Call}
 use Rattle.nio_event.proofs.CallWordTable.{reads_call_word}
 use Rattle.nio_event.proofs.NameWords.{decimal_lacks}

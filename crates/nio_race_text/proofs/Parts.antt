@@ -1,12 +1,10 @@
 -- How the parts of a race text grow by a line, and where they stop.
-use Rattle.std.proofs.Common.{◌≡◌, ℕ, ◌+◌, List, [], ◌∷◌, ◌++◌, length, drop, take, ◌∙◌, arith}
-use Rattle.nio_base.specs.declared.numbers.CallerNo.{CallerNo}
+use Rattle.std.proofs.Common.{◌≡◌, ℕ, ◌+◌, List, [], ◌∷◌, ◌++◌, drop, take, arith}
 use Rattle.nio_event.specs.Calls.{IsBlank}
 use Rattle.nio_event.specs.Script as script
 use Rattle.nio_event.specs.declared.call.ScriptCall.{ScriptCall}
 use Rattle.nio_race_text.specs.RaceLines.{IsRaceLine, AreRaceLines, no_lines, blank_line, race_line}
 use Rattle.nio_race_text.specs.Reading.{IsNoLine, StopsAt}
-use Rattle.nio_race_text.specs.declared.call.RaceCall.{RaceCall}
 use Rattle.nio_race_text.specs.declared.call.RaceLine.{RaceLine}
 use Rattle.nio_script.proofs.Lines.{IsNext, parts, number_of_next}
 

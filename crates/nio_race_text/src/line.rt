@@ -20,14 +20,20 @@ pub fn read_race_call(alloc: Global, line: &[u8]) -> Result<Option<RaceLine>, Al
     match parse_line(alloc, line) {
         Ok(Parsed::Line { caller, call }) => {
             if may_race(&call) {
-                Ok(Some(RaceLine { caller, call: RaceCall::Script(call) }))
+                Ok(Some(RaceLine {
+                    caller,
+                    call: RaceCall::Script(call),
+                }))
             } else {
                 Ok(None)
             }
         }
         Ok(Parsed::Blank) => Ok(None),
         Err(ParseError::Malformed) => match read_block(line) {
-            Some((caller, selector)) => Ok(Some(RaceLine { caller, call: RaceCall::Block(selector) })),
+            Some((caller, selector)) => Ok(Some(RaceLine {
+                caller,
+                call: RaceCall::Block(selector),
+            })),
             None => Ok(None),
         },
         Err(ParseError::Memory) => Err(AllocError),

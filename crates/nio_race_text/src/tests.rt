@@ -20,14 +20,34 @@ fn bad(line: u64) -> Result<(usize, usize), ScriptError> {
 fn race_texts(rt: HostRuntime) {
     let rows = [
         ("no bytes", "", Ok((0, 0))),
-        ("a script alone", "t1 selector\n#\nt1 begin s0 now", Ok((2, 0))),
+        (
+            "a script alone",
+            "t1 selector\n#\nt1 begin s0 now",
+            Ok((2, 0)),
+        ),
         ("go alone", "go", Ok((0, 0))),
-        ("blank lines in both parts", "\n#\ngo\n\n# go\nt1 wakeup s0\n", Ok((0, 1))),
-        ("a script's calls behind go", "t1 selector\ngo\nt2 begin s0 wait\nt2 told s0\n", Ok((1, 2))),
-        ("the largest numbers", "go\nt63 block s4294967295", Ok((0, 1))),
+        (
+            "blank lines in both parts",
+            "\n#\ngo\n\n# go\nt1 wakeup s0\n",
+            Ok((0, 1)),
+        ),
+        (
+            "a script's calls behind go",
+            "t1 selector\ngo\nt2 begin s0 wait\nt2 told s0\n",
+            Ok((1, 2)),
+        ),
+        (
+            "the largest numbers",
+            "go\nt63 block s4294967295",
+            Ok((0, 1)),
+        ),
         ("block before go", "t1 selector\nt1 block s0\ngo\n", bad(2)),
         ("a second go", "go\nt1 wakeup s0\n\ngo\n", bad(4)),
-        ("a selector behind go", "t1 selector\ngo\nt1 selector\n", bad(3)),
+        (
+            "a selector behind go",
+            "t1 selector\ngo\nt1 selector\n",
+            bad(3),
+        ),
         ("a channel behind go", "go\nt1 channel source\n", bad(2)),
         ("go and a space", "go \n", bad(1)),
         ("bad lines in both parts", "#\nt1\ngo\nt1\n", bad(2)),
@@ -71,11 +91,30 @@ fn lines_of_the_output(rt: HostRuntime) -> Result<(), Fail> {
     let alloc = rt.alloc();
     let register = Call::Register(SelNo(0), ChanNo(1), Ops::of(1), Some(7));
     let rows = [
-        (CallerNo(1), 1, RaceCall::Script(Call::Wakeup(SelNo(0))), Reply::Ok, "t1 1 wakeup s0 -> ok\n"),
-        (CallerNo(12), 345, RaceCall::Script(register), Reply::Key(KeyId { index: 2, serial: 1 }),
-            "t12 345 register s0 c1 1 7 -> k2.1\n"),
-        (CallerNo(63), 18446744073709551615, RaceCall::Block(SelNo(4294967295)), Reply::Selected(1, Why::Ready),
-            "t63 18446744073709551615 block s4294967295 -> selected 1 ready\n"),
+        (
+            CallerNo(1),
+            1,
+            RaceCall::Script(Call::Wakeup(SelNo(0))),
+            Reply::Ok,
+            "t1 1 wakeup s0 -> ok\n",
+        ),
+        (
+            CallerNo(12),
+            345,
+            RaceCall::Script(register),
+            Reply::Key(KeyId {
+                index: 2,
+                serial: 1,
+            }),
+            "t12 345 register s0 c1 1 7 -> k2.1\n",
+        ),
+        (
+            CallerNo(63),
+            18446744073709551615,
+            RaceCall::Block(SelNo(4294967295)),
+            Reply::Selected(1, Why::Ready),
+            "t63 18446744073709551615 block s4294967295 -> selected 1 ready\n",
+        ),
     ];
     for (caller, number, call, reply, expected) in &rows {
         let line = print_race_line(alloc, *caller, *number, call, reply)?;

@@ -71,7 +71,10 @@ fn read_parts(alloc: Global, lines: &[&[u8]]) -> Result<RaceText, ScriptError>
 {
     let Some((front, back)) = cut_at_go(lines) else {
         let setup = read_setup(alloc, lines)?;
-        return Ok(RaceText { setup, race: Vec::new(alloc) });
+        return Ok(RaceText {
+            setup,
+            race: Vec::new(alloc),
+        });
     };
     let setup = read_setup(alloc, front)?;
     let race = read_race(alloc, back, front.len() as u64 + 1)?;

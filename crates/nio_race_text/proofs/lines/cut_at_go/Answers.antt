@@ -1,4 +1,4 @@
-use Rattle.std.proofs.Common.{◌≡◌, ◌≢◌, None, Some, rules, tests}
+use Rattle.std.proofs.Common.{◌≡◌, ◌≢◌, rules, tests}
 use Rattle.std.proofs.lemmas.Iterator.{IsFirst-from_position, YieldsList-from_slice}
 use Rattle.nio_race_text.specs.RaceText.{go_line}
 use Rattle.nio_race_text.proofs.GoCut.{all_other, cut_here}

@@ -1,4 +1,4 @@
-use Rattle.std.proofs.Common.{◌≡◌, Err, map, refl, sym, ◌∙◌, ap, subst, arith}
+use Rattle.std.proofs.Common.{◌≡◌, Err, map, sym, ◌∙◌, ap, subst, arith}
 use Rattle.std.proofs.lemmas.List.{length-map, take_all}
 use Rattle.std.proofs.lemmas.Result.{err_from_is_err_and}
 use Rattle.nio_race_text.specs.RaceLines.{AreRaceLines, no_lines}
