@@ -1,5 +1,5 @@
 -- A text is a race text of one setup and one race, or has one first bad line, and not both.
-use Rattle.std.proofs.Common.{◌≡◌, ◌≢◌, ℕ, ◌+◌, List, [], ◌∷◌, ◌++◌, length, Result, Ok, Err, IfOk, ◌⊎◌, inl, inr, refl, sym, ap, ◌∙◌, subst, append_assoc, length-append, arith}
+use Rattle.std.proofs.Common.{◌≡◌, ◌≢◌, ℕ, ◌+◌, List, [], ◌∷◌, ◌++◌, length, Result, Ok, Err, IfOk, ◌⊎◌, ◌↔◌, inl, inr, refl, sym, ap, ◌∙◌, subst, append_assoc, length-append, arith}
 use Rattle.std.specs.Prelude.{MatchResult}
 use Rattle.std.proofs.lemmas.List.Elements.{All-head, All-tail}
 use Rattle.nio_base.specs.declared.numbers.CallerNo.{CallerNo}
@@ -10,13 +10,15 @@ use Rattle.nio_event.specs.declared.call.Call.{Call}
 use Rattle.nio_event.specs.declared.call.ScriptCall.{ScriptCall}
 use Rattle.nio_event.proofs.OneReading.{line_one}
 use Rattle.nio_race_text.specs.RaceLines.{AreRaceLines, no_lines, blank_line, race_line}
-use Rattle.nio_race_text.specs.RaceText.{RaceCalls, AreRaceText, IsRaceText, IsFirstBadRace, setup_alone, with_go, go_line}
+use Rattle.nio_race_text.specs.RaceText.{RaceCalls, AreRaceText, IsRaceText, AreSomeRaceText, IsFirstBadRace, IsInRace, IsInSetup, setup_alone, with_go, go_line}
 use Rattle.nio_race_text.specs.Reading.{AreGoless, StopsAt}
 use Rattle.nio_race_text.specs.declared.call.RaceLine.{RaceLine}
 use Rattle.nio_race_text.proofs.OneLine.{line_full, line_not_go, go_full, race_one}
+use Rattle.nio_race_text.proofs.Parts.{AreRaceLines-append, AreRaceLines-behind}
 use Rattle.nio_script.specs.declared.script.ScriptError.{ScriptError}
 use Rattle.nio_script.specs.declared.script.ScriptError.TheVariants.{BadLine, Memory}
 use Rattle.nio_script.proofs.EntryLemmas.{same_line}
+use Rattle.nio_script.proofs.FirstBad.{AreCalls-append}
 use Rattle.nio_script.proofs.FirstBreak.{IsBreak, unbroken, one_break}
 use Rattle.nio_script.proofs.Lines.{only_memory}
 
@@ -101,10 +103,7 @@ race_front (x ∷ xs) ys (blank_line b rest) = let front = race_front xs ys rest
 race_front (x ∷ xs) ys (race_line {caller = caller} {c = c} is rest) =
     let front = race_front xs ys rest in (record { caller = caller; call = c } ∷ front.0, race_line is front.1)
 
-abbrev IsSomeRace : List (List ℕ) → Type 0
-IsSomeRace lines = (setup : List ScriptCall) × (race : List RaceLine) × AreRaceText lines setup race
-
-front_of : (xs ys : List (List ℕ)) {setup : List ScriptCall} {race : List RaceLine} → Steps (xs ++ ys) setup race → IsSomeRace xs
+front_of : (xs ys : List (List ℕ)) {setup : List ScriptCall} {race : List RaceLine} → Steps (xs ++ ys) setup race → AreSomeRaceText xs
 front_of [] ys steps = ([], [], setup_alone script.no_lines)
 front_of (x ∷ xs) ys (blank b rest) = let front = front_of xs ys rest in (front.0, front.1, blank_first b front.2)
 front_of (x ∷ xs) ys (call {caller = caller} {c = c} is rest) =
@@ -113,25 +112,24 @@ front_of (x ∷ xs) ys (go e are) = let front = race_front xs ys are in ([], fro
 
 -- ---- the first bad line
 
-break_of : (text : List ℕ) (n : ℕ) → IsFirstBadRace text n → IsBreak IsSomeRace (lines_of text) n
+break_of : (text : List ℕ) (n : ℕ) → IsFirstBadRace text n → IsBreak AreSomeRaceText (lines_of text) n
 break_of text n bad = record {
   item = bad.line;
   before = bad.before;
   after = bad.after;
   parts = bad.lines;
   number = bad.number;
-  good = (bad.setup, bad.race, bad.good);
+  good = bad.good;
   bad = λ rest some.
       let whole = subst (λ ls. Steps ls some.0 some.1) (sym (append_assoc bad.before (bad.line ∷ []) rest)) (steps_of some.2) in
-      let front = front_of (bad.before ++ bad.line ∷ []) rest whole in
-      bad.bad front.0 front.1 front.2;
+      bad.bad (front_of (bad.before ++ bad.line ∷ []) rest whole);
 }
 
 pub race_not_bad : (text : List ℕ) (setup : List ScriptCall) (race : List RaceLine) (n : ℕ) → IsRaceText text setup race → IsFirstBadRace text n → ⊥
-race_not_bad text setup race n is bad = unbroken IsSomeRace (lines_of text) n (setup, race, is) (break_of text n bad)
+race_not_bad text setup race n is bad = unbroken AreSomeRaceText (lines_of text) n (setup, race, is) (break_of text n bad)
 
 pub first_bad_race_one : (text : List ℕ) (m n : ℕ) → IsFirstBadRace text m → IsFirstBadRace text n → m ≡ n
-first_bad_race_one text m n x y = one_break IsSomeRace (lines_of text) m n (break_of text m x) (break_of text n y)
+first_bad_race_one text m n x y = one_break AreSomeRaceText (lines_of text) m n (break_of text m x) (break_of text n y)
 
 -- ---- where the two parts stop
 
@@ -163,14 +161,12 @@ bad_setup {front = front} rest e goless stops = record {
   line = stops.line;
   before = stops.before;
   after = stops.after ++ rest;
-  setup = stops.calls;
-  race = [];
   lines = e ∙ ap (λ xs. xs ++ rest) stops.parts ∙ append_assoc stops.before (stops.line ∷ stops.after) rest;
   number = omega (arith, stops.number);
-  good = setup_alone stops.good;
-  bad = λ calls others are.
+  good = (stops.calls, [], setup_alone stops.good);
+  bad = λ some.
       let parts = stops.parts ∙ sym (append_assoc stops.before (stops.line ∷ []) stops.after) in
-      stops.bad calls (setup_of stops.after (subst AreGoless parts goless) (steps_of are));
+      stops.bad some.0 (setup_of stops.after (subst AreGoless parts goless) (steps_of some.2));
 }
 
 -- the first bad line stands in the race
@@ -181,15 +177,61 @@ bad_race {front = front} {setup = setup} e are many stops = record {
   line = stops.line;
   before = front ++ go_line ∷ stops.before;
   after = stops.after;
-  setup = setup;
-  race = stops.calls;
   lines = e ∙ ap (λ xs. front ++ go_line ∷ xs) stops.parts ∙ sym (append_assoc front (go_line ∷ stops.before) (stops.line ∷ stops.after));
   number = omega (arith, length-append front (go_line ∷ stops.before), stops.number, many);
-  good = with_go are stops.good;
-  bad = λ calls others all.
+  good = (setup, stops.calls, with_go are stops.good);
+  bad = λ some.
       let parts = append_assoc front (go_line ∷ stops.before) (stops.line ∷ []) in
-      stops.bad others (race_of are (subst (λ ls. Steps ls calls others) parts (steps_of all)));
+      stops.bad some.1 (race_of are (subst (λ ls. Steps ls some.0 some.1) parts (steps_of some.2)));
 }
+
+-- ---- the line behind some
+
+last_of_setup : {before : List (List ℕ)} {line : List ℕ} {setup calls : List ScriptCall} {race : List RaceLine}
+    → AreCalls before setup → Steps (before ++ line ∷ []) calls race → IsInSetup line
+last_of_setup script.no_lines (blank b more) = inl (script.is_blank b)
+last_of_setup script.no_lines (call {caller = caller} {c = c} is more) = inl (script.is_call caller c is)
+last_of_setup script.no_lines (go e are) = inr e
+last_of_setup (script.blank_line b rest) (blank c more) = last_of_setup rest more
+last_of_setup (script.blank_line b rest) (call is more) = last_of_setup rest more
+last_of_setup (script.blank_line b rest) (go e are) = absurd (go_full e b)
+last_of_setup (script.call_line is rest) (blank b more) = last_of_setup rest more
+last_of_setup (script.call_line is rest) (call same more) = last_of_setup rest more
+last_of_setup (script.call_line is rest) (go e are) = absurd (line_not_go is e)
+
+pub behind_setup : (before : List (List ℕ)) (line : List ℕ) (setup : List ScriptCall) → AreCalls before setup
+    → AreSomeRaceText (before ++ line ∷ []) ↔ IsInSetup line
+behind_setup before line setup are = (λ some. last_of_setup are (steps_of some.2), more)
+  where
+    more : IsInSetup line → AreSomeRaceText (before ++ line ∷ [])
+    more (inl (script.is_blank b)) = (setup ++ [], [], setup_alone (AreCalls-append are (script.blank_line b script.no_lines)))
+    more (inl (script.is_call t c is)) =
+        (setup ++ record { caller = t; call = c } ∷ [], [], setup_alone (AreCalls-append are (script.call_line is script.no_lines)))
+    more (inr e) = (setup, [], subst (λ l. AreRaceText (before ++ l ∷ []) setup []) (sym e) (with_go are no_lines))
+
+one_race_line : {line : List ℕ} {race : List RaceLine} → AreRaceLines (line ∷ []) race → IsInRace line
+one_race_line (blank_line b none) = inl b
+one_race_line (race_line {caller = caller} {c = c} is none) = inr (record { caller = caller; call = c }, is)
+
+pub behind_go : (front back : List (List ℕ)) (line : List ℕ) (setup : List ScriptCall) (race : List RaceLine)
+    → AreCalls front setup → AreRaceLines back race → AreSomeRaceText (front ++ go_line ∷ back ++ line ∷ []) ↔ IsInRace line
+behind_go front back line setup race are others = (last, more)
+  where
+    parts : (front ++ go_line ∷ back) ++ line ∷ [] ≡ front ++ go_line ∷ (back ++ line ∷ [])
+    parts = append_assoc front (go_line ∷ back) (line ∷ [])
+
+    last : AreSomeRaceText (front ++ go_line ∷ back ++ line ∷ []) → IsInRace line
+    last some =
+        let all = race_of are (subst (λ ls. Steps ls some.0 some.1) parts (steps_of some.2)) in
+        one_race_line (AreRaceLines-behind back (line ∷ []) some.1 all).1
+
+    with_calls : (added : List RaceLine) → AreRaceLines (line ∷ []) added → AreSomeRaceText (front ++ go_line ∷ back ++ line ∷ [])
+    with_calls added is =
+        (setup, race ++ added, subst (λ ls. AreRaceText ls setup (race ++ added)) (sym parts) (with_go are (AreRaceLines-append others is)))
+
+    more : IsInRace line → AreSomeRaceText (front ++ go_line ∷ back ++ line ∷ [])
+    more (inl b) = with_calls [] (blank_line b no_lines)
+    more (inr r) = with_calls (r.0 ∷ []) (race_line r.1 no_lines)
 
 -- ---- a reader that finds the calls or names the first bad line
 

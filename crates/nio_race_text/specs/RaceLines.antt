@@ -58,8 +58,10 @@ pub record IsBlockLine (caller : CallerNo) (s : SelNo) (bytes : List ℕ) : Type
 
 -- these bytes are a line behind `go` with this call of this caller
 pub data IsRaceLine : CallerNo → RaceCall → List ℕ → Type 0 where
-  script_line : {caller : CallerNo} {c : Call} {line : List ℕ} → IsLine caller c line → MayRace c → IsRaceLine caller (Script c) line
-  block_line : {caller : CallerNo} {s : SelNo} {line : List ℕ} → IsBlockLine caller s line → IsRaceLine caller (Block s) line
+  script_line : {caller : CallerNo} {c : Call} {line : List ℕ}
+      → IsLine caller c line → MayRace c → IsRaceLine caller (Script c) line
+  block_line : {caller : CallerNo} {s : SelNo} {line : List ℕ}
+      → IsBlockLine caller s line → IsRaceLine caller (Block s) line
 
 -- lines behind `go` are these calls in this order, and blank lines among them
 pub data AreRaceLines : List (List ℕ) → List RaceLine → Type 0 where

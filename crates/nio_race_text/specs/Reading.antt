@@ -8,7 +8,8 @@ IsNoLine {A} Are line = (calls : List A) → Are (line ∷ []) calls → ⊥
 
 -- Of these lines, which stand behind so many others, number n of all is the first that has no calls:
 -- the lines before it have some, and with it they have none.
-pub record StopsAt {A : Type 0} (Are : List (List ℕ) → List A → Type 0) (skipped : ℕ) (lines : List (List ℕ)) (n : ℕ) : Type 0 where
+pub record StopsAt {A : Type 0} (Are : List (List ℕ) → List A → Type 0) (skipped : ℕ) (lines : List (List ℕ)) (n : ℕ)
+    : Type 0 where
   pub line : List ℕ
   pub before : List (List ℕ)
   pub after : List (List ℕ)

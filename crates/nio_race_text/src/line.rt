@@ -10,7 +10,7 @@ use nio_base::{CallerNo, SelNo};
 use nio_event::{ParseError, Parsed, cut_at, parse_line, read_number};
 use std::alloc::{AllocError, Global};
 
-/// The largest number of a caller.
+// The largest number of a caller.
 const CALLER_MAX: u32 = 63;
 
 /// The caller and the call of a line behind `go`.
@@ -40,7 +40,7 @@ pub fn read_race_call(alloc: Global, line: &[u8]) -> Result<Option<RaceLine>, Al
     }
 }
 
-/// The caller and the selector of a line `tN block sM`.
+// The caller and the selector of a line `tN block sM`.
 fn read_block(line: &[u8]) -> Option<(CallerNo, SelNo)>
     ensures { Finds (λ p. IsBlockLine p.0 p.1 line.now) result }
 {
@@ -51,7 +51,7 @@ fn read_block(line: &[u8]) -> Option<(CallerNo, SelNo)>
     Some((CallerNo(caller), SelNo(selector)))
 }
 
-/// A letter and a number that is at most `max`.
+// A letter and a number that is at most `max`.
 fn read_numbered(word: &[u8], letter: u8, max: u32) -> Option<u32>
     ensures { Reads (λ n. n ≤ max) (λ n. letter ∷ decimal n) word.now result }
 {

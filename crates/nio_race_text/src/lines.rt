@@ -51,7 +51,7 @@ pub fn read_setup(alloc: Global, lines: &[&[u8]]) -> Result<Vec<ScriptCall>, Scr
     Ok(setup)
 }
 
-/// Reads one line of the setup, and adds its call to those before.
+// Reads one line of the setup, and adds its call to those before.
 fn read_setup_line(
     alloc: Global,
     line: &[u8],
@@ -89,7 +89,7 @@ pub fn read_race(alloc: Global, lines: &[&[u8]], skipped: u64) -> Result<Vec<Rac
     Ok(race)
 }
 
-/// Reads one line of the race, and adds its call to those before.
+// Reads one line of the race, and adds its call to those before.
 fn read_race_line(
     alloc: Global,
     line: &[u8],

@@ -11,7 +11,7 @@ use nio_base::{CallerNo, SelNo};
 use nio_event::{Call, Reply, print_line, print_reply};
 use std::alloc::{AllocError, Global};
 
-/// Most lines have fewer bytes.
+// Most lines have fewer bytes.
 const USUAL_LENGTH: usize = 64;
 
 /// The line of a race's output for the caller's call number `number`, counted from 1, with its newline.
@@ -30,7 +30,7 @@ pub fn print_race_line(
     }
 }
 
-/// The line of a script's call: that of a history, with its number and its caller exchanged.
+// The line of a script's call: that of a history, with its number and its caller exchanged.
 fn print_script_call(
     alloc: Global,
     caller: CallerNo,
@@ -49,7 +49,7 @@ fn print_script_call(
     Ok(line)
 }
 
-/// The line of `block`.
+// The line of `block`.
 fn print_block(
     alloc: Global,
     caller: CallerNo,
@@ -69,7 +69,7 @@ fn print_block(
     Ok(line)
 }
 
-/// The caller and the number of its call, each before a space.
+// The caller and the number of its call, each before a space.
 fn push_head(line: &mut Vec<u8>, caller: CallerNo, number: u64) -> Result<(), AllocError>
     ensures { OnOk result
         (line.new.items ≡ line.old.items ++ caller_word caller ++ codes " " ++ decimal number ++ codes " ") }

@@ -43,7 +43,7 @@ impl RaceText {
     }
 }
 
-/// The calls of a race text.
+/// The calls of a race text. A bad line is counted from 1 over all lines, `go` among them.
 pub fn parse_race(alloc: Global, text: &[u8]) -> Result<RaceText, ScriptError>
     ensures ok { IfOk result (λ calls. IsRaceText text.now calls.setup calls.race) }
 
@@ -61,7 +61,7 @@ pub fn parse_race(alloc: Global, text: &[u8]) -> Result<RaceText, ScriptError>
     read_parts(alloc, &lines)
 }
 
-/// The calls of the lines before and behind `go`.
+// The calls of the lines before and behind `go`.
 fn read_parts(alloc: Global, lines: &[&[u8]]) -> Result<RaceText, ScriptError>
     requires { length lines.now < 2 ^ 64 }
     ensures ok { IfOk result (λ calls.
