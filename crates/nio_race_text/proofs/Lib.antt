@@ -1,0 +1,6 @@
+pub mod Blocks
+pub mod GoCut
+pub mod OneLine
+pub mod Output
+pub mod Parts
+pub mod RaceTexts

@@ -1,0 +1,4 @@
+pub mod RaceLines
+pub mod RaceOutput
+pub mod RaceText
+pub mod Reading

@@ -1,0 +1,16 @@
+//! Race texts: the lines of a script, and behind a line `go` the lines of callers that run in
+//! threads. Reading them, and printing what those callers were answered.
+#![tactic(auto)]
+
+pub use call::{RaceCall, RaceLine};
+pub use print::print_race_line;
+pub use text::{RaceText, parse_race};
+
+mod call;
+pub mod laws;
+mod line;
+mod lines;
+mod print;
+#[cfg(test)]
+mod tests;
+mod text;

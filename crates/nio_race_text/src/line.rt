@@ -1,0 +1,64 @@
+//! Reading a line behind `go`: a script's, or `block`.
+ghost use Rattle.std.specs.Prelude.{◌≡◌, ◌≤◌, ◌∷◌, IfOk};
+ghost use Rattle.std.specs.Fmt.{decimal};
+ghost use Rattle.nio_event.specs.Reading.{Reads};
+ghost use Rattle.nio_race_text.specs.RaceLines.{IsBlockLine, IsRaceLine};
+ghost use Rattle.nio_script.specs.Entries.{Finds};
+
+use crate::call::{RaceCall, RaceLine, may_race};
+use nio_base::{CallerNo, SelNo};
+use nio_event::{ParseError, Parsed, cut_at, parse_line, read_number};
+use std::alloc::{AllocError, Global};
+
+// The largest number of a caller.
+const CALLER_MAX: u32 = 63;
+
+/// The caller and the call of a line behind `go`.
+pub fn read_race_call(alloc: Global, line: &[u8]) -> Result<Option<RaceLine>, AllocError>
+    ensures { IfOk result (Finds (λ r. IsRaceLine r.caller r.call line.now)) }
+{
+    match parse_line(alloc, line) {
+        Ok(Parsed::Line { caller, call }) => {
+            if may_race(&call) {
+                Ok(Some(RaceLine {
+                    caller,
+                    call: RaceCall::Script(call),
+                }))
+            } else {
+                Ok(None)
+            }
+        }
+        Ok(Parsed::Blank) => Ok(None),
+        Err(ParseError::Malformed) => match read_block(line) {
+            Some((caller, selector)) => Ok(Some(RaceLine {
+                caller,
+                call: RaceCall::Block(selector),
+            })),
+            None => Ok(None),
+        },
+        Err(ParseError::Memory) => Err(AllocError),
+    }
+}
+
+// The caller and the selector of a line `tN block sM`.
+fn read_block(line: &[u8]) -> Option<(CallerNo, SelNo)>
+    ensures { Finds (λ p. IsBlockLine p.0 p.1 line.now) result }
+{
+    let (caller, rest) = cut_at(line, b' ')?;
+    let selector = rest.strip_prefix(b"block ")?;
+    let caller = read_numbered(caller, b't', CALLER_MAX)?;
+    let selector = read_numbered(selector, b's', u32::MAX)?;
+    Some((CallerNo(caller), SelNo(selector)))
+}
+
+// A letter and a number that is at most `max`.
+fn read_numbered(word: &[u8], letter: u8, max: u32) -> Option<u32>
+    ensures { Reads (λ n. n ≤ max) (λ n. letter ∷ decimal n) word.now result }
+{
+    let (first, digits) = word.split_first()?;
+    if *first != letter {
+        return None;
+    }
+    let number = read_number(digits, u64::from(max))?;
+    Some(number as u32)
+}
