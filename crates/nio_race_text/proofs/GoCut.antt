@@ -11,7 +11,10 @@ use Rattle.nio_script.proofs.Lines.{next_now, parts}
 abbrev texts : List (Bor (List ℕ)) → List (List ℕ)
 texts lines = map (λ line. line.now) lines
 
-abbrev IsOther : Bor (List ℕ) → Type 0
+abbrev pub IsGo : Bor (List ℕ) → Type 0
+IsGo line = line.now ≡ go_line
+
+abbrev pub IsOther : Bor (List ℕ) → Type 0
 IsOther line = line.now ≢ go_line
 
 pub all_other : (lines : List (Bor (List ℕ))) → AllWithin IsOther lines 0 (length lines) → AreGoless (texts lines)
@@ -37,7 +40,7 @@ module _ (lines : List (Bor (List ℕ))) (place : ℕ) (within : place < length 
     first = All-map (λ text. text ≢ go_line) (λ line. line.now) (take place lines) (others_before lines place others);
   }
 
-pub cut_here : (lines : List (Bor (List ℕ))) (place : ℕ) → place < length lines → HoldsAt (λ line. line.now ≡ go_line) lines place
+pub cut_here : (lines : List (Bor (List ℕ))) (place : ℕ) → place < length lines → HoldsAt IsGo lines place
     → AllWithin IsOther lines 0 place
     → IsCutAtGo (texts lines) (texts (take place lines)) (texts (take (length lines - (place + 1)) (drop (place + 1) lines)))
 cut_here [] place within is others = absurd (omega (arith, within))
