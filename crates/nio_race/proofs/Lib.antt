@@ -1,4 +1,10 @@
+pub mod Blocking
 pub mod Gathering
 pub mod Promise
+pub mod Racing
+pub mod Retried
 pub mod SettingOff
 pub mod SettingUp
+pub mod Standing
+pub mod Unpinned
+pub mod Waiting

@@ -2,7 +2,9 @@
 //! other, a line `go`, and the lines of the callers.
 #![tactic(auto)]
 
+mod block;
 mod gather;
+mod line;
 mod racer;
 mod set_off;
 mod setup;
