@@ -1,0 +1,5 @@
+pub mod Givens
+pub mod LongWords
+pub mod ProxyApp
+pub mod Table
+pub mod Turns

@@ -1,0 +1,4 @@
+pub mod Options
+pub mod ProxyApp
+pub mod Values
+pub mod Words
