@@ -1,10 +1,12 @@
 -- Lists of options, as names and values.
-use Rattle.std.proofs.Common.{◌≡◌, ◌≢◌, ◌⊎◌, ◌∙◌, ◌++◌, ◌||◌, ◌<◌, ℕ, zero, suc, ◌+◌, ◌≤◌, Bool, true, false, List, [], ◌∷◌, Option, Some, None, cond, map, length, inl, inr, refl, sym, ap, subst, arith, IsPermutation}
+use Rattle.std.proofs.Common.{◌≡◌, ◌≢◌, ◌⊎◌, ◌∙◌, ◌++◌, ◌||◌, ◌<◌, ℕ, zero, suc, ◌+◌, ◌≤◌, Bool, true, false, List, [], ◌∷◌, Option, Some, None, cond, map, length, inl, inr, refl, sym, ap, ap₂, subst, arith, IsPermutation}
 use Rattle.std.specs.Prelude.{count_by, slice_get}
 use Rattle.std.specs.List.{All, Contains, remove, slice_index_or, sum_by}
 use Rattle.std.specs.Str.{bytes_eq}
-use Rattle.std.proofs.lemmas.List.Sums.{sum_by-cons, sum_by_push}
+use Rattle.std.proofs.lemmas.List.Sums.{sum_by-append, sum_by-cons, sum_by_push}
 use Rattle.std.proofs.lemmas.List.Sorted.{All-permutation, Contains-permutation, IsPermutation-refl, IsPermutation-cons, IsPermutation-remove, IsPermutation-sym, IsPermutation-trans, sum_by-IsPermutation}
+use Rattle.std.proofs.lemmas.List.Elements.{Contains-append_right}
+use Rattle.std.proofs.lemmas.Option.{same_Some}
 use Rattle.std.proofs.lemmas.Slice.Eq.{bytes_eq-Decides}
 use Rattle.clap.specs.Walk.{Row, Text, first_of, has_row}
 use Rattle.clap.specs.declared.parser.matches.ValueSource.TheVariants.{CommandLine}
@@ -78,3 +80,63 @@ more_distinct n v gs fresh d m = elim (bears_cases m (n, v)) [
   where
     bears_small : (n : Text) (g : Given) → bears n g ≤ 1
     bears_small n g = elim (bytes_eq g.0 n) as (λ b. cond b 1 0 ≤ 1) [ true ↦ omega arith | false ↦ omega arith ]
+
+-- the options before one have another name
+pub fresh_before : (n v : Text) (before after : List Given) → Distinct (before ++ (n, v) ∷ after) → has_row n (map row before) ≡ false
+fresh_before n v before after d =
+    let all : times n (before ++ (n, v) ∷ after) ≤ 1 = d n in
+    let own = bears_own n v in
+    none_times n before
+    (omega (arith, sum_by-append (bears n) before ((n, v) ∷ after), sum_by-cons (bears n) (n, v) after))
+
+tail_distinct : (g : Given) (gs : List Given) → Distinct (g ∷ gs) → Distinct gs
+tail_distinct g gs d n = let all : times n (g ∷ gs) ≤ 1 = d n in omega (arith, sum_by-cons (bears n) g gs)
+
+-- ---- finding
+
+pub contains_cases : (x y : Given) (gs : List Given) → Contains (x ∷ gs) y → (x ≡ y) ⊎ Contains gs y
+contains_cases x y gs (zero, lt, at) = inl at
+contains_cases x y gs (suc k, lt, at) = inr (k, omega arith, at)
+
+times_contained : (n v : Text) (gs : List Given) → Contains gs (n, v) → 1 ≤ times n gs
+times_contained n v [] h = absurd (let lt = h.1 in omega arith)
+times_contained n v (g ∷ gs) h = go (contains_cases g (n, v) gs h) (times_contained n v gs)
+  where
+    go : (g ≡ (n, v)) ⊎ Contains gs (n, v) → (Contains gs (n, v) → 1 ≤ times n gs) → 1 ≤ times n (g ∷ gs)
+    go (inl same) more =
+        let one : bears n g ≡ 1 = ap (bears n) same ∙ bears_own n v in
+        omega (arith, sum_by-cons (bears n) g gs)
+    go (inr there) more =
+        let rest : 1 ≤ times n gs = more there in
+        omega (arith, sum_by-cons (bears n) g gs)
+
+-- what is found of a name stands in the list
+pub found_in : (n v : Text) (gs : List Given) → first_of n (map row gs) ≡ Some v → Contains gs (n, v)
+found_in n v [] e = absurd (cc)
+found_in n v (g ∷ gs) e = go (bytes_eq g.0 n) refl (found_in n v gs)
+  where
+    go : (t : Bool) → bytes_eq g.0 n ≡ t → (first_of n (map row gs) ≡ Some v → Contains gs (n, v)) → Contains (g ∷ gs) (n, v)
+    go true t more =
+        let value : Some g.1 ≡ Some v = rw t at e in
+        let same : g.1 ≡ v = same_Some g.1 v value in
+        let name : g.0 ≡ n = (bytes_eq-Decides g.0 n).0 t in
+        (0, omega arith, ap₂ (λ (a b : Text). (a, b)) name same)
+    go false t more = Contains-append_right (g ∷ []) gs (n, v) (more (rw t at e))
+
+-- and what stands in a list of different names is found
+pub in_found : (n v : Text) (gs : List Given) → Distinct gs → Contains gs (n, v) → first_of n (map row gs) ≡ Some v
+in_found n v [] d h = absurd (let lt = h.1 in omega arith)
+in_found n v (g ∷ gs) d h = go (bytes_eq g.0 n) refl (contains_cases g (n, v) gs h) (in_found n v gs (tail_distinct g gs d))
+  where
+    go : (t : Bool) → bytes_eq g.0 n ≡ t → (g ≡ (n, v)) ⊎ Contains gs (n, v)
+        → (Contains gs (n, v) → first_of n (map row gs) ≡ Some v) → first_of n (map row (g ∷ gs)) ≡ Some v
+    go true t (inl same) more = rw t (ap (λ (p : Given). Some p.1) same)
+    go true t (inr there) more =
+        let one : bears n g ≡ 1 = ap (λ (b : Bool). cond b 1 0) t in
+        let two = times_contained n v gs there in
+        let most : times n (g ∷ gs) ≤ 1 = d n in
+        absurd (omega (arith, sum_by-cons (bears n) g gs))
+    go false t (inl same) more =
+        let is : bytes_eq g.0 n ≡ true = (bytes_eq-Decides g.0 n).1 (ap (λ (p : Given). p.0) same) in
+        absurd (cc)
+    go false t (inr there) more = rw t (more there)

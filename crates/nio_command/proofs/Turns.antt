@@ -1,6 +1,6 @@
 -- What one word does to a parse of options, each of which takes one value.
 use Rattle.std.proofs.Common.{◌≡◌, ◌⊎◌, ◌∙◌, ◌++◌, ◌||◌, ℕ, Bool, true, false, List, [], ◌∷◌, Option, Some, None, map, length, refl, sym, ap, ap₂, inl, inr, subst, zero, suc, codes}
-use Rattle.std.specs.Prelude.{slice_get}
+use Rattle.std.specs.Prelude.{nat_lt, slice_get}
 use Rattle.std.specs.Option.{option_map_or}
 use Rattle.std.specs.Str.{bytes_eq, chars}
 use Rattle.std.proofs.lemmas.List.{append-nil, map-append}
@@ -9,11 +9,11 @@ use Rattle.clap.specs.Lexer.{long_of, short_of}
 use Rattle.clap.specs.Kinds.{Kinds, or_else}
 use Rattle.clap.specs.Faults.{bundle_fault, bundle_step_fault, flags_fault, flag_word_fault, long_fault, option_fault, settle_fault, step_fault, turn_fault, use_fault}
 use Rattle.clap.specs.Simple.{Shape}
-use Rattle.clap.specs.Walk.{Held, Outcome, Row, Rule, Step, Text, Waiting, Walk, after_flag, after_step, arg_by_id, arg_by_index, arg_by_long, at_row, bundle_met, bundle_step, has_row, plain, used_by_id, idle, long_met, long_or_other, more_values, next, option, option_met, option_word, plain_word, reacted, settled, short_or_plain, short_word, used, value, walk_from, walked}
+use Rattle.clap.specs.Walk.{Held, Outcome, Row, Rule, Step, Text, Waiting, Walk, after_flag, after_step, arg_by_id, arg_by_index, arg_by_long, at_row, bundle_met, bundle_step, has_row, plain, used_by_id, idle, long_met, long_or_other, more_values, next, option, option_met, option_word, pending_count, plain_word, reacted, settled, short_or_plain, short_word, used, value, walk_from, walked}
 use Rattle.clap.specs.declared.parser.matches.ValueSource.TheVariants.{CommandLine}
 use Rattle.clap.specs.declared.builder.value_parser.Reading.TheVariants.{AsWritten}
 use Rattle.nio_command.proofs.Givens.{Distinct, Given, more_distinct, row}
-use Rattle.nio_command.proofs.LongWords.{IsPlainName, IsPlainValue, MadeOf, alone_word, dashes, joined_word, long_made}
+use Rattle.nio_command.proofs.LongWords.{IsPlainName, IsPlainValue, MadeOf, alone_no_dashes, alone_word, dashes, joined_no_dashes, joined_word, long_alone, long_joined, long_made}
 use Rattle.nio_command.proofs.ProxyApp.{option_rule, options_shape}
 use Rattle.nio_command.proofs.Table.{IsName, id_found, long_either, long_found, no_index, no_short, rules_of}
 
@@ -104,7 +104,7 @@ pending_stands names gs n v known d = record {
       (pending_settled names gs n v known fresh, more_distinct n v gs fresh d);
 }
 
-named_fault : (names : List Text) (gs : List Given) (n : Text) → IsName names n
+pub named_fault : (names : List Text) (gs : List Given) (n : Text) → IsName names n
     → settle_fault (rules_of names) false (named gs n) ≡ [] → ⊥
 named_fault names gs n known e =
     use_none n (map row gs)
@@ -199,3 +199,91 @@ turn_idle names h gs word st other e = by_long (long_of word) refl
         absurd (stray_turn names h there)
     by_long (Some p) long = let f = rw (other, long) at e in
         by_name p.0 p.1 long (long_either names p.0) (no_two _ _ f).0
+
+-- ---- a word where an option waits for its value
+
+pending_one : (n v : Text) → nat_lt (pending_count (option_rule n) (Some (n, v ∷ []))) 1 ≡ false
+pending_one n v = rw ((bytes_eq-Decides n n).1 refl) refl
+
+-- a word that is no option is the value
+plain_named : (names : List Text) (gs : List Given) (n word : Text) → IsName names n
+    → plain_word (rules_of names) (option n) word (named gs n) ≡ (pending gs n word, next idle)
+plain_named names gs n word known = rw (id_found names n known, pending_one n word) refl
+
+plain_walked : (names : List Text) (gs : List Given) (n word : Text) (o : Option Text) → IsName names n
+    → bytes_eq word dashes ≡ false → long_of word ≡ None → short_of word ≡ o
+    → option_map_or (λ flags. bundle_fault (rules_of names) false flags (named gs n)) o [] ≡ []
+    → walked (rules_of names) [] (naming gs n) word ≡ walk_from (pending gs n word)
+unfolding walked
+plain_walked names gs n word o known other long short e =
+    rw (other, long, short, short_plain names (option n) word o (named gs n) refl e)
+    (ap (λ (p : Held × Step). after_step (rules_of names) word (naming gs n) p.0 p.1) (plain_named names gs n word known))
+
+pub turn_naming : (names : List Text) (gs : List Given) (n word : Text) → IsName names n
+    → bytes_eq word dashes ≡ false → turn_fault (shape names) [] (naming gs n) word ≡ []
+    → walked (rules_of names) [] (naming gs n) word ≡ walk_from (pending gs n word)
+turn_naming names gs n word known other e = by_long (long_of word) refl
+  where
+    by_name : (m : Text) (v : Option Text) → (arg_by_long (rules_of names) m ≡ None) ⊎ IsName names m
+        → long_fault (rules_of names) false (arg_by_long (rules_of names) m) v (named gs n) ≡ [] → ⊥
+    by_name m v (inl none) f = let bad = rw none at f in cc
+    by_name m None (inr found) f = named_fault names gs n known (rw (long_found names m found) at f)
+    by_name m (Some v) (inr found) f =
+        named_fault names gs n known (no_two _ _ (rw (long_found names m found) at f)).0
+
+    by_long : (o : Option (Text × Option Text)) → long_of word ≡ o
+        → walked (rules_of names) [] (naming gs n) word ≡ walk_from (pending gs n word)
+    by_long None long = let f = rw (other, long) at e in
+        plain_walked names gs n word (short_of word) known other long refl (no_two _ _ f).0
+    by_long (Some p) long = let f = rw (other, long) at e in
+        absurd (by_name p.0 p.1 (long_either names p.0) (no_two _ _ f).0)
+
+-- ---- the other way: the words of an option have no fault
+
+pub joined_turn : (names : List Text) (h : Held) (gs : List Given) (n v : Text) → IsName names n → IsPlainName n
+    → settle_fault (rules_of names) false h ≡ [] → settled (rules_of names) h ≡ clean gs → has_row n (map row gs) ≡ false
+    → turn_fault (shape names) [] (walk_from h) (joined_word n v) ≡ []
+joined_turn names h gs n v known fits settles is fresh =
+    let used_once : use_fault false (option_rule n) (v ∷ []) (settled (rules_of names) h).rows ≡ [] =
+        subst (λ (k : Held). use_fault false (option_rule n) (v ∷ []) k.rows ≡ []) (sym is) (use_fresh n v (map row gs) fresh) in
+    rw (joined_no_dashes n v, long_joined n v fits.no_equals, long_found names n known, settles, used_once) refl
+
+pub joined_walked : (names : List Text) (h : Held) (gs : List Given) (n v : Text) → IsName names n → IsPlainName n
+    → settled (rules_of names) h ≡ clean gs → has_row n (map row gs) ≡ false
+    → walked (rules_of names) [] (walk_from h) (joined_word n v) ≡ walk_from (clean (gs ++ (n, v) ∷ []))
+joined_walked names h gs n v known fits is fresh =
+    walked_long names h (joined_word n v) n (Some v) (joined_no_dashes n v) (long_joined n v fits.no_equals) known
+    ∙ ap walk_from (ap (λ (k : Held). record k { rows = used (option_rule n) (v ∷ []) k.rows }) is
+    ∙ ap (λ (rs : List Row). record (clean gs) { rows = rs }) (used_fresh n v gs fresh))
+
+pub alone_turn : (names : List Text) (h : Held) (gs : List Given) (n : Text) → IsName names n → IsPlainName n
+    → settle_fault (rules_of names) false h ≡ []
+    → turn_fault (shape names) [] (walk_from h) (alone_word n) ≡ []
+alone_turn names h gs n known fits settles =
+    rw (alone_no_dashes n fits, long_alone n fits, long_found names n known, settles) refl
+
+pub alone_walked : (names : List Text) (h : Held) (gs : List Given) (n : Text) → IsName names n → IsPlainName n
+    → settled (rules_of names) h ≡ clean gs
+    → walked (rules_of names) [] (walk_from h) (alone_word n) ≡ naming gs n
+alone_walked names h gs n known fits is =
+    walked_long names h (alone_word n) n None (alone_no_dashes n fits) (long_alone n fits) known
+    ∙ ap (λ (k : Held). record (walk_from (record k { pending = Some (n, []) })) { waiting = option n }) is
+
+pub value_turn : (names : List Text) (gs : List Given) (n v : Text) → IsName names n → IsPlainValue v
+    → turn_fault (shape names) [] (naming gs n) v ≡ []
+value_turn names gs n v known fits = 
+    rw (fits.no_dashes, fits.no_long, fits.no_short)
+    (ap (λ (p : Held × Step). step_fault (shape names) 1 p.0 p.1) (plain_named names gs n v known))
+
+pub value_walked : (names : List Text) (gs : List Given) (n v : Text) → IsName names n → IsPlainValue v
+    → walked (rules_of names) [] (naming gs n) v ≡ walk_from (pending gs n v)
+value_walked names gs n v known fits =
+    plain_walked names gs n v None known fits.no_dashes fits.no_long fits.no_short refl
+
+pub pending_settles : (names : List Text) (gs : List Given) (n v : Text) → IsName names n → has_row n (map row gs) ≡ false
+    → (settle_fault (rules_of names) false (pending gs n v) ≡ [])
+    × (settled (rules_of names) (pending gs n v) ≡ clean (gs ++ (n, v) ∷ []))
+pending_settles names gs n v known fresh = (
+  pending_fault names gs n v known ∙ use_fresh n v (map row gs) fresh,
+  pending_settled names gs n v known fresh,
+)

@@ -36,7 +36,7 @@ pub fn read_options<'a>(
 
 // The command whose options are those of `proxy`. It reads the words behind `proxy` alone, and has
 // no option for help.
-fn proxy_command(alloc: Global) -> Result<Command<'static>, AllocError>
+fn proxy_command<'a>(alloc: Global) -> Result<Command<'a>, AllocError>
     ensures { IfOk result (λ c. app_of c ≡ proxy_app) }
 {
     Command::new(alloc, "proxy")
