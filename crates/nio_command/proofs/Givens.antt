@@ -34,10 +34,10 @@ Distinct gs = (n : Text) → times n gs ≤ 1
 pub nothing_distinct : Distinct []
 nothing_distinct n = omega arith
 
-bears_own : (n v : Text) → bears n (n, v) ≡ 1
+pub bears_own : (n v : Text) → bears n (n, v) ≡ 1
 bears_own n v = ap (λ (b : Bool). cond b 1 0) ((bytes_eq-Decides n n).1 refl)
 
-bears_cases : (n : Text) (g : Given) → (g.0 ≡ n) ⊎ (bears n g ≡ 0)
+pub bears_cases : (n : Text) (g : Given) → (g.0 ≡ n) ⊎ (bears n g ≡ 0)
 bears_cases n g = go (bytes_eq g.0 n) refl
   where
     go : (t : Bool) → bytes_eq g.0 n ≡ t → (g.0 ≡ n) ⊎ (bears n g ≡ 0)
@@ -89,7 +89,7 @@ fresh_before n v before after d =
     none_times n before
     (omega (arith, sum_by-append (bears n) before ((n, v) ∷ after), sum_by-cons (bears n) (n, v) after))
 
-tail_distinct : (g : Given) (gs : List Given) → Distinct (g ∷ gs) → Distinct gs
+pub tail_distinct : (g : Given) (gs : List Given) → Distinct (g ∷ gs) → Distinct gs
 tail_distinct g gs d n = let all : times n (g ∷ gs) ≤ 1 = d n in omega (arith, sum_by-cons (bears n) g gs)
 
 -- ---- finding
@@ -98,7 +98,7 @@ pub contains_cases : (x y : Given) (gs : List Given) → Contains (x ∷ gs) y �
 contains_cases x y gs (zero, lt, at) = inl at
 contains_cases x y gs (suc k, lt, at) = inr (k, omega arith, at)
 
-times_contained : (n v : Text) (gs : List Given) → Contains gs (n, v) → 1 ≤ times n gs
+pub times_contained : (n v : Text) (gs : List Given) → Contains gs (n, v) → 1 ≤ times n gs
 times_contained n v [] h = absurd (let lt = h.1 in omega arith)
 times_contained n v (g ∷ gs) h = go (contains_cases g (n, v) gs h) (times_contained n v gs)
   where

@@ -129,3 +129,12 @@ plain_value value h = record {
         go : (t : Bool) → (x == 45) ≡ t → bytes_eq (x ∷ xs) dashes ≡ false
         go true e = let bad : Some xs ≡ None = rw e at h in absurd (cc)
         go false e = rw e refl
+
+-- a text of which each byte differs lacks the byte
+pub lacks_test : (c : ℕ) (xs : Text) → list_any (λ x. x == c) xs ≡ false → Lacks c xs
+lacks_test c [] h = λ i lt. absurd (omega arith)
+lacks_test c (x ∷ xs) h = go (x == c) refl (lacks_test c xs)
+  where
+    go : (t : Bool) → (x == c) ≡ t → (list_any (λ y. y == c) xs ≡ false → Lacks c xs) → Lacks c (x ∷ xs)
+    go true e more = absurd (let bad : true ≡ false = rw e at h in cc)
+    go false e more = Lacks-cons c x xs e (more (rw e at h))

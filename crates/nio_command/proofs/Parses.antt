@@ -130,7 +130,7 @@ naming_more names word rest idle gs n known d none p =
 naming_none : (names : List Text) → ReadsNaming names []
 naming_none names gs n known d none p = absurd (named_fault names gs n known p.end)
 
-reads_all : (names rest : List Text) → ReadsIdle names rest × ReadsNaming names rest
+pub reads_all : (names rest : List Text) → ReadsIdle names rest × ReadsNaming names rest
 reads_all names [] = ((λ h gs st none p. none_passes names h gs st p), naming_none names)
 reads_all names (word ∷ rest) =
     let more = reads_all names rest in

@@ -3,9 +3,9 @@ use Rattle.std.specs.Prelude.{true, List, [], ◌∷◌, Some, codes}
 use Rattle.clap.specs.Walk.{Rule, Text}
 use Rattle.clap.specs.Simple.{App, Shape, new_app, new_rule, new_shape, on_top, with_rule}
 
--- an option, by its name
+-- an option that is required, by its name
 abbrev pub added_rule : Text → Rule
-added_rule name = record (new_rule name) { long = Some name }
+added_rule name = record (new_rule name) { long = Some name; required = true }
 
 abbrev pub settings : Shape → Shape
 settings s = record s { no_binary_name = true; disable_help_flag = true }

@@ -30,14 +30,15 @@ pub record IsInRange (plan : ProxyPlan) : Type 0 where
   pub some_connections : 1 ≤ plan.conns
   pub few_connections : plan.conns ≤ 16000
 
+-- the four options of `proxy`, with these values
+abbrev pub proxy_options : Text → Text → Text → Text → List (Text × Text)
+proxy_options way listen target conns =
+    (codes "way", way) ∷ (codes "listen", listen) ∷ (codes "target", target) ∷ (codes "conns", conns) ∷ []
+
 -- the options of a plan, as names and values
 abbrev pub options_of : ProxyPlan → List (Text × Text)
 options_of plan =
-    (codes "way", codes "select")
-    ∷ (codes "listen", address_text plan.listen)
-    ∷ (codes "target", address_text plan.target)
-    ∷ (codes "conns", decimal plan.conns)
-    ∷ []
+    proxy_options (codes "select") (address_text plan.listen) (address_text plan.target) (decimal plan.conns)
 
 -- the word `proxy`, and the options of this plan
 pub record IsProxyCommand (words : List Text) (plan : ProxyPlan) : Type 0 where

@@ -1,8 +1,8 @@
 //! The options of `proxy`, read as texts.
-ghost use Rattle.std.specs.Prelude.{◌≡◌, ◌≢◌, ◌↔◌, All, IfOk, IfSome, IsTrue, Some, Ok, map, codes};
+ghost use Rattle.std.specs.Prelude.{◌≡◌, ◌≢◌, ◌↔◌, All, IfOk, IfSome, IsTrue, Some, Ok, false, map, codes};
 ghost use Rattle.std.specs.String.{string_bytes};
-ghost use Rattle.clap.specs.Words.{app_of};
-ghost use Rattle.nio_command.specs.ProxyApp.{proxy_app};
+ghost use Rattle.clap.specs.Words.{app_of, rule_of};
+ghost use Rattle.nio_command.specs.ProxyApp.{added_rule, proxy_app};
 
 use clap::error::ErrorKind;
 use clap::{Arg, ArgMatches, Command};
@@ -42,10 +42,18 @@ fn proxy_command<'a>(alloc: Global) -> Result<Command<'a>, AllocError>
     Command::new(alloc, "proxy")
         .no_binary_name(true)
         .disable_help_flag(true)
-        .arg(Arg::new(alloc, "way").long("way"))?
-        .arg(Arg::new(alloc, "listen").long("listen"))?
-        .arg(Arg::new(alloc, "target").long("target"))?
-        .arg(Arg::new(alloc, "conns").long("conns"))
+        .arg(required_option(alloc, "way"))?
+        .arg(required_option(alloc, "listen"))?
+        .arg(required_option(alloc, "target"))?
+        .arg(required_option(alloc, "conns"))
+}
+
+// The option `--name`, which takes one value.
+fn required_option<'a>(alloc: Global, name: &'a str) -> Arg<'a>
+    ensures rule { rule_of result ≡ added_rule name.entry.now }
+    ensures local { result.global ≡ false }
+{
+    Arg::new(alloc, name).long(name).required(true)
 }
 
 // The four texts, where each was found.
