@@ -37,6 +37,9 @@ nothing_distinct n = omega arith
 pub bears_own : (n v : Text) → bears n (n, v) ≡ 1
 bears_own n v = ap (λ (b : Bool). cond b 1 0) ((bytes_eq-Decides n n).1 refl)
 
+pub bears_small : (n : Text) (g : Given) → bears n g ≤ 1
+bears_small n g = elim (bytes_eq g.0 n) as (λ b. cond b 1 0 ≤ 1) [ true ↦ omega arith | false ↦ omega arith ]
+
 pub bears_cases : (n : Text) (g : Given) → (g.0 ≡ n) ⊎ (bears n g ≡ 0)
 bears_cases n g = go (bytes_eq g.0 n) refl
   where
@@ -77,9 +80,6 @@ more_distinct n v gs fresh d m = elim (bears_cases m (n, v)) [
       let before : times m gs ≤ 1 = d m in
       omega (arith, sum_by_push (bears m) gs (n, v))
 ]
-  where
-    bears_small : (n : Text) (g : Given) → bears n g ≤ 1
-    bears_small n g = elim (bytes_eq g.0 n) as (λ b. cond b 1 0 ≤ 1) [ true ↦ omega arith | false ↦ omega arith ]
 
 -- the options before one have another name
 pub fresh_before : (n v : Text) (before after : List Given) → Distinct (before ++ (n, v) ∷ after) → has_row n (map row before) ≡ false

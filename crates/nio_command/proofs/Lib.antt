@@ -1,3 +1,4 @@
+pub mod Addresses
 pub mod Givens
 pub mod LongWords
 pub mod Numbers

@@ -13,8 +13,8 @@ use Rattle.clap.specs.Walk.{Held, Row, Text, Walk, finished, first_of, has_row, 
 use Rattle.clap.proofs.FaultLemmas.{leaf_fault}
 use Rattle.nio_command.specs.Options.{AreOptions, Written, given, option_words}
 use Rattle.nio_command.specs.ProxyApp.{proxy_app}
-use Rattle.nio_command.specs.Words.{proxy_options}
-use Rattle.nio_command.proofs.Givens.{Distinct, Given, bears, bears_cases, contains_cases, found_in, in_found, nothing_distinct, row, times}
+use Rattle.nio_command.specs.Values.{proxy_options}
+use Rattle.nio_command.proofs.Givens.{Distinct, Given, bears, bears_cases, bears_small, contains_cases, found_in, in_found, nothing_distinct, row, times}
 use Rattle.nio_command.proofs.LongWords.{IsPlainName, IsPlainValue, plain_value, lacks_test}
 use Rattle.nio_command.proofs.Orders.{in_order, names_known, permuted_distinct, writable_from}
 use Rattle.nio_command.proofs.Parses.{NoDashes, Passes, end_of, options_no_dashes, passes_all, reads_all, rows_at_end}
@@ -98,15 +98,20 @@ fault_none words p given =
 
 -- ---- the four options
 
-four_distinct : (a b c d : Text) → Distinct (proxy_options a b c d)
+abbrev pub four : Text → Text → Text → Text → List Given
+four a b c d = proxy_options (record { way = a; listen = b; target = c; conns = d })
+
+four_distinct : (a b c d : Text) → Distinct (four a b c d)
 four_distinct a b c d n = by_name (bears_cases n (codes "way", a)) (bears_cases n (codes "listen", b)) (bears_cases n (codes "target", c))
   where
     by_name : (codes "way" ≡ n) ⊎ (bears n (codes "way", a) ≡ 0) → (codes "listen" ≡ n) ⊎ (bears n (codes "listen", b) ≡ 0)
-        → (codes "target" ≡ n) ⊎ (bears n (codes "target", c) ≡ 0) → times n (proxy_options a b c d) ≤ 1
-    by_name (inl same) q r = subst (λ (m : Text). times m (proxy_options a b c d) ≤ 1) same (omega arith)
-    by_name (inr x) (inl same) r = subst (λ (m : Text). times m (proxy_options a b c d) ≤ 1) same (omega arith)
-    by_name (inr x) (inr y) (inl same) = subst (λ (m : Text). times m (proxy_options a b c d) ≤ 1) same (omega arith)
-    by_name (inr x) (inr y) (inr z) = ?
+        → (codes "target" ≡ n) ⊎ (bears n (codes "target", c) ≡ 0) → times n (four a b c d) ≤ 1
+    by_name (inl same) q r = subst (λ (m : Text). times m (four a b c d) ≤ 1) same (omega arith)
+    by_name (inr x) (inl same) r = subst (λ (m : Text). times m (four a b c d) ≤ 1) same (omega arith)
+    by_name (inr x) (inr y) (inl same) = subst (λ (m : Text). times m (four a b c d) ≤ 1) same (omega arith)
+    by_name (inr x) (inr y) (inr z) =
+        let last : bears n (codes "conns", d) ≤ 1 = bears_small n (codes "conns", d) in
+        omega arith
 
 plain_names : (n : Text) → IsName proxy_names n → IsPlainName n
 plain_names n (inl same) = subst IsPlainName same (record { no_equals = lacks_test 61 (codes "way") refl; some = λ e. (cc) })
@@ -114,3 +119,100 @@ plain_names n (inr (inl same)) = subst IsPlainName same (record { no_equals = la
 plain_names n (inr (inr (inl same))) = subst IsPlainName same (record { no_equals = lacks_test 61 (codes "target") refl; some = λ e. (cc) })
 plain_names n (inr (inr (inr (inl same)))) = subst IsPlainName same (record { no_equals = lacks_test 61 (codes "conns") refl; some = λ e. (cc) })
 plain_names n (inr (inr (inr (inr h)))) = absurd h
+
+-- what stands among the four options, in the order of the options
+abbrev Four : (P : Given → Type 0) (a b c d : Text) → Type 0
+Four P a b c d = P (codes "way", a) × P (codes "listen", b) × P (codes "target", c) × P (codes "conns", d)
+
+each_of_four : (P : Given → Type 0) (a b c d : Text) → Four P a b c d → (g : Given) → Contains (four a b c d) g → P g
+each_of_four P a b c d h g in_four =
+    first (contains_cases (codes "way", a) g ((codes "listen", b) ∷ (codes "target", c) ∷ (codes "conns", d) ∷ []) in_four)
+  where
+    fourth : ((codes "conns", d) ≡ g) ⊎ Contains [] g → P g
+    fourth (inl same) = subst P same h.3
+    fourth (inr none) = absurd (let lt = none.1 in omega arith)
+
+    third : ((codes "target", c) ≡ g) ⊎ Contains ((codes "conns", d) ∷ []) g → P g
+    third (inl same) = subst P same h.2
+    third (inr more) = fourth (contains_cases (codes "conns", d) g [] more)
+
+    second : ((codes "listen", b) ≡ g) ⊎ Contains ((codes "target", c) ∷ (codes "conns", d) ∷ []) g → P g
+    second (inl same) = subst P same h.1
+    second (inr more) = third (contains_cases (codes "target", c) g ((codes "conns", d) ∷ []) more)
+
+    first : ((codes "way", a) ≡ g) ⊎ Contains ((codes "listen", b) ∷ (codes "target", c) ∷ (codes "conns", d) ∷ []) g → P g
+    first (inl same) = subst P same h.0
+    first (inr more) = second (contains_cases (codes "listen", b) g ((codes "target", c) ∷ (codes "conns", d) ∷ []) more)
+
+abbrev pub FindsFour : List Row → Text → Text → Text → Text → Type 0
+FindsFour rows a b c d = (first_of (codes "way") rows ≡ Some a) × (first_of (codes "listen") rows ≡ Some b)
+    × (first_of (codes "target") rows ≡ Some c) × (first_of (codes "conns") rows ≡ Some d)
+
+-- words without a fault, in which the four values are found, are the four options
+pub are_options : (words : List Text) (a b c d : Text) → NoDashes words → fault_of proxy_app words ≡ []
+    → FindsFour (matches_of proxy_app words) a b c d → AreOptions words (four a b c d)
+are_options words a b c d none e finds =
+    let read = (reads_all proxy_names words).0 (clean []) [] (clean_stands proxy_names [] nothing_distinct) none (passes_of words e) in
+    let gs = map given read.written in
+    let rows : matches_of proxy_app words ≡ map row gs = matches_rows words ∙ read.found in
+    let there : (n v : Text) → first_of n (matches_of proxy_app words) ≡ Some v → Contains gs (n, v) =
+        λ n v h. found_in n v gs (subst (λ (rs : List Row). first_of n rs ≡ Some v) rows h) in
+    record {
+      written = read.written;
+      order = in_order (four a b c d) gs (four_distinct a b c d) read.distinct
+          (there (codes "way") a finds.0, (there (codes "listen") b finds.1, (there (codes "target") c finds.2, (there (codes "conns") d finds.3, tt))))
+          (names_known proxy_names read.written read.known);
+      spelled = read.spelled;
+    }
+
+abbrev Writable : Given → Type 0
+Writable g = IsName proxy_names g.0 × IsPlainName g.0 × IsPlainValue g.1
+
+all_four : (a b c d : Text) (gs : List Given) → FindsFour (map row gs) a b c d → AreGiven proxy_names (map row gs)
+all_four a b c d gs finds n (inl same) = subst (λ (m : Text). is_given m (map row gs) ≡ true) same (given_found (codes "way") a gs finds.0)
+all_four a b c d gs finds n (inr (inl same)) =
+    subst (λ (m : Text). is_given m (map row gs) ≡ true) same (given_found (codes "listen") b gs finds.1)
+all_four a b c d gs finds n (inr (inr (inl same))) =
+    subst (λ (m : Text). is_given m (map row gs) ≡ true) same (given_found (codes "target") c gs finds.2)
+all_four a b c d gs finds n (inr (inr (inr (inl same)))) =
+    subst (λ (m : Text). is_given m (map row gs) ≡ true) same (given_found (codes "conns") d gs finds.3)
+all_four a b c d gs finds n (inr (inr (inr (inr h)))) = absurd h
+
+pub record Taken (words : List Text) (a b c d : Text) : Type 0 where
+  pub no_dashes : NoDashes words
+  pub no_fault : fault_of proxy_app words ≡ []
+  pub finds : FindsFour (matches_of proxy_app words) a b c d
+
+writable_value : (n v : Text) → IsName proxy_names n → strip_byte 45 v ≡ None → Writable (n, v)
+writable_value n v known fits = (known, plain_names n known, plain_value v fits)
+
+-- the four options are taken, and their values found
+pub options_taken : (words : List Text) (a b c d : Text) → AreOptions words (four a b c d)
+    → strip_byte 45 a ≡ None → strip_byte 45 b ≡ None → strip_byte 45 c ≡ None → strip_byte 45 d ≡ None
+    → Taken words a b c d
+options_taken words a b c d o plain_a plain_b plain_c plain_d =
+    let gs = map given o.written in
+    let back = IsPermutation-sym gs (four a b c d) o.order in
+    let distinct = permuted_distinct (four a b c d) gs back (four_distinct a b c d) in
+    let each : Four Writable a b c d = (
+        writable_value (codes "way") a (inl refl) plain_a,
+        writable_value (codes "listen") b (inr (inl refl)) plain_b,
+        writable_value (codes "target") c (inr (inr (inl refl))) plain_c,
+        writable_value (codes "conns") d (inr (inr (inr (inl refl)))) plain_d,
+    ) in
+    let fit = writable_from proxy_names o.written (λ g there. each_of_four Writable a b c d each g (Contains-permutation gs (four a b c d) g o.order there)) in
+    let made = flat_map option_words o.written in
+    let passed = passes_all proxy_names o.written (clean []) [] refl refl distinct fit in
+    let finds : (n v : Text) → Contains (four a b c d) (n, v) → first_of n (map row gs) ≡ Some v =
+        λ n v there. in_found n v gs distinct (Contains-permutation (four a b c d) gs (n, v) back there) in
+    let way = finds (codes "way") a (0, omega arith, refl) in
+    let listen = finds (codes "listen") b (1, omega arith, refl) in
+    let target = finds (codes "target") c (2, omega arith, refl) in
+    let conns = finds (codes "conns") d (3, omega arith, refl) in
+    let given_all : AreGiven proxy_names (map row gs) = all_four a b c d gs (way, listen, target, conns) in
+    let all : FindsFour (map row gs) a b c d = (way, listen, target, conns) in
+    subst (λ (ws : List Text). Taken ws a b c d) (sym o.spelled) (record {
+      no_dashes = options_no_dashes proxy_names o.written fit;
+      no_fault = fault_none made passed.passes (subst (AreGiven proxy_names) (sym passed.rows) given_all);
+      finds = subst (λ (rs : List Row). FindsFour rs a b c d) (sym (matches_rows made ∙ passed.rows)) all;
+    })

@@ -3,7 +3,7 @@ use Rattle.std.specs.Prelude.{◌≡◌, ℕ, ◌≤◌, List, [], ◌∷◌, co
 use Rattle.std.specs.Fmt.{decimal}
 use Rattle.nio_relay.specs.declared.plan.ProxyPlan.{ProxyPlan}
 use Rattle.nio_command.specs.Options.{Text, AreOptions}
-use Rattle.nio_command.specs.Values.{IsAddress, address_text}
+use Rattle.nio_command.specs.Values.{IsAddress, ProxyValues, address_text, proxy_options}
 use Rattle.nio_command.specs.declared.command.Command.{Command}
 use Rattle.nio_command.specs.declared.command.Command.TheVariants.{Script, Check, CheckFirst, Race, Proxy}
 
@@ -30,22 +30,21 @@ pub record IsInRange (plan : ProxyPlan) : Type 0 where
   pub some_connections : 1 ≤ plan.conns
   pub few_connections : plan.conns ≤ 16000
 
--- the four options of `proxy`, with these values
-abbrev pub proxy_options : Text → Text → Text → Text → List (Text × Text)
-proxy_options way listen target conns =
-    (codes "way", way) ∷ (codes "listen", listen) ∷ (codes "target", target) ∷ (codes "conns", conns) ∷ []
-
--- the options of a plan, as names and values
-abbrev pub options_of : ProxyPlan → List (Text × Text)
-options_of plan =
-    proxy_options (codes "select") (address_text plan.listen) (address_text plan.target) (decimal plan.conns)
+-- the values of a plan's options
+abbrev pub values_of : ProxyPlan → ProxyValues
+values_of plan = record {
+  way = codes "select";
+  listen = address_text plan.listen;
+  target = address_text plan.target;
+  conns = decimal plan.conns;
+}
 
 -- the word `proxy`, and the options of this plan
 pub record IsProxyCommand (words : List Text) (plan : ProxyPlan) : Type 0 where
   pub in_range : IsInRange plan
   pub rest : List Text
   pub begins : words ≡ codes "proxy" ∷ rest
-  pub options : AreOptions rest (options_of plan)
+  pub options : AreOptions rest (proxy_options (values_of plan))
 
 -- the words are this command
 abbrev pub IsCommand : List Text → Command → Type 0

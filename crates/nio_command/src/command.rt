@@ -1,7 +1,7 @@
 //! A command, and the words that it is.
-ghost use Rattle.std.specs.Prelude.{◌≡◌, ◌≢◌, ◌↔◌, List, ℕ, ◌∷◌, [], map, codes, Ok, Err, Some};
+ghost use Rattle.std.specs.Prelude.{◌≡◌, ◌≢◌, ◌↔◌, List, ℕ, ◌∷◌, [], map, codes, Ok, Err, Some, IfSome};
 ghost use Rattle.std.specs.String.{string_bytes};
-ghost use Rattle.nio_command.specs.Words.{IsCommand};
+ghost use Rattle.nio_command.specs.Words.{IsCommand, IsProxyCommand};
 
 use crate::options::read_options;
 use crate::plan::read_plan;
@@ -56,13 +56,18 @@ pub fn command_of(alloc: Global, words: &[String]) -> Result<Command, WordsError
 {
     match words {
         [word] => command_named(word.as_str()).ok_or(WordsError::Usage),
-        [word, options @ ..] if word.as_str() == "proxy" => read_proxy(alloc, options),
+        [word, options @ ..] if word.as_str() == "proxy" => {
+            read_proxy(alloc, options).map(Command::Proxy)
+        }
         _ => Err(WordsError::Usage),
     }
 }
 
 // The command that is this one word.
 fn command_named(word: &str) -> Option<Command>
+    ensures found { IfSome result (λ command. IsCommand (word.now ∷ []) command) }
+    ensures only { (command : Command) → IsCommand (word.now ∷ []) command
+        → result ≡ Some command }
 {
     match word {
         "script" => Some(Command::Script),
@@ -73,10 +78,14 @@ fn command_named(word: &str) -> Option<Command>
     }
 }
 
-// The command `proxy` with the options that these words are.
-fn read_proxy(alloc: Global, words: &[String]) -> Result<Command, WordsError>
+// The plan that these words behind `proxy` are.
+fn read_proxy(alloc: Global, words: &[String]) -> Result<ProxyPlan, WordsError>
+    ensures found { (plan : ProxyPlan) → result ≡ Ok plan
+        → IsProxyCommand (codes "proxy" ∷ map string_bytes words.now) plan }
+    ensures only { (plan : ProxyPlan)
+        → IsProxyCommand (codes "proxy" ∷ map string_bytes words.now) plan
+        → result ≢ Err WordsError.Memory → result ≡ Ok plan }
 {
     let texts = read_options(alloc, words)?.ok_or(WordsError::Usage)?;
-    let plan = read_plan(texts).ok_or(WordsError::Usage)?;
-    Ok(Command::Proxy(plan))
+    read_plan(texts).ok_or(WordsError::Usage)
 }

@@ -1,8 +1,13 @@
 //! The options of `proxy`, read as texts.
-ghost use Rattle.std.specs.Prelude.{◌≡◌, ◌≢◌, ◌↔◌, All, IfOk, IfSome, IsTrue, Some, Ok, false, map, codes};
+ghost use Rattle.std.specs.Prelude.{◌≡◌, IfOk, IfSome, IsSomeAnd, false, map, codes};
+ghost use Rattle.std.specs.List.{list_any};
+ghost use Rattle.std.specs.Str.{bytes_eq};
 ghost use Rattle.std.specs.String.{string_bytes};
-ghost use Rattle.clap.specs.Words.{app_of, rule_of};
+ghost use Rattle.clap.specs.Words.{app_of, found_of, rule_of};
+ghost use Rattle.nio_command.specs.Options.{AreOptions};
 ghost use Rattle.nio_command.specs.ProxyApp.{added_rule, proxy_app};
+ghost use Rattle.nio_command.specs.Texts.{AreNoOptions, FindsValues, texts_of};
+ghost use Rattle.nio_command.specs.Values.{ProxyValues, proxy_options};
 
 use clap::error::ErrorKind;
 use clap::{Arg, ArgMatches, Command};
@@ -22,8 +27,12 @@ pub fn read_options<'a>(
     alloc: Global,
     words: &'a [String],
 ) -> Result<Option<ProxyTexts<'a>>, AllocError>
+    ensures found { IfOk result (λ read. IfSome read (λ t.
+        AreOptions (map string_bytes words.now) (proxy_options (texts_of t)))) }
+    ensures only { (v : ProxyValues) → AreOptions (map string_bytes words.now) (proxy_options v)
+        → AreNoOptions v → IfOk result (λ read. IsSomeAnd read (λ t. texts_of t ≡ v)) }
 {
-    if words.iter().any(|word| word.as_str() == "--") {
+    if has_dashes(words) {
         return Ok(None);
     }
     let command = proxy_command(alloc)?;
@@ -32,6 +41,13 @@ pub fn read_options<'a>(
         Err(error) if error.kind() == ErrorKind::OutOfMemory => Err(AllocError),
         Err(_) => Ok(None),
     }
+}
+
+// Whether one of the words is `--`, behind which `clap` takes no word for an option.
+fn has_dashes(words: &[String]) -> bool
+    ensures { result ≡ list_any (λ w. bytes_eq w (codes "--")) (map string_bytes words.now) }
+{
+    words.iter().any(|word| word.as_str() == "--")
 }
 
 // The command whose options are those of `proxy`. It reads the words behind `proxy` alone, and has
@@ -58,6 +74,9 @@ fn required_option<'a>(alloc: Global, name: &'a str) -> Arg<'a>
 
 // The four texts, where each was found.
 fn texts_found<'a>(matches: &ArgMatches<'a>) -> Option<ProxyTexts<'a>>
+    ensures found { IfSome result (λ t. FindsValues (found_of matches.now) (texts_of t)) }
+    ensures only { (v : ProxyValues) → FindsValues (found_of matches.now) v
+        → IsSomeAnd result (λ t. texts_of t ≡ v) }
 {
     Some(ProxyTexts {
         way: matches.get_str("way")?,
