@@ -1,4 +1,5 @@
 pub mod Addresses
+pub mod Commands
 pub mod Givens
 pub mod LongWords
 pub mod Numbers

@@ -1,7 +1,7 @@
 -- The built command that reads the options of `proxy`.
 use Rattle.std.proofs.Common.{◌≡◌, refl, true, List, [], ◌∷◌, codes, map}
 use Rattle.clap.specs.Walk.{Rule, Text}
-use Rattle.clap.specs.Simple.{Shape, built, filled, new_shape}
+use Rattle.clap.specs.Simple.{Shape, built, filled, is_simple, new_shape}
 use Rattle.clap.specs.Faults.{is_simple_and_free}
 use Rattle.clap.proofs.OnLiterals.{clap_on_literals}
 use Rattle.nio_command.specs.ProxyApp.{added_rule, proxy_app, settings}
@@ -32,3 +32,7 @@ proxy_built = refl
 pub proxy_no_subs : (built proxy_app).subs ≡ []
 unfolding clap_on_literals
 proxy_no_subs = refl
+
+pub proxy_is_simple : is_simple proxy_app ≡ true
+unfolding clap_on_literals
+proxy_is_simple = refl

@@ -1,24 +1,33 @@
 -- What `clap` makes of the words behind `proxy`, both ways.
-use Rattle.std.proofs.Common.{◌≡◌, ◌⊎◌, ◌∙◌, ◌++◌, ◌||◌, ◌&&◌, ◌==◌, ◌<◌, ℕ, ◌+◌, ◌≤◌, zero, suc, Bool, true, false, not, List, [], ◌∷◌, Option, Some, None, cond, map, length, get_or, inl, inr, refl, sym, ap, ap₂, subst, arith, codes, IsPermutation}
+use Rattle.std.proofs.Common.{◌≡◌, ◌⊎◌, ◌∙◌, ◌++◌, ◌||◌, ◌&&◌, ◌==◌, ◌<◌, ℕ, ◌+◌, ◌≤◌, zero, suc, Bool, true, false, not, List, [], ◌∷◌, Option, Some, None, cond, map, length, get_or, inl, inr, refl, sym, ap, ap₂, subst, ⊎_elim, Result, arith, codes, IsPermutation}
 use Rattle.std.specs.Prelude.{find, fold}
 use Rattle.std.specs.List.{Contains, flat_map, list_any}
 use Rattle.std.specs.Str.{bytes_eq}
 use Rattle.std.proofs.lemmas.List.Sorted.{Contains-permutation, IsPermutation-sym}
-use Rattle.clap.specs.Faults.{built_fault, check_fault, default_fault, defaults_fault, fault_of, given_default_fault, level_fault, settle_fault, walk_fault}
-use Rattle.clap.specs.Kinds.{Kinds, or_else}
+use Rattle.clap.specs.Faults.{built_fault, check_fault, default_fault, defaults_fault, fault_of, given_default_fault, is_simple_and_free, level_fault, settle_fault, walk_fault}
+use Rattle.clap.specs.Kinds.{FailsBy, HasKind, Kinds, or_else}
 use Rattle.clap.specs.Lexer.{strip_byte}
-use Rattle.clap.specs.Simple.{App, Shape, built, label_of, matches_of, names_of}
+use Rattle.clap.specs.Simple.{App, HasMatchesOf, Shape, app_of, built, label_of, matches_of, names_of}
 use Rattle.clap.specs.Takes.{is_given}
-use Rattle.clap.specs.Walk.{Held, Row, Text, Walk, finished, first_of, has_row, nothing_held, rows_after, settled, walk_from, with_default}
+use Rattle.clap.specs.Walk.{Held, Row, Text, Walk, finished, first_of, has_row, nothing_held, rows_after, rows_of, settled, walk_from, with_default}
+use Rattle.clap.specs.Matches.{first_value, found_of}
+use Rattle.clap.specs.Values.{kind_of}
+use Rattle.clap.specs.declared.builder.command.Command.{Command}
+use Rattle.clap.specs.declared.error.Error.{Error}
+use Rattle.clap.specs.declared.error.kind.ErrorKind.TheVariants.{OutOfMemory}
+use Rattle.clap.specs.declared.parser.matches.ArgMatches.{ArgMatches}
 use Rattle.clap.proofs.FaultLemmas.{leaf_fault}
+use Rattle.clap.proofs.WalkLemmas.{first_value-rows}
+use Rattle.std.proofs.lemmas.Bool.{ne_eqb}
 use Rattle.nio_command.specs.Options.{AreOptions, Written, given, option_words}
 use Rattle.nio_command.specs.ProxyApp.{proxy_app}
-use Rattle.nio_command.specs.Values.{proxy_options}
+use Rattle.nio_command.specs.Texts.{AreNoOptions, FindsValues, IsNoOption}
+use Rattle.nio_command.specs.Values.{ProxyValues, proxy_options}
 use Rattle.nio_command.proofs.Givens.{Distinct, Given, bears, bears_cases, bears_small, contains_cases, found_in, in_found, nothing_distinct, row, times}
 use Rattle.nio_command.proofs.LongWords.{IsPlainName, IsPlainValue, plain_value, lacks_test}
 use Rattle.nio_command.proofs.Orders.{in_order, names_known, permuted_distinct, writable_from}
 use Rattle.nio_command.proofs.Parses.{NoDashes, Passes, end_of, options_no_dashes, passes_all, reads_all, rows_at_end}
-use Rattle.nio_command.proofs.ProxyApp.{option_rule, proxy_built, proxy_names, proxy_no_subs}
+use Rattle.nio_command.proofs.ProxyApp.{option_rule, proxy_built, proxy_is_free, proxy_is_simple, proxy_names, proxy_no_subs}
 use Rattle.nio_command.proofs.Table.{IsName, rules_of}
 use Rattle.nio_command.proofs.Turns.{clean, clean_stands, no_two, shape}
 
@@ -216,3 +225,52 @@ options_taken words a b c d o plain_a plain_b plain_c plain_d =
       no_fault = fault_none made passed.passes (subst (AreGiven proxy_names) (sym passed.rows) given_all);
       finds = subst (λ (rs : List Row). FindsFour rs a b c d) (sym (matches_rows made ∙ passed.rows)) all;
     })
+
+-- ---- what the functions use
+
+unlike : (text : Text) → IsNoOption text → strip_byte 45 text ≡ None
+unlike [] h = refl
+unlike (x ∷ xs) h = rw (ne_eqb x 45 h) refl
+
+pub values_taken : (words : List Text) (v : ProxyValues) → AreOptions words (proxy_options v) → AreNoOptions v
+    → Taken words v.way v.listen v.target v.conns
+values_taken words v o p =
+    options_taken words v.way v.listen v.target v.conns o (unlike v.way p.way) (unlike v.listen p.listen)
+    (unlike v.target p.target) (unlike v.conns p.conns)
+
+pub fault_at : {T : Type 0} (c : Command) (words : List Text) (r : Result T Error) → app_of c ≡ proxy_app
+    → (is_simple_and_free (app_of c) ≡ true → FailsBy (fault_of (app_of c) words) r) → FailsBy (fault_of proxy_app words) r
+fault_at {T} c words r same kinds =
+    let at : is_simple_and_free proxy_app ≡ true → FailsBy (fault_of proxy_app words) r =
+        subst (λ (a : App). is_simple_and_free a ≡ true → FailsBy (fault_of a words) r) same kinds in
+    at proxy_is_free
+
+pub rows_at : (c : Command) (words : List Text) (m : ArgMatches) → app_of c ≡ proxy_app → HasMatchesOf (app_of c) words m
+    → rows_of (found_of m) ≡ matches_of proxy_app words
+rows_at c words m same has =
+    let at : HasMatchesOf proxy_app words m = subst (λ (a : App). HasMatchesOf a words m) same has in
+    (at proxy_is_simple).0
+
+first_is : (m : ArgMatches) (rows : List Row) (n : Text) → rows_of (found_of m) ≡ rows → first_value (found_of m) n ≡ first_of n rows
+first_is m rows n same = first_value-rows (found_of m) n ∙ ap (first_of n) same
+
+pub found_four : (m : ArgMatches) (rows : List Row) (v : ProxyValues) → rows_of (found_of m) ≡ rows → FindsValues (found_of m) v
+    → FindsFour rows v.way v.listen v.target v.conns
+found_four m rows v same f = (
+  sym (first_is m rows (codes "way") same) ∙ f.way,
+  sym (first_is m rows (codes "listen") same) ∙ f.listen,
+  sym (first_is m rows (codes "target") same) ∙ f.target,
+  sym (first_is m rows (codes "conns") same) ∙ f.conns,
+)
+
+pub four_found : (m : ArgMatches) (rows : List Row) (v : ProxyValues) → rows_of (found_of m) ≡ rows
+    → FindsFour rows v.way v.listen v.target v.conns → FindsValues (found_of m) v
+four_found m rows v same f = record {
+  way = first_is m rows (codes "way") same ∙ f.0;
+  listen = first_is m rows (codes "listen") same ∙ f.1;
+  target = first_is m rows (codes "target") same ∙ f.2;
+  conns = first_is m rows (codes "conns") same ∙ f.3;
+}
+
+pub only_memory : (kinds : Kinds) (e : Error) → kinds ≡ [] → HasKind kinds e → kind_of e ≡ OutOfMemory
+only_memory kinds e none h = ⊎_elim (λ memory. memory) (λ among. absurd among) (subst (λ (k : Kinds). HasKind k e) none h)

@@ -57,7 +57,7 @@ pub fn command_of(alloc: Global, words: &[String]) -> Result<Command, WordsError
     match words {
         [word] => command_named(word.as_str()).ok_or(WordsError::Usage),
         [word, options @ ..] if word.as_str() == "proxy" => {
-            read_proxy(alloc, options).map(Command::Proxy)
+            Ok(Command::Proxy(read_proxy(alloc, options)?))
         }
         _ => Err(WordsError::Usage),
     }

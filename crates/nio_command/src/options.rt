@@ -45,9 +45,14 @@ pub fn read_options<'a>(
 
 // Whether one of the words is `--`, behind which `clap` takes no word for an option.
 fn has_dashes(words: &[String]) -> bool
-    ensures { result ≡ list_any (λ w. bytes_eq w (codes "--")) (map string_bytes words.now) }
+    ensures { result ≡ list_any (λ w. bytes_eq (string_bytes w) (codes "--")) words.now }
 {
-    words.iter().any(|word| word.as_str() == "--")
+    for word in words {
+        if word.as_str() == "--" {
+            return true;
+        }
+    }
+    false
 }
 
 // The command whose options are those of `proxy`. It reads the words behind `proxy` alone, and has
