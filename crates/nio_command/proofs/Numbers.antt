@@ -37,3 +37,9 @@ is_number {E} text v r begins parsed is =
 pub parses_as : {E : Type 0} (text : List ℕ) (n : ℕ) (r : Result ℕ E) → n < 2 ^ 32 → text ≡ decimal n
     → ParsesUnsigned 32 10 text r → r ≡ Ok n
 parses_as text n r h e parsed = parse-decimal 32 n text r (omega arith) (omega arith) e parsed
+
+-- a number does not begin with a hyphen
+pub decimal_plain : (n : ℕ) → n < 2 ^ 32 → get_or (decimal n) 0 0 ≢ 45
+decimal_plain n h =
+    let small : n < 2 ^ 64 = omega arith in
+    not_in_digits own (decimal n) 45 (digits_decimal own n small) (λ r. omega (arith, r)) 0 (decimal_nonempty n small)

@@ -1,8 +1,9 @@
 -- What `clap` tells of the parse, and what that says of the words.
-use Rattle.std.proofs.Common.{[], codes, map, Bool, false, ◌≡◌, ◌∙◌, sym, refl, subst}
+use Rattle.std.proofs.Common.{[], codes, map, Bool, false, true, ◌≡◌, ◌∙◌, sym, refl, subst}
 use Rattle.std.specs.String.{string_bytes}
 use Rattle.std.proofs.lemmas.Option.{IfSome_then}
 use Rattle.std.specs.List.{list_any}
+use Rattle.std.proofs.lemmas.Bool.{false≢true}
 use Rattle.std.specs.Str.{bytes_eq}
 use Rattle.clap.proofs.WalkLemmas.{list_any-map}
 use Rattle.clap.specs.declared.error.kind.ErrorKind.TheVariants.{OutOfMemory}
@@ -50,5 +51,5 @@ returns-clause-only c = λ v o p.
     let memory = only_memory (fault_of proxy_app words) c.in-Err.error taken.no_fault kinds in
     let same : c.kind.result ≡ OutOfMemory = c.kind.ensures ∙ memory in
     let is = c.eq.ensures in
-    let differs = c.if-eq.false in
-    ?
+    let now : c.eq.result ≡ true = rw same at is in
+    false≢true (sym c.if-eq.false ∙ now)
