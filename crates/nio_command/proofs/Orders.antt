@@ -24,9 +24,10 @@ permuted_distinct gs os p d n = let most : times n gs ≤ 1 = d n in omega (arit
 
 move_all : (o : Given) (gs rest os : List Given) → IsPermutation gs (o ∷ rest) → times o.0 os ≡ 0 → AllIn gs os → AllIn rest os
 move_all o gs rest [] p none all = tt
-move_all o gs rest (x ∷ os) p none all =
-    (there (contains_cases o x rest (Contains-permutation gs (o ∷ rest) x p all.0)),
-    move_all o gs rest os p (omega (arith, sum_by-cons (bears o.0) x os)) all.1)
+move_all o gs rest (x ∷ os) p none all = (
+  there (contains_cases o x rest (Contains-permutation gs (o ∷ rest) x p all.0)),
+  move_all o gs rest os p (omega (arith, sum_by-cons (bears o.0) x os)) all.1,
+)
   where
     there : (o ≡ x) ⊎ Contains rest x → Contains rest x
     there (inl same) =
@@ -63,7 +64,7 @@ in_order (o ∷ os) gs d e all known =
     let e2 = permuted_distinct gs (o ∷ rest) p e in
     let none = own_none o rest e2 in
     let known2 : (g : Given) → Contains (o ∷ rest) g → IsName (names_of_options (o ∷ os)) g.0 =
-        λ g c. known g (Contains-permutation (o ∷ rest) gs g (IsPermutation-sym gs (o ∷ rest) p) c) in
+    λ g c. known g (Contains-permutation (o ∷ rest) gs g (IsPermutation-sym gs (o ∷ rest) p) c) in
     IsPermutation-trans gs (o ∷ rest) (o ∷ os) p
     (IsPermutation-cons o rest os
     (in_order os rest (tail_distinct o os d) (tail_distinct o rest e2) (move_all o gs rest os p (own_none o os d) all.1)

@@ -102,7 +102,7 @@ fault_none : (words : List Text) → Passes proxy_names start words → AreGiven
 fault_none words p given =
     let rows = rows_at_end proxy_names start words in
     let checked : check_fault (shape proxy_names) (finished (rules_of proxy_names) (end_of proxy_names start words)) false ≡ [] =
-        ap (λ (rs : List Row). check_fault (shape proxy_names) rs false) (no_defaults proxy_names rows) ∙ check_passes proxy_names rows given in
+    ap (λ (rs : List Row). check_fault (shape proxy_names) rs false) (no_defaults proxy_names rows) ∙ check_passes proxy_names rows given in
     fault_level words ∙ rw (p.walk, p.end, defaults_pass proxy_names rows) checked
 
 -- ---- the four options
@@ -165,7 +165,7 @@ are_options words a b c d none e finds =
     let gs = map given read.written in
     let rows : matches_of proxy_app words ≡ map row gs = matches_rows words ∙ read.found in
     let there : (n v : Text) → first_of n (matches_of proxy_app words) ≡ Some v → Contains gs (n, v) =
-        λ n v h. found_in n v gs (subst (λ (rs : List Row). first_of n rs ≡ Some v) rows h) in
+    λ n v h. found_in n v gs (subst (λ (rs : List Row). first_of n rs ≡ Some v) rows h) in
     record {
       written = read.written;
       order = in_order (four a b c d) gs (four_distinct a b c d) read.distinct
@@ -204,16 +204,16 @@ options_taken words a b c d o plain_a plain_b plain_c plain_d =
     let back = IsPermutation-sym gs (four a b c d) o.order in
     let distinct = permuted_distinct (four a b c d) gs back (four_distinct a b c d) in
     let each : Four Writable a b c d = (
-        writable_value (codes "way") a (inl refl) plain_a,
-        writable_value (codes "listen") b (inr (inl refl)) plain_b,
-        writable_value (codes "target") c (inr (inr (inl refl))) plain_c,
-        writable_value (codes "conns") d (inr (inr (inr (inl refl)))) plain_d,
+      writable_value (codes "way") a (inl refl) plain_a,
+      writable_value (codes "listen") b (inr (inl refl)) plain_b,
+      writable_value (codes "target") c (inr (inr (inl refl))) plain_c,
+      writable_value (codes "conns") d (inr (inr (inr (inl refl)))) plain_d,
     ) in
     let fit = writable_from proxy_names o.written (λ g there. each_of_four Writable a b c d each g (Contains-permutation gs (four a b c d) g o.order there)) in
     let made = flat_map option_words o.written in
     let passed = passes_all proxy_names o.written (clean []) [] refl refl distinct fit in
     let finds : (n v : Text) → Contains (four a b c d) (n, v) → first_of n (map row gs) ≡ Some v =
-        λ n v there. in_found n v gs distinct (Contains-permutation (four a b c d) gs (n, v) back there) in
+    λ n v there. in_found n v gs distinct (Contains-permutation (four a b c d) gs (n, v) back there) in
     let way = finds (codes "way") a (0, omega arith, refl) in
     let listen = finds (codes "listen") b (1, omega arith, refl) in
     let target = finds (codes "target") c (2, omega arith, refl) in
@@ -242,7 +242,7 @@ pub fault_at : {T : Type 0} (c : Command) (words : List Text) (r : Result T Erro
     → (is_simple_and_free (app_of c) ≡ true → FailsBy (fault_of (app_of c) words) r) → FailsBy (fault_of proxy_app words) r
 fault_at {T} c words r same kinds =
     let at : is_simple_and_free proxy_app ≡ true → FailsBy (fault_of proxy_app words) r =
-        subst (λ (a : App). is_simple_and_free a ≡ true → FailsBy (fault_of a words) r) same kinds in
+    subst (λ (a : App). is_simple_and_free a ≡ true → FailsBy (fault_of a words) r) same kinds in
     at proxy_is_free
 
 pub rows_at : (c : Command) (words : List Text) (m : ArgMatches) → app_of c ≡ proxy_app → HasMatchesOf (app_of c) words m

@@ -157,7 +157,7 @@ walked_long : (names : List Text) (h : Held) (word n : Text) (v : Option Text) �
     → long_of word ≡ Some (n, v) → IsName names n
     → walked (rules_of names) [] (walk_from h) word
     ≡ (let met = after_flag (rules_of names) idle word (option_met (rules_of names) (option_rule n) v h).0
-        (option_met (rules_of names) (option_rule n) v h).1 in
+    (option_met (rules_of names) (option_rule n) v h).1 in
     after_step (rules_of names) word (walk_from h) met.0 met.1)
 unfolding walked
 walked_long names h word n v other e known = rw (other, e, long_found names n known) refl
@@ -170,10 +170,10 @@ turn_idle names h gs word st other e = by_long (long_of word) refl
         → option_fault (rules_of names) false (option_rule n) v h ≡ [] → Turn names h gs word
     by_value n (Some v) long known f =
         let both = no_two (settle_fault (rules_of names) false h)
-            (use_fault false (option_rule n) (v ∷ []) (settled (rules_of names) h).rows) f in
+        (use_fault false (option_rule n) (v ∷ []) (settled (rules_of names) h).rows) f in
         let now = st.counts both.0 in
         let fault : use_fault false (option_rule n) (v ∷ []) (map row gs) ≡ [] =
-            subst (λ (k : Held). use_fault false (option_rule n) (v ∷ []) k.rows ≡ []) now.0 both.1 in
+        subst (λ (k : Held). use_fault false (option_rule n) (v ∷ []) k.rows ≡ []) now.0 both.1 in
         let fresh = fresh_of n v (map row gs) fault in
         let made = long_made word n (Some v) long in
         took n v (made.1 ∙ ap (λ (t : Text). 45 ∷ 45 ∷ t) made.2) known (more_distinct n v gs fresh now.1)
@@ -245,7 +245,7 @@ pub joined_turn : (names : List Text) (h : Held) (gs : List Given) (n v : Text) 
     → turn_fault (shape names) [] (walk_from h) (joined_word n v) ≡ []
 joined_turn names h gs n v known fits settles is fresh =
     let used_once : use_fault false (option_rule n) (v ∷ []) (settled (rules_of names) h).rows ≡ [] =
-        subst (λ (k : Held). use_fault false (option_rule n) (v ∷ []) k.rows ≡ []) (sym is) (use_fresh n v (map row gs) fresh) in
+    subst (λ (k : Held). use_fault false (option_rule n) (v ∷ []) k.rows ≡ []) (sym is) (use_fresh n v (map row gs) fresh) in
     rw (joined_no_dashes n v, long_joined n v fits.no_equals, long_found names n known, settles, used_once) refl
 
 pub joined_walked : (names : List Text) (h : Held) (gs : List Given) (n v : Text) → IsName names n → IsPlainName n
@@ -271,7 +271,7 @@ alone_walked names h gs n known fits is =
 
 pub value_turn : (names : List Text) (gs : List Given) (n v : Text) → IsName names n → IsPlainValue v
     → turn_fault (shape names) [] (naming gs n) v ≡ []
-value_turn names gs n v known fits = 
+value_turn names gs n v known fits =
     rw (fits.no_dashes, fits.no_long, fits.no_short)
     (ap (λ (p : Held × Step). step_fault (shape names) 1 p.0 p.1) (plain_named names gs n v known))
 

@@ -18,4 +18,3 @@ proxy_app = with_rule
     (added_rule (codes "listen")))
     (added_rule (codes "target")))
     (added_rule (codes "conns"))
-

@@ -8,3 +8,5 @@ mod command;
 mod number;
 mod options;
 mod plan;
+#[cfg(test)]
+mod tests;

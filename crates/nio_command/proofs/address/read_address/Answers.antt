@@ -31,10 +31,11 @@ returns-clause-found c =
     let port = c.in_ok-port.ensures.found in
     let octets = c.octets.result in
     let dotted = dotted_read c.in_ok-ip.ip.now c.parse.result c.ok.result c.in_ok-ip-2.ip octets c.parse.ensures.value
-        c.ok.ensures.value c.in_ok-ip-2.was c.octets.ensures in
-    let cut = cut_text c.args.text.now c.in_ok-ip.ip.now c.in_ok-ip.port.now parts.0 parts.1 parts.2 in
-    (address_read c.in_ok-ip.ip.now octets c.in_ok-port.port dotted port.0 port.1,
-    cut ∙ ap₂ (λ (x y : List ℕ). x ++ codes ":" ++ y) (text_of_dotted c.in_ok-ip.ip.now octets dotted) port.2)
+    c.ok.ensures.value c.in_ok-ip-2.was c.octets.ensures in
+    let cut = cut_text c.args.text.now c.in_ok-ip.ip.now c.in_ok-ip.port.now parts.0 parts.1 parts.2 in (
+      address_read c.in_ok-ip.ip.now octets c.in_ok-port.port dotted port.0 port.1,
+      cut ∙ ap₂ (λ (x y : List ℕ). x ++ codes ":" ++ y) (text_of_dotted c.in_ok-ip.ip.now octets dotted) port.2,
+    )
 
 pub returns-clause-only : goal.returns-clause-only
 returns-clause-only c = λ a h e.

@@ -16,7 +16,7 @@ returns-in_default-clause-only c = λ n least most e.
 pub returns-then-number-most-clause-found : goal.returns-then-number-most-clause-found
 returns-then-number-most-clause-found c =
     let is = is_number c.args.text.now c.in-Ok.number c.parse.result (c.if-not-begins_as_number.ensures.0 refl)
-        c.parse.ensures.value.0 c.in-Ok.is in
+    c.parse.ensures.value.0 c.in-Ok.is in
     (omega arith, omega arith, is)
 
 pub returns-then-number-most-clause-only : goal.returns-then-number-most-clause-only

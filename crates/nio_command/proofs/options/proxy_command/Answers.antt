@@ -8,10 +8,10 @@ use Rattle.nio_command.proofs.options.proxy_command.Goals as goal
 pub returns : goal.returns
 returns c =
     let start : app_of c.disable_help_flag.result ≡ on_top settings (new_app (codes "proxy")) =
-        ap app_of_fields c.disable_help_flag.ensures
-        ∙ ap (on_top (λ (s : Shape). record s { disable_help_flag = true }))
-        (ap app_of_fields c.no_binary_name.ensures
-        ∙ ap (on_top (λ (s : Shape). record s { no_binary_name = true })) c.new.ensures.app) in
+    ap app_of_fields c.disable_help_flag.ensures
+    ∙ ap (on_top (λ (s : Shape). record s { disable_help_flag = true }))
+    (ap app_of_fields c.no_binary_name.ensures
+    ∙ ap (on_top (λ (s : Shape). record s { no_binary_name = true })) c.new.ensures.app) in
     let one = c.in_ok-arg.ensures.shape c.required_option.ensures.local ∙ ap₂ with_rule start c.required_option.ensures.rule in
     let two = c.in_ok-arg-2.ensures.shape c.required_option-2.ensures.local ∙ ap₂ with_rule one c.required_option-2.ensures.rule in
     let three = c.in_ok-arg-3.ensures.shape c.required_option-3.ensures.local ∙ ap₂ with_rule two c.required_option-3.ensures.rule in

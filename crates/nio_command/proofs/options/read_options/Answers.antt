@@ -19,7 +19,7 @@ pub returns-then-has_dashes-clause-only : goal.returns-then-has_dashes-clause-on
 returns-then-has_dashes-clause-only c = λ v o p.
     let taken = values_taken (map string_bytes c.args.words.now) v o p in
     let any : c.has_dashes.result ≡ list_any (λ w. bytes_eq w (codes "--")) (map string_bytes c.args.words.now) =
-        c.has_dashes.ensures ∙ list_any-map (λ w. bytes_eq w (codes "--")) string_bytes c.args.words.now in
+    c.has_dashes.ensures ∙ list_any-map (λ w. bytes_eq w (codes "--")) string_bytes c.args.words.now in
     cc (taken.no_dashes, any, c.if-has_dashes.true)
 
 pub returns-in-Ok-clause-found : goal.returns-in-Ok-clause-found
@@ -31,7 +31,7 @@ returns-in-Ok-clause-found c =
     IfSome_then c.texts_found.result c.texts_found.ensures.found
     (λ t f.
     let v = texts_of t in
-    are_options words v.way v.listen v.target v.conns 
+    are_options words v.way v.listen v.target v.conns
     (sym (c.has_dashes.ensures ∙ list_any-map (λ w. bytes_eq w (codes "--")) string_bytes c.args.words.now) ∙ c.if-has_dashes.false) none
     (found_four c.in-Ok.matches (matches_of proxy_app words) v rows f))
 
