@@ -1,9 +1,10 @@
 -- The line `block`.
-use Rattle.std.proofs.Common.{◌≡◌, ◌≢◌, ℕ, ◌<◌, ◌==◌, not, Bool, true, false, Option, Some, None, List, [], ◌++◌, bit_and, if◌then◌else◌, Result, Ok, Err, ◌⊎◌, inl, inr, tt, refl, sym, ap, ◌∙◌, subst, eqb-true, eq-eqb}
+use Rattle.std.proofs.Common.{◌≡◌, ◌≢◌, ℕ, ◌<◌, ◌==◌, not, Bool, true, false, Option, Some, None, List, [], ◌++◌, bit_and, if◌then◌else◌, Result, Ok, Err, IfOk, ◌⊎◌, ⊎_elim, arith, refl, sym, ap, ◌∙◌, subst, eqb-true, eq-eqb}
 use Rattle.std.proofs.Math.Logic.{∥∥₁_map}
 use Rattle.std.proofs.lemmas.List.{append-nil}
 use Rattle.std.proofs.lemmas.Nat.Bits.{bit_at_and, same_from_bits}
 use Rattle.std.specs.List.{Contains}
+use Rattle.std.specs.declared.alloc.AllocError.{AllocError}
 use Rattle.nio_base.specs.declared.limits.Limits.{Limits}
 use Rattle.nio_base.specs.declared.numbers.CallerNo.{CallerNo}
 use Rattle.nio_base.specs.declared.numbers.ChanNo.{ChanNo}
@@ -64,22 +65,14 @@ said_selected (selected y) x is = ap selected (cc (sym is))
 said_selected (not_begun begin_error.ClosedSelector) x is = absurd (cc is)
 said_selected (not_begun begin_error.Busy) x is = absurd is
 said_selected (not_begun begin_error.Memory) x is = absurd (cc is)
-said_selected left x is = neither is
-  where
-    neither : (Ok x ≡ Err select_error.PollFault) ⊎ (Ok x ≡ Err select_error.Memory) → left ≡ selected x
-    neither (inl no) = absurd (cc no)
-    neither (inr no) = absurd (cc no)
+said_selected left x is = ⊎_elim (λ fault. absurd (cc fault)) (λ memory. absurd (cc memory)) is
 
 said_closed : (r : SelectReply) → Answers r (Err select_error.ClosedSelector) → r ≡ not_begun begin_error.ClosedSelector
 said_closed (selected y) is = absurd (cc is)
 said_closed (not_begun begin_error.ClosedSelector) is = refl
 said_closed (not_begun begin_error.Busy) is = absurd is
 said_closed (not_begun begin_error.Memory) is = absurd (cc is)
-said_closed left is = neither is
-  where
-    neither : (Err {A = Selected} select_error.ClosedSelector ≡ Err select_error.PollFault) ⊎ (Err {A = Selected} select_error.ClosedSelector ≡ Err select_error.Memory) → left ≡ not_begun begin_error.ClosedSelector
-    neither (inl no) = absurd (cc no)
-    neither (inr no) = absurd (cc no)
+said_closed left is = ⊎_elim (λ fault. absurd (cc fault)) (λ memory. absurd (cc memory)) is
 
 module _ (w : Words) (d d' : Desk) (me : CallerNo) (s : SelNo) where
   -- the selection answered
@@ -123,6 +116,13 @@ module _ (w : Words) (d d' : Desk) (me : CallerNo) (s : SelNo) where
       → BlocksOn w d1 d' me s r → LineOn w d d' me (Block s) r
   blocks_found d1 found r same looks blocks =
       then_call looks (subst (λ (p : Progress). CallClause me (Blocks p s) (view w d1.pass) (view w d'.pass) (record { reply = r; left = progress_of d' })) same blocks)
+
+  -- the same of what may lack memory
+  pub line_of_found : (d1 : Desk) (found : SelNo) (result : Result Reply AllocError) → progress_of d1 ≡ progress_of d
+      → CallClause me (Completes (find_selector_plan (limits_of w) s.0)) (view w d.pass) (view w d1.pass) (Some found)
+      → IfOk result (λ r. BlocksOn w d1 d' me s r) → IfOk result (LineOn w d d' me (Block s))
+  line_of_found d1 found (Ok r) same looks blocks = blocks_found d1 found r same looks blocks
+  line_of_found d1 found (Err e) same looks blocks = tt
 
   pub blocks_nowhere : progress_of d' ≡ progress_of d → CallClause me (Completes (find_selector_plan (limits_of w) s.0)) (view w d.pass) (view w d'.pass) None
       → LineOn w d d' me (Block s) reply.NoSelector

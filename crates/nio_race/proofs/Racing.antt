@@ -1,5 +1,5 @@
 -- The lines of a caller, one after the other.
-use Rattle.std.proofs.Common.{◌≡◌, ℕ, suc, ◌+◌, ◌<◌, ◌==◌, Bool, true, false, if◌then◌else◌, List, [], ◌∷◌, ◌++◌, length, map, refl, sym, ap, ◌∙◌, subst, append_assoc, tt}
+use Rattle.std.proofs.Common.{◌≡◌, ℕ, suc, ◌+◌, ◌<◌, ◌==◌, Bool, true, false, if◌then◌else◌, List, [], ◌∷◌, ◌++◌, length, map, refl, sym, ap, ◌∙◌, subst, append_assoc}
 use Rattle.std.specs.Prelude.{filter}
 use Rattle.std.proofs.lemmas.List.{append-nil, map-append}
 use Rattle.std.proofs.lemmas.List.Elements.{filter-append}
@@ -106,3 +106,15 @@ goes_on w race line me first d d' replies replies' own at more stands later =
       stands = stands;
       later = prefix_trans _ _ _ at.later later;
     }
+
+-- a line more of the race
+pub one_more : (w : Words) (race : List RaceLine) (line : RaceLine) (me : CallerNo) (first d d' : Desk) (replies replies' : List Reply) → IsRacing w race me first d replies
+    → ((line.caller.0 == me.0) ≡ true → RepliesLine w d d' me line.call replies replies') → ((line.caller.0 == me.0) ≡ false → (d' ≡ d) × (replies' ≡ replies))
+    → StandsFor w d' me → IsPrefix (seen d.pass) (seen d'.pass) → IsRacing w (race ++ line ∷ []) me first d' replies'
+one_more w race line me first d d' replies replies' at own other stands later = by_test (line.caller.0 == me.0) refl
+  where
+    by_test : (b : Bool) → (line.caller.0 == me.0) ≡ b → IsRacing w (race ++ line ∷ []) me first d' replies'
+    by_test true is = goes_on w race line me first d d' replies replies' is at (own is) stands later
+    by_test false is =
+        subst (λ (x : Desk). IsRacing w (race ++ line ∷ []) me first x replies') (sym (other is).0)
+        (subst (λ (rs : List Reply). IsRacing w (race ++ line ∷ []) me first d rs) (sym (other is).1) (passes_by w race line me first d replies is at))

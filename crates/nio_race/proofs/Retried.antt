@@ -1,5 +1,5 @@
 -- A line that is made again while its channel is held.
-use Rattle.std.proofs.Common.{◌≡◌, ◌&&◌, Bool, true, false, List, tt, refl, sym, ap, ◌∙◌, subst}
+use Rattle.std.proofs.Common.{◌≡◌, ◌&&◌, Bool, true, false, List, [], refl, sym, ap, ◌∙◌, subst}
 use Rattle.nio_base.specs.declared.numbers.CallerNo.{CallerNo}
 use Rattle.nio_event.specs.PassViews.{PassView}
 use Rattle.nio_event.specs.declared.call.Call.{Call}
@@ -9,8 +9,11 @@ use Rattle.nio_serial.specs.Documented.{Progress}
 use Rattle.nio_serial.specs.Lines.{Said, line_plan}
 use Rattle.nio_sole.specs.Stands.{progress_of}
 use Rattle.nio_sole.specs.declared.desk.Desk.{Desk}
-use Rattle.nio_poller.proofs.Trying.{trying_none}
-use Rattle.nio_steps.proofs.WaitingLaws.{TryingClause, try_more, try_last}
+use Rattle.nio_event.proofs.PassViews.{acts_nothing}
+use Rattle.nio_event.specs.declared.act.Act.{Act}
+use Rattle.nio_steps.proofs.CallLaws.{call_of_acts}
+use Rattle.nio_steps.proofs.WaitingLaws.{TryingClause, tries_none, try_more, try_last}
+use Rattle.nio_steps.specs.Waiting.{Tries}
 use Rattle.nio_steps.specs.Calls.{CallClause}
 use Rattle.nio_steps.specs.Runs.{Completes}
 use Rattle.nio_words.specs.Passes.{limits_of, seen}
@@ -34,7 +37,9 @@ begins w d me word stands = record {
   stands = stands;
   later = prefix_self (seen d.pass);
   same = refl;
-  tries = trying_none me (λ (_ : Unit {0}). Completes (line_plan (limits_of w) (progress_of d) me word)) (λ _. is_made_again word) (view w d.pass) stands.ready.pass.legal;
+  tries =
+      let shape = λ (_ : Unit {0}). Completes (line_plan (limits_of w) (progress_of d) me word) in
+      call_of_acts (λ acts (_ : Unit {0}). Tries shape (λ _. is_made_again word) acts) [] tt (acts_nothing me (view w d.pass) stands.ready.pass.legal) (tries_none shape (λ _. is_made_again word));
 }
 
 module _ (w : Words) (first d d' : Desk) (me : CallerNo) (word : Call) (r : Reply) (at : IsTrying w first d me word) (once : MakesOnce w d d' me word r) where

@@ -30,7 +30,7 @@ pub(crate) fn script_line<R: Wait>(
 {
     for _ in rt.forever() {
         let reply = make_line_once(alloc, w, d, me, call)?;
-        if !(waits_for_hold(call) && is_busy(&reply)) {
+        if !is_made_again(call, &reply) {
             return Ok(reply);
         }
         thread::yield_now();
@@ -52,6 +52,13 @@ fn make_line_once(
     ensures later { IsPrefix (seen d.old.pass) (seen d.new.pass) }
 {
     make_line(alloc, w, d, me, call)
+}
+
+// Whether the line is made again: its call waits for a hold that another caller has.
+fn is_made_again(call: &Call, reply: &Reply) -> bool
+    ensures { result ≡ (waits_for_a_hold call.now && is_said_busy reply.now) }
+{
+    waits_for_hold(call) && is_busy(reply)
 }
 
 // Whether the call waits until nobody else holds the channel.

@@ -1,5 +1,5 @@
 //! A caller of a race: its lines after `go`, in a thread of its own.
-ghost use Rattle.std.specs.Prelude.{◌≡◌, [], IfOk};
+ghost use Rattle.std.specs.Prelude.{◌≡◌, ◌==◌, true, false, [], IfOk};
 ghost use mathlib.Core.List.{IsPrefix};
 ghost use Rattle.nio_words.specs.Passes.{IsPassOf, seen};
 ghost use Rattle.nio_race.specs.Racers.{HasRaced, IsSetOff, LineOn, MadeLines, RepliesLine, StandsFor};
@@ -73,15 +73,37 @@ fn run_all<R: Wait, G: Gate>(
     ensures pass { IsPassOf w.now d.new.pass }
     ensures later { IsPrefix (seen d.old.pass) (seen d.new.pass) }
 {
-    let mut number = 0;
     for line in race {
-        if line.caller.0 == me.0 {
-            number += 1;
-            gate.pass(rt, me.0, number);
-            run_one(rt, alloc, w, bells, me, d, sleeper, &line.call, replies)?;
-        }
+        run_if_own(rt, alloc, w, bells, gate, me, d, sleeper, line, replies)?;
     }
     Ok(())
+}
+
+// Makes a line of the race, where it is the caller's.
+fn run_if_own<R: Wait, G: Gate>(
+    rt: &R,
+    alloc: Global,
+    w: &Words,
+    bells: &[SleeperBell],
+    gate: &G,
+    me: CallerNo,
+    d: &mut Desk,
+    sleeper: &mut Sleeper,
+    line: &RaceLine,
+    replies: &mut Vec<Reply>,
+) -> Result<(), AllocError>
+    requires { StandsFor w.now d.old me }
+    ensures own { IfOk result (λ _. (line.now.caller.0 == me.0) ≡ true → RepliesLine w.now d.old d.new me line.now.call replies.old.items replies.new.items) }
+    ensures other { IfOk result (λ _. (line.now.caller.0 == me.0) ≡ false → (d.new ≡ d.old) × (replies.new.items ≡ replies.old.items)) }
+    ensures stands { IfOk result (λ _. StandsFor w.now d.new me) }
+    ensures pass { IsPassOf w.now d.new.pass }
+    ensures later { IsPrefix (seen d.old.pass) (seen d.new.pass) }
+{
+    if line.caller.0 != me.0 {
+        return Ok(());
+    }
+    gate.pass(rt, me.0, replies.len() as u64 + 1);
+    run_one(rt, alloc, w, bells, me, d, sleeper, &line.call, replies)
 }
 
 // Makes a line, and keeps its reply.
