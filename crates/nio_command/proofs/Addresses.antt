@@ -1,7 +1,7 @@
 -- The text of an address.
-use Rattle.std.proofs.Common.{◌≡◌, ◌≢◌, ◌⊎◌, ◌∙◌, ◌<◌, ◌≤◌, ◌==◌, ◌^◌, ◌++◌, ℕ, ◌+◌, Bool, true, false, List, [], ◌∷◌, length, get_or, take, All, Option, None, Some, Result, Ok, Err, refl, sym, ap, ap₂, subst, arith, codes, zero, suc, inl, inr}
+use Rattle.std.proofs.Common.{◌≡◌, ◌≢◌, ◌⊎◌, ◌∙◌, ◌<◌, ◌≤◌, ◌==◌, ◌^◌, ◌++◌, ℕ, List, [], ◌∷◌, length, get_or, take, All, Option, None, Some, Result, Ok, Err, sym, ap, ap₂, subst, arith, codes, zero, suc, inl, inr}
 use Rattle.std.specs.Fmt.{decimal}
-use Rattle.std.specs.List.{before_first, after_first, list_any, position_or_len, slice_index_or}
+use Rattle.std.specs.List.{before_first, after_first, position_or_len}
 use Rattle.std.specs.Net.Grammar.{IsDotted, IsIpv4Text, Parses}
 use Rattle.std.specs.declared.net.ipv4_addr.Ipv4Addr.{Ipv4Addr}
 use Rattle.std.specs.Result.{result_ok}
@@ -11,7 +11,6 @@ use Rattle.std.proofs.NetLemmas.Theorems.{IsIpv4Text_unique, Parses_gives}
 use Rattle.std.proofs.NetLemmas.Texts.{IsDotted-ipv4_text}
 use Rattle.std.proofs.lemmas.List.{append_assoc, get_or_past, length-append, take_all}
 use Rattle.std.specs.Net.Text.{dotted_text, ipv4_text}
-use Rattle.std.specs.Str.Parse.{AllDigits}
 use Rattle.std.proofs.lemmas.Fmt.{digits_decimal, decimal_nonempty}
 use Rattle.std.proofs.lemmas.Str.Parse.{not_in_digits}
 use Rattle.std.proofs.lemmas.List.Sums.{split_at_first, passes_at_first}

@@ -1,28 +1,20 @@
 -- Which command words are.
-use Rattle.std.proofs.Common.{◌≡◌, ◌≢◌, ◌↔◌, ◌⊎◌, ◌∙◌, ◌++◌, ◌<◌, ◌≤◌, ◌^◌, inl, inr, ℕ, List, [], ◌∷◌, Result, Ok, Err, Option, Some, None, codes, length, map, arith, refl, sym, ap, subst, IsPermutation, true, get_or, Global, String, take, drop, ◌-◌}
+use Rattle.std.proofs.Common.{◌≡◌, ◌≢◌, ◌↔◌, ◌∙◌, ◌≤◌, ℕ, List, [], ◌∷◌, Result, Ok, Err, Option, Some, None, codes, length, map, arith, refl, sym, ap, subst, true, get_or, Global, String, take, drop, ◌-◌}
 use Rattle.std.specs.Prelude.{IsSomeAnd}
 use Rattle.std.specs.Option.{ok_or}
 use Rattle.std.specs.List.{flat_map, slice_index_or}
 use Rattle.std.proofs.lemmas.List.Sorted.{length_permutation}
 use Rattle.nio_command.specs.Options.{AreOptions, Text, Written, apart, given, joined, option_words}
-use Rattle.nio_command.specs.Texts.{AreNoOptions, IsNoOption}
-use Rattle.nio_command.specs.Values.{IsAddress, ProxyValues, address_text, proxy_options}
+use Rattle.nio_command.specs.Texts.{AreNoOptions}
+use Rattle.nio_command.specs.Values.{ProxyValues, proxy_options}
 use Rattle.nio_command.specs.Words.{IsCommand, IsInRange, IsProxyCommand, values_of}
 use Rattle.nio_command.proofs.Addresses.{address_plain}
 use Rattle.nio_command.proofs.Numbers.{decimal_plain}
-use Rattle.nio_base.specs.declared.numbers.Addr.{Addr}
 use Rattle.nio_relay.specs.declared.plan.ProxyPlan.{ProxyPlan}
-use Rattle.std.specs.Prelude.{slice_index}
-use Rattle.std.proofs.lemmas.Bool.{cases_lt}
-use Rattle.std.proofs.lemmas.Bool.Decides.{nat_tests}
 use Rattle.std.proofs.lemmas.Grind.{common_steps}
-use Rattle.std.proofs.lemmas.List.{get_or_past}
 use Rattle.std.specs.String.{string_bytes}
 use Rattle.std.specs.Str.{bytes_eq}
 use Rattle.std.proofs.lemmas.Slice.Eq.{bytes_eq-Decides}
-use Rattle.std.specs.Fmt.{decimal}
-use Rattle.std.proofs.lemmas.Fmt.{digits_decimal, decimal_nonempty}
-use Rattle.std.proofs.lemmas.Str.Parse.{not_in_digits}
 use Rattle.nio_command.specs.declared.command.Command.{Command}
 use Rattle.nio_command.specs.declared.command.Command.TheVariants.{Script, Check, CheckFirst, Race, Proxy}
 use Rattle.nio_command.specs.declared.command.WordsError.{WordsError}
@@ -82,7 +74,7 @@ plain_values plan h = record {
   way = λ e. omega arith;
   listen = address_plain plan.listen h.listen;
   target = address_plain plan.target h.target;
-  conns = decimal_plain plan.conns (let few = h.few_connections in omega arith);
+  conns = decimal_plain plan.conns (let few = h.connections.few_connections in omega arith);
 }
 
 -- an option that is turned into a result

@@ -1,15 +1,15 @@
 -- What `clap` makes of the words behind `proxy`, both ways.
-use Rattle.std.proofs.Common.{◌≡◌, ◌⊎◌, ◌∙◌, ◌++◌, ◌||◌, ◌&&◌, ◌==◌, ◌<◌, ℕ, ◌+◌, ◌≤◌, zero, suc, Bool, true, false, not, List, [], ◌∷◌, Option, Some, None, cond, map, length, get_or, inl, inr, refl, sym, ap, ap₂, subst, ⊎_elim, Result, arith, codes, IsPermutation}
-use Rattle.std.specs.Prelude.{find, fold}
+use Rattle.std.proofs.Common.{◌≡◌, ◌⊎◌, ◌∙◌, ◌||◌, ◌&&◌, ◌≤◌, Bool, true, false, not, List, [], ◌∷◌, Some, None, cond, map, inl, inr, refl, sym, ap, ap₂, subst, ⊎_elim, Result, arith, codes}
+use Rattle.std.specs.Prelude.{fold}
 use Rattle.std.specs.List.{Contains, flat_map, list_any}
 use Rattle.std.specs.Str.{bytes_eq}
 use Rattle.std.proofs.lemmas.List.Sorted.{Contains-permutation, IsPermutation-sym}
-use Rattle.clap.specs.Faults.{built_fault, check_fault, default_fault, defaults_fault, fault_of, given_default_fault, is_simple_and_free, level_fault, settle_fault, walk_fault}
+use Rattle.clap.specs.Faults.{check_fault, default_fault, defaults_fault, fault_of, given_default_fault, is_simple_and_free, level_fault, settle_fault, walk_fault}
 use Rattle.clap.specs.Kinds.{FailsBy, HasKind, Kinds, or_else}
 use Rattle.clap.specs.Lexer.{strip_byte}
-use Rattle.clap.specs.Simple.{App, HasMatchesOf, Shape, app_of, built, label_of, matches_of, names_of}
+use Rattle.clap.specs.Simple.{App, HasMatchesOf, Shape, app_of, built, label_of, matches_of}
 use Rattle.clap.specs.Takes.{is_given}
-use Rattle.clap.specs.Walk.{Held, Row, Text, Walk, finished, first_of, has_row, nothing_held, rows_after, rows_of, settled, walk_from, with_default}
+use Rattle.clap.specs.Walk.{Row, Text, Walk, finished, first_of, has_row, nothing_held, rows_after, rows_of, walk_from, with_default}
 use Rattle.clap.specs.Matches.{first_value, found_of}
 use Rattle.clap.specs.Values.{kind_of}
 use Rattle.clap.specs.declared.builder.command.Command.{Command}
@@ -19,7 +19,7 @@ use Rattle.clap.specs.declared.parser.matches.ArgMatches.{ArgMatches}
 use Rattle.clap.proofs.FaultLemmas.{leaf_fault}
 use Rattle.clap.proofs.WalkLemmas.{first_value-rows}
 use Rattle.std.proofs.lemmas.Bool.{ne_eqb}
-use Rattle.nio_command.specs.Options.{AreOptions, Written, given, option_words}
+use Rattle.nio_command.specs.Options.{AreOptions, given, option_words}
 use Rattle.nio_command.specs.ProxyApp.{proxy_app}
 use Rattle.nio_command.specs.Texts.{AreNoOptions, FindsValues, IsNoOption}
 use Rattle.nio_command.specs.Values.{ProxyValues, proxy_options}

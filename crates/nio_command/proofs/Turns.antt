@@ -1,5 +1,5 @@
 -- What one word does to a parse of options, each of which takes one value.
-use Rattle.std.proofs.Common.{◌≡◌, ◌⊎◌, ◌∙◌, ◌++◌, ◌||◌, ℕ, Bool, true, false, List, [], ◌∷◌, Option, Some, None, map, length, refl, sym, ap, ap₂, inl, inr, subst, zero, suc, codes}
+use Rattle.std.proofs.Common.{◌≡◌, ◌⊎◌, ◌∙◌, ◌++◌, ℕ, Bool, true, false, List, [], ◌∷◌, Option, Some, None, map, length, refl, sym, ap, inl, inr, subst, zero, suc, codes}
 use Rattle.std.specs.Prelude.{nat_lt, slice_get}
 use Rattle.std.specs.Option.{option_map_or}
 use Rattle.std.specs.Str.{bytes_eq, chars}
@@ -7,13 +7,12 @@ use Rattle.std.proofs.lemmas.List.{append-nil, map-append}
 use Rattle.std.proofs.lemmas.Slice.Eq.{bytes_eq-Decides}
 use Rattle.clap.specs.Lexer.{long_of, short_of}
 use Rattle.clap.specs.Kinds.{Kinds, or_else}
-use Rattle.clap.specs.Faults.{bundle_fault, bundle_step_fault, flags_fault, flag_word_fault, long_fault, option_fault, settle_fault, step_fault, turn_fault, use_fault}
+use Rattle.clap.specs.Faults.{bundle_fault, bundle_step_fault, flags_fault, long_fault, option_fault, settle_fault, step_fault, turn_fault, use_fault}
 use Rattle.clap.specs.Simple.{Shape}
-use Rattle.clap.specs.Walk.{Held, Outcome, Row, Rule, Step, Text, Waiting, Walk, after_flag, after_step, arg_by_id, arg_by_index, arg_by_long, at_row, bundle_met, bundle_step, has_row, plain, used_by_id, idle, long_met, long_or_other, more_values, next, option, option_met, option_word, pending_count, plain_word, reacted, settled, short_or_plain, short_word, used, value, walk_from, walked}
+use Rattle.clap.specs.Walk.{Held, Outcome, Row, Rule, Step, Text, Waiting, Walk, after_flag, after_step, arg_by_long, at_row, bundle_met, bundle_step, has_row, plain, used_by_id, idle, more_values, next, option, option_met, pending_count, plain_word, settled, short_or_plain, used, value, walk_from, walked}
 use Rattle.clap.specs.declared.parser.matches.ValueSource.TheVariants.{CommandLine}
-use Rattle.clap.specs.declared.builder.value_parser.Reading.TheVariants.{AsWritten}
 use Rattle.nio_command.proofs.Givens.{Distinct, Given, more_distinct, row}
-use Rattle.nio_command.proofs.LongWords.{IsPlainName, IsPlainValue, MadeOf, alone_no_dashes, alone_word, dashes, joined_no_dashes, joined_word, long_alone, long_joined, long_made}
+use Rattle.nio_command.proofs.LongWords.{IsPlainName, IsPlainValue, alone_no_dashes, alone_word, dashes, joined_no_dashes, joined_word, long_alone, long_joined, long_made}
 use Rattle.nio_command.proofs.ProxyApp.{option_rule, options_shape}
 use Rattle.nio_command.proofs.Table.{IsName, id_found, long_either, long_found, no_index, no_short, rules_of}
 

@@ -1,9 +1,8 @@
 -- The text is cut at its first colon, and both parts are read whole.
-use Rattle.std.proofs.Common.{Some, sym, ap, ap₂, subst, lit<, List, ℕ, ◌≡◌, ◌∙◌, ◌++◌, codes}
+use Rattle.std.proofs.Common.{sym, ap, ap₂, subst, lit<, List, ℕ, ◌≡◌, ◌∙◌, ◌++◌, codes}
 use Rattle.std.specs.Net.Addr.{ipv4_octets}
 use Rattle.std.specs.Net.Grammar.{IsDotted}
 use Rattle.std.proofs.lemmas.Option.{same_Some}
-use Rattle.nio_base.specs.declared.numbers.Addr.{Addr}
 use Rattle.nio_command.proofs.Addresses.{address_made, address_read, after_colon, before_colon, cut_text, dotted_of, dotted_read, ok_not_none, parses_ip, some_colon, some_not_none, text_of_dotted, value_of_ok}
 use Rattle.nio_command.proofs.address.read_address.Goals as goal
 

@@ -1,4 +1,4 @@
-use Rattle.std.proofs.Common.{arith, map, codes, length, take, drop, ℕ, List, ◌∷◌, ◌-◌, ◌≡◌, ◌∙◌, ap, subst, sym}
+use Rattle.std.proofs.Common.{arith, map, length, take, drop, ℕ, List, ◌-◌, ◌∙◌, subst, sym}
 use Rattle.nio_command.specs.Words.{IsCommand, IsProxyCommand}
 use Rattle.nio_command.specs.declared.command.Command.TheVariants.{Proxy}
 use Rattle.std.specs.String.{string_bytes}

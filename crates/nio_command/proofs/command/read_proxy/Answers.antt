@@ -1,10 +1,8 @@
-use Rattle.std.proofs.Common.{map, Option, ◌≡◌, ◌∙◌, ap, subst}
+use Rattle.std.proofs.Common.{Option, ◌≡◌, ◌∙◌, ap}
 use Rattle.std.specs.Option.{ok_or}
 use Rattle.nio_relay.specs.declared.plan.ProxyPlan.{ProxyPlan}
 use Rattle.nio_command.specs.Texts.{texts_of}
 use Rattle.nio_command.specs.declared.command.WordsError.TheVariants.{Usage}
-use Rattle.nio_command.specs.declared.options.ProxyTexts.{ProxyTexts}
-use Rattle.std.specs.String.{string_bytes}
 use Rattle.nio_command.specs.Words.{values_of}
 use Rattle.nio_command.proofs.Commands.{plain_values, same_rest, some_as, some_no_err}
 use Rattle.nio_command.proofs.command.read_proxy.Goals as goal

@@ -1,7 +1,7 @@
 -- The command is put together from its settings and four options.
 use Rattle.std.proofs.Common.{ap, ap₂, true, codes, ◌≡◌, ◌∙◌}
 use Rattle.std.proofs.lemmas.Result.{IfOk-weaker}
-use Rattle.clap.specs.Simple.{App, Shape, app_of, app_of_fields, new_app, on_top, with_rule}
+use Rattle.clap.specs.Simple.{Shape, app_of, app_of_fields, new_app, on_top, with_rule}
 use Rattle.nio_command.specs.ProxyApp.{settings}
 use Rattle.nio_command.proofs.options.proxy_command.Goals as goal
 

@@ -1,5 +1,5 @@
 -- What `clap` tells of the parse, and what that says of the words.
-use Rattle.std.proofs.Common.{[], codes, map, Bool, false, true, ◌≡◌, ◌∙◌, sym, refl, subst}
+use Rattle.std.proofs.Common.{[], codes, map, true, ◌≡◌, ◌∙◌, sym, subst}
 use Rattle.std.specs.String.{string_bytes}
 use Rattle.std.proofs.lemmas.Option.{IfSome_then}
 use Rattle.std.specs.List.{list_any}
