@@ -1,7 +1,9 @@
 -- The text of an address.
-use Rattle.std.proofs.Common.{◌≡◌, ◌≢◌, ◌⊎◌, ◌∙◌, ◌<◌, ◌≤◌, ◌==◌, ◌^◌, ◌++◌, ℕ, ◌+◌, Bool, true, false, List, [], ◌∷◌, length, get_or, take, All, Option, None, Some, Result, Ok, Err, refl, sym, ap, ap₂, subst, arith, codes, zero, suc, inl, inr}
+use Rattle.std.proofs.Common.{◌≡◌, ◌≢◌, ◌⊎◌, ◌∙◌, ◌<◌, ◌≤◌, ◌==◌, ◌^◌, ◌++◌, ℕ, List, [], ◌∷◌, length, get_or, take}
+use Rattle.std.proofs.Common.{All, Option, None, Some, Result, Ok, Err, sym, ap, ap₂, subst, arith, codes, zero, suc}
+use Rattle.std.proofs.Common.{inl, inr}
 use Rattle.std.specs.Fmt.{decimal}
-use Rattle.std.specs.List.{before_first, after_first, list_any, position_or_len, slice_index_or}
+use Rattle.std.specs.List.{before_first, after_first, position_or_len}
 use Rattle.std.specs.Net.Grammar.{IsDotted, IsIpv4Text, Parses}
 use Rattle.std.specs.declared.net.ipv4_addr.Ipv4Addr.{Ipv4Addr}
 use Rattle.std.specs.Result.{result_ok}
@@ -11,7 +13,6 @@ use Rattle.std.proofs.NetLemmas.Theorems.{IsIpv4Text_unique, Parses_gives}
 use Rattle.std.proofs.NetLemmas.Texts.{IsDotted-ipv4_text}
 use Rattle.std.proofs.lemmas.List.{append_assoc, get_or_past, length-append, take_all}
 use Rattle.std.specs.Net.Text.{dotted_text, ipv4_text}
-use Rattle.std.specs.Str.Parse.{AllDigits}
 use Rattle.std.proofs.lemmas.Fmt.{digits_decimal, decimal_nonempty}
 use Rattle.std.proofs.lemmas.Str.Parse.{not_in_digits}
 use Rattle.std.proofs.lemmas.List.Sums.{split_at_first, passes_at_first}
@@ -65,7 +66,8 @@ dotted_of a h = IsDotted-ipv4_text a.ip h.four (part_fits a h)
 pub text_of_dotted : (text o : List ℕ) → IsDotted text o → text ≡ ipv4_text o
 text_of_dotted text o h = h.spelled ∙ sym (ap ipv4_text h.value)
 
-four_fit : (a b c d : ℕ) → a < 256 → b < 256 → c < 256 → d < 256 → (k e : ℕ) → k < 4 → get_or (a ∷ b ∷ c ∷ d ∷ []) k e ≤ 255
+four_fit : (a b c d : ℕ) → a < 256 → b < 256 → c < 256 → d < 256 → (k e : ℕ) → k < 4
+    → get_or (a ∷ b ∷ c ∷ d ∷ []) k e ≤ 255
 four_fit a b c d p q r s zero e lt = omega arith
 four_fit a b c d p q r s (suc zero) e lt = omega arith
 four_fit a b c d p q r s (suc (suc zero)) e lt = omega arith
@@ -73,7 +75,8 @@ four_fit a b c d p q r s (suc (suc (suc zero))) e lt = omega arith
 four_fit a b c d p q r s (suc (suc (suc (suc k)))) e lt = absurd (omega arith)
 
 -- what is read is an address
-pub address_read : (text o : List ℕ) (port : ℕ) → IsDotted text o → 1 ≤ port → port ≤ 65535 → IsAddress (record { ip = o; port = port })
+pub address_read : (text o : List ℕ) (port : ℕ) → IsDotted text o → 1 ≤ port → port ≤ 65535
+    → IsAddress (record { ip = o; port = port })
 address_read text o port h some few = record {
   four = ap length h.value;
   parts = subst (All (λ part. part ≤ 255)) (sym h.value) (four_fit h.a h.b h.c h.d h.fit.0 h.fit.1 h.fit.2 h.fit.3);
@@ -94,29 +97,36 @@ ipv4_lacks a h = dotted_lacks _ _ _ _ (part_fits a h 0) (part_fits a h 1) (part_
 colon_text : (a : Addr) → address_text a ≡ ipv4_text a.ip ++ 58 ∷ decimal a.port
 colon_text a = append_assoc (ipv4_text a.ip) (58 ∷ []) (decimal a.port)
 
-pub before_colon : (text : List ℕ) (a : Addr) → IsAddress a → text ≡ address_text a → before_first (λ b. b == 58) text ≡ ipv4_text a.ip
+pub before_colon : (text : List ℕ) (a : Addr) → IsAddress a → text ≡ address_text a
+    → before_first (λ b. b == 58) text ≡ ipv4_text a.ip
 before_colon text a h e =
-    ap (before_first (λ b. b == 58)) (e ∙ colon_text a) ∙ before_first-at 58 (ipv4_text a.ip) (decimal a.port) (ipv4_lacks a h)
+    ap (before_first (λ b. b == 58)) (e ∙ colon_text a)
+    ∙ before_first-at 58 (ipv4_text a.ip) (decimal a.port) (ipv4_lacks a h)
 
-pub after_colon : (text : List ℕ) (a : Addr) → IsAddress a → text ≡ address_text a → after_first (λ b. b == 58) text ≡ decimal a.port
+pub after_colon : (text : List ℕ) (a : Addr) → IsAddress a → text ≡ address_text a
+    → after_first (λ b. b == 58) text ≡ decimal a.port
 after_colon text a h e =
-    ap (after_first (λ b. b == 58)) (e ∙ colon_text a) ∙ after_first-at 58 (ipv4_text a.ip) (decimal a.port) (ipv4_lacks a h)
+    ap (after_first (λ b. b == 58)) (e ∙ colon_text a)
+    ∙ after_first-at 58 (ipv4_text a.ip) (decimal a.port) (ipv4_lacks a h)
 
 -- an address has a colon
 pub some_colon : (text : List ℕ) (a : Addr) → IsAddress a → text ≡ address_text a
     → position_or_len (λ b. b == 58) text ≡ length text → ⊥
 some_colon text a h e none =
-    let whole : before_first (λ b. b == 58) text ≡ text = ap (λ n. take n text) none ∙ take_all (length text) text (omega arith) in
+    let whole : before_first (λ b. b == 58) text ≡ text = ap (λ n. take n text) none
+    ∙ take_all (length text) text (omega arith) in
     let same : text ≡ ipv4_text a.ip = sym whole ∙ before_colon text a h e in
     let longer : length text ≡ length (ipv4_text a.ip ++ 58 ∷ decimal a.port) = ap length (e ∙ colon_text a) in
     let shorter : length text ≡ length (ipv4_text a.ip) = ap length same in
     omega (arith, length-append (ipv4_text a.ip) (58 ∷ decimal a.port))
 
 -- a text behind a colon stands behind the first one
-pub cut_text : (text before after : List ℕ) → before ≡ before_first (λ b. b == 58) text → after ≡ after_first (λ b. b == 58) text
+pub cut_text : (text before after : List ℕ) → before ≡ before_first (λ b. b == 58) text
+    → after ≡ after_first (λ b. b == 58) text
     → position_or_len (λ b. b == 58) text < length text → text ≡ before ++ codes ":" ++ after
 cut_text text before after front back lt =
-    let at : get_or text (position_or_len (λ b. b == 58) text) 0 ≡ 58 = eqb-true _ 58 (passes_at_first (λ b. b == 58) text 0 lt) in
+    let at : get_or text (position_or_len (λ b. b == 58) text) 0 ≡ 58 =
+    eqb-true _ 58 (passes_at_first (λ b. b == 58) text 0 lt) in
     let split = split_at_first (λ b. b == 58) text 0 lt in
     split ∙ ap (λ (c : ℕ). before_first (λ b. b == 58) text ++ c ∷ after_first (λ b. b == 58) text) at
     ∙ ap₂ (λ (x y : List ℕ). x ++ 58 ∷ y) (sym front) (sym back) ∙ sym (append_assoc before (58 ∷ []) after)
@@ -135,7 +145,8 @@ begins_number n h = record { some = decimal_nonempty n (omega arith); plain = de
 
 begins_dotted : (a b c d : ℕ) → a < 256 → Begins (dotted_text a b c d)
 begins_dotted a b c d h =
-    begins_append _ _ (begins_append _ _ (begins_append _ _ (begins_append _ _ (begins_append _ _ (begins_append _ _ (begins_number a h))))))
+    begins_append _ _ (begins_append _ _
+    (begins_append _ _ (begins_append _ _ (begins_append _ _ (begins_append _ _ (begins_number a h))))))
 
 pub address_plain : (a : Addr) → IsAddress a → get_or (address_text a) 0 0 ≢ 45
 address_plain a h = (begins_append _ _ (begins_append _ _ (begins_dotted _ _ _ _ (part_fits a h 0)))).plain
@@ -148,10 +159,12 @@ some_not_none o x some none = cc
 pub ok_not_none : {X E : Type 0} (r : Result X E) (o : Option X) (x : X) → r ≡ Ok x → o ≡ result_ok r → o ≡ None → ⊥
 ok_not_none r o x is made none = some_not_none o x (made ∙ ap result_ok is) none
 
-pub value_of_ok : {X E : Type 0} (r : Result X E) (o : Option X) (x v : X) → r ≡ Ok x → o ≡ result_ok r → o ≡ Some v → v ≡ x
+pub value_of_ok : {X E : Type 0} (r : Result X E) (o : Option X) (x v : X) → r ≡ Ok x → o ≡ result_ok r → o ≡ Some v
+    → v ≡ x
 value_of_ok r o x v is made some = same_Some v x (sym some ∙ made ∙ ap result_ok is)
 
-pub dotted_read : {E : Type 0} (text : List ℕ) (r : Result Ipv4Addr E) (o : Option Ipv4Addr) (v : Ipv4Addr) (octets : List ℕ)
+pub dotted_read : {E : Type 0} (text : List ℕ) (r : Result Ipv4Addr E) (o : Option Ipv4Addr) (v : Ipv4Addr)
+    (octets : List ℕ)
     → Parses IsIpv4Text text r → o ≡ result_ok r → o ≡ Some v → octets ≡ ipv4_octets v → IsDotted text octets
 dotted_read text (Ok x) o v octets parsed made some same =
     let is : x ≡ v = same_Some x v (sym made ∙ some) in

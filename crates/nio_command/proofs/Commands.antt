@@ -1,28 +1,21 @@
 -- Which command words are.
-use Rattle.std.proofs.Common.{◌≡◌, ◌≢◌, ◌↔◌, ◌⊎◌, ◌∙◌, ◌++◌, ◌<◌, ◌≤◌, ◌^◌, inl, inr, ℕ, List, [], ◌∷◌, Result, Ok, Err, Option, Some, None, codes, length, map, arith, refl, sym, ap, subst, IsPermutation, true, get_or, Global, String, take, drop, ◌-◌}
+use Rattle.std.proofs.Common.{◌≡◌, ◌≢◌, ◌↔◌, ◌∙◌, ◌≤◌, ℕ, List, [], ◌∷◌, Result, Ok, Err, Option, Some, None, codes}
+use Rattle.std.proofs.Common.{length, map, arith, refl, sym, ap, subst, true, get_or, Global, String, take, drop, ◌-◌}
 use Rattle.std.specs.Prelude.{IsSomeAnd}
 use Rattle.std.specs.Option.{ok_or}
 use Rattle.std.specs.List.{flat_map, slice_index_or}
 use Rattle.std.proofs.lemmas.List.Sorted.{length_permutation}
 use Rattle.nio_command.specs.Options.{AreOptions, Text, Written, apart, given, joined, option_words}
-use Rattle.nio_command.specs.Texts.{AreNoOptions, IsNoOption}
-use Rattle.nio_command.specs.Values.{IsAddress, ProxyValues, address_text, proxy_options}
+use Rattle.nio_command.specs.Texts.{AreNoOptions}
+use Rattle.nio_command.specs.Values.{ProxyValues, proxy_options}
 use Rattle.nio_command.specs.Words.{IsCommand, IsInRange, IsProxyCommand, values_of}
 use Rattle.nio_command.proofs.Addresses.{address_plain}
 use Rattle.nio_command.proofs.Numbers.{decimal_plain}
-use Rattle.nio_base.specs.declared.numbers.Addr.{Addr}
 use Rattle.nio_relay.specs.declared.plan.ProxyPlan.{ProxyPlan}
-use Rattle.std.specs.Prelude.{slice_index}
-use Rattle.std.proofs.lemmas.Bool.{cases_lt}
-use Rattle.std.proofs.lemmas.Bool.Decides.{nat_tests}
 use Rattle.std.proofs.lemmas.Grind.{common_steps}
-use Rattle.std.proofs.lemmas.List.{get_or_past}
 use Rattle.std.specs.String.{string_bytes}
 use Rattle.std.specs.Str.{bytes_eq}
 use Rattle.std.proofs.lemmas.Slice.Eq.{bytes_eq-Decides}
-use Rattle.std.specs.Fmt.{decimal}
-use Rattle.std.proofs.lemmas.Fmt.{digits_decimal, decimal_nonempty}
-use Rattle.std.proofs.lemmas.Str.Parse.{not_in_digits}
 use Rattle.nio_command.specs.declared.command.Command.{Command}
 use Rattle.nio_command.specs.declared.command.Command.TheVariants.{Script, Check, CheckFirst, Race, Proxy}
 use Rattle.nio_command.specs.declared.command.WordsError.{WordsError}
@@ -43,7 +36,8 @@ not_four v words none o =
     omega arith
 
 -- a single word that is none of these names no command
-pub not_named : (word : Text) (command : Command) → word ≢ codes "script" → word ≢ codes "check" → word ≢ codes "check-1"
+pub not_named : (word : Text) (command : Command) → word ≢ codes "script" → word ≢ codes "check"
+    → word ≢ codes "check-1"
     → word ≢ codes "race" → IsCommand (word ∷ []) command → ⊥
 not_named word Script s k f r h = s (cc)
 not_named word Check s k f r h = k (cc)
@@ -82,16 +76,18 @@ plain_values plan h = record {
   way = λ e. omega arith;
   listen = address_plain plan.listen h.listen;
   target = address_plain plan.target h.target;
-  conns = decimal_plain plan.conns (let few = h.few_connections in omega arith);
+  conns = decimal_plain plan.conns (let few = h.connections.few_connections in omega arith);
 }
 
 -- an option that is turned into a result
-pub some_as : {X E : Type 0} (o : Option X) (P : X → Type 0) (e : E) (r : Result X E) (y : X) → IsSomeAnd o P → r ≡ ok_or o e
+pub some_as : {X E : Type 0} (o : Option X) (P : X → Type 0) (e : E) (r : Result X E) (y : X) → IsSomeAnd o P
+    → r ≡ ok_or o e
     → r ≡ Ok y → P y
 some_as None P e r y h is ok = absurd h
 some_as (Some x) P e r y h is ok = let same : x ≡ y = cc in subst P same h
 
-pub some_no_err : {X E : Type 0} (o : Option X) (P : X → Type 0) (e f : E) (r : Result X E) → IsSomeAnd o P → r ≡ ok_or o e
+pub some_no_err : {X E : Type 0} (o : Option X) (P : X → Type 0) (e f : E) (r : Result X E) → IsSomeAnd o P
+    → r ≡ ok_or o e
     → r ≡ Err f → ⊥
 some_no_err None P e f r h is bad = absurd h
 some_no_err (Some x) P e f r h is bad = cc
@@ -104,7 +100,8 @@ behind_first [] w is some = absurd (omega arith)
 behind_first (x ∷ xs) w is some = grind (arith, common_steps)
 
 -- words whose first is `proxy`
-pub behind_proxy : (words : List (String Global)) (w : String Global) (text : Text) → w ≡ slice_index_or words 0 w → 1 ≤ length words
+pub behind_proxy : (words : List (String Global)) (w : String Global) (text : Text) → w ≡ slice_index_or words 0 w
+    → 1 ≤ length words
     → text ≡ string_bytes w → bytes_eq text (codes "proxy") ≡ true
     → map string_bytes words ≡ codes "proxy" ∷ map string_bytes (take (length words - 1) (drop 1 words))
 behind_proxy words w text is some same e =
@@ -123,13 +120,18 @@ initial [] = 0
 initial (w ∷ ws) = get_or w 0 0
 
 -- what is read behind `proxy` is the only command
-pub only_proxy : (words rest : List Text) (r : Result ProxyPlan WordsError) (plan : ProxyPlan) → words ≡ codes "proxy" ∷ rest → r ≡ Ok plan
+pub only_proxy : (words rest : List Text) (r : Result ProxyPlan WordsError) (plan : ProxyPlan)
+    → words ≡ codes "proxy" ∷ rest → r ≡ Ok plan
     → ((p : ProxyPlan) → IsProxyCommand (codes "proxy" ∷ rest) p → r ≢ Err Memory → r ≡ Ok p)
     → (command : Command) → IsCommand words command → made (Proxy plan) ≡ made command
-only_proxy words rest r plan begins is only Script h = let bad : 112 ≡ 115 = ap initial (sym begins ∙ h) in absurd (omega (arith, bad))
-only_proxy words rest r plan begins is only Check h = let bad : 112 ≡ 99 = ap initial (sym begins ∙ h) in absurd (omega (arith, bad))
-only_proxy words rest r plan begins is only CheckFirst h = let bad : 112 ≡ 99 = ap initial (sym begins ∙ h) in absurd (omega (arith, bad))
-only_proxy words rest r plan begins is only Race h = let bad : 112 ≡ 114 = ap initial (sym begins ∙ h) in absurd (omega (arith, bad))
+only_proxy words rest r plan begins is only Script h = let bad : 112 ≡ 115 = ap initial (sym begins ∙ h) in
+    absurd (omega (arith, bad))
+only_proxy words rest r plan begins is only Check h = let bad : 112 ≡ 99 = ap initial (sym begins ∙ h) in
+    absurd (omega (arith, bad))
+only_proxy words rest r plan begins is only CheckFirst h = let bad : 112 ≡ 99 = ap initial (sym begins ∙ h) in
+    absurd (omega (arith, bad))
+only_proxy words rest r plan begins is only Race h = let bad : 112 ≡ 114 = ap initial (sym begins ∙ h) in
+    absurd (omega (arith, bad))
 only_proxy words rest r plan begins is only (Proxy p) h =
     let read : r ≡ Ok p = only p (subst (λ (ws : List Text). IsProxyCommand ws p) begins h) (no_memory r plan is) in
     let same : plan ≡ p = same_plan r plan p is read in

@@ -1,17 +1,15 @@
 -- Lists of options, as names and values.
-use Rattle.std.proofs.Common.{◌≡◌, ◌≢◌, ◌⊎◌, ◌∙◌, ◌++◌, ◌||◌, ◌<◌, ℕ, zero, suc, ◌+◌, ◌≤◌, Bool, true, false, List, [], ◌∷◌, Option, Some, None, cond, map, length, inl, inr, refl, sym, ap, ap₂, subst, arith, IsPermutation}
-use Rattle.std.specs.Prelude.{count_by, slice_get}
-use Rattle.std.specs.List.{All, Contains, remove, slice_index_or, sum_by}
+use Rattle.std.proofs.Common.{◌≡◌, ◌⊎◌, ◌∙◌, ◌++◌, ℕ, zero, suc, ◌≤◌, Bool, true, false, List, [], ◌∷◌, Some, None}
+use Rattle.std.proofs.Common.{cond, map, inl, inr, refl, ap, ap₂, subst, arith}
+use Rattle.std.specs.List.{Contains, sum_by}
 use Rattle.std.specs.Str.{bytes_eq}
 use Rattle.std.proofs.lemmas.List.Sums.{sum_by-append, sum_by-cons, sum_by_push}
-use Rattle.std.proofs.lemmas.List.Sorted.{All-permutation, Contains-permutation, IsPermutation-refl, IsPermutation-cons, IsPermutation-remove, IsPermutation-sym, IsPermutation-trans, sum_by-IsPermutation}
 use Rattle.std.proofs.lemmas.List.Elements.{Contains-append_right}
 use Rattle.std.proofs.lemmas.Option.{same_Some}
 use Rattle.std.proofs.lemmas.Slice.Eq.{bytes_eq-Decides}
 use Rattle.clap.specs.Walk.{Row, Text, first_of, has_row}
 use Rattle.clap.specs.declared.parser.matches.ValueSource.TheVariants.{CommandLine}
 use Rattle.clap.specs.declared.builder.value_parser.Reading.TheVariants.{AsWritten}
-use Rattle.nio_command.proofs.Table.{IsName}
 
 abbrev pub Given : Type 0
 Given = Text × Text
@@ -64,13 +62,15 @@ pub none_times : (n : Text) (gs : List Given) → times n gs ≡ 0 → has_row n
 none_times n [] h = refl
 none_times n (g ∷ gs) h = go (bytes_eq g.0 n) refl (none_times n gs)
   where
-    go : (t : Bool) → bytes_eq g.0 n ≡ t → (times n gs ≡ 0 → has_row n (map row gs) ≡ false) → has_row n (map row (g ∷ gs)) ≡ false
+    go : (t : Bool) → bytes_eq g.0 n ≡ t → (times n gs ≡ 0 → has_row n (map row gs) ≡ false)
+        → has_row n (map row (g ∷ gs)) ≡ false
     go true e more =
         let one : bears n g ≡ 1 = ap (λ (b : Bool). cond b 1 0) e in
         absurd (omega (arith, sum_by-cons (bears n) g gs))
     go false e more = rw e (more (omega (arith, sum_by-cons (bears n) g gs)))
 
-pub more_distinct : (n v : Text) (gs : List Given) → has_row n (map row gs) ≡ false → Distinct gs → Distinct (gs ++ (n, v) ∷ [])
+pub more_distinct : (n v : Text) (gs : List Given) → has_row n (map row gs) ≡ false → Distinct gs
+    → Distinct (gs ++ (n, v) ∷ [])
 more_distinct n v gs fresh d m = elim (bears_cases m (n, v)) [
   | inl same ↦
       let none : times m gs ≡ 0 = subst (λ (k : Text). times k gs ≡ 0) same (times_none n gs fresh) in
@@ -82,7 +82,8 @@ more_distinct n v gs fresh d m = elim (bears_cases m (n, v)) [
 ]
 
 -- the options before one have another name
-pub fresh_before : (n v : Text) (before after : List Given) → Distinct (before ++ (n, v) ∷ after) → has_row n (map row before) ≡ false
+pub fresh_before : (n v : Text) (before after : List Given) → Distinct (before ++ (n, v) ∷ after)
+    → has_row n (map row before) ≡ false
 fresh_before n v before after d =
     let all : times n (before ++ (n, v) ∷ after) ≤ 1 = d n in
     let own = bears_own n v in
@@ -115,7 +116,8 @@ pub found_in : (n v : Text) (gs : List Given) → first_of n (map row gs) ≡ So
 found_in n v [] e = absurd (cc)
 found_in n v (g ∷ gs) e = go (bytes_eq g.0 n) refl (found_in n v gs)
   where
-    go : (t : Bool) → bytes_eq g.0 n ≡ t → (first_of n (map row gs) ≡ Some v → Contains gs (n, v)) → Contains (g ∷ gs) (n, v)
+    go : (t : Bool) → bytes_eq g.0 n ≡ t → (first_of n (map row gs) ≡ Some v → Contains gs (n, v))
+        → Contains (g ∷ gs) (n, v)
     go true t more =
         let value : Some g.1 ≡ Some v = rw t at e in
         let same : g.1 ≡ v = same_Some g.1 v value in
@@ -126,7 +128,8 @@ found_in n v (g ∷ gs) e = go (bytes_eq g.0 n) refl (found_in n v gs)
 -- and what stands in a list of different names is found
 pub in_found : (n v : Text) (gs : List Given) → Distinct gs → Contains gs (n, v) → first_of n (map row gs) ≡ Some v
 in_found n v [] d h = absurd (let lt = h.1 in omega arith)
-in_found n v (g ∷ gs) d h = go (bytes_eq g.0 n) refl (contains_cases g (n, v) gs h) (in_found n v gs (tail_distinct g gs d))
+in_found n v (g ∷ gs) d h =
+    go (bytes_eq g.0 n) refl (contains_cases g (n, v) gs h) (in_found n v gs (tail_distinct g gs d))
   where
     go : (t : Bool) → bytes_eq g.0 n ≡ t → (g ≡ (n, v)) ⊎ Contains gs (n, v)
         → (Contains gs (n, v) → first_of n (map row gs) ≡ Some v) → first_of n (map row (g ∷ gs)) ≡ Some v

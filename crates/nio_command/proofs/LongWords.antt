@@ -1,13 +1,14 @@
 -- Words that begin with two hyphens.
-use Rattle.std.proofs.Common.{◌≡◌, ◌⊎◌, ◌∙◌, ◌<◌, ◌==◌, ◌++◌, inl, inr, ℕ, Bool, true, false, List, [], ◌∷◌, Option, Some, None, refl, sym, ap, arith, length, get_or, cond, subst, zero, suc}
+use Rattle.std.proofs.Common.{◌≡◌, ◌⊎◌, ◌∙◌, ◌<◌, ◌==◌, ◌++◌, inl, inr, ℕ, Bool, true, false, [], ◌∷◌, Option, Some}
+use Rattle.std.proofs.Common.{None, refl, sym, ap, arith, length, get_or, subst, zero, suc}
 use Rattle.std.specs.Prelude.{option_and_then}
 use Rattle.std.proofs.lemmas.Option.{same_Some}
-use Rattle.std.specs.List.{list_any, before_first, after_first}
+use Rattle.std.specs.List.{list_any}
 use Rattle.std.specs.Str.{bytes_eq}
 use Rattle.std.proofs.lemmas.Bool.{eqb-true, eq-eqb}
-use Rattle.clap.proofs.CutLemmas.{Lacks, list_any-Lacks, list_any-at, before_first-Lacks, before_first-at, after_first-at}
+use Rattle.clap.proofs.CutLemmas.{Lacks}
 use Rattle.clap.proofs.LexerLemmas.{name_and_value-at, name_and_value-without}
-use Rattle.clap.specs.Lexer.{has_byte, long_of, long_of_rest, name_and_value, short_of, short_of_rest, strip_byte}
+use Rattle.clap.specs.Lexer.{long_of, long_of_rest, name_and_value, short_of, short_of_rest, strip_byte}
 use Rattle.clap.specs.Walk.{Text}
 
 strip_same : (c : ℕ) (rest : Text) → strip_byte c (c ∷ rest) ≡ Some rest
@@ -38,7 +39,8 @@ Lacks-cons : (c x : ℕ) (xs : Text) → (x == c) ≡ false → Lacks c xs → (
 Lacks-cons c x xs e h zero lt same = let bad : true ≡ false = sym (eq-eqb x c same) ∙ e in absurd (cc)
 Lacks-cons c x xs e h (suc i) lt same = h i (omega arith) same
 
-lacks_or_at : (c : ℕ) (text : Text) → Lacks c text ⊎ ((before after : Text) × Lacks c before × (text ≡ before ++ c ∷ after))
+lacks_or_at : (c : ℕ) (text : Text)
+    → Lacks c text ⊎ ((before after : Text) × Lacks c before × (text ≡ before ++ c ∷ after))
 lacks_or_at c [] = inl (λ i lt. absurd (omega arith))
 lacks_or_at c (x ∷ xs) = go (x == c) refl (lacks_or_at c xs)
   where
@@ -57,14 +59,16 @@ parts_made text name value e = elim (lacks_or_at 61 text) [
       (sym (name_and_value-at p.0 p.1 p.2) ∙ ap name_and_value (sym p.3) ∙ e) p.3
 ]
 
-from_rest : (word rest name : Text) (value : Option Text) → word ≡ 45 ∷ 45 ∷ rest → long_of_rest rest ≡ Some (name, value)
+from_rest : (word rest name : Text) (value : Option Text) → word ≡ 45 ∷ 45 ∷ rest
+    → long_of_rest rest ≡ Some (name, value)
     → (text : Text) × (word ≡ 45 ∷ 45 ∷ text) × MadeOf text name value
 from_rest word [] name value is e = absurd (cc)
 from_rest word (x ∷ xs) name value is e =
     let parts : name_and_value (x ∷ xs) ≡ (name, value) = same_Some (name_and_value (x ∷ xs)) (name, value) e in
     (x ∷ xs, is, parts_made (x ∷ xs) name value parts)
 
-from_second : (word text name : Text) (value : Option Text) (o : Option Text) → word ≡ 45 ∷ text → strip_byte 45 text ≡ o
+from_second : (word text name : Text) (value : Option Text) (o : Option Text) → word ≡ 45 ∷ text
+    → strip_byte 45 text ≡ o
     → option_and_then long_of_rest o ≡ Some (name, value)
     → (text : Text) × (word ≡ 45 ∷ 45 ∷ text) × MadeOf text name value
 from_second word text name value None is strip e = absurd (cc)

@@ -1,12 +1,16 @@
 -- When a list of options is another one in another order.
-use Rattle.std.proofs.Common.{◌≡◌, ◌⊎◌, ◌∙◌, ◌++◌, ◌<◌, ℕ, ◌+◌, ◌≤◌, Bool, true, false, List, [], ◌∷◌, cond, map, inl, inr, refl, sym, ap, subst, arith, IsPermutation}
+use Rattle.std.proofs.Common.{◌≡◌, ◌⊎◌, ◌∙◌, ◌≤◌, List, [], ◌∷◌, map, inl, inr, refl, sym, ap, subst, arith}
+use Rattle.std.proofs.Common.{IsPermutation}
 use Rattle.std.specs.List.{Contains, remove}
 use Rattle.std.proofs.lemmas.List.Elements.{Contains-append_right}
 use Rattle.std.proofs.lemmas.List.Sums.{sum_by-cons}
-use Rattle.std.proofs.lemmas.List.Sorted.{Contains-permutation, IsPermutation-refl, IsPermutation-cons, IsPermutation-remove, IsPermutation-sym, IsPermutation-trans, sum_by-IsPermutation}
+use Rattle.std.proofs.lemmas.List.Sorted.{Contains-permutation, IsPermutation-refl, IsPermutation-cons}
+use Rattle.std.proofs.lemmas.List.Sorted.{IsPermutation-remove, IsPermutation-sym, IsPermutation-trans}
+use Rattle.std.proofs.lemmas.List.Sorted.{sum_by-IsPermutation}
 use Rattle.clap.specs.Walk.{Text}
 use Rattle.nio_command.specs.Options.{Written, given}
-use Rattle.nio_command.proofs.Givens.{Distinct, Given, bears, bears_own, contains_cases, tail_distinct, times, times_contained}
+use Rattle.nio_command.proofs.Givens.{Distinct, Given, bears, bears_own, contains_cases, tail_distinct, times}
+use Rattle.nio_command.proofs.Givens.{times_contained}
 use Rattle.nio_command.proofs.LongWords.{IsPlainName, IsPlainValue}
 use Rattle.nio_command.proofs.Parses.{AreNames, AreWritable}
 use Rattle.nio_command.proofs.Table.{IsName}
@@ -22,7 +26,8 @@ AllIn gs (o ∷ os) = Contains gs o × AllIn gs os
 pub permuted_distinct : (gs os : List Given) → IsPermutation gs os → Distinct gs → Distinct os
 permuted_distinct gs os p d n = let most : times n gs ≤ 1 = d n in omega (arith, sum_by-IsPermutation (bears n) gs os p)
 
-move_all : (o : Given) (gs rest os : List Given) → IsPermutation gs (o ∷ rest) → times o.0 os ≡ 0 → AllIn gs os → AllIn rest os
+move_all : (o : Given) (gs rest os : List Given) → IsPermutation gs (o ∷ rest) → times o.0 os ≡ 0 → AllIn gs os
+    → AllIn rest os
 move_all o gs rest [] p none all = tt
 move_all o gs rest (x ∷ os) p none all = (
   there (contains_cases o x rest (Contains-permutation gs (o ∷ rest) x p all.0)),
@@ -72,7 +77,8 @@ in_order (o ∷ os) gs d e all known =
 
 -- ---- what is known of each option that is written
 
-pub names_known : (names : List Text) (ws : List Written) → AreNames names ws → (g : Given) → Contains (map given ws) g → IsName names g.0
+pub names_known : (names : List Text) (ws : List Written) → AreNames names ws → (g : Given)
+    → Contains (map given ws) g → IsName names g.0
 names_known names [] h g c = absurd (let lt = c.1 in omega arith)
 names_known names (w ∷ ws) h g c = go (contains_cases (given w) g (map given ws) c) (names_known names ws h.1 g)
   where
@@ -81,8 +87,14 @@ names_known names (w ∷ ws) h g c = go (contains_cases (given w) g (map given w
     go (inr there) more = more there
 
 pub writable_from : (names : List Text) (ws : List Written)
-    → ((g : Given) → Contains (map given ws) g → IsName names g.0 × IsPlainName g.0 × IsPlainValue g.1) → AreWritable names ws
+    → ((g : Given) → Contains (map given ws) g → IsName names g.0 × IsPlainName g.0 × IsPlainValue g.1)
+    → AreWritable names ws
 writable_from names [] h = tt
 writable_from names (w ∷ ws) h =
-    let here = h (given w) (0, omega arith, refl) in
-    (here.0, here.1, here.2, writable_from names ws (λ g c. h g (Contains-append_right (given w ∷ []) (map given ws) g c)))
+    let here = h (given w) (0, omega arith, refl) in (
+      here.0,
+      here.1,
+      here.2,
+      writable_from names ws
+          (λ g c. h g (Contains-append_right (given w ∷ []) (map given ws) g c)),
+    )

@@ -1,18 +1,21 @@
 -- What a parse of options makes of words, both ways.
-use Rattle.std.proofs.Common.{◌≡◌, ◌⊎◌, ◌∙◌, ◌++◌, ◌||◌, ℕ, Bool, true, false, List, [], ◌∷◌, Option, Some, None, map, refl, sym, ap, subst}
+use Rattle.std.proofs.Common.{◌≡◌, ◌∙◌, ◌++◌, Bool, true, false, List, [], ◌∷◌, map, refl, sym, ap, subst}
 use Rattle.std.specs.Prelude.{fold}
-use Rattle.std.specs.List.{All, flat_map, list_any}
+use Rattle.std.specs.List.{flat_map, list_any}
 use Rattle.std.specs.Str.{bytes_eq}
 use Rattle.std.proofs.lemmas.List.{append-nil, append_assoc}
 use Rattle.clap.specs.Kinds.{Kinds, or_else}
 use Rattle.clap.specs.Faults.{settle_fault, turn_fault, walk_fault}
-use Rattle.clap.specs.Walk.{Held, Row, Text, Walk, has_row, settled, walk_from, walked}
+use Rattle.clap.specs.Walk.{Held, Row, Text, Walk, settled, walk_from, walked}
 use Rattle.nio_command.specs.Options.{Written, given, option_words}
 use Rattle.nio_command.specs.Options.{apart, joined}
 use Rattle.nio_command.proofs.Givens.{Distinct, Given, fresh_before, row}
-use Rattle.nio_command.proofs.LongWords.{IsPlainName, IsPlainValue, alone_no_dashes, alone_word, dashes, joined_no_dashes, joined_word}
+use Rattle.nio_command.proofs.LongWords.{IsPlainName, IsPlainValue, alone_no_dashes, alone_word, dashes}
+use Rattle.nio_command.proofs.LongWords.{joined_no_dashes, joined_word}
 use Rattle.nio_command.proofs.Table.{IsName, rules_of}
-use Rattle.nio_command.proofs.Turns.{Stands, Turn, alone_turn, alone_walked, clean, clean_stands, named, named_fault, naming, joined_turn, joined_walked, no_two, pending, pending_settles, pending_stands, shape, turn_idle, turn_naming, value_turn, value_walked}
+use Rattle.nio_command.proofs.Turns.{Stands, Turn, alone_turn, alone_walked, clean, clean_stands, named_fault, naming}
+use Rattle.nio_command.proofs.Turns.{joined_turn, joined_walked, no_two, pending, pending_settles, pending_stands}
+use Rattle.nio_command.proofs.Turns.{shape, turn_idle, turn_naming, value_turn, value_walked}
 use Rattle.nio_command.proofs.Turns.{took, waits}
 
 -- no word is `--`
@@ -46,13 +49,16 @@ pub record First (names : List Text) (w : Walk) (word : Text) (rest : List Text)
   pub turn : turn_fault (shape names) [] w word ≡ []
   pub then : Passes names (walked (rules_of names) [] w word) rest
 
-first_of_passes : (names : List Text) (w : Walk) (word : Text) (rest : List Text) → Passes names w (word ∷ rest) → First names w word rest
+first_of_passes : (names : List Text) (w : Walk) (word : Text) (rest : List Text) → Passes names w (word ∷ rest)
+    → First names w word rest
 unfolding walk_fault
 first_of_passes names w word rest p =
-    let both = no_two (turn_fault (shape names) [] w word) (walk_fault (shape names) [] (walked (rules_of names) [] w word) rest) p.walk in
+    let both = no_two (turn_fault (shape names) [] w word)
+    (walk_fault (shape names) [] (walked (rules_of names) [] w word) rest) p.walk in
     record { turn = both.0; then = record { walk = both.1; end = p.end } }
 
-no_dashes_first : (word : Text) (rest : List Text) → NoDashes (word ∷ rest) → (bytes_eq word dashes ≡ false) × NoDashes rest
+no_dashes_first : (word : Text) (rest : List Text) → NoDashes (word ∷ rest)
+    → (bytes_eq word dashes ≡ false) × NoDashes rest
 no_dashes_first word rest h = go (bytes_eq word dashes) refl
   where
     go : (t : Bool) → bytes_eq word dashes ≡ t → (bytes_eq word dashes ≡ false) × NoDashes rest
@@ -62,11 +68,13 @@ no_dashes_first word rest h = go (bytes_eq word dashes) refl
 -- ---- what passes is options
 
 abbrev ReadsIdle : (names rest : List Text) → Type 0
-ReadsIdle names rest = (h : Held) (gs : List Given) → Stands names h gs → NoDashes rest → Passes names (walk_from h) rest
+ReadsIdle names rest = (h : Held) (gs : List Given) → Stands names h gs → NoDashes rest
+    → Passes names (walk_from h) rest
     → Reads names rest gs (rows_at_end names (walk_from h) rest)
 
 abbrev ReadsNaming : (names rest : List Text) → Type 0
-ReadsNaming names rest = (gs : List Given) (n : Text) → IsName names n → Distinct gs → NoDashes rest → Passes names (naming gs n) rest
+ReadsNaming names rest = (gs : List Given) (n : Text) → IsName names n → Distinct gs → NoDashes rest
+    → Passes names (naming gs n) rest
     → Reads names (alone_word n ∷ rest) gs (rows_at_end names (naming gs n) rest)
 
 none_passes : (names : List Text) (h : Held) (gs : List Given) → Stands names h gs → Passes names (walk_from h) []
@@ -105,11 +113,15 @@ idle_more names word rest idle naming_rest h gs st none p =
     by_turn : Turn names h gs word → Passes names (walked (rules_of names) [] (walk_from h) word) rest → NoDashes rest
         → Reads names (word ∷ rest) gs (rows_at_end names (walked (rules_of names) [] (walk_from h) word) rest)
     by_turn (took n v is known d walks) q none =
-        let there : Passes names (walk_from (clean (gs ++ (n, v) ∷ []))) rest = subst (λ (w : Walk). Passes names w rest) walks q in
-        let read = idle (clean (gs ++ (n, v) ∷ [])) (gs ++ (n, v) ∷ []) (clean_stands names (gs ++ (n, v) ∷ []) d) none there in
+        let there : Passes names (walk_from (clean (gs ++ (n, v) ∷ []))) rest =
+        subst (λ (w : Walk). Passes names w rest) walks q in
+        let read = idle (clean (gs ++ (n, v) ∷ [])) (gs ++ (n, v) ∷ [])
+        (clean_stands names (gs ++ (n, v) ∷ []) d) none there in
         subst (λ (w : Walk). Reads names (word ∷ rest) gs (rows_at_end names w rest)) (sym walks)
-        (subst (λ (t : Text). Reads names (t ∷ rest) gs (rows_at_end names (walk_from (clean (gs ++ (n, v) ∷ []))) rest)) (sym is)
-        (subst (λ (ws : List Text). Reads names (ws ++ rest) gs (rows_at_end names (walk_from (clean (gs ++ (n, v) ∷ []))) rest))
+        (subst (λ (t : Text). Reads names (t ∷ rest) gs
+        (rows_at_end names (walk_from (clean (gs ++ (n, v) ∷ []))) rest)) (sym is)
+        (subst (λ (ws : List Text). Reads names (ws ++ rest) gs
+        (rows_at_end names (walk_from (clean (gs ++ (n, v) ∷ []))) rest))
         (joined_spelled n v) (one_more names rest gs (joined n v) _ known read)))
     by_turn (waits n is known d walks) q none =
         let there : Passes names (naming gs n) rest = subst (λ (w : Walk). Passes names w rest) walks q in
@@ -117,12 +129,14 @@ idle_more names word rest idle naming_rest h gs st none p =
         subst (λ (w : Walk). Reads names (word ∷ rest) gs (rows_at_end names w rest)) (sym walks)
         (subst (λ (t : Text). Reads names (t ∷ rest) gs (rows_at_end names (naming gs n) rest)) (sym is) read)
 
-naming_more : (names : List Text) (word : Text) (rest : List Text) → ReadsIdle names rest → ReadsNaming names (word ∷ rest)
+naming_more : (names : List Text) (word : Text) (rest : List Text) → ReadsIdle names rest
+    → ReadsNaming names (word ∷ rest)
 naming_more names word rest idle gs n known d none p =
     let f = first_of_passes names (naming gs n) word rest p in
     let nd = no_dashes_first word rest none in
     let walks = turn_naming names gs n word known nd.0 f.turn in
-    let there : Passes names (walk_from (pending gs n word)) rest = subst (λ (w : Walk). Passes names w rest) walks f.then in
+    let there : Passes names (walk_from (pending gs n word)) rest =
+    subst (λ (w : Walk). Passes names w rest) walks f.then in
     let read = idle (pending gs n word) (gs ++ (n, word) ∷ []) (pending_stands names gs n word known d) nd.1 there in
     subst (λ (w : Walk). Reads names (alone_word n ∷ word ∷ rest) gs (rows_at_end names w rest)) (sym walks)
     (one_more names rest gs (apart n word) _ known read)
@@ -180,9 +194,11 @@ passes_all names (joined n v ∷ ws) h gs settles is d fit =
     let now = gs ++ (n, v) ∷ [] in
     let same = append_assoc gs ((n, v) ∷ []) (map given ws) in
     let more = passes_all names ws (clean now) now refl refl (subst Distinct (sym same) d) fit.3 in
-    subst (λ (words : List Text). Passed names (walk_from h) (words ++ flat_map option_words ws) (gs ++ (n, v) ∷ map given ws))
+    subst (λ (words : List Text). Passed names (walk_from h) (words ++ flat_map option_words ws)
+    (gs ++ (n, v) ∷ map given ws))
     (sym (joined_spelled n v))
-    (passed_first names (walk_from h) (walk_from (clean now)) (joined_word n v) (flat_map option_words ws) (gs ++ (n, v) ∷ map given ws)
+    (passed_first names (walk_from h) (walk_from (clean now)) (joined_word n v) (flat_map option_words ws)
+    (gs ++ (n, v) ∷ map given ws)
     (joined_turn names h gs n v fit.0 fit.1 settles is fresh) (joined_walked names h gs n v fit.0 fit.1 is fresh)
     (subst (Passed names (walk_from (clean now)) (flat_map option_words ws)) same more))
 passes_all names (apart n v ∷ ws) h gs settles is d fit =
@@ -191,14 +207,17 @@ passes_all names (apart n v ∷ ws) h gs settles is d fit =
     let same = append_assoc gs ((n, v) ∷ []) (map given ws) in
     let held = pending_settles names gs n v fit.0 fresh in
     let more = passes_all names ws (pending gs n v) now held.0 held.1 (subst Distinct (sym same) d) fit.3 in
-    passed_first names (walk_from h) (naming gs n) (alone_word n) (v ∷ flat_map option_words ws) (gs ++ (n, v) ∷ map given ws)
+    passed_first names (walk_from h) (naming gs n) (alone_word n) (v ∷ flat_map option_words ws)
+    (gs ++ (n, v) ∷ map given ws)
     (alone_turn names h gs n fit.0 fit.1 settles) (alone_walked names h gs n fit.0 fit.1 is)
-    (passed_first names (naming gs n) (walk_from (pending gs n v)) v (flat_map option_words ws) (gs ++ (n, v) ∷ map given ws)
+    (passed_first names (naming gs n) (walk_from (pending gs n v)) v (flat_map option_words ws)
+    (gs ++ (n, v) ∷ map given ws)
     (value_turn names gs n v fit.0 fit.2) (value_walked names gs n v fit.0 fit.2)
     (subst (Passed names (walk_from (pending gs n v)) (flat_map option_words ws)) same more))
 
 -- no word of options is `--`
-pub options_no_dashes : (names : List Text) (ws : List Written) → AreWritable names ws → NoDashes (flat_map option_words ws)
+pub options_no_dashes : (names : List Text) (ws : List Written) → AreWritable names ws
+    → NoDashes (flat_map option_words ws)
 options_no_dashes names [] fit = refl
 options_no_dashes names (joined n v ∷ ws) fit =
     subst (λ (words : List Text). NoDashes (words ++ flat_map option_words ws)) (sym (joined_spelled n v))

@@ -1,15 +1,18 @@
 -- What `clap` makes of the words behind `proxy`, both ways.
-use Rattle.std.proofs.Common.{◌≡◌, ◌⊎◌, ◌∙◌, ◌++◌, ◌||◌, ◌&&◌, ◌==◌, ◌<◌, ℕ, ◌+◌, ◌≤◌, zero, suc, Bool, true, false, not, List, [], ◌∷◌, Option, Some, None, cond, map, length, get_or, inl, inr, refl, sym, ap, ap₂, subst, ⊎_elim, Result, arith, codes, IsPermutation}
-use Rattle.std.specs.Prelude.{find, fold}
+use Rattle.std.proofs.Common.{◌≡◌, ◌⊎◌, ◌∙◌, ◌||◌, ◌&&◌, ◌≤◌, Bool, true, false, not, List, [], ◌∷◌, Some, None, cond}
+use Rattle.std.proofs.Common.{map, inl, inr, refl, sym, ap, ap₂, subst, ⊎_elim, Result, arith, codes}
+use Rattle.std.specs.Prelude.{fold}
 use Rattle.std.specs.List.{Contains, flat_map, list_any}
 use Rattle.std.specs.Str.{bytes_eq}
 use Rattle.std.proofs.lemmas.List.Sorted.{Contains-permutation, IsPermutation-sym}
-use Rattle.clap.specs.Faults.{built_fault, check_fault, default_fault, defaults_fault, fault_of, given_default_fault, is_simple_and_free, level_fault, settle_fault, walk_fault}
+use Rattle.clap.specs.Faults.{check_fault, default_fault, defaults_fault, fault_of, given_default_fault}
+use Rattle.clap.specs.Faults.{is_simple_and_free, level_fault, settle_fault, walk_fault}
 use Rattle.clap.specs.Kinds.{FailsBy, HasKind, Kinds, or_else}
 use Rattle.clap.specs.Lexer.{strip_byte}
-use Rattle.clap.specs.Simple.{App, HasMatchesOf, Shape, app_of, built, label_of, matches_of, names_of}
+use Rattle.clap.specs.Simple.{App, HasMatchesOf, Shape, app_of, built, label_of, matches_of}
 use Rattle.clap.specs.Takes.{is_given}
-use Rattle.clap.specs.Walk.{Held, Row, Text, Walk, finished, first_of, has_row, nothing_held, rows_after, rows_of, settled, walk_from, with_default}
+use Rattle.clap.specs.Walk.{Row, Text, Walk, finished, first_of, has_row, nothing_held, rows_after, rows_of}
+use Rattle.clap.specs.Walk.{walk_from, with_default}
 use Rattle.clap.specs.Matches.{first_value, found_of}
 use Rattle.clap.specs.Values.{kind_of}
 use Rattle.clap.specs.declared.builder.command.Command.{Command}
@@ -19,15 +22,17 @@ use Rattle.clap.specs.declared.parser.matches.ArgMatches.{ArgMatches}
 use Rattle.clap.proofs.FaultLemmas.{leaf_fault}
 use Rattle.clap.proofs.WalkLemmas.{first_value-rows}
 use Rattle.std.proofs.lemmas.Bool.{ne_eqb}
-use Rattle.nio_command.specs.Options.{AreOptions, Written, given, option_words}
+use Rattle.nio_command.specs.Options.{AreOptions, given, option_words}
 use Rattle.nio_command.specs.ProxyApp.{proxy_app}
 use Rattle.nio_command.specs.Texts.{AreNoOptions, FindsValues, IsNoOption}
 use Rattle.nio_command.specs.Values.{ProxyValues, proxy_options}
-use Rattle.nio_command.proofs.Givens.{Distinct, Given, bears, bears_cases, bears_small, contains_cases, found_in, in_found, nothing_distinct, row, times}
+use Rattle.nio_command.proofs.Givens.{Distinct, Given, bears, bears_cases, bears_small, contains_cases, found_in}
+use Rattle.nio_command.proofs.Givens.{in_found, nothing_distinct, row, times}
 use Rattle.nio_command.proofs.LongWords.{IsPlainName, IsPlainValue, plain_value, lacks_test}
 use Rattle.nio_command.proofs.Orders.{in_order, names_known, permuted_distinct, writable_from}
 use Rattle.nio_command.proofs.Parses.{NoDashes, Passes, end_of, options_no_dashes, passes_all, reads_all, rows_at_end}
-use Rattle.nio_command.proofs.ProxyApp.{option_rule, proxy_built, proxy_is_free, proxy_is_simple, proxy_names, proxy_no_subs}
+use Rattle.nio_command.proofs.ProxyApp.{option_rule, proxy_built, proxy_is_free, proxy_is_simple, proxy_names}
+use Rattle.nio_command.proofs.ProxyApp.{proxy_no_subs}
 use Rattle.nio_command.proofs.Table.{IsName, rules_of}
 use Rattle.nio_command.proofs.Turns.{clean, clean_stands, no_two, shape}
 
@@ -42,7 +47,9 @@ no_defaults (n ∷ ns) rows =
     ap (λ (rs : List Row). fold with_default rs (rules_of ns)) (same_rows rows n) ∙ no_defaults ns rows
 
 default_passes : (rows : List Row) (n : Text) → default_fault rows (option_rule n) ≡ []
-default_passes rows n = elim (has_row n rows) as (λ b. cond (b || true) [] (given_default_fault (option_rule n) []) ≡ []) [ true ↦ refl | false ↦ refl ]
+default_passes rows n =
+    elim (has_row n rows) as
+    (λ b. cond (b || true) [] (given_default_fault (option_rule n) []) ≡ []) [ true ↦ refl | false ↦ refl ]
 
 defaults_pass : (names : List Text) (rows : List Row) → defaults_fault rows (rules_of names) ≡ []
 unfolding defaults_fault
@@ -75,7 +82,8 @@ given_found n v (g ∷ gs) e = go (bytes_eq g.0 n) refl (given_found n v gs)
 abbrev start : Walk
 start = walk_from nothing_held
 
-fault_level : (words : List Text) → fault_of proxy_app words ≡ level_fault (shape proxy_names) [] nothing_held words false []
+fault_level : (words : List Text)
+    → fault_of proxy_app words ≡ level_fault (shape proxy_names) [] nothing_held words false []
 fault_level words =
     leaf_fault (built proxy_app) nothing_held words proxy_no_subs
     ∙ ap (λ (s : Shape). level_fault s [] nothing_held words false []) proxy_built
@@ -97,12 +105,15 @@ passes_of words e =
     let both = no_two (walk_fault (shape proxy_names) [] start words) (or_else settle (after_settling words)) all in
     record { walk = both.0; end = (no_two settle (after_settling words) both.1).0 }
 
-fault_none : (words : List Text) → Passes proxy_names start words → AreGiven proxy_names (rows_at_end proxy_names start words)
+fault_none : (words : List Text) → Passes proxy_names start words
+    → AreGiven proxy_names (rows_at_end proxy_names start words)
     → fault_of proxy_app words ≡ []
 fault_none words p given =
     let rows = rows_at_end proxy_names start words in
-    let checked : check_fault (shape proxy_names) (finished (rules_of proxy_names) (end_of proxy_names start words)) false ≡ [] =
-    ap (λ (rs : List Row). check_fault (shape proxy_names) rs false) (no_defaults proxy_names rows) ∙ check_passes proxy_names rows given in
+    let checked : check_fault (shape proxy_names)
+    (finished (rules_of proxy_names) (end_of proxy_names start words)) false ≡ [] =
+    ap (λ (rs : List Row). check_fault (shape proxy_names) rs false) (no_defaults proxy_names rows)
+    ∙ check_passes proxy_names rows given in
     fault_level words ∙ rw (p.walk, p.end, defaults_pass proxy_names rows) checked
 
 -- ---- the four options
@@ -111,9 +122,11 @@ abbrev pub four : Text → Text → Text → Text → List Given
 four a b c d = proxy_options (record { way = a; listen = b; target = c; conns = d })
 
 four_distinct : (a b c d : Text) → Distinct (four a b c d)
-four_distinct a b c d n = by_name (bears_cases n (codes "way", a)) (bears_cases n (codes "listen", b)) (bears_cases n (codes "target", c))
+four_distinct a b c d n =
+    by_name (bears_cases n (codes "way", a)) (bears_cases n (codes "listen", b)) (bears_cases n (codes "target", c))
   where
-    by_name : (codes "way" ≡ n) ⊎ (bears n (codes "way", a) ≡ 0) → (codes "listen" ≡ n) ⊎ (bears n (codes "listen", b) ≡ 0)
+    by_name : (codes "way" ≡ n) ⊎ (bears n (codes "way", a) ≡ 0)
+        → (codes "listen" ≡ n) ⊎ (bears n (codes "listen", b) ≡ 0)
         → (codes "target" ≡ n) ⊎ (bears n (codes "target", c) ≡ 0) → times n (four a b c d) ≤ 1
     by_name (inl same) q r = subst (λ (m : Text). times m (four a b c d) ≤ 1) same (omega arith)
     by_name (inr x) (inl same) r = subst (λ (m : Text). times m (four a b c d) ≤ 1) same (omega arith)
@@ -123,10 +136,14 @@ four_distinct a b c d n = by_name (bears_cases n (codes "way", a)) (bears_cases 
         omega arith
 
 plain_names : (n : Text) → IsName proxy_names n → IsPlainName n
-plain_names n (inl same) = subst IsPlainName same (record { no_equals = lacks_test 61 (codes "way") refl; some = λ e. (cc) })
-plain_names n (inr (inl same)) = subst IsPlainName same (record { no_equals = lacks_test 61 (codes "listen") refl; some = λ e. (cc) })
-plain_names n (inr (inr (inl same))) = subst IsPlainName same (record { no_equals = lacks_test 61 (codes "target") refl; some = λ e. (cc) })
-plain_names n (inr (inr (inr (inl same)))) = subst IsPlainName same (record { no_equals = lacks_test 61 (codes "conns") refl; some = λ e. (cc) })
+plain_names n (inl same) =
+    subst IsPlainName same (record { no_equals = lacks_test 61 (codes "way") refl; some = λ e. (cc) })
+plain_names n (inr (inl same)) =
+    subst IsPlainName same (record { no_equals = lacks_test 61 (codes "listen") refl; some = λ e. (cc) })
+plain_names n (inr (inr (inl same))) =
+    subst IsPlainName same (record { no_equals = lacks_test 61 (codes "target") refl; some = λ e. (cc) })
+plain_names n (inr (inr (inr (inl same)))) =
+    subst IsPlainName same (record { no_equals = lacks_test 61 (codes "conns") refl; some = λ e. (cc) })
 plain_names n (inr (inr (inr (inr h)))) = absurd h
 
 -- what stands among the four options, in the order of the options
@@ -135,7 +152,8 @@ Four P a b c d = P (codes "way", a) × P (codes "listen", b) × P (codes "target
 
 each_of_four : (P : Given → Type 0) (a b c d : Text) → Four P a b c d → (g : Given) → Contains (four a b c d) g → P g
 each_of_four P a b c d h g in_four =
-    first (contains_cases (codes "way", a) g ((codes "listen", b) ∷ (codes "target", c) ∷ (codes "conns", d) ∷ []) in_four)
+    first (contains_cases (codes "way", a) g
+    ((codes "listen", b) ∷ (codes "target", c) ∷ (codes "conns", d) ∷ []) in_four)
   where
     fourth : ((codes "conns", d) ≡ g) ⊎ Contains [] g → P g
     fourth (inl same) = subst P same h.3
@@ -149,9 +167,11 @@ each_of_four P a b c d h g in_four =
     second (inl same) = subst P same h.1
     second (inr more) = third (contains_cases (codes "target", c) g ((codes "conns", d) ∷ []) more)
 
-    first : ((codes "way", a) ≡ g) ⊎ Contains ((codes "listen", b) ∷ (codes "target", c) ∷ (codes "conns", d) ∷ []) g → P g
+    first : ((codes "way", a) ≡ g) ⊎ Contains ((codes "listen", b) ∷ (codes "target", c) ∷ (codes "conns", d) ∷ []) g
+        → P g
     first (inl same) = subst P same h.0
-    first (inr more) = second (contains_cases (codes "listen", b) g ((codes "target", c) ∷ (codes "conns", d) ∷ []) more)
+    first (inr more) = second
+        (contains_cases (codes "listen", b) g ((codes "target", c) ∷ (codes "conns", d) ∷ []) more)
 
 abbrev pub FindsFour : List Row → Text → Text → Text → Text → Type 0
 FindsFour rows a b c d = (first_of (codes "way") rows ≡ Some a) × (first_of (codes "listen") rows ≡ Some b)
@@ -161,15 +181,21 @@ FindsFour rows a b c d = (first_of (codes "way") rows ≡ Some a) × (first_of (
 pub are_options : (words : List Text) (a b c d : Text) → NoDashes words → fault_of proxy_app words ≡ []
     → FindsFour (matches_of proxy_app words) a b c d → AreOptions words (four a b c d)
 are_options words a b c d none e finds =
-    let read = (reads_all proxy_names words).0 (clean []) [] (clean_stands proxy_names [] nothing_distinct) none (passes_of words e) in
+    let read = (reads_all proxy_names words).0 (clean []) [] (clean_stands proxy_names [] nothing_distinct) none
+    (passes_of words e) in
     let gs = map given read.written in
     let rows : matches_of proxy_app words ≡ map row gs = matches_rows words ∙ read.found in
     let there : (n v : Text) → first_of n (matches_of proxy_app words) ≡ Some v → Contains gs (n, v) =
     λ n v h. found_in n v gs (subst (λ (rs : List Row). first_of n rs ≡ Some v) rows h) in
     record {
       written = read.written;
-      order = in_order (four a b c d) gs (four_distinct a b c d) read.distinct
-          (there (codes "way") a finds.0, (there (codes "listen") b finds.1, (there (codes "target") c finds.2, (there (codes "conns") d finds.3, tt))))
+      order = in_order (four a b c d) gs (four_distinct a b c d) read.distinct (
+        there (codes "way") a finds.0,
+        (
+          there (codes "listen") b finds.1,
+          (there (codes "target") c finds.2, (there (codes "conns") d finds.3, tt)),
+        ),
+      )
           (names_known proxy_names read.written read.known);
       spelled = read.spelled;
     }
@@ -178,7 +204,8 @@ abbrev Writable : Given → Type 0
 Writable g = IsName proxy_names g.0 × IsPlainName g.0 × IsPlainValue g.1
 
 all_four : (a b c d : Text) (gs : List Given) → FindsFour (map row gs) a b c d → AreGiven proxy_names (map row gs)
-all_four a b c d gs finds n (inl same) = subst (λ (m : Text). is_given m (map row gs) ≡ true) same (given_found (codes "way") a gs finds.0)
+all_four a b c d gs finds n (inl same) =
+    subst (λ (m : Text). is_given m (map row gs) ≡ true) same (given_found (codes "way") a gs finds.0)
 all_four a b c d gs finds n (inr (inl same)) =
     subst (λ (m : Text). is_given m (map row gs) ≡ true) same (given_found (codes "listen") b gs finds.1)
 all_four a b c d gs finds n (inr (inr (inl same))) =
@@ -209,7 +236,8 @@ options_taken words a b c d o plain_a plain_b plain_c plain_d =
       writable_value (codes "target") c (inr (inr (inl refl))) plain_c,
       writable_value (codes "conns") d (inr (inr (inr (inl refl)))) plain_d,
     ) in
-    let fit = writable_from proxy_names o.written (λ g there. each_of_four Writable a b c d each g (Contains-permutation gs (four a b c d) g o.order there)) in
+    let fit = writable_from proxy_names o.written
+    (λ g there. each_of_four Writable a b c d each g (Contains-permutation gs (four a b c d) g o.order there)) in
     let made = flat_map option_words o.written in
     let passed = passes_all proxy_names o.written (clean []) [] refl refl distinct fit in
     let finds : (n v : Text) → Contains (four a b c d) (n, v) → first_of n (map row gs) ≡ Some v =
@@ -239,22 +267,26 @@ values_taken words v o p =
     (unlike v.target p.target) (unlike v.conns p.conns)
 
 pub fault_at : {T : Type 0} (c : Command) (words : List Text) (r : Result T Error) → app_of c ≡ proxy_app
-    → (is_simple_and_free (app_of c) ≡ true → FailsBy (fault_of (app_of c) words) r) → FailsBy (fault_of proxy_app words) r
+    → (is_simple_and_free (app_of c) ≡ true → FailsBy (fault_of (app_of c) words) r)
+    → FailsBy (fault_of proxy_app words) r
 fault_at {T} c words r same kinds =
     let at : is_simple_and_free proxy_app ≡ true → FailsBy (fault_of proxy_app words) r =
     subst (λ (a : App). is_simple_and_free a ≡ true → FailsBy (fault_of a words) r) same kinds in
     at proxy_is_free
 
-pub rows_at : (c : Command) (words : List Text) (m : ArgMatches) → app_of c ≡ proxy_app → HasMatchesOf (app_of c) words m
+pub rows_at : (c : Command) (words : List Text) (m : ArgMatches) → app_of c ≡ proxy_app
+    → HasMatchesOf (app_of c) words m
     → rows_of (found_of m) ≡ matches_of proxy_app words
 rows_at c words m same has =
     let at : HasMatchesOf proxy_app words m = subst (λ (a : App). HasMatchesOf a words m) same has in
     (at proxy_is_simple).0
 
-first_is : (m : ArgMatches) (rows : List Row) (n : Text) → rows_of (found_of m) ≡ rows → first_value (found_of m) n ≡ first_of n rows
+first_is : (m : ArgMatches) (rows : List Row) (n : Text) → rows_of (found_of m) ≡ rows
+    → first_value (found_of m) n ≡ first_of n rows
 first_is m rows n same = first_value-rows (found_of m) n ∙ ap (first_of n) same
 
-pub found_four : (m : ArgMatches) (rows : List Row) (v : ProxyValues) → rows_of (found_of m) ≡ rows → FindsValues (found_of m) v
+pub found_four : (m : ArgMatches) (rows : List Row) (v : ProxyValues) → rows_of (found_of m) ≡ rows
+    → FindsValues (found_of m) v
     → FindsFour rows v.way v.listen v.target v.conns
 found_four m rows v same f = (
   sym (first_is m rows (codes "way") same) ∙ f.way,
@@ -273,4 +305,5 @@ four_found m rows v same f = record {
 }
 
 pub only_memory : (kinds : Kinds) (e : Error) → kinds ≡ [] → HasKind kinds e → kind_of e ≡ OutOfMemory
-only_memory kinds e none h = ⊎_elim (λ memory. memory) (λ among. absurd among) (subst (λ (k : Kinds). HasKind k e) none h)
+only_memory kinds e none h =
+    ⊎_elim (λ memory. memory) (λ among. absurd among) (subst (λ (k : Kinds). HasKind k e) none h)

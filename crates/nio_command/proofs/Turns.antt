@@ -1,5 +1,6 @@
 -- What one word does to a parse of options, each of which takes one value.
-use Rattle.std.proofs.Common.{◌≡◌, ◌⊎◌, ◌∙◌, ◌++◌, ◌||◌, ℕ, Bool, true, false, List, [], ◌∷◌, Option, Some, None, map, length, refl, sym, ap, ap₂, inl, inr, subst, zero, suc, codes}
+use Rattle.std.proofs.Common.{◌≡◌, ◌⊎◌, ◌∙◌, ◌++◌, ℕ, Bool, true, false, List, [], ◌∷◌, Option, Some, None, map}
+use Rattle.std.proofs.Common.{length, refl, sym, ap, inl, inr, subst, zero, suc, codes}
 use Rattle.std.specs.Prelude.{nat_lt, slice_get}
 use Rattle.std.specs.Option.{option_map_or}
 use Rattle.std.specs.Str.{bytes_eq, chars}
@@ -7,13 +8,17 @@ use Rattle.std.proofs.lemmas.List.{append-nil, map-append}
 use Rattle.std.proofs.lemmas.Slice.Eq.{bytes_eq-Decides}
 use Rattle.clap.specs.Lexer.{long_of, short_of}
 use Rattle.clap.specs.Kinds.{Kinds, or_else}
-use Rattle.clap.specs.Faults.{bundle_fault, bundle_step_fault, flags_fault, flag_word_fault, long_fault, option_fault, settle_fault, step_fault, turn_fault, use_fault}
+use Rattle.clap.specs.Faults.{bundle_fault, bundle_step_fault, flags_fault, long_fault, option_fault, settle_fault}
+use Rattle.clap.specs.Faults.{step_fault, turn_fault, use_fault}
 use Rattle.clap.specs.Simple.{Shape}
-use Rattle.clap.specs.Walk.{Held, Outcome, Row, Rule, Step, Text, Waiting, Walk, after_flag, after_step, arg_by_id, arg_by_index, arg_by_long, at_row, bundle_met, bundle_step, has_row, plain, used_by_id, idle, long_met, long_or_other, more_values, next, option, option_met, option_word, pending_count, plain_word, reacted, settled, short_or_plain, short_word, used, value, walk_from, walked}
+use Rattle.clap.specs.Walk.{Held, Outcome, Row, Rule, Step, Text, Waiting, Walk, after_flag, after_step, arg_by_long}
+use Rattle.clap.specs.Walk.{at_row, bundle_met, bundle_step, has_row, plain, used_by_id, idle, more_values, next}
+use Rattle.clap.specs.Walk.{option, option_met, pending_count, plain_word, settled, short_or_plain, used, value}
+use Rattle.clap.specs.Walk.{walk_from, walked}
 use Rattle.clap.specs.declared.parser.matches.ValueSource.TheVariants.{CommandLine}
-use Rattle.clap.specs.declared.builder.value_parser.Reading.TheVariants.{AsWritten}
 use Rattle.nio_command.proofs.Givens.{Distinct, Given, more_distinct, row}
-use Rattle.nio_command.proofs.LongWords.{IsPlainName, IsPlainValue, MadeOf, alone_no_dashes, alone_word, dashes, joined_no_dashes, joined_word, long_alone, long_joined, long_made}
+use Rattle.nio_command.proofs.LongWords.{IsPlainName, IsPlainValue, alone_no_dashes, alone_word, dashes}
+use Rattle.nio_command.proofs.LongWords.{joined_no_dashes, joined_word, long_alone, long_joined, long_made}
 use Rattle.nio_command.proofs.ProxyApp.{option_rule, options_shape}
 use Rattle.nio_command.proofs.Table.{IsName, id_found, long_either, long_found, no_index, no_short, rules_of}
 
@@ -108,7 +113,8 @@ pub named_fault : (names : List Text) (gs : List Given) (n : Text) → IsName na
     → settle_fault (rules_of names) false (named gs n) ≡ [] → ⊥
 named_fault names gs n known e =
     use_none n (map row gs)
-    (sym (ap (λ (o : Option Rule). option_map_or (λ a. use_fault false a [] (map row gs)) o []) (id_found names n known)) ∙ e)
+    (sym (ap (λ (o : Option Rule). option_map_or (λ a. use_fault false a [] (map row gs)) o [])
+    (id_found names n known)) ∙ e)
 
 -- ---- a word that is no long one
 
@@ -187,7 +193,8 @@ turn_idle names h gs word st other e = by_long (long_of word) refl
         (walked_long names h word n None other long known
         ∙ ap (λ (k : Held). record (walk_from (record k { pending = Some (n, []) })) { waiting = option n }) now.0)
 
-    by_name : (n : Text) (v : Option Text) → long_of word ≡ Some (n, v) → (arg_by_long (rules_of names) n ≡ None) ⊎ IsName names n
+    by_name : (n : Text) (v : Option Text) → long_of word ≡ Some (n, v)
+        → (arg_by_long (rules_of names) n ≡ None) ⊎ IsName names n
         → long_fault (rules_of names) false (arg_by_long (rules_of names) n) v h ≡ [] → Turn names h gs word
     by_name n v long (inl none) f = absurd (let bad = rw none at f in cc)
     by_name n v long (inr known) f = by_value n v long known (rw (long_found names n known) at f)
@@ -217,7 +224,8 @@ plain_walked : (names : List Text) (gs : List Given) (n word : Text) (o : Option
 unfolding walked
 plain_walked names gs n word o known other long short e =
     rw (other, long, short, short_plain names (option n) word o (named gs n) refl e)
-    (ap (λ (p : Held × Step). after_step (rules_of names) word (naming gs n) p.0 p.1) (plain_named names gs n word known))
+    (ap (λ (p : Held × Step). after_step (rules_of names) word (naming gs n) p.0 p.1)
+    (plain_named names gs n word known))
 
 pub turn_naming : (names : List Text) (gs : List Given) (n word : Text) → IsName names n
     → bytes_eq word dashes ≡ false → turn_fault (shape names) [] (naming gs n) word ≡ []
@@ -241,11 +249,13 @@ turn_naming names gs n word known other e = by_long (long_of word) refl
 -- ---- the other way: the words of an option have no fault
 
 pub joined_turn : (names : List Text) (h : Held) (gs : List Given) (n v : Text) → IsName names n → IsPlainName n
-    → settle_fault (rules_of names) false h ≡ [] → settled (rules_of names) h ≡ clean gs → has_row n (map row gs) ≡ false
+    → settle_fault (rules_of names) false h ≡ [] → settled (rules_of names) h ≡ clean gs
+    → has_row n (map row gs) ≡ false
     → turn_fault (shape names) [] (walk_from h) (joined_word n v) ≡ []
 joined_turn names h gs n v known fits settles is fresh =
     let used_once : use_fault false (option_rule n) (v ∷ []) (settled (rules_of names) h).rows ≡ [] =
-    subst (λ (k : Held). use_fault false (option_rule n) (v ∷ []) k.rows ≡ []) (sym is) (use_fresh n v (map row gs) fresh) in
+    subst (λ (k : Held). use_fault false (option_rule n) (v ∷ []) k.rows ≡ []) (sym is)
+    (use_fresh n v (map row gs) fresh) in
     rw (joined_no_dashes n v, long_joined n v fits.no_equals, long_found names n known, settles, used_once) refl
 
 pub joined_walked : (names : List Text) (h : Held) (gs : List Given) (n v : Text) → IsName names n → IsPlainName n
@@ -280,7 +290,8 @@ pub value_walked : (names : List Text) (gs : List Given) (n v : Text) → IsName
 value_walked names gs n v known fits =
     plain_walked names gs n v None known fits.no_dashes fits.no_long fits.no_short refl
 
-pub pending_settles : (names : List Text) (gs : List Given) (n v : Text) → IsName names n → has_row n (map row gs) ≡ false
+pub pending_settles : (names : List Text) (gs : List Given) (n v : Text) → IsName names n
+    → has_row n (map row gs) ≡ false
     → (settle_fault (rules_of names) false (pending gs n v) ≡ [])
     × (settled (rules_of names) (pending gs n v) ≡ clean (gs ++ (n, v) ∷ []))
 pending_settles names gs n v known fresh = (

@@ -1,7 +1,7 @@
--- The command that reads the options of `proxy`, as a parse of `clap` sees it.
-use Rattle.std.specs.Prelude.{true, List, [], ◌∷◌, Some, codes}
+-- The command that reads the options of `proxy`, as `clap` sees it. No public contract cites it.
+use Rattle.std.specs.Prelude.{true, Some, codes}
 use Rattle.clap.specs.Walk.{Rule, Text}
-use Rattle.clap.specs.Simple.{App, Shape, new_app, new_rule, new_shape, on_top, with_rule}
+use Rattle.clap.specs.Simple.{App, Shape, new_app, new_rule, on_top, with_rule}
 
 -- an option that is required, by its name
 abbrev pub added_rule : Text → Rule

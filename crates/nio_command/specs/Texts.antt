@@ -1,4 +1,4 @@
--- The texts that a parse finds.
+-- The values of options that a parse finds. No public contract cites this file.
 use Rattle.std.specs.Prelude.{◌≡◌, ◌≢◌, Some, codes, slice_index}
 use Rattle.clap.specs.Words.{first_value}
 use Rattle.clap.specs.declared.parser.matches.Found.{Found}

@@ -1,5 +1,5 @@
 -- The options of `proxy`, and how an address is written.
-use Rattle.std.specs.Prelude.{◌≡◌, ℕ, ◌+◌, ◌≤◌, List, [], ◌∷◌, ◌++◌, All, length, codes}
+use Rattle.std.specs.Prelude.{◌≡◌, ◌≤◌, List, [], ◌∷◌, ◌++◌, All, length, codes}
 use Rattle.std.specs.Fmt.{decimal}
 use Rattle.std.specs.Net.Text.{ipv4_text}
 use Rattle.nio_command.specs.Options.{Text}
@@ -25,4 +25,8 @@ pub record ProxyValues : Type 0 where
 
 abbrev pub proxy_options : ProxyValues → List (Text × Text)
 proxy_options v =
-    (codes "way", v.way) ∷ (codes "listen", v.listen) ∷ (codes "target", v.target) ∷ (codes "conns", v.conns) ∷ []
+    (codes "way", v.way)
+    ∷ (codes "listen", v.listen)
+    ∷ (codes "target", v.target)
+    ∷ (codes "conns", v.conns)
+    ∷ []

@@ -1,6 +1,7 @@
--- The words of the command line.
-use Rattle.std.specs.Prelude.{◌≡◌, ℕ, ◌≤◌, List, [], ◌∷◌, codes}
+-- The words of the command line, without the program's name.
+use Rattle.std.specs.Prelude.{◌≡◌, List, [], ◌∷◌, codes}
 use Rattle.std.specs.Fmt.{decimal}
+use Rattle.nio_relay.specs.Plan.{IsServable}
 use Rattle.nio_relay.specs.declared.plan.ProxyPlan.{ProxyPlan}
 use Rattle.nio_command.specs.Options.{Text, AreOptions}
 use Rattle.nio_command.specs.Values.{IsAddress, ProxyValues, address_text, proxy_options}
@@ -27,8 +28,7 @@ IsRaceCommand words = words ≡ codes "race" ∷ []
 pub record IsInRange (plan : ProxyPlan) : Type 0 where
   pub listen : IsAddress plan.listen
   pub target : IsAddress plan.target
-  pub some_connections : 1 ≤ plan.conns
-  pub few_connections : plan.conns ≤ 16000
+  pub connections : IsServable plan
 
 -- the values of a plan's options
 abbrev pub values_of : ProxyPlan → ProxyValues
@@ -53,3 +53,7 @@ IsCommand words Check = IsCheckCommand words
 IsCommand words CheckFirst = IsCheckFirstCommand words
 IsCommand words Race = IsRaceCommand words
 IsCommand words (Proxy plan) = IsProxyCommand words plan
+
+-- the words are no command
+abbrev pub SaysNothing : List Text → Type 0
+SaysNothing words = (command : Command) → ¬ (IsCommand words command)

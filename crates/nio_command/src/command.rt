@@ -1,7 +1,7 @@
 //! A command, and the words that it is.
 ghost use Rattle.std.specs.Prelude.{◌≡◌, ◌≢◌, ◌↔◌, List, ℕ, ◌∷◌, [], map, codes, Ok, Err, Some, IfSome};
 ghost use Rattle.std.specs.String.{string_bytes};
-ghost use Rattle.nio_command.specs.Words.{IsCommand, IsProxyCommand};
+ghost use Rattle.nio_command.specs.Words.{IsCommand, IsProxyCommand, SaysNothing};
 
 use crate::options::read_options;
 use crate::plan::read_plan;
@@ -17,7 +17,7 @@ pub enum Command {
     Check,
     /// `check-1`: reads a history and says whether it is legal by the first rules.
     CheckFirst,
-    /// `race`: runs a script's callers on threads and writes what happened.
+    /// `race`: reads a race, runs its callers on threads, and writes their histories.
     Race,
     /// `proxy` and its options: relays connections by this plan.
     Proxy(ProxyPlan),
@@ -42,15 +42,15 @@ impl From<AllocError> for WordsError {
     }
 }
 
-/// The command that the words are.
+/// The command that the words are, where `words` leaves out the program's name. Only words that begin
+/// with `proxy` take memory.
 pub fn command_of(alloc: Global, words: &[String]) -> Result<Command, WordsError>
     ensures found { (command : Command) → result ≡ Ok command
         → IsCommand (map string_bytes words.now) command }
     ensures only { (command : Command) → IsCommand (map string_bytes words.now) command
         → result ≢ Err WordsError.Memory → result ≡ Ok command }
     ensures usage { result ≢ Err WordsError.Memory
-        → (result ≡ Err WordsError.Usage
-        ↔ ((command : Command) → IsCommand (map string_bytes words.now) command → ⊥)) }
+        → (result ≡ Err WordsError.Usage ↔ SaysNothing (map string_bytes words.now)) }
     ensures memory { result ≡ Err WordsError.Memory
         → (rest : List (List ℕ)) × (map string_bytes words.now ≡ codes "proxy" ∷ rest) }
 {

@@ -1,4 +1,4 @@
-use Rattle.std.proofs.Common.{arith, map, codes, length, take, drop, ℕ, List, ◌∷◌, ◌-◌, ◌≡◌, ◌∙◌, ap, subst, sym}
+use Rattle.std.proofs.Common.{arith, map, length, take, drop, ℕ, List, ◌-◌, ◌∙◌, subst, sym}
 use Rattle.nio_command.specs.Words.{IsCommand, IsProxyCommand}
 use Rattle.nio_command.specs.declared.command.Command.TheVariants.{Proxy}
 use Rattle.std.specs.String.{string_bytes}
@@ -14,12 +14,14 @@ returns-in-len1-clause-only c = grind (arith, common_steps)
 
 pub returns-in-len1-clause-usage : goal.returns-in-len1-clause-usage
 returns-in-len1-clause-usage c =
-    usage_from (map string_bytes c.args.words.now) c.ok_or.result (returns-in-len1-clause-found c) (returns-in-len1-clause-only c)
+    usage_from (map string_bytes c.args.words.now) c.ok_or.result (returns-in-len1-clause-found c)
+    (returns-in-len1-clause-only c)
 
 pub returns-in_err-read_proxy-in-len1-up-clause-memory : goal.returns-in_err-read_proxy-in-len1-up-clause-memory
 returns-in_err-read_proxy-in-len1-up-clause-memory c = λ e. (
   map string_bytes (take (length c.args.words.now - 1) (drop 1 c.args.words.now)),
-  behind_proxy c.args.words.now c.word-item-2.result c.as_str-2.result.now c.word-item-2.is (omega arith) c.as_str-2.ensures.value
+  behind_proxy c.args.words.now c.word-item-2.result c.as_str-2.result.now c.word-item-2.is
+      (omega arith) c.as_str-2.ensures.value
       (sym c.eq.ensures ∙ c.if-eq.true),
 )
 
@@ -37,7 +39,8 @@ returns-in_ok-read_proxy-in-len1-up-clause-only c = λ command is room.
     let plan = c.in_ok-read_proxy-in-len1-up.field-0 in
     let begins = behind_proxy c.args.words.now c.word-item-2.result c.as_str-2.result.now c.word-item-2.is (omega arith)
     c.as_str-2.ensures.value (sym c.eq.ensures ∙ c.if-eq.true) in
-    only_proxy (map string_bytes c.args.words.now) (map string_bytes (take (length c.args.words.now - 1) (drop 1 c.args.words.now)))
+    only_proxy (map string_bytes c.args.words.now)
+    (map string_bytes (take (length c.args.words.now - 1) (drop 1 c.args.words.now)))
     c.read_proxy.result plan begins c.in_ok-read_proxy-in-len1-up.was c.read_proxy.ensures.only command is
 
 pub returns-in_ok-read_proxy-in-len1-up-clause-usage : goal.returns-in_ok-read_proxy-in-len1-up-clause-usage

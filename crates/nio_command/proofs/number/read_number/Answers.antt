@@ -1,5 +1,5 @@
 -- A text is read as `parse` reads it, once its first character fits.
-use Rattle.std.proofs.Common.{rules, arith, refl, sym, ap, ◌∙◌, ◌≤◌, ◌≡◌, Ok}
+use Rattle.std.proofs.Common.{arith, refl, ◌≡◌}
 use Rattle.std.proofs.lemmas.Bool.{false≢true}
 use Rattle.nio_command.proofs.Numbers.{not_begun, is_number, parses_as}
 use Rattle.nio_command.proofs.number.read_number.Goals as goal

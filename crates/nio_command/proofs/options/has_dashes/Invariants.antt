@@ -7,4 +7,5 @@ use Rattle.nio_command.proofs.options.has_dashes.Given as goal
 
 abbrev pub invariant-loop-word : goal.invariant-loop-word
 invariant-loop-word l =
-    (k : ℕ) (d : String Global) → k < l.word-index → bytes_eq (string_bytes (slice_index_or l.words k d)) (codes "--") ≡ false
+    (k : ℕ) (d : String Global) → k < l.word-index
+    → bytes_eq (string_bytes (slice_index_or l.words k d)) (codes "--") ≡ false

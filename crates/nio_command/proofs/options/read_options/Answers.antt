@@ -1,5 +1,5 @@
 -- What `clap` tells of the parse, and what that says of the words.
-use Rattle.std.proofs.Common.{[], codes, map, Bool, false, true, ◌≡◌, ◌∙◌, sym, refl, subst}
+use Rattle.std.proofs.Common.{[], codes, map, true, ◌≡◌, ◌∙◌, sym, subst}
 use Rattle.std.specs.String.{string_bytes}
 use Rattle.std.proofs.lemmas.Option.{IfSome_then}
 use Rattle.std.specs.List.{list_any}
@@ -12,7 +12,8 @@ use Rattle.clap.specs.Faults.{fault_of}
 use Rattle.clap.specs.Kinds.{FailsBy}
 use Rattle.nio_command.specs.ProxyApp.{proxy_app}
 use Rattle.nio_command.specs.Texts.{texts_of}
-use Rattle.nio_command.proofs.ProxyWords.{are_options, fault_at, found_four, four_found, only_memory, rows_at, values_taken}
+use Rattle.nio_command.proofs.ProxyWords.{are_options, fault_at, found_four, four_found, only_memory, rows_at}
+use Rattle.nio_command.proofs.ProxyWords.{values_taken}
 use Rattle.nio_command.proofs.options.read_options.Goals as goal
 
 pub returns-then-has_dashes-clause-only : goal.returns-then-has_dashes-clause-only
@@ -32,7 +33,8 @@ returns-in-Ok-clause-found c =
     (λ t f.
     let v = texts_of t in
     are_options words v.way v.listen v.target v.conns
-    (sym (c.has_dashes.ensures ∙ list_any-map (λ w. bytes_eq w (codes "--")) string_bytes c.args.words.now) ∙ c.if-has_dashes.false) none
+    (sym (c.has_dashes.ensures ∙ list_any-map (λ w. bytes_eq w (codes "--")) string_bytes c.args.words.now)
+    ∙ c.if-has_dashes.false) none
     (found_four c.in-Ok.matches (matches_of proxy_app words) v rows f))
 
 pub returns-in-Ok-clause-only : goal.returns-in-Ok-clause-only
