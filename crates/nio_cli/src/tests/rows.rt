@@ -340,22 +340,30 @@ impl Texts {
     }
 }
 
+/// Runs a row on the program's table by `script`, and has `check` compare its history with the documented system's.
+fn row(
+    rt: &impl Abort,
+    alloc: Global,
+    label: &str,
+    opening: Lines,
+    lines: Lines,
+) -> Result<(), Fail> {
+    let mut texts = Texts::new(alloc);
+    texts.add(alloc, opening)?;
+    texts.add(alloc, lines)?;
+    let history = texts.history.as_str();
+    let legal = format!(in alloc; "legal {}\n", texts.calls)?;
+    let script = (texts.script.as_str(), None, None);
+    ends(rt, alloc, label, &["script"], script, (0, history))?;
+    let checked = (history, None, None);
+    ends(rt, alloc, label, &["check"], checked, (0, legal.as_str()))
+}
+
 #[test]
-fn rows_on_the_program_s_table(rt: HostRuntime) -> Result<(), Fail> {
+fn rows_on_the_table(rt: HostRuntime) -> Result<(), Fail> {
     let alloc = rt.alloc();
     for (label, opening, lines) in ROWS {
-        let mut texts = Texts::new(alloc);
-        texts.add(alloc, opening)?;
-        texts.add(alloc, lines)?;
-        let input = (texts.script.as_str(), None, None);
-        ends(
-            &rt,
-            alloc,
-            label,
-            &["script"],
-            input,
-            (0, texts.history.as_str()),
-        )?;
+        row(&rt, alloc, label, opening, lines)?;
     }
     Ok(())
 }
