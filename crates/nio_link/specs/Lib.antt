@@ -1,2 +1,4 @@
 pub mod Links
 pub mod Readiness
+pub mod Pieces
+pub mod MemoryLinks

@@ -3,4 +3,5 @@
 
 pub use net::{Failed, Got, Net, Put};
 
+mod memory;
 mod net;

@@ -1,0 +1,4 @@
+//! A net in memory.
+mod link;
+mod pieces;
+mod stage;
