@@ -2,3 +2,4 @@ pub mod Links
 pub mod Readiness
 pub mod Pieces
 pub mod MemoryLinks
+pub mod Slots

@@ -1,5 +1,5 @@
 -- A link in memory, as the net in memory sees it.
-use Rattle.std.specs.Prelude.{◌≡◌, ◌≢◌, ℕ, ◌+◌, ◌-◌, ◌≤◌, nat_lt, min, Bool, true, false, if◌then◌else◌, Option, Some, None, Result, Ok, Err, List, [], ◌++◌, length, take}
+use Rattle.std.specs.Prelude.{◌≡◌, ◌≢◌, ℕ, ◌+◌, ◌-◌, ◌≤◌, nat_lt, min, Bool, true, false, if◌then◌else◌, Option, Some, None, Result, Ok, Err, List, [], ◌++◌, length, take, bit_or}
 use Rattle.nio_link.specs.Links.{Link}
 use Rattle.nio_link.specs.Pieces.{got_of, pieces_after, buffer_after}
 use Rattle.nio_link.specs.declared.memory.stage.Stage.{Stage}
@@ -42,6 +42,17 @@ abbrev pub is_connected : Stage → Bool
 is_connected stage.Connecting = false
 is_connected stage.Connected = true
 is_connected stage.Closed = false
+
+abbrev pub is_connecting : Stage → Bool
+is_connecting stage.Connecting = true
+is_connecting stage.Connected = false
+is_connecting stage.Closed = false
+
+-- which operations a link is ready for
+abbrev pub link_ready : Stage → Bool → Bool → ℕ
+link_ready stage.Connecting ended shut = 8
+link_ready stage.Connected ended shut = bit_or (if ended then 0 else 1) (if shut then 0 else 4)
+link_ready stage.Closed ended shut = 0
 
 -- ---- reading
 

@@ -1,4 +1,5 @@
 //! A net in memory.
 mod link;
 mod pieces;
+mod slot;
 mod stage;

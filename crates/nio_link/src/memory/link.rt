@@ -1,13 +1,14 @@
 //! One end of a connection in memory.
 ghost use Rattle.std.specs.Prelude.{◌≡◌, ◌≢◌, ◌≤◌, [], true, length, IfOk};
-ghost use Rattle.nio_link.specs.Links.{IsGot, IsPut, after_read, after_write};
-ghost use Rattle.nio_link.specs.MemoryLinks.{carried, is_connected, link_after_read, link_after_write, put_of, connect_answer, stage_after_connect};
+ghost use Rattle.nio_link.specs.Links.{IsGot, IsPut};
+ghost use Rattle.nio_link.specs.MemoryLinks.{is_connected, is_connecting, link_ready, link_after_read, link_after_write, put_of, connect_answer, stage_after_connect};
 ghost use Rattle.nio_link.specs.Pieces.{got_of, buffer_after};
 ghost use Rattle.nio_link.specs.declared.memory.stage.Stage.TheVariants as stage;
 
 use crate::memory::pieces::Pieces;
 use crate::memory::stage::Stage;
 use crate::net::{Failed, Got, Put};
+use nio_base::Ops;
 use std::marker::Model;
 
 /// One end of a connection. Memory for what it gives and takes was taken when it was made.
@@ -52,6 +53,27 @@ impl MemoryLink {
         ensures { result ≡ is_connected self.now.stage }
     {
         self.stage == Stage::Connected
+    }
+
+    pub(crate) fn is_connecting(&self) -> bool
+        ensures { result ≡ is_connecting self.now.stage }
+    {
+        self.stage == Stage::Connecting
+    }
+
+    // Which operations it is ready for.
+    pub(crate) fn ready(&self) -> Ops
+        ensures { result ≡ link_ready self.now.stage self.now.ended self.now.shut }
+    {
+        match self.stage {
+            Stage::Connecting => Ops::CONNECT,
+            Stage::Connected => {
+                let reading = if self.ended { Ops::NONE } else { Ops::READ };
+                let writing = if self.shut { Ops::NONE } else { Ops::WRITE };
+                reading.union(writing)
+            }
+            Stage::Closed => Ops::NONE,
+        }
     }
 
     pub(crate) fn read(&mut self, into: &mut [u8]) -> Got
