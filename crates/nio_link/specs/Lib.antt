@@ -3,3 +3,4 @@ pub mod Readiness
 pub mod Pieces
 pub mod MemoryLinks
 pub mod Slots
+pub mod MemoryNet

@@ -42,6 +42,16 @@ abbrev pub placed : ChanNo → List Slot → Option LinkState → List Slot
 placed c slots None = slots
 placed c slots (Some l) = slice_set slots c.0 (slot.Link l)
 
+abbrev pub holds_nothing : Slot → Bool
+holds_nothing slot.Free = true
+holds_nothing slot.Listener = false
+holds_nothing (slot.Link l) = false
+
+abbrev pub holds_listener : Slot → Bool
+holds_listener slot.Free = false
+holds_listener slot.Listener = true
+holds_listener (slot.Link l) = false
+
 -- ---- reading
 
 abbrev pub read_answer : Option LinkState → ℕ → Result Got Failed

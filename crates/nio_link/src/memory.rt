@@ -1,5 +1,7 @@
-//! A net in memory.
+//! A net in memory, for tests.
+mod finding;
 mod link;
+mod memory_net;
 mod pieces;
 mod slot;
 mod stage;
