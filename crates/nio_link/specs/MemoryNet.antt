@@ -59,14 +59,16 @@ ready_told findings = fold heed (λ _. 0) findings
 abbrev pub told_pair : List Slot → Bool → LookedKey → ℕ × ℕ
 told_pair slots waiting entry = (entry.index, bit_and (ready_at waiting (slot_at slots entry.channel)) entry.interest)
 
+abbrev pub if_some : ℕ × ℕ → List (ℕ × ℕ)
+if_some pair = filter (λ told. not (told.1 == 0)) (pair ∷ [])
+
 -- the keys of which it tells something
 abbrev pub told_pairs : List Slot → Bool → List LookedKey → List (ℕ × ℕ)
 told_pairs slots waiting asked = filter (λ pair. not (pair.1 == 0)) (map (told_pair slots waiting) asked)
 
 -- a net in memory never waits, so the time is over where nothing is ready
 abbrev pub answer_of : List (ℕ × ℕ) → Poll
-answer_of [] = record { pairs = []; elapsed = true }
-answer_of (pair ∷ pairs) = record { pairs = pair ∷ pairs; elapsed = false }
+answer_of pairs = record { pairs = pairs; elapsed = length pairs == 0 }
 
 -- ---- failures
 
@@ -160,3 +162,16 @@ after_failed_accept s listener = record s { accepts = after_failure s.accepts; f
 
 abbrev pub after_poll : NetState → Polled → NetState
 after_poll s polled = record s { polls = after_success s.polls; findings = s.findings ++ WasTold polled ∷ [] }
+
+-- after a poll for whose answer there was no memory
+abbrev pub after_lost_poll : NetState → NetState
+after_lost_poll s = record s { polls = after_success s.polls }
+
+-- after a poll that failed
+abbrev pub after_failed_poll : NetState → NetState
+after_failed_poll s = record s { polls = after_failure s.polls }
+
+-- polls leave what links carried, and which calls failed
+pub record KeepsLinks (s now : NetState) : Type 0 where
+  pub slots : now.slots ≡ s.slots
+  pub faulted : now.faulted ≡ s.faulted

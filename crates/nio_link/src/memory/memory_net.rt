@@ -1,15 +1,16 @@
 //! The net in memory.
-ghost use Rattle.std.specs.Prelude.{◌≡◌, ◌≢◌, ◌⊎◌, ◌↔◌, ℕ, [], ◌∷◌, true, false, Some, Ok, IfOk, IsErr, OnErr, IsTrue, length};
+ghost use Rattle.std.specs.Prelude.{◌≡◌, ◌≢◌, ◌⊎◌, ◌↔◌, ℕ, [], ◌∷◌, ◌++◌, true, false, Some, None, Ok, Err, IfOk, IsErr, OnErr, IsTrue, length, refl};
 ghost use Rattle.nio_bytes.specs.Calls.{FailsNext, after_failure};
 ghost use Rattle.nio_bytes.specs.Cause.{HasCause};
 ghost use Rattle.nio_link.specs.Links.{Link, IsSameBut, IsGot, IsPut, after_read as carried_after_read, after_write as carried_after_write, after_shut as carried_after_shut};
 ghost use Rattle.nio_link.specs.Readiness.{ready_after_read, ready_after_write, ready_after_accept, ready_after_connect};
 ghost use Rattle.nio_link.specs.Slots.{carried_at, slot_at, connected, connecting, read_answer, read_buffer, write_answer, shut_answer, finish_answer, slots_after_close};
-ghost use Rattle.nio_link.specs.MemoryNet.{NetState, after_read, after_write, after_shut, after_finish, times, ready_told, faulted_after, findings_after, is_waiting, told_pairs, answer_of, after_poll, can_accept, after_accept, after_failed_accept, connect_answer, after_connect, listen_answer, after_listen, is_free, is_listener, AreFresh};
+ghost use Rattle.nio_link.specs.MemoryNet.{NetState, after_read, after_write, after_shut, after_finish, times, ready_told, faulted_after, findings_after, is_waiting, told_pairs, if_some, answer_of, after_poll, after_lost_poll, after_failed_poll, KeepsLinks, can_accept, after_accept, after_failed_accept, connect_answer, after_connect, listen_answer, after_listen, is_free, is_listener, AreFresh};
+
 ghost use Rattle.nio_poller.specs.Polls.{CountsFaults, AddsPoll, told_of_channel};
-ghost use Rattle.nio_poller.specs.declared.poller.PollError.TheVariants.{Fault};
+ghost use Rattle.nio_poller.specs.declared.poller.PollError.TheVariants.{Fault, Memory};
+ghost use Rattle.nio_select.specs.InProgress.{poll_of};
 ghost use Rattle.nio_steps.specs.KeyCalls.{is_within};
-ghost use Rattle.nio_link.specs.declared.memory.finding.Finding.TheVariants as finding;
 
 use crate::memory::finding::Finding;
 use crate::memory::link::MemoryLink;
@@ -94,6 +95,16 @@ fn is_listener_at(slots: &[Slot], chan: ChanNo) -> bool
     at < slots.len() && matches!(&slots[at], Slot::Listener)
 }
 
+// Tells of a key, where there is something to tell.
+fn tell_one(pairs: &mut Vec<(u32, Ops)>, index: u32, ops: Ops) -> Result<(), AllocError>
+    ensures { IfOk result (λ _. pairs.new.items ≡ pairs.old.items ++ if_some (index, ops)) }
+{
+    if ops.bits() != 0 {
+        pairs.push((index, ops))?;
+    }
+    Ok(())
+}
+
 // What a poll tells of these keys.
 fn tell(
     alloc: Global,
@@ -107,9 +118,7 @@ fn tell(
     for at in 0..asked.len() {
         let (index, chan, interest) = asked.entry(at);
         let ops = ready_of(slots, chan, waiting).meet(interest);
-        if ops.bits() != 0 {
-            pairs.push((index, ops))?;
-        }
+        tell_one(&mut pairs, index, ops)?;
     }
     Ok(pairs)
 }
@@ -132,6 +141,7 @@ impl MemoryNet {
         requires { from.now ≢ [] }
         ensures answer { result ≡ write_answer (connected (slot_at self.old.slots chan)) (length from.now) }
         ensures after { self.new ≡ after_write self.old chan from.now }
+        ensures put { IfOk result (IsPut from.now) }
     {
         let result = write_at(&mut self.slots, chan, from);
         count(&mut self.faulted, chan, &result);
@@ -211,4 +221,226 @@ impl MemoryNet {
     {
         close_at(&mut self.slots, chan);
     }
+}
+
+impl Poller for MemoryNet {
+    ghost use Rattle.std.proofs.Common.{◌∙◌};
+    ghost use Rattle.nio_base.specs.declared.numbers.ChanNo.{ChanNo};
+
+    ghost poll_faults = { λ s. s.polls.faults };
+
+    ghost ready = { λ s. ready_told s.findings };
+
+    ghost polls = { λ _. None };
+
+    ghost kept = { KeepsLinks };
+
+    fn poll<R: Wait>(
+        &mut self,
+        _rt: &R,
+        alloc: Global,
+        asked: &Asked,
+        mode: Mode,
+    ) -> Result<Told, PollError>
+        // As every poller.
+        ensures cause { CountsFaults Fault self.old.polls.faults self.new.polls.faults result }
+        ensures ready { IfOk result (λ told. (c : ChanNo) → ready_told self.new.findings c ≡ told_of_channel asked.now told.pairs.items c) }
+        ensures polls { AddsPoll None None asked.now mode result }
+        ensures kept { KeepsLinks self.old self.new }
+
+        // By its plan.
+        ensures fails { (result ≡ Err Fault) ↔ FailsNext self.old.polls }
+        ensures answer { IfOk result (λ told. poll_of told ≡ answer_of (told_pairs self.old.slots (is_waiting self.old.clients) asked.now)) }
+        ensures ok { IfOk result (λ told. self.new ≡ after_poll self.old (record { asked = asked.now; mode = mode; answer = poll_of told })) }
+        ensures lost { result ≡ Err Memory → self.new ≡ after_lost_poll self.old }
+        ensures failed { result ≡ Err Fault → self.new ≡ after_failed_poll self.old }
+    {
+        if self.polls.next(true).is_err() {
+            return Err(PollError::Fault);
+        }
+        let Ok(pairs) = tell(alloc, &self.slots, is_next(&self.clients), asked) else {
+            return Err(PollError::Memory);
+        };
+        let told = Told {
+            elapsed: pairs.is_empty(),
+            pairs,
+        };
+        self.findings.extend_from::<PollAnswer, OnePoll>(&PollAnswer {
+            asked,
+            mode,
+            told: &told,
+        });
+        Ok(told)
+    }
+
+    ghost kept_same = { λ s. record { slots = refl; faulted = refl } };
+
+    ghost kept_on = { λ x y z first second. record { slots = second.slots ∙ first.slots; faulted = second.faulted ∙ first.faulted } };
+}
+
+#[derive(Clone, Copy)]
+struct PollAnswer<'a> {
+    asked: &'a Asked,
+    mode: Mode,
+    told: &'a Told,
+}
+
+/// Reads a poll off its answer.
+struct OnePoll;
+
+impl<'a> Reading<PollAnswer<'a>, Finding> for OnePoll {
+    ghost use Rattle.std.specs.Prelude.{[], ◌∷◌};
+    ghost use Rattle.nio_link.specs.declared.memory.finding.Finding.TheVariants.{Told as WasTold};
+    ghost use Rattle.nio_select.specs.InProgress.{poll_of};
+
+    ghost items = { λ answer. WasTold (record { asked = answer.asked.now; mode = answer.mode; answer = poll_of answer.told.now }) ∷ [] };
+}
+
+impl Net for MemoryNet {
+    ghost use Rattle.std.proofs.Common.{ap};
+    ghost use Rattle.nio_base.specs.declared.numbers.ChanNo.{ChanNo};
+
+    ghost link = { λ s. carried_at s.slots };
+
+    ghost faults = { λ s. times s.faulted };
+
+    fn listen(&mut self, chan: ChanNo, _at: Addr) -> Result<(), Failed>
+        // As every net.
+        ensures cause { HasCause (times self.old.faulted chan) (times self.new.faulted chan) result }
+        ensures others { IsSameBut chan (times self.old.faulted) (times self.new.faulted) }
+        ensures links { (c : ChanNo) → carried_at self.new.slots c ≡ carried_at self.old.slots c }
+        ensures ready { (c : ChanNo) → ready_told self.new.findings c ≡ ready_told self.old.findings c }
+        ensures polls { self.new.polls.faults ≡ self.old.polls.faults }
+
+        // By its plan.
+        ensures answer { result ≡ listen_answer self.old chan }
+        ensures after { self.new ≡ after_listen self.old chan }
+    {
+        self.listen_on(chan)
+    }
+
+    fn accept(&mut self, listener: ChanNo, chan: ChanNo) -> Result<bool, Failed>
+        // As every net.
+        requires ready { IsTrue (is_within 16 (ready_told self.old.findings listener)) }
+        ensures cause { HasCause (times self.old.faulted listener) (times self.new.faulted listener) result }
+        ensures others { IsSameBut listener (times self.old.faulted) (times self.new.faulted) }
+        ensures links { (c : ChanNo) → carried_at self.new.slots c ≡ carried_at self.old.slots c }
+        ensures ready { ready_told self.new.findings listener ≡ ready_after_accept result (ready_told self.old.findings listener) }
+        ensures ready_else { IsSameBut listener (ready_told self.old.findings) (ready_told self.new.findings) }
+        ensures polls { self.new.polls.faults ≡ self.old.polls.faults }
+
+        // By its plan.
+        ensures fails { IsErr result ↔ (FailsNext self.old.accepts ⊎ (can_accept self.old listener chan ≡ false)) }
+        ensures answer { IfOk result (λ made. made ≡ is_waiting self.old.clients) }
+        ensures ok { IfOk result (λ _. self.new ≡ after_accept self.old listener chan) }
+        ensures err { OnErr result (self.new ≡ after_failed_accept self.old listener) }
+    {
+        self.accept_link(listener, chan)
+    }
+
+    fn connect(&mut self, chan: ChanNo, _to: Addr) -> Result<bool, Failed>
+        // As every net.
+        ensures cause { HasCause (times self.old.faulted chan) (times self.new.faulted chan) result }
+        ensures others { IsSameBut chan (times self.old.faulted) (times self.new.faulted) }
+        ensures links { (c : ChanNo) → carried_at self.new.slots c ≡ carried_at self.old.slots c }
+        ensures ready { (c : ChanNo) → ready_told self.new.findings c ≡ ready_told self.old.findings c }
+        ensures polls { self.new.polls.faults ≡ self.old.polls.faults }
+
+        // By its plan.
+        ensures answer { result ≡ connect_answer self.old chan }
+        ensures after { self.new ≡ after_connect self.old chan }
+    {
+        self.connect_link(chan)
+    }
+
+    fn finish_connect(&mut self, chan: ChanNo) -> Result<bool, Failed>
+        // As every net.
+        requires ready { IsTrue (is_within 8 (ready_told self.old.findings chan)) }
+        ensures cause { HasCause (times self.old.faulted chan) (times self.new.faulted chan) result }
+        ensures others { IsSameBut chan (times self.old.faulted) (times self.new.faulted) }
+        ensures links { (c : ChanNo) → carried_at self.new.slots c ≡ carried_at self.old.slots c }
+        ensures ready { ready_told self.new.findings chan ≡ ready_after_connect result (ready_told self.old.findings chan) }
+        ensures ready_else { IsSameBut chan (ready_told self.old.findings) (ready_told self.new.findings) }
+        ensures polls { self.new.polls.faults ≡ self.old.polls.faults }
+
+        // By its plan.
+        ensures answer { result ≡ finish_answer (connecting (slot_at self.old.slots chan)) }
+        ensures after { self.new ≡ after_finish self.old chan }
+    {
+        self.finish_link(chan)
+    }
+
+    fn read(&mut self, chan: ChanNo, into: &mut [u8]) -> Result<Got, Failed>
+        // As every net.
+        requires some { into.old ≢ [] }
+        requires ready { IsTrue (is_within 1 (ready_told self.old.findings chan)) }
+        ensures cause { HasCause (times self.old.faulted chan) (times self.new.faulted chan) result }
+        ensures others { IsSameBut chan (times self.old.faulted) (times self.new.faulted) }
+        ensures got { IfOk result (IsGot into.old into.new) }
+        ensures link { carried_at self.new.slots chan ≡ carried_after_read result into.new (carried_at self.old.slots chan) }
+        ensures links { IsSameBut chan (carried_at self.old.slots) (carried_at self.new.slots) }
+        ensures ready { ready_told self.new.findings chan ≡ ready_after_read result (ready_told self.old.findings chan) }
+        ensures ready_else { IsSameBut chan (ready_told self.old.findings) (ready_told self.new.findings) }
+        ensures polls { self.new.polls.faults ≡ self.old.polls.faults }
+
+        // By its plan.
+        ensures answer { result ≡ read_answer (connected (slot_at self.old.slots chan)) (length into.old) }
+        ensures buffer { into.new ≡ read_buffer (connected (slot_at self.old.slots chan)) into.old }
+        ensures after { self.new ≡ after_read self.old chan into.old }
+    {
+        self.read_link(chan, into)
+    }
+
+    fn write(&mut self, chan: ChanNo, from: &[u8]) -> Result<Put, Failed>
+        // As every net.
+        requires some { from.now ≢ [] }
+        requires ready { IsTrue (is_within 4 (ready_told self.old.findings chan)) }
+        ensures cause { HasCause (times self.old.faulted chan) (times self.new.faulted chan) result }
+        ensures others { IsSameBut chan (times self.old.faulted) (times self.new.faulted) }
+        ensures put { IfOk result (IsPut from.now) }
+        ensures link { carried_at self.new.slots chan ≡ carried_after_write result from.now (carried_at self.old.slots chan) }
+        ensures links { IsSameBut chan (carried_at self.old.slots) (carried_at self.new.slots) }
+        ensures ready { ready_told self.new.findings chan ≡ ready_after_write result (ready_told self.old.findings chan) }
+        ensures ready_else { IsSameBut chan (ready_told self.old.findings) (ready_told self.new.findings) }
+        ensures polls { self.new.polls.faults ≡ self.old.polls.faults }
+
+        // By its plan.
+        ensures answer { result ≡ write_answer (connected (slot_at self.old.slots chan)) (length from.now) }
+        ensures after { self.new ≡ after_write self.old chan from.now }
+    {
+        self.write_link(chan, from)
+    }
+
+    fn shut_write(&mut self, chan: ChanNo) -> Result<(), Failed>
+        // As every net.
+        ensures cause { HasCause (times self.old.faulted chan) (times self.new.faulted chan) result }
+        ensures others { IsSameBut chan (times self.old.faulted) (times self.new.faulted) }
+        ensures link { carried_at self.new.slots chan ≡ carried_after_shut result (carried_at self.old.slots chan) }
+        ensures links { IsSameBut chan (carried_at self.old.slots) (carried_at self.new.slots) }
+        ensures ready { (c : ChanNo) → ready_told self.new.findings c ≡ ready_told self.old.findings c }
+        ensures polls { self.new.polls.faults ≡ self.old.polls.faults }
+
+        // By its plan.
+        ensures answer { result ≡ shut_answer (connected (slot_at self.old.slots chan)) }
+        ensures after { self.new ≡ after_shut self.old chan }
+    {
+        self.shut_link(chan)
+    }
+
+    fn close(&mut self, chan: ChanNo)
+        // As every net.
+        ensures faults { (c : ChanNo) → times self.new.faulted c ≡ times self.old.faulted c }
+        ensures links { (c : ChanNo) → carried_at self.new.slots c ≡ carried_at self.old.slots c }
+        ensures ready { (c : ChanNo) → ready_told self.new.findings c ≡ ready_told self.old.findings c }
+        ensures polls { self.new.polls.faults ≡ self.old.polls.faults }
+
+        // By its plan.
+        ensures after { self.new ≡ record self.old { slots = slots_after_close self.old.slots chan } }
+    {
+        self.close_channel(chan);
+    }
+
+    ghost kept_links = { λ x y kept c. ap (λ slots. carried_at slots c) kept.slots };
+
+    ghost kept_faults = { λ x y kept c. ap (λ faulted. times faulted c) kept.faulted };
 }

@@ -1,5 +1,6 @@
 //! What stands under a channel of a net in memory.
-ghost use Rattle.std.specs.Prelude.{◌≡◌, ◌≢◌, [], length};
+ghost use Rattle.std.specs.Prelude.{◌≡◌, ◌≢◌, [], length, IfOk};
+ghost use Rattle.nio_link.specs.Links.{IsPut};
 ghost use Rattle.nio_link.specs.Slots.{slot_at, connected, connecting, read_answer, read_buffer, slots_after_read, write_answer, slots_after_write, shut_answer, slots_after_shut, finish_answer, slots_after_finish, slots_after_close, ready_at};
 
 use crate::memory::link::MemoryLink;
@@ -35,6 +36,7 @@ pub(crate) fn write_at(slots: &mut [Slot], chan: ChanNo, from: &[u8]) -> Result<
     requires { from.now ≢ [] }
     ensures answer { result ≡ write_answer (connected (slot_at slots.old chan)) (length from.now) }
     ensures after { slots.new ≡ slots_after_write slots.old chan from.now }
+    ensures put { IfOk result (IsPut from.now) }
 {
     let at = chan.0 as usize;
     if at >= slots.len() {
