@@ -1,5 +1,5 @@
 -- The laws that a net keeps, at a net in memory.
-use Rattle.std.proofs.Common.{◌≡◌, ◌≢◌, ℕ, zero, suc, ◌+◌, ◌-◌, ◌<◌, ◌≤◌, ◌⊎◌, inl, inr, ◌==◌, nat_lt, min, Bool, true, false, ◌&&◌, if◌then◌else◌, cond, Option, Some, None, option_map, Result, Ok, Err, IfOk, List, [], ◌∷◌, ◌++◌, length, fold, sum_by, slice_set, refl, ap, sym, ◌∙◌, subst, arith, eq-eqb, eqb-true, ltb-true, get_or-set_other, get_or-set_same}
+use Rattle.std.proofs.Common.{◌≡◌, ◌≢◌, ℕ, zero, suc, ◌+◌, ◌-◌, ◌<◌, ◌≤◌, ◌⊎◌, inl, inr, ◌==◌, nat_lt, min, Bool, true, false, ◌&&◌, if◌then◌else◌, cond, Option, Some, None, option_map, Result, Ok, Err, IfOk, List, [], ◌∷◌, ◌++◌, length, map, replicate, ◌*◌, fold, sum_by, slice_set, refl, ap, sym, ◌∙◌, subst, arith, eq-eqb, eqb-true, ltb-true, get_or-set_other, get_or-set_same}
 use Rattle.std.proofs.lemmas.Bool.{eqb-false}
 use Rattle.std.proofs.lemmas.Grind.{common_steps}
 use Rattle.std.proofs.lemmas.List.{set_past}
@@ -13,7 +13,9 @@ use Rattle.nio_poller.specs.Polls.{told_of_channel}
 use Rattle.nio_link.specs.Links.{Link, IsSameBut, IsGot, IsPut, after_read, after_write, after_shut}
 use Rattle.nio_link.specs.MemoryLinks.{LinkState, IsFresh, carried, is_connected, is_connecting, link_after_read, link_after_write, got_after, ended_after, put_of, put_after, stage_after_connect, connect_answer as connect_link_answer}
 use Rattle.nio_link.specs.MemoryNet.{ready_told, heed, times, faulted_after, findings_after, is_early, AreFresh, NetState, is_free, is_waiting, after_listen, listen_answer, with_target, after_connect, connect_answer, with_client, after_accept, can_accept, is_listener}
+use Rattle.nio_link.specs.NetPlans.{client_end, target_end, free_slots}
 use Rattle.nio_link.specs.Pieces.{got_of, pieces_after, buffer_after}
+use Rattle.nio_link.specs.declared.memory.plan.PeerPlan.{PeerPlan}
 use Rattle.nio_link.specs.Readiness.{without, ready_after_read, ready_after_write, ready_after_connect, ready_after_accept}
 use Rattle.nio_link.specs.Slots.{slot_at, carried_by, carried_at, connected, connecting, placed, read_answer, read_buffer, slots_after_read, write_answer, slots_after_write, shut_answer, slots_after_shut, finish_answer, slots_after_finish, slots_after_close, closed, holds_nothing}
 use Rattle.nio_link.specs.declared.memory.finding.Finding.{Finding}
@@ -379,3 +381,21 @@ connect_ready (Some l) ops = by_test l.fail_connect
     by_test : (b : Bool) → ops ≡ ready_after_connect (connect_link_answer b) ops
     by_test true = refl
     by_test false = refl
+
+-- ---- the plan
+
+pub clients_fresh : (peers : List PeerPlan) → AreFresh (map client_end peers)
+clients_fresh [] = tt
+clients_fresh (peer ∷ peers) = (record { got = refl; ended = refl; put = refl; shut = refl }, clients_fresh peers)
+
+pub targets_fresh : (peers : List PeerPlan) → AreFresh (map target_end peers)
+targets_fresh [] = tt
+targets_fresh (peer ∷ peers) = (record { got = refl; ended = refl; put = refl; shut = refl }, targets_fresh peers)
+
+-- two more channels
+pub slots_more : (n : ℕ) → (free_slots n ++ slot.Free ∷ []) ++ slot.Free ∷ [] ≡ free_slots (n + 1)
+slots_more n =
+    let first : replicate (2 * n + 1 + 1) slot.Free ≡ replicate (2 * n + 1) slot.Free ++ slot.Free ∷ [] = grind (arith, common_steps) in
+    let second : replicate (2 * n + 1 + 1 + 1) slot.Free ≡ replicate (2 * n + 1 + 1) slot.Free ++ slot.Free ∷ [] = grind (arith, common_steps) in
+    let same : 2 * n + 1 + 1 + 1 ≡ 2 * (n + 1) + 1 = omega arith in
+    ap (λ xs. xs ++ slot.Free ∷ []) (sym first) ∙ sym second ∙ ap (λ k. replicate k slot.Free) same

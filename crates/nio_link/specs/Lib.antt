@@ -4,3 +4,4 @@ pub mod Pieces
 pub mod MemoryLinks
 pub mod Slots
 pub mod MemoryNet
+pub mod NetPlans

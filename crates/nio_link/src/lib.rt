@@ -1,6 +1,7 @@
 //! Links: connections over a net, which a poller says are ready. A net is memory, in tests, or the system's sockets.
 #![tactic(auto)]
 
+pub use memory::{MemoryNet, NetPlan, PeerPlan};
 pub use net::{Failed, Got, Net, Put};
 
 mod memory;

@@ -6,7 +6,6 @@ ghost use Rattle.nio_link.specs.Links.{Link, IsSameBut, IsGot, IsPut, after_read
 ghost use Rattle.nio_link.specs.Readiness.{ready_after_read, ready_after_write, ready_after_accept, ready_after_connect};
 ghost use Rattle.nio_link.specs.Slots.{carried_at, slot_at, connected, connecting, read_answer, read_buffer, write_answer, shut_answer, finish_answer, slots_after_close};
 ghost use Rattle.nio_link.specs.MemoryNet.{NetState, after_read, after_write, after_shut, after_finish, times, ready_told, faulted_after, findings_after, is_waiting, told_pairs, if_some, answer_of, after_poll, after_lost_poll, after_failed_poll, KeepsLinks, can_accept, after_accept, after_failed_accept, connect_answer, after_connect, listen_answer, after_listen, is_free, is_listener, AreFresh};
-
 ghost use Rattle.nio_poller.specs.Polls.{CountsFaults, AddsPoll, told_of_channel};
 ghost use Rattle.nio_poller.specs.declared.poller.PollError.TheVariants.{Fault, Memory};
 ghost use Rattle.nio_select.specs.InProgress.{poll_of};
@@ -265,11 +264,12 @@ impl Poller for MemoryNet {
             elapsed: pairs.is_empty(),
             pairs,
         };
-        self.findings.extend_from::<PollAnswer, OnePoll>(&PollAnswer {
-            asked,
-            mode,
-            told: &told,
-        });
+        self.findings
+            .extend_from::<PollAnswer, OnePoll>(&PollAnswer {
+                asked,
+                mode,
+                told: &told,
+            });
         Ok(told)
     }
 

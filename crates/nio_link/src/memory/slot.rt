@@ -102,13 +102,7 @@ pub(crate) fn ready_of(slots: &[Slot], chan: ChanNo, waiting: bool) -> Ops
     }
     match &slots[at] {
         Slot::Free => Ops::NONE,
-        Slot::Listener => {
-            if waiting {
-                Ops::ACCEPT
-            } else {
-                Ops::NONE
-            }
-        }
+        Slot::Listener => { if waiting { Ops::ACCEPT } else { Ops::NONE } }
         Slot::Link(link) => link.ready(),
     }
 }

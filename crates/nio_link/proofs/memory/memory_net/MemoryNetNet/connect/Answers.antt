@@ -16,4 +16,3 @@ returns-clause-ready c = let made = connects c.args.self.now c.args.chan c.conne
 
 pub returns-clause-polls : goal.returns-clause-polls
 returns-clause-polls c = let made = connects c.args.self.now c.args.chan c.connect_link.ensures.fresh in rw (c.connect_link.ensures.after, made.polls)
-

@@ -13,4 +13,3 @@ returns-clause-links c = rw c.finish_link.ensures.after (finish_carried c.args.s
 
 pub returns-clause-ready : goal.returns-clause-ready
 returns-clause-ready c = rw (c.finish_link.ensures.answer, c.finish_link.ensures.after) (connect_ready (connecting (slot_at c.args.self.now.slots c.args.chan)) _)
-

@@ -17,4 +17,3 @@ returns-clause-ready c = λ k. rw (c.listen_on.ensures.after, listen_findings c.
 
 pub returns-clause-polls : goal.returns-clause-polls
 returns-clause-polls c = rw (c.listen_on.ensures.after, listen_polls c.args.self.now c.args.chan)
-

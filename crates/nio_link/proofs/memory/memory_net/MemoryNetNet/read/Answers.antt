@@ -23,4 +23,3 @@ returns-clause-ready c = rw (c.read_link.ensures.answer, c.read_link.ensures.aft
 
 pub returns-clause-ready_else : goal.returns-clause-ready_else
 returns-clause-ready_else c = rw c.read_link.ensures.after (read_ready_else (read_answer (connected (slot_at c.args.self.now.slots c.args.chan)) (length c.args.into.now)) c.args.self.now.findings c.args.chan)
-

@@ -13,4 +13,3 @@ returns-clause-link c = rw (c.shut_link.ensures.answer, c.shut_link.ensures.afte
 
 pub returns-clause-links : goal.returns-clause-links
 returns-clause-links c = rw c.shut_link.ensures.after (shut_else c.args.self.now.slots c.args.chan)
-

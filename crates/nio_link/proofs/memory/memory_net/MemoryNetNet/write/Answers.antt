@@ -17,4 +17,3 @@ returns-clause-links c = rw c.write_link.ensures.after (write_else c.args.self.n
 
 pub returns-clause-ready : goal.returns-clause-ready
 returns-clause-ready c = rw (c.write_link.ensures.answer, c.write_link.ensures.after) (write_ready (connected (slot_at c.args.self.now.slots c.args.chan)) (length c.args.from.now) _)
-
