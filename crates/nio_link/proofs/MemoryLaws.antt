@@ -1,16 +1,16 @@
 -- The laws that a net keeps, at a net in memory.
-use Rattle.std.proofs.Common.{◌≡◌, ◌≢◌, ℕ, zero, suc, ◌+◌, ◌-◌, ◌<◌, ◌≤◌, ◌⊎◌, inl, inr, ◌==◌, nat_lt, min, Bool, true, false, ◌&&◌, if◌then◌else◌, cond, Option, Some, None, option_map, Result, Ok, Err, IfOk, List, [], ◌∷◌, ◌++◌, length, map, replicate, ◌*◌, fold, sum_by, slice_set, refl, ap, sym, ◌∙◌, subst, arith, eq-eqb, eqb-true, ltb-true, get_or-set_other, get_or-set_same}
+use Rattle.std.proofs.Common.{◌≡◌, ◌≢◌, ℕ, ◌+◌, ◌-◌, ◌<◌, ◌≤◌, ◌⊎◌, inl, inr, ◌==◌, nat_lt, min, Bool, true, false, ◌&&◌, if◌then◌else◌, cond, Option, Some, None, option_map, Result, Ok, Err, IfOk, List, [], ◌∷◌, ◌++◌, length, map, replicate, ◌*◌, slice_set, refl, ap, sym, ◌∙◌, arith, eq-eqb, eqb-true, ltb-true, get_or-set_other, get_or-set_same}
 use Rattle.std.proofs.lemmas.Bool.{eqb-false}
 use Rattle.std.proofs.lemmas.Grind.{common_steps}
 use Rattle.std.proofs.lemmas.List.{set_past}
 use Rattle.std.proofs.lemmas.List.Sums.{fold-append}
 use Rattle.nio_base.specs.declared.numbers.ChanNo.{ChanNo}
 use Rattle.nio_bytes.specs.Calls.{after_success}
-use Rattle.nio_bytes.specs.Cause.{HasCause, Rose}
+use Rattle.nio_bytes.specs.Cause.{HasCause}
 use Rattle.nio_link.proofs.Pieces.{is_got}
 use Rattle.nio_poller.specs.Polled.{Polled}
 use Rattle.nio_poller.specs.Polls.{told_of_channel}
-use Rattle.nio_link.specs.Links.{Link, IsSameBut, IsGot, IsPut, after_read, after_write, after_shut}
+use Rattle.nio_link.specs.Links.{IsSameBut, IsGot, after_read, after_write, after_shut}
 use Rattle.nio_link.specs.MemoryLinks.{LinkState, IsFresh, carried, is_connected, is_connecting, link_after_read, link_after_write, got_after, ended_after, put_of, put_after, stage_after_connect, connect_answer as connect_link_answer}
 use Rattle.nio_link.specs.MemoryNet.{ready_told, heed, times, faulted_after, findings_after, is_early, AreFresh, NetState, is_free, is_waiting, after_listen, listen_answer, with_target, after_connect, connect_answer, with_client, after_accept, can_accept, is_listener}
 use Rattle.nio_link.specs.NetPlans.{client_end, target_end, free_slots}

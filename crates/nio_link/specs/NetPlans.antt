@@ -1,6 +1,5 @@
 -- How a net in memory begins.
-use Rattle.std.specs.Prelude.{ℕ, ◌+◌, ◌*◌, ◌-◌, ◌^◌, min, max, Bool, true, false, Option, Some, None, List, [], ◌∷◌, length, map, replicate}
-use Rattle.nio_base.specs.declared.numbers.ChanNo.{ChanNo}
+use Rattle.std.specs.Prelude.{ℕ, ◌+◌, ◌*◌, ◌-◌, ◌^◌, min, max, Bool, false, Option, Some, None, List, [], ◌∷◌, length, map, replicate}
 use Rattle.nio_bytes.specs.Calls.{no_calls}
 use Rattle.nio_link.specs.MemoryLinks.{LinkState}
 use Rattle.nio_link.specs.MemoryNet.{NetState}

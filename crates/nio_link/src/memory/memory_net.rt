@@ -13,7 +13,9 @@ ghost use Rattle.nio_steps.specs.KeyCalls.{is_within};
 
 use crate::memory::finding::Finding;
 use crate::memory::link::MemoryLink;
-use crate::memory::slot::{Slot, close_at, finish_at, read_at, ready_of, shut_at, write_at};
+use crate::memory::slot::{
+    Slot, close_at, finish_at, link_at, read_at, ready_of, shut_at, write_at,
+};
 use crate::net::{Failed, Got, Net, Put};
 use nio_base::{Addr, ChanNo, Ops};
 use nio_bytes::Calls;
@@ -123,6 +125,46 @@ fn tell(
 }
 
 impl MemoryNet {
+    /// The bytes that reads of this link gave.
+    pub fn got_bytes(&self, chan: ChanNo) -> &[u8]
+        ensures { (carried_at self.now.slots chan).got ≡ Some result.now }
+    {
+        match link_at(&self.slots, chan) {
+            Some(link) => &link.got,
+            None => &[],
+        }
+    }
+
+    /// The bytes that writes on this link took.
+    pub fn put_bytes(&self, chan: ChanNo) -> &[u8]
+        ensures { (carried_at self.now.slots chan).put ≡ Some result.now }
+    {
+        match link_at(&self.slots, chan) {
+            Some(link) => &link.put,
+            None => &[],
+        }
+    }
+
+    /// Whether a read of this link told the end.
+    pub fn has_ended(&self, chan: ChanNo) -> bool
+        ensures { (carried_at self.now.slots chan).ended ≡ Some result }
+    {
+        match link_at(&self.slots, chan) {
+            Some(link) => link.ended,
+            None => false,
+        }
+    }
+
+    /// Whether the side of this link on which bytes are written was shut.
+    pub fn is_shut(&self, chan: ChanNo) -> bool
+        ensures { (carried_at self.now.slots chan).shut ≡ Some result }
+    {
+        match link_at(&self.slots, chan) {
+            Some(link) => link.shut,
+            None => false,
+        }
+    }
+
     fn read_link(&mut self, chan: ChanNo, into: &mut [u8]) -> Result<Got, Failed>
         requires { into.old ≢ [] }
         ensures answer { result ≡ read_answer (connected (slot_at self.old.slots chan)) (length into.old) }

@@ -1,8 +1,7 @@
-use Rattle.std.proofs.Common.{◌≡◌, ◌+◌, [], ◌∷◌, ◌++◌, length, map, ap, arith, length-append, ◌∙◌, sym}
+use Rattle.std.proofs.Common.{◌≡◌, ◌+◌, [], ◌∷◌, ◌++◌, length, length-append, sym}
 use Rattle.std.proofs.lemmas.List.{map-append}
 use Rattle.nio_link.proofs.MemoryLaws.{clients_fresh, targets_fresh, slots_more}
-use Rattle.nio_link.specs.MemoryNet.{AreFresh}
-use Rattle.nio_link.specs.NetPlans.{client_end, target_end, free_slots}
+use Rattle.nio_link.specs.NetPlans.{client_end, target_end}
 use Rattle.nio_link.proofs.memory.memory_net.MemoryNet.make.Goals as goal
 
 pub loop-peer-preserved : goal.loop-peer-preserved

@@ -1,5 +1,5 @@
 use Rattle.nio_link.proofs.MemoryLaws.{cause_after, cause_else, finish_carried, connect_ready}
-use Rattle.nio_link.specs.Slots.{connected, connecting, slot_at, read_answer, write_answer, shut_answer, finish_answer}
+use Rattle.nio_link.specs.Slots.{connecting, slot_at, finish_answer}
 use Rattle.nio_link.proofs.memory.memory_net.MemoryNetNet.finish_connect.Goals as goal
 
 pub returns-clause-cause : goal.returns-clause-cause

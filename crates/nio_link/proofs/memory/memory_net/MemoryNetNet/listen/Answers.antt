@@ -1,6 +1,5 @@
-use Rattle.std.proofs.Common.{ap}
 use Rattle.nio_link.proofs.MemoryLaws.{cause_after, cause_else, listen_carried, listen_faulted, listen_findings, listen_polls}
-use Rattle.nio_link.specs.MemoryNet.{listen_answer, ready_told}
+use Rattle.nio_link.specs.MemoryNet.{listen_answer}
 use Rattle.nio_link.proofs.memory.memory_net.MemoryNetNet.listen.Goals as goal
 
 pub returns-clause-cause : goal.returns-clause-cause

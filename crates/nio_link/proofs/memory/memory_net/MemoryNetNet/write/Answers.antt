@@ -1,6 +1,6 @@
 use Rattle.std.proofs.Common.{length}
 use Rattle.nio_link.proofs.MemoryLaws.{cause_after, cause_else, write_carried, write_else, write_ready}
-use Rattle.nio_link.specs.Slots.{connected, connecting, slot_at, read_answer, write_answer, shut_answer, finish_answer}
+use Rattle.nio_link.specs.Slots.{connected, slot_at, write_answer}
 use Rattle.nio_link.proofs.memory.memory_net.MemoryNetNet.write.Goals as goal
 
 pub returns-clause-cause : goal.returns-clause-cause
