@@ -5,3 +5,5 @@ pub mod MemoryLinks
 pub mod Slots
 pub mod MemoryNet
 pub mod NetPlans
+pub mod Nets
+pub mod Streams

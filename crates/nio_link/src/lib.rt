@@ -3,6 +3,8 @@
 
 pub use memory::{MemoryNet, NetPlan, PeerPlan};
 pub use net::{Failed, Got, Net, Put};
+pub use stream::{LinkError, StreamLink, StreamState};
 
 mod memory;
 mod net;
+mod stream;
