@@ -15,6 +15,10 @@ pub record NetView : Type 0 where
   pub ready : ChanNo → ℕ
   pub poll_faults : ℕ
 
+-- those of a net, of the functions that tell them
+abbrev pub view_by : {N : Type 0} → (N → ChanNo → Link) → (N → ChanNo → ℕ) → (N → ChanNo → ℕ) → (N → ℕ) → N → NetView
+view_by link faults ready poll_faults net = record { link = link net; faults = faults net; ready = ready net; poll_faults = poll_faults net }
+
 -- a connection was begun
 pub record Connects (c : ChanNo) (old new : NetView) (result : Result Bool Failed) : Type 0 where
   pub cause : HasCause (old.faults c) (new.faults c) result

@@ -8,3 +8,5 @@ pub use stream::{LinkError, StreamLink, StreamState};
 mod memory;
 mod net;
 mod stream;
+#[cfg(test)]
+mod tests;

@@ -1,7 +1,7 @@
 //! A link that keeps how far it is connected, and refuses the calls that its state doesn't allow.
 ghost use Rattle.std.specs.Prelude.{◌≡◌, ◌≢◌, [], IsTrue};
 ghost use Rattle.nio_steps.specs.KeyCalls.{is_within};
-ghost use Rattle.nio_link.specs.Nets.{Closes};
+ghost use Rattle.nio_link.specs.Nets.{Closes, view_by};
 ghost use Rattle.nio_link.specs.Streams.{as_fault, connect_refusal, transfer_refusal, state_after, ConnectClause, FinishClause, ReadClause, WriteClause, CloseClause};
 ghost use Rattle.nio_link.specs.declared.stream.StreamState.TheVariants as state;
 
@@ -80,8 +80,7 @@ impl StreamLink {
 
     /// Begins to connect. True where it is connected; false where that isn't done yet. A fault closes the link.
     pub fn connect<N: Net>(&mut self, net: &mut N, to: Addr) -> Result<bool, LinkError>
-        ensures { ConnectClause (λ (n : N). record { link = N.link n; faults = N.faults n; ready = N.ready n; poll_faults = N.poll_faults n })
-            (connect_refusal self.old.state) self.old self.new net.old net.new result }
+        ensures { ConnectClause (view_by N.link N.faults N.ready N.poll_faults) (connect_refusal self.old.state) self.old self.new net.old net.new result }
     {
         match self.state {
             StreamState::Unconnected => {
@@ -97,8 +96,7 @@ impl StreamLink {
     /// Goes on connecting. True where the link is connected; false where that isn't done yet. A fault closes the link.
     pub fn finish_connect<N: Net>(&mut self, net: &mut N) -> Result<bool, LinkError>
         requires { self.old.state ≡ state.Connecting → IsTrue (is_within 8 (N.ready net.old self.old.channel)) }
-        ensures { FinishClause (λ (n : N). record { link = N.link n; faults = N.faults n; ready = N.ready n; poll_faults = N.poll_faults n })
-            self.old.state self.old self.new net.old net.new result }
+        ensures { FinishClause (view_by N.link N.faults N.ready N.poll_faults) self.old.state self.old self.new net.old net.new result }
     {
         match self.state {
             StreamState::Unconnected => Err(LinkError::NoConnectionPending),
@@ -115,8 +113,7 @@ impl StreamLink {
     pub fn read<N: Net>(&mut self, net: &mut N, into: &mut [u8]) -> Result<Got, LinkError>
         requires some { self.old.state ≡ state.Connected → into.old ≢ [] }
         requires ready { self.old.state ≡ state.Connected → IsTrue (is_within 1 (N.ready net.old self.old.channel)) }
-        ensures { ReadClause (λ (n : N). record { link = N.link n; faults = N.faults n; ready = N.ready n; poll_faults = N.poll_faults n })
-            (transfer_refusal self.old.state) self.old self.new net.old net.new into.old into.new result }
+        ensures { ReadClause (view_by N.link N.faults N.ready N.poll_faults) (transfer_refusal self.old.state) self.old self.new net.old net.new into.old into.new result }
     {
         match self.state {
             StreamState::Unconnected | StreamState::Connecting => Err(LinkError::NotYetConnected),
@@ -129,8 +126,7 @@ impl StreamLink {
     pub fn write<N: Net>(&mut self, net: &mut N, from: &[u8]) -> Result<Put, LinkError>
         requires some { self.old.state ≡ state.Connected → from.now ≢ [] }
         requires ready { self.old.state ≡ state.Connected → IsTrue (is_within 4 (N.ready net.old self.old.channel)) }
-        ensures { WriteClause (λ (n : N). record { link = N.link n; faults = N.faults n; ready = N.ready n; poll_faults = N.poll_faults n })
-            (transfer_refusal self.old.state) self.old self.new net.old net.new from.now result }
+        ensures { WriteClause (view_by N.link N.faults N.ready N.poll_faults) (transfer_refusal self.old.state) self.old self.new net.old net.new from.now result }
     {
         match self.state {
             StreamState::Unconnected | StreamState::Connecting => Err(LinkError::NotYetConnected),
@@ -141,8 +137,7 @@ impl StreamLink {
 
     /// Closes the link. False where it was closed before.
     pub fn close<N: Net>(&mut self, net: &mut N) -> bool
-        ensures { CloseClause (λ (n : N). record { link = N.link n; faults = N.faults n; ready = N.ready n; poll_faults = N.poll_faults n })
-            self.old.state self.old self.new net.old net.new result }
+        ensures { CloseClause (view_by N.link N.faults N.ready N.poll_faults) self.old.state self.old self.new net.old net.new result }
     {
         if self.state == StreamState::Closed {
             return false;
@@ -156,24 +151,24 @@ impl StreamLink {
     fn settle<N: Net>(&mut self, net: &mut N, made: Result<bool, Failed>) -> Result<bool, LinkError>
         ensures told { result ≡ as_fault made }
         ensures link { self.new ≡ record self.old { state = state_after result } }
-        ensures net { Closes (record { link = N.link net.old; faults = N.faults net.old; ready = N.ready net.old; poll_faults = N.poll_faults net.old })
-            (record { link = N.link net.new; faults = N.faults net.new; ready = N.ready net.new; poll_faults = N.poll_faults net.new }) }
+        ensures net { Closes (view_by N.link N.faults N.ready N.poll_faults net.old) (view_by N.link N.faults N.ready N.poll_faults net.new) }
     {
-        match made {
-            Ok(true) => {
-                self.state = StreamState::Connected;
-                Ok(true)
-            }
-            Ok(false) => {
-                self.state = StreamState::Connecting;
-                Ok(false)
-            }
-            Err(Failed) => {
-                net.close(self.chan);
-                self.state = StreamState::Closed;
-                Err(LinkError::Fault)
-            }
+        if made.is_err() {
+            net.close(self.chan);
         }
+        self.state = state_of(&made);
+        told(made)
+    }
+}
+
+// The state that connecting comes to.
+fn state_of(made: &Result<bool, Failed>) -> StreamState
+    ensures { result ≡ state_after (as_fault made.now) }
+{
+    match made {
+        Ok(true) => StreamState::Connected,
+        Ok(false) => StreamState::Connecting,
+        Err(Failed) => StreamState::Closed,
     }
 }
 

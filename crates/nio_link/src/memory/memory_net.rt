@@ -165,7 +165,7 @@ impl MemoryNet {
         }
     }
 
-    fn read_link(&mut self, chan: ChanNo, into: &mut [u8]) -> Result<Got, Failed>
+    pub(crate) fn read_link(&mut self, chan: ChanNo, into: &mut [u8]) -> Result<Got, Failed>
         requires { into.old ≢ [] }
         ensures answer { result ≡ read_answer (connected (slot_at self.old.slots chan)) (length into.old) }
         ensures buffer { into.new ≡ read_buffer (connected (slot_at self.old.slots chan)) into.old }
@@ -178,7 +178,7 @@ impl MemoryNet {
         result
     }
 
-    fn write_link(&mut self, chan: ChanNo, from: &[u8]) -> Result<Put, Failed>
+    pub(crate) fn write_link(&mut self, chan: ChanNo, from: &[u8]) -> Result<Put, Failed>
         requires { from.now ≢ [] }
         ensures answer { result ≡ write_answer (connected (slot_at self.old.slots chan)) (length from.now) }
         ensures after { self.new ≡ after_write self.old chan from.now }
@@ -189,7 +189,7 @@ impl MemoryNet {
         result
     }
 
-    fn shut_link(&mut self, chan: ChanNo) -> Result<(), Failed>
+    pub(crate) fn shut_link(&mut self, chan: ChanNo) -> Result<(), Failed>
         ensures answer { result ≡ shut_answer (connected (slot_at self.old.slots chan)) }
         ensures after { self.new ≡ after_shut self.old chan }
     {
@@ -198,7 +198,7 @@ impl MemoryNet {
         result
     }
 
-    fn finish_link(&mut self, chan: ChanNo) -> Result<bool, Failed>
+    pub(crate) fn finish_link(&mut self, chan: ChanNo) -> Result<bool, Failed>
         ensures answer { result ≡ finish_answer (connecting (slot_at self.old.slots chan)) }
         ensures after { self.new ≡ after_finish self.old chan }
     {
@@ -207,7 +207,7 @@ impl MemoryNet {
         result
     }
 
-    fn listen_on(&mut self, chan: ChanNo) -> Result<(), Failed>
+    pub(crate) fn listen_on(&mut self, chan: ChanNo) -> Result<(), Failed>
         ensures answer { result ≡ listen_answer self.old chan }
         ensures after { self.new ≡ after_listen self.old chan }
     {
@@ -219,7 +219,7 @@ impl MemoryNet {
         Ok(())
     }
 
-    fn connect_link(&mut self, chan: ChanNo) -> Result<bool, Failed>
+    pub(crate) fn connect_link(&mut self, chan: ChanNo) -> Result<bool, Failed>
         ensures answer { result ≡ connect_answer self.old chan }
         ensures after { self.new ≡ after_connect self.old chan }
         ensures fresh { AreFresh self.old.targets }
@@ -236,7 +236,7 @@ impl MemoryNet {
         Ok(false)
     }
 
-    fn accept_link(&mut self, listener: ChanNo, chan: ChanNo) -> Result<bool, Failed>
+    pub(crate) fn accept_link(&mut self, listener: ChanNo, chan: ChanNo) -> Result<bool, Failed>
         ensures fails { IsErr result ↔ (FailsNext self.old.accepts ⊎ (can_accept self.old listener chan ≡ false)) }
         ensures answer { IfOk result (λ made. made ≡ is_waiting self.old.clients) }
         ensures free { IfOk result (λ _. can_accept self.old listener chan ≡ true) }
@@ -257,7 +257,7 @@ impl MemoryNet {
         Ok(true)
     }
 
-    fn close_channel(&mut self, chan: ChanNo)
+    pub(crate) fn close_channel(&mut self, chan: ChanNo)
         ensures { self.new ≡ record self.old { slots = slots_after_close self.old.slots chan } }
     {
         close_at(&mut self.slots, chan);
