@@ -86,4 +86,4 @@ one_more asked pairs i bits found told more is there asks before =
     let P : ChanNo × ℕ → Type 0 = λ x. IsTrue (is_within x.1 (told_of_channel asked pairs x.0)) in
     let part = told_one asked pairs i bits found there asks in
     subst (All P) (sym is) (All-append P told ((found.0, bit_and bits found.1) ∷ []) before
-        (all-one P (found.0, bit_and bits found.1) (eq-eqb (bit_and (bit_and bits found.1) (told_of_channel asked pairs found.0)) (bit_and bits found.1) part)))
+    (all-one P (found.0, bit_and bits found.1) (eq-eqb (bit_and (bit_and bits found.1) (told_of_channel asked pairs found.0)) (bit_and bits found.1) part)))

@@ -6,7 +6,8 @@ ghost use Rattle.nio_poller.specs.declared.poller.PollError.TheVariants.{Fault};
 use self::selection::select_once;
 use self::table::{open_first, set_interest_of, unwatch_port, watch_channel};
 use nio_base::{CallerNo, ChanNo, KeyNo, Kind, Limits, Ops, SelNo};
-use nio_poller::{PollError, Poller};
+use nio_link::Net;
+use nio_poller::PollError;
 use nio_words::{Pass, Words};
 use std::alloc::{AllocError, Global};
 use std::marker::Model;
@@ -83,7 +84,15 @@ impl Board {
     ) -> Result<Port, Refused>
         ensures { IfOk result (λ port. port.chan ≡ chan) }
     {
-        watch_channel(rt, &self.words, &mut self.pass, self.selector, chan, kind, ops)
+        watch_channel(
+            rt,
+            &self.words,
+            &mut self.pass,
+            self.selector,
+            chan,
+            kind,
+            ops,
+        )
     }
 
     /// Sets for which operations the channel is watched. Refused where the table has no such key, or the key isn't
@@ -100,7 +109,7 @@ impl Board {
     /// One selection, with one poll: waits until a watched channel is ready, or until the poll returns early. `told`
     /// then lists which channels are ready for what, as far as they are watched for it; it can be empty, and a channel
     /// can stand there twice. Its memory is used again.
-    pub(crate) fn select<R: Wait, N: Poller>(
+    pub(crate) fn select<R: Wait, N: Net>(
         &mut self,
         rt: &R,
         alloc: Global,
@@ -111,6 +120,14 @@ impl Board {
         ensures cause { CountsFaults Fault (N.poll_faults net.old) (N.poll_faults net.new) result }
         ensures ready { IfOk result (λ _. AreReady (N.ready net.new) told.new.items) }
     {
-        select_once(rt, alloc, &self.words, &mut self.pass, self.selector, net, told)
+        select_once(
+            rt,
+            alloc,
+            &self.words,
+            &mut self.pass,
+            self.selector,
+            net,
+            told,
+        )
     }
 }

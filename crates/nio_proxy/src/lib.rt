@@ -1,4 +1,7 @@
 //! A proxy: relays connections between their clients and a target, by selections, over any net.
 #![tactic(auto)]
 
+pub use serve::{ServeError, serve_select};
+
 mod board;
+mod serve;

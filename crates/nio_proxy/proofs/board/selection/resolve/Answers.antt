@@ -1,7 +1,6 @@
-use Rattle.std.proofs.Common.{◌≡◌, ◌++◌, [], ◌∷◌, List, ℕ, sym, ap, ◌∙◌, subst, bit_and}
+use Rattle.std.proofs.Common.{◌≡◌, ◌++◌, [], ◌∷◌, sym, ap, ◌∙◌, subst, bit_and}
 use Rattle.std.specs.List.{Contains}
 use Rattle.std.proofs.lemmas.List.Elements.{Contains-get_or}
-use Rattle.nio_base.specs.declared.numbers.ChanNo.{ChanNo}
 use Rattle.nio_proxy.proofs.Resolved.{one_more}
 use Rattle.nio_proxy.proofs.board.selection.resolve.Goals as goal
 use Rattle.nio_proxy.proofs.board.selection.resolve.Goals.{in-Some+in_ok-push, in_default}
@@ -9,7 +8,7 @@ use Rattle.nio_proxy.proofs.board.selection.resolve.Goals.{in-Some+in_ok-push, i
 pub loop-index-preserved : goal.loop-index-preserved
 loop-index-preserved c =
     elim c.match-find.branch [
-      in-Some+in_ok-push w ↦
+      | in-Some+in_ok-push w ↦
           let pair = c.loop-index-item.result in
           let there : Contains c.args.pairs.now pair = subst (Contains c.args.pairs.now) (sym c.loop-index-item.is) (Contains-get_or c.args.pairs.now c.loop-index.index-index pair c.loop-index-test.true) in
           let items : c.match-find.told.items ≡ c.loop-index.told.items ++ (w.in-Some.found.0, bit_and pair.1 w.in-Some.found.1) ∷ [] =

@@ -6,8 +6,8 @@ pub cancel-requires-clause-unpinned : goal.cancel-requires-clause-unpinned
 cancel-requires-clause-unpinned c = (idle_call (pins_are_given_back.find _ _ _ _) c.find.ensures.call c.find.ensures.ready c.requires).unpinned
 
 pub returns-in-Some : goal.returns-in-Some
-returns-in-Some c = 
-    idle_after c.cancel.ensures.call.acts c.cancel.ensures.ready c.cancel.ensures.unpinned 
+returns-in-Some c =
+    idle_after c.cancel.ensures.call.acts c.cancel.ensures.ready c.cancel.ensures.unpinned
     (idle_call (pins_are_given_back.find _ _ _ _) c.find.ensures.call c.find.ensures.ready c.requires)
 
 pub returns-in_default : goal.returns-in_default

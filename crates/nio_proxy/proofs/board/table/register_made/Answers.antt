@@ -9,6 +9,6 @@ pub returns-in-Ok-clause-idle : goal.returns-in-Ok-clause-idle
 returns-in-Ok-clause-idle g c = idle_after c.register.ensures.call.acts c.register.ensures.ready c.register.ensures.unpinned c.requires.idle
 
 pub returns-in-Err-clause-idle : goal.returns-in-Err-clause-idle
-returns-in-Err-clause-idle g c = 
-    idle_after c.close_channel.ensures.call.acts c.close_channel.ensures.ready c.close_channel.ensures.unpinned 
+returns-in-Err-clause-idle g c =
+    idle_after c.close_channel.ensures.call.acts c.close_channel.ensures.ready c.close_channel.ensures.unpinned
     (idle_after c.register.ensures.call.acts c.register.ensures.ready c.register.ensures.unpinned c.requires.idle)

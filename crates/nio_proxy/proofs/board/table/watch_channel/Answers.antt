@@ -9,8 +9,8 @@ pub close_channel-requires-clause-unpinned : goal.close_channel-requires-clause-
 close_channel-requires-clause-unpinned g c = (idle_call (pins_are_given_back.open_channel _ _) c.open_channel.ensures.call c.open_channel.ensures.ready c.requires).unpinned
 
 pub returns-in-Ok-2-clause-idle : goal.returns-in-Ok-2-clause-idle
-returns-in-Ok-2-clause-idle g c = 
-    idle_after c.close_channel.ensures.call.acts c.close_channel.ensures.ready c.close_channel.ensures.unpinned 
+returns-in-Ok-2-clause-idle g c =
+    idle_after c.close_channel.ensures.call.acts c.close_channel.ensures.ready c.close_channel.ensures.unpinned
     (idle_call (pins_are_given_back.open_channel _ _) c.open_channel.ensures.call c.open_channel.ensures.ready c.requires)
 
 pub returns-in-Err-clause-idle : goal.returns-in-Err-clause-idle

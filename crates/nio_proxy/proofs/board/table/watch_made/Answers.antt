@@ -10,8 +10,8 @@ pub close_channel-requires-clause-unpinned : goal.close_channel-requires-clause-
 close_channel-requires-clause-unpinned g c = (idle_call (pins_are_given_back.set_blocking _ _ _) c.set_blocking.ensures.call c.set_blocking.ensures.ready c.requires.idle).unpinned
 
 pub returns-then-is_err-clause-idle : goal.returns-then-is_err-clause-idle
-returns-then-is_err-clause-idle g c = 
-    idle_after c.close_channel.ensures.call.acts c.close_channel.ensures.ready c.close_channel.ensures.unpinned 
+returns-then-is_err-clause-idle g c =
+    idle_after c.close_channel.ensures.call.acts c.close_channel.ensures.ready c.close_channel.ensures.unpinned
     (idle_call (pins_are_given_back.set_blocking _ _ _) c.set_blocking.ensures.call c.set_blocking.ensures.ready c.requires.idle)
 
 pub register_made-requires-clause-idle : goal.register_made-requires-clause-idle

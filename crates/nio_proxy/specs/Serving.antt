@@ -1,0 +1,94 @@
+-- What a proxy promises.
+use Rattle.std.specs.Prelude.{◌≡◌, ◌≢◌, ℕ, ◌+◌, ◌*◌, ◌<◌, ◌≤◌, ◌⊎◌, Bool, true, false, IsTrue, IsFalse, if◌then◌else◌, Option, IfSome, Result, Ok, Err, Unit}
+use Rattle.nio_base.specs.declared.numbers.ChanNo.{ChanNo}
+use Rattle.nio_bytes.specs.Cause.{Rose}
+use Rattle.nio_link.specs.Links.{Link, IsUnused}
+use Rattle.nio_relay.specs.Connection.{Carried, IsBegun, IsClean}
+use Rattle.nio_relay.specs.declared.plan.Served.{Served}
+use Rattle.nio_proxy.specs.declared.serve.ServeError.{ServeError}
+use Rattle.nio_proxy.specs.declared.serve.ServeError.TheVariants.{NetFault, Memory}
+
+-- ---- the links of a run
+
+-- the listener has the channel 0
+abbrev pub listener : ChanNo
+listener = record { 0 = 0 }
+
+-- the links of connection k, counted from 0 in the order of the accepts: its client's and its target's
+abbrev pub client_of : ℕ → ChanNo
+client_of k = record { 0 = 2 * k + 1 }
+
+abbrev pub target_of : ℕ → ChanNo
+target_of k = record { 0 = 2 * k + 2 }
+
+-- ---- what was carried
+
+-- the link has carried this, as far as the net tells it
+pub record HasCarried (l : Link) (c : Carried) : Type 0 where
+  pub got : IfSome l.got (λ bytes. bytes ≡ c.got)
+  pub ended : IfSome l.ended (λ x. x ≡ c.ended)
+  pub put : IfSome l.put (λ bytes. bytes ≡ c.put)
+  pub shut : IfSome l.shut (λ x. x ≡ c.shut)
+
+-- as far as the net tells it, the two links have carried what stands in this relation
+pub record HaveCarried (P : Carried → Carried → Type 0) (client target : Link) : Type 0 where
+  pub of_client : Carried
+  pub of_target : Carried
+  pub by_client : HasCarried client of_client
+  pub by_target : HasCarried target of_target
+  pub related : P of_client of_target
+
+-- what was put on each of the two links is a prefix of what the other gave
+abbrev pub AreBegun : Carried → Carried → Type 0
+AreBegun client target = IsBegun client target × IsBegun target client
+
+-- ---- the promise
+
+-- At every end: each connection has relayed prefixes, both ways.
+abbrev pub RelaysPrefixes : (ChanNo → Link) → Type 0
+RelaysPrefixes link = (k : ℕ) → HaveCarried AreBegun (link (client_of k)) (link (target_of k))
+
+-- the count of faults of one of the connection's two links rose
+abbrev pub HasFaulted : (ChanNo → ℕ) → (ChanNo → ℕ) → ℕ → Type 0
+HasFaulted before now k = Rose (before (client_of k)) (now (client_of k)) ⊎ Rose (before (target_of k)) (now (target_of k))
+
+-- it relayed all bytes, both ways, and both of its ends are shut
+abbrev pub WasClean : (ChanNo → Link) → ℕ → Type 0
+WasClean link k = HaveCarried IsClean (link (client_of k)) (link (target_of k))
+
+-- how many of the connections below n are counted
+abbrev pub count_below : (ℕ → Bool) → ℕ → ℕ
+count_below counted 0 = 0
+count_below counted (suc n) = count_below counted n + (if counted n then 1 else 0)
+
+-- All connections below `conns` were served, and no other was begun. Some are counted as faulty; of each of those the
+-- count of faults of a link rose in this call, and each other one was clean.
+pub record HasServed (conns : ℕ) (link : ChanNo → Link) (before now : ChanNo → ℕ) (served : Served) : Type 0 where
+  pub connections : served.connections ≡ conns
+  pub counted : ℕ → Bool
+  pub faults : served.faults ≡ count_below counted conns
+  pub faulty : (k : ℕ) → k < conns → IsTrue (counted k) → HasFaulted before now k
+  pub clean : (k : ℕ) → k < conns → IsFalse (counted k) → WasClean link k
+  pub rest : (c : ChanNo) → 2 * conns < c.0 → IsUnused (link c)
+
+-- what the call answers: all were served; or the poller or the listener failed; or memory lacked
+abbrev pub Serves : ℕ → (ChanNo → Link) → (ChanNo → ℕ) → (ChanNo → ℕ) → ℕ → ℕ → Result Served ServeError → Type 0
+Serves conns link before now polls_before polls_now (Ok served) = HasServed conns link before now served
+Serves conns link before now polls_before polls_now (Err NetFault) = Rose polls_before polls_now ⊎ Rose (before listener) (now listener)
+Serves conns link before now polls_before polls_now (Err Memory) = Unit {0}
+
+-- no count of faults rose
+pub record NoneRose (before now : ChanNo → ℕ) (polls_before polls_now : ℕ) : Type 0 where
+  pub polls : Rose polls_before polls_now → ⊥
+  pub links : (c : ChanNo) → Rose (before c) (now c) → ⊥
+
+-- where no count rose, every connection was served cleanly, or memory lacked
+pub record ServesCleanly (conns : ℕ) (link : ChanNo → Link) (served : Served) : Type 0 where
+  pub connections : served.connections ≡ conns
+  pub faults : served.faults ≡ 0
+  pub clean : (k : ℕ) → k < conns → WasClean link k
+
+abbrev pub ServesAllOr : ℕ → (ChanNo → Link) → Result Served ServeError → Type 0
+ServesAllOr conns link (Ok served) = ServesCleanly conns link served
+ServesAllOr conns link (Err NetFault) = ⊥
+ServesAllOr conns link (Err Memory) = Unit {0}
