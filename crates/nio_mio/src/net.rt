@@ -58,12 +58,12 @@ impl<S: System + Copy> Poller for MioNet<S> {
 
     fn poll<R: Wait>(
         &mut self,
-        _rt: &R,
+        rt: &R,
         alloc: Global,
         asked: &Asked,
         mode: Mode,
     ) -> Result<Told, PollError> {
-        match self.sockets.wait(asked, mode) {
+        match self.sockets.wait(rt, asked, mode) {
             Ok(elapsed) => match self.sockets.tell(alloc, asked, elapsed) {
                 Ok(told) => {
                     self.readiness.answered(asked, mode, &told);

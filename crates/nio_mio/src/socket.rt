@@ -47,18 +47,20 @@ pub(crate) fn listen<R: Net>(
     Ok(Socket::Listener(listener))
 }
 
-/// Begins to connect.
+/// Begins to connect, and says whether that is done already.
 pub(crate) fn connect<R: Net>(
     rt: &R,
     poll: &Option<Poll>,
     chan: ChanNo,
     to: Addr,
-) -> io::Result<Socket> {
+) -> io::Result<(Socket, bool)> {
     if poll.is_none() {
         return Err(missing());
     }
     let stream = TcpStream::connect(rt, socket_addr(to))?;
-    link(poll, chan, stream)
+    let connected = stream.peer_addr().is_ok();
+    let link = link(poll, chan, stream)?;
+    Ok((link, connected))
 }
 
 /// Makes a link of a connection. `TCP_NODELAY` is set; where the system refuses that, the link goes without.

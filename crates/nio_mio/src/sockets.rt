@@ -14,10 +14,14 @@ use nio_link::{Failed, Got, Put};
 use nio_select::{Asked, Told};
 use std::alloc::{AllocError, Global};
 use std::net::Net;
+use std::sync::Wait;
 use std::time::Duration;
 
 /// How many sockets there may be: the listener, and two links of each of 16,000 connections.
 pub(crate) const PLACES: usize = 32_001;
+
+/// The bell's token, past those of the sockets.
+const BELL: Token = Token(PLACES);
 
 /// How many events one poll takes from the system.
 const EVENTS: usize = 1_024;
@@ -62,23 +66,54 @@ impl Sockets {
     }
 
     /// Waits as long as `mode` says, but not where a bit that is asked for is kept. Answers whether the time is over.
-    pub(crate) fn wait(&mut self, asked: &Asked, mode: Mode) -> Result<bool, Failed> {
-        let timeout = if is_any_ready(&self.kept, asked) {
-            Some(Duration::ZERO)
-        } else {
-            timeout_of(mode)
-        };
-        self.poll_for(timeout)?;
-        note_all(&mut self.kept, &self.events);
-        Ok(mode != Mode::Wait && self.events.is_empty())
+    pub(crate) fn wait<R: Wait>(
+        &mut self,
+        rt: &R,
+        asked: &Asked,
+        mode: Mode,
+    ) -> Result<bool, Failed> {
+        if is_any_ready(&self.kept, asked) {
+            self.poll_for(Some(Duration::ZERO))?;
+            return Ok(false);
+        }
+        match mode {
+            Mode::Now => {
+                self.poll_for(Some(Duration::ZERO))?;
+                Ok(true)
+            }
+            Mode::For(ms) => {
+                self.poll_for(Some(Duration::from_millis(ms)))?;
+                Ok(self.events.is_empty())
+            }
+            Mode::Wait => {
+                self.wait_for(rt, asked)?;
+                Ok(false)
+            }
+        }
     }
 
+    // Waits until a bit that is asked for is kept, the bell rings, or a signal comes. What comes for other channels is
+    // kept meanwhile.
+    fn wait_for<R: Wait>(&mut self, rt: &R, asked: &Asked) -> Result<(), Failed> {
+        for _ in rt.forever() {
+            self.poll_for(None)?;
+            if is_over(&self.events) || is_any_ready(&self.kept, asked) {
+                return Ok(());
+            }
+        }
+        unreachable!()
+    }
+
+    // One poll of the system, whose events are kept.
     fn poll_for(&mut self, timeout: Option<Duration>) -> Result<(), Failed> {
         let Some(poll) = &mut self.poll else {
             return Err(Failed);
         };
         match poll.poll(&mut self.events, timeout) {
-            Ok(()) => Ok(()),
+            Ok(()) => {
+                note_all(&mut self.kept, &self.events);
+                Ok(())
+            }
             Err(_error) => Err(Failed),
         }
     }
@@ -176,9 +211,9 @@ impl Sockets {
             return Err(Failed);
         }
         match socket::connect(rt, &self.poll, chan, to) {
-            Ok(link) => {
+            Ok((link, connected)) => {
                 self.put_link(chan, link)?;
-                Ok(false)
+                Ok(connected)
             }
             Err(_error) => Err(Failed),
         }
@@ -259,20 +294,16 @@ fn no_socket() -> Option<Socket> {
     None
 }
 
-// The waker's token is past those of the sockets.
 fn waker(poll: &Option<Poll>) -> Option<Waker> {
     match poll {
-        Some(poll) => Waker::new(poll.registry(), Token(PLACES)).ok(),
+        Some(poll) => Waker::new(poll.registry(), BELL).ok(),
         None => None,
     }
 }
 
-fn timeout_of(mode: Mode) -> Option<Duration> {
-    match mode {
-        Mode::Now => Some(Duration::ZERO),
-        Mode::Wait => None,
-        Mode::For(ms) => Some(Duration::from_millis(ms)),
-    }
+// Whether a poll without limit returned for the bell or for a signal.
+fn is_over(events: &Events) -> bool {
+    events.is_empty() || events.iter().any(|event| event.token() == BELL)
 }
 
 // Whether a channel is ready for something that is asked of it.
