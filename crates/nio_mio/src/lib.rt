@@ -15,3 +15,5 @@ mod net;
 mod readiness;
 mod socket;
 mod sockets;
+#[cfg(test)]
+mod tests;
