@@ -4,8 +4,7 @@ use Rattle.nio_base.specs.declared.numbers.ChanNo.{ChanNo}
 use Rattle.nio_poller.specs.Polled.{Polled}
 use Rattle.nio_poller.specs.Polls.{told_of_channel}
 use Rattle.nio_poller.specs.Scripts.{last_told}
-use Rattle.nio_mio.specs.Readiness.{ready_of, left_of}
-use Rattle.nio_mio.specs.declared.readiness.Readiness.{Readiness}
+use Rattle.nio_mio.specs.Readiness.{left_of}
 
 last_more : (before : List Polled) (polled : Polled) (c : ChanNo) → last_told (before ++ polled ∷ []) c ≡ told_of_channel polled.asked polled.answer.pairs c
 last_more [] polled c = refl

@@ -124,11 +124,7 @@ pub(crate) fn read(
     Ok(count)
 }
 
-fn read_piece(
-    sockets: &mut [Option<Socket>],
-    chan: ChanNo,
-    piece: &mut [u8],
-) -> io::Result<usize>
+fn read_piece(sockets: &mut [Option<Socket>], chan: ChanNo, piece: &mut [u8]) -> io::Result<usize>
     ensures { ReadsAtMost result piece.new }
 {
     match sockets.get_mut(chan.0 as usize) {
@@ -137,11 +133,7 @@ fn read_piece(
     }
 }
 
-pub(crate) fn write(
-    sockets: &mut [Option<Socket>],
-    chan: ChanNo,
-    from: &[u8],
-) -> io::Result<usize>
+pub(crate) fn write(sockets: &mut [Option<Socket>], chan: ChanNo, from: &[u8]) -> io::Result<usize>
     ensures { WritesAtMost result from.now }
 {
     match sockets.get_mut(chan.0 as usize) {

@@ -122,19 +122,8 @@ fn table(alloc: Global) -> Result<(Words, Pass), Fail>
     Ok((words, p))
 }
 
-/// Echoes in this thread what a second thread sends, and gives what came back there.
-fn echoed(
-    rt: &HostRuntime,
-    sockets: &mut Sockets,
-    asked: &Asked,
-    at: Addr,
-    bytes: &[u8],
-) -> io::Result<Vec<u8>> {
-    let (echo, came) = join(
-        rt,
-        || -> Result<(), Failed> { echo(rt, sockets, asked) },
-        || -> io::Result<Vec<u8>> { ask(rt, at, bytes) },
-    );
+/// What came back, where the echo went well.
+fn echoed(echo: Result<(), Failed>, came: io::Result<Vec<u8>>) -> io::Result<Vec<u8>> {
     match echo {
         Ok(()) => came,
         Err(Failed) => Err(io::Error::from(io::ErrorKind::Other)),
@@ -149,9 +138,14 @@ fn passes_bytes_back_over_loopback(rt: HostRuntime) -> Result<(), Fail> {
     let bytes = vec![in rt.alloc(); 7_u8; COUNT]?;
     let (words, mut p) = table(rt.alloc())?;
     let selection = begin(&rt, rt.alloc(), &words, &mut p)?;
-    let came = echoed(&rt, &mut sockets, selection.asked(), at, &bytes);
+    let (echo, came) = join(
+        &rt,
+        || -> Result<(), Failed> { echo(&rt, &mut sockets, selection.asked()) },
+        || -> io::Result<Vec<u8>> { ask(&rt, at, &bytes) },
+    );
     selection.forget();
-    assert!(rt; came? == bytes);
+    let came = echoed(echo, came)?;
+    assert!(rt; came == bytes);
     Ok(())
 }
 
