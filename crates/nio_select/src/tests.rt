@@ -497,6 +497,10 @@ const BARE: Limits = Limits {
     keys: 1,
 };
 
+const NONE_ASKED: Reply = Reply::Asked(0, None, None);
+
+const BUSY: Reply = Reply::NotBegun(BeginError::Busy);
+
 /// Opens a selector, in a table where nothing was done but two draws. Says whether it is the first.
 fn opens_first(w: &Words, p: &mut Pass) -> bool
     requires zero { IsReady w.now p.old ZERO }
@@ -550,22 +554,20 @@ fn selection_on_a_bare_table(rt: HostRuntime) -> Result<(), Fail> {
     let opened = opens_first(&words, &mut p);
     assert!(rt; opened);
     let spent = answer(rt.alloc(), &words, &mut p, Call::OpenSelector);
-    assert_eq!(rt; spent, Reply::Opened(Err(SelectorsSpent)));
-    let none = Reply::Asked(0, None, None);
-    let busy = Reply::NotBegun(BeginError::Busy);
-    assert_eq!(rt;
-        selects_thrice(rt.alloc(), &words, &mut p),
-        [
-            [none, busy, Reply::Done(0, Why::Now)],
-            [none, busy, Reply::Done(0, Why::Woken)],
-            [none, busy, Reply::Again],
-        ]
+    assert!(rt; spent == Reply::Opened(Err(SelectorsSpent)));
+    let selected = selects_thrice(rt.alloc(), &words, &mut p);
+    assert!(rt;
+        selected
+            == [
+                [NONE_ASKED, BUSY, Reply::Done(0, Why::Now)],
+                [NONE_ASKED, BUSY, Reply::Done(0, Why::Woken)],
+                [NONE_ASKED, BUSY, Reply::Again],
+            ]
     );
-    assert_eq!(rt; answer(rt.alloc(), &words, &mut p, Call::Begin), none);
-    assert_eq!(rt;
-        answer(rt.alloc(), &words, &mut p, Call::Keys),
-        Reply::Listed(Ok((0, None)))
-    );
+    let begun = answer(rt.alloc(), &words, &mut p, Call::Begin);
+    assert!(rt; begun == NONE_ASKED);
+    let keys = answer(rt.alloc(), &words, &mut p, Call::Keys);
+    assert!(rt; keys == Reply::Listed(Ok((0, None))));
     Ok(())
 }
 

@@ -4,5 +4,5 @@ use Rattle.nio_select.proofs.tests.selects_beside.Goals as goal
 pub begins_beside-busy-requires : goal.begins_beside-busy-requires
 begins_beside-busy-requires c = idle_call (begin_gives _ _) c.try_begin.ensures.call c.try_begin.ensures.ready c.requires
 
-pub returns-in-Err : goal.returns-in-Err
-returns-in-Err c = idle_call (begin_gives _ _) c.try_begin.ensures.call c.try_begin.ensures.ready c.requires
+pub returns : goal.returns
+returns c = idle_call (begin_gives _ _) c.try_begin.ensures.call c.try_begin.ensures.ready c.requires
