@@ -71,9 +71,8 @@ pub struct Recorder {
 
 impl Recorder {
     ghost use Rattle.nio_base.specs.Limits.{IsFit};
-    ghost use Rattle.nio_base.specs.declared.numbers.CallerNo.{CallerNo as Number};
 
-    /// A new table, after both callers drew their numbers.
+    /// A new table, after both callers drew their numbers. It fails for want of memory alone.
     pub fn make(alloc: Global, limits: Limits) -> Result<Recorder, RecordError>
         requires fit { IsFit limits }
         requires two { 2 ≤ limits.callers }
@@ -108,7 +107,6 @@ impl Recorder {
         ensures refused { OnErr result (written self.new ≡ written self.old) }
         ensures no_step { result ≡ Err NoStep → ¬ MayMake self.old caller act ⊎ IsDraw act }
         ensures may { IfOk result (λ _. MayMake self.old caller act) }
-        ensures acts_for { (n : Number) → acts_for self.old n → acts_for self.new n }
     {
         let limits = self.words.limits();
         if !self.pass.holds(caller) {
