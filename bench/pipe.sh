@@ -9,15 +9,15 @@ compile pipe_system
     least nio 3 "$made/nio_bench" pipe
     least C 3 "$made/pipe_system"
 } | awk -F'|' '
-    { took[$2] = $3 }
     function speed(name) { return 268435456000 / took[name] }
+    { took[$2] = $3 }
     END {
-        split("64 4096 65536", lengths, " ")
-        for (k = 1; k <= 3; k++) {
-            length_ = lengths[k]
-            nio = speed("nio_" length_); ring = speed("rtrb_" length_); system_ = speed("system_" length_)
+        count = split("64 4096 65536", pieces, " ")
+        for (k = 1; k <= count; k++) {
+            piece = pieces[k]
+            own = speed("nio_" piece); ring = speed("rtrb_" piece); kernel = speed("system_" piece)
             printf "pieces of %d: %d MB/s; ring alone %d MB/s, ratio %.2f; pipe(2) %d MB/s, ratio %.2f\n", \
-                length_, nio, ring, nio / ring, system_, nio / system_
+                piece, own, ring, own / ring, kernel, own / kernel
         }
     }'
 load
