@@ -97,11 +97,7 @@ fn time_pipe<R: Runtime<A = Global> + Threads + Wait + Sync>(
     Ok(took)
 }
 
-pub fn open(
-    alloc: Global,
-    w: &Words,
-    p: &mut Pass,
-) -> Result<(PipeSource, PipeSink), PipeMakeError>
+pub fn open(alloc: Global, w: &Words, p: &mut Pass) -> Result<(PipeSource, PipeSink), PipeMakeError>
     requires { AreIdle w.now p.old }
     ensures idle { AreIdle w.now p.new }
     ensures channels { IfOk result (λ ends. HasEnds (view w.now p.new) (source_chan ends.0) (sink_chan ends.1)) }

@@ -43,8 +43,16 @@ pub fn measure<R: Runtime<A = Global> + Threads + Wait + Sync>(rt: &R) -> anyhow
     let pairs = time_pairs(rt, PAIRS)?;
     println!(rt; "calls {} wakeup_select_now {}", PAIRS, pairs.as_nanos())?;
     let selections = time_selections(rt, SELECTIONS)?;
-    println!(rt; "calls {} select_now_1000 {}", SELECTIONS, selections.as_nanos())?;
-    println!(rt; "calls 1 select {} park {}", time_select(rt, ROUNDS)?, time_park(rt, ROUNDS)?)?;
+    println!(rt;
+        "calls {} select_now_1000 {}",
+        SELECTIONS,
+        selections.as_nanos()
+    )?;
+    println!(rt;
+        "calls 1 select {} park {}",
+        time_select(rt, ROUNDS)?,
+        time_park(rt, ROUNDS)?
+    )?;
     Ok(())
 }
 
