@@ -1,1 +1,4 @@
+pub mod Nets
+pub mod Relaying
 pub mod Serving
+pub mod Slots

@@ -1,5 +1,5 @@
 -- What a proxy promises.
-use Rattle.std.specs.Prelude.{◌≡◌, ◌≢◌, ℕ, ◌+◌, ◌*◌, ◌<◌, ◌≤◌, ◌⊎◌, Bool, true, false, IsTrue, IsFalse, if◌then◌else◌, Option, IfSome, Result, Ok, Err, Unit}
+use Rattle.std.specs.Prelude.{◌≡◌, ◌≢◌, ℕ, zero, suc, ◌+◌, ◌*◌, ◌<◌, ◌≤◌, ◌⊎◌, Bool, true, false, IsTrue, IsFalse, if◌then◌else◌, Option, IfSome, Result, Ok, Err}
 use Rattle.nio_base.specs.declared.numbers.ChanNo.{ChanNo}
 use Rattle.nio_bytes.specs.Cause.{Rose}
 use Rattle.nio_link.specs.Links.{Link, IsUnused}
@@ -58,7 +58,7 @@ WasClean link k = HaveCarried IsClean (link (client_of k)) (link (target_of k))
 
 -- how many of the connections below n are counted
 abbrev pub count_below : (ℕ → Bool) → ℕ → ℕ
-count_below counted 0 = 0
+count_below counted zero = 0
 count_below counted (suc n) = count_below counted n + (if counted n then 1 else 0)
 
 -- All connections below `conns` were served, and no other was begun. Some are counted as faulty; of each of those the

