@@ -1,8 +1,8 @@
 -- What is left of pieces of bytes.
-use Rattle.std.proofs.Common.{◌≡◌, ◌≢◌, ℕ, ◌+◌, ◌<◌, ◌≤◌, min, List, [], ◌∷◌, ◌++◌, length, take, drop, refl, ap, arith, sym, ◌∙◌, length-drop}
+use Rattle.std.proofs.Common.{◌≡◌, ◌≢◌, ℕ, ◌+◌, ◌<◌, ◌≤◌, min, List, [], ◌∷◌, ◌++◌, length, map, get_or, take, drop, refl, ap, arith, sym, ◌∙◌, length-drop}
 use Rattle.std.proofs.lemmas.Grind.{common_steps}
 use Rattle.std.proofs.Math.Seq.{drop-append_seam}
-use Rattle.std.proofs.lemmas.List.{drop_min}
+use Rattle.std.proofs.lemmas.List.{drop_min, map-append, take_more}
 use Rattle.nio_link.specs.Links.{IsGot}
 use Rattle.nio_link.specs.Pieces.{pieces_left, pieces_after, got_of, count_of, buffer_after, filled_by, total}
 
@@ -40,5 +40,21 @@ is_got [] buffer some = refl
 is_got ([] ∷ later) buffer some = grind (arith, common_steps)
 is_got ((byte ∷ rest) ∷ later) [] some = absurd (some refl)
 is_got ((byte ∷ rest) ∷ later) (x ∷ buffer) some = (
-  omega arith, omega arith, filled-length (byte ∷ rest) (x ∷ buffer), filled-rest (byte ∷ rest) (x ∷ buffer),
+  omega arith,
+  omega arith,
+  filled-length (byte ∷ rest) (x ∷ buffer),
+  filled-rest (byte ∷ rest) (x ∷ buffer),
 )
+
+total-added : (pieces : List (List ℕ)) (piece : List ℕ) → total (pieces ++ piece ∷ []) ≡ total pieces + length piece
+total-added [] piece = omega arith
+total-added (first ∷ pieces) piece = omega (arith, total-added pieces piece)
+
+-- how many bytes one piece more has
+pub total_more : {X : Type 0} (f : X → List ℕ) (xs : List X) (i : ℕ) (x : X) → i < length xs → x ≡ get_or xs i x
+    → total (map f (take (i + 1) xs)) ≡ total (map f (take i xs)) + length (f x)
+total_more f xs i x within is =
+    ap (λ ys. total (map f ys)) (take_more xs i x within)
+    ∙ ap total (map-append f (take i xs) (get_or xs i x ∷ []))
+    ∙ total-added (map f (take i xs)) (f (get_or xs i x))
+    ∙ ap (λ y. total (map f (take i xs)) + length (f y)) (sym is)

@@ -3,3 +3,7 @@ pub mod Readiness
 pub mod Pieces
 pub mod MemoryLinks
 pub mod Slots
+pub mod MemoryNet
+pub mod NetPlans
+pub mod Nets
+pub mod Streams

@@ -16,10 +16,13 @@ use Rattle.nio_link.specs.declared.net.Put.{Put}
 abbrev pub slot_at : List Slot → ChanNo → Slot
 slot_at slots c = slice_index_or slots c.0 slot.Free
 
+abbrev pub nothing_carried : Link
+nothing_carried = record { got = Some []; ended = Some false; put = Some []; shut = Some false }
+
 -- what was carried there
 abbrev pub carried_by : Slot → Link
-carried_by slot.Free = record { got = Some []; ended = Some false; put = Some []; shut = Some false }
-carried_by slot.Listener = record { got = Some []; ended = Some false; put = Some []; shut = Some false }
+carried_by slot.Free = nothing_carried
+carried_by slot.Listener = nothing_carried
 carried_by (slot.Link l) = carried l
 
 abbrev pub carried_at : List Slot → ChanNo → Link
@@ -41,6 +44,16 @@ connecting (slot.Link l) = if is_connecting l.stage then Some l else None
 abbrev pub placed : ChanNo → List Slot → Option LinkState → List Slot
 placed c slots None = slots
 placed c slots (Some l) = slice_set slots c.0 (slot.Link l)
+
+abbrev pub holds_nothing : Slot → Bool
+holds_nothing slot.Free = true
+holds_nothing slot.Listener = false
+holds_nothing (slot.Link l) = false
+
+abbrev pub holds_listener : Slot → Bool
+holds_listener slot.Free = false
+holds_listener slot.Listener = true
+holds_listener (slot.Link l) = false
 
 -- ---- reading
 

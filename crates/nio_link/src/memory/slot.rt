@@ -1,6 +1,8 @@
 //! What stands under a channel of a net in memory.
-ghost use Rattle.std.specs.Prelude.{◌≡◌, ◌≢◌, [], length};
-ghost use Rattle.nio_link.specs.Slots.{slot_at, connected, connecting, read_answer, read_buffer, slots_after_read, write_answer, slots_after_write, shut_answer, slots_after_shut, finish_answer, slots_after_finish, slots_after_close, ready_at};
+ghost use Rattle.std.specs.Prelude.{◌≡◌, ◌≢◌, [], length, IfOk, MatchOption};
+ghost use Rattle.nio_link.specs.Links.{IsPut};
+ghost use Rattle.nio_link.specs.MemoryLinks.{carried};
+ghost use Rattle.nio_link.specs.Slots.{carried_at, nothing_carried, slot_at, connected, connecting, read_answer, read_buffer, slots_after_read, write_answer, slots_after_write, shut_answer, slots_after_shut, finish_answer, slots_after_finish, slots_after_close, ready_at};
 
 use crate::memory::link::MemoryLink;
 use crate::memory::stage::Stage;
@@ -13,6 +15,19 @@ pub(crate) enum Slot {
     Free,
     Listener,
     Link(MemoryLink),
+}
+
+pub(crate) fn link_at(slots: &[Slot], chan: ChanNo) -> Option<&MemoryLink>
+    ensures { MatchOption result (carried_at slots.now chan ≡ nothing_carried) (λ link. carried_at slots.now chan ≡ carried link.now) }
+{
+    let at = chan.0 as usize;
+    if at >= slots.len() {
+        return None;
+    }
+    match &slots[at] {
+        Slot::Link(link) => Some(link),
+        Slot::Free | Slot::Listener => None,
+    }
 }
 
 pub(crate) fn read_at(slots: &mut [Slot], chan: ChanNo, into: &mut [u8]) -> Result<Got, Failed>
@@ -35,6 +50,7 @@ pub(crate) fn write_at(slots: &mut [Slot], chan: ChanNo, from: &[u8]) -> Result<
     requires { from.now ≢ [] }
     ensures answer { result ≡ write_answer (connected (slot_at slots.old chan)) (length from.now) }
     ensures after { slots.new ≡ slots_after_write slots.old chan from.now }
+    ensures put { IfOk result (IsPut from.now) }
 {
     let at = chan.0 as usize;
     if at >= slots.len() {
@@ -100,13 +116,7 @@ pub(crate) fn ready_of(slots: &[Slot], chan: ChanNo, waiting: bool) -> Ops
     }
     match &slots[at] {
         Slot::Free => Ops::NONE,
-        Slot::Listener => {
-            if waiting {
-                Ops::ACCEPT
-            } else {
-                Ops::NONE
-            }
-        }
+        Slot::Listener => { if waiting { Ops::ACCEPT } else { Ops::NONE } }
         Slot::Link(link) => link.ready(),
     }
 }

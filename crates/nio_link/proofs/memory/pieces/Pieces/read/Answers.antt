@@ -1,4 +1,4 @@
-use Rattle.std.proofs.Common.{◌≡◌, ◌<◌, [], ◌∷◌, drop, length, map, arith, ap}
+use Rattle.std.proofs.Common.{◌≡◌, ◌<◌, [], ◌∷◌, drop, length, map, arith}
 use Rattle.std.proofs.lemmas.Grind.{common_steps}
 use Rattle.std.specs.Vec.Iter.{into_iter_items}
 use Rattle.nio_link.proofs.Pieces.{left_next}
