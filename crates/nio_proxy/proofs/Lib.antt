@@ -1,5 +1,9 @@
-pub mod Bits
-pub mod Counts
-pub mod Seen
-pub mod Slotting
-pub mod Working
+mod Begun
+mod Bits
+mod Counts
+mod Idle
+mod Promise
+mod Resolved
+mod Seen
+mod Slotting
+mod Working

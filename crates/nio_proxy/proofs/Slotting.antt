@@ -1,13 +1,17 @@
 -- One connection's slot changes, and the others stay.
-use Rattle.std.proofs.Common.{◌≡◌, ◌≢◌, ℕ, zero, suc, ◌+◌, ◌*◌, ◌-◌, ◌/◌, ◌<◌, ◌≤◌, ◌⊎◌, inl, inr, Bool, true, false, IsTrue, Option, Some, None, List, [], ◌∷◌, ◌++◌, length, set, slice_get, refl, sym, ap, subst, ◌∙◌, arith}
-use Rattle.std.proofs.lemmas.Bool.{cases_order}
+use Rattle.std.proofs.Common.{◌≡◌, ◌≢◌, ℕ, zero, suc, ◌+◌, ◌*◌, ◌-◌, ◌/◌, ◌<◌, ◌≤◌, ◌⊎◌, inl, inr, Bool, true, false, IsTrue, if◌then◌else◌, Option, Some, None, List, [], ◌∷◌, ◌++◌, length, set, slice_get, refl, sym, ap, subst, ◌∙◌, ◌==◌, arith, length-append, eqb-true}
+use Rattle.std.proofs.lemmas.Bool.{cases_order, eqb-false}
+use Rattle.std.proofs.lemmas.Option.{slice_get_past, slice_get_within}
 use Rattle.nio_base.specs.declared.numbers.ChanNo.{ChanNo}
 use Rattle.nio_bytes.specs.Cause.{Rose}
 use Rattle.nio_link.specs.Links.{Link, IsUnused}
 use Rattle.nio_proxy.specs.Serving.{HasFaulted, client_of, target_of, count_below}
-use Rattle.nio_proxy.specs.Slots.{IsSlot, AreSlots, AreServed, has_ended, has_faulted}
+use Rattle.nio_proxy.specs.Nets.{Members, IsIdle, IsQuiet, Works}
+use Rattle.nio_proxy.specs.Slots.{IsSlot, AreSlots, AreServed, Serving, has_ended, has_faulted}
 use Rattle.nio_proxy.specs.declared.connections.Connections.{Connections}
+use Rattle.nio_proxy.specs.declared.slot.Relay.{Relay}
 use Rattle.nio_proxy.specs.declared.slot.Slot.{Slot}
+use Rattle.nio_proxy.specs.declared.slot.Slot.TheVariants.{Live}
 use Rattle.nio_proxy.proofs.Counts.{one_if, count-same, count_one}
 use Rattle.nio_proxy.proofs.Working.{rose_from, rose_on}
 
@@ -94,51 +98,189 @@ slots_still link0 link1 slots same are j =
 
 -- ---- faults
 
-faulted_on : (before mid now : ChanNo → ℕ) (k : ℕ) → ((c : ChanNo) → before c ≤ mid c) → ((c : ChanNo) → mid c ≤ now c) → HasFaulted before mid k → HasFaulted before now k
+pub faulted_on : (before mid now : ChanNo → ℕ) (k : ℕ) → ((c : ChanNo) → before c ≤ mid c) → ((c : ChanNo) → mid c ≤ now c) → HasFaulted before mid k → HasFaulted before now k
 faulted_on before mid now k first second (inl rose) = inl (rose_on _ _ _ (first (client_of k)) rose (second (client_of k)))
 faulted_on before mid now k first second (inr rose) = inr (rose_on _ _ _ (first (target_of k)) rose (second (target_of k)))
 
-faulted_from : (before mid now : ChanNo → ℕ) (k : ℕ) → ((c : ChanNo) → before c ≤ mid c) → HasFaulted mid now k → HasFaulted before now k
+pub faulted_from : (before mid now : ChanNo → ℕ) (k : ℕ) → ((c : ChanNo) → before c ≤ mid c) → HasFaulted mid now k → HasFaulted before now k
 faulted_from before mid now k first (inl rose) = inl (rose_from _ _ _ (first (client_of k)) rose)
 faulted_from before mid now k first (inr rose) = inr (rose_from _ _ _ (first (target_of k)) rose)
 
 -- ---- all connections
 
-module _ (conns k : ℕ) (slot : Slot) (before faults0 faults1 : ChanNo → ℕ) (link0 link1 : ChanNo → Link) (c0 c1 : Connections) where
-  pub served_change : AreServed conns before faults0 link0 c0 → k < conns → length c1.slots.items ≤ conns
+module _ (k : ℕ) (slot : Slot) (link0 link1 : ChanNo → Link) (c0 c1 : Connections) where
+  pub served_change : AreServed link0 c0 → k < c0.conns → c1.conns ≡ c0.conns → length c1.slots.items ≤ c0.conns
       → Changes c0.slots.items c1.slots.items k slot → IsSameElse (client_of k) (target_of k) link0 link1
       → IsSlot (Some slot) (link1 (client_of k)) (link1 (target_of k))
       → has_ended (slice_get c0.slots.items k) ≡ false → has_faulted (slice_get c0.slots.items k) ≡ false
       → c1.ended ≡ c0.ended + one_if (has_ended (Some slot)) → c1.faulted ≡ c0.faulted + one_if (has_faulted (Some slot))
-      → (IsTrue (has_faulted (Some slot)) → HasFaulted faults0 faults1 k)
-      → ((c : ChanNo) → faults0 c ≤ faults1 c)
-      → AreServed conns before faults1 link1 c1
-  served_change served few short changes same is not_ended not_faulted ended faulted faulty later = record {
+      → AreServed link1 c1
+  served_change served few conns short changes same is not_ended not_faulted ended faulted = record {
     slots = slots_change link0 link1 c0.slots.items c1.slots.items k slot served.slots changes same is;
-    few = short;
+    few = omega (arith, short, conns);
+    bound = omega (arith, served.bound, conns);
     ended = ended ∙ ap (λ n. n + one_if (has_ended (Some slot))) served.ended
-        ∙ sym (count_one (λ j. has_ended (slice_get c0.slots.items j)) (λ j. has_ended (slice_get c1.slots.items j)) k conns few not_ended (λ j other. ap has_ended (changes.else_ j other))
-          ∙ ap (λ (s : Option Slot). count_below (λ j. has_ended (slice_get c0.slots.items j)) conns + one_if (has_ended s)) changes.here);
+        ∙ sym (count_one (λ j. has_ended (slice_get c0.slots.items j)) (λ j. has_ended (slice_get c1.slots.items j)) k c0.conns few not_ended (λ j other. ap has_ended (changes.else_ j other))
+          ∙ ap (λ (s : Option Slot). count_below (λ j. has_ended (slice_get c0.slots.items j)) c0.conns + one_if (has_ended s)) changes.here)
+        ∙ ap (count_below (λ j. has_ended (slice_get c1.slots.items j))) (sym conns);
     faulted = faulted ∙ ap (λ n. n + one_if (has_faulted (Some slot))) served.faulted
-        ∙ sym (count_one (λ j. has_faulted (slice_get c0.slots.items j)) (λ j. has_faulted (slice_get c1.slots.items j)) k conns few not_faulted (λ j other. ap has_faulted (changes.else_ j other))
-          ∙ ap (λ (s : Option Slot). count_below (λ j. has_faulted (slice_get c0.slots.items j)) conns + one_if (has_faulted s)) changes.here);
-    faulty = λ j is_faulty. elim (cases_order j k) [
-        inl at ↦ subst (HasFaulted before faults1) (sym at) (faulted_from before faults0 faults1 k served.later
-            (faulty (ap has_faulted (sym changes.here) ∙ ap (λ i. has_faulted (slice_get c1.slots.items i)) (sym at) ∙ is_faulty)))
-      | inr (inl less) ↦ faulted_on before faults0 faults1 j served.later later (served.faulty j (ap has_faulted (sym (changes.else_ j (λ at. absurd (omega arith)))) ∙ is_faulty))
-      | inr (inr more) ↦ faulted_on before faults0 faults1 j served.later later (served.faulty j (ap has_faulted (sym (changes.else_ j (λ at. absurd (omega arith)))) ∙ is_faulty))
-      ];
-    later = λ c. omega (arith, served.later c, later c);
+        ∙ sym (count_one (λ j. has_faulted (slice_get c0.slots.items j)) (λ j. has_faulted (slice_get c1.slots.items j)) k c0.conns few not_faulted (λ j other. ap has_faulted (changes.else_ j other))
+          ∙ ap (λ (s : Option Slot). count_below (λ j. has_faulted (slice_get c0.slots.items j)) c0.conns + one_if (has_faulted s)) changes.here)
+        ∙ ap (count_below (λ j. has_faulted (slice_get c1.slots.items j))) (sym conns);
   }
 
--- nothing was done on a link, though a count of faults may have risen
-pub served_still : (conns : ℕ) (before faults0 faults1 : ChanNo → ℕ) (link0 link1 : ChanNo → Link) (c : Connections)
-    → AreServed conns before faults0 link0 c → ((k : ChanNo) → link1 k ≡ link0 k) → ((k : ChanNo) → faults0 k ≤ faults1 k) → AreServed conns before faults1 link1 c
-served_still conns before faults0 faults1 link0 link1 c served same later = record {
-  slots = slots_still link0 link1 c.slots.items same served.slots;
-  few = served.few;
-  ended = served.ended;
-  faulted = served.faulted;
-  faulty = λ k is_faulty. faulted_on before faults0 faults1 k served.later later (served.faulty k is_faulty);
-  later = λ k. omega (arith, served.later k, later k);
+module _ (k : ℕ) (slot : Slot) (faults0 faults1 : ChanNo → ℕ) (c0 c1 : Connections) where
+  pub faulty_change : Changes c0.slots.items c1.slots.items k slot → (IsTrue (has_faulted (Some slot)) → HasFaulted faults0 faults1 k)
+      → (j : ℕ) → IsTrue (has_faulted (slice_get c1.slots.items j)) → IsTrue (has_faulted (slice_get c0.slots.items j)) ⊎ HasFaulted faults0 faults1 j
+  faulty_change changes faulty j is = elim (cases_order j k) [
+      inl at ↦ inr (subst (HasFaulted faults0 faults1) (sym at) (faulty (ap has_faulted (sym changes.here) ∙ ap (λ i. has_faulted (slice_get c1.slots.items i)) (sym at) ∙ is)))
+    | inr (inl less) ↦ inl (ap has_faulted (sym (changes.else_ j (λ at. absurd (omega arith)))) ∙ is)
+    | inr (inr more) ↦ inl (ap has_faulted (sym (changes.else_ j (λ at. absurd (omega arith)))) ∙ is)
+    ]
+
+-- no link has carried more, and the connections are the same
+pub served_still : (link0 link1 : ChanNo → Link) (c0 c1 : Connections) → AreServed link0 c0 → ((k : ChanNo) → link1 k ≡ link0 k)
+    → c1.slots.items ≡ c0.slots.items → c1.ended ≡ c0.ended → c1.faulted ≡ c0.faulted → c1.conns ≡ c0.conns → AreServed link1 c1
+served_still link0 link1 c0 c1 served same slots ended faulted conns = record {
+  slots = subst (AreSlots link1) (sym slots) (slots_still link0 link1 c0.slots.items same served.slots);
+  few = omega (arith, served.few, ap length slots, conns);
+  bound = omega (arith, served.bound, conns);
+  ended = ended ∙ served.ended ∙ ap (λ (xs : List Slot). count_below (λ k. has_ended (slice_get xs k)) c0.conns) (sym slots) ∙ ap (count_below (λ k. has_ended (slice_get c1.slots.items k))) (sym conns);
+  faulted = faulted ∙ served.faulted ∙ ap (λ (xs : List Slot). count_below (λ k. has_faulted (slice_get xs k)) c0.conns) (sym slots) ∙ ap (count_below (λ k. has_faulted (slice_get c1.slots.items k))) (sym conns);
 }
+
+faulty_still : (c0 c1 : Connections) (k : ℕ) → c1.slots.items ≡ c0.slots.items → IsTrue (has_faulted (slice_get c1.slots.items k)) → IsTrue (has_faulted (slice_get c0.slots.items k))
+faulty_still c0 c1 k slots is = ap (λ (xs : List Slot). has_faulted (slice_get xs k)) (sym slots) ∙ is
+
+module _ {N : Type 0} (n : Members N) where
+  pub serving_none : (x : N) (c : Connections) → AreServed (n.link x) c → Serving n x x c c
+  serving_none x c served = record { served = served; conns = refl; faulty = λ k is. inl is; later = λ c. omega arith; polls = omega arith }
+
+  pub serving_then : (x y z : N) (c0 c1 c2 : Connections) → Serving n x y c0 c1 → Serving n y z c1 c2 → Serving n x z c0 c2
+  serving_then x y z c0 c1 c2 first second = record {
+    served = second.served;
+    conns = second.conns ∙ first.conns;
+    faulty = λ k is. elim (second.faulty k is) [
+        inl before ↦ elim (first.faulty k before) [ inl at_first ↦ inl at_first | inr rose ↦ inr (faulted_on (n.faults x) (n.faults y) (n.faults z) k first.later second.later rose) ]
+      | inr rose ↦ inr (faulted_from (n.faults x) (n.faults y) (n.faults z) k first.later rose)
+      ];
+    later = λ c. omega (arith, first.later c, second.later c);
+    polls = omega (arith, first.polls, second.polls);
+  }
+
+  -- where nothing was done on a link
+  pub serving_idle : (x y : N) (c0 c1 : Connections) → AreServed (n.link x) c0 → IsIdle n x y
+      → c1.slots.items ≡ c0.slots.items → c1.ended ≡ c0.ended → c1.faulted ≡ c0.faulted → c1.conns ≡ c0.conns → Serving n x y c0 c1
+  serving_idle x y c0 c1 served idle slots ended faulted conns = record {
+    served = served_still (n.link x) (n.link y) c0 c1 served idle.links slots ended faulted conns;
+    conns = conns;
+    faulty = λ k is. inl (faulty_still c0 c1 k slots is);
+    later = idle.later;
+    polls = omega (arith, idle.polls);
+  }
+
+  -- where no link has carried more
+  pub serving_alone : (own : ChanNo) (x y : N) (c : Connections) → AreServed (n.link x) c → ((k : ChanNo) → n.link y k ≡ n.link x k) → Works n own own own x y → Serving n x y c c
+  serving_alone own x y c served links work = record {
+    served = served_still (n.link x) (n.link y) c c served links refl refl refl refl;
+    conns = refl;
+    faulty = λ k is. inl is;
+    later = work.later;
+    polls = omega (arith, work.polls);
+  }
+
+  -- where work was done on the links of one connection
+  pub serving_step : (k : ℕ) (slot : Slot) (relay : Relay) (own : ChanNo) (x y : N) (c0 c1 : Connections) → AreServed (n.link x) c0
+      → slice_get c0.slots.items k ≡ Some (Live relay) → Works n (client_of k) (target_of k) own x y → Changes c0.slots.items c1.slots.items k slot
+      → length c1.slots.items ≡ length c0.slots.items → c1.conns ≡ c0.conns → IsSlot (Some slot) (n.link y (client_of k)) (n.link y (target_of k))
+      → c1.ended ≡ c0.ended + one_if (has_ended (Some slot)) → c1.faulted ≡ c0.faulted + one_if (has_faulted (Some slot))
+      → (IsTrue (has_faulted (Some slot)) → HasFaulted (n.faults x) (n.faults y) k) → Serving n x y c0 c1
+  serving_step k slot relay own x y c0 c1 served was work changes short conns is ended faulted faulty = record {
+    served = served_change k slot (n.link x) (n.link y) c0 c1 served (omega (arith, served.few, slice_get_within c0.slots.items k (Live relay) was)) conns
+        (omega (arith, served.few, short)) changes work.links is (ap has_ended was) (ap has_faulted was) ended faulted;
+    conns = conns;
+    faulty = faulty_change k slot (n.faults x) (n.faults y) c0 c1 changes faulty;
+    later = work.later;
+    polls = omega (arith, work.polls);
+  }
+
+  -- where a connection was begun
+  pub serving_begun : (slot : Slot) (x y : N) (c0 c1 : Connections) → AreServed (n.link x) c0
+      → length c0.slots.items < c0.conns → IsIdle n x y → c1.slots.items ≡ c0.slots.items ++ slot ∷ [] → c1.conns ≡ c0.conns
+      → IsSlot (Some slot) (n.link y (client_of (length c0.slots.items))) (n.link y (target_of (length c0.slots.items)))
+      → c1.ended ≡ c0.ended + one_if (has_ended (Some slot)) → c1.faulted ≡ c0.faulted + one_if (has_faulted (Some slot))
+      → (IsTrue (has_faulted (Some slot)) → HasFaulted (n.faults x) (n.faults y) (length c0.slots.items)) → Serving n x y c0 c1
+  serving_begun slot x y c0 c1 served few idle slots conns is ended faulted faulty =
+      let k = length c0.slots.items in
+      let none : slice_get c0.slots.items k ≡ None = slice_get_past c0.slots.items k (omega arith) in
+      let changes : Changes c0.slots.items c1.slots.items k slot = subst (λ xs. Changes c0.slots.items xs k slot) (sym slots) (changes_push c0.slots.items slot) in
+      record {
+        served = served_change k slot (n.link x) (n.link y) c0 c1 served few conns
+            (omega (arith, few, ap length slots, length-append c0.slots.items (slot ∷ []))) changes (λ c _ _. idle.links c) is (ap has_ended none) (ap has_faulted none) ended faulted;
+        conns = conns;
+        faulty = faulty_change k slot (n.faults x) (n.faults y) c0 c1 changes faulty;
+            later = idle.later;
+        polls = omega (arith, idle.polls);
+      }
+
+  -- the same, where the two links and the channel that was told have other names
+  pub serving_told : (k : ℕ) (slot : Slot) (relay : Relay) (own client target side : ChanNo) (x y : N) (c0 c1 : Connections)
+      → client ≡ client_of k → target ≡ target_of k → side ≡ own → AreServed (n.link x) c0
+      → slice_get c0.slots.items k ≡ Some (Live relay) → Works n client target side x y → Changes c0.slots.items c1.slots.items k slot
+      → length c1.slots.items ≡ length c0.slots.items → c1.conns ≡ c0.conns → IsSlot (Some slot) (n.link y client) (n.link y target)
+      → c1.ended ≡ c0.ended + one_if (has_ended (Some slot)) → c1.faulted ≡ c0.faulted + one_if (has_faulted (Some slot))
+      → (IsTrue (has_faulted (Some slot)) → Rose (n.faults x client) (n.faults y client) ⊎ Rose (n.faults x target) (n.faults y target)) → Serving n x y c0 c1
+  serving_told k slot relay own client target side x y c0 c1 is_client is_target is_own served was work changes short conns is ended faulted faulty =
+      serving_step k slot relay own x y c0 c1 served was
+          (subst (λ a. Works n a (target_of k) own x y) is_client (subst (λ b. Works n client b own x y) is_target (subst (λ s. Works n client target s x y) is_own work)))
+          changes short conns
+          (subst (λ a. IsSlot (Some slot) (n.link y a) (n.link y (target_of k))) is_client (subst (λ b. IsSlot (Some slot) (n.link y client) (n.link y b)) is_target is))
+          ended faulted
+          (λ f. subst (λ a. Rose (n.faults x a) (n.faults y a) ⊎ Rose (n.faults x (target_of k)) (n.faults y (target_of k))) is_client
+              (subst (λ b. Rose (n.faults x client) (n.faults y client) ⊎ Rose (n.faults x b) (n.faults y b)) is_target (faulty f)))
+
+  pub serving_new : (slot : Slot) (client target : ChanNo) (x y : N) (c0 c1 : Connections)
+      → client ≡ client_of (length c0.slots.items) → target ≡ target_of (length c0.slots.items) → AreServed (n.link x) c0
+      → length c0.slots.items < c0.conns → IsIdle n x y → c1.slots.items ≡ c0.slots.items ++ slot ∷ [] → c1.conns ≡ c0.conns
+      → IsSlot (Some slot) (n.link y client) (n.link y target)
+      → c1.ended ≡ c0.ended + one_if (has_ended (Some slot)) → c1.faulted ≡ c0.faulted + one_if (has_faulted (Some slot))
+      → (IsTrue (has_faulted (Some slot)) → Rose (n.faults x target) (n.faults y target)) → Serving n x y c0 c1
+  serving_new slot client target x y c0 c1 is_client is_target served few idle slots conns is ended faulted faulty =
+      let k = length c0.slots.items in
+      serving_begun slot x y c0 c1 served few idle slots conns
+          (subst (λ a. IsSlot (Some slot) (n.link y a) (n.link y (target_of k))) is_client (subst (λ b. IsSlot (Some slot) (n.link y client) (n.link y b)) is_target is))
+          ended faulted
+          (λ f. inr (subst (λ b. Rose (n.faults x b) (n.faults y b)) is_target (faulty f)))
+
+  -- where a poll was made
+  pub serving_polled : (x y : N) (c : Connections) → AreServed (n.link x) c → ((k : ChanNo) → n.link y k ≡ n.link x k) → ((k : ChanNo) → n.faults y k ≡ n.faults x k)
+      → n.poll_faults x ≤ n.poll_faults y → Serving n x y c c
+  serving_polled x y c served links faults polls = record {
+    served = served_still (n.link x) (n.link y) c c served links refl refl refl refl;
+    conns = refl;
+    faulty = λ k is. inl is;
+    later = λ k. omega (arith, faults k);
+    polls = polls;
+  }
+
+  -- where links were closed
+  pub serving_quiet : (x y z : N) (c0 c1 c2 : Connections) → Serving n x y c0 c1 → IsQuiet n y z → c2 ≡ c1 → Serving n x z c0 c2
+  serving_quiet x y z c0 c1 c2 serving quiet same =
+      let still : Serving n y z c1 c1 = serving_polled y z c1 serving.served quiet.links quiet.faults (omega (arith, quiet.polls)) in
+      serving_then x y z c0 c1 c2 serving (subst (Serving n y z c1) (sym same) still)
+
+  -- why a later part of the work failed is why the whole did
+  pub cause_on : (x y z : N) (c0 c1 : Connections) → Serving n x y c0 c1
+      → Rose (n.poll_faults y) (n.poll_faults z) ⊎ Rose (n.faults y (record { 0 = 0 })) (n.faults z (record { 0 = 0 }))
+      → Rose (n.poll_faults x) (n.poll_faults z) ⊎ Rose (n.faults x (record { 0 = 0 })) (n.faults z (record { 0 = 0 }))
+  cause_on x y z c0 c1 serving (inl rose) = inl (rose_from _ _ _ serving.polls rose)
+  cause_on x y z c0 c1 serving (inr rose) = inr (rose_from _ _ _ (serving.later (record { 0 = 0 })) rose)
+
+-- the link that was told is one of the two of its connection
+pub side_is : (chan client target : ChanNo) (k : ℕ) (b : Bool) → client ≡ client_of k → target ≡ target_of k → k ≡ (chan.0 - 1) / 2 → 1 ≤ chan.0
+    → b ≡ (chan.0 == client.0) → (if b then client else target) ≡ chan
+side_is chan client target k true is_client is_target is some same = sym (chan_as chan client (eqb-true chan.0 client.0 (sym same)))
+side_is chan client target k false is_client is_target is some other =
+    let never : chan.0 ≢ 2 * k + 1 = λ at. eqb-false chan.0 client.0 (sym other) (at ∙ sym (ap (λ (c : ChanNo). c.0) is_client)) in
+    let at : chan.0 ≡ 2 * k + 2 = omega (arith, never) in
+    is_target ∙ sym (chan_as chan (target_of k) at)

@@ -1,3 +1,4 @@
+pub mod Board
 pub mod Nets
 pub mod Relaying
 pub mod Serving

@@ -25,6 +25,13 @@ pub record Works {N : Type 0} (n : Members N) (a b own : ChanNo) (x y : N) : Typ
   pub later : (c : ChanNo) → n.faults x c ≤ n.faults y c
   pub polls : n.poll_faults y ≡ n.poll_faults x
 
+-- No link has carried more, and no channel is ready for less.
+pub record IsIdle {N : Type 0} (n : Members N) (x y : N) : Type 0 where
+  pub links : (c : ChanNo) → n.link y c ≡ n.link x c
+  pub ready : (c : ChanNo) → n.ready y c ≡ n.ready x c
+  pub later : (c : ChanNo) → n.faults x c ≤ n.faults y c
+  pub polls : n.poll_faults y ≡ n.poll_faults x
+
 -- Nothing that contracts see has changed, as where links are closed.
 pub record IsQuiet {N : Type 0} (n : Members N) (x y : N) : Type 0 where
   pub links : (c : ChanNo) → n.link y c ≡ n.link x c

@@ -1,9 +1,10 @@
 -- What stands of each connection, and of all of them.
-use Rattle.std.specs.Prelude.{◌≡◌, ℕ, zero, suc, ◌+◌, ◌*◌, ◌<◌, ◌≤◌, Bool, true, false, IsTrue, Option, Some, None, List, length, slice_get}
+use Rattle.std.specs.Prelude.{◌≡◌, ◌≢◌, ◌⊎◌, ℕ, ◌<◌, ◌≤◌, Bool, true, false, IsTrue, Option, Some, None, List, length, slice_get}
 use Rattle.nio_base.specs.declared.numbers.ChanNo.{ChanNo}
 use Rattle.nio_link.specs.Links.{Link, IsUnused}
 use Rattle.nio_relay.specs.Connection.{IsClean}
 use Rattle.nio_relay.specs.Flow.{Flow, IsLawful}
+use Rattle.nio_proxy.specs.Nets.{Members}
 use Rattle.nio_proxy.specs.Relaying.{carried}
 use Rattle.nio_proxy.specs.Serving.{HasCarried, HaveCarried, AreBegun, HasFaulted, client_of, target_of, count_below}
 use Rattle.nio_proxy.specs.declared.connections.Connections.{Connections}
@@ -45,11 +46,26 @@ has_faulted (Some Clean) = false
 has_faulted (Some Faulted) = true
 has_faulted None = false
 
--- At each moment of a call of which the counts of faults were `before` at its beginning: all connections so far.
-pub record AreServed (conns : ℕ) (before now : ChanNo → ℕ) (link : ChanNo → Link) (c : Connections) : Type 0 where
+-- All connections so far, and how many of them have ended and have ended by a fault.
+pub record AreServed (link : ChanNo → Link) (c : Connections) : Type 0 where
   pub slots : AreSlots link c.slots.items
-  pub few : length c.slots.items ≤ conns
-  pub ended : c.ended ≡ count_below (λ k. has_ended (slice_get c.slots.items k)) conns
-  pub faulted : c.faulted ≡ count_below (λ k. has_faulted (slice_get c.slots.items k)) conns
-  pub faulty : (k : ℕ) → IsTrue (has_faulted (slice_get c.slots.items k)) → HasFaulted before now k
-  pub later : (c : ChanNo) → before c ≤ now c
+  pub few : length c.slots.items ≤ c.conns
+  pub bound : c.conns ≤ 16000
+  pub ended : c.ended ≡ count_below (λ k. has_ended (slice_get c.slots.items k)) c.conns
+  pub faulted : c.faulted ≡ count_below (λ k. has_faulted (slice_get c.slots.items k)) c.conns
+
+-- the same connections, but for what stands of the one with this number
+pub record IsSameButOne (k : ℕ) (before now : Connections) : Type 0 where
+  pub others : (j : ℕ) → j ≢ k → slice_get now.slots.items j ≡ slice_get before.slots.items j
+  pub length : length now.slots.items ≡ length before.slots.items
+  pub conns : now.conns ≡ before.conns
+
+-- Work on the connections, and on the net from x to y: at its end they are served, and a connection has ended by a
+-- fault only where a count of one of its links rose.
+pub record Serving {N : Type 0} (n : Members N) (x y : N) (before now : Connections) : Type 0 where
+  pub served : AreServed (n.link y) now
+  pub conns : now.conns ≡ before.conns
+  pub faulty : (k : ℕ) → IsTrue (has_faulted (slice_get now.slots.items k))
+      → IsTrue (has_faulted (slice_get before.slots.items k)) ⊎ HasFaulted (n.faults x) (n.faults y) k
+  pub later : (c : ChanNo) → n.faults x c ≤ n.faults y c
+  pub polls : n.poll_faults x ≤ n.poll_faults y

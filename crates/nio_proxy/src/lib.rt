@@ -6,5 +6,6 @@ pub use serve::{ServeError, serve_select};
 mod board;
 mod connections;
 mod link;
+mod proxy;
 mod serve;
 mod slot;

@@ -1,18 +1,20 @@
 //! One connection: its two directions, and what the table watches of its links.
-ghost use Rattle.std.specs.Prelude.{◌≡◌, ◌≢◌, ◌⊎◌, ◌↔◌, if◌then◌else◌, Some, IsErr, IsTrue, OnErr, length};
+ghost use Rattle.std.specs.Prelude.{◌≡◌, ◌≢◌, ◌⊎◌, ◌↔◌, if◌then◌else◌, Some, IfOk, IsErr, IsTrue, OnErr, length};
 ghost use Rattle.nio_base.specs.declared.numbers.ChanNo.{ChanNo};
 ghost use Rattle.nio_bytes.specs.Cause.{Rose};
-ghost use Rattle.nio_link.specs.Links.{Link};
-ghost use Rattle.nio_relay.specs.Flow.{IsLawful};
+ghost use Rattle.nio_link.specs.Links.{IsUnused, Link};
+ghost use Rattle.nio_relay.specs.Flow.{fresh};
 ghost use Rattle.nio_steps.specs.KeyCalls.{is_within};
-ghost use Rattle.nio_proxy.specs.Nets.{IsQuiet, Works};
+ghost use Rattle.nio_proxy.specs.Nets.{IsIdle, IsQuiet, Works};
 ghost use Rattle.nio_proxy.specs.Slots.{IsRelaying, IsLive, IsSlot, has_ended, has_faulted};
 
 use crate::board::{Board, Port, Refused};
 use crate::link::serve_link;
-use nio_base::{ChanNo, Ops};
+use nio_base::{Addr, ChanNo, Kind, Ops};
 use nio_link::{Failed, Net};
 use nio_relay::{CAPACITY, Direction};
+use std::alloc::Global;
+use std::sync::Wait;
 
 /// A link as the table has it: its channel is watched for these operations.
 #[derive(Clone, Copy)]
@@ -165,4 +167,124 @@ pub(crate) fn serve_relay<N: Net>(
     relay.there.law();
     relay.back.law();
     settle(net, board, client, target, relay, served)
+}
+
+// A quarter of a direction's room.
+const QUARTER: usize = CAPACITY / 4;
+
+// Whether bytes for a direction are waited for. Not for a few: a selection costs more than they bring.
+fn awaits_bytes(direction: &Direction) -> bool {
+    direction.want().read && direction.room() >= QUARTER
+}
+
+// What a link is watched for: the one direction takes from it, and the other writes to it.
+fn wanted(outgoing: &Direction, incoming: &Direction) -> Ops {
+    let read = if awaits_bytes(outgoing) { Ops::READ } else { Ops::NONE };
+    let write = if incoming.want().write { Ops::WRITE } else { Ops::NONE };
+    read.union(write)
+}
+
+impl End {
+    // Watches the link for these operations, if it isn't watched for them already.
+    fn watch(&mut self, board: &mut Board, ops: Ops) -> Result<(), Refused> {
+        if self.interest != ops {
+            board.set(self.port, ops)?;
+            self.interest = ops;
+        }
+        Ok(())
+    }
+}
+
+impl Relay {
+    // Watches both links for what is to be done next.
+    fn follow(&mut self, board: &mut Board) -> Result<(), Refused>
+        ensures there { self.new.there ≡ self.old.there }
+        ensures back { self.new.back ≡ self.old.back }
+    {
+        if self.is_connected {
+            self.client.watch(board, wanted(&self.there, &self.back))?;
+            self.target.watch(board, wanted(&self.back, &self.there))
+        } else {
+            Ok(())
+        }
+    }
+}
+
+impl Slot {
+    /// Watches the links of a connection that hasn't ended for what is to be done next.
+    pub(crate) fn follow(&mut self, board: &mut Board) -> Result<(), Refused>
+        ensures slot { (client target : Link) → IsSlot (Some self.old) client target → IsSlot (Some self.new) client target }
+        ensures ended { has_ended (Some self.new) ≡ has_ended (Some self.old) }
+        ensures faulted { has_faulted (Some self.new) ≡ has_faulted (Some self.old) }
+    {
+        match self {
+            Slot::Live(relay) => relay.follow(board),
+            Slot::Clean | Slot::Faulted => Ok(()),
+        }
+    }
+}
+
+/// Makes what relays a connection, and watches its two links: the target's until it is connected.
+pub(crate) fn open_relay<R: Wait>(
+    rt: &R,
+    alloc: Global,
+    board: &mut Board,
+    client: ChanNo,
+    target: ChanNo,
+) -> Result<Relay, Refused>
+    ensures there { IfOk result (λ relay. relay.there ≡ fresh) }
+    ensures back { IfOk result (λ relay. relay.back ≡ fresh) }
+{
+    let Ok(there) = Direction::make(alloc) else {
+        return Err(Refused);
+    };
+    let Ok(back) = Direction::make(alloc) else {
+        return Err(Refused);
+    };
+    let client = board.watch(rt, client, Kind::Stream, Ops::NONE)?;
+    let target = board.watch(rt, target, Kind::Stream, Ops::CONNECT)?;
+    Ok(Relay {
+        there,
+        back,
+        is_connected: false,
+        client: End {
+            port: client,
+            interest: Ops::NONE,
+        },
+        target: End {
+            port: target,
+            interest: Ops::CONNECT,
+        },
+    })
+}
+
+/// Begins to connect the target of a connection. It ends at once where that fails.
+#[tactic(auto, using(crate::proofs::Begun::unused_live, crate::proofs::Begun::unused_begun))]
+pub(crate) fn connect_relay<N: Net>(
+    net: &mut N,
+    board: &mut Board,
+    client: ChanNo,
+    target: ChanNo,
+    relay: Relay,
+    to: Addr,
+) -> Slot
+    requires there { relay.there ≡ fresh }
+    requires back { relay.back ≡ fresh }
+    requires client { IsUnused (N.link net.old client) }
+    requires target { IsUnused (N.link net.old target) }
+    ensures slot { IsSlot (Some result) (N.link net.new client) (N.link net.new target) }
+    ensures faulty { IsTrue (has_faulted (Some result)) → Rose (N.faults net.old target) (N.faults net.new target) }
+    ensures idle { IsIdle N.Net net.old net.new }
+{
+    let mut relay = relay;
+    match net.connect(target, to) {
+        Ok(is_connected) => {
+            relay.is_connected = is_connected;
+            Slot::Live(relay)
+        }
+        Err(Failed) => {
+            hang_up(net, board, client, target, &relay);
+            Slot::Faulted
+        }
+    }
 }
