@@ -9,8 +9,6 @@ seen p n = record {
   ready = p.ready;
   polls = p.polls;
   kept = p.kept;
-  kept_same = p.kept_same;
-  kept_on = p.kept_on;
   link = n.link;
   faults = n.faults;
 }

@@ -11,8 +11,6 @@ Members N = record {
   ready : N → ChanNo → ℕ;
   polls : N → Option (List Polled);
   kept : N → N → Type 0;
-  kept_same : (x : N) → kept x x;
-  kept_on : (x y z : N) → kept x y → kept y z → kept x z;
   link : N → ChanNo → Link;
   faults : N → ChanNo → ℕ;
 }
