@@ -26,14 +26,14 @@ pub count_all : (f : ℕ → Bool) (n : ℕ) → count_below f n ≡ n → (k : 
 count_all f zero all k few = absurd (omega arith)
 count_all f (suc n) all k few =
     let last : (b : Bool) → f n ≡ b → count_below f n + one_if b ≡ suc n → IsTrue (f k)
-        = λ b is sum. elim b as (λ v. f n ≡ v → count_below f n + one_if v ≡ suc n → IsTrue (f k)) [
-            true ↦ λ is_true sum_is. elim (cases_order k n) [
-              inl same ↦ ap f same ∙ is_true
-            | inr (inl less) ↦ count_all f n (omega arith) k less
-            | inr (inr more) ↦ absurd (omega arith)
-            ]
-          | false ↦ λ is_false sum_is. absurd (omega (arith, count_few f n))
-          ] is sum in
+    = λ b is sum. elim b as (λ v. f n ≡ v → count_below f n + one_if v ≡ suc n → IsTrue (f k)) [
+      | true ↦ λ is_true sum_is. elim (cases_order k n) [
+        | inl same ↦ ap f same ∙ is_true
+        | inr (inl less) ↦ count_all f n (omega arith) k less
+        | inr (inr more) ↦ absurd (omega arith)
+      ]
+      | false ↦ λ is_false sum_is. absurd (omega (arith, count_few f n))
+    ] is sum in
     last (f n) refl all
 
 pub count_none : (f : ℕ → Bool) (n : ℕ) → ((k : ℕ) → k < n → f k ≡ false) → count_below f n ≡ 0
@@ -46,7 +46,7 @@ count_none f (suc n) none =
 pub count_one : (f g : ℕ → Bool) (k n : ℕ) → k < n → f k ≡ false → ((j : ℕ) → j ≢ k → g j ≡ f j) → count_below g n ≡ count_below f n + one_if (g k)
 count_one f g k zero few was others = absurd (omega arith)
 count_one f g k (suc n) few was others = elim (cases_order k n) [
-    inl same ↦
+  | inl same ↦
       let before : count_below g n ≡ count_below f n = count-same f g n (λ j less. others j (λ at. absurd (omega arith))) in
       let old : one_if (f n) ≡ 0 = ap one_if (ap f (sym same) ∙ was) in
       let new : one_if (g n) ≡ one_if (g k) = ap (λ i. one_if (g i)) (sym same) in
@@ -56,4 +56,4 @@ count_one f g k (suc n) few was others = elim (cases_order k n) [
       let last : one_if (g n) ≡ one_if (f n) = ap one_if (others n (λ at. absurd (omega arith))) in
       omega (arith, rest, last)
   | inr (inr more) ↦ absurd (omega arith)
-  ]
+]

@@ -64,12 +64,12 @@ unused_rest link slots are c past =
     let none : slice_get slots k ≡ None = slice_get_past slots k (omega arith) in
     let both : IsSlot None (link (client_of k)) (link (target_of k)) = subst (λ s. IsSlot s (link (client_of k)) (link (target_of k))) none (are k) in
     elim (parity c.0 (omega arith)) [
-      inl odd ↦ subst (λ x. IsUnused (link x)) (sym (chan_as c (client_of k) odd)) both.0
-    | inr even ↦ subst (λ x. IsUnused (link x)) (sym (chan_as c (target_of k) even)) both.1
+      | inl odd ↦ subst (λ x. IsUnused (link x)) (sym (chan_as c (client_of k) odd)) both.0
+      | inr even ↦ subst (λ x. IsUnused (link x)) (sym (chan_as c (target_of k) even)) both.1
     ]
-    where
-      parity : (n : ℕ) → 1 ≤ n → (n ≡ 2 * ((n - 1) / 2) + 1) ⊎ (n ≡ 2 * ((n - 1) / 2) + 2)
-      parity n some = grind arith
+  where
+    parity : (n : ℕ) → 1 ≤ n → (n ≡ 2 * ((n - 1) / 2) + 1) ⊎ (n ≡ 2 * ((n - 1) / 2) + 2)
+    parity n some = grind arith
 
 module _ (link : ChanNo → Link) (before now : ChanNo → ℕ) (c : Connections) where
   pub has_served : AreServed link c → c.ended ≡ c.conns → ((k : ℕ) → IsTrue (has_faulted (slice_get c.slots.items k)) → HasFaulted before now k)
@@ -116,10 +116,10 @@ serves_err conns link before now pb pn Memory cause = tt
 
 later_all : (before now : ChanNo → ℕ) (own : ChanNo) → before own ≤ now own → IsSameBut own before now → (c : ChanNo) → before c ≤ now c
 later_all before now own here others c = elim (cases_order c.0 own.0) [
-    inl same ↦ subst (λ x. before x ≤ now x) (sym (chan_as c own same)) here
+  | inl same ↦ subst (λ x. before x ≤ now x) (sym (chan_as c own same)) here
   | inr (inl less) ↦ let at : now c ≡ before c = others c (λ e. let n : c.0 ≡ own.0 = ap (λ x. x.0) e in omega arith) in omega arith
   | inr (inr more) ↦ let at : now c ≡ before c = others c (λ e. let n : c.0 ≡ own.0 = ap (λ x. x.0) e in omega arith) in omega arith
-  ]
+]
 
 pub unbegun : (link : ChanNo → Link) → ((c : ChanNo) → IsUnused (link c)) → RelaysPrefixes link
 unbegun link fresh k = unused_begun (link (client_of k)) (link (target_of k)) (fresh (client_of k)) (fresh (target_of k))
@@ -161,12 +161,12 @@ module _ {N : Type 0} (n : Members N) where
     all_of conns ran are over =
         let all : c1.conns ≡ conns = ran.serving.conns ∙ are in
         subst (λ m. HasServed m (n.link net3) (n.faults net0) (n.faults net3) (record { connections = m; faults = c1.faulted })) all
-          (has_served (n.link net3) (n.faults net0) (n.faults net3) c1 (whole ran).served over
-            (λ k is. faulted_from (n.faults net0) (n.faults net1) (n.faults net3) k (first_later ran)
-              (elim ((whole ran).faulty k is) [
-                inl before ↦ let never : false ≡ true = sym (ap (λ (xs : List Slot). has_faulted (slice_get xs k)) ran.none) ∙ before in cc
-              | inr rose ↦ rose
-              ])))
+        (has_served (n.link net3) (n.faults net0) (n.faults net3) c1 (whole ran).served over
+        (λ k is. faulted_from (n.faults net0) (n.faults net1) (n.faults net3) k (first_later ran)
+        (elim ((whole ran).faulty k is) [
+          | inl before ↦ let never : false ≡ true = sym (ap (λ (xs : List Slot). has_faulted (slice_get xs k)) ran.none) ∙ before in cc
+          | inr rose ↦ rose
+        ])))
 
     pub fault_of : Ran net0 net1 net2 net3 c0 c1
         → Rose (n.poll_faults net1) (n.poll_faults net2) ⊎ Rose (n.faults net1 (record { 0 = 0 })) (n.faults net2 (record { 0 = 0 }))

@@ -78,11 +78,11 @@ module _ (link0 link1 : ChanNo → Link) (before now : List Slot) (k : ℕ) (slo
   pub slots_change : AreSlots link0 before → Changes before now k slot → IsSameElse (client_of k) (target_of k) link0 link1
       → IsSlot (Some slot) (link1 (client_of k)) (link1 (target_of k)) → AreSlots link1 now
   slots_change slots changes same is j = elim (cases_order j k) [
-      inl at ↦ subst (λ i. IsSlot (slice_get now i) (link1 (client_of i)) (link1 (target_of i))) (sym at)
-          (IsSlotAs (Some slot) (slice_get now k) (link1 (client_of k)) (link1 (client_of k)) (link1 (target_of k)) (link1 (target_of k)) changes.here refl refl is)
+    | inl at ↦ subst (λ i. IsSlot (slice_get now i) (link1 (client_of i)) (link1 (target_of i))) (sym at)
+        (IsSlotAs (Some slot) (slice_get now k) (link1 (client_of k)) (link1 (client_of k)) (link1 (target_of k)) (link1 (target_of k)) changes.here refl refl is)
     | inr (inl less) ↦ stays (λ at. absurd (omega arith))
     | inr (inr more) ↦ stays (λ at. absurd (omega arith))
-    ]
+  ]
     where
       stays : j ≢ k → IsSlot (slice_get now j) (link1 (client_of j)) (link1 (target_of j))
       stays other = IsSlotAs (slice_get before j) (slice_get now j) (link0 (client_of j)) (link1 (client_of j)) (link0 (target_of j)) (link1 (target_of j))
@@ -121,11 +121,11 @@ module _ (k : ℕ) (slot : Slot) (link0 link1 : ChanNo → Link) (c0 c1 : Connec
     bound = omega (arith, served.bound, conns);
     ended = ended ∙ ap (λ n. n + one_if (has_ended (Some slot))) served.ended
         ∙ sym (count_one (λ j. has_ended (slice_get c0.slots.items j)) (λ j. has_ended (slice_get c1.slots.items j)) k c0.conns few not_ended (λ j other. ap has_ended (changes.else_ j other))
-          ∙ ap (λ (s : Option Slot). count_below (λ j. has_ended (slice_get c0.slots.items j)) c0.conns + one_if (has_ended s)) changes.here)
+        ∙ ap (λ (s : Option Slot). count_below (λ j. has_ended (slice_get c0.slots.items j)) c0.conns + one_if (has_ended s)) changes.here)
         ∙ ap (count_below (λ j. has_ended (slice_get c1.slots.items j))) (sym conns);
     faulted = faulted ∙ ap (λ n. n + one_if (has_faulted (Some slot))) served.faulted
         ∙ sym (count_one (λ j. has_faulted (slice_get c0.slots.items j)) (λ j. has_faulted (slice_get c1.slots.items j)) k c0.conns few not_faulted (λ j other. ap has_faulted (changes.else_ j other))
-          ∙ ap (λ (s : Option Slot). count_below (λ j. has_faulted (slice_get c0.slots.items j)) c0.conns + one_if (has_faulted s)) changes.here)
+        ∙ ap (λ (s : Option Slot). count_below (λ j. has_faulted (slice_get c0.slots.items j)) c0.conns + one_if (has_faulted s)) changes.here)
         ∙ ap (count_below (λ j. has_faulted (slice_get c1.slots.items j))) (sym conns);
   }
 
@@ -133,10 +133,10 @@ module _ (k : ℕ) (slot : Slot) (faults0 faults1 : ChanNo → ℕ) (c0 c1 : Con
   pub faulty_change : Changes c0.slots.items c1.slots.items k slot → (IsTrue (has_faulted (Some slot)) → HasFaulted faults0 faults1 k)
       → (j : ℕ) → IsTrue (has_faulted (slice_get c1.slots.items j)) → IsTrue (has_faulted (slice_get c0.slots.items j)) ⊎ HasFaulted faults0 faults1 j
   faulty_change changes faulty j is = elim (cases_order j k) [
-      inl at ↦ inr (subst (HasFaulted faults0 faults1) (sym at) (faulty (ap has_faulted (sym changes.here) ∙ ap (λ i. has_faulted (slice_get c1.slots.items i)) (sym at) ∙ is)))
+    | inl at ↦ inr (subst (HasFaulted faults0 faults1) (sym at) (faulty (ap has_faulted (sym changes.here) ∙ ap (λ i. has_faulted (slice_get c1.slots.items i)) (sym at) ∙ is)))
     | inr (inl less) ↦ inl (ap has_faulted (sym (changes.else_ j (λ at. absurd (omega arith)))) ∙ is)
     | inr (inr more) ↦ inl (ap has_faulted (sym (changes.else_ j (λ at. absurd (omega arith)))) ∙ is)
-    ]
+  ]
 
 -- no link has carried more, and the connections are the same
 pub served_still : (link0 link1 : ChanNo → Link) (c0 c1 : Connections) → AreServed link0 c0 → ((k : ChanNo) → link1 k ≡ link0 k)
@@ -161,9 +161,9 @@ module _ {N : Type 0} (n : Members N) where
     served = second.served;
     conns = second.conns ∙ first.conns;
     faulty = λ k is. elim (second.faulty k is) [
-        inl before ↦ elim (first.faulty k before) [ inl at_first ↦ inl at_first | inr rose ↦ inr (faulted_on (n.faults x) (n.faults y) (n.faults z) k first.later second.later rose) ]
+      | inl before ↦ elim (first.faulty k before) [ inl at_first ↦ inl at_first | inr rose ↦ inr (faulted_on (n.faults x) (n.faults y) (n.faults z) k first.later second.later rose) ]
       | inr rose ↦ inr (faulted_from (n.faults x) (n.faults y) (n.faults z) k first.later rose)
-      ];
+    ];
     later = λ c. omega (arith, first.later c, second.later c);
     polls = omega (arith, first.polls, second.polls);
   }
@@ -219,7 +219,7 @@ module _ {N : Type 0} (n : Members N) where
             (omega (arith, few, ap length slots, length-append c0.slots.items (slot ∷ []))) changes (λ c _ _. idle.links c) is (ap has_ended none) (ap has_faulted none) ended faulted;
         conns = conns;
         faulty = faulty_change k slot (n.faults x) (n.faults y) c0 c1 changes faulty;
-            later = idle.later;
+        later = idle.later;
         polls = omega (arith, idle.polls);
       }
 
@@ -232,12 +232,12 @@ module _ {N : Type 0} (n : Members N) where
       → (IsTrue (has_faulted (Some slot)) → Rose (n.faults x client) (n.faults y client) ⊎ Rose (n.faults x target) (n.faults y target)) → Serving n x y c0 c1
   serving_told k slot relay own client target side x y c0 c1 is_client is_target is_own served was work changes short conns is ended faulted faulty =
       serving_step k slot relay own x y c0 c1 served was
-          (subst (λ a. Works n a (target_of k) own x y) is_client (subst (λ b. Works n client b own x y) is_target (subst (λ s. Works n client target s x y) is_own work)))
-          changes short conns
-          (subst (λ a. IsSlot (Some slot) (n.link y a) (n.link y (target_of k))) is_client (subst (λ b. IsSlot (Some slot) (n.link y client) (n.link y b)) is_target is))
-          ended faulted
-          (λ f. subst (λ a. Rose (n.faults x a) (n.faults y a) ⊎ Rose (n.faults x (target_of k)) (n.faults y (target_of k))) is_client
-              (subst (λ b. Rose (n.faults x client) (n.faults y client) ⊎ Rose (n.faults x b) (n.faults y b)) is_target (faulty f)))
+      (subst (λ a. Works n a (target_of k) own x y) is_client (subst (λ b. Works n client b own x y) is_target (subst (λ s. Works n client target s x y) is_own work)))
+      changes short conns
+      (subst (λ a. IsSlot (Some slot) (n.link y a) (n.link y (target_of k))) is_client (subst (λ b. IsSlot (Some slot) (n.link y client) (n.link y b)) is_target is))
+      ended faulted
+      (λ f. subst (λ a. Rose (n.faults x a) (n.faults y a) ⊎ Rose (n.faults x (target_of k)) (n.faults y (target_of k))) is_client
+      (subst (λ b. Rose (n.faults x client) (n.faults y client) ⊎ Rose (n.faults x b) (n.faults y b)) is_target (faulty f)))
 
   pub serving_new : (slot : Slot) (client target : ChanNo) (x y : N) (c0 c1 : Connections)
       → client ≡ client_of (length c0.slots.items) → target ≡ target_of (length c0.slots.items) → AreServed (n.link x) c0
@@ -248,9 +248,9 @@ module _ {N : Type 0} (n : Members N) where
   serving_new slot client target x y c0 c1 is_client is_target served few idle slots conns is ended faulted faulty =
       let k = length c0.slots.items in
       serving_begun slot x y c0 c1 served few idle slots conns
-          (subst (λ a. IsSlot (Some slot) (n.link y a) (n.link y (target_of k))) is_client (subst (λ b. IsSlot (Some slot) (n.link y client) (n.link y b)) is_target is))
-          ended faulted
-          (λ f. inr (subst (λ b. Rose (n.faults x b) (n.faults y b)) is_target (faulty f)))
+      (subst (λ a. IsSlot (Some slot) (n.link y a) (n.link y (target_of k))) is_client (subst (λ b. IsSlot (Some slot) (n.link y client) (n.link y b)) is_target is))
+      ended faulted
+      (λ f. inr (subst (λ b. Rose (n.faults x b) (n.faults y b)) is_target (faulty f)))
 
   -- where a poll was made
   pub serving_polled : (x y : N) (c : Connections) → AreServed (n.link x) c → ((k : ChanNo) → n.link y k ≡ n.link x k) → ((k : ChanNo) → n.faults y k ≡ n.faults x k)

@@ -124,7 +124,16 @@ impl Connections {
             return Ok(());
         };
         let (client, target) = links_of(number);
-        let mut slot = serve_relay(net, board, client, target, relay, chan == client, ops, scratch);
+        let mut slot = serve_relay(
+            net,
+            board,
+            client,
+            target,
+            relay,
+            chan == client,
+            ops,
+            scratch,
+        );
         let followed = slot.follow(board);
         self.put(number, slot);
         followed

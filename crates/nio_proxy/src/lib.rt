@@ -9,3 +9,5 @@ mod link;
 mod proxy;
 mod serve;
 mod slot;
+#[cfg(test)]
+mod tests;

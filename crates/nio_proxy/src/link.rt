@@ -148,7 +148,11 @@ fn write_told<N: Net>(
     ensures work { Works N.Net own own own net.old net.new }
     ensures cause { OnErr result (Rose (N.faults net.old own) (N.faults net.new own)) }
 {
-    if can_write { write_all(net, own, incoming) } else { Ok(()) }
+    if can_write {
+        write_all(net, own, incoming)
+    } else {
+        Ok(())
+    }
 }
 
 // Shuts the link to which a direction writes, once all that it took is written.

@@ -87,7 +87,9 @@ impl Proxy {
         let (client, _) = links_of(number);
         match accept(net, client) {
             Ok(true) => {
-                let begun = self.connections.begin(rt, alloc, net, &mut self.board, self.plan.target);
+                let begun = self
+                    .connections
+                    .begin(rt, alloc, net, &mut self.board, self.plan.target);
                 begun.map(|()| true).map_err(|_| ServeError::Memory)
             }
             Ok(false) => Ok(false),
@@ -157,7 +159,10 @@ impl Proxy {
         if chan.0 == 0 {
             self.accept_told(rt, alloc, net, ops)
         } else {
-            match self.connections.serve(net, &mut self.board, chan, ops, scratch) {
+            match self
+                .connections
+                .serve(net, &mut self.board, chan, ops, scratch)
+            {
                 Ok(()) => Ok(()),
                 Err(Refused) => Err(ServeError::Memory),
             }

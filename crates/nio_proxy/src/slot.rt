@@ -50,7 +50,11 @@ fn connect<N: Net>(net: &mut N, target: ChanNo, ops: Ops) -> Result<bool, Failed
     ensures work { Works N.Net target target target net.old net.new }
     ensures cause { OnErr result (Rose (N.faults net.old target) (N.faults net.new target)) }
 {
-    if Ops::CONNECT.within(ops) { net.finish_connect(target) } else { Ok(false) }
+    if Ops::CONNECT.within(ops) {
+        net.finish_connect(target)
+    } else {
+        Ok(false)
+    }
 }
 
 #[tactic(auto)]
@@ -74,11 +78,27 @@ impl Relay {
         ensures cause { OnErr result (Rose (N.faults net.old client) (N.faults net.new client) ⊎ Rose (N.faults net.old target) (N.faults net.new target)) }
     {
         if at_client && self.is_connected {
-            serve_link(net, client, target, &mut self.there, &mut self.back, ops, scratch)
+            serve_link(
+                net,
+                client,
+                target,
+                &mut self.there,
+                &mut self.back,
+                ops,
+                scratch,
+            )
         } else if at_client {
             Ok(())
         } else if self.is_connected {
-            serve_link(net, target, client, &mut self.back, &mut self.there, ops, scratch)
+            serve_link(
+                net,
+                target,
+                client,
+                &mut self.back,
+                &mut self.there,
+                ops,
+                scratch,
+            )
         } else {
             self.is_connected = connect(net, target, ops)?;
             Ok(())
@@ -87,13 +107,7 @@ impl Relay {
 }
 
 // Closes both links of a connection, and watches them no longer.
-fn hang_up<N: Net>(
-    net: &mut N,
-    board: &mut Board,
-    client: ChanNo,
-    target: ChanNo,
-    relay: &Relay,
-)
+fn hang_up<N: Net>(net: &mut N, board: &mut Board, client: ChanNo, target: ChanNo, relay: &Relay)
     ensures quiet { IsQuiet N.Net net.old net.new }
 {
     net.close(client);
@@ -179,8 +193,16 @@ fn awaits_bytes(direction: &Direction) -> bool {
 
 // What a link is watched for: the one direction takes from it, and the other writes to it.
 fn wanted(outgoing: &Direction, incoming: &Direction) -> Ops {
-    let read = if awaits_bytes(outgoing) { Ops::READ } else { Ops::NONE };
-    let write = if incoming.want().write { Ops::WRITE } else { Ops::NONE };
+    let read = if awaits_bytes(outgoing) {
+        Ops::READ
+    } else {
+        Ops::NONE
+    };
+    let write = if incoming.want().write {
+        Ops::WRITE
+    } else {
+        Ops::NONE
+    };
     read.union(write)
 }
 

@@ -26,7 +26,7 @@ pub returns-in_err-pass_end-clause-work : goal.returns-in_err-pass_end-clause-wo
 returns-in_err-pass_end-clause-work g c =
     let n = seen g.N.Poller g.N.Net in
     works_then n _ _ _ _ _ _ (works_first n _ _ _ _ _ (works_then n _ _ _ _ _ _ c.read_told.ensures.work c.write_told.ensures.work))
-      (works_second n _ _ _ _ _ (c.pass_end.ensures.work c.args.own))
+    (works_second n _ _ _ _ _ (c.pass_end.ensures.work c.args.own))
 
 pub returns-clause-own : goal.returns-clause-own
 returns-clause-own g c =
@@ -47,13 +47,13 @@ pub returns-clause-work : goal.returns-clause-work
 returns-clause-work g c =
     let n = seen g.N.Poller g.N.Net in
     works_then n _ _ _ _ _ _
-      (works_then n _ _ _ _ _ _ (works_first n _ _ _ _ _ (works_then n _ _ _ _ _ _ c.read_told.ensures.work c.write_told.ensures.work))
-        (works_second n _ _ _ _ _ (c.pass_end.ensures.work c.args.own)))
-      (works_first n _ _ _ _ _ (c.pass_end-2.ensures.work c.args.own))
+    (works_then n _ _ _ _ _ _ (works_first n _ _ _ _ _ (works_then n _ _ _ _ _ _ c.read_told.ensures.work c.write_told.ensures.work))
+    (works_second n _ _ _ _ _ (c.pass_end.ensures.work c.args.own)))
+    (works_first n _ _ _ _ _ (c.pass_end-2.ensures.work c.args.own))
 
 pub returns-clause-cause : goal.returns-clause-cause
 returns-clause-cause g c =
     let n = seen g.N.Poller g.N.Net in
     let work = works_then n _ _ _ _ _ _ (works_first n _ _ _ _ _ (works_then n _ _ _ _ _ _ c.read_told.ensures.work c.write_told.ensures.work))
-      (works_second n _ _ _ _ _ (c.pass_end.ensures.work c.args.own)) in
+    (works_second n _ _ _ _ _ (c.pass_end.ensures.work c.args.own)) in
     on_err_weaker _ (λ rose. inl (rose_from _ _ _ (work.later c.args.own) rose)) c.pass_end-2.ensures.cause

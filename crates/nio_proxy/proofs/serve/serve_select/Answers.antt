@@ -20,66 +20,66 @@ run-outcome-requires g c = record {
 
 pub returns-in-Ok-outcome-clause-serves : goal.returns-in-Ok-outcome-clause-serves
 returns-in-Ok-outcome-clause-serves g c = all_of (seen g.N.Poller g.N.Net) c.args.net.now c.listen.new.self c.run-outcome.new.net c.close_all.new.net c.in-Ok.proxy.connections c.run-outcome.new.self.connections c.args.plan.conns (record {
-    links = c.listen.ensures.links;
-    here = c.listen.ensures.cause.later;
-    others = c.listen.ensures.others;
-    polls = c.listen.ensures.polls;
-    none = c.in-Ok.ensures.slots;
-    serving = c.run-outcome.ensures.serving;
-    quiet = c.close_all.ensures.quiet;
-  }) c.in-Ok.ensures.conns c.in-Ok-outcome.ensures.ended
+  links = c.listen.ensures.links;
+  here = c.listen.ensures.cause.later;
+  others = c.listen.ensures.others;
+  polls = c.listen.ensures.polls;
+  none = c.in-Ok.ensures.slots;
+  serving = c.run-outcome.ensures.serving;
+  quiet = c.close_all.ensures.quiet;
+}) c.in-Ok.ensures.conns c.in-Ok-outcome.ensures.ended
 
 pub returns-in-Ok-outcome-clause-prefixes : goal.returns-in-Ok-outcome-clause-prefixes
 returns-in-Ok-outcome-clause-prefixes g c = prefixes_of (seen g.N.Poller g.N.Net) c.args.net.now c.listen.new.self c.run-outcome.new.net c.close_all.new.net c.in-Ok.proxy.connections c.run-outcome.new.self.connections (record {
-    links = c.listen.ensures.links;
-    here = c.listen.ensures.cause.later;
-    others = c.listen.ensures.others;
-    polls = c.listen.ensures.polls;
-    none = c.in-Ok.ensures.slots;
-    serving = c.run-outcome.ensures.serving;
-    quiet = c.close_all.ensures.quiet;
-  })
+  links = c.listen.ensures.links;
+  here = c.listen.ensures.cause.later;
+  others = c.listen.ensures.others;
+  polls = c.listen.ensures.polls;
+  none = c.in-Ok.ensures.slots;
+  serving = c.run-outcome.ensures.serving;
+  quiet = c.close_all.ensures.quiet;
+})
 
 pub returns-in-Ok-outcome-clause-complete : goal.returns-in-Ok-outcome-clause-complete
 returns-in-Ok-outcome-clause-complete g c = serves_all c.args.plan.conns (g.N.Net.link c.close_all.new.net) (g.N.Net.faults c.args.net.now) (g.N.Net.faults c.close_all.new.net) (g.N.Poller.poll_faults c.args.net.now) (g.N.Poller.poll_faults c.close_all.new.net) (Ok _) (all_of (seen g.N.Poller g.N.Net) c.args.net.now c.listen.new.self c.run-outcome.new.net c.close_all.new.net c.in-Ok.proxy.connections c.run-outcome.new.self.connections c.args.plan.conns (record {
-    links = c.listen.ensures.links;
-    here = c.listen.ensures.cause.later;
-    others = c.listen.ensures.others;
-    polls = c.listen.ensures.polls;
-    none = c.in-Ok.ensures.slots;
-    serving = c.run-outcome.ensures.serving;
-    quiet = c.close_all.ensures.quiet;
-  }) c.in-Ok.ensures.conns c.in-Ok-outcome.ensures.ended)
+  links = c.listen.ensures.links;
+  here = c.listen.ensures.cause.later;
+  others = c.listen.ensures.others;
+  polls = c.listen.ensures.polls;
+  none = c.in-Ok.ensures.slots;
+  serving = c.run-outcome.ensures.serving;
+  quiet = c.close_all.ensures.quiet;
+}) c.in-Ok.ensures.conns c.in-Ok-outcome.ensures.ended)
 
 pub returns-clause-serves : goal.returns-clause-serves
 returns-clause-serves g c = serves_err c.args.plan.conns (g.N.Net.link c.close_all.new.net) (g.N.Net.faults c.args.net.now) (g.N.Net.faults c.close_all.new.net) (g.N.Poller.poll_faults c.args.net.now) (g.N.Poller.poll_faults c.close_all.new.net) c.in-Err.error (λ (same : c.in-Err.error ≡ NetFault). fault_of (seen g.N.Poller g.N.Net) c.args.net.now c.listen.new.self c.run-outcome.new.net c.close_all.new.net c.in-Ok.proxy.connections c.run-outcome.new.self.connections (record {
-    links = c.listen.ensures.links;
-    here = c.listen.ensures.cause.later;
-    others = c.listen.ensures.others;
-    polls = c.listen.ensures.polls;
-    none = c.in-Ok.ensures.slots;
-    serving = c.run-outcome.ensures.serving;
-    quiet = c.close_all.ensures.quiet;
-  }) (c.in-Err.ensures.cause (ap Err same)))
+  links = c.listen.ensures.links;
+  here = c.listen.ensures.cause.later;
+  others = c.listen.ensures.others;
+  polls = c.listen.ensures.polls;
+  none = c.in-Ok.ensures.slots;
+  serving = c.run-outcome.ensures.serving;
+  quiet = c.close_all.ensures.quiet;
+}) (c.in-Err.ensures.cause (ap Err same)))
 
 pub returns-clause-prefixes : goal.returns-clause-prefixes
 returns-clause-prefixes g c = prefixes_of (seen g.N.Poller g.N.Net) c.args.net.now c.listen.new.self c.run-outcome.new.net c.close_all.new.net c.in-Ok.proxy.connections c.run-outcome.new.self.connections (record {
-    links = c.listen.ensures.links;
-    here = c.listen.ensures.cause.later;
-    others = c.listen.ensures.others;
-    polls = c.listen.ensures.polls;
-    none = c.in-Ok.ensures.slots;
-    serving = c.run-outcome.ensures.serving;
-    quiet = c.close_all.ensures.quiet;
-  })
+  links = c.listen.ensures.links;
+  here = c.listen.ensures.cause.later;
+  others = c.listen.ensures.others;
+  polls = c.listen.ensures.polls;
+  none = c.in-Ok.ensures.slots;
+  serving = c.run-outcome.ensures.serving;
+  quiet = c.close_all.ensures.quiet;
+})
 
 pub returns-clause-complete : goal.returns-clause-complete
 returns-clause-complete g c = serves_all c.args.plan.conns (g.N.Net.link c.close_all.new.net) (g.N.Net.faults c.args.net.now) (g.N.Net.faults c.close_all.new.net) (g.N.Poller.poll_faults c.args.net.now) (g.N.Poller.poll_faults c.close_all.new.net) (Err c.in-Err.error) (serves_err c.args.plan.conns (g.N.Net.link c.close_all.new.net) (g.N.Net.faults c.args.net.now) (g.N.Net.faults c.close_all.new.net) (g.N.Poller.poll_faults c.args.net.now) (g.N.Poller.poll_faults c.close_all.new.net) c.in-Err.error (λ (same : c.in-Err.error ≡ NetFault). fault_of (seen g.N.Poller g.N.Net) c.args.net.now c.listen.new.self c.run-outcome.new.net c.close_all.new.net c.in-Ok.proxy.connections c.run-outcome.new.self.connections (record {
-    links = c.listen.ensures.links;
-    here = c.listen.ensures.cause.later;
-    others = c.listen.ensures.others;
-    polls = c.listen.ensures.polls;
-    none = c.in-Ok.ensures.slots;
-    serving = c.run-outcome.ensures.serving;
-    quiet = c.close_all.ensures.quiet;
-  }) (c.in-Err.ensures.cause (ap Err same))))
+  links = c.listen.ensures.links;
+  here = c.listen.ensures.cause.later;
+  others = c.listen.ensures.others;
+  polls = c.listen.ensures.polls;
+  none = c.in-Ok.ensures.slots;
+  serving = c.run-outcome.ensures.serving;
+  quiet = c.close_all.ensures.quiet;
+}) (c.in-Err.ensures.cause (ap Err same))))

@@ -18,14 +18,14 @@ returns-clause-serving g c =
     let slot = c.follow-followed.new.self in
     let side = side_is c.args.chan c.links_of.result.0 c.links_of.result.1 _ c.eq.result c.links_of.ensures.client c.links_of.ensures.target refl c.requires.link c.eq.ensures in
     serving_told (seen g.N.Poller g.N.Net) _ slot c.in-Some.relay c.args.chan c.links_of.result.0 c.links_of.result.1 _ c.args.net.now c.serve_relay-slot.new.net c.args.self.now c.put.new.self
-        c.links_of.ensures.client c.links_of.ensures.target side c.requires.served c.in-Some.ensures.taken c.serve_relay-slot.ensures.work
-        (record { here = c.put.ensures.slot; else_ = λ j other. c.put.ensures.others.others j other ∙ c.take.ensures.others.others j other })
-        (c.put.ensures.others.length ∙ c.take.ensures.others.length)
-        (c.put.ensures.others.conns ∙ c.take.ensures.others.conns)
-        (c.follow-followed.ensures.slot _ _ c.serve_relay-slot.ensures.slot)
-        (c.put.ensures.ended ∙ ap (λ m. m + one_if (has_ended (Some slot))) c.take.ensures.ended)
-        (c.put.ensures.faulted ∙ ap (λ m. m + one_if (has_faulted (Some slot))) c.take.ensures.faulted)
-        (λ f. c.serve_relay-slot.ensures.faulty (sym c.follow-followed.ensures.faulted ∙ f))
+    c.links_of.ensures.client c.links_of.ensures.target side c.requires.served c.in-Some.ensures.taken c.serve_relay-slot.ensures.work
+    (record { here = c.put.ensures.slot; else_ = λ j other. c.put.ensures.others.others j other ∙ c.take.ensures.others.others j other })
+    (c.put.ensures.others.length ∙ c.take.ensures.others.length)
+    (c.put.ensures.others.conns ∙ c.take.ensures.others.conns)
+    (c.follow-followed.ensures.slot _ _ c.serve_relay-slot.ensures.slot)
+    (c.put.ensures.ended ∙ ap (λ m. m + one_if (has_ended (Some slot))) c.take.ensures.ended)
+    (c.put.ensures.faulted ∙ ap (λ m. m + one_if (has_faulted (Some slot))) c.take.ensures.faulted)
+    (λ f. c.serve_relay-slot.ensures.faulty (sym c.follow-followed.ensures.faulted ∙ f))
 
 pub returns-clause-ready : goal.returns-clause-ready
 returns-clause-ready g c =

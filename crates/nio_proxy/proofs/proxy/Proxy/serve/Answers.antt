@@ -15,4 +15,4 @@ returns-then-is_err-clause-cause g c failed = cause_on (seen g.N.Poller g.N.Net)
 pub loop-preserved : goal.loop-preserved
 loop-preserved g c =
     serving_quiet (seen g.N.Poller g.N.Net) _ _ _ _ _ _ (serving_then (seen g.N.Poller g.N.Net) _ _ _ _ _ _ c.loop.invariant c.turn-turned.ensures.serving)
-      c.stop_listening.ensures.quiet c.stop_listening.ensures.connections
+    c.stop_listening.ensures.quiet c.stop_listening.ensures.connections
