@@ -1,6 +1,7 @@
 mod Begun
 mod Bits
 mod Counts
+mod FreshNet
 mod Idle
 mod Promise
 mod Resolved

@@ -1,5 +1,8 @@
 //! Worked rows: connections over a net in memory, relayed by selections.
-ghost use Rattle.std.specs.Prelude.{◌≤◌};
+ghost use Rattle.std.specs.Prelude.{◌≤◌, IfOk};
+ghost use Rattle.nio_base.specs.declared.numbers.ChanNo.{ChanNo};
+ghost use Rattle.nio_link.specs.Links.{IsUnused};
+ghost use Rattle.nio_link.specs.Slots.{carried_at};
 
 use crate::*;
 use nio_base::{Addr, ChanNo};
@@ -18,7 +21,9 @@ fn bytes_from(alloc: Global, start: u32, count: u32) -> Result<Vec<u8>, AllocErr
     requires few { count ≤ 100000 }
     requires low { start ≤ 100000 }
 {
-    (start..start + count).map(|i| (i % 251) as u8).collect(alloc)
+    (start..start + count)
+        .map(|i| (i % 251) as u8)
+        .collect(alloc)
 }
 
 /// A client that sends 20,000 bytes in three pieces, to a target that takes 7 bytes a write and answers nothing.
@@ -83,7 +88,10 @@ const ROWS: &[Row] = &[
     },
 ];
 
-fn net_of(alloc: Global, row: &Row) -> Result<MemoryNet, AllocError> {
+#[tactic(auto, using(crate::proofs::FreshNet::planned_unused))]
+fn net_of(alloc: Global, row: &Row) -> Result<MemoryNet, AllocError>
+    ensures { IfOk result (λ net. (c : ChanNo) → IsUnused (carried_at net.slots c)) }
+{
     let mut peers = Vec::new(alloc);
     peers.push(sender(alloc, row.first_fails_after)?)?;
     for _ in 1..row.conns {
@@ -109,6 +117,7 @@ fn connections_are_relayed(rt: HostRuntime) -> Result<(), Fail> {
             target: ANYWHERE,
             conns: row.conns,
         };
+        assert!(rt; plan.fits(), "{}", row.name);
         let served = serve_select(&rt, rt.alloc(), &mut net, plan);
         assert_eq!(rt; served, row.served, "{}", row.name);
         for (target, count) in [(2, row.put[0]), (4, row.put[1])] {
@@ -116,7 +125,12 @@ fn connections_are_relayed(rt: HostRuntime) -> Result<(), Fail> {
             assert_eq!(rt; put.len(), count, "{}: {target}", row.name);
             assert!(rt; sent.starts_with(put), "{}: {target}", row.name);
         }
-        assert_eq!(rt; net.is_shut(ChanNo(1)) && net.is_shut(ChanNo(2)), row.is_shut, "{}", row.name);
+        assert_eq!(rt;
+            net.is_shut(ChanNo(1)) && net.is_shut(ChanNo(2)),
+            row.is_shut,
+            "{}",
+            row.name
+        );
     }
     Ok(())
 }
