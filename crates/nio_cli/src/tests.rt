@@ -2,12 +2,12 @@
 ghost use Rattle.std.specs.Prelude.{IfOk};
 ghost use Rattle.nio_base.specs.declared.numbers.ChanNo.{ChanNo};
 ghost use Rattle.nio_link.specs.Links.{IsUnused};
-ghost use Rattle.nio_link.specs.MemoryNet.{link_of};
+ghost use Rattle.nio_link.specs.Slots.{carried_at};
 
 use crate::run::{PROGRAM_LIMITS, run};
 use nio_base::NoGate;
 use nio_bytes::{MemorySink, MemorySource};
-use nio_link::{MemoryNet, NetPlan};
+use nio_link::{MemoryNet, NetPlan, PeerPlan};
 use nio_words::Words;
 use std::alloc::Global;
 use std::process::Abort;
@@ -51,6 +51,30 @@ fn ends(
     (input, fail_read, fail_write): (&str, Option<u64>, Option<u64>),
     (code, written): (u8, &str),
 ) -> Result<(), Fail> {
+    let net = net_of(alloc, &[], None)?;
+    ends_over(
+        rt,
+        alloc,
+        label,
+        words,
+        (input, fail_read, fail_write),
+        net,
+        (code, written),
+    )
+}
+
+/// The same over this net.
+fn ends_over(
+    rt: &(impl Abort + Threads + Wait + Sync),
+    alloc: Global,
+    label: &str,
+    words: &[&str],
+    (input, fail_read, fail_write): (&str, Option<u64>, Option<u64>),
+    net: MemoryNet,
+    (code, written): (u8, &str),
+) -> Result<(), Fail>
+    requires { (c : ChanNo) → IsUnused (carried_at net.slots c) }
+{
     let mut given = Vec::new(alloc);
     for word in words {
         given.push(String::from_str(alloc, word)?)?;
@@ -59,7 +83,6 @@ fn ends(
     let mut source = MemorySource::make(text, 12, faults(alloc, fail_read)?);
     let mut sink = MemorySink::make(alloc, 5, faults(alloc, fail_write)?, 8_192)?;
     let (table, mut pass) = Words::make(alloc, PROGRAM_LIMITS)?;
-    let net = no_net(alloc)?;
     let ended = run(
         rt,
         alloc,
@@ -76,16 +99,40 @@ fn ends(
     Ok(())
 }
 
-/// A net of no connections.
-fn no_net(alloc: Global) -> Result<MemoryNet, Fail>
-    ensures { IfOk result (λ net. (c : ChanNo) → IsUnused (MemoryNet.link net c)) }
+/// A net of connections whose clients send two bytes, and whose targets take one a write and answer one byte. The
+/// writing to a target fails after so many bytes, where that is told.
+#[tactic(auto, using(nio_proxy::proofs::FreshNet::planned_unused))]
+fn net_of(
+    alloc: Global,
+    fail_after: &[Option<u64>],
+    fail_accept: Option<u64>,
+) -> Result<MemoryNet, Fail>
+    ensures { IfOk result (λ net. (c : ChanNo) → IsUnused (carried_at net.slots c)) }
 {
+    let mut peers = Vec::new(alloc);
+    for fail_write_after in fail_after {
+        peers.push(peer(alloc, *fail_write_after)?)?;
+    }
     let plan = NetPlan {
-        peers: Vec::new(alloc),
+        peers,
         fail_poll: None,
-        fail_accept: None,
+        fail_accept,
     };
     Ok(MemoryNet::make(alloc, plan)?)
+}
+
+fn peer(alloc: Global, fail_write_after: Option<u64>) -> Result<PeerPlan, Fail> {
+    let mut sends = Vec::new(alloc);
+    sends.push(vec![in alloc; 1u8, 2]?)?;
+    let mut answers = Vec::new(alloc);
+    answers.push(vec![in alloc; 3u8]?)?;
+    Ok(PeerPlan {
+        sends,
+        answers,
+        most: 1,
+        fail_connect: false,
+        fail_write_after,
+    })
 }
 
 /// The call that fails, if any, as a list.
@@ -281,6 +328,69 @@ fn histories_are_checked(rt: HostRuntime) -> Result<(), Fail> {
             label,
             &[command],
             (text, None, None),
+            (code, written),
+        )?;
+    }
+    Ok(())
+}
+
+#[test]
+fn races(rt: HostRuntime) -> Result<(), Fail> {
+    let rows = [
+        (
+            "race_block_wakeup",
+            "t1 selector\nt1 channel source\nt1 blocking c0 off\nt1 register s0 c0 1\ngo\nt1 block s0\nt2 wakeup s0\n",
+            0,
+            "1 t1 selector -> s0\n2 t1 channel source -> c0\n3 t1 blocking c0 off -> ok\n4 t1 register s0 c0 1 -> k0\nt1 1 block s0 -> selected 0 woken\nt2 1 wakeup s0 -> ok\n",
+        ),
+        ("second_go", "go\ngo\n", 3, "bad line 2\n"),
+    ];
+    for (label, input, code, written) in rows {
+        ends(
+            &rt,
+            rt.alloc(),
+            label,
+            &["race"],
+            (input, None, None),
+            (code, written),
+        )?;
+    }
+    Ok(())
+}
+
+#[test]
+fn relays(rt: HostRuntime) -> Result<(), Fail> {
+    let alloc = rt.alloc();
+    let rows: [(&str, &[Option<u64>], &str, Option<u64>, u8, &str); 3] = [
+        ("relay_one", &[None], "1", None, 0, "served 1 faults 0\n"),
+        (
+            "relay_one_of_two_fails",
+            &[Some(1), None],
+            "2",
+            None,
+            0,
+            "served 2 faults 1\n",
+        ),
+        ("relay_accept_fails", &[None], "1", Some(0), 7, ""),
+    ];
+    for (label, fail_after, conns, fail_accept, code, written) in rows {
+        let net = net_of(alloc, fail_after, fail_accept)?;
+        ends_over(
+            &rt,
+            alloc,
+            label,
+            &[
+                "proxy",
+                "--way",
+                "select",
+                "--listen=127.0.0.1:8080",
+                "--target",
+                "127.0.0.1:80",
+                "--conns",
+                conns,
+            ],
+            ("", None, None),
+            net,
             (code, written),
         )?;
     }

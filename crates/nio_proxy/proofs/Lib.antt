@@ -1,7 +1,7 @@
 mod Begun
 mod Bits
 mod Counts
-mod FreshNet
+pub mod FreshNet
 mod Idle
 mod Promise
 mod Resolved
