@@ -88,7 +88,13 @@ const ROWS: &[Row] = &[
     },
 ];
 
-#[tactic(auto, using(crate::proofs::FreshNet::planned_unused))]
+/// Nothing was carried by a net that was just made.
+fn make_net(alloc: Global, plan: NetPlan) -> Result<MemoryNet, AllocError>
+    ensures { IfOk result (λ net. (c : ChanNo) → IsUnused (carried_at net.slots c)) }
+{
+    MemoryNet::make(alloc, plan)
+}
+
 fn net_of(alloc: Global, row: &Row) -> Result<MemoryNet, AllocError>
     ensures { IfOk result (λ net. (c : ChanNo) → IsUnused (carried_at net.slots c)) }
 {
@@ -97,7 +103,7 @@ fn net_of(alloc: Global, row: &Row) -> Result<MemoryNet, AllocError>
     for _ in 1..row.conns {
         peers.push(sender(alloc, None)?)?;
     }
-    MemoryNet::make(
+    make_net(
         alloc,
         NetPlan {
             peers,
