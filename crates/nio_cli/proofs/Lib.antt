@@ -1,2 +1,4 @@
 mod Leaving
 pub mod Legal
+mod Named
+mod Unserved

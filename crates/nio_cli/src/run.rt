@@ -113,19 +113,94 @@ pub fn run<
     ensures too_long { StopsPastLongest S.Source input.old input.new (result.status ≡ Status.TooLong) }
 {
     let mut net = net;
-    let status = match named(alloc, words) {
+    let status = run_over(
+        rt,
+        alloc,
+        words,
+        input,
+        output,
+        table,
+        pass,
+        &mut net,
+        gate,
+    );
+    Ended { status, net }
+}
+
+// The same over a net that is lent.
+fn run_over<
+    R: Threads + Wait + Sync,
+    S: Source,
+    K: Sink,
+    N: Net,
+    G: Gate + Sync,
+>(
+    rt: &R,
+    alloc: Global,
+    words: &[String],
+    input: &mut S,
+    output: &mut K,
+    table: &Words,
+    pass: &mut Pass,
+    net: &mut N,
+    gate: &G,
+) -> Status
+    requires first { IsFirstPass table.now pass.old }
+    requires limits { limits_of table.now ≡ PROGRAM_LIMITS }
+    requires fresh { (c : ChanNo) → IsUnused (N.link net.old c) }
+
+    // The words are looked at first. There may be no memory to read the options of `proxy`.
+    ensures usage { result ≡ Status.Usage → SaysNothing (map string_bytes words.now) }
+    ensures nothing { SaysNothing (map string_bytes words.now) →
+        (result ≡ Status.Usage)
+        ⊎ ((result ≡ Status.Memory) × BeginsProxy (map string_bytes words.now)) }
+    ensures usage_said { result ≡ Status.Usage →
+        IsUsage K.Sink input.old input.new output.old output.new pass.old pass.new }
+
+    // What each command does.
+    ensures script { IsScriptCommand (map string_bytes words.now) →
+        DoesScript S.Source K.Sink table.now input.old input.new output.old output.new
+        pass.new result }
+    ensures race { IsRaceCommand (map string_bytes words.now) →
+        DoesRace S.Source K.Sink table.now input.old input.new output.old output.new
+        pass.old pass.new result }
+    ensures check { IsCheckCommand (map string_bytes words.now) →
+        DoesCheck S.Source K.Sink Rules.Now PROGRAM_LIMITS input.old input.new
+        output.old output.new pass.old pass.new result }
+    ensures check_first { IsCheckFirstCommand (map string_bytes words.now) →
+        DoesCheck S.Source K.Sink Rules.First PROGRAM_LIMITS input.old input.new
+        output.old output.new pass.old pass.new result }
+    ensures proxy { (plan : ProxyPlan) → IsProxyCommand (map string_bytes words.now) plan →
+        DoesProxy K.Sink plan.conns (N.link net.new) (N.faults net.old) (N.faults net.new)
+        (N.poll_faults net.old) (N.poll_faults net.new) output.old output.new result }
+    ensures proxy_alone { BeginsProxy (map string_bytes words.now) →
+        (input.new ≡ input.old) × (pass.new ≡ pass.old) }
+    ensures no_net { (BeginsProxy (map string_bytes words.now) → ⊥) → net.new ≡ net.old }
+
+    // What `script` writes is legal for `check`.
+    ensures legal { IsScriptCommand (map string_bytes words.now) → result ≡ Status.Done →
+        ReadsText S.Source input.old input.new
+        (WritesLegal K.Sink output.old output.new Rules.Now PROGRAM_LIMITS) }
+
+    // What each fault comes of.
+    ensures read_fault { CausesFault (S.faults input.old) (S.faults input.new)
+        (result ≡ Status.ReadFault) }
+    ensures rose { result ≡ Status.WriteFault → Rose (K.faults output.old) (K.faults output.new) }
+    ensures later { K.faults output.old ≤ K.faults output.new }
+    ensures too_long { StopsPastLongest S.Source input.old input.new (result ≡ Status.TooLong) }
+{
+    match named(alloc, words) {
         Ok(Command::Script) => run_on_table(alloc, input, output, table, pass),
         Ok(Command::Check) => run_check(alloc, input, output, PROGRAM_LIMITS, Rules::Now),
         Ok(Command::CheckFirst) => run_check(alloc, input, output, PROGRAM_LIMITS, Rules::First),
         Ok(Command::Race) => run_race(rt, alloc, input, output, table, pass, gate),
-        Ok(Command::Proxy(plan)) => serve(rt, alloc, output, &mut net, plan),
+        Ok(Command::Proxy(plan)) => serve(rt, alloc, output, net, plan),
         Err(WordsError::Usage) => {
             offer(output, USAGE.as_bytes());
             Status::Usage
         }
         Err(WordsError::Memory) => Status::Memory,
-    };
-    Ended { status, net }
+    }
 }
 
 // Runs a script on the table.
