@@ -1,10 +1,8 @@
 /* The atomic operations of four calls on channels alone, at the places that their words have in a table of one
    selector, 64 channels and 64 keys, where each index had keys before. Prints how often each call was made, and
    each one's name and nanoseconds. */
+#include "measures.h"
 #include <stdatomic.h>
-#include <stdio.h>
-#include <stdlib.h>
-#include <time.h>
 
 enum { ROUNDS = 20000, CHANNELS = 64, READ = 1 };
 
@@ -27,20 +25,7 @@ enum {
 /* The bits of a channel, a gate and a key. */
 enum { CLOSED = 16, BLOCKING = 32, SHUT = 2, PUBLISHED = 2, CANCELLED = 4, REMOVED = 8, PIN = 16 };
 
-typedef unsigned long long word;
-
 static _Atomic word *words;
-
-static long long now(void) {
-  struct timespec t;
-  clock_gettime(CLOCK_MONOTONIC, &t);
-  return t.tv_sec * 1000000000LL + t.tv_nsec;
-}
-
-static void stop(const char *why) {
-  fprintf(stderr, "%s\n", why);
-  exit(1);
-}
 
 /* The index of the noted key, whose word isn't 0. */
 static word index_of(word noted) { return (noted & 0xffffffff) - 1; }
@@ -113,7 +98,7 @@ int main(void) {
   long long took[4] = {0};
   word found = 0;
   words = calloc(WORDS, sizeof *words);
-  if (!words) return 1;
+  if (!words) stop("no memory");
   /* Every channel has a removed key, and every index is free. */
   for (word c = 0; c < CHANNELS; c++) {
     words[CHANNEL + c] = 1 + 2 * 2;

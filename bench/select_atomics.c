@@ -1,17 +1,13 @@
 /* The atomic operations of one selection alone, at the places that their words have in a table of one selector, where
    some of the indexes that were ever claimed have a key. Prints each load's name and the nanoseconds that a selection
    takes at least. */
+#include "measures.h"
 #include <stdatomic.h>
-#include <stdio.h>
-#include <stdlib.h>
-#include <time.h>
 
 /* The bits of a gate, a key and a mark, and the interest in reading. */
 enum { WOKEN = 1, SHUT = 2, CLAIMED = 1, PUBLISHED = 2, CANCELLED = 4, REMOVED = 8, SELECTED = 256, READ = 1 };
 
 enum { INTERRUPTS = 2, MOST_KEYS = 1000 };
-
-typedef unsigned long long word;
 
 /* How many indexes there are, how many of them have a key, how far apart those are, and how many selections are
    timed. */
@@ -37,17 +33,6 @@ static word listed[MOST_KEYS];
 static struct {
   word index, serial, channel, interest;
 } looked[MOST_KEYS];
-
-static long long now(void) {
-  struct timespec t;
-  clock_gettime(CLOCK_MONOTONIC, &t);
-  return t.tv_sec * 1000000000LL + t.tv_nsec;
-}
-
-static void stop(const char *why) {
-  fprintf(stderr, "%s\n", why);
-  exit(1);
-}
 
 static void make(const struct load *load) {
   word n = load->indexes;

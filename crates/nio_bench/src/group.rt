@@ -18,16 +18,8 @@ const TURNS: u32 = 1_000_000;
 /// Starts, reports, takes and finishes operations one by one, with 1 and with 60,000 in flight, and
 /// prints the nanoseconds for each operation and the ratio in hundredths.
 pub fn measure<R: Runtime<A = Global>>(rt: &R) -> anyhow::Result<()> {
-    let mut alone = crowded(rt, 0)?;
-    let mut among = crowded(rt, CROWD)?;
-    turn(&mut alone, TURNS)?;
-    turn(&mut among, TURNS)?;
-    let start = Instant::now(rt)?;
-    turn(&mut alone, TURNS)?;
-    let one = start.elapsed(rt)?.as_nanos();
-    let start = Instant::now(rt)?;
-    turn(&mut among, TURNS)?;
-    let many = start.elapsed(rt)?.as_nanos();
+    let one = time_turns(rt, 0)?;
+    let many = time_turns(rt, CROWD)?;
     let turns = u128::from(TURNS);
     println!(rt;
         "group {} {} {}",
@@ -36,6 +28,15 @@ pub fn measure<R: Runtime<A = Global>>(rt: &R) -> anyhow::Result<()> {
         many.saturating_mul(100) / one.max(1)
     )?;
     Ok(())
+}
+
+/// How many nanoseconds the measured operations take, with so many pending beside.
+fn time_turns<R: Runtime<A = Global>>(rt: &R, others: u32) -> anyhow::Result<u128> {
+    let mut group = crowded(rt, others)?;
+    turn(&mut group, TURNS)?;
+    let start = Instant::now(rt)?;
+    turn(&mut group, TURNS)?;
+    Ok(start.elapsed(rt)?.as_nanos())
 }
 
 /// A small run, with so many operations pending beside.

@@ -3,13 +3,18 @@
 #![tactic(auto)]
 
 use anyhow::bail;
+use checked::Slow;
 use select::Load;
 use std::env;
 
 mod channels;
+mod checked;
 mod group;
+mod pair;
+mod pipe;
 mod relay;
 mod select;
+mod waiting;
 mod words;
 
 /// A small load of a selection.
@@ -27,12 +32,18 @@ fn main(rt: HostRuntime) -> anyhow::Result<()> {
             group::run(&rt, 4)?;
             relay::run(&rt, 4)?;
             select::run(&rt, SMALL, 2)?;
+            waiting::run(&rt)?;
+            pipe::run(&rt)?;
+            checked::run(&rt, Slow::Reader)?;
+            checked::run(&rt, Slow::Writer)?;
             println!(rt; "ok")?;
         }
         Some("channels") => channels::measure(&rt)?,
         Some("group") => group::measure(&rt)?,
+        Some("pipe") => pipe::measure(&rt)?,
         Some("relay") => relay::measure(&rt)?,
         Some("select") => select::measure(&rt)?,
+        Some("waiting") => waiting::measure(&rt)?,
         Some("words") => words::measure(&rt)?,
         Some(other) => bail!("no measure is named {other}"),
     }

@@ -28,7 +28,7 @@ const FEW: Load = Load {
     every: 1,
 };
 
-const MANY: Load = Load {
+pub const MANY: Load = Load {
     indexes: 1_000,
     live: 1_000,
     every: 1,
@@ -74,6 +74,21 @@ fn measure_load<R: Runtime<A = Global>>(
 
 /// Makes so many selections of each kind.
 pub fn run<R: Runtime<A = Global>>(rt: &R, load: Load, rounds: u32) -> anyhow::Result<Least> {
+    let (words, mut p, all_ready) = claimed(rt, load)?;
+    let none_ready = Told {
+        pairs: Vec::new(rt.alloc()),
+        elapsed: false,
+    };
+    select(rt, &words, &mut p, &none_ready)?;
+    let idle = selections(rt, &words, &mut p, &none_ready, rounds)?;
+    let ready = selections(rt, &words, &mut p, &all_ready, rounds)?;
+    Ok(Least { idle, ready })
+}
+
+/// A new table with this load, and what a poller tells there where each key that is kept is ready.
+pub fn claimed(rt: &impl Alloc<A = Global>, load: Load) -> anyhow::Result<(Words, Pass, Told)>
+    ensures { IfOk result (λ made. IsIdle made.0 made.1 ME S) }
+{
     let limits = Limits {
         callers: 1,
         selectors: 1,
@@ -85,14 +100,7 @@ pub fn run<R: Runtime<A = Global>>(rt: &R, load: Load, rounds: u32) -> anyhow::R
     words.draw(&mut p, ME)?;
     set_up(&words, &mut p);
     let all_ready = claim(rt, &words, &mut p, load)?;
-    let none_ready = Told {
-        pairs: Vec::new(rt.alloc()),
-        elapsed: false,
-    };
-    select(rt, &words, &mut p, &none_ready)?;
-    let idle = selections(rt, &words, &mut p, &none_ready, rounds)?;
-    let ready = selections(rt, &words, &mut p, &all_ready, rounds)?;
-    Ok(Least { idle, ready })
+    Ok((words, p, all_ready))
 }
 
 /// Gives each index a key, and cancels those that aren't kept. Answers what a poller tells where each key that is kept

@@ -43,7 +43,8 @@ pub fn run<R: Runtime<A = Global>>(rt: &R, turns: u32) -> anyhow::Result<()> {
     looks(&words, &mut p, me, s, turns);
     let looked = start.elapsed(rt)?;
     println!(rt;
-        "wake {} swap_interest {} look_gate {}",
+        "calls {} wake {} swap_interest {} look_gate {}",
+        turns,
         woken.as_nanos(),
         (swapped.saturating_sub(woken)).as_nanos(),
         (looked.saturating_sub(swapped)).as_nanos()

@@ -1,24 +1,13 @@
 -- The words of the command line.
-use Rattle.std.specs.Prelude.{◌≡◌, ◌⊎◌, List, [], ◌∷◌, ◌++◌, ℕ, codes}
+use Rattle.std.specs.Prelude.{◌≡◌, List, ◌∷◌, [], ◌++◌, ℕ, codes}
 use Rattle.nio_bytes.specs.declared.sink.Sink as sink
 use Rattle.nio_script.specs.Output.{Notes}
 use Rattle.nio_words.specs.declared.words.Pass.{Pass}
 
--- the one word `script`
-abbrev pub IsScriptCommand : List (List ℕ) → Type 0
-IsScriptCommand words = words ≡ codes "script" ∷ []
-
--- the one word `check`
-abbrev pub IsCheckCommand : List (List ℕ) → Type 0
-IsCheckCommand words = words ≡ codes "check" ∷ []
-
--- the one word `check-1`
-abbrev pub IsCheckFirstCommand : List (List ℕ) → Type 0
-IsCheckFirstCommand words = words ≡ codes "check-1" ∷ []
-
--- words that say what to do
-abbrev pub IsCommand : List (List ℕ) → Type 0
-IsCommand words = IsScriptCommand words ⊎ IsCheckCommand words ⊎ IsCheckFirstCommand words
+-- the first word is `proxy`
+pub record BeginsProxy (words : List (List ℕ)) : Type 0 where
+  pub rest : List (List ℕ)
+  pub begins : words ≡ codes "proxy" ∷ rest
 
 -- what is said of words that say nothing that is known
 abbrev pub usage_line : List ℕ

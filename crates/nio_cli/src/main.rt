@@ -1,15 +1,21 @@
 //! The program nio: the selectors of `java.nio.channels`, driven by scripts.
 #![tactic(auto)]
 
+use nio_base::NoGate;
 use nio_bytes::{StdSink, StdSource};
+use nio_mio::MioNet;
 use nio_script::Status;
 use nio_words::Words;
 use run::{PROGRAM_LIMITS, run};
 use std::alloc::{AllocError, Global};
+use std::net::Net;
 use std::process::ExitCode;
 use std::rt::Env;
+use std::sync::Wait;
+use std::thread::Threads;
 use std::{env, io};
 
+mod proxy;
 mod run;
 mod words;
 
@@ -23,16 +29,33 @@ fn arguments(rt: &(impl Env + AllocGlobal)) -> Result<Vec<String>, AllocError> {
     }
 }
 
-fn status(rt: &(impl Env + Input + Print + AllocGlobal), alloc: Global) -> Status {
+fn status(
+    rt: &(impl Env + Input + Print + AllocGlobal + Net + Threads + Wait + Copy + Sync),
+    alloc: Global,
+) -> Status {
     let Ok(words) = arguments(rt) else {
         return Status::Memory;
     };
     let Ok((table, mut pass)) = Words::make(alloc, PROGRAM_LIMITS) else {
         return Status::Memory;
     };
+    let Ok((net, _bell)) = MioNet::make(*rt, alloc) else {
+        return Status::Memory;
+    };
     let mut input = StdSource::over(rt.reader());
     let mut output = StdSink::over(io::writer(rt));
-    run(alloc, &words, &mut input, &mut output, &table, &mut pass)
+    let ended = run(
+        rt,
+        alloc,
+        &words,
+        &mut input,
+        &mut output,
+        &table,
+        &mut pass,
+        net,
+        &NoGate,
+    );
+    ended.status
 }
 
 fn main(rt: HostRuntime) -> ExitCode {

@@ -1,10 +1,19 @@
 //! The program as a whole, over sources and sinks in memory.
+ghost use Rattle.std.specs.Prelude.{IfOk};
+ghost use Rattle.nio_base.specs.declared.numbers.ChanNo.{ChanNo};
+ghost use Rattle.nio_link.specs.Links.{IsUnused};
+ghost use Rattle.nio_link.specs.MemoryNet.{link_of};
+
 use crate::run::{PROGRAM_LIMITS, run};
+use nio_base::NoGate;
 use nio_bytes::{MemorySink, MemorySource};
+use nio_link::{MemoryNet, NetPlan};
 use nio_words::Words;
 use std::alloc::Global;
 use std::process::Abort;
+use std::sync::Wait;
 use std::test::Fail;
+use std::thread::Threads;
 
 mod rows;
 
@@ -35,7 +44,7 @@ const USAGE: &str =
 /// pieces of 12 bytes and the sink takes pieces of 5; each fails at its call with the number that is
 /// told, counted from 0.
 fn ends(
-    rt: &impl Abort,
+    rt: &(impl Abort + Threads + Wait + Sync),
     alloc: Global,
     label: &str,
     words: &[&str],
@@ -50,10 +59,33 @@ fn ends(
     let mut source = MemorySource::make(text, 12, faults(alloc, fail_read)?);
     let mut sink = MemorySink::make(alloc, 5, faults(alloc, fail_write)?, 8_192)?;
     let (table, mut pass) = Words::make(alloc, PROGRAM_LIMITS)?;
-    let status = run(alloc, &given, &mut source, &mut sink, &table, &mut pass);
-    assert_eq!(rt; status.code(), code, "{label}");
+    let net = no_net(alloc)?;
+    let ended = run(
+        rt,
+        alloc,
+        &given,
+        &mut source,
+        &mut sink,
+        &table,
+        &mut pass,
+        net,
+        &NoGate,
+    );
+    assert_eq!(rt; ended.status.code(), code, "{label}");
     assert_eq!(rt; sink.bytes(), written.as_bytes(), "{label}");
     Ok(())
+}
+
+/// A net of no connections.
+fn no_net(alloc: Global) -> Result<MemoryNet, Fail>
+    ensures { IfOk result (λ net. (c : ChanNo) → IsUnused (MemoryNet.link net c)) }
+{
+    let plan = NetPlan {
+        peers: Vec::new(alloc),
+        fail_poll: None,
+        fail_accept: None,
+    };
+    Ok(MemoryNet::make(alloc, plan)?)
 }
 
 /// The call that fails, if any, as a list.

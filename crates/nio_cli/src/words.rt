@@ -1,46 +1,24 @@
-//! The words of the command line.
-ghost use Rattle.std.specs.Prelude.{◌≡◌, ◌↔◌, [], ◌∷◌, map};
+//! The command that the words of the command line say.
+ghost use Rattle.std.specs.Prelude.{◌≡◌, ◌≢◌, ◌⊎◌, ◌↔◌, map};
 ghost use Rattle.std.specs.String.{string_bytes};
-ghost use Rattle.nio_cli.specs.Words.{IsScriptCommand, IsCheckCommand, IsCheckFirstCommand};
+ghost use Rattle.nio_command.specs.Words.{IsScriptCommand, IsCheckCommand, IsCheckFirstCommand, IsRaceCommand, IsProxyCommand, SaysNothing};
+ghost use Rattle.nio_relay.specs.declared.plan.ProxyPlan.{ProxyPlan};
+ghost use Rattle.nio_cli.specs.Words.{BeginsProxy};
 
-/// A command of the program. A new one wants its variant here, its word in `command_named`, what
-/// its words are in `specs/Words.antt`, what it does in `specs/Commands.antt`, and its arm in `run`.
-#[derive(Clone, Copy, Debug, PartialEq, Eq)]
-pub enum Command {
-    /// `script`: reads a script and writes its history.
-    Script,
-    /// `check`: reads a history and says whether it is legal by the rules of now.
-    Check,
-    /// `check-1`: reads a history and says whether it is legal by the first rules.
-    CheckFirst,
-}
+use nio_command::{Command, WordsError, command_of};
+use std::alloc::Global;
 
-/// The command with this word.
-fn command_named(word: &str) -> Option<Command>
-    ensures script { (result ≡ Some Command.Script) ↔ IsScriptCommand (word.now ∷ []) }
-    ensures check { (result ≡ Some Command.Check) ↔ IsCheckCommand (word.now ∷ []) }
-    ensures check_first { (result ≡ Some Command.CheckFirst)
-        ↔ IsCheckFirstCommand (word.now ∷ []) }
+/// The command that the words are, by each command.
+pub fn named(alloc: Global, words: &[String]) -> Result<Command, WordsError>
+    ensures script { (result ≡ Ok Command.Script) ↔ IsScriptCommand (map string_bytes words.now) }
+    ensures check { (result ≡ Ok Command.Check) ↔ IsCheckCommand (map string_bytes words.now) }
+    ensures check_first { (result ≡ Ok Command.CheckFirst) ↔ IsCheckFirstCommand (map string_bytes words.now) }
+    ensures race { (result ≡ Ok Command.Race) ↔ IsRaceCommand (map string_bytes words.now) }
+    ensures proxy { (plan : ProxyPlan) → result ≡ Ok (Command.Proxy plan) → IsProxyCommand (map string_bytes words.now) plan }
+    ensures proxy_only { (plan : ProxyPlan) → IsProxyCommand (map string_bytes words.now) plan → (result ≡ Ok (Command.Proxy plan)) ⊎ (result ≡ Err WordsError.Memory) }
+    ensures usage { result ≡ Err WordsError.Usage → SaysNothing (map string_bytes words.now) }
+    ensures nothing { SaysNothing (map string_bytes words.now) → (result ≡ Err WordsError.Usage) ⊎ (result ≡ Err WordsError.Memory) }
+    ensures memory { result ≡ Err WordsError.Memory → BeginsProxy (map string_bytes words.now) }
 {
-    match word {
-        "script" => Some(Command::Script),
-        "check" => Some(Command::Check),
-        "check-1" => Some(Command::CheckFirst),
-        _ => None,
-    }
-}
-
-/// The command that the words are.
-pub fn command_of(words: &[String]) -> Option<Command>
-    ensures script { (result ≡ Some Command.Script)
-        ↔ IsScriptCommand (map string_bytes words.now) }
-    ensures check { (result ≡ Some Command.Check)
-        ↔ IsCheckCommand (map string_bytes words.now) }
-    ensures check_first { (result ≡ Some Command.CheckFirst)
-        ↔ IsCheckFirstCommand (map string_bytes words.now) }
-{
-    match words {
-        [word] => command_named(word.as_str()),
-        _ => None,
-    }
+    command_of(alloc, words)
 }

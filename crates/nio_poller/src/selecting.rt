@@ -44,7 +44,8 @@ pub enum SelectError {
 }
 
 /// Waits until a key of the selector is ready, a wakeup is pending, the selector is closed or the caller is
-/// interrupted: Java's `select()`. While another caller selects there it waits for that one first.
+/// interrupted: Java's `select()`. While a selection is in progress there it waits for that one first; where that is
+/// the caller's own, it waits for ever.
 pub fn select<R: Wait, P: Poller>(
     rt: &R,
     alloc: Global,
@@ -64,7 +65,8 @@ pub fn select<R: Wait, P: Poller>(
     select_in(rt, alloc, w, p, me, sel, poller, Mode::Wait)
 }
 
-/// Selects without waiting: Java's `selectNow`. While another caller selects there it waits for that one first.
+/// Selects without waiting: Java's `selectNow`. While a selection is in progress there it waits for that one first, as
+/// `select` does.
 pub fn select_now<R: Wait, P: Poller>(
     rt: &R,
     alloc: Global,
@@ -135,7 +137,7 @@ fn select_in<R: Wait, P: Poller>(
     }
 }
 
-// Begins once nobody else has the turn.
+// Begins once nobody has the turn.
 fn begin<R: Wait>(
     rt: &R,
     alloc: Global,

@@ -1,15 +1,17 @@
-//! Each call with its answers and the rings of its bell, in one hand; and a selection that waits while a second thread
-//! wakes it, interrupts its caller or closes its selector.
-ghost use Rattle.std.specs.Prelude.{IfOk};
+//! Each call with its answers and the rings of its bell, in one hand; how long the polls of selections may wait; and a
+//! selection that waits while a second thread wakes it, interrupts its caller or closes its selector.
+ghost use Rattle.std.specs.Prelude.{◌≡◌, None, IfOk};
 ghost use Rattle.nio_event.specs.Conditions.{IsCaller};
 ghost use Rattle.nio_event.specs.PassViews.{HasSelector};
 ghost use Rattle.nio_words.specs.Passes.{IsPassOf, IsReady, limits_of};
 ghost use Rattle.nio_words.specs.Views.{view};
+ghost use Rattle.nio_poller.specs.Polls.{CountsFaults, AddsPoll, told_of_channel};
+ghost use Rattle.nio_poller.specs.declared.poller.PollError.TheVariants.{Fault};
 
 use crate::*;
 use nio_base::{CallerNo, Limits, SelNo};
-use nio_event::Why;
-use nio_select::{Told, open_selector};
+use nio_event::{Mode, Why};
+use nio_select::{Asked, Told, open_selector};
 use nio_steps::{Selected, SelectorsSpent};
 use nio_words::{Pass, Words};
 use std::alloc::Global;
@@ -41,6 +43,47 @@ impl Bell for Counting {
     }
 }
 
+/// A poller that tells nothing and that the time is over. It keeps how long its last poll may wait.
+#[derive(Drop)]
+struct Noting {
+    last: Option<Mode>,
+}
+
+impl Poller for Noting {
+    ghost use Rattle.std.specs.Prelude.{⊤};
+    ghost use Rattle.nio_base.specs.declared.numbers.ChanNo.{ChanNo};
+
+    ghost poll_faults = { λ _. 0 };
+
+    ghost ready = { λ _ _. 0 };
+
+    ghost polls = { λ _. None };
+
+    ghost kept = { λ _ _. ⊤ };
+
+    fn poll<R: Wait>(
+        &mut self,
+        _rt: &R,
+        alloc: Global,
+        asked: &Asked,
+        mode: Mode,
+    ) -> Result<Told, PollError>
+        ensures cause { CountsFaults Fault 0 0 result }
+        ensures ready { IfOk result (λ told. (c : ChanNo) → 0 ≡ told_of_channel asked.now told.pairs.items c) }
+        ensures polls { AddsPoll None None asked.now mode result }
+    {
+        self.last = Some(mode);
+        Ok(Told {
+            pairs: Vec::new(alloc),
+            elapsed: true,
+        })
+    }
+
+    ghost kept_same = { λ _. tt };
+
+    ghost kept_on = { λ _ _ _ _ _. tt };
+}
+
 /// A call of the first caller.
 #[derive(Clone, Copy)]
 enum OnSelector {
@@ -60,13 +103,13 @@ enum Reply {
     Done,
 }
 
-fn answer<R: Wait>(
+fn answer<R: Wait, P: Poller>(
     rt: &R,
     alloc: Global,
     w: &Words,
     p: &mut Pass,
     sel: SelNo,
-    poller: &mut Scripted,
+    poller: &mut P,
     bell: &Counting,
     call: OnSelector,
 ) -> Reply
@@ -150,6 +193,53 @@ fn calls_on_a_selector(rt: HostRuntime) -> Result<(), Fail> {
             ) == reply
         );
         assert!(rt; bell.rings.load(Ordering::SeqCst) == rings);
+    }
+    Ok(())
+}
+
+#[test]
+fn how_long_polls_may_wait(rt: HostRuntime) -> Result<(), Fail> {
+    let (words, mut p) = Words::make(rt.alloc(), SMALL)?;
+    words.draw(&mut p, ZERO)?;
+    let sel = open_selector(&words, &mut p, ZERO)?;
+    let mut poller = Noting { last: None };
+    let bell = Counting {
+        rings: AtomicU64::new(0),
+    };
+    let negative = Reply::Selected(Err(SelectError::NegativeTimeout));
+    // The mode of the poll that the call makes, if any.
+    let rows = [
+        (OnSelector::SelectNow, nothing(Why::Now), Some(Mode::Now)),
+        (
+            OnSelector::SelectFor(5),
+            nothing(Why::Elapsed),
+            Some(Mode::For(5)),
+        ),
+        (OnSelector::SelectFor(-1), negative, None),
+        (OnSelector::Wakeup, Reply::Done, None),
+        (
+            OnSelector::SelectFor(0),
+            nothing(Why::Woken),
+            Some(Mode::Wait),
+        ),
+        (OnSelector::Wakeup, Reply::Done, None),
+        (OnSelector::Select, nothing(Why::Woken), Some(Mode::Wait)),
+    ];
+    for (call, reply, mode) in rows {
+        poller.last = None;
+        assert!(rt;
+            answer(
+                &rt,
+                rt.alloc(),
+                &words,
+                &mut p,
+                sel,
+                &mut poller,
+                &bell,
+                call
+            ) == reply
+        );
+        assert!(rt; poller.last == mode);
     }
     Ok(())
 }

@@ -1,3 +1,4 @@
+pub mod Does
 pub mod Gathering
 pub mod Racers
 pub mod Runs

@@ -2,9 +2,12 @@
 //! other, a line `go`, and the lines of the callers.
 #![tactic(auto)]
 
+pub use run::run_race;
+
 mod block;
 mod gather;
 mod line;
 mod racer;
+mod run;
 mod set_off;
 mod setup;

@@ -1,10 +1,11 @@
 -- What a recorder has written down.
-use Rattle.std.specs.Prelude.{◌≡◌, Bool, List}
+use Rattle.std.specs.Prelude.{◌≡◌, Bool, false, List, [], ◌∷◌}
 use Rattle.nio_audit.specs.Audit.{MayStep}
 use Rattle.nio_base.specs.declared.limits.Limits.{Limits}
 use Rattle.nio_base.specs.declared.numbers.CallerNo.{CallerNo}
 use Rattle.nio_event.specs.declared.act.Act.{Act}
 use Rattle.nio_event.specs.declared.act.Act.TheVariants.{DrawBit}
+use Rattle.nio_event.specs.Histories.{event_of}
 use Rattle.nio_event.specs.declared.event.Event.{Event}
 use Rattle.nio_words.specs.Passes.{Holds, IsOnly, IsPassOf, limits_of, seen}
 use Rattle.nio_record.specs.declared.recorder.Recorder.{Recorder}
@@ -17,6 +18,20 @@ table_limits r = limits_of r.words
 abbrev pub written : Recorder → List Event
 written r = r.events.items
 
+abbrev pub zero : CallerNo
+zero = record { 0 = 0 }
+
+abbrev pub one : CallerNo
+one = record { 0 = 1 }
+
+-- callers 0 and 1 drew their numbers, and nothing else was done
+abbrev pub both_drawn : List Event
+both_drawn = event_of zero (DrawBit zero false) ∷ event_of one (DrawBit one false) ∷ []
+
+-- its pass acts for the caller
+abbrev pub acts_for : Recorder → CallerNo → Type 0
+acts_for r me = Holds r.pass me
+
 -- its pass is the table's only one, and what it has written down is all that the pass has seen
 pub record IsRecorded (r : Recorder) : Type 0 where
   pub pass : IsPassOf r.words r.pass
@@ -25,7 +40,7 @@ pub record IsRecorded (r : Recorder) : Type 0 where
 
 -- its pass acts for the caller, who may make the step after what was written down, whatever the step finds
 pub record MayMake (r : Recorder) (me : CallerNo) (act : Act) : Type 0 where
-  pub holds : Holds r.pass me
+  pub holds : acts_for r me
   pub may : MayStep (table_limits r) (written r) me act
 
 -- the act is a caller's draw of its number

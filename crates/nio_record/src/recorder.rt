@@ -1,16 +1,17 @@
 //! A table of two callers, and what they did on it.
-ghost use Rattle.std.specs.Prelude.{◌≡◌, ◌+◌, ◌<◌, ◌≤◌, [], ◌∷◌, ◌++◌, IfOk, OnErr, Err, ◌⊎◌};
+ghost use Rattle.std.specs.Prelude.{◌≡◌, ◌≢◌, ◌+◌, ◌<◌, ◌≤◌, [], ◌∷◌, ◌++◌, IfOk, OnErr, Err, ◌⊎◌};
 ghost use Rattle.nio_record.specs.declared.recorder.RecordError.TheVariants.{NoStep};
 ghost use Rattle.std.specs.Vec.{vec_len, vec_capacity};
 ghost use Rattle.nio_event.specs.Histories.{event_of};
-ghost use Rattle.nio_record.specs.Recorded.{IsDraw, IsRecorded, MayMake, table_limits, written};
+ghost use Rattle.nio_record.specs.Recorded.{IsDraw, IsRecorded, MayMake, acts_for, both_drawn, one, table_limits, written, zero};
+ghost use Rattle.nio_words.specs.Passes.{Holds, IsFirstPass, IsOnly, IsPassOf, limits_of, seen};
 ghost use Rattle.nio_event.specs.Questions.{question_of};
 
 use crate::making::make_step;
 use nio_audit::{AuditError, may_step};
 use nio_base::{CallerNo, Limits};
 use nio_event::{Act, Event};
-use nio_words::{DrawError, Pass, Words};
+use nio_words::{Pass, Words};
 use std::alloc::{AllocError, Global};
 use thiserror::Error;
 
@@ -24,15 +25,28 @@ pub enum RecordError {
 }
 
 impl From<AllocError> for RecordError {
-    fn from(_: AllocError) -> RecordError {
+    ghost use Rattle.nio_record.specs.declared.recorder.RecordError.TheVariants.{Memory};
+
+    ghost from_gives = { λ _ e. e ≡ Memory };
+
+    fn from(_error: AllocError) -> RecordError {
         RecordError::Memory
     }
 }
 
-impl From<DrawError> for RecordError {
-    fn from(_: DrawError) -> RecordError {
-        RecordError::NoStep
-    }
+// Draws the numbers of callers 0 and 1 with the first pass of a table.
+fn draw_both(w: &Words, p: &mut Pass)
+    requires first { IsFirstPass w.now p.old }
+    requires two { 2 ≤ (limits_of w.now).callers }
+    ensures pass { IsPassOf w.now p.new }
+    ensures only { IsOnly p.new }
+    ensures seen { seen p.new ≡ both_drawn }
+    ensures zero { Holds p.new zero }
+    ensures one { Holds p.new one }
+{
+    let (first, second) = (CallerNo(0), CallerNo(1));
+    let _first_was = w.draw_bit(p, first, first);
+    let _second_was = w.draw_bit(p, second, second);
 }
 
 /// Writes down what the caller did, where there is room for it.
@@ -58,19 +72,21 @@ pub struct Recorder {
 impl Recorder {
     ghost use Rattle.nio_base.specs.Limits.{IsFit};
 
-    /// A new table, after both callers drew their numbers.
+    /// A new table, after both callers drew their numbers. It fails for want of memory alone.
     pub fn make(alloc: Global, limits: Limits) -> Result<Recorder, RecordError>
         requires fit { IsFit limits }
         requires two { 2 ≤ limits.callers }
         ensures recorded { IfOk result IsRecorded }
         ensures limits { IfOk result (λ made. table_limits made ≡ limits) }
+        ensures written { IfOk result (λ made. written made ≡ both_drawn) }
+        ensures zero { IfOk result (λ made. acts_for made zero) }
+        ensures one { IfOk result (λ made. acts_for made one) }
+        ensures only_memory { result ≢ Err NoStep }
     {
         let (words, mut pass) = Words::make(alloc, limits)?;
+        draw_both(&words, &mut pass);
         let (first, second) = (CallerNo(0), CallerNo(1));
-        words.draw(&mut pass, first)?;
-        words.draw(&mut pass, second)?;
-        let mut events = Vec::new(alloc);
-        events.reserve(2)?;
+        let mut events = Vec::with_capacity(alloc, 2)?;
         add(&mut events, first, &Act::DrawBit(first, false));
         add(&mut events, second, &Act::DrawBit(second, false));
         Ok(Recorder {

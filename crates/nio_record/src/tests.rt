@@ -1,5 +1,7 @@
 //! A selection with an act of another caller before each of its steps, and after the last. What was written down is
-//! legal, and with another answer it isn't.
+//! legal, and with another answer it isn't. Selections whose steps are made one by one, with what each of them finds, in
+//! the order in which the calls of selections make them.
+ghost use Rattle.std.specs.Prelude.{◌<◌};
 ghost use Rattle.nio_record.specs.Recorded.{IsRecorded};
 
 use crate::*;
@@ -79,27 +81,37 @@ fn play(r: &mut Recorder, alloc: Global, caller: CallerNo, acts: &[Act]) -> Resu
     Ok(())
 }
 
+/// The stream with this number is made and registered with this interest. Its key gets the same number as index.
+fn register(r: &mut Recorder, alloc: Global, number: u32, interest: u8) -> Result<(), RecordError>
+    requires recorded { IsRecorded r.old }
+    requires few { number < 3 }
+    ensures { IsRecorded r.new }
+{
+    let chan = ChanNo(number);
+    let registers = [
+        Act::MakeChannel(chan, Kind::Stream, false),
+        Act::TryHoldBit(chan, None),
+        Act::SetMode(chan, false, CHANNEL),
+        Act::LookChannel(chan, CHANNEL),
+        Act::LookReg(chan, S, None),
+        Act::Claim(S, number, chan, false),
+        Act::RaiseKeys(S, number + 1, 0),
+        Act::SwapInterest(S, number, Ops::of(interest), Ops::NONE),
+        Act::Enrol(chan, S, number, 0, None),
+        Act::Publish(S, number, STAGE),
+        Act::Unpin(S, number),
+        Act::Release(chan),
+    ];
+    play(r, alloc, ZERO, &registers)
+}
+
 /// A stream is registered with interest 5, and its key is selected with ready set 4.
 fn set_up(r: &mut Recorder, alloc: Global) -> Result<(), RecordError>
     requires { IsRecorded r.old }
     ensures { IsRecorded r.new }
 {
-    let registers = [
-        Act::MakeSelector(S, false),
-        Act::MakeChannel(C, Kind::Stream, false),
-        Act::TryHoldBit(C, None),
-        Act::SetMode(C, false, CHANNEL),
-        Act::LookChannel(C, CHANNEL),
-        Act::LookReg(C, S, None),
-        Act::Claim(S, 0, C, false),
-        Act::RaiseKeys(S, 1, 0),
-        Act::SwapInterest(S, 0, Ops::of(5), Ops::NONE),
-        Act::Enrol(C, S, 0, 0, None),
-        Act::Publish(S, 0, STAGE),
-        Act::Unpin(S, 0),
-        Act::Release(C),
-    ];
-    play(r, alloc, ZERO, &registers)?;
+    play(r, alloc, ZERO, &[Act::MakeSelector(S, false)])?;
+    register(r, alloc, 0, 5)?;
     let selects = [
         Act::TakeTurn(S, None),
         Act::BeginLook(S, GATE),
@@ -445,5 +457,247 @@ fn selections_that_another_caller_disturbs(rt: HostRuntime) -> Result<(), Fail> 
             }
         }
     }
+    Ok(())
+}
+
+/// What a step found.
+#[derive(Clone, Copy, Debug, PartialEq, Eq)]
+enum Found {
+    Nothing,
+    Flag(bool),
+    Gate(GateWord),
+    /// Who had the turn.
+    Turn(Option<CallerNo>),
+    /// The keys' mark.
+    Bound(u32),
+    /// The free bits of 64 indexes.
+    Free(u64),
+    Key(Stage),
+    Interest(Ops),
+    /// The step is none of a selection.
+    Other,
+}
+
+fn found_by(act: Act) -> Found {
+    match act {
+        Act::MakeSelector(_, was) => Found::Flag(was),
+        Act::Wake(_, was) => Found::Flag(was),
+        Act::LookInterrupt(set) => Found::Flag(set),
+        Act::LookGate(_, gate) => Found::Gate(gate),
+        Act::BeginLook(_, gate) => Found::Gate(gate),
+        Act::EndWake(_, gate) => Found::Gate(gate),
+        Act::TakeTurn(_, holder) => Found::Turn(holder),
+        Act::GiveTurn(_) => Found::Nothing,
+        Act::LookKeys(_, bound) => Found::Bound(bound),
+        Act::LookFree(_, _, word) => Found::Free(word),
+        Act::PutFree(_, _) => Found::Nothing,
+        Act::LookKey(_, _, stage) => Found::Key(stage),
+        Act::Remove(_, _, stage) => Found::Key(stage),
+        Act::LookInterest(_, _, ops) => Found::Interest(ops),
+        _ => Found::Other,
+    }
+}
+
+/// Makes these steps of a caller, up to the first that finds something else than is listed. How many found what is listed.
+fn agree(
+    r: &mut Recorder,
+    alloc: Global,
+    caller: CallerNo,
+    rows: &[(Act, Found)],
+) -> Result<usize, RecordError>
+    requires { IsRecorded r.old }
+    ensures { IsRecorded r.new }
+{
+    for (at, (act, wanted)) in rows.iter().enumerate() {
+        let made = r.step(alloc, caller, *act)?;
+        if found_by(made) != *wanted {
+            return Ok(at);
+        }
+    }
+    Ok(rows.len())
+}
+
+/// How many steps were made after the first `before`.
+fn steps_after(r: &Recorder, before: usize) -> usize {
+    r.events().iter().skip(before).count()
+}
+
+// What the steps of these tests find.
+
+const OPEN: Found = Found::Gate(GATE);
+
+const WOKEN: Found = Found::Gate(GateWord {
+    woken: true,
+    shut: false,
+});
+
+const READS: Found = Found::Interest(Ops::READ);
+
+/// The first key of the stream with this number, which is also its index.
+fn key_of(number: u32, cancelled: bool) -> Found {
+    Found::Key(Stage {
+        claimed: true,
+        published: true,
+        cancelled,
+        removed: false,
+        chan: ChanNo(number),
+        serial: 0,
+    })
+}
+
+/// Selections on a selector without keys: one that ends at once, one that a wakeup ends and one that would go on, with a
+/// beginning of the other caller in the first. How many steps found what is listed, of 29.
+fn select_without_keys(r: &mut Recorder, alloc: Global) -> Result<[usize; 9], RecordError>
+    requires { IsRecorded r.old }
+    ensures { IsRecorded r.new }
+{
+    let makes = [
+        (Act::MakeSelector(S, false), Found::Flag(false)),
+        (Act::MakeSelector(S, false), Found::Flag(true)),
+    ];
+    let begins = [
+        (Act::LookGate(S, GATE), OPEN),
+        (Act::TakeTurn(S, None), Found::Turn(None)),
+        (Act::BeginLook(S, GATE), OPEN),
+        (Act::LookKeys(S, 0), Found::Bound(0)),
+    ];
+    let is_busy = [
+        (Act::LookGate(S, GATE), OPEN),
+        (Act::TakeTurn(S, None), Found::Turn(Some(ZERO))),
+    ];
+    let ends = [
+        (Act::LookGate(S, GATE), OPEN),
+        (Act::LookInterrupt(false), Found::Flag(false)),
+        (Act::EndWake(S, GATE), OPEN),
+        (Act::GiveTurn(S), Found::Nothing),
+    ];
+    let wakes = [(Act::Wake(S, false), Found::Flag(false))];
+    let is_woken = [
+        (Act::LookGate(S, GATE), WOKEN),
+        (Act::TakeTurn(S, None), Found::Turn(None)),
+        (Act::BeginLook(S, GATE), WOKEN),
+        (Act::LookKeys(S, 0), Found::Bound(0)),
+        (Act::LookGate(S, GATE), WOKEN),
+        (Act::LookInterrupt(false), Found::Flag(false)),
+        (Act::EndWake(S, GATE), WOKEN),
+        (Act::GiveTurn(S), Found::Nothing),
+    ];
+    let leaves = [
+        (Act::LookGate(S, GATE), OPEN),
+        (Act::LookInterrupt(false), Found::Flag(false)),
+        (Act::GiveTurn(S), Found::Nothing),
+    ];
+    Ok([
+        agree(r, alloc, ZERO, &makes)?,
+        agree(r, alloc, ZERO, &begins)?,
+        agree(r, alloc, ONE, &is_busy)?,
+        agree(r, alloc, ZERO, &ends)?,
+        agree(r, alloc, ONE, &wakes)?,
+        agree(r, alloc, ZERO, &is_woken)?,
+        agree(r, alloc, ZERO, &begins)?,
+        agree(r, alloc, ZERO, &leaves)?,
+        agree(r, alloc, ZERO, &begins)?,
+    ])
+}
+
+#[test]
+fn steps_of_selections_on_a_bare_table(rt: HostRuntime) -> Result<(), Fail> {
+    let alloc = rt.alloc();
+    let mut r = Recorder::make(alloc, TABLE)?;
+    let agreed = select_without_keys(&mut r, alloc)?;
+    assert!(rt; agreed == [2, 4, 2, 4, 1, 8, 4, 3, 4]);
+    assert!(rt; audit(alloc, TABLE, r.events()) == Ok(()));
+    Ok(())
+}
+
+const THREE_KEYS: Limits = Limits {
+    callers: 2,
+    selectors: 1,
+    channels: 3,
+    keys: 3,
+};
+
+/// Three streams are registered, and the key of the second is cancelled.
+fn register_three(r: &mut Recorder, alloc: Global) -> Result<(), RecordError>
+    requires { IsRecorded r.old }
+    ensures { IsRecorded r.new }
+{
+    play(r, alloc, ZERO, &[Act::MakeSelector(S, false)])?;
+    register(r, alloc, 0, 1)?;
+    register(r, alloc, 1, 1)?;
+    register(r, alloc, 2, 1)?;
+    let cancels = [
+        Act::Pin(S, 1, STAGE),
+        Act::CancelKey(S, 1, STAGE),
+        Act::Unpin(S, 1),
+    ];
+    play(r, alloc, ZERO, &cancels)
+}
+
+/// A selection with Now that is told nothing. It removes the cancelled key and puts its index.
+fn first_selection(r: &mut Recorder, alloc: Global) -> Result<usize, RecordError>
+    requires { IsRecorded r.old }
+    ensures { IsRecorded r.new }
+{
+    let rows = [
+        (Act::LookGate(S, GATE), OPEN),
+        (Act::TakeTurn(S, None), Found::Turn(None)),
+        (Act::BeginLook(S, GATE), OPEN),
+        (Act::LookKeys(S, 0), Found::Bound(3)),
+        (Act::LookFree(S, 0, 0), Found::Free(0)),
+        (Act::LookKey(S, 0, STAGE), key_of(0, false)),
+        (Act::LookInterest(S, 0, Ops::NONE), READS),
+        (Act::LookKey(S, 1, STAGE), key_of(1, true)),
+        (Act::Remove(S, 1, STAGE), key_of(1, true)),
+        (Act::PutFree(S, 1), Found::Nothing),
+        (Act::LookKey(S, 2, STAGE), key_of(2, false)),
+        (Act::LookInterest(S, 2, Ops::NONE), READS),
+        (Act::LookGate(S, GATE), OPEN),
+        (Act::LookInterrupt(false), Found::Flag(false)),
+        (Act::LookKey(S, 0, STAGE), key_of(0, false)),
+        (Act::LookKey(S, 2, STAGE), key_of(2, false)),
+        (Act::EndWake(S, GATE), OPEN),
+        (Act::GiveTurn(S), Found::Nothing),
+    ];
+    agree(r, alloc, ZERO, &rows)
+}
+
+/// Another one. It doesn't look at the index that is free.
+fn second_selection(r: &mut Recorder, alloc: Global) -> Result<usize, RecordError>
+    requires { IsRecorded r.old }
+    ensures { IsRecorded r.new }
+{
+    let rows = [
+        (Act::LookGate(S, GATE), OPEN),
+        (Act::TakeTurn(S, None), Found::Turn(None)),
+        (Act::BeginLook(S, GATE), OPEN),
+        (Act::LookKeys(S, 0), Found::Bound(3)),
+        (Act::LookFree(S, 0, 0), Found::Free(2)),
+        (Act::LookKey(S, 0, STAGE), key_of(0, false)),
+        (Act::LookInterest(S, 0, Ops::NONE), READS),
+        (Act::LookKey(S, 2, STAGE), key_of(2, false)),
+        (Act::LookInterest(S, 2, Ops::NONE), READS),
+        (Act::LookGate(S, GATE), OPEN),
+        (Act::LookInterrupt(false), Found::Flag(false)),
+        (Act::LookKey(S, 0, STAGE), key_of(0, false)),
+        (Act::LookKey(S, 2, STAGE), key_of(2, false)),
+        (Act::EndWake(S, GATE), OPEN),
+        (Act::GiveTurn(S), Found::Nothing),
+    ];
+    agree(r, alloc, ZERO, &rows)
+}
+
+#[test]
+fn steps_of_two_selections(rt: HostRuntime) -> Result<(), Fail> {
+    let alloc = rt.alloc();
+    let mut r = Recorder::make(alloc, THREE_KEYS)?;
+    register_three(&mut r, alloc)?;
+    let before = r.events().len();
+    assert_eq!(rt; first_selection(&mut r, alloc)?, 18);
+    assert_eq!(rt; steps_after(&r, before), 18);
+    let between = r.events().len();
+    assert_eq!(rt; second_selection(&mut r, alloc)?, 15);
+    assert_eq!(rt; steps_after(&r, between), 15);
+    assert!(rt; audit(alloc, THREE_KEYS, r.events()) == Ok(()));
     Ok(())
 }

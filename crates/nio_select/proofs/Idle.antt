@@ -1,26 +1,32 @@
 -- For the tests: what two callers have between their calls stays, and so does what one has in progress beside calls of
 -- the other.
-use Rattle.std.proofs.Common.{sym, subst, eq-eqb, List, Option, Some, None}
-use Rattle.std.specs.Prelude.{IfSome}
+use Rattle.std.proofs.Common.{◌≡◌, sym, subst, ap, ◌∙◌, eq-eqb, List, Option, Some, None}
+use Rattle.std.specs.Prelude.{IfSome, Result}
 use Rattle.std.specs.Int.{bit_at}
 use Rattle.nio_base.specs.declared.limits.Limits.{Limits}
 use Rattle.nio_base.specs.declared.numbers.SelNo.{SelNo}
-use Rattle.nio_event.specs.Conditions.{IsSelector}
-use Rattle.nio_event.specs.PassViews.{PassView, Holds as HoldsNumber, ActsClause}
+use Rattle.nio_event.proofs.OwnPins.{pins_are_own}
+use Rattle.nio_event.specs.Conditions.{IsSelector, has_pin}
+use Rattle.nio_event.specs.Histories.{state_after, mine}
+use Rattle.nio_event.specs.OwnEvents.{keeps_pin}
+use Rattle.nio_event.specs.PassViews.{PassView, Holds as HoldsNumber, ActsClause, HasSelector}
 use Rattle.nio_event.specs.declared.act.Act.{Act}
+use Rattle.nio_event.specs.declared.event.Event.{Event}
 use Rattle.nio_event.specs.declared.found.Mode.{Mode}
 use Rattle.nio_steps.proofs.PinBack.{no_pin_after}
 use Rattle.nio_steps.proofs.PinLaws.{pins_are_given_back}
 use Rattle.nio_steps.specs.Calls.{CallClause}
 use Rattle.nio_steps.specs.PinLaws.{GivesPinsBack}
-use Rattle.nio_steps.specs.SelectCalls.{Selection, Begins, ListsKeys, ListsSelected}
+use Rattle.nio_steps.specs.Runs.{Completes}
+use Rattle.nio_steps.specs.SelectCalls.{Selection, Begins, ListsKeys, ListsSelected, open_selector_plan}
 use Rattle.nio_steps.specs.Selections.{IsBegun, IsClosing}
-use Rattle.nio_words.specs.Passes.{IsReady, numbers_of}
+use Rattle.nio_steps.specs.declared.refusal.SelectorsSpent.{SelectorsSpent}
+use Rattle.nio_words.specs.Passes.{IsReady, limits_of, numbers_of, seen}
 use Rattle.nio_words.specs.Views.{view}
 use Rattle.nio_words.specs.declared.words.Pass.{Pass}
 use Rattle.nio_words.specs.declared.words.Words.{Words}
-use Rattle.nio_channel.proofs.Idle.{idle_after, idle_after_other, zero_other}
-use Rattle.nio_channel.specs.Idle.{AreIdle, zero, one}
+use Rattle.nio_channel.proofs.Idle.{idle_after, idle_after_other, ready_after, zero_other}
+use Rattle.nio_channel.specs.Idle.{AreIdle, zero, one, first_selector, drawn}
 use Rattle.nio_select.specs.InProgress.{Selects, Closes}
 
 -- ---- which calls give their pins back
@@ -43,6 +49,20 @@ idle_call {answer = answer} gives call ready idle = idle_after call.acts ready.p
 pub idle_call_other : {R : Type 0} {Shape : List Act → R → Type 0} {answer : R} {w : Words} {p q : Pass} → GivesPinsBack Shape → CallClause one Shape (view w p) (view w q) answer → IsReady w q one
     → AreIdle w p → AreIdle w q
 idle_call_other {answer = answer} gives call ready idle = idle_after_other call.acts ready.pass (no_pin_after (λ acts shape. gives acts answer shape) call idle.one_unpinned) idle
+
+-- after the first opened a selector, where nothing was done but two draws
+pub idle_opened : {w : Words} {p q : Pass} (l : Limits) (answer : Result SelNo SelectorsSpent) → CallClause zero (Completes (open_selector_plan l)) (view w p) (view w q) answer
+    → IsReady w q zero → IsReady w p one → seen p ≡ drawn → HasSelector (view w q) first_selector → AreIdle w q
+idle_opened {w = w} {p = p} {q = q} l answer call ready other is made = record {
+  zero_ready = ready;
+  one_ready = ready_after one call.acts ready.pass other;
+  zero_unpinned = no_pin_after (λ acts shape. pins_are_given_back.open_selector l acts answer shape) call (λ s i. ap (λ (events : List Event). has_pin (state_after events) zero s i) is);
+  one_unpinned = λ s i. pins_are_own (limits_of w) one s i (seen q) ready.pass.legal ∙ ap (keeps_pin s.0 i) (call.acts.history.others one held (λ same. zero_other (sym same)) ∙ ap (mine one) is);
+  selector = made;
+}
+  where
+    held : HoldsNumber (view w p) one
+    held = eq-eqb (bit_at (numbers_of p) 1) 1 other.number
 
 -- ---- what is in progress beside calls of the other caller
 

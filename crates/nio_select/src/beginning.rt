@@ -27,7 +27,7 @@ use nio_words::{Pass, Words};
 use std::alloc::Global;
 
 /// Begins a selection: takes the selector's turn, removes the keys that were cancelled, and looks at the interest
-/// of each valid key. `Busy` where another caller selects there.
+/// of each valid key. `Busy` where a selection is in progress there, also one of the caller's own.
 pub fn try_begin(
     alloc: Global,
     w: &Words,

@@ -1,6 +1,6 @@
-//! Whole selections: what they ask and mark, why they end, and whose turn it is; keys that are cancelled before one;
-//! closing beside a selection; and two threads, one of which selects.
-ghost use Rattle.std.specs.Prelude.{◌≡◌, IfSome};
+//! Whole selections: what they ask and mark, why they end, and whose turn it is; selections on a table without a channel;
+//! keys that are cancelled before a selection; closing beside one; and two threads, one of which selects.
+ghost use Rattle.std.specs.Prelude.{◌≡◌, IfSome, IsTrue};
 ghost use Rattle.nio_base.specs.declared.numbers.SelNo.{SelNo as Selector};
 ghost use Rattle.nio_channel.specs.Idle.{AreIdle, drawn, zero, one};
 ghost use Rattle.nio_event.specs.Conditions.{IsSelector};
@@ -486,6 +486,88 @@ fn a_selector_is_closed(rt: HostRuntime) -> Result<(), Fail> {
         let found = answer(rt.alloc(), &words, &mut p, call);
         assert!(rt; found == reply);
     }
+    Ok(())
+}
+
+/// A table where no channel is made.
+const BARE: Limits = Limits {
+    callers: 2,
+    selectors: 1,
+    channels: 1,
+    keys: 1,
+};
+
+const NONE_ASKED: Reply = Reply::Asked(0, None, None);
+
+const BUSY: Reply = Reply::NotBegun(BeginError::Busy);
+
+/// Opens a selector, in a table where nothing was done but two draws. Says whether it is the first.
+fn opens_first(w: &Words, p: &mut Pass) -> bool
+    requires zero { IsReady w.now p.old ZERO }
+    requires one { IsReady w.now p.old ONE }
+    requires seen { seen p.old ≡ drawn }
+    ensures { IsTrue result → AreIdle w.now p.new }
+{
+    match open_selector(w, p, ZERO) {
+        Ok(sel) => sel == S,
+        Err(SelectorsSpent) => false,
+    }
+}
+
+/// A selection that is told nothing after the other caller tried to begin one: what is asked, what the other's beginning
+/// answers, and what the telling answers.
+fn selects_beside(alloc: Global, w: &Words, p: &mut Pass, mode: Mode) -> [Reply; 3]
+    requires { AreIdle w.now p.old }
+    ensures { AreIdle w.now p.new }
+{
+    let told = Told {
+        pairs: Vec::new(alloc),
+        elapsed: false,
+    };
+    match try_begin(alloc, w, p, ZERO, S, mode) {
+        Ok(selection) => {
+            let asks = asked(selection.asked());
+            let busy = begins_beside(alloc, w, p);
+            [asks, busy, is_told(w, p, selection, &told)]
+        }
+        Err(error) => [Reply::NotBegun(error), Reply::Missing, Reply::Missing],
+    }
+}
+
+/// A selection with Now, and two with Wait, the first of them after a wakeup.
+fn selects_thrice(alloc: Global, w: &Words, p: &mut Pass) -> [[Reply; 3]; 3]
+    requires { AreIdle w.now p.old }
+    ensures { AreIdle w.now p.new }
+{
+    let now = selects_beside(alloc, w, p, Mode::Now);
+    answer(alloc, w, p, Call::Wake);
+    let woken = selects_beside(alloc, w, p, Mode::Wait);
+    let waits = selects_beside(alloc, w, p, Mode::Wait);
+    [now, woken, waits]
+}
+
+#[test]
+fn selection_on_a_bare_table(rt: HostRuntime) -> Result<(), Fail> {
+    let (words, mut p) = Words::make(rt.alloc(), BARE)?;
+    words.draw(&mut p, ZERO)?;
+    words.draw(&mut p, ONE)?;
+    let opened = opens_first(&words, &mut p);
+    assert!(rt; opened);
+    let spent = answer(rt.alloc(), &words, &mut p, Call::OpenSelector);
+    assert!(rt; spent == Reply::Opened(Err(SelectorsSpent)));
+    let selected = selects_thrice(rt.alloc(), &words, &mut p);
+    assert!(rt;
+        selected
+            == [
+                [NONE_ASKED, BUSY, Reply::Done(0, Why::Now)],
+                [NONE_ASKED, BUSY, Reply::Done(0, Why::Woken)],
+                [NONE_ASKED, BUSY, Reply::Again],
+            ]
+    );
+    let begun = answer(rt.alloc(), &words, &mut p, Call::Begin);
+    assert!(rt; begun == NONE_ASKED);
+    let keys = answer(rt.alloc(), &words, &mut p, Call::Keys);
+    assert!(rt; keys == Reply::Listed(Ok((0, None))));
     Ok(())
 }
 

@@ -356,7 +356,7 @@ interrupted_plan = take_interrupt
 
 -- ---- calls that wait: selecting
 
--- another caller has the turn of the selector
+-- somebody has the turn of the selector: another caller, or the caller itself
 abbrev pub begin_finds_busy : {A : Type 0} → Result A BeginError → Bool
 begin_finds_busy (Ok selection) = false
 begin_finds_busy (Err BeginError.ClosedSelector) = false
@@ -404,14 +404,14 @@ SelectsRest polls (Ok selection) acts (not_begun refusal) = ⊥
 SelectsRest polls (Ok selection) acts left = TellsAndLeaves selection polls acts
 SelectsRest polls (Err refusal) acts answer = (acts ≡ []) × (polls ≡ []) × (answer ≡ not_begun refusal)
 
--- A whole selection, with these polls that the poller answered: it begins once nobody else has the turn, and
--- then polls and is told until it is over.
+-- A whole selection, with these polls that the poller answered: it begins once nobody has the turn, and then
+-- polls and is told until it is over.
 abbrev pub Selects : SelNo → Mode → List Poll → List Act → SelectReply → Type 0
 Selects s mode polls = Then (Retries (Begins s mode) begin_finds_busy) (SelectsRest polls)
 
 -- ---- calls that wait: closing
 
--- another caller has the turn of the selector
+-- somebody has the turn of the selector: another caller, or the caller itself
 abbrev pub finish_finds_busy : FinishReply → Bool
 finish_finds_busy closed = false
 finish_finds_busy busy = true

@@ -56,8 +56,8 @@ pub enum BeginError {
     /// The selector is closed: Java's `ClosedSelectorException`.
     #[error("the selector is closed")]
     ClosedSelector,
-    /// Another selection is in progress on the selector.
-    #[error("another caller selects on the selector")]
+    /// A selection is in progress on the selector, perhaps the caller's own.
+    #[error("a selection is in progress on the selector")]
     Busy,
     /// There is no memory for the list of keys. The turn is free again.
     #[error("out of memory")]

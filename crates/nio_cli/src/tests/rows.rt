@@ -9,7 +9,9 @@ use nio_sole::Sole;
 use nio_words::Words;
 use std::alloc::Global;
 use std::process::Abort;
+use std::sync::Wait;
 use std::test::Fail;
+use std::thread::Threads;
 
 /// Lines of a script, each with its reply.
 type Lines = &'static [(&'static str, &'static str)];
@@ -342,7 +344,7 @@ impl Texts {
 
 /// Runs a row on the program's table by `script`, and has `check` compare its history with the documented system's.
 fn row(
-    rt: &impl Abort,
+    rt: &(impl Abort + Threads + Wait + Sync),
     alloc: Global,
     label: &str,
     opening: Lines,
@@ -370,7 +372,7 @@ fn rows_on_the_table(rt: HostRuntime) -> Result<(), Fail> {
 
 /// Runs a row on a table of these limits.
 fn row_on(
-    rt: &impl Abort,
+    rt: &(impl Abort + Threads + Wait + Sync),
     alloc: Global,
     label: &str,
     limits: Limits,

@@ -1,6 +1,4 @@
-use Rattle.std.proofs.Common.{Some}
 use Rattle.nio_words.specs.Views.{view}
-use Rattle.nio_poller.specs.Scripts.{last_told}
 use Rattle.nio_event.proofs.PassViews.{selector_after}
 use Rattle.nio_poller.proofs.Ready.{selector_timed}
 use Rattle.nio_poller.proofs.tests.answer.Goals as goal
@@ -14,8 +12,9 @@ returns-in-SelectNow-clause-selector g c = selector_after c.select_now.ensures.c
 pub returns-in-SelectFor-clause-selector : goal.returns-in-SelectFor-clause-selector
 returns-in-SelectFor-clause-selector g c =
     let w = c.args.w.now in
-    let poller = c.select_for.new.poller.polls in
-    selector_timed (record { 0 = 0 }) c.args.sel (view w c.args.p.now) (view w c.select_for.new.p) (Some c.args.poller.now.polls) (Some poller) (last_told poller) c.select_for.result c.args.sel _ c.select_for.ensures.call c.requires.selector
+    let poller = c.select_for.new.poller in
+    selector_timed (record { 0 = 0 }) c.args.sel (view w c.args.p.now) (view w c.select_for.new.p) (g.P.Poller.polls c.args.poller.now) (g.P.Poller.polls poller) (g.P.Poller.ready poller)
+    c.select_for.result c.args.sel _ c.select_for.ensures.call c.requires.selector
 
 pub returns-in-Wakeup-clause-selector : goal.returns-in-Wakeup-clause-selector
 returns-in-Wakeup-clause-selector g c = selector_after c.wakeup.ensures.call.acts c.requires.selector

@@ -1,0 +1,11 @@
+use Rattle.nio_event.proofs.PassViews.{selector_after}
+use Rattle.nio_bench.proofs.waiting.pairs.Goals as goal
+
+pub select_now-requires-clause-selector : goal.select_now-requires-clause-selector
+select_now-requires-clause-selector g c = selector_after c.wakeup.ensures.call.acts c.loop.invariant.1
+
+pub loop-preserved : goal.loop-preserved
+loop-preserved g c = (
+  c.select_now.ensures.ready,
+  selector_after c.select_now.ensures.call.call.acts (selector_after c.wakeup.ensures.call.acts c.loop.invariant.1),
+)
