@@ -42,6 +42,7 @@ const USAGE: &str =
     "usage: nio script | check | check-1 | race | proxy --way select|group --listen ADDR --target ADDR --conns N [--workers W] | load N\n";
 
 /// How the program ends, and the net that it was given.
+#[derive(Drop)]
 pub struct Ended<N> {
     pub status: Status,
     pub net: N,

@@ -1,2 +1,10 @@
+mod Begun
+mod Bits
+mod Counts
+mod FreshNet
 mod Idle
+mod Promise
 mod Resolved
+mod Seen
+mod Slotting
+mod Working

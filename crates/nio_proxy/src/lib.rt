@@ -4,4 +4,10 @@
 pub use serve::{ServeError, serve_select};
 
 mod board;
+mod connections;
+mod link;
+mod proxy;
 mod serve;
+mod slot;
+#[cfg(test)]
+mod tests;

@@ -70,7 +70,7 @@ Carries-after_all f (c ∷ calls) lawful may =
     let all : (after f c).taken ++ later ≡ f.taken ++ (bytes_given c ++ later) = ap (λ xs. xs ++ later) (taken-after f c) ∙ append_assoc f.taken (bytes_given c) later in
     subst (Carries (after_all (after f c) calls)) all (Carries-after_all (after f c) calls (after-IsLawful f c lawful may.0) may.1)
 
-fresh-IsLawful : IsLawful fresh
+pub fresh-IsLawful : IsLawful fresh
 fresh-IsLawful = record { in_order = ([], refl); few_held = lit≤ tt; shut_after_end = λ is_shut. is_shut; shut_whole = λ _. refl }
 
 pub relay : RelayLaw

@@ -1,0 +1,33 @@
+use Rattle.std.proofs.Common.{◌≡◌, refl, sym, ap, ◌∙◌, subst, ◌+◌, Some, arith, slice_get}
+use Rattle.nio_link.specs.Links.{IsSameBut}
+use Rattle.nio_proxy.specs.Slots.{IsSlot, Serving, has_ended, has_faulted}
+use Rattle.nio_proxy.specs.Serving.{HasFaulted}
+use Rattle.nio_proxy.proofs.Counts.{one_if, count_few}
+use Rattle.nio_proxy.proofs.Seen.{seen}
+use Rattle.nio_proxy.proofs.Slotting.{serving_told, side_is}
+use Rattle.nio_proxy.proofs.connections.Connections.serve.Goals as goal
+
+pub put-requires-clause-few : goal.put-requires-clause-few
+put-requires-clause-few g c = omega (arith, c.take.ensures.ended, c.requires.served.ended, c.requires.served.bound, count_few (λ k. has_ended (slice_get c.args.self.now.slots.items k)) c.args.self.now.conns)
+
+pub put-requires-clause-few_faulted : goal.put-requires-clause-few_faulted
+put-requires-clause-few_faulted g c = omega (arith, c.take.ensures.faulted, c.requires.served.faulted, c.requires.served.bound, count_few (λ k. has_faulted (slice_get c.args.self.now.slots.items k)) c.args.self.now.conns)
+
+pub returns-clause-serving : goal.returns-clause-serving
+returns-clause-serving g c =
+    let slot = c.follow-followed.new.self in
+    let side = side_is c.args.chan c.links_of.result.0 c.links_of.result.1 _ c.eq.result c.links_of.ensures.client c.links_of.ensures.target refl c.requires.link c.eq.ensures in
+    serving_told (seen g.N.Poller g.N.Net) _ slot c.in-Some.relay c.args.chan c.links_of.result.0 c.links_of.result.1 _ c.args.net.now c.serve_relay-slot.new.net c.args.self.now c.put.new.self
+    c.links_of.ensures.client c.links_of.ensures.target side c.requires.served c.in-Some.ensures.taken c.serve_relay-slot.ensures.work
+    (record { here = c.put.ensures.slot; else_ = λ j other. c.put.ensures.others.others j other ∙ c.take.ensures.others.others j other })
+    (c.put.ensures.others.length ∙ c.take.ensures.others.length)
+    (c.put.ensures.others.conns ∙ c.take.ensures.others.conns)
+    (c.follow-followed.ensures.slot _ _ c.serve_relay-slot.ensures.slot)
+    (c.put.ensures.ended ∙ ap (λ m. m + one_if (has_ended (Some slot))) c.take.ensures.ended)
+    (c.put.ensures.faulted ∙ ap (λ m. m + one_if (has_faulted (Some slot))) c.take.ensures.faulted)
+    (λ f. c.serve_relay-slot.ensures.faulty (sym c.follow-followed.ensures.faulted ∙ f))
+
+pub returns-clause-ready : goal.returns-clause-ready
+returns-clause-ready g c =
+    let side = side_is c.args.chan c.links_of.result.0 c.links_of.result.1 _ c.eq.result c.links_of.ensures.client c.links_of.ensures.target refl c.requires.link c.eq.ensures in
+    subst (λ own. IsSameBut own (g.N.Poller.ready c.args.net.now) (g.N.Poller.ready c.serve_relay-slot.new.net)) side c.serve_relay-slot.ensures.work.ready

@@ -1,0 +1,9 @@
+use Rattle.std.proofs.Common.{IsTrue, subst, sym}
+use Rattle.nio_link.specs.Links.{IsSameBut}
+use Rattle.nio_steps.specs.KeyCalls.{is_within}
+use Rattle.nio_proxy.specs.Serving.{listener}
+use Rattle.nio_proxy.proofs.Slotting.{chan_as}
+use Rattle.nio_proxy.proofs.proxy.Proxy.serve_told.Goals as goal
+
+pub accept_told-requires-clause-ready : goal.accept_told-requires-clause-ready
+accept_told-requires-clause-ready g c = subst (λ x. IsTrue (is_within c.args.ops (g.N.Poller.ready c.args.net.now x))) (chan_as c.args.chan listener c.if-chan-eq0.true) c.requires.ready

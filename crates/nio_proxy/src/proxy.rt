@@ -1,0 +1,313 @@
+//! The proxy at work: accepting, and serving what a selection tells.
+ghost use Rattle.std.specs.Prelude.{◌≡◌, ◌≤◌, ◌⊎◌, [], Err, IfOk, IsTrue, OnErr, OnOk, length};
+ghost use Rattle.nio_base.specs.declared.numbers.ChanNo.{ChanNo};
+ghost use Rattle.nio_bytes.specs.Cause.{Rose};
+ghost use Rattle.nio_link.specs.Links.{IsSameBut};
+ghost use Rattle.nio_steps.specs.KeyCalls.{is_within};
+ghost use Rattle.nio_proxy.specs.Board.{AreReady};
+ghost use Rattle.nio_proxy.specs.Nets.{IsQuiet, Works};
+ghost use Rattle.nio_proxy.specs.Serving.{listener};
+ghost use Rattle.nio_proxy.specs.Slots.{AreServed, Serving};
+ghost use Rattle.nio_proxy.specs.declared.serve.ServeError.TheVariants.{NetFault};
+
+use crate::board::{Board, Port, Refused};
+use crate::connections::{Connections, links_of};
+use crate::serve::ServeError;
+use nio_base::{ChanNo, Kind, Ops};
+use nio_link::{Failed, Net};
+use nio_poller::PollError;
+use nio_relay::{CAPACITY, ProxyPlan};
+use std::alloc::{AllocError, Global};
+use std::sync::Wait;
+
+/// The channel of the listener.
+pub(crate) const LISTENER: ChanNo = ChanNo(0);
+
+/// What a proxy works with. The listener is watched until all connections were accepted.
+#[derive(Drop)]
+pub(crate) struct Proxy {
+    plan: ProxyPlan,
+    board: Board,
+    listener: Option<Port>,
+    pub connections: Connections,
+}
+
+// Accepts a connection under the channel of the next client, if one has come.
+fn accept<N: Net>(net: &mut N, client: ChanNo) -> Result<bool, Failed>
+    requires ready { IsTrue (is_within 16 (N.ready net.old listener)) }
+    ensures links { (c : ChanNo) → N.link net.new c ≡ N.link net.old c }
+    ensures work { Works N.Net listener listener listener net.old net.new }
+    ensures cause { OnErr result (Rose (N.faults net.old listener) (N.faults net.new listener)) }
+    ensures more { IfOk result (λ more. IsTrue more → N.ready net.new listener ≡ N.ready net.old listener) }
+{
+    net.accept(LISTENER, client)
+}
+
+impl Proxy {
+    /// A proxy that hasn't begun to listen.
+    pub(crate) fn open<R: Wait>(rt: &R, alloc: Global, plan: ProxyPlan) -> Result<Proxy, Refused>
+        ensures slots { IfOk result (λ proxy. proxy.connections.slots.items ≡ []) }
+        ensures conns { IfOk result (λ proxy. proxy.connections.conns ≡ plan.conns) }
+        ensures ended { IfOk result (λ proxy. proxy.connections.ended ≡ 0) }
+        ensures faulted { IfOk result (λ proxy. proxy.connections.faulted ≡ 0) }
+    {
+        let Ok(connections) = Connections::make(alloc, plan.conns) else {
+            return Err(Refused);
+        };
+        let Ok(mut board) = Board::open(alloc) else {
+            return Err(Refused);
+        };
+        let listener = board.watch(rt, LISTENER, Kind::Listener, Ops::ACCEPT)?;
+        Ok(Proxy {
+            plan,
+            board,
+            listener: Some(listener),
+            connections,
+        })
+    }
+
+    // Accepts the next connection and begins it. Says whether another one may have come.
+    fn accept_one<R: Wait, N: Net>(
+        &mut self,
+        rt: &R,
+        alloc: Global,
+        net: &mut N,
+    ) -> Result<bool, ServeError>
+        requires ready { IsTrue (is_within 16 (N.ready net.old listener)) }
+        requires served { AreServed (N.link net.old) self.old.connections }
+        ensures serving { Serving N.Net net.old net.new self.old.connections self.new.connections }
+        ensures ready { IsSameBut listener (N.ready net.old) (N.ready net.new) }
+        ensures cause { result ≡ Err NetFault → Rose (N.faults net.old listener) (N.faults net.new listener) }
+        ensures more { IfOk result (λ more. IsTrue more → N.ready net.new listener ≡ N.ready net.old listener) }
+    {
+        let number = self.connections.slots.len();
+        if number >= self.connections.conns as usize {
+            return Ok(false);
+        }
+        let (client, _) = links_of(number);
+        match accept(net, client) {
+            Ok(true) => {
+                let begun = self
+                    .connections
+                    .begin(rt, alloc, net, &mut self.board, self.plan.target);
+                begun.map(|()| true).map_err(|_| ServeError::Memory)
+            }
+            Ok(false) => Ok(false),
+            Err(Failed) => Err(ServeError::NetFault),
+        }
+    }
+
+    // Accepts all connections that have come.
+    fn accept_all<R: Wait, N: Net>(
+        &mut self,
+        rt: &R,
+        alloc: Global,
+        net: &mut N,
+    ) -> Result<(), ServeError>
+        requires ready { IsTrue (is_within 16 (N.ready net.old listener)) }
+        requires served { AreServed (N.link net.old) self.old.connections }
+        ensures serving { Serving N.Net net.old net.new self.old.connections self.new.connections }
+        ensures ready { IsSameBut listener (N.ready net.old) (N.ready net.new) }
+        ensures cause { result ≡ Err NetFault → Rose (N.faults net.old listener) (N.faults net.new listener) }
+    {
+        for _ in 0..=self.connections.conns {
+            if !self.accept_one(rt, alloc, net)? {
+                return Ok(());
+            }
+        }
+        Ok(())
+    }
+
+    // Accepts where the listener was told ready for that.
+    fn accept_told<R: Wait, N: Net>(
+        &mut self,
+        rt: &R,
+        alloc: Global,
+        net: &mut N,
+        ops: Ops,
+    ) -> Result<(), ServeError>
+        requires ready { IsTrue (is_within ops (N.ready net.old listener)) }
+        requires served { AreServed (N.link net.old) self.old.connections }
+        ensures serving { Serving N.Net net.old net.new self.old.connections self.new.connections }
+        ensures ready { IsSameBut listener (N.ready net.old) (N.ready net.new) }
+        ensures cause { result ≡ Err NetFault → Rose (N.faults net.old listener) (N.faults net.new listener) }
+    {
+        if Ops::ACCEPT.within(ops) {
+            self.accept_all(rt, alloc, net)
+        } else {
+            Ok(())
+        }
+    }
+
+    // Does what one channel was told ready for.
+    fn serve_told<R: Wait, N: Net>(
+        &mut self,
+        rt: &R,
+        alloc: Global,
+        net: &mut N,
+        chan: ChanNo,
+        ops: Ops,
+        scratch: &mut [u8],
+    ) -> Result<(), ServeError>
+        requires scratch { length scratch.old ≡ CAPACITY }
+        requires ready { IsTrue (is_within ops (N.ready net.old chan)) }
+        requires served { AreServed (N.link net.old) self.old.connections }
+        ensures serving { Serving N.Net net.old net.new self.old.connections self.new.connections }
+        ensures ready { IsSameBut chan (N.ready net.old) (N.ready net.new) }
+        ensures cause { result ≡ Err NetFault → Rose (N.faults net.old listener) (N.faults net.new listener) }
+    {
+        if chan.0 == 0 {
+            self.accept_told(rt, alloc, net, ops)
+        } else {
+            match self
+                .connections
+                .serve(net, &mut self.board, chan, ops, scratch)
+            {
+                Ok(()) => Ok(()),
+                Err(Refused) => Err(ServeError::Memory),
+            }
+        }
+    }
+
+    // Does what a selection told. Each channel has one turn: one that stands behind a higher number is told again by
+    // the next selection.
+    fn serve_all<R: Wait, N: Net>(
+        &mut self,
+        rt: &R,
+        alloc: Global,
+        net: &mut N,
+        told: &[(ChanNo, Ops)],
+        scratch: &mut [u8],
+    ) -> Result<(), ServeError>
+        requires scratch { length scratch.old ≡ CAPACITY }
+        requires ready { AreReady (N.ready net.old) told.now }
+        requires served { AreServed (N.link net.old) self.old.connections }
+        ensures serving { Serving N.Net net.old net.new self.old.connections self.new.connections }
+        ensures cause { result ≡ Err NetFault → Rose (N.faults net.old listener) (N.faults net.new listener) }
+    {
+        let mut unserved = 0;
+        for (chan, ops) in told {
+            if u64::from(chan.0) < unserved {
+                continue;
+            }
+            unserved = u64::from(chan.0) + 1;
+            let served = self.serve_told(rt, alloc, net, *chan, *ops, scratch);
+            if served.is_err() {
+                return served;
+            }
+        }
+        Ok(())
+    }
+
+    // One selection.
+    fn select<R: Wait, N: Net>(
+        &mut self,
+        rt: &R,
+        alloc: Global,
+        net: &mut N,
+        told: &mut Vec<(ChanNo, Ops)>,
+    ) -> Result<(), ServeError>
+        requires served { AreServed (N.link net.old) self.old.connections }
+        ensures serving { Serving N.Net net.old net.new self.old.connections self.new.connections }
+        ensures ready { IfOk result (λ _. AreReady (N.ready net.new) told.new.items) }
+        ensures cause { result ≡ Err NetFault → Rose (N.poll_faults net.old) (N.poll_faults net.new) }
+    {
+        match self.board.select(rt, alloc, net, told) {
+            Ok(()) => Ok(()),
+            Err(PollError::Fault) => Err(ServeError::NetFault),
+            Err(PollError::Memory) => Err(ServeError::Memory),
+        }
+    }
+
+    // One selection, and what it told.
+    fn turn<R: Wait, N: Net>(
+        &mut self,
+        rt: &R,
+        alloc: Global,
+        net: &mut N,
+        told: &mut Vec<(ChanNo, Ops)>,
+        scratch: &mut [u8],
+    ) -> Result<(), ServeError>
+        requires scratch { length scratch.old ≡ CAPACITY }
+        requires served { AreServed (N.link net.old) self.old.connections }
+        ensures serving { Serving N.Net net.old net.new self.old.connections self.new.connections }
+        ensures cause { result ≡ Err NetFault → Rose (N.poll_faults net.old) (N.poll_faults net.new) ⊎ Rose (N.faults net.old listener) (N.faults net.new listener) }
+    {
+        let selected = self.select(rt, alloc, net, told);
+        if selected.is_err() {
+            return selected;
+        }
+        self.serve_all(rt, alloc, net, told, scratch)
+    }
+
+    // Closes the listener once all connections were accepted.
+    fn stop_listening<N: Net>(&mut self, net: &mut N)
+        ensures quiet { IsQuiet N.Net net.old net.new }
+        ensures connections { self.new.connections ≡ self.old.connections }
+    {
+        if self.connections.slots.len() >= self.connections.conns as usize {
+            if let Some(port) = self.listener {
+                self.board.unwatch(port);
+                net.close(LISTENER);
+                self.listener = None;
+            }
+        }
+    }
+
+    // Serves until all connections have ended.
+    fn serve<R: Wait, N: Net>(
+        &mut self,
+        rt: &R,
+        alloc: Global,
+        net: &mut N,
+        scratch: &mut [u8],
+    ) -> Result<(), ServeError>
+        requires scratch { length scratch.old ≡ CAPACITY }
+        requires served { AreServed (N.link net.old) self.old.connections }
+        ensures serving { Serving N.Net net.old net.new self.old.connections self.new.connections }
+        ensures cause { result ≡ Err NetFault → Rose (N.poll_faults net.old) (N.poll_faults net.new) ⊎ Rose (N.faults net.old listener) (N.faults net.new listener) }
+        ensures ended { OnOk result (self.new.connections.ended ≡ self.new.connections.conns) }
+    {
+        let mut told = Vec::new(alloc);
+        for _ in rt.forever() {
+            if self.connections.ended == self.connections.conns {
+                return Ok(());
+            }
+            let turned = self.turn(rt, alloc, net, &mut told, scratch);
+            if turned.is_err() {
+                return turned;
+            }
+            self.stop_listening(net);
+        }
+        unreachable!()
+    }
+
+    /// Serves until all connections have ended.
+    pub(crate) fn run<R: Wait, N: Net>(
+        &mut self,
+        rt: &R,
+        alloc: Global,
+        net: &mut N,
+    ) -> Result<(), ServeError>
+        requires served { AreServed (N.link net.old) self.old.connections }
+        ensures serving { Serving N.Net net.old net.new self.old.connections self.new.connections }
+        ensures cause { result ≡ Err NetFault → Rose (N.poll_faults net.old) (N.poll_faults net.new) ⊎ Rose (N.faults net.old listener) (N.faults net.new listener) }
+        ensures ended { OnOk result (self.new.connections.ended ≡ self.new.connections.conns) }
+    {
+        match vec![in alloc; 0; CAPACITY] {
+            Ok(mut scratch) => self.serve(rt, alloc, net, &mut scratch),
+            Err(AllocError) => Err(ServeError::Memory),
+        }
+    }
+
+    /// Closes what is still open.
+    pub(crate) fn close_all<N: Net>(&self, net: &mut N)
+        requires few { length self.now.connections.slots.items ≤ 16000 }
+        ensures quiet { IsQuiet N.Net net.old net.new }
+    {
+        self.connections.close_all(net);
+        if self.listener.is_some() {
+            net.close(LISTENER);
+        }
+    }
+}

@@ -1,0 +1,312 @@
+//! One connection: its two directions, and what the table watches of its links.
+ghost use Rattle.std.specs.Prelude.{◌≡◌, ◌≢◌, ◌⊎◌, ◌↔◌, if◌then◌else◌, Some, IfOk, IsErr, IsTrue, OnErr, length};
+ghost use Rattle.nio_base.specs.declared.numbers.ChanNo.{ChanNo};
+ghost use Rattle.nio_bytes.specs.Cause.{Rose};
+ghost use Rattle.nio_link.specs.Links.{IsUnused, Link};
+ghost use Rattle.nio_relay.specs.Flow.{fresh};
+ghost use Rattle.nio_steps.specs.KeyCalls.{is_within};
+ghost use Rattle.nio_proxy.specs.Nets.{IsIdle, IsQuiet, Works};
+ghost use Rattle.nio_proxy.specs.Slots.{IsRelaying, IsLive, IsSlot, has_ended, has_faulted};
+
+use crate::board::{Board, Port, Refused};
+use crate::link::serve_link;
+use nio_base::{Addr, ChanNo, Kind, Ops};
+use nio_link::{Failed, Net};
+use nio_relay::{CAPACITY, Direction};
+use std::alloc::Global;
+use std::sync::Wait;
+
+/// A link as the table has it: its channel is watched for these operations.
+#[derive(Clone, Copy)]
+pub(crate) struct End {
+    pub port: Port,
+    pub interest: Ops,
+}
+
+/// A connection that is relayed.
+#[derive(Drop)]
+pub(crate) struct Relay {
+    pub there: Direction,
+    pub back: Direction,
+    pub is_connected: bool,
+    pub client: End,
+    pub target: End,
+}
+
+/// What stands of a connection that was begun.
+#[derive(Drop)]
+pub(crate) enum Slot {
+    Live(Relay),
+    /// It has relayed all bytes, both ways.
+    Clean,
+    /// A call on one of its links failed.
+    Faulted,
+}
+
+// Goes on connecting the target where it was told ready for that.
+fn connect<N: Net>(net: &mut N, target: ChanNo, ops: Ops) -> Result<bool, Failed>
+    requires ready { IsTrue (is_within ops (N.ready net.old target)) }
+    ensures links { (c : ChanNo) → N.link net.new c ≡ N.link net.old c }
+    ensures work { Works N.Net target target target net.old net.new }
+    ensures cause { OnErr result (Rose (N.faults net.old target) (N.faults net.new target)) }
+{
+    if Ops::CONNECT.within(ops) {
+        net.finish_connect(target)
+    } else {
+        Ok(false)
+    }
+}
+
+#[tactic(auto)]
+impl Relay {
+    // Does what the one link was told ready for.
+    fn advance<N: Net>(
+        &mut self,
+        net: &mut N,
+        client: ChanNo,
+        target: ChanNo,
+        at_client: bool,
+        ops: Ops,
+        scratch: &mut [u8],
+    ) -> Result<(), Failed>
+        requires scratch { length scratch.old ≡ CAPACITY }
+        requires apart { client ≢ target }
+        requires ready { IsTrue (is_within ops (N.ready net.old (if at_client then client else target))) }
+        requires relaying { IsRelaying self.old.there self.old.back (N.link net.old client) (N.link net.old target) }
+        ensures relaying { IsRelaying self.new.there self.new.back (N.link net.new client) (N.link net.new target) }
+        ensures work { Works N.Net client target (if at_client then client else target) net.old net.new }
+        ensures cause { OnErr result (Rose (N.faults net.old client) (N.faults net.new client) ⊎ Rose (N.faults net.old target) (N.faults net.new target)) }
+    {
+        if at_client && self.is_connected {
+            serve_link(
+                net,
+                client,
+                target,
+                &mut self.there,
+                &mut self.back,
+                ops,
+                scratch,
+            )
+        } else if at_client {
+            Ok(())
+        } else if self.is_connected {
+            serve_link(
+                net,
+                target,
+                client,
+                &mut self.back,
+                &mut self.there,
+                ops,
+                scratch,
+            )
+        } else {
+            self.is_connected = connect(net, target, ops)?;
+            Ok(())
+        }
+    }
+}
+
+// Closes both links of a connection, and watches them no longer.
+fn hang_up<N: Net>(net: &mut N, board: &mut Board, client: ChanNo, target: ChanNo, relay: &Relay)
+    ensures quiet { IsQuiet N.Net net.old net.new }
+{
+    net.close(client);
+    net.close(target);
+    board.unwatch(relay.client.port);
+    board.unwatch(relay.target.port);
+}
+
+impl Slot {
+    /// Whether the connection has ended.
+    pub(crate) fn has_ended(&self) -> bool
+        ensures { result ≡ has_ended (Some self.now) }
+    {
+        !matches!(self, Slot::Live(_))
+    }
+
+    /// Whether it has ended by a fault.
+    pub(crate) fn has_faulted(&self) -> bool
+        ensures { result ≡ has_faulted (Some self.now) }
+    {
+        matches!(self, Slot::Faulted)
+    }
+}
+
+// Closes a connection where it has ended: where a call failed, or where both directions are shut.
+fn settle<N: Net>(
+    net: &mut N,
+    board: &mut Board,
+    client: ChanNo,
+    target: ChanNo,
+    relay: Relay,
+    served: Result<(), Failed>,
+) -> Slot
+    requires live { IsLive relay.there relay.back (N.link net.old client) (N.link net.old target) }
+    ensures slot { IsSlot (Some result) (N.link net.new client) (N.link net.new target) }
+    ensures faulty { IsTrue (has_faulted (Some result)) → IsErr served }
+    ensures quiet { IsQuiet N.Net net.old net.new }
+{
+    if served.is_err() {
+        hang_up(net, board, client, target, &relay);
+        Slot::Faulted
+    } else if relay.there.is_shut() && relay.back.is_shut() {
+        hang_up(net, board, client, target, &relay);
+        Slot::Clean
+    } else {
+        Slot::Live(relay)
+    }
+}
+
+/// Does what the one link of a connection was told ready for, and says what stands of the connection then.
+pub(crate) fn serve_relay<N: Net>(
+    net: &mut N,
+    board: &mut Board,
+    client: ChanNo,
+    target: ChanNo,
+    relay: Relay,
+    at_client: bool,
+    ops: Ops,
+    scratch: &mut [u8],
+) -> Slot
+    requires scratch { length scratch.old ≡ CAPACITY }
+    requires apart { client ≢ target }
+    requires ready { IsTrue (is_within ops (N.ready net.old (if at_client then client else target))) }
+    requires relaying { IsRelaying relay.there relay.back (N.link net.old client) (N.link net.old target) }
+    ensures slot { IsSlot (Some result) (N.link net.new client) (N.link net.new target) }
+    ensures faulty { IsTrue (has_faulted (Some result)) → Rose (N.faults net.old client) (N.faults net.new client) ⊎ Rose (N.faults net.old target) (N.faults net.new target) }
+    ensures work { Works N.Net client target (if at_client then client else target) net.old net.new }
+{
+    let mut relay = relay;
+    let served = relay.advance(net, client, target, at_client, ops, scratch);
+    relay.there.law();
+    relay.back.law();
+    settle(net, board, client, target, relay, served)
+}
+
+// A quarter of a direction's room.
+const QUARTER: usize = CAPACITY / 4;
+
+// Whether bytes for a direction are waited for. Not for a few: a selection costs more than they bring.
+fn awaits_bytes(direction: &Direction) -> bool {
+    direction.want().read && direction.room() >= QUARTER
+}
+
+// What a link is watched for: the one direction takes from it, and the other writes to it.
+fn wanted(outgoing: &Direction, incoming: &Direction) -> Ops {
+    let read = if awaits_bytes(outgoing) {
+        Ops::READ
+    } else {
+        Ops::NONE
+    };
+    let write = if incoming.want().write {
+        Ops::WRITE
+    } else {
+        Ops::NONE
+    };
+    read.union(write)
+}
+
+impl End {
+    // Watches the link for these operations, if it isn't watched for them already.
+    fn watch(&mut self, board: &mut Board, ops: Ops) -> Result<(), Refused> {
+        if self.interest != ops {
+            board.set(self.port, ops)?;
+            self.interest = ops;
+        }
+        Ok(())
+    }
+}
+
+impl Relay {
+    // Watches both links for what is to be done next.
+    fn follow(&mut self, board: &mut Board) -> Result<(), Refused>
+        ensures there { self.new.there ≡ self.old.there }
+        ensures back { self.new.back ≡ self.old.back }
+    {
+        if self.is_connected {
+            self.client.watch(board, wanted(&self.there, &self.back))?;
+            self.target.watch(board, wanted(&self.back, &self.there))
+        } else {
+            Ok(())
+        }
+    }
+}
+
+impl Slot {
+    /// Watches the links of a connection that hasn't ended for what is to be done next.
+    pub(crate) fn follow(&mut self, board: &mut Board) -> Result<(), Refused>
+        ensures slot { (client target : Link) → IsSlot (Some self.old) client target → IsSlot (Some self.new) client target }
+        ensures ended { has_ended (Some self.new) ≡ has_ended (Some self.old) }
+        ensures faulted { has_faulted (Some self.new) ≡ has_faulted (Some self.old) }
+    {
+        match self {
+            Slot::Live(relay) => relay.follow(board),
+            Slot::Clean | Slot::Faulted => Ok(()),
+        }
+    }
+}
+
+/// Makes what relays a connection, and watches its two links: the target's until it is connected.
+pub(crate) fn open_relay<R: Wait>(
+    rt: &R,
+    alloc: Global,
+    board: &mut Board,
+    client: ChanNo,
+    target: ChanNo,
+) -> Result<Relay, Refused>
+    ensures there { IfOk result (λ relay. relay.there ≡ fresh) }
+    ensures back { IfOk result (λ relay. relay.back ≡ fresh) }
+{
+    let Ok(there) = Direction::make(alloc) else {
+        return Err(Refused);
+    };
+    let Ok(back) = Direction::make(alloc) else {
+        return Err(Refused);
+    };
+    let client = board.watch(rt, client, Kind::Stream, Ops::NONE)?;
+    let target = board.watch(rt, target, Kind::Stream, Ops::CONNECT)?;
+    Ok(Relay {
+        there,
+        back,
+        is_connected: false,
+        client: End {
+            port: client,
+            interest: Ops::NONE,
+        },
+        target: End {
+            port: target,
+            interest: Ops::CONNECT,
+        },
+    })
+}
+
+/// Begins to connect the target of a connection. It ends at once where that fails.
+#[tactic(auto, using(crate::proofs::Begun::unused_live, crate::proofs::Begun::unused_begun))]
+pub(crate) fn connect_relay<N: Net>(
+    net: &mut N,
+    board: &mut Board,
+    client: ChanNo,
+    target: ChanNo,
+    relay: Relay,
+    to: Addr,
+) -> Slot
+    requires there { relay.there ≡ fresh }
+    requires back { relay.back ≡ fresh }
+    requires client { IsUnused (N.link net.old client) }
+    requires target { IsUnused (N.link net.old target) }
+    ensures slot { IsSlot (Some result) (N.link net.new client) (N.link net.new target) }
+    ensures faulty { IsTrue (has_faulted (Some result)) → Rose (N.faults net.old target) (N.faults net.new target) }
+    ensures idle { IsIdle N.Net net.old net.new }
+{
+    let mut relay = relay;
+    match net.connect(target, to) {
+        Ok(is_connected) => {
+            relay.is_connected = is_connected;
+            Slot::Live(relay)
+        }
+        Err(Failed) => {
+            hang_up(net, board, client, target, &relay);
+            Slot::Faulted
+        }
+    }
+}
