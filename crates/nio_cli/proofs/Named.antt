@@ -1,11 +1,19 @@
 -- The command that the words say.
-use Rattle.std.proofs.Common.{◌≡◌, ◌≢◌, ◌⊎◌, inl, inr, ℕ, List, [], ◌∷◌, Result, Ok, Err, slice_index_or, refl, sym, ap, ◌∙◌, arith}
+use Rattle.std.proofs.Common.{◌≡◌, ◌≢◌, ◌⊎◌, inl, inr, ℕ, Option, Some, None, List, [], ◌∷◌, Result, Ok, Err, slice_index_or, refl, sym, ap, ◌∙◌, subst, arith}
 use Rattle.nio_command.specs.declared.command.Command.{Command}
+use Rattle.nio_command.specs.declared.command.Command.TheVariants.{Proxy}
 use Rattle.nio_command.specs.declared.command.WordsError.{WordsError}
 use Rattle.nio_command.specs.declared.command.WordsError.TheVariants.{Usage, Memory}
+use Rattle.nio_bytes.specs.declared.source.Source as source
+use Rattle.nio_relay.specs.declared.plan.ProxyPlan.{ProxyPlan}
+use Rattle.nio_script.specs.Input.{StopsPastLongest}
+use Rattle.nio_script.specs.declared.status.Status.{Status}
+use Rattle.nio_script.specs.declared.status.Status.TheVariants.{TooLong}
+use Rattle.std.specs.Io.KnownBytes.{prepend_known}
+use Rattle.nio_cli.specs.Proxy.{EndsProxy}
 use Rattle.nio_cli.specs.Words.{BeginsProxy}
 
-first_byte : List (List ℕ) → ℕ
+abbrev first_byte : List (List ℕ) → ℕ
 first_byte words = slice_index_or (slice_index_or words 0 []) 0 0
 
 -- a word that begins with another byte than `p` (112) isn't `proxy`
@@ -16,3 +24,28 @@ pub or_memory : (r : Result Command WordsError) (command : Command) → (r ≢ E
 or_memory (Ok x) command is = inl (is (λ e. cc e))
 or_memory (Err Usage) command is = inl (is (λ e. cc e))
 or_memory (Err Memory) command is = inr refl
+
+-- the plan of a command is the one that the words say
+pub its_plan : (x : Command) (p p' : ProxyPlan) → x ≡ Proxy p → (◌≡◌ {A = Result Command WordsError} (Ok x) (Ok (Proxy p'))) ⊎ (◌≡◌ {A = Result Command WordsError} (Ok x) (Err Memory)) → p ≡ p'
+its_plan x p p' is (inl same) = cc (sym is) same
+its_plan x p p' is (inr clash) = absurd (cc clash)
+
+-- words that say nothing are no `proxy`
+pub no_plan : (x : WordsError) (p : ProxyPlan) → x ≡ Usage → (◌≡◌ {A = Result Command WordsError} (Err x) (Ok (Proxy p))) ⊎ (◌≡◌ {A = Result Command WordsError} (Err x) (Err Memory)) → ⊥
+no_plan x p is (inl clash) = absurd (cc clash)
+no_plan x p is (inr clash) = absurd (cc (sym is) clash)
+
+-- ---- nothing was read
+
+none_taken : (known : Option (List ℕ)) → known ≡ prepend_known [] known
+none_taken None = refl
+none_taken (Some bytes) = refl
+
+-- nothing is taken from a source that isn't read
+pub takes_none : {S : Type 0} (s : source.Ghosts S) (input : S) (status : Status) → EndsProxy status → StopsPastLongest s input input (status ≡ TooLong)
+takes_none s input status ends = record {
+  count = 0;
+  taken = record { bytes = []; taken = none_taken (s.left input); counted = refl };
+  few = omega arith;
+  exactly = (λ long. absurd (subst EndsProxy long ends), λ none. absurd (omega (arith, none)));
+}

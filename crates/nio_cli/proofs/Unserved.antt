@@ -8,7 +8,7 @@ use Rattle.nio_relay.specs.Connection.{Carried}
 use Rattle.nio_script.specs.declared.status.Status.TheVariants.{Memory}
 use Rattle.nio_cli.specs.Proxy.{DoesProxy}
 
-nothing : Carried
+abbrev nothing : Carried
 nothing = record { got = []; ended = false; put = []; shut = false }
 
 carried_nothing : (l : Link) → IsUnused l → HasCarried l nothing

@@ -1,7 +1,11 @@
 use Rattle.std.proofs.Common.{refl, subst}
 use Rattle.nio_script.specs.Output.{Notes}
 use Rattle.nio_cli.specs.declared.run.TheConstants.{PROGRAM_LIMITS}
+use Rattle.nio_relay.specs.declared.plan.ProxyPlan.{ProxyPlan}
+use Rattle.nio_cli.specs.Proxy.{DoesProxy}
 use Rattle.nio_cli.proofs.Legal.{writes_legal}
+use Rattle.nio_cli.proofs.Named.{its_plan, no_plan, takes_none}
+use Rattle.nio_cli.proofs.Unserved.{unserved}
 use Rattle.nio_cli.proofs.run.run_over.Goals as goal
 
 pub returns-in-Ok-Script-clause-legal : goal.returns-in-Ok-Script-clause-legal
@@ -15,3 +19,18 @@ returns-in-Err-Usage-clause-usage_said g c = λ usage. record {
   unread = refl;
   uncalled = refl;
 }
+
+pub returns-in-Ok-Proxy-clause-proxy : goal.returns-in-Ok-Proxy-clause-proxy
+returns-in-Ok-Proxy-clause-proxy g c = λ plan says.
+    subst (λ (p : ProxyPlan). DoesProxy g.K.Sink p.conns (g.N.Net.link c.serve.new.net) (g.N.Net.faults c.args.net.now) (g.N.Net.faults c.serve.new.net) (g.N.Poller.poll_faults c.args.net.now) (g.N.Poller.poll_faults c.serve.new.net) c.args.output.now c.serve.new.output c.serve.result)
+    (its_plan c.in-Ok-Proxy.field-0 c.in-Ok-Proxy.plan plan c.in-Ok-Proxy.field-0-is (c.in-Ok-Proxy.ensures.proxy_only plan says)) c.serve.ensures.proxy
+
+pub returns-in-Ok-Proxy-clause-too_long : goal.returns-in-Ok-Proxy-clause-too_long
+returns-in-Ok-Proxy-clause-too_long g c = takes_none g.S.Source c.args.input.now c.serve.result c.serve.ensures.proxy.ends
+
+pub returns-in-Err-Usage-clause-proxy : goal.returns-in-Err-Usage-clause-proxy
+returns-in-Err-Usage-clause-proxy g c = λ plan says. absurd (no_plan c.in-Err-Usage.field-0 plan c.in-Err-Usage.field-0-is (c.in-Err-Usage.ensures.proxy_only plan says))
+
+pub returns-in-Err-Memory-clause-proxy : goal.returns-in-Err-Memory-clause-proxy
+returns-in-Err-Memory-clause-proxy g c = λ plan says.
+    unserved g.K.Sink plan.conns (g.N.Net.link c.args.net.now) (g.N.Net.faults c.args.net.now) (g.N.Poller.poll_faults c.args.net.now) c.args.output.now c.requires.fresh
