@@ -1,3 +1,4 @@
+pub mod Adding
 pub mod Gathering
 pub mod Promise
 pub mod SettingOff

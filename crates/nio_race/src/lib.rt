@@ -2,7 +2,11 @@
 //! other, a line `go`, and the lines of the callers.
 #![tactic(auto)]
 
+pub use run::run_race;
+
 mod gather;
+mod output;
 mod racer;
+mod run;
 mod set_off;
 mod setup;
