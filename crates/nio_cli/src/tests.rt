@@ -6,6 +6,8 @@ use std::alloc::Global;
 use std::process::Abort;
 use std::test::Fail;
 
+mod rows;
+
 const ONE_SELECTION: &str =
     "t1 selector\nt1 channel source\nt1 blocking c0 off\nt1 register s0 c0 1\nt1 begin s0 now\nt1 told s0 k0:1\n";
 
@@ -21,6 +23,10 @@ const ANOTHER_HISTORY: &str =
 /// A history by the first rules: the key that is made after a cancelled one has a new index.
 const FIRST_RULES: &str =
     "1 t1 selector -> s0\n2 t1 channel source -> c0\n3 t1 blocking c0 off -> ok\n4 t1 register s0 c0 1 -> k0\n5 t1 cancel s0 k0 -> ok\n6 t1 key-for c0 s0 -> k0\n7 t1 register s0 c0 1 -> cancelled-key\n8 t1 begin s0 now -> looked none\n9 t1 told s0 -> selected 0 now\n10 t1 key-for c0 s0 -> none\n11 t1 register s0 c0 1 -> k1\n";
+
+/// Two bits of this set, as a signed number: no set of operations.
+const SIGNED_SET: &str =
+    "t1 selector\nt1 channel source\nt1 blocking c0 off\nt1 register s0 c0 1\nt1 iand s0 k0 -5\n";
 
 const USAGE: &str =
     "usage: nio script | check | check-1 | race | proxy --way select|group --listen ADDR --target ADDR --conns N [--workers W] | load N\n";
@@ -79,6 +85,14 @@ fn scripts_and_usage(rt: HostRuntime) -> Result<(), Fail> {
             None,
             3,
             "bad line 3\n",
+        ),
+        (
+            "bits_outside_the_kind",
+            SIGNED_SET,
+            None,
+            None,
+            3,
+            "bad line 5\n",
         ),
         ("faults_and_long_lines", ONE_SELECTION, Some(1), None, 4, ""),
         (

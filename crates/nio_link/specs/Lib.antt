@@ -1,2 +1,9 @@
 pub mod Links
 pub mod Readiness
+pub mod Pieces
+pub mod MemoryLinks
+pub mod Slots
+pub mod MemoryNet
+pub mod NetPlans
+pub mod Nets
+pub mod Streams

@@ -84,6 +84,7 @@ marks_ready ready selection poll acts answer is run s i told from there =
       is_looked = fits.looked;
       at_index = fits.at_index;
       bits = subst (λ n. IsTrue (is_within n (ready entry.channel))) (sym fits.bits) (eq-eqb (bit_and (told_bits poll.pairs entry) (ready entry.channel)) (told_bits poll.pairs entry) part);
+      some = fits.some;
     }
 
 -- ---- where nothing was marked

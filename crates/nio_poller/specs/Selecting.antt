@@ -1,5 +1,5 @@
 -- What a whole selection promises: its steps, its polls, what it marks, and its answer.
-use Rattle.std.specs.Prelude.{◌≡◌, ℕ, ℤ, IsTrue, ◌⊎◌, Option, Some, None, Result, Ok, Err, List, [], ◌++◌, map}
+use Rattle.std.specs.Prelude.{◌≡◌, ℕ, ◌==◌, not, ℤ, IsTrue, ◌⊎◌, Option, Some, None, Result, Ok, Err, List, [], ◌++◌, map}
 use Rattle.std.specs.List.{Contains}
 use Rattle.nio_base.specs.declared.numbers.CallerNo.{CallerNo}
 use Rattle.nio_base.specs.declared.numbers.ChanNo.{ChanNo}
@@ -40,12 +40,13 @@ abbrev pub AddsPolls : Option (List Polled) → Option (List Polled) → List Lo
 AddsPolls None now asked mode polls = now ≡ None
 AddsPolls (Some before) now asked mode polls = now ≡ Some (before ++ map (λ (poll : Poll). record { asked = asked; mode = mode; answer = poll }) polls)
 
--- a mark is of a looked key, with operations that its channel is ready for
+-- a mark is of a looked key, with operations, at least one, that its channel is ready for
 pub record MarksReady (ready : ChanNo → ℕ) (looked : List LookedKey) (i told : ℕ) : Type 0 where
   pub entry : LookedKey
   pub is_looked : Contains looked entry
   pub at_index : entry.index ≡ i
   pub bits : IsTrue (is_within told (ready entry.channel))
+  pub some : IsTrue (not (told == 0))
 
 -- each mark among these acts that succeeded is such a one
 abbrev pub MarksAllReady : (ChanNo → ℕ) → List LookedKey → List Act → Type 0

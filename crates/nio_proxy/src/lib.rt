@@ -3,4 +3,5 @@
 
 pub use serve::{ServeError, serve_select};
 
+mod board;
 mod serve;

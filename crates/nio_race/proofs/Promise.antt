@@ -138,13 +138,13 @@ module _ (w : Words) (setup : List ScriptCall) (race : List RaceLine) (d : Desk)
   pub holds_each : (n : CallerNo) → n.0 < (limits_of w).callers → IsReady w p n
   holds_each n below =
       let k = known n below in
-      record { pass = pass; number = subst (λ (m : CallerNo). Holds p m) k.number (k.stands_in.holds k.after.number k.raced_so.stands.ready.number) }
+      record { pass = pass; number = subst (λ (m : CallerNo). Holds p m) k.number (k.stands_in.holds k.after.number (k.raced_so.stands k.in_memory).ready.number) }
 
   has_run : (n : CallerNo) → n.0 < (limits_of w).callers → HasRun (limits_of w) n (seen d.pass) (progress_of d) (calls_by n race) (seen p) (replies_by race racers' n)
   has_run n below =
       let k = known n below in
       let ran = k.raced_so.run k.in_memory in
-      let held = subst (λ (m : CallerNo). Holds k.after.desk.pass m) k.number k.raced_so.stands.ready.number in
+      let held = subst (λ (m : CallerNo). Holds k.after.desk.pass m) k.number (k.raced_so.stands k.in_memory).ready.number in
       record {
         acts = ran.acts;
         grew =
@@ -161,8 +161,8 @@ module _ (w : Words) (setup : List ScriptCall) (race : List RaceLine) (d : Desk)
   whole : ∥ IsWhole (limits_of w) (seen p) ∥₁
   whole = whole_by_callers (limits_of w) (seen p) pass.legal (λ n below.
       let k = known n below in
-      let held = subst (λ (m : CallerNo). Holds k.after.desk.pass m) k.number k.raced_so.stands.ready.number in
-      ∥∥₁_map k.raced_so.stands.made
+      let held = subst (λ (m : CallerNo). Holds k.after.desk.pass m) k.number (k.raced_so.stands k.in_memory).ready.number in
+      ∥∥₁_map (k.raced_so.stands k.in_memory).made
       (λ made. subst (HasMadeCalls (limits_of w)) (sym (k.stands_in.own n held))
       (subst (λ (m : CallerNo). HasMadeCalls (limits_of w) (mine m (seen k.after.desk.pass))) k.number (made_whole (limits_of w) _ k.after.number _ made))))
 

@@ -38,7 +38,7 @@ pub still_racers : (w : Words) (race : List RaceLine) (before after : List Racer
 still_racers w race before after raced k d below =
     let first = subst (λ (m : ℕ). k < m) raced.count below in
     let r = standing before k first in
-    (raced.each k r.0 (slice_index_or after k d) first r.1 (at_itself after k d below)).stands.ready.pass
+    (raced.each k r.0 (slice_index_or after k d) first r.1 (at_itself after k d below)).pass
 
 -- the passes of the racers and of the desk are joined
 pub runs_to : (w : Words) (d : Desk) (setup : List ScriptCall) (race : List RaceLine) (racers : List Racer) (joined p : Pass) (text text' : List ℕ)

@@ -1,30 +1,52 @@
 -- The callers of a race, each with a pass of its own.
-use Rattle.std.specs.Prelude.{◌≡◌, ℕ, ◌<◌, ◌++◌, IsFalse, List, [], length, map}
+use Rattle.std.specs.Prelude.{◌≡◌, ℕ, ◌<◌, ◌++◌, IsFalse, List, [], ◌∷◌, length, map}
 use Rattle.std.specs.List.{slice_index_or}
 use mathlib.Core.List.{IsPrefix}
+use Rattle.nio_base.specs.declared.numbers.SelNo.{SelNo}
 use Rattle.nio_event.specs.Conditions.{IsCaller}
 use Rattle.nio_event.specs.PassViews.{HasNoPin}
 use Rattle.nio_base.specs.declared.numbers.CallerNo.{CallerNo}
 use Rattle.nio_event.specs.declared.act.Act.{Act}
+use Rattle.nio_event.specs.declared.call.Call.{Call}
 use Rattle.nio_event.specs.declared.reply.Reply.{Reply}
+use Rattle.nio_race_text.specs.declared.call.RaceCall.{RaceCall}
 use Rattle.nio_race_text.specs.declared.call.RaceLine.{RaceLine}
 use Rattle.nio_sole.specs.Made.{HasMade}
 use Rattle.nio_sole.specs.Stands.{HasPlaces, progress_of}
-use Rattle.nio_words.specs.Passes.{HoldSame, IsReady, acts_seen, limits_of, seen}
+use Rattle.nio_sole.specs.declared.desk.Desk.{Desk}
+use Rattle.nio_serial.specs.Lines.{line_plan}
+use Rattle.nio_steps.specs.Calls.{CallClause}
+use Rattle.nio_steps.specs.Runs.{Completes}
+use Rattle.nio_words.specs.Passes.{IsPassOf, IsReady, acts_seen, limits_of, seen}
 use Rattle.nio_words.specs.Views.{view}
 use Rattle.nio_words.specs.declared.words.Words.{Words}
 use Rattle.nio_race.specs.Race.{calls_by, strange_replies}
-use Rattle.nio_race.specs.Runs.{AreRaceLines}
+use Rattle.nio_race.specs.Runs.{AreRaceLines, Blocks, MakesRaceLine}
 use Rattle.nio_race.specs.declared.racer.Racer.{Racer}
 
--- What stands of a racer between two lines: its pass acts for its caller, which has no call at work, made whole calls,
--- and has in progress what its desk shows.
-pub record StandsAlone (w : Words) (r : Racer) : Type 0 where
-  pub caller : IsCaller (limits_of w) r.number
-  pub ready : IsReady w r.desk.pass r.number
-  pub unpinned : HasNoPin (view w r.desk.pass) r.number
-  pub places : HasPlaces w r.desk
-  pub made : ∥ HasMade (limits_of w) (acts_seen r.desk.pass r.number) r.number (progress_of r.desk) ∥₁
+-- What stands of a caller between two of its lines: the desk's pass acts for it, it has no call at work, made whole
+-- calls, and has in progress what the desk shows.
+pub record StandsFor (w : Words) (d : Desk) (me : CallerNo) : Type 0 where
+  pub caller : IsCaller (limits_of w) me
+  pub ready : IsReady w d.pass me
+  pub unpinned : HasNoPin (view w d.pass) me
+  pub places : HasPlaces w d
+  pub made : ∥ HasMade (limits_of w) (acts_seen d.pass me) me (progress_of d) ∥₁
+
+-- what a line of the caller did, and what it said
+abbrev pub LineOn : Words → Desk → Desk → CallerNo → RaceCall → Reply → Type 0
+LineOn w d d' me line r = CallClause me (MakesRaceLine (limits_of w) (progress_of d) me line) (view w d.pass) (view w d'.pass) (record { reply = r; left = progress_of d' })
+
+-- what a `block` did whose selector was found, and what it said
+abbrev pub BlocksOn : Words → Desk → Desk → CallerNo → SelNo → Reply → Type 0
+BlocksOn w d d' me s r = CallClause me (Blocks (progress_of d) s) (view w d.pass) (view w d'.pass) (record { reply = r; left = progress_of d' })
+
+-- the same of a script's line that was made once
+abbrev pub MakesOnce : Words → Desk → Desk → CallerNo → Call → Reply → Type 0
+MakesOnce w d d' me word r = CallClause me (Completes (line_plan (limits_of w) (progress_of d) me word)) (view w d.pass) (view w d'.pass) (record { reply = r; left = progress_of d' })
+
+abbrev pub StandsAlone : Words → Racer → Type 0
+StandsAlone w r = StandsFor w r.desk r.number
 
 -- it has made no line yet
 pub record IsSetOff (w : Words) (r : Racer) : Type 0 where
@@ -32,17 +54,26 @@ pub record IsSetOff (w : Words) (r : Racer) : Type 0 where
   pub unanswered : r.replies.items ≡ []
   pub in_memory : IsFalse r.lacks_memory
 
--- it made its lines of the race, each with its reply
-pub record RanLines (w : Words) (race : List RaceLine) (before after : Racer) : Type 0 where
-  pub acts : List Act
-  pub grew : acts_seen after.desk.pass before.number ≡ acts_seen before.desk.pass before.number ++ acts
-  pub lines : AreRaceLines (limits_of w) before.number (progress_of before.desk) (calls_by before.number race) acts after.replies.items (progress_of after.desk)
+-- the line was made, and its reply comes behind the others
+pub record RepliesLine (w : Words) (d d' : Desk) (me : CallerNo) (line : RaceCall) (replies replies' : List Reply) : Type 0 where
+  pub reply : Reply
+  pub made : LineOn w d d' me line reply
+  pub kept : replies' ≡ replies ++ reply ∷ []
 
--- What has become of a racer: its pass goes on and holds the same numbers. Unless it lacks memory, it made its lines.
+-- the caller made its lines of the race, each with its reply
+pub record MadeLines (w : Words) (race : List RaceLine) (me : CallerNo) (d d' : Desk) (replies : List Reply) : Type 0 where
+  pub acts : List Act
+  pub grew : acts_seen d'.pass me ≡ acts_seen d.pass me ++ acts
+  pub lines : AreRaceLines (limits_of w) me (progress_of d) (calls_by me race) acts replies (progress_of d')
+
+abbrev pub RanLines : Words → List RaceLine → Racer → Racer → Type 0
+RanLines w race before after = MadeLines w race before.number before.desk after.desk after.replies.items
+
+-- What has become of a racer: its pass goes on. Unless it lacks memory, it made its lines.
 pub record HasRaced (w : Words) (race : List RaceLine) (before after : Racer) : Type 0 where
   pub number : after.number ≡ before.number
-  pub stands : StandsAlone w after
-  pub held : HoldSame before.desk.pass after.desk.pass
+  pub pass : IsPassOf w after.desk.pass
+  pub stands : IsFalse after.lacks_memory → StandsAlone w after
   pub later : IsPrefix (seen before.desk.pass) (seen after.desk.pass)
   pub run : IsFalse after.lacks_memory → RanLines w race before after
 

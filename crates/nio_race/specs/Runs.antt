@@ -1,11 +1,14 @@
 -- What a caller does in a line after `go`, and what the line says.
-use Rattle.std.specs.Prelude.{◌≡◌, ◌++◌, ◌&&◌, Bool, true, false, Option, Some, None, List, [], ◌∷◌, All}
+use Rattle.std.specs.Prelude.{◌≡◌, ℕ, ◌++◌, ◌&&◌, Bool, true, false, Option, Some, None, Ok, List, [], ◌∷◌}
+use Rattle.std.specs.List.{Contains}
 use Rattle.nio_base.specs.declared.limits.Limits.{Limits}
 use Rattle.nio_base.specs.declared.numbers.CallerNo.{CallerNo}
 use Rattle.nio_base.specs.declared.numbers.SelNo.{SelNo}
 use Rattle.nio_event.specs.declared.act.Act.{Act}
+use Rattle.nio_event.specs.declared.act.Act.TheVariants.{Mark}
 use Rattle.nio_event.specs.declared.call.Call.{Call}
 use Rattle.nio_event.specs.declared.call.Call.TheVariants as call
+use Rattle.nio_event.specs.declared.found.Mark.{Mark as KeyMark}
 use Rattle.nio_event.specs.declared.found.Mode.TheVariants.{Wait}
 use Rattle.nio_event.specs.declared.reply.Reply.{Reply}
 use Rattle.nio_event.specs.declared.reply.Reply.TheVariants as reply
@@ -16,7 +19,7 @@ use Rattle.nio_serial.specs.Lines.{Said, line_plan, with_selection}
 use Rattle.nio_steps.specs.KeyCalls.{find_selector_plan}
 use Rattle.nio_steps.specs.Runs.{Completes}
 use Rattle.nio_steps.specs.SelectCalls.{Poll, SelectReply, selected, not_begun, left, Selects}
-use Rattle.nio_steps.specs.Waiting.{Retries}
+use Rattle.nio_steps.specs.Waiting.{Retries, Then}
 use Rattle.nio_steps.specs.declared.refusal.BeginError.TheVariants.{ClosedSelector, Busy, Memory}
 
 -- ---- a call that scripts have too
@@ -81,12 +84,12 @@ after_block now s (selected answer) = with_selection now s None
 after_block now s (not_begun refusal) = now
 after_block now s left = now
 
--- A selection without a limit of time, once the selector is found. Its sleeper tells nothing of any key.
+-- A selection without a limit of time, once the selector is found. It marks no key, since its sleeper tells of none.
 pub record Blocks (now : Progress) (s : SelNo) (acts : List Act) (said : Said) : Type 0 where
   pub polls : List Poll
-  pub untold : All (λ poll. poll.pairs ≡ []) polls
   pub answer : SelectReply
   pub selects : Selects s Wait polls acts answer
+  pub unmarked : (x : SelNo) (i told : ℕ) (from : KeyMark) → Contains acts (Mark x i from told (Ok tt)) → ⊥
   pub says : BlockSays answer said.reply
   pub leaves : said.left ≡ after_block now s answer
 
@@ -95,13 +98,9 @@ abbrev pub BlocksOnFound : Progress → SelNo → Option SelNo → List Act → 
 BlocksOnFound now s None acts said = (acts ≡ []) × (said ≡ record { reply = reply.NoSelector; left = now })
 BlocksOnFound now s (Some found) acts said = Blocks now s acts said
 
-pub record LooksAndBlocks (l : Limits) (now : Progress) (s : SelNo) (acts : List Act) (said : Said) : Type 0 where
-  pub found : Option SelNo
-  pub look : List Act
-  pub rest : List Act
-  pub parts : acts ≡ look ++ rest
-  pub looks : Completes (find_selector_plan l s.0) look found
-  pub blocks : BlocksOnFound now s found rest said
+-- the selector is looked up, and then the caller selects there
+abbrev pub LooksAndBlocks : Limits → Progress → SelNo → List Act → Said → Type 0
+LooksAndBlocks l now s = Then (Completes (find_selector_plan l s.0)) (BlocksOnFound now s)
 
 -- ---- the lines of a caller
 

@@ -4,7 +4,9 @@
 
 pub use run::run_race;
 
+mod block;
 mod gather;
+mod line;
 mod output;
 mod racer;
 mod run;

@@ -1,15 +1,19 @@
 //! A caller of a race: its lines after `go`, in a thread of its own.
+ghost use Rattle.std.specs.Prelude.{◌≡◌, ◌==◌, true, false, [], IfOk};
+ghost use mathlib.Core.List.{IsPrefix};
+ghost use Rattle.nio_words.specs.Passes.{IsPassOf, seen};
+ghost use Rattle.nio_race.specs.Racers.{HasRaced, IsSetOff, LineOn, MadeLines, RepliesLine, StandsFor};
 
-
-
-use nio_base::CallerNo;
-use nio_event::Reply;
-use nio_poller::Sleeper;
-
+use crate::block::block_line;
+use crate::line::script_line;
+use nio_base::{CallerNo, Gate};
+use nio_event::{Call, Reply};
+use nio_poller::{Bell, Sleeper, SleeperBell};
+use nio_race_text::{RaceCall, RaceLine};
 use nio_sole::Desk;
-
-
-
+use nio_words::Words;
+use std::alloc::{AllocError, Global};
+use std::sync::Wait;
 
 // A caller of a race: its number, a desk whose pass acts for it alone, the poller of its `block` lines, the replies of
 // its lines so far, and whether it stopped for want of memory.
@@ -21,3 +25,145 @@ pub(crate) struct Racer {
     pub(crate) lacks_memory: bool,
 }
 
+// Makes the racer's lines, one after the other, and passes the gate before each, with its number among the lines of its
+// caller, from 1. Where memory lacks it makes no further line.
+pub(crate) fn run_lines<R: Wait, G: Gate>(
+    rt: &R,
+    alloc: Global,
+    w: &Words,
+    race: &[RaceLine],
+    bells: &[SleeperBell],
+    gate: &G,
+    racer: &mut Racer,
+)
+    requires { IsSetOff w.now racer.old }
+    ensures { HasRaced w.now race.now racer.old racer.new }
+{
+    let made = run_all(
+        rt,
+        alloc,
+        w,
+        race,
+        bells,
+        gate,
+        racer.number,
+        &mut racer.desk,
+        &mut racer.sleeper,
+        &mut racer.replies,
+    );
+    racer.lacks_memory = made.is_err();
+}
+
+fn run_all<R: Wait, G: Gate>(
+    rt: &R,
+    alloc: Global,
+    w: &Words,
+    race: &[RaceLine],
+    bells: &[SleeperBell],
+    gate: &G,
+    me: CallerNo,
+    d: &mut Desk,
+    sleeper: &mut Sleeper,
+    replies: &mut Vec<Reply>,
+) -> Result<(), AllocError>
+    requires stands { StandsFor w.now d.old me }
+    requires unanswered { replies.old.items ≡ [] }
+    ensures run { IfOk result (λ _. MadeLines w.now race.now me d.old d.new replies.new.items) }
+    ensures stands { IfOk result (λ _. StandsFor w.now d.new me) }
+    ensures pass { IsPassOf w.now d.new.pass }
+    ensures later { IsPrefix (seen d.old.pass) (seen d.new.pass) }
+{
+    for line in race {
+        run_if_own(rt, alloc, w, bells, gate, me, d, sleeper, line, replies)?;
+    }
+    Ok(())
+}
+
+// Makes a line of the race, where it is the caller's.
+fn run_if_own<R: Wait, G: Gate>(
+    rt: &R,
+    alloc: Global,
+    w: &Words,
+    bells: &[SleeperBell],
+    gate: &G,
+    me: CallerNo,
+    d: &mut Desk,
+    sleeper: &mut Sleeper,
+    line: &RaceLine,
+    replies: &mut Vec<Reply>,
+) -> Result<(), AllocError>
+    requires { StandsFor w.now d.old me }
+    ensures own { IfOk result (λ _. (line.now.caller.0 == me.0) ≡ true → RepliesLine w.now d.old d.new me line.now.call replies.old.items replies.new.items) }
+    ensures other { IfOk result (λ _. (line.now.caller.0 == me.0) ≡ false → (d.new ≡ d.old) × (replies.new.items ≡ replies.old.items)) }
+    ensures stands { IfOk result (λ _. StandsFor w.now d.new me) }
+    ensures pass { IsPassOf w.now d.new.pass }
+    ensures later { IsPrefix (seen d.old.pass) (seen d.new.pass) }
+{
+    if line.caller.0 != me.0 {
+        return Ok(());
+    }
+    gate.pass(rt, me.0, replies.len() as u64 + 1);
+    run_one(rt, alloc, w, bells, me, d, sleeper, &line.call, replies)
+}
+
+// Makes a line, and keeps its reply.
+fn run_one<R: Wait>(
+    rt: &R,
+    alloc: Global,
+    w: &Words,
+    bells: &[SleeperBell],
+    me: CallerNo,
+    d: &mut Desk,
+    sleeper: &mut Sleeper,
+    call: &RaceCall,
+    replies: &mut Vec<Reply>,
+) -> Result<(), AllocError>
+    requires { StandsFor w.now d.old me }
+    ensures line { IfOk result (λ _. RepliesLine w.now d.old d.new me call.now replies.old.items replies.new.items) }
+    ensures stands { IfOk result (λ _. StandsFor w.now d.new me) }
+    ensures pass { IsPassOf w.now d.new.pass }
+    ensures later { IsPrefix (seen d.old.pass) (seen d.new.pass) }
+{
+    let reply = make_race_line(rt, alloc, w, bells, me, d, sleeper, call)?;
+    replies.push(reply)?;
+    Ok(())
+}
+
+fn make_race_line<R: Wait>(
+    rt: &R,
+    alloc: Global,
+    w: &Words,
+    bells: &[SleeperBell],
+    me: CallerNo,
+    d: &mut Desk,
+    sleeper: &mut Sleeper,
+    call: &RaceCall,
+) -> Result<Reply, AllocError>
+    requires { StandsFor w.now d.old me }
+    ensures line { IfOk result (LineOn w.now d.old d.new me call.now) }
+    ensures stands { IfOk result (λ _. StandsFor w.now d.new me) }
+    ensures pass { IsPassOf w.now d.new.pass }
+    ensures later { IsPrefix (seen d.old.pass) (seen d.new.pass) }
+{
+    match call {
+        RaceCall::Script(call) => {
+            let reply = script_line(rt, alloc, w, d, me, call)?;
+            if wakes(call) {
+                ring_all(bells);
+            }
+            Ok(reply)
+        }
+        RaceCall::Block(sel) => block_line(rt, alloc, w, d, sleeper, me, *sel),
+    }
+}
+
+// Whether the call may end the wait of a caller that blocks.
+fn wakes(call: &Call) -> bool {
+    matches!(call, Call::Wakeup(..) | Call::Close(..) | Call::Interrupt(..))
+}
+
+fn ring_all(bells: &[SleeperBell]) {
+    for bell in bells {
+        bell.ring();
+    }
+}

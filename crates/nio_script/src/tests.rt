@@ -10,7 +10,7 @@ use crate::*;
 use nio_base::{CallerNo, Limits};
 use nio_bytes::{Failed, MemorySink, MemorySource, Sink, SteadySource};
 use nio_event::{Call, Reply};
-use nio_plain::{Plain, Rules, System};
+use nio_plain::{Rules, System};
 use std::alloc::{AllocError, Global};
 use std::test::Fail;
 
@@ -234,49 +234,6 @@ fn a_script_ends_at_a_fault(rt: HostRuntime) -> Result<(), Fail> {
     let status = run_script(alloc, &mut source, &mut sink, &mut Deaf);
     assert_eq!(rt; status, Status::ReadFault);
     assert_eq!(rt; sink.bytes().len(), 0);
-    Ok(())
-}
-
-#[test]
-fn small_limits(rt: HostRuntime) -> Result<(), Fail> {
-    let alloc = rt.alloc();
-    let rows = [
-        ("t1 selector", "s0"),
-        ("t1 selector", "selectors-spent"),
-        ("t1 channel source", "c0"),
-        ("t1 channel source", "c1"),
-        ("t1 channel source", "c2"),
-        ("t1 channel source", "c3"),
-        ("t1 channel source", "channels-spent"),
-        ("t1 blocking c0 off", "ok"),
-        ("t1 blocking c1 off", "ok"),
-        ("t1 blocking c2 off", "ok"),
-        ("t1 register s0 c0 1", "k0"),
-        ("t1 register s0 c1 1", "k1"),
-        ("t1 register s0 c2 1", "full"),
-        ("t1 register s0 c0 0", "k0"),
-        ("t2 interrupted", "no-caller"),
-    ];
-    let mut script = String::new(alloc);
-    let mut history = String::new(alloc);
-    for (index, (line, reply)) in rows.iter().enumerate() {
-        script.push_str(&format!(in alloc; "{line}\n")?)?;
-        history.push_str(&format!(in alloc; "{} {line} -> {reply}\n", index as u64 + 1)?)?;
-    }
-    let limits = Limits {
-        callers: 2,
-        selectors: 1,
-        channels: 4,
-        keys: 2,
-    };
-    let mut source = SteadySource::make(script.into_bytes());
-    let mut sink = MemorySink::make(alloc, 5, Vec::new(alloc), 1_000)?;
-    let mut system = Plain::make(alloc, limits)?;
-    assert_eq!(rt;
-        run_script(alloc, &mut source, &mut sink, &mut system),
-        Status::Done
-    );
-    assert_eq!(rt; sink.bytes(), history.as_bytes());
     Ok(())
 }
 

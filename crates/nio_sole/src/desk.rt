@@ -1,5 +1,5 @@
 //! What one caller after the other uses the table with.
-ghost use Rattle.std.specs.Prelude.{◌≡◌, ◌<◌, Some, is_some, option_map, slice_set, vec_len};
+ghost use Rattle.std.specs.Prelude.{◌≡◌, ◌<◌, Some, None, is_some, option_map, slice_set, vec_len};
 ghost use Rattle.nio_plain.specs.Seq.Selections.{is_caller};
 ghost use Rattle.nio_serial.specs.Lines.{if_own};
 ghost use Rattle.nio_sole.specs.Stands.{selecting_of};
@@ -128,6 +128,16 @@ fn selects(place: &Option<Begun>, me: CallerNo) -> bool
         Some(begun) => begun.caller.0 == me.0,
         None => false,
     }
+}
+
+/// Takes a selection out of its place, whosever it is, and lets it go without a step.
+pub fn drop_selection(selections: &mut Vec<Option<Begun>>, sel: SelNo)
+    requires { sel.0 < vec_len selections.old }
+    ensures items { selections.new.items ≡ slice_set selections.old.items sel.0 None }
+    ensures len { vec_len selections.new ≡ vec_len selections.old }
+{
+    let before = selections[sel.0 as usize].take();
+    forget_selection(before);
 }
 
 // Puts a closing into its selector's place.

@@ -1,7 +1,7 @@
 //! A script's calls on the shared table, one after the other.
 #![tactic(auto)]
 
-pub use desk::{Begun, Desk, Shut, forget_closings, forget_selections};
+pub use desk::{Begun, Desk, Shut, drop_selection, forget_closings, forget_selections};
 pub use laws::sole_law;
 pub use line::{make_line, say_line};
 pub use making::{no_progress, open_desk};

@@ -1,5 +1,6 @@
 //! The keys that a selection looks at, as a line's reply lists them and as its arguments tell of them.
-ghost use Rattle.std.specs.Prelude.{◌≡◌, ◌+◌, ◌<◌, ◌≤◌, ◌++◌, [], ◌∷◌, length, map, vec_len, IfOk};
+ghost use Rattle.std.specs.Prelude.{◌≡◌, ◌+◌, ◌<◌, ◌≤◌, ◌++◌, All, [], ◌∷◌, drop, length, map, take, vec_len, IfOk};
+ghost use Rattle.std.specs.List.{AllPairs};
 ghost use Rattle.std.specs.Vec.{vec_capacity};
 ghost use Rattle.nio_plain.specs.Seq.Selections.{is_looked};
 ghost use Rattle.nio_serial.specs.Documented.{looked_pair};
@@ -37,6 +38,7 @@ pub(crate) fn pairs_by_index(
     asked: &Asked,
     pairs: &[(KeyId, Ops)],
 ) -> Result<Vec<(u32, Ops)>, AllocError>
+    requires { AllPairs (λ x y. x.index < y.index) asked.now }
     ensures { IfOk result (λ v. v.items ≡ told_pairs asked.now pairs.now) }
 {
     let mut told = Vec::new(alloc);
@@ -50,13 +52,34 @@ pub(crate) fn pairs_by_index(
 
 // Whether the selection looks at the key.
 fn is_asked(asked: &Asked, id: KeyId) -> bool
+    requires { AllPairs (λ x y. x.index < y.index) asked.now }
     ensures { result ≡ is_looked (map looked_pair asked.now) id }
 {
-    for at in 0..asked.len() {
-        let (index, _chan, _interest) = asked.entry(at);
-        if index == id.index && asked.serial(at) == id.serial {
-            return true;
+    let at = place_of(asked, id.index);
+    if at == asked.len() {
+        return false;
+    }
+    let (index, _chan, _interest) = asked.entry(at);
+    index == id.index && asked.serial(at) == id.serial
+}
+
+// How many of the keys have a smaller index, by a binary search.
+fn place_of(asked: &Asked, index: u32) -> usize
+    requires { AllPairs (λ x y. x.index < y.index) asked.now }
+    ensures within { result ≤ length asked.now }
+    ensures before { All (λ x. x.index < index) (take result asked.now) }
+    ensures behind { All (λ x. index ≤ x.index) (drop result asked.now) }
+{
+    let mut low = 0;
+    let mut high = asked.len();
+    while low < high {
+        let middle = low + (high - low) / 2;
+        let (found, _chan, _interest) = asked.entry(middle);
+        if found < index {
+            low = middle + 1;
+        } else {
+            high = middle;
         }
     }
-    false
+    low
 }

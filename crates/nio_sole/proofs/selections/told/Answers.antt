@@ -5,7 +5,7 @@ use Rattle.nio_serial.specs.Replies.{told_reply}
 use Rattle.nio_sole.proofs.Asking.{makes_ran, told_by, tells_ran, refused_at}
 use Rattle.nio_sole.proofs.Calls.{again-same}
 use Rattle.nio_sole.proofs.Desks.{left_as, with_selections, progress_selection, places_selection, places_selection_taken, nothing_there, progress_selection_back, places_selection_back, own_on}
-use Rattle.nio_sole.proofs.Owning.{its_selects}
+use Rattle.nio_sole.proofs.Owning.{its_selects, looked_rise}
 use Rattle.nio_base.specs.declared.numbers.SelNo.{SelNo}
 use Rattle.nio_sole.specs.Makes.{told_unmade}
 use Rattle.nio_sole.specs.Stands.{progress_of, selections_of}
@@ -24,6 +24,10 @@ returns-in-None c =
       ready = c.requires.ask.ready;
       places = places_selection_taken c.requires.places c.in-None.ensures.taken.0 c.in-None.ensures.len;
     }
+
+pub pairs_by_index-requires : goal.pairs_by_index-requires
+pairs_by_index-requires c =
+    looked_rise c.args.w.now c.args.d.now c.args.me c.args.sel c.in-Some.selection c.requires.ask.ready c.requires.ask.named c.requires.places c.requires.made c.in-Some.ensures.taken.1 _ c.asked.ensures
 
 pub told-requires-clause-begun : goal.told-requires-clause-begun
 told-requires-clause-begun c =

@@ -1,0 +1,11 @@
+pub mod Addresses
+pub mod Commands
+pub mod Givens
+pub mod LongWords
+pub mod Numbers
+pub mod Orders
+pub mod Parses
+pub mod ProxyApp
+pub mod ProxyWords
+pub mod Table
+pub mod Turns

@@ -1,0 +1,23 @@
+-- The command is put together from its settings and four options.
+use Rattle.std.proofs.Common.{ap, ap₂, true, codes, ◌≡◌, ◌∙◌}
+use Rattle.std.proofs.lemmas.Result.{IfOk-weaker}
+use Rattle.clap.specs.Simple.{Shape, app_of, app_of_fields, new_app, on_top, with_rule}
+use Rattle.nio_command.specs.ProxyApp.{settings}
+use Rattle.nio_command.proofs.options.proxy_command.Goals as goal
+
+pub returns : goal.returns
+returns c =
+    let start : app_of c.disable_help_flag.result ≡ on_top settings (new_app (codes "proxy")) =
+    ap app_of_fields c.disable_help_flag.ensures
+    ∙ ap (on_top (λ (s : Shape). record s { disable_help_flag = true }))
+    (ap app_of_fields c.no_binary_name.ensures
+    ∙ ap (on_top (λ (s : Shape). record s { no_binary_name = true })) c.new.ensures.app) in
+    let one = c.in_ok-arg.ensures.shape c.required_option.ensures.local
+    ∙ ap₂ with_rule start c.required_option.ensures.rule in
+    let two = c.in_ok-arg-2.ensures.shape c.required_option-2.ensures.local
+    ∙ ap₂ with_rule one c.required_option-2.ensures.rule in
+    let three = c.in_ok-arg-3.ensures.shape c.required_option-3.ensures.local
+    ∙ ap₂ with_rule two c.required_option-3.ensures.rule in
+    IfOk-weaker c.arg-4.result _ _
+    (λ r added. added.shape c.required_option-4.ensures.local
+    ∙ ap₂ with_rule three c.required_option-4.ensures.rule) c.arg-4.ensures

@@ -1,0 +1,59 @@
+-- The words of the command line, without the program's name.
+use Rattle.std.specs.Prelude.{◌≡◌, List, [], ◌∷◌, codes}
+use Rattle.std.specs.Fmt.{decimal}
+use Rattle.nio_relay.specs.Plan.{IsServable}
+use Rattle.nio_relay.specs.declared.plan.ProxyPlan.{ProxyPlan}
+use Rattle.nio_command.specs.Options.{Text, AreOptions}
+use Rattle.nio_command.specs.Values.{IsAddress, ProxyValues, address_text, proxy_options}
+use Rattle.nio_command.specs.declared.command.Command.{Command}
+use Rattle.nio_command.specs.declared.command.Command.TheVariants.{Script, Check, CheckFirst, Race, Proxy}
+
+-- the one word `script`
+abbrev pub IsScriptCommand : List Text → Type 0
+IsScriptCommand words = words ≡ codes "script" ∷ []
+
+-- the one word `check`
+abbrev pub IsCheckCommand : List Text → Type 0
+IsCheckCommand words = words ≡ codes "check" ∷ []
+
+-- the one word `check-1`
+abbrev pub IsCheckFirstCommand : List Text → Type 0
+IsCheckFirstCommand words = words ≡ codes "check-1" ∷ []
+
+-- the one word `race`
+abbrev pub IsRaceCommand : List Text → Type 0
+IsRaceCommand words = words ≡ codes "race" ∷ []
+
+-- the addresses, and 1 to 16,000 connections
+pub record IsInRange (plan : ProxyPlan) : Type 0 where
+  pub listen : IsAddress plan.listen
+  pub target : IsAddress plan.target
+  pub connections : IsServable plan
+
+-- the values of a plan's options
+abbrev pub values_of : ProxyPlan → ProxyValues
+values_of plan = record {
+  way = codes "select";
+  listen = address_text plan.listen;
+  target = address_text plan.target;
+  conns = decimal plan.conns;
+}
+
+-- the word `proxy`, and the options of this plan
+pub record IsProxyCommand (words : List Text) (plan : ProxyPlan) : Type 0 where
+  pub in_range : IsInRange plan
+  pub rest : List Text
+  pub begins : words ≡ codes "proxy" ∷ rest
+  pub options : AreOptions rest (proxy_options (values_of plan))
+
+-- the words are this command
+abbrev pub IsCommand : List Text → Command → Type 0
+IsCommand words Script = IsScriptCommand words
+IsCommand words Check = IsCheckCommand words
+IsCommand words CheckFirst = IsCheckFirstCommand words
+IsCommand words Race = IsRaceCommand words
+IsCommand words (Proxy plan) = IsProxyCommand words plan
+
+-- the words are no command
+abbrev pub SaysNothing : List Text → Type 0
+SaysNothing words = (command : Command) → ¬ (IsCommand words command)

@@ -1,0 +1,91 @@
+//! A command, and the words that it is.
+ghost use Rattle.std.specs.Prelude.{◌≡◌, ◌≢◌, ◌↔◌, List, ℕ, ◌∷◌, [], map, codes, Ok, Err, Some, IfSome};
+ghost use Rattle.std.specs.String.{string_bytes};
+ghost use Rattle.nio_command.specs.Words.{IsCommand, IsProxyCommand, SaysNothing};
+
+use crate::options::read_options;
+use crate::plan::read_plan;
+use nio_relay::ProxyPlan;
+use std::alloc::{AllocError, Global};
+
+/// A command of the program.
+#[derive(Clone, Copy, Debug, PartialEq, Eq)]
+pub enum Command {
+    /// `script`: reads a script and writes its history.
+    Script,
+    /// `check`: reads a history and says whether it is legal by the rules of now.
+    Check,
+    /// `check-1`: reads a history and says whether it is legal by the first rules.
+    CheckFirst,
+    /// `race`: reads a race, runs its callers on threads, and writes their histories.
+    Race,
+    /// `proxy` and its options: relays connections by this plan.
+    Proxy(ProxyPlan),
+}
+
+/// Why words are no command.
+#[derive(Clone, Copy, Debug, PartialEq, Eq)]
+pub enum WordsError {
+    /// They say nothing that is known.
+    Usage,
+    /// There was no memory to read the options.
+    Memory,
+}
+
+impl From<AllocError> for WordsError {
+    ghost use Rattle.nio_command.specs.declared.command.WordsError.TheVariants.{Memory};
+
+    ghost from_gives = { λ _ e. e ≡ Memory };
+
+    fn from(_error: AllocError) -> Self {
+        WordsError::Memory
+    }
+}
+
+/// The command that the words are, where `words` leaves out the program's name. Only words that begin
+/// with `proxy` take memory.
+pub fn command_of(alloc: Global, words: &[String]) -> Result<Command, WordsError>
+    ensures found { (command : Command) → result ≡ Ok command
+        → IsCommand (map string_bytes words.now) command }
+    ensures only { (command : Command) → IsCommand (map string_bytes words.now) command
+        → result ≢ Err WordsError.Memory → result ≡ Ok command }
+    ensures usage { result ≢ Err WordsError.Memory
+        → (result ≡ Err WordsError.Usage ↔ SaysNothing (map string_bytes words.now)) }
+    ensures memory { result ≡ Err WordsError.Memory
+        → (rest : List (List ℕ)) × (map string_bytes words.now ≡ codes "proxy" ∷ rest) }
+{
+    match words {
+        [word] => command_named(word.as_str()).ok_or(WordsError::Usage),
+        [word, options @ ..] if word.as_str() == "proxy" => {
+            Ok(Command::Proxy(read_proxy(alloc, options)?))
+        }
+        _ => Err(WordsError::Usage),
+    }
+}
+
+// The command that is this one word.
+fn command_named(word: &str) -> Option<Command>
+    ensures found { IfSome result (λ command. IsCommand (word.now ∷ []) command) }
+    ensures only { (command : Command) → IsCommand (word.now ∷ []) command
+        → result ≡ Some command }
+{
+    match word {
+        "script" => Some(Command::Script),
+        "check" => Some(Command::Check),
+        "check-1" => Some(Command::CheckFirst),
+        "race" => Some(Command::Race),
+        _ => None,
+    }
+}
+
+// The plan that these words behind `proxy` are.
+fn read_proxy(alloc: Global, words: &[String]) -> Result<ProxyPlan, WordsError>
+    ensures found { (plan : ProxyPlan) → result ≡ Ok plan
+        → IsProxyCommand (codes "proxy" ∷ map string_bytes words.now) plan }
+    ensures only { (plan : ProxyPlan)
+        → IsProxyCommand (codes "proxy" ∷ map string_bytes words.now) plan
+        → result ≢ Err WordsError.Memory → result ≡ Ok plan }
+{
+    let texts = read_options(alloc, words)?.ok_or(WordsError::Usage)?;
+    read_plan(texts).ok_or(WordsError::Usage)
+}

@@ -1,0 +1,12 @@
+//! The words of the program's command line. The options of `proxy` are read with `clap`.
+#![tactic(auto)]
+
+pub use command::{Command, WordsError, command_of};
+
+mod address;
+mod command;
+mod number;
+mod options;
+mod plan;
+#[cfg(test)]
+mod tests;

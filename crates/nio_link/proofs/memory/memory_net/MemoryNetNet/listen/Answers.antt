@@ -1,0 +1,18 @@
+use Rattle.nio_link.proofs.MemoryLaws.{cause_after, cause_else, listen_carried, listen_faulted, listen_findings, listen_polls}
+use Rattle.nio_link.specs.MemoryNet.{listen_answer}
+use Rattle.nio_link.proofs.memory.memory_net.MemoryNetNet.listen.Goals as goal
+
+pub returns-clause-cause : goal.returns-clause-cause
+returns-clause-cause c = rw (c.listen_on.ensures.answer, c.listen_on.ensures.after, listen_faulted c.args.self.now c.args.chan) (cause_after (listen_answer c.args.self.now c.args.chan) c.args.self.now.faulted c.args.chan)
+
+pub returns-clause-others : goal.returns-clause-others
+returns-clause-others c = rw (c.listen_on.ensures.after, listen_faulted c.args.self.now c.args.chan) (cause_else (listen_answer c.args.self.now c.args.chan) c.args.self.now.faulted c.args.chan)
+
+pub returns-clause-links : goal.returns-clause-links
+returns-clause-links c = rw c.listen_on.ensures.after (listen_carried c.args.self.now c.args.chan)
+
+pub returns-clause-ready : goal.returns-clause-ready
+returns-clause-ready c = λ k. rw (c.listen_on.ensures.after, listen_findings c.args.self.now c.args.chan)
+
+pub returns-clause-polls : goal.returns-clause-polls
+returns-clause-polls c = rw (c.listen_on.ensures.after, listen_polls c.args.self.now c.args.chan)

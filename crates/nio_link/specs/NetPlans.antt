@@ -1,0 +1,65 @@
+-- How a net in memory begins.
+use Rattle.std.specs.Prelude.{ℕ, ◌+◌, ◌*◌, ◌-◌, ◌^◌, min, max, Bool, false, Option, Some, None, List, [], ◌∷◌, length, map, replicate}
+use Rattle.nio_bytes.specs.Calls.{no_calls}
+use Rattle.nio_link.specs.MemoryLinks.{LinkState}
+use Rattle.nio_link.specs.MemoryNet.{NetState}
+use Rattle.nio_link.specs.Pieces.{total}
+use Rattle.nio_link.specs.declared.memory.plan.NetPlan.{NetPlan}
+use Rattle.nio_link.specs.declared.memory.plan.PeerPlan.{PeerPlan}
+use Rattle.nio_link.specs.declared.memory.slot.Slot.{Slot}
+use Rattle.nio_link.specs.declared.memory.slot.Slot.TheVariants as slot
+use Rattle.nio_link.specs.declared.memory.stage.Stage.TheVariants as stage
+
+-- Nothing was carried. Reads are to give these pieces.
+abbrev pub fresh_link : List (List ℕ) → ℕ → ℕ → LinkState
+fresh_link pieces most limit = record {
+  stage = stage.Connected;
+  pieces = pieces;
+  got = [];
+  ended = false;
+  put = [];
+  shut = false;
+  most = most;
+  limit = limit;
+  fail_connect = false;
+}
+
+-- the client's end, which takes what the target sends
+abbrev pub client_of : List (List ℕ) → List (List ℕ) → LinkState
+client_of sends answers = fresh_link sends (2 ^ 64 - 1) (total answers)
+
+-- how many bytes the target takes in all
+abbrev pub limit_of : Option ℕ → ℕ → ℕ
+limit_of None room = room
+limit_of (Some after) room = min after room
+
+-- the target's end, which is still to be connected, and takes what the client sends
+abbrev pub target_of : List (List ℕ) → List (List ℕ) → ℕ → Option ℕ → Bool → LinkState
+target_of sends answers most after fails = record (fresh_link answers (max most 1) (limit_of after (total sends))) { stage = stage.Connecting; fail_connect = fails }
+
+-- both ends of a peer
+abbrev pub client_end : PeerPlan → LinkState
+client_end peer = client_of (map (λ piece. piece.items) peer.sends.items) (map (λ piece. piece.items) peer.answers.items)
+
+abbrev pub target_end : PeerPlan → LinkState
+target_end peer = target_of (map (λ piece. piece.items) peer.sends.items) (map (λ piece. piece.items) peer.answers.items) peer.most peer.fail_write_after peer.fail_connect
+
+-- the numbers of the calls that fail
+abbrev pub numbers_of : Option ℕ → List ℕ
+numbers_of None = []
+numbers_of (Some n) = n ∷ []
+
+-- room for a listener and two links a peer
+abbrev pub free_slots : ℕ → List Slot
+free_slots peers = replicate (2 * peers + 1) slot.Free
+
+abbrev pub planned : NetPlan → NetState
+planned plan = record {
+  slots = free_slots (length plan.peers.items);
+  clients = map client_end plan.peers.items;
+  targets = map target_end plan.peers.items;
+  polls = no_calls (numbers_of plan.fail_poll);
+  accepts = no_calls (numbers_of plan.fail_accept);
+  faulted = [];
+  findings = [];
+}

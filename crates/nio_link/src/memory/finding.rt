@@ -1,0 +1,10 @@
+//! What a net in memory found.
+use nio_base::{ChanNo, Ops};
+use nio_poller::ToldPoll;
+
+/// What was found of the readiness of channels: a poll told it, or a call found a channel not ready for an operation.
+#[derive(Drop)]
+pub(crate) enum Finding {
+    Told(ToldPoll),
+    NotReady(ChanNo, Ops),
+}

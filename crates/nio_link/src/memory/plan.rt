@@ -1,0 +1,138 @@
+//! What a net in memory is to do.
+ghost use Rattle.std.specs.Prelude.{◌≡◌, ℕ, ◌≤◌, map, IfOk};
+ghost use Rattle.nio_link.specs.NetPlans.{fresh_link, client_end, target_end, limit_of, numbers_of, planned};
+ghost use Rattle.nio_link.specs.Pieces.{total};
+
+use crate::memory::link::MemoryLink;
+use crate::memory::memory_net::MemoryNet;
+use crate::memory::pieces::Pieces;
+use crate::memory::slot::Slot;
+use crate::memory::stage::Stage;
+use nio_bytes::Calls;
+use nio_trace::Trace;
+use std::alloc::{AllocError, Global};
+use std::collections::VecDeque;
+
+/// One connection: a client, which is accepted, and a target, which is connected to.
+#[derive(Drop)]
+pub struct PeerPlan {
+    /// What the client sends, then its end. A read gives at most one piece; for an empty piece it answers once that
+    /// nothing has come yet.
+    pub sends: Vec<Vec<u8>>,
+    /// What the target sends, then its end.
+    pub answers: Vec<Vec<u8>>,
+    /// The most bytes that the target takes per write, at least 1.
+    pub most: usize,
+    /// Whether connecting to the target fails.
+    pub fail_connect: bool,
+    /// After how many bytes a write to the target fails.
+    pub fail_write_after: Option<u64>,
+}
+
+/// The connections in their order, and which poll and which call of `accept` fails, counted from 0.
+#[derive(Drop)]
+pub struct NetPlan {
+    pub peers: Vec<PeerPlan>,
+    pub fail_poll: Option<u64>,
+    pub fail_accept: Option<u64>,
+}
+
+impl MemoryNet {
+    /// A net with room for a listener and two links a peer: its channels have numbers up to twice the number of peers,
+    /// and a call on any other channel fails. It takes memory for all bytes of its plan; a write past them fails. A
+    /// link that `accept` makes is the client of the next peer, and one that `connect` makes is the target of the next
+    /// peer not yet connected. Each channel bears one link.
+    pub fn make(alloc: Global, plan: NetPlan) -> Result<MemoryNet, AllocError>
+        ensures { IfOk result (λ net. net ≡ planned plan) }
+    {
+        let mut slots = Vec::new(alloc);
+        let mut clients = Vec::new(alloc);
+        let mut targets = Vec::new(alloc);
+        slots.push(Slot::Free)?;
+        for peer in plan.peers {
+            let (client, target) = ends_of(alloc, peer)?;
+            clients.push(client)?;
+            targets.push(target)?;
+            slots.push(Slot::Free)?;
+            slots.push(Slot::Free)?;
+        }
+        Ok(MemoryNet {
+            slots,
+            clients: VecDeque::from_vec(clients),
+            targets: VecDeque::from_vec(targets),
+            polls: Calls::new(numbers(alloc, plan.fail_poll)?),
+            accepts: Calls::new(numbers(alloc, plan.fail_accept)?),
+            faulted: Trace::new(),
+            findings: Trace::new(),
+        })
+    }
+}
+
+fn numbers(alloc: Global, number: Option<u64>) -> Result<Vec<u64>, AllocError>
+    ensures { IfOk result (λ list. list.items ≡ numbers_of number) }
+{
+    let mut list = Vec::new(alloc);
+    if let Some(number) = number {
+        list.push(number)?;
+    }
+    Ok(list)
+}
+
+// Both ends of a connection.
+fn ends_of(alloc: Global, peer: PeerPlan) -> Result<(MemoryLink, MemoryLink), AllocError>
+    ensures { IfOk result (λ ends. (ends.0 ≡ client_end peer) × (ends.1 ≡ target_end peer)) }
+{
+    let sent = bytes_in(&peer.sends)?;
+    let answered = bytes_in(&peer.answers)?;
+    let limit = limit(peer.fail_write_after, sent);
+    let client = open(alloc, peer.sends, sent, usize::MAX, answered)?;
+    let mut target = open(alloc, peer.answers, answered, peer.most.max(1), limit)?;
+    target.stage = Stage::Connecting;
+    target.fail_connect = peer.fail_connect;
+    Ok((client, target))
+}
+
+// An end that has carried nothing, and memory for what it is to carry.
+fn open(
+    alloc: Global,
+    pieces: Vec<Vec<u8>>,
+    count: usize,
+    most: usize,
+    limit: usize,
+) -> Result<MemoryLink, AllocError>
+    requires count { count ≡ total (map (λ piece. piece.items) pieces.items) }
+    requires most { 1 ≤ most }
+    ensures { IfOk result (λ link. link ≡ fresh_link (map (λ piece. piece.items) pieces.items) most limit) }
+{
+    Ok(MemoryLink {
+        stage: Stage::Connected,
+        pieces: Pieces::make(Vec::new(alloc), pieces),
+        got: Vec::with_capacity(alloc, count)?,
+        ended: false,
+        put: Vec::with_capacity(alloc, limit)?,
+        shut: false,
+        most,
+        limit,
+        fail_connect: false,
+    })
+}
+
+fn limit(after: Option<u64>, room: usize) -> usize
+    ensures { result ≡ limit_of after room }
+{
+    match after {
+        None => room,
+        Some(after) => room.min(after as usize),
+    }
+}
+
+// How many bytes there are in all. Where the count doesn't fit, there is no memory for them either.
+fn bytes_in(pieces: &[Vec<u8>]) -> Result<usize, AllocError>
+    ensures { IfOk result (λ count. count ≡ total (map (λ piece. piece.items) pieces.now)) }
+{
+    let mut count: usize = 0;
+    for piece in pieces {
+        count = count.checked_add(piece.len()).ok_or(AllocError)?;
+    }
+    Ok(count)
+}

@@ -1,0 +1,183 @@
+//! A link that keeps how far it is connected, and refuses the calls that its state doesn't allow.
+ghost use Rattle.std.specs.Prelude.{◌≡◌, ◌≢◌, [], IsTrue};
+ghost use Rattle.nio_steps.specs.KeyCalls.{is_within};
+ghost use Rattle.nio_link.specs.Nets.{Closes, view_by};
+ghost use Rattle.nio_link.specs.Streams.{as_fault, connect_refusal, transfer_refusal, state_after, ConnectClause, FinishClause, ReadClause, WriteClause, CloseClause};
+ghost use Rattle.nio_link.specs.declared.stream.StreamState.TheVariants as state;
+
+use crate::net::{Failed, Got, Net, Put};
+use nio_base::{Addr, ChanNo};
+use std::marker::Model;
+use thiserror::Error;
+
+/// Why a call on a link has no answer.
+#[derive(Clone, Copy, Debug, PartialEq, Eq, Error)]
+pub enum LinkError {
+    /// Java's `ClosedChannelException`.
+    #[error("the channel is closed")]
+    ClosedChannel,
+    /// Java's `AlreadyConnectedException`.
+    #[error("the channel is already connected")]
+    AlreadyConnected,
+    /// Java's `ConnectionPendingException`.
+    #[error("a connection is pending")]
+    ConnectionPending,
+    /// Java's `NoConnectionPendingException`.
+    #[error("no connection is pending")]
+    NoConnectionPending,
+    /// Java's `NotYetConnectedException`.
+    #[error("the channel is not yet connected")]
+    NotYetConnected,
+    /// The net's call failed: Java's `IOException`.
+    #[error("the call on the link failed")]
+    Fault,
+}
+
+/// How far a link is connected.
+#[derive(Clone, Copy, Debug, PartialEq, Eq)]
+pub enum StreamState {
+    Unconnected,
+    Connecting,
+    Connected,
+    Closed,
+}
+
+/// A link of a net. Its calls look at its state first: what that refuses doesn't reach the net.
+#[derive(Drop)]
+pub struct StreamLink {
+    chan: ChanNo,
+    state: StreamState,
+}
+
+impl Model for StreamLink {
+    ghost use Rattle.nio_link.specs.Streams.{Stream};
+
+    ghost Value = { Stream };
+
+    ghost view = { λ s. record { channel = s.chan; state = s.state } };
+}
+
+impl StreamLink {
+    /// A link that is to be connected under this channel.
+    pub fn make(chan: ChanNo) -> StreamLink
+        ensures { result ≡ record { channel = chan; state = state.Unconnected } }
+    {
+        StreamLink {
+            chan,
+            state: StreamState::Unconnected,
+        }
+    }
+
+    /// A link that a listener accepted under this channel.
+    pub fn accepted(chan: ChanNo) -> StreamLink
+        ensures { result ≡ record { channel = chan; state = state.Connected } }
+    {
+        StreamLink {
+            chan,
+            state: StreamState::Connected,
+        }
+    }
+
+    /// Begins to connect. True where it is connected; false where that isn't done yet. A fault closes the link.
+    pub fn connect<N: Net>(&mut self, net: &mut N, to: Addr) -> Result<bool, LinkError>
+        ensures { ConnectClause (view_by N.link N.faults N.ready N.poll_faults) (connect_refusal self.old.state) self.old self.new net.old net.new result }
+    {
+        match self.state {
+            StreamState::Unconnected => {
+                let made = net.connect(self.chan, to);
+                self.settle(net, made)
+            }
+            StreamState::Connecting => Err(LinkError::ConnectionPending),
+            StreamState::Connected => Err(LinkError::AlreadyConnected),
+            StreamState::Closed => Err(LinkError::ClosedChannel),
+        }
+    }
+
+    /// Goes on connecting. True where the link is connected; false where that isn't done yet. A fault closes the link.
+    pub fn finish_connect<N: Net>(&mut self, net: &mut N) -> Result<bool, LinkError>
+        requires { self.old.state ≡ state.Connecting → IsTrue (is_within 8 (N.ready net.old self.old.channel)) }
+        ensures { FinishClause (view_by N.link N.faults N.ready N.poll_faults) self.old.state self.old self.new net.old net.new result }
+    {
+        match self.state {
+            StreamState::Unconnected => Err(LinkError::NoConnectionPending),
+            StreamState::Connecting => {
+                let made = net.finish_connect(self.chan);
+                self.settle(net, made)
+            }
+            StreamState::Connected => Ok(true),
+            StreamState::Closed => Err(LinkError::ClosedChannel),
+        }
+    }
+
+    /// Reads what has come, as far as it fits.
+    pub fn read<N: Net>(&mut self, net: &mut N, into: &mut [u8]) -> Result<Got, LinkError>
+        requires some { self.old.state ≡ state.Connected → into.old ≢ [] }
+        requires ready { self.old.state ≡ state.Connected → IsTrue (is_within 1 (N.ready net.old self.old.channel)) }
+        ensures { ReadClause (view_by N.link N.faults N.ready N.poll_faults) (transfer_refusal self.old.state) self.old self.new net.old net.new into.old into.new result }
+    {
+        match self.state {
+            StreamState::Unconnected | StreamState::Connecting => Err(LinkError::NotYetConnected),
+            StreamState::Connected => told(net.read(self.chan, into)),
+            StreamState::Closed => Err(LinkError::ClosedChannel),
+        }
+    }
+
+    /// Writes bytes, as many as the link takes.
+    pub fn write<N: Net>(&mut self, net: &mut N, from: &[u8]) -> Result<Put, LinkError>
+        requires some { self.old.state ≡ state.Connected → from.now ≢ [] }
+        requires ready { self.old.state ≡ state.Connected → IsTrue (is_within 4 (N.ready net.old self.old.channel)) }
+        ensures { WriteClause (view_by N.link N.faults N.ready N.poll_faults) (transfer_refusal self.old.state) self.old self.new net.old net.new from.now result }
+    {
+        match self.state {
+            StreamState::Unconnected | StreamState::Connecting => Err(LinkError::NotYetConnected),
+            StreamState::Connected => told(net.write(self.chan, from)),
+            StreamState::Closed => Err(LinkError::ClosedChannel),
+        }
+    }
+
+    /// Closes the link. False where it was closed before.
+    pub fn close<N: Net>(&mut self, net: &mut N) -> bool
+        ensures { CloseClause (view_by N.link N.faults N.ready N.poll_faults) self.old.state self.old self.new net.old net.new result }
+    {
+        if self.state == StreamState::Closed {
+            return false;
+        }
+        net.close(self.chan);
+        self.state = StreamState::Closed;
+        true
+    }
+
+    // Keeps what connecting came to, and closes the net's link where it failed.
+    fn settle<N: Net>(&mut self, net: &mut N, made: Result<bool, Failed>) -> Result<bool, LinkError>
+        ensures told { result ≡ as_fault made }
+        ensures link { self.new ≡ record self.old { state = state_after result } }
+        ensures net { Closes (view_by N.link N.faults N.ready N.poll_faults net.old) (view_by N.link N.faults N.ready N.poll_faults net.new) }
+    {
+        if made.is_err() {
+            net.close(self.chan);
+        }
+        self.state = state_of(&made);
+        told(made)
+    }
+}
+
+// The state that connecting comes to.
+fn state_of(made: &Result<bool, Failed>) -> StreamState
+    ensures { result ≡ state_after (as_fault made.now) }
+{
+    match made {
+        Ok(true) => StreamState::Connected,
+        Ok(false) => StreamState::Connecting,
+        Err(Failed) => StreamState::Closed,
+    }
+}
+
+// The net's answer, of which Failed is told as Fault.
+fn told<T>(made: Result<T, Failed>) -> Result<T, LinkError>
+    ensures { result ≡ as_fault made }
+{
+    match made {
+        Ok(value) => Ok(value),
+        Err(Failed) => Err(LinkError::Fault),
+    }
+}

@@ -1,0 +1,297 @@
+//! A net in memory by its plan, a stream link by its state, and the calls of a net through its trait.
+ghost use Rattle.std.specs.Prelude.{◌≡◌, ◌≢◌, []};
+ghost use Rattle.nio_link.specs.declared.stream.StreamState.TheVariants as state;
+
+use crate::*;
+use nio_base::{Addr, CallerNo, ChanNo, Limits};
+use nio_poller::Poller;
+use nio_select::{Mode, open_selector, try_begin};
+use nio_words::Words;
+use std::alloc::{AllocError, Global};
+use std::test::Fail;
+
+const SMALL: Limits = Limits {
+    callers: 1,
+    selectors: 1,
+    channels: 1,
+    keys: 1,
+};
+
+const ANYWHERE: Addr = Addr {
+    ip: [127, 0, 0, 1],
+    port: 7,
+};
+
+const ZERO: CallerNo = CallerNo(0);
+
+/// A call on channels, as a net in memory makes it.
+#[derive(Clone, Copy, Debug)]
+enum Call<'a> {
+    Listen(u32),
+    Accept(u32, u32),
+    Connect(u32),
+    Finish(u32),
+    Read(u32),
+    Write(u32, &'a str),
+    Shut(u32),
+}
+
+/// What it answered.
+#[derive(Clone, Copy, Debug, PartialEq, Eq)]
+enum Answer {
+    Done,
+    Made(bool),
+    Got(Got),
+    Put(Put),
+    Failed,
+}
+
+/// Makes a call, and reads into the buffer.
+fn make_call(net: &mut MemoryNet, call: Call, into: &mut [u8]) -> Answer
+    requires { into.old ≢ [] }
+{
+    match call {
+        Call::Listen(chan) => done(net.listen_on(ChanNo(chan))),
+        Call::Accept(listener, chan) => made(net.accept_link(ChanNo(listener), ChanNo(chan))),
+        Call::Connect(chan) => made(net.connect_link(ChanNo(chan))),
+        Call::Finish(chan) => made(net.finish_link(ChanNo(chan))),
+        Call::Read(chan) => match net.read_link(ChanNo(chan), into) {
+            Ok(got) => Answer::Got(got),
+            Err(Failed) => Answer::Failed,
+        },
+        Call::Write(chan, text) => written(net, ChanNo(chan), text.as_bytes()),
+        Call::Shut(chan) => done(net.shut_link(ChanNo(chan))),
+    }
+}
+
+fn done(outcome: Result<(), Failed>) -> Answer {
+    match outcome {
+        Ok(()) => Answer::Done,
+        Err(Failed) => Answer::Failed,
+    }
+}
+
+fn made(outcome: Result<bool, Failed>) -> Answer {
+    match outcome {
+        Ok(now) => Answer::Made(now),
+        Err(Failed) => Answer::Failed,
+    }
+}
+
+fn written(net: &mut MemoryNet, chan: ChanNo, from: &[u8]) -> Answer {
+    if from.is_empty() {
+        return Answer::Done;
+    }
+    match net.write_link(chan, from) {
+        Ok(put) => Answer::Put(put),
+        Err(Failed) => Answer::Failed,
+    }
+}
+
+/// Two peers: the first sends pieces of 1, 16385, 0 and 2 bytes, and its target takes 7 bytes a write and 10 in all;
+/// the second can't be connected to. The second call of `accept` fails, and so does the second poll.
+fn plan(alloc: Global) -> Result<NetPlan, AllocError> {
+    let mut sends = Vec::new(alloc);
+    sends.push(b"a".to_vec(alloc)?)?;
+    sends.push(vec![in alloc; b'x'; 16_385]?)?;
+    sends.push(Vec::new(alloc))?;
+    sends.push(b"bc".to_vec(alloc)?)?;
+    let mut answers = Vec::new(alloc);
+    answers.push(b"hello".to_vec(alloc)?)?;
+    let mut peers = Vec::new(alloc);
+    peers.push(PeerPlan {
+        sends,
+        answers,
+        most: 7,
+        fail_connect: false,
+        fail_write_after: Some(10),
+    })?;
+    peers.push(PeerPlan {
+        sends: Vec::new(alloc),
+        answers: Vec::new(alloc),
+        most: 1,
+        fail_connect: true,
+        fail_write_after: None,
+    })?;
+    Ok(NetPlan {
+        peers,
+        fail_poll: Some(1),
+        fail_accept: Some(1),
+    })
+}
+
+#[test]
+fn a_net_in_memory_keeps_its_plan(rt: HostRuntime) -> Result<(), Fail> {
+    let mut net = MemoryNet::make(rt.alloc(), plan(rt.alloc())?)?;
+    let mut into = [0; 128];
+    let rows = [
+        (Call::Accept(0, 1), Answer::Failed),
+        (Call::Listen(0), Answer::Done),
+        (Call::Accept(0, 1), Answer::Failed),
+        (Call::Accept(0, 1), Answer::Made(true)),
+        (Call::Accept(0, 1), Answer::Failed),
+        (Call::Accept(0, 5), Answer::Failed),
+        (Call::Accept(0, 3), Answer::Made(true)),
+        (Call::Connect(2), Answer::Made(false)),
+        (Call::Write(2, "early"), Answer::Failed),
+        (Call::Finish(2), Answer::Made(true)),
+        (Call::Connect(4), Answer::Made(false)),
+        (Call::Finish(4), Answer::Failed),
+        (Call::Read(1), Answer::Got(Got::Bytes(1))),
+        (Call::Read(1), Answer::Got(Got::Bytes(128))),
+        (Call::Read(3), Answer::Got(Got::End)),
+        (Call::Write(2, "0123456789ab"), Answer::Put(Put::Bytes(7))),
+        (Call::Write(2, "789ab"), Answer::Put(Put::Bytes(3))),
+        (Call::Write(2, "ab"), Answer::Failed),
+        (Call::Write(1, "hello, you"), Answer::Put(Put::Bytes(5))),
+        (Call::Shut(2), Answer::Done),
+        (Call::Shut(4), Answer::Failed),
+    ];
+    for (call, wanted) in rows {
+        assert!(rt; make_call(&mut net, call, &mut into) == wanted);
+    }
+    assert_eq!(rt; net.put_bytes(ChanNo(2)), b"0123456789".as_slice());
+    assert_eq!(rt; net.got_bytes(ChanNo(3)), b"".as_slice());
+    assert!(rt; net.has_ended(ChanNo(3)) && !net.has_ended(ChanNo(1)));
+    assert!(rt; net.is_shut(ChanNo(2)) && !net.is_shut(ChanNo(1)));
+    Ok(())
+}
+
+/// Reads until the end, and counts the reads and those that came too early.
+fn reads_to_end(net: &mut MemoryNet, chan: ChanNo, into: &mut [u8]) -> (u64, u64)
+    requires { into.old ≢ [] }
+{
+    let mut reads = 0;
+    let mut early = 0;
+    for _ in 0..1000_u32 {
+        match net.read_link(chan, into) {
+            Ok(Got::Bytes(_)) => reads += 1,
+            Ok(Got::NotYet) => early += 1,
+            Ok(Got::End) | Err(Failed) => break,
+        }
+    }
+    (reads, early)
+}
+
+#[test]
+fn reads_give_the_pieces(rt: HostRuntime) -> Result<(), Fail> {
+    let mut net = MemoryNet::make(rt.alloc(), plan(rt.alloc())?)?;
+    let mut into = [0; 128];
+    assert!(rt; make_call(&mut net, Call::Listen(0), &mut into) == Answer::Done);
+    assert!(rt; make_call(&mut net, Call::Accept(0, 1), &mut into) == Answer::Made(true));
+    // The piece of 16385 bytes takes 128 reads of 128 bytes and one of a single byte.
+    assert!(rt; reads_to_end(&mut net, ChanNo(1), &mut into) == (131, 1));
+    let bytes = net.got_bytes(ChanNo(1));
+    assert!(rt; bytes.len() == 16_388 && bytes.starts_with(b"ax") && bytes.ends_with(b"xbc"));
+    Ok(())
+}
+
+/// The calls of a net that need no readiness.
+fn begins<N: Net>(net: &mut N) -> (Result<(), Failed>, Result<bool, Failed>, Result<(), Failed>) {
+    let listens = net.listen(ChanNo(0), ANYWHERE);
+    let connects = net.connect(ChanNo(2), ANYWHERE);
+    let shuts = net.shut_write(ChanNo(2));
+    net.close(ChanNo(2));
+    (listens, connects, shuts)
+}
+
+#[test]
+fn a_net_in_memory_is_a_net(rt: HostRuntime) -> Result<(), Fail> {
+    let mut net = MemoryNet::make(rt.alloc(), plan(rt.alloc())?)?;
+    assert!(rt; begins(&mut net) == (Ok(()), Ok(false), Err(Failed)));
+    // A channel bears one link.
+    assert!(rt; begins(&mut net) == (Err(Failed), Err(Failed), Err(Failed)));
+    Ok(())
+}
+
+#[test]
+fn polls_fail_by_the_plan(rt: HostRuntime) -> Result<(), Fail> {
+    let mut net = MemoryNet::make(rt.alloc(), plan(rt.alloc())?)?;
+    let (words, mut p) = Words::make(rt.alloc(), SMALL)?;
+    words.draw(&mut p, ZERO)?;
+    let sel = open_selector(&words, &mut p, ZERO)?;
+    let selection = try_begin(rt.alloc(), &words, &mut p, ZERO, sel, Mode::Now)?;
+    let told = net.poll(&rt, rt.alloc(), selection.asked(), Mode::Now);
+    let failed = net.poll(&rt, rt.alloc(), selection.asked(), Mode::Now);
+    selection.leave(&words, &mut p, ZERO);
+    // Nothing was asked for, so nothing is ready.
+    let told = told?;
+    assert!(rt; told.pairs.is_empty() && told.elapsed);
+    assert!(rt; failed.is_err());
+    Ok(())
+}
+
+/// The refusals of reading, writing and going on to connect.
+type Refusals = [Option<LinkError>; 3];
+
+fn unconnected<N: Net>(net: &mut N, link: &mut StreamLink) -> Refusals
+    requires { link.old.state ≡ state.Unconnected }
+    ensures { link.new ≡ link.old }
+{
+    let mut byte = [0];
+    let read = link.read(net, &mut byte).err();
+    let write = link.write(net, b"a").err();
+    [read, write, link.finish_connect(net).err()]
+}
+
+fn connecting<N: Net>(net: &mut N, link: &mut StreamLink) -> Refusals
+    requires { link.old.state ≡ state.Connecting }
+    ensures { link.new ≡ link.old }
+{
+    let mut byte = [0];
+    let read = link.read(net, &mut byte).err();
+    let write = link.write(net, b"a").err();
+    [read, write, link.connect(net, ANYWHERE).err()]
+}
+
+fn closed<N: Net>(net: &mut N, link: &mut StreamLink) -> Refusals
+    requires { link.old.state ≡ state.Closed }
+    ensures { link.new ≡ link.old }
+{
+    let mut byte = [0];
+    let read = link.read(net, &mut byte).err();
+    let write = link.write(net, b"a").err();
+    [read, write, link.finish_connect(net).err()]
+}
+
+/// What a link answers, with the refusals of its state after each: before it is connected, when that is begun, and
+/// when it is closed.
+fn life<N: Net>(net: &mut N, chan: ChanNo) -> (Refusals, Result<bool, LinkError>, Refusals, bool) {
+    let mut link = StreamLink::make(chan);
+    let first = unconnected(net, &mut link);
+    match link.connect(net, ANYWHERE) {
+        Ok(false) => {
+            let second = connecting(net, &mut link);
+            (first, Ok(false), second, link.close(net))
+        }
+        Ok(true) => (first, Ok(true), first, link.close(net)),
+        Err(error) => {
+            let second = closed(net, &mut link);
+            (first, Err(error), second, link.close(net))
+        }
+    }
+}
+
+#[test]
+fn a_stream_link_refuses_by_its_state(rt: HostRuntime) -> Result<(), Fail> {
+    let mut net = MemoryNet::make(rt.alloc(), plan(rt.alloc())?)?;
+    let unconnected = [
+        Some(LinkError::NotYetConnected),
+        Some(LinkError::NotYetConnected),
+        Some(LinkError::NoConnectionPending),
+    ];
+    let connecting = [
+        Some(LinkError::NotYetConnected),
+        Some(LinkError::NotYetConnected),
+        Some(LinkError::ConnectionPending),
+    ];
+    let closed = [Some(LinkError::ClosedChannel); 3];
+    assert!(rt; life(&mut net, ChanNo(2)) == (unconnected, Ok(false), connecting, true));
+    // The channel is taken, so connecting fails, and closes the link.
+    assert!(rt; life(&mut net, ChanNo(2)) == (unconnected, Err(LinkError::Fault), closed, false));
+
+    let mut link = StreamLink::accepted(ChanNo(1));
+    assert!(rt; link.connect(&mut net, ANYWHERE) == Err(LinkError::AlreadyConnected));
+    assert!(rt; link.finish_connect(&mut net) == Ok(true));
+    Ok(())
+}

@@ -1,0 +1,19 @@
+//! A net of the system's sockets, over `mio`.
+//!
+//! Each socket is registered once, for both directions, when it is made. The system tells a change of a socket once;
+//! the net keeps what it told, and a poll answers from what is kept and asked for. A call that finds a socket not ready
+//! takes that away.
+#![tactic(auto)]
+
+pub use bell::MioBell;
+pub use net::MioNet;
+
+mod bell;
+mod causes;
+mod counts;
+mod net;
+mod readiness;
+mod socket;
+mod sockets;
+#[cfg(test)]
+mod tests;

@@ -1,0 +1,167 @@
+//! The net over sockets.
+ghost use Rattle.std.specs.Prelude.{◌≡◌};
+
+use crate::bell::MioBell;
+use crate::counts::{Counts, raise};
+use crate::readiness::Readiness;
+use crate::sockets::{PLACES, Sockets};
+use nio_base::{Addr, ChanNo, Ops};
+use nio_event::Mode;
+use nio_link::{Failed, Got, Net, Put};
+use nio_poller::{PollError, Poller};
+use nio_select::{Asked, Told};
+use std::alloc::{AllocError, Global};
+use std::net::Net as System;
+use std::sync::Wait;
+
+/// A net of TCP sockets over IPv4, for channels numbered below 32,001. A call on another number fails. It doesn't tell
+/// which bytes a link has carried.
+#[derive(Drop)]
+pub struct MioNet<S> {
+    system: S,
+    sockets: Sockets,
+    readiness: Readiness,
+    poll_faults: u64,
+    counts: Counts,
+}
+
+impl<S: System + Copy> MioNet<S> {
+    /// A net without sockets, and its bell. Takes the memory for all sockets that there may be. Where the system refuses
+    /// a poll object, each call of the net that can fail fails; where it refuses a waker, the bell does nothing.
+    pub fn make(system: S, alloc: Global) -> Result<(MioNet<S>, MioBell), AllocError> {
+        let counts = Counts::make(alloc, PLACES)?;
+        let (sockets, bell) = Sockets::make(&system, alloc)?;
+        let net = MioNet {
+            system,
+            sockets,
+            readiness: Readiness::new(),
+            poll_faults: 0,
+            counts,
+        };
+        Ok((net, bell))
+    }
+}
+
+impl<S: System + Copy> Poller for MioNet<S> {
+    ghost use Rattle.std.specs.Prelude.{Some, refl};
+    ghost use Rattle.std.proofs.Common.{◌∙◌};
+    ghost use Rattle.nio_mio.specs.Readiness.{ready_of};
+
+    ghost poll_faults = { λ m. m.poll_faults };
+
+    ghost ready = { λ m. ready_of m.readiness };
+
+    ghost polls = { λ m. Some m.readiness.polls };
+
+    // The counts stay.
+    ghost kept = { λ x y. y.counts ≡ x.counts };
+
+    fn poll<R: Wait>(
+        &mut self,
+        rt: &R,
+        alloc: Global,
+        asked: &Asked,
+        mode: Mode,
+    ) -> Result<Told, PollError> {
+        match self.sockets.wait(rt, asked, mode) {
+            Ok(elapsed) => match self.sockets.tell(alloc, asked, elapsed) {
+                Ok(told) => {
+                    self.readiness.answered(asked, mode, &told);
+                    Ok(told)
+                }
+                Err(AllocError) => Err(PollError::Memory),
+            },
+            Err(Failed) => {
+                raise(&mut self.poll_faults);
+                Err(PollError::Fault)
+            }
+        }
+    }
+
+    ghost kept_same = { λ x. refl };
+
+    ghost kept_on = { λ x y z h k. k ∙ h };
+}
+
+impl<S: System + Copy> Net for MioNet<S> {
+    ghost use Rattle.std.proofs.Common.{ap};
+    ghost use Rattle.std.specs.Prelude.{None, refl};
+    ghost use Rattle.nio_mio.specs.Counts.{count_of};
+
+    ghost link = { λ m c. record { got = None; ended = None; put = None; shut = None } };
+
+    ghost faults = { λ m. count_of m.counts };
+
+    fn listen(&mut self, chan: ChanNo, at: Addr) -> Result<(), Failed> {
+        match self.sockets.listen(&self.system, chan, at) {
+            Ok(()) => Ok(()),
+            Err(Failed) => Err(self.counts.fail(chan)),
+        }
+    }
+
+    fn accept(&mut self, listener: ChanNo, chan: ChanNo) -> Result<bool, Failed> {
+        match self.sockets.accept(listener, chan) {
+            Ok(true) => Ok(true),
+            Ok(false) => {
+                self.readiness.take(listener, Ops::ACCEPT);
+                Ok(false)
+            }
+            Err(Failed) => Err(self.counts.fail(listener)),
+        }
+    }
+
+    fn connect(&mut self, chan: ChanNo, to: Addr) -> Result<bool, Failed> {
+        match self.sockets.connect(&self.system, chan, to) {
+            Ok(connected) => Ok(connected),
+            Err(Failed) => Err(self.counts.fail(chan)),
+        }
+    }
+
+    fn finish_connect(&mut self, chan: ChanNo) -> Result<bool, Failed> {
+        match self.sockets.finish_connect(chan) {
+            Ok(true) => Ok(true),
+            Ok(false) => {
+                self.readiness.take(chan, Ops::CONNECT);
+                Ok(false)
+            }
+            Err(Failed) => Err(self.counts.fail(chan)),
+        }
+    }
+
+    fn read(&mut self, chan: ChanNo, into: &mut [u8]) -> Result<Got, Failed> {
+        match self.sockets.read(chan, into) {
+            Ok(Got::NotYet) => {
+                self.readiness.take(chan, Ops::READ);
+                Ok(Got::NotYet)
+            }
+            Ok(got) => Ok(got),
+            Err(Failed) => Err(self.counts.fail(chan)),
+        }
+    }
+
+    fn write(&mut self, chan: ChanNo, from: &[u8]) -> Result<Put, Failed> {
+        match self.sockets.write(chan, from) {
+            Ok(Put::NotYet) => {
+                self.readiness.take(chan, Ops::WRITE);
+                Ok(Put::NotYet)
+            }
+            Ok(put) => Ok(put),
+            Err(Failed) => Err(self.counts.fail(chan)),
+        }
+    }
+
+    fn shut_write(&mut self, chan: ChanNo) -> Result<(), Failed> {
+        match self.sockets.shut_write(chan) {
+            Ok(()) => Ok(()),
+            Err(Failed) => Err(self.counts.fail(chan)),
+        }
+    }
+
+    fn close(&mut self, chan: ChanNo) {
+        self.sockets.close(chan);
+    }
+
+    ghost kept_links = { λ x y h c. refl };
+
+    ghost kept_faults = { λ x y h c. ap (λ counts. count_of counts c) h };
+}

@@ -1,0 +1,367 @@
+//! The sockets by the numbers of their channels, and what the system told of each.
+ghost use Rattle.std.specs.Prelude.{IfOk};
+ghost use Rattle.nio_link.specs.Links.{IsGot, IsPut};
+
+use crate::bell::MioBell;
+use crate::causes::{Cause, cause_of};
+use crate::socket;
+use crate::socket::Socket;
+use mio::event::Event;
+use mio::{Events, Poll, Token, Waker};
+use nio_base::{Addr, ChanNo, Ops};
+use nio_event::Mode;
+use nio_link::{Failed, Got, Put};
+use nio_select::{Asked, Told};
+use std::alloc::{AllocError, Global};
+use std::net::Net;
+use std::sync::Wait;
+use std::time::Duration;
+
+/// How many sockets there may be: the listener, and two links of each of 16,000 connections.
+pub(crate) const PLACES: usize = 32_001;
+
+/// The bell's token, past those of the sockets.
+const BELL: Token = Token(PLACES);
+
+/// How many events one poll takes from the system.
+const EVENTS: usize = 1_024;
+
+/// How many bytes one read takes.
+const PIECE: usize = 65_536;
+
+/// The sockets. A bit is kept for an operation of a channel from an event until a call finds it not ready.
+#[derive(Drop)]
+pub(crate) struct Sockets {
+    poll: Option<Poll>,
+    events: Events,
+    sockets: Vec<Option<Socket>>,
+    kept: Vec<Ops>,
+    piece: Vec<u8>,
+    // How many links stand.
+    links: usize,
+    // The listener that waits until a descriptor is free.
+    waiting: Option<ChanNo>,
+}
+
+impl Sockets {
+    /// Takes all memory, and asks the system for a poll object and a waker, which it may refuse.
+    pub(crate) fn make<R: Net>(rt: &R, alloc: Global) -> Result<(Sockets, MioBell), AllocError> {
+        let mut sockets = Vec::new(alloc);
+        sockets.resize_with(PLACES, no_socket)?;
+        let kept = vec![in alloc; Ops::NONE; PLACES]?;
+        let piece = vec![in alloc; 0_u8; PIECE]?;
+        let events = Events::with_capacity(alloc, EVENTS)?;
+        let poll = Poll::new(rt).ok();
+        let bell = MioBell::over(waker(&poll));
+        let sockets = Sockets {
+            poll,
+            events,
+            sockets,
+            kept,
+            piece,
+            links: 0,
+            waiting: None,
+        };
+        Ok((sockets, bell))
+    }
+
+    /// Waits as long as `mode` says, but not where a bit that is asked for is kept. Answers whether the time is over.
+    pub(crate) fn wait<R: Wait>(
+        &mut self,
+        rt: &R,
+        asked: &Asked,
+        mode: Mode,
+    ) -> Result<bool, Failed> {
+        if is_any_ready(&self.kept, asked) {
+            self.poll_for(Some(Duration::ZERO))?;
+            return Ok(false);
+        }
+        match mode {
+            Mode::Now => {
+                self.poll_for(Some(Duration::ZERO))?;
+                Ok(true)
+            }
+            Mode::For(ms) => {
+                self.poll_for(Some(Duration::from_millis(ms)))?;
+                Ok(self.events.is_empty())
+            }
+            Mode::Wait => {
+                self.wait_for(rt, asked)?;
+                Ok(false)
+            }
+        }
+    }
+
+    // Waits until a bit that is asked for is kept, the bell rings, or a signal comes. What comes for other channels is
+    // kept meanwhile.
+    fn wait_for<R: Wait>(&mut self, rt: &R, asked: &Asked) -> Result<(), Failed> {
+        for _ in rt.forever() {
+            self.poll_for(None)?;
+            if is_over(&self.events) || is_any_ready(&self.kept, asked) {
+                return Ok(());
+            }
+        }
+        unreachable!()
+    }
+
+    // One poll of the system, whose events are kept.
+    fn poll_for(&mut self, timeout: Option<Duration>) -> Result<(), Failed> {
+        let Some(poll) = &mut self.poll else {
+            return Err(Failed);
+        };
+        match poll.poll(&mut self.events, timeout) {
+            Ok(()) => {
+                note_all(&mut self.kept, &self.events);
+                Ok(())
+            }
+            Err(_error) => Err(Failed),
+        }
+    }
+
+    /// What is kept of the channels that are asked for.
+    pub(crate) fn tell(
+        &self,
+        alloc: Global,
+        asked: &Asked,
+        elapsed: bool,
+    ) -> Result<Told, AllocError> {
+        let mut pairs = Vec::new(alloc);
+        for at in 0..asked.len() {
+            let (index, chan, interest) = asked.entry(at);
+            let bits = kept_of(&self.kept, chan).meet(interest);
+            if bits != Ops::NONE {
+                pairs.push((index, bits))?;
+            }
+        }
+        Ok(Told { pairs, elapsed })
+    }
+
+    fn has_place(&self, chan: ChanNo) -> bool {
+        (chan.0 as usize) < self.sockets.len()
+    }
+
+    // Puts a new socket in its place. One that stood there is closed.
+    fn put(&mut self, chan: ChanNo, socket: Socket) -> Result<(), Failed> {
+        self.close(chan);
+        match self.sockets.get_mut(chan.0 as usize) {
+            Some(place) => {
+                *place = Some(socket);
+                Ok(())
+            }
+            None => Err(Failed),
+        }
+    }
+
+    fn put_link(&mut self, chan: ChanNo, link: Socket) -> Result<(), Failed> {
+        self.put(chan, link)?;
+        self.links = self.links.saturating_add(1);
+        Ok(())
+    }
+
+    pub(crate) fn listen<R: Net>(&mut self, rt: &R, chan: ChanNo, at: Addr) -> Result<(), Failed> {
+        if !self.has_place(chan) {
+            return Err(Failed);
+        }
+        match socket::listen(rt, &self.poll, chan, at) {
+            Ok(listener) => self.put(chan, listener),
+            Err(_error) => Err(Failed),
+        }
+    }
+
+    /// Where no descriptor is left, the connection waits in the listener's backlog until a link is closed.
+    pub(crate) fn accept(&mut self, listener: ChanNo, chan: ChanNo) -> Result<bool, Failed> {
+        if !self.has_place(chan) {
+            return Err(Failed);
+        }
+        match socket::accept(&self.sockets, listener) {
+            Ok(stream) => match socket::link(&self.poll, chan, stream) {
+                Ok(link) => {
+                    self.put_link(chan, link)?;
+                    Ok(true)
+                }
+                Err(_error) => Err(Failed),
+            },
+            Err(error) => self.not_accepted(listener, cause_of(&error)),
+        }
+    }
+
+    fn not_accepted(&mut self, listener: ChanNo, cause: Cause) -> Result<bool, Failed> {
+        match cause {
+            Cause::NotReady => {
+                clear(&mut self.kept, listener, Ops::ACCEPT);
+                Ok(false)
+            }
+            Cause::Again => Ok(false),
+            Cause::NoDescriptor if self.links > 0 => {
+                clear(&mut self.kept, listener, Ops::ACCEPT);
+                self.waiting = Some(listener);
+                Ok(false)
+            }
+            Cause::NoDescriptor | Cause::Fault => Err(Failed),
+        }
+    }
+
+    pub(crate) fn connect<R: Net>(
+        &mut self,
+        rt: &R,
+        chan: ChanNo,
+        to: Addr,
+    ) -> Result<bool, Failed> {
+        if !self.has_place(chan) {
+            return Err(Failed);
+        }
+        match socket::connect(rt, &self.poll, chan, to) {
+            Ok((link, connected)) => {
+                self.put_link(chan, link)?;
+                Ok(connected)
+            }
+            Err(_error) => Err(Failed),
+        }
+    }
+
+    pub(crate) fn finish_connect(&mut self, chan: ChanNo) -> Result<bool, Failed> {
+        match socket::is_connected(&self.sockets, chan) {
+            Ok(true) => Ok(true),
+            Ok(false) => {
+                clear(&mut self.kept, chan, Ops::CONNECT);
+                Ok(false)
+            }
+            Err(_error) => Err(Failed),
+        }
+    }
+
+    pub(crate) fn read(&mut self, chan: ChanNo, into: &mut [u8]) -> Result<Got, Failed>
+        ensures { IfOk result (IsGot into.old into.new) }
+    {
+        match socket::read(&mut self.sockets, chan, &mut self.piece, into) {
+            Ok(0) => Ok(Got::End),
+            Ok(count) => Ok(Got::Bytes(count)),
+            Err(error) => match self.not_moved(chan, Ops::READ, cause_of(&error)) {
+                Ok(()) => Ok(Got::NotYet),
+                Err(Failed) => Err(Failed),
+            },
+        }
+    }
+
+    pub(crate) fn write(&mut self, chan: ChanNo, from: &[u8]) -> Result<Put, Failed>
+        ensures { IfOk result (IsPut from.now) }
+    {
+        match socket::write(&mut self.sockets, chan, from) {
+            Ok(0) => Err(Failed),
+            Ok(count) => Ok(Put::Bytes(count)),
+            Err(error) => match self.not_moved(chan, Ops::WRITE, cause_of(&error)) {
+                Ok(()) => Ok(Put::NotYet),
+                Err(Failed) => Err(Failed),
+            },
+        }
+    }
+
+    // No byte was moved.
+    fn not_moved(&mut self, chan: ChanNo, op: Ops, cause: Cause) -> Result<(), Failed> {
+        match cause {
+            Cause::NotReady => {
+                clear(&mut self.kept, chan, op);
+                Ok(())
+            }
+            Cause::Again => Ok(()),
+            Cause::NoDescriptor | Cause::Fault => Err(Failed),
+        }
+    }
+
+    pub(crate) fn shut_write(&self, chan: ChanNo) -> Result<(), Failed> {
+        match socket::shut_write(&self.sockets, chan) {
+            Ok(()) => Ok(()),
+            Err(_error) => Err(Failed),
+        }
+    }
+
+    /// Closes the socket, where there is one. A listener that waits for a descriptor is then tried again.
+    pub(crate) fn close(&mut self, chan: ChanNo) {
+        if let Some(place) = self.sockets.get_mut(chan.0 as usize) {
+            if let Some(Socket::Link(_)) = place {
+                self.links = self.links.saturating_sub(1);
+            }
+            *place = None;
+        }
+        keep_only(&mut self.kept, chan, Ops::NONE);
+        if let Some(listener) = self.waiting.take() {
+            add(&mut self.kept, listener, Ops::ACCEPT);
+        }
+    }
+}
+
+fn no_socket() -> Option<Socket> {
+    None
+}
+
+fn waker(poll: &Option<Poll>) -> Option<Waker> {
+    match poll {
+        Some(poll) => Waker::new(poll.registry(), BELL).ok(),
+        None => None,
+    }
+}
+
+// Whether a poll without limit returned for the bell or for a signal.
+fn is_over(events: &Events) -> bool {
+    events.is_empty() || events.iter().any(|event| event.token() == BELL)
+}
+
+// Whether a channel is ready for something that is asked of it.
+fn is_any_ready(kept: &[Ops], asked: &Asked) -> bool {
+    for at in 0..asked.len() {
+        let (_index, chan, interest) = asked.entry(at);
+        if kept_of(kept, chan).meet(interest) != Ops::NONE {
+            return true;
+        }
+    }
+    false
+}
+
+fn kept_of(kept: &[Ops], chan: ChanNo) -> Ops {
+    match kept.get(chan.0 as usize) {
+        Some(bits) => *bits,
+        None => Ops::NONE,
+    }
+}
+
+fn note_all(kept: &mut [Ops], events: &Events) {
+    for event in events {
+        let Token(place) = event.token();
+        if let Some(bits) = kept.get_mut(place) {
+            *bits = bits.union(told_by(event));
+        }
+    }
+}
+
+// An error or an end makes a socket ready for all that finds it.
+fn told_by(event: &Event) -> Ops {
+    let reads = event.is_readable() || event.is_read_closed() || event.is_error();
+    let writes = event.is_writable() || event.is_write_closed() || event.is_error();
+    let reading = if reads {
+        Ops::READ.union(Ops::ACCEPT)
+    } else {
+        Ops::NONE
+    };
+    let writing = if writes {
+        Ops::WRITE.union(Ops::CONNECT)
+    } else {
+        Ops::NONE
+    };
+    reading.union(writing)
+}
+
+fn add(kept: &mut [Ops], chan: ChanNo, ops: Ops) {
+    if let Some(bits) = kept.get_mut(chan.0 as usize) {
+        *bits = bits.union(ops);
+    }
+}
+
+fn clear(kept: &mut [Ops], chan: ChanNo, op: Ops) {
+    keep_only(kept, chan, Ops::of(!op.bits()));
+}
+
+fn keep_only(kept: &mut [Ops], chan: ChanNo, ops: Ops) {
+    if let Some(bits) = kept.get_mut(chan.0 as usize) {
+        *bits = bits.meet(ops);
+    }
+}

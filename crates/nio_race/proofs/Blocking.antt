@@ -1,0 +1,180 @@
+-- The line `block`.
+use Rattle.std.proofs.Common.{◌≡◌, ◌≢◌, ℕ, ◌<◌, ◌==◌, not, Bool, true, false, Option, Some, None, List, [], ◌++◌, bit_and, if◌then◌else◌, Result, Ok, Err, IfOk, ◌⊎◌, ⊎_elim, arith, refl, sym, ap, ◌∙◌, subst, eqb-true, eq-eqb}
+use Rattle.std.proofs.Math.Logic.{∥∥₁_map}
+use Rattle.std.proofs.lemmas.List.{append-nil}
+use Rattle.std.proofs.lemmas.Nat.Bits.{bit_at_and, same_from_bits}
+use Rattle.std.specs.List.{Contains}
+use Rattle.std.specs.declared.alloc.AllocError.{AllocError}
+use Rattle.nio_base.specs.declared.limits.Limits.{Limits}
+use Rattle.nio_base.specs.declared.numbers.CallerNo.{CallerNo}
+use Rattle.nio_base.specs.declared.numbers.ChanNo.{ChanNo}
+use Rattle.nio_base.specs.declared.numbers.SelNo.{SelNo}
+use Rattle.nio_event.specs.PassViews.{HasSelector, PassView, done_between}
+use Rattle.nio_event.specs.declared.act.Act.{Act}
+use Rattle.nio_event.specs.declared.act.Act.TheVariants.{Mark}
+use Rattle.nio_event.specs.declared.found.Mark.{Mark as KeyMark}
+use Rattle.nio_event.specs.declared.found.Mode.TheVariants.{Wait}
+use Rattle.nio_event.specs.declared.reply.Reply.{Reply}
+use Rattle.nio_event.specs.declared.reply.Reply.TheVariants as reply
+use Rattle.nio_orderly.specs.Made.{Made, find_selector, select, nothing_ongoing, after_calls, selecting}
+use Rattle.nio_poller.specs.Selecting.{Answers, SelectClause}
+use Rattle.nio_poller.specs.declared.selecting.SelectError.{SelectError}
+use Rattle.nio_poller.specs.declared.selecting.SelectError.TheVariants as select_error
+use Rattle.nio_race_text.specs.declared.call.RaceCall.TheVariants.{Block}
+use Rattle.nio_serial.specs.Documented.{Progress}
+use Rattle.nio_serial.specs.Lines.{Said, if_own, with_selection}
+use Rattle.nio_sole.proofs.Calls.{made_more}
+use Rattle.nio_sole.specs.Made.{HasMade, IsOngoing}
+use Rattle.nio_sole.specs.Stands.{HasPlaces, progress_of}
+use Rattle.nio_sole.specs.declared.desk.Desk.{Desk}
+use Rattle.nio_steps.proofs.CallLaws.{call_as}
+use Rattle.nio_steps.proofs.WaitingLaws.{then_call}
+use Rattle.nio_steps.specs.Calls.{CallClause}
+use Rattle.nio_steps.specs.KeyCalls.{find_selector_plan}
+use Rattle.nio_steps.specs.Names.{selector}
+use Rattle.nio_steps.specs.Runs.{Completes}
+use Rattle.nio_steps.specs.SelectCalls.{SelectReply, selected, not_begun, left, Selects}
+use Rattle.nio_steps.specs.declared.refusal.BeginError.TheVariants as begin_error
+use Rattle.nio_steps.specs.declared.selected.Selected.{Selected}
+use Rattle.nio_words.specs.Passes.{IsReady, acts_seen, limits_of}
+use Rattle.nio_words.specs.Views.{view}
+use Rattle.nio_words.specs.declared.words.Words.{Words}
+use Rattle.nio_race.proofs.Standing.{stands_made}
+use Rattle.nio_race.specs.Racers.{BlocksOn, LineOn, StandsFor}
+use Rattle.nio_race.specs.Runs.{Blocks, BlocksOnFound, LooksAndBlocks}
+
+-- ---- a poller that tells nothing
+
+and_none : (n : ℕ) → bit_and n 0 ≡ 0
+and_none n = same_from_bits (bit_and n 0) 0 (λ i. simp (bit_at_and) (omega arith))
+
+-- where no channel is ready no mark succeeds
+unmarked : {me : CallerNo} {s : SelNo} {v0 v1 : PassView} {result : Result Selected SelectError} → SelectClause me s Wait v0 v1 None None (λ _. 0) result
+    → (x : SelNo) (i told : ℕ) (from : KeyMark) → Contains (done_between me v0 v1) (Mark x i from told (Ok tt)) → ⊥
+unmarked clause x i told from there =
+    let ready = clause.marks x i told from there in
+    let none : told ≡ 0 = sym (eqb-true (bit_and told 0) told ready.bits) ∙ and_none told in
+    let some : not (told == 0) ≡ true = ready.some in
+    let clash : false ≡ true = ap not (sym (eq-eqb told 0 none)) ∙ some in
+    absurd cc
+
+-- ---- its reply
+
+said_selected : (r : SelectReply) (x : Selected) → Answers r (Ok x) → r ≡ selected x
+said_selected (selected y) x is = ap selected (cc (sym is))
+said_selected (not_begun begin_error.ClosedSelector) x is = absurd (cc is)
+said_selected (not_begun begin_error.Busy) x is = absurd is
+said_selected (not_begun begin_error.Memory) x is = absurd (cc is)
+said_selected left x is = ⊎_elim (λ fault. absurd (cc fault)) (λ memory. absurd (cc memory)) is
+
+said_closed : (r : SelectReply) → Answers r (Err select_error.ClosedSelector) → r ≡ not_begun begin_error.ClosedSelector
+said_closed (selected y) is = absurd (cc is)
+said_closed (not_begun begin_error.ClosedSelector) is = refl
+said_closed (not_begun begin_error.Busy) is = absurd is
+said_closed (not_begun begin_error.Memory) is = absurd (cc is)
+said_closed left is = ⊎_elim (λ fault. absurd (cc fault)) (λ memory. absurd (cc memory)) is
+
+module _ (w : Words) (d d' : Desk) (me : CallerNo) (s : SelNo) where
+  -- the selection answered
+  pub blocks_selected : (x : Selected) → SelectClause me s Wait (view w d.pass) (view w d'.pass) None None (λ _. 0) (Ok x) → progress_of d' ≡ with_selection (progress_of d) s None
+      → BlocksOn w d d' me s (reply.Selected x.count x.why)
+  blocks_selected x clause leaves =
+      call_as (Blocks (progress_of d) s) (record { reply = reply.Selected x.count x.why; left = progress_of d' })
+      (λ xs run. record {
+        polls = clause.polls;
+        answer = selected x;
+        selects = run.0;
+        unmarked = run.1;
+        says = refl;
+        leaves = leaves;
+      }) its
+    where
+      its : CallClause me (λ xs (r : SelectReply). Selects s Wait clause.polls xs r × ((y : SelNo) (i told : ℕ) (from : KeyMark) → Contains xs (Mark y i from told (Ok tt)) → ⊥)) (view w d.pass) (view w d'.pass) (selected x)
+      its = record { acts = clause.call.acts; shape = (subst (λ (r : SelectReply). Selects s Wait clause.polls (done_between me (view w d.pass) (view w d'.pass)) r) (said_selected clause.reply x clause.answers) clause.call.shape, unmarked clause) }
+
+  -- the selector is closed
+  pub blocks_closed : SelectClause me s Wait (view w d.pass) (view w d'.pass) None None (λ _. 0) (Err select_error.ClosedSelector) → progress_of d' ≡ progress_of d
+      → BlocksOn w d d' me s reply.ClosedSelector
+  blocks_closed clause leaves =
+      call_as (Blocks (progress_of d) s) (record { reply = reply.ClosedSelector; left = progress_of d' })
+      (λ xs run. record {
+        polls = clause.polls;
+        answer = not_begun begin_error.ClosedSelector;
+        selects = run.0;
+        unmarked = run.1;
+        says = refl;
+        leaves = leaves;
+      }) its
+    where
+      its : CallClause me (λ xs (r : SelectReply). Selects s Wait clause.polls xs r × ((y : SelNo) (i told : ℕ) (from : KeyMark) → Contains xs (Mark y i from told (Ok tt)) → ⊥)) (view w d.pass) (view w d'.pass) (not_begun begin_error.ClosedSelector)
+      its = record { acts = clause.call.acts; shape = (subst (λ (r : SelectReply). Selects s Wait clause.polls (done_between me (view w d.pass) (view w d'.pass)) r) (said_closed clause.reply clause.answers) clause.call.shape, unmarked clause) }
+
+  -- ---- the whole line
+
+  pub blocks_found : (d1 : Desk) (found : SelNo) (r : Reply) → progress_of d1 ≡ progress_of d
+      → CallClause me (Completes (find_selector_plan (limits_of w) s.0)) (view w d.pass) (view w d1.pass) (Some found)
+      → BlocksOn w d1 d' me s r → LineOn w d d' me (Block s) r
+  blocks_found d1 found r same looks blocks =
+      then_call looks (subst (λ (p : Progress). CallClause me (Blocks p s) (view w d1.pass) (view w d'.pass) (record { reply = r; left = progress_of d' })) same blocks)
+
+  -- the same of what may lack memory
+  pub line_of_found : (d1 : Desk) (found : SelNo) (result : Result Reply AllocError) → progress_of d1 ≡ progress_of d
+      → CallClause me (Completes (find_selector_plan (limits_of w) s.0)) (view w d.pass) (view w d1.pass) (Some found)
+      → IfOk result (λ r. BlocksOn w d1 d' me s r) → IfOk result (LineOn w d d' me (Block s))
+  line_of_found d1 found (Ok r) same looks blocks = blocks_found d1 found r same looks blocks
+  line_of_found d1 found (Err e) same looks blocks = tt
+
+  pub blocks_nowhere : progress_of d' ≡ progress_of d → CallClause me (Completes (find_selector_plan (limits_of w) s.0)) (view w d.pass) (view w d'.pass) None
+      → LineOn w d d' me (Block s) reply.NoSelector
+  blocks_nowhere same looks =
+      call_as (LooksAndBlocks (limits_of w) (progress_of d) s) (record { reply = reply.NoSelector; left = progress_of d' })
+      (λ xs run. record {
+        first = xs;
+        middle = None;
+        second = [];
+        parts = sym (append-nil xs);
+        runs_first = run;
+        runs_second = (refl, ap (λ (p : Progress). record { reply = reply.NoSelector; left = p }) same);
+      }) looks
+
+-- ---- what stands after it
+
+module _ (w : Words) (d d' : Desk) (me : CallerNo) (stands : StandsFor w d me) where
+  -- after a look-up
+  pub stands_looked : (n : ℕ) (found : Option SelNo) → IsReady w d'.pass me → HasPlaces w d' → progress_of d' ≡ progress_of d
+      → CallClause me (Completes (find_selector_plan (limits_of w) n)) (view w d.pass) (view w d'.pass) found → StandsFor w d' me
+  stands_looked n found ready places same looks =
+      stands_made w d' me stands.caller ready places
+      (∥∥₁_map stands.made (λ m. subst (λ (acts : List Act). HasMade (limits_of w) acts me (progress_of d')) (sym looks.acts.history.own)
+      (subst (λ (p : Progress). HasMade (limits_of w) (acts_seen d.pass me ++ done_between me (view w d.pass) (view w d'.pass)) me p) (sym same)
+      (made_more (limits_of w) (acts_seen d.pass me) (done_between me (view w d.pass) (view w d'.pass)) me (progress_of d) (progress_of d) (find_selector n found) m looks.shape tt m.ongoing))))
+
+  put_own : (s s' : SelNo) (m : HasMade (limits_of w) (acts_seen d.pass me) me (progress_of d)) → IsOngoing me (with_selection (progress_of d) s None) (selecting (after_calls nothing_ongoing m.calls) s None)
+  put_own s s' m = record {
+    selection = λ k. by_place k (k == s.0);
+    closes = m.ongoing.closes;
+  }
+    where
+      by_place : (k : ℕ) (b : Bool) → (if b then None else (after_calls nothing_ongoing m.calls).selection k) ≡ if_own me (if b then None else (progress_of d).selection k)
+      by_place k true = refl
+      by_place k false = m.ongoing.selection k
+
+  -- after a selection that answered
+  pub stands_selected : (s : SelNo) (x : Selected) → IsReady w d'.pass me → HasPlaces w d' → progress_of d' ≡ with_selection (progress_of d) s None
+      → SelectClause me s Wait (view w d.pass) (view w d'.pass) None None (λ _. 0) (Ok x) → StandsFor w d' me
+  stands_selected s x ready places leaves clause =
+      stands_made w d' me stands.caller ready places
+      (∥∥₁_map stands.made (λ m. subst (λ (acts : List Act). HasMade (limits_of w) acts me (progress_of d')) (sym clause.call.acts.history.own)
+      (subst (λ (p : Progress). HasMade (limits_of w) (acts_seen d.pass me ++ done_between me (view w d.pass) (view w d'.pass)) me p) (sym leaves)
+      (made_more (limits_of w) (acts_seen d.pass me) (done_between me (view w d.pass) (view w d'.pass)) me (progress_of d) (with_selection (progress_of d) s None) (select s Wait clause.polls (selected x)) m
+      (subst (λ (r : SelectReply). Selects s Wait clause.polls (done_between me (view w d.pass) (view w d'.pass)) r) (said_selected clause.reply x clause.answers) clause.call.shape) tt (put_own s s m)))))
+
+  -- after one that found the selector closed
+  pub stands_closed : (s : SelNo) → IsReady w d'.pass me → HasPlaces w d' → progress_of d' ≡ progress_of d
+      → SelectClause me s Wait (view w d.pass) (view w d'.pass) None None (λ _. 0) (Err select_error.ClosedSelector) → StandsFor w d' me
+  stands_closed s ready places same clause =
+      stands_made w d' me stands.caller ready places
+      (∥∥₁_map stands.made (λ m. subst (λ (acts : List Act). HasMade (limits_of w) acts me (progress_of d')) (sym clause.call.acts.history.own)
+      (subst (λ (p : Progress). HasMade (limits_of w) (acts_seen d.pass me ++ done_between me (view w d.pass) (view w d'.pass)) me p) (sym same)
+      (made_more (limits_of w) (acts_seen d.pass me) (done_between me (view w d.pass) (view w d'.pass)) me (progress_of d) (progress_of d) (select s Wait clause.polls (not_begun begin_error.ClosedSelector)) m
+      (subst (λ (r : SelectReply). Selects s Wait clause.polls (done_between me (view w d.pass) (view w d'.pass)) r) (said_closed clause.reply clause.answers) clause.call.shape) tt m.ongoing))))

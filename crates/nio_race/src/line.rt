@@ -1,0 +1,104 @@
+//! A line after `go` whose call scripts have too.
+ghost use Rattle.std.specs.Prelude.{◌≡◌, ◌&&◌, IfOk};
+ghost use mathlib.Core.List.{IsPrefix};
+ghost use Rattle.nio_race_text.specs.declared.call.RaceCall.TheVariants.{Script};
+ghost use Rattle.nio_words.specs.Passes.{seen};
+ghost use Rattle.nio_race.specs.Racers.{LineOn, MakesOnce, StandsFor};
+ghost use Rattle.nio_race.specs.Runs.{is_busy as is_said_busy, waits_for_hold as waits_for_a_hold};
+
+use nio_base::CallerNo;
+use nio_event::{Call, Reply};
+use nio_sole::{Desk, make_line};
+use nio_words::Words;
+use std::alloc::{AllocError, Global};
+use std::sync::Wait;
+use std::thread;
+
+// Makes a line, again and again while its call waits for a hold that another caller has.
+pub(crate) fn script_line<R: Wait>(
+    rt: &R,
+    alloc: Global,
+    w: &Words,
+    d: &mut Desk,
+    me: CallerNo,
+    call: &Call,
+) -> Result<Reply, AllocError>
+    requires { StandsFor w.now d.old me }
+    ensures line { IfOk result (λ r. LineOn w.now d.old d.new me (Script call.now) r) }
+    ensures stands { StandsFor w.now d.new me }
+    ensures later { IsPrefix (seen d.old.pass) (seen d.new.pass) }
+{
+    for _ in rt.forever() {
+        let reply = make_line_once(alloc, w, d, me, call)?;
+        if !is_made_again(call, &reply) {
+            return Ok(reply);
+        }
+        thread::yield_now();
+    }
+    unreachable!()
+}
+
+// Makes a line.
+fn make_line_once(
+    alloc: Global,
+    w: &Words,
+    d: &mut Desk,
+    me: CallerNo,
+    call: &Call,
+) -> Result<Reply, AllocError>
+    requires { StandsFor w.now d.old me }
+    ensures line { IfOk result (λ r. MakesOnce w.now d.old d.new me call.now r) }
+    ensures stands { StandsFor w.now d.new me }
+    ensures later { IsPrefix (seen d.old.pass) (seen d.new.pass) }
+{
+    make_line(alloc, w, d, me, call)
+}
+
+// Whether the line is made again: its call waits for a hold that another caller has.
+fn is_made_again(call: &Call, reply: &Reply) -> bool
+    ensures { result ≡ (waits_for_a_hold call.now && is_said_busy reply.now) }
+{
+    waits_for_hold(call) && is_busy(reply)
+}
+
+// Whether the call waits until nobody else holds the channel.
+fn waits_for_hold(call: &Call) -> bool
+    ensures { result ≡ waits_for_a_hold call.now }
+{
+    match call {
+        Call::Blocking(..) | Call::Register(..) => true,
+        Call::Selector
+        | Call::Channel(..)
+        | Call::IsBlocking(..)
+        | Call::IsOpen(..)
+        | Call::IsRegistered(..)
+        | Call::KeyFor(..)
+        | Call::Closec(..)
+        | Call::Valid(..)
+        | Call::Interest(..)
+        | Call::Ready(..)
+        | Call::Iset(..)
+        | Call::Ior(..)
+        | Call::Iand(..)
+        | Call::Cancel(..)
+        | Call::Unselect(..)
+        | Call::Attach(..)
+        | Call::Attachment(..)
+        | Call::Begin(..)
+        | Call::Told(..)
+        | Call::Failed(..)
+        | Call::Wakeup(..)
+        | Call::Close(..)
+        | Call::CloseEnd(..)
+        | Call::Keys(..)
+        | Call::Selected(..)
+        | Call::Interrupt(..)
+        | Call::Interrupted => false,
+    }
+}
+
+fn is_busy(reply: &Reply) -> bool
+    ensures { result ≡ is_said_busy reply.now }
+{
+    matches!(reply, Reply::Busy)
+}
