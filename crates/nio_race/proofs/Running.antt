@@ -41,10 +41,10 @@ still_racers w race before after raced k d below =
     (raced.each k r.0 (slice_index_or after k d) first r.1 (at_itself after k d below)).pass
 
 -- the passes of the racers and of the desk are joined
-pub runs_to : (w : Words) (d : Desk) (setup : List ScriptCall) (race : List RaceLine) (racers : List Racer) (joined p : Pass) (text text' : List ℕ)
-    → HasSetUp w d setup → text ≡ answer_to Now (limits_of w) setup → HaveRun w d race racers → text' ≡ text ++ callers_text 0 64 race (replies_by race racers)
+pub runs_to : (w : Words) (d : Desk) (setup : List ScriptCall) (race : List RaceLine) (racers : List Racer) (joined p : Pass) (none text text' : List ℕ)
+    → HasSetUp w d setup → none ≡ [] → text ≡ none ++ answer_to Now (limits_of w) setup → HaveRun w d race racers → text' ≡ text ++ callers_text 0 64 race (replies_by race racers)
     → All (λ r. StandsIn r.desk.pass joined) racers → StandsIn joined p → IsPassOf w p → RunsTo w p setup race text'
-runs_to w d setup race racers joined p text text' set_up wrote run writes gathered later pass =
+runs_to w d setup race racers joined p none text text' set_up empty wrote run writes gathered later pass =
     let all = All-weaker (λ (r : Racer). StandsIn r.desk.pass joined) (λ (r : Racer). StandsIn r.desk.pass p) (λ r here. stands_on r.desk.pass joined p here later) racers gathered in
     record {
       replies = replies_by race racers;
@@ -52,5 +52,8 @@ runs_to w d setup race racers joined p text text' set_up wrote run writes gather
         raced = is_race w setup race d run.before racers p set_up run.set_off run.raced run.in_memory pass all;
         holds = holds_each w setup race d run.before racers p set_up run.set_off run.raced run.in_memory pass all;
       };
-      text_is = writes ∙ ap (λ (xs : List ℕ). xs ++ callers_text 0 64 race (replies_by race racers)) wrote;
+      text_is =
+          writes
+          ∙ (ap (λ (xs : List ℕ). xs ++ callers_text 0 64 race (replies_by race racers)) wrote
+          ∙ ap (λ (xs : List ℕ). (xs ++ answer_to Now (limits_of w) setup) ++ callers_text 0 64 race (replies_by race racers)) empty);
     }

@@ -1,15 +1,15 @@
 //! Races, from the bytes that come in to the bytes that go out.
-ghost use Rattle.std.specs.Prelude.{◌≡◌, ◌≤◌, ◌⊎◌, ◌↔◌, ◌++◌, [], ℕ, List, All, IfOk, IsFalse, IsTrue};
+ghost use Rattle.std.specs.Prelude.{◌≡◌, ◌<◌, ◌≤◌, ◌⊎◌, ◌↔◌, ◌++◌, [], ℕ, List, All, length, IfOk, IfSome, IsFalse, IsTrue};
 ghost use Rattle.nio_bytes.specs.Cause.{Rose};
 ghost use Rattle.nio_event.specs.declared.call.ScriptCall.{ScriptCall};
 ghost use Rattle.nio_race_text.specs.RaceText.{IsFirstBadRace, IsRaceText};
 ghost use Rattle.nio_race_text.specs.declared.call.RaceLine.{RaceLine};
 ghost use Rattle.nio_script.specs.Input.{CausesFault, StopsPastLongest};
 ghost use Rattle.nio_script.specs.Output.{IsWritten, WritesPrefix};
-ghost use Rattle.nio_script.specs.Run.{EndsText};
+ghost use Rattle.nio_script.specs.Run.{EndsScript, EndsText, ReadsText};
 ghost use Rattle.nio_sole.specs.Stands.{Stands};
 ghost use Rattle.nio_words.specs.Passes.{IsFirstPass, IsPassOf};
-ghost use Rattle.nio_race.specs.Does.{DoesRace, IsRaceCutShort, IsRaceRefused, IsRaced};
+ghost use Rattle.nio_race.specs.Does.{DoesRace, IsRaceCutShort, IsRaceRefused, IsRaceUntouched, IsRaced};
 ghost use Rattle.nio_race.specs.Race.{callers_text};
 ghost use Rattle.nio_race.specs.Racers.{HaveRaced, IsSetOff, replies_by};
 ghost use Rattle.nio_race.specs.Running.{HaveRun, RunsTo};
@@ -25,7 +25,7 @@ use nio_bytes::{Sink, Source};
 use nio_event::ScriptCall;
 use nio_poller::SleeperBell;
 use nio_race_text::{RaceLine, parse_race};
-use nio_script::{ScriptError, Status, read_input, refuse, write_out};
+use nio_script::{LONGEST_INPUT, ScriptError, Status, read_input, refuse, write_out};
 use nio_sole::Desk;
 use nio_words::{Pass, Words};
 use std::alloc::{AllocError, Global};
@@ -60,6 +60,48 @@ pub fn run_race<R: Threads + Wait + Sync, S: Source, K: Sink, G: Gate + Sync>(
     ensures rose { result ≡ Status.WriteFault → Rose (K.faults output.old) (K.faults output.new) }
     ensures later { K.faults output.old ≤ K.faults output.new }
     ensures too_long { StopsPastLongest S.Source input.old input.new (result ≡ Status.TooLong) }
+{
+    read_and_run(rt, alloc, input, output, table, pass, gate)
+}
+
+// Reads a race text, runs it and writes its output.
+fn read_and_run<R: Threads + Wait + Sync, S: Source, K: Sink, G: Gate + Sync>(
+    rt: &R,
+    alloc: Global,
+    input: &mut S,
+    output: &mut K,
+    table: &Words,
+    pass: &mut Pass,
+    gate: &G,
+) -> Status
+    requires { IsFirstPass table.now pass.old }
+    ensures done { result ≡ Status.Done → ReadsText S.Source input.old input.new (IsRaced K.Sink table.now output.old output.new pass.new) }
+    ensures bad_script { (line : ℕ) → result ≡ Status.BadScript line →
+        ReadsText S.Source input.old input.new (IsRaceRefused K.Sink output.old output.new pass.old pass.new line) }
+    ensures write_fault { result ≡ Status.WriteFault →
+        ReadsText S.Source input.old input.new (IsRaceCutShort K.Sink table.now output.old output.new pass.new) }
+    ensures memory { result ≡ Status.Memory → output.new ≡ output.old }
+    ensures unread { (result ≡ Status.ReadFault) ⊎ (result ≡ Status.TooLong) → IsRaceUntouched output.old output.new pass.old pass.new }
+    ensures ends { EndsScript result }
+    ensures kept { IsPassOf table.now pass.new }
+    ensures read_fault { CausesFault (S.faults input.old) (S.faults input.new)
+        (result ≡ Status.ReadFault) }
+    ensures rose { result ≡ Status.WriteFault → Rose (K.faults output.old) (K.faults output.new) }
+    ensures later { K.faults output.old ≤ K.faults output.new }
+    ensures too_long { StopsPastLongest S.Source input.old input.new (result ≡ Status.TooLong) }
+    ensures of_race { IfSome (S.left input.old) (λ text. (setup : List ScriptCall) (race : List RaceLine) →
+        length text ≤ LONGEST_INPUT → IsRaceText text setup race → (result ≡ Status.Done)
+        ⊎ (result ≡ Status.ReadFault) ⊎ (result ≡ Status.WriteFault) ⊎ (result ≡ Status.Memory)) }
+    ensures of_bad { IfSome (S.left input.old) (λ text. (line : ℕ) →
+        length text ≤ LONGEST_INPUT → IsFirstBadRace text line → (result ≡ Status.BadScript line)
+        ⊎ (result ≡ Status.ReadFault) ⊎ (result ≡ Status.Memory)) }
+    ensures of_long { IfSome (S.left input.old) (λ text. LONGEST_INPUT < length text →
+        (result ≡ Status.TooLong) ⊎ (result ≡ Status.ReadFault) ⊎ (result ≡ Status.Memory)) }
+    ensures complete { IfSome (S.left input.old) (λ text. (setup : List ScriptCall) (race : List RaceLine) →
+        length text ≤ LONGEST_INPUT → IsRaceText text setup race →
+        ¬ Rose (S.faults input.old) (S.faults input.new) →
+        ¬ Rose (K.faults output.old) (K.faults output.new) →
+        (result ≡ Status.Done) ⊎ (result ≡ Status.Memory)) }
 {
     match read_input(alloc, input) {
         Ok(text) => run_text(rt, alloc, &text, output, table, pass, gate),
