@@ -15,4 +15,4 @@ abbrev pub WritesLine : CallerNo → RaceLine → List Reply → ℕ → ℕ →
 WritesLine n line replies made made' before after =
     (later : List RaceLine)
     → after ++ caller_text n (made' + 1) (calls_by n later) (drop made' replies)
-      ≡ before ++ caller_text n (made + 1) (calls_by n (line ∷ later)) (drop made replies)
+    ≡ before ++ caller_text n (made + 1) (calls_by n (line ∷ later)) (drop made replies)

@@ -12,3 +12,5 @@ mod racer;
 mod run;
 mod set_off;
 mod setup;
+#[cfg(test)]
+mod tests;

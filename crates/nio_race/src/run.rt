@@ -222,9 +222,12 @@ fn run_threads<R: Threads + Wait + Sync, G: Gate + Sync>(
     ensures { HaveRaced w.now lines.now racers.old.items racers.new.items }
 {
     let threads = racers.len().max(1);
-    thread::for_each_mut(rt, racers.as_mut_slice(), threads, &|_, racer| {
-        run_lines(rt, alloc, w, lines, bells, gate, racer)
-    });
+    thread::for_each_mut(
+        rt,
+        racers.as_mut_slice(),
+        threads,
+        &|_, racer| { run_lines(rt, alloc, w, lines, bells, gate, racer) },
+    );
 }
 
 // Whether none of them stopped for want of memory.
