@@ -1,8 +1,10 @@
+pub mod Adding
 pub mod Blocking
 pub mod Gathering
 pub mod Promise
 pub mod Racing
 pub mod Retried
+pub mod Running
 pub mod SettingOff
 pub mod SettingUp
 pub mod Standing

@@ -76,16 +76,16 @@ module _ {A B : Type 0} (own other : Option A → Option A) (count : ℕ) (from 
   -- what was moved, where the view of a caller's own is its part of the view
   pub all_moved : ((o : Option A) → view_of (own o) ≡ part (view_of o)) → view_of None ≡ part (view_of None) → (s : ℕ) → view_of (slot to' s) ≡ part (view_of (slot from s))
   all_moved is none s = ⊎_elim
-    (λ (below : s < count). ap view_of (moved.moved s below) ∙ is (slot from s))
-    (λ (past : count ≤ s). ap view_of (moved.unmoved s past) ∙ (none ∙ ap (λ o. part (view_of o)) (sym (get_or_past from s None (subst (λ (k : ℕ). k ≤ s) (sym few) past)))))
-    (cases_lt s count)
+      (λ (below : s < count). ap view_of (moved.moved s below) ∙ is (slot from s))
+      (λ (past : count ≤ s). ap view_of (moved.unmoved s past) ∙ (none ∙ ap (λ o. part (view_of o)) (sym (get_or_past from s None (subst (λ (k : ℕ). k ≤ s) (sym few) past)))))
+      (cases_lt s count)
 
   -- what was left
   pub all_left : ((o : Option A) → part (view_of (other o)) ≡ part (view_of o)) → (s : ℕ) → part (view_of (slot from' s)) ≡ part (view_of (slot from s))
   all_left is s = ⊎_elim
-    (λ (below : s < count). ap (λ o. part (view_of o)) (moved.left s below) ∙ is (slot from s))
-    (λ (past : count ≤ s). ap (λ o. part (view_of o)) (moved.unleft s past))
-    (cases_lt s count)
+      (λ (below : s < count). ap (λ o. part (view_of o)) (moved.left s below) ∙ is (slot from s))
+      (λ (past : count ≤ s). ap (λ o. part (view_of o)) (moved.unleft s past))
+      (cases_lt s count)
 
 -- ---- the parts of two desks
 

@@ -1,7 +1,9 @@
 pub mod Does
 pub mod Gathering
-pub mod Racers
-pub mod Runs
+pub mod Output
 pub mod Race
+pub mod Racers
+pub mod Running
+pub mod Runs
 pub mod SetOff
 pub mod Setup

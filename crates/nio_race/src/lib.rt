@@ -7,7 +7,10 @@ pub use run::run_race;
 mod block;
 mod gather;
 mod line;
+mod output;
 mod racer;
 mod run;
 mod set_off;
 mod setup;
+#[cfg(test)]
+mod tests;

@@ -159,7 +159,10 @@ fn make_race_line<R: Wait>(
 
 // Whether the call may end the wait of a caller that blocks.
 fn wakes(call: &Call) -> bool {
-    matches!(call, Call::Wakeup(..) | Call::Close(..) | Call::Interrupt(..))
+    matches!(
+        call,
+        Call::Wakeup(..) | Call::Close(..) | Call::Interrupt(..)
+    )
 }
 
 fn ring_all(bells: &[SleeperBell]) {

@@ -88,7 +88,12 @@ fn lines_of(race: &[RaceLine], number: CallerNo) -> usize {
 }
 
 // Moves the caller's selections.
-fn move_selections(w: &Words, from: &mut Vec<Option<Begun>>, to: &mut Vec<Option<Begun>>, me: CallerNo)
+fn move_selections(
+    w: &Words,
+    from: &mut Vec<Option<Begun>>,
+    to: &mut Vec<Option<Begun>>,
+    me: CallerNo,
+)
     requires from { vec_len from.old ≡ (limits_of w.now).selectors }
     requires to { AreEmpty to.old (limits_of w.now).selectors }
     ensures moved { MovedBelow (own_begun me) (other_begun me) (limits_of w.now).selectors from.old.items from.new.items to.new.items }

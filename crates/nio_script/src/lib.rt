@@ -5,7 +5,7 @@ pub use check::run_check;
 pub use history::{HistoryCall, parse_history};
 pub use input::{LONGEST_INPUT, read_input};
 pub use output::{offer, write_all, write_out};
-pub use run::run_script;
+pub use run::{refuse, run_script};
 pub use script::{ScriptError, parse_script};
 pub use status::Status;
 
