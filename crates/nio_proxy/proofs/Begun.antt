@@ -1,11 +1,11 @@
 -- A connection of which no link has carried anything.
-use Rattle.std.proofs.Common.{◌≡◌, refl, []}
+use Rattle.std.proofs.Common.{refl, []}
 use Rattle.nio_link.specs.Links.{Link, IsUnused}
 use Rattle.nio_relay.proofs.CallsLemmas.{fresh-IsLawful}
 use Rattle.nio_relay.specs.Flow.{fresh}
 use Rattle.nio_proxy.specs.Relaying.{carried}
 use Rattle.nio_proxy.specs.Serving.{HasCarried, HaveCarried, AreBegun}
-use Rattle.nio_proxy.specs.Slots.{IsRelaying, IsLive}
+use Rattle.nio_proxy.specs.Slots.{IsLive}
 
 unused_carried : (l : Link) → IsUnused l → HasCarried l (carried fresh fresh)
 unused_carried l unused = record { got = unused.got; ended = unused.ended; put = unused.put; shut = unused.shut }

@@ -1,5 +1,5 @@
 -- Operations that are within others.
-use Rattle.std.proofs.Common.{◌≡◌, ℕ, ◌-◌, IsTrue, bit_and, refl, sym, ap, ◌∙◌, eq-eqb, eqb-true}
+use Rattle.std.proofs.Common.{◌≡◌, ℕ, IsTrue, bit_and, sym, ap, ◌∙◌, eq-eqb, eqb-true}
 use Rattle.std.proofs.lemmas.Nat.{and_assoc, and_comm}
 use Rattle.nio_link.specs.Readiness.{without}
 use Rattle.nio_steps.specs.KeyCalls.{is_within}

@@ -5,7 +5,6 @@ use Rattle.nio_link.specs.Links.{IsUnused}
 use Rattle.nio_link.specs.NetPlans.{planned}
 use Rattle.nio_link.specs.Slots.{carried_at, carried_by}
 use Rattle.nio_link.specs.declared.memory.plan.NetPlan.{NetPlan}
-use Rattle.nio_link.specs.declared.memory.slot.Slot.{Slot}
 use Rattle.nio_link.specs.declared.memory.slot.Slot.TheVariants as slot
 
 free_at : (n i : ℕ) → get_or (replicate n slot.Free) i slot.Free ≡ slot.Free

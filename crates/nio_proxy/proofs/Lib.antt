@@ -4,6 +4,7 @@ mod Counts
 pub mod FreshNet
 mod Idle
 mod Promise
+mod Ordered
 mod Resolved
 mod Seen
 mod Slotting

@@ -1,13 +1,12 @@
 -- What the proxy promises, from what stands of its connections.
-use Rattle.std.proofs.Common.{◌≡◌, ◌≢◌, ℕ, suc, ◌+◌, ◌-◌, ◌*◌, ◌/◌, ◌%◌, ◌<◌, ◌≤◌, ◌⊎◌, inl, inr, Bool, true, false, IsTrue, IsFalse, Option, Some, None, Result, Ok, Err, List, [], length, slice_get, refl, sym, ap, subst, ◌∙◌, arith}
+use Rattle.std.proofs.Common.{◌≡◌, ℕ, ◌+◌, ◌-◌, ◌*◌, ◌/◌, ◌<◌, ◌≤◌, ◌⊎◌, inl, inr, Bool, true, false, IsTrue, IsFalse, Option, Some, None, Result, Ok, Err, List, [], length, slice_get, refl, sym, ap, subst, ◌∙◌, arith}
 use Rattle.std.proofs.lemmas.Bool.{cases_order}
 use Rattle.std.proofs.lemmas.List.{append-nil}
 use Rattle.std.proofs.lemmas.Option.{slice_get_past}
 use Rattle.nio_base.specs.declared.numbers.ChanNo.{ChanNo}
 use Rattle.nio_bytes.specs.Cause.{Rose}
 use Rattle.nio_link.specs.Links.{Link, IsUnused, IsSameBut}
-use Rattle.nio_relay.proofs.ConnectionLemmas.{connection}
-use Rattle.nio_relay.specs.Connection.{Carried, IsBegun, IsClean}
+use Rattle.nio_relay.specs.Connection.{Carried, IsClean}
 use Rattle.nio_relay.specs.declared.plan.Served.{Served}
 use Rattle.nio_proxy.proofs.Begun.{unused_begun}
 use Rattle.nio_proxy.proofs.Counts.{count_all, count_none}
@@ -15,8 +14,8 @@ use Rattle.nio_proxy.proofs.Slotting.{chan_as, faulted_from, serving_quiet}
 use Rattle.nio_proxy.proofs.Working.{rose_from}
 use Rattle.nio_proxy.specs.Nets.{Members, IsQuiet}
 use Rattle.nio_proxy.specs.Relaying.{carried}
-use Rattle.nio_proxy.specs.Serving.{HaveCarried, AreBegun, RelaysPrefixes, HasFaulted, WasClean, HasServed, Serves, NoneRose, ServesAllOr, client_of, target_of}
-use Rattle.nio_proxy.specs.Slots.{IsSlot, IsLive, AreSlots, AreServed, Serving, has_ended, has_faulted}
+use Rattle.nio_proxy.specs.Serving.{HaveCarried, AreBegun, RelaysPrefixes, HasFaulted, HasServed, Serves, NoneRose, ServesAllOr, client_of, target_of}
+use Rattle.nio_proxy.specs.Slots.{IsSlot, AreSlots, AreServed, Serving, has_ended, has_faulted}
 use Rattle.nio_proxy.specs.declared.connections.Connections.{Connections}
 use Rattle.nio_proxy.specs.declared.serve.ServeError.{ServeError}
 use Rattle.nio_proxy.specs.declared.serve.ServeError.TheVariants.{NetFault, Memory}

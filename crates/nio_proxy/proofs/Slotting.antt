@@ -4,7 +4,7 @@ use Rattle.std.proofs.lemmas.Bool.{cases_order, eqb-false}
 use Rattle.std.proofs.lemmas.Option.{slice_get_past, slice_get_within}
 use Rattle.nio_base.specs.declared.numbers.ChanNo.{ChanNo}
 use Rattle.nio_bytes.specs.Cause.{Rose}
-use Rattle.nio_link.specs.Links.{Link, IsUnused}
+use Rattle.nio_link.specs.Links.{Link}
 use Rattle.nio_proxy.specs.Serving.{HasFaulted, client_of, target_of, count_below}
 use Rattle.nio_proxy.specs.Nets.{Members, IsIdle, IsQuiet, Works}
 use Rattle.nio_proxy.specs.Slots.{IsSlot, AreSlots, AreServed, Serving, has_ended, has_faulted}
@@ -12,7 +12,7 @@ use Rattle.nio_proxy.specs.declared.connections.Connections.{Connections}
 use Rattle.nio_proxy.specs.declared.slot.Relay.{Relay}
 use Rattle.nio_proxy.specs.declared.slot.Slot.{Slot}
 use Rattle.nio_proxy.specs.declared.slot.Slot.TheVariants.{Live}
-use Rattle.nio_proxy.proofs.Counts.{one_if, count-same, count_one}
+use Rattle.nio_proxy.proofs.Counts.{one_if, count_one}
 use Rattle.nio_proxy.proofs.Working.{rose_from, rose_on}
 
 -- ---- lists

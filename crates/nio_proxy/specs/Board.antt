@@ -1,6 +1,7 @@
 -- What holds of a proxy's table between two calls, and what a selection lists.
 use Rattle.std.specs.Prelude.{◌≡◌, ℕ, IsTrue, List}
 use Rattle.std.specs.List.{All, Contains}
+use Rattle.std.specs.List.Sorted.{IsNonDecreasingBy}
 use Rattle.nio_base.specs.declared.numbers.CallerNo.{CallerNo}
 use Rattle.nio_base.specs.declared.numbers.ChanNo.{ChanNo}
 use Rattle.nio_base.specs.declared.numbers.SelNo.{SelNo}
@@ -25,6 +26,10 @@ pub record IsIdle (w : Words) (p : Pass) (s : SelNo) : Type 0 where
 -- each listed channel is ready for all that is listed with it
 abbrev pub AreReady : (ChanNo → ℕ) → List (ChanNo × ℕ) → Type 0
 AreReady ready told = All (λ x. IsTrue (is_within x.1 (ready x.0))) told
+
+-- the numbers of the listed channels don't fall; a channel can stand there twice
+abbrev pub AreOrdered : List (ChanNo × ℕ) → Type 0
+AreOrdered told = IsNonDecreasingBy (λ x. x.0.0) told
 
 -- a key with this index was looked at, and has this channel and this interest set
 pub record IsAskedFor (asked : List LookedKey) (index : ℕ) (found : ChanNo × ℕ) : Type 0 where

@@ -1,5 +1,4 @@
 -- What two links of a connection have carried, told from its two directions.
-use Rattle.std.specs.Prelude.{◌≡◌, ℕ}
 use Rattle.nio_link.specs.Links.{Link}
 use Rattle.nio_relay.specs.Connection.{Carried}
 use Rattle.nio_relay.specs.Flow.{Flow}

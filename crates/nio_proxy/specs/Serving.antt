@@ -1,5 +1,5 @@
 -- What a proxy promises.
-use Rattle.std.specs.Prelude.{◌≡◌, ◌≢◌, ℕ, zero, suc, ◌+◌, ◌*◌, ◌<◌, ◌≤◌, ◌⊎◌, Bool, true, false, IsTrue, IsFalse, if◌then◌else◌, Option, IfSome, Result, Ok, Err}
+use Rattle.std.specs.Prelude.{◌≡◌, ℕ, zero, suc, ◌+◌, ◌*◌, ◌<◌, ◌⊎◌, Bool, IsTrue, IsFalse, if◌then◌else◌, IfSome, Result, Ok, Err}
 use Rattle.nio_base.specs.declared.numbers.ChanNo.{ChanNo}
 use Rattle.nio_bytes.specs.Cause.{Rose}
 use Rattle.nio_link.specs.Links.{Link, IsUnused}

@@ -60,7 +60,7 @@ pub(crate) struct Port {
 pub(crate) struct Refused;
 
 impl Board {
-    ghost use Rattle.nio_proxy.specs.Board.{AreReady};
+    ghost use Rattle.nio_proxy.specs.Board.{AreOrdered, AreReady};
 
     /// A table with one open selector.
     pub(crate) fn open(alloc: Global) -> Result<Board, AllocError> {
@@ -107,8 +107,8 @@ impl Board {
     }
 
     /// One selection, with one poll: waits until a watched channel is ready, or until the poll returns early. `told`
-    /// then lists which channels are ready for what, as far as they are watched for it; it can be empty, and a channel
-    /// can stand there twice. Its memory is used again.
+    /// then lists which channels are ready for what, as far as they are watched for it, in the order of their numbers;
+    /// it can be empty, and a channel can stand there twice. Its memory is used again.
     pub(crate) fn select<R: Wait, N: Net>(
         &mut self,
         rt: &R,
@@ -119,6 +119,7 @@ impl Board {
         ensures kept { N.kept net.old net.new }
         ensures cause { CountsFaults Fault (N.poll_faults net.old) (N.poll_faults net.new) result }
         ensures ready { IfOk result (λ _. AreReady (N.ready net.new) told.new.items) }
+        ensures ordered { IfOk result (λ _. AreOrdered told.new.items) }
     {
         select_once(
             rt,

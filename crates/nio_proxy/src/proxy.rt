@@ -4,7 +4,7 @@ ghost use Rattle.nio_base.specs.declared.numbers.ChanNo.{ChanNo};
 ghost use Rattle.nio_bytes.specs.Cause.{Rose};
 ghost use Rattle.nio_link.specs.Links.{IsSameBut};
 ghost use Rattle.nio_steps.specs.KeyCalls.{is_within};
-ghost use Rattle.nio_proxy.specs.Board.{AreReady};
+ghost use Rattle.nio_proxy.specs.Board.{AreOrdered, AreReady};
 ghost use Rattle.nio_proxy.specs.Nets.{IsQuiet, Works};
 ghost use Rattle.nio_proxy.specs.Serving.{listener};
 ghost use Rattle.nio_proxy.specs.Slots.{AreServed, Serving};
@@ -169,8 +169,8 @@ impl Proxy {
         }
     }
 
-    // Does what a selection told. Each channel has one turn: one that stands behind a higher number is told again by
-    // the next selection.
+    // Does what a selection told: serves each told channel once. A channel that stands there twice is served for what
+    // was told of it first, since it may not be ready any more then; the next selection tells it again if it is.
     fn serve_all<R: Wait, N: Net>(
         &mut self,
         rt: &R,
@@ -181,16 +181,17 @@ impl Proxy {
     ) -> Result<(), ServeError>
         requires scratch { length scratch.old ≡ CAPACITY }
         requires ready { AreReady (N.ready net.old) told.now }
+        requires ordered { AreOrdered told.now }
         requires served { AreServed (N.link net.old) self.old.connections }
         ensures serving { Serving N.Net net.old net.new self.old.connections self.new.connections }
         ensures cause { result ≡ Err NetFault → Rose (N.faults net.old listener) (N.faults net.new listener) }
     {
-        let mut unserved = 0;
+        let mut last = None;
         for (chan, ops) in told {
-            if u64::from(chan.0) < unserved {
+            if last == Some(*chan) {
                 continue;
             }
-            unserved = u64::from(chan.0) + 1;
+            last = Some(*chan);
             let served = self.serve_told(rt, alloc, net, *chan, *ops, scratch);
             if served.is_err() {
                 return served;
@@ -210,6 +211,7 @@ impl Proxy {
         requires served { AreServed (N.link net.old) self.old.connections }
         ensures serving { Serving N.Net net.old net.new self.old.connections self.new.connections }
         ensures ready { IfOk result (λ _. AreReady (N.ready net.new) told.new.items) }
+        ensures ordered { IfOk result (λ _. AreOrdered told.new.items) }
         ensures cause { result ≡ Err NetFault → Rose (N.poll_faults net.old) (N.poll_faults net.new) }
     {
         match self.board.select(rt, alloc, net, told) {

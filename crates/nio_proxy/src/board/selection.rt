@@ -5,7 +5,7 @@ ghost use Rattle.nio_words.specs.Passes.{IsReady};
 ghost use Rattle.nio_words.specs.Views.{view};
 ghost use Rattle.nio_poller.specs.Polls.{CountsFaults, told_of_channel};
 ghost use Rattle.nio_poller.specs.declared.poller.PollError.TheVariants.{Fault};
-ghost use Rattle.nio_proxy.specs.Board.{AreReady, IsAskedFor, IsIdle};
+ghost use Rattle.nio_proxy.specs.Board.{AreOrdered, AreReady, IsAskedFor, IsIdle};
 
 use super::ME;
 use nio_base::{ChanNo, Ops, SelNo};
@@ -32,6 +32,7 @@ pub(super) fn select_once<R: Wait, N: Poller>(
     ensures kept { N.kept net.old net.new }
     ensures cause { CountsFaults Fault (N.poll_faults net.old) (N.poll_faults net.new) result }
     ensures ready { IfOk result (λ _. AreReady (N.ready net.new) told.new.items) }
+    ensures ordered { IfOk result (λ _. AreOrdered told.new.items) }
 {
     match try_begin(alloc, w, p, ME, sel, Mode::Wait) {
         Ok(selection) => poll_once(rt, alloc, w, p, sel, selection, net, told),
@@ -56,6 +57,7 @@ fn poll_once<R: Wait, N: Poller>(
     ensures kept { N.kept net.old net.new }
     ensures cause { CountsFaults Fault (N.poll_faults net.old) (N.poll_faults net.new) result }
     ensures ready { IfOk result (λ _. AreReady (N.ready net.new) told.new.items) }
+    ensures ordered { IfOk result (λ _. AreOrdered told.new.items) }
 {
     match net.poll(rt, alloc, selection.asked(), selection.mode()) {
         Ok(answer) => match resolve(selection.asked(), answer.pairs.as_slice(), told) {
@@ -87,8 +89,23 @@ fn end(w: &Words, p: &mut Pass, sel: SelNo, selection: Selecting, answer: &Told)
     }
 }
 
-// Lists, by channels, what was told of the keys that the selection looked at, as far as they are interested in it.
+// Lists, in the order of channels, what was told of the keys that the selection looked at, as far as they are
+// interested in it. The order of the keys' indexes is another one: the index of a removed key comes back.
 fn resolve(
+    asked: &Asked,
+    pairs: &[(u32, Ops)],
+    told: &mut Vec<(ChanNo, Ops)>,
+) -> Result<(), AllocError>
+    ensures ready { IfOk result (λ _. AreReady (told_of_channel asked.now pairs.now) told.new.items) }
+    ensures ordered { IfOk result (λ _. AreOrdered told.new.items) }
+{
+    list(asked, pairs, told)?;
+    told.sort_unstable_by_key(|one| one.0.0);
+    Ok(())
+}
+
+// Lists it in the order of the pairs.
+fn list(
     asked: &Asked,
     pairs: &[(u32, Ops)],
     told: &mut Vec<(ChanNo, Ops)>,

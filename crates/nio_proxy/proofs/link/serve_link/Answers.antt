@@ -1,9 +1,7 @@
-use Rattle.std.proofs.Common.{◌≡◌, ◌≢◌, sym, subst, ◌∙◌, inl, inr}
+use Rattle.std.proofs.Common.{◌≡◌, ◌≢◌, sym, subst, inl}
 use Rattle.std.proofs.lemmas.Result.{on_err_weaker}
 use Rattle.nio_link.specs.Links.{Link}
 use Rattle.nio_relay.specs.Connection.{Carried}
-use Rattle.nio_proxy.specs.Nets.{Works}
-use Rattle.nio_proxy.specs.Relaying.{carried}
 use Rattle.nio_proxy.specs.Serving.{HasCarried}
 use Rattle.nio_proxy.proofs.Bits.{within_trans}
 use Rattle.nio_proxy.proofs.Seen.{seen}

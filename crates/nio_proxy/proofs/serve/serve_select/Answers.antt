@@ -1,7 +1,6 @@
-use Rattle.std.proofs.Common.{◌≡◌, refl, Ok, Err, subst, sym, ap, arith}
-use Rattle.nio_base.specs.declared.numbers.ChanNo.{ChanNo}
+use Rattle.std.proofs.Common.{◌≡◌, Ok, Err, subst, sym, ap, arith}
 use Rattle.nio_link.specs.Links.{IsUnused}
-use Rattle.nio_proxy.proofs.Promise.{serves_all, serves_err, unbegun, served_first, Ran, prefixes_of, all_of, fault_of}
+use Rattle.nio_proxy.proofs.Promise.{serves_all, serves_err, unbegun, served_first, prefixes_of, all_of, fault_of}
 use Rattle.nio_proxy.proofs.Seen.{seen}
 use Rattle.nio_proxy.specs.declared.serve.ServeError.TheVariants.{NetFault}
 use Rattle.nio_proxy.proofs.serve.serve_select.Goals as goal

@@ -1,5 +1,5 @@
-use Rattle.std.proofs.Common.{◌≡◌, refl, sym, ap, ◌∙◌, subst, arith, length, rules, slice_get}
-use Rattle.nio_proxy.specs.Slots.{IsSlot, Serving, has_ended, has_faulted}
+use Rattle.std.proofs.Common.{◌≡◌, sym, ap, ◌∙◌, arith, length, rules, slice_get}
+use Rattle.nio_proxy.specs.Slots.{has_ended, has_faulted}
 use Rattle.nio_proxy.specs.Serving.{client_of, target_of}
 use Rattle.nio_proxy.proofs.Counts.{count_few}
 use Rattle.nio_proxy.proofs.Seen.{seen}

@@ -1,7 +1,6 @@
-use Rattle.std.proofs.Common.{◌≡◌, refl, sym, ap, ◌∙◌, subst, ◌+◌, Some, arith, slice_get}
+use Rattle.std.proofs.Common.{refl, sym, ap, ◌∙◌, subst, ◌+◌, Some, arith, slice_get}
 use Rattle.nio_link.specs.Links.{IsSameBut}
-use Rattle.nio_proxy.specs.Slots.{IsSlot, Serving, has_ended, has_faulted}
-use Rattle.nio_proxy.specs.Serving.{HasFaulted}
+use Rattle.nio_proxy.specs.Slots.{has_ended, has_faulted}
 use Rattle.nio_proxy.proofs.Counts.{one_if, count_few}
 use Rattle.nio_proxy.proofs.Seen.{seen}
 use Rattle.nio_proxy.proofs.Slotting.{serving_told, side_is}

@@ -1,4 +1,3 @@
-use Rattle.std.proofs.Common.{◌≡◌, refl, Err}
 use Rattle.nio_proxy.proofs.Seen.{seen}
 use Rattle.nio_proxy.proofs.Slotting.{serving_none, serving_then, serving_quiet, cause_on}
 use Rattle.nio_proxy.proofs.proxy.Proxy.serve.Goals as goal

@@ -1,5 +1,4 @@
-use Rattle.std.proofs.Common.{IsTrue, subst, sym}
-use Rattle.nio_link.specs.Links.{IsSameBut}
+use Rattle.std.proofs.Common.{IsTrue, subst}
 use Rattle.nio_steps.specs.KeyCalls.{is_within}
 use Rattle.nio_proxy.specs.Serving.{listener}
 use Rattle.nio_proxy.proofs.Slotting.{chan_as}

@@ -1,6 +1,6 @@
 use Rattle.std.proofs.Common.{inl, inr}
 use Rattle.nio_proxy.proofs.Seen.{seen}
-use Rattle.nio_proxy.proofs.Slotting.{serving_then, cause_on}
+use Rattle.nio_proxy.proofs.Slotting.{serving_then}
 use Rattle.nio_proxy.proofs.Working.{rose_from}
 use Rattle.nio_proxy.proofs.proxy.Proxy.turn.Goals as goal
 
