@@ -27,13 +27,13 @@ or_memory (Err Memory) command is = inr refl
 
 -- the plan of a command is the one that the words say
 pub its_plan : (x : Command) (p p' : ProxyPlan) → x ≡ Proxy p → (◌≡◌ {A = Result Command WordsError} (Ok x) (Ok (Proxy p'))) ⊎ (◌≡◌ {A = Result Command WordsError} (Ok x) (Err Memory)) → p ≡ p'
-its_plan x p p' is (inl same) = cc (sym is) same
+its_plan x p p' is (inl same) = let e : ◌≡◌ {A = Result Command WordsError} (Ok (Proxy p)) (Ok (Proxy p')) = ap (λ (y : Command). Ok y) (sym is) ∙ same in cc e
 its_plan x p p' is (inr clash) = absurd (cc clash)
 
 -- words that say nothing are no `proxy`
 pub no_plan : (x : WordsError) (p : ProxyPlan) → x ≡ Usage → (◌≡◌ {A = Result Command WordsError} (Err x) (Ok (Proxy p))) ⊎ (◌≡◌ {A = Result Command WordsError} (Err x) (Err Memory)) → ⊥
 no_plan x p is (inl clash) = absurd (cc clash)
-no_plan x p is (inr clash) = absurd (cc (sym is) clash)
+no_plan x p is (inr clash) = let e : ◌≡◌ {A = Result Command WordsError} (Err Usage) (Err Memory) = ap (λ (y : WordsError). Err y) (sym is) ∙ clash in absurd (cc e)
 
 -- ---- nothing was read
 
