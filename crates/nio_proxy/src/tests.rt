@@ -4,11 +4,13 @@ ghost use Rattle.nio_base.specs.declared.numbers.ChanNo.{ChanNo};
 ghost use Rattle.nio_link.specs.Links.{IsUnused};
 ghost use Rattle.nio_link.specs.Slots.{carried_at};
 
+use crate::board::{Board, Refused};
 use crate::*;
-use nio_base::{Addr, ChanNo};
-use nio_link::{MemoryNet, NetPlan, PeerPlan};
+use nio_base::{Addr, ChanNo, Kind, Ops};
+use nio_link::{MemoryNet, Net, NetPlan, PeerPlan};
 use nio_relay::{ProxyPlan, Served};
 use std::alloc::{AllocError, Global};
+use std::sync::Wait;
 use std::test::Fail;
 
 const ANYWHERE: Addr = Addr {
@@ -138,5 +140,50 @@ fn connections_are_relayed(rt: HostRuntime) -> Result<(), Fail> {
             row.name
         );
     }
+    Ok(())
+}
+
+/// A table that watches the channels 1 to 3 until they are connected. Channel 3 has the index of a removed key, and so
+/// comes first by the indexes.
+fn table_with_index_again<R: Wait>(
+    rt: &R,
+    alloc: Global,
+    net: &mut MemoryNet,
+) -> Result<Board, Refused> {
+    let Ok(mut board) = Board::open(alloc) else {
+        return Err(Refused);
+    };
+    let removed = board.watch(rt, ChanNo(0), Kind::Stream, Ops::CONNECT)?;
+    board.watch(rt, ChanNo(1), Kind::Stream, Ops::CONNECT)?;
+    board.watch(rt, ChanNo(2), Kind::Stream, Ops::CONNECT)?;
+    board.unwatch(removed);
+    let mut told = Vec::new(alloc);
+    if board.select(rt, alloc, net, &mut told).is_err() {
+        return Err(Refused);
+    }
+    let port = board.watch(rt, ChanNo(3), Kind::Stream, Ops::CONNECT)?;
+    if port.key.index == removed.key.index {
+        Ok(board)
+    } else {
+        Err(Refused)
+    }
+}
+
+#[test]
+fn channels_are_told_in_their_order(rt: HostRuntime) -> Result<(), Fail> {
+    let row = &ROWS[1];
+    let mut net = net_of(rt.alloc(), row)?;
+    let mut board = table_with_index_again(&rt, rt.alloc(), &mut net).expect(
+        &rt,
+        "the index comes back",
+    );
+    net.connect(ChanNo(3), ANYWHERE).expect(&rt, "a target");
+    net.connect(ChanNo(2), ANYWHERE).expect(&rt, "a target");
+    let mut told = Vec::new(rt.alloc());
+    board
+        .select(&rt, rt.alloc(), &mut net, &mut told)
+        .expect(&rt, "an answer");
+    let ordered = [(ChanNo(2), Ops::CONNECT), (ChanNo(3), Ops::CONNECT)];
+    assert_eq!(rt; told.as_slice(), ordered.as_slice());
     Ok(())
 }
