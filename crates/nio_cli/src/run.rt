@@ -51,13 +51,7 @@ pub struct Ended<N> {
 /// Does what the words say: all that the program does. `script` and `race` make their calls on this table, by the rules
 /// of now; `check` and `check-1` make theirs on a system of their own with the same limits; `proxy` relays over the net,
 /// with a table of its own.
-pub fn run<
-    R: Threads + Wait + Sync,
-    S: Source,
-    K: Sink,
-    N: Net,
-    G: Gate + Sync,
->(
+pub fn run<R: Threads + Wait + Sync, S: Source, K: Sink, N: Net, G: Gate + Sync>(
     rt: &R,
     alloc: Global,
     words: &[String],
@@ -113,28 +107,12 @@ pub fn run<
     ensures too_long { StopsPastLongest S.Source input.old input.new (result.status ≡ Status.TooLong) }
 {
     let mut net = net;
-    let status = run_over(
-        rt,
-        alloc,
-        words,
-        input,
-        output,
-        table,
-        pass,
-        &mut net,
-        gate,
-    );
+    let status = run_over(rt, alloc, words, input, output, table, pass, &mut net, gate);
     Ended { status, net }
 }
 
 // The same over a net that is lent.
-fn run_over<
-    R: Threads + Wait + Sync,
-    S: Source,
-    K: Sink,
-    N: Net,
-    G: Gate + Sync,
->(
+fn run_over<R: Threads + Wait + Sync, S: Source, K: Sink, N: Net, G: Gate + Sync>(
     rt: &R,
     alloc: Global,
     words: &[String],
