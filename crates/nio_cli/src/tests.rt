@@ -69,12 +69,14 @@ fn ends_over(
     alloc: Global,
     label: &str,
     words: &[&str],
-    (input, fail_read, fail_write): (&str, Option<u64>, Option<u64>),
+    read: (&str, Option<u64>, Option<u64>),
     net: MemoryNet,
-    (code, written): (u8, &str),
+    expected: (u8, &str),
 ) -> Result<(), Fail>
     requires { (c : ChanNo) → IsUnused (carried_at net.slots c) }
 {
+    let (input, fail_read, fail_write) = read;
+    let (code, written) = expected;
     let mut given = Vec::new(alloc);
     for word in words {
         given.push(String::from_str(alloc, word)?)?;
