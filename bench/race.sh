@@ -28,26 +28,13 @@ race_text() {
 many() { "$program" race <"$work/many" >/dev/null; }
 one() { "$program" race <"$work/one" >/dev/null; }
 
-# least COMMAND: the least of five times, in milliseconds
-least() {
-    local least=999999999 start end took
-    for _ in 1 2 3 4 5; do
-        start=$(date +%s%N)
-        "$1"
-        end=$(date +%s%N)
-        took=$(((end - start) / 1000000))
-        [ "$took" -ge "$least" ] || least=$took
-    done
-    echo "$least"
-}
-
 # measure NAME CALLERS FIRST
 measure() {
     local total=$(($2 * each)) many_ms one_ms
     race_text "$2" "$each" "$3" >"$work/many"
     race_text 1 "$total" "$3" >"$work/one"
-    many_ms=$(least many)
-    one_ms=$(least one)
+    many_ms=$(best 5 many)
+    one_ms=$(best 5 one)
     awk -v name="$1" -v callers="$2" -v total="$total" -v many="$many_ms" -v one="$one_ms" 'BEGIN {
         printf "%s, %d callers: %d lines a second, one caller %d, ratio %.2f\n", \
             name, callers, total * 1000 / many, total * 1000 / one, one / many

@@ -8,10 +8,11 @@ begin_timing() {
     trap 'rm -rf "$work"' EXIT
 }
 
-# best COMMAND..: the least of fifteen times, in milliseconds
+# best TIMES COMMAND..: the least of so many times, in milliseconds
 best() {
-    local least=999999999 start end took
-    for _ in $(seq 15); do
+    local times=$1 least=999999999 start end took
+    shift
+    for _ in $(seq "$times"); do
         start=$(date +%s%N)
         "$@"
         end=$(date +%s%N)
@@ -30,9 +31,9 @@ stream() { sed 's/ -> /=/' "$work/history" >/dev/null; }
 compare_halves() {
     local whole_ms half_ms sed_ms
     "$program" script <"$work/whole" >"$work/history"
-    whole_ms=$(best whole)
-    half_ms=$(best half)
-    sed_ms=$(best stream)
+    whole_ms=$(best 15 whole)
+    half_ms=$(best 15 half)
+    sed_ms=$(best 15 stream)
     echo "whole $whole_ms ms, half $half_ms ms, sed $sed_ms ms"
     awk -v w="$whole_ms" -v h="$half_ms" -v s="$sed_ms" \
         'BEGIN { printf "halves %.2f (asked: at most 2.2), to sed %.2f (asked: at most 10)\n", w / h, w / s }'
