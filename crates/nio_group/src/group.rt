@@ -2,10 +2,10 @@
 ghost use Rattle.std.specs.Prelude.{◌≡◌, ℕ, ◌+◌, ◌<◌, ◌≤◌, ◌↔◌, IfOk, IfSome, IfNone, IsTrue, length, Some, None, IsNone};
 ghost use Rattle.nio_group.specs.Limits.{IsFit};
 ghost use Rattle.nio_group.specs.Stages.{is_running as handler_runs};
-ghost use Rattle.nio_group.specs.Flight.{IsPendingAs};
+ghost use Rattle.nio_group.specs.Flight.{IsPendingAs, op_at};
 ghost use Rattle.nio_group.specs.Group.{empty_group, channel_at, is_terminated, IsLawful};
-ghost use Rattle.nio_group.specs.Refusals.{start_refusal as refusal_of_start};
-ghost use Rattle.nio_group.specs.Steps.{answer_to_open, after_open, answer_to_bind, after_bind, answer_to_start, after_start, answer_to_report, after_report, answer_to_take, after_take, answer_to_finish, after_finish, after_close, after_shutdown, after_shutdown_now, IsJobOf, result_of as finished_as, first_stage as stage_at_start};
+ghost use Rattle.nio_group.specs.Refusals.{report_refusal, start_refusal as refusal_of_start};
+ghost use Rattle.nio_group.specs.Steps.{answer_to_open, after_open, answer_to_bind, after_bind, answer_to_start, after_start, answer_to_report, after_report, reported, answer_to_take, after_take, answer_to_finish, after_finish, after_close, after_shutdown, after_shutdown_now, IsJobOf, result_of as finished_as, first_stage as stage_at_start};
 
 use crate::channel::{Channel, Endpoint, Link};
 use crate::completion::{Completion, Job};
@@ -175,13 +175,23 @@ impl GroupCore {
         ensures answer { result ≡ answer_to_report self.old op.0 outcome }
         ensures after { self.new ≡ after_report self.old op.0 outcome }
     {
-        let operation = match self.flight.get(op.0) {
-            Some(operation) => operation,
-            None => return Err(ReportError::NotPending),
+        let Some(operation) = self.flight.get(op.0) else {
+            return Err(ReportError::NotPending);
         };
         if let Some(refused) = refuse::report(operation, outcome) {
             return Err(refused);
         }
+        self.complete(op, operation, outcome);
+        Ok(())
+    }
+
+    /// Completes a pending operation, which may have this outcome.
+    fn complete(&mut self, op: OpNo, operation: Operation, outcome: Outcome)
+        requires found { op_at self.old.flight op.0 ≡ Some operation }
+        requires allowed { report_refusal (Some operation) outcome ≡ None }
+        requires channel { operation.chan.0 < length self.old.channels }
+        ensures { self.new ≡ reported self.old op.0 outcome (Some operation) }
+    {
         let finished = self.result_of(outcome);
         let at = operation.chan.0 as usize;
         self.flight.complete(op.0, operation, finished);
@@ -213,9 +223,8 @@ impl GroupCore {
                     self.open_channels += 1;
                 }
             }
-            _ => {}
+            Outcome::Count(_) | Outcome::End => {}
         }
-        Ok(())
     }
 
     fn result_of(&self, outcome: Outcome) -> Finished
