@@ -16,10 +16,10 @@ use thiserror::Error;
 #[derive(Clone, Copy, Debug, PartialEq, Eq, Error)]
 pub enum AuditError {
     /// The event at this place, counted from 0, is the first that isn't a step after those before it.
-    #[error("NotAStep {at}")]
+    #[error("event {at} isn't a step after those before it")]
     NotAStep { at: u64 },
     /// There is no memory for what the judge keeps.
-    #[error("Memory")]
+    #[error("out of memory")]
     Memory,
 }
 

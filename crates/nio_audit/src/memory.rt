@@ -99,7 +99,7 @@ impl Memory {
     ghost use Rattle.nio_audit.specs.Found.{found_by, is_clear_for, unblocked_by};
     ghost use Rattle.nio_audit.specs.Remembering.{claimed, knowledge_of, learned, nothing_known};
 
-    /// Nobody knows anything.
+    /// Before the first event, when no caller knows anything.
     pub(crate) fn new(alloc: Global) -> Memory
         ensures { knowledge_of result ≡ nothing_known }
     {
@@ -172,7 +172,7 @@ impl Memory {
         index < self.closings.get(me.0, sel.0).below
     }
 
-    /// What the caller knows more after its act at this moment.
+    /// Adds what the caller knows by its act at this moment.
     pub(crate) fn learn(&mut self, now: u64, me: CallerNo, act: &Act) -> Result<(), AllocError>
         requires { IsRemembered act.now }
         ensures { OnOk result (knowledge_of self.new ≡ learned now me act.now (knowledge_of self.old)) }

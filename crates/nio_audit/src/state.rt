@@ -101,7 +101,7 @@ impl StateTables {
         }
     }
 
-    /// Makes the change of an act that is a step now.
+    /// Changes the state as this step does.
     pub(crate) fn apply(&mut self, me: CallerNo, act: &Act) -> Result<(), AllocError>
         requires { (due : ℕ → ℕ → Bool) → IsBounded (state_with self.old due) act.now }
         ensures { OnOk result ((due : ℕ → ℕ → Bool) → state_with self.new (due_after (row self.old.begun) due act.now) ≡ effect (state_with self.old due) me act.now) }
@@ -249,8 +249,8 @@ impl StateTables {
         }
     }
 
-    /// Whether a selection has begun on the selector, and removes a key whose index it has to put, by the stage that
-    /// the removal found.
+    /// Whether the removal of a key, which found this stage, leaves the selection in progress there an index to put
+    /// among the free ones.
     pub(crate) fn frees_index(&self, sel: SelNo, found: Stage) -> bool
         ensures { result ≡ (row self.now.begun sel.0 && frees_index found) }
     {

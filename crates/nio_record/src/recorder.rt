@@ -97,7 +97,7 @@ impl Recorder {
     }
 
     /// Makes the step, whatever `act` says of what it finds, and writes it down. Answers the act with what it found.
-    /// A draw is no step of a caller that is drawn: `NoStep`.
+    /// A draw answers `NoStep`, since both callers are drawn.
     pub fn step(&mut self, alloc: Global, caller: CallerNo, act: Act) -> Result<Act, RecordError>
         requires { IsRecorded self.old }
         ensures recorded { IsRecorded self.new }

@@ -151,7 +151,7 @@ fn disturb(r: &mut Recorder, alloc: Global, other: Other) -> Result<(), RecordEr
     }
 }
 
-/// What the selecting caller goes by in an answer.
+/// The part of an answer on which the next step of the selection depends.
 #[derive(Clone, Copy)]
 enum Saw {
     /// The selector is shut.
@@ -162,7 +162,7 @@ enum Saw {
     Mark(Mark),
     /// Marking failed, since this mark stands there.
     OtherMark(Mark),
-    /// Nothing that changes what it does next.
+    /// Nothing: the next step is the same whatever was found.
     Usual,
 }
 

@@ -1,4 +1,4 @@
--- What the sole use of a table begins with.
+-- The beginning of a `Sole`: every number is drawn, and nothing else was done.
 use Rattle.std.specs.Prelude.{◌≡◌, ℕ, zero, suc, ◌<◌, ◌≤◌, ◌++◌, false, IsTrue, Option, None, List, [], ◌∷◌, Vec, vec_len}
 use Rattle.std.specs.declared.alloc.Global.{Global}
 use Rattle.nio_base.specs.declared.limits.Limits.{Limits}

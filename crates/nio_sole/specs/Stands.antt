@@ -1,4 +1,4 @@
--- What one caller after the other uses the table with, and what holds of it between two lines.
+-- What a desk has in progress, and what holds of a desk between two lines.
 use Rattle.std.specs.Prelude.{◌≡◌, ℕ, ◌<◌, Option, Some, None, option_map, List, vec_len}
 use Rattle.std.specs.List.{slice_index_or}
 use Rattle.nio_base.specs.Limits.{IsFit}

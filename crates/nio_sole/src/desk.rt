@@ -1,4 +1,4 @@
-//! What one caller after the other uses the table with.
+//! A desk: the pass with which callers make lines, and what they have in progress.
 ghost use Rattle.std.specs.Prelude.{◌≡◌, ◌<◌, Some, None, is_some, option_map, slice_set, vec_len};
 ghost use Rattle.nio_plain.specs.Seq.Selections.{is_caller};
 ghost use Rattle.nio_serial.specs.Lines.{if_own};

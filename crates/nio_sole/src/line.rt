@@ -45,7 +45,7 @@ pub fn say_line(
     make_line(alloc, w, d, me, call)
 }
 
-/// A line of a caller that may be drawn, on a desk whose pass acts for it. Another caller's steps may come between its
+/// A line of a caller below the limit, on a desk whose pass acts for it. Other callers may make steps between its
 /// own.
 pub fn make_line(
     alloc: Global,

@@ -1,4 +1,4 @@
-//! What the sole use of a table begins with: all numbers drawn, and nothing in progress.
+//! The beginning of a `Sole`: all numbers are drawn, and nothing is in progress.
 ghost use Rattle.std.specs.Prelude.{◌≡◌, ◌+◌, ◌<◌, ◌≤◌, ◌++◌, [], ◌∷◌, None, IfOk, OnErr, vec_len};
 ghost use Rattle.std.specs.Vec.{vec_capacity};
 ghost use Rattle.nio_plain.specs.ScriptState.{script_opening};

@@ -51,7 +51,7 @@ pub(crate) fn find_names(w: &Words, p: &mut Pass, me: CallerNo, call: &Call) -> 
     }
 }
 
-// The caller may be drawn.
+// The caller that the line names has to be below the limit; this makes no step.
 fn look_up_caller(w: &Words, p: &mut Pass, me: CallerNo, target: CallerNo) -> Option<Reply>
     requires ready { IsReady w.now p.old me }
     requires unpinned { HasNoPin (view w.now p.old) me }

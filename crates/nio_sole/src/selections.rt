@@ -31,7 +31,7 @@ pub(crate) fn begin(
     }
 }
 
-// The memory for the reply is taken before the selection begins.
+// Begins a selection that waits so. The memory for the reply is taken before it.
 fn begin_with(
     alloc: Global,
     w: &Words,
