@@ -22,6 +22,15 @@ count_by-queued_after : (queued : Bool) (queue : List ℕ) (n m : ℕ) → count
 count_by-queued_after true queue n m = count_by-push (λ k. eqb k m) queue n
 count_by-queued_after false queue n m = omega arith
 
+-- how often the queue lists the number that has changed, and how often another one
+counted_here : {c c' : ℕ} (q : Bool) → c' ≡ c + cond q 1 0 → c ≡ 0 → c' ≡ once_if q
+counted_here true a b = omega arith
+counted_here false a b = omega arith
+
+counted_elsewhere : {c c' w : ℕ} (q : Bool) → c' ≡ c + cond q 0 0 → c ≡ w → c' ≡ w
+counted_elsewhere true a b = omega arith
+counted_elsewhere false a b = omega arith
+
 pub queue-push : (xs : List (Option Operation)) (queue : List ℕ) (slot : Option Operation) → QueueHolds xs queue → QueueHolds (xs ++ slot ∷ []) (queued_after (is_queued slot) queue (length xs))
 queue-push xs queue slot holds n =
     let had = holds n in
@@ -33,19 +42,11 @@ queue-push xs queue slot holds n =
     let has = rw t at (get_or-push xs slot None n) in
     let turned : eqb (length xs) n ≡ true = subst (λ (k : ℕ). eqb (length xs) k ≡ true) (sym same) (eqb-same (length xs)) in
     let counted = rw turned at counts in
-    rw has (at_end (is_queued slot) counted had_none))
+    rw has (counted_here (is_queued slot) counted had_none))
     (λ f. let has = rw f at (get_or-push xs slot None n) in
     let turned : eqb (length xs) n ≡ false = eqb-other (length xs) n (λ e. other_number n (length xs) f (sym e)) in
     let counted = rw turned at counts in
-    rw has (elsewhere (is_queued slot) counted had))
-  where
-    at_end : {c c' : ℕ} (q : Bool) → c' ≡ c + cond q 1 0 → c ≡ 0 → c' ≡ once_if q
-    at_end true a b = omega arith
-    at_end false a b = omega arith
-
-    elsewhere : {c c' w : ℕ} (q : Bool) → c' ≡ c + cond q 0 0 → c ≡ w → c' ≡ w
-    elsewhere true a b = omega arith
-    elsewhere false a b = omega arith
+    rw has (counted_elsewhere (is_queued slot) counted had))
 
 pub queue-set : (xs : List (Option Operation)) (queue : List ℕ) (i : ℕ) (slot : Option Operation) → i < length xs → is_queued (get_or xs i None) ≡ false → QueueHolds xs queue → QueueHolds (set xs i slot) (queued_after (is_queued slot) queue i)
 queue-set xs queue i slot l was holds n =
@@ -57,19 +58,11 @@ queue-set xs queue i slot l was holds n =
     let has = rw t at (get_or-set xs i slot None n l) in
     let turned : eqb i n ≡ true = subst (λ (k : ℕ). eqb i k ≡ true) (sym same) (eqb-same i) in
     let counted = rw turned at counts in
-    rw has (at_index (is_queued slot) counted had_none))
+    rw has (counted_here (is_queued slot) counted had_none))
     (λ f. let has = rw f at (get_or-set xs i slot None n l) in
     let turned : eqb i n ≡ false = eqb-other i n (λ e. other_number n i f (sym e)) in
     let counted = rw turned at counts in
-    rw has (elsewhere (is_queued slot) counted had))
-  where
-    at_index : {c c' : ℕ} (q : Bool) → c' ≡ c + cond q 1 0 → c ≡ 0 → c' ≡ once_if q
-    at_index true a b = omega arith
-    at_index false a b = omega arith
-
-    elsewhere : {c c' w : ℕ} (q : Bool) → c' ≡ c + cond q 0 0 → c ≡ w → c' ≡ w
-    elsewhere true a b = omega arith
-    elsewhere false a b = omega arith
+    rw has (counted_elsewhere (is_queued slot) counted had))
 
 -- the number at the front of the queue is that of a queued operation
 pub front-queued : (xs : List (Option Operation)) (i : ℕ) (rest : List ℕ) → QueueHolds xs (i ∷ rest) → is_queued (get_or xs i None) ≡ true
