@@ -8,4 +8,4 @@ compile channels_atomics
     least nio 5 "$made/nio_bench" channels
     least C 5 "$made/channels_atomics"
 } | compare nio C
-load
+machine

@@ -20,4 +20,4 @@ compile pipe_system
                 piece, own, ring, own / ring, kernel, own / kernel
         }
     }'
-load
+machine

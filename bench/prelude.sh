@@ -7,6 +7,7 @@
 
 set -euo pipefail
 cd "$(dirname "$0")"
+. ./machine.sh
 made=$(mktemp -d)
 trap 'rm -rf "$made"' EXIT
 
@@ -50,6 +51,3 @@ compare() {
             }
         }'
 }
-
-# load: how busy the machine is, which the figures depend on
-load() { echo "load: $(cut -d ' ' -f 1-3 /proc/loadavg), $(nproc) processors"; }

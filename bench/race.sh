@@ -4,10 +4,7 @@
 # don't wait, with a wakeup before each and without. A wakeup rings the bell of every caller, so with it the callers
 # share memory. The best of five of each. One thread reads the text and writes the replies, and that counts too: so the
 # ratio stays below the number of callers.
-set -eu
-cd "$(dirname "$0")/.."
-. bench/timing.sh
-begin_timing
+. "$(dirname "$0")/timing.sh"
 
 each=100000
 
@@ -45,5 +42,4 @@ for callers in 2 4; do
     measure "selections" "$callers" 2
     measure "selections after wakeups" "$callers" 1
 done
-echo "load: $(cut -d ' ' -f 1-3 /proc/loadavg), $(nproc) processors"
-sed -n 's/^model name[^:]*: /machine: /p' /proc/cpuinfo | head -n 1
+machine

@@ -7,4 +7,4 @@ compile relay_memcpy
     least nio 5 "$made/nio_bench" relay
     least C 5 "$made/relay_memcpy"
 } | compare nio C
-load
+machine

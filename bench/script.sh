@@ -1,10 +1,7 @@
 #!/usr/bin/env bash
 # How long `nio script` takes for 16 MiB of `t1 selector` lines and for half of them, beside `sed` over
 # what it wrote, all in one run. The best of fifteen of each.
-set -eu
-cd "$(dirname "$0")/.."
-. bench/timing.sh
-begin_timing
+. "$(dirname "$0")/timing.sh"
 
 lines=$((16777216 / 12))
 yes 't1 selector' | head -n "$lines" >"$work/whole" || true

@@ -8,4 +8,4 @@ compile select_atomics
     least nio 2 "$made/nio_bench" select
     least C 2 "$made/select_atomics"
 } | compare nio C
-load
+machine

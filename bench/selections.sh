@@ -1,10 +1,7 @@
 #!/usr/bin/env bash
 # How long `nio script` takes for 300,000 lines of selections over 64 keys and for their first half,
 # beside `sed` over the history, all in one run. The best of fifteen of each.
-set -eu
-cd "$(dirname "$0")/.."
-. bench/timing.sh
-begin_timing
+. "$(dirname "$0")/timing.sh"
 
 {
     echo 't1 selector'

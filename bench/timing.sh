@@ -1,12 +1,14 @@
-# What the benchmarks of the program share: sourced, with `program` and `work` set by `begin_timing`.
+# What the benchmarks of the program share. Sourced first, in place of `set -eu`: stops at the first failure, goes to the
+# top of the repository, builds the program where it must, sets `program`, and makes the folder `work`, which goes when
+# the script ends.
 
-# begin_timing: builds the program where it must, and makes a folder that goes when the script ends.
-begin_timing() {
-    ./nio script </dev/null >/dev/null
-    program=crates/nio_cli/out/nio_cli
-    work=$(mktemp -d)
-    trap 'rm -rf "$work"' EXIT
-}
+set -eu
+cd "$(dirname "$0")/.."
+. bench/machine.sh
+./nio script </dev/null >/dev/null
+program=crates/nio_cli/out/nio_cli
+work=$(mktemp -d)
+trap 'rm -rf "$work"' EXIT
 
 # best TIMES COMMAND..: the least of so many times, in milliseconds
 best() {
@@ -37,5 +39,5 @@ compare_halves() {
     echo "whole $whole_ms ms, half $half_ms ms, sed $sed_ms ms"
     awk -v w="$whole_ms" -v h="$half_ms" -v s="$sed_ms" \
         'BEGIN { printf "halves %.2f (asked: at most 2.2), to sed %.2f (asked: at most 10)\n", w / h, w / s }'
-    echo "machine: $(nproc) processors, $(sed -n 's/^model name[^:]*: //p' /proc/cpuinfo | head -n 1)"
+    machine
 }

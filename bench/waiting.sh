@@ -15,4 +15,4 @@ awk -F'|' '
     { found[$2] = $3 }
     END { printf "sleeper: %d ns, %d ns by Parker alone, ratio %.2f\n", found["select"], found["park"], found["select"] / found["park"] }
 ' "$made/times"
-load
+machine

@@ -8,4 +8,4 @@ compile words_atomics
     least nio 5 "$made/nio_bench" words
     least C 5 "$made/words_atomics"
 } | compare nio C
-load
+machine
