@@ -17,11 +17,13 @@ use Rattle.nio_group.proofs.FlightLemmas.{some-within}
 use Rattle.nio_group.proofs.PendingLemmas.{kinds, pending_on-as, pending_as-on, pending-parts, pending-as-pending, not_pending-as, filled_slots, filled_slots-less, slot_of-with_same, slot_of-with_other}
 
 -- where nothing is pending, nothing completes
-pub pending_from-none : (c k : ℕ) (xs : List (Option Operation)) → ((i : ℕ) → is_pending_on c (get_or xs i None) ≡ false) → pending_from c k xs ≡ []
+pub pending_from-none : (c k : ℕ) (xs : List (Option Operation))
+    → ((i : ℕ) → is_pending_on c (get_or xs i None) ≡ false) → pending_from c k xs ≡ []
 pending_from-none c k [] h = refl
 pending_from-none c k (x ∷ xs) h = rw (h 0) (pending_from-none c (k + 1) xs (λ i. h (suc i)))
 
-pub map-closed_on-none : (c : ℕ) (xs : List (Option Operation)) → ((i : ℕ) → is_pending_on c (get_or xs i None) ≡ false) → map (closed_on c) xs ≡ xs
+pub map-closed_on-none : (c : ℕ) (xs : List (Option Operation)) → ((i : ℕ) → is_pending_on c (get_or xs i None) ≡ false)
+    → map (closed_on c) xs ≡ xs
 map-closed_on-none c [] h = refl
 map-closed_on-none c (x ∷ xs) h =
     let here : closed_on c x ≡ x = rw (h 0) refl in
@@ -29,7 +31,9 @@ map-closed_on-none c (x ∷ xs) h =
     ap (λ y. y ∷ map (closed_on c) xs) here ∙ ap (λ ys. x ∷ ys) rest
 
 -- the first that is pending completes first
-pub pending_from-first : (c k i : ℕ) (xs : List (Option Operation)) (slot : Option Operation) → is_pending_on c (get_or xs i None) ≡ true → ((j : ℕ) → j < i → is_pending_on c (get_or xs j None) ≡ false) → is_pending_on c slot ≡ false → pending_from c k xs ≡ (k + i) ∷ pending_from c k (set xs i slot)
+pub pending_from-first : (c k i : ℕ) (xs : List (Option Operation)) (slot : Option Operation)
+    → is_pending_on c (get_or xs i None) ≡ true → ((j : ℕ) → j < i → is_pending_on c (get_or xs j None) ≡ false)
+    → is_pending_on c slot ≡ false → pending_from c k xs ≡ (k + i) ∷ pending_from c k (set xs i slot)
 pending_from-first c k i [] slot here before after = absurd (false≢true here)
 pending_from-first c k zero (x ∷ xs) slot here before after =
     rw (here, after) (ap (λ n. n ∷ pending_from c (k + 1) xs) (omega arith))
@@ -38,7 +42,9 @@ pending_from-first c k (suc i) (x ∷ xs) slot here before after =
     rw (before 0 (omega arith))
     (rest ∙ ap (λ n. n ∷ pending_from c (k + 1) (set xs i slot)) (omega arith))
 
-pub map-closed_on-set : (c i : ℕ) (xs : List (Option Operation)) (slot : Option Operation) → closed_on c (get_or xs i None) ≡ slot → is_pending_on c slot ≡ false → map (closed_on c) (set xs i slot) ≡ map (closed_on c) xs
+pub map-closed_on-set : (c i : ℕ) (xs : List (Option Operation)) (slot : Option Operation)
+    → closed_on c (get_or xs i None) ≡ slot → is_pending_on c slot ≡ false
+    → map (closed_on c) (set xs i slot) ≡ map (closed_on c) xs
 map-closed_on-set c i [] slot here after = refl
 map-closed_on-set c zero (x ∷ xs) slot here after =
     let stays : closed_on c slot ≡ slot = rw after refl in
@@ -54,7 +60,8 @@ pub none_some : (m : ℕ) → None ≡ Some m → ⊥
 none_some m e = cc
 
 -- nothing is pending where no slot is filled
-pub nothing-pending_on : (f : Flight) (c : ℕ) (p : slots.Pending) → IsListedOn f c p → ((kind : OpKind) → slot_of p kind ≡ None) → (n : ℕ) → is_pending_on c (op_at f n) ≡ false
+pub nothing-pending_on : (f : Flight) (c : ℕ) (p : slots.Pending) → IsListedOn f c p
+    → ((kind : OpKind) → slot_of p kind ≡ None) → (n : ℕ) → is_pending_on c (op_at f n) ≡ false
 nothing-pending_on f c p on none n =
     by_test (is_pending_on c (op_at f n))
     (λ t. absurd (at_slot (op_at f n) refl t))
@@ -66,14 +73,17 @@ nothing-pending_on f c p on none n =
         let pending : is_pending_as c op.kind (op_at f n) ≡ true = rw is (pending_on-as c op h) in
         none_some n (sym (none op.kind) ∙ on.all op.kind n pending)
 
-pub closed-nothing : (f : Flight) (c : ℕ) → ((n : ℕ) → is_pending_on c (op_at f n) ≡ false) → with_channel_closed f c ≡ f
+pub closed-nothing : (f : Flight) (c : ℕ) → ((n : ℕ) → is_pending_on c (op_at f n) ≡ false)
+    → with_channel_closed f c ≡ f
 closed-nothing f c none =
     let operations = map-closed_on-none c f.operations none in
     let queue = ap (λ (ns : List ℕ). f.queue ++ ns) (pending_from-none c 0 f.operations none) ∙ append-nil f.queue in
     rw (operations, queue) refl
 
 -- where a number's operation isn't pending any more
-pub pending-after : (xs : List (Option Operation)) (n : ℕ) (slot : Option Operation) (c : ℕ) (kind : OpKind) (m : ℕ) → n < length xs → is_pending slot ≡ false → is_pending_as c kind (get_or (set xs n slot) m None) ≡ true → (m ≢ n) × (is_pending_as c kind (get_or xs m None) ≡ true)
+pub pending-after : (xs : List (Option Operation)) (n : ℕ) (slot : Option Operation) (c : ℕ) (kind : OpKind) (m : ℕ)
+    → n < length xs → is_pending slot ≡ false → is_pending_as c kind (get_or (set xs n slot) m None) ≡ true
+    → (m ≢ n) × (is_pending_as c kind (get_or xs m None) ≡ true)
 pending-after xs n slot c kind m l not_pending h =
     by_test (eqb m n)
     (λ t. let same = same_number m n t in
@@ -83,7 +93,9 @@ pending-after xs n slot c kind m l not_pending h =
     (λ e. let differ = other_number m n e in
     (differ, rw (get_or-set_other xs n m slot None differ) at h))
 
-pub pending-before : (xs : List (Option Operation)) (n : ℕ) (slot : Option Operation) (c : ℕ) (kind : OpKind) (m : ℕ) → m ≢ n → is_pending_as c kind (get_or xs m None) ≡ true → is_pending_as c kind (get_or (set xs n slot) m None) ≡ true
+pub pending-before : (xs : List (Option Operation)) (n : ℕ) (slot : Option Operation) (c : ℕ) (kind : OpKind) (m : ℕ)
+    → m ≢ n → is_pending_as c kind (get_or xs m None) ≡ true
+    → is_pending_as c kind (get_or (set xs n slot) m None) ≡ true
 pending-before xs n slot c kind m differ h = rw (get_or-set_other xs n m slot None differ) h
 
 -- a step of the closing
@@ -123,7 +135,8 @@ listed-step f c p n op slot queue on is l own not_pending =
         differ (sym parts.same)
 
 -- what is pending before the least is nothing
-none-before : (f : Flight) (c : ℕ) (p : slots.Pending) (n : ℕ) → IsListedOn f c p → ((k : OpKind) (m : ℕ) → slot_of p k ≡ Some m → n ≤ m) → (j : ℕ) → j < n → is_pending_on c (op_at f j) ≡ false
+none-before : (f : Flight) (c : ℕ) (p : slots.Pending) (n : ℕ) → IsListedOn f c p
+    → ((k : OpKind) (m : ℕ) → slot_of p k ≡ Some m → n ≤ m) → (j : ℕ) → j < n → is_pending_on c (op_at f j) ≡ false
 none-before f c p n on least j l =
     by_test (is_pending_on c (op_at f j)) (λ t. absurd (at_slot (op_at f j) refl t)) (λ e. e)
   where
@@ -134,7 +147,9 @@ none-before f c p n on least j l =
         let above = least op.kind j (on.all op.kind j pending) in
         omega arith
 
-pub closing-step : (f : Flight) (c : ℕ) (p : slots.Pending) (n : ℕ) (op : Operation) (kind : OpKind) → IsListedOn f c p → slot_of p kind ≡ Some n → ((k : OpKind) (m : ℕ) → slot_of p k ≡ Some m → n ≤ m) → op_at f n ≡ Some op → IsClosingStep f c p n op
+pub closing-step : (f : Flight) (c : ℕ) (p : slots.Pending) (n : ℕ) (op : Operation) (kind : OpKind) → IsListedOn f c p
+    → slot_of p kind ≡ Some n → ((k : OpKind) (m : ℕ) → slot_of p k ≡ Some m → n ≤ m) → op_at f n ≡ Some op
+    → IsClosingStep f c p n op
 closing-step f c p n op kind on slot least is =
     let closed_slot = option_map (at_stage (Queued (Failed AsynchronousClose))) (op_at f n) in
     let as_kind : is_pending_as c kind (Some op) ≡ true = rw is at (on.listed kind n slot) in
@@ -159,7 +174,8 @@ closing-step f c p n op kind on slot least is =
     }
 
 -- a slot that is filled leads to an operation
-pub listed-some : (f : Flight) (c : ℕ) (p : slots.Pending) (kind : OpKind) (n : ℕ) → IsListedOn f c p → slot_of p kind ≡ Some n → op_at f n ≡ None → ⊥
+pub listed-some : (f : Flight) (c : ℕ) (p : slots.Pending) (kind : OpKind) (n : ℕ) → IsListedOn f c p
+    → slot_of p kind ≡ Some n → op_at f n ≡ None → ⊥
 listed-some f c p kind n on slot none =
     let pending : is_pending_as c kind None ≡ true = rw none at (on.listed kind n slot) in
     false≢true pending

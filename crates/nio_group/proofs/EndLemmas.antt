@@ -73,7 +73,9 @@ running-some None h = absurd (false≢true h)
 running-some (Some op) h = (op, refl)
 
 -- a completion is taken
-kept-taken_front : {f : Flight} {cs : List Channel} {ps : List slots.Pending} {o r r' : ℕ} {sh : Bool} {l : GroupLimits} (n : ℕ) (rest : List ℕ) (op : Operation) → IsGroupKept f cs ps o sh l r r' → f.queue ≡ n ∷ rest → QueueHolds f.operations (n ∷ rest) → op_at f n ≡ Some op → is_queued (Some op) ≡ true → IsGroupKept (with_taken f n) cs ps o sh l r r'
+kept-taken_front : {f : Flight} {cs : List Channel} {ps : List slots.Pending} {o r r' : ℕ} {sh : Bool} {l : GroupLimits} (n : ℕ) (rest : List ℕ) (op : Operation)
+    → IsGroupKept f cs ps o sh l r r' → f.queue ≡ n ∷ rest → QueueHolds f.operations (n ∷ rest) → op_at f n ≡ Some op
+    → is_queued (Some op) ≡ true → IsGroupKept (with_taken f n) cs ps o sh l r r'
 kept-taken_front {f} {cs} {ps} {o} {r} {r'} {sh} {l} n rest op kept is holds is_op of =
     let within = some-within f.operations n op is_op in
     let was : is_pending (op_at f n) ≡ false = rw is_op (queued-not_pending op.stage of) in
@@ -85,7 +87,8 @@ kept-taken_front {f} {cs} {ps} {o} {r} {r'} {sh} {l} n rest op kept is holds is_
     (lawful-unpending (group_of f cs sh l) n slot rest kept.lawful within was refl flight) refl
     (listed-unpending f ps n slot rest kept.is_listed within was refl))
 
-pub kept-taken : {f : Flight} {cs : List Channel} {ps : List slots.Pending} {o r r' : ℕ} {sh : Bool} {l : GroupLimits} → IsGroupKept f cs ps o sh l r r' → IsGroupKept (flight_after_take f f.queue) cs ps o sh l r r'
+pub kept-taken : {f : Flight} {cs : List Channel} {ps : List slots.Pending} {o r r' : ℕ} {sh : Bool} {l : GroupLimits}
+    → IsGroupKept f cs ps o sh l r r' → IsGroupKept (flight_after_take f f.queue) cs ps o sh l r r'
 kept-taken {f} {cs} {ps} {o} {r} {r'} {sh} {l} kept = by_queue f.queue refl
   where
     by_queue : (queue : List ℕ) → f.queue ≡ queue → IsGroupKept (flight_after_take f queue) cs ps o sh l r r'
@@ -97,7 +100,8 @@ kept-taken {f} {cs} {ps} {o} {r} {r'} {sh} {l} kept = by_queue f.queue refl
         kept-taken_front n rest some.0 kept is holds some.1 (subst (λ (slot : Option Operation). is_queued slot ≡ true) some.1 queued)
 
 -- an operation ends
-pub kept-ended : {f : Flight} {cs : List Channel} {ps : List slots.Pending} {o r r' : ℕ} {sh : Bool} {l : GroupLimits} (n : ℕ) → IsGroupKept f cs ps o sh l r r' → is_running (op_at f n) ≡ true → IsGroupKept (with_ended f n) cs ps o sh l r r'
+pub kept-ended : {f : Flight} {cs : List Channel} {ps : List slots.Pending} {o r r' : ℕ} {sh : Bool} {l : GroupLimits} (n : ℕ)
+    → IsGroupKept f cs ps o sh l r r' → is_running (op_at f n) ≡ true → IsGroupKept (with_ended f n) cs ps o sh l r r'
 kept-ended {f} {cs} {ps} {o} {r} {r'} {sh} {l} n kept running =
     let some = running-some (op_at f n) running in
     let op = some.0 in
@@ -131,7 +135,8 @@ count-below c k m (x ∷ xs) l =
     rw t (omega (arith, count_by-cons (λ j. eqb j m) k (pending_from c (k + 1) xs), rest, zero_here)))
     (λ f. rw f rest)
 
-count-pending_from : (c k n : ℕ) (xs : List (Option Operation)) → count_by (λ j. eqb j (k + n)) (pending_from c k xs) ≡ once_if (is_pending_on c (get_or xs n None))
+count-pending_from : (c k n : ℕ) (xs : List (Option Operation))
+    → count_by (λ j. eqb j (k + n)) (pending_from c k xs) ≡ once_if (is_pending_on c (get_or xs n None))
 count-pending_from c k n [] = refl
 count-pending_from c k zero (x ∷ xs) =
     let rest = count-below c (k + 1) (k + 0) xs (omega arith) in
@@ -151,7 +156,8 @@ count-pending_from c k (suc n) (x ∷ xs) =
     rw t (omega (arith, count_by-cons (λ j. eqb j (k + suc n)) k (pending_from c (k + 1) xs), rest, zero_here)))
     (λ f. rw f rest)
 
-get_or-map_closed : (c n : ℕ) (xs : List (Option Operation)) → get_or (map (closed_on c) xs) n None ≡ closed_on c (get_or xs n None)
+get_or-map_closed : (c n : ℕ) (xs : List (Option Operation))
+    → get_or (map (closed_on c) xs) n None ≡ closed_on c (get_or xs n None)
 get_or-map_closed c n [] = refl
 get_or-map_closed c zero (x ∷ xs) = refl
 get_or-map_closed c (suc n) (x ∷ xs) = get_or-map_closed c n xs
@@ -169,7 +175,8 @@ closed-queued : (slot : Option Operation) (c : ℕ) → is_pending_on c slot ≡
 closed-queued None c h = absurd (false≢true h)
 closed-queued (Some op) c h = rw h refl
 
-pub queue-closed : (c : ℕ) (xs : List (Option Operation)) (queue : List ℕ) → QueueHolds xs queue → QueueHolds (map (closed_on c) xs) (queue ++ pending_from c 0 xs)
+pub queue-closed : (c : ℕ) (xs : List (Option Operation)) (queue : List ℕ) → QueueHolds xs queue
+    → QueueHolds (map (closed_on c) xs) (queue ++ pending_from c 0 xs)
 queue-closed c xs queue holds n =
     let slot = get_or xs n None in
     let had = holds n in
@@ -188,7 +195,8 @@ queue-closed c xs queue holds n =
     rw same (omega (arith, both, had, none))))
 
 -- what is pending after a channel was closed
-pending-closed : (c d : ℕ) (kind : OpKind) (slot : Option Operation) → is_pending_as d kind (closed_on c slot) ≡ true → (d ≢ c) × (is_pending_as d kind slot ≡ true)
+pending-closed : (c d : ℕ) (kind : OpKind) (slot : Option Operation) → is_pending_as d kind (closed_on c slot) ≡ true
+    → (d ≢ c) × (is_pending_as d kind slot ≡ true)
 pending-closed c d kind None h = absurd (false≢true h)
 pending-closed c d kind (Some op) h =
     by_test (is_pending_on c (Some op))
@@ -204,7 +212,8 @@ pending-closed c d kind (Some op) h =
       still,
     ))
 
-pending-stays : (c d : ℕ) (kind : OpKind) (slot : Option Operation) → d ≢ c → is_pending_as d kind slot ≡ true → is_pending_as d kind (closed_on c slot) ≡ true
+pending-stays : (c d : ℕ) (kind : OpKind) (slot : Option Operation) → d ≢ c → is_pending_as d kind slot ≡ true
+    → is_pending_as d kind (closed_on c slot) ≡ true
 pending-stays c d kind None differ h = h
 pending-stays c d kind (Some op) differ h =
     let parts = pending-parts d kind op h in
@@ -228,10 +237,12 @@ count-closed c (x ∷ xs) =
     some-closed d None = refl
     some-closed d (Some op) = by_test (is_pending_on d (Some op)) (λ t. rw t refl) (λ f. rw f refl)
 
-closed-at_is : (f : Flight) (c d : ℕ) (kind : OpKind) (n : ℕ) → IsPendingAs (with_channel_closed f c) d kind n → (d ≢ c) × IsPendingAs f d kind n
+closed-at_is : (f : Flight) (c d : ℕ) (kind : OpKind) (n : ℕ) → IsPendingAs (with_channel_closed f c) d kind n
+    → (d ≢ c) × IsPendingAs f d kind n
 closed-at_is f c d kind n h = pending-closed c d kind (op_at f n) (rw (get_or-map_closed c n f.operations) at h)
 
-closed-at_stays : (f : Flight) (c d : ℕ) (kind : OpKind) (n : ℕ) → d ≢ c → IsPendingAs f d kind n → IsPendingAs (with_channel_closed f c) d kind n
+closed-at_stays : (f : Flight) (c d : ℕ) (kind : OpKind) (n : ℕ) → d ≢ c → IsPendingAs f d kind n
+    → IsPendingAs (with_channel_closed f c) d kind n
 closed-at_stays f c d kind n differ h = rw (get_or-map_closed c n f.operations) (pending-stays c d kind (op_at f n) differ h)
 
 pub lawful-closed : (g : Group) (c : ℕ) → IsLawful g → c < length g.channels → IsLawful (record g { flight = with_channel_closed g.flight c; channels = set g.channels c (record (channel_at g c) { is_open = false }) })
@@ -286,7 +297,9 @@ not-false true h = refl
 not-false false h = sym h
 
 -- what the slots of a channel lead to
-pub job-pending : {f : Flight} {cs : List Channel} {ps : List slots.Pending} {o r r' : ℕ} {sh : Bool} {l : GroupLimits} (c : ℕ) (kind : OpKind) (p : slots.Pending) (n : ℕ) (op : Operation) → IsGroupKept f cs ps o sh l r r' → c < length cs → p ≡ get_or ps c p → slot_of p kind ≡ Some n → op_at f n ≡ Some op → IsPendingOf c kind op
+pub job-pending : {f : Flight} {cs : List Channel} {ps : List slots.Pending} {o r r' : ℕ} {sh : Bool} {l : GroupLimits} (c : ℕ) (kind : OpKind) (p : slots.Pending) (n : ℕ) (op : Operation)
+    → IsGroupKept f cs ps o sh l r r' → c < length cs → p ≡ get_or ps c p → slot_of p kind ≡ Some n
+    → op_at f n ≡ Some op → IsPendingOf c kind op
 job-pending {f} {cs} {ps} c kind p n op kept within read slot is =
     let slots_are = kept.slots in
     let is_slot : p ≡ get_or ps c nothing_pending = get_or_read ps c p (omega arith) read nothing_pending in

@@ -32,7 +32,8 @@ some-within (x ∷ xs) zero op is = omega arith
 some-within (x ∷ xs) (suc i) op is = let rest = some-within xs i op is in omega arith
 
 -- with one in flight that isn't queued, the queue has room
-pub queued-below : (xs : List (Option Operation)) (i : ℕ) (op : Operation) → get_or xs i None ≡ Some op → is_queued (Some op) ≡ false → count_by is_queued xs + 1 ≤ count_by is_some xs
+pub queued-below : (xs : List (Option Operation)) (i : ℕ) (op : Operation) → get_or xs i None ≡ Some op
+    → is_queued (Some op) ≡ false → count_by is_queued xs + 1 ≤ count_by is_some xs
 queued-below xs i op is not_queued =
     let l = some-within xs i op is in
     let some = rw is at (count_by-set is_some xs i None None l) in
@@ -51,7 +52,9 @@ kept-push a queue len capacity op kept room =
       room = has_room;
     }
 
-pub kept-taken : (a : Accepted) (queue : List ℕ) (len len' capacity i : ℕ) (rest : List ℕ) (op op' : Operation) → queue ≡ i ∷ rest → len' + 1 ≡ len → IsFlightKept a queue len capacity → get_or a.operations i None ≡ Some op → is_queued (Some op') ≡ false → IsFlightKept (with_operation a i (Some op')) rest len' capacity
+pub kept-taken : (a : Accepted) (queue : List ℕ) (len len' capacity i : ℕ) (rest : List ℕ) (op op' : Operation)
+    → queue ≡ i ∷ rest → len' + 1 ≡ len → IsFlightKept a queue len capacity → get_or a.operations i None ≡ Some op
+    → is_queued (Some op') ≡ false → IsFlightKept (with_operation a i (Some op')) rest len' capacity
 kept-taken a queue len len' capacity i rest op op' split one_less kept is not_queued =
     let was = kept.queue_length in
     let holds = rw split at kept.queued_once in
@@ -71,7 +74,8 @@ kept-taken a queue len len' capacity i rest op op' split one_less kept is not_qu
 pub queued-stage : (op : Operation) (finished : Finished) → op.stage ≡ Queued finished → is_queued (Some op) ≡ true
 queued-stage op finished is = ap stage_is_queued is
 
-pub not_queued-stage : (op : Operation) → ((finished : Finished) → op.stage ≡ Queued finished → ⊥) → is_queued (Some op) ≡ false
+pub not_queued-stage : (op : Operation) → ((finished : Finished) → op.stage ≡ Queued finished → ⊥)
+    → is_queued (Some op) ≡ false
 not_queued-stage op not = by_stage op.stage refl
   where
     by_stage : (stage : Stage) → op.stage ≡ stage → stage_is_queued op.stage ≡ false

@@ -23,14 +23,17 @@ use Rattle.nio_group.proofs.CloseLemmas.{some-same}
 use Rattle.nio_group.proofs.LawfulLemmas.{lawful-channel_made}
 
 -- a slot that is made has nothing pending
-pub slots-push : (ps : List slots.Pending) (c : ℕ) → get_or (ps ++ nothing_pending ∷ []) c nothing_pending ≡ get_or ps c nothing_pending
+pub slots-push : (ps : List slots.Pending) (c : ℕ)
+    → get_or (ps ++ nothing_pending ∷ []) c nothing_pending ≡ get_or ps c nothing_pending
 slots-push ps c =
     by_test (eqb c (length ps))
     (λ t. let same = same_number c (length ps) t in
     rw t at (get_or-push ps nothing_pending nothing_pending c) ∙ sym (get_or_past ps c nothing_pending (omega arith)))
     (λ f. rw f at (get_or-push ps nothing_pending nothing_pending c))
 
-pub kept-channel_made : {f : Flight} {cs : List Channel} {ps : List slots.Pending} {o r r' : ℕ} {sh : Bool} {l : GroupLimits} (ch : Channel) → IsGroupKept f cs ps o sh l r r' → ch.is_open ≡ true → (ch.endpoint ≡ Stream Connecting → ⊥) → length cs < l.channels → IsGroupKept f (cs ++ ch ∷ []) (ps ++ nothing_pending ∷ []) (o + 1) sh l r r'
+pub kept-channel_made : {f : Flight} {cs : List Channel} {ps : List slots.Pending} {o r r' : ℕ} {sh : Bool} {l : GroupLimits} (ch : Channel)
+    → IsGroupKept f cs ps o sh l r r' → ch.is_open ≡ true → (ch.endpoint ≡ Stream Connecting → ⊥)
+    → length cs < l.channels → IsGroupKept f (cs ++ ch ∷ []) (ps ++ nothing_pending ∷ []) (o + 1) sh l r r'
 kept-channel_made {f} {cs} {ps} {o} {r} {r'} {sh} {l} ch kept opened not_connecting room =
     let slots_are = kept.slots in
     let opened_were = kept.opened_is in
@@ -49,7 +52,10 @@ kept-channel_made {f} {cs} {ps} {o} {r} {r'} {sh} {l} ch kept opened not_connect
     }
 
 -- one channel changes, and what is pending on it
-pub kept-channel : {f : Flight} {cs : List Channel} {ps : List slots.Pending} {o r r' : ℕ} {sh : Bool} {l : GroupLimits} (f' : Flight) (c : ℕ) (ch : Channel) (p : slots.Pending) (o' : ℕ) → IsGroupKept f cs ps o sh l r r' → c < length cs → IsLawful (group_of f' (set cs c ch) sh l) → f'.limit ≡ f.limit → o' + cond (is_open (get_or cs c no_channel)) 1 0 ≡ o + cond (is_open ch) 1 0 → IsListed f' (set ps c p) → IsGroupKept f' (set cs c ch) (set ps c p) o' sh l r r'
+pub kept-channel : {f : Flight} {cs : List Channel} {ps : List slots.Pending} {o r r' : ℕ} {sh : Bool} {l : GroupLimits} (f' : Flight) (c : ℕ) (ch : Channel) (p : slots.Pending) (o' : ℕ)
+    → IsGroupKept f cs ps o sh l r r' → c < length cs → IsLawful (group_of f' (set cs c ch) sh l) → f'.limit ≡ f.limit
+    → o' + cond (is_open (get_or cs c no_channel)) 1 0 ≡ o + cond (is_open ch) 1 0 → IsListed f' (set ps c p)
+    → IsGroupKept f' (set cs c ch) (set ps c p) o' sh l r r'
 kept-channel {f} {cs} {ps} {o} f' c ch p o' kept within lawful limit opened is_listed =
     let slots_are = kept.slots in
     let opened_were = kept.opened_is in
@@ -66,7 +72,9 @@ kept-channel {f} {cs} {ps} {o} f' c ch p o' kept within lawful limit opened is_l
     }
 
 -- the operations change, and no channel
-pub kept-operations : {f : Flight} {cs : List Channel} {ps : List slots.Pending} {o r r' : ℕ} {sh : Bool} {l : GroupLimits} (f' : Flight) → IsGroupKept f cs ps o sh l r r' → IsLawful (group_of f' cs sh l) → f'.limit ≡ f.limit → IsListed f' ps → IsGroupKept f' cs ps o sh l r r'
+pub kept-operations : {f : Flight} {cs : List Channel} {ps : List slots.Pending} {o r r' : ℕ} {sh : Bool} {l : GroupLimits} (f' : Flight)
+    → IsGroupKept f cs ps o sh l r r' → IsLawful (group_of f' cs sh l) → f'.limit ≡ f.limit → IsListed f' ps
+    → IsGroupKept f' cs ps o sh l r r'
 kept-operations f' kept lawful limit is_listed =
     record {
       lawful = lawful;
@@ -80,7 +88,9 @@ kept-operations f' kept lawful limit is_listed =
     }
 
 -- what is pending once an operation is put after the others
-pub pending-pushed : (xs : List (Option Operation)) (slot : Option Operation) (c : ℕ) (kind : OpKind) (m : ℕ) → is_pending_as c kind (get_or (xs ++ slot ∷ []) m None) ≡ true → ((m ≡ length xs) × (is_pending_as c kind slot ≡ true)) ⊎ ((m ≢ length xs) × (is_pending_as c kind (get_or xs m None) ≡ true))
+pub pending-pushed : (xs : List (Option Operation)) (slot : Option Operation) (c : ℕ) (kind : OpKind) (m : ℕ)
+    → is_pending_as c kind (get_or (xs ++ slot ∷ []) m None) ≡ true
+    → ((m ≡ length xs) × (is_pending_as c kind slot ≡ true)) ⊎ ((m ≢ length xs) × (is_pending_as c kind (get_or xs m None) ≡ true))
 pending-pushed xs slot c kind m h =
     by_test (eqb m (length xs))
     (λ t. let has = rw t at (get_or-push xs slot None m) in
@@ -88,18 +98,23 @@ pending-pushed xs slot c kind m h =
     (λ f. let has = rw f at (get_or-push xs slot None m) in
     inr (other_number m (length xs) f, rw has at h))
 
-pub pending-within : (xs : List (Option Operation)) (c : ℕ) (kind : OpKind) (m : ℕ) → is_pending_as c kind (get_or xs m None) ≡ true → m < length xs
+pub pending-within : (xs : List (Option Operation)) (c : ℕ) (kind : OpKind) (m : ℕ)
+    → is_pending_as c kind (get_or xs m None) ≡ true → m < length xs
 pending-within xs c kind m h =
     elim (cases_lt m (length xs)) [
       | inl l ↦ l
       | inr past ↦ absurd (let none : is_pending_as c kind None ≡ true = rw (get_or_past xs m None past) at h in false≢true none)
     ]
 
-pub pending-still : (xs : List (Option Operation)) (slot : Option Operation) (c : ℕ) (kind : OpKind) (m : ℕ) → is_pending_as c kind (get_or xs m None) ≡ true → is_pending_as c kind (get_or (xs ++ slot ∷ []) m None) ≡ true
+pub pending-still : (xs : List (Option Operation)) (slot : Option Operation) (c : ℕ) (kind : OpKind) (m : ℕ)
+    → is_pending_as c kind (get_or xs m None) ≡ true → is_pending_as c kind (get_or (xs ++ slot ∷ []) m None) ≡ true
 pending-still xs slot c kind m h = rw (get_or_append_left xs (slot ∷ []) None m (pending-within xs c kind m h)) h
 
 -- the slots after an operation was put after the others, pending
-pub listed-started : (f f' : Flight) (ps : List slots.Pending) (op : Operation) (c : ℕ) → IsListed f ps → f'.operations ≡ f.operations ++ Some op ∷ [] → c < length ps → is_pending_as c op.kind (Some op) ≡ true → ((n : ℕ) → IsPendingAs f c op.kind n → ⊥) → IsListed f' (set ps c (with_slot (get_or ps c nothing_pending) op.kind (Some (length f.operations))))
+pub listed-started : (f f' : Flight) (ps : List slots.Pending) (op : Operation) (c : ℕ) → IsListed f ps
+    → f'.operations ≡ f.operations ++ Some op ∷ [] → c < length ps → is_pending_as c op.kind (Some op) ≡ true
+    → ((n : ℕ) → IsPendingAs f c op.kind n → ⊥)
+    → IsListed f' (set ps c (with_slot (get_or ps c nothing_pending) op.kind (Some (length f.operations))))
 listed-started f f' ps op c is_listed pushed within is_pending_op free =
     let parts = pending-parts c op.kind op is_pending_op in
     record {
@@ -143,10 +158,12 @@ listed-started f f' ps op c is_listed pushed within is_pending_op free =
     p : slots.Pending
     p = get_or ps c nothing_pending
 
-    here : (d : ℕ) → d ≡ c → get_or (set ps c (with_slot (get_or ps c nothing_pending) op.kind (Some (length f.operations)))) d nothing_pending ≡ with_slot (get_or ps c nothing_pending) op.kind (Some (length f.operations))
+    here : (d : ℕ) → d ≡ c
+        → get_or (set ps c (with_slot (get_or ps c nothing_pending) op.kind (Some (length f.operations)))) d nothing_pending ≡ with_slot (get_or ps c nothing_pending) op.kind (Some (length f.operations))
     here d same = subst (λ (e : ℕ). get_or (set ps c (with_slot (get_or ps c nothing_pending) op.kind (Some (length f.operations)))) e nothing_pending ≡ with_slot (get_or ps c nothing_pending) op.kind (Some (length f.operations))) (sym same) (get_or-set_same ps c (with_slot (get_or ps c nothing_pending) op.kind (Some (length f.operations))) nothing_pending within)
 
-    there : (d : ℕ) → d ≢ c → get_or (set ps c (with_slot (get_or ps c nothing_pending) op.kind (Some (length f.operations)))) d nothing_pending ≡ get_or ps d nothing_pending
+    there : (d : ℕ) → d ≢ c
+        → get_or (set ps c (with_slot (get_or ps c nothing_pending) op.kind (Some (length f.operations)))) d nothing_pending ≡ get_or ps d nothing_pending
     there d differ = get_or-set_other ps c d _ nothing_pending differ
 
     new_at_end : get_or (f.operations ++ Some op ∷ []) (length f.operations) None ≡ Some op

@@ -5,7 +5,8 @@ use Rattle.std.proofs.lemmas.Bool.Decides.{nat_tests}
 use Rattle.nio_group.specs.declared.index.Entry.{Entry}
 use Rattle.nio_group.specs.Index.{has_number, key_in}
 
-pub count_by-cons : {X : Type 0} (p : X → Bool) (x : X) (xs : List X) → count_by p (x ∷ xs) ≡ cond (p x) 1 0 + count_by p xs
+pub count_by-cons : {X : Type 0} (p : X → Bool) (x : X) (xs : List X)
+    → count_by p (x ∷ xs) ≡ cond (p x) 1 0 + count_by p xs
 count_by-cons p x xs = sum_by-cons (λ y. cond (p y) 1 0) x xs
 
 pub key_in-replicate : (n k : ℕ) → key_in n (replicate k None) ≡ None
@@ -29,21 +30,24 @@ absent-key_in n (Some e ∷ xs) h =
     grind (arith, nat_tests, absent-key_in n xs) in
     count_by-cons (has_number n) (Some e) xs ∙ goes_on
 
-pub key_in-set_same : (e : Entry) (xs : List (Option Entry)) (i : ℕ) → i < length xs → key_in e.number xs ≡ None → key_in e.number (set xs i (Some e)) ≡ Some e.key
+pub key_in-set_same : (e : Entry) (xs : List (Option Entry)) (i : ℕ) → i < length xs → key_in e.number xs ≡ None
+    → key_in e.number (set xs i (Some e)) ≡ Some e.key
 key_in-set_same e [] i l h = absurd (omega arith)
 key_in-set_same e (None ∷ xs) zero l h = grind (arith, nat_tests)
 key_in-set_same e (Some o ∷ xs) zero l h = grind (arith, nat_tests)
 key_in-set_same e (None ∷ xs) (suc i) l h = key_in-set_same e xs i (omega arith) h
 key_in-set_same e (Some o ∷ xs) (suc i) l h = grind (arith, nat_tests, key_in-set_same e xs i)
 
-pub key_in-set_other : (m : ℕ) (e : Entry) (xs : List (Option Entry)) (i : ℕ) → get_or xs i None ≡ None → m ≢ e.number → key_in m (set xs i (Some e)) ≡ key_in m xs
+pub key_in-set_other : (m : ℕ) (e : Entry) (xs : List (Option Entry)) (i : ℕ) → get_or xs i None ≡ None → m ≢ e.number
+    → key_in m (set xs i (Some e)) ≡ key_in m xs
 key_in-set_other m e [] i v h = refl
 key_in-set_other m e (None ∷ xs) zero v h = grind (arith, nat_tests)
 key_in-set_other m e (Some o ∷ xs) zero v h = cc
 key_in-set_other m e (None ∷ xs) (suc i) v h = key_in-set_other m e xs i v h
 key_in-set_other m e (Some o ∷ xs) (suc i) v h = grind (arith, nat_tests, key_in-set_other m e xs i v h)
 
-pub key_in-set_none : (m : ℕ) (xs : List (Option Entry)) (i : ℕ) → has_number m (get_or xs i None) ≡ false → key_in m (set xs i None) ≡ key_in m xs
+pub key_in-set_none : (m : ℕ) (xs : List (Option Entry)) (i : ℕ) → has_number m (get_or xs i None) ≡ false
+    → key_in m (set xs i None) ≡ key_in m xs
 key_in-set_none m [] i h = refl
 key_in-set_none m (None ∷ xs) zero h = refl
 key_in-set_none m (Some o ∷ xs) zero h = grind (arith, nat_tests)
@@ -51,7 +55,8 @@ key_in-set_none m (None ∷ xs) (suc i) h = key_in-set_none m xs i h
 key_in-set_none m (Some o ∷ xs) (suc i) h = grind (arith, nat_tests, key_in-set_none m xs i h)
 
 -- a slot that has this number is counted
-pub has_number-counted : (n : ℕ) (xs : List (Option Entry)) (i : ℕ) → has_number n (get_or xs i None) ≡ true → 1 ≤ count_by (has_number n) xs
+pub has_number-counted : (n : ℕ) (xs : List (Option Entry)) (i : ℕ) → has_number n (get_or xs i None) ≡ true
+    → 1 ≤ count_by (has_number n) xs
 has_number-counted n [] i h = cc
 has_number-counted n (x ∷ xs) zero h =
     let counted : has_number n x ≡ true = h in
@@ -61,7 +66,8 @@ has_number-counted n (x ∷ xs) (suc i) h =
     omega (arith, rest, count_by-cons (has_number n) x xs)
 
 -- an entry that is there is found, where its number has no other
-pub key_in_found : (e : Entry) (xs : List (Option Entry)) (i : ℕ) → count_by (has_number e.number) xs ≤ 1 → get_or xs i None ≡ Some e → key_in e.number xs ≡ Some e.key
+pub key_in_found : (e : Entry) (xs : List (Option Entry)) (i : ℕ) → count_by (has_number e.number) xs ≤ 1
+    → get_or xs i None ≡ Some e → key_in e.number xs ≡ Some e.key
 key_in_found e [] i once h = cc
 key_in_found e (None ∷ xs) zero once h = cc
 key_in_found e (Some o ∷ xs) zero once h = grind (arith, nat_tests)
@@ -76,7 +82,8 @@ key_in_found e (Some o ∷ xs) (suc i) once h =
     grind (arith, nat_tests, key_in_found e xs i)
 
 -- as many slots as are full, one after another, are counted
-pub full_window : (xs : List (Option Entry)) (from n : ℕ) → from + n ≤ length xs → ((i : ℕ) → from ≤ i → i < from + n → is_some (get_or xs i None) ≡ true) → n ≤ count_by is_some xs
+pub full_window : (xs : List (Option Entry)) (from n : ℕ) → from + n ≤ length xs
+    → ((i : ℕ) → from ≤ i → i < from + n → is_some (get_or xs i None) ≡ true) → n ≤ count_by is_some xs
 full_window [] from n l full = omega arith
 full_window (x ∷ xs) zero zero l full = omega arith
 full_window (x ∷ xs) zero (suc n) l full =
@@ -88,7 +95,8 @@ full_window (x ∷ xs) (suc from) n l full =
     omega (arith, rest, count_by-cons is_some x xs)
 
 -- no slot has this number
-pub none_has_number : (n : ℕ) (xs : List (Option Entry)) → ((i : ℕ) → has_number n (get_or xs i None) ≡ false) → key_in n xs ≡ None
+pub none_has_number : (n : ℕ) (xs : List (Option Entry)) → ((i : ℕ) → has_number n (get_or xs i None) ≡ false)
+    → key_in n xs ≡ None
 none_has_number n [] h = refl
 none_has_number n (None ∷ xs) h = none_has_number n xs (λ i. h (suc i))
 none_has_number n (Some e ∷ xs) h =
@@ -96,7 +104,10 @@ none_has_number n (Some e ∷ xs) h =
     rw here (none_has_number n xs (λ i. h (suc i)))
 
 -- a search for a vacant slot that passes a full one stays in the window
-pub vacant-passes : (xs : List (Option Entry)) (home at limit : ℕ) → count_by is_some xs < limit → home + limit ≤ length xs → home ≤ at → at < home + limit → ((i : ℕ) → home ≤ i → i < at → is_some (get_or xs i None) ≡ true) → is_some (get_or xs at None) ≡ true → (home ≤ at + 1) × (at + 1 < home + limit) × ((i : ℕ) → home ≤ i → i < at + 1 → is_some (get_or xs i None) ≡ true)
+pub vacant-passes : (xs : List (Option Entry)) (home at limit : ℕ) → count_by is_some xs < limit
+    → home + limit ≤ length xs → home ≤ at → at < home + limit
+    → ((i : ℕ) → home ≤ i → i < at → is_some (get_or xs i None) ≡ true) → is_some (get_or xs at None) ≡ true
+    → (home ≤ at + 1) × (at + 1 < home + limit) × ((i : ℕ) → home ≤ i → i < at + 1 → is_some (get_or xs i None) ≡ true)
 vacant-passes xs home at limit room size from before full here =
     let more : (i : ℕ) → i < at + 1 → home ≤ i → is_some (get_or xs i None) ≡ true =
     below_more (λ k. home ≤ k → is_some (get_or xs k None) ≡ true) at (λ k b a. full k a b) (λ a. here) in

@@ -37,18 +37,22 @@ is_some-true : {T : Type 0} (o : Option T) → IsSome o → is_some o ≡ true
 is_some-true None h = grind arith
 is_some-true (Some x) h = refl
 
-pub length-kept : (slab : Slab Numbered) (index : Index) (accepted : ℕ) → length (kept_operations slab index accepted) ≡ accepted
+pub length-kept : (slab : Slab Numbered) (index : Index) (accepted : ℕ)
+    → length (kept_operations slab index accepted) ≡ accepted
 length-kept slab index accepted = length-map-range_with_len (operation_of slab index) 0 accepted
 
 -- the operation with a number is the one that its key leads to
-pub kept-at : {slab : Slab Numbered} {index : Index} {accepted limit : ℕ} (n : ℕ) → IsKept slab index accepted limit → get_or (kept_operations slab index accepted) n None ≡ operation_in slab (key_of index n)
+pub kept-at : {slab : Slab Numbered} {index : Index} {accepted limit : ℕ} (n : ℕ) → IsKept slab index accepted limit
+    → get_or (kept_operations slab index accepted) n None ≡ operation_in slab (key_of index n)
 kept-at {slab} {index} {accepted} n kept =
     by_lt n accepted
     (λ l. get_or-map-range_with_len (operation_of slab index) 0 accepted n n None l (omega arith))
     (λ g. get_or_past (kept_operations slab index accepted) n None (omega (arith, length-kept slab index accepted)) ∙ sym (ap (operation_in slab) (kept.below n g)))
 
 -- the kept operations after a change of one
-kept-set : (slab slab' : Slab Numbered) (index index' : Index) (accepted n : ℕ) (slot : Option Operation) → operation_of slab' index' n ≡ slot → ((m : ℕ) → m ≢ n → operation_of slab' index' m ≡ operation_of slab index m) → kept_operations slab' index' accepted ≡ set (kept_operations slab index accepted) n slot
+kept-set : (slab slab' : Slab Numbered) (index index' : Index) (accepted n : ℕ) (slot : Option Operation)
+    → operation_of slab' index' n ≡ slot → ((m : ℕ) → m ≢ n → operation_of slab' index' m ≡ operation_of slab index m)
+    → kept_operations slab' index' accepted ≡ set (kept_operations slab index accepted) n slot
 kept-set slab slab' index index' accepted n slot here others =
     let f = operation_of slab index in
     let f' = operation_of slab' index' in
@@ -68,12 +72,15 @@ kept-set slab slab' index index' accepted n slot here others =
     new ∙ others k differ ∙ sym old ∙ sym (get_or-set_other had n k slot d differ)))
 
 -- another number's operation stays, where its key isn't the one that changes
-other-stays : (slab slab' : Slab Numbered) (key : ℕ) (o : Option ℕ) → ((other : ℕ) → other ≢ key → get slab' other ≡ get slab other) → ((k : ℕ) → o ≡ Some k → k ≢ key) → operation_in slab' o ≡ operation_in slab o
+other-stays : (slab slab' : Slab Numbered) (key : ℕ) (o : Option ℕ)
+    → ((other : ℕ) → other ≢ key → get slab' other ≡ get slab other) → ((k : ℕ) → o ≡ Some k → k ≢ key)
+    → operation_in slab' o ≡ operation_in slab o
 other-stays slab slab' key None others apart = refl
 other-stays slab slab' key (Some k) others apart = ap (option_map (λ (x : Numbered). x.operation)) (others k (apart k refl))
 
 -- two numbers have two keys
-apart : {slab : Slab Numbered} {index : Index} {accepted limit : ℕ} (n m key : ℕ) → IsKept slab index accepted limit → key_of index n ≡ Some key → m ≢ n → (k : ℕ) → key_of index m ≡ Some k → k ≢ key
+apart : {slab : Slab Numbered} {index : Index} {accepted limit : ℕ} (n m key : ℕ) → IsKept slab index accepted limit
+    → key_of index n ≡ Some key → m ≢ n → (k : ℕ) → key_of index m ≡ Some k → k ≢ key
 apart {slab} {index} n m key kept at differ k at' same =
     let here = some_and (get slab key) (λ x. x.number ≡ n) (kept.leads n key at) in
     let there = some_and (get slab k) (λ x. x.number ≡ m) (kept.leads m k at') in
@@ -81,21 +88,25 @@ apart {slab} {index} n m key kept at differ k at' same =
     let same_one : here.0 ≡ there.0 = cc in
     differ (sym there.2 ∙ ap (λ (x : Numbered). x.number) (sym same_one) ∙ here.2)
 
-map-same : (f f' : ℕ → Option Operation) (n : ℕ) → ((m : ℕ) → m < n → f' m ≡ f m) → map f' (range_with_len 0 n) ≡ map f (range_with_len 0 n)
+map-same : (f f' : ℕ → Option Operation) (n : ℕ) → ((m : ℕ) → m < n → f' m ≡ f m)
+    → map f' (range_with_len 0 n) ≡ map f (range_with_len 0 n)
 map-same f f' n same =
     same_lists (map f' (range_with_len 0 n)) (map f (range_with_len 0 n)) (length-map-range_with_len f' 0 n ∙ sym (length-map-range_with_len f 0 n))
     (λ k d l. let within : k < n = omega (arith, length-map-range_with_len f' 0 n) in
     get_or-map-range_with_len f' 0 n k k d within (omega arith) ∙ same k within ∙ sym (get_or-map-range_with_len f 0 n k k d within (omega arith)))
 
 -- no number has a vacant key
-not_vacant : {slab : Slab Numbered} {index : Index} {accepted limit : ℕ} → IsKept slab index accepted limit → (key : ℕ) → get slab key ≡ None → (m k : ℕ) → key_of index m ≡ Some k → k ≢ key
+not_vacant : {slab : Slab Numbered} {index : Index} {accepted limit : ℕ} → IsKept slab index accepted limit → (key : ℕ)
+    → get slab key ≡ None → (m k : ℕ) → key_of index m ≡ Some k → k ≢ key
 not_vacant {slab} kept key vacant m k at same =
     let there = some_and (get slab k) (λ x. x.number ≡ m) (kept.leads m k at) in
     let none : get slab k ≡ None = subst (λ (j : ℕ). get slab j ≡ None) (sym same) vacant in
     cc
 
 -- a number with a key was accepted, and its operation is the one at that key
-had_by : {slab : Slab Numbered} {index : Index} {accepted limit : ℕ} (n key : ℕ) (x : Numbered) → IsKept slab index accepted limit → key_of index n ≡ Some key → get slab key ≡ Some x → (n < accepted) × (get_or (kept_operations slab index accepted) n None ≡ Some x.operation)
+had_by : {slab : Slab Numbered} {index : Index} {accepted limit : ℕ} (n key : ℕ) (x : Numbered)
+    → IsKept slab index accepted limit → key_of index n ≡ Some key → get slab key ≡ Some x
+    → (n < accepted) × (get_or (kept_operations slab index accepted) n None ≡ Some x.operation)
 had_by {slab} {index} {accepted} n key x kept at is = (
   by_lt n accepted (λ l. l) (λ g. absurd (none_some key (sym (kept.below n g) ∙ at))),
   kept-at n kept ∙ ap (operation_in slab) at ∙ ap (option_map (λ (y : Numbered). y.operation)) is,
@@ -105,14 +116,17 @@ had_by {slab} {index} {accepted} n key x kept at is = (
     none_some k e = cc
 
 -- the key of a number leads to an operation
-pub kept-has : {slab : Slab Numbered} {index : Index} {accepted limit : ℕ} (n key : ℕ) → IsKept slab index accepted limit → key_of index n ≡ Some key → IsSome (get slab key)
+pub kept-has : {slab : Slab Numbered} {index : Index} {accepted limit : ℕ} (n key : ℕ)
+    → IsKept slab index accepted limit → key_of index n ≡ Some key → IsSome (get slab key)
 kept-has {slab} n key kept at =
     let there = some_and (get slab key) (λ x. x.number ≡ n) (kept.leads n key at) in
     subst (λ (o : Option Numbered). IsSome o) (sym there.1) (search rules)
 
 -- one more operation is accepted
 module _ {slab slab' : Slab Numbered} {index index' : Index} {accepted limit : ℕ} where
-  accepted-others : (key : ℕ) (slot : Option Numbered) → IsKept slab index accepted limit → get slab key ≡ None → Updates slab slab' key slot → ChangesKey index index' accepted (Some key) → (m : ℕ) → m ≢ accepted → operation_of slab' index' m ≡ operation_of slab index m
+  accepted-others : (key : ℕ) (slot : Option Numbered) → IsKept slab index accepted limit → get slab key ≡ None
+      → Updates slab slab' key slot → ChangesKey index index' accepted (Some key) → (m : ℕ) → m ≢ accepted
+      → operation_of slab' index' m ≡ operation_of slab index m
   accepted-others key slot kept vacant updates change m differ =
       rw (change.others m differ)
       (other-stays slab slab' key (key_of index m) updates.others (λ k at. not_vacant kept key vacant m k at))
@@ -195,13 +209,18 @@ module _ {slab slab' : Slab Numbered} {index : Index} {accepted limit : ℕ} whe
 
 -- an operation in flight ends
 module _ {slab slab' : Slab Numbered} {index index' : Index} {accepted limit : ℕ} where
-  pub kept-ends : (n key : ℕ) → IsKept slab index accepted limit → key_of index n ≡ Some key → Updates slab slab' key None → ChangesKey index index' n None → kept_operations slab' index' accepted ≡ set (kept_operations slab index accepted) n None
+  pub kept-ends : (n key : ℕ) → IsKept slab index accepted limit → key_of index n ≡ Some key
+      → Updates slab slab' key None → ChangesKey index index' n None
+      → kept_operations slab' index' accepted ≡ set (kept_operations slab index accepted) n None
   kept-ends n key kept at updates change =
       kept-set slab slab' index index' accepted n None
       (rw change.changed refl)
       (λ m differ. rw (change.others m differ) (other-stays slab slab' key (key_of index m) updates.others (λ k at'. apart n m key kept at differ k at')))
 
-  pub is_kept-ends : (n key : ℕ) → IsKept slab index accepted limit → key_of index n ≡ Some key → Updates slab slab' key None → ChangesKey index index' n None → slab_len slab' + 1 ≡ slab_len slab → entries index' + 1 ≡ entries index → slab'.capacity ≡ slab.capacity → index'.limit ≡ index.limit → IsKept slab' index' accepted limit
+  pub is_kept-ends : (n key : ℕ) → IsKept slab index accepted limit → key_of index n ≡ Some key
+      → Updates slab slab' key None → ChangesKey index index' n None → slab_len slab' + 1 ≡ slab_len slab
+      → entries index' + 1 ≡ entries index → slab'.capacity ≡ slab.capacity → index'.limit ≡ index.limit
+      → IsKept slab' index' accepted limit
   is_kept-ends n key kept at updates change len indexed capacity same_limit =
       let was_counted = kept.counted in
       let was_indexed = kept.indexed in
@@ -236,14 +255,16 @@ module _ {slab slab' : Slab Numbered} {index index' : Index} {accepted limit : �
       }
 
 -- a write to a value of a slab
-pub updates-with_value : (slab : Slab Numbered) (key : ℕ) (x : Numbered) → IsSome (get slab key) → Updates slab (with_value slab key x) key (Some x)
+pub updates-with_value : (slab : Slab Numbered) (key : ℕ) (x : Numbered) → IsSome (get slab key)
+    → Updates slab (with_value slab key x) key (Some x)
 updates-with_value slab key x has =
     record {
       changed = get_or-set_same slab.slots key (Some x) None (some_within slab.slots key has);
       others = λ other differ. get_or-set_other slab.slots key other (Some x) None differ;
     }
 
-pub slab_len-with_value : (slab : Slab Numbered) (key : ℕ) (x : Numbered) → IsSome (get slab key) → slab_len (with_value slab key x) ≡ slab_len slab
+pub slab_len-with_value : (slab : Slab Numbered) (key : ℕ) (x : Numbered) → IsSome (get slab key)
+    → slab_len (with_value slab key x) ≡ slab_len slab
 slab_len-with_value slab key x has =
     let counts = rw (is_some-true (get slab key) has) at (count_by-set is_some slab.slots key (Some x) None (some_within slab.slots key has)) in
     omega (arith, counts)

@@ -60,7 +60,8 @@ lawful-channel_made g ch lawful room not_connecting =
       few_accepted = lawful.few_accepted;
     }
   where
-    stays : (c : ℕ) → (get_or g.channels c no_channel).is_open ≡ true → get_or (g.channels ++ ch ∷ []) c no_channel ≡ get_or g.channels c no_channel
+    stays : (c : ℕ) → (get_or g.channels c no_channel).is_open ≡ true
+        → get_or (g.channels ++ ch ∷ []) c no_channel ≡ get_or g.channels c no_channel
     stays c is_open = get_or_append_left g.channels (ch ∷ []) no_channel c (open-within g.channels c is_open)
 
 -- what is known of the operations that are pending on a channel that changes

@@ -6,7 +6,8 @@ use Rattle.std.proofs.lemmas.Bool.{cases_order}
 use Rattle.std.proofs.Common.{inl, inr}
 use Rattle.nio_group.proofs.TableLemmas.{by_test, same_number, other_number}
 
-pub count_by-push : {X : Type 0} (p : X → Bool) (xs : List X) (y : X) → count_by p (xs ++ y ∷ []) ≡ count_by p xs + cond (p y) 1 0
+pub count_by-push : {X : Type 0} (p : X → Bool) (xs : List X) (y : X)
+    → count_by p (xs ++ y ∷ []) ≡ count_by p xs + cond (p y) 1 0
 count_by-push p xs y = sum_by_push (λ x. cond (p x) 1 0) xs y
 
 pub eqb-same : (n : ℕ) → eqb n n ≡ true
@@ -16,7 +17,8 @@ pub eqb-other : (m n : ℕ) → m ≢ n → eqb m n ≡ false
 eqb-other m n differ = by_test (eqb m n) (λ t. absurd (differ (same_number m n t))) (λ f. f)
 
 -- what is at an index after a write
-pub get_or-set : {X : Type 0} (xs : List X) (i : ℕ) (y d : X) (n : ℕ) → i < length xs → get_or (set xs i y) n d ≡ cond (eqb n i) y (get_or xs n d)
+pub get_or-set : {X : Type 0} (xs : List X) (i : ℕ) (y d : X) (n : ℕ) → i < length xs
+    → get_or (set xs i y) n d ≡ cond (eqb n i) y (get_or xs n d)
 get_or-set xs i y d n l =
     by_test (eqb n i)
     (λ t. let same = same_number n i t in
@@ -26,7 +28,8 @@ get_or-set xs i y d n l =
     ∙ sym (ap (λ b. cond b y (get_or xs n d)) f))
 
 -- what is at an index after a push
-pub get_or-push : {X : Type 0} (xs : List X) (y d : X) (n : ℕ) → get_or (xs ++ y ∷ []) n d ≡ cond (eqb n (length xs)) y (get_or xs n d)
+pub get_or-push : {X : Type 0} (xs : List X) (y d : X) (n : ℕ)
+    → get_or (xs ++ y ∷ []) n d ≡ cond (eqb n (length xs)) y (get_or xs n d)
 get_or-push xs y d n =
     by_test (eqb n (length xs))
     (λ t. get_or_push xs y d n (sym (same_number n (length xs) t)) ∙ sym (ap (λ b. cond b y (get_or xs n d)) t))

@@ -72,7 +72,8 @@ pub record IsPendingOf (c : ℕ) (kind : OpKind) (op : Operation) : Type 0 where
   pub chan : op.chan.0 ≡ c
   pub same : op.kind ≡ kind
 
-pub pending-parts : (c : ℕ) (kind : OpKind) (op : Operation) → is_pending_as c kind (Some op) ≡ true → IsPendingOf c kind op
+pub pending-parts : (c : ℕ) (kind : OpKind) (op : Operation) → is_pending_as c kind (Some op) ≡ true
+    → IsPendingOf c kind op
 pending-parts c kind op h =
     let on = and-left (stage_is_pending op.stage && eqb op.chan.0 c) (same_kind op.kind kind) h in
     record {
@@ -81,20 +82,24 @@ pending-parts c kind op h =
       same = same_kind-true op.kind kind (and-right (stage_is_pending op.stage && eqb op.chan.0 c) (same_kind op.kind kind) h);
     }
 
-pub not_pending-as : (c : ℕ) (kind : OpKind) (slot : Option Operation) → is_pending slot ≡ false → is_pending_as c kind slot ≡ false
+pub not_pending-as : (c : ℕ) (kind : OpKind) (slot : Option Operation) → is_pending slot ≡ false
+    → is_pending_as c kind slot ≡ false
 not_pending-as c kind None h = refl
 not_pending-as c kind (Some op) h = rw h refl
 
-pub pending-as-pending : (c : ℕ) (kind : OpKind) (slot : Option Operation) → is_pending_as c kind slot ≡ true → is_pending slot ≡ true
+pub pending-as-pending : (c : ℕ) (kind : OpKind) (slot : Option Operation) → is_pending_as c kind slot ≡ true
+    → is_pending slot ≡ true
 pending-as-pending c kind None h = h
 pending-as-pending c kind (Some op) h =
     and-left (stage_is_pending op.stage) (eqb op.chan.0 c) (and-left (stage_is_pending op.stage && eqb op.chan.0 c) (same_kind op.kind kind) h)
 
 -- an operation that is pending on a channel is pending there as one of its kind
-pub pending_on-as : (c : ℕ) (op : Operation) → is_pending_on c (Some op) ≡ true → is_pending_as c op.kind (Some op) ≡ true
+pub pending_on-as : (c : ℕ) (op : Operation) → is_pending_on c (Some op) ≡ true
+    → is_pending_as c op.kind (Some op) ≡ true
 pending_on-as c op h = rw (h, same_kind-refl op.kind) refl
 
-pub pending_as-on : (c : ℕ) (kind : OpKind) (slot : Option Operation) → is_pending_as c kind slot ≡ true → is_pending_on c slot ≡ true
+pub pending_as-on : (c : ℕ) (kind : OpKind) (slot : Option Operation) → is_pending_as c kind slot ≡ true
+    → is_pending_on c slot ≡ true
 pending_as-on c kind None h = h
 pending_as-on c kind (Some op) h = and-left (stage_is_pending op.stage && eqb op.chan.0 c) (same_kind op.kind kind) h
 
@@ -104,7 +109,8 @@ slot_of-with_same p Connect n = refl
 slot_of-with_same p Read n = refl
 slot_of-with_same p Write n = refl
 
-pub slot_of-with_other : (p : slots.Pending) (kind other : OpKind) (n : Option ℕ) → other ≢ kind → slot_of (with_slot p kind n) other ≡ slot_of p other
+pub slot_of-with_other : (p : slots.Pending) (kind other : OpKind) (n : Option ℕ) → other ≢ kind
+    → slot_of (with_slot p kind n) other ≡ slot_of p other
 slot_of-with_other p Accept Accept n h = absurd (h refl)
 slot_of-with_other p Accept Connect n h = refl
 slot_of-with_other p Accept Read n h = refl
@@ -130,7 +136,8 @@ filled (Some n) = 1
 abbrev pub filled_slots : slots.Pending → ℕ
 filled_slots p = filled p.accept + filled p.connect + filled p.read + filled p.write
 
-pub filled_slots-less : (p : slots.Pending) (kind : OpKind) (n : ℕ) → slot_of p kind ≡ Some n → filled_slots (with_slot p kind None) + 1 ≡ filled_slots p
+pub filled_slots-less : (p : slots.Pending) (kind : OpKind) (n : ℕ) → slot_of p kind ≡ Some n
+    → filled_slots (with_slot p kind None) + 1 ≡ filled_slots p
 filled_slots-less p Accept n h = rw h (omega arith)
 filled_slots-less p Connect n h = rw h (omega arith)
 filled_slots-less p Read n h = rw h (omega arith)

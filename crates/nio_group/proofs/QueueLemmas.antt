@@ -18,7 +18,8 @@ QueueHolds xs queue = (n : ℕ) → count_by (λ m. eqb m n) queue ≡ once_if (
 abbrev pub queued_after : Bool → List ℕ → ℕ → List ℕ
 queued_after queued queue n = cond queued (queue ++ n ∷ []) queue
 
-count_by-queued_after : (queued : Bool) (queue : List ℕ) (n m : ℕ) → count_by (λ k. eqb k m) (queued_after queued queue n) ≡ count_by (λ k. eqb k m) queue + cond queued (cond (eqb n m) 1 0) 0
+count_by-queued_after : (queued : Bool) (queue : List ℕ) (n m : ℕ)
+    → count_by (λ k. eqb k m) (queued_after queued queue n) ≡ count_by (λ k. eqb k m) queue + cond queued (cond (eqb n m) 1 0) 0
 count_by-queued_after true queue n m = count_by-push (λ k. eqb k m) queue n
 count_by-queued_after false queue n m = omega arith
 
@@ -31,7 +32,8 @@ counted_elsewhere : {c c' w : ℕ} (q : Bool) → c' ≡ c + cond q 0 0 → c �
 counted_elsewhere true a b = omega arith
 counted_elsewhere false a b = omega arith
 
-pub queue-push : (xs : List (Option Operation)) (queue : List ℕ) (slot : Option Operation) → QueueHolds xs queue → QueueHolds (xs ++ slot ∷ []) (queued_after (is_queued slot) queue (length xs))
+pub queue-push : (xs : List (Option Operation)) (queue : List ℕ) (slot : Option Operation) → QueueHolds xs queue
+    → QueueHolds (xs ++ slot ∷ []) (queued_after (is_queued slot) queue (length xs))
 queue-push xs queue slot holds n =
     let had = holds n in
     let counts = count_by-queued_after (is_queued slot) queue (length xs) n in
@@ -48,7 +50,9 @@ queue-push xs queue slot holds n =
     let counted = rw turned at counts in
     rw has (counted_elsewhere (is_queued slot) counted had))
 
-pub queue-set : (xs : List (Option Operation)) (queue : List ℕ) (i : ℕ) (slot : Option Operation) → i < length xs → is_queued (get_or xs i None) ≡ false → QueueHolds xs queue → QueueHolds (set xs i slot) (queued_after (is_queued slot) queue i)
+pub queue-set : (xs : List (Option Operation)) (queue : List ℕ) (i : ℕ) (slot : Option Operation) → i < length xs
+    → is_queued (get_or xs i None) ≡ false → QueueHolds xs queue
+    → QueueHolds (set xs i slot) (queued_after (is_queued slot) queue i)
 queue-set xs queue i slot l was holds n =
     let had = holds n in
     let counts = count_by-queued_after (is_queued slot) queue i n in
@@ -65,12 +69,14 @@ queue-set xs queue i slot l was holds n =
     rw has (counted_elsewhere (is_queued slot) counted had))
 
 -- the number at the front of the queue is that of a queued operation
-pub front-queued : (xs : List (Option Operation)) (i : ℕ) (rest : List ℕ) → QueueHolds xs (i ∷ rest) → is_queued (get_or xs i None) ≡ true
+pub front-queued : (xs : List (Option Operation)) (i : ℕ) (rest : List ℕ) → QueueHolds xs (i ∷ rest)
+    → is_queued (get_or xs i None) ≡ true
 front-queued xs i rest holds =
     let counts = rw (eqb-same i) at (sym (count_by-cons (λ m. eqb m i) i rest) ∙ holds i) in
     by_test (is_queued (get_or xs i None)) (λ t. t) (λ f. absurd (let none = rw f at counts in omega (arith, none)))
 
-pub queue-taken : (xs : List (Option Operation)) (i : ℕ) (rest : List ℕ) (slot : Option Operation) → i < length xs → is_queued slot ≡ false → QueueHolds xs (i ∷ rest) → QueueHolds (set xs i slot) rest
+pub queue-taken : (xs : List (Option Operation)) (i : ℕ) (rest : List ℕ) (slot : Option Operation) → i < length xs
+    → is_queued slot ≡ false → QueueHolds xs (i ∷ rest) → QueueHolds (set xs i slot) rest
 queue-taken xs i rest slot l is holds n =
     let counts = sym (count_by-cons (λ m. eqb m n) i rest) ∙ holds n in
     by_test (eqb n i)

@@ -54,10 +54,13 @@ abbrev pub completed_flight : Flight → ℕ → Operation → Finished → Flig
 completed_flight f n op finished =
     record f { operations = set f.operations n (Some (at_stage (Queued finished) op)); queue = f.queue ++ n ∷ [] }
 
-pub completed-is : (f : Flight) (n : ℕ) (op : Operation) (finished : Finished) → op_at f n ≡ Some op → with_completed f n finished ≡ completed_flight f n op finished
+pub completed-is : (f : Flight) (n : ℕ) (op : Operation) (finished : Finished) → op_at f n ≡ Some op
+    → with_completed f n finished ≡ completed_flight f n op finished
 completed-is f n op finished is = rw is refl
 
-pub flight-completes : (f : Flight) (n : ℕ) (op : Operation) (finished : Finished) (op_limit : ℕ) → op_at f n ≡ Some op → is_pending (Some op) ≡ true → QueueHolds f.operations f.queue → in_flight f ≤ f.limit → accepted f ≤ op_limit → IsFlightLawful (completed_flight f n op finished) op_limit
+pub flight-completes : (f : Flight) (n : ℕ) (op : Operation) (finished : Finished) (op_limit : ℕ) → op_at f n ≡ Some op
+    → is_pending (Some op) ≡ true → QueueHolds f.operations f.queue → in_flight f ≤ f.limit → accepted f ≤ op_limit
+    → IsFlightLawful (completed_flight f n op finished) op_limit
 flight-completes f n op finished op_limit is is_pending_op holds few numbers =
     let not_queued : is_queued (get_or f.operations n None) ≡ false = rw is (not_queued-pending op is_pending_op) in
     flight-changes f n op (at_stage (Queued finished) op) (f.queue ++ n ∷ []) op_limit is
@@ -126,7 +129,9 @@ lawful-connected g n op finished ch lawful is is_pending_op connect not_connecti
     h)
 
 -- the slots after a pending operation was completed
-pub listed-completed : (f : Flight) (ps : List slots.Pending) (n : ℕ) (op : Operation) (finished : Finished) → IsListed f ps → op_at f n ≡ Some op → is_pending (Some op) ≡ true → op.chan.0 < length ps → IsListed (completed_flight f n op finished) (set ps op.chan.0 (with_slot (get_or ps op.chan.0 nothing_pending) op.kind None))
+pub listed-completed : (f : Flight) (ps : List slots.Pending) (n : ℕ) (op : Operation) (finished : Finished)
+    → IsListed f ps → op_at f n ≡ Some op → is_pending (Some op) ≡ true → op.chan.0 < length ps
+    → IsListed (completed_flight f n op finished) (set ps op.chan.0 (with_slot (get_or ps op.chan.0 nothing_pending) op.kind None))
 listed-completed f ps n op finished is_listed is is_pending_op within =
     let c = op.chan.0 in
     let xs = f.operations in
@@ -167,14 +172,16 @@ listed-completed f ps n op finished is_listed is is_pending_op within =
           (λ e. rw (there d (other_number d c e)) has);
     }
   where
-    not_n : (d : ℕ) (kind : OpKind) (m : ℕ) → is_pending_as d kind (get_or f.operations m None) ≡ true → (IsPendingOf d kind op → ⊥) → m ≢ n
+    not_n : (d : ℕ) (kind : OpKind) (m : ℕ) → is_pending_as d kind (get_or f.operations m None) ≡ true
+        → (IsPendingOf d kind op → ⊥) → m ≢ n
     not_n d kind m old elsewhere same =
         let at : is_pending_as d kind (get_or f.operations n None) ≡ true = subst (λ (i : ℕ). is_pending_as d kind (get_or f.operations i None) ≡ true) same old in
         let of : is_pending_as d kind (Some op) ≡ true = rw is at at in
         elsewhere (pending-parts d kind op of)
 
 -- what is known of an operation whose outcome isn't refused
-pub report-allowed : (op : Operation) (outcome : Outcome) → report_refusal (Some op) outcome ≡ None → (is_pending (Some op) ≡ true) × (is_allowed op.kind op.len outcome ≡ true)
+pub report-allowed : (op : Operation) (outcome : Outcome) → report_refusal (Some op) outcome ≡ None
+    → (is_pending (Some op) ≡ true) × (is_allowed op.kind op.len outcome ≡ true)
 report-allowed op outcome h =
     by_test (stage_is_pending op.stage)
     (λ t.
@@ -199,7 +206,8 @@ pub end-other : (kind : OpKind) (len : ℕ) → is_allowed kind len outcome.End 
 end-other kind len h e = false≢true (subst (λ (x : OpKind). is_allowed x len outcome.End ≡ true) e h)
 
 -- an outcome that isn't a connection or a fault is of an operation that isn't a connect
-pub other-outcome : (kind : OpKind) (len : ℕ) (o : Outcome) → is_allowed kind len o ≡ true → (o ≡ outcome.Connected → ⊥) → (o ≡ outcome.Fault → ⊥) → kind ≡ Connect → ⊥
+pub other-outcome : (kind : OpKind) (len : ℕ) (o : Outcome) → is_allowed kind len o ≡ true → (o ≡ outcome.Connected → ⊥)
+    → (o ≡ outcome.Fault → ⊥) → kind ≡ Connect → ⊥
 other-outcome kind len (outcome.Count k) h a b = count-other kind len k h
 other-outcome kind len outcome.End h a b = end-other kind len h
 other-outcome kind len outcome.Connected h a b = absurd (a refl)
@@ -207,7 +215,9 @@ other-outcome kind len outcome.Accepted h a b = accepted-accept kind len h
 other-outcome kind len outcome.Fault h a b = absurd (b refl)
 
 -- the channel of a pending operation is one of the group's
-pub pending-made : {f : Flight} {cs : List Channel} {ps : List slots.Pending} {o r r' : ℕ} {sh : Bool} {l : GroupLimits} (n : ℕ) (op : Operation) → IsGroupKept f cs ps o sh l r r' → op_at f n ≡ Some op → is_pending (Some op) ≡ true → (op.chan.0 < length cs) × (op.chan.0 < length ps) × ((get_or cs op.chan.0 no_channel).is_open ≡ true)
+pub pending-made : {f : Flight} {cs : List Channel} {ps : List slots.Pending} {o r r' : ℕ} {sh : Bool} {l : GroupLimits} (n : ℕ) (op : Operation)
+    → IsGroupKept f cs ps o sh l r r' → op_at f n ≡ Some op → is_pending (Some op) ≡ true
+    → (op.chan.0 < length cs) × (op.chan.0 < length ps) × ((get_or cs op.chan.0 no_channel).is_open ≡ true)
 pending-made {f} {cs} n op kept is is_pending_op =
     let own : IsPendingAs f op.chan.0 op.kind n = rw is (pending-new_as op is_pending_op) in
     let opened = kept.lawful.pending_open n op.chan.0 op.kind own in
@@ -215,7 +225,10 @@ pending-made {f} {cs} n op kept is is_pending_op =
     let slots_are = kept.slots in
     (within, omega arith, opened)
 
-pub kept-completed : {f : Flight} {cs : List Channel} {ps : List slots.Pending} {o r r' : ℕ} {sh : Bool} {l : GroupLimits} (n : ℕ) (op : Operation) (finished : Finished) (p : slots.Pending) → IsGroupKept f cs ps o sh l r r' → op_at f n ≡ Some op → is_pending (Some op) ≡ true → p ≡ get_or ps op.chan.0 p → (op.kind ≡ Connect → ⊥) → IsGroupKept (with_completed f n finished) cs (set ps op.chan.0 (with_slot p op.kind None)) o sh l r r'
+pub kept-completed : {f : Flight} {cs : List Channel} {ps : List slots.Pending} {o r r' : ℕ} {sh : Bool} {l : GroupLimits} (n : ℕ) (op : Operation) (finished : Finished) (p : slots.Pending)
+    → IsGroupKept f cs ps o sh l r r' → op_at f n ≡ Some op → is_pending (Some op) ≡ true → p ≡ get_or ps op.chan.0 p
+    → (op.kind ≡ Connect → ⊥)
+    → IsGroupKept (with_completed f n finished) cs (set ps op.chan.0 (with_slot p op.kind None)) o sh l r r'
 kept-completed {f} {cs} {ps} {o} {r} {r'} {sh} {l} n op finished p kept is is_pending_op read other =
     let made = pending-made n op kept is is_pending_op in
     let is_slot : p ≡ get_or ps op.chan.0 nothing_pending = get_or_read ps op.chan.0 p made.1 read nothing_pending in
@@ -233,7 +246,10 @@ kept-completed {f} {cs} {ps} {o} {r} {r'} {sh} {l} n op finished p kept is is_pe
       has_slots_room = kept.has_slots_room;
     })
 
-pub kept-connected : {f : Flight} {cs : List Channel} {ps : List slots.Pending} {o r r' : ℕ} {sh : Bool} {l : GroupLimits} (n : ℕ) (op : Operation) (finished : Finished) (p : slots.Pending) (ch : Channel) (o' : ℕ) → IsGroupKept f cs ps o sh l r r' → op_at f n ≡ Some op → is_pending (Some op) ≡ true → p ≡ get_or ps op.chan.0 p → op.kind ≡ Connect → (ch.is_open ≡ true → ch.endpoint ≡ Stream Connecting → ⊥) → o' + 1 ≡ o + cond (is_open ch) 1 0 → IsGroupKept (with_completed f n finished) (set cs op.chan.0 ch) (set ps op.chan.0 (with_slot p op.kind None)) o' sh l r r'
+pub kept-connected : {f : Flight} {cs : List Channel} {ps : List slots.Pending} {o r r' : ℕ} {sh : Bool} {l : GroupLimits} (n : ℕ) (op : Operation) (finished : Finished) (p : slots.Pending) (ch : Channel) (o' : ℕ)
+    → IsGroupKept f cs ps o sh l r r' → op_at f n ≡ Some op → is_pending (Some op) ≡ true → p ≡ get_or ps op.chan.0 p
+    → op.kind ≡ Connect → (ch.is_open ≡ true → ch.endpoint ≡ Stream Connecting → ⊥) → o' + 1 ≡ o + cond (is_open ch) 1 0
+    → IsGroupKept (with_completed f n finished) (set cs op.chan.0 ch) (set ps op.chan.0 (with_slot p op.kind None)) o' sh l r r'
 kept-connected {f} {cs} {ps} {o} {r} {r'} {sh} {l} n op finished p ch o' kept is is_pending_op read connect not_connecting counted =
     let made = pending-made n op kept is is_pending_op in
     let is_slot : p ≡ get_or ps op.chan.0 nothing_pending = get_or_read ps op.chan.0 p made.1 read nothing_pending in
@@ -245,7 +261,8 @@ kept-connected {f} {cs} {ps} {o} {r} {r'} {sh} {l} n op finished p ch o' kept is
     (listed-completed f ps n op finished kept.is_listed is is_pending_op made.1))
 
 -- some channel is open where an operation is pending
-pub some-open : {f : Flight} {cs : List Channel} {ps : List slots.Pending} {o r r' : ℕ} {sh : Bool} {l : GroupLimits} (n : ℕ) (op : Operation) → IsGroupKept f cs ps o sh l r r' → op_at f n ≡ Some op → is_pending (Some op) ≡ true → 1 ≤ o
+pub some-open : {f : Flight} {cs : List Channel} {ps : List slots.Pending} {o r r' : ℕ} {sh : Bool} {l : GroupLimits} (n : ℕ) (op : Operation)
+    → IsGroupKept f cs ps o sh l r r' → op_at f n ≡ Some op → is_pending (Some op) ≡ true → 1 ≤ o
 some-open {f} {cs} n op kept is is_pending_op =
     let made = pending-made n op kept is is_pending_op in
     let was_one : cond (is_open (get_or cs op.chan.0 no_channel)) 1 0 ≡ 1 = ap {B = ℕ} (λ (b : Bool). cond b 1 0) made.2 in
@@ -254,7 +271,8 @@ some-open {f} {cs} n op kept is is_pending_op =
     omega (arith, counts, was_one)
 
 -- a connection that was accepted has a number left for it
-pub accepted-room : (g : Group) (o : Outcome) (x : GChan) → IsLawful g → o ≡ outcome.Accepted → result_of g o ≡ done.Accepted x → length g.channels < g.channel_limit
+pub accepted-room : (g : Group) (o : Outcome) (x : GChan) → IsLawful g → o ≡ outcome.Accepted
+    → result_of g o ≡ done.Accepted x → length g.channels < g.channel_limit
 accepted-room g o x lawful is h =
     let at : result_of g outcome.Accepted ≡ done.Accepted x = subst (λ (y : Outcome). result_of g y ≡ done.Accepted x) is h in
     by_test g.is_shut

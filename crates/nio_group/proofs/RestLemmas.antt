@@ -31,7 +31,8 @@ pub record IsResting (g : Group) : Type 0 where
   pub closed : (c : ℕ) → (channel_at g c).is_open ≡ false
   pub none : (n : ℕ) → op_at g.flight n ≡ None
 
-none-left : (g : Group) (n : ℕ) → IsLawful g → ((c : ℕ) → (channel_at g c).is_open ≡ false) → list_any (λ slot. is_queued slot || is_running slot) g.flight.operations ≡ false → op_at g.flight n ≡ None
+none-left : (g : Group) (n : ℕ) → IsLawful g → ((c : ℕ) → (channel_at g c).is_open ≡ false)
+    → list_any (λ slot. is_queued slot || is_running slot) g.flight.operations ≡ false → op_at g.flight n ≡ None
 none-left g n lawful closed idle = by_slot (op_at g.flight n) refl
   where
     by_stage : (op : Operation) → op_at g.flight n ≡ Some op → (stage : Stage) → op.stage ≡ stage → ⊥
@@ -95,7 +96,8 @@ closings-rest (suc c) g closed =
     ap (λ (h : Group). after_close h c) (closings-rest c g closed) ∙ close-rests g c (closed c)
 
 -- what a call leaves of a terminated group, where its being shut down stays
-after-resting : (P : Group → Type 0) (g : Group) (call : Call) → IsLawful g → IsResting g → is_terminated g ≡ true → P g → P (after_shutdown g) → P (after g call)
+after-resting : (P : Group → Type 0) (g : Group) (call : Call) → IsLawful g → IsResting g → is_terminated g ≡ true → P g
+    → P (after_shutdown g) → P (after g call)
 after-resting P g (open_channel kind) lawful rest terminated same shut =
     unless-refused P (open_refusal g) g _ same (λ free. absurd (open-refused g rest.shut free))
 after-resting P g (bind chan) lawful rest terminated same shut =
@@ -130,7 +132,8 @@ and-not : (b : Bool) → (b && not b) ≡ false
 and-not true = refl
 and-not false = refl
 
-none-completes : (n : ℕ) (g : Group) (calls : List Call) → IsLawful g → is_terminated g ≡ true → IsRunOf g calls → completions n g calls ≡ 0
+none-completes : (n : ℕ) (g : Group) (calls : List Call) → IsLawful g → is_terminated g ≡ true → IsRunOf g calls
+    → completions n g calls ≡ 0
 none-completes n g [] lawful terminated run = refl
 none-completes n g (call ∷ calls) lawful terminated run =
     let same : has_completed (after g call) n ≡ has_completed g n =
@@ -163,7 +166,8 @@ step-count true b h = rw (h refl) refl
 step-count false true h = refl
 step-count false false h = refl
 
-completed-stays : (g : Group) (call : Call) (n : ℕ) → IsLawful g → has_completed g n ≡ true → has_completed (after g call) n ≡ true
+completed-stays : (g : Group) (call : Call) (n : ℕ) → IsLawful g → has_completed g n ≡ true
+    → has_completed (after g call) n ≡ true
 completed-stays g call n lawful is =
     let step = stepped-after g call lawful in
     let more = step.accepts in
@@ -172,7 +176,8 @@ completed-stays g call n lawful is =
     both (ltb n (accepted (after g call).flight)) (not (is_pending (op_at (after g call).flight n))) (lt-true n (accepted (after g call).flight) (omega arith))
     (true-not (is_pending (op_at (after g call).flight n)) (next-not_pending (op_at g.flight n) (op_at (after g call).flight n) (step.next n within) past))
 
-counted : (n : ℕ) (g : Group) (calls : List Call) → IsLawful g → IsRunOf g calls → completions n g calls + once_where (has_completed g n) ≡ once_where (has_completed (left_by g calls) n)
+counted : (n : ℕ) (g : Group) (calls : List Call) → IsLawful g → IsRunOf g calls
+    → completions n g calls + once_where (has_completed g n) ≡ once_where (has_completed (left_by g calls) n)
 counted n g [] lawful run = omega arith
 counted n g (call ∷ calls) lawful run =
     let later = counted n (after g call) calls (lawful-after g call lawful run.0) run.1 in

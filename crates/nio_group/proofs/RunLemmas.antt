@@ -31,7 +31,8 @@ use Rattle.nio_group.proofs.ReportLemmas.{flight-changes, completed_flight, comp
 use Rattle.nio_group.proofs.EndLemmas.{queued-not_pending, running-not_pending, lawful-closed, lawful-unpending}
 
 -- a refused call keeps what holds, and one that isn't leads to it
-pub unless-refused : {E : Type 0} (P : Group → Type 0) (r : Option E) (old new : Group) → P old → (r ≡ None → P new) → P (kept_if_refused r old new)
+pub unless-refused : {E : Type 0} (P : Group → Type 0) (r : Option E) (old new : Group) → P old → (r ≡ None → P new)
+    → P (kept_if_refused r old new)
 unless-refused P None old new kept made = made refl
 unless-refused P (Some e) old new kept made = kept
 
@@ -129,7 +130,9 @@ lawful-transfer g op lawful within stage is facts same =
         lawful-queued g op lawful (rw e refl) (lt_of_ne few facts.room) (lt_of_ne few_numbers facts.numbers)
 
 -- a start that isn't refused
-lawful-started_now : (g : Group) (chan : GChan) (kind : OpKind) (len : ℕ) (is_open : Bool) → IsLawful g → chan.0 < length g.channels → IsStartable g chan.0 kind → (channel_at g chan.0).is_open ≡ is_open → IsLawful (started_as g chan kind len is_open)
+lawful-started_now : (g : Group) (chan : GChan) (kind : OpKind) (len : ℕ) (is_open : Bool) → IsLawful g
+    → chan.0 < length g.channels → IsStartable g chan.0 kind → (channel_at g chan.0).is_open ≡ is_open
+    → IsLawful (started_as g chan kind len is_open)
 lawful-started_now g chan kind len false lawful within facts is =
     let op : Operation = record { chan = chan; kind = kind; len = len; stage = first_stage false kind len } in
     let few = lawful.few_in_flight in
@@ -148,12 +151,14 @@ lawful-started_now g chan Read len true lawful within facts is =
 lawful-started_now g chan Write len true lawful within facts is =
     lawful-transfer g (record { chan = chan; kind = Write; len = len; stage = first_stage true Write len }) lawful within refl is facts refl
 
-pub lawful-after_start : (g : Group) (chan : GChan) (kind : OpKind) (len : ℕ) → IsLawful g → chan.0 < length g.channels → IsLawful (after_start g chan kind len)
+pub lawful-after_start : (g : Group) (chan : GChan) (kind : OpKind) (len : ℕ) → IsLawful g → chan.0 < length g.channels
+    → IsLawful (after_start g chan kind len)
 lawful-after_start g chan kind len lawful within =
     unless-refused IsLawful (start_refusal g chan.0 kind) g (started g chan kind len) lawful
     (λ free. lawful-started_now g chan kind len (channel_at g chan.0).is_open lawful within (startable g chan.0 kind free) refl)
 
-pub cond-holds : {X : Type 0} (P : X → Type 0) (b : Bool) (x y : X) → (b ≡ true → P x) → (b ≡ false → P y) → P (cond b x y)
+pub cond-holds : {X : Type 0} (P : X → Type 0) (b : Bool) (x y : X) → (b ≡ true → P x) → (b ≡ false → P y)
+    → P (cond b x y)
 cond-holds P true x y chosen other = chosen refl
 cond-holds P false x y chosen other = other refl
 
@@ -189,7 +194,8 @@ lawful-reported_now g n outcome.Fault op lawful is pending allow = by_kind op.ki
 pub lawful-after_report : (g : Group) (n : ℕ) (o : Outcome) → IsLawful g → IsLawful (after_report g n o)
 lawful-after_report g n o lawful = by_slot (op_at g.flight n) refl
   where
-    by_slot : (slot : Option Operation) → op_at g.flight n ≡ slot → IsLawful (kept_if_refused (report_refusal slot o) g (reported g n o slot))
+    by_slot : (slot : Option Operation) → op_at g.flight n ≡ slot
+        → IsLawful (kept_if_refused (report_refusal slot o) g (reported g n o slot))
     by_slot None is = lawful
     by_slot (Some op) is =
         unless-refused IsLawful (report_refusal (Some op) o) g (reported g n o (Some op)) lawful

@@ -29,17 +29,20 @@ next-same None = refl
 next-same (Some op) = inl refl
 
 -- a pending operation completes
-goes-completed : (stage : Stage) (op : Operation) (result : Finished) → stage_is_pending stage ≡ true → GoesOn stage op (Some (at_stage (Queued result) op))
+goes-completed : (stage : Stage) (op : Operation) (result : Finished) → stage_is_pending stage ≡ true
+    → GoesOn stage op (Some (at_stage (Queued result) op))
 goes-completed Pending op result pending = (result, refl)
 goes-completed (Queued r) op result pending = absurd (false≢true pending)
 goes-completed Running op result pending = absurd (false≢true pending)
 
-next-completed : (slot : Option Operation) (result : Finished) → is_pending slot ≡ true → IsNext slot (option_map (at_stage (Queued result)) slot)
+next-completed : (slot : Option Operation) (result : Finished) → is_pending slot ≡ true
+    → IsNext slot (option_map (at_stage (Queued result)) slot)
 next-completed None result pending = refl
 next-completed (Some op) result pending = inr (goes-completed op.stage op result pending)
 
 -- a queued operation runs
-goes-taken : (stage : Stage) (op : Operation) → stage_is_queued stage ≡ true → GoesOn stage op (Some (at_stage Running op))
+goes-taken : (stage : Stage) (op : Operation) → stage_is_queued stage ≡ true
+    → GoesOn stage op (Some (at_stage Running op))
 goes-taken Pending op queued = absurd (false≢true queued)
 goes-taken (Queued r) op queued = refl
 goes-taken Running op queued = absurd (false≢true queued)
@@ -70,7 +73,8 @@ none-between a b n same from below = absurd (let never : ⊥ = omega arith in ne
 stepped-same : (f : Flight) → IsStepped f f
 stepped-same f = record { accepts = omega arith; next = λ n l. next-same (op_at f n); begun = λ n from l. none-between (accepted f) (accepted f) n refl from l }
 
-stepped-accepted : (f : Flight) (op : Operation) → (stage_is_pending op.stage || stage_is_queued op.stage) ≡ true → IsStepped f (with_accepted f op)
+stepped-accepted : (f : Flight) (op : Operation) → (stage_is_pending op.stage || stage_is_queued op.stage) ≡ true
+    → IsStepped f (with_accepted f op)
 stepped-accepted f op begins =
     record {
       accepts = omega (arith, length_push f.operations (Some op));
@@ -98,7 +102,8 @@ stepped-set f i slot queue moves =
 abbrev pub IsClosed : Option Operation → Option Operation → Type 0
 IsClosed slot slot' = (slot' ≡ slot) ⊎ ((is_pending slot ≡ true) × (slot' ≡ option_map (at_stage (Queued (Failed AsynchronousClose))) slot))
 
-completed-not_pending : (slot : Option Operation) (result : Finished) → is_pending (option_map (at_stage (Queued result)) slot) ≡ false
+completed-not_pending : (slot : Option Operation) (result : Finished)
+    → is_pending (option_map (at_stage (Queued result)) slot) ≡ false
 completed-not_pending None result = refl
 completed-not_pending (Some op) result = refl
 
@@ -119,7 +124,8 @@ closed_on-closed c (Some op) =
     (λ t. rw t (inr (and-left (stage_is_pending op.stage) (eqb op.chan.0 c) t, refl)))
     (λ f. rw f (inl refl))
 
-get_or-map_closed : (c n : ℕ) (xs : List (Option Operation)) → get_or (map (closed_on c) xs) n None ≡ closed_on c (get_or xs n None)
+get_or-map_closed : (c n : ℕ) (xs : List (Option Operation))
+    → get_or (map (closed_on c) xs) n None ≡ closed_on c (get_or xs n None)
 get_or-map_closed c n [] = refl
 get_or-map_closed c zero (x ∷ xs) = refl
 get_or-map_closed c (suc n) (x ∷ xs) = get_or-map_closed c n xs
@@ -167,7 +173,8 @@ reportable (Some op) o h =
 stepped-report : (g : Group) (n : ℕ) (o : Outcome) → IsStepped g.flight (after_report g n o).flight
 stepped-report g n o = by_slot (op_at g.flight n) refl
   where
-    by_slot : (slot : Option Operation) → op_at g.flight n ≡ slot → IsStepped g.flight (kept_if_refused (report_refusal slot o) g (reported g n o slot)).flight
+    by_slot : (slot : Option Operation) → op_at g.flight n ≡ slot
+        → IsStepped g.flight (kept_if_refused (report_refusal slot o) g (reported g n o slot)).flight
     by_slot None is = stepped-same g.flight
     by_slot (Some op) is =
         unless-refused (λ (h : Group). IsStepped g.flight h.flight) (report_refusal (Some op) o) g (reported g n o (Some op)) (stepped-same g.flight)
@@ -184,7 +191,8 @@ stepped-take g lawful = by_queue g.flight.queue refl
         let holds : QueueHolds g.flight.operations (n ∷ rest) = rw is at lawful.queued_once in
         stepped-set g.flight n (option_map (at_stage Running) (op_at g.flight n)) _ (next-taken (op_at g.flight n) (front-queued g.flight.operations n rest holds))
 
-first_stage-begins : (is_open : Bool) (kind : OpKind) (len : ℕ) → (stage_is_pending (first_stage is_open kind len) || stage_is_queued (first_stage is_open kind len)) ≡ true
+first_stage-begins : (is_open : Bool) (kind : OpKind) (len : ℕ)
+    → (stage_is_pending (first_stage is_open kind len) || stage_is_queued (first_stage is_open kind len)) ≡ true
 first_stage-begins false kind len = refl
 first_stage-begins true Accept len = refl
 first_stage-begins true Connect len = refl
@@ -236,7 +244,8 @@ pub true-lt : (m n : ℕ) → ltb m n ≡ true → m < n
 true-lt m n h = grind (arith, nat_tests)
 
 -- an operation that isn't pending any more never is again
-goes-not_pending : (stage : Stage) (op : Operation) (next : Option Operation) → GoesOn stage op next → is_pending next ≡ false
+goes-not_pending : (stage : Stage) (op : Operation) (next : Option Operation) → GoesOn stage op next
+    → is_pending next ≡ false
 goes-not_pending Pending op next goes = ap is_pending goes.1
 goes-not_pending (Queued r) op next goes = ap is_pending goes
 goes-not_pending Running op next goes = ap is_pending goes
@@ -247,12 +256,14 @@ next-not_pending (Some op) b (inl same) past = ap is_pending same ∙ past
 next-not_pending (Some op) b (inr goes) past = goes-not_pending op.stage op b goes
 
 -- an operation that was taken is never queued again
-goes-not_queued : (stage : Stage) (op : Operation) (next : Option Operation) → GoesOn stage op next → stage_is_pending stage ≡ false → is_queued next ≡ false
+goes-not_queued : (stage : Stage) (op : Operation) (next : Option Operation) → GoesOn stage op next
+    → stage_is_pending stage ≡ false → is_queued next ≡ false
 goes-not_queued Pending op next goes past = absurd (false≢true (sym past))
 goes-not_queued (Queued r) op next goes past = ap is_queued goes
 goes-not_queued Running op next goes past = ap is_queued goes
 
-pub next-not_queued : (a b : Option Operation) → IsNext a b → is_pending a ≡ false → is_queued a ≡ false → is_queued b ≡ false
+pub next-not_queued : (a b : Option Operation) → IsNext a b → is_pending a ≡ false → is_queued a ≡ false
+    → is_queued b ≡ false
 next-not_queued None b next past taken = ap is_queued next
 next-not_queued (Some op) b (inl same) past taken = ap is_queued same ∙ taken
 next-not_queued (Some op) b (inr goes) past taken = goes-not_queued op.stage op b goes past

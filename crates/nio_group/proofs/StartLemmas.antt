@@ -52,7 +52,8 @@ unconnected Connect ready = false≢true ready
 unconnected Read ready = false≢true ready
 unconnected Write ready = false≢true ready
 
-pub allowed : (e : Endpoint) (pending : Bool) (kind : OpKind) → channel_refusal true e pending kind ≡ None → IsAllowed e pending kind
+pub allowed : (e : Endpoint) (pending : Bool) (kind : OpKind) → channel_refusal true e pending kind ≡ None
+    → IsAllowed e pending kind
 allowed (Listener true) true Accept h = absurd (some_none _ h)
 allowed (Listener true) false Accept h = record { ready = refl; others = λ k r. r; free = λ r. refl; connects = λ c. cc }
 allowed (Listener false) pending Accept h = absurd (some_none _ h)
@@ -101,7 +102,8 @@ startable g c kind h =
     }
 
 -- nothing of a kind is pending where nothing is found
-pub none-pending : (f : Flight) (c : ℕ) (kind : OpKind) → has_pending f c kind ≡ false → (n : ℕ) → IsPendingAs f c kind n → ⊥
+pub none-pending : (f : Flight) (c : ℕ) (kind : OpKind) → has_pending f c kind ≡ false → (n : ℕ)
+    → IsPendingAs f c kind n → ⊥
 none-pending f c kind none n h =
     false≢true (sym none ∙ list_any_at (is_pending_as c kind) f.operations n None (pending-within f.operations c kind n h) h)
 
@@ -109,7 +111,8 @@ pub pending-open : (is_open : Bool) (kind : OpKind) (len : ℕ) → first_stage 
 pending-open true kind len h = refl
 pending-open false kind len h = cc
 
-pub flight-accepts : (f : Flight) (op : Operation) (op_limit : ℕ) → QueueHolds f.operations f.queue → in_flight f < f.limit → accepted f < op_limit → IsFlightLawful (with_accepted f op) op_limit
+pub flight-accepts : (f : Flight) (op : Operation) (op_limit : ℕ) → QueueHolds f.operations f.queue
+    → in_flight f < f.limit → accepted f < op_limit → IsFlightLawful (with_accepted f op) op_limit
 flight-accepts f op op_limit holds room numbers =
     record {
       queued_once = queue-push f.operations f.queue (Some op) holds;
@@ -121,7 +124,9 @@ pub pending-new : (op : Operation) → op.stage ≡ Pending → is_pending_as op
 pending-new op is = rw (is, eqb-same op.chan.0, same_kind-refl op.kind) refl
 
 -- nothing of the kind is pending before
-pub start-free : (g : Group) (c : ℕ) (kind : OpKind) → IsLawful g → IsAllowed (channel_at g c).endpoint (has_pending g.flight c kind) kind → (n : ℕ) → IsPendingAs g.flight c kind n → ⊥
+pub start-free : (g : Group) (c : ℕ) (kind : OpKind) → IsLawful g
+    → IsAllowed (channel_at g c).endpoint (has_pending g.flight c kind) kind → (n : ℕ) → IsPendingAs g.flight c kind n
+    → ⊥
 start-free g c kind lawful allow n h =
     none-pending g.flight c kind (allow.free (lawful.pending_ready n c kind h)) n h
 
@@ -206,7 +211,11 @@ kept-started {f} {cs} {ps} {o} {r} {r'} {sh} {l} op x p n kept within read read_
     lt_of_ne le ne = omega arith
 
 -- the same where no channel changes
-pub kept-started-same : {f : Flight} {cs : List Channel} {ps : List slots.Pending} {o r r' : ℕ} {sh : Bool} {l : GroupLimits} (op : Operation) (x : Channel) (p : slots.Pending) (n : ℕ) → IsGroupKept f cs ps o sh l r r' → op.chan.0 < length cs → x ≡ get_or cs op.chan.0 x → p ≡ get_or ps op.chan.0 p → n ≡ length f.operations → start_refusal (group_of f cs sh l) op.chan.0 op.kind ≡ None → op.stage ≡ Pending → op.stage ≡ first_stage x.is_open op.kind op.len → (op.kind ≡ Connect → ⊥) → IsGroupKept (with_accepted f op) cs (set ps op.chan.0 (with_slot p op.kind (Some n))) o sh l r r'
+pub kept-started-same : {f : Flight} {cs : List Channel} {ps : List slots.Pending} {o r r' : ℕ} {sh : Bool} {l : GroupLimits} (op : Operation) (x : Channel) (p : slots.Pending) (n : ℕ)
+    → IsGroupKept f cs ps o sh l r r' → op.chan.0 < length cs → x ≡ get_or cs op.chan.0 x → p ≡ get_or ps op.chan.0 p
+    → n ≡ length f.operations → start_refusal (group_of f cs sh l) op.chan.0 op.kind ≡ None → op.stage ≡ Pending
+    → op.stage ≡ first_stage x.is_open op.kind op.len → (op.kind ≡ Connect → ⊥)
+    → IsGroupKept (with_accepted f op) cs (set ps op.chan.0 (with_slot p op.kind (Some n))) o sh l r r'
 kept-started-same {f} {cs} {ps} {o} {r} {r'} {sh} {l} op x p n kept within read read_slot number allowed_start is_pending_op stage other =
     let made = kept-started op x p n kept within read read_slot number allowed_start is_pending_op stage in
     let same : set cs op.chan.0 (record x { endpoint = endpoint_after x.endpoint op.kind }) ≡ cs =
@@ -222,7 +231,8 @@ kept-started-same {f} {cs} {ps} {o} {r} {r'} {sh} {l} op x p n kept within read 
     endpoint_same e Write h = refl
 
 -- the slots after an operation was put after the others that isn't pending
-pub listed-queued : (f : Flight) (ps : List slots.Pending) (op : Operation) → IsListed f ps → is_pending (Some op) ≡ false → IsListed (with_accepted f op) ps
+pub listed-queued : (f : Flight) (ps : List slots.Pending) (op : Operation) → IsListed f ps
+    → is_pending (Some op) ≡ false → IsListed (with_accepted f op) ps
 listed-queued f ps op is_listed not_pending =
     record {
       listed = λ c kind n h. pending-still f.operations (Some op) c kind n (is_listed.listed c kind n h);
@@ -242,7 +252,9 @@ not_pending-stage op h = by_stage op.stage h
     by_stage Running not = refl
 
 -- after an operation that is queued at once was started
-pub kept-queued : {f : Flight} {cs : List Channel} {ps : List slots.Pending} {o r r' : ℕ} {sh : Bool} {l : GroupLimits} (op : Operation) (c : ℕ) → IsGroupKept f cs ps o sh l r r' → start_refusal (group_of f cs sh l) c op.kind ≡ None → (op.stage ≡ Pending → ⊥) → IsGroupKept (with_accepted f op) cs ps o sh l r r'
+pub kept-queued : {f : Flight} {cs : List Channel} {ps : List slots.Pending} {o r r' : ℕ} {sh : Bool} {l : GroupLimits} (op : Operation) (c : ℕ)
+    → IsGroupKept f cs ps o sh l r r' → start_refusal (group_of f cs sh l) c op.kind ≡ None → (op.stage ≡ Pending → ⊥)
+    → IsGroupKept (with_accepted f op) cs ps o sh l r r'
 kept-queued {f} {cs} {ps} {o} {r} {r'} {sh} {l} op c kept allowed_start not =
     let g : Group = group_of f cs sh l in
     let facts = startable g c op.kind allowed_start in
@@ -256,7 +268,9 @@ kept-queued {f} {cs} {ps} {o} {r} {r'} {sh} {l} op c kept allowed_start not =
     lt_of_ne le ne = omega arith
 
 -- there is room where a start isn't refused
-pub start-room : {f : Flight} {cs : List Channel} {ps : List slots.Pending} {o r r' : ℕ} {sh : Bool} {l : GroupLimits} (c : ℕ) (kind : OpKind) → IsGroupKept f cs ps o sh l r r' → start_refusal (group_of f cs sh l) c kind ≡ None → (in_flight f < f.limit) × (accepted f < 2 ^ 62)
+pub start-room : {f : Flight} {cs : List Channel} {ps : List slots.Pending} {o r r' : ℕ} {sh : Bool} {l : GroupLimits} (c : ℕ) (kind : OpKind)
+    → IsGroupKept f cs ps o sh l r r' → start_refusal (group_of f cs sh l) c kind ≡ None
+    → (in_flight f < f.limit) × (accepted f < 2 ^ 62)
 start-room {f} {cs} {ps} {o} {r} {r'} {sh} {l} c kind kept allowed_start =
     let facts = startable (group_of f cs sh l) c kind allowed_start in
     let room = facts.room in

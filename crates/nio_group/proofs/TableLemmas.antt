@@ -18,7 +18,9 @@ pub other_number : (m n : ℕ) → eqb m n ≡ false → m ≢ n
 other_number m n t = grind (arith, nat_tests)
 
 -- a slot outside the window of a number doesn't have it
-outside : (slots : List (Option Entry)) (limit reach n : ℕ) → IsNear slots limit reach → ((i : ℕ) → home_of n limit ≤ i → i ≤ home_of n limit + reach → has_number n (get_or slots i None) ≡ false) → (i : ℕ) (slot : Option Entry) → get_or slots i None ≡ slot → has_number n slot ≡ false
+outside : (slots : List (Option Entry)) (limit reach n : ℕ) → IsNear slots limit reach
+    → ((i : ℕ) → home_of n limit ≤ i → i ≤ home_of n limit + reach → has_number n (get_or slots i None) ≡ false)
+    → (i : ℕ) (slot : Option Entry) → get_or slots i None ≡ slot → has_number n slot ≡ false
 outside slots limit reach n near h i None at = refl
 outside slots limit reach n near h i (Some e) at =
     by_test (eqb e.number n)
@@ -30,20 +32,26 @@ outside slots limit reach n near h i (Some e) at =
     (λ f. f)
 
 -- a number that isn't near its home has no key
-pub key_in-not_near : {slots : List (Option Entry)} {limit reach : ℕ} (n : ℕ) → IsTable slots limit reach → ((i : ℕ) → home_of n limit ≤ i → i ≤ home_of n limit + reach → has_number n (get_or slots i None) ≡ false) → key_in n slots ≡ None
+pub key_in-not_near : {slots : List (Option Entry)} {limit reach : ℕ} (n : ℕ) → IsTable slots limit reach
+    → ((i : ℕ) → home_of n limit ≤ i → i ≤ home_of n limit + reach → has_number n (get_or slots i None) ≡ false)
+    → key_in n slots ≡ None
 key_in-not_near {slots} {limit} {reach} n table h =
     none_has_number n slots (λ i. outside slots limit reach n table.near h i (get_or slots i None) refl)
 
 -- the entry of a slot has its number's key
-pub key_in-at : {slots : List (Option Entry)} {limit reach : ℕ} (e : Entry) (i : ℕ) → IsTable slots limit reach → get_or slots i None ≡ Some e → key_in e.number slots ≡ Some e.key
+pub key_in-at : {slots : List (Option Entry)} {limit reach : ℕ} (e : Entry) (i : ℕ) → IsTable slots limit reach
+    → get_or slots i None ≡ Some e → key_in e.number slots ≡ Some e.key
 key_in-at {slots} e i table at = key_in_found e slots i (table.once e.number) at
 
 -- the counts of a table after a write
-pub count_by-set : {X : Type 0} (p : X → Bool) (xs : List X) (i : ℕ) (y d : X) → i < length xs → count_by p (set xs i y) + cond (p (get_or xs i d)) 1 0 ≡ count_by p xs + cond (p y) 1 0
+pub count_by-set : {X : Type 0} (p : X → Bool) (xs : List X) (i : ℕ) (y d : X) → i < length xs
+    → count_by p (set xs i y) + cond (p (get_or xs i d)) 1 0 ≡ count_by p xs + cond (p y) 1 0
 count_by-set p xs i y d l = sum_by-set (λ x. cond (p x) 1 0) xs i y d l
 
 -- the reach of a table is enough for a new entry
-pub table-inserted : {slots : List (Option Entry)} {limit reach : ℕ} (e : Entry) (i : ℕ) → IsTable slots limit reach → i < length slots → get_or slots i None ≡ None → home_of e.number limit ≤ i → i < home_of e.number limit + limit → key_in e.number slots ≡ None → IsTable (set slots i (Some e)) limit (max reach (i - home_of e.number limit))
+pub table-inserted : {slots : List (Option Entry)} {limit reach : ℕ} (e : Entry) (i : ℕ) → IsTable slots limit reach
+    → i < length slots → get_or slots i None ≡ None → home_of e.number limit ≤ i → i < home_of e.number limit + limit
+    → key_in e.number slots ≡ None → IsTable (set slots i (Some e)) limit (max reach (i - home_of e.number limit))
 table-inserted {slots} {limit} {reach} e i table l vacant above below new =
     record {
       some_limit = table.some_limit;
@@ -59,7 +67,10 @@ table-inserted {slots} {limit} {reach} e i table l vacant above below new =
       near = λ j o at. near_more j o at;
     }
   where
-    once_more : (n : ℕ) → count_by (has_number n) slots ≤ 1 → count_by (has_number n) (set slots i (Some e)) + cond (has_number n (get_or slots i None)) 1 0 ≡ count_by (has_number n) slots + cond (eqb e.number n) 1 0 → has_number n (get_or slots i None) ≡ false → count_by (has_number e.number) slots ≡ 0 → count_by (has_number n) (set slots i (Some e)) ≤ 1
+    once_more : (n : ℕ) → count_by (has_number n) slots ≤ 1
+        → count_by (has_number n) (set slots i (Some e)) + cond (has_number n (get_or slots i None)) 1 0 ≡ count_by (has_number n) slots + cond (eqb e.number n) 1 0
+        → has_number n (get_or slots i None) ≡ false → count_by (has_number e.number) slots ≡ 0
+        → count_by (has_number n) (set slots i (Some e)) ≤ 1
     once_more n had counts empty none =
         by_test (eqb e.number n)
         (λ t. let same = same_number e.number n t in
@@ -67,7 +78,8 @@ table-inserted {slots} {limit} {reach} e i table l vacant above below new =
         let c = rw (empty, t) at counts in omega (arith, c))
         (λ f. let c = rw (empty, f) at counts in omega (arith, c))
 
-    near_more : (j : ℕ) (o : Entry) → get_or (set slots i (Some e)) j None ≡ Some o → (home_of o.number limit ≤ j) × (j ≤ home_of o.number limit + max reach (i - home_of e.number limit))
+    near_more : (j : ℕ) (o : Entry) → get_or (set slots i (Some e)) j None ≡ Some o
+        → (home_of o.number limit ≤ j) × (j ≤ home_of o.number limit + max reach (i - home_of e.number limit))
     near_more j o at =
         by_test (eqb j i)
         (λ t. let same = same_number j i t in
@@ -78,10 +90,12 @@ table-inserted {slots} {limit} {reach} e i table l vacant above below new =
         let near = table.near j o (sym (get_or-set_other slots i j (Some e) None differ) ∙ at) in
         (near.0, omega (arith, near.1)))
 
-pub key-inserted : (slots : List (Option Entry)) (e : Entry) (i : ℕ) → i < length slots → get_or slots i None ≡ None → key_in e.number slots ≡ None → key_in e.number (set slots i (Some e)) ≡ Some e.key
+pub key-inserted : (slots : List (Option Entry)) (e : Entry) (i : ℕ) → i < length slots → get_or slots i None ≡ None
+    → key_in e.number slots ≡ None → key_in e.number (set slots i (Some e)) ≡ Some e.key
 key-inserted slots e i l vacant new = key_in-set_same e slots i l new
 
-pub table-removed : {slots : List (Option Entry)} {limit reach : ℕ} (i : ℕ) → IsTable slots limit reach → i < length slots → IsTable (set slots i None) limit reach
+pub table-removed : {slots : List (Option Entry)} {limit reach : ℕ} (i : ℕ) → IsTable slots limit reach
+    → i < length slots → IsTable (set slots i None) limit reach
 table-removed {slots} {limit} {reach} i table l =
     record {
       some_limit = table.some_limit;
@@ -102,21 +116,27 @@ table-removed {slots} {limit} {reach} i table l =
     }
 
 -- a number whose entry is removed has no other
-pub key-removed : {slots : List (Option Entry)} {limit reach : ℕ} (n i : ℕ) → IsTable slots limit reach → i < length slots → has_number n (get_or slots i None) ≡ true → key_in n (set slots i None) ≡ None
+pub key-removed : {slots : List (Option Entry)} {limit reach : ℕ} (n i : ℕ) → IsTable slots limit reach
+    → i < length slots → has_number n (get_or slots i None) ≡ true → key_in n (set slots i None) ≡ None
 key-removed {slots} n i table l has =
     let had = table.once n in
     let counts = rw has at (count_by-set (has_number n) slots i None None l) in
     key_in-absent n (set slots i None) (omega (arith, counts, had))
 
 -- what a read of a slot says of a number that was found there
-pub key_in-read : {slots : List (Option Entry)} {limit reach : ℕ} (n i : ℕ) (x : Option Entry) (e : Entry) → IsTable slots limit reach → i < length slots → has_number n (get_or slots i None) ≡ true → x ≡ get_or slots i x → x ≡ Some e → Some e.key ≡ key_in n slots
+pub key_in-read : {slots : List (Option Entry)} {limit reach : ℕ} (n i : ℕ) (x : Option Entry) (e : Entry)
+    → IsTable slots limit reach → i < length slots → has_number n (get_or slots i None) ≡ true → x ≡ get_or slots i x
+    → x ≡ Some e → Some e.key ≡ key_in n slots
 key_in-read {slots} n i x e table l has read is =
     let at : get_or slots i None ≡ Some e = sym (get_or_read slots i x l read None) ∙ is in
     let number : e.number ≡ n = same_number e.number n (rw at at has) in
     sym (subst (λ (m : ℕ). key_in m slots ≡ Some e.key) number (key_in-at e i table at))
 
 -- the table after an insertion, where home is the number's
-pub table-inserts : {slots : List (Option Entry)} {limit reach : ℕ} (e : Entry) (home i : ℕ) → home ≡ home_of e.number limit → IsTable slots limit reach → home < 2 * limit → get_or slots i None ≡ None → home ≤ i → i < home + limit → key_in e.number slots ≡ None → IsTable (set slots i (Some e)) limit (max reach (i - home))
+pub table-inserts : {slots : List (Option Entry)} {limit reach : ℕ} (e : Entry) (home i : ℕ)
+    → home ≡ home_of e.number limit → IsTable slots limit reach → home < 2 * limit → get_or slots i None ≡ None
+    → home ≤ i → i < home + limit → key_in e.number slots ≡ None
+    → IsTable (set slots i (Some e)) limit (max reach (i - home))
 table-inserts {slots} {limit} {reach} e home i is table below vacant from before new =
     let size = table.size in
     subst (λ (h : ℕ). IsTable (set slots i (Some e)) limit (max reach (i - h))) (sym is)

@@ -20,12 +20,14 @@ use Rattle.nio_group.proofs.RunLemmas.{lawful-after}
 use Rattle.nio_group.proofs.StageLemmas.{stepped-after, next-not_pending, next-not_queued, not-true, true-not, both, lt-true, true-lt}
 
 -- only a queued operation's completion is handed out
-handed-stage : (n m : ℕ) (chan : GChan) (kind : OpKind) (stage : Stage) → hands_out n (taken (completion_of m chan kind stage)) ≡ true → (eqb m n ≡ true) × (stage_is_queued stage ≡ true)
+handed-stage : (n m : ℕ) (chan : GChan) (kind : OpKind) (stage : Stage)
+    → hands_out n (taken (completion_of m chan kind stage)) ≡ true → (eqb m n ≡ true) × (stage_is_queued stage ≡ true)
 handed-stage n m chan kind Pending handed = absurd (false≢true handed)
 handed-stage n m chan kind (Queued r) handed = (handed, refl)
 handed-stage n m chan kind Running handed = absurd (false≢true handed)
 
-handed-slot : (n m : ℕ) (slot : Option Operation) → hands_out n (taken (completion_at m slot)) ≡ true → (m ≡ n) × (is_queued slot ≡ true)
+handed-slot : (n m : ℕ) (slot : Option Operation) → hands_out n (taken (completion_at m slot)) ≡ true
+    → (m ≡ n) × (is_queued slot ≡ true)
 handed-slot n m None handed = absurd (false≢true handed)
 handed-slot n m (Some op) handed =
     let both_are = handed-stage n m op.chan op.kind op.stage handed in (same_number m n both_are.0, both_are.1)
@@ -36,7 +38,8 @@ record IsFront (n : ℕ) (f : Flight) (queue : List ℕ) : Type 0 where
   is : queue ≡ n ∷ rest
   queued : is_queued (op_at f n) ≡ true
 
-handed-front : (n : ℕ) (f : Flight) (queue : List ℕ) → hands_out n (taken (taken_from f queue)) ≡ true → IsFront n f queue
+handed-front : (n : ℕ) (f : Flight) (queue : List ℕ) → hands_out n (taken (taken_from f queue)) ≡ true
+    → IsFront n f queue
 handed-front n f [] handed = absurd (false≢true handed)
 handed-front n f (m ∷ rest) handed =
     let front = handed-slot n m (op_at f m) handed in
@@ -61,7 +64,8 @@ running-not_queued : (slot : Option Operation) → is_queued (option_map (at_sta
 running-not_queued None = refl
 running-not_queued (Some op) = refl
 
-taken-by : (g : Group) (n : ℕ) → n < accepted g.flight → is_pending (op_at g.flight n) ≡ false → is_queued (op_at g.flight n) ≡ false → was_taken g n ≡ true
+taken-by : (g : Group) (n : ℕ) → n < accepted g.flight → is_pending (op_at g.flight n) ≡ false
+    → is_queued (op_at g.flight n) ≡ false → was_taken g n ≡ true
 taken-by g n within past not_queued =
     both (has_completed g n) (not (is_queued (op_at g.flight n)))
     (both (ltb n (accepted g.flight)) (not (is_pending (op_at g.flight n))) (lt-true n (accepted g.flight) within) (true-not (is_pending (op_at g.flight n)) past))
@@ -122,7 +126,8 @@ taken-stays g call n lawful is =
     (next-not_pending (op_at g.flight n) (op_at (after g call).flight n) next parts.past)
     (next-not_queued (op_at g.flight n) (op_at (after g call).flight n) next parts.past parts.not_queued)
 
-none-again : (g : Group) (calls : List Call) (n : ℕ) → IsLawful g → IsRunOf g calls → was_taken g n ≡ true → times_taken n g calls ≡ 0
+none-again : (g : Group) (calls : List Call) (n : ℕ) → IsLawful g → IsRunOf g calls → was_taken g n ≡ true
+    → times_taken n g calls ≡ 0
 none-again g [] n lawful run is = refl
 none-again g (call ∷ calls) n lawful run is =
     let later = none-again (after g call) calls n (lawful-after g call lawful run.0) run.1 (taken-stays g call n lawful is) in

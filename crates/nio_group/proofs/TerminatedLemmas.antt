@@ -27,7 +27,8 @@ use Rattle.nio_group.proofs.PendingLemmas.{same_kind-refl}
 use Rattle.nio_group.proofs.GroupLemmas.{pending-within}
 use Rattle.nio_group.proofs.CloseLemmas.{none_some}
 
-pub all-closed : (cs : List Channel) → count_by is_open cs ≡ 0 → list_all (λ (channel : Channel). not channel.is_open) cs ≡ true
+pub all-closed : (cs : List Channel) → count_by is_open cs ≡ 0
+    → list_all (λ (channel : Channel). not channel.is_open) cs ≡ true
 all-closed [] h = refl
 all-closed (x ∷ xs) h =
     let counts = sym (count_by-cons is_open x xs) ∙ h in
@@ -49,7 +50,8 @@ handled Pending h = absurd (false≢true (sym h))
 handled (Queued finished) h = refl
 handled Running h = refl
 
-pub none-in_flight : (xs : List (Option Operation)) → ((i : ℕ) → is_pending (get_or xs i None) ≡ false) → eqb (count_by is_some xs) 0 ≡ not (list_any (λ slot. is_queued slot || is_running slot) xs)
+pub none-in_flight : (xs : List (Option Operation)) → ((i : ℕ) → is_pending (get_or xs i None) ≡ false)
+    → eqb (count_by is_some xs) 0 ≡ not (list_any (λ slot. is_queued slot || is_running slot) xs)
 none-in_flight [] h = refl
 none-in_flight (None ∷ xs) h =
     ap (λ (n : ℕ). eqb n 0) (omega (arith, count_by-cons is_some None xs)) ∙ none-in_flight xs (λ i. h (suc i))
@@ -58,7 +60,8 @@ none-in_flight (Some op ∷ xs) h =
     rw busy (eqb-other (count_by is_some (Some op ∷ xs)) 0 (λ e. let counts = count_by-cons is_some (Some op) xs in absurd (omega (arith, counts, e))))
 
 -- where every channel is closed nothing is pending
-nothing-pending : {f : Flight} {cs : List Channel} {ps : List slots.Pending} {o r r' : ℕ} {sh : Bool} {l : GroupLimits} → IsGroupKept f cs ps o sh l r r' → count_by is_open cs ≡ 0 → (i : ℕ) → is_pending (op_at f i) ≡ false
+nothing-pending : {f : Flight} {cs : List Channel} {ps : List slots.Pending} {o r r' : ℕ} {sh : Bool} {l : GroupLimits}
+    → IsGroupKept f cs ps o sh l r r' → count_by is_open cs ≡ 0 → (i : ℕ) → is_pending (op_at f i) ≡ false
 nothing-pending {f} {cs} kept closed i = by_slot (op_at f i) refl
   where
     by_slot : (slot : Option Operation) → op_at f i ≡ slot → is_pending (op_at f i) ≡ false
@@ -69,13 +72,15 @@ nothing-pending {f} {cs} kept closed i = by_slot (op_at f i) refl
         absurd (false≢true (sym (closed-at cs closed op.chan.0) ∙ kept.lawful.pending_open i op.chan.0 op.kind pending)))
         (λ e. rw is e)
 
-pub terminated-where_closed : {f : Flight} {cs : List Channel} {ps : List slots.Pending} {o r r' : ℕ} {l : GroupLimits} → IsGroupKept f cs ps o true l r r' → o ≡ 0 → eqb (in_flight f) 0 ≡ is_terminated (group_of f cs true l)
+pub terminated-where_closed : {f : Flight} {cs : List Channel} {ps : List slots.Pending} {o r r' : ℕ} {l : GroupLimits}
+    → IsGroupKept f cs ps o true l r r' → o ≡ 0 → eqb (in_flight f) 0 ≡ is_terminated (group_of f cs true l)
 terminated-where_closed {f} {cs} kept zero_open =
     let counted = kept.opened_is in
     let closed : count_by is_open cs ≡ 0 = omega arith in
     rw (all-closed cs closed) (none-in_flight f.operations (nothing-pending kept closed))
 
-any-index : (p : Option Operation → Bool) (xs : List (Option Operation)) → list_any p xs ≡ true → (i : ℕ) × (p (get_or xs i None) ≡ true)
+any-index : (p : Option Operation → Bool) (xs : List (Option Operation)) → list_any p xs ≡ true
+    → (i : ℕ) × (p (get_or xs i None) ≡ true)
 any-index p [] h = absurd (false≢true h)
 any-index p (x ∷ xs) h =
     by_test (p x)
@@ -83,10 +88,12 @@ any-index p (x ∷ xs) h =
     (λ f. let rest = any-index p xs (rw f at h) in (suc rest.0, rest.1))
 
 -- what is pending is found in the slots
-pub has_pending-slot : (f : Flight) (ps : List slots.Pending) (c : ℕ) (kind : OpKind) → IsListed f ps → has_pending f c kind ≡ is_some (slot_of (get_or ps c nothing_pending) kind)
+pub has_pending-slot : (f : Flight) (ps : List slots.Pending) (c : ℕ) (kind : OpKind) → IsListed f ps
+    → has_pending f c kind ≡ is_some (slot_of (get_or ps c nothing_pending) kind)
 has_pending-slot f ps c kind is_listed = by_slot (slot_of (get_or ps c nothing_pending) kind) refl
   where
-    by_slot : (slot : Option ℕ) → slot_of (get_or ps c nothing_pending) kind ≡ slot → has_pending f c kind ≡ is_some slot
+    by_slot : (slot : Option ℕ) → slot_of (get_or ps c nothing_pending) kind ≡ slot
+        → has_pending f c kind ≡ is_some slot
     by_slot (Some n) is =
         let pending = is_listed.listed c kind n is in
         list_any_at (is_pending_as c kind) f.operations n None (pending-within f.operations c kind n pending) pending
@@ -97,7 +104,11 @@ has_pending-slot f ps c kind is_listed = by_slot (slot_of (get_or ps c nothing_p
         (λ e. e)
 
 -- a start's refusal, from what is read of the channel and its slots
-pub start_refusal-read : {f : Flight} {cs : List Channel} {ps : List slots.Pending} {o r r' : ℕ} {sh : Bool} {l : GroupLimits} (c : ℕ) (kind : OpKind) (x : Channel) (p : slots.Pending) (pending : Bool) (refusal : Option StartError) → IsGroupKept f cs ps o sh l r r' → c < length cs → is_terminated (group_of f cs sh l) ≡ false → x ≡ get_or cs c x → p ≡ get_or ps c p → pending ≡ is_some (slot_of p kind) → refusal ≡ channel_refusal x.is_open x.endpoint pending kind → start_refusal (group_of f cs sh l) c kind ≡ option_or refusal (limit_refusal (group_of f cs sh l))
+pub start_refusal-read : {f : Flight} {cs : List Channel} {ps : List slots.Pending} {o r r' : ℕ} {sh : Bool} {l : GroupLimits} (c : ℕ) (kind : OpKind) (x : Channel) (p : slots.Pending) (pending : Bool) (refusal : Option StartError)
+    → IsGroupKept f cs ps o sh l r r' → c < length cs → is_terminated (group_of f cs sh l) ≡ false → x ≡ get_or cs c x
+    → p ≡ get_or ps c p → pending ≡ is_some (slot_of p kind)
+    → refusal ≡ channel_refusal x.is_open x.endpoint pending kind
+    → start_refusal (group_of f cs sh l) c kind ≡ option_or refusal (limit_refusal (group_of f cs sh l))
 start_refusal-read {f} {cs} {ps} {o} {r} {r'} {sh} {l} c kind x p pending refusal kept within going read read_slot is_pending_op is_refusal =
     let slots_are = kept.slots in
     let is : x ≡ get_or cs c no_channel = get_or_read cs c x within read no_channel in
@@ -105,7 +116,8 @@ start_refusal-read {f} {cs} {ps} {o} {r} {r'} {sh} {l} c kind x p pending refusa
     let found : has_pending f c kind ≡ pending = has_pending-slot f ps c kind kept.is_listed ∙ ap (λ (q : slots.Pending). is_some (slot_of q kind)) (sym is_slot) ∙ sym is_pending_op in
     rw (going, found, ← is) (ap (λ (e : Option StartError). option_or e (limit_refusal (group_of f cs sh l))) (sym is_refusal))
 
-pub terminated-when : {f : Flight} {cs : List Channel} {ps : List slots.Pending} {o r r' : ℕ} {sh : Bool} {l : GroupLimits} → IsGroupKept f cs ps o sh l r r' → sh ≡ true → o ≡ 0 → eqb (in_flight f) 0 ≡ is_terminated (group_of f cs sh l)
+pub terminated-when : {f : Flight} {cs : List Channel} {ps : List slots.Pending} {o r r' : ℕ} {sh : Bool} {l : GroupLimits}
+    → IsGroupKept f cs ps o sh l r r' → sh ≡ true → o ≡ 0 → eqb (in_flight f) 0 ≡ is_terminated (group_of f cs sh l)
 terminated-when {f} {cs} {ps} {o} {r} {r'} {sh} {l} kept shut zero_open =
     let kept_shut : IsGroupKept f cs ps o true l r r' = rw shut at kept in
     rw shut (terminated-where_closed kept_shut zero_open)
@@ -115,11 +127,13 @@ limit-ops g at_limit =
     let same : eqb (accepted g.flight) g.op_limit ≡ true = subst (λ (n : ℕ). eqb (accepted g.flight) n ≡ true) at_limit (eqb-same (accepted g.flight)) in
     rw same refl
 
-pub limit-flight : (g : Group) → accepted g.flight ≢ g.op_limit → in_flight g.flight ≡ g.flight.limit → limit_refusal g ≡ Some refused.FlightFull
+pub limit-flight : (g : Group) → accepted g.flight ≢ g.op_limit → in_flight g.flight ≡ g.flight.limit
+    → limit_refusal g ≡ Some refused.FlightFull
 limit-flight g below full =
     let same : eqb (in_flight g.flight) g.flight.limit ≡ true = subst (λ (n : ℕ). eqb (in_flight g.flight) n ≡ true) full (eqb-same (in_flight g.flight)) in
     rw (eqb-other (accepted g.flight) g.op_limit below, same) refl
 
-pub limit-none : (g : Group) → accepted g.flight ≢ g.op_limit → in_flight g.flight ≢ g.flight.limit → limit_refusal g ≡ None
+pub limit-none : (g : Group) → accepted g.flight ≢ g.op_limit → in_flight g.flight ≢ g.flight.limit
+    → limit_refusal g ≡ None
 limit-none g below room =
     rw (eqb-other (accepted g.flight) g.op_limit below, eqb-other (in_flight g.flight) g.flight.limit room) refl

@@ -26,7 +26,8 @@ found c = rw (← c.self.view_is) at c.requires.found
 pending : (c : After-with) → is_pending (Some c.args.operation) ≡ true
 pending c = (report-allowed c.args.operation c.args.outcome c.requires.allowed).0
 
-allowed : (c : After-with) (o : Outcome) → c.args.outcome ≡ o → is_allowed c.args.operation.kind c.args.operation.len o ≡ true
+allowed : (c : After-with) (o : Outcome) → c.args.outcome ≡ o
+    → is_allowed c.args.operation.kind c.args.operation.len o ≡ true
 allowed c o same =
     subst (λ (x : Outcome). is_allowed c.args.operation.kind c.args.operation.len x ≡ true) same
     (report-allowed c.args.operation c.args.outcome c.requires.allowed).1
@@ -42,7 +43,9 @@ completed c other =
     (kept-completed c.args.op.0 c.args.operation c.result_of-finished.result c.index.result.now c.self.invariant (found c) (pending c) c.index.ensures other)
 
 -- where it is one, its stream is this channel
-connected : (c : After-with) (channel : Channel) (opened : ℕ) → c.args.operation.kind ≡ Connect → (channel.is_open ≡ true → channel.endpoint ≡ Stream Connecting → ⊥) → opened + 1 ≡ c.self.inside.open_channels + cond channel.is_open 1 0
+connected : (c : After-with) (channel : Channel) (opened : ℕ) → c.args.operation.kind ≡ Connect
+    → (channel.is_open ≡ true → channel.endpoint ≡ Stream Connecting → ⊥)
+    → opened + 1 ≡ c.self.inside.open_channels + cond channel.is_open 1 0
     → IsGroupKept c.complete.new.self (set c.self.inside.channels.items c.args.operation.chan.0 channel) (set c.self.inside.pending.items c.args.operation.chan.0 c.with.result) opened c.self.inside.shut c.self.inside.limits c.self.inside.channels.cap c.self.inside.pending.cap
 connected c channel opened connect not_connecting counted =
     let slot : c.with.result ≡ with_slot c.index.result.now c.args.operation.kind None = c.with.ensures in
