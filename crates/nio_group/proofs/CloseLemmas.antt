@@ -49,7 +49,8 @@ map-closed_on-set c i [] slot here after = refl
 map-closed_on-set c zero (x ∷ xs) slot here after =
     let stays : closed_on c slot ≡ slot = rw after refl in
     ap (λ y. y ∷ map (closed_on c) xs) (stays ∙ sym here)
-map-closed_on-set c (suc i) (x ∷ xs) slot here after = ap (λ ys. closed_on c x ∷ ys) (map-closed_on-set c i xs slot here after)
+map-closed_on-set c (suc i) (x ∷ xs) slot here after =
+    ap (λ ys. closed_on c x ∷ ys) (map-closed_on-set c i xs slot here after)
 
 -- the slots hold what is pending on the channel
 pub record IsListedOn (f : Flight) (c : ℕ) (p : slots.Pending) : Type 0 where
@@ -87,7 +88,8 @@ pub pending-after : (xs : List (Option Operation)) (n : ℕ) (slot : Option Oper
 pending-after xs n slot c kind m l not_pending h =
     by_test (eqb m n)
     (λ t. let same = same_number m n t in
-    let at : is_pending_as c kind (get_or (set xs n slot) n None) ≡ true = subst (λ (i : ℕ). is_pending_as c kind (get_or (set xs n slot) i None) ≡ true) same h in
+    let at : is_pending_as c kind (get_or (set xs n slot) n None) ≡ true = subst
+    (λ (i : ℕ). is_pending_as c kind (get_or (set xs n slot) i None) ≡ true) same h in
     let no : is_pending_as c kind slot ≡ true = rw (get_or-set_same xs n slot None l) at at in
     absurd (false≢true (sym (not_pending-as c kind slot not_pending) ∙ no)))
     (λ e. let differ = other_number m n e in
@@ -129,7 +131,8 @@ listed-step f c p n op slot queue on is l own not_pending =
   where
     not_n : (k : OpKind) (m : ℕ) → is_pending_as c k (op_at f m) ≡ true → k ≢ op.kind → m ≢ n
     not_n k m old differ same =
-        let at : is_pending_as c k (op_at f n) ≡ true = subst (λ (i : ℕ). is_pending_as c k (op_at f i) ≡ true) same old in
+        let at : is_pending_as c k (op_at f n) ≡ true = subst
+        (λ (i : ℕ). is_pending_as c k (op_at f i) ≡ true) same old in
         let of : is_pending_as c k (Some op) ≡ true = rw is at at in
         let parts = pending-parts c k op of in
         differ (sym parts.same)
@@ -162,7 +165,8 @@ closing-step f c p n op kind on slot least is =
     let closes : closed_on c (op_at f n) ≡ closed_slot = rw here refl in
     let operations = map-closed_on-set c n f.operations closed_slot closes not_on in
     let first = pending_from-first c 0 n f.operations closed_slot here (none-before f c p n on least) not_on in
-    let queue : f.queue ++ n ∷ [] ++ pending_from c 0 (set f.operations n closed_slot) ≡ f.queue ++ pending_from c 0 f.operations =
+    let queue : f.queue ++ n ∷ [] ++ pending_from c 0 (set f.operations n closed_slot)
+    ≡ f.queue ++ pending_from c 0 f.operations =
     append_assoc f.queue (n ∷ []) (pending_from c 0 (set f.operations n closed_slot))
     ∙ ap (λ (i : ℕ). f.queue ++ (i ∷ pending_from c 0 (set f.operations n closed_slot))) (omega arith)
     ∙ ap (λ (ns : List ℕ). f.queue ++ ns) (sym first) in

@@ -37,7 +37,8 @@ lawful-unpending g n slot queue lawful l was will flight =
   where
     not_it : (c : ℕ) (kind : OpKind) (m : ℕ) → is_pending_as c kind (op_at g.flight m) ≡ true → m ≢ n
     not_it c kind m h same =
-        let at : is_pending_as c kind (op_at g.flight n) ≡ true = subst (λ (i : ℕ). is_pending_as c kind (op_at g.flight i) ≡ true) same h in
+        let at : is_pending_as c kind (op_at g.flight n) ≡ true = subst
+        (λ (i : ℕ). is_pending_as c kind (op_at g.flight i) ≡ true) same h in
         false≢true (sym was ∙ pending-as-pending c kind (op_at g.flight n) at)
 
 pub listed-unpending : (f : Flight) (ps : List slots.Pending) (n : ℕ) (slot : Option Operation) (queue : List ℕ) → IsListed f ps → n < length f.operations → is_pending (op_at f n) ≡ false → is_pending slot ≡ false → IsListed (record f { operations = set f.operations n slot; queue = queue }) ps
@@ -51,7 +52,8 @@ listed-unpending f ps n slot queue is_listed l was will =
   where
     not_it : (c : ℕ) (kind : OpKind) (m : ℕ) → is_pending_as c kind (op_at f m) ≡ true → m ≢ n
     not_it c kind m h same =
-        let at : is_pending_as c kind (op_at f n) ≡ true = subst (λ (i : ℕ). is_pending_as c kind (op_at f i) ≡ true) same h in
+        let at : is_pending_as c kind (op_at f n) ≡ true = subst
+        (λ (i : ℕ). is_pending_as c kind (op_at f i) ≡ true) same h in
         false≢true (sym was ∙ pending-as-pending c kind (op_at f n) at)
 
 queued-some : (slot : Option Operation) → is_queued slot ≡ true → (op : Operation) × (slot ≡ Some op)
@@ -80,8 +82,10 @@ kept-taken_front {f} {cs} {ps} {o} {r} {r'} {sh} {l} n rest op kept is holds is_
     let within = some-within f.operations n op is_op in
     let was : is_pending (op_at f n) ≡ false = rw is_op (queued-not_pending op.stage of) in
     let slot : Option Operation = Some (at_stage Running op) in
-    let flight = flight-changes f n op (at_stage Running op) rest l.ops is_op (queue-taken f.operations n rest slot within refl holds) kept.lawful.few_in_flight kept.lawful.few_accepted in
-    let taken : with_taken f n ≡ record f { operations = set f.operations n slot; queue = rest } = rw (is_op, is) refl in
+    let flight = flight-changes f n op (at_stage Running op) rest l.ops is_op
+    (queue-taken f.operations n rest slot within refl holds) kept.lawful.few_in_flight kept.lawful.few_accepted in
+    let taken : with_taken f n ≡ record f { operations = set f.operations n slot; queue = rest } = rw
+    (is_op, is) refl in
     rw taken
     (kept-operations (record f { operations = set f.operations n slot; queue = rest }) kept
     (lawful-unpending (group_of f cs sh l) n slot rest kept.lawful within was refl flight) refl
@@ -147,7 +151,8 @@ count-pending_from c k zero (x ∷ xs) =
     rw t (omega (arith, count_by-cons (λ j. eqb j (k + 0)) k (pending_from c (k + 1) xs), rest, one_here)))
     (λ f. rw f rest)
 count-pending_from c k (suc n) (x ∷ xs) =
-    let rest : count_by (λ j. eqb j (k + suc n)) (pending_from c (k + 1) xs) ≡ once_if (is_pending_on c (get_or xs n None)) =
+    let rest : count_by (λ j. eqb j (k + suc n)) (pending_from c (k + 1) xs) ≡ once_if
+    (is_pending_on c (get_or xs n None)) =
     subst (λ (i : ℕ). count_by (λ j. eqb j i) (pending_from c (k + 1) xs) ≡ once_if (is_pending_on c (get_or xs n None))) (omega arith) (count-pending_from c (k + 1) n xs) in
     by_test (is_pending_on c x)
     (λ t.
@@ -205,9 +210,11 @@ pending-closed c d kind (Some op) h =
     absurd (false≢true (sym closed ∙ h)))
     (λ f.
     let same : closed_on c (Some op) ≡ Some op = rw f refl in
-    let still : is_pending_as d kind (Some op) ≡ true = subst (λ (slot : Option Operation). is_pending_as d kind slot ≡ true) same h in (
+    let still : is_pending_as d kind (Some op) ≡ true = subst
+    (λ (slot : Option Operation). is_pending_as d kind slot ≡ true) same h in (
       λ e.
-          let on : is_pending_on c (Some op) ≡ true = subst (λ (i : ℕ). is_pending_on i (Some op) ≡ true) e (pending_as-on d kind (Some op) still) in
+          let on : is_pending_on c (Some op) ≡ true = subst (λ (i : ℕ). is_pending_on i (Some op) ≡ true) e
+          (pending_as-on d kind (Some op) still) in
           false≢true (sym f ∙ on),
       still,
     ))
@@ -230,7 +237,8 @@ count-closed : (c : ℕ) (xs : List (Option Operation)) → count_by is_some (ma
 count-closed c [] = refl
 count-closed c (x ∷ xs) =
     let same : is_some (closed_on c x) ≡ is_some x = some-closed c x in
-    let bits : cond {A = ℕ} (is_some (closed_on c x)) 1 0 ≡ cond {A = ℕ} (is_some x) 1 0 = ap {B = ℕ} (λ (b : Bool). cond b 1 0) same in
+    let bits : cond {A = ℕ} (is_some (closed_on c x)) 1 0 ≡ cond {A = ℕ} (is_some x) 1 0 = ap {B = ℕ}
+    (λ (b : Bool). cond b 1 0) same in
     omega (arith, count_by-cons is_some (closed_on c x) (map (closed_on c) xs), count_by-cons is_some x xs, bits, count-closed c xs)
   where
     some-closed : (d : ℕ) (slot : Option Operation) → is_some (closed_on d slot) ≡ is_some slot
@@ -243,7 +251,8 @@ closed-at_is f c d kind n h = pending-closed c d kind (op_at f n) (rw (get_or-ma
 
 closed-at_stays : (f : Flight) (c d : ℕ) (kind : OpKind) (n : ℕ) → d ≢ c → IsPendingAs f d kind n
     → IsPendingAs (with_channel_closed f c) d kind n
-closed-at_stays f c d kind n differ h = rw (get_or-map_closed c n f.operations) (pending-stays c d kind (op_at f n) differ h)
+closed-at_stays f c d kind n differ h =
+    rw (get_or-map_closed c n f.operations) (pending-stays c d kind (op_at f n) differ h)
 
 pub lawful-closed : (g : Group) (c : ℕ) → IsLawful g → c < length g.channels → IsLawful (record g { flight = with_channel_closed g.flight c; channels = set g.channels c (record (channel_at g c) { is_open = false }) })
 lawful-closed g c lawful within =
@@ -270,12 +279,14 @@ kept-closed {f} {cs} {ps} {o} {r} {r'} {sh} {l} c x kept within read was_open =
     let slots_are = kept.slots in
     let is : x ≡ get_or cs c no_channel = get_or_read cs c x within read no_channel in
     let open_there : (get_or cs c no_channel).is_open ≡ true = ap (λ (y : Channel). y.is_open) (sym is) ∙ was_open in
-    let one : cond {A = ℕ} (is_open (get_or cs c no_channel)) 1 0 ≡ 1 = ap {B = ℕ} (λ (b : Bool). cond b 1 0) open_there in
+    let one : cond {A = ℕ} (is_open (get_or cs c no_channel)) 1 0 ≡ 1 = ap {B = ℕ}
+    (λ (b : Bool). cond b 1 0) open_there in
     let counts = count_by-set is_open cs c no_channel no_channel within in
     let counted = kept.opened_is in
     let some : 1 ≤ o = omega (arith, counts, one) in
     let fewer : o - 1 + cond {A = ℕ} (is_open (get_or cs c no_channel)) 1 0 ≡ o + 0 = omega (arith, one, some) in
-    let here : get_or (set ps c nothing_pending) c nothing_pending ≡ nothing_pending = get_or-set_same ps c nothing_pending nothing_pending (omega arith) in
+    let here : get_or (set ps c nothing_pending) c nothing_pending
+    ≡ nothing_pending = get_or-set_same ps c nothing_pending nothing_pending (omega arith) in
     rw is
     (kept-channel (with_channel_closed f c) c (record (get_or cs c no_channel) { is_open = false }) nothing_pending (o - 1) kept within
     (lawful-closed (group_of f cs sh l) c kept.lawful within) refl
@@ -286,7 +297,8 @@ kept-closed {f} {cs} {ps} {o} {r} {r'} {sh} {l} c x kept within read was_open =
           (λ t. let same = same_number d c t in
           absurd (none_some n (sym (slot_of-nothing kind) ∙ subst (λ (p : slots.Pending). slot_of p kind ≡ Some n) here (subst (λ (e : ℕ). slot_of (get_or (set ps c nothing_pending) e nothing_pending) kind ≡ Some n) same h))))
           (λ e. let differ = other_number d c e in
-          closed-at_stays f c d kind n differ (kept.is_listed.listed d kind n (rw (get_or-set_other ps c d nothing_pending nothing_pending differ) at h)));
+          closed-at_stays f c d kind n differ
+          (kept.is_listed.listed d kind n (rw (get_or-set_other ps c d nothing_pending nothing_pending differ) at h)));
       all = λ d kind n h.
           let old = closed-at_is f c d kind n h in
           rw (get_or-set_other ps c d nothing_pending nothing_pending old.0) (kept.is_listed.all d kind n old.1);

@@ -23,7 +23,8 @@ queued_le_some (Some op) = bit (is_queued (Some op))
 
 -- no more operations are queued than are in flight
 pub queued-in_flight : (xs : List (Option Operation)) → count_by is_queued xs ≤ count_by is_some xs
-queued-in_flight xs = sum_by-le-sum_by (λ slot. cond (is_queued slot) 1 0) (λ slot. cond (is_some slot) 1 0) xs queued_le_some
+queued-in_flight xs =
+    sum_by-le-sum_by (λ slot. cond (is_queued slot) 1 0) (λ slot. cond (is_some slot) 1 0) xs queued_le_some
 
 -- the slot of an operation that is there is one of the list's
 pub some-within : (xs : List (Option Operation)) (i : ℕ) (op : Operation) → get_or xs i None ≡ Some op → i < length xs

@@ -124,17 +124,22 @@ listed-started f f' ps op c is_listed pushed within is_pending_op free =
           let slot = rw (here d same) at h in
           elim (kinds kind op.kind) [
             | inl own ↦
-                let is_m : Some (length f.operations) ≡ Some m = sym (slot_of-with_same p op.kind (Some (length f.operations))) ∙ subst (λ (k : OpKind). slot_of (with_slot p op.kind (Some (length f.operations))) k ≡ Some m) own slot in
+                let is_m : Some (length f.operations) ≡ Some m = sym
+                (slot_of-with_same p op.kind (Some (length f.operations))) ∙ subst
+                (λ (k : OpKind). slot_of (with_slot p op.kind (Some (length f.operations))) k ≡ Some m) own slot in
                 let number : length f.operations ≡ m = some-same is_m in
-                let at_end : is_pending_as d kind (get_or (f.operations ++ Some op ∷ []) (length f.operations) None) ≡ true =
+                let at_end : is_pending_as d kind (get_or (f.operations ++ Some op ∷ []) (length f.operations) None)
+                ≡ true =
                 rw (new_at_end, same, own) is_pending_op in
                 rw pushed (subst (λ (i : ℕ). is_pending_as d kind (get_or (f.operations ++ Some op ∷ []) i None) ≡ true) number at_end)
             | inr other ↦
-                let old = is_listed.listed c kind m (sym (slot_of-with_other p op.kind kind (Some (length f.operations)) other) ∙ slot) in
+                let old = is_listed.listed c kind m
+                (sym (slot_of-with_other p op.kind kind (Some (length f.operations)) other) ∙ slot) in
                 rw (pushed, same) (pending-still f.operations (Some op) c kind m old)
           ])
           (λ e. let differ = other_number d c e in
-          rw pushed (pending-still f.operations (Some op) d kind m (is_listed.listed d kind m (rw (there d differ) at h))));
+          rw pushed
+          (pending-still f.operations (Some op) d kind m (is_listed.listed d kind m (rw (there d differ) at h))));
       all = λ d kind m h.
           let pushed_h = rw pushed at h in
           elim (pending-pushed f.operations (Some op) d kind m pushed_h) [

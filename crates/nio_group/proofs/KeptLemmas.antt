@@ -58,7 +58,8 @@ kept-set slab slab' index index' accepted n slot here others =
     let f' = operation_of slab' index' in
     let had = kept_operations slab index accepted in
     let has = kept_operations slab' index' accepted in
-    same_lists has (set had n slot) (length-kept slab' index' accepted ∙ sym (length-kept slab index accepted) ∙ sym (length-set had n slot))
+    same_lists has (set had n slot)
+    (length-kept slab' index' accepted ∙ sym (length-kept slab index accepted) ∙ sym (length-set had n slot))
     (λ k d l.
     let within : k < accepted = omega (arith, length-kept slab' index' accepted) in
     let new = get_or-map-range_with_len f' 0 accepted k k d within (omega arith) in
@@ -76,7 +77,8 @@ other-stays : (slab slab' : Slab Numbered) (key : ℕ) (o : Option ℕ)
     → ((other : ℕ) → other ≢ key → get slab' other ≡ get slab other) → ((k : ℕ) → o ≡ Some k → k ≢ key)
     → operation_in slab' o ≡ operation_in slab o
 other-stays slab slab' key None others apart = refl
-other-stays slab slab' key (Some k) others apart = ap (option_map (λ (x : Numbered). x.operation)) (others k (apart k refl))
+other-stays slab slab' key (Some k) others apart =
+    ap (option_map (λ (x : Numbered). x.operation)) (others k (apart k refl))
 
 -- two numbers have two keys
 apart : {slab : Slab Numbered} {index : Index} {accepted limit : ℕ} (n m key : ℕ) → IsKept slab index accepted limit
@@ -91,9 +93,11 @@ apart {slab} {index} n m key kept at differ k at' same =
 map-same : (f f' : ℕ → Option Operation) (n : ℕ) → ((m : ℕ) → m < n → f' m ≡ f m)
     → map f' (range_with_len 0 n) ≡ map f (range_with_len 0 n)
 map-same f f' n same =
-    same_lists (map f' (range_with_len 0 n)) (map f (range_with_len 0 n)) (length-map-range_with_len f' 0 n ∙ sym (length-map-range_with_len f 0 n))
+    same_lists (map f' (range_with_len 0 n)) (map f (range_with_len 0 n))
+    (length-map-range_with_len f' 0 n ∙ sym (length-map-range_with_len f 0 n))
     (λ k d l. let within : k < n = omega (arith, length-map-range_with_len f' 0 n) in
-    get_or-map-range_with_len f' 0 n k k d within (omega arith) ∙ same k within ∙ sym (get_or-map-range_with_len f 0 n k k d within (omega arith)))
+    get_or-map-range_with_len f' 0 n k k d within (omega arith) ∙ same k within ∙ sym
+    (get_or-map-range_with_len f 0 n k k d within (omega arith)))
 
 -- no number has a vacant key
 not_vacant : {slab : Slab Numbered} {index : Index} {accepted limit : ℕ} → IsKept slab index accepted limit → (key : ℕ)
@@ -136,8 +140,10 @@ module _ {slab slab' : Slab Numbered} {index index' : Index} {accepted limit : �
       let f = operation_of slab index in
       let f' = operation_of slab' index' in
       map-range_with_len_more f' 0 accepted accepted (omega arith)
-      ∙ ap (λ (xs : List (Option Operation)). xs ++ f' accepted ∷ []) (map-same f f' accepted (λ m l. accepted-others key _ kept vacant updates change m (omega arith)))
-      ∙ ap (λ (x : Option Operation). kept_operations slab index accepted ++ x ∷ []) (ap (operation_in slab') change.changed ∙ ap (option_map (λ (y : Numbered). y.operation)) updates.changed)
+      ∙ ap (λ (xs : List (Option Operation)). xs ++ f' accepted ∷ [])
+      (map-same f f' accepted (λ m l. accepted-others key _ kept vacant updates change m (omega arith)))
+      ∙ ap (λ (x : Option Operation). kept_operations slab index accepted ++ x ∷ [])
+      (ap (operation_in slab') change.changed ∙ ap (option_map (λ (y : Numbered). y.operation)) updates.changed)
 
   pub is_kept-accepts : (key : ℕ) (operation : Operation) → IsKept slab index accepted limit → get slab key ≡ None → Updates slab slab' key (Some (record { number = accepted; operation = operation })) → ChangesKey index index' accepted (Some key) → slab_len slab' ≡ slab_len slab + 1 → entries index' ≡ entries index + 1 → slab'.capacity ≡ slab.capacity → index'.limit ≡ index.limit → slab_len slab < limit → accepted < 2 ^ 62 → IsKept slab' index' (accepted + 1) limit
   is_kept-accepts key operation kept vacant updates change len indexed capacity same_limit room few =
@@ -154,7 +160,8 @@ module _ {slab slab' : Slab Numbered} {index index' : Index} {accepted limit : �
             (λ e. let differ = other_number n accepted e in
             let was : key_of index n ≡ Some k = sym (change.others n differ) ∙ at in
             let there = some_and (get slab k) (λ x. x.number ≡ n) (kept.leads n k was) in
-            is_some_and (get slab' k) (λ x. x.number ≡ n) there.0 (updates.others k (not_vacant kept key vacant n k was) ∙ there.1) there.2);
+            is_some_and (get slab' k) (λ x. x.number ≡ n) there.0
+            (updates.others k (not_vacant kept key vacant n k was) ∙ there.1) there.2);
         below = λ n above. change.others n (omega arith) ∙ kept.below n (omega arith);
         counted =
             ap (count_by is_some) (kept-accepts key operation kept vacant updates change)
@@ -191,14 +198,16 @@ module _ {slab slab' : Slab Numbered} {index : Index} {accepted limit : ℕ} whe
             is_some_and (get slab' k) (λ x. x.number ≡ m) (record { number = n; operation = operation }) (ap (get slab') (sym same_key) ∙ updates.changed) (sym same))
             (λ e. let differ = other_number m n e in
             let there = some_and (get slab k) (λ x. x.number ≡ m) (kept.leads m k at') in
-            is_some_and (get slab' k) (λ x. x.number ≡ m) there.0 (updates.others k (apart n m key kept at differ k at') ∙ there.1) there.2);
+            is_some_and (get slab' k) (λ x. x.number ≡ m) there.0
+            (updates.others k (apart n m key kept at differ k at') ∙ there.1) there.2);
         below = kept.below;
         counted =
             let there = some_and (get slab key) (λ x. x.number ≡ n) (kept.leads n key at) in
             let had = had_by n key there.0 kept at there.1 in
             let l = had.0 in
             let counts = rw had.1 at (count_by-set is_some (kept_operations slab index accepted) n (Some operation) None (omega (arith, length-kept slab index accepted))) in
-            ap (count_by is_some) (kept-replaces n key operation kept at updates) ∙ omega (arith, counts, was_counted, len);
+            ap (count_by is_some) (kept-replaces n key operation kept at updates) ∙ omega
+            (arith, counts, was_counted, len);
         indexed = omega arith;
         within = omega arith;
         room = omega arith;
@@ -235,7 +244,8 @@ module _ {slab slab' : Slab Numbered} {index index' : Index} {accepted limit : �
             (λ e. let differ = other_number m n e in
             let was : key_of index m ≡ Some k = sym (change.others m differ) ∙ at' in
             let there = some_and (get slab k) (λ x. x.number ≡ m) (kept.leads m k was) in
-            is_some_and (get slab' k) (λ x. x.number ≡ m) there.0 (updates.others k (apart n m key kept at differ k was) ∙ there.1) there.2);
+            is_some_and (get slab' k) (λ x. x.number ≡ m) there.0
+            (updates.others k (apart n m key kept at differ k was) ∙ there.1) there.2);
         below = λ m above.
             by_test (eqb m n)
             (λ t. let same = same_number m n t in ap (key_of index') same ∙ change.changed)
@@ -266,5 +276,6 @@ updates-with_value slab key x has =
 pub slab_len-with_value : (slab : Slab Numbered) (key : ℕ) (x : Numbered) → IsSome (get slab key)
     → slab_len (with_value slab key x) ≡ slab_len slab
 slab_len-with_value slab key x has =
-    let counts = rw (is_some-true (get slab key) has) at (count_by-set is_some slab.slots key (Some x) None (some_within slab.slots key has)) in
+    let counts = rw (is_some-true (get slab key) has) at
+    (count_by-set is_some slab.slots key (Some x) None (some_within slab.slots key has)) in
     omega (arith, counts)

@@ -108,7 +108,9 @@ lawful-channel g f c ch lawful l flight own less stay =
     }
   where
     here : (d : ℕ) → d ≡ c → get_or (set g.channels c ch) d no_channel ≡ ch
-    here d same = subst (λ (e : ℕ). get_or (set g.channels c ch) e no_channel ≡ ch) (sym same) (get_or-set_same g.channels c ch no_channel l)
+    here d same =
+        subst (λ (e : ℕ). get_or (set g.channels c ch) e no_channel ≡ ch) (sym same)
+        (get_or-set_same g.channels c ch no_channel l)
 
     there : (d : ℕ) → d ≢ c → get_or (set g.channels c ch) d no_channel ≡ get_or g.channels d no_channel
     there d differ = get_or-set_other g.channels c d ch no_channel differ

@@ -91,7 +91,8 @@ pub pending-as-pending : (c : ℕ) (kind : OpKind) (slot : Option Operation) →
     → is_pending slot ≡ true
 pending-as-pending c kind None h = h
 pending-as-pending c kind (Some op) h =
-    and-left (stage_is_pending op.stage) (eqb op.chan.0 c) (and-left (stage_is_pending op.stage && eqb op.chan.0 c) (same_kind op.kind kind) h)
+    and-left (stage_is_pending op.stage) (eqb op.chan.0 c)
+    (and-left (stage_is_pending op.stage && eqb op.chan.0 c) (same_kind op.kind kind) h)
 
 -- an operation that is pending on a channel is pending there as one of its kind
 pub pending_on-as : (c : ℕ) (op : Operation) → is_pending_on c (Some op) ≡ true

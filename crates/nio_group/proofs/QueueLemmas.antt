@@ -42,7 +42,8 @@ queue-push xs queue slot holds n =
     let none : get_or xs n None ≡ None = get_or_past xs n None (omega arith) in
     let had_none = rw none at had in
     let has = rw t at (get_or-push xs slot None n) in
-    let turned : eqb (length xs) n ≡ true = subst (λ (k : ℕ). eqb (length xs) k ≡ true) (sym same) (eqb-same (length xs)) in
+    let turned : eqb (length xs) n ≡ true = subst (λ (k : ℕ). eqb (length xs) k ≡ true) (sym same)
+    (eqb-same (length xs)) in
     let counted = rw turned at counts in
     rw has (counted_here (is_queued slot) counted had_none))
     (λ f. let has = rw f at (get_or-push xs slot None n) in
@@ -58,7 +59,8 @@ queue-set xs queue i slot l was holds n =
     let counts = count_by-queued_after (is_queued slot) queue i n in
     by_test (eqb n i)
     (λ t. let same = same_number n i t in
-    let had_none = subst (λ (k : ℕ). count_by (λ m. eqb m n) queue ≡ once_if (is_queued (get_or xs k None))) same had ∙ ap once_if was in
+    let had_none = subst (λ (k : ℕ). count_by (λ m. eqb m n) queue ≡ once_if (is_queued (get_or xs k None))) same had
+    ∙ ap once_if was in
     let has = rw t at (get_or-set xs i slot None n l) in
     let turned : eqb i n ≡ true = subst (λ (k : ℕ). eqb i k ≡ true) (sym same) (eqb-same i) in
     let counted = rw turned at counts in
@@ -84,7 +86,8 @@ queue-taken xs i rest slot l is holds n =
     let has = rw t at (get_or-set xs i slot None n l) in
     let turned : eqb i n ≡ true = subst (λ (k : ℕ). eqb i k ≡ true) (sym same) (eqb-same i) in
     let counted = rw turned at counts in
-    let queued : is_queued (get_or xs n None) ≡ true = subst (λ (k : ℕ). is_queued (get_or xs k None) ≡ true) (sym same) (front-queued xs i rest holds) in
+    let queued : is_queued (get_or xs n None) ≡ true = subst (λ (k : ℕ). is_queued (get_or xs k None) ≡ true) (sym same)
+    (front-queued xs i rest holds) in
     let one = rw queued at counted in
     rw (has, is) (omega (arith, one)))
     (λ f. let has = rw f at (get_or-set xs i slot None n l) in

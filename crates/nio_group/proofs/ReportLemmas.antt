@@ -78,7 +78,8 @@ lawful-completed g n op finished lawful is is_pending_op other =
     (λ c kind m h. (pending-after xs n slot c kind m l refl h).1)
     (λ c m h. pending-before xs n slot c Connect m
     (λ same.
-    let at : is_pending_as c Connect (get_or xs n None) ≡ true = subst (λ (i : ℕ). is_pending_as c Connect (get_or xs i None) ≡ true) same h in
+    let at : is_pending_as c Connect (get_or xs n None) ≡ true = subst
+    (λ (i : ℕ). is_pending_as c Connect (get_or xs i None) ≡ true) same h in
     let of : is_pending_as c Connect (Some op) ≡ true = rw is at at in
     let parts = pending-parts c Connect op of in
     other parts.same)
@@ -104,14 +105,17 @@ lawful-connected g n op finished ch lawful is is_pending_op connect not_connecti
     let slot : Option Operation = Some (at_stage (Queued finished) op) in
     let l = some-within xs n op is in
     let own : IsPendingAs g.flight c op.kind n = rw is (pending-new_as op is_pending_op) in
-    let own_connect : IsPendingAs g.flight c Connect n = subst (λ (k : OpKind). IsPendingAs g.flight c k n) connect own in
+    let own_connect : IsPendingAs g.flight c Connect n = subst
+    (λ (k : OpKind). IsPendingAs g.flight c k n) connect own in
     let endpoint = ready-connect (channel_at g c).endpoint (lawful.pending_ready n c Connect own_connect) in
     let none : (kind : OpKind) (m : ℕ) → is_pending_as c kind (get_or (set xs n slot) m None) ≡ true → ⊥ =
     λ kind m h.
     let old = pending-after xs n slot c kind m l refl h in
-    let is_connect : kind ≡ Connect = connecting-ready kind (subst (λ (e : Endpoint). is_ready_for e kind ≡ true) endpoint (lawful.pending_ready m c kind old.1)) in
+    let is_connect : kind ≡ Connect = connecting-ready kind
+    (subst (λ (e : Endpoint). is_ready_for e kind ≡ true) endpoint (lawful.pending_ready m c kind old.1)) in
     old.0 (lawful.one_each m n c Connect (subst (λ (k : OpKind). IsPendingAs g.flight c k m) is_connect old.1) own_connect) in
-    lawful-channel g (completed_flight g.flight n op finished) c ch lawful (open-within g.channels c (lawful.pending_open n c Connect own_connect))
+    lawful-channel g (completed_flight g.flight n op finished) c ch lawful
+    (open-within g.channels c (lawful.pending_open n c Connect own_connect))
     (flight-completes g.flight n op finished g.op_limit is is_pending_op lawful.queued_once lawful.few_in_flight lawful.few_accepted)
     (record {
       open_for = λ kind m h. absurd (none kind m h);
@@ -122,7 +126,8 @@ lawful-connected g n op finished ch lawful is is_pending_op connect not_connecti
     (λ d kind m differ h. (pending-after xs n slot d kind m l refl h).1)
     (λ d m differ h. pending-before xs n slot d Connect m
     (λ same.
-    let at : is_pending_as d Connect (get_or xs n None) ≡ true = subst (λ (i : ℕ). is_pending_as d Connect (get_or xs i None) ≡ true) same h in
+    let at : is_pending_as d Connect (get_or xs n None) ≡ true = subst
+    (λ (i : ℕ). is_pending_as d Connect (get_or xs i None) ≡ true) same h in
     let of : is_pending_as d Connect (Some op) ≡ true = rw is at at in
     let parts = pending-parts d Connect op of in
     differ (sym parts.chan))
@@ -175,7 +180,8 @@ listed-completed f ps n op finished is_listed is is_pending_op within =
     not_n : (d : ℕ) (kind : OpKind) (m : ℕ) → is_pending_as d kind (get_or f.operations m None) ≡ true
         → (IsPendingOf d kind op → ⊥) → m ≢ n
     not_n d kind m old elsewhere same =
-        let at : is_pending_as d kind (get_or f.operations n None) ≡ true = subst (λ (i : ℕ). is_pending_as d kind (get_or f.operations i None) ≡ true) same old in
+        let at : is_pending_as d kind (get_or f.operations n None) ≡ true = subst
+        (λ (i : ℕ). is_pending_as d kind (get_or f.operations i None) ≡ true) same old in
         let of : is_pending_as d kind (Some op) ≡ true = rw is at at in
         elsewhere (pending-parts d kind op of)
 
@@ -253,8 +259,10 @@ pub kept-connected : {f : Flight} {cs : List Channel} {ps : List slots.Pending} 
 kept-connected {f} {cs} {ps} {o} {r} {r'} {sh} {l} n op finished p ch o' kept is is_pending_op read connect not_connecting counted =
     let made = pending-made n op kept is is_pending_op in
     let is_slot : p ≡ get_or ps op.chan.0 nothing_pending = get_or_read ps op.chan.0 p made.1 read nothing_pending in
-    let lawful = lawful-connected (group_of f cs sh l) n op finished ch kept.lawful is is_pending_op connect not_connecting in
-    let was_one : cond (is_open (get_or cs op.chan.0 no_channel)) 1 0 ≡ 1 = ap {B = ℕ} (λ (b : Bool). cond b 1 0) made.2 in
+    let lawful = lawful-connected
+    (group_of f cs sh l) n op finished ch kept.lawful is is_pending_op connect not_connecting in
+    let was_one : cond (is_open (get_or cs op.chan.0 no_channel)) 1 0 ≡ 1 = ap {B = ℕ}
+    (λ (b : Bool). cond b 1 0) made.2 in
     rw (completed-is f n op finished is, is_slot)
     (kept-channel (completed_flight f n op finished) op.chan.0 ch (with_slot (get_or ps op.chan.0 nothing_pending) op.kind None) o' kept made.0 lawful refl
     (ap (λ (k : ℕ). o' + k) was_one ∙ counted)
@@ -265,7 +273,8 @@ pub some-open : {f : Flight} {cs : List Channel} {ps : List slots.Pending} {o r 
     → IsGroupKept f cs ps o sh l r r' → op_at f n ≡ Some op → is_pending (Some op) ≡ true → 1 ≤ o
 some-open {f} {cs} n op kept is is_pending_op =
     let made = pending-made n op kept is is_pending_op in
-    let was_one : cond (is_open (get_or cs op.chan.0 no_channel)) 1 0 ≡ 1 = ap {B = ℕ} (λ (b : Bool). cond b 1 0) made.2 in
+    let was_one : cond (is_open (get_or cs op.chan.0 no_channel)) 1 0 ≡ 1 = ap {B = ℕ}
+    (λ (b : Bool). cond b 1 0) made.2 in
     let counts = count_by-set is_open cs op.chan.0 no_channel no_channel made.0 in
     let counted = kept.opened_is in
     omega (arith, counts, was_one)
@@ -274,7 +283,8 @@ some-open {f} {cs} n op kept is is_pending_op =
 pub accepted-room : (g : Group) (o : Outcome) (x : GChan) → IsLawful g → o ≡ outcome.Accepted
     → result_of g o ≡ done.Accepted x → length g.channels < g.channel_limit
 accepted-room g o x lawful is h =
-    let at : result_of g outcome.Accepted ≡ done.Accepted x = subst (λ (y : Outcome). result_of g y ≡ done.Accepted x) is h in
+    let at : result_of g outcome.Accepted ≡ done.Accepted x = subst
+    (λ (y : Outcome). result_of g y ≡ done.Accepted x) is h in
     by_test g.is_shut
     (λ t. absurd (failed _ x (rw t at at)))
     (λ f.

@@ -37,7 +37,8 @@ none-left g n lawful closed idle = by_slot (op_at g.flight n) refl
   where
     by_stage : (op : Operation) → op_at g.flight n ≡ Some op → (stage : Stage) → op.stage ≡ stage → ⊥
     by_stage op is Pending e =
-        let pending : is_pending_as op.chan.0 op.kind (op_at g.flight n) ≡ true = rw (is, e, eqb-same op.chan.0, same_kind-refl op.kind) refl in
+        let pending : is_pending_as op.chan.0 op.kind (op_at g.flight n) ≡ true = rw
+        (is, e, eqb-same op.chan.0, same_kind-refl op.kind) refl in
         false≢true (sym (closed op.chan.0) ∙ lawful.pending_open n op.chan.0 op.kind pending)
     by_stage op is (Queued r) e =
         let busy : (is_queued (op_at g.flight n) || is_running (op_at g.flight n)) ≡ true = rw (is, e) refl in
@@ -54,7 +55,8 @@ pub resting : (g : Group) → IsLawful g → is_terminated g ≡ true → IsRest
 resting g lawful terminated =
     let rest = and-right g.is_shut (all_closed g && none_to_handle g) terminated in
     let all = and-left (all_closed g) (none_to_handle g) rest in
-    let idle = not-true (list_any (λ slot. is_queued slot || is_running slot) g.flight.operations) (and-right (all_closed g) (none_to_handle g) rest) in
+    let idle = not-true (list_any (λ slot. is_queued slot || is_running slot) g.flight.operations)
+    (and-right (all_closed g) (none_to_handle g) rest) in
     let closed : (c : ℕ) → (channel_at g c).is_open ≡ false =
     λ c.
     by_test (channel_at g c).is_open
@@ -104,7 +106,8 @@ after-resting P g (bind chan) lawful rest terminated same shut =
     unless-refused P (bind_refusal (channel_at g chan.0).is_open (channel_at g chan.0).endpoint) g _ same
     (λ free. absurd (bind-refused (channel_at g chan.0).is_open (channel_at g chan.0).endpoint (rest.closed chan.0) free))
 after-resting P g (start chan kind len) lawful rest terminated same shut =
-    unless-refused P (start_refusal g chan.0 kind) g (started g chan kind len) same (λ free. absurd (some_none _ (rw terminated at free)))
+    unless-refused P (start_refusal g chan.0 kind) g (started g chan kind len) same
+    (λ free. absurd (some_none _ (rw terminated at free)))
 after-resting P g (report op o) lawful rest terminated same shut =
     subst (λ (slot : Option Operation). P (kept_if_refused (report_refusal slot o) g (reported g op.0 o slot))) (sym (rest.none op.0)) same
 after-resting P g take lawful rest terminated same shut =
@@ -141,7 +144,8 @@ none-completes n g (call ∷ calls) lawful terminated run =
     let here : (has_completed (after g call) n && not (has_completed g n)) ≡ false =
     ap (λ (b : Bool). b && not (has_completed g n)) same ∙ and-not (has_completed g n) in
     let none : once_where (has_completed (after g call) n && not (has_completed g n)) ≡ 0 = ap once_where here in
-    let later = none-completes n (after g call) calls (lawful-after g call lawful run.0) (terminated-stays g call lawful run.0 terminated) run.1 in
+    let later = none-completes n (after g call) calls (lawful-after g call lawful run.0)
+    (terminated-stays g call lawful run.0 terminated) run.1 in
     omega (arith, none, later)
 
 pub at-rest : TerminatedIsAtRest
@@ -171,9 +175,12 @@ completed-stays : (g : Group) (call : Call) (n : ℕ) → IsLawful g → has_com
 completed-stays g call n lawful is =
     let step = stepped-after g call lawful in
     let more = step.accepts in
-    let within : n < accepted g.flight = true-lt n (accepted g.flight) (and-left (ltb n (accepted g.flight)) (not (is_pending (op_at g.flight n))) is) in
-    let past = not-true (is_pending (op_at g.flight n)) (and-right (ltb n (accepted g.flight)) (not (is_pending (op_at g.flight n))) is) in
-    both (ltb n (accepted (after g call).flight)) (not (is_pending (op_at (after g call).flight n))) (lt-true n (accepted (after g call).flight) (omega arith))
+    let within : n < accepted g.flight = true-lt n (accepted g.flight)
+    (and-left (ltb n (accepted g.flight)) (not (is_pending (op_at g.flight n))) is) in
+    let past = not-true (is_pending (op_at g.flight n))
+    (and-right (ltb n (accepted g.flight)) (not (is_pending (op_at g.flight n))) is) in
+    both (ltb n (accepted (after g call).flight)) (not (is_pending (op_at (after g call).flight n)))
+    (lt-true n (accepted (after g call).flight) (omega arith))
     (true-not (is_pending (op_at (after g call).flight n)) (next-not_pending (op_at g.flight n) (op_at (after g call).flight n) (step.next n within) past))
 
 counted : (n : ℕ) (g : Group) (calls : List Call) → IsLawful g → IsRunOf g calls

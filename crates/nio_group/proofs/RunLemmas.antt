@@ -68,7 +68,8 @@ flight-lawful g lawful =
 
 pub lawful-after_bind : (g : Group) (c : ℕ) → IsLawful g → c < length g.channels → IsLawful (after_bind g c)
 lawful-after_bind g c lawful within =
-    unless-refused IsLawful (bind_refusal (channel_at g c).is_open (channel_at g c).endpoint) g (with_endpoint g c (Listener true)) lawful
+    unless-refused IsLawful (bind_refusal (channel_at g c).is_open (channel_at g c).endpoint) g
+    (with_endpoint g c (Listener true)) lawful
     (λ free.
     let unbound = bindable (channel_at g c).is_open (channel_at g c).endpoint free in
     let none : (kind : OpKind) (n : ℕ) → IsPendingAs g.flight c kind n → ⊥ =
@@ -107,9 +108,13 @@ lawful-pending : (g : Group) (op : Operation) → IsLawful g → op.chan.0 < len
 lawful-pending g op lawful within pending is facts same =
     let few = lawful.few_in_flight in
     let few_numbers = lawful.few_accepted in
-    let allow = allowed (channel_at g op.chan.0).endpoint (has_pending g.flight op.chan.0 op.kind) op.kind (rw is at facts.channel) in
-    let made = lawful-started g op lawful within pending is allow (lt_of_ne few facts.room) (lt_of_ne few_numbers facts.numbers) in
-    let unchanged : set g.channels op.chan.0 (record (channel_at g op.chan.0) { endpoint = endpoint_after (channel_at g op.chan.0).endpoint op.kind }) ≡ g.channels =
+    let allow = allowed (channel_at g op.chan.0).endpoint (has_pending g.flight op.chan.0 op.kind) op.kind
+    (rw is at facts.channel) in
+    let made = lawful-started g op lawful within pending is allow (lt_of_ne few facts.room)
+    (lt_of_ne few_numbers facts.numbers) in
+    let unchanged : set g.channels op.chan.0
+    (record (channel_at g op.chan.0) { endpoint = endpoint_after (channel_at g op.chan.0).endpoint op.kind })
+    ≡ g.channels =
     ap (λ (e : Endpoint). set g.channels op.chan.0 (record (channel_at g op.chan.0) { endpoint = e })) same
     ∙ set-get_or g.channels op.chan.0 no_channel in
     subst (λ (cs : List Channel). IsLawful (record g { flight = with_accepted g.flight op; channels = cs })) unchanged made
@@ -144,7 +149,8 @@ lawful-started_now g chan Accept len true lawful within facts is =
 lawful-started_now g chan Connect len true lawful within facts is =
     let few = lawful.few_in_flight in
     let few_numbers = lawful.few_accepted in
-    let allow = allowed (channel_at g chan.0).endpoint (has_pending g.flight chan.0 Connect) Connect (rw is at facts.channel) in
+    let allow = allowed (channel_at g chan.0).endpoint (has_pending g.flight chan.0 Connect) Connect
+    (rw is at facts.channel) in
     lawful-started g (record { chan = chan; kind = Connect; len = len; stage = Pending }) lawful within refl is allow (lt_of_ne few facts.room) (lt_of_ne few_numbers facts.numbers)
 lawful-started_now g chan Read len true lawful within facts is =
     lawful-transfer g (record { chan = chan; kind = Read; len = len; stage = first_stage true Read len }) lawful within refl is facts refl
@@ -165,14 +171,17 @@ cond-holds P false x y chosen other = other refl
 -- a report that isn't refused, of each outcome
 lawful-reported_now : (g : Group) (n : ℕ) (o : Outcome) (op : Operation) → IsLawful g → op_at g.flight n ≡ Some op → is_pending (Some op) ≡ true → is_allowed op.kind op.len o ≡ true → IsLawful (record (channels_after_report g op.chan.0 op.kind o) { flight = completed_flight g.flight n op (result_of g o) })
 lawful-reported_now g n (outcome.Count k) op lawful is pending allow =
-    lawful-completed g n op (result_of g (outcome.Count k)) lawful is pending (other-outcome op.kind op.len (outcome.Count k) allow (λ e. cc) (λ e. cc))
+    lawful-completed g n op (result_of g (outcome.Count k)) lawful is pending
+    (other-outcome op.kind op.len (outcome.Count k) allow (λ e. cc) (λ e. cc))
 lawful-reported_now g n outcome.End op lawful is pending allow =
-    lawful-completed g n op (result_of g outcome.End) lawful is pending (other-outcome op.kind op.len outcome.End allow (λ e. cc) (λ e. cc))
+    lawful-completed g n op (result_of g outcome.End) lawful is pending
+    (other-outcome op.kind op.len outcome.End allow (λ e. cc) (λ e. cc))
 lawful-reported_now g n outcome.Connected op lawful is pending allow =
     lawful-connected g n op (result_of g outcome.Connected) (record (channel_at g op.chan.0) { endpoint = Stream Connected }) lawful is pending (connected-connect op.kind op.len allow) (λ o e. cc)
 lawful-reported_now g n outcome.Accepted op lawful is pending allow =
     let f = completed_flight g.flight n op (result_of g outcome.Accepted) in
-    let kept = lawful-completed g n op (result_of g outcome.Accepted) lawful is pending (accepted-accept op.kind op.len allow) in
+    let kept = lawful-completed g n op (result_of g outcome.Accepted) lawful is pending
+    (accepted-accept op.kind op.len allow) in
     let P : Group → Type 0 = λ h. IsLawful (record h { flight = f }) in
     cond-holds P g.is_shut g (cond (no_number_left g) g (record g { channels = g.channels ++ connected_stream ∷ [] }))
     (λ t. kept)
@@ -186,10 +195,18 @@ lawful-reported_now g n outcome.Accepted op lawful is pending allow =
 lawful-reported_now g n outcome.Fault op lawful is pending allow = by_kind op.kind refl
   where
     by_kind : (kind : OpKind) → op.kind ≡ kind → IsLawful (record (channels_after_report g op.chan.0 kind outcome.Fault) { flight = completed_flight g.flight n op (result_of g outcome.Fault) })
-    by_kind Accept e = lawful-completed g n op (result_of g outcome.Fault) lawful is pending (λ c. let no : Accept ≡ Connect = sym e ∙ c in cc)
-    by_kind Connect e = lawful-connected g n op (result_of g outcome.Fault) (record (channel_at g op.chan.0) { is_open = false }) lawful is pending e (λ o c. false≢true o)
-    by_kind Read e = lawful-completed g n op (result_of g outcome.Fault) lawful is pending (λ c. let no : Read ≡ Connect = sym e ∙ c in cc)
-    by_kind Write e = lawful-completed g n op (result_of g outcome.Fault) lawful is pending (λ c. let no : Write ≡ Connect = sym e ∙ c in cc)
+    by_kind Accept e =
+        lawful-completed g n op (result_of g outcome.Fault) lawful is pending
+        (λ c. let no : Accept ≡ Connect = sym e ∙ c in cc)
+    by_kind Connect e =
+        lawful-connected g n op (result_of g outcome.Fault)
+        (record (channel_at g op.chan.0) { is_open = false }) lawful is pending e (λ o c. false≢true o)
+    by_kind Read e =
+        lawful-completed g n op (result_of g outcome.Fault) lawful is pending
+        (λ c. let no : Read ≡ Connect = sym e ∙ c in cc)
+    by_kind Write e =
+        lawful-completed g n op (result_of g outcome.Fault) lawful is pending
+        (λ c. let no : Write ≡ Connect = sym e ∙ c in cc)
 
 pub lawful-after_report : (g : Group) (n : ℕ) (o : Outcome) → IsLawful g → IsLawful (after_report g n o)
 lawful-after_report g n o lawful = by_slot (op_at g.flight n) refl
@@ -217,8 +234,10 @@ lawful-taken_front g n rest op lawful is holds is_op of =
     let within = some-within g.flight.operations n op is_op in
     let was : is_pending (op_at g.flight n) ≡ false = rw is_op (queued-not_pending op.stage of) in
     let slot : Option Operation = Some (at_stage Running op) in
-    let flight = flight-changes g.flight n op (at_stage Running op) rest g.op_limit is_op (queue-taken g.flight.operations n rest slot within refl holds) lawful.few_in_flight lawful.few_accepted in
-    let taken : with_taken g.flight n ≡ record g.flight { operations = set g.flight.operations n slot; queue = rest } = rw (is_op, is) refl in
+    let flight = flight-changes g.flight n op (at_stage Running op) rest g.op_limit is_op
+    (queue-taken g.flight.operations n rest slot within refl holds) lawful.few_in_flight lawful.few_accepted in
+    let taken : with_taken g.flight n
+    ≡ record g.flight { operations = set g.flight.operations n slot; queue = rest } = rw (is_op, is) refl in
     rw taken (lawful-unpending g n slot rest lawful within was refl flight)
 
 pub lawful-after_take : (g : Group) → IsLawful g → IsLawful (after_take g)
@@ -289,7 +308,8 @@ lawful-after g take lawful made = lawful-after_take g lawful
 lawful-after g (finish op) lawful made = lawful-after_finish g op.0 lawful
 lawful-after g (close_channel chan) lawful made = lawful-after_close g chan.0 lawful
 lawful-after g shutdown lawful made = lawful-after_shutdown g lawful
-lawful-after g shutdown_now lawful made = lawful-closed_below (length g.channels) (after_shutdown g) (lawful-after_shutdown g lawful)
+lawful-after g shutdown_now lawful made =
+    lawful-closed_below (length g.channels) (after_shutdown g) (lawful-after_shutdown g lawful)
 
 pub steps-lawful : StepsAreLawful
 steps-lawful g call lawful made =

@@ -100,7 +100,9 @@ stepped-set f i slot queue moves =
 
 -- the slot as it was, or completed since its channel was closed
 abbrev pub IsClosed : Option Operation → Option Operation → Type 0
-IsClosed slot slot' = (slot' ≡ slot) ⊎ ((is_pending slot ≡ true) × (slot' ≡ option_map (at_stage (Queued (Failed AsynchronousClose))) slot))
+IsClosed slot slot' =
+    (slot' ≡ slot) ⊎
+    ((is_pending slot ≡ true) × (slot' ≡ option_map (at_stage (Queued (Failed AsynchronousClose))) slot))
 
 completed-not_pending : (slot : Option Operation) (result : Finished)
     → is_pending (option_map (at_stage (Queued result)) slot) ≡ false
@@ -180,7 +182,8 @@ stepped-report g n o = by_slot (op_at g.flight n) refl
         unless-refused (λ (h : Group). IsStepped g.flight h.flight) (report_refusal (Some op) o) g (reported g n o (Some op)) (stepped-same g.flight)
         (λ free.
         let pending : is_pending (op_at g.flight n) ≡ true = rw is (reportable (Some op) o free) in
-        stepped-set g.flight n (option_map (at_stage (Queued (result_of g o))) (op_at g.flight n)) (g.flight.queue ++ n ∷ []) (next-completed (op_at g.flight n) (result_of g o) pending))
+        stepped-set g.flight n (option_map (at_stage (Queued (result_of g o))) (op_at g.flight n))
+        (g.flight.queue ++ n ∷ []) (next-completed (op_at g.flight n) (result_of g o) pending))
 
 stepped-take : (g : Group) → IsLawful g → IsStepped g.flight (after_take g).flight
 stepped-take g lawful = by_queue g.flight.queue refl
@@ -189,7 +192,8 @@ stepped-take g lawful = by_queue g.flight.queue refl
     by_queue [] is = stepped-same g.flight
     by_queue (n ∷ rest) is =
         let holds : QueueHolds g.flight.operations (n ∷ rest) = rw is at lawful.queued_once in
-        stepped-set g.flight n (option_map (at_stage Running) (op_at g.flight n)) _ (next-taken (op_at g.flight n) (front-queued g.flight.operations n rest holds))
+        stepped-set g.flight n (option_map (at_stage Running) (op_at g.flight n)) _
+        (next-taken (op_at g.flight n) (front-queued g.flight.operations n rest holds))
 
 first_stage-begins : (is_open : Bool) (kind : OpKind) (len : ℕ)
     → (stage_is_pending (first_stage is_open kind len) || stage_is_queued (first_stage is_open kind len)) ≡ true
@@ -216,10 +220,12 @@ stepped-after g take lawful = stepped-take g lawful
 stepped-after g (finish op) lawful =
     unless-refused (λ (h : Group). IsStepped g.flight h.flight) (finish_refusal (is_running (op_at g.flight op.0))) g _ (stepped-same g.flight)
     (λ free. stepped-set g.flight op.0 None g.flight.queue (next-ended (op_at g.flight op.0) (finishable (is_running (op_at g.flight op.0)) free)))
-stepped-after g (close_channel chan) lawful = stepped-closing g.flight (after_close g chan.0).flight (closing-after_close g chan.0)
+stepped-after g (close_channel chan) lawful =
+    stepped-closing g.flight (after_close g chan.0).flight (closing-after_close g chan.0)
 stepped-after g shutdown lawful = stepped-same g.flight
 stepped-after g shutdown_now lawful =
-    stepped-closing g.flight (closed_below (length g.channels) (after_shutdown g)).flight (closing-closed_below (length g.channels) (after_shutdown g))
+    stepped-closing g.flight (closed_below (length g.channels) (after_shutdown g)).flight
+    (closing-closed_below (length g.channels) (after_shutdown g))
 
 pub stages-forward : StagesGoForward
 stages-forward g call n lawful made =

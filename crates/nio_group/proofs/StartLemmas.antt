@@ -55,7 +55,8 @@ unconnected Write ready = false≢true ready
 pub allowed : (e : Endpoint) (pending : Bool) (kind : OpKind) → channel_refusal true e pending kind ≡ None
     → IsAllowed e pending kind
 allowed (Listener true) true Accept h = absurd (some_none _ h)
-allowed (Listener true) false Accept h = record { ready = refl; others = λ k r. r; free = λ r. refl; connects = λ c. cc }
+allowed (Listener true) false Accept h =
+    record { ready = refl; others = λ k r. r; free = λ r. refl; connects = λ c. cc }
 allowed (Listener false) pending Accept h = absurd (some_none _ h)
 allowed (Listener bound) pending Connect h = absurd (some_none _ h)
 allowed (Listener bound) pending Read h = absurd (some_none _ h)
@@ -67,11 +68,13 @@ allowed (Stream Connected) pending Connect h = absurd (some_none _ h)
 allowed (Stream Unconnected) pending Read h = absurd (some_none _ h)
 allowed (Stream Connecting) pending Read h = absurd (some_none _ h)
 allowed (Stream Connected) true Read h = absurd (some_none _ h)
-allowed (Stream Connected) false Read h = record { ready = refl; others = λ k r. r; free = λ r. refl; connects = λ c. cc }
+allowed (Stream Connected) false Read h =
+    record { ready = refl; others = λ k r. r; free = λ r. refl; connects = λ c. cc }
 allowed (Stream Unconnected) pending Write h = absurd (some_none _ h)
 allowed (Stream Connecting) pending Write h = absurd (some_none _ h)
 allowed (Stream Connected) true Write h = absurd (some_none _ h)
-allowed (Stream Connected) false Write h = record { ready = refl; others = λ k r. r; free = λ r. refl; connects = λ c. cc }
+allowed (Stream Connected) false Write h =
+    record { ready = refl; others = λ k r. r; free = λ r. refl; connects = λ c. cc }
 
 option_or-none : {T : Type 0} (a b : Option T) → option_or a b ≡ None → (a ≡ None) × (b ≡ None)
 option_or-none None b h = (refl, h)
@@ -91,7 +94,9 @@ pub record IsStartable (g : Group) (c : ℕ) (kind : OpKind) : Type 0 where
 pub startable : (g : Group) (c : ℕ) (kind : OpKind) → start_refusal g c kind ≡ None → IsStartable g c kind
 startable g c kind h =
     let going = cond-none (is_terminated g) _ _ h in
-    let parts = option_or-none (channel_refusal (channel_at g c).is_open (channel_at g c).endpoint (has_pending g.flight c kind) kind) (limit_refusal g) going.1 in
+    let parts = option_or-none
+    (channel_refusal (channel_at g c).is_open (channel_at g c).endpoint (has_pending g.flight c kind) kind)
+    (limit_refusal g) going.1 in
     let numbers = cond-none (eqb (accepted g.flight) g.op_limit) _ _ parts.1 in
     let room = cond-none (eqb (in_flight g.flight) g.flight.limit) _ _ numbers.1 in
     record {
@@ -201,9 +206,12 @@ kept-started {f} {cs} {ps} {o} {r} {r'} {sh} {l} op x p n kept within read read_
     let open_there : (get_or cs c no_channel).is_open ≡ true = ap (λ (y : Channel). y.is_open) (sym is) ∙ was_open in
     let refused = rw open_there at facts.channel in
     let allow = allowed (get_or cs c no_channel).endpoint (has_pending f c op.kind) op.kind refused in
-    let lawful = lawful-started g op kept.lawful within is_pending_op open_there allow (lt_of_ne few facts.room) (lt_of_ne few_numbers facts.numbers) in
+    let lawful = lawful-started g op kept.lawful within is_pending_op open_there allow (lt_of_ne few facts.room)
+    (lt_of_ne few_numbers facts.numbers) in
     let free = start-free g c op.kind kept.lawful allow in
-    let made = kept-channel (with_accepted f op) c (record (get_or cs c no_channel) { endpoint = endpoint_after (get_or cs c no_channel).endpoint op.kind }) (with_slot (get_or ps c nothing_pending) op.kind (Some (length f.operations))) o kept within lawful refl refl
+    let made = kept-channel (with_accepted f op) c
+    (record (get_or cs c no_channel) { endpoint = endpoint_after (get_or cs c no_channel).endpoint op.kind })
+    (with_slot (get_or ps c nothing_pending) op.kind (Some (length f.operations))) o kept within lawful refl refl
     (listed-started f (with_accepted f op) ps op c kept.is_listed refl (omega arith) (pending-new op is_pending_op) free) in
     rw (is, is_slot, number) made
   where
@@ -261,7 +269,8 @@ kept-queued {f} {cs} {ps} {o} {r} {r'} {sh} {l} op c kept allowed_start not =
     let few = kept.lawful.few_in_flight in
     let few_numbers = kept.lawful.few_accepted in
     let not_pending = not_pending-stage op not in
-    kept-operations (with_accepted f op) kept (lawful-queued g op kept.lawful not_pending (lt_of_ne few facts.room) (lt_of_ne few_numbers facts.numbers)) refl
+    kept-operations (with_accepted f op) kept
+    (lawful-queued g op kept.lawful not_pending (lt_of_ne few facts.room) (lt_of_ne few_numbers facts.numbers)) refl
     (listed-queued f ps op kept.is_listed not_pending)
   where
     lt_of_ne : {a b : ℕ} → a ≤ b → a ≢ b → a < b

@@ -74,7 +74,8 @@ table-inserted {slots} {limit} {reach} e i table l vacant above below new =
     once_more n had counts empty none =
         by_test (eqb e.number n)
         (λ t. let same = same_number e.number n t in
-        let zero_there : count_by (has_number n) slots ≡ 0 = subst (λ (m : ℕ). count_by (has_number m) slots ≡ 0) same none in
+        let zero_there : count_by (has_number n) slots ≡ 0 = subst
+        (λ (m : ℕ). count_by (has_number m) slots ≡ 0) same none in
         let c = rw (empty, t) at counts in omega (arith, c))
         (λ f. let c = rw (empty, f) at counts in omega (arith, c))
 
@@ -83,7 +84,8 @@ table-inserted {slots} {limit} {reach} e i table l vacant above below new =
     near_more j o at =
         by_test (eqb j i)
         (λ t. let same = same_number j i t in
-        let here : Some e ≡ Some o = sym (get_or-set_same slots i (Some e) None l) ∙ subst (λ (k : ℕ). get_or (set slots i (Some e)) k None ≡ Some o) same at in
+        let here : Some e ≡ Some o = sym (get_or-set_same slots i (Some e) None l) ∙ subst
+        (λ (k : ℕ). get_or (set slots i (Some e)) k None ≡ Some o) same at in
         let is_e : e ≡ o = cc in
         subst (λ (x : Entry). (home_of x.number limit ≤ j) × (j ≤ home_of x.number limit + max reach (i - home_of e.number limit))) is_e (omega arith, omega arith))
         (λ f. let differ = other_number j i f in
@@ -109,7 +111,8 @@ table-removed {slots} {limit} {reach} i table l =
       near = λ j o at.
           by_test (eqb j i)
           (λ t. let same = same_number j i t in
-          let here : None ≡ Some o = sym (get_or-set_same slots i None None l) ∙ subst (λ (k : ℕ). get_or (set slots i None) k None ≡ Some o) same at in
+          let here : None ≡ Some o = sym (get_or-set_same slots i None None l) ∙ subst
+          (λ (k : ℕ). get_or (set slots i None) k None ≡ Some o) same at in
           cc)
           (λ f. let differ = other_number j i f in
           table.near j o (sym (get_or-set_other slots i j None None differ) ∙ at));

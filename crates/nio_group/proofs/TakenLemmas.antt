@@ -53,7 +53,9 @@ queued-within : (xs : List (Option Operation)) (n : ℕ) → is_queued (get_or x
 queued-within xs n queued = by_slot (get_or xs n None) refl
   where
     by_slot : (slot : Option Operation) → get_or xs n None ≡ slot → n < length xs
-    by_slot None is = absurd (let not_queued : is_queued (get_or xs n None) ≡ false = rw is refl in false≢true (sym not_queued ∙ queued))
+    by_slot None is =
+        absurd
+        (let not_queued : is_queued (get_or xs n None) ≡ false = rw is refl in false≢true (sym not_queued ∙ queued))
     by_slot (Some op) is = some-within xs n op is
 
 running-not_pending : (slot : Option Operation) → is_pending (option_map (at_stage Running) slot) ≡ false
@@ -86,7 +88,8 @@ handed-out g take n handed =
     let front = handed-front n f f.queue handed in
     let running = option_map (at_stage Running) (op_at f n) in
     let within = queued-within f.operations n front.queued in
-    let put : get_or (set f.operations n running) n None ≡ running = get_or-set_same f.operations n running None within in
+    let put : get_or (set f.operations n running) n None
+    ≡ running = get_or-set_same f.operations n running None within in
     let left : Group = record g { flight = flight_after_take f (n ∷ front.rest) } in
     let is_taken : was_taken left n ≡ true =
     taken-by left n (omega (arith, within, length-set f.operations n running))
@@ -130,7 +133,8 @@ none-again : (g : Group) (calls : List Call) (n : ℕ) → IsLawful g → IsRunO
     → times_taken n g calls ≡ 0
 none-again g [] n lawful run is = refl
 none-again g (call ∷ calls) n lawful run is =
-    let later = none-again (after g call) calls n (lawful-after g call lawful run.0) run.1 (taken-stays g call n lawful is) in
+    let later = none-again (after g call) calls n (lawful-after g call lawful run.0) run.1
+    (taken-stays g call n lawful is) in
     by_test (hands_out n (reply_to g call))
     (λ t. absurd (false≢true (sym (taken-parts g n is).not_queued ∙ (handed-out g call n t).queued)))
     (λ f. let none : once_where (hands_out n (reply_to g call)) ≡ 0 = ap once_where f in omega (arith, none, later))

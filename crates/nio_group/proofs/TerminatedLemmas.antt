@@ -69,7 +69,8 @@ nothing-pending {f} {cs} kept closed i = by_slot (op_at f i) refl
     by_slot (Some op) is =
         by_test (stage_is_pending op.stage)
         (λ t. let pending : is_pending_as op.chan.0 op.kind (op_at f i) ≡ true = rw (is, t, eqb-same op.chan.0, same_kind-refl op.kind) refl in
-        absurd (false≢true (sym (closed-at cs closed op.chan.0) ∙ kept.lawful.pending_open i op.chan.0 op.kind pending)))
+        absurd
+        (false≢true (sym (closed-at cs closed op.chan.0) ∙ kept.lawful.pending_open i op.chan.0 op.kind pending)))
         (λ e. rw is e)
 
 pub terminated-where_closed : {f : Flight} {cs : List Channel} {ps : List slots.Pending} {o r r' : ℕ} {l : GroupLimits}
@@ -113,7 +114,8 @@ start_refusal-read {f} {cs} {ps} {o} {r} {r'} {sh} {l} c kind x p pending refusa
     let slots_are = kept.slots in
     let is : x ≡ get_or cs c no_channel = get_or_read cs c x within read no_channel in
     let is_slot : p ≡ get_or ps c nothing_pending = get_or_read ps c p (omega arith) read_slot nothing_pending in
-    let found : has_pending f c kind ≡ pending = has_pending-slot f ps c kind kept.is_listed ∙ ap (λ (q : slots.Pending). is_some (slot_of q kind)) (sym is_slot) ∙ sym is_pending_op in
+    let found : has_pending f c kind ≡ pending = has_pending-slot f ps c kind kept.is_listed ∙ ap
+    (λ (q : slots.Pending). is_some (slot_of q kind)) (sym is_slot) ∙ sym is_pending_op in
     rw (going, found, ← is) (ap (λ (e : Option StartError). option_or e (limit_refusal (group_of f cs sh l))) (sym is_refusal))
 
 pub terminated-when : {f : Flight} {cs : List Channel} {ps : List slots.Pending} {o r r' : ℕ} {sh : Bool} {l : GroupLimits}
@@ -124,13 +126,15 @@ terminated-when {f} {cs} {ps} {o} {r} {r'} {sh} {l} kept shut zero_open =
 
 pub limit-ops : (g : Group) → accepted g.flight ≡ g.op_limit → limit_refusal g ≡ Some refused.OpsSpent
 limit-ops g at_limit =
-    let same : eqb (accepted g.flight) g.op_limit ≡ true = subst (λ (n : ℕ). eqb (accepted g.flight) n ≡ true) at_limit (eqb-same (accepted g.flight)) in
+    let same : eqb (accepted g.flight) g.op_limit ≡ true = subst (λ (n : ℕ). eqb (accepted g.flight) n ≡ true) at_limit
+    (eqb-same (accepted g.flight)) in
     rw same refl
 
 pub limit-flight : (g : Group) → accepted g.flight ≢ g.op_limit → in_flight g.flight ≡ g.flight.limit
     → limit_refusal g ≡ Some refused.FlightFull
 limit-flight g below full =
-    let same : eqb (in_flight g.flight) g.flight.limit ≡ true = subst (λ (n : ℕ). eqb (in_flight g.flight) n ≡ true) full (eqb-same (in_flight g.flight)) in
+    let same : eqb (in_flight g.flight) g.flight.limit ≡ true = subst
+    (λ (n : ℕ). eqb (in_flight g.flight) n ≡ true) full (eqb-same (in_flight g.flight)) in
     rw (eqb-other (accepted g.flight) g.op_limit below, same) refl
 
 pub limit-none : (g : Group) → accepted g.flight ≢ g.op_limit → in_flight g.flight ≢ g.flight.limit

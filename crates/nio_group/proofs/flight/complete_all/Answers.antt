@@ -13,7 +13,8 @@ pub loop-number-smaller-in-Some-get : goal.loop-number-smaller-in-Some-get
 loop-number-smaller-in-Some-get c =
     let found = c.in-Some.ensures.found in
     let step = closing-step c.loop-number.flight c.args.chan c.loop-number.left c.in-Some.number c.in-Some-get.operation found.0 c.loop-number.invariant.1 found.1 c.in-Some.ensures.least (sym c.in-Some-get.ensures) in
-    let fewer : filled_slots c.with-left.result < filled_slots c.loop-number.left = rw c.with-left.ensures (omega (arith, step.fewer)) in
+    let fewer : filled_slots c.with-left.result < filled_slots c.loop-number.left = rw c.with-left.ensures
+    (omega (arith, step.fewer)) in
     fewer
 
 pub loop-number-preserved-in-Some-get : goal.loop-number-preserved-in-Some-get

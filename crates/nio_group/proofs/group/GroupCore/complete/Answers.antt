@@ -63,9 +63,12 @@ invariant_of-self c =
     let at = (goal.at.invariant_of-self c).After-with in
     let channel = c.index-channel.result.now in
     let made = pending-made c.args.op.0 c.args.operation c.self.invariant (found at) (pending at) in
-    let was_open : channel.is_open ≡ true = ap (λ (x : Channel). x.is_open) (get_or_read c.self.inside.channels.items c.args.operation.chan.0 channel made.0 c.index-channel.ensures no_channel) ∙ made.2 in
+    let was_open : channel.is_open ≡ true = ap (λ (x : Channel). x.is_open)
+    (get_or_read c.self.inside.channels.items c.args.operation.chan.0 channel made.0 c.index-channel.ensures no_channel)
+    ∙ made.2 in
     connected at (record { is_open = channel.is_open; endpoint = Stream Connected }) c.self.inside.open_channels
-    (connected-connect c.args.operation.kind c.args.operation.len (allowed at outcome.Connected c.in-Connected.is)) (λ o e. cc)
+    (connected-connect c.args.operation.kind c.args.operation.len (allowed at outcome.Connected c.in-Connected.is))
+    (λ o e. cc)
     (ap {B = ℕ} (λ (b : Bool). c.self.inside.open_channels + cond b 1 0) (sym was_open))
 
 pub invariant_of-self-in-Connect : goal.invariant_of-self-in-Connect
@@ -81,7 +84,8 @@ pub invariant_of-self-in-Accepted-finished : goal.invariant_of-self-in-Accepted-
 invariant_of-self-in-Accepted-finished c =
     let i = c.self.inside in
     let at = (goal.at.invariant_of-self-in-Accepted-finished c).After-with in
-    let kept = completed at (accepted-accept c.args.operation.kind c.args.operation.len (allowed at outcome.Accepted c.in-Accepted.is)) in
+    let kept = completed at
+    (accepted-accept c.args.operation.kind c.args.operation.len (allowed at outcome.Accepted c.in-Accepted.is)) in
     let room = accepted-room (group_of i.flight i.channels.items i.shut i.limits) c.args.outcome c.in-Accepted-finished.field-0 c.self.invariant.lawful c.in-Accepted.is (rw (← c.self.view_is) at (sym c.result_of-finished.ensures ∙ c.in-Accepted-finished.is)) in
     let channel = c.push_reserved.ensures in
     let slot = c.push_reserved-in-Accepted-finished.ensures in
@@ -91,7 +95,8 @@ invariant_of-self-in-Accepted-finished c =
 pub invariant_of-self-in-Accepted : goal.invariant_of-self-in-Accepted
 invariant_of-self-in-Accepted c =
     let at = (goal.at.invariant_of-self-in-Accepted c).After-with in
-    completed at (accepted-accept c.args.operation.kind c.args.operation.len (allowed at outcome.Accepted c.in-Accepted.is))
+    completed at
+    (accepted-accept c.args.operation.kind c.args.operation.len (allowed at outcome.Accepted c.in-Accepted.is))
 
 pub invariant_of-self-in-Count : goal.invariant_of-self-in-Count
 invariant_of-self-in-Count c =

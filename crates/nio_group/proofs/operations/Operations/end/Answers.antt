@@ -11,7 +11,8 @@ pub invariant_of-self : goal.invariant_of-self
 invariant_of-self c =
     let slot = c.remove.ensures in
     let gone = c.remove-in-Some.ensures in
-    is_kept-ends c.args.number c.in-Some.key c.self.invariant (sym c.in-Some.ensures) slot.updates gone.changes slot.len gone.count slot.capacity gone.limit
+    is_kept-ends c.args.number c.in-Some.key c.self.invariant
+    (sym c.in-Some.ensures) slot.updates gone.changes slot.len gone.count slot.capacity gone.limit
 
 pub returns-in-Some : goal.returns-in-Some
 returns-in-Some c =
@@ -20,6 +21,7 @@ returns-in-Some c =
 
 pub returns-in_default : goal.returns-in_default
 returns-in_default c =
-    let none = kept-at c.args.number c.self.invariant ∙ ap (operation_in c.self.inside.slab) (sym c.in_default.ensures) in
+    let none = kept-at c.args.number c.self.invariant ∙ ap (operation_in c.self.inside.slab)
+    (sym c.in_default.ensures) in
     let some = rw (← c.self.view_is) at c.requires in
     absurd (not_some Operation (subst (λ (o : Option Operation). IsSome o) none some))

@@ -13,7 +13,9 @@ invariant_of-self c =
     let at = sym c.in-Some.ensures in
     let has = kept-has c.args.number c.in-Some.key c.self.invariant at in
     let x : Numbered = record { number = c.args.number; operation = c.args.operation } in
-    is_kept-replaces c.args.number c.in-Some.key c.args.operation c.self.invariant at (updates-with_value c.self.inside.slab c.in-Some.key x has) (slab_len-with_value c.self.inside.slab c.in-Some.key x has) refl
+    is_kept-replaces c.args.number c.in-Some.key c.args.operation c.self.invariant at
+    (updates-with_value c.self.inside.slab c.in-Some.key x has)
+    (slab_len-with_value c.self.inside.slab c.in-Some.key x has) refl
 
 pub returns-in-Some : goal.returns-in-Some
 returns-in-Some c =
@@ -25,6 +27,7 @@ returns-in-Some c =
 
 pub returns-in_default : goal.returns-in_default
 returns-in_default c =
-    let none = kept-at c.args.number c.self.invariant ∙ ap (operation_in c.self.inside.slab) (sym c.in_default.ensures) in
+    let none = kept-at c.args.number c.self.invariant ∙ ap (operation_in c.self.inside.slab)
+    (sym c.in_default.ensures) in
     let some = rw (← c.self.view_is) at c.requires in
     absurd (not_some Operation (subst (λ (o : Option Operation). IsSome o) none some))
