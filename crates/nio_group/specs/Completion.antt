@@ -1,4 +1,4 @@
--- What a job and a completion tell.
+-- What contracts see of a job and of a completion.
 use Rattle.std.specs.Prelude.{ℕ}
 use Rattle.nio_base.specs.declared.numbers.OpNo.{OpNo}
 use Rattle.nio_base.specs.declared.numbers.GChan.{GChan}

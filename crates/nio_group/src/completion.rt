@@ -34,18 +34,21 @@ impl Job {
         }
     }
 
+    /// The number of the operation.
     pub fn op(&self) -> OpNo
         ensures { result ≡ self.now.op }
     {
         self.op
     }
 
+    /// The channel that the operation is on.
     pub fn chan(&self) -> GChan
         ensures { result ≡ self.now.chan }
     {
         self.chan
     }
 
+    /// What the operation does.
     pub fn kind(&self) -> OpKind
         ensures { result ≡ self.now.kind }
     {
@@ -89,24 +92,28 @@ impl Completion {
         }
     }
 
+    /// The number of the operation.
     pub fn op(&self) -> OpNo
         ensures { result ≡ self.now.op }
     {
         self.op
     }
 
+    /// The channel that the operation is on.
     pub fn chan(&self) -> GChan
         ensures { result ≡ self.now.chan }
     {
         self.chan
     }
 
+    /// What the operation does.
     pub fn kind(&self) -> OpKind
         ensures { result ≡ self.now.kind }
     {
         self.kind
     }
 
+    /// What came of the operation.
     pub fn result(&self) -> Finished
         ensures { result ≡ self.now.finished }
     {

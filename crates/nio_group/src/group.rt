@@ -314,13 +314,15 @@ impl GroupCore {
         }
     }
 
+    /// Whether the group has been shut down: Java's `isShutdown`.
     pub fn is_shutdown(&self) -> bool
         ensures { result ≡ self.now.is_shut }
     {
         self.shut
     }
 
-    /// Whether the group is shut down, all its channels are closed and all handlers have ended.
+    /// Whether the group is shut down, all its channels are closed and all handlers have ended: Java's
+    /// `isTerminated`.
     pub fn is_terminated(&self) -> bool
         ensures { result ≡ is_terminated self.now }
     {
