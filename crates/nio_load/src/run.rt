@@ -1,5 +1,5 @@
 //! Loads, from the number of rounds to the bytes that go out.
-ghost use Rattle.std.specs.Prelude.{◌≡◌, ◌<◌, ◌≤◌, ◌+◌, ◌*◌, ◌⊎◌, IfOk, OnErr, length};
+ghost use Rattle.std.specs.Prelude.{◌≡◌, ◌≤◌, ◌+◌, ◌*◌, ◌⊎◌, IfOk, length};
 ghost use Rattle.nio_bytes.specs.Cause.{Rose};
 ghost use Rattle.nio_event.specs.Script.{IsScript};
 ghost use Rattle.nio_plain.specs.ScriptState.{script_opening};

@@ -1,5 +1,5 @@
 //! What the replies to a script come to.
-ghost use Rattle.std.specs.Prelude.{◌≡◌, ◌+◌, ◌<◌, ◌≤◌, ◌^◌, IfOk, OnOk, OnErr, length, sum};
+ghost use Rattle.std.specs.Prelude.{◌≡◌, ◌+◌, ◌≤◌, ◌^◌, IfOk, OnOk, length, sum};
 ghost use Rattle.std.specs.String.{string_bytes};
 ghost use Rattle.nio_plain.specs.Answer.{left_by_script};
 ghost use Rattle.nio_plain.specs.ScriptState.{script_opening};
