@@ -22,6 +22,11 @@ best() {
     echo "$least"
 }
 
+# name_machine: says how many processors there are, and which
+name_machine() {
+    echo "machine: $(nproc) processors, $(sed -n 's/^model name[^:]*: //p' /proc/cpuinfo | head -n 1)"
+}
+
 # What is timed writes to /dev/null, so that the file system has no part in it.
 whole() { "$program" script <"$work/whole" >/dev/null; }
 half() { "$program" script <"$work/half" >/dev/null; }
@@ -37,5 +42,5 @@ compare_halves() {
     echo "whole $whole_ms ms, half $half_ms ms, sed $sed_ms ms"
     awk -v w="$whole_ms" -v h="$half_ms" -v s="$sed_ms" \
         'BEGIN { printf "halves %.2f (asked: at most 2.2), to sed %.2f (asked: at most 10)\n", w / h, w / s }'
-    echo "machine: $(nproc) processors, $(sed -n 's/^model name[^:]*: //p' /proc/cpuinfo | head -n 1)"
+    name_machine
 }
