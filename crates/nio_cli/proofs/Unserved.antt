@@ -1,9 +1,9 @@
 -- A proxy that doesn't begin, for want of memory.
-use Rattle.std.proofs.Common.{◌≡◌, ℕ, List, [], false, inr, refl}
+use Rattle.std.proofs.Common.{ℕ, [], false, inr, refl}
 use Rattle.nio_base.specs.declared.numbers.ChanNo.{ChanNo}
 use Rattle.nio_bytes.specs.declared.sink.Sink as sink
 use Rattle.nio_link.specs.Links.{Link, IsUnused}
-use Rattle.nio_proxy.specs.Serving.{HasCarried, HaveCarried, AreBegun, RelaysPrefixes}
+use Rattle.nio_proxy.specs.Serving.{HasCarried, RelaysPrefixes}
 use Rattle.nio_relay.specs.Connection.{Carried}
 use Rattle.nio_script.specs.declared.status.Status.TheVariants.{Memory}
 use Rattle.nio_cli.specs.Proxy.{DoesProxy}

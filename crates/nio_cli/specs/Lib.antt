@@ -1,3 +1,4 @@
 pub mod Commands
+pub mod Load
 pub mod Proxy
 pub mod Words

@@ -1,15 +1,16 @@
 //! All that the program does, from its words and its input to its output and its status.
-ghost use Rattle.std.specs.Prelude.{◌≡◌, ◌≤◌, ◌⊎◌, map};
+ghost use Rattle.std.specs.Prelude.{◌≡◌, ◌≤◌, ◌⊎◌, ℕ, map};
 ghost use Rattle.std.specs.String.{string_bytes};
 ghost use Rattle.nio_bytes.specs.Cause.{Rose};
 ghost use Rattle.nio_script.specs.Input.{CausesFault, StopsPastLongest};
 ghost use Rattle.nio_script.specs.Run.{ReadsText};
 ghost use Rattle.nio_words.specs.Passes.{IsFirstPass, limits_of};
 ghost use Rattle.nio_cli.specs.Commands.{DoesScript, DoesCheck, WritesLegal};
+ghost use Rattle.nio_cli.specs.Load.{DoesLoad};
 ghost use Rattle.nio_cli.specs.Proxy.{DoesProxy};
 ghost use Rattle.nio_cli.specs.Words.{BeginsProxy, IsUsage};
 ghost use Rattle.nio_base.specs.declared.numbers.ChanNo.{ChanNo};
-ghost use Rattle.nio_command.specs.Words.{IsScriptCommand, IsCheckCommand, IsCheckFirstCommand, IsRaceCommand, IsProxyCommand, SaysNothing};
+ghost use Rattle.nio_command.specs.Words.{IsScriptCommand, IsCheckCommand, IsCheckFirstCommand, IsRaceCommand, IsLoadCommand, IsProxyCommand, SaysNothing};
 ghost use Rattle.nio_link.specs.Links.{IsUnused};
 ghost use Rattle.nio_race.specs.Does.{DoesRace};
 ghost use Rattle.nio_relay.specs.declared.plan.ProxyPlan.{ProxyPlan};
@@ -20,6 +21,7 @@ use nio_base::{Gate, Limits};
 use nio_bytes::{Sink, Source};
 use nio_command::{Command, WordsError};
 use nio_link::Net;
+use nio_load::run_load;
 use nio_plain::Rules;
 use nio_race::run_race;
 use nio_script::{Status, offer, run_check, run_script};
@@ -48,8 +50,8 @@ pub struct Ended<N> {
     pub net: N,
 }
 
-/// Does what the words say: all that the program does. `script` and `race` make their calls on this table, by the rules
-/// of now; `check` and `check-1` make theirs on a system of their own with the same limits; `proxy` relays over the net,
+/// Does what the words say: all that the program does. `script`, `race` and `load` make their calls on this table, by the
+/// rules of now; `check` and `check-1` make theirs on a system of their own with the same limits; `proxy` relays over the net,
 /// with a table of its own.
 pub fn run<R: Threads + Wait + Sync, S: Source, K: Sink, N: Net, G: Gate + Sync>(
     rt: &R,
@@ -87,6 +89,10 @@ pub fn run<R: Threads + Wait + Sync, S: Source, K: Sink, N: Net, G: Gate + Sync>
     ensures check_first { IsCheckFirstCommand (map string_bytes words.now) →
         DoesCheck S.Source K.Sink Rules.First PROGRAM_LIMITS input.old input.new
         output.old output.new pass.old pass.new result.status }
+    ensures load { (rounds : ℕ) → IsLoadCommand (map string_bytes words.now) rounds →
+        DoesLoad K.Sink table.now rounds output.old output.new pass.new result.status }
+    ensures load_alone { (rounds : ℕ) → IsLoadCommand (map string_bytes words.now) rounds →
+        input.new ≡ input.old }
     ensures proxy { (plan : ProxyPlan) → IsProxyCommand (map string_bytes words.now) plan →
         DoesProxy K.Sink plan.conns (N.link result.net) (N.faults net) (N.faults result.net)
         (N.poll_faults net) (N.poll_faults result.net) output.old output.new result.status }
@@ -148,6 +154,10 @@ fn run_over<R: Threads + Wait + Sync, S: Source, K: Sink, N: Net, G: Gate + Sync
     ensures check_first { IsCheckFirstCommand (map string_bytes words.now) →
         DoesCheck S.Source K.Sink Rules.First PROGRAM_LIMITS input.old input.new
         output.old output.new pass.old pass.new result }
+    ensures load { (rounds : ℕ) → IsLoadCommand (map string_bytes words.now) rounds →
+        DoesLoad K.Sink table.now rounds output.old output.new pass.new result }
+    ensures load_alone { (rounds : ℕ) → IsLoadCommand (map string_bytes words.now) rounds →
+        input.new ≡ input.old }
     ensures proxy { (plan : ProxyPlan) → IsProxyCommand (map string_bytes words.now) plan →
         DoesProxy K.Sink plan.conns (N.link net.new) (N.faults net.old) (N.faults net.new)
         (N.poll_faults net.old) (N.poll_faults net.new) output.old output.new result }
@@ -172,6 +182,7 @@ fn run_over<R: Threads + Wait + Sync, S: Source, K: Sink, N: Net, G: Gate + Sync
         Ok(Command::Check) => run_check(alloc, input, output, PROGRAM_LIMITS, Rules::Now),
         Ok(Command::CheckFirst) => run_check(alloc, input, output, PROGRAM_LIMITS, Rules::First),
         Ok(Command::Race) => run_race(rt, alloc, input, output, table, pass, gate),
+        Ok(Command::Load(rounds)) => load_on_table(alloc, rounds, output, table, pass),
         Ok(Command::Proxy(plan)) => serve(rt, alloc, output, net, plan),
         Err(WordsError::Usage) => {
             offer(output, USAGE.as_bytes());
@@ -200,6 +211,30 @@ fn run_on_table<S: Source, K: Sink>(
     match Sole::make(alloc, table, pass) {
         Ok(mut sole) => {
             let status = run_script(alloc, input, output, &mut sole);
+            table.join(pass, sole.into_pass());
+            status
+        }
+        Err(AllocError) => Status::Memory,
+    }
+}
+
+// Runs the generated script of so many rounds on the table.
+fn load_on_table<K: Sink>(
+    alloc: Global,
+    rounds: u32,
+    output: &mut K,
+    table: &Words,
+    pass: &mut Pass,
+) -> Status
+    requires first { IsFirstPass table.now pass.old }
+    requires rounds { rounds ≤ 100000 }
+    ensures load { DoesLoad K.Sink table.now rounds output.old output.new pass.new result }
+    ensures rose { result ≡ Status.WriteFault → Rose (K.faults output.old) (K.faults output.new) }
+    ensures later { K.faults output.old ≤ K.faults output.new }
+{
+    match Sole::make(alloc, table, pass) {
+        Ok(mut sole) => {
+            let status = run_load(alloc, rounds, output, &mut sole);
             table.join(pass, sole.into_pass());
             status
         }

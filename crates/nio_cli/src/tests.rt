@@ -198,7 +198,6 @@ fn scripts_and_usage(rt: HostRuntime) -> Result<(), Fail> {
     }
     let none = (ONE_SELECTION, None, None);
     ends(&rt, alloc, "usage", &[], none, (2, USAGE))?;
-    ends(&rt, alloc, "usage", &["load", "0"], none, (2, USAGE))?;
     ends(&rt, alloc, "usage", &["proxy"], none, (2, USAGE))?;
     ends(&rt, alloc, "usage", &["script", "script"], none, (2, USAGE))
 }
@@ -355,6 +354,34 @@ fn races(rt: HostRuntime) -> Result<(), Fail> {
             label,
             &["race"],
             (input, None, None),
+            (code, written),
+        )?;
+    }
+    Ok(())
+}
+
+#[test]
+fn loads(rt: HostRuntime) -> Result<(), Fail> {
+    let nine = "lines 222\nselections 9\nupdates 9\n";
+    let rows = [
+        (
+            "load_one",
+            "1",
+            None,
+            0,
+            "lines 197\nselections 1\nupdates 1\n",
+        ),
+        ("load_nine", "9", None, 0, nine),
+        ("load_nine", "9", Some(2), 5, "lines 222\n"),
+        ("usage", "0", None, 2, USAGE),
+    ];
+    for (label, rounds, fail_write, code, written) in rows {
+        ends(
+            &rt,
+            rt.alloc(),
+            label,
+            &["load", rounds],
+            ("", None, fail_write),
             (code, written),
         )?;
     }

@@ -1,7 +1,8 @@
 -- Which command words are.
-use Rattle.std.proofs.Common.{◌≡◌, ◌≢◌, ◌↔◌, ◌∙◌, ◌≤◌, ℕ, List, [], ◌∷◌, Result, Ok, Err, Option, Some, None, codes}
+use Rattle.std.proofs.Common.{◌≡◌, ◌≢◌, ◌↔◌, ◌∙◌, ◌<◌, ◌≤◌, ℕ, List, [], ◌∷◌, Result, Ok, Err, Option, Some, None, codes}
 use Rattle.std.proofs.Common.{length, map, arith, refl, sym, ap, subst, true, get_or, Global, String, take, drop, ◌-◌}
-use Rattle.std.specs.Prelude.{IsSomeAnd}
+use Rattle.std.specs.Prelude.{IfSome, IsSomeAnd}
+use Rattle.std.specs.Fmt.{decimal}
 use Rattle.std.specs.Option.{ok_or}
 use Rattle.std.specs.List.{flat_map, slice_index_or}
 use Rattle.std.proofs.lemmas.List.Sorted.{length_permutation}
@@ -17,7 +18,7 @@ use Rattle.std.specs.String.{string_bytes}
 use Rattle.std.specs.Str.{bytes_eq}
 use Rattle.std.proofs.lemmas.Slice.Eq.{bytes_eq-Decides}
 use Rattle.nio_command.specs.declared.command.Command.{Command}
-use Rattle.nio_command.specs.declared.command.Command.TheVariants.{Script, Check, CheckFirst, Race, Proxy}
+use Rattle.nio_command.specs.declared.command.Command.TheVariants.{Script, Check, CheckFirst, Race, Load, Proxy}
 use Rattle.nio_command.specs.declared.command.WordsError.{WordsError}
 use Rattle.nio_command.specs.declared.command.WordsError.TheVariants.{Usage, Memory}
 
@@ -43,6 +44,7 @@ not_named word Script s k f r h = s (cc)
 not_named word Check s k f r h = k (cc)
 not_named word CheckFirst s k f r h = f (cc)
 not_named word Race s k f r h = r (cc)
+not_named word (Load rounds) s k f r h = let two : word ∷ [] ≡ codes "load" ∷ decimal rounds ∷ [] = h.says in absurd (cc)
 not_named word (Proxy plan) s k f r h =
     let begins : word ∷ [] ≡ codes "proxy" ∷ h.rest = h.begins in
     let none : h.rest ≡ [] = cc in
@@ -86,6 +88,12 @@ pub some_as : {X E : Type 0} (o : Option X) (P : X → Type 0) (e : E) (r : Resu
 some_as None P e r y h is ok = absurd h
 some_as (Some x) P e r y h is ok = let same : x ≡ y = cc in subst P same h
 
+pub if_some_as : {X E : Type 0} (o : Option X) (P : X → Type 0) (e : E) (r : Result X E) (y : X) → IfSome o P
+    → r ≡ ok_or o e
+    → r ≡ Ok y → P y
+if_some_as None P e r y h is ok = absurd (cc)
+if_some_as (Some x) P e r y h is ok = let same : x ≡ y = cc in subst P same h
+
 pub some_no_err : {X E : Type 0} (o : Option X) (P : X → Type 0) (e f : E) (r : Result X E) → IsSomeAnd o P
     → r ≡ ok_or o e
     → r ≡ Err f → ⊥
@@ -109,6 +117,18 @@ behind_proxy words w text is some same e =
     ∙ ap (λ (t : Text). t ∷ map string_bytes (take (length words - 1) (drop 1 words)))
     (sym same ∙ (bytes_eq-Decides text (codes "proxy")).0 e)
 
+-- two words whose first is `load`
+pub behind_load : (words : List (String Global)) (w r : String Global) (first second : Text) → w ≡ slice_index_or words 0 w
+    → r ≡ slice_index_or words 1 r → 2 ≤ length words → length words < 3
+    → first ≡ string_bytes w → bytes_eq first (codes "load") ≡ true → second ≡ string_bytes r
+    → map string_bytes words ≡ codes "load" ∷ second ∷ []
+behind_load [] w r first second one two some few same e also = absurd (omega arith)
+behind_load (x ∷ []) w r first second one two some few same e also = absurd (omega arith)
+behind_load (x ∷ y ∷ []) w r first second one two some few same e also =
+    ap (λ (t : Text). t ∷ string_bytes y ∷ []) (ap string_bytes (sym one) ∙ sym same ∙ (bytes_eq-Decides first (codes "load")).0 e)
+    ∙ ap (λ (t : Text). codes "load" ∷ t ∷ []) (ap string_bytes (sym two) ∙ sym also)
+behind_load (x ∷ y ∷ z ∷ words) w r first second one two some few same e also = absurd (omega arith)
+
 abbrev pub made : Command → Result Command WordsError
 made command = Ok command
 
@@ -131,6 +151,8 @@ only_proxy words rest r plan begins is only Check h = let bad : 112 ≡ 99 = ap 
 only_proxy words rest r plan begins is only CheckFirst h = let bad : 112 ≡ 99 = ap initial (sym begins ∙ h) in
     absurd (omega (arith, bad))
 only_proxy words rest r plan begins is only Race h = let bad : 112 ≡ 114 = ap initial (sym begins ∙ h) in
+    absurd (omega (arith, bad))
+only_proxy words rest r plan begins is only (Load rounds) h = let bad : 112 ≡ 108 = ap initial (sym begins ∙ h.says) in
     absurd (omega (arith, bad))
 only_proxy words rest r plan begins is only (Proxy p) h =
     let read : r ≡ Ok p = only p (subst (λ (ws : List Text). IsProxyCommand ws p) begins h) (no_memory r plan is) in

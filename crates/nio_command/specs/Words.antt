@@ -1,12 +1,12 @@
 -- The words of the command line, without the program's name.
-use Rattle.std.specs.Prelude.{◌≡◌, List, [], ◌∷◌, codes}
+use Rattle.std.specs.Prelude.{◌≡◌, ℕ, ◌≤◌, List, [], ◌∷◌, codes}
 use Rattle.std.specs.Fmt.{decimal}
 use Rattle.nio_relay.specs.Plan.{IsServable}
 use Rattle.nio_relay.specs.declared.plan.ProxyPlan.{ProxyPlan}
 use Rattle.nio_command.specs.Options.{Text, AreOptions}
 use Rattle.nio_command.specs.Values.{IsAddress, ProxyValues, address_text, proxy_options}
 use Rattle.nio_command.specs.declared.command.Command.{Command}
-use Rattle.nio_command.specs.declared.command.Command.TheVariants.{Script, Check, CheckFirst, Race, Proxy}
+use Rattle.nio_command.specs.declared.command.Command.TheVariants.{Script, Check, CheckFirst, Race, Load, Proxy}
 
 -- the one word `script`
 abbrev pub IsScriptCommand : List Text → Type 0
@@ -23,6 +23,12 @@ IsCheckFirstCommand words = words ≡ codes "check-1" ∷ []
 -- the one word `race`
 abbrev pub IsRaceCommand : List Text → Type 0
 IsRaceCommand words = words ≡ codes "race" ∷ []
+
+-- the word `load`, and the number of rounds, from 1 to 100,000
+pub record IsLoadCommand (words : List Text) (rounds : ℕ) : Type 0 where
+  pub some : 1 ≤ rounds
+  pub few : rounds ≤ 100000
+  pub says : words ≡ codes "load" ∷ decimal rounds ∷ []
 
 -- the addresses, and 1 to 16,000 connections
 pub record IsInRange (plan : ProxyPlan) : Type 0 where
@@ -52,6 +58,7 @@ IsCommand words Script = IsScriptCommand words
 IsCommand words Check = IsCheckCommand words
 IsCommand words CheckFirst = IsCheckFirstCommand words
 IsCommand words Race = IsRaceCommand words
+IsCommand words (Load rounds) = IsLoadCommand words rounds
 IsCommand words (Proxy plan) = IsProxyCommand words plan
 
 -- the words are no command

@@ -3,6 +3,7 @@ ghost use Rattle.std.specs.Prelude.{◌≡◌, ◌≢◌, ◌↔◌, List, ℕ, 
 ghost use Rattle.std.specs.String.{string_bytes};
 ghost use Rattle.nio_command.specs.Words.{IsCommand, IsProxyCommand, SaysNothing};
 
+use crate::number::read_number;
 use crate::options::read_options;
 use crate::plan::read_plan;
 use nio_relay::ProxyPlan;
@@ -19,6 +20,8 @@ pub enum Command {
     CheckFirst,
     /// `race`: reads a race, runs its callers on threads, and writes their histories.
     Race,
+    /// `load N`: runs the generated script of so many rounds, and sums up its replies.
+    Load(u32),
     /// `proxy` and its options: relays connections by this plan.
     Proxy(ProxyPlan),
 }
@@ -59,6 +62,9 @@ pub fn command_of(alloc: Global, words: &[String]) -> Result<Command, WordsError
         [word, options @ ..] if word.as_str() == "proxy" => {
             Ok(Command::Proxy(read_proxy(alloc, options)?))
         }
+        [word, rounds] if word.as_str() == "load" => {
+            read_load(rounds.as_str()).ok_or(WordsError::Usage)
+        }
         _ => Err(WordsError::Usage),
     }
 }
@@ -76,6 +82,16 @@ fn command_named(word: &str) -> Option<Command>
         "race" => Some(Command::Race),
         _ => None,
     }
+}
+
+// The load of as many rounds as this word behind `load` says.
+fn read_load(word: &str) -> Option<Command>
+    ensures found { IfSome result (λ command. IsCommand (codes "load" ∷ word.now ∷ []) command) }
+    ensures only { (command : Command) → IsCommand (codes "load" ∷ word.now ∷ []) command
+        → result ≡ Some command }
+{
+    let rounds = read_number(word, 1, 100_000)?;
+    Some(Command::Load(rounds))
 }
 
 // The plan that these words behind `proxy` are.

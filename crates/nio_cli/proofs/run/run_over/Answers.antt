@@ -1,10 +1,12 @@
-use Rattle.std.proofs.Common.{refl, subst}
+use Rattle.std.proofs.Common.{ℕ, refl, subst}
 use Rattle.nio_script.specs.Output.{Notes}
 use Rattle.nio_cli.specs.declared.run.TheConstants.{PROGRAM_LIMITS}
 use Rattle.nio_relay.specs.declared.plan.ProxyPlan.{ProxyPlan}
-use Rattle.nio_cli.specs.Proxy.{DoesProxy}
+use Rattle.nio_cli.specs.Load.{DoesLoad}
+use Rattle.nio_cli.specs.Proxy.{DoesProxy, EndsProxy}
+use Rattle.nio_load.specs.Load.{EndsLoad}
 use Rattle.nio_cli.proofs.Legal.{writes_legal}
-use Rattle.nio_cli.proofs.Named.{its_plan, no_plan, takes_none}
+use Rattle.nio_cli.proofs.Named.{its_plan, its_rounds, no_plan, takes_none}
 use Rattle.nio_cli.proofs.Unserved.{unserved}
 use Rattle.nio_cli.proofs.run.run_over.Goals as goal
 
@@ -26,7 +28,17 @@ returns-in-Ok-Proxy-clause-proxy g c = λ plan says.
     (its_plan c.in-Ok-Proxy.field-0 c.in-Ok-Proxy.plan plan c.in-Ok-Proxy.field-0-is (c.in-Ok-Proxy.ensures.proxy_only plan says)) c.serve.ensures.proxy
 
 pub returns-in-Ok-Proxy-clause-too_long : goal.returns-in-Ok-Proxy-clause-too_long
-returns-in-Ok-Proxy-clause-too_long g c = takes_none g.S.Source c.args.input.now c.serve.result c.serve.ensures.proxy.ends
+returns-in-Ok-Proxy-clause-too_long g c = takes_none g.S.Source c.args.input.now c.serve.result
+    (λ long. subst EndsProxy long c.serve.ensures.proxy.ends)
+
+pub returns-in-Ok-Load-clause-load : goal.returns-in-Ok-Load-clause-load
+returns-in-Ok-Load-clause-load g c = λ rounds says.
+    subst (λ (n : ℕ). DoesLoad g.K.Sink c.args.table.now n c.args.output.now c.load_on_table.new.output c.load_on_table.new.pass c.load_on_table.result)
+    (its_rounds c.in-Ok-Load.field-0 c.in-Ok-Load.rounds rounds c.in-Ok-Load.field-0-is ((c.in-Ok-Load.ensures.load rounds).1 says)) c.load_on_table.ensures.load
+
+pub returns-in-Ok-Load-clause-too_long : goal.returns-in-Ok-Load-clause-too_long
+returns-in-Ok-Load-clause-too_long g c =
+    takes_none g.S.Source c.args.input.now c.load_on_table.result (λ long. subst EndsLoad long c.load_on_table.ensures.load.ends)
 
 pub returns-in-Err-Usage-clause-proxy : goal.returns-in-Err-Usage-clause-proxy
 returns-in-Err-Usage-clause-proxy g c = λ plan says. absurd (no_plan c.in-Err-Usage.field-0 plan c.in-Err-Usage.field-0-is (c.in-Err-Usage.ensures.proxy_only plan says))

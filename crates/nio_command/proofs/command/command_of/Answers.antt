@@ -1,10 +1,14 @@
-use Rattle.std.proofs.Common.{arith, map, length, take, drop, ℕ, List, ◌-◌, ◌∙◌, subst, sym}
+use Rattle.std.proofs.Common.{◌≡◌, arith, map, length, take, drop, ℕ, List, [], ◌∷◌, ◌-◌, ◌∙◌, ap, subst, sym, codes, Option}
+use Rattle.std.specs.Option.{ok_or}
 use Rattle.nio_command.specs.Words.{IsCommand, IsProxyCommand}
+use Rattle.nio_command.specs.declared.command.Command.{Command}
 use Rattle.nio_command.specs.declared.command.Command.TheVariants.{Proxy}
+use Rattle.nio_command.specs.declared.command.WordsError.TheVariants.{Usage}
 use Rattle.std.specs.String.{string_bytes}
 use Rattle.std.proofs.lemmas.Grind.{common_steps}
-use Rattle.nio_command.proofs.Commands.{behind_proxy, made, only_proxy, same_command, usage_from}
+use Rattle.nio_command.proofs.Commands.{behind_load, behind_proxy, if_some_as, made, only_proxy, same_command, usage_from}
 use Rattle.nio_command.proofs.command.command_of.Goals as goal
+use Rattle.nio_command.proofs.command.command_of.Goals.{After-ok_or}
 
 pub returns-in-len1-clause-found : goal.returns-in-len1-clause-found
 returns-in-len1-clause-found c = grind (arith, common_steps)
@@ -14,22 +18,22 @@ returns-in-len1-clause-only c = grind (arith, common_steps)
 
 pub returns-in-len1-clause-usage : goal.returns-in-len1-clause-usage
 returns-in-len1-clause-usage c =
-    usage_from (map string_bytes c.args.words.now) c.ok_or.result (returns-in-len1-clause-found c)
+    usage_from (map string_bytes c.args.words.now) c.ok_or-in-len1.result (returns-in-len1-clause-found c)
     (returns-in-len1-clause-only c)
 
 pub returns-in_err-read_proxy-in-len1-up-clause-memory : goal.returns-in_err-read_proxy-in-len1-up-clause-memory
 returns-in_err-read_proxy-in-len1-up-clause-memory c = λ e. (
   map string_bytes (take (length c.args.words.now - 1) (drop 1 c.args.words.now)),
-  behind_proxy c.args.words.now c.word-item-2.result c.as_str-2.result.now c.word-item-2.is
-      (omega arith) c.as_str-2.ensures.value
+  behind_proxy c.args.words.now c.word-item-2.result c.as_str.result.now c.word-item-2.is
+      (omega arith) c.as_str.ensures.value
       (sym c.eq.ensures ∙ c.if-eq.true),
 )
 
 pub returns-in_ok-read_proxy-in-len1-up-clause-found : goal.returns-in_ok-read_proxy-in-len1-up-clause-found
 returns-in_ok-read_proxy-in-len1-up-clause-found c = λ command e.
     let plan = c.in_ok-read_proxy-in-len1-up.field-0 in
-    let begins = behind_proxy c.args.words.now c.word-item-2.result c.as_str-2.result.now c.word-item-2.is (omega arith)
-    c.as_str-2.ensures.value (sym c.eq.ensures ∙ c.if-eq.true) in
+    let begins = behind_proxy c.args.words.now c.word-item-2.result c.as_str.result.now c.word-item-2.is (omega arith)
+    c.as_str.ensures.value (sym c.eq.ensures ∙ c.if-eq.true) in
     let found = c.read_proxy.ensures.found plan c.in_ok-read_proxy-in-len1-up.was in
     subst (IsCommand (map string_bytes c.args.words.now)) (sym (same_command (Proxy plan) command e))
     (subst (λ (ws : List (List ℕ)). IsProxyCommand ws plan) (sym begins) found)
@@ -37,8 +41,8 @@ returns-in_ok-read_proxy-in-len1-up-clause-found c = λ command e.
 pub returns-in_ok-read_proxy-in-len1-up-clause-only : goal.returns-in_ok-read_proxy-in-len1-up-clause-only
 returns-in_ok-read_proxy-in-len1-up-clause-only c = λ command is room.
     let plan = c.in_ok-read_proxy-in-len1-up.field-0 in
-    let begins = behind_proxy c.args.words.now c.word-item-2.result c.as_str-2.result.now c.word-item-2.is (omega arith)
-    c.as_str-2.ensures.value (sym c.eq.ensures ∙ c.if-eq.true) in
+    let begins = behind_proxy c.args.words.now c.word-item-2.result c.as_str.result.now c.word-item-2.is (omega arith)
+    c.as_str.ensures.value (sym c.eq.ensures ∙ c.if-eq.true) in
     only_proxy (map string_bytes c.args.words.now)
     (map string_bytes (take (length c.args.words.now - 1) (drop 1 c.args.words.now)))
     c.read_proxy.result plan begins c.in_ok-read_proxy-in-len1-up.was c.read_proxy.ensures.only command is
@@ -47,3 +51,24 @@ pub returns-in_ok-read_proxy-in-len1-up-clause-usage : goal.returns-in_ok-read_p
 returns-in_ok-read_proxy-in-len1-up-clause-usage c =
     usage_from (map string_bytes c.args.words.now) (made (Proxy c.in_ok-read_proxy-in-len1-up.field-0))
     (returns-in_ok-read_proxy-in-len1-up-clause-found c) (returns-in_ok-read_proxy-in-len1-up-clause-only c)
+
+-- the words of the arm on `load`
+are_two : (c : After-ok_or) → map string_bytes c.args.words.now ≡ codes "load" ∷ c.as_str-in-len2.result.now ∷ []
+are_two c =
+    behind_load c.args.words.now c.word-item-then-words-lt3.result c.rounds-item.result c.as_str-then-words-lt3.result.now c.as_str-in-len2.result.now
+    c.word-item-then-words-lt3.is c.rounds-item.is (omega arith) (omega arith)
+    c.as_str-then-words-lt3.ensures.value (sym c.eq-then-words-lt3.ensures ∙ c.if-eq-2.true) c.as_str-in-len2.ensures.value
+
+pub returns-in-len2-clause-found : goal.returns-in-len2-clause-found
+returns-in-len2-clause-found c = λ command ok.
+    subst (λ (ws : List (List ℕ)). IsCommand ws command) (sym (are_two c))
+    (if_some_as c.read_load.result (IsCommand (codes "load" ∷ c.as_str-in-len2.result.now ∷ [])) Usage c.ok_or.result command c.read_load.ensures.found c.ok_or.ensures.value ok)
+
+pub returns-in-len2-clause-only : goal.returns-in-len2-clause-only
+returns-in-len2-clause-only c = λ command is room.
+    c.ok_or.ensures.value
+    ∙ ap (λ (o : Option Command). ok_or o Usage) (c.read_load.ensures.only command (subst (λ (ws : List (List ℕ)). IsCommand ws command) (are_two c) is))
+
+pub returns-in-len2-clause-usage : goal.returns-in-len2-clause-usage
+returns-in-len2-clause-usage c =
+    usage_from (map string_bytes c.args.words.now) c.ok_or.result (returns-in-len2-clause-found c) (returns-in-len2-clause-only c)

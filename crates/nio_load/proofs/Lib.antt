@@ -1,0 +1,6 @@
+pub mod Answered
+pub mod Calls
+pub mod Numbers
+pub mod Pushing
+pub mod Summing
+pub mod Tallying

@@ -1,0 +1,4 @@
+pub mod Generator
+pub mod Load
+pub mod Summary
+pub mod Tally
