@@ -1,28 +1,28 @@
 -- The line `block`.
-use Rattle.std.proofs.Common.{◌≡◌, ◌≢◌, ℕ, ◌<◌, ◌==◌, not, Bool, true, false, Option, Some, None, List, [], ◌++◌, bit_and, if◌then◌else◌, Result, Ok, Err, IfOk, ◌⊎◌, ⊎_elim, arith, refl, sym, ap, ◌∙◌, subst, eqb-true, eq-eqb}
+use Rattle.std.proofs.Common.{◌≡◌, ℕ, ◌==◌, not, Bool, true, false, Option, Some, None, List, [], ◌∷◌, All, map, ◌++◌, bit_and, if◌then◌else◌, Result, Ok, Err, IfOk, ⊎_elim, arith, refl, sym, ap, ◌∙◌, subst, eqb-true, eq-eqb}
 use Rattle.std.proofs.Math.Logic.{∥∥₁_map}
 use Rattle.std.proofs.lemmas.List.{append-nil}
+use Rattle.std.proofs.lemmas.List.Elements.{All-cons, All-head, All-nil, All-tail}
 use Rattle.std.proofs.lemmas.Nat.Bits.{bit_at_and, same_from_bits}
 use Rattle.std.specs.List.{Contains}
 use Rattle.std.specs.declared.alloc.AllocError.{AllocError}
-use Rattle.nio_base.specs.declared.limits.Limits.{Limits}
 use Rattle.nio_base.specs.declared.numbers.CallerNo.{CallerNo}
-use Rattle.nio_base.specs.declared.numbers.ChanNo.{ChanNo}
 use Rattle.nio_base.specs.declared.numbers.SelNo.{SelNo}
-use Rattle.nio_event.specs.PassViews.{HasSelector, PassView, done_between}
+use Rattle.nio_event.specs.PassViews.{PassView, done_between}
 use Rattle.nio_event.specs.declared.act.Act.{Act}
 use Rattle.nio_event.specs.declared.act.Act.TheVariants.{Mark}
 use Rattle.nio_event.specs.declared.found.Mark.{Mark as KeyMark}
 use Rattle.nio_event.specs.declared.found.Mode.TheVariants.{Wait}
 use Rattle.nio_event.specs.declared.reply.Reply.{Reply}
 use Rattle.nio_event.specs.declared.reply.Reply.TheVariants as reply
-use Rattle.nio_orderly.specs.Made.{Made, find_selector, select, nothing_ongoing, after_calls, selecting}
-use Rattle.nio_poller.specs.Selecting.{Answers, SelectClause}
+use Rattle.nio_orderly.specs.Made.{find_selector, select, nothing_ongoing, after_calls, selecting}
+use Rattle.nio_poller.specs.Polled.{Polled}
+use Rattle.nio_poller.specs.Selecting.{Answers, SelectClause, looked_by}
 use Rattle.nio_poller.specs.declared.selecting.SelectError.{SelectError}
 use Rattle.nio_poller.specs.declared.selecting.SelectError.TheVariants as select_error
 use Rattle.nio_race_text.specs.declared.call.RaceCall.TheVariants.{Block}
 use Rattle.nio_serial.specs.Documented.{Progress}
-use Rattle.nio_serial.specs.Lines.{Said, if_own, with_selection}
+use Rattle.nio_serial.specs.Lines.{if_own, with_selection}
 use Rattle.nio_sole.proofs.Calls.{made_more}
 use Rattle.nio_sole.specs.Made.{HasMade, IsOngoing}
 use Rattle.nio_sole.specs.Stands.{HasPlaces, progress_of}
@@ -31,17 +31,18 @@ use Rattle.nio_steps.proofs.CallLaws.{call_as}
 use Rattle.nio_steps.proofs.WaitingLaws.{then_call}
 use Rattle.nio_steps.specs.Calls.{CallClause}
 use Rattle.nio_steps.specs.KeyCalls.{find_selector_plan}
-use Rattle.nio_steps.specs.Names.{selector}
 use Rattle.nio_steps.specs.Runs.{Completes}
-use Rattle.nio_steps.specs.SelectCalls.{SelectReply, selected, not_begun, left, Selects}
+use Rattle.nio_steps.specs.SelectCalls.{Poll, SelectReply, selected, not_begun, left, Selects}
 use Rattle.nio_steps.specs.declared.refusal.BeginError.TheVariants as begin_error
+use Rattle.nio_steps.specs.declared.looked.LookedKey.{LookedKey}
 use Rattle.nio_steps.specs.declared.selected.Selected.{Selected}
 use Rattle.nio_words.specs.Passes.{IsReady, acts_seen, limits_of}
 use Rattle.nio_words.specs.Views.{view}
 use Rattle.nio_words.specs.declared.words.Words.{Words}
 use Rattle.nio_race.proofs.Standing.{stands_made}
 use Rattle.nio_race.specs.Racers.{BlocksOn, LineOn, StandsFor}
-use Rattle.nio_race.specs.Runs.{Blocks, BlocksOnFound, LooksAndBlocks}
+use Rattle.nio_race.specs.Quiet.{AreStillUntold, AreUntold}
+use Rattle.nio_race.specs.Runs.{Blocks, LooksAndBlocks, TellsNothing}
 
 -- ---- a poller that tells nothing
 
@@ -49,7 +50,7 @@ and_none : (n : ℕ) → bit_and n 0 ≡ 0
 and_none n = same_from_bits (bit_and n 0) 0 (λ i. simp (bit_at_and) (omega arith))
 
 -- where no channel is ready no mark succeeds
-unmarked : {me : CallerNo} {s : SelNo} {v0 v1 : PassView} {result : Result Selected SelectError} → SelectClause me s Wait v0 v1 None None (λ _. 0) result
+unmarked : {before after : List Polled} {me : CallerNo} {s : SelNo} {v0 v1 : PassView} {result : Result Selected SelectError} → SelectClause me s Wait v0 v1 (Some before) (Some after) (λ _. 0) result
     → (x : SelNo) (i told : ℕ) (from : KeyMark) → Contains (done_between me v0 v1) (Mark x i from told (Ok tt)) → ⊥
 unmarked clause x i told from there =
     let ready = clause.marks x i told from there in
@@ -57,6 +58,25 @@ unmarked clause x i told from there =
     let some : not (told == 0) ≡ true = ready.some in
     let clash : false ≡ true = ap not (sym (eq-eqb told 0 none)) ∙ some in
     absurd cc
+
+all_back : {A B : Type 0} (P : B → Type 0) (f : A → B) (xs : List A) → All P (map f xs) → All (λ x. P (f x)) xs
+all_back P f [] each = All-nil (λ x. P (f x))
+all_back P f (x ∷ xs) each = All-cons (λ y. P (f y)) x xs (All-head P (f x) (map f xs) each) (all_back P f xs (All-tail P (f x) (map f xs) each))
+
+same_item : {A : Type 0} {x y : A} → Some x ≡ Some y → x ≡ y
+same_item e = cc
+
+abbrev polled : List LookedKey → Poll → Polled
+polled asked poll = record { asked = asked; mode = Wait; answer = poll }
+
+-- where no poll told anything, none of those did whose answers the selection was told
+untold : {before after : List Polled} {me : CallerNo} {s : SelNo} {v0 v1 : PassView} {result : Result Selected SelectError} (clause : SelectClause me s Wait v0 v1 (Some before) (Some after) (λ _. 0) result)
+    → before ≡ [] → AreStillUntold before after → All TellsNothing clause.polls
+untold {before} {after} clause none still =
+    let polls = map (polled (looked_by clause.call.shape.middle)) clause.polls in
+    let added : after ≡ polls = same_item clause.adds ∙ ap (λ (earlier : List Polled). earlier ++ polls) none in
+    all_back (λ (poll : Polled). TellsNothing poll.answer) (polled (looked_by clause.call.shape.middle)) clause.polls
+    (subst AreUntold added (still (subst AreUntold (sym none) (All-nil (λ (poll : Polled). TellsNothing poll.answer)))))
 
 -- ---- its reply
 
@@ -74,9 +94,9 @@ said_closed (not_begun begin_error.Busy) is = absurd is
 said_closed (not_begun begin_error.Memory) is = absurd (cc is)
 said_closed left is = ⊎_elim (λ fault. absurd (cc fault)) (λ memory. absurd (cc memory)) is
 
-module _ (w : Words) (d d' : Desk) (me : CallerNo) (s : SelNo) where
+module _ (w : Words) (d d' : Desk) (me : CallerNo) (s : SelNo) {before after : List Polled} (none : before ≡ []) (still : AreStillUntold before after) where
   -- the selection answered
-  pub blocks_selected : (x : Selected) → SelectClause me s Wait (view w d.pass) (view w d'.pass) None None (λ _. 0) (Ok x) → progress_of d' ≡ with_selection (progress_of d) s None
+  pub blocks_selected : (x : Selected) → SelectClause me s Wait (view w d.pass) (view w d'.pass) (Some before) (Some after) (λ _. 0) (Ok x) → progress_of d' ≡ with_selection (progress_of d) s None
       → BlocksOn w d d' me s (reply.Selected x.count x.why)
   blocks_selected x clause leaves =
       call_as (Blocks (progress_of d) s) (record { reply = reply.Selected x.count x.why; left = progress_of d' })
@@ -84,16 +104,16 @@ module _ (w : Words) (d d' : Desk) (me : CallerNo) (s : SelNo) where
         polls = clause.polls;
         answer = selected x;
         selects = run.0;
+        untold = untold clause none still;
         unmarked = run.1;
-        says = refl;
-        leaves = leaves;
+        says = ap (λ (p : Progress). record { reply = reply.Selected x.count x.why; left = p }) leaves;
       }) its
     where
       its : CallClause me (λ xs (r : SelectReply). Selects s Wait clause.polls xs r × ((y : SelNo) (i told : ℕ) (from : KeyMark) → Contains xs (Mark y i from told (Ok tt)) → ⊥)) (view w d.pass) (view w d'.pass) (selected x)
       its = record { acts = clause.call.acts; shape = (subst (λ (r : SelectReply). Selects s Wait clause.polls (done_between me (view w d.pass) (view w d'.pass)) r) (said_selected clause.reply x clause.answers) clause.call.shape, unmarked clause) }
 
   -- the selector is closed
-  pub blocks_closed : SelectClause me s Wait (view w d.pass) (view w d'.pass) None None (λ _. 0) (Err select_error.ClosedSelector) → progress_of d' ≡ progress_of d
+  pub blocks_closed : SelectClause me s Wait (view w d.pass) (view w d'.pass) (Some before) (Some after) (λ _. 0) (Err select_error.ClosedSelector) → progress_of d' ≡ progress_of d
       → BlocksOn w d d' me s reply.ClosedSelector
   blocks_closed clause leaves =
       call_as (Blocks (progress_of d) s) (record { reply = reply.ClosedSelector; left = progress_of d' })
@@ -101,14 +121,15 @@ module _ (w : Words) (d d' : Desk) (me : CallerNo) (s : SelNo) where
         polls = clause.polls;
         answer = not_begun begin_error.ClosedSelector;
         selects = run.0;
+        untold = untold clause none still;
         unmarked = run.1;
-        says = refl;
-        leaves = leaves;
+        says = ap (λ (p : Progress). record { reply = reply.ClosedSelector; left = p }) leaves;
       }) its
     where
       its : CallClause me (λ xs (r : SelectReply). Selects s Wait clause.polls xs r × ((y : SelNo) (i told : ℕ) (from : KeyMark) → Contains xs (Mark y i from told (Ok tt)) → ⊥)) (view w d.pass) (view w d'.pass) (not_begun begin_error.ClosedSelector)
       its = record { acts = clause.call.acts; shape = (subst (λ (r : SelectReply). Selects s Wait clause.polls (done_between me (view w d.pass) (view w d'.pass)) r) (said_closed clause.reply clause.answers) clause.call.shape, unmarked clause) }
 
+module _ (w : Words) (d d' : Desk) (me : CallerNo) (s : SelNo) where
   -- ---- the whole line
 
   pub blocks_found : (d1 : Desk) (found : SelNo) (r : Reply) → progress_of d1 ≡ progress_of d
@@ -160,8 +181,8 @@ module _ (w : Words) (d d' : Desk) (me : CallerNo) (stands : StandsFor w d me) w
       by_place k false = m.ongoing.selection k
 
   -- after a selection that answered
-  pub stands_selected : (s : SelNo) (x : Selected) → IsReady w d'.pass me → HasPlaces w d' → progress_of d' ≡ with_selection (progress_of d) s None
-      → SelectClause me s Wait (view w d.pass) (view w d'.pass) None None (λ _. 0) (Ok x) → StandsFor w d' me
+  pub stands_selected : {before after : List Polled} (s : SelNo) (x : Selected) → IsReady w d'.pass me → HasPlaces w d' → progress_of d' ≡ with_selection (progress_of d) s None
+      → SelectClause me s Wait (view w d.pass) (view w d'.pass) (Some before) (Some after) (λ _. 0) (Ok x) → StandsFor w d' me
   stands_selected s x ready places leaves clause =
       stands_made w d' me stands.caller ready places
       (∥∥₁_map stands.made (λ m. subst (λ (acts : List Act). HasMade (limits_of w) acts me (progress_of d')) (sym clause.call.acts.history.own)
@@ -170,8 +191,8 @@ module _ (w : Words) (d d' : Desk) (me : CallerNo) (stands : StandsFor w d me) w
       (subst (λ (r : SelectReply). Selects s Wait clause.polls (done_between me (view w d.pass) (view w d'.pass)) r) (said_selected clause.reply x clause.answers) clause.call.shape) tt (put_own s s m)))))
 
   -- after one that found the selector closed
-  pub stands_closed : (s : SelNo) → IsReady w d'.pass me → HasPlaces w d' → progress_of d' ≡ progress_of d
-      → SelectClause me s Wait (view w d.pass) (view w d'.pass) None None (λ _. 0) (Err select_error.ClosedSelector) → StandsFor w d' me
+  pub stands_closed : {before after : List Polled} (s : SelNo) → IsReady w d'.pass me → HasPlaces w d' → progress_of d' ≡ progress_of d
+      → SelectClause me s Wait (view w d.pass) (view w d'.pass) (Some before) (Some after) (λ _. 0) (Err select_error.ClosedSelector) → StandsFor w d' me
   stands_closed s ready places same clause =
       stands_made w d' me stands.caller ready places
       (∥∥₁_map stands.made (λ m. subst (λ (acts : List Act). HasMade (limits_of w) acts me (progress_of d')) (sym clause.call.acts.history.own)

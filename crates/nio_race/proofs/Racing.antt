@@ -1,5 +1,5 @@
 -- The lines of a caller, one after the other.
-use Rattle.std.proofs.Common.{◌≡◌, ℕ, suc, ◌+◌, ◌<◌, ◌==◌, Bool, true, false, if◌then◌else◌, List, [], ◌∷◌, ◌++◌, length, map, refl, sym, ap, ◌∙◌, subst, append_assoc}
+use Rattle.std.proofs.Common.{◌≡◌, ◌==◌, Bool, true, false, if◌then◌else◌, List, [], ◌∷◌, ◌++◌, map, refl, sym, ap, ◌∙◌, subst, append_assoc}
 use Rattle.std.specs.Prelude.{filter}
 use Rattle.std.proofs.lemmas.List.{append-nil, map-append}
 use Rattle.std.proofs.lemmas.List.Elements.{filter-append}
@@ -20,8 +20,8 @@ use Rattle.nio_words.specs.Passes.{acts_seen, limits_of, seen}
 use Rattle.nio_words.specs.Views.{view}
 use Rattle.nio_words.specs.declared.words.Words.{Words}
 use Rattle.nio_race.specs.Race.{calls_by}
-use Rattle.nio_race.specs.Racers.{LineOn, MadeLines, RepliesLine, StandsFor}
-use Rattle.nio_race.specs.Runs.{AreRaceLines, LineAnd, MakesRaceLine}
+use Rattle.nio_race.specs.Racers.{MadeLines, RepliesLine, StandsFor}
+use Rattle.nio_race.specs.Runs.{AreRaceLines, MakesRaceLine}
 
 -- ---- lines and one more
 

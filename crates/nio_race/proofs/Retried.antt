@@ -1,16 +1,14 @@
 -- A line that is made again while its channel is held.
-use Rattle.std.proofs.Common.{◌≡◌, ◌&&◌, Bool, true, false, List, [], refl, sym, ap, ◌∙◌, subst}
+use Rattle.std.proofs.Common.{◌≡◌, true, false, [], refl, subst}
 use Rattle.nio_base.specs.declared.numbers.CallerNo.{CallerNo}
-use Rattle.nio_event.specs.PassViews.{PassView}
 use Rattle.nio_event.specs.declared.call.Call.{Call}
 use Rattle.nio_event.specs.declared.reply.Reply.{Reply}
 use Rattle.nio_race_text.specs.declared.call.RaceCall.TheVariants.{Script}
 use Rattle.nio_serial.specs.Documented.{Progress}
-use Rattle.nio_serial.specs.Lines.{Said, line_plan}
+use Rattle.nio_serial.specs.Lines.{line_plan}
 use Rattle.nio_sole.specs.Stands.{progress_of}
 use Rattle.nio_sole.specs.declared.desk.Desk.{Desk}
 use Rattle.nio_event.proofs.PassViews.{acts_nothing}
-use Rattle.nio_event.specs.declared.act.Act.{Act}
 use Rattle.nio_steps.proofs.CallLaws.{call_of_acts}
 use Rattle.nio_steps.proofs.WaitingLaws.{TryingClause, tries_none, try_more, try_last}
 use Rattle.nio_steps.specs.Waiting.{Tries}
@@ -23,7 +21,7 @@ use mathlib.Core.List.{IsPrefix}
 use Rattle.nio_words.proofs.Beginnings.{prefix_self, prefix_trans}
 use Rattle.nio_race.proofs.Waiting.{line_stays}
 use Rattle.nio_race.specs.Racers.{LineOn, MakesOnce, StandsFor}
-use Rattle.nio_race.specs.Runs.{is_busy, is_made_again, waits_for_hold}
+use Rattle.nio_race.specs.Runs.{is_made_again, waits_for_hold}
 
 -- The line was made some times, each time in vain. What is in progress stays.
 pub record IsTrying (w : Words) (first d : Desk) (me : CallerNo) (word : Call) : Type 0 where
@@ -46,17 +44,13 @@ module _ (w : Words) (first d d' : Desk) (me : CallerNo) (word : Call) (r : Repl
   its : CallClause me (Completes (line_plan (limits_of w) (progress_of first) me word)) (view w d.pass) (view w d'.pass) (record { reply = r; left = progress_of d' })
   its = subst (λ (p : Progress). CallClause me (Completes (line_plan (limits_of w) p me word)) (view w d.pass) (view w d'.pass) (record { reply = r; left = progress_of d' })) at.same once
 
-  and_true : (a b : Bool) → (a && b) ≡ true → a ≡ true
-  and_true true b is = refl
-  and_true false b is = absurd (cc is)
-
-  pub tries_on : StandsFor w d' me → IsPrefix (seen d.pass) (seen d'.pass) → (waits_for_hold word && is_busy r) ≡ true → IsTrying w first d' me word
+  pub tries_on : StandsFor w d' me → IsPrefix (seen d.pass) (seen d'.pass) → waits_for_hold word r ≡ true → IsTrying w first d' me word
   tries_on stands later again = record {
     stands = stands;
     later = prefix_trans _ _ _ at.later later;
-    same = line_stays (limits_of w) (progress_of first) me word _ (record { reply = r; left = progress_of d' }) (and_true (waits_for_hold word) (is_busy r) again) its.shape;
+    same = line_stays (limits_of w) (progress_of first) me word _ (record { reply = r; left = progress_of d' }) r again its.shape;
     tries = try_more tt (record { reply = r; left = progress_of d' }) at.tries its again;
   }
 
-  pub tried : (waits_for_hold word && is_busy r) ≡ false → LineOn w first d' me (Script word) r
+  pub tried : waits_for_hold word r ≡ false → LineOn w first d' me (Script word) r
   tried over = try_last tt (record { reply = r; left = progress_of d' }) at.tries its over

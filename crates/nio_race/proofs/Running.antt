@@ -1,5 +1,5 @@
 -- What a race leaves behind, from what its parts do.
-use Rattle.std.proofs.Common.{◌≡◌, ℕ, zero, suc, ◌<◌, IsFalse, List, [], ◌∷◌, ◌++◌, length, All, refl, ap, ◌∙◌, subst, arith}
+use Rattle.std.proofs.Common.{◌≡◌, ℕ, zero, suc, ◌<◌, List, [], ◌∷◌, ◌++◌, length, All, refl, ap, ◌∙◌, subst, arith}
 use Rattle.std.proofs.lemmas.List.Elements.{All-weaker}
 use Rattle.std.specs.List.{slice_index_or}
 use Rattle.nio_event.specs.declared.call.ScriptCall.{ScriptCall}
@@ -9,7 +9,7 @@ use Rattle.nio_plain.specs.declared.rules.Rules.TheVariants.{Now}
 use Rattle.nio_race_text.specs.declared.call.RaceLine.{RaceLine}
 use Rattle.nio_serial.specs.Documented.{Progress}
 use Rattle.nio_sole.specs.declared.desk.Desk.{Desk}
-use Rattle.nio_words.specs.Passes.{IsPassOf, limits_of, seen}
+use Rattle.nio_words.specs.Passes.{IsPassOf, limits_of}
 use Rattle.nio_words.specs.declared.words.Pass.{Pass}
 use Rattle.nio_words.specs.declared.words.Words.{Words}
 use Rattle.nio_race.proofs.Gathering.{stands_on}

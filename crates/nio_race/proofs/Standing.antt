@@ -1,33 +1,30 @@
 -- What stands of a caller stands after each of its lines.
-use Rattle.std.proofs.Common.{◌≡◌, ℕ, ◌<◌, nat_lt, Bool, true, false, if◌then◌else◌, Option, Some, None, option_map, List, ◌++◌, Result, Ok, Err, IfOk, IsFalse, refl, sym, ap, ◌∙◌, subst}
+use Rattle.std.proofs.Common.{◌≡◌, Option, Some, None, option_map, List, Result, Ok, Err, IfOk, refl, sym, ap, ◌∙◌, subst}
 use Rattle.std.proofs.Math.Bool.{Bool-set}
 use Rattle.std.proofs.Math.Logic.{∥∥₁_elim, ∥∥₁_map}
 use Rattle.std.proofs.lemmas.Bool.{lt-ltb}
 use Rattle.std.specs.declared.alloc.AllocError.{AllocError}
 use mathlib.Core.List.{IsPrefix}
-use Rattle.nio_base.specs.declared.limits.Limits.{Limits}
 use Rattle.nio_base.specs.declared.numbers.CallerNo.{CallerNo}
 use Rattle.nio_event.specs.Conditions.{IsCaller}
-use Rattle.nio_event.specs.PassViews.{HasNoPin, PassView, done_between}
+use Rattle.nio_event.specs.PassViews.{done_between}
 use Rattle.nio_event.specs.declared.act.Act.{Act}
 use Rattle.nio_event.specs.declared.call.Call.{Call}
 use Rattle.nio_event.specs.declared.call.Call.TheVariants as call
 use Rattle.nio_event.specs.declared.reply.Reply.{Reply}
 use Rattle.nio_event.specs.declared.reply.Reply.TheVariants as reply
-use Rattle.nio_serial.specs.Documented.{Progress, Selecting}
-use Rattle.nio_serial.specs.Lines.{Said, refused, if_named, call_plan, line_plan}
+use Rattle.nio_serial.specs.Documented.{Selecting}
+use Rattle.nio_serial.specs.Lines.{Said, if_named, call_plan, line_plan}
 use Rattle.nio_serial.specs.Replies.{begin_reply, list_reply}
 use Rattle.nio_sole.proofs.Beginnings.{made_whole}
 use Rattle.nio_sole.proofs.Calls.{AreOn, Leads, leads_named, leads_line, leads_refused, leads_begin_memory, leads_keys_memory, leads_selected_memory, made_along}
 use Rattle.nio_sole.proofs.Lines.{line_of_named}
 use Rattle.nio_sole.specs.Made.{HasMade}
-use Rattle.nio_sole.specs.Makes.{Makes, MakesCall, Lacks, Want, begin_unmade, begin_refused, told_unmade, keys_refused, keys_unsaid, selected_refused, selected_unsaid, word_of, want_plan}
+use Rattle.nio_sole.specs.Makes.{Makes, MakesCall, Want, begin_unmade, begin_refused, told_unmade, keys_refused, keys_unsaid, selected_refused, selected_unsaid, word_of, want_plan}
 use Rattle.nio_sole.specs.Stands.{HasPlaces, progress_of, selecting_of, slot}
 use Rattle.nio_sole.specs.declared.desk.Begun.{Begun}
 use Rattle.nio_sole.specs.declared.desk.Desk.{Desk}
-use Rattle.nio_steps.specs.Calls.{CallClause}
 use Rattle.nio_steps.specs.Plan.{Plan}
-use Rattle.nio_steps.specs.Runs.{Completes}
 use Rattle.nio_words.specs.Passes.{IsReady, acts_seen, limits_of, seen}
 use Rattle.nio_words.specs.Views.{view}
 use Rattle.nio_words.specs.declared.words.Words.{Words}

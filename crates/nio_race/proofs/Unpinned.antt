@@ -1,5 +1,5 @@
 -- A caller that made whole calls has no pin.
-use Rattle.std.proofs.Common.{◌≡◌, ℕ, List, [], ◌∷◌, ◌++◌, false, sym, ap, ◌∙◌, subst, refl}
+use Rattle.std.proofs.Common.{◌≡◌, ℕ, List, [], ◌∷◌, false, sym, ◌∙◌, subst, refl}
 use Rattle.nio_base.specs.declared.limits.Limits.{Limits}
 use Rattle.nio_base.specs.declared.numbers.CallerNo.{CallerNo}
 use Rattle.nio_base.specs.declared.numbers.SelNo.{SelNo}
@@ -7,7 +7,6 @@ use Rattle.nio_event.proofs.OwnPins.{pins_are_own}
 use Rattle.nio_event.specs.Conditions.{has_pin}
 use Rattle.nio_event.specs.Histories.{IsLegal, mine, state_after}
 use Rattle.nio_event.specs.declared.act.Act.{Act}
-use Rattle.nio_event.specs.declared.act.Act.TheVariants.{DrawBit}
 use Rattle.nio_event.specs.declared.event.Event.{Event}
 use Rattle.nio_orderly.specs.Made.{IsRun, Made, draw, find_selector, find_channel, find, is_valid, interest, set_interest, interest_or, interest_and, ready, cancel, unselect, attach, attachment, open_channel, is_open, is_blocking, is_registered, key_for, try_set_blocking, try_register, close_channel, open_selector, try_begin, told, leave, shut, try_finish, keys, selected_keys, wakeup, interrupt, interrupted, pipe, try_read, try_write, set_blocking, register, select, close, read, write}
 use Rattle.nio_orderly.specs.Orderly.{AreRuns, HasMadeCalls}

@@ -1,10 +1,9 @@
 -- A line whose call waits for a hold leaves in progress what was in progress.
-use Rattle.std.proofs.Common.{◌≡◌, ◌&&◌, ℕ, Bool, true, false, if◌then◌else◌, Option, Some, None, is_some, List, ◌++◌, refl, sym, ap, ◌∙◌, subst, nat_lt}
+use Rattle.std.proofs.Common.{◌≡◌, true, Option, is_some, List, ◌++◌, refl, nat_lt}
 use Rattle.nio_base.specs.declared.limits.Limits.{Limits}
 use Rattle.nio_base.specs.declared.numbers.CallerNo.{CallerNo}
 use Rattle.nio_base.specs.declared.numbers.ChanNo.{ChanNo}
 use Rattle.nio_base.specs.declared.numbers.SelNo.{SelNo}
-use Rattle.nio_event.specs.PassViews.{PassView, done_between}
 use Rattle.nio_event.specs.declared.act.Act.{Act}
 use Rattle.nio_event.specs.declared.call.Call.{Call}
 use Rattle.nio_event.specs.declared.call.Call.TheVariants as call
@@ -36,40 +35,40 @@ module _ (l : Limits) (now : Progress) where
   channel-stays : (c : ChanNo) (later : Plan Said) → Always Stays later → Always Stays (if_channel l now c later)
   channel-stays c later here = found-stays (find_channel_plan l c.0) reply.NoChannel later here
 
-  named-stays : (me : CallerNo) (word : Call) → waits_for_hold word ≡ true → Always Stays (if_named l now word (call_plan l now me word))
+  named-stays : (me : CallerNo) (word : Call) (r : Reply) → waits_for_hold word r ≡ true → Always Stays (if_named l now word (call_plan l now me word))
   unfolding if_named call_plan
-  named-stays me (call.Blocking c on) waits = channel-stays c _ (asks-stays _ _)
-  named-stays me (call.Register s c ops att) waits = selector-stays s _ (channel-stays c _ (asks-stays _ _))
-  named-stays me call.Selector waits = absurd (cc waits)
-  named-stays me (call.Channel kind) waits = absurd (cc waits)
-  named-stays me (call.IsBlocking c) waits = absurd (cc waits)
-  named-stays me (call.IsOpen c) waits = absurd (cc waits)
-  named-stays me (call.IsRegistered c) waits = absurd (cc waits)
-  named-stays me (call.KeyFor c s) waits = absurd (cc waits)
-  named-stays me (call.Closec c) waits = absurd (cc waits)
-  named-stays me (call.Valid s k) waits = absurd (cc waits)
-  named-stays me (call.Interest s k) waits = absurd (cc waits)
-  named-stays me (call.Ready s k) waits = absurd (cc waits)
-  named-stays me (call.Iset s k ops) waits = absurd (cc waits)
-  named-stays me (call.Ior s k ops) waits = absurd (cc waits)
-  named-stays me (call.Iand s k ops) waits = absurd (cc waits)
-  named-stays me (call.Cancel s k) waits = absurd (cc waits)
-  named-stays me (call.Unselect s k) waits = absurd (cc waits)
-  named-stays me (call.Attach s k att) waits = absurd (cc waits)
-  named-stays me (call.Attachment s k) waits = absurd (cc waits)
-  named-stays me (call.Begin s waiting) waits = absurd (cc waits)
-  named-stays me (call.Told s elapsed pairs) waits = absurd (cc waits)
-  named-stays me (call.Failed s) waits = absurd (cc waits)
-  named-stays me (call.Wakeup s) waits = absurd (cc waits)
-  named-stays me (call.Close s) waits = absurd (cc waits)
-  named-stays me (call.CloseEnd s) waits = absurd (cc waits)
-  named-stays me (call.Keys s) waits = absurd (cc waits)
-  named-stays me (call.Selected s) waits = absurd (cc waits)
-  named-stays me (call.Interrupt target) waits = absurd (cc waits)
-  named-stays me call.Interrupted waits = absurd (cc waits)
+  named-stays me (call.Blocking c on) r waits = channel-stays c _ (asks-stays _ _)
+  named-stays me (call.Register s c ops att) r waits = selector-stays s _ (channel-stays c _ (asks-stays _ _))
+  named-stays me call.Selector r waits = absurd (cc waits)
+  named-stays me (call.Channel kind) r waits = absurd (cc waits)
+  named-stays me (call.IsBlocking c) r waits = absurd (cc waits)
+  named-stays me (call.IsOpen c) r waits = absurd (cc waits)
+  named-stays me (call.IsRegistered c) r waits = absurd (cc waits)
+  named-stays me (call.KeyFor c s) r waits = absurd (cc waits)
+  named-stays me (call.Closec c) r waits = absurd (cc waits)
+  named-stays me (call.Valid s k) r waits = absurd (cc waits)
+  named-stays me (call.Interest s k) r waits = absurd (cc waits)
+  named-stays me (call.Ready s k) r waits = absurd (cc waits)
+  named-stays me (call.Iset s k ops) r waits = absurd (cc waits)
+  named-stays me (call.Ior s k ops) r waits = absurd (cc waits)
+  named-stays me (call.Iand s k ops) r waits = absurd (cc waits)
+  named-stays me (call.Cancel s k) r waits = absurd (cc waits)
+  named-stays me (call.Unselect s k) r waits = absurd (cc waits)
+  named-stays me (call.Attach s k att) r waits = absurd (cc waits)
+  named-stays me (call.Attachment s k) r waits = absurd (cc waits)
+  named-stays me (call.Begin s waiting) r waits = absurd (cc waits)
+  named-stays me (call.Told s elapsed pairs) r waits = absurd (cc waits)
+  named-stays me (call.Failed s) r waits = absurd (cc waits)
+  named-stays me (call.Wakeup s) r waits = absurd (cc waits)
+  named-stays me (call.Close s) r waits = absurd (cc waits)
+  named-stays me (call.CloseEnd s) r waits = absurd (cc waits)
+  named-stays me (call.Keys s) r waits = absurd (cc waits)
+  named-stays me (call.Selected s) r waits = absurd (cc waits)
+  named-stays me (call.Interrupt target) r waits = absurd (cc waits)
+  named-stays me call.Interrupted r waits = absurd (cc waits)
 
-  pub line_stays : (me : CallerNo) (word : Call) (acts : List Act) (said : Said) → waits_for_hold word ≡ true → Completes (line_plan l now me word) acts said → said.left ≡ now
+  pub line_stays : (me : CallerNo) (word : Call) (acts : List Act) (said : Said) (r : Reply) → waits_for_hold word r ≡ true → Completes (line_plan l now me word) acts said → said.left ≡ now
   unfolding line_plan
-  line_stays me word acts said waits run =
+  line_stays me word acts said r waits run =
       always_run Stays (if_caller l now me (if_named l now word (call_plan l now me word))) acts said
-      (always_if Stays (nat_lt me.0 l.callers) (if_named l now word (call_plan l now me word)) (refused now reply.NoCaller) (λ _. named-stays me word waits) (λ _. refl)) run
+      (always_if Stays (nat_lt me.0 l.callers) (if_named l now word (call_plan l now me word)) (refused now reply.NoCaller) (λ _. named-stays me word r waits) (λ _. refl)) run

@@ -1,6 +1,7 @@
 pub mod Does
 pub mod Gathering
 pub mod Output
+pub mod Quiet
 pub mod Race
 pub mod Racers
 pub mod Running

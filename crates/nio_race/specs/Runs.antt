@@ -1,5 +1,5 @@
 -- What a caller does in a line after `go`, and what the line says.
-use Rattle.std.specs.Prelude.{◌≡◌, ℕ, ◌++◌, ◌&&◌, Bool, true, false, Option, Some, None, Ok, List, [], ◌∷◌}
+use Rattle.std.specs.Prelude.{◌≡◌, ℕ, ◌++◌, Bool, true, false, Option, Some, None, Ok, List, [], ◌∷◌, All}
 use Rattle.std.specs.List.{Contains}
 use Rattle.nio_base.specs.declared.limits.Limits.{Limits}
 use Rattle.nio_base.specs.declared.numbers.CallerNo.{CallerNo}
@@ -24,74 +24,139 @@ use Rattle.nio_steps.specs.declared.refusal.BeginError.TheVariants.{ClosedSelect
 
 -- ---- a call that scripts have too
 
--- the calls that wait until nobody else holds the channel
-abbrev pub waits_for_hold : Call → Bool
-waits_for_hold call.Selector = false
-waits_for_hold (call.Channel kind) = false
-waits_for_hold (call.Blocking c on) = true
-waits_for_hold (call.IsBlocking c) = false
-waits_for_hold (call.IsOpen c) = false
-waits_for_hold (call.IsRegistered c) = false
-waits_for_hold (call.KeyFor c s) = false
-waits_for_hold (call.Register s c ops att) = true
-waits_for_hold (call.Closec c) = false
-waits_for_hold (call.Valid s k) = false
-waits_for_hold (call.Interest s k) = false
-waits_for_hold (call.Ready s k) = false
-waits_for_hold (call.Iset s k ops) = false
-waits_for_hold (call.Ior s k ops) = false
-waits_for_hold (call.Iand s k ops) = false
-waits_for_hold (call.Cancel s k) = false
-waits_for_hold (call.Unselect s k) = false
-waits_for_hold (call.Attach s k att) = false
-waits_for_hold (call.Attachment s k) = false
-waits_for_hold (call.Begin s waiting) = false
-waits_for_hold (call.Told s elapsed pairs) = false
-waits_for_hold (call.Failed s) = false
-waits_for_hold (call.Wakeup s) = false
-waits_for_hold (call.Close s) = false
-waits_for_hold (call.CloseEnd s) = false
-waits_for_hold (call.Keys s) = false
-waits_for_hold (call.Selected s) = false
-waits_for_hold (call.Interrupt target) = false
-waits_for_hold call.Interrupted = false
-
+-- the reply of a call that found another caller at work
 abbrev pub is_busy : Reply → Bool
+is_busy (reply.Selector s) = false
+is_busy (reply.Channel c) = false
+is_busy (reply.Key k) = false
+is_busy (reply.Number n) = false
+is_busy (reply.Names names) = false
+is_busy reply.Ok = false
+is_busy reply.Yes = false
+is_busy reply.No = false
+is_busy reply.None = false
+is_busy (reply.Looked pairs) = false
+is_busy (reply.Selected count why) = false
+is_busy reply.Again = false
+is_busy reply.Left = false
+is_busy reply.Already = false
+is_busy reply.Closing = false
+is_busy reply.Closed = false
+is_busy reply.SelectorsSpent = false
+is_busy reply.ChannelsSpent = false
+is_busy reply.ClosedChannel = false
+is_busy reply.IllegalBlockingMode = false
+is_busy reply.IllegalOps = false
+is_busy reply.CancelledKey = false
+is_busy reply.ClosedSelector = false
+is_busy reply.Full = false
 is_busy reply.Busy = true
-is_busy r = false
+is_busy reply.NegativeTimeout = false
+is_busy reply.NotSelecting = false
+is_busy reply.NotClosing = false
+is_busy reply.NoCaller = false
+is_busy reply.NoSelector = false
+is_busy reply.NoChannel = false
+is_busy reply.NoKey = false
 
--- the line is made again: its call waits for a hold that another caller has
+-- The line with this reply is made again: its call waits until nobody else holds the channel, and found that another
+-- caller does.
+abbrev pub waits_for_hold : Call → Reply → Bool
+waits_for_hold call.Selector r = false
+waits_for_hold (call.Channel kind) r = false
+waits_for_hold (call.Blocking c on) r = is_busy r
+waits_for_hold (call.IsBlocking c) r = false
+waits_for_hold (call.IsOpen c) r = false
+waits_for_hold (call.IsRegistered c) r = false
+waits_for_hold (call.KeyFor c s) r = false
+waits_for_hold (call.Register s c ops att) r = is_busy r
+waits_for_hold (call.Closec c) r = false
+waits_for_hold (call.Valid s k) r = false
+waits_for_hold (call.Interest s k) r = false
+waits_for_hold (call.Ready s k) r = false
+waits_for_hold (call.Iset s k ops) r = false
+waits_for_hold (call.Ior s k ops) r = false
+waits_for_hold (call.Iand s k ops) r = false
+waits_for_hold (call.Cancel s k) r = false
+waits_for_hold (call.Unselect s k) r = false
+waits_for_hold (call.Attach s k att) r = false
+waits_for_hold (call.Attachment s k) r = false
+waits_for_hold (call.Begin s waiting) r = false
+waits_for_hold (call.Told s elapsed pairs) r = false
+waits_for_hold (call.Failed s) r = false
+waits_for_hold (call.Wakeup s) r = false
+waits_for_hold (call.Close s) r = false
+waits_for_hold (call.CloseEnd s) r = false
+waits_for_hold (call.Keys s) r = false
+waits_for_hold (call.Selected s) r = false
+waits_for_hold (call.Interrupt target) r = false
+waits_for_hold call.Interrupted r = false
+
 abbrev pub is_made_again : Call → Said → Bool
-is_made_again word said = waits_for_hold word && is_busy said.reply
+is_made_again word said = waits_for_hold word said.reply
 
 -- A line is its look-ups and its call. One whose call waits for a hold is made again while another caller has it.
 abbrev pub MakesScriptLine : Limits → Progress → CallerNo → Call → List Act → Said → Type 0
 MakesScriptLine l now me word acts said = Retries (Completes (line_plan l now me word)) (is_made_again word) acts said
 
+-- ---- calls that ring
+
+-- The call may end the wait of a caller that blocks. Once its line is made, each caller's bell rings.
+abbrev pub wakes : Call → Bool
+wakes call.Selector = false
+wakes (call.Channel kind) = false
+wakes (call.Blocking c on) = false
+wakes (call.IsBlocking c) = false
+wakes (call.IsOpen c) = false
+wakes (call.IsRegistered c) = false
+wakes (call.KeyFor c s) = false
+wakes (call.Register s c ops att) = false
+wakes (call.Closec c) = false
+wakes (call.Valid s k) = false
+wakes (call.Interest s k) = false
+wakes (call.Ready s k) = false
+wakes (call.Iset s k ops) = false
+wakes (call.Ior s k ops) = false
+wakes (call.Iand s k ops) = false
+wakes (call.Cancel s k) = false
+wakes (call.Unselect s k) = false
+wakes (call.Attach s k att) = false
+wakes (call.Attachment s k) = false
+wakes (call.Begin s waiting) = false
+wakes (call.Told s elapsed pairs) = false
+wakes (call.Failed s) = false
+wakes (call.Wakeup s) = true
+wakes (call.Close s) = true
+wakes (call.CloseEnd s) = false
+wakes (call.Keys s) = false
+wakes (call.Selected s) = false
+wakes (call.Interrupt target) = true
+wakes call.Interrupted = false
+
 -- ---- `block`
 
--- what the line says where the selection ended so. Its sleeper never fails, and want of memory ends the thread instead.
-abbrev pub BlockSays : SelectReply → Reply → Type 0
-BlockSays (selected answer) r = r ≡ reply.Selected answer.count answer.why
-BlockSays (not_begun ClosedSelector) r = r ≡ reply.ClosedSelector
-BlockSays (not_begun Busy) r = ⊥
-BlockSays (not_begun Memory) r = ⊥
-BlockSays left r = ⊥
+-- What the line says and leaves where the selection ended so. Its poller never fails, and want of memory ends the thread
+-- instead. Where a selection ended the caller has none in progress there: one that it had begun before holds the turn, so
+-- that this one would wait for ever.
+abbrev pub BlockSays : Progress → SelNo → SelectReply → Said → Type 0
+BlockSays now s (selected answer) said = said ≡ record { reply = reply.Selected answer.count answer.why; left = with_selection now s None }
+BlockSays now s (not_begun ClosedSelector) said = said ≡ record { reply = reply.ClosedSelector; left = now }
+BlockSays now s (not_begun Busy) said = ⊥
+BlockSays now s (not_begun Memory) said = ⊥
+BlockSays now s left said = ⊥
 
--- what the caller has in progress after it: a selection that it had begun there is none any more
-abbrev pub after_block : Progress → SelNo → SelectReply → Progress
-after_block now s (selected answer) = with_selection now s None
-after_block now s (not_begun refusal) = now
-after_block now s left = now
+-- the poller told of no key
+abbrev pub TellsNothing : Poll → Type 0
+TellsNothing poll = poll.pairs ≡ []
 
--- A selection without a limit of time, once the selector is found. It marks no key, since its sleeper tells of none.
+-- A selection without a limit of time, once the selector is found. Its polls tell nothing, so it marks no key.
 pub record Blocks (now : Progress) (s : SelNo) (acts : List Act) (said : Said) : Type 0 where
   pub polls : List Poll
   pub answer : SelectReply
   pub selects : Selects s Wait polls acts answer
+  pub untold : All TellsNothing polls
   pub unmarked : (x : SelNo) (i told : ℕ) (from : KeyMark) → Contains acts (Mark x i from told (Ok tt)) → ⊥
-  pub says : BlockSays answer said.reply
-  pub leaves : said.left ≡ after_block now s answer
+  pub says : BlockSays now s answer said
 
 -- how the line goes on once the selector was looked up
 abbrev pub BlocksOnFound : Progress → SelNo → Option SelNo → List Act → Said → Type 0

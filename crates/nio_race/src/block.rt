@@ -7,6 +7,7 @@ ghost use Rattle.nio_words.specs.Passes.{IsPassOf, seen};
 ghost use Rattle.nio_words.specs.Views.{view};
 ghost use Rattle.nio_race.specs.Racers.{BlocksOn, LineOn, StandsFor};
 
+use crate::quiet::Quiet;
 use nio_base::{CallerNo, SelNo};
 use nio_event::Reply;
 use nio_keys::find_selector;
@@ -55,7 +56,8 @@ fn block_on<R: Wait>(
     ensures pass { IsPassOf w.now d.new.pass }
     ensures later { IsPrefix (seen d.old.pass) (seen d.new.pass) }
 {
-    match select(rt, alloc, w, &mut d.pass, me, sel, sleeper) {
+    let mut poller = Quiet::over(sleeper);
+    match select(rt, alloc, w, &mut d.pass, me, sel, &mut poller) {
         Ok(selected) => {
             drop_selection(&mut d.selections, sel);
             Ok(Reply::Selected(selected.count, selected.why))

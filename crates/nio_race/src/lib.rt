@@ -4,10 +4,12 @@
 
 pub use run::run_race;
 
+mod bells;
 mod block;
 mod gather;
 mod line;
 mod output;
+mod quiet;
 mod racer;
 mod run;
 mod set_off;

@@ -1,10 +1,10 @@
 //! A line after `go` whose call scripts have too.
-ghost use Rattle.std.specs.Prelude.{◌≡◌, ◌&&◌, IfOk};
+ghost use Rattle.std.specs.Prelude.{◌≡◌, IfOk};
 ghost use mathlib.Core.List.{IsPrefix};
 ghost use Rattle.nio_race_text.specs.declared.call.RaceCall.TheVariants.{Script};
 ghost use Rattle.nio_words.specs.Passes.{seen};
 ghost use Rattle.nio_race.specs.Racers.{LineOn, MakesOnce, StandsFor};
-ghost use Rattle.nio_race.specs.Runs.{is_busy as is_said_busy, waits_for_hold as waits_for_a_hold};
+ghost use Rattle.nio_race.specs.Runs.{is_busy as says_busy, waits_for_hold as is_to_wait};
 
 use nio_base::CallerNo;
 use nio_event::{Call, Reply};
@@ -30,7 +30,7 @@ pub(crate) fn script_line<R: Wait>(
 {
     for _ in rt.forever() {
         let reply = make_line_once(alloc, w, d, me, call)?;
-        if !is_made_again(call, &reply) {
+        if !waits_for_hold(call, &reply) {
             return Ok(reply);
         }
         thread::yield_now();
@@ -54,19 +54,12 @@ fn make_line_once(
     make_line(alloc, w, d, me, call)
 }
 
-// Whether the line is made again: its call waits for a hold that another caller has.
-fn is_made_again(call: &Call, reply: &Reply) -> bool
-    ensures { result ≡ (waits_for_a_hold call.now && is_said_busy reply.now) }
-{
-    waits_for_hold(call) && is_busy(reply)
-}
-
-// Whether the call waits until nobody else holds the channel.
-fn waits_for_hold(call: &Call) -> bool
-    ensures { result ≡ waits_for_a_hold call.now }
+// Whether the line with this reply is made again: its call waits for a hold, and found that another caller has it.
+fn waits_for_hold(call: &Call, reply: &Reply) -> bool
+    ensures { result ≡ is_to_wait call.now reply.now }
 {
     match call {
-        Call::Blocking(..) | Call::Register(..) => true,
+        Call::Blocking(..) | Call::Register(..) => is_busy(reply),
         Call::Selector
         | Call::Channel(..)
         | Call::IsBlocking(..)
@@ -98,7 +91,40 @@ fn waits_for_hold(call: &Call) -> bool
 }
 
 fn is_busy(reply: &Reply) -> bool
-    ensures { result ≡ is_said_busy reply.now }
+    ensures { result ≡ says_busy reply.now }
 {
-    matches!(reply, Reply::Busy)
+    match reply {
+        Reply::Busy => true,
+        Reply::Selector(..)
+        | Reply::Channel(..)
+        | Reply::Key(..)
+        | Reply::Number(..)
+        | Reply::Names(..)
+        | Reply::Ok
+        | Reply::Yes
+        | Reply::No
+        | Reply::None
+        | Reply::Looked(..)
+        | Reply::Selected(..)
+        | Reply::Again
+        | Reply::Left
+        | Reply::Already
+        | Reply::Closing
+        | Reply::Closed
+        | Reply::SelectorsSpent
+        | Reply::ChannelsSpent
+        | Reply::ClosedChannel
+        | Reply::IllegalBlockingMode
+        | Reply::IllegalOps
+        | Reply::CancelledKey
+        | Reply::ClosedSelector
+        | Reply::Full
+        | Reply::NegativeTimeout
+        | Reply::NotSelecting
+        | Reply::NotClosing
+        | Reply::NoCaller
+        | Reply::NoSelector
+        | Reply::NoChannel
+        | Reply::NoKey => false,
+    }
 }

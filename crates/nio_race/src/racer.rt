@@ -4,11 +4,12 @@ ghost use mathlib.Core.List.{IsPrefix};
 ghost use Rattle.nio_words.specs.Passes.{IsPassOf, seen};
 ghost use Rattle.nio_race.specs.Racers.{HasRaced, IsSetOff, LineOn, MadeLines, RepliesLine, StandsFor};
 
+use crate::bells::{ring_all, wakes};
 use crate::block::block_line;
 use crate::line::script_line;
 use nio_base::{CallerNo, Gate};
-use nio_event::{Call, Reply};
-use nio_poller::{Bell, Sleeper, SleeperBell};
+use nio_event::Reply;
+use nio_poller::{Sleeper, SleeperBell};
 use nio_race_text::{RaceCall, RaceLine};
 use nio_sole::Desk;
 use nio_words::Words;
@@ -154,19 +155,5 @@ fn make_race_line<R: Wait>(
             Ok(reply)
         }
         RaceCall::Block(sel) => block_line(rt, alloc, w, d, sleeper, me, *sel),
-    }
-}
-
-// Whether the call may end the wait of a caller that blocks.
-fn wakes(call: &Call) -> bool {
-    matches!(
-        call,
-        Call::Wakeup(..) | Call::Close(..) | Call::Interrupt(..)
-    )
-}
-
-fn ring_all(bells: &[SleeperBell]) {
-    for bell in bells {
-        bell.ring();
     }
 }

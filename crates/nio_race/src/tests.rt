@@ -8,7 +8,7 @@ use nio_words::Words;
 use std::alloc::Global;
 use std::process::Abort;
 use std::sync::Wait;
-use std::sync::atomic::{AtomicU64, Ordering};
+use std::sync::atomic::{AtomicBool, AtomicUsize, Ordering};
 use std::test::Fail;
 use std::thread;
 use std::thread::Threads;
@@ -52,69 +52,202 @@ fn is_one_of(output: &[u8], lawful: &[&str]) -> bool {
     lawful.iter().any(|text| output == text.as_bytes())
 }
 
-/// Runs this text, and compares the status and what was written with what is lawful.
+/// How often a line looks whether its turn has come before it gives up.
+const TURNS: u32 = 100_000_000;
+
+/// How often a line whose turn has come gives the processor away before it goes on.
+const PAUSE: u32 = 20_000;
+
+/// Lets lines go on in this order alone: callers with the numbers of their lines. Each waits a while after its turn has
+/// come, so that the line before is practically made, or blocks.
+#[derive(Drop)]
+struct InOrder<'a> {
+    order: &'a [(u32, u64)],
+    passed: AtomicUsize,
+    given_up: AtomicBool,
+}
+
+impl<'a> InOrder<'a> {
+    fn over(order: &'a [(u32, u64)]) -> InOrder<'a> {
+        InOrder {
+            order,
+            passed: AtomicUsize::new(0),
+            given_up: AtomicBool::new(false),
+        }
+    }
+
+    /// Whether this line is the next.
+    fn is_next(&self, caller: u32, line: u64) -> bool {
+        match self.order.get(self.passed.load(Ordering::SeqCst)) {
+            Some(next) => next.0 == caller && next.1 == line,
+            None => false,
+        }
+    }
+
+    fn pause(&self) {
+        for _ in 0..PAUSE {
+            thread::yield_now();
+        }
+    }
+}
+
+impl<'a> Gate for InOrder<'a> {
+    fn pass<R: Wait>(&self, _rt: &R, who: u32, what: u64) {
+        for _ in 0..TURNS {
+            if self.is_next(who, what) {
+                self.pause();
+                self.passed.fetch_add(1, Ordering::SeqCst);
+                return;
+            }
+            if self.given_up.load(Ordering::SeqCst) {
+                return;
+            }
+            thread::yield_now();
+        }
+        self.given_up.store(true, Ordering::SeqCst);
+    }
+}
+
+/// Runs this text with its lines in this order, and compares the status and what was written with what is lawful. Each
+/// line of the order has gone on, and no other.
 fn ends<R: Threads + Wait + Sync + Abort>(
     rt: &R,
     alloc: Global,
     label: &str,
-    text: &str,
-    code: u8,
-    lawful: &[&str],
+    (text, order): (&str, &[(u32, u64)]),
+    (code, lawful): (u8, &[&str]),
 ) -> Result<(), Fail> {
-    let ended = end_of(rt, alloc, LIMITS, text.as_bytes(), &NoGate)?;
+    let gate = InOrder::over(order);
+    let ended = end_of(rt, alloc, LIMITS, text.as_bytes(), &gate)?;
+    assert_eq!(rt; gate.passed.load(Ordering::SeqCst), order.len(), "{label}");
     assert_eq!(rt; ended.code, code, "{label}");
     assert!(rt; is_one_of(&ended.output, lawful), "{label}");
     Ok(())
 }
 
+/// A text and the order of its lines, and the status and what may be written.
+type Race = (
+    (&'static str, &'static [(u32, u64)]),
+    (u8, &'static [&'static str]),
+);
+
+const BLOCK_AND_WAKEUP: &str =
+    "t1 selector\nt1 channel source\nt1 blocking c0 off\nt1 register s0 c0 1\ngo\nt1 block s0\nt2 wakeup s0\n";
+
+const WOKEN: &str =
+    "1 t1 selector -> s0\n2 t1 channel source -> c0\n3 t1 blocking c0 off -> ok\n4 t1 register s0 c0 1 -> k0\nt1 1 block s0 -> selected 0 woken\nt2 1 wakeup s0 -> ok\n";
+
 #[test]
 fn races(rt: HostRuntime) -> Result<(), Fail> {
-    let rows: [(&str, &str, u8, &[&str]); 6] = [
+    let rows: [(&str, Race); 9] = [
         (
             "race_block_wakeup",
-            "t1 selector\nt1 channel source\nt1 blocking c0 off\nt1 register s0 c0 1\ngo\nt1 block s0\nt2 wakeup s0\n",
-            0,
-            &[
-                "1 t1 selector -> s0\n2 t1 channel source -> c0\n3 t1 blocking c0 off -> ok\n4 t1 register s0 c0 1 -> k0\nt1 1 block s0 -> selected 0 woken\nt2 1 wakeup s0 -> ok\n",
-            ],
+            ((BLOCK_AND_WAKEUP, &[(1, 1), (2, 1)]), (0, &[WOKEN])),
         ),
         (
-            "a selection from before go",
-            "t1 selector\nt1 begin s0 now\ngo\nt1 told s0\n",
-            0,
-            &[
-                "1 t1 selector -> s0\n2 t1 begin s0 now -> looked none\nt1 1 told s0 -> selected 0 now\n",
-            ],
+            "race_wakeup_block",
+            ((BLOCK_AND_WAKEUP, &[(2, 1), (1, 1)]), (0, &[WOKEN])),
+        ),
+        (
+            "woken before go",
+            (
+                ("t1 selector\nt2 wakeup s0\ngo\nt1 block s0\n", &[(1, 1)]),
+                (
+                    0,
+                    &[
+                        "1 t1 selector -> s0\n2 t2 wakeup s0 -> ok\nt1 1 block s0 -> selected 0 woken\n",
+                    ],
+                ),
+            ),
+        ),
+        (
+            "a ring that ends another sleep",
+            (
+                (
+                    "t1 selector\nt1 selector\ngo\nt1 block s1\nt1 block s0\nt2 wakeup s0\nt2 wakeup s1\n",
+                    &[(1, 1), (2, 1), (2, 2), (1, 2)],
+                ),
+                (
+                    0,
+                    &[
+                        "1 t1 selector -> s0\n2 t1 selector -> s1\nt1 1 block s1 -> selected 0 woken\nt1 2 block s0 -> selected 0 woken\nt2 1 wakeup s0 -> ok\nt2 2 wakeup s1 -> ok\n",
+                    ],
+                ),
+            ),
         ),
         (
             "an interrupted block",
-            "t1 selector\ngo\nt1 block s0\nt2 interrupt t1\n",
-            0,
-            &[
-                "1 t1 selector -> s0\nt1 1 block s0 -> selected 0 interrupted\nt2 1 interrupt t1 -> ok\n",
-            ],
+            (
+                (
+                    "t1 selector\ngo\nt1 block s0\nt1 block s0\nt2 interrupt t1\n",
+                    &[(1, 1), (2, 1), (1, 2)],
+                ),
+                (
+                    0,
+                    &[
+                        "1 t1 selector -> s0\nt1 1 block s0 -> selected 0 interrupted\nt1 2 block s0 -> selected 0 interrupted\nt2 1 interrupt t1 -> ok\n",
+                    ],
+                ),
+            ),
         ),
         (
             "a selector closed meanwhile",
-            "t1 selector\ngo\nt1 block s0\nt2 close s0\n",
-            0,
-            &[
-                "1 t1 selector -> s0\nt1 1 block s0 -> closed-selector\nt2 1 close s0 -> closing\n",
-                "1 t1 selector -> s0\nt1 1 block s0 -> selected 0 closed\nt2 1 close s0 -> closing\n",
-            ],
+            (
+                (
+                    "t1 selector\ngo\nt1 block s0\nt2 close s0\n",
+                    &[(1, 1), (2, 1)],
+                ),
+                (
+                    0,
+                    &[
+                        "1 t1 selector -> s0\nt1 1 block s0 -> selected 0 closed\nt2 1 close s0 -> closing\n",
+                        "1 t1 selector -> s0\nt1 1 block s0 -> closed-selector\nt2 1 close s0 -> closing\n",
+                    ],
+                ),
+            ),
         ),
-        ("no lines", "go\n", 0, &[""]),
+        (
+            "a selection from before go",
+            (
+                ("t1 selector\nt1 begin s0 now\ngo\nt1 told s0\n", &[(1, 1)]),
+                (
+                    0,
+                    &[
+                        "1 t1 selector -> s0\n2 t1 begin s0 now -> looked none\nt1 1 told s0 -> selected 0 now\n",
+                    ],
+                ),
+            ),
+        ),
+        ("no lines", (("go\n", &[]), (0, &[""]))),
         (
             "a bad line",
-            "t1 selector\ngo\nt1 selector\n",
-            3,
-            &["bad line 3\n"],
+            (
+                ("t1 selector\ngo\nt1 selector\n", &[]),
+                (3, &["bad line 3\n"]),
+            ),
         ),
     ];
-    for (label, text, code, lawful) in rows {
-        ends(&rt, rt.alloc(), label, text, code, lawful)?;
+    for (label, (read, expected)) in rows {
+        ends(&rt, rt.alloc(), label, read, expected)?;
     }
     Ok(())
+}
+
+/// Neither caller's lines all come before the other's, so callers that ran one after the other would wait for ever.
+#[test]
+fn callers_run_beside_each_other(rt: HostRuntime) -> Result<(), Fail> {
+    let text =
+        "go\nt1 interrupted\nt1 interrupted\nt1 interrupted\nt2 interrupted\nt2 interrupted\nt2 interrupted\n";
+    let output =
+        "t1 1 interrupted -> no\nt1 2 interrupted -> no\nt1 3 interrupted -> no\nt2 1 interrupted -> no\nt2 2 interrupted -> no\nt2 3 interrupted -> no\n";
+    let order = [(2, 1), (2, 2), (1, 1), (1, 2), (2, 3), (1, 3)];
+    ends(
+        &rt,
+        rt.alloc(),
+        "beside each other",
+        (text, &order),
+        (0, &[output]),
+    )
 }
 
 #[test]
@@ -149,60 +282,5 @@ fn sixty_four_callers(rt: HostRuntime) -> Result<(), Fail> {
     let (text, output) = line_of_each(rt.alloc())?;
     let ended = end_of(&rt, rt.alloc(), LIMITS, text.as_bytes(), &NoGate)?;
     assert_eq!(rt; ended.output.as_slice(), output.as_bytes());
-    Ok(())
-}
-
-/// How often a hold looks before it gives up.
-const TURNS: u32 = 100_000_000;
-
-/// Holds caller 1 before its first line until caller 2 has passed for its second, and caller 2 before its third until
-/// caller 1 has passed for its second. Callers that ran one after the other would be held for ever.
-#[derive(Drop)]
-struct Crossing {
-    first: AtomicU64,
-    second: AtomicU64,
-    given_up: AtomicU64,
-}
-
-impl Crossing {
-    /// Returns once the other caller has passed for this line, or after so many turns.
-    fn hold(&self, passed: &AtomicU64, line: u64) {
-        for _ in 0..TURNS {
-            if passed.load(Ordering::SeqCst) >= line {
-                return;
-            }
-            thread::yield_now();
-        }
-        self.given_up.store(1, Ordering::SeqCst);
-    }
-}
-
-impl Gate for Crossing {
-    fn pass<R: Wait>(&self, _rt: &R, who: u32, what: u64) {
-        match (who, what) {
-            (1, 1) => self.hold(&self.second, 2),
-            (2, 3) => self.hold(&self.first, 2),
-            _ => {}
-        }
-        if who == 1 {
-            self.first.store(what, Ordering::SeqCst);
-        } else {
-            self.second.store(what, Ordering::SeqCst);
-        }
-    }
-}
-
-#[test]
-fn callers_run_beside_each_other(rt: HostRuntime) -> Result<(), Fail> {
-    let gate = Crossing {
-        first: AtomicU64::new(0),
-        second: AtomicU64::new(0),
-        given_up: AtomicU64::new(0),
-    };
-    let text =
-        b"go\nt1 interrupted\nt1 interrupted\nt1 interrupted\nt2 interrupted\nt2 interrupted\nt2 interrupted\n";
-    let ended = end_of(&rt, rt.alloc(), LIMITS, text.as_slice(), &gate)?;
-    assert_eq!(rt; gate.given_up.load(Ordering::SeqCst), 0);
-    assert_eq!(rt; ended.code, 0);
     Ok(())
 }

@@ -1,4 +1,4 @@
-use Rattle.std.proofs.Common.{None, Err, refl, subst}
+use Rattle.std.proofs.Common.{None, Some, Err, refl, subst}
 use Rattle.nio_event.specs.declared.found.Mode.TheVariants.{Wait}
 use Rattle.nio_poller.specs.Selecting.{SelectClause}
 use Rattle.nio_poller.specs.declared.selecting.SelectError.{SelectError}
@@ -12,7 +12,7 @@ pub returns-in-Ok-clause-line : goal.returns-in-Ok-clause-line
 returns-in-Ok-clause-line g c =
     let d = c.args.d.now in
     let d' : Desk = record d { pass = c.select.new.p; selections = c.drop_selection.new.selections } in
-    blocks_selected c.args.w.now d d' c.args.me c.args.sel c.in-Ok.selected c.in-Ok.ensures.call
+    blocks_selected c.args.w.now d d' c.args.me c.args.sel c.over-poller.ensures c.in-Ok.ensures.kept c.in-Ok.selected c.in-Ok.ensures.call
     (progress_selection c.args.w.now d c.select.new.p c.args.sel c.drop_selection.new.selections None c.requires.stands.places c.requires.selector.inside c.drop_selection.ensures.items)
 
 pub returns-in-Ok-clause-stands : goal.returns-in-Ok-clause-stands
@@ -28,8 +28,8 @@ pub returns-in-Err-ClosedSelector-clause-line : goal.returns-in-Err-ClosedSelect
 returns-in-Err-ClosedSelector-clause-line g c =
     let d = c.args.d.now in
     let d' : Desk = record d { pass = c.select.new.p } in
-    blocks_closed c.args.w.now d d' c.args.me c.args.sel
-    (subst (λ (e : SelectError). SelectClause c.args.me c.args.sel Wait (view c.args.w.now d.pass) (view c.args.w.now d'.pass) None None (λ _. 0) (Err e)) c.in-Err-ClosedSelector.field-0-is c.in-Err-ClosedSelector.ensures.call)
+    blocks_closed c.args.w.now d d' c.args.me c.args.sel c.over-poller.ensures c.in-Err-ClosedSelector.ensures.kept
+    (subst (λ (e : SelectError). SelectClause c.args.me c.args.sel Wait (view c.args.w.now d.pass) (view c.args.w.now d'.pass) (Some c.over-poller.result.polls) (Some c.select.new.poller.polls) (λ _. 0) (Err e)) c.in-Err-ClosedSelector.field-0-is c.in-Err-ClosedSelector.ensures.call)
     refl
 
 pub returns-in-Err-ClosedSelector-clause-stands : goal.returns-in-Err-ClosedSelector-clause-stands
@@ -37,4 +37,4 @@ returns-in-Err-ClosedSelector-clause-stands g c =
     let d = c.args.d.now in
     let d' : Desk = record d { pass = c.select.new.p } in
     stands_closed c.args.w.now d d' c.args.me c.requires.stands c.args.sel c.in-Err-ClosedSelector.ensures.ready (places_same c.select.new.p c.requires.stands.places) refl
-    (subst (λ (e : SelectError). SelectClause c.args.me c.args.sel Wait (view c.args.w.now d.pass) (view c.args.w.now d'.pass) None None (λ _. 0) (Err e)) c.in-Err-ClosedSelector.field-0-is c.in-Err-ClosedSelector.ensures.call)
+    (subst (λ (e : SelectError). SelectClause c.args.me c.args.sel Wait (view c.args.w.now d.pass) (view c.args.w.now d'.pass) (Some c.over-poller.result.polls) (Some c.select.new.poller.polls) (λ _. 0) (Err e)) c.in-Err-ClosedSelector.field-0-is c.in-Err-ClosedSelector.ensures.call)

@@ -1,6 +1,4 @@
-use Rattle.std.proofs.Common.{suc, ◌+◌, ◌∷◌, drop, sym, ap, drop-cons, add-one}
-use Rattle.nio_race.specs.Output.{WritesLine}
-use Rattle.nio_race.proofs.Adding.{answered, not_its, unanswered}
+use Rattle.nio_race.proofs.Adding.{not_its, unanswered}
 use Rattle.nio_race.proofs.output.add_line.Goals as goal
 use Rattle.nio_race.proofs.output.add_line.Goals.{then-line-caller-via-then-line-caller, then-line-caller-via-else-line-caller+then-made-replies}
 

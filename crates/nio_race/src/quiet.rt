@@ -1,0 +1,93 @@
+//! The poller of a `block`.
+ghost use Rattle.std.specs.Prelude.{◌≡◌, Some, IfOk};
+ghost use Rattle.nio_poller.specs.Polls.{CountsFaults, AddsPoll, told_of_channel};
+ghost use Rattle.nio_poller.specs.declared.poller.PollError.TheVariants.{Fault};
+ghost use Rattle.nio_race.specs.Quiet.{AreStillUntold};
+
+use nio_event::Mode;
+use nio_poller::{PollError, Poller, Sleeper, ToldPoll};
+use nio_select::{Asked, Told};
+use nio_trace::{Reading, Trace};
+use std::alloc::Global;
+use std::sync::Wait;
+
+/// A poller that tells nothing and sleeps. Only its first poll answers at once: what ends the wait may have come before,
+/// with a ring that ended another sleep, or before `go`, where none rang. So the selection looks before it waits.
+#[derive(Drop)]
+pub(crate) struct Quiet<'a> {
+    sleeper: &'a mut Sleeper,
+    is_first: bool,
+    polls: Trace<ToldPoll>,
+}
+
+impl<'a> Quiet<'a> {
+    ghost use Rattle.std.specs.Prelude.{[]};
+
+    /// A poller that has answered no poll.
+    pub(crate) fn over(sleeper: &'a mut Sleeper) -> Quiet<'a>
+        ensures { result.polls ≡ [] }
+    {
+        Quiet {
+            sleeper,
+            is_first: true,
+            polls: Trace::new(),
+        }
+    }
+}
+
+impl<'a> Poller for Quiet<'a> {
+    ghost use Rattle.nio_base.specs.declared.numbers.ChanNo.{ChanNo};
+    ghost use Rattle.nio_race.specs.Quiet.{AreStillUntold};
+
+    ghost poll_faults = { λ _. 0 };
+
+    ghost ready = { λ _ _. 0 };
+
+    ghost polls = { λ s. Some s.polls };
+
+    ghost kept = { λ before after. AreStillUntold before.polls after.polls };
+
+    fn poll<R: Wait>(
+        &mut self,
+        rt: &R,
+        alloc: Global,
+        asked: &Asked,
+        mode: Mode,
+    ) -> Result<Told, PollError>
+        ensures cause { CountsFaults Fault 0 0 result }
+        ensures ready { IfOk result (λ told. (c : ChanNo) → 0 ≡ told_of_channel asked.now told.pairs.items c) }
+        ensures polls { AddsPoll (Some self.old.polls) (Some self.new.polls) asked.now mode result }
+        ensures kept { AreStillUntold self.old.polls self.new.polls }
+    {
+        let waiting = if self.is_first { Mode::Now } else { mode };
+        self.is_first = false;
+        let told = self.sleeper.poll(rt, alloc, asked, waiting)?;
+        self.polls.extend_from::<Answer, OnePoll>(&Answer {
+            asked,
+            mode,
+            told: &told,
+        });
+        Ok(told)
+    }
+
+    ghost kept_same = { λ _ untold. untold };
+
+    ghost kept_on = { λ _ _ _ first second untold. second (first untold) };
+}
+
+#[derive(Clone, Copy)]
+struct Answer<'a> {
+    asked: &'a Asked,
+    mode: Mode,
+    told: &'a Told,
+}
+
+/// Reads a poll off its answer.
+struct OnePoll;
+
+impl<'a> Reading<Answer<'a>, ToldPoll> for OnePoll {
+    ghost use Rattle.std.specs.Prelude.{[], ◌∷◌};
+    ghost use Rattle.nio_select.specs.InProgress.{poll_of};
+
+    ghost items = { λ answer. record { asked = answer.asked.now; mode = answer.mode; answer = poll_of answer.told.now } ∷ [] };
+}

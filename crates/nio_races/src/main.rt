@@ -1,0 +1,109 @@
+//! Runs each race text of the examples some times, and counts the outputs that are listed beside it.
+#![tactic(auto)]
+
+ghost use Rattle.std.specs.Prelude.{◌↔◌, IsTrue, map};
+ghost use Rattle.std.specs.List.{Contains};
+
+use nio_base::{Limits, NoGate};
+use nio_bytes::{MemorySink, MemorySource};
+use nio_race::run_race;
+use nio_words::Words;
+use std::alloc::{AllocError, Global};
+use std::rt::Files;
+use std::sync::Wait;
+use std::thread::Threads;
+use std::{fs, io};
+
+/// The examples, each with how many outputs are listed beside it.
+const EXAMPLES: [(&str, u32); 3] = [
+    ("block_and_wakeup", 1),
+    ("closing_while_blocked", 4),
+    ("registering_and_cancelling", 3),
+];
+
+/// How often each is run.
+const RUNS: u32 = 20;
+
+const LIMITS: Limits = Limits {
+    callers: 4,
+    selectors: 1,
+    channels: 1,
+    keys: 8,
+};
+
+/// An output is taken up to this length.
+const ROOM: usize = 8_192;
+
+/// A race text, and the outputs that it may have.
+#[derive(Drop)]
+struct Example {
+    text: Vec<u8>,
+    listed: Vec<Vec<u8>>,
+}
+
+fn main(rt: HostRuntime) -> anyhow::Result<()> {
+    for (name, outcomes) in EXAMPLES {
+        let example = read_example(&rt, rt.alloc(), name, outcomes)?;
+        let listed = listed_runs(&rt, rt.alloc(), &example)?;
+        println!(rt; "{name}: {listed} of {RUNS} runs gave one of the {outcomes} listed outputs")?;
+    }
+    Ok(())
+}
+
+/// Reads the text and its outputs from the files beside the program.
+fn read_example<R: Files + AllocGlobal>(
+    rt: &R,
+    alloc: Global,
+    name: &str,
+    outcomes: u32,
+) -> io::Result<Example> {
+    let text = fs::read(rt, format!(in alloc; "{name}.race")?)?;
+    let mut listed = Vec::new(alloc);
+    for number in 1..=outcomes {
+        listed.push(fs::read(rt, format!(in alloc; "{name}.out{number}")?)?)?;
+    }
+    Ok(Example { text, listed })
+}
+
+/// How many of the runs gave a listed output.
+fn listed_runs<R: Threads + Wait + Sync>(
+    rt: &R,
+    alloc: Global,
+    example: &Example,
+) -> Result<u32, AllocError> {
+    let mut listed = 0;
+    for _ in 0..RUNS {
+        let output = run_once(rt, alloc, &example.text)?;
+        if is_listed(&output, &example.listed) {
+            listed += 1;
+        }
+    }
+    Ok(listed)
+}
+
+/// The output of the race on a table of its own.
+fn run_once<R: Threads + Wait + Sync>(
+    rt: &R,
+    alloc: Global,
+    text: &[u8],
+) -> Result<Vec<u8>, AllocError> {
+    let mut source = MemorySource::make(text.to_vec(alloc)?, ROOM, Vec::new(alloc));
+    let mut sink = MemorySink::make(alloc, ROOM, Vec::new(alloc), ROOM)?;
+    let (table, mut pass) = Words::make(alloc, LIMITS)?;
+    run_race(
+        rt,
+        alloc,
+        &mut source,
+        &mut sink,
+        &table,
+        &mut pass,
+        &NoGate,
+    );
+    sink.bytes().to_vec(alloc)
+}
+
+fn is_listed(output: &[u8], listed: &[Vec<u8>]) -> bool
+    ensures { IsTrue result ↔ Contains (map (λ text. text.items) listed.now) output.now }
+{
+    listed.iter().any(|text| text.as_slice() == output)
+}
