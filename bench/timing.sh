@@ -24,6 +24,18 @@ best() {
     echo "$least"
 }
 
+# busy TIMES COMMAND..: the least processor time of so many times, in milliseconds; the command writes nothing
+busy() {
+    local times=$1 least=999999999 took
+    local TIMEFORMAT='%3U %3S'
+    shift
+    for _ in $(seq "$times"); do
+        took=$({ time "$@"; } 2>&1 | awk '{ printf "%d", ($1 + $2) * 1000 }')
+        [ "$took" -ge "$least" ] || least=$took
+    done
+    echo "$least"
+}
+
 # What is timed writes to /dev/null, so that the file system has no part in it.
 whole() { "$program" script <"$work/whole" >/dev/null; }
 half() { "$program" script <"$work/half" >/dev/null; }
