@@ -40,7 +40,7 @@ pub(crate) fn search_free(
     None
 }
 
-// How many times 64 indexes there are below `mark`, the last ones counted too.
+// The number of words, of 64 indexes each, that the indexes below `mark` stand in.
 fn words_below(w: &Words, mark: u32) -> u32
     requires { mark ≤ (limits_of w.now).keys }
     ensures { result ≡ count_words_below mark }
@@ -48,7 +48,7 @@ fn words_below(w: &Words, mark: u32) -> u32
     (mark + 63) / 64
 }
 
-// The same of the 64 indexes from `64 * j` on.
+// `search_free` among the 64 indexes from `64 * j` on.
 fn search_word(
     w: &Words,
     p: &mut Pass,
@@ -75,7 +75,7 @@ fn search_word(
     search_bits(w, p, me, sel, chan, mark, j, word)
 }
 
-// The same of those that the look at their word showed as free.
+// `search_free` among those of these 64 indexes that `word`, which the look found, shows as free.
 fn search_bits(
     w: &Words,
     p: &mut Pass,

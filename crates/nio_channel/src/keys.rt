@@ -60,8 +60,8 @@ fn is_registered_in(
     before || here.is_some()
 }
 
-// `key_for`, of any selector that there may be. Where the caller holds the channel, what it found under its
-// hold tells that the channel has no key where it finds none.
+// `key_for`, for a selector that may not be made. Under a hold of the channel the clause `clear` says more: where
+// this finds no key, the caller knows that there is none.
 #[tactic(auto, unfolding(nio_steps::specs::ChannelCalls::key_for_plan))]
 pub(crate) fn key_in(
     w: &Words,

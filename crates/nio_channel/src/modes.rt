@@ -71,7 +71,7 @@ fn set_mode_open(
     set_mode_clear(w, p, me, chan, on, registered)
 }
 
-// Blocking mode asks that the channel has no key.
+// A key of the channel, where `on` asks for blocking mode, which a registered channel can't have.
 fn key_if_blocking(w: &Words, p: &mut Pass, me: CallerNo, chan: ChanNo, on: bool) -> Option<KeyNo>
     requires { HoldsChannel w.now p.old me chan }
     ensures call { CallClause me (Completes (key_where_blocking (limits_of w.now) chan on)) (view w.now p.old) (view w.now p.new) result }

@@ -293,7 +293,7 @@ fn register_new(
     register_next(w, p, me, wanted, mark, claimed)
 }
 
-// With the index that was claimed again, or with the first that was never claimed.
+// Registers with the index that was claimed again, or else with the first that was never claimed.
 fn register_next(
     w: &Words,
     p: &mut Pass,
@@ -321,7 +321,7 @@ fn register_next(
     }
 }
 
-// With an index that had a key before.
+// Registers with an index that had a key before.
 fn register_again(
     w: &Words,
     p: &mut Pass,
@@ -340,7 +340,7 @@ fn register_again(
     make_claimed(w, p, me, wanted, k)
 }
 
-// With an index that never had one.
+// Registers with an index that never had a key.
 fn register_first(
     w: &Words,
     p: &mut Pass,

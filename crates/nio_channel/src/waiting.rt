@@ -75,7 +75,7 @@ pub fn register<R: Wait>(
     unreachable!()
 }
 
-// Another caller has the hold of the channel.
+// Whether the call was refused because another caller has the hold of the channel.
 fn is_busy<A>(answer: &Result<A, ChannelError>) -> bool
     ensures { result ≡ finds_held answer.now }
 {

@@ -1,8 +1,10 @@
 //! Calls on a key's interest set.
+ghost use Rattle.std.specs.Prelude.{Ok};
 ghost use Rattle.nio_event.specs.Conditions.{IsChannel};
 ghost use Rattle.nio_event.specs.PassViews.{HasKey, HasNoPin};
 ghost use Rattle.nio_steps.specs.Calls.{CallClause};
 ghost use Rattle.nio_steps.specs.KeyCalls.{if_valid, on_supported, look_set, put_set, add_set, keep_set, interest_plan, set_interest_plan, interest_or_plan, interest_and_plan};
+ghost use Rattle.nio_steps.specs.Plan.{reply};
 ghost use Rattle.nio_steps.specs.Runs.{Completes};
 ghost use Rattle.nio_words.specs.Passes.{IsReady, limits_of};
 ghost use Rattle.nio_words.specs.Views.{view, IsPinned};
@@ -46,6 +48,31 @@ fn interest_present(
     Ok(w.look_interest(p, me, key.sel, key.index))
 }
 
+/// What a call that sets or adds operations refuses: CancelledKey where the key isn't valid, then
+/// IllegalOps where its channel hasn't all of these operations.
+fn check_operations(
+    w: &Words,
+    p: &mut Pass,
+    me: CallerNo,
+    key: KeyNo,
+    ops: Ops,
+    stage: Stage,
+) -> Result<(), KeyError>
+    requires pinned { IsPinned w.now p.old me key.sel key.index }
+    requires channel { IsChannel (limits_of w.now) stage.chan }
+    ensures call { CallClause me (Completes (if_valid key (on_supported ops (reply (Ok tt))) stage)) (view w.now p.old) (view w.now p.new) result }
+    ensures pinned { IsPinned w.now p.new me key.sel key.index }
+{
+    if !stage.is_valid_key(key.serial) {
+        return Err(KeyError::CancelledKey);
+    }
+    let found = w.look_channel(p, me, stage.chan);
+    if !supports(found.kind, ops) {
+        return Err(KeyError::IllegalOps);
+    }
+    Ok(())
+}
+
 /// Puts `ops` in the place of the key's interest set: Java's `interestOps(int)`.
 pub fn set_interest(
     w: &Words,
@@ -81,13 +108,7 @@ fn set_interest_present(
     ensures call { CallClause me (Completes (if_valid key (on_supported ops (put_set key ops)) stage)) (view w.now p.old) (view w.now p.new) result }
     ensures pinned { IsPinned w.now p.new me key.sel key.index }
 {
-    if !stage.is_valid_key(key.serial) {
-        return Err(KeyError::CancelledKey);
-    }
-    let found = w.look_channel(p, me, stage.chan);
-    if !supports(found.kind, ops) {
-        return Err(KeyError::IllegalOps);
-    }
+    check_operations(w, p, me, key, ops, stage)?;
     w.swap_interest(p, me, key.sel, key.index, ops);
     Ok(())
 }
@@ -127,13 +148,7 @@ fn interest_or_present(
     ensures call { CallClause me (Completes (if_valid key (on_supported ops (add_set key ops)) stage)) (view w.now p.old) (view w.now p.new) result }
     ensures pinned { IsPinned w.now p.new me key.sel key.index }
 {
-    if !stage.is_valid_key(key.serial) {
-        return Err(KeyError::CancelledKey);
-    }
-    let found = w.look_channel(p, me, stage.chan);
-    if !supports(found.kind, ops) {
-        return Err(KeyError::IllegalOps);
-    }
+    check_operations(w, p, me, key, ops, stage)?;
     Ok(w.or_interest(p, me, key.sel, key.index, ops))
 }
 

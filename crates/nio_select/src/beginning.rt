@@ -48,7 +48,7 @@ pub fn try_begin(
     begin_open(alloc, w, p, me, sel, mode)
 }
 
-// The gate was found open.
+// Begins the selection, whose gate was found not shut.
 fn begin_open(
     alloc: Global,
     w: &Words,
@@ -90,7 +90,7 @@ fn begin_with_turn(
     begin_below(alloc, w, p, me, sel, mode, bound)
 }
 
-// The memory for the lists is taken before the first look at an index.
+// Makes the lists of the selection. Their memory is taken before the first look at an index.
 fn begin_below(
     alloc: Global,
     w: &Words,
@@ -124,7 +124,7 @@ fn begin_below(
     })
 }
 
-// How many times 64 indexes there are below `mark`, the last ones counted too.
+// The number of words, of 64 indexes each, that the indexes below `mark` stand in.
 fn words_below(w: &Words, mark: u32) -> u32
     requires { mark ≤ (limits_of w.now).keys }
     ensures { result ≡ count_words_below mark }

@@ -4,14 +4,14 @@ ghost use Rattle.nio_event.specs.Sets.{in_key_set, in_cancelled_set, is_valid as
 
 use nio_event::Stage;
 
-// The key set: the keys that are published and not removed.
+// Whether it is in the key set: published and not removed.
 pub(crate) fn is_in_key_set(stage: Stage) -> bool
     ensures { result ≡ in_key_set stage }
 {
     stage.published && !stage.removed
 }
 
-// The keys of the key set that are cancelled.
+// Whether it is in the cancelled set: in the key set, and cancelled.
 pub(crate) fn is_in_cancelled_set(stage: Stage) -> bool
     ensures { result ≡ in_cancelled_set stage }
 {

@@ -86,7 +86,7 @@ fn find(slots: &[Slot], index: u32, next: usize) -> Option<usize>
         .ok()
 }
 
-// Marks the keys with what is noted of them. Answers how many marks succeeded.
+// Marks the keys with what was told of them. Answers how many marks succeeded.
 fn mark_all(w: &Words, p: &mut Pass, me: CallerNo, sel: SelNo, slots: &[Slot]) -> u32
     requires begun { HasBegun w.now p.old me sel }
     requires countable { AreCountable (limits_of w.now) sel slots.now }

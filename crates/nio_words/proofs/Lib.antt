@@ -12,8 +12,7 @@ pub mod Stepping
 pub mod Draws
 pub mod Gates
 pub mod Channels
-pub mod Holds
-pub mod Turns
+pub mod Holders
 pub mod Noted
 pub mod HighMarks
 pub mod Marks

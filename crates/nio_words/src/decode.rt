@@ -1,4 +1,4 @@
-//! What the words of the parts tell.
+//! Words as parts of the state: the other way round from `encode`.
 ghost use Rattle.std.specs.Prelude.{◌≡◌, ◌<◌};
 ghost use Rattle.nio_words.specs.Decodings.{is_set, gate_of, stage_of, operations_of, number_of, kind_of, chan_of, mark_of, holder_of, noted_of};
 

@@ -1,4 +1,4 @@
-//! The words of new parts.
+//! Parts of the state as words.
 ghost use Rattle.std.specs.Prelude.{◌≡◌, ◌+◌, ◌^◌, ◌<◌, Some};
 ghost use Rattle.nio_event.specs.Acts.{new_channel, new_key, selected_with};
 ghost use Rattle.nio_words.specs.Encodings.{bit, kind_code, channel_word, stage_word, mark_word, holder_word, noted_word};
@@ -27,7 +27,7 @@ fn kind_code(kind: Kind) -> u64
     }
 }
 
-/// A new channel: made, of this kind, open, and in blocking mode.
+/// The word of a new channel: made, of this kind, open, and in blocking mode.
 #[inline(always)]
 pub(crate) fn new_channel(kind: Kind) -> u64
     ensures { result ≡ channel_word (new_channel kind) }
@@ -35,10 +35,10 @@ pub(crate) fn new_channel(kind: Kind) -> u64
     1 + 2 * kind_code(kind) + 32
 }
 
-/// One pin on an index.
+/// One pin, as the word of an index counts it.
 pub(crate) const PIN: u64 = 16;
 
-/// A new key, claimed for this channel and no more, with one pin on its index.
+/// The word of an index that was just claimed for this channel, with one pin on it.
 #[inline(always)]
 pub(crate) fn new_key(c: ChanNo, serial: u32) -> u64
     requires { c.0 < 2 ^ 20 }
@@ -47,7 +47,7 @@ pub(crate) fn new_key(c: ChanNo, serial: u32) -> u64
     1 + PIN + u64::from(c.0) * (1 << 12) + u64::from(serial) * (1 << 32)
 }
 
-/// A key with no pin on its index.
+/// The word of an index that has this key and no pin.
 #[inline(always)]
 pub(crate) fn unpinned(key: Stage) -> u64
     requires { key.chan.0 < 2 ^ 20 }
@@ -60,7 +60,7 @@ pub(crate) fn unpinned(key: Stage) -> u64
     stages + u64::from(key.chan.0) * (1 << 12) + u64::from(key.serial) * (1 << 32)
 }
 
-/// Who has a hold or a turn.
+/// The word of a hold or a turn that this caller has.
 #[inline(always)]
 pub(crate) fn holder(n: CallerNo) -> u64
     ensures { result ≡ holder_word (Some n) }
@@ -68,7 +68,7 @@ pub(crate) fn holder(n: CallerNo) -> u64
     u64::from(n.0) + 1
 }
 
-/// A key that is noted.
+/// The word that notes this key for a channel.
 #[inline(always)]
 pub(crate) fn noted(key: KeyId) -> u64
     requires { key.index + 1 < 2 ^ 32 }
@@ -77,7 +77,7 @@ pub(crate) fn noted(key: KeyId) -> u64
     u64::from(key.index) + 1 + u64::from(key.serial) * (1 << 32)
 }
 
-/// Whether a key is selected, and its ready set.
+/// The word of a key's mark.
 #[inline(always)]
 pub(crate) fn mark(selected: bool, ready: Ops) -> u64
     ensures word { result ≡ mark_word (record { selected = selected; ready = ready }) }
@@ -86,7 +86,8 @@ pub(crate) fn mark(selected: bool, ready: Ops) -> u64
     u64::from(ready.bits()) + 256 * bit(selected)
 }
 
-/// What a key with this mark becomes that is told of.
+/// The word of a key's mark once the selection has marked the key with what was told of it. `selected` and
+/// `ready` are the mark before.
 #[inline(always)]
 pub(crate) fn selected_with(selected: bool, ready: Ops, told: Ops) -> u64
     ensures word { result ≡ mark_word (selected_with (record { selected = selected; ready = ready }) told) }

@@ -18,7 +18,7 @@ pub enum Instruction {
     Add(u64),
     /// Subtracts this number.
     Subtract(u64),
-    /// Raises the word to this number, unless it is as high.
+    /// Raises the word to this number, unless it is at least as high.
     Max(u64),
     /// Puts this word in its place.
     Swap(u64),

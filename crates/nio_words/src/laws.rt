@@ -8,9 +8,9 @@ pub fn whole_law()
     ensures { HoldersOfAllSeeAll }
 {}
 
-/// A caller goes on from a pass to a later one, of which the other laws speak, by each call, draw,
-/// split and joining, and by one after another. What was seen in between is a history, of which the laws of
-/// `nio_event` speak.
+/// The other laws speak of a pass and a later one. A later pass is what a call, a draw, a split or a joining
+/// leaves, and what several of them leave one after the other. The events that were seen in between are a
+/// history, so the laws of `nio_event` apply to them.
 pub fn going_on_law()
     ensures calls { CallsGoOn }
     ensures draws { DrawsGoOn }
@@ -20,8 +20,8 @@ pub fn going_on_law()
     ensures histories { HistoriesGoOn }
 {}
 
-/// What is drawn, made, claimed, published, cancelled, removed, closed or shut, and what is below a mark, is so
-/// in what every later pass has seen, and a key that was published and isn't valid isn't valid there.
+/// What is drawn, made, claimed, published, cancelled, removed, closed or shut, and what is below a high-water
+/// mark, is so in what every later pass has seen, and a key that was published and isn't valid isn't valid there.
 pub fn permanent_law()
     ensures facts { FactsStand }
     ensures invalid { InvalidKeysStand }

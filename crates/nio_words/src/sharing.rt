@@ -59,7 +59,7 @@ impl Words {
     }
 
     /// A second pass, which has seen what `p` has and holds no number. To tell another thread what
-    /// one has seen is to hand it such a pass.
+    /// one has seen is to hand it such a pass. It never answers Err.
     pub fn split(&self, p: &mut Pass) -> Result<Pass, AllocError>
         requires { IsPassOf self.now p.old }
         ensures { IsOkAnd result (λ given. Splits self.now p.old p.new given) }
@@ -67,7 +67,8 @@ impl Words {
         Ok(self.split_off(p, 0))
     }
 
-    /// A pass that has seen what `p` has and holds this one number, which `p` holds no longer.
+    /// A pass that has seen what `p` has and holds this one number, which `p` holds no longer. It
+    /// never answers Err.
     pub fn hand_over(&self, p: &mut Pass, number: CallerNo) -> Result<Pass, AllocError>
         requires pass { IsPassOf self.now p.old }
         requires number { Holds p.old number }

@@ -3,7 +3,7 @@ use atomic_table::TableRule;
 use nio_base::Limits;
 use nio_event::Event;
 
-/// What one of two passes knew that were joined. A clause reads an array as a list of any length.
+/// What one of two joined passes knew. A clause reads an array as a list of any length.
 pub struct Half {
     pub seen: [Event; 0],
     pub numbers: u64,
@@ -20,7 +20,7 @@ pub struct View {
     pub alone: bool,
     /// Whether it was joined into another.
     pub spent: bool,
-    /// Where it comes from a joining and no step was made since: both sides of it.
+    /// What both passes knew, where the seat comes from a joining and no step was made since; else empty.
     pub halves: [Half; 0],
 }
 

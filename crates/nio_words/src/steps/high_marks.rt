@@ -22,7 +22,7 @@ impl Words {
         number_of(found)
     }
 
-    /// Raises the channels' mark to `n`, unless it is as high. Answers the mark before.
+    /// Raises the channels' mark to `n`, unless it is at least as high. Answers the mark before.
     pub fn raise_channels(&self, p: &mut Pass, me: CallerNo, n: u32) -> u32
         requires ready { IsReady self.now p.old me }
         requires most { n ≤ (limits_of self.now).channels }
@@ -50,7 +50,7 @@ impl Words {
         number_of(found)
     }
 
-    /// Raises the selector's keys' mark to `n`, unless it is as high. Answers the mark before.
+    /// Raises the selector's keys' mark to `n`, unless it is at least as high. Answers the mark before.
     pub fn raise_keys(&self, p: &mut Pass, me: CallerNo, s: SelNo, n: u32) -> u32
         requires ready { IsReady self.now p.old me }
         requires selector { IsSelector (limits_of self.now) s }

@@ -1,25 +1,21 @@
 use Rattle.std.proofs.Common.{refl, rules}
-use Rattle.nio_keys.proofs.Supported.{ran_supported, ran_unsupported}
+use Rattle.std.proofs.lemmas.Result.{err_from_is_err_and}
+use Rattle.nio_keys.proofs.Supported.{ran_checked, ran_refused}
 use Rattle.nio_steps.proofs.CallLaws.{left_one, returned}
 use Rattle.nio_steps.specs.KeyCalls.{put_set}
 use Rattle.nio_words.proofs.Pins.{stays_pinned}
 use Rattle.nio_words.proofs.Views.{step_acts}
 use Rattle.nio_keys.proofs.interests.set_interest_present.Goals as goal
 
-pub returns-then-not-supports-clause-call : goal.returns-then-not-supports-clause-call
-returns-then-not-supports-clause-call c =
-    ran_unsupported c.args.key c.args.stage c.args.ops (put_set c.args.key c.args.ops) (search rules) (step_acts c.look_channel-found.ensures refl) (search rules)
-
-pub returns-then-not-supports-clause-pinned : goal.returns-then-not-supports-clause-pinned
-returns-then-not-supports-clause-pinned c = stays_pinned c.look_channel-found.ensures refl refl c.requires.pinned
-
-pub swap_interest-requires-clause-pinned : goal.swap_interest-requires-clause-pinned
-swap_interest-requires-clause-pinned c = (stays_pinned c.look_channel-found.ensures refl refl c.requires.pinned).only.here
+pub returns-in_err-check_operations-clause-call : goal.returns-in_err-check_operations-clause-call
+returns-in_err-check_operations-clause-call c =
+    let refusal = err_from_is_err_and c.from_residual.result c.from_residual.ensures.1 in
+    rw (refusal.1, refusal.2) (ran_refused c.args.key c.args.stage c.args.ops (put_set c.args.key c.args.ops) (search rules))
 
 pub returns-clause-call : goal.returns-clause-call
 returns-clause-call c =
-    ran_supported c.args.key c.args.stage c.args.ops (put_set c.args.key c.args.ops) (search rules) (step_acts c.look_channel-found.ensures refl) (search rules)
+    ran_checked c.args.key c.args.stage c.args.ops (put_set c.args.key c.args.ops) (search rules)
     (returned (left_one _ (step_acts c.swap_interest.ensures refl)))
 
 pub returns-clause-pinned : goal.returns-clause-pinned
-returns-clause-pinned c = stays_pinned c.swap_interest.ensures refl refl (stays_pinned c.look_channel-found.ensures refl refl c.requires.pinned)
+returns-clause-pinned c = stays_pinned c.swap_interest.ensures refl refl c.check_operations.ensures.pinned

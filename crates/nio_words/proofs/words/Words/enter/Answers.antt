@@ -1,4 +1,4 @@
-use Rattle.nio_words.proofs.Turns.{enter_moves}
+use Rattle.nio_words.proofs.Holders.{enter_moves}
 use Rattle.nio_words.proofs.words.Words.enter.Goals as goal
 
 pub step-found-requires : goal.step-found-requires

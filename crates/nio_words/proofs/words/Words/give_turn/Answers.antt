@@ -1,4 +1,4 @@
-use Rattle.nio_words.proofs.Turns.{give_turn_moves}
+use Rattle.nio_words.proofs.Holders.{give_turn_moves}
 use Rattle.nio_words.proofs.words.Words.give_turn.Goals as goal
 
 pub step-requires : goal.step-requires

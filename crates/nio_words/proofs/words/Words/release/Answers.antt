@@ -1,4 +1,4 @@
-use Rattle.nio_words.proofs.Holds.{release_moves}
+use Rattle.nio_words.proofs.Holders.{release_moves}
 use Rattle.nio_words.proofs.words.Words.release.Goals as goal
 
 pub step-requires : goal.step-requires

@@ -1,5 +1,5 @@
 use Rattle.std.proofs.Common.{arith}
-use Rattle.nio_words.proofs.Turns.{take_turn_moves}
+use Rattle.nio_words.proofs.Holders.{take_turn_moves}
 use Rattle.nio_words.proofs.words.Words.take_turn.Goals as goal
 
 pub step-found-requires : goal.step-found-requires

@@ -1,5 +1,5 @@
 use Rattle.std.proofs.Common.{arith}
-use Rattle.nio_words.proofs.Holds.{try_hold_bit_moves}
+use Rattle.nio_words.proofs.Holders.{try_hold_bit_moves}
 use Rattle.nio_words.proofs.words.Words.try_hold_bit.Goals as goal
 
 pub step-found-requires : goal.step-found-requires
