@@ -5,9 +5,10 @@ use Rattle.std.proofs.lemmas.List.{append-nil, length-take-le, length-take, take
 use Rattle.std.proofs.lemmas.Slice.{drop-append-drop}
 use Rattle.std.proofs.Math.Seq.{take-append-add, take-length}
 use mathlib.Core.List.{IsPrefix}
-use Rattle.nio_words.proofs.Beginnings.{prefix_self, prefix_length, prefix_trans}
+use Rattle.nio_words.proofs.Beginnings.{prefix_self, prefix_length, prefix_trans, prefix_whole}
 use Rattle.nio_pipe.specs.Counts.{count_of, marks_left, marks_taken, left_to, known_of, IsReached}
-use Rattle.nio_pipe.specs.Ends.{GivesBytes, IsSameSource, KnowsNothing, SourceLooks, known, knows_end, received, IsSameSink, SinkLooks, TakesBytes, sent, free, is_marked}
+use Rattle.nio_pipe.specs.Answers.{read_answer}
+use Rattle.nio_pipe.specs.Ends.{GivesBytes, IsAtEnd, IsSameSource, KnowsNothing, SourceLooks, known, knows_end, received, IsSameSink, SinkLooks, TakesBytes, sent, free, is_marked}
 use Rattle.nio_pipe.specs.declared.sink.PipeSink.{PipeSink}
 use Rattle.nio_pipe.specs.declared.source.PipeSource.{PipeSource}
 
@@ -18,6 +19,7 @@ gives_nothing s into = record {
   rest = refl;
   known = prefix_self (known s);
   end_stays = λ knows. knows;
+  no_more = λ _. refl;
 }
 
 -- ---- looking for the end, where no byte waits
@@ -27,8 +29,8 @@ known_nothing to_end items more none empty =
     let nothing : known_of to_end items ≡ [] = ap (λ t. known_of t items) none ∙ empty in
     subst (λ xs. IsPrefix xs more) (sym nothing) (more, refl)
 
-pub knew_end : (old new : Option ℕ) → old ≡ None → IsTrue (is_some old) → IsTrue (is_some new)
-knew_end old new none knows = let clash : false ≡ true = sym (ap is_some none) ∙ knows in absurd (cc clash)
+pub knew_end : {A : Type 0} (old : Option ℕ) → old ≡ None → IsTrue (is_some old) → A
+knew_end old none knows = let clash : false ≡ true = sym (ap is_some none) ∙ knows in absurd (cc clash)
 
 -- ---- looking and then reading
 
@@ -38,6 +40,7 @@ looks_none s = record {
   received = refl;
   known = prefix_self (known s);
   end_stays = λ knows. knows;
+  no_more = λ _. refl;
 }
 
 pub gives_after : {a b c : PipeSource} {before after : List ℕ} {n : ℕ} → SourceLooks a b → GivesBytes b c before after n → GivesBytes a c before after n
@@ -47,6 +50,7 @@ gives_after {a = a} {b = b} {c = c} {after = after} {n = n} looks gives = record
   rest = gives.rest;
   known = prefix_trans (known a) (known b) (take n after ++ known c) looks.known gives.known;
   end_stays = λ knows. gives.end_stays (looks.end_stays knows);
+  no_more = λ knows. sym (looks.no_more knows) ∙ gives.no_more (looks.end_stays knows);
 }
 
 same_source : {a b c : PipeSource} → IsSameSource a b → IsSameSource b c → IsSameSource a c
@@ -63,6 +67,7 @@ looks_more {a = a} {b = b} {c = c} looks same gives = record {
   received = gives.received ∙ (append-nil (received b) ∙ looks.received);
   known = prefix_trans (known a) (known b) (known c) looks.known gives.known;
   end_stays = λ knows. gives.end_stays (looks.end_stays knows);
+  no_more = λ knows. sym (gives.no_more (looks.end_stays knows)) ∙ looks.no_more knows;
 }
 
 no_front : (xs ys : List ℕ) → xs ++ ys ≡ [] → xs ≡ []
@@ -80,6 +85,20 @@ knew_nothing {a = a} {b = b} looks none = record {
     by_test true is = let clash : true ≡ false = sym (looks.end_stays is) ∙ none.no_mark in absurd (cc clash)
     by_test false is = is
 
+-- ---- at the end
+
+-- looking changes nothing there
+pub end_looked : {a b : PipeSource} → SourceLooks a b → IsAtEnd a → IsAtEnd b
+end_looked looks at_end = record { marked = looks.end_stays at_end.marked; no_byte = looks.no_more at_end.marked ∙ at_end.no_byte }
+
+-- reading gives nothing there, and tells the end
+pub end_told : {a b : PipeSource} (before after : List ℕ) (n : ℕ) → GivesBytes a b before after n → length after ≡ length before → IsAtEnd a
+    → read_answer (length before) n (knows_end b) ≡ read_answer (length before) 0 true
+end_told {a = a} {b = b} before after n gives same at_end =
+    let none : take n after ≡ [] = no_front (take n after) (known b) (sym (gives.no_more at_end.marked) ∙ at_end.no_byte) in
+    let no_byte : n ≡ 0 = sym (length-take-le n after (omega (arith, gives.fit, same))) ∙ ap length none in
+    ap (λ (k : ℕ). read_answer (length before) k (knows_end b)) no_byte ∙ ap (read_answer (length before) 0) (gives.end_stays at_end.marked)
+
 -- ---- reading up to the end
 
 -- Bytes were read into a slice, of those up to the end, all of which were seen. `there` is what stands in the part
@@ -90,7 +109,7 @@ pub record PopsToEnd (items items' popped popped' into there : List ℕ) (left r
   pub fits : given ≤ length (take room into)
   pub popped_is : popped' ≡ popped ++ take given there
   pub next : IsPrefix items (take given there ++ items')
-  pub most : given < length (take room into) → length items' ≡ 0
+  pub most : given < length (take room into) → items' ≡ []
   pub part : length there ≡ length (take room into)
 
 module _ (items items' popped popped' into there : List ℕ) (left room given : ℕ) (pops : PopsToEnd items items' popped popped' into there left room given) where
@@ -110,7 +129,10 @@ module _ (items items' popped popped' into there : List ℕ) (left room given : 
   next_length = omega (arith, prefix_length items (take given there ++ items') pops.next, length-append (take given there) items', length-given)
 
   all_given : given ≡ room
-  all_given = let long : length items ≤ given + length items' = next_length in grind (arith, lent, fits_in, pops.most, pops.seen, pops.room_is)
+  all_given =
+      let long : length items ≤ given + length items' = next_length in
+      let none : given < room → length items' ≡ 0 = λ less. ap length (pops.most (omega (arith, less, lent))) in
+      grind (arith, fits_in, pops.seen, pops.room_is)
 
   pub reached_after : (mark : Option ℕ) → mark ≡ Some ((length popped + left) % 2 ^ 64) → IsReached popped' items' mark (Some (left - given))
   reached_after mark told = record {
@@ -133,15 +155,15 @@ module _ (items items' popped popped' into there : List ℕ) (left room given : 
   pub given-rest : drop given (there ++ drop room into) ≡ drop given into
   given-rest = drop-append-drop room into there given (omega (arith, all_given)) part_is
 
-  pub given-known : (to_end : Option ℕ) → to_end ≡ Some left → IsPrefix (known_of to_end items) (take given (there ++ drop room into) ++ take (left - given) items')
-  given-known to_end is = subst (λ t. IsPrefix (known_of t items) (take given (there ++ drop room into) ++ take (left - given) items')) (sym is) up_to_left
+  pub given-known : (to_end : Option ℕ) → to_end ≡ Some left → known_of to_end items ≡ take given (there ++ drop room into) ++ take (left - given) items'
+  given-known to_end is = subst (λ t. known_of t items ≡ take given (there ++ drop room into) ++ take (left - given) items') (sym is) up_to_left
     where
-      up_to_left : IsPrefix (take left items) (take given (there ++ drop room into) ++ take (left - given) items')
+      up_to_left : take left items ≡ take given (there ++ drop room into) ++ take (left - given) items'
       up_to_left =
           let there_left : take left (items ++ pops.next.0) ≡ take left items = take-append-le left items pops.next.0 pops.seen in
           let whole : left ≡ length (take given there) + (left - given) = omega (arith, length-given, all_given, pops.room_is) in
           let parts : take left (take given there ++ items') ≡ take given there ++ take (left - given) items' = ap (λ (n : ℕ). take n (take given there ++ items')) whole ∙ take-append-add (take given there) items' (left - given) in
-          ([], append-nil (take left items) ∙ (sym there_left ∙ (ap (take left) pops.next.1 ∙ (parts ∙ ap (λ xs. xs ++ take (left - given) items') (sym front)))))
+          sym there_left ∙ (ap (take left) pops.next.1 ∙ (parts ∙ ap (λ xs. xs ++ take (left - given) items') (sym front)))
 
 -- ---- both ends in one hand
 
@@ -226,6 +248,27 @@ module _ (R K S : List ℕ) (marked : Bool) (read written : ℕ) (mark to_end to
           let clash : None ≡ Some ((length R + n) % 2 ^ 64) = sym (no_mark_left mark written left) ∙ beside.told n is in
           absurd (cc clash)
 
+  -- an end that was known is as far as all that wait
+  counted : (n : ℕ) → to_end ≡ Some n → n ≤ length K → n ≡ length K
+  counted n is few =
+      let marks : mark ≡ Some written = mark_left mark written (beside.marks ∙ ap (λ b. marks_left b written) (marked_then n is)) in
+      let same : written ≡ (length R + n) % 2 ^ 64 = cc (sym marks ∙ beside.told n is) in
+      let total : length S ≡ length R + length K = sym (ap length beside.whole) ∙ length-append R K in
+      omega (arith, few, beside.few, beside.written_is)
+
+  -- who knew of the end knew all that wait
+  pub known_then : (items : List ℕ) → ((n : ℕ) → to_end ≡ Some n → n ≤ length items) → IsPrefix items K → is_some to_end ≡ true → known_of to_end' K ≡ known_of to_end items
+  known_then items seen grows knew = all_known ∙ by_end to_end refl knew
+    where
+      by_end : (t : Option ℕ) → to_end ≡ t → is_some t ≡ true → K ≡ known_of t items
+      by_end None is knows = absurd (cc knows)
+      by_end (Some n) is knows =
+          let few : n ≤ length K = omega (arith, seen n is, prefix_length items K grows) in
+          let count : n ≡ length K = counted n is few in
+          let all : items ≡ K = prefix_whole items K grows (omega (arith, seen n is, count)) in
+          let long : n ≡ length items = count ∙ ap length (sym all) in
+          sym (ap (λ (k : ℕ). take k items) long ∙ (take-length items ∙ all))
+
   pub end_lasts : is_some to_end ≡ true → is_some to_end' ≡ true
   end_lasts knew = end_known ∙ by_end to_end refl knew
     where
@@ -242,10 +285,7 @@ module _ (R K S : List ℕ) (marked : Bool) (read written : ℕ) (mark to_end to
       by_end (Some n) is knows none =
           let left : marked ≡ true = marked_then n is in
           let n_is : n ≡ 0 = omega (arith, seen n is, length-take-le n items (seen n is), ap length none) in
-          let marks : mark ≡ Some written = mark_left mark written (beside.marks ∙ ap (λ b. marks_left b written) left) in
-          let same : written ≡ (length R + n) % 2 ^ 64 = cc (sym marks ∙ beside.told n is) in
-          let total : length S ≡ length R + length K = sym (ap length beside.whole) ∙ length-append R K in
-          let none_waits : length K ≡ 0 = omega (arith, beside.few, beside.written_is) in
+          let none_waits : length K ≡ 0 = sym (counted n is (omega (arith, n_is))) ∙ n_is in
           (left, sym (append-nil R) ∙ (ap (λ xs. R ++ xs) (sym (no_items K none_waits)) ∙ beside.whole))
 
 -- ---- the sink

@@ -43,20 +43,23 @@ pub record IsSameSource (old new : PipeSource) : Type 0 where
   pub marks : SameConsumer old.marks new.marks
   pub channel : new.chan ≡ old.chan
 
--- the source has looked: it may know of more
+-- the source has looked: it may know of more, unless it knew of the end mark
 pub record SourceLooks (old new : PipeSource) : Type 0 where
   pub same : IsSameSource old new
   pub received : received new ≡ received old
-  pub known : IsPrefix (known old) (known new)
   pub end_stays : IsTrue (knows_end old) → IsTrue (knows_end new)
+  pub no_more : IsTrue (knows_end old) → known new ≡ known old
+  pub known : IsPrefix (known old) (known new)
 
--- a read that gave so many bytes: the next ones that wait, which now stand at the front of the slice
+-- a read that gave so many bytes: the next ones that wait, which now stand at the front of the slice. Where the
+-- source knew of the end mark they are of those that it knew, and the others stay known
 pub record GivesBytes (old new : PipeSource) (before after : List ℕ) (given : ℕ) : Type 0 where
   pub fit : given ≤ length before
   pub received : received new ≡ received old ++ take given after
   pub rest : drop given after ≡ drop given before
-  pub known : IsPrefix (known old) (take given after ++ known new)
   pub end_stays : IsTrue (knows_end old) → IsTrue (knows_end new)
+  pub no_more : IsTrue (knows_end old) → known old ≡ take given after ++ known new
+  pub known : IsPrefix (known old) (take given after ++ known new)
 
 -- ---- the sink
 
@@ -93,10 +96,11 @@ pub record SinkLooks (old new : PipeSink) : Type 0 where
   pub free : free old ≤ free new
   pub mark : is_marked new ≡ is_marked old
 
--- a write that took so many bytes from the front of the slice
+-- a write that took so many bytes from the front of the slice; none once the end mark was left
 pub record TakesBytes (old new : PipeSink) (slice : List ℕ) (taken : ℕ) : Type 0 where
   pub fit : taken ≤ length slice
   pub sent : sent new ≡ sent old ++ take taken slice
+  pub ended : IsTrue (is_marked old) → taken ≡ 0
 
 -- ---- both
 

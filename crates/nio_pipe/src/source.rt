@@ -1,11 +1,13 @@
 //! The end of a pipe that is read from.
-ghost use Rattle.std.specs.Prelude.{◌≡◌};
+ghost use Rattle.std.specs.Prelude.{◌≡◌, ◌<◌, ◌≤◌, ◌++◌, [], length, take, drop};
+ghost use mathlib.Core.List.{IsPrefix};
 ghost use Rattle.rtrb.specs.Ring.{consumer_capacity, known_items, received as popped, sent as pushed, SameConsumer};
 ghost use Rattle.nio_pipe.specs.Counts.{count_of, left_to, marks_taken, IsReached};
 
 use crate::answers::{PipeRead, read_answer, read_goes_on, refusal_after};
 use crate::checks::check_open;
 use crate::sink::PipeSink;
+use core::mem::replace_with;
 use nio_base::{CallerNo, ChanNo};
 use nio_channel::close_channel;
 use nio_steps::PipeError;
@@ -33,7 +35,7 @@ pub struct PipeSource {
 }
 
 impl PipeSource {
-    ghost use Rattle.std.specs.Prelude.{◌<◌, ◌≤◌, ◌++◌, [], length, None, Some, IfNone, IfSome, IsSome, OnOk, IfOk, Ok, Err};
+    ghost use Rattle.std.specs.Prelude.{◌<◌, ◌≤◌, ◌++◌, [], length, true, None, Some, IfNone, IfSome, IsSome, OnOk, IfOk, Ok, Err};
     ghost use Rattle.nio_event.specs.PassViews.{HasChannel, HasNoPin};
     ghost use Rattle.nio_steps.specs.Calls.{CallClause};
     ghost use Rattle.nio_steps.specs.ChannelCalls.{close_channel_plan};
@@ -96,6 +98,7 @@ impl PipeSource {
         ensures most { OnOk result (bytes_read result < length into.old → known self.new ≡ []) }
         ensures not_yet { result ≡ Ok NotYet → KnowsNothing self.old × KnowsNothing self.new }
         ensures end { result ≡ Ok End → IsAtEnd self.new }
+        ensures stays { IsAtEnd self.old → IfOk result (λ answer. answer ≡ answer_of_read (length into.old) 0 true) }
     {
         check_open(w, p, me, self.chan)?;
         Ok(self.give(into))
@@ -123,6 +126,7 @@ impl PipeSource {
         ensures most { OnOk result (bytes_read result < length into.old → known self.new ≡ []) }
         ensures not_yet { result ≡ Ok NotYet → KnowsNothing self.old × KnowsNothing self.new }
         ensures end { result ≡ Ok End → IsAtEnd self.new }
+        ensures stays { IsAtEnd self.old → IfOk result (λ answer. answer ≡ answer_of_read (length into.old) 0 true) }
     {
         let chan = self.chan;
         let mut waited = false;
@@ -200,6 +204,7 @@ impl PipeSource {
         ensures most { bytes_read (Ok result) < length into.old → known self.new ≡ [] }
         ensures not_yet { result ≡ NotYet → KnowsNothing self.old × KnowsNothing self.new }
         ensures end { result ≡ End → IsAtEnd self.new }
+        ensures stays { IsAtEnd self.old → result ≡ answer_of_read (length into.old) 0 true }
     {
         self.look();
         let given = self.pop(into);
@@ -273,7 +278,7 @@ impl PipeSource {
         ensures most { result < length into.old → known self.new ≡ [] }
         ensures end { self.new.to_end ≡ None }
     {
-        let given = self.bytes.pop_partial_slice(into);
+        let given = pop_slice(&mut self.bytes, into);
         self.count = self.count.wrapping_add(given as u64);
         given
     }
@@ -287,9 +292,40 @@ impl PipeSource {
         ensures end { IsSome self.new.to_end }
     {
         let room = left.min(into.len());
-        let given = self.bytes.pop_partial_slice(&mut into[..room]);
+        let given = pop_slice(&mut self.bytes, &mut into[..room]);
         self.count = self.count.wrapping_add(given as u64);
         self.to_end = Some(left - given);
         given
     }
+}
+
+// Pops as many bytes as there are and fit into the slice, by `pop_by_value`.
+fn pop_slice(bytes: &mut Consumer<u8>, slice: &mut [u8]) -> usize
+    ensures ring { SameConsumer bytes.old bytes.new }
+    ensures fit { result ≤ length slice.old }
+    ensures popped { popped bytes.new ≡ popped bytes.old ++ take result slice.new }
+    ensures rest { drop result slice.new ≡ drop result slice.old }
+    ensures known { IsPrefix (known_items bytes.old) (take result slice.new ++ known_items bytes.new) }
+    ensures most { result < length slice.old → known_items bytes.new ≡ [] }
+{
+    let (given, _) = replace_with(bytes, slice, pop_by_value);
+    given
+}
+
+// Takes the ring's end by value and hands it back. Behind a reference its fields would be read anew for each byte,
+// since the bytes that are written might lie there.
+fn pop_by_value<'a>(
+    mut bytes: Consumer<u8>,
+    slice: &'a mut [u8],
+) -> (Consumer<u8>, (usize, &'a mut [u8]))
+    ensures slice { result.1.1.ghost_name ≡ slice.entry.ghost_name }
+    ensures ring { SameConsumer bytes result.0 }
+    ensures fit { result.1.0 ≤ length slice.old }
+    ensures popped { popped result.0 ≡ popped bytes ++ take result.1.0 result.1.1.now }
+    ensures rest { drop result.1.0 result.1.1.now ≡ drop result.1.0 slice.old }
+    ensures known { IsPrefix (known_items bytes) (take result.1.0 result.1.1.now ++ known_items result.0) }
+    ensures most { result.1.0 < length slice.old → known_items result.0 ≡ [] }
+{
+    let given = bytes.pop_partial_slice(slice);
+    (bytes, (given, slice))
 }

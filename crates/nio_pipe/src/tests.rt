@@ -602,3 +602,93 @@ fn a_reader_that_waits_is_ended(rt: HostRuntime) -> Result<(), Fail> {
     }
     Ok(())
 }
+
+/// Writes until there is another answer than bytes.
+fn writes_on<R: Wait>(
+    rt: &R,
+    w: &Words,
+    mut q: Pass,
+    mut sink: PipeSink,
+    bytes: &[u8],
+) -> Option<Result<PipeWrite, PipeError>>
+    requires { MayUse w.now q ONE sink.source sink.chan }
+{
+    for _ in 0..TRIES {
+        let written = sink.write(rt, w, &mut q, ONE, bytes);
+        if !matches!(written, Ok(PipeWrite::Bytes(_))) {
+            return Some(written);
+        }
+    }
+    None
+}
+
+/// Reads one byte, which waits for the writer, and then closes the sink's channel or the source.
+fn reads_and_ends<R: Wait>(
+    rt: &R,
+    w: &Words,
+    mut p: Pass,
+    mut source: PipeSource,
+    sink: ChanNo,
+    closes_sink: bool,
+) -> Result<PipeRead, PipeError>
+    requires { MayUse w.now p ZERO source.chan sink }
+{
+    let mut into = [0u8; 1];
+    let read = source.read(rt, w, &mut p, ZERO, &mut into);
+    if closes_sink {
+        close_channel(w, &mut p, ZERO, sink);
+    } else {
+        source.close(w, &mut p, ZERO);
+    }
+    read
+}
+
+/// A writer in one thread, which waits for room, and in the other a reader that ends it.
+fn meet_writer<R: Threads + Wait + Sync>(
+    rt: &R,
+    w: &Words,
+    p: Pass,
+    q: Pass,
+    source: PipeSource,
+    sink: PipeSink,
+    bytes: &[u8],
+    closes_sink: bool,
+) -> (
+    Result<PipeRead, PipeError>,
+    Option<Result<PipeWrite, PipeError>>,
+)
+    requires reader { MayUse w.now p ZERO source.chan sink.chan }
+    requires writer { MayUse w.now q ONE sink.source sink.chan }
+{
+    let other = sink.chan();
+    join(
+        rt,
+        || -> Result<PipeRead, PipeError>
+            requires { MayUse w.now p ZERO source.chan other }
+        { reads_and_ends(rt, w, p, source, other, closes_sink) },
+        || -> Option<Result<PipeWrite, PipeError>>
+            requires { MayUse w.now q ONE sink.source sink.chan }
+        { writes_on(rt, w, q, sink, bytes) },
+    )
+}
+
+#[test]
+fn a_writer_that_waits_is_ended(rt: HostRuntime) -> Result<(), Fail> {
+    let bytes = vec![in rt.alloc(); 7u8; 65_536]?;
+    for closes_sink in [true, false] {
+        let (words, mut p) = table(rt.alloc())?;
+        let (source, sink) = ends_made(rt.alloc(), &words, &mut p)?;
+        let q = words.hand_over(&mut p, ONE)?;
+        let (read, written) = meet_writer(&rt, &words, p, q, source, sink, &bytes, closes_sink);
+        assert!(rt; read == Ok(PipeRead::Bytes(1)));
+        // Where the close comes between two writes the later one finds the channel closed.
+        assert!(rt;
+            match written {
+                Some(Err(PipeError::AsynchronousClose | PipeError::ClosedChannel)) => closes_sink,
+                Some(Err(PipeError::BrokenPipe)) => !closes_sink,
+                _ => false,
+            }
+        );
+    }
+    Ok(())
+}

@@ -4,7 +4,7 @@ use mathlib.Core.List.{IsPrefix}
 use Rattle.rtrb.specs.Ring.{known_items, received as popped, sent as pushed, SameConsumer}
 use Rattle.nio_pipe.specs.Counts.{count_of, known_of}
 use Rattle.nio_pipe.specs.Ends.{known}
-use Rattle.nio_pipe.proofs.EndLemmas.{Beside, end_known, all_known, known_grows, end_lasts, was_whole}
+use Rattle.nio_pipe.proofs.EndLemmas.{Beside, end_known, all_known, known_grows, known_then, end_lasts, was_whole}
 use Rattle.nio_pipe.proofs.source.PipeSource.beside.Goals as goal
 
 beside_of : (c : goal.After-reach_end) → Beside (popped c.slots_beside-waiting.new.self) (known_items c.slots_beside-waiting.new.self) (pushed c.slots_beside-waiting.new.producer)
@@ -62,6 +62,9 @@ returns-clause-source c =
       received = ap popped c.reach_end.ensures.bytes ∙ (slots.ensures.looked.1 ∙ ap popped c.take_mark_beside.ensures.bytes);
       known = subst (λ xs. IsPrefix xs (known new)) (knew c) (subst (λ ring. IsPrefix (known_of source.to_end (known_items source.bytes)) (known_of new.to_end (known_items ring))) (sym c.reach_end.ensures.bytes)
           (known_grows _ _ _ _ _ _ _ _ _ (beside_of c) (known_items source.bytes) source.reached.seen grows));
+      no_more = λ knows.
+          ap (λ ring. known_of new.to_end (known_items ring)) c.reach_end.ensures.bytes
+          ∙ (known_then _ _ _ _ _ _ _ _ _ (beside_of c) (known_items source.bytes) source.reached.seen grows (ap is_some c.take_mark_beside.ensures.to_end ∙ knows) ∙ knew c);
       end_stays = λ knows. end_lasts _ _ _ _ _ _ _ _ _ (beside_of c) (ap is_some c.take_mark_beside.ensures.to_end ∙ knows);
     }
 

@@ -16,5 +16,6 @@ returns c =
       };
       received = ap popped c.reach_end.ensures.bytes ∙ (c.slots.ensures.looked.1 ∙ ap popped c.take_mark.ensures.bytes);
       known = known_nothing old.to_end (known_items old.bytes) (known new) c.requires.end c.requires.empty;
-      end_stays = knew_end old.to_end new.to_end c.requires.end;
+      end_stays = knew_end old.to_end c.requires.end;
+      no_more = knew_end old.to_end c.requires.end;
     }
