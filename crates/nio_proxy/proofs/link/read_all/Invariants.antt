@@ -1,5 +1,6 @@
-use Rattle.std.proofs.Common.{IsTrue}
+use Rattle.std.proofs.Common.{◌≡◌, IsTrue}
 use Rattle.nio_link.specs.Links.{Link}
+use Rattle.nio_link.specs.declared.place.Place.{Place}
 use Rattle.nio_steps.specs.KeyCalls.{is_within}
 use Rattle.nio_proxy.specs.Nets.{Works}
 use Rattle.nio_proxy.proofs.Seen.{seen}
@@ -8,9 +9,11 @@ use Rattle.nio_proxy.proofs.link.read_all.Given as goal
 
 abbrev pub invariant-loop : goal.invariant-loop
 invariant-loop g l = record {
-  source : KeepsSource l.fn.outgoing l.outgoing (g.N.Net.link l.fn.net l.own) (g.N.Net.link l.net l.own);
-  sink : (k : Link) → KeepsSink l.fn.outgoing l.outgoing k k;
+  source : KeepsSource l.fn.outgoing l.outgoing (g.N.Net.link l.fn.net l.own) (g.N.Net.place l.fn.net l.own) (g.N.Net.link l.net l.own) (g.N.Net.place l.net l.own);
+  sink : (k : Link) (p : Place) → KeepsSink l.fn.outgoing l.outgoing k p k p;
   work : Works (seen g.N.Poller g.N.Net) l.own l.own l.own l.fn.net l.net;
+  stands : g.N.Net.place l.net l.own ≡ g.N.Net.place l.fn.net l.own;
+  calm : g.N.Net.faults l.net l.own ≡ g.N.Net.faults l.fn.net l.own;
   read : IsTrue (is_within 1 (g.N.Poller.ready l.net l.own));
   write : IsTrue (is_within 4 (g.N.Poller.ready l.fn.net l.own)) → IsTrue (is_within 4 (g.N.Poller.ready l.net l.own));
 }
