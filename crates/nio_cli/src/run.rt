@@ -11,6 +11,7 @@ ghost use Rattle.nio_cli.specs.Words.{BeginsProxy, IsUsage};
 ghost use Rattle.nio_base.specs.declared.numbers.ChanNo.{ChanNo};
 ghost use Rattle.nio_command.specs.Words.{IsScriptCommand, IsCheckCommand, IsCheckFirstCommand, IsRaceCommand, IsProxyCommand, SaysNothing};
 ghost use Rattle.nio_link.specs.Links.{IsUnused};
+ghost use Rattle.nio_link.specs.Places.{unused};
 ghost use Rattle.nio_race.specs.Does.{DoesRace};
 ghost use Rattle.nio_relay.specs.declared.plan.ProxyPlan.{ProxyPlan};
 
@@ -65,6 +66,7 @@ pub fn run<R: Threads + Wait + Sync, S: Source, K: Sink, N: Net, G: Gate + Sync>
     requires first { IsFirstPass table.now pass.old }
     requires limits { limits_of table.now ≡ PROGRAM_LIMITS }
     requires fresh { (c : ChanNo) → IsUnused (N.link net c) }
+    requires unasked { (c : ChanNo) → N.place net c ≡ unused }
 
     // The words are looked at first. There may be no memory to read the options of `proxy`.
     ensures usage { result.status ≡ Status.Usage → SaysNothing (map string_bytes words.now) }
@@ -88,8 +90,8 @@ pub fn run<R: Threads + Wait + Sync, S: Source, K: Sink, N: Net, G: Gate + Sync>
         DoesCheck S.Source K.Sink Rules.First PROGRAM_LIMITS input.old input.new
         output.old output.new pass.old pass.new result.status }
     ensures proxy { (plan : ProxyPlan) → IsProxyCommand (map string_bytes words.now) plan →
-        DoesProxy K.Sink plan.conns (N.link result.net) (N.faults net) (N.faults result.net)
-        (N.poll_faults net) (N.poll_faults result.net) output.old output.new result.status }
+        DoesProxy K.Sink plan (N.link result.net) (N.place result.net)
+        (N.faults net) (N.faults result.net) (N.poll_faults net) (N.poll_faults result.net) output.old output.new result.status }
     ensures proxy_alone { BeginsProxy (map string_bytes words.now) →
         (input.new ≡ input.old) × (pass.new ≡ pass.old) }
     ensures no_net { (BeginsProxy (map string_bytes words.now) → ⊥) → result.net ≡ net }
@@ -126,6 +128,7 @@ fn run_over<R: Threads + Wait + Sync, S: Source, K: Sink, N: Net, G: Gate + Sync
     requires first { IsFirstPass table.now pass.old }
     requires limits { limits_of table.now ≡ PROGRAM_LIMITS }
     requires fresh { (c : ChanNo) → IsUnused (N.link net.old c) }
+    requires unasked { (c : ChanNo) → N.place net.old c ≡ unused }
 
     // The words are looked at first. There may be no memory to read the options of `proxy`.
     ensures usage { result ≡ Status.Usage → SaysNothing (map string_bytes words.now) }
@@ -149,8 +152,8 @@ fn run_over<R: Threads + Wait + Sync, S: Source, K: Sink, N: Net, G: Gate + Sync
         DoesCheck S.Source K.Sink Rules.First PROGRAM_LIMITS input.old input.new
         output.old output.new pass.old pass.new result }
     ensures proxy { (plan : ProxyPlan) → IsProxyCommand (map string_bytes words.now) plan →
-        DoesProxy K.Sink plan.conns (N.link net.new) (N.faults net.old) (N.faults net.new)
-        (N.poll_faults net.old) (N.poll_faults net.new) output.old output.new result }
+        DoesProxy K.Sink plan (N.link net.new) (N.place net.new)
+        (N.faults net.old) (N.faults net.new) (N.poll_faults net.old) (N.poll_faults net.new) output.old output.new result }
     ensures proxy_alone { BeginsProxy (map string_bytes words.now) →
         (input.new ≡ input.old) × (pass.new ≡ pass.old) }
     ensures no_net { (BeginsProxy (map string_bytes words.now) → ⊥) → net.new ≡ net.old }

@@ -3,7 +3,7 @@ mod Bits
 mod Counts
 pub mod FreshNet
 mod Idle
-mod Promise
+pub mod Promise
 mod Ordered
 mod Resolved
 mod Seen
