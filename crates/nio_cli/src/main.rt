@@ -13,6 +13,7 @@ use std::process::ExitCode;
 use std::rt::Env;
 use std::sync::Wait;
 use std::thread::Threads;
+use std::time::Clock;
 use std::{env, io};
 
 mod proxy;
@@ -30,7 +31,7 @@ fn arguments(rt: &(impl Env + AllocGlobal)) -> Result<Vec<String>, AllocError> {
 }
 
 fn status(
-    rt: &(impl Env + Input + Print + AllocGlobal + Net + Threads + Wait + Copy + Sync),
+    rt: &(impl Env + Input + Print + AllocGlobal + Net + Clock + Threads + Wait + Copy + Sync),
     alloc: Global,
 ) -> Status {
     let Ok(words) = arguments(rt) else {

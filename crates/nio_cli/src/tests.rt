@@ -15,6 +15,7 @@ use std::sync::Wait;
 use std::test::Fail;
 use std::thread::Threads;
 
+mod loopback;
 mod rows;
 
 const ONE_SELECTION: &str =

@@ -2,7 +2,7 @@
 use mio::Waker;
 use nio_poller::Bell;
 
-/// Ends a poll that waits, or the next one. It does nothing where the system refused it its counter.
+/// Ends a poll that waits, or the next one. It does nothing where the system refused the net a poll object or a waker.
 #[derive(Drop)]
 pub struct MioBell {
     waker: Option<Waker>,

@@ -7,8 +7,10 @@ use std::io::ErrorKind;
 pub(crate) enum Cause {
     /// The socket isn't ready; the system tells when it is.
     NotReady,
-    /// The call may go through at once: a signal came, or a connection was aborted before it was accepted.
-    Again,
+    /// A signal came. The call may go through at once.
+    Interrupted,
+    /// The connection was aborted.
+    Aborted,
     /// The process or the system has no descriptor left.
     NoDescriptor,
     Fault,
@@ -22,7 +24,8 @@ const TOO_MANY_IN_PROCESS: i32 = 24;
 pub(crate) fn cause_of(error: &io::Error) -> Cause {
     match error.kind() {
         ErrorKind::WouldBlock => Cause::NotReady,
-        ErrorKind::Interrupted | ErrorKind::ConnectionAborted => Cause::Again,
+        ErrorKind::Interrupted => Cause::Interrupted,
+        ErrorKind::ConnectionAborted => Cause::Aborted,
         _ => cause_by_number(error),
     }
 }

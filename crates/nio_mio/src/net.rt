@@ -13,6 +13,7 @@ use nio_select::{Asked, Told};
 use std::alloc::{AllocError, Global};
 use std::net::Net as System;
 use std::sync::Wait;
+use std::time::Clock;
 
 /// A net of TCP sockets over IPv4, for channels numbered below 32,001. A call on another number fails. It doesn't tell
 /// which bytes a link has carried.
@@ -25,9 +26,9 @@ pub struct MioNet<S> {
     counts: Counts,
 }
 
-impl<S: System + Copy> MioNet<S> {
+impl<S: System + Clock + Copy> MioNet<S> {
     /// A net without sockets, and its bell. Takes the memory for all sockets that there may be. Where the system refuses
-    /// a poll object, each call of the net that can fail fails; where it refuses a waker, the bell does nothing.
+    /// a poll object or a waker, the bell does nothing, and each call of the net that can fail fails.
     pub fn make(system: S, alloc: Global) -> Result<(MioNet<S>, MioBell), AllocError> {
         let counts = Counts::make(alloc, PLACES)?;
         let (sockets, bell) = Sockets::make(&system, alloc)?;
@@ -42,7 +43,7 @@ impl<S: System + Copy> MioNet<S> {
     }
 }
 
-impl<S: System + Copy> Poller for MioNet<S> {
+impl<S: System + Clock + Copy> Poller for MioNet<S> {
     ghost use Rattle.std.specs.Prelude.{Some, refl};
     ghost use Rattle.std.proofs.Common.{◌∙◌};
     ghost use Rattle.nio_mio.specs.Readiness.{ready_of};
@@ -63,7 +64,7 @@ impl<S: System + Copy> Poller for MioNet<S> {
         asked: &Asked,
         mode: Mode,
     ) -> Result<Told, PollError> {
-        match self.sockets.wait(rt, asked, mode) {
+        match self.sockets.wait(rt, &self.system, asked, mode) {
             Ok(elapsed) => match self.sockets.tell(alloc, asked, elapsed) {
                 Ok(told) => {
                     self.readiness.answered(asked, mode, &told);
@@ -83,7 +84,7 @@ impl<S: System + Copy> Poller for MioNet<S> {
     ghost kept_on = { λ x y z h k. k ∙ h };
 }
 
-impl<S: System + Copy> Net for MioNet<S> {
+impl<S: System + Clock + Copy> Net for MioNet<S> {
     ghost use Rattle.std.proofs.Common.{ap};
     ghost use Rattle.std.specs.Prelude.{None, refl};
     ghost use Rattle.nio_mio.specs.Counts.{count_of};

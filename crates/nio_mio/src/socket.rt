@@ -4,7 +4,7 @@ ghost use Rattle.std.specs.Io.{ReadsAtMost, WritesAtMost};
 ghost use Rattle.nio_mio.specs.Filled.{IsFilled};
 
 use mio::net::{TcpListener, TcpStream};
-use mio::{Interest, Poll, Token};
+use mio::{Interest, Poll, Registry, Token};
 use nio_base::{Addr, ChanNo};
 use std::io;
 use std::io::{ErrorKind, Read, Write};
@@ -76,6 +76,22 @@ pub(crate) fn link(poll: &Option<Poll>, chan: ChanNo, stream: TcpStream) -> io::
         Interest::READABLE | Interest::WRITABLE,
     )?;
     Ok(Socket::Link(stream))
+}
+
+/// The socket at this place, which has none then.
+pub(crate) fn take(sockets: &mut [Option<Socket>], chan: ChanNo) -> Option<Socket> {
+    match sockets.get_mut(chan.0 as usize) {
+        Some(place) => place.take(),
+        None => None,
+    }
+}
+
+/// A descriptor that nothing is done with.
+pub(crate) fn spare(poll: &Option<Poll>) -> io::Result<Registry> {
+    match poll {
+        Some(poll) => poll.registry().try_clone(),
+        None => Err(missing()),
+    }
 }
 
 /// The next connection of the listener at this place.

@@ -7,15 +7,17 @@ use crate::causes::{Cause, cause_of};
 use crate::socket;
 use crate::socket::Socket;
 use mio::event::Event;
-use mio::{Events, Poll, Token, Waker};
+use mio::net::TcpStream;
+use mio::{Events, Poll, Registry, Token, Waker};
 use nio_base::{Addr, ChanNo, Ops};
 use nio_event::Mode;
 use nio_link::{Failed, Got, Put};
 use nio_select::{Asked, Told};
 use std::alloc::{AllocError, Global};
+use std::io;
 use std::net::Net;
 use std::sync::Wait;
-use std::time::Duration;
+use std::time::{Clock, Duration, Instant};
 
 /// How many sockets there may be: the listener, and two links of each of 16,000 connections.
 pub(crate) const PLACES: usize = 32_001;
@@ -39,20 +41,23 @@ pub(crate) struct Sockets {
     piece: Vec<u8>,
     // How many links stand.
     links: usize,
-    // The listener that waits until a descriptor is free.
-    waiting: Option<ChanNo>,
+    // The listeners that wait until a descriptor is free.
+    waiting: Vec<ChanNo>,
+    // A descriptor that is let go where none is left for a link that connects. None is accepted without it.
+    spare: Option<Registry>,
 }
 
 impl Sockets {
-    /// Takes all memory, and asks the system for a poll object and a waker, which it may refuse.
+    /// Takes all memory, and asks the system for a poll object and a waker. Where it refuses one of them, there is no
+    /// poll object.
     pub(crate) fn make<R: Net>(rt: &R, alloc: Global) -> Result<(Sockets, MioBell), AllocError> {
         let mut sockets = Vec::new(alloc);
         sockets.resize_with(PLACES, no_socket)?;
         let kept = vec![in alloc; Ops::NONE; PLACES]?;
         let piece = vec![in alloc; 0_u8; PIECE]?;
         let events = Events::with_capacity(alloc, EVENTS)?;
-        let poll = Poll::new(rt).ok();
-        let bell = MioBell::over(waker(&poll));
+        let waiting = Vec::with_capacity(alloc, PLACES)?;
+        let (poll, bell) = poll_and_bell(rt);
         let sockets = Sockets {
             poll,
             events,
@@ -60,31 +65,31 @@ impl Sockets {
             kept,
             piece,
             links: 0,
-            waiting: None,
+            waiting,
+            spare: None,
         };
         Ok((sockets, bell))
     }
 
     /// Waits as long as `mode` says, but not where a bit that is asked for is kept. Answers whether the time is over.
-    pub(crate) fn wait<R: Wait>(
+    pub(crate) fn wait<R: Wait, C: Clock>(
         &mut self,
         rt: &R,
+        clock: &C,
         asked: &Asked,
         mode: Mode,
     ) -> Result<bool, Failed> {
-        if is_any_ready(&self.kept, asked) {
-            self.poll_for(Some(Duration::ZERO))?;
-            return Ok(false);
-        }
+        let is_ready = is_any_ready(&self.kept, asked);
         match mode {
             Mode::Now => {
                 self.poll_for(Some(Duration::ZERO))?;
                 Ok(true)
             }
-            Mode::For(ms) => {
-                self.poll_for(Some(Duration::from_millis(ms)))?;
-                Ok(self.events.is_empty())
+            Mode::For(_) | Mode::Wait if is_ready => {
+                self.poll_for(Some(Duration::ZERO))?;
+                Ok(false)
             }
+            Mode::For(ms) => self.wait_at_most(rt, clock, asked, Duration::from_millis(ms)),
             Mode::Wait => {
                 self.wait_for(rt, asked)?;
                 Ok(false)
@@ -92,16 +97,43 @@ impl Sockets {
         }
     }
 
-    // Waits until a bit that is asked for is kept, the bell rings, or a signal comes. What comes for other channels is
-    // kept meanwhile.
+    // Waits until a bit that is asked for is kept, or the bell rings. What comes for other channels is kept meanwhile, and
+    // a signal ends no wait.
     fn wait_for<R: Wait>(&mut self, rt: &R, asked: &Asked) -> Result<(), Failed> {
         for _ in rt.forever() {
             self.poll_for(None)?;
-            if is_over(&self.events) || is_any_ready(&self.kept, asked) {
+            if self.is_told(asked) {
                 return Ok(());
             }
         }
         unreachable!()
+    }
+
+    // The same, but no longer than this time. Answers whether it is over.
+    fn wait_at_most<R: Wait, C: Clock>(
+        &mut self,
+        rt: &R,
+        clock: &C,
+        asked: &Asked,
+        time: Duration,
+    ) -> Result<bool, Failed> {
+        let begun = now(clock)?;
+        for _ in rt.forever() {
+            let left = time.saturating_sub(now(clock)?.duration_since(begun));
+            self.poll_for(Some(left))?;
+            if self.is_told(asked) {
+                return Ok(false);
+            }
+            if left == Duration::ZERO {
+                return Ok(true);
+            }
+        }
+        unreachable!()
+    }
+
+    // Whether the last poll ends a wait.
+    fn is_told(&self, asked: &Asked) -> bool {
+        has_rung(&self.events) || is_any_ready(&self.kept, asked)
     }
 
     // One poll of the system, whose events are kept.
@@ -173,7 +205,7 @@ impl Sockets {
         if !self.has_place(chan) {
             return Err(Failed);
         }
-        match socket::accept(&self.sockets, listener) {
+        match self.accept_stream(listener) {
             Ok(stream) => match socket::link(&self.poll, chan, stream) {
                 Ok(link) => {
                     self.put_link(chan, link)?;
@@ -185,20 +217,33 @@ impl Sockets {
         }
     }
 
+    fn accept_stream(&mut self, listener: ChanNo) -> io::Result<TcpStream> {
+        if self.spare.is_none() {
+            self.spare = Some(socket::spare(&self.poll)?);
+        }
+        socket::accept(&self.sockets, listener)
+    }
+
     fn not_accepted(&mut self, listener: ChanNo, cause: Cause) -> Result<bool, Failed> {
         match cause {
             Cause::NotReady => {
                 clear(&mut self.kept, listener, Ops::ACCEPT);
                 Ok(false)
             }
-            Cause::Again => Ok(false),
+            Cause::Interrupted | Cause::Aborted => Ok(false),
             Cause::NoDescriptor if self.links > 0 => {
                 clear(&mut self.kept, listener, Ops::ACCEPT);
-                self.waiting = Some(listener);
-                Ok(false)
+                self.await_descriptor(listener)
             }
             Cause::NoDescriptor | Cause::Fault => Err(Failed),
         }
+    }
+
+    fn await_descriptor(&mut self, listener: ChanNo) -> Result<bool, Failed> {
+        if !self.waiting.contains(&listener) && self.waiting.push(listener).is_err() {
+            return Err(Failed);
+        }
+        Ok(false)
     }
 
     pub(crate) fn connect<R: Net>(
@@ -210,12 +255,28 @@ impl Sockets {
         if !self.has_place(chan) {
             return Err(Failed);
         }
-        match socket::connect(rt, &self.poll, chan, to) {
+        match self.begin_connect(rt, chan, to) {
             Ok((link, connected)) => {
                 self.put_link(chan, link)?;
                 Ok(connected)
             }
             Err(_error) => Err(Failed),
+        }
+    }
+
+    // Where no descriptor is left, the spare one is let go for it.
+    fn begin_connect<R: Net>(
+        &mut self,
+        rt: &R,
+        chan: ChanNo,
+        to: Addr,
+    ) -> io::Result<(Socket, bool)> {
+        match socket::connect(rt, &self.poll, chan, to) {
+            Err(error) if cause_of(&error) == Cause::NoDescriptor && self.spare.is_some() => {
+                self.spare = None;
+                socket::connect(rt, &self.poll, chan, to)
+            }
+            begun => begun,
         }
     }
 
@@ -263,8 +324,8 @@ impl Sockets {
                 clear(&mut self.kept, chan, op);
                 Ok(())
             }
-            Cause::Again => Ok(()),
-            Cause::NoDescriptor | Cause::Fault => Err(Failed),
+            Cause::Interrupted => Ok(()),
+            Cause::Aborted | Cause::NoDescriptor | Cause::Fault => Err(Failed),
         }
     }
 
@@ -275,18 +336,23 @@ impl Sockets {
         }
     }
 
-    /// Closes the socket, where there is one. A listener that waits for a descriptor is then tried again.
+    /// Closes the socket, where there is one. Other listeners that wait for a descriptor are then tried again.
     pub(crate) fn close(&mut self, chan: ChanNo) {
-        if let Some(place) = self.sockets.get_mut(chan.0 as usize) {
-            if let Some(Socket::Link(_)) = place {
+        if let Some(socket) = socket::take(&mut self.sockets, chan) {
+            if let Socket::Link(_) = &socket {
                 self.links = self.links.saturating_sub(1);
             }
-            *place = None;
+            drop(socket);
+            self.retry_waiting();
         }
         keep_only(&mut self.kept, chan, Ops::NONE);
-        if let Some(listener) = self.waiting.take() {
-            add(&mut self.kept, listener, Ops::ACCEPT);
+    }
+
+    fn retry_waiting(&mut self) {
+        for listener in &self.waiting {
+            add(&mut self.kept, *listener, Ops::ACCEPT);
         }
+        self.waiting.clear();
     }
 }
 
@@ -294,16 +360,25 @@ fn no_socket() -> Option<Socket> {
     None
 }
 
-fn waker(poll: &Option<Poll>) -> Option<Waker> {
-    match poll {
-        Some(poll) => Waker::new(poll.registry(), BELL).ok(),
-        None => None,
+fn poll_and_bell<R: Net>(rt: &R) -> (Option<Poll>, MioBell) {
+    let Ok(poll) = Poll::new(rt) else {
+        return (None, MioBell::over(None));
+    };
+    match Waker::new(poll.registry(), BELL) {
+        Ok(waker) => (Some(poll), MioBell::over(Some(waker))),
+        Err(_error) => (None, MioBell::over(None)),
     }
 }
 
-// Whether a poll without limit returned for the bell or for a signal.
-fn is_over(events: &Events) -> bool {
-    events.is_empty() || events.iter().any(|event| event.token() == BELL)
+fn now<C: Clock>(clock: &C) -> Result<Instant, Failed> {
+    match Instant::now(clock) {
+        Ok(now) => Ok(now),
+        Err(_error) => Err(Failed),
+    }
+}
+
+fn has_rung(events: &Events) -> bool {
+    events.iter().any(|event| event.token() == BELL)
 }
 
 // Whether a channel is ready for something that is asked of it.

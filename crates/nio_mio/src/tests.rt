@@ -4,6 +4,7 @@ ghost use Rattle.nio_event.specs.PassViews.{HasNoPin};
 ghost use Rattle.nio_words.specs.Passes.{IsReady};
 ghost use Rattle.nio_words.specs.Views.{view};
 
+use crate::causes::{Cause, cause_of};
 use crate::sockets::{PLACES, Sockets};
 use crate::*;
 use nio_base::{Addr, CallerNo, ChanNo, Kind, Limits, Ops};
@@ -19,6 +20,7 @@ use std::net::{Shutdown, TcpListener, TcpStream};
 use std::sync::Wait;
 use std::test::Fail;
 use std::thread::join;
+use std::time::{Clock, Duration, Instant};
 use std::{io, net};
 
 const SMALL: Limits = Limits {
@@ -86,7 +88,7 @@ fn write_all<R: Wait>(rt: &R, sockets: &mut Sockets, bytes: &[u8]) -> Result<(),
 }
 
 /// Passes back what comes on the link until its end, and waits for more by polls.
-fn echo<R: Wait>(rt: &R, sockets: &mut Sockets, asked: &Asked) -> Result<(), Failed> {
+fn echo<R: Wait + Clock>(rt: &R, sockets: &mut Sockets, asked: &Asked) -> Result<(), Failed> {
     accept(rt, sockets)?;
     let mut buffer = [0_u8; 4_096];
     for _ in rt.forever() {
@@ -94,22 +96,41 @@ fn echo<R: Wait>(rt: &R, sockets: &mut Sockets, asked: &Asked) -> Result<(), Fai
             Got::Bytes(count) => write_all(rt, sockets, &buffer[..count])?,
             Got::End => return sockets.shut_write(LINK),
             Got::NotYet => {
-                sockets.wait(rt, asked, Mode::Wait)?;
+                sockets.wait(rt, rt, asked, Mode::Wait)?;
             }
         }
     }
     unreachable!()
 }
 
+fn connect(rt: &HostRuntime, at: Addr) -> io::Result<TcpStream> {
+    let [a, b, c, d] = at.ip;
+    TcpStream::connect(rt, (net::Ipv4Addr::new(a, b, c, d), at.port))
+}
+
 /// Sends the bytes and their end, and gives back what comes.
 fn ask(rt: &HostRuntime, at: Addr, bytes: &[u8]) -> io::Result<Vec<u8>> {
-    let [a, b, c, d] = at.ip;
-    let mut stream = TcpStream::connect(rt, (net::Ipv4Addr::new(a, b, c, d), at.port))?;
+    let mut stream = connect(rt, at)?;
     stream.write_all(bytes)?;
     stream.shutdown(Shutdown::Write)?;
     let mut came = Vec::new(rt.alloc());
     stream.read_to_end(&mut came)?;
     Ok(came)
+}
+
+/// Whether a poll for the link waits for its whole time, where a connection has come at the listener, and the listener
+/// is found ready then.
+fn waits_its_time<R: Wait + Clock>(
+    rt: &R,
+    sockets: &mut Sockets,
+    asked: &Asked,
+) -> Result<bool, Fail> {
+    let begun = Instant::now(rt)?;
+    let is_over = sockets.wait(rt, rt, asked, Mode::For(20))?;
+    let waited = begun.elapsed(rt)?;
+    let accepted = sockets.accept(LISTENER, LINK)?;
+    sockets.close(LINK);
+    Ok(is_over && accepted && waited >= Duration::from_millis(20))
 }
 
 /// A table whose caller has drawn its number.
@@ -137,16 +158,37 @@ fn passes_bytes_back_over_loopback(rt: HostRuntime) -> Result<(), Fail> {
     sockets.listen(&rt, LISTENER, at)?;
     let bytes = vec![in rt.alloc(); 7_u8; COUNT]?;
     let (words, mut p) = table(rt.alloc())?;
+    let client = connect(&rt, at)?;
     let selection = begin(&rt, rt.alloc(), &words, &mut p)?;
+    let waited = waits_its_time(&rt, &mut sockets, selection.asked());
+    drop(client);
     let (echo, came) = join(
         &rt,
         || -> Result<(), Failed> { echo(&rt, &mut sockets, selection.asked()) },
         || -> io::Result<Vec<u8>> { ask(&rt, at, &bytes) },
     );
     selection.forget();
+    assert!(rt; waited?);
     let came = echoed(echo, came)?;
     assert!(rt; came == bytes);
     Ok(())
+}
+
+/// Linux's numbers of errors, and what each means.
+const CAUSES: [(i32, Cause); 6] = [
+    (11, Cause::NotReady),
+    (4, Cause::Interrupted),
+    (103, Cause::Aborted),
+    (23, Cause::NoDescriptor),
+    (24, Cause::NoDescriptor),
+    (104, Cause::Fault),
+];
+
+#[test]
+fn tells_causes_apart(rt: HostRuntime) {
+    for (number, cause) in CAUSES {
+        assert_eq!(rt; cause_of(&io::Error::from_raw_os_error(number)), cause);
+    }
 }
 
 /// Whether it listens, through the trait.
