@@ -1,12 +1,11 @@
 -- A proxy that doesn't begin, for want of memory.
-use Rattle.std.proofs.Common.{◌≡◌, ℕ, inl, inr, refl, ap, subst, sym}
+use Rattle.std.proofs.Common.{◌≡◌, ℕ, inr, refl}
 use Rattle.nio_base.specs.declared.numbers.ChanNo.{ChanNo}
 use Rattle.nio_bytes.specs.declared.sink.Sink as sink
 use Rattle.nio_link.specs.Links.{Link, IsUnused}
-use Rattle.nio_link.specs.Places.{unused, IsVacant}
+use Rattle.nio_link.specs.Places.{unused}
 use Rattle.nio_link.specs.declared.place.Place.{Place}
-use Rattle.nio_proxy.proofs.Promise.{unbegun, leaves_first}
-use Rattle.nio_proxy.specs.Serving.{listener}
+use Rattle.nio_proxy.proofs.Promise.{unbegun, leaves_unasked}
 use Rattle.nio_relay.specs.declared.plan.ProxyPlan.{ProxyPlan}
 use Rattle.nio_script.specs.declared.status.Status.TheVariants.{Memory}
 use Rattle.nio_cli.specs.Proxy.{DoesProxy}
@@ -21,6 +20,6 @@ unserved k plan link place faults polls output fresh unasked = record {
   unwritten = λ _. refl;
   ends = tt;
   relays = unbegun link fresh;
-  leaves = leaves_first plan link place fresh (λ c _. unasked c) (subst (λ (p : Place). IsVacant p.standing) (sym (unasked listener)) tt) (inl (ap (λ (p : Place). p.role) (unasked listener)));
+  leaves = leaves_unasked plan link place fresh unasked;
   complete = λ _ _. inr refl;
 }

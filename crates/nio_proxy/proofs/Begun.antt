@@ -1,12 +1,12 @@
 -- A connection of which no link has carried anything.
-use Rattle.std.proofs.Common.{◌≡◌, Bool, true, false, Ok, refl, ap, arith, lit≤, []}
+use Rattle.std.proofs.Common.{◌≡◌, Bool, true, false, Ok, refl, ap, lit≤, []}
 use Rattle.nio_base.specs.declared.numbers.Addr.{Addr}
 use Rattle.nio_link.specs.Links.{Link, IsUnused}
 use Rattle.nio_link.specs.Places.{place_after_connect}
 use Rattle.nio_link.specs.declared.place.Place.{Place}
 use Rattle.nio_link.specs.declared.place.Standing.TheVariants.{Linked}
 use Rattle.nio_relay.proofs.CallsLemmas.{fresh-IsLawful}
-use Rattle.nio_relay.specs.Connection.{Carried, IsRelayed}
+use Rattle.nio_relay.specs.Connection.{IsRelayed}
 use Rattle.nio_relay.specs.Flow.{fresh}
 use Rattle.nio_proxy.specs.Relaying.{carried, IsTarget}
 use Rattle.nio_proxy.specs.Serving.{HasCarried, HaveCarried, AreRelayed}

@@ -1,6 +1,7 @@
 mod Begun
 mod Bits
 mod Counts
+mod Ends
 pub mod FreshNet
 mod Idle
 pub mod Promise

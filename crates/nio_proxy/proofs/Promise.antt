@@ -1,15 +1,19 @@
 -- What the proxy promises, from what stands of its connections.
-use Rattle.std.proofs.Common.{◌≡◌, ◌≢◌, ℕ, ◌+◌, ◌-◌, ◌*◌, ◌/◌, ◌<◌, ◌≤◌, ◌⊎◌, inl, inr, Bool, true, false, IsTrue, IsFalse, Option, Some, None, IsSome, Result, Ok, Err, List, [], length, slice_get, vec_capacity, refl, sym, ap, subst, ◌∙◌, arith}
+use Rattle.std.proofs.Common.{◌≡◌, ◌≢◌, ℕ, zero, suc, ◌+◌, ◌-◌, ◌*◌, ◌/◌, ◌<◌, ◌≤◌, ◌⊎◌, inl, inr, Bool, true, false, IsTrue, IsFalse, Option, Some, None, IsSome, Result, Ok, Err, is_err, List, [], ◌∷◌, length, get_or, slice_get, vec_capacity, refl, sym, ap, subst, ◌∙◌, arith}
+use Rattle.std.proofs.lemmas.Bool.{cases_order}
 use Rattle.std.proofs.lemmas.List.{append-nil}
 use Rattle.std.proofs.lemmas.Option.{slice_get_past}
 use Rattle.nio_base.specs.declared.numbers.Addr.{Addr}
 use Rattle.nio_base.specs.declared.numbers.ChanNo.{ChanNo}
 use Rattle.nio_bytes.specs.Cause.{Rose}
 use Rattle.nio_link.specs.Links.{Link, IsUnused, IsSameBut}
-use Rattle.nio_link.specs.Places.{unused, IsVacant}
+use Rattle.nio_link.specs.Places.{unused, IsVacant, place_after_listen}
+use Rattle.nio_link.specs.declared.net.Failed.{Failed}
 use Rattle.nio_link.specs.declared.place.Place.{Place}
 use Rattle.nio_link.specs.declared.place.Role.{Role}
 use Rattle.nio_link.specs.declared.place.Role.TheVariants as role
+use Rattle.nio_link.specs.declared.place.Standing.{Standing}
+use Rattle.nio_link.specs.declared.place.Standing.TheVariants.{Listening}
 use Rattle.nio_relay.proofs.ConnectionLemmas.{lawful-few}
 use Rattle.nio_relay.specs.Connection.{Carried, IsClean, IsRelayed, IsWhole}
 use Rattle.nio_relay.specs.Flow.{Flow, IsLawful}
@@ -18,11 +22,12 @@ use Rattle.nio_relay.specs.declared.plan.Served.{Served}
 use Rattle.nio_proxy.proofs.Begun.{unused_relayed}
 use Rattle.nio_proxy.proofs.Counts.{count_all, count_none}
 use Rattle.nio_proxy.proofs.Slotting.{faulted_from, client_listener, target_listener}
-use Rattle.nio_proxy.proofs.Working.{chan_as, is_or_not, later_all, role_stays, rose_from, vacant_stays}
+use Rattle.nio_proxy.proofs.Working.{chan_as, is_or_not, later_all, quiet_then, role_stays, rose_from, vacant_stays}
 use Rattle.nio_proxy.specs.Nets.{Members, IsQuiet, OnlyCloses}
 use Rattle.nio_proxy.specs.Relaying.{carried, IsTarget}
 use Rattle.nio_proxy.specs.Serving.{HasCarried, HaveCarried, AreRelayed, RelaysBytes, IsAtMost, LeavesNothing, WasBegun, HasFaulted, HasServed, Serves, NoneRose, ServesAllOr, client_of, target_of, listener, count_below}
-use Rattle.nio_proxy.specs.Slots.{IsLive, IsSlot, IsSlotOf, IsUnbegun, HasRoles, AreServed, Serving, has_ended, has_faulted}
+use Rattle.nio_proxy.specs.Slots.{HasEnded, IsLive, IsSlot, IsSlotOf, IsUnbegun, HasRoles, AreServed, ListensAt, Serving, has_ended, has_faulted}
+use Rattle.nio_proxy.specs.declared.board.Port.{Port}
 use Rattle.nio_proxy.specs.declared.connections.Connections.{Connections}
 use Rattle.nio_proxy.specs.declared.serve.ServeError.{ServeError}
 use Rattle.nio_proxy.specs.declared.serve.ServeError.TheVariants.{NetFault, Memory}
@@ -46,7 +51,7 @@ target_carried : (b : Bool) (l : Link) (p : Place) (c : Carried) → IsTarget b 
 target_carried true l p c is = is.carried
 target_carried false l p c is = is.carried
 
-pub live_relayed : (made : Bool) (there back : Flow) (client target : Link) (p q : Place) → IsLive made there back client target p q → HaveCarried AreRelayed client target
+live_relayed : (made : Bool) (there back : Flow) (client target : Link) (p q : Place) → IsLive made there back client target p q → HaveCarried AreRelayed client target
 live_relayed made there back client target p q is = record {
   of_client = carried there back;
   of_target = carried back there;
@@ -54,6 +59,26 @@ live_relayed made there back client target p q is = record {
   by_target = target_carried made target q (carried back there) is.relaying.by_target;
   related = (lawful_relayed there back is.there_lawful, lawful_relayed back there is.back_lawful);
 }
+
+live_clean : (made : Bool) (there back : Flow) (client target : Link) (p q : Place) → IsLive made there back client target p q → IsTrue there.shut → IsTrue back.shut → HaveCarried IsClean client target
+live_clean made there back client target p q is there_shut back_shut = record {
+  of_client = carried there back;
+  of_target = carried back there;
+  by_client = is.relaying.by_client.carried;
+  by_target = target_carried made target q (carried back there) is.relaying.by_target;
+  related = record { there = (lawful_relayed there back is.there_lawful).whole_at_shut there_shut; back = (lawful_relayed back there is.back_lawful).whole_at_shut back_shut };
+}
+
+have_moved : {P : Carried → Carried → Type 0} (c0 c1 t0 t1 : Link) → c1 ≡ c0 → t1 ≡ t0 → HaveCarried P c0 t0 → HaveCarried P c1 t1
+have_moved {P} c0 c1 t0 t1 clients targets have = subst (λ c. HaveCarried P c t1) (sym clients) (subst (λ t. HaveCarried P c0 t) (sym targets) have)
+
+-- a connection that is closed after a fault, or where both directions are shut
+module _ (made : Bool) (there back : Flow) (c0 c1 t0 t1 : Link) (p0 p1 q0 q1 : Place) (live : IsLive made there back c0 t0 p0 q0) (clients : c1 ≡ c0) (targets : t1 ≡ t0) (client : IsVacant p1.standing) (target : IsVacant q1.standing) where
+  pub ended_faulty : HasEnded AreRelayed c1 t1 p1 q1
+  ended_faulty = record { carried = have_moved c0 c1 t0 t1 clients targets (live_relayed made there back c0 t0 p0 q0 live); client_closed = client; target_closed = target }
+
+  pub ended_clean : IsTrue there.shut → IsTrue back.shut → HasEnded IsClean c1 t1 p1 q1
+  ended_clean there_shut back_shut = record { carried = have_moved c0 c1 t0 t1 clients targets (live_clean made there back c0 t0 p0 q0 live there_shut back_shut); client_closed = client; target_closed = target }
 
 slot_relayed : (slot : Option Slot) (client target : Link) (p q : Place) → IsSlot slot client target p q → HaveCarried AreRelayed client target
 slot_relayed None client target p q is = unused_relayed client target is.client_unused is.target_unused
@@ -127,7 +152,7 @@ whose c = elim (is_or_not c listener) [
 module _ (link : ChanNo → Link) (place : ChanNo → Place) (c : Connections) (served : AreServed link place c) where
   unbegun_past : (k : ℕ) → length c.slots.items ≤ k → IsUnbegun (link (client_of k)) (link (target_of k)) (place (client_of k)) (place (target_of k))
   unbegun_past k past =
-      subst (λ s. IsSlot s (link (client_of k)) (link (target_of k)) (place (client_of k)) (place (target_of k))) (slice_get_past c.slots.items k past) (served.slots k).slot
+      subst (λ s. IsSlot s (link (client_of k)) (link (target_of k)) (place (client_of k)) (place (target_of k))) (slice_get_past c.slots.items k past) (served.slots k).is_slot
 
   -- a channel past those of all connections
   pub past_all : (x : ChanNo) → 2 * c.conns < x.0 → (place x ≡ unused) × IsUnused (link x)
@@ -156,6 +181,9 @@ all_vacant link p0 p1 p2 c served first second closed listens x = elim (whose x)
   | a_target k at ↦ vacant_stays (p1 x) (p2 x) (second x) (subst (λ y. IsVacant (p1 y).standing) (sym at) (both k).1)
 ]
   where
+    few_or_past : (m n : ℕ) → (m < n) ⊎ (n ≤ m)
+    few_or_past m n = grind arith
+
     vacant_unused : (p q : Place) → OnlyCloses p q → p ≡ unused → IsVacant q.standing
     vacant_unused p q closes is = vacant_stays p q closes (subst (λ (u : Place). IsVacant u.standing) (sym is) tt)
 
@@ -167,8 +195,37 @@ all_vacant link p0 p1 p2 c served first second closed listens x = elim (whose x)
           (vacant_unused (p0 (client_of k)) (p1 (client_of k)) (first (client_of k)) none.client_unasked, vacant_unused (p0 (target_of k)) (p1 (target_of k)) (first (target_of k)) none.target_unasked)
     ]
 
-    few_or_past : (m n : ℕ) → (m < n) ⊎ (n ≤ m)
-    few_or_past m n = grind arith
+-- what stands under an index
+pub get_is : {X : Type 0} (xs : List X) (i : ℕ) (x : X) → i < length xs → x ≡ get_or xs i x → slice_get xs i ≡ Some x
+get_is [] i x few is = absurd (omega arith)
+get_is (y ∷ ys) zero x few is = ap Some (sym is)
+get_is (y ∷ ys) (suc i) x few is = get_is ys i x (omega arith) is
+
+-- where the links of one more connection are closed, unless it has ended
+module _ {N : Type 0} (n : Members N) (net0 net1 net2 : N) (c : Connections) (i : ℕ) (slot : Slot) (client target : ChanNo) where
+  abbrev AreVacant : N → ℕ → Type 0
+  AreVacant net k = IsVacant (n.place net (client_of k)).standing × IsVacant (n.place net (target_of k)).standing
+
+  pub closed_next : AreServed (n.link net0) (n.place net0) c → client ≡ client_of i → target ≡ target_of i → slice_get c.slots.items i ≡ Some slot → IsQuiet n net0 net1 → IsQuiet n net1 net2
+      → ((k : ℕ) → k < i → AreVacant net1 k) → (IsFalse (has_ended (Some slot)) → IsVacant (n.place net2 client).standing × IsVacant (n.place net2 target).standing)
+      → (k : ℕ) → k < i + 1 → AreVacant net2 k
+  closed_next served is_client is_target there first second before closed k few = elim (cases_order k i) [
+    | inl same ↦ subst (AreVacant net2) (sym same) (by_test (has_ended (Some slot)) refl)
+    | inr (inl less) ↦ stays net1 k second (before k less)
+    | inr (inr more) ↦ absurd (omega arith)
+  ]
+    where
+      stays : (net : N) (j : ℕ) → IsQuiet n net net2 → AreVacant net j → AreVacant net2 j
+      stays net j quiet vacant = (vacant_stays (n.place net (client_of j)) (n.place net2 (client_of j)) (quiet.places (client_of j)) vacant.0, vacant_stays (n.place net (target_of j)) (n.place net2 (target_of j)) (quiet.places (target_of j)) vacant.1)
+
+      by_test : (b : Bool) → has_ended (Some slot) ≡ b → AreVacant net2 i
+      by_test true is =
+          let here : IsSlot (Some slot) (n.link net0 (client_of i)) (n.link net0 (target_of i)) (n.place net0 (client_of i)) (n.place net0 (target_of i)) =
+          subst (λ s. IsSlot s (n.link net0 (client_of i)) (n.link net0 (target_of i)) (n.place net0 (client_of i)) (n.place net0 (target_of i))) there (served.slots i).is_slot in
+          stays net0 i (quiet_then n net0 net1 net2 first second) (slot_vacant (Some slot) _ _ _ _ is here)
+      by_test false is =
+          let both = closed is in
+          (subst (λ a. IsVacant (n.place net2 a).standing) is_client both.0, subst (λ b. IsVacant (n.place net2 b).standing) is_target both.1)
 
 -- ---- the answers
 
@@ -200,6 +257,22 @@ serves_err plan link place before now pb pn Memory cause = tt
 
 -- ---- before the first connection
 
+pub listen_role : (r : Result (Unit {0}) Failed) (at : Addr) (p : Place) → p ≡ place_after_listen r at → p.role ≡ role.Listener at
+listen_role (Ok _) at p is = ap (λ (x : Place). x.role) is
+listen_role (Err _) at p is = ap (λ (x : Place). x.role) is
+
+pub listen_stands : (r : Result (Unit {0}) Failed) (at : Addr) (p : Place) → false ≡ is_err r → p ≡ place_after_listen r at → p.standing ≡ Listening
+listen_stands (Ok _) at p made is = ap (λ (x : Place). x.standing) is
+listen_stands (Err _) at p made is = absurd (cc)
+
+pub listen_failed : (r : Result (Unit {0}) Failed) (at : Addr) (p : Place) → true ≡ is_err r → p ≡ place_after_listen r at → IsVacant p.standing
+listen_failed (Ok _) at p failed is = absurd (cc)
+listen_failed (Err _) at p failed is = subst (λ (x : Place). IsVacant x.standing) (sym is) tt
+
+pub listens_first : (o : Option Port) (s : Standing) → IsSome o → s ≡ Listening → ListensAt o s
+listens_first (Some port) s some is = is
+listens_first None s some is = absurd (cc)
+
 pub unbegun : (link : ChanNo → Link) → ((c : ChanNo) → IsUnused (link c)) → RelaysBytes link
 unbegun link fresh k = unused_relayed (link (client_of k)) (link (target_of k)) (fresh (client_of k)) (fresh (target_of k))
 
@@ -211,13 +284,18 @@ leaves_first plan link place fresh unasked vacant asked = record {
     | inl same ↦ subst (λ x. IsVacant (place x).standing) (sym same) vacant
     | inr other ↦ subst (λ (p : Place). IsVacant p.standing) (sym (unasked c other)) tt
   ];
-  listener = asked;
+  listens = asked;
   clients = λ k _. inl (ap (λ (p : Place). p.role) (unasked (client_of k) (client_listener k)));
   targets = λ k _. inl (ap (λ (p : Place). p.role) (unasked (target_of k) (target_listener k)));
   others = λ c past. ap (λ (p : Place). p.role) (unasked c (λ at. let none : c.0 ≡ 0 = ap (λ (x : ChanNo). x.0) at in absurd (omega arith)));
   no_bytes = fresh listener;
   rest = λ c _. fresh c;
 }
+
+-- where nothing was done
+pub leaves_unasked : (plan : ProxyPlan) (link : ChanNo → Link) (place : ChanNo → Place) → ((c : ChanNo) → IsUnused (link c)) → ((c : ChanNo) → place c ≡ unused) → LeavesNothing plan link place
+leaves_unasked plan link place fresh unasked =
+    leaves_first plan link place fresh (λ c _. unasked c) (subst (λ (p : Place). IsVacant p.standing) (sym (unasked listener)) tt) (inl (ap (λ (p : Place). p.role) (unasked listener)))
 
 pub served_first : (link : ChanNo → Link) (place : ChanNo → Place) (c : Connections) → ((k : ChanNo) → IsUnused (link k)) → ((k : ChanNo) → k ≢ listener → place k ≡ unused)
     → c.slots.items ≡ [] → c.conns ≤ vec_capacity c.slots → c.ended ≡ 0 → c.faulted ≡ 0 → c.conns ≤ 16000 → AreServed link place c
@@ -227,7 +305,7 @@ served_first link place c fresh unasked none room ended faulted few =
     let targets : (k : ℕ) → place (target_of k) ≡ unused = λ k. unasked (target_of k) (target_listener k) in
     record {
       slots = λ k. subst (λ s. IsSlotOf c.target s (link (client_of k)) (link (target_of k)) (place (client_of k)) (place (target_of k))) (sym (at k)) (record {
-        slot = record { client_unused = fresh (client_of k); target_unused = fresh (target_of k); client_unasked = clients k; target_unasked = targets k };
+        is_slot = record { client_unused = fresh (client_of k); target_unused = fresh (target_of k); client_unasked = clients k; target_unasked = targets k };
         roles = (ap (λ (p : Place). p.role) (clients k), ap (λ (p : Place). p.role) (targets k));
       });
       few = omega (arith, ap length none);
@@ -280,7 +358,7 @@ module _ {N : Type 0} (n : Members N) where
     relays_of k =
         subst (λ l. HaveCarried AreRelayed l (n.link net3 (target_of k))) (sym (ran.quiet.links (client_of k)))
         (subst (λ l. HaveCarried AreRelayed (n.link net2 (client_of k)) l) (sym (ran.quiet.links (target_of k)))
-        (slot_relayed (slice_get c1.slots.items k) _ _ _ _ (ran.serving.served.slots k).slot))
+        (slot_relayed (slice_get c1.slots.items k) _ _ _ _ (ran.serving.served.slots k).is_slot))
 
     at_most : (k : ℕ) → IsAtMost (role.Accepted listener) (n.place net2 (client_of k)).role × IsAtMost (role.Connected plan.target) (n.place net2 (target_of k)).role
     at_most k = subst (λ a. IsAtMost (role.Accepted listener) (n.place net2 (client_of k)).role × IsAtMost (role.Connected a) (n.place net2 (target_of k)).role) to
@@ -292,7 +370,7 @@ module _ {N : Type 0} (n : Members N) where
     pub leaves_of : LeavesNothing plan (n.link net3) (n.place net3)
     leaves_of = record {
       vacant = ran.vacant;
-      listener = inr listened;
+      listens = inr listened;
       clients = λ k _. subst (IsAtMost (role.Accepted listener)) (sym (same_role (client_of k))) (at_most k).0;
       targets = λ k _. subst (IsAtMost (role.Connected plan.target)) (sym (same_role (target_of k))) (at_most k).1;
       others = λ c more. same_role c ∙ ap (λ (p : Place). p.role) (past c more).0;
@@ -314,7 +392,7 @@ module _ {N : Type 0} (n : Members N) where
       clean_of k few not =
           subst (λ l. HaveCarried IsClean l (n.link net3 (target_of k))) (sym (ran.quiet.links (client_of k)))
           (subst (λ l. HaveCarried IsClean (n.link net2 (client_of k)) l) (sym (ran.quiet.links (target_of k)))
-          (slot_clean (slice_get c1.slots.items k) _ _ _ _ (all_ended k few) not (ran.serving.served.slots k).slot))
+          (slot_clean (slice_get c1.slots.items k) _ _ _ _ (all_ended k few) not (ran.serving.served.slots k).is_slot))
 
       faulty_of : (k : ℕ) → IsTrue (has_faulted (slice_get c1.slots.items k)) → HasFaulted (n.faults net0) (n.faults net3) k
       faulty_of k is = elim (ran.serving.faulty k is) [

@@ -9,7 +9,7 @@ use Rattle.nio_link.specs.Links.{Link, IsSameBut}
 use Rattle.nio_link.specs.declared.place.Place.{Place}
 use Rattle.nio_link.specs.declared.place.Role.{Role}
 use Rattle.nio_proxy.specs.Serving.{HasFaulted, IsUnfaulted, client_of, target_of, listener, count_below}
-use Rattle.nio_proxy.specs.Nets.{Members, Accepts, Begins, IsQuiet, IsStill, Works}
+use Rattle.nio_proxy.specs.Nets.{Members, Begins, IsQuiet, IsStill, Works}
 use Rattle.nio_proxy.specs.Slots.{IsSlot, IsUnbegun, HasRoles, IsSlotOf, AreSlots, AreServed, ListensAt, Serving, has_ended, has_faulted}
 use Rattle.nio_proxy.specs.declared.board.Port.{Port}
 use Rattle.nio_proxy.specs.declared.connections.Connections.{Connections}
@@ -210,7 +210,7 @@ next_unbegun link place c client target served is_client is_target =
     let k = length c.slots.items in
     let none : slice_get c.slots.items k ≡ None = slice_get_past c.slots.items k (omega arith) in
     let next : IsUnbegun (link (client_of k)) (link (target_of k)) (place (client_of k)) (place (target_of k)) =
-    subst (λ s. IsSlot s (link (client_of k)) (link (target_of k)) (place (client_of k)) (place (target_of k))) none (served.slots k).slot in
+    subst (λ s. IsSlot s (link (client_of k)) (link (target_of k)) (place (client_of k)) (place (target_of k))) none (served.slots k).is_slot in
     subst (λ a. IsUnbegun (link a) (link target) (place a) (place target)) (sym is_client)
     (subst (λ b. IsUnbegun (link (client_of k)) (link b) (place (client_of k)) (place b)) (sym is_target) next)
 
@@ -278,7 +278,7 @@ module _ {N : Type 0} (n : Members N) where
       record {
         served = served_change k slot (n.link x) (n.link y) (n.place x) (n.place y) c0 c1 served (omega (arith, served.few, slice_get_within c0.slots.items k (Live relay) was)) conns target
             (omega (arith, served.room, room)) (omega (arith, served.few, short)) changes work.links work.places
-            (record { slot = is; roles = roles c0.target (n.place y (client_of k)).role (n.place y (target_of k)).role now }) (ap has_ended was) (ap has_faulted was) ended faulted;
+            (record { is_slot = is; roles = roles c0.target (n.place y (client_of k)).role (n.place y (target_of k)).role now }) (ap has_ended was) (ap has_faulted was) ended faulted;
         conns = conns;
         target = target;
         faulty = faulty_change k slot (n.faults x) (n.faults y) c0 c1 changes faulty;
@@ -294,7 +294,7 @@ module _ {N : Type 0} (n : Members N) where
       → length c0.slots.items < c0.conns → Begins n (client_of (length c0.slots.items)) (target_of (length c0.slots.items)) x y
       → c1.slots.items ≡ c0.slots.items ++ slot ∷ [] → vec_capacity c0.slots ≤ vec_capacity c1.slots → c1.conns ≡ c0.conns → c1.target ≡ c0.target
       → IsSlotOf c0.target (Some slot) (n.link y (client_of (length c0.slots.items))) (n.link y (target_of (length c0.slots.items)))
-          (n.place y (client_of (length c0.slots.items))) (n.place y (target_of (length c0.slots.items)))
+      (n.place y (client_of (length c0.slots.items))) (n.place y (target_of (length c0.slots.items)))
       → c1.ended ≡ c0.ended + one_if (has_ended (Some slot)) → c1.faulted ≡ c0.faulted + one_if (has_faulted (Some slot))
       → (IsTrue (has_faulted (Some slot)) → HasFaulted (n.faults x) (n.faults y) (length c0.slots.items))
       → (IsFalse (has_faulted (Some slot)) → IsUnfaulted (n.faults x) (n.faults y) (length c0.slots.items)) → Serving n x y c0 c1

@@ -155,11 +155,15 @@ module _ {N : Type 0} (n : Members N) where
   }
 
   -- where one channel was closed
-  pub closes_one : (own : ChanNo) (x y : N) → n.place y own ≡ place_after_close (n.place x own) → IsSameBut own (n.place x) (n.place y) → (c : ChanNo) → OnlyCloses (n.place x c) (n.place y c)
+  closes_one : (own : ChanNo) (x y : N) → n.place y own ≡ place_after_close (n.place x own) → IsSameBut own (n.place x) (n.place y) → (c : ChanNo) → OnlyCloses (n.place x c) (n.place y c)
   closes_one own x y here others c = elim (is_or_not c own) [
     | inl same ↦ inr (ap (n.place y) same ∙ here ∙ ap (λ (k : ChanNo). place_after_close (n.place x k)) (sym same))
     | inr other ↦ inl (others c other)
   ]
+
+  pub quiet_close : (own : ChanNo) (x y : N) → ((c : ChanNo) → n.link y c ≡ n.link x c) → n.place y own ≡ place_after_close (n.place x own) → IsSameBut own (n.place x) (n.place y)
+      → ((c : ChanNo) → n.ready y c ≡ n.ready x c) → ((c : ChanNo) → n.faults y c ≡ n.faults x c) → n.poll_faults y ≡ n.poll_faults x → IsQuiet n x y
+  quiet_close own x y links here others ready faults polls = record { links = links; places = closes_one own x y here others; ready = ready; faults = faults; polls = polls }
 
 pub on_ok_of : {T E P : Type 0} (r : Result T E) → false ≡ is_err r → OnOk r P → P
 on_ok_of (Ok x) is p = p

@@ -47,3 +47,13 @@ KeepsSource f g l0 p0 l1 p1 = (incoming : Flow) → IsEnd l0 p0 (carried f incom
 -- a link to which a direction writes
 abbrev pub KeepsSink : Flow → Flow → Link → Place → Link → Place → Type 0
 KeepsSink f g l0 p0 l1 p1 = (outgoing : Flow) → IsEnd l0 p0 (carried outgoing f) → IsEnd l1 p1 (carried outgoing g)
+
+-- what a direction has taken is the same
+pub record SameSource (f g : Flow) : Type 0 where
+  pub taken : g.taken ≡ f.taken
+  pub ended : g.ended ≡ f.ended
+
+-- what a direction has written is the same
+pub record SameSink (f g : Flow) : Type 0 where
+  pub written : g.written ≡ f.written
+  pub shut : g.shut ≡ f.shut

@@ -62,7 +62,7 @@ IsAtMost wanted r = (r ≡ role.Nothing) ⊎ (r ≡ wanted)
 -- and, for each connection of the plan, a link that it accepted and one to the plan's target. Others carried nothing.
 pub record LeavesNothing (plan : ProxyPlan) (link : ChanNo → Link) (place : ChanNo → Place) : Type 0 where
   pub vacant : (c : ChanNo) → IsVacant (place c).standing
-  pub listener : IsAtMost (role.Listener plan.listen) (place listener).role
+  pub listens : IsAtMost (role.Listener plan.listen) (place listener).role
   pub clients : (k : ℕ) → k < plan.conns → IsAtMost (role.Accepted listener) (place (client_of k)).role
   pub targets : (k : ℕ) → k < plan.conns → IsAtMost (role.Connected plan.target) (place (target_of k)).role
   pub others : (c : ChanNo) → 2 * plan.conns < c.0 → (place c).role ≡ role.Nothing

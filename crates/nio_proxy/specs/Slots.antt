@@ -68,7 +68,7 @@ HasRoles to None client target = (client ≡ role.Nothing) × (target ≡ role.N
 
 -- both
 pub record IsSlotOf (to : Addr) (slot : Option Slot) (client target : Link) (at_client at_target : Place) : Type 0 where
-  pub slot : IsSlot slot client target at_client at_target
+  pub is_slot : IsSlot slot client target at_client at_target
   pub roles : HasRoles to slot at_client.role at_target.role
 
 abbrev pub AreSlots : Addr → (ChanNo → Link) → (ChanNo → Place) → List Slot → Type 0

@@ -2,12 +2,10 @@
 ghost use Rattle.std.specs.Prelude.{◌≡◌, ◌≢◌, ◌⊎◌, IfOk, IsTrue, OnErr, OnOk, length};
 ghost use Rattle.nio_base.specs.declared.numbers.ChanNo.{ChanNo};
 ghost use Rattle.nio_bytes.specs.Cause.{Rose};
-ghost use Rattle.nio_link.specs.Links.{Link};
 ghost use Rattle.nio_link.specs.Places.{IsLinked};
-ghost use Rattle.nio_link.specs.declared.place.Place.{Place};
 ghost use Rattle.nio_steps.specs.KeyCalls.{is_within};
 ghost use Rattle.nio_proxy.specs.Nets.{Works};
-ghost use Rattle.nio_proxy.specs.Relaying.{IsEnd, KeepsSource, KeepsSink, carried, open_or_shut};
+ghost use Rattle.nio_proxy.specs.Relaying.{IsEnd, KeepsSource, KeepsSink, SameSink, SameSource, carried, open_or_shut};
 
 use nio_base::{ChanNo, Ops};
 use nio_link::{Failed, Got, Net, Put};
@@ -28,7 +26,7 @@ fn read_once<N: Net>(
     requires ready { IsTrue (is_within 1 (N.ready net.old own)) }
     requires linked { IsLinked (N.place net.old own).standing }
     ensures source { KeepsSource outgoing.old outgoing.new (N.link net.old own) (N.place net.old own) (N.link net.new own) (N.place net.new own) }
-    ensures sink { (l : Link) (p : Place) → KeepsSink outgoing.old outgoing.new l p l p }
+    ensures sink { SameSink outgoing.old outgoing.new }
     ensures work { Works N.Net own own own net.old net.new }
     ensures stands { N.place net.new own ≡ N.place net.old own }
     ensures cause { OnErr result (Rose (N.faults net.old own) (N.faults net.new own)) }
@@ -64,7 +62,7 @@ fn read_all<N: Net>(
     requires ready { IsTrue (is_within 1 (N.ready net.old own)) }
     requires linked { IsLinked (N.place net.old own).standing }
     ensures source { KeepsSource outgoing.old outgoing.new (N.link net.old own) (N.place net.old own) (N.link net.new own) (N.place net.new own) }
-    ensures sink { (l : Link) (p : Place) → KeepsSink outgoing.old outgoing.new l p l p }
+    ensures sink { SameSink outgoing.old outgoing.new }
     ensures work { Works N.Net own own own net.old net.new }
     ensures stands { N.place net.new own ≡ N.place net.old own }
     ensures cause { OnErr result (Rose (N.faults net.old own) (N.faults net.new own)) }
@@ -84,7 +82,7 @@ fn write_once<N: Net>(net: &mut N, own: ChanNo, incoming: &mut Direction) -> Res
     requires ready { IsTrue (is_within 4 (N.ready net.old own)) }
     requires stands { (N.place net.old own).standing ≡ open_or_shut incoming.old.shut }
     ensures sink { KeepsSink incoming.old incoming.new (N.link net.old own) (N.place net.old own) (N.link net.new own) (N.place net.new own) }
-    ensures source { (l : Link) (p : Place) → KeepsSource incoming.old incoming.new l p l p }
+    ensures source { SameSource incoming.old incoming.new }
     ensures work { Works N.Net own own own net.old net.new }
     ensures stands { (N.place net.new own).standing ≡ open_or_shut incoming.new.shut }
     ensures cause { OnErr result (Rose (N.faults net.old own) (N.faults net.new own)) }
@@ -109,7 +107,7 @@ fn write_all<N: Net>(net: &mut N, own: ChanNo, incoming: &mut Direction) -> Resu
     requires ready { IsTrue (is_within 4 (N.ready net.old own)) }
     requires stands { (N.place net.old own).standing ≡ open_or_shut incoming.old.shut }
     ensures sink { KeepsSink incoming.old incoming.new (N.link net.old own) (N.place net.old own) (N.link net.new own) (N.place net.new own) }
-    ensures source { (l : Link) (p : Place) → KeepsSource incoming.old incoming.new l p l p }
+    ensures source { SameSource incoming.old incoming.new }
     ensures work { Works N.Net own own own net.old net.new }
     ensures stands { (N.place net.new own).standing ≡ open_or_shut incoming.new.shut }
     ensures cause { OnErr result (Rose (N.faults net.old own) (N.faults net.new own)) }
@@ -136,7 +134,7 @@ fn read_told<N: Net>(
     requires ready { IsTrue (is_within ops (N.ready net.old own)) }
     requires linked { IsLinked (N.place net.old own).standing }
     ensures source { KeepsSource outgoing.old outgoing.new (N.link net.old own) (N.place net.old own) (N.link net.new own) (N.place net.new own) }
-    ensures sink { (l : Link) (p : Place) → KeepsSink outgoing.old outgoing.new l p l p }
+    ensures sink { SameSink outgoing.old outgoing.new }
     ensures work { Works N.Net own own own net.old net.new }
     ensures stands { N.place net.new own ≡ N.place net.old own }
     ensures cause { OnErr result (Rose (N.faults net.old own) (N.faults net.new own)) }
@@ -161,7 +159,7 @@ fn write_told<N: Net>(
     requires ready { IsTrue can_write → IsTrue (is_within 4 (N.ready net.old own)) }
     requires stands { (N.place net.old own).standing ≡ open_or_shut incoming.old.shut }
     ensures sink { KeepsSink incoming.old incoming.new (N.link net.old own) (N.place net.old own) (N.link net.new own) (N.place net.new own) }
-    ensures source { (l : Link) (p : Place) → KeepsSource incoming.old incoming.new l p l p }
+    ensures source { SameSource incoming.old incoming.new }
     ensures work { Works N.Net own own own net.old net.new }
     ensures stands { (N.place net.new own).standing ≡ open_or_shut incoming.new.shut }
     ensures cause { OnErr result (Rose (N.faults net.old own) (N.faults net.new own)) }
@@ -179,7 +177,7 @@ fn write_told<N: Net>(
 fn pass_end<N: Net>(net: &mut N, own: ChanNo, incoming: &mut Direction) -> Result<(), Failed>
     requires stands { (N.place net.old own).standing ≡ open_or_shut incoming.old.shut }
     ensures sink { KeepsSink incoming.old incoming.new (N.link net.old own) (N.place net.old own) (N.link net.new own) (N.place net.new own) }
-    ensures source { (l : Link) (p : Place) → KeepsSource incoming.old incoming.new l p l p }
+    ensures source { SameSource incoming.old incoming.new }
     ensures work { (c : ChanNo) → Works N.Net own own c net.old net.new }
     ensures cause { OnErr result (Rose (N.faults net.old own) (N.faults net.new own)) }
     ensures calm { OnOk result (N.faults net.new own ≡ N.faults net.old own) }

@@ -1,4 +1,4 @@
-use Rattle.std.proofs.Common.{◌≡◌, ℕ, ◌<◌, ◌≤◌}
+use Rattle.std.proofs.Common.{◌≡◌, ℕ, ◌<◌}
 use Rattle.nio_link.specs.Places.{IsVacant}
 use Rattle.nio_proxy.specs.Nets.{IsQuiet}
 use Rattle.nio_proxy.specs.Serving.{client_of, listener, target_of}

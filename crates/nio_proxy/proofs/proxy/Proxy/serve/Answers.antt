@@ -34,4 +34,4 @@ loop-preserved g c = record {
 }
 
 pub stop_listening-requires : goal.stop_listening-requires
-stop_listening-requires g c = listens_on _ _ _ _ c.turn-turned.ensures.port c.turn-turned.ensures.listens c.loop.invariant.listens
+stop_listening-requires g c = record { listens = listens_on _ _ _ _ c.turn-turned.ensures.port c.turn-turned.ensures.listens c.loop.invariant.listens }
