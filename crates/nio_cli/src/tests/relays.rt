@@ -18,6 +18,7 @@ use std::thread::Threads;
 
 /// A client and its target: the lengths of the pieces that each sends, of which an empty one says once that nothing has
 /// come yet; what fails; and how many bytes arrive at each, and whether both links are shut at the end.
+#[derive(Clone, Copy)]
 pub(super) struct Peer {
     sends: &'static [usize],
     answers: &'static [usize],
