@@ -5,7 +5,9 @@ use Rattle.nio_base.specs.declared.numbers.ChanNo.{ChanNo}
 use Rattle.nio_bytes.specs.Cause.{Rose}
 use Rattle.nio_bytes.specs.declared.sink.Sink as sink
 use Rattle.nio_link.specs.Links.{Link}
-use Rattle.nio_proxy.specs.Serving.{HasServed, NoneRose, RelaysPrefixes, ServesCleanly, listener}
+use Rattle.nio_link.specs.declared.place.Place.{Place}
+use Rattle.nio_proxy.specs.Serving.{HasServed, LeavesNothing, NoneRose, RelaysBytes, ServesCleanly, listener}
+use Rattle.nio_relay.specs.declared.plan.ProxyPlan.{ProxyPlan}
 use Rattle.nio_relay.specs.declared.plan.Served.{Served}
 use Rattle.nio_script.specs.Output.{IsWritten, WritesPrefix}
 use Rattle.nio_script.specs.declared.status.Status.{Status}
@@ -16,16 +18,16 @@ abbrev pub served_line : Served → List ℕ
 served_line s = codes "served " ++ decimal s.connections ++ codes " faults " ++ decimal s.faults ++ 10 ∷ []
 
 -- All connections were served, and that was written and flushed.
-pub record IsServed {K : Type 0} (k : sink.Ghosts K) (conns : ℕ) (link : ChanNo → Link) (before now : ChanNo → ℕ) (output output' : K) : Type 0 where
+pub record IsServed {K : Type 0} (k : sink.Ghosts K) (plan : ProxyPlan) (link : ChanNo → Link) (place : ChanNo → Place) (before now : ChanNo → ℕ) (output output' : K) : Type 0 where
   pub served : Served
-  pub has_served : HasServed conns link before now served
+  pub has_served : HasServed plan link place before now served
   pub written : IsWritten k output output' (served_line served)
   pub still : k.faults output' ≡ k.faults output
 
 -- All connections were served, and some of that was written, from its front.
-pub record IsServedUnsaid {K : Type 0} (k : sink.Ghosts K) (conns : ℕ) (link : ChanNo → Link) (before now : ChanNo → ℕ) (output output' : K) : Type 0 where
+pub record IsServedUnsaid {K : Type 0} (k : sink.Ghosts K) (plan : ProxyPlan) (link : ChanNo → Link) (place : ChanNo → Place) (before now : ChanNo → ℕ) (output output' : K) : Type 0 where
   pub served : Served
-  pub has_served : HasServed conns link before now served
+  pub has_served : HasServed plan link place before now served
   pub written : WritesPrefix k output output' (served_line served)
 
 -- All connections were served without a fault, and that was written and flushed.
@@ -54,17 +56,18 @@ EndsProxy NetFault = Unit {0}
 EndsProxy (Illegal line) = ⊥
 EndsProxy TooLong = ⊥
 
--- What `proxy` does for so many connections where it ends with this status. Links are told as after it; counts of
+-- What `proxy` does by this plan where it ends with this status. Links and places are told as after it; counts of
 -- faults, of links and of polls, as before it and after it.
-pub record DoesProxy {K : Type 0} (k : sink.Ghosts K) (conns : ℕ) (link : ChanNo → Link) (before now : ChanNo → ℕ) (polls_before polls_now : ℕ) (output output' : K) (status : Status) : Type 0 where
-  pub done : status ≡ Done → IsServed k conns link before now output output'
-  pub write_fault : status ≡ WriteFault → IsServedUnsaid k conns link before now output output'
+pub record DoesProxy {K : Type 0} (k : sink.Ghosts K) (plan : ProxyPlan) (link : ChanNo → Link) (place : ChanNo → Place) (before now : ChanNo → ℕ) (polls_before polls_now : ℕ) (output output' : K) (status : Status) : Type 0 where
+  pub done : status ≡ Done → IsServed k plan link place before now output output'
+  pub write_fault : status ≡ WriteFault → IsServedUnsaid k plan link place before now output output'
   pub rose : status ≡ WriteFault → Rose (k.faults output) (k.faults output')
   pub net_fault : status ≡ NetFault → Rose polls_before polls_now ⊎ Rose (before listener) (now listener)
   pub unwritten : (status ≡ NetFault) ⊎ (status ≡ Memory) → output' ≡ output
   pub ends : EndsProxy status
-  -- at every end each connection has relayed prefixes
-  pub prefixes : RelaysPrefixes link
+  -- at every end each connection has relayed its bytes, and nothing stands
+  pub relays : RelaysBytes link
+  pub leaves : LeavesNothing plan link place
   -- where no count of faults rises and there is memory, all connections are served cleanly
   pub complete : NoneRose before now polls_before polls_now → ¬ Rose (k.faults output) (k.faults output')
-      → IsServedCleanly k conns link output output' status ⊎ (status ≡ Memory)
+      → IsServedCleanly k plan.conns link output output' status ⊎ (status ≡ Memory)

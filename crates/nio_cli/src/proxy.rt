@@ -2,6 +2,7 @@
 ghost use Rattle.std.specs.Prelude.{◌≡◌, ◌≤◌};
 ghost use Rattle.nio_base.specs.declared.numbers.ChanNo.{ChanNo};
 ghost use Rattle.nio_link.specs.Links.{IsUnused};
+ghost use Rattle.nio_link.specs.Places.{unused};
 ghost use Rattle.nio_relay.specs.Plan.{IsServable};
 ghost use Rattle.nio_script.specs.Output.{IsWritten, WritesPrefix};
 ghost use Rattle.nio_cli.specs.Proxy.{DoesProxy, SaysServed};
@@ -24,7 +25,8 @@ pub fn serve<R: Wait, K: Sink, N: Net>(
 ) -> Status
     requires plan { IsServable plan }
     requires fresh { (c : ChanNo) → IsUnused (N.link net.old c) }
-    ensures proxy { DoesProxy K.Sink plan.conns (N.link net.new) (N.faults net.old) (N.faults net.new) (N.poll_faults net.old) (N.poll_faults net.new) output.old output.new result }
+    requires unasked { (c : ChanNo) → N.place net.old c ≡ unused }
+    ensures proxy { DoesProxy K.Sink plan (N.link net.new) (N.place net.new) (N.faults net.old) (N.faults net.new) (N.poll_faults net.old) (N.poll_faults net.new) output.old output.new result }
     ensures later { K.faults output.old ≤ K.faults output.new }
 {
     match serve_select(rt, alloc, net, plan) {

@@ -12,6 +12,7 @@ ghost use Rattle.nio_cli.specs.Words.{BeginsProxy, IsUsage};
 ghost use Rattle.nio_base.specs.declared.numbers.ChanNo.{ChanNo};
 ghost use Rattle.nio_command.specs.Words.{IsScriptCommand, IsCheckCommand, IsCheckFirstCommand, IsRaceCommand, IsLoadCommand, IsProxyCommand, SaysNothing};
 ghost use Rattle.nio_link.specs.Links.{IsUnused};
+ghost use Rattle.nio_link.specs.Places.{unused};
 ghost use Rattle.nio_race.specs.Does.{DoesRace};
 ghost use Rattle.nio_relay.specs.declared.plan.ProxyPlan.{ProxyPlan};
 
@@ -67,6 +68,7 @@ pub fn run<R: Threads + Wait + Sync, S: Source, K: Sink, N: Net, G: Gate + Sync>
     requires first { IsFirstPass table.now pass.old }
     requires limits { limits_of table.now ≡ PROGRAM_LIMITS }
     requires fresh { (c : ChanNo) → IsUnused (N.link net c) }
+    requires unasked { (c : ChanNo) → N.place net c ≡ unused }
 
     // The words are looked at first. There may be no memory to read the options of `proxy`.
     ensures usage { result.status ≡ Status.Usage → SaysNothing (map string_bytes words.now) }
@@ -94,8 +96,8 @@ pub fn run<R: Threads + Wait + Sync, S: Source, K: Sink, N: Net, G: Gate + Sync>
     ensures load_alone { (rounds : ℕ) → IsLoadCommand (map string_bytes words.now) rounds →
         input.new ≡ input.old }
     ensures proxy { (plan : ProxyPlan) → IsProxyCommand (map string_bytes words.now) plan →
-        DoesProxy K.Sink plan.conns (N.link result.net) (N.faults net) (N.faults result.net)
-        (N.poll_faults net) (N.poll_faults result.net) output.old output.new result.status }
+        DoesProxy K.Sink plan (N.link result.net) (N.place result.net)
+        (N.faults net) (N.faults result.net) (N.poll_faults net) (N.poll_faults result.net) output.old output.new result.status }
     ensures proxy_alone { BeginsProxy (map string_bytes words.now) →
         (input.new ≡ input.old) × (pass.new ≡ pass.old) }
     ensures no_net { (BeginsProxy (map string_bytes words.now) → ⊥) → result.net ≡ net }
@@ -132,6 +134,7 @@ fn run_over<R: Threads + Wait + Sync, S: Source, K: Sink, N: Net, G: Gate + Sync
     requires first { IsFirstPass table.now pass.old }
     requires limits { limits_of table.now ≡ PROGRAM_LIMITS }
     requires fresh { (c : ChanNo) → IsUnused (N.link net.old c) }
+    requires unasked { (c : ChanNo) → N.place net.old c ≡ unused }
 
     // The words are looked at first. There may be no memory to read the options of `proxy`.
     ensures usage { result ≡ Status.Usage → SaysNothing (map string_bytes words.now) }
@@ -159,8 +162,8 @@ fn run_over<R: Threads + Wait + Sync, S: Source, K: Sink, N: Net, G: Gate + Sync
     ensures load_alone { (rounds : ℕ) → IsLoadCommand (map string_bytes words.now) rounds →
         input.new ≡ input.old }
     ensures proxy { (plan : ProxyPlan) → IsProxyCommand (map string_bytes words.now) plan →
-        DoesProxy K.Sink plan.conns (N.link net.new) (N.faults net.old) (N.faults net.new)
-        (N.poll_faults net.old) (N.poll_faults net.new) output.old output.new result }
+        DoesProxy K.Sink plan (N.link net.new) (N.place net.new)
+        (N.faults net.old) (N.faults net.new) (N.poll_faults net.old) (N.poll_faults net.new) output.old output.new result }
     ensures proxy_alone { BeginsProxy (map string_bytes words.now) →
         (input.new ≡ input.old) × (pass.new ≡ pass.old) }
     ensures no_net { (BeginsProxy (map string_bytes words.now) → ⊥) → net.new ≡ net.old }

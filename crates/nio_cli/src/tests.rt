@@ -1,13 +1,7 @@
 //! The program as a whole, over sources and sinks in memory.
-ghost use Rattle.std.specs.Prelude.{IfOk};
-ghost use Rattle.nio_base.specs.declared.numbers.ChanNo.{ChanNo};
-ghost use Rattle.nio_link.specs.Links.{IsUnused};
-ghost use Rattle.nio_link.specs.Slots.{carried_at};
-
 use crate::run::{PROGRAM_LIMITS, run};
 use nio_base::NoGate;
 use nio_bytes::{MemorySink, MemorySource};
-use nio_link::{MemoryNet, NetPlan, PeerPlan};
 use nio_words::Words;
 use std::alloc::Global;
 use std::process::Abort;
@@ -16,6 +10,7 @@ use std::test::Fail;
 use std::thread::Threads;
 
 mod loopback;
+mod relays;
 mod rows;
 
 const ONE_SELECTION: &str =
@@ -52,32 +47,6 @@ fn ends(
     (input, fail_read, fail_write): (&str, Option<u64>, Option<u64>),
     (code, written): (u8, &str),
 ) -> Result<(), Fail> {
-    let net = net_of(alloc, &[], None)?;
-    ends_over(
-        rt,
-        alloc,
-        label,
-        words,
-        (input, fail_read, fail_write),
-        net,
-        (code, written),
-    )
-}
-
-/// The same over this net.
-fn ends_over(
-    rt: &(impl Abort + Threads + Wait + Sync),
-    alloc: Global,
-    label: &str,
-    words: &[&str],
-    read: (&str, Option<u64>, Option<u64>),
-    net: MemoryNet,
-    expected: (u8, &str),
-) -> Result<(), Fail>
-    requires { (c : ChanNo) → IsUnused (carried_at net.slots c) }
-{
-    let (input, fail_read, fail_write) = read;
-    let (code, written) = expected;
     let mut given = Vec::new(alloc);
     for word in words {
         given.push(String::from_str(alloc, word)?)?;
@@ -86,6 +55,7 @@ fn ends_over(
     let mut source = MemorySource::make(text, 12, faults(alloc, fail_read)?);
     let mut sink = MemorySink::make(alloc, 5, faults(alloc, fail_write)?, 8_192)?;
     let (table, mut pass) = Words::make(alloc, PROGRAM_LIMITS)?;
+    let net = relays::net_of(alloc, &[], None, None)?;
     let ended = run(
         rt,
         alloc,
@@ -100,42 +70,6 @@ fn ends_over(
     assert_eq!(rt; ended.status.code(), code, "{label}");
     assert_eq!(rt; sink.bytes(), written.as_bytes(), "{label}");
     Ok(())
-}
-
-/// A net of connections whose clients send two bytes, and whose targets take one a write and answer one byte. The
-/// writing to a target fails after so many bytes, where that is told.
-#[tactic(auto, using(nio_proxy::proofs::FreshNet::planned_unused))]
-fn net_of(
-    alloc: Global,
-    fail_after: &[Option<u64>],
-    fail_accept: Option<u64>,
-) -> Result<MemoryNet, Fail>
-    ensures { IfOk result (λ net. (c : ChanNo) → IsUnused (carried_at net.slots c)) }
-{
-    let mut peers = Vec::new(alloc);
-    for fail_write_after in fail_after {
-        peers.push(peer(alloc, *fail_write_after)?)?;
-    }
-    let plan = NetPlan {
-        peers,
-        fail_poll: None,
-        fail_accept,
-    };
-    Ok(MemoryNet::make(alloc, plan)?)
-}
-
-fn peer(alloc: Global, fail_write_after: Option<u64>) -> Result<PeerPlan, Fail> {
-    let mut sends = Vec::new(alloc);
-    sends.push(vec![in alloc; 1u8, 2]?)?;
-    let mut answers = Vec::new(alloc);
-    answers.push(vec![in alloc; 3u8]?)?;
-    Ok(PeerPlan {
-        sends,
-        answers,
-        most: 1,
-        fail_connect: false,
-        fail_write_after,
-    })
 }
 
 /// The call that fails, if any, as a list.
@@ -382,45 +316,6 @@ fn loads(rt: HostRuntime) -> Result<(), Fail> {
             label,
             &["load", rounds],
             ("", None, fail_write),
-            (code, written),
-        )?;
-    }
-    Ok(())
-}
-
-#[test]
-fn relays(rt: HostRuntime) -> Result<(), Fail> {
-    let alloc = rt.alloc();
-    let rows: [(&str, &[Option<u64>], &str, Option<u64>, u8, &str); 3] = [
-        ("relay_one", &[None], "1", None, 0, "served 1 faults 0\n"),
-        (
-            "relay_one_of_two_fails",
-            &[Some(1), None],
-            "2",
-            None,
-            0,
-            "served 2 faults 1\n",
-        ),
-        ("relay_accept_fails", &[None], "1", Some(0), 7, ""),
-    ];
-    for (label, fail_after, conns, fail_accept, code, written) in rows {
-        let net = net_of(alloc, fail_after, fail_accept)?;
-        ends_over(
-            &rt,
-            alloc,
-            label,
-            &[
-                "proxy",
-                "--way",
-                "select",
-                "--listen=127.0.0.1:8080",
-                "--target",
-                "127.0.0.1:80",
-                "--conns",
-                conns,
-            ],
-            ("", None, None),
-            net,
             (code, written),
         )?;
     }

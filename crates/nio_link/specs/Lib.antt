@@ -1,4 +1,5 @@
 pub mod Links
+pub mod Places
 pub mod Readiness
 pub mod Pieces
 pub mod MemoryLinks

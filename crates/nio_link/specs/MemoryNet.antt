@@ -16,6 +16,7 @@ use Rattle.nio_link.specs.declared.memory.slot.Slot.TheVariants as slot
 use Rattle.nio_link.specs.declared.net.Failed.{Failed}
 use Rattle.nio_link.specs.declared.net.Got.{Got}
 use Rattle.nio_link.specs.declared.net.Got.TheVariants as got
+use Rattle.nio_link.specs.declared.place.Change.{Change}
 
 pub record NetState : Type 0 where
   -- what stands under each channel, by its number
@@ -28,6 +29,8 @@ pub record NetState : Type 0 where
   pub accepts : Calls
   -- the channels on which a call failed, one for each failure
   pub faulted : List ChanNo
+  -- the calls that could change places, the oldest first
+  pub changes : List (ChanNo × Change)
   -- what polls told and what calls found since, the oldest first
   pub findings : List Finding
 
@@ -88,6 +91,10 @@ is_early (Ok got.NotYet) = true
 is_early (Err failed) = false
 
 -- ---- the calls
+
+-- a call on a channel that can change its place was answered
+abbrev pub noted : ChanNo → Change → NetState → NetState
+noted c change s = record s { changes = s.changes ++ (c, change) ∷ [] }
 
 abbrev pub after_read : NetState → ChanNo → List ℕ → NetState
 after_read s c buffer = record s {
@@ -167,7 +174,8 @@ after_lost_poll s = record s { polls = after_success s.polls }
 abbrev pub after_failed_poll : NetState → NetState
 after_failed_poll s = record s { polls = after_failure s.polls }
 
--- polls leave what links carried, and which calls failed
+-- polls leave what links carried, which calls failed, and what stands
 pub record KeepsLinks (s now : NetState) : Type 0 where
   pub slots : now.slots ≡ s.slots
   pub faulted : now.faulted ≡ s.faulted
+  pub changes : now.changes ≡ s.changes

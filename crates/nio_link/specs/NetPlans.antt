@@ -61,5 +61,6 @@ planned plan = record {
   polls = no_calls (numbers_of plan.fail_poll);
   accepts = no_calls (numbers_of plan.fail_accept);
   faulted = [];
+  changes = [];
   findings = [];
 }

@@ -1,39 +1,52 @@
 -- What the calls of a net leave, by its meanings before and after.
-use Rattle.std.specs.Prelude.{◌≡◌, ℕ, Bool, Result, IfOk, List}
+use Rattle.std.specs.Prelude.{◌≡◌, ℕ, Bool, Result, Ok, Err, IfOk, List}
+use Rattle.nio_base.specs.declared.numbers.Addr.{Addr}
 use Rattle.nio_base.specs.declared.numbers.ChanNo.{ChanNo}
 use Rattle.nio_bytes.specs.Cause.{HasCause}
 use Rattle.nio_link.specs.Links.{Link, IsSameBut, IsGot, IsPut, after_read, after_write}
+use Rattle.nio_link.specs.Places.{place_after_connect, place_after_finish, place_after_close}
 use Rattle.nio_link.specs.Readiness.{ready_after_read, ready_after_write, ready_after_connect}
 use Rattle.nio_link.specs.declared.net.Failed.{Failed}
 use Rattle.nio_link.specs.declared.net.Got.{Got}
 use Rattle.nio_link.specs.declared.net.Put.{Put}
+use Rattle.nio_link.specs.declared.place.Place.{Place}
 
 -- the meanings of a net at a moment
 pub record NetView : Type 0 where
   pub link : ChanNo → Link
   pub faults : ChanNo → ℕ
+  pub place : ChanNo → Place
   pub ready : ChanNo → ℕ
   pub poll_faults : ℕ
 
 -- those of a net, of the functions that tell them
-abbrev pub view_by : {N : Type 0} → (N → ChanNo → Link) → (N → ChanNo → ℕ) → (N → ChanNo → ℕ) → (N → ℕ) → N → NetView
-view_by link faults ready poll_faults net = record { link = link net; faults = faults net; ready = ready net; poll_faults = poll_faults net }
+abbrev pub view_by : {N : Type 0} → (N → ChanNo → Link) → (N → ChanNo → ℕ) → (N → ChanNo → Place) → (N → ChanNo → ℕ) → (N → ℕ) → N → NetView
+view_by link faults place ready poll_faults net = record { link = link net; faults = faults net; place = place net; ready = ready net; poll_faults = poll_faults net }
 
--- a connection was begun
-pub record Connects (c : ChanNo) (old new : NetView) (result : Result Bool Failed) : Type 0 where
+-- the place of a link whose connecting was answered so: a link that failed is closed
+abbrev pub closed_at_fault : Result Bool Failed → Place → Place
+closed_at_fault (Ok made) place = place
+closed_at_fault (Err failed) place = place_after_close place
+
+-- a connection to this address was begun, and closed where that failed
+pub record Connects (c : ChanNo) (to : Addr) (old new : NetView) (result : Result Bool Failed) : Type 0 where
   pub cause : HasCause (old.faults c) (new.faults c) result
   pub others : IsSameBut c old.faults new.faults
   pub links : (k : ChanNo) → new.link k ≡ old.link k
   pub ready : (k : ChanNo) → new.ready k ≡ old.ready k
+  pub place : new.place c ≡ closed_at_fault result (place_after_connect result to)
+  pub places : IsSameBut c old.place new.place
   pub polls : new.poll_faults ≡ old.poll_faults
 
--- a connection was finished, or found not to be ready
+-- a connection was finished, or found not to be ready, or closed where that failed
 pub record Finishes (c : ChanNo) (old new : NetView) (result : Result Bool Failed) : Type 0 where
   pub cause : HasCause (old.faults c) (new.faults c) result
   pub others : IsSameBut c old.faults new.faults
   pub links : (k : ChanNo) → new.link k ≡ old.link k
   pub ready : new.ready c ≡ ready_after_connect result (old.ready c)
   pub ready_else : IsSameBut c old.ready new.ready
+  pub place : new.place c ≡ closed_at_fault result (place_after_finish result (old.place c))
+  pub places : IsSameBut c old.place new.place
   pub polls : new.poll_faults ≡ old.poll_faults
 
 -- a link was read into a buffer
@@ -45,6 +58,7 @@ pub record Reads (c : ChanNo) (old new : NetView) (before now : List ℕ) (resul
   pub links : IsSameBut c old.link new.link
   pub ready : new.ready c ≡ ready_after_read result (old.ready c)
   pub ready_else : IsSameBut c old.ready new.ready
+  pub places : (k : ChanNo) → new.place k ≡ old.place k
   pub polls : new.poll_faults ≡ old.poll_faults
 
 -- these bytes were written on a link
@@ -56,11 +70,23 @@ pub record Writes (c : ChanNo) (old new : NetView) (bytes : List ℕ) (result : 
   pub links : IsSameBut c old.link new.link
   pub ready : new.ready c ≡ ready_after_write result (old.ready c)
   pub ready_else : IsSameBut c old.ready new.ready
+  pub places : (k : ChanNo) → new.place k ≡ old.place k
   pub polls : new.poll_faults ≡ old.poll_faults
 
 -- a link was closed
-pub record Closes (old new : NetView) : Type 0 where
+pub record Closes (c : ChanNo) (old new : NetView) : Type 0 where
   pub faults : (k : ChanNo) → new.faults k ≡ old.faults k
   pub links : (k : ChanNo) → new.link k ≡ old.link k
   pub ready : (k : ChanNo) → new.ready k ≡ old.ready k
+  pub place : new.place c ≡ place_after_close (old.place c)
+  pub places : IsSameBut c old.place new.place
+  pub polls : new.poll_faults ≡ old.poll_faults
+
+-- connecting was answered so, and the link was closed where that failed
+pub record Settles (made : Result Bool Failed) (c : ChanNo) (old new : NetView) : Type 0 where
+  pub faults : (k : ChanNo) → new.faults k ≡ old.faults k
+  pub links : (k : ChanNo) → new.link k ≡ old.link k
+  pub ready : (k : ChanNo) → new.ready k ≡ old.ready k
+  pub place : new.place c ≡ closed_at_fault made (old.place c)
+  pub places : IsSameBut c old.place new.place
   pub polls : new.poll_faults ≡ old.poll_faults

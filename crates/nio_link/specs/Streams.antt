@@ -1,10 +1,14 @@
 -- What the calls of a stream link answer, by its kept state, and what they leave.
 use Rattle.std.specs.Prelude.{◌≡◌, ℕ, Bool, true, false, Option, Some, None, Result, Ok, Err, List}
+use Rattle.nio_base.specs.declared.numbers.Addr.{Addr}
 use Rattle.nio_base.specs.declared.numbers.ChanNo.{ChanNo}
 use Rattle.nio_link.specs.Nets.{NetView, Connects, Finishes, Reads, Writes, Closes}
+use Rattle.nio_link.specs.Places.{unused, IsVacant}
 use Rattle.nio_link.specs.declared.net.Failed.{Failed}
 use Rattle.nio_link.specs.declared.net.Got.{Got}
 use Rattle.nio_link.specs.declared.net.Put.{Put}
+use Rattle.nio_link.specs.declared.place.Place.{Place}
+use Rattle.nio_link.specs.declared.place.Standing.TheVariants as standing
 use Rattle.nio_link.specs.declared.stream.LinkError.{LinkError}
 use Rattle.nio_link.specs.declared.stream.LinkError.TheVariants.{ClosedChannel, AlreadyConnected, ConnectionPending, NoConnectionPending, NotYetConnected, Fault}
 use Rattle.nio_link.specs.declared.stream.StreamState.{StreamState}
@@ -13,6 +17,13 @@ use Rattle.nio_link.specs.declared.stream.StreamState.TheVariants.{Unconnected, 
 pub record Stream : Type 0 where
   pub channel : ChanNo
   pub state : StreamState
+
+-- what stands under its channel
+abbrev pub StandsAs : StreamState → Place → Type 0
+StandsAs Unconnected place = place ≡ unused
+StandsAs Connecting place = place.standing ≡ standing.Connecting
+StandsAs Connected place = place.standing ≡ standing.Linked
+StandsAs Closed place = IsVacant place.standing
 
 -- the refusal of each call, where the state refuses it
 abbrev pub connect_refusal : StreamState → Option LinkError
@@ -45,15 +56,15 @@ pub record IsAnswered {N T : Type 0} (reply : Result T LinkError) (before now : 
   pub net : new ≡ old
 
 -- connecting
-pub record BeginsStream (before now : Stream) (old new : NetView) (result : Result Bool LinkError) : Type 0 where
+pub record BeginsStream (to : Addr) (before now : Stream) (old new : NetView) (result : Result Bool LinkError) : Type 0 where
   pub made : Result Bool Failed
   pub told : result ≡ as_fault made
-  pub net : Connects before.channel old new made
+  pub net : Connects before.channel to old new made
   pub link : now ≡ record before { state = state_after result }
 
-abbrev pub ConnectClause : {N : Type 0} → (N → NetView) → Option LinkError → Stream → Stream → N → N → Result Bool LinkError → Type 0
-ConnectClause view (Some error) before now old new result = IsAnswered (Err error) before now old new result
-ConnectClause view None before now old new result = BeginsStream before now (view old) (view new) result
+abbrev pub ConnectClause : {N : Type 0} → (N → NetView) → Option LinkError → Addr → Stream → Stream → N → N → Result Bool LinkError → Type 0
+ConnectClause view (Some error) to before now old new result = IsAnswered (Err error) before now old new result
+ConnectClause view None to before now old new result = BeginsStream to before now (view old) (view new) result
 
 pub record FinishesStream (before now : Stream) (old new : NetView) (result : Result Bool LinkError) : Type 0 where
   pub made : Result Bool Failed
@@ -92,7 +103,7 @@ WriteClause view None before now old new bytes result = WritesStream before now 
 -- closing
 pub record ClosesStream (before now : Stream) (old new : NetView) (result : Bool) : Type 0 where
   pub answer : result ≡ true
-  pub net : Closes old new
+  pub net : Closes before.channel old new
   pub link : now ≡ record before { state = Closed }
 
 pub record WasClosed {N : Type 0} (before now : Stream) (old new : N) (result : Bool) : Type 0 where

@@ -3,10 +3,12 @@
 
 pub use memory::{MemoryNet, NetPlan, PeerPlan};
 pub use net::{Failed, Got, Net, Put};
+pub use place::{Change, Place, Role, Standing};
 pub use stream::{LinkError, StreamLink, StreamState};
 
 mod memory;
 mod net;
+mod place;
 mod stream;
 #[cfg(test)]
 mod tests;

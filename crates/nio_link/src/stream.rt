@@ -1,8 +1,8 @@
 //! A link that keeps how far it is connected, and refuses the calls that its state doesn't allow.
 ghost use Rattle.std.specs.Prelude.{◌≡◌, ◌≢◌, [], IsTrue};
 ghost use Rattle.nio_steps.specs.KeyCalls.{is_within};
-ghost use Rattle.nio_link.specs.Nets.{Closes, view_by};
-ghost use Rattle.nio_link.specs.Streams.{as_fault, connect_refusal, transfer_refusal, state_after, ConnectClause, FinishClause, ReadClause, WriteClause, CloseClause};
+ghost use Rattle.nio_link.specs.Nets.{Settles, view_by};
+ghost use Rattle.nio_link.specs.Streams.{StandsAs, as_fault, connect_refusal, transfer_refusal, state_after, ConnectClause, FinishClause, ReadClause, WriteClause, CloseClause};
 ghost use Rattle.nio_link.specs.declared.stream.StreamState.TheVariants as state;
 
 use crate::net::{Failed, Got, Net, Put};
@@ -42,7 +42,8 @@ pub enum StreamState {
     Closed,
 }
 
-/// A link of a net. Its calls look at its state first: what that refuses doesn't reach the net.
+/// A link of a net. Its calls look at its state first: what that refuses doesn't reach the net. What stands under its
+/// channel is what its state says, as long as no other calls are made there.
 #[derive(Drop)]
 pub struct StreamLink {
     chan: ChanNo,
@@ -80,7 +81,9 @@ impl StreamLink {
 
     /// Begins to connect. True where it is connected; false where that isn't done yet. A fault closes the link.
     pub fn connect<N: Net>(&mut self, net: &mut N, to: Addr) -> Result<bool, LinkError>
-        ensures { ConnectClause (view_by N.link N.faults N.ready N.poll_faults) (connect_refusal self.old.state) self.old self.new net.old net.new result }
+        requires { StandsAs self.old.state (N.place net.old self.old.channel) }
+        ensures connect { ConnectClause (view_by N.link N.faults N.place N.ready N.poll_faults) (connect_refusal self.old.state) to self.old self.new net.old net.new result }
+        ensures stands { StandsAs self.new.state (N.place net.new self.new.channel) }
     {
         match self.state {
             StreamState::Unconnected => {
@@ -95,8 +98,10 @@ impl StreamLink {
 
     /// Goes on connecting. True where the link is connected; false where that isn't done yet. A fault closes the link.
     pub fn finish_connect<N: Net>(&mut self, net: &mut N) -> Result<bool, LinkError>
-        requires { self.old.state ≡ state.Connecting → IsTrue (is_within 8 (N.ready net.old self.old.channel)) }
-        ensures { FinishClause (view_by N.link N.faults N.ready N.poll_faults) self.old.state self.old self.new net.old net.new result }
+        requires ready { self.old.state ≡ state.Connecting → IsTrue (is_within 8 (N.ready net.old self.old.channel)) }
+        requires stands { StandsAs self.old.state (N.place net.old self.old.channel) }
+        ensures finish { FinishClause (view_by N.link N.faults N.place N.ready N.poll_faults) self.old.state self.old self.new net.old net.new result }
+        ensures stands { StandsAs self.new.state (N.place net.new self.new.channel) }
     {
         match self.state {
             StreamState::Unconnected => Err(LinkError::NoConnectionPending),
@@ -113,7 +118,9 @@ impl StreamLink {
     pub fn read<N: Net>(&mut self, net: &mut N, into: &mut [u8]) -> Result<Got, LinkError>
         requires some { self.old.state ≡ state.Connected → into.old ≢ [] }
         requires ready { self.old.state ≡ state.Connected → IsTrue (is_within 1 (N.ready net.old self.old.channel)) }
-        ensures { ReadClause (view_by N.link N.faults N.ready N.poll_faults) (transfer_refusal self.old.state) self.old self.new net.old net.new into.old into.new result }
+        requires stands { StandsAs self.old.state (N.place net.old self.old.channel) }
+        ensures read { ReadClause (view_by N.link N.faults N.place N.ready N.poll_faults) (transfer_refusal self.old.state) self.old self.new net.old net.new into.old into.new result }
+        ensures stands { StandsAs self.new.state (N.place net.new self.new.channel) }
     {
         match self.state {
             StreamState::Unconnected | StreamState::Connecting => Err(LinkError::NotYetConnected),
@@ -126,7 +133,9 @@ impl StreamLink {
     pub fn write<N: Net>(&mut self, net: &mut N, from: &[u8]) -> Result<Put, LinkError>
         requires some { self.old.state ≡ state.Connected → from.now ≢ [] }
         requires ready { self.old.state ≡ state.Connected → IsTrue (is_within 4 (N.ready net.old self.old.channel)) }
-        ensures { WriteClause (view_by N.link N.faults N.ready N.poll_faults) (transfer_refusal self.old.state) self.old self.new net.old net.new from.now result }
+        requires stands { StandsAs self.old.state (N.place net.old self.old.channel) }
+        ensures write { WriteClause (view_by N.link N.faults N.place N.ready N.poll_faults) (transfer_refusal self.old.state) self.old self.new net.old net.new from.now result }
+        ensures stands { StandsAs self.new.state (N.place net.new self.new.channel) }
     {
         match self.state {
             StreamState::Unconnected | StreamState::Connecting => Err(LinkError::NotYetConnected),
@@ -137,7 +146,9 @@ impl StreamLink {
 
     /// Closes the link. False where it was closed before.
     pub fn close<N: Net>(&mut self, net: &mut N) -> bool
-        ensures { CloseClause (view_by N.link N.faults N.ready N.poll_faults) self.old.state self.old self.new net.old net.new result }
+        requires { StandsAs self.old.state (N.place net.old self.old.channel) }
+        ensures close { CloseClause (view_by N.link N.faults N.place N.ready N.poll_faults) self.old.state self.old self.new net.old net.new result }
+        ensures stands { StandsAs self.new.state (N.place net.new self.new.channel) }
     {
         if self.state == StreamState::Closed {
             return false;
@@ -151,7 +162,7 @@ impl StreamLink {
     fn settle<N: Net>(&mut self, net: &mut N, made: Result<bool, Failed>) -> Result<bool, LinkError>
         ensures told { result ≡ as_fault made }
         ensures link { self.new ≡ record self.old { state = state_after result } }
-        ensures net { Closes (view_by N.link N.faults N.ready N.poll_faults net.old) (view_by N.link N.faults N.ready N.poll_faults net.new) }
+        ensures net { Settles made self.old.channel (view_by N.link N.faults N.place N.ready N.poll_faults net.old) (view_by N.link N.faults N.place N.ready N.poll_faults net.new) }
     {
         if made.is_err() {
             net.close(self.chan);

@@ -1,5 +1,8 @@
 //! A net in memory by its plan, a stream link by its state, and the calls of a net through its trait.
-ghost use Rattle.std.specs.Prelude.{◌≡◌, ◌≢◌, []};
+ghost use Rattle.std.specs.Prelude.{◌≡◌, ◌≢◌, [], IsTrue};
+ghost use Rattle.nio_link.specs.Places.{places_after, unused};
+ghost use Rattle.nio_link.specs.Streams.{StandsAs};
+ghost use Rattle.nio_link.specs.declared.place.Standing.TheVariants as standing;
 ghost use Rattle.nio_link.specs.declared.stream.StreamState.TheVariants as state;
 
 use crate::*;
@@ -51,9 +54,9 @@ fn make_call(net: &mut MemoryNet, call: Call, into: &mut [u8]) -> Answer
     requires { into.old ≢ [] }
 {
     match call {
-        Call::Listen(chan) => done(net.listen_on(ChanNo(chan))),
+        Call::Listen(chan) => done(net.listen_on(ChanNo(chan), ANYWHERE)),
         Call::Accept(listener, chan) => made(net.accept_link(ChanNo(listener), ChanNo(chan))),
-        Call::Connect(chan) => made(net.connect_link(ChanNo(chan))),
+        Call::Connect(chan) => made(net.connect_link(ChanNo(chan), ANYWHERE)),
         Call::Finish(chan) => made(net.finish_link(ChanNo(chan))),
         Call::Read(chan) => match net.read_link(ChanNo(chan), into) {
             Ok(got) => Answer::Got(got),
@@ -186,20 +189,20 @@ fn reads_give_the_pieces(rt: HostRuntime) -> Result<(), Fail> {
 }
 
 /// The calls of a net that need no readiness.
-fn begins<N: Net>(net: &mut N) -> (Result<(), Failed>, Result<bool, Failed>, Result<(), Failed>) {
+fn begins<N: Net>(net: &mut N) -> (Result<(), Failed>, Result<bool, Failed>)
+    requires listener { N.place net.old (record { 0 = 0 }) ≡ unused }
+    requires link { N.place net.old (record { 0 = 2 }) ≡ unused }
+{
     let listens = net.listen(ChanNo(0), ANYWHERE);
     let connects = net.connect(ChanNo(2), ANYWHERE);
-    let shuts = net.shut_write(ChanNo(2));
     net.close(ChanNo(2));
-    (listens, connects, shuts)
+    (listens, connects)
 }
 
 #[test]
 fn a_net_in_memory_is_a_net(rt: HostRuntime) -> Result<(), Fail> {
     let mut net = MemoryNet::make(rt.alloc(), plan(rt.alloc())?)?;
-    assert!(rt; begins(&mut net) == (Ok(()), Ok(false), Err(Failed)));
-    // A channel bears one link.
-    assert!(rt; begins(&mut net) == (Err(Failed), Err(Failed), Err(Failed)));
+    assert!(rt; begins(&mut net) == (Ok(()), Ok(false)));
     Ok(())
 }
 
@@ -224,8 +227,10 @@ fn polls_fail_by_the_plan(rt: HostRuntime) -> Result<(), Fail> {
 type Refusals = [Option<LinkError>; 3];
 
 fn unconnected<N: Net>(net: &mut N, link: &mut StreamLink) -> Refusals
-    requires { link.old.state ≡ state.Unconnected }
-    ensures { link.new ≡ link.old }
+    requires state { link.old.state ≡ state.Unconnected }
+    requires stands { StandsAs link.old.state (N.place net.old link.old.channel) }
+    ensures link { link.new ≡ link.old }
+    ensures net { net.new ≡ net.old }
 {
     let mut byte = [0];
     let read = link.read(net, &mut byte).err();
@@ -234,8 +239,10 @@ fn unconnected<N: Net>(net: &mut N, link: &mut StreamLink) -> Refusals
 }
 
 fn connecting<N: Net>(net: &mut N, link: &mut StreamLink) -> Refusals
-    requires { link.old.state ≡ state.Connecting }
-    ensures { link.new ≡ link.old }
+    requires state { link.old.state ≡ state.Connecting }
+    requires stands { StandsAs link.old.state (N.place net.old link.old.channel) }
+    ensures link { link.new ≡ link.old }
+    ensures net { net.new ≡ net.old }
 {
     let mut byte = [0];
     let read = link.read(net, &mut byte).err();
@@ -244,8 +251,10 @@ fn connecting<N: Net>(net: &mut N, link: &mut StreamLink) -> Refusals
 }
 
 fn closed<N: Net>(net: &mut N, link: &mut StreamLink) -> Refusals
-    requires { link.old.state ≡ state.Closed }
-    ensures { link.new ≡ link.old }
+    requires state { link.old.state ≡ state.Closed }
+    requires stands { StandsAs link.old.state (N.place net.old link.old.channel) }
+    ensures link { link.new ≡ link.old }
+    ensures net { net.new ≡ net.old }
 {
     let mut byte = [0];
     let read = link.read(net, &mut byte).err();
@@ -255,7 +264,9 @@ fn closed<N: Net>(net: &mut N, link: &mut StreamLink) -> Refusals
 
 /// What a link answers, with the refusals of its state after each: before it is connected, when that is begun, and
 /// when it is closed.
-fn life<N: Net>(net: &mut N, chan: ChanNo) -> (Refusals, Result<bool, LinkError>, Refusals, bool) {
+fn life<N: Net>(net: &mut N, chan: ChanNo) -> (Refusals, Result<bool, LinkError>, Refusals, bool)
+    requires { N.place net.old chan ≡ unused }
+{
     let mut link = StreamLink::make(chan);
     let first = unconnected(net, &mut link);
     match link.connect(net, ANYWHERE) {
@@ -273,7 +284,6 @@ fn life<N: Net>(net: &mut N, chan: ChanNo) -> (Refusals, Result<bool, LinkError>
 
 #[test]
 fn a_stream_link_refuses_by_its_state(rt: HostRuntime) -> Result<(), Fail> {
-    let mut net = MemoryNet::make(rt.alloc(), plan(rt.alloc())?)?;
     let unconnected = [
         Some(LinkError::NotYetConnected),
         Some(LinkError::NotYetConnected),
@@ -285,12 +295,38 @@ fn a_stream_link_refuses_by_its_state(rt: HostRuntime) -> Result<(), Fail> {
         Some(LinkError::ConnectionPending),
     ];
     let closed = [Some(LinkError::ClosedChannel); 3];
+    let mut net = MemoryNet::make(rt.alloc(), plan(rt.alloc())?)?;
     assert!(rt; life(&mut net, ChanNo(2)) == (unconnected, Ok(false), connecting, true));
-    // The channel is taken, so connecting fails, and closes the link.
-    assert!(rt; life(&mut net, ChanNo(2)) == (unconnected, Err(LinkError::Fault), closed, false));
+    // The net has no such channel, so connecting fails, and closes the link.
+    let mut net = MemoryNet::make(rt.alloc(), plan(rt.alloc())?)?;
+    assert!(rt; life(&mut net, ChanNo(9)) == (unconnected, Err(LinkError::Fault), closed, false));
+    Ok(())
+}
 
+/// Accepts the first client, as the net that was just made can.
+#[tactic(auto, using(crate::proofs::Changes::changed_here))]
+fn accept_first(net: &mut MemoryNet) -> bool
+    ensures { IsTrue result → (places_after net.new.changes (record { 0 = 1 })).standing ≡ standing.Linked }
+{
+    let _listens = net.listen_on(ChanNo(0), ANYWHERE);
+    // The net's first call of `accept` is not the one that fails.
+    matches!(net.accept_link(ChanNo(0), ChanNo(1)), Ok(true))
+}
+
+/// What an accepted link answers where it is to be connected.
+fn connected_again<N: Net>(net: &mut N) -> [Result<bool, LinkError>; 2]
+    requires { (N.place net.old (record { 0 = 1 })).standing ≡ standing.Linked }
+{
     let mut link = StreamLink::accepted(ChanNo(1));
-    assert!(rt; link.connect(&mut net, ANYWHERE) == Err(LinkError::AlreadyConnected));
-    assert!(rt; link.finish_connect(&mut net) == Ok(true));
+    let again = link.connect(net, ANYWHERE);
+    [again, link.finish_connect(net)]
+}
+
+#[test]
+fn an_accepted_link_is_connected(rt: HostRuntime) -> Result<(), Fail> {
+    let mut net = MemoryNet::make(rt.alloc(), plan(rt.alloc())?)?;
+    let accepted = accept_first(&mut net);
+    assert!(rt; accepted);
+    assert!(rt; connected_again(&mut net) == [Err(LinkError::AlreadyConnected), Ok(true)]);
     Ok(())
 }

@@ -1,6 +1,8 @@
 //! A client, a link that passes its bytes back, and the calls that the system refuses, over loopback.
 ghost use Rattle.std.specs.Prelude.{◌≡◌, IfOk};
+ghost use Rattle.nio_base.specs.declared.numbers.ChanNo.{ChanNo as Channel};
 ghost use Rattle.nio_event.specs.PassViews.{HasNoPin};
+ghost use Rattle.nio_link.specs.Places.{unused};
 ghost use Rattle.nio_words.specs.Passes.{IsReady};
 ghost use Rattle.nio_words.specs.Views.{view};
 
@@ -191,9 +193,15 @@ fn tells_causes_apart(rt: HostRuntime) {
     }
 }
 
-/// Whether it listens, through the trait.
-fn listens<N: Net>(net: &mut N, chan: ChanNo, at: Addr) -> bool {
-    net.listen(chan, at).is_ok()
+/// Whether it listens past the places, and at an address that is free, taken, and free again.
+fn listens<N: Net>(net: &mut N, at: Addr) -> [bool; 4]
+    requires { (c : Channel) → N.place net.old c ≡ unused }
+{
+    let past = net.listen(ChanNo(PLACES as u32), at).is_ok();
+    let first = net.listen(LINK, at).is_ok();
+    let second = net.listen(LISTENER, at).is_ok();
+    net.close(LINK);
+    [past, first, second, net.listen(ChanNo(2), at).is_ok()]
 }
 
 #[test]
@@ -201,11 +209,6 @@ fn listens_at_an_address_once(rt: HostRuntime) -> Result<(), Fail> {
     let at = free_address(&rt)?;
     let (mut net, bell) = MioNet::make(rt, rt.alloc())?;
     bell.ring();
-    // Past the places; at an address that is free, taken, and free again.
-    assert!(rt; !listens(&mut net, ChanNo(PLACES as u32), at));
-    assert!(rt; listens(&mut net, LINK, at));
-    assert!(rt; !listens(&mut net, LISTENER, at));
-    net.close(LINK);
-    assert!(rt; listens(&mut net, LISTENER, at));
+    assert!(rt; listens(&mut net, at) == [false, true, false, true]);
     Ok(())
 }

@@ -1,9 +1,10 @@
 mod Begun
 mod Bits
 mod Counts
+mod Ends
 pub mod FreshNet
 mod Idle
-mod Promise
+pub mod Promise
 mod Ordered
 mod Resolved
 mod Seen

@@ -11,4 +11,5 @@ seen p n = record {
   kept = p.kept;
   link = n.link;
   faults = n.faults;
+  place = n.place;
 }

@@ -1,8 +1,11 @@
 -- What a piece of the proxy's work does to a net.
-use Rattle.std.specs.Prelude.{◌≡◌, ◌≢◌, ℕ, ◌≤◌, Option, List}
+use Rattle.std.specs.Prelude.{◌≡◌, ◌≢◌, ℕ, ◌≤◌, ◌⊎◌, Option, List}
 use Rattle.nio_base.specs.declared.numbers.ChanNo.{ChanNo}
 use Rattle.nio_link.specs.Links.{Link}
+use Rattle.nio_link.specs.Places.{place_after_close}
+use Rattle.nio_link.specs.declared.place.Place.{Place}
 use Rattle.nio_poller.specs.Polled.{Polled}
+use Rattle.nio_proxy.specs.Serving.{listener}
 
 -- what contracts see of a net
 abbrev pub Members : Type 0 → Type 1
@@ -13,26 +16,56 @@ Members N = record {
   kept : N → N → Type 0;
   link : N → ChanNo → Link;
   faults : N → ChanNo → ℕ;
+  place : N → ChanNo → Place;
 }
 
--- From a net x to a net y only the links a and b have carried more, and only the channel `own` may be ready for less.
--- No poll was made.
+-- From a net x to a net y only the links a and b have carried more, have failed or stand in another way, and only the
+-- channel `own` may be ready for less. No channel was asked to be anything. No poll was made.
 pub record Works {N : Type 0} (n : Members N) (a b own : ChanNo) (x y : N) : Type 0 where
   pub links : (c : ChanNo) → c ≢ a → c ≢ b → n.link y c ≡ n.link x c
+  pub places : (c : ChanNo) → c ≢ a → c ≢ b → n.place y c ≡ n.place x c
+  pub faults : (c : ChanNo) → c ≢ a → c ≢ b → n.faults y c ≡ n.faults x c
   pub ready : (c : ChanNo) → c ≢ own → n.ready y c ≡ n.ready x c
   pub later : (c : ChanNo) → n.faults x c ≤ n.faults y c
+  pub roles : (c : ChanNo) → (n.place y c).role ≡ (n.place x c).role
   pub polls : n.poll_faults y ≡ n.poll_faults x
 
--- No link has carried more, and no channel is ready for less.
-pub record IsIdle {N : Type 0} (n : Members N) (x y : N) : Type 0 where
+-- A link was accepted: no link has carried more, no call failed, and only this one stands in another way. No channel is
+-- ready for less.
+pub record Accepts {N : Type 0} (n : Members N) (client : ChanNo) (x y : N) : Type 0 where
   pub links : (c : ChanNo) → n.link y c ≡ n.link x c
+  pub places : (c : ChanNo) → c ≢ client → n.place y c ≡ n.place x c
+  pub faults : (c : ChanNo) → n.faults y c ≡ n.faults x c
+  pub ready : (c : ChanNo) → n.ready y c ≡ n.ready x c
+  pub polls : n.poll_faults y ≡ n.poll_faults x
+
+-- A connection was begun: no link has carried more, only the target may have failed, and only the two links may stand in
+-- another way. No channel is ready for less.
+pub record Begins {N : Type 0} (n : Members N) (client target : ChanNo) (x y : N) : Type 0 where
+  pub links : (c : ChanNo) → n.link y c ≡ n.link x c
+  pub places : (c : ChanNo) → c ≢ client → c ≢ target → n.place y c ≡ n.place x c
+  pub faults : (c : ChanNo) → c ≢ target → n.faults y c ≡ n.faults x c
   pub ready : (c : ChanNo) → n.ready y c ≡ n.ready x c
   pub later : (c : ChanNo) → n.faults x c ≤ n.faults y c
   pub polls : n.poll_faults y ≡ n.poll_faults x
 
--- Nothing that contracts see has changed, as where links are closed.
+-- No link has carried more, no channel's place has changed, and only the listener may have failed, and be ready for less.
+pub record IsStill {N : Type 0} (n : Members N) (x y : N) : Type 0 where
+  pub links : (c : ChanNo) → n.link y c ≡ n.link x c
+  pub places : (c : ChanNo) → n.place y c ≡ n.place x c
+  pub faults : (c : ChanNo) → c ≢ listener → n.faults y c ≡ n.faults x c
+  pub ready : (c : ChanNo) → c ≢ listener → n.ready y c ≡ n.ready x c
+  pub later : (c : ChanNo) → n.faults x c ≤ n.faults y c
+  pub polls : n.poll_faults y ≡ n.poll_faults x
+
+-- the place is the same, or what stood there was closed
+abbrev pub OnlyCloses : Place → Place → Type 0
+OnlyCloses before now = (now ≡ before) ⊎ (now ≡ place_after_close before)
+
+-- Links were closed, and nothing else was done.
 pub record IsQuiet {N : Type 0} (n : Members N) (x y : N) : Type 0 where
   pub links : (c : ChanNo) → n.link y c ≡ n.link x c
+  pub places : (c : ChanNo) → OnlyCloses (n.place x c) (n.place y c)
   pub ready : (c : ChanNo) → n.ready y c ≡ n.ready x c
   pub faults : (c : ChanNo) → n.faults y c ≡ n.faults x c
   pub polls : n.poll_faults y ≡ n.poll_faults x

@@ -1,9 +1,15 @@
 -- What a proxy promises.
 use Rattle.std.specs.Prelude.{◌≡◌, ℕ, zero, suc, ◌+◌, ◌*◌, ◌<◌, ◌⊎◌, Bool, IsTrue, IsFalse, if◌then◌else◌, IfSome, Result, Ok, Err}
+use Rattle.nio_base.specs.declared.numbers.Addr.{Addr}
 use Rattle.nio_base.specs.declared.numbers.ChanNo.{ChanNo}
 use Rattle.nio_bytes.specs.Cause.{Rose}
 use Rattle.nio_link.specs.Links.{Link, IsUnused}
-use Rattle.nio_relay.specs.Connection.{Carried, IsBegun, IsClean}
+use Rattle.nio_link.specs.Places.{IsVacant}
+use Rattle.nio_link.specs.declared.place.Place.{Place}
+use Rattle.nio_link.specs.declared.place.Role.{Role}
+use Rattle.nio_link.specs.declared.place.Role.TheVariants as role
+use Rattle.nio_relay.specs.Connection.{Carried, IsRelayed, IsClean}
+use Rattle.nio_relay.specs.declared.plan.ProxyPlan.{ProxyPlan}
 use Rattle.nio_relay.specs.declared.plan.Served.{Served}
 use Rattle.nio_proxy.specs.declared.serve.ServeError.{ServeError}
 use Rattle.nio_proxy.specs.declared.serve.ServeError.TheVariants.{NetFault, Memory}
@@ -38,19 +44,44 @@ pub record HaveCarried (P : Carried → Carried → Type 0) (client target : Lin
   pub by_target : HasCarried target of_target
   pub related : P of_client of_target
 
--- what was put on each of the two links is a prefix of what the other gave
-abbrev pub AreBegun : Carried → Carried → Type 0
-AreBegun client target = IsBegun client target × IsBegun target client
+-- what each of the two links gave was put on the other, but for the few bytes that are on their way
+abbrev pub AreRelayed : Carried → Carried → Type 0
+AreRelayed client target = IsRelayed client target × IsRelayed target client
 
 -- ---- the promise
 
--- At every end: each connection has relayed prefixes, both ways.
-abbrev pub RelaysPrefixes : (ChanNo → Link) → Type 0
-RelaysPrefixes link = (k : ℕ) → HaveCarried AreBegun (link (client_of k)) (link (target_of k))
+-- At every end: each connection has relayed its bytes, both ways.
+abbrev pub RelaysBytes : (ChanNo → Link) → Type 0
+RelaysBytes link = (k : ℕ) → HaveCarried AreRelayed (link (client_of k)) (link (target_of k))
+
+-- the channel was asked to be this, or nothing
+abbrev pub IsAtMost : Role → Role → Type 0
+IsAtMost wanted r = (r ≡ role.Nothing) ⊎ (r ≡ wanted)
+
+-- At every end: nothing stands under any channel. Channels were used for nothing but a listener at the plan's address
+-- and, for each connection of the plan, a link that it accepted and one to the plan's target. Others carried nothing.
+pub record LeavesNothing (plan : ProxyPlan) (link : ChanNo → Link) (place : ChanNo → Place) : Type 0 where
+  pub vacant : (c : ChanNo) → IsVacant (place c).standing
+  pub listens : IsAtMost (role.Listener plan.listen) (place listener).role
+  pub clients : (k : ℕ) → k < plan.conns → IsAtMost (role.Accepted listener) (place (client_of k)).role
+  pub targets : (k : ℕ) → k < plan.conns → IsAtMost (role.Connected plan.target) (place (target_of k)).role
+  pub others : (c : ChanNo) → 2 * plan.conns < c.0 → (place c).role ≡ role.Nothing
+  pub no_bytes : IsUnused (link listener)
+  pub rest : (c : ChanNo) → 2 * plan.conns < c.0 → IsUnused (link c)
+
+-- the connection's client was accepted, and its link to this target was asked for
+pub record WasBegun (target : Addr) (place : ChanNo → Place) (k : ℕ) : Type 0 where
+  pub accepted : (place (client_of k)).role ≡ role.Accepted listener
+  pub asked : (place (target_of k)).role ≡ role.Connected target
 
 -- the count of faults of one of the connection's two links rose
 abbrev pub HasFaulted : (ChanNo → ℕ) → (ChanNo → ℕ) → ℕ → Type 0
 HasFaulted before now k = Rose (before (client_of k)) (now (client_of k)) ⊎ Rose (before (target_of k)) (now (target_of k))
+
+-- the counts of its two links are as they were
+pub record IsUnfaulted (before now : ChanNo → ℕ) (k : ℕ) : Type 0 where
+  pub client : now (client_of k) ≡ before (client_of k)
+  pub target : now (target_of k) ≡ before (target_of k)
 
 -- it relayed all bytes, both ways, and both of its ends are shut
 abbrev pub WasClean : (ChanNo → Link) → ℕ → Type 0
@@ -61,21 +92,22 @@ abbrev pub count_below : (ℕ → Bool) → ℕ → ℕ
 count_below counted zero = 0
 count_below counted (suc n) = count_below counted n + (if counted n then 1 else 0)
 
--- All connections below `conns` were served, and no other was begun. Some are counted as faulty; of each of those the
--- count of faults of a link rose in this call, and each other one was clean.
-pub record HasServed (conns : ℕ) (link : ChanNo → Link) (before now : ChanNo → ℕ) (served : Served) : Type 0 where
-  pub connections : served.connections ≡ conns
+-- All connections of the plan were served. Some are counted as faulty: of each of those the count of faults of a link
+-- rose in this call. Each other one was clean, and its counts didn't rise.
+pub record HasServed (plan : ProxyPlan) (link : ChanNo → Link) (place : ChanNo → Place) (before now : ChanNo → ℕ) (served : Served) : Type 0 where
+  pub connections : served.connections ≡ plan.conns
+  pub begun : (k : ℕ) → k < plan.conns → WasBegun plan.target place k
   pub counted : ℕ → Bool
-  pub faults : served.faults ≡ count_below counted conns
-  pub faulty : (k : ℕ) → k < conns → IsTrue (counted k) → HasFaulted before now k
-  pub clean : (k : ℕ) → k < conns → IsFalse (counted k) → WasClean link k
-  pub rest : (c : ChanNo) → 2 * conns < c.0 → IsUnused (link c)
+  pub faults : served.faults ≡ count_below counted plan.conns
+  pub faulty : (k : ℕ) → k < plan.conns → IsTrue (counted k) → HasFaulted before now k
+  pub unfaulted : (k : ℕ) → k < plan.conns → IsFalse (counted k) → IsUnfaulted before now k
+  pub clean : (k : ℕ) → k < plan.conns → IsFalse (counted k) → WasClean link k
 
 -- what the call answers: all were served; or the poller or the listener failed; or memory lacked
-abbrev pub Serves : ℕ → (ChanNo → Link) → (ChanNo → ℕ) → (ChanNo → ℕ) → ℕ → ℕ → Result Served ServeError → Type 0
-Serves conns link before now polls_before polls_now (Ok served) = HasServed conns link before now served
-Serves conns link before now polls_before polls_now (Err NetFault) = Rose polls_before polls_now ⊎ Rose (before listener) (now listener)
-Serves conns link before now polls_before polls_now (Err Memory) = Unit {0}
+abbrev pub Serves : ProxyPlan → (ChanNo → Link) → (ChanNo → Place) → (ChanNo → ℕ) → (ChanNo → ℕ) → ℕ → ℕ → Result Served ServeError → Type 0
+Serves plan link place before now polls_before polls_now (Ok served) = HasServed plan link place before now served
+Serves plan link place before now polls_before polls_now (Err NetFault) = Rose polls_before polls_now ⊎ Rose (before listener) (now listener)
+Serves plan link place before now polls_before polls_now (Err Memory) = Unit {0}
 
 -- no count of faults rose
 pub record NoneRose (before now : ChanNo → ℕ) (polls_before polls_now : ℕ) : Type 0 where

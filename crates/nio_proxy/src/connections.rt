@@ -1,29 +1,52 @@
 //! All connections that were accepted.
-ghost use Rattle.std.specs.Prelude.{◌≡◌, ℕ, ◌+◌, ◌<◌, ◌≤◌, [], ◌∷◌, ◌++◌, Some, None, if◌then◌else◌, length, set, slice_get, IfOk, IsTrue, MatchOption, OnErr, OnOk};
+ghost use Rattle.std.specs.Prelude.{◌≡◌, ◌≢◌, ℕ, ◌+◌, ◌<◌, ◌≤◌, [], ◌∷◌, ◌++◌, Some, Err, if◌then◌else◌, length, slice_get, vec_capacity, IfOk, IsFalse, IsTrue, MatchOption, OnErr};
 ghost use Rattle.nio_base.specs.declared.numbers.ChanNo.{ChanNo};
+ghost use Rattle.nio_bytes.specs.Cause.{Rose};
 ghost use Rattle.nio_link.specs.Links.{IsSameBut};
+ghost use Rattle.nio_link.specs.Places.{unused, IsVacant};
+ghost use Rattle.nio_link.specs.declared.place.Role.TheVariants as role;
+ghost use Rattle.nio_link.specs.declared.place.Standing.TheVariants.{Linked, Listening};
 ghost use Rattle.nio_steps.specs.KeyCalls.{is_within};
-ghost use Rattle.nio_proxy.specs.Nets.{IsQuiet};
-ghost use Rattle.nio_proxy.specs.Serving.{client_of, target_of};
+ghost use Rattle.nio_proxy.specs.Nets.{Accepts, IsQuiet, IsStill};
+ghost use Rattle.nio_proxy.specs.Serving.{client_of, listener, target_of};
+ghost use Rattle.nio_proxy.specs.declared.serve.ServeError.TheVariants.{NetFault};
 ghost use Rattle.nio_proxy.specs.declared.slot.Slot.TheVariants.{Live};
 ghost use Rattle.nio_proxy.specs.Slots.{AreServed, IsSameButOne, Serving, has_ended, has_faulted};
 
 use crate::board::{Board, Refused};
-use crate::slot::{Relay, Slot, connect_relay, open_relay, serve_relay};
+use crate::proxy::LISTENER;
+use crate::serve::ServeError;
+use crate::slot::{Relay, Slot, close_links, serve_relay, take_on};
 use nio_base::{Addr, ChanNo, Ops};
-use nio_link::Net;
+use nio_link::{Failed, Net};
 use nio_relay::CAPACITY;
 use std::alloc::{AllocError, Global};
 use std::mem;
 use std::sync::Wait;
 
-/// The connections that were accepted, by their numbers, of `conns` in all, and how many of them have ended.
+/// The connections that were accepted, by their numbers, of `conns` in all, whom they are connected to, and how many of
+/// them have ended.
 #[derive(Drop)]
 pub(crate) struct Connections {
     pub conns: u32,
+    pub target: Addr,
     pub slots: Vec<Slot>,
     pub ended: u32,
     pub faulted: u32,
+}
+
+// Accepts a connection under the channel of the next client, if one has come.
+fn accept<N: Net>(net: &mut N, client: ChanNo) -> Result<bool, Failed>
+    requires ready { IsTrue (is_within 16 (N.ready net.old listener)) }
+    requires listens { (N.place net.old listener).standing ≡ Listening }
+    requires unasked { N.place net.old client ≡ unused }
+    ensures begun { IfOk result (λ more. IsTrue more → Accepts N.Net client net.old net.new) }
+    ensures accepted { IfOk result (λ more. IsTrue more → N.place net.new client ≡ record { role = role.Accepted listener; standing = Linked }) }
+    ensures early { IfOk result (λ more. IsFalse more → IsStill N.Net net.old net.new) }
+    ensures failed { OnErr result (IsStill N.Net net.old net.new) }
+    ensures cause { OnErr result (Rose (N.faults net.old listener) (N.faults net.new listener)) }
+{
+    net.accept(LISTENER, client)
 }
 
 /// The links of a connection: its client's and its target's.
@@ -31,6 +54,7 @@ pub(crate) fn links_of(number: usize) -> (ChanNo, ChanNo)
     requires few { number < 16000 }
     ensures client { result.0 ≡ client_of number }
     ensures target { result.1 ≡ target_of number }
+    ensures apart { result.0 ≢ result.1 }
 {
     let client = 2 * number as u32 + 1;
     (ChanNo(client), ChanNo(client + 1))
@@ -38,14 +62,17 @@ pub(crate) fn links_of(number: usize) -> (ChanNo, ChanNo)
 
 impl Connections {
     /// None yet, with room for so many.
-    pub(crate) fn make(alloc: Global, conns: u32) -> Result<Connections, AllocError>
+    pub(crate) fn make(alloc: Global, conns: u32, target: Addr) -> Result<Connections, AllocError>
         ensures slots { IfOk result (λ c. c.slots.items ≡ []) }
+        ensures room { IfOk result (λ c. conns ≤ vec_capacity c.slots) }
         ensures conns { IfOk result (λ c. c.conns ≡ conns) }
+        ensures target { IfOk result (λ c. c.target ≡ target) }
         ensures ended { IfOk result (λ c. c.ended ≡ 0) }
         ensures faulted { IfOk result (λ c. c.faulted ≡ 0) }
     {
         Ok(Connections {
             conns,
+            target,
             slots: Vec::with_capacity(alloc, conns as usize)?,
             ended: 0,
             faulted: 0,
@@ -64,7 +91,7 @@ impl Connections {
         };
         match mem::replace(&mut self.slots[number], Slot::Clean) {
             Slot::Live(relay) => Some(relay),
-            Slot::Clean | Slot::Faulted => unreachable!(),
+            Slot::Clean | Slot::Faulted | Slot::Dropped => unreachable!(),
         }
     }
 
@@ -83,24 +110,21 @@ impl Connections {
         self.slots[number] = slot;
     }
 
-    // Adds the next connection.
-    fn add(&mut self, slot: Slot) -> Result<(), AllocError>
+    // Adds the next connection, for which there is room.
+    fn add(&mut self, slot: Slot)
+        requires room { length self.old.slots.items < vec_capacity self.old.slots }
         requires few { self.old.ended ≤ 16000 }
         requires few_faulted { self.old.faulted ≤ 16000 }
-        ensures slots { OnOk result (self.new.slots.items ≡ self.old.slots.items ++ (slot ∷ [])) }
-        ensures ended { OnOk result (self.new.ended ≡ self.old.ended + (if has_ended (Some slot) then 1 else 0)) }
-        ensures faulted { OnOk result (self.new.faulted ≡ self.old.faulted + (if has_faulted (Some slot) then 1 else 0)) }
+        ensures slots { self.new.slots.items ≡ self.old.slots.items ++ (slot ∷ []) }
+        ensures ended { self.new.ended ≡ self.old.ended + (if has_ended (Some slot) then 1 else 0) }
+        ensures faulted { self.new.faulted ≡ self.old.faulted + (if has_faulted (Some slot) then 1 else 0) }
+        ensures room { vec_capacity self.old.slots ≤ vec_capacity self.new.slots }
         ensures conns { self.new.conns ≡ self.old.conns }
-        ensures else_slots { OnErr result (self.new.slots.items ≡ self.old.slots.items) }
-        ensures else_ended { OnErr result (self.new.ended ≡ self.old.ended) }
-        ensures else_faulted { OnErr result (self.new.faulted ≡ self.old.faulted) }
+        ensures target { self.new.target ≡ self.old.target }
     {
-        let ended = u32::from(slot.has_ended());
-        let faulted = u32::from(slot.has_faulted());
-        self.slots.push(slot)?;
-        self.ended += ended;
-        self.faulted += faulted;
-        Ok(())
+        self.ended += u32::from(slot.has_ended());
+        self.faulted += u32::from(slot.has_faulted());
+        self.slots.push(slot).unwrap();
     }
 
     /// Does what one link was told ready for.
@@ -115,9 +139,10 @@ impl Connections {
         requires scratch { length scratch.old ≡ CAPACITY }
         requires link { 1 ≤ chan.0 }
         requires ready { IsTrue (is_within ops (N.ready net.old chan)) }
-        requires served { AreServed (N.link net.old) self.old }
+        requires served { AreServed (N.link net.old) (N.place net.old) self.old }
         ensures serving { Serving N.Net net.old net.new self.old self.new }
         ensures ready { IsSameBut chan (N.ready net.old) (N.ready net.new) }
+        ensures listens { N.place net.new listener ≡ N.place net.old listener }
     {
         let number = (chan.0 as usize - 1) / 2;
         let Some(relay) = self.take(number) else {
@@ -139,47 +164,61 @@ impl Connections {
         followed
     }
 
-    /// Begins the next connection, whose client's link was accepted.
-    pub(crate) fn begin<R: Wait, N: Net>(
+    /// Accepts the next connection, if one has come, and takes it on. Says whether another one may have come.
+    pub(crate) fn accept<R: Wait, N: Net>(
         &mut self,
         rt: &R,
         alloc: Global,
         net: &mut N,
         board: &mut Board,
-        to: Addr,
-    ) -> Result<(), Refused>
-        requires served { AreServed (N.link net.old) self.old }
+    ) -> Result<bool, ServeError>
+        requires ready { IsTrue (is_within 16 (N.ready net.old listener)) }
+        requires listens { (N.place net.old listener).standing ≡ Listening }
+        requires served { AreServed (N.link net.old) (N.place net.old) self.old }
         requires few { length self.old.slots.items < self.old.conns }
         ensures serving { Serving N.Net net.old net.new self.old self.new }
-        ensures ready { (c : ChanNo) → N.ready net.new c ≡ N.ready net.old c }
+        ensures ready { IsSameBut listener (N.ready net.old) (N.ready net.new) }
+        ensures listens { N.place net.new listener ≡ N.place net.old listener }
+        ensures cause { result ≡ Err NetFault → Rose (N.faults net.old listener) (N.faults net.new listener) }
+        ensures more { IfOk result (λ more. IsTrue more → N.ready net.new listener ≡ N.ready net.old listener) }
     {
-        let number = self.slots.len();
-        let (client, target) = links_of(number);
-        let Ok(relay) = open_relay(rt, alloc, board, client, target) else {
-            net.close(client);
-            return Err(Refused);
-        };
-        let mut slot = connect_relay(net, board, client, target, relay, to);
-        let followed = slot.follow(board);
-        if self.add(slot).is_err() {
-            net.close(client);
-            net.close(target);
-            return Err(Refused);
+        let (client, target) = links_of(self.slots.len());
+        match accept(net, client) {
+            Ok(true) => {
+                let (slot, taken) = take_on(rt, alloc, net, board, client, target, self.target);
+                self.add(slot);
+                match taken {
+                    Ok(()) => Ok(true),
+                    Err(Refused) => Err(ServeError::Memory),
+                }
+            }
+            Ok(false) => Ok(false),
+            Err(Failed) => Err(ServeError::NetFault),
         }
-        followed
     }
 
     /// Closes the links of the connections that haven't ended.
     pub(crate) fn close_all<N: Net>(&self, net: &mut N)
-        requires few { length self.now.slots.items ≤ 16000 }
+        requires served { AreServed (N.link net.old) (N.place net.old) self.now }
         ensures quiet { IsQuiet N.Net net.old net.new }
+        ensures closed { (k : ℕ) → k < length self.now.slots.items → IsVacant (N.place net.new (client_of k)).standing × IsVacant (N.place net.new (target_of k)).standing }
+        ensures listens { N.place net.new listener ≡ N.place net.old listener }
     {
-        for (number, slot) in self.slots.iter().enumerate() {
-            if !slot.has_ended() {
-                let (client, target) = links_of(number);
-                net.close(client);
-                net.close(target);
-            }
+        for number in 0..self.slots.len() {
+            let (client, target) = links_of(number);
+            close_unended(net, &self.slots[number], client, target);
         }
+    }
+}
+
+// Closes the links of a connection, if it hasn't ended.
+fn close_unended<N: Net>(net: &mut N, slot: &Slot, client: ChanNo, target: ChanNo)
+    requires apart { client ≢ target }
+    ensures quiet { IsQuiet N.Net net.old net.new }
+    ensures places { (c : ChanNo) → c ≢ client → c ≢ target → N.place net.new c ≡ N.place net.old c }
+    ensures closed { IsFalse (has_ended (Some slot.now)) → IsVacant (N.place net.new client).standing × IsVacant (N.place net.new target).standing }
+{
+    if !slot.has_ended() {
+        close_links(net, client, target);
     }
 }

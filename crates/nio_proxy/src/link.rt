@@ -1,12 +1,11 @@
 //! The work on one link of a connection: reading, writing, passing on an end.
-ghost use Rattle.std.specs.Prelude.{◌≡◌, ◌≢◌, ◌⊎◌, IfOk, IsTrue, OnErr, length};
+ghost use Rattle.std.specs.Prelude.{◌≡◌, ◌≢◌, ◌⊎◌, IfOk, IsTrue, OnErr, OnOk, length};
 ghost use Rattle.nio_base.specs.declared.numbers.ChanNo.{ChanNo};
 ghost use Rattle.nio_bytes.specs.Cause.{Rose};
-ghost use Rattle.nio_link.specs.Links.{Link};
+ghost use Rattle.nio_link.specs.Places.{IsLinked};
 ghost use Rattle.nio_steps.specs.KeyCalls.{is_within};
 ghost use Rattle.nio_proxy.specs.Nets.{Works};
-ghost use Rattle.nio_proxy.specs.Relaying.{KeepsSource, KeepsSink, carried};
-ghost use Rattle.nio_proxy.specs.Serving.{HasCarried};
+ghost use Rattle.nio_proxy.specs.Relaying.{IsEnd, KeepsSource, KeepsSink, SameSink, SameSource, carried, open_or_shut};
 
 use nio_base::{ChanNo, Ops};
 use nio_link::{Failed, Got, Net, Put};
@@ -25,10 +24,13 @@ fn read_once<N: Net>(
 ) -> Result<bool, Failed>
     requires scratch { length scratch.old ≡ CAPACITY }
     requires ready { IsTrue (is_within 1 (N.ready net.old own)) }
-    ensures source { KeepsSource outgoing.old outgoing.new (N.link net.old own) (N.link net.new own) }
-    ensures sink { (l : Link) → KeepsSink outgoing.old outgoing.new l l }
+    requires linked { IsLinked (N.place net.old own).standing }
+    ensures source { KeepsSource outgoing.old outgoing.new (N.link net.old own) (N.place net.old own) (N.link net.new own) (N.place net.new own) }
+    ensures sink { SameSink outgoing.old outgoing.new }
     ensures work { Works N.Net own own own net.old net.new }
+    ensures stands { N.place net.new own ≡ N.place net.old own }
     ensures cause { OnErr result (Rose (N.faults net.old own) (N.faults net.new own)) }
+    ensures calm { OnOk result (N.faults net.new own ≡ N.faults net.old own) }
     ensures more { IfOk result (λ more. IsTrue more → N.ready net.new own ≡ N.ready net.old own) }
     ensures write { IsTrue (is_within 4 (N.ready net.old own)) → IsTrue (is_within 4 (N.ready net.new own)) }
 {
@@ -58,10 +60,13 @@ fn read_all<N: Net>(
 ) -> Result<(), Failed>
     requires scratch { length scratch.old ≡ CAPACITY }
     requires ready { IsTrue (is_within 1 (N.ready net.old own)) }
-    ensures source { KeepsSource outgoing.old outgoing.new (N.link net.old own) (N.link net.new own) }
-    ensures sink { (l : Link) → KeepsSink outgoing.old outgoing.new l l }
+    requires linked { IsLinked (N.place net.old own).standing }
+    ensures source { KeepsSource outgoing.old outgoing.new (N.link net.old own) (N.place net.old own) (N.link net.new own) (N.place net.new own) }
+    ensures sink { SameSink outgoing.old outgoing.new }
     ensures work { Works N.Net own own own net.old net.new }
+    ensures stands { N.place net.new own ≡ N.place net.old own }
     ensures cause { OnErr result (Rose (N.faults net.old own) (N.faults net.new own)) }
+    ensures calm { OnOk result (N.faults net.new own ≡ N.faults net.old own) }
     ensures write { IsTrue (is_within 4 (N.ready net.old own)) → IsTrue (is_within 4 (N.ready net.new own)) }
 {
     for _ in 0..ROUNDS {
@@ -75,14 +80,17 @@ fn read_all<N: Net>(
 // Writes once what a direction holds to the link on which it is put. Says whether more may be written at once.
 fn write_once<N: Net>(net: &mut N, own: ChanNo, incoming: &mut Direction) -> Result<bool, Failed>
     requires ready { IsTrue (is_within 4 (N.ready net.old own)) }
-    ensures sink { KeepsSink incoming.old incoming.new (N.link net.old own) (N.link net.new own) }
-    ensures source { (l : Link) → KeepsSource incoming.old incoming.new l l }
+    requires stands { (N.place net.old own).standing ≡ open_or_shut incoming.old.shut }
+    ensures sink { KeepsSink incoming.old incoming.new (N.link net.old own) (N.place net.old own) (N.link net.new own) (N.place net.new own) }
+    ensures source { SameSource incoming.old incoming.new }
     ensures work { Works N.Net own own own net.old net.new }
+    ensures stands { (N.place net.new own).standing ≡ open_or_shut incoming.new.shut }
     ensures cause { OnErr result (Rose (N.faults net.old own) (N.faults net.new own)) }
+    ensures calm { OnOk result (N.faults net.new own ≡ N.faults net.old own) }
     ensures more { IfOk result (λ more. IsTrue more → N.ready net.new own ≡ N.ready net.old own) }
 {
     let front = incoming.front();
-    if front.is_empty() {
+    if front.is_empty() || incoming.is_shut() {
         return Ok(false);
     }
     match net.write(own, front)? {
@@ -97,10 +105,13 @@ fn write_once<N: Net>(net: &mut N, own: ChanNo, incoming: &mut Direction) -> Res
 // Writes what a direction holds.
 fn write_all<N: Net>(net: &mut N, own: ChanNo, incoming: &mut Direction) -> Result<(), Failed>
     requires ready { IsTrue (is_within 4 (N.ready net.old own)) }
-    ensures sink { KeepsSink incoming.old incoming.new (N.link net.old own) (N.link net.new own) }
-    ensures source { (l : Link) → KeepsSource incoming.old incoming.new l l }
+    requires stands { (N.place net.old own).standing ≡ open_or_shut incoming.old.shut }
+    ensures sink { KeepsSink incoming.old incoming.new (N.link net.old own) (N.place net.old own) (N.link net.new own) (N.place net.new own) }
+    ensures source { SameSource incoming.old incoming.new }
     ensures work { Works N.Net own own own net.old net.new }
+    ensures stands { (N.place net.new own).standing ≡ open_or_shut incoming.new.shut }
     ensures cause { OnErr result (Rose (N.faults net.old own) (N.faults net.new own)) }
+    ensures calm { OnOk result (N.faults net.new own ≡ N.faults net.old own) }
 {
     for _ in 0..ROUNDS {
         if !write_once(net, own, incoming)? {
@@ -121,10 +132,13 @@ fn read_told<N: Net>(
 ) -> Result<(), Failed>
     requires scratch { length scratch.old ≡ CAPACITY }
     requires ready { IsTrue (is_within ops (N.ready net.old own)) }
-    ensures source { KeepsSource outgoing.old outgoing.new (N.link net.old own) (N.link net.new own) }
-    ensures sink { (l : Link) → KeepsSink outgoing.old outgoing.new l l }
+    requires linked { IsLinked (N.place net.old own).standing }
+    ensures source { KeepsSource outgoing.old outgoing.new (N.link net.old own) (N.place net.old own) (N.link net.new own) (N.place net.new own) }
+    ensures sink { SameSink outgoing.old outgoing.new }
     ensures work { Works N.Net own own own net.old net.new }
+    ensures stands { N.place net.new own ≡ N.place net.old own }
     ensures cause { OnErr result (Rose (N.faults net.old own) (N.faults net.new own)) }
+    ensures calm { OnOk result (N.faults net.new own ≡ N.faults net.old own) }
     ensures write { IsTrue (is_within 4 (N.ready net.old own)) → IsTrue (is_within 4 (N.ready net.new own)) }
 {
     if Ops::READ.within(ops) {
@@ -143,10 +157,13 @@ fn write_told<N: Net>(
     can_write: bool,
 ) -> Result<(), Failed>
     requires ready { IsTrue can_write → IsTrue (is_within 4 (N.ready net.old own)) }
-    ensures sink { KeepsSink incoming.old incoming.new (N.link net.old own) (N.link net.new own) }
-    ensures source { (l : Link) → KeepsSource incoming.old incoming.new l l }
+    requires stands { (N.place net.old own).standing ≡ open_or_shut incoming.old.shut }
+    ensures sink { KeepsSink incoming.old incoming.new (N.link net.old own) (N.place net.old own) (N.link net.new own) (N.place net.new own) }
+    ensures source { SameSource incoming.old incoming.new }
     ensures work { Works N.Net own own own net.old net.new }
+    ensures stands { (N.place net.new own).standing ≡ open_or_shut incoming.new.shut }
     ensures cause { OnErr result (Rose (N.faults net.old own) (N.faults net.new own)) }
+    ensures calm { OnOk result (N.faults net.new own ≡ N.faults net.old own) }
 {
     if can_write {
         write_all(net, own, incoming)
@@ -158,10 +175,12 @@ fn write_told<N: Net>(
 // Shuts the link to which a direction writes, once all that it took is written.
 #[tactic(auto, using(crate::proofs::Working::works_none))]
 fn pass_end<N: Net>(net: &mut N, own: ChanNo, incoming: &mut Direction) -> Result<(), Failed>
-    ensures sink { KeepsSink incoming.old incoming.new (N.link net.old own) (N.link net.new own) }
-    ensures source { (l : Link) → KeepsSource incoming.old incoming.new l l }
+    requires stands { (N.place net.old own).standing ≡ open_or_shut incoming.old.shut }
+    ensures sink { KeepsSink incoming.old incoming.new (N.link net.old own) (N.place net.old own) (N.link net.new own) (N.place net.new own) }
+    ensures source { SameSource incoming.old incoming.new }
     ensures work { (c : ChanNo) → Works N.Net own own c net.old net.new }
     ensures cause { OnErr result (Rose (N.faults net.old own) (N.faults net.new own)) }
+    ensures calm { OnOk result (N.faults net.new own ≡ N.faults net.old own) }
 {
     if incoming.want().shut {
         net.shut_write(own)?;
@@ -183,12 +202,13 @@ pub(crate) fn serve_link<N: Net>(
     requires scratch { length scratch.old ≡ CAPACITY }
     requires ready { IsTrue (is_within ops (N.ready net.old own)) }
     requires apart { own ≢ other }
-    requires own { HasCarried (N.link net.old own) (carried outgoing.old incoming.old) }
-    requires other { HasCarried (N.link net.old other) (carried incoming.old outgoing.old) }
-    ensures own { HasCarried (N.link net.new own) (carried outgoing.new incoming.new) }
-    ensures other { HasCarried (N.link net.new other) (carried incoming.new outgoing.new) }
+    requires own { IsEnd (N.link net.old own) (N.place net.old own) (carried outgoing.old incoming.old) }
+    requires other { IsEnd (N.link net.old other) (N.place net.old other) (carried incoming.old outgoing.old) }
+    ensures own { IsEnd (N.link net.new own) (N.place net.new own) (carried outgoing.new incoming.new) }
+    ensures other { IsEnd (N.link net.new other) (N.place net.new other) (carried incoming.new outgoing.new) }
     ensures work { Works N.Net own other own net.old net.new }
     ensures cause { OnErr result (Rose (N.faults net.old own) (N.faults net.new own) ⊎ Rose (N.faults net.old other) (N.faults net.new other)) }
+    ensures calm { OnOk result ((N.faults net.new own ≡ N.faults net.old own) × (N.faults net.new other ≡ N.faults net.old other)) }
 {
     let can_write = Ops::WRITE.within(ops);
     read_told(net, own, outgoing, ops, scratch)?;

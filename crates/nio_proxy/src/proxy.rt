@@ -1,20 +1,22 @@
 //! The proxy at work: accepting, and serving what a selection tells.
-ghost use Rattle.std.specs.Prelude.{◌≡◌, ◌≤◌, ◌⊎◌, [], Err, IfOk, IsTrue, OnErr, OnOk, length};
+ghost use Rattle.std.specs.Prelude.{◌≡◌, ◌≤◌, ◌⊎◌, [], Err, IfOk, IsSome, IsTrue, OnOk, length, vec_capacity};
 ghost use Rattle.nio_base.specs.declared.numbers.ChanNo.{ChanNo};
 ghost use Rattle.nio_bytes.specs.Cause.{Rose};
 ghost use Rattle.nio_link.specs.Links.{IsSameBut};
+ghost use Rattle.nio_link.specs.Places.{IsVacant};
+ghost use Rattle.nio_link.specs.declared.place.Standing.TheVariants.{Listening};
 ghost use Rattle.nio_steps.specs.KeyCalls.{is_within};
 ghost use Rattle.nio_proxy.specs.Board.{AreOrdered, AreReady};
-ghost use Rattle.nio_proxy.specs.Nets.{IsQuiet, Works};
+ghost use Rattle.nio_proxy.specs.Nets.{IsQuiet};
 ghost use Rattle.nio_proxy.specs.Serving.{listener};
-ghost use Rattle.nio_proxy.specs.Slots.{AreServed, Serving};
+ghost use Rattle.nio_proxy.specs.Slots.{AreServed, ListensAt, Serving};
 ghost use Rattle.nio_proxy.specs.declared.serve.ServeError.TheVariants.{NetFault};
 
 use crate::board::{Board, Port, Refused};
-use crate::connections::{Connections, links_of};
+use crate::connections::Connections;
 use crate::serve::ServeError;
 use nio_base::{ChanNo, Kind, Ops};
-use nio_link::{Failed, Net};
+use nio_link::Net;
 use nio_poller::PollError;
 use nio_relay::{CAPACITY, ProxyPlan};
 use std::alloc::{AllocError, Global};
@@ -23,50 +25,40 @@ use std::sync::Wait;
 /// The channel of the listener.
 pub(crate) const LISTENER: ChanNo = ChanNo(0);
 
-/// What a proxy works with. The listener is watched until all connections were accepted.
+/// What a proxy works with. The listener is watched at its port until all connections were accepted.
 #[derive(Drop)]
 pub(crate) struct Proxy {
-    plan: ProxyPlan,
     board: Board,
-    listener: Option<Port>,
+    pub port: Option<Port>,
     pub connections: Connections,
-}
-
-// Accepts a connection under the channel of the next client, if one has come.
-fn accept<N: Net>(net: &mut N, client: ChanNo) -> Result<bool, Failed>
-    requires ready { IsTrue (is_within 16 (N.ready net.old listener)) }
-    ensures links { (c : ChanNo) → N.link net.new c ≡ N.link net.old c }
-    ensures work { Works N.Net listener listener listener net.old net.new }
-    ensures cause { OnErr result (Rose (N.faults net.old listener) (N.faults net.new listener)) }
-    ensures more { IfOk result (λ more. IsTrue more → N.ready net.new listener ≡ N.ready net.old listener) }
-{
-    net.accept(LISTENER, client)
 }
 
 impl Proxy {
     /// A proxy that hasn't begun to listen.
     pub(crate) fn open<R: Wait>(rt: &R, alloc: Global, plan: ProxyPlan) -> Result<Proxy, Refused>
         ensures slots { IfOk result (λ proxy. proxy.connections.slots.items ≡ []) }
+        ensures room { IfOk result (λ proxy. plan.conns ≤ vec_capacity proxy.connections.slots) }
+        ensures target { IfOk result (λ proxy. proxy.connections.target ≡ plan.target) }
+        ensures watched { IfOk result (λ proxy. IsSome proxy.port) }
         ensures conns { IfOk result (λ proxy. proxy.connections.conns ≡ plan.conns) }
         ensures ended { IfOk result (λ proxy. proxy.connections.ended ≡ 0) }
         ensures faulted { IfOk result (λ proxy. proxy.connections.faulted ≡ 0) }
     {
-        let Ok(connections) = Connections::make(alloc, plan.conns) else {
+        let Ok(connections) = Connections::make(alloc, plan.conns, plan.target) else {
             return Err(Refused);
         };
         let Ok(mut board) = Board::open(alloc) else {
             return Err(Refused);
         };
-        let listener = board.watch(rt, LISTENER, Kind::Listener, Ops::ACCEPT)?;
+        let port = board.watch(rt, LISTENER, Kind::Listener, Ops::ACCEPT)?;
         Ok(Proxy {
-            plan,
             board,
-            listener: Some(listener),
+            port: Some(port),
             connections,
         })
     }
 
-    // Accepts the next connection and begins it. Says whether another one may have come.
+    // Accepts the next connection, if the plan has one and it has come. Says whether another one may have come.
     fn accept_one<R: Wait, N: Net>(
         &mut self,
         rt: &R,
@@ -74,26 +66,19 @@ impl Proxy {
         net: &mut N,
     ) -> Result<bool, ServeError>
         requires ready { IsTrue (is_within 16 (N.ready net.old listener)) }
-        requires served { AreServed (N.link net.old) self.old.connections }
+        requires listens { (N.place net.old listener).standing ≡ Listening }
+        requires served { AreServed (N.link net.old) (N.place net.old) self.old.connections }
         ensures serving { Serving N.Net net.old net.new self.old.connections self.new.connections }
         ensures ready { IsSameBut listener (N.ready net.old) (N.ready net.new) }
+        ensures listens { N.place net.new listener ≡ N.place net.old listener }
+        ensures port { self.new.port ≡ self.old.port }
         ensures cause { result ≡ Err NetFault → Rose (N.faults net.old listener) (N.faults net.new listener) }
         ensures more { IfOk result (λ more. IsTrue more → N.ready net.new listener ≡ N.ready net.old listener) }
     {
-        let number = self.connections.slots.len();
-        if number >= self.connections.conns as usize {
-            return Ok(false);
-        }
-        let (client, _) = links_of(number);
-        match accept(net, client) {
-            Ok(true) => {
-                let begun = self
-                    .connections
-                    .begin(rt, alloc, net, &mut self.board, self.plan.target);
-                begun.map(|()| true).map_err(|_| ServeError::Memory)
-            }
-            Ok(false) => Ok(false),
-            Err(Failed) => Err(ServeError::NetFault),
+        if self.connections.slots.len() < self.connections.conns as usize {
+            self.connections.accept(rt, alloc, net, &mut self.board)
+        } else {
+            Ok(false)
         }
     }
 
@@ -105,8 +90,11 @@ impl Proxy {
         net: &mut N,
     ) -> Result<(), ServeError>
         requires ready { IsTrue (is_within 16 (N.ready net.old listener)) }
-        requires served { AreServed (N.link net.old) self.old.connections }
+        requires listens { (N.place net.old listener).standing ≡ Listening }
+        requires served { AreServed (N.link net.old) (N.place net.old) self.old.connections }
         ensures serving { Serving N.Net net.old net.new self.old.connections self.new.connections }
+        ensures listens { N.place net.new listener ≡ N.place net.old listener }
+        ensures port { self.new.port ≡ self.old.port }
         ensures ready { IsSameBut listener (N.ready net.old) (N.ready net.new) }
         ensures cause { result ≡ Err NetFault → Rose (N.faults net.old listener) (N.faults net.new listener) }
     {
@@ -127,12 +115,15 @@ impl Proxy {
         ops: Ops,
     ) -> Result<(), ServeError>
         requires ready { IsTrue (is_within ops (N.ready net.old listener)) }
-        requires served { AreServed (N.link net.old) self.old.connections }
+        requires listens { ListensAt self.old.port (N.place net.old listener).standing }
+        requires served { AreServed (N.link net.old) (N.place net.old) self.old.connections }
         ensures serving { Serving N.Net net.old net.new self.old.connections self.new.connections }
+        ensures listens { N.place net.new listener ≡ N.place net.old listener }
+        ensures port { self.new.port ≡ self.old.port }
         ensures ready { IsSameBut listener (N.ready net.old) (N.ready net.new) }
         ensures cause { result ≡ Err NetFault → Rose (N.faults net.old listener) (N.faults net.new listener) }
     {
-        if Ops::ACCEPT.within(ops) {
+        if self.port.is_some() && Ops::ACCEPT.within(ops) {
             self.accept_all(rt, alloc, net)
         } else {
             Ok(())
@@ -151,8 +142,11 @@ impl Proxy {
     ) -> Result<(), ServeError>
         requires scratch { length scratch.old ≡ CAPACITY }
         requires ready { IsTrue (is_within ops (N.ready net.old chan)) }
-        requires served { AreServed (N.link net.old) self.old.connections }
+        requires listens { ListensAt self.old.port (N.place net.old listener).standing }
+        requires served { AreServed (N.link net.old) (N.place net.old) self.old.connections }
         ensures serving { Serving N.Net net.old net.new self.old.connections self.new.connections }
+        ensures listens { N.place net.new listener ≡ N.place net.old listener }
+        ensures port { self.new.port ≡ self.old.port }
         ensures ready { IsSameBut chan (N.ready net.old) (N.ready net.new) }
         ensures cause { result ≡ Err NetFault → Rose (N.faults net.old listener) (N.faults net.new listener) }
     {
@@ -182,8 +176,11 @@ impl Proxy {
         requires scratch { length scratch.old ≡ CAPACITY }
         requires ready { AreReady (N.ready net.old) told.now }
         requires ordered { AreOrdered told.now }
-        requires served { AreServed (N.link net.old) self.old.connections }
+        requires listens { ListensAt self.old.port (N.place net.old listener).standing }
+        requires served { AreServed (N.link net.old) (N.place net.old) self.old.connections }
         ensures serving { Serving N.Net net.old net.new self.old.connections self.new.connections }
+        ensures listens { N.place net.new listener ≡ N.place net.old listener }
+        ensures port { self.new.port ≡ self.old.port }
         ensures cause { result ≡ Err NetFault → Rose (N.faults net.old listener) (N.faults net.new listener) }
     {
         let mut last = None;
@@ -208,8 +205,10 @@ impl Proxy {
         net: &mut N,
         told: &mut Vec<(ChanNo, Ops)>,
     ) -> Result<(), ServeError>
-        requires served { AreServed (N.link net.old) self.old.connections }
+        requires served { AreServed (N.link net.old) (N.place net.old) self.old.connections }
         ensures serving { Serving N.Net net.old net.new self.old.connections self.new.connections }
+        ensures listens { N.place net.new listener ≡ N.place net.old listener }
+        ensures port { self.new.port ≡ self.old.port }
         ensures ready { IfOk result (λ _. AreReady (N.ready net.new) told.new.items) }
         ensures ordered { IfOk result (λ _. AreOrdered told.new.items) }
         ensures cause { result ≡ Err NetFault → Rose (N.poll_faults net.old) (N.poll_faults net.new) }
@@ -231,8 +230,11 @@ impl Proxy {
         scratch: &mut [u8],
     ) -> Result<(), ServeError>
         requires scratch { length scratch.old ≡ CAPACITY }
-        requires served { AreServed (N.link net.old) self.old.connections }
+        requires listens { ListensAt self.old.port (N.place net.old listener).standing }
+        requires served { AreServed (N.link net.old) (N.place net.old) self.old.connections }
         ensures serving { Serving N.Net net.old net.new self.old.connections self.new.connections }
+        ensures listens { N.place net.new listener ≡ N.place net.old listener }
+        ensures port { self.new.port ≡ self.old.port }
         ensures cause { result ≡ Err NetFault → Rose (N.poll_faults net.old) (N.poll_faults net.new) ⊎ Rose (N.faults net.old listener) (N.faults net.new listener) }
     {
         let selected = self.select(rt, alloc, net, told);
@@ -244,14 +246,17 @@ impl Proxy {
 
     // Closes the listener once all connections were accepted.
     fn stop_listening<N: Net>(&mut self, net: &mut N)
+        requires listens { ListensAt self.old.port (N.place net.old listener).standing }
         ensures quiet { IsQuiet N.Net net.old net.new }
+        ensures places { IsSameBut listener (N.place net.old) (N.place net.new) }
+        ensures listens { ListensAt self.new.port (N.place net.new listener).standing }
         ensures connections { self.new.connections ≡ self.old.connections }
     {
         if self.connections.slots.len() >= self.connections.conns as usize {
-            if let Some(port) = self.listener {
+            if let Some(port) = self.port {
                 self.board.unwatch(port);
                 net.close(LISTENER);
-                self.listener = None;
+                self.port = None;
             }
         }
     }
@@ -265,8 +270,11 @@ impl Proxy {
         scratch: &mut [u8],
     ) -> Result<(), ServeError>
         requires scratch { length scratch.old ≡ CAPACITY }
-        requires served { AreServed (N.link net.old) self.old.connections }
+        requires listens { ListensAt self.old.port (N.place net.old listener).standing }
+        requires served { AreServed (N.link net.old) (N.place net.old) self.old.connections }
         ensures serving { Serving N.Net net.old net.new self.old.connections self.new.connections }
+        ensures listens { ListensAt self.new.port (N.place net.new listener).standing }
+        ensures role { (N.place net.new listener).role ≡ (N.place net.old listener).role }
         ensures cause { result ≡ Err NetFault → Rose (N.poll_faults net.old) (N.poll_faults net.new) ⊎ Rose (N.faults net.old listener) (N.faults net.new listener) }
         ensures ended { OnOk result (self.new.connections.ended ≡ self.new.connections.conns) }
     {
@@ -291,8 +299,11 @@ impl Proxy {
         alloc: Global,
         net: &mut N,
     ) -> Result<(), ServeError>
-        requires served { AreServed (N.link net.old) self.old.connections }
+        requires listens { ListensAt self.old.port (N.place net.old listener).standing }
+        requires served { AreServed (N.link net.old) (N.place net.old) self.old.connections }
         ensures serving { Serving N.Net net.old net.new self.old.connections self.new.connections }
+        ensures listens { ListensAt self.new.port (N.place net.new listener).standing }
+        ensures role { (N.place net.new listener).role ≡ (N.place net.old listener).role }
         ensures cause { result ≡ Err NetFault → Rose (N.poll_faults net.old) (N.poll_faults net.new) ⊎ Rose (N.faults net.old listener) (N.faults net.new listener) }
         ensures ended { OnOk result (self.new.connections.ended ≡ self.new.connections.conns) }
     {
@@ -304,11 +315,22 @@ impl Proxy {
 
     /// Closes what is still open.
     pub(crate) fn close_all<N: Net>(&self, net: &mut N)
-        requires few { length self.now.connections.slots.items ≤ 16000 }
+        requires served { AreServed (N.link net.old) (N.place net.old) self.now.connections }
+        requires listens { ListensAt self.now.port (N.place net.old listener).standing }
         ensures quiet { IsQuiet N.Net net.old net.new }
+        ensures vacant { (c : ChanNo) → IsVacant (N.place net.new c).standing }
     {
         self.connections.close_all(net);
-        if self.listener.is_some() {
+        self.close_listener(net);
+    }
+
+    // Closes the listener, if it still stands.
+    fn close_listener<N: Net>(&self, net: &mut N)
+        requires listens { ListensAt self.now.port (N.place net.old listener).standing }
+        ensures quiet { IsQuiet N.Net net.old net.new }
+        ensures vacant { IsVacant (N.place net.new listener).standing }
+    {
+        if self.port.is_some() {
             net.close(LISTENER);
         }
     }

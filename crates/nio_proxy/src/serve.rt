@@ -2,8 +2,9 @@
 ghost use Rattle.std.specs.Prelude.{◌≡◌};
 ghost use Rattle.nio_base.specs.declared.numbers.ChanNo.{ChanNo};
 ghost use Rattle.nio_link.specs.Links.{IsUnused};
+ghost use Rattle.nio_link.specs.Places.{unused};
 ghost use Rattle.nio_relay.specs.Plan.{IsServable};
-ghost use Rattle.nio_proxy.specs.Serving.{NoneRose, RelaysPrefixes, Serves, ServesAllOr};
+ghost use Rattle.nio_proxy.specs.Serving.{LeavesNothing, NoneRose, RelaysBytes, Serves, ServesAllOr};
 
 use crate::proxy::{LISTENER, Proxy};
 use nio_link::Net;
@@ -33,8 +34,10 @@ pub fn serve_select<R: Wait, N: Net>(
 ) -> Result<Served, ServeError>
     requires plan { IsServable plan }
     requires fresh { (c : ChanNo) → IsUnused (N.link net.old c) }
-    ensures serves { Serves plan.conns (N.link net.new) (N.faults net.old) (N.faults net.new) (N.poll_faults net.old) (N.poll_faults net.new) result }
-    ensures prefixes { RelaysPrefixes (N.link net.new) }
+    requires unasked { (c : ChanNo) → N.place net.old c ≡ unused }
+    ensures serves { Serves plan (N.link net.new) (N.place net.new) (N.faults net.old) (N.faults net.new) (N.poll_faults net.old) (N.poll_faults net.new) result }
+    ensures relays { RelaysBytes (N.link net.new) }
+    ensures leaves { LeavesNothing plan (N.link net.new) (N.place net.new) }
     ensures complete { NoneRose (N.faults net.old) (N.faults net.new) (N.poll_faults net.old) (N.poll_faults net.new) → ServesAllOr plan.conns (N.link net.new) result }
 {
     let Ok(mut proxy) = Proxy::open(rt, alloc, plan) else {

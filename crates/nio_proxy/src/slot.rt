@@ -1,12 +1,21 @@
 //! One connection: its two directions, and what the table watches of its links.
-ghost use Rattle.std.specs.Prelude.{◌≡◌, ◌≢◌, ◌⊎◌, ◌↔◌, if◌then◌else◌, Some, IfOk, IsErr, IsTrue, OnErr, length};
+ghost use Rattle.std.specs.Prelude.{◌≡◌, ◌≢◌, ◌⊎◌, ◌↔◌, if◌then◌else◌, Some, IfOk, IsErr, IsTrue, IsFalse, OnErr, OnOk, length};
+ghost use Rattle.nio_base.specs.declared.numbers.Addr.{Addr};
 ghost use Rattle.nio_base.specs.declared.numbers.ChanNo.{ChanNo};
 ghost use Rattle.nio_bytes.specs.Cause.{Rose};
 ghost use Rattle.nio_link.specs.Links.{IsUnused, Link};
+ghost use Rattle.nio_link.specs.Places.{unused, IsVacant};
+ghost use Rattle.nio_link.specs.declared.place.Place.{Place};
+ghost use Rattle.nio_link.specs.declared.place.Role.{Role};
+ghost use Rattle.nio_link.specs.declared.place.Role.TheVariants as role;
+ghost use Rattle.nio_link.specs.declared.place.Standing.TheVariants.{Connecting, Linked};
 ghost use Rattle.nio_relay.specs.Flow.{fresh};
 ghost use Rattle.nio_steps.specs.KeyCalls.{is_within};
-ghost use Rattle.nio_proxy.specs.Nets.{IsIdle, IsQuiet, Works};
-ghost use Rattle.nio_proxy.specs.Slots.{IsRelaying, IsLive, IsSlot, has_ended, has_faulted};
+ghost use Rattle.nio_proxy.specs.Nets.{Begins, IsQuiet, Works};
+ghost use Rattle.nio_proxy.specs.Relaying.{standing_after_finish};
+ghost use Rattle.nio_proxy.specs.Serving.{listener};
+ghost use Rattle.nio_proxy.specs.declared.slot.Slot.TheVariants.{Live};
+ghost use Rattle.nio_proxy.specs.Slots.{IsRelaying, IsLive, IsSlot, IsSlotOf, HasRoles, has_ended, has_faulted};
 
 use crate::board::{Board, Port, Refused};
 use crate::link::serve_link;
@@ -41,14 +50,19 @@ pub(crate) enum Slot {
     Clean,
     /// A call on one of its links failed.
     Faulted,
+    /// There was no memory to relay it: its client's link was closed.
+    Dropped,
 }
 
 // Goes on connecting the target where it was told ready for that.
 fn connect<N: Net>(net: &mut N, target: ChanNo, ops: Ops) -> Result<bool, Failed>
     requires ready { IsTrue (is_within ops (N.ready net.old target)) }
+    requires stands { (N.place net.old target).standing ≡ Connecting }
     ensures links { (c : ChanNo) → N.link net.new c ≡ N.link net.old c }
+    ensures stands { (N.place net.new target).standing ≡ standing_after_finish result }
     ensures work { Works N.Net target target target net.old net.new }
     ensures cause { OnErr result (Rose (N.faults net.old target) (N.faults net.new target)) }
+    ensures calm { OnOk result (N.faults net.new target ≡ N.faults net.old target) }
 {
     if Ops::CONNECT.within(ops) {
         net.finish_connect(target)
@@ -72,10 +86,11 @@ impl Relay {
         requires scratch { length scratch.old ≡ CAPACITY }
         requires apart { client ≢ target }
         requires ready { IsTrue (is_within ops (N.ready net.old (if at_client then client else target))) }
-        requires relaying { IsRelaying self.old.there self.old.back (N.link net.old client) (N.link net.old target) }
-        ensures relaying { IsRelaying self.new.there self.new.back (N.link net.new client) (N.link net.new target) }
+        requires relaying { IsRelaying self.old.is_connected self.old.there self.old.back (N.link net.old client) (N.link net.old target) (N.place net.old client) (N.place net.old target) }
+        ensures relaying { IsRelaying self.new.is_connected self.new.there self.new.back (N.link net.new client) (N.link net.new target) (N.place net.new client) (N.place net.new target) }
         ensures work { Works N.Net client target (if at_client then client else target) net.old net.new }
         ensures cause { OnErr result (Rose (N.faults net.old client) (N.faults net.new client) ⊎ Rose (N.faults net.old target) (N.faults net.new target)) }
+        ensures calm { OnOk result ((N.faults net.new client ≡ N.faults net.old client) × (N.faults net.new target ≡ N.faults net.old target)) }
     {
         if at_client && self.is_connected {
             serve_link(
@@ -106,12 +121,27 @@ impl Relay {
     }
 }
 
-// Closes both links of a connection, and watches them no longer.
-fn hang_up<N: Net>(net: &mut N, board: &mut Board, client: ChanNo, target: ChanNo, relay: &Relay)
+/// Closes two links.
+pub(crate) fn close_links<N: Net>(net: &mut N, client: ChanNo, target: ChanNo)
+    requires apart { client ≢ target }
     ensures quiet { IsQuiet N.Net net.old net.new }
+    ensures places { (c : ChanNo) → c ≢ client → c ≢ target → N.place net.new c ≡ N.place net.old c }
+    ensures client { IsVacant (N.place net.new client).standing }
+    ensures target { IsVacant (N.place net.new target).standing }
 {
     net.close(client);
     net.close(target);
+}
+
+// Closes both links of a connection, and watches them no longer.
+fn hang_up<N: Net>(net: &mut N, board: &mut Board, client: ChanNo, target: ChanNo, relay: &Relay)
+    requires apart { client ≢ target }
+    ensures quiet { IsQuiet N.Net net.old net.new }
+    ensures places { (c : ChanNo) → c ≢ client → c ≢ target → N.place net.new c ≡ N.place net.old c }
+    ensures client { IsVacant (N.place net.new client).standing }
+    ensures target { IsVacant (N.place net.new target).standing }
+{
+    close_links(net, client, target);
     board.unwatch(relay.client.port);
     board.unwatch(relay.target.port);
 }
@@ -121,7 +151,7 @@ impl Slot {
     pub(crate) fn has_ended(&self) -> bool
         ensures { result ≡ has_ended (Some self.now) }
     {
-        !matches!(self, Slot::Live(_))
+        matches!(self, Slot::Clean | Slot::Faulted)
     }
 
     /// Whether it has ended by a fault.
@@ -141,10 +171,13 @@ fn settle<N: Net>(
     relay: Relay,
     served: Result<(), Failed>,
 ) -> Slot
-    requires live { IsLive relay.there relay.back (N.link net.old client) (N.link net.old target) }
-    ensures slot { IsSlot (Some result) (N.link net.new client) (N.link net.new target) }
-    ensures faulty { IsTrue (has_faulted (Some result)) → IsErr served }
+    requires apart { client ≢ target }
+    requires live { IsLive relay.is_connected relay.there relay.back (N.link net.old client) (N.link net.old target) (N.place net.old client) (N.place net.old target) }
+    ensures slot { IsSlot (Some result) (N.link net.new client) (N.link net.new target) (N.place net.new client) (N.place net.new target) }
+    ensures roles { (to : Addr) (r s : Role) → HasRoles to (Some (Live relay)) r s → HasRoles to (Some result) r s }
+    ensures faulty { IsTrue (has_faulted (Some result)) ↔ IsErr served }
     ensures quiet { IsQuiet N.Net net.old net.new }
+    ensures places { (c : ChanNo) → c ≢ client → c ≢ target → N.place net.new c ≡ N.place net.old c }
 {
     if served.is_err() {
         hang_up(net, board, client, target, &relay);
@@ -171,9 +204,11 @@ pub(crate) fn serve_relay<N: Net>(
     requires scratch { length scratch.old ≡ CAPACITY }
     requires apart { client ≢ target }
     requires ready { IsTrue (is_within ops (N.ready net.old (if at_client then client else target))) }
-    requires relaying { IsRelaying relay.there relay.back (N.link net.old client) (N.link net.old target) }
-    ensures slot { IsSlot (Some result) (N.link net.new client) (N.link net.new target) }
+    requires relaying { IsRelaying relay.is_connected relay.there relay.back (N.link net.old client) (N.link net.old target) (N.place net.old client) (N.place net.old target) }
+    ensures slot { IsSlot (Some result) (N.link net.new client) (N.link net.new target) (N.place net.new client) (N.place net.new target) }
+    ensures roles { (to : Addr) (r s : Role) → HasRoles to (Some (Live relay)) r s → HasRoles to (Some result) r s }
     ensures faulty { IsTrue (has_faulted (Some result)) → Rose (N.faults net.old client) (N.faults net.new client) ⊎ Rose (N.faults net.old target) (N.faults net.new target) }
+    ensures calm { IsFalse (has_faulted (Some result)) → (N.faults net.new client ≡ N.faults net.old client) × (N.faults net.new target ≡ N.faults net.old target) }
     ensures work { Works N.Net client target (if at_client then client else target) net.old net.new }
 {
     let mut relay = relay;
@@ -222,6 +257,7 @@ impl Relay {
     fn follow(&mut self, board: &mut Board) -> Result<(), Refused>
         ensures there { self.new.there ≡ self.old.there }
         ensures back { self.new.back ≡ self.old.back }
+        ensures connected { self.new.is_connected ≡ self.old.is_connected }
     {
         if self.is_connected {
             self.client.watch(board, wanted(&self.there, &self.back))?;
@@ -235,19 +271,20 @@ impl Relay {
 impl Slot {
     /// Watches the links of a connection that hasn't ended for what is to be done next.
     pub(crate) fn follow(&mut self, board: &mut Board) -> Result<(), Refused>
-        ensures slot { (client target : Link) → IsSlot (Some self.old) client target → IsSlot (Some self.new) client target }
+        ensures slot { (client target : Link) (p q : Place) → IsSlot (Some self.old) client target p q → IsSlot (Some self.new) client target p q }
+        ensures roles { (to : Addr) (r s : Role) → HasRoles to (Some self.old) r s → HasRoles to (Some self.new) r s }
         ensures ended { has_ended (Some self.new) ≡ has_ended (Some self.old) }
         ensures faulted { has_faulted (Some self.new) ≡ has_faulted (Some self.old) }
     {
         match self {
             Slot::Live(relay) => relay.follow(board),
-            Slot::Clean | Slot::Faulted => Ok(()),
+            Slot::Clean | Slot::Faulted | Slot::Dropped => Ok(()),
         }
     }
 }
 
-/// Makes what relays a connection, and watches its two links: the target's until it is connected.
-pub(crate) fn open_relay<R: Wait>(
+// Makes what relays a connection, and watches its two links: the target's until it is connected.
+fn open_relay<R: Wait>(
     rt: &R,
     alloc: Global,
     board: &mut Board,
@@ -280,9 +317,9 @@ pub(crate) fn open_relay<R: Wait>(
     })
 }
 
-/// Begins to connect the target of a connection. It ends at once where that fails.
-#[tactic(auto, using(crate::proofs::Begun::unused_live, crate::proofs::Begun::unused_begun))]
-pub(crate) fn connect_relay<N: Net>(
+// Begins to connect the target of a connection. It ends at once where that fails.
+#[tactic(auto, using(crate::proofs::Begun::unused_live, crate::proofs::Begun::unused_relayed))]
+fn connect_relay<N: Net>(
     net: &mut N,
     board: &mut Board,
     client: ChanNo,
@@ -292,11 +329,15 @@ pub(crate) fn connect_relay<N: Net>(
 ) -> Slot
     requires there { relay.there ≡ fresh }
     requires back { relay.back ≡ fresh }
-    requires client { IsUnused (N.link net.old client) }
-    requires target { IsUnused (N.link net.old target) }
-    ensures slot { IsSlot (Some result) (N.link net.new client) (N.link net.new target) }
+    requires apart { client ≢ target }
+    requires client_unused { IsUnused (N.link net.old client) }
+    requires target_unused { IsUnused (N.link net.old target) }
+    requires accepted { N.place net.old client ≡ record { role = role.Accepted listener; standing = Linked } }
+    requires unasked { N.place net.old target ≡ unused }
+    ensures slot { IsSlotOf to (Some result) (N.link net.new client) (N.link net.new target) (N.place net.new client) (N.place net.new target) }
     ensures faulty { IsTrue (has_faulted (Some result)) → Rose (N.faults net.old target) (N.faults net.new target) }
-    ensures idle { IsIdle N.Net net.old net.new }
+    ensures calm { IsFalse (has_faulted (Some result)) → N.faults net.new target ≡ N.faults net.old target }
+    ensures begins { Begins N.Net client target net.old net.new }
 {
     let mut relay = relay;
     match net.connect(target, to) {
@@ -309,4 +350,34 @@ pub(crate) fn connect_relay<N: Net>(
             Slot::Faulted
         }
     }
+}
+
+/// Takes on a connection whose client was accepted: makes what relays it, and begins to connect its target. Where the
+/// table refuses that, or there is no memory for it, the connection is dropped.
+pub(crate) fn take_on<R: Wait, N: Net>(
+    rt: &R,
+    alloc: Global,
+    net: &mut N,
+    board: &mut Board,
+    client: ChanNo,
+    target: ChanNo,
+    to: Addr,
+) -> (Slot, Result<(), Refused>)
+    requires apart { client ≢ target }
+    requires client_unused { IsUnused (N.link net.old client) }
+    requires target_unused { IsUnused (N.link net.old target) }
+    requires accepted { N.place net.old client ≡ record { role = role.Accepted listener; standing = Linked } }
+    requires unasked { N.place net.old target ≡ unused }
+    ensures slot { IsSlotOf to (Some result.0) (N.link net.new client) (N.link net.new target) (N.place net.new client) (N.place net.new target) }
+    ensures faulty { IsTrue (has_faulted (Some result.0)) → Rose (N.faults net.old target) (N.faults net.new target) }
+    ensures calm { IsFalse (has_faulted (Some result.0)) → N.faults net.new target ≡ N.faults net.old target }
+    ensures begins { Begins N.Net client target net.old net.new }
+{
+    let Ok(relay) = open_relay(rt, alloc, board, client, target) else {
+        net.close(client);
+        return (Slot::Dropped, Err(Refused));
+    };
+    let mut slot = connect_relay(net, board, client, target, relay, to);
+    let followed = slot.follow(board);
+    (slot, followed)
 }

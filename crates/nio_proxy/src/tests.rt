@@ -1,7 +1,8 @@
 //! Worked rows: connections over a net in memory, relayed by selections.
-ghost use Rattle.std.specs.Prelude.{◌≤◌, IfOk};
+ghost use Rattle.std.specs.Prelude.{◌≡◌, ◌≢◌, ◌≤◌, IfOk};
 ghost use Rattle.nio_base.specs.declared.numbers.ChanNo.{ChanNo};
 ghost use Rattle.nio_link.specs.Links.{IsUnused};
+ghost use Rattle.nio_link.specs.Places.{places_after, unused};
 ghost use Rattle.nio_link.specs.Slots.{carried_at};
 
 use crate::board::{Board, Refused};
@@ -90,15 +91,18 @@ const ROWS: &[Row] = &[
     },
 ];
 
-/// Nothing was carried by a net that was just made.
+/// Nothing was carried by a net that was just made, and no channel was asked to be anything.
+#[tactic(auto, using(crate::proofs::FreshNet::planned_unused, crate::proofs::FreshNet::planned_unasked))]
 fn make_net(alloc: Global, plan: NetPlan) -> Result<MemoryNet, AllocError>
-    ensures { IfOk result (λ net. (c : ChanNo) → IsUnused (carried_at net.slots c)) }
+    ensures fresh { IfOk result (λ net. (c : ChanNo) → IsUnused (carried_at net.slots c)) }
+    ensures unasked { IfOk result (λ net. (c : ChanNo) → places_after net.changes c ≡ unused) }
 {
     MemoryNet::make(alloc, plan)
 }
 
 fn net_of(alloc: Global, row: &Row) -> Result<MemoryNet, AllocError>
-    ensures { IfOk result (λ net. (c : ChanNo) → IsUnused (carried_at net.slots c)) }
+    ensures fresh { IfOk result (λ net. (c : ChanNo) → IsUnused (carried_at net.slots c)) }
+    ensures unasked { IfOk result (λ net. (c : ChanNo) → places_after net.changes c ≡ unused) }
 {
     let mut peers = Vec::new(alloc);
     peers.push(sender(alloc, row.first_fails_after)?)?;
@@ -149,7 +153,9 @@ fn table_with_index_again<R: Wait>(
     rt: &R,
     alloc: Global,
     net: &mut MemoryNet,
-) -> Result<Board, Refused> {
+) -> Result<Board, Refused>
+    ensures { net.new.changes ≡ net.old.changes }
+{
     let Ok(mut board) = Board::open(alloc) else {
         return Err(Refused);
     };
@@ -169,6 +175,17 @@ fn table_with_index_again<R: Wait>(
     }
 }
 
+/// Begins to connect two links. Says whether both are begun.
+fn connects<N: Net>(net: &mut N, first: ChanNo, second: ChanNo) -> bool
+    requires first { N.place net.old first ≡ unused }
+    requires second { N.place net.old second ≡ unused }
+    requires apart { second ≢ first }
+{
+    let one = net.connect(first, ANYWHERE).is_ok();
+    let other = net.connect(second, ANYWHERE).is_ok();
+    one && other
+}
+
 #[test]
 fn channels_are_told_in_their_order(rt: HostRuntime) -> Result<(), Fail> {
     let row = &ROWS[1];
@@ -177,8 +194,7 @@ fn channels_are_told_in_their_order(rt: HostRuntime) -> Result<(), Fail> {
         &rt,
         "the index comes back",
     );
-    net.connect(ChanNo(3), ANYWHERE).expect(&rt, "a target");
-    net.connect(ChanNo(2), ANYWHERE).expect(&rt, "a target");
+    assert!(rt; connects(&mut net, ChanNo(3), ChanNo(2)));
     let mut told = Vec::new(rt.alloc());
     board
         .select(&rt, rt.alloc(), &mut net, &mut told)

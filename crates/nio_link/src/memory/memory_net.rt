@@ -5,7 +5,10 @@ ghost use Rattle.nio_bytes.specs.Cause.{HasCause};
 ghost use Rattle.nio_link.specs.Links.{Link, IsSameBut, IsGot, IsPut, after_read as carried_after_read, after_write as carried_after_write, after_shut as carried_after_shut};
 ghost use Rattle.nio_link.specs.Readiness.{ready_after_read, ready_after_write, ready_after_accept, ready_after_connect};
 ghost use Rattle.nio_link.specs.Slots.{carried_at, slot_at, connected, connecting, read_answer, read_buffer, write_answer, shut_answer, finish_answer, slots_after_close};
-ghost use Rattle.nio_link.specs.MemoryNet.{NetState, after_read, after_write, after_shut, after_finish, times, ready_told, faulted_after, findings_after, is_waiting, told_pairs, if_some, answer_of, after_poll, after_lost_poll, after_failed_poll, KeepsLinks, can_accept, after_accept, after_failed_accept, connect_answer, after_connect, listen_answer, after_listen, is_free, is_listener, AreFresh};
+ghost use Rattle.nio_link.specs.Places.{unused, IsLinked, places_after, place_after_listen, place_after_accept, place_after_connect, place_after_finish, place_after_shut, place_after_close};
+ghost use Rattle.nio_link.specs.declared.place.Change.TheVariants as change;
+ghost use Rattle.nio_link.specs.declared.place.Standing.TheVariants as standing;
+ghost use Rattle.nio_link.specs.MemoryNet.{NetState, noted, after_read, after_write, after_shut, after_finish, times, ready_told, faulted_after, findings_after, is_waiting, told_pairs, if_some, answer_of, after_poll, after_lost_poll, after_failed_poll, KeepsLinks, can_accept, after_accept, after_failed_accept, connect_answer, after_connect, listen_answer, after_listen, is_free, is_listener, AreFresh};
 ghost use Rattle.nio_poller.specs.Polls.{CountsFaults, AddsPoll, told_of_channel};
 ghost use Rattle.nio_poller.specs.declared.poller.PollError.TheVariants.{Fault, Memory};
 ghost use Rattle.nio_select.specs.InProgress.{poll_of};
@@ -17,6 +20,7 @@ use crate::memory::slot::{
     Slot, close_at, finish_at, link_at, read_at, ready_of, shut_at, write_at,
 };
 use crate::net::{Failed, Got, Net, Put};
+use crate::place::Change;
 use nio_base::{Addr, ChanNo, Ops};
 use nio_bytes::Calls;
 use nio_event::Mode;
@@ -37,6 +41,7 @@ pub struct MemoryNet {
     pub(crate) polls: Calls,
     pub(crate) accepts: Calls,
     pub(crate) faulted: Trace<ChanNo>,
+    pub(crate) changes: Trace<(ChanNo, Change)>,
     pub(crate) findings: Trace<Finding>,
 }
 
@@ -52,6 +57,7 @@ impl Model for MemoryNet {
       polls = n.polls;
       accepts = n.accepts;
       faulted = n.faulted;
+      changes = n.changes;
       findings = n.findings;
     } };
 
@@ -191,6 +197,16 @@ impl MemoryNet {
 
     pub(crate) fn shut_link(&mut self, chan: ChanNo) -> Result<(), Failed>
         ensures answer { result ≡ shut_answer (connected (slot_at self.old.slots chan)) }
+        ensures after { self.new ≡ noted chan (change.ShutWrite result) (after_shut self.old chan) }
+        ensures changes { self.new.changes ≡ self.old.changes ++ (chan, change.ShutWrite result) ∷ [] }
+    {
+        let result = self.shut_there(chan);
+        self.changes.push(&(chan, Change::ShutWrite(result)));
+        result
+    }
+
+    fn shut_there(&mut self, chan: ChanNo) -> Result<(), Failed>
+        ensures answer { result ≡ shut_answer (connected (slot_at self.old.slots chan)) }
         ensures after { self.new ≡ after_shut self.old chan }
     {
         let result = shut_at(&mut self.slots, chan);
@@ -200,6 +216,16 @@ impl MemoryNet {
 
     pub(crate) fn finish_link(&mut self, chan: ChanNo) -> Result<bool, Failed>
         ensures answer { result ≡ finish_answer (connecting (slot_at self.old.slots chan)) }
+        ensures after { self.new ≡ noted chan (change.FinishConnect result) (after_finish self.old chan) }
+        ensures changes { self.new.changes ≡ self.old.changes ++ (chan, change.FinishConnect result) ∷ [] }
+    {
+        let result = self.finish_there(chan);
+        self.changes.push(&(chan, Change::FinishConnect(result)));
+        result
+    }
+
+    fn finish_there(&mut self, chan: ChanNo) -> Result<bool, Failed>
+        ensures answer { result ≡ finish_answer (connecting (slot_at self.old.slots chan)) }
         ensures after { self.new ≡ after_finish self.old chan }
     {
         let result = finish_at(&mut self.slots, chan);
@@ -207,9 +233,20 @@ impl MemoryNet {
         result
     }
 
-    pub(crate) fn listen_on(&mut self, chan: ChanNo) -> Result<(), Failed>
+    pub(crate) fn listen_on(&mut self, chan: ChanNo, at: Addr) -> Result<(), Failed>
+        ensures answer { result ≡ listen_answer self.old chan }
+        ensures after { self.new ≡ noted chan (change.Listen at result) (after_listen self.old chan) }
+        ensures changes { self.new.changes ≡ self.old.changes ++ (chan, change.Listen at result) ∷ [] }
+    {
+        let result = self.put_listener(chan);
+        self.changes.push(&(chan, Change::Listen(at, result)));
+        result
+    }
+
+    fn put_listener(&mut self, chan: ChanNo) -> Result<(), Failed>
         ensures answer { result ≡ listen_answer self.old chan }
         ensures after { self.new ≡ after_listen self.old chan }
+        ensures changes { self.new.changes ≡ self.old.changes }
     {
         if !is_free_at(&self.slots, chan) {
             self.faulted.push(&chan);
@@ -219,10 +256,22 @@ impl MemoryNet {
         Ok(())
     }
 
-    pub(crate) fn connect_link(&mut self, chan: ChanNo) -> Result<bool, Failed>
+    pub(crate) fn connect_link(&mut self, chan: ChanNo, to: Addr) -> Result<bool, Failed>
+        ensures answer { result ≡ connect_answer self.old chan }
+        ensures after { self.new ≡ noted chan (change.Connect to result) (after_connect self.old chan) }
+        ensures fresh { AreFresh self.old.targets }
+        ensures changes { self.new.changes ≡ self.old.changes ++ (chan, change.Connect to result) ∷ [] }
+    {
+        let result = self.put_target(chan);
+        self.changes.push(&(chan, Change::Connect(to, result)));
+        result
+    }
+
+    fn put_target(&mut self, chan: ChanNo) -> Result<bool, Failed>
         ensures answer { result ≡ connect_answer self.old chan }
         ensures after { self.new ≡ after_connect self.old chan }
         ensures fresh { AreFresh self.old.targets }
+        ensures changes { self.new.changes ≡ self.old.changes }
     {
         if !is_free_at(&self.slots, chan) {
             self.faulted.push(&chan);
@@ -240,9 +289,24 @@ impl MemoryNet {
         ensures fails { IsErr result ↔ (FailsNext self.old.accepts ⊎ (can_accept self.old listener chan ≡ false)) }
         ensures answer { IfOk result (λ made. made ≡ is_waiting self.old.clients) }
         ensures free { IfOk result (λ _. can_accept self.old listener chan ≡ true) }
+        ensures ok { IfOk result (λ _. self.new ≡ noted chan (change.Accept listener result) (after_accept self.old listener chan)) }
+        ensures err { OnErr result (self.new ≡ noted chan (change.Accept listener result) (after_failed_accept self.old listener)) }
+        ensures fresh { AreFresh self.old.clients }
+        ensures changes { self.new.changes ≡ self.old.changes ++ (chan, change.Accept listener result) ∷ [] }
+    {
+        let result = self.put_client(listener, chan);
+        self.changes.push(&(chan, Change::Accept(listener, result)));
+        result
+    }
+
+    fn put_client(&mut self, listener: ChanNo, chan: ChanNo) -> Result<bool, Failed>
+        ensures fails { IsErr result ↔ (FailsNext self.old.accepts ⊎ (can_accept self.old listener chan ≡ false)) }
+        ensures answer { IfOk result (λ made. made ≡ is_waiting self.old.clients) }
+        ensures free { IfOk result (λ _. can_accept self.old listener chan ≡ true) }
         ensures ok { IfOk result (λ _. self.new ≡ after_accept self.old listener chan) }
         ensures err { OnErr result (self.new ≡ after_failed_accept self.old listener) }
         ensures fresh { AreFresh self.old.clients }
+        ensures changes { self.new.changes ≡ self.old.changes }
     {
         let able = is_listener_at(&self.slots, listener) && is_free_at(&self.slots, chan);
         if self.accepts.next(able).is_err() {
@@ -258,6 +322,14 @@ impl MemoryNet {
     }
 
     pub(crate) fn close_channel(&mut self, chan: ChanNo)
+        ensures after { self.new ≡ noted chan change.Close (record self.old { slots = slots_after_close self.old.slots chan }) }
+        ensures changes { self.new.changes ≡ self.old.changes ++ (chan, change.Close) ∷ [] }
+    {
+        self.close_there(chan);
+        self.changes.push(&(chan, Change::Close));
+    }
+
+    fn close_there(&mut self, chan: ChanNo)
         ensures { self.new ≡ record self.old { slots = slots_after_close self.old.slots chan } }
     {
         close_at(&mut self.slots, chan);
@@ -315,9 +387,9 @@ impl Poller for MemoryNet {
         Ok(told)
     }
 
-    ghost kept_same = { λ s. record { slots = refl; faulted = refl } };
+    ghost kept_same = { λ s. record { slots = refl; faulted = refl; changes = refl } };
 
-    ghost kept_on = { λ x y z first second. record { slots = second.slots ∙ first.slots; faulted = second.faulted ∙ first.faulted } };
+    ghost kept_on = { λ x y z first second. record { slots = second.slots ∙ first.slots; faulted = second.faulted ∙ first.faulted; changes = second.changes ∙ first.changes } };
 }
 
 #[derive(Clone, Copy)]
@@ -346,68 +418,83 @@ impl Net for MemoryNet {
 
     ghost faults = { λ s. times s.faulted };
 
-    fn listen(&mut self, chan: ChanNo, _at: Addr) -> Result<(), Failed>
+    ghost place = { λ s. places_after s.changes };
+
+    fn listen(&mut self, chan: ChanNo, at: Addr) -> Result<(), Failed>
         // As every net.
+        requires unused { places_after self.old.changes chan ≡ unused }
         ensures cause { HasCause (times self.old.faulted chan) (times self.new.faulted chan) result }
         ensures others { IsSameBut chan (times self.old.faulted) (times self.new.faulted) }
         ensures links { (c : ChanNo) → carried_at self.new.slots c ≡ carried_at self.old.slots c }
         ensures ready { (c : ChanNo) → ready_told self.new.findings c ≡ ready_told self.old.findings c }
+        ensures place { places_after self.new.changes chan ≡ place_after_listen result at }
+        ensures places { IsSameBut chan (places_after self.old.changes) (places_after self.new.changes) }
         ensures polls { self.new.polls.faults ≡ self.old.polls.faults }
 
         // By its plan.
         ensures answer { result ≡ listen_answer self.old chan }
-        ensures after { self.new ≡ after_listen self.old chan }
+        ensures after { self.new ≡ noted chan (change.Listen at result) (after_listen self.old chan) }
     {
-        self.listen_on(chan)
+        self.listen_on(chan, at)
     }
 
     fn accept(&mut self, listener: ChanNo, chan: ChanNo) -> Result<bool, Failed>
         // As every net.
         requires ready { IsTrue (is_within 16 (ready_told self.old.findings listener)) }
+        requires listens { (places_after self.old.changes listener).standing ≡ standing.Listening }
+        requires unused { places_after self.old.changes chan ≡ unused }
         ensures cause { HasCause (times self.old.faulted listener) (times self.new.faulted listener) result }
         ensures others { IsSameBut listener (times self.old.faulted) (times self.new.faulted) }
         ensures links { (c : ChanNo) → carried_at self.new.slots c ≡ carried_at self.old.slots c }
         ensures ready { ready_told self.new.findings listener ≡ ready_after_accept result (ready_told self.old.findings listener) }
         ensures ready_else { IsSameBut listener (ready_told self.old.findings) (ready_told self.new.findings) }
+        ensures place { places_after self.new.changes chan ≡ place_after_accept result listener (places_after self.old.changes chan) }
+        ensures places { IsSameBut chan (places_after self.old.changes) (places_after self.new.changes) }
         ensures polls { self.new.polls.faults ≡ self.old.polls.faults }
 
         // By its plan.
         ensures fails { IsErr result ↔ (FailsNext self.old.accepts ⊎ (can_accept self.old listener chan ≡ false)) }
         ensures answer { IfOk result (λ made. made ≡ is_waiting self.old.clients) }
-        ensures ok { IfOk result (λ _. self.new ≡ after_accept self.old listener chan) }
-        ensures err { OnErr result (self.new ≡ after_failed_accept self.old listener) }
+        ensures ok { IfOk result (λ _. self.new ≡ noted chan (change.Accept listener result) (after_accept self.old listener chan)) }
+        ensures err { OnErr result (self.new ≡ noted chan (change.Accept listener result) (after_failed_accept self.old listener)) }
     {
         self.accept_link(listener, chan)
     }
 
-    fn connect(&mut self, chan: ChanNo, _to: Addr) -> Result<bool, Failed>
+    fn connect(&mut self, chan: ChanNo, to: Addr) -> Result<bool, Failed>
         // As every net.
+        requires unused { places_after self.old.changes chan ≡ unused }
         ensures cause { HasCause (times self.old.faulted chan) (times self.new.faulted chan) result }
         ensures others { IsSameBut chan (times self.old.faulted) (times self.new.faulted) }
         ensures links { (c : ChanNo) → carried_at self.new.slots c ≡ carried_at self.old.slots c }
         ensures ready { (c : ChanNo) → ready_told self.new.findings c ≡ ready_told self.old.findings c }
+        ensures place { places_after self.new.changes chan ≡ place_after_connect result to }
+        ensures places { IsSameBut chan (places_after self.old.changes) (places_after self.new.changes) }
         ensures polls { self.new.polls.faults ≡ self.old.polls.faults }
 
         // By its plan.
         ensures answer { result ≡ connect_answer self.old chan }
-        ensures after { self.new ≡ after_connect self.old chan }
+        ensures after { self.new ≡ noted chan (change.Connect to result) (after_connect self.old chan) }
     {
-        self.connect_link(chan)
+        self.connect_link(chan, to)
     }
 
     fn finish_connect(&mut self, chan: ChanNo) -> Result<bool, Failed>
         // As every net.
         requires ready { IsTrue (is_within 8 (ready_told self.old.findings chan)) }
+        requires connecting { (places_after self.old.changes chan).standing ≡ standing.Connecting }
         ensures cause { HasCause (times self.old.faulted chan) (times self.new.faulted chan) result }
         ensures others { IsSameBut chan (times self.old.faulted) (times self.new.faulted) }
         ensures links { (c : ChanNo) → carried_at self.new.slots c ≡ carried_at self.old.slots c }
         ensures ready { ready_told self.new.findings chan ≡ ready_after_connect result (ready_told self.old.findings chan) }
         ensures ready_else { IsSameBut chan (ready_told self.old.findings) (ready_told self.new.findings) }
+        ensures place { places_after self.new.changes chan ≡ place_after_finish result (places_after self.old.changes chan) }
+        ensures places { IsSameBut chan (places_after self.old.changes) (places_after self.new.changes) }
         ensures polls { self.new.polls.faults ≡ self.old.polls.faults }
 
         // By its plan.
         ensures answer { result ≡ finish_answer (connecting (slot_at self.old.slots chan)) }
-        ensures after { self.new ≡ after_finish self.old chan }
+        ensures after { self.new ≡ noted chan (change.FinishConnect result) (after_finish self.old chan) }
     {
         self.finish_link(chan)
     }
@@ -416,6 +503,7 @@ impl Net for MemoryNet {
         // As every net.
         requires some { into.old ≢ [] }
         requires ready { IsTrue (is_within 1 (ready_told self.old.findings chan)) }
+        requires linked { IsLinked (places_after self.old.changes chan).standing }
         ensures cause { HasCause (times self.old.faulted chan) (times self.new.faulted chan) result }
         ensures others { IsSameBut chan (times self.old.faulted) (times self.new.faulted) }
         ensures got { IfOk result (IsGot into.old into.new) }
@@ -423,6 +511,7 @@ impl Net for MemoryNet {
         ensures links { IsSameBut chan (carried_at self.old.slots) (carried_at self.new.slots) }
         ensures ready { ready_told self.new.findings chan ≡ ready_after_read result (ready_told self.old.findings chan) }
         ensures ready_else { IsSameBut chan (ready_told self.old.findings) (ready_told self.new.findings) }
+        ensures places { (c : ChanNo) → places_after self.new.changes c ≡ places_after self.old.changes c }
         ensures polls { self.new.polls.faults ≡ self.old.polls.faults }
 
         // By its plan.
@@ -437,6 +526,7 @@ impl Net for MemoryNet {
         // As every net.
         requires some { from.now ≢ [] }
         requires ready { IsTrue (is_within 4 (ready_told self.old.findings chan)) }
+        requires linked { (places_after self.old.changes chan).standing ≡ standing.Linked }
         ensures cause { HasCause (times self.old.faulted chan) (times self.new.faulted chan) result }
         ensures others { IsSameBut chan (times self.old.faulted) (times self.new.faulted) }
         ensures put { IfOk result (IsPut from.now) }
@@ -444,6 +534,7 @@ impl Net for MemoryNet {
         ensures links { IsSameBut chan (carried_at self.old.slots) (carried_at self.new.slots) }
         ensures ready { ready_told self.new.findings chan ≡ ready_after_write result (ready_told self.old.findings chan) }
         ensures ready_else { IsSameBut chan (ready_told self.old.findings) (ready_told self.new.findings) }
+        ensures places { (c : ChanNo) → places_after self.new.changes c ≡ places_after self.old.changes c }
         ensures polls { self.new.polls.faults ≡ self.old.polls.faults }
 
         // By its plan.
@@ -455,16 +546,19 @@ impl Net for MemoryNet {
 
     fn shut_write(&mut self, chan: ChanNo) -> Result<(), Failed>
         // As every net.
+        requires linked { (places_after self.old.changes chan).standing ≡ standing.Linked }
         ensures cause { HasCause (times self.old.faulted chan) (times self.new.faulted chan) result }
         ensures others { IsSameBut chan (times self.old.faulted) (times self.new.faulted) }
         ensures link { carried_at self.new.slots chan ≡ carried_after_shut result (carried_at self.old.slots chan) }
         ensures links { IsSameBut chan (carried_at self.old.slots) (carried_at self.new.slots) }
         ensures ready { (c : ChanNo) → ready_told self.new.findings c ≡ ready_told self.old.findings c }
+        ensures place { places_after self.new.changes chan ≡ place_after_shut result (places_after self.old.changes chan) }
+        ensures places { IsSameBut chan (places_after self.old.changes) (places_after self.new.changes) }
         ensures polls { self.new.polls.faults ≡ self.old.polls.faults }
 
         // By its plan.
         ensures answer { result ≡ shut_answer (connected (slot_at self.old.slots chan)) }
-        ensures after { self.new ≡ after_shut self.old chan }
+        ensures after { self.new ≡ noted chan (change.ShutWrite result) (after_shut self.old chan) }
     {
         self.shut_link(chan)
     }
@@ -474,10 +568,12 @@ impl Net for MemoryNet {
         ensures faults { (c : ChanNo) → times self.new.faulted c ≡ times self.old.faulted c }
         ensures links { (c : ChanNo) → carried_at self.new.slots c ≡ carried_at self.old.slots c }
         ensures ready { (c : ChanNo) → ready_told self.new.findings c ≡ ready_told self.old.findings c }
+        ensures place { places_after self.new.changes chan ≡ place_after_close (places_after self.old.changes chan) }
+        ensures places { IsSameBut chan (places_after self.old.changes) (places_after self.new.changes) }
         ensures polls { self.new.polls.faults ≡ self.old.polls.faults }
 
         // By its plan.
-        ensures after { self.new ≡ record self.old { slots = slots_after_close self.old.slots chan } }
+        ensures after { self.new ≡ noted chan change.Close (record self.old { slots = slots_after_close self.old.slots chan }) }
     {
         self.close_channel(chan);
     }
@@ -485,4 +581,6 @@ impl Net for MemoryNet {
     ghost kept_links = { λ x y kept c. ap (λ slots. carried_at slots c) kept.slots };
 
     ghost kept_faults = { λ x y kept c. ap (λ faulted. times faulted c) kept.faulted };
+
+    ghost kept_places = { λ x y kept c. ap (λ changes. places_after changes c) kept.changes };
 }

@@ -63,6 +63,7 @@ impl MemoryNet {
             polls: Calls::new(numbers(alloc, plan.fail_poll)?),
             accepts: Calls::new(numbers(alloc, plan.fail_accept)?),
             faulted: Trace::new(),
+            changes: Trace::new(),
             findings: Trace::new(),
         })
     }

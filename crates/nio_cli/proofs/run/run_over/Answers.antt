@@ -24,7 +24,7 @@ returns-in-Err-Usage-clause-usage_said g c = λ usage. record {
 
 pub returns-in-Ok-Proxy-clause-proxy : goal.returns-in-Ok-Proxy-clause-proxy
 returns-in-Ok-Proxy-clause-proxy g c = λ plan says.
-    subst (λ (p : ProxyPlan). DoesProxy g.K.Sink p.conns (g.N.Net.link c.serve.new.net) (g.N.Net.faults c.args.net.now) (g.N.Net.faults c.serve.new.net) (g.N.Poller.poll_faults c.args.net.now) (g.N.Poller.poll_faults c.serve.new.net) c.args.output.now c.serve.new.output c.serve.result)
+    subst (λ (p : ProxyPlan). DoesProxy g.K.Sink p (g.N.Net.link c.serve.new.net) (g.N.Net.place c.serve.new.net) (g.N.Net.faults c.args.net.now) (g.N.Net.faults c.serve.new.net) (g.N.Poller.poll_faults c.args.net.now) (g.N.Poller.poll_faults c.serve.new.net) c.args.output.now c.serve.new.output c.serve.result)
     (its_plan c.in-Ok-Proxy.field-0 c.in-Ok-Proxy.plan plan c.in-Ok-Proxy.field-0-is (c.in-Ok-Proxy.ensures.proxy_only plan says)) c.serve.ensures.proxy
 
 pub returns-in-Ok-Proxy-clause-too_long : goal.returns-in-Ok-Proxy-clause-too_long
@@ -45,4 +45,4 @@ returns-in-Err-Usage-clause-proxy g c = λ plan says. absurd (no_plan c.in-Err-U
 
 pub returns-in-Err-Memory-clause-proxy : goal.returns-in-Err-Memory-clause-proxy
 returns-in-Err-Memory-clause-proxy g c = λ plan says.
-    unserved g.K.Sink plan.conns (g.N.Net.link c.args.net.now) (g.N.Net.faults c.args.net.now) (g.N.Poller.poll_faults c.args.net.now) c.args.output.now c.requires.fresh
+    unserved g.K.Sink plan (g.N.Net.link c.args.net.now) (g.N.Net.place c.args.net.now) (g.N.Net.faults c.args.net.now) (g.N.Poller.poll_faults c.args.net.now) c.args.output.now c.requires.fresh c.requires.unasked

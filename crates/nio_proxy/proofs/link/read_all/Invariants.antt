@@ -1,16 +1,17 @@
-use Rattle.std.proofs.Common.{IsTrue}
-use Rattle.nio_link.specs.Links.{Link}
+use Rattle.std.proofs.Common.{◌≡◌, IsTrue}
 use Rattle.nio_steps.specs.KeyCalls.{is_within}
 use Rattle.nio_proxy.specs.Nets.{Works}
 use Rattle.nio_proxy.proofs.Seen.{seen}
-use Rattle.nio_proxy.specs.Relaying.{KeepsSource, KeepsSink}
+use Rattle.nio_proxy.specs.Relaying.{KeepsSource, SameSink}
 use Rattle.nio_proxy.proofs.link.read_all.Given as goal
 
 abbrev pub invariant-loop : goal.invariant-loop
 invariant-loop g l = record {
-  source : KeepsSource l.fn.outgoing l.outgoing (g.N.Net.link l.fn.net l.own) (g.N.Net.link l.net l.own);
-  sink : (k : Link) → KeepsSink l.fn.outgoing l.outgoing k k;
+  source : KeepsSource l.fn.outgoing l.outgoing (g.N.Net.link l.fn.net l.own) (g.N.Net.place l.fn.net l.own) (g.N.Net.link l.net l.own) (g.N.Net.place l.net l.own);
+  sink : SameSink l.fn.outgoing l.outgoing;
   work : Works (seen g.N.Poller g.N.Net) l.own l.own l.own l.fn.net l.net;
+  stands : g.N.Net.place l.net l.own ≡ g.N.Net.place l.fn.net l.own;
+  calm : g.N.Net.faults l.net l.own ≡ g.N.Net.faults l.fn.net l.own;
   read : IsTrue (is_within 1 (g.N.Poller.ready l.net l.own));
   write : IsTrue (is_within 4 (g.N.Poller.ready l.fn.net l.own)) → IsTrue (is_within 4 (g.N.Poller.ready l.net l.own));
 }

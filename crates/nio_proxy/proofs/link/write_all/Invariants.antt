@@ -1,15 +1,16 @@
-use Rattle.std.proofs.Common.{IsTrue}
-use Rattle.nio_link.specs.Links.{Link}
+use Rattle.std.proofs.Common.{◌≡◌, IsTrue}
 use Rattle.nio_steps.specs.KeyCalls.{is_within}
 use Rattle.nio_proxy.specs.Nets.{Works}
 use Rattle.nio_proxy.proofs.Seen.{seen}
-use Rattle.nio_proxy.specs.Relaying.{KeepsSource, KeepsSink}
+use Rattle.nio_proxy.specs.Relaying.{KeepsSink, SameSource, open_or_shut}
 use Rattle.nio_proxy.proofs.link.write_all.Given as goal
 
 abbrev pub invariant-loop : goal.invariant-loop
 invariant-loop g l = record {
-  sink : KeepsSink l.fn.incoming l.incoming (g.N.Net.link l.fn.net l.own) (g.N.Net.link l.net l.own);
-  source : (k : Link) → KeepsSource l.fn.incoming l.incoming k k;
+  sink : KeepsSink l.fn.incoming l.incoming (g.N.Net.link l.fn.net l.own) (g.N.Net.place l.fn.net l.own) (g.N.Net.link l.net l.own) (g.N.Net.place l.net l.own);
+  source : SameSource l.fn.incoming l.incoming;
   work : Works (seen g.N.Poller g.N.Net) l.own l.own l.own l.fn.net l.net;
+  stands : (g.N.Net.place l.net l.own).standing ≡ open_or_shut l.incoming.shut;
+  calm : g.N.Net.faults l.net l.own ≡ g.N.Net.faults l.fn.net l.own;
   ready : IsTrue (is_within 4 (g.N.Poller.ready l.net l.own));
 }

@@ -10,6 +10,8 @@ loop-chan-preserved g c =
     let item : ChanNo × ℕ = c.loop-chan-item.result in
     record {
       serving = serving_then (seen g.N.Poller g.N.Net) _ _ _ _ _ _ c.loop-chan.invariant.serving c.serve_told-served.ensures.serving;
+      listens = c.serve_told-served.ensures.listens ∙ c.loop-chan.invariant.listens;
+      port = c.serve_told-served.ensures.port ∙ c.loop-chan.invariant.port;
       ready = λ d behind.
           let other : d ≢ item.0 = λ same. let at : d.0 ≡ item.0.0 = ap (λ (x : ChanNo). x.0) same in omega (arith, at, behind) in
           c.serve_told-served.ensures.ready d other

@@ -1,3 +1,5 @@
+use Rattle.nio_link.proofs.Changes.{changed_here, changed_else}
+use Rattle.nio_link.specs.declared.place.Change.TheVariants as change
 use Rattle.nio_link.proofs.MemoryLaws.{cause_after, cause_else, listen_carried, listen_faulted, listen_findings, listen_polls}
 use Rattle.nio_link.specs.MemoryNet.{listen_answer}
 use Rattle.nio_link.proofs.memory.memory_net.MemoryNetNet.listen.Goals as goal
@@ -16,3 +18,9 @@ returns-clause-ready c = λ k. rw (c.listen_on.ensures.after, listen_findings c.
 
 pub returns-clause-polls : goal.returns-clause-polls
 returns-clause-polls c = rw (c.listen_on.ensures.after, listen_polls c.args.self.now c.args.chan)
+
+pub returns-clause-place : goal.returns-clause-place
+returns-clause-place c = rw c.listen_on.ensures.changes (changed_here c.args.self.now.changes c.args.chan (change.Listen c.args.at c.listen_on.result))
+
+pub returns-clause-places : goal.returns-clause-places
+returns-clause-places c = rw c.listen_on.ensures.changes (changed_else c.args.self.now.changes c.args.chan (change.Listen c.args.at c.listen_on.result))

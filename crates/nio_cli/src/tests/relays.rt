@@ -1,0 +1,389 @@
+//! The proxy over a net in memory: how the program ends, what it says, and which bytes arrive at both ends.
+ghost use Rattle.std.specs.Prelude.{◌≡◌, IfOk};
+ghost use Rattle.nio_base.specs.declared.numbers.ChanNo.{ChanNo};
+ghost use Rattle.nio_link.specs.Links.{IsUnused};
+ghost use Rattle.nio_link.specs.Places.{places_after, unused};
+ghost use Rattle.nio_link.specs.Slots.{carried_at};
+
+use crate::run::{PROGRAM_LIMITS, run};
+use nio_base::{ChanNo, NoGate};
+use nio_bytes::{MemorySink, MemorySource};
+use nio_link::{MemoryNet, NetPlan, PeerPlan};
+use nio_words::Words;
+use std::alloc::{AllocError, Global};
+use std::process::Abort;
+use std::sync::Wait;
+use std::test::Fail;
+use std::thread::Threads;
+
+/// A client and its target: the lengths of the pieces that each sends, of which an empty one says once that nothing has
+/// come yet; what fails; and how many bytes arrive at each, and whether both links are shut at the end.
+#[derive(Clone, Copy)]
+pub(super) struct Peer {
+    sends: &'static [usize],
+    answers: &'static [usize],
+    most: usize,
+    fail_connect: bool,
+    fail_write_after: Option<u64>,
+    at_target: usize,
+    at_client: usize,
+    is_shut: bool,
+}
+
+/// The connections, which poll and which call of `accept` fails, and how the program ends.
+struct Row {
+    name: &'static str,
+    peers: &'static [Peer],
+    conns: &'static str,
+    fail_poll: Option<u64>,
+    fail_accept: Option<u64>,
+    status: u8,
+    written: &'static str,
+}
+
+const SHORT: Peer = Peer {
+    sends: &[2],
+    answers: &[1],
+    most: 1,
+    fail_connect: false,
+    fail_write_after: None,
+    at_target: 2,
+    at_client: 1,
+    is_shut: true,
+};
+
+const ROWS: &[Row] = &[
+    Row {
+        name: "one",
+        peers: &[SHORT],
+        conns: "1",
+        fail_poll: None,
+        fail_accept: None,
+        status: 0,
+        written: "served 1 faults 0\n",
+    },
+    Row {
+        name: "empty_connection",
+        peers: &[Peer {
+            sends: &[],
+            answers: &[],
+            most: 7,
+            fail_connect: false,
+            fail_write_after: None,
+            at_target: 0,
+            at_client: 0,
+            is_shut: true,
+        }],
+        conns: "1",
+        fail_poll: None,
+        fail_accept: None,
+        status: 0,
+        written: "served 1 faults 0\n",
+    },
+    Row {
+        name: "client_ends_first",
+        peers: &[Peer {
+            sends: &[5],
+            answers: &[0, 0, 0, 0, 0, 0, 9],
+            most: 100,
+            fail_connect: false,
+            fail_write_after: None,
+            at_target: 5,
+            at_client: 9,
+            is_shut: true,
+        }],
+        conns: "1",
+        fail_poll: None,
+        fail_accept: None,
+        status: 0,
+        written: "served 1 faults 0\n",
+    },
+    Row {
+        name: "target_ends_first",
+        peers: &[Peer {
+            sends: &[0, 0, 0, 0, 0, 0, 5],
+            answers: &[],
+            most: 100,
+            fail_connect: false,
+            fail_write_after: None,
+            at_target: 5,
+            at_client: 0,
+            is_shut: true,
+        }],
+        conns: "1",
+        fail_poll: None,
+        fail_accept: None,
+        status: 0,
+        written: "served 1 faults 0\n",
+    },
+    Row {
+        name: "pieces_of_1_and_of_16385_seven_a_write",
+        peers: &[Peer {
+            sends: &[1, 16_385, 1],
+            answers: &[16_385, 1],
+            most: 7,
+            fail_connect: false,
+            fail_write_after: None,
+            at_target: 16_387,
+            at_client: 16_386,
+            is_shut: true,
+        }],
+        conns: "1",
+        fail_poll: None,
+        fail_accept: None,
+        status: 0,
+        written: "served 1 faults 0\n",
+    },
+    Row {
+        name: "a_write_fails",
+        peers: &[
+            Peer {
+                sends: &[100],
+                answers: &[0, 0, 0, 0, 0, 0, 0, 0, 0, 0, 9],
+                most: 100,
+                fail_connect: false,
+                fail_write_after: Some(10),
+                at_target: 10,
+                at_client: 0,
+                is_shut: false,
+            },
+            SHORT,
+        ],
+        conns: "2",
+        fail_poll: None,
+        fail_accept: None,
+        status: 0,
+        written: "served 2 faults 1\n",
+    },
+    Row {
+        name: "a_connect_fails",
+        peers: &[
+            SHORT,
+            Peer {
+                sends: &[5],
+                answers: &[5],
+                most: 100,
+                fail_connect: true,
+                fail_write_after: None,
+                at_target: 0,
+                at_client: 0,
+                is_shut: false,
+            },
+            SHORT,
+        ],
+        conns: "3",
+        fail_poll: None,
+        fail_accept: None,
+        status: 0,
+        written: "served 3 faults 1\n",
+    },
+    Row {
+        name: "the_first_accept_fails",
+        peers: &[Peer {
+            sends: &[5],
+            answers: &[5],
+            most: 100,
+            fail_connect: false,
+            fail_write_after: None,
+            at_target: 0,
+            at_client: 0,
+            is_shut: false,
+        }],
+        conns: "1",
+        fail_poll: None,
+        fail_accept: Some(0),
+        status: 7,
+        written: "",
+    },
+];
+
+/// 20,000 bytes each way, to a target that takes 7 a write.
+const LONG: Peer = Peer {
+    sends: &[1, 16_385, 3_614],
+    answers: &[20_000],
+    most: 7,
+    fail_connect: false,
+    fail_write_after: None,
+    at_target: 20_000,
+    at_client: 20_000,
+    is_shut: true,
+};
+
+/// Bytes that repeat after `period` of them.
+fn bytes(alloc: Global, from: usize, count: usize, period: usize) -> Result<Vec<u8>, AllocError> {
+    let mut bytes = Vec::with_capacity(alloc, count)?;
+    for i in 0..count {
+        bytes.push((from.wrapping_add(i) % period.clamp(1, 256)) as u8)?;
+    }
+    Ok(bytes)
+}
+
+/// The same bytes in pieces.
+fn pieces(alloc: Global, lengths: &[usize], period: usize) -> Result<Vec<Vec<u8>>, AllocError> {
+    let mut pieces = Vec::new(alloc);
+    let mut from: usize = 0;
+    for length in lengths {
+        pieces.push(bytes(alloc, from, *length, period)?)?;
+        from = from.wrapping_add(*length);
+    }
+    Ok(pieces)
+}
+
+/// A client's bytes repeat after 251, and a target's after 241.
+const OF_CLIENT: usize = 251;
+
+const OF_TARGET: usize = 241;
+
+fn peer_plan(alloc: Global, peer: &Peer) -> Result<PeerPlan, AllocError> {
+    Ok(PeerPlan {
+        sends: pieces(alloc, peer.sends, OF_CLIENT)?,
+        answers: pieces(alloc, peer.answers, OF_TARGET)?,
+        most: peer.most,
+        fail_connect: peer.fail_connect,
+        fail_write_after: peer.fail_write_after,
+    })
+}
+
+/// A net that was just made, for these connections.
+#[tactic(auto, using(nio_proxy::proofs::FreshNet::planned_unused, nio_proxy::proofs::FreshNet::planned_unasked))]
+pub(super) fn net_of(
+    alloc: Global,
+    peers: &[Peer],
+    fail_poll: Option<u64>,
+    fail_accept: Option<u64>,
+) -> Result<MemoryNet, AllocError>
+    ensures fresh { IfOk result (λ net. (c : ChanNo) → IsUnused (carried_at net.slots c)) }
+    ensures unasked { IfOk result (λ net. (c : ChanNo) → places_after net.changes c ≡ unused) }
+{
+    let mut plans = Vec::new(alloc);
+    for peer in peers {
+        plans.push(peer_plan(alloc, peer)?)?;
+    }
+    MemoryNet::make(
+        alloc,
+        NetPlan {
+            peers: plans,
+            fail_poll,
+            fail_accept,
+        },
+    )
+}
+
+/// The status of the program that relays so many connections, what it wrote, and the net that it left.
+fn relays<R: Threads + Wait + Sync>(
+    rt: &R,
+    alloc: Global,
+    net: MemoryNet,
+    conns: &str,
+) -> Result<(u8, MemorySink, MemoryNet), AllocError>
+    requires fresh { (c : ChanNo) → IsUnused (carried_at net.slots c) }
+    requires unasked { (c : ChanNo) → places_after net.changes c ≡ unused }
+{
+    let words = [
+        "proxy",
+        "--way",
+        "select",
+        "--listen=127.0.0.1:8080",
+        "--target",
+        "127.0.0.1:80",
+        "--conns",
+        conns,
+    ];
+    let mut given = Vec::new(alloc);
+    for word in words {
+        given.push(String::from_str(alloc, word)?)?;
+    }
+    let mut source = MemorySource::make(Vec::new(alloc), 1, Vec::new(alloc));
+    let mut sink = MemorySink::make(alloc, 5, Vec::new(alloc), 64)?;
+    let (table, mut pass) = Words::make(alloc, PROGRAM_LIMITS)?;
+    let ended = run(
+        rt,
+        alloc,
+        &given,
+        &mut source,
+        &mut sink,
+        &table,
+        &mut pass,
+        net,
+        &NoGate,
+    );
+    Ok((ended.status.code(), sink, ended.net))
+}
+
+/// Whether the bytes that were put on the two links are the first that the peers sent, so many of them, and both links
+/// are shut or not.
+fn has_arrived(
+    net: &MemoryNet,
+    client: ChanNo,
+    target: ChanNo,
+    peer: &Peer,
+    (of_client, of_target): (&[u8], &[u8]),
+) -> bool {
+    let at_target = net.put_bytes(target);
+    let at_client = net.put_bytes(client);
+    at_target.len() == peer.at_target
+        && at_client.len() == peer.at_client
+        && of_client.starts_with(at_target)
+        && of_target.starts_with(at_client)
+        && (net.is_shut(client) && net.is_shut(target)) == peer.is_shut
+}
+
+fn ends_as(
+    rt: &(impl Abort + Threads + Wait + Sync),
+    alloc: Global,
+    row: &Row,
+    sent: (&[u8], &[u8]),
+) -> Result<(), Fail> {
+    let net = net_of(alloc, row.peers, row.fail_poll, row.fail_accept)?;
+    let (status, sink, net) = relays(rt, alloc, net, row.conns)?;
+    assert_eq!(rt; status, row.status, "{}", row.name);
+    assert_eq!(rt; sink.bytes(), row.written.as_bytes(), "{}", row.name);
+    let mut client: u32 = 1;
+    for peer in row.peers {
+        let target = ChanNo(client.wrapping_add(1));
+        let arrived = has_arrived(&net, ChanNo(client), target, peer, sent);
+        assert!(rt; arrived, "{}: {client}", row.name);
+        client = client.wrapping_add(2);
+    }
+    Ok(())
+}
+
+#[test]
+fn relays_end_as_written_down(rt: HostRuntime) -> Result<(), Fail> {
+    let of_client = bytes(rt.alloc(), 0, 20_000, OF_CLIENT)?;
+    let of_target = bytes(rt.alloc(), 0, 20_000, OF_TARGET)?;
+    for row in ROWS {
+        ends_as(&rt, rt.alloc(), row, (&of_client, &of_target))?;
+    }
+    Ok(())
+}
+
+/// The status and the length of what was written where this poll fails, and whether what arrived is the beginning of
+/// what was sent, both ways.
+fn ends_at_poll<R: Threads + Wait + Sync>(
+    rt: &R,
+    alloc: Global,
+    at: u64,
+    (of_client, of_target): (&[u8], &[u8]),
+) -> Result<(u8, usize, bool), AllocError> {
+    let net = net_of(alloc, &[LONG], Some(at), None)?;
+    let (status, sink, net) = relays(rt, alloc, net, "1")?;
+    let is_begun = of_client.starts_with(net.put_bytes(ChanNo(2)))
+        && of_target.starts_with(net.put_bytes(ChanNo(1)));
+    Ok((status, sink.bytes().len(), is_begun))
+}
+
+#[test]
+fn a_poll_that_fails_ends_the_proxy(rt: HostRuntime) -> Result<(), Fail> {
+    let of_client = bytes(rt.alloc(), 0, 20_000, OF_CLIENT)?;
+    let of_target = bytes(rt.alloc(), 0, 20_000, OF_TARGET)?;
+    let sent = (of_client.as_slice(), of_target.as_slice());
+    // A turn writes at most 64 times to a target, so 20,000 bytes take more than ten polls.
+    for at in 0..10 {
+        let ended = ends_at_poll(&rt, rt.alloc(), at, sent)?;
+        assert!(rt; ended == (7, 0, true), "{at}");
+    }
+    let ended = ends_at_poll(&rt, rt.alloc(), 1_000_000, sent)?;
+    assert!(rt; ended == (0, 18, true));
+    Ok(())
+}

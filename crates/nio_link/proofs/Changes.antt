@@ -1,0 +1,22 @@
+-- The places of channels, as calls change them.
+use Rattle.std.proofs.Common.{◌≡◌, ◌≢◌, ◌==◌, ◌∙◌, Bool, true, false, if◌then◌else◌, List, [], ◌∷◌, ◌++◌, refl, ap, eq-eqb, eqb-true}
+use Rattle.std.proofs.lemmas.List.Sums.{fold-append}
+use Rattle.nio_base.specs.declared.numbers.ChanNo.{ChanNo}
+use Rattle.nio_link.specs.Links.{IsSameBut}
+use Rattle.nio_link.specs.Places.{changed, place_after, places_after, unused}
+use Rattle.nio_link.specs.declared.place.Change.{Change}
+use Rattle.nio_link.specs.declared.place.Place.{Place}
+
+module _ (changes : List (ChanNo × Change)) (c : ChanNo) (change : Change) where
+  one_more : (k : ChanNo) → places_after (changes ++ (c, change) ∷ []) k ≡ changed (places_after changes) (c, change) k
+  one_more k = ap (λ (places : ChanNo → Place). places k) (fold-append changed (λ _. unused) changes ((c, change) ∷ []))
+
+  pub changed_here : places_after (changes ++ (c, change) ∷ []) c ≡ place_after change (places_after changes c)
+  changed_here = one_more c ∙ ap (λ (b : Bool). if b then place_after change (places_after changes c) else places_after changes c) (eq-eqb c.0 c.0 refl)
+
+  pub changed_else : IsSameBut c (places_after changes) (places_after (changes ++ (c, change) ∷ []))
+  changed_else k differ = one_more k ∙ by_test (k.0 == c.0) refl
+    where
+      by_test : (b : Bool) → (k.0 == c.0) ≡ b → (if b then place_after change (places_after changes k) else places_after changes k) ≡ places_after changes k
+      by_test true same = absurd (differ (ap (λ n. let x : ChanNo = record { 0 = n } in x) (eqb-true k.0 c.0 same)))
+      by_test false other = refl

@@ -1,0 +1,52 @@
+//! What a channel of a net was asked to be, and what stands there.
+use crate::net::Failed;
+use nio_base::{Addr, ChanNo};
+
+/// What a channel of a net was asked to be. A channel is asked once.
+#[derive(Clone, Copy, Debug, PartialEq, Eq)]
+pub enum Role {
+    /// Nothing yet.
+    Nothing,
+    /// A listener at this address.
+    Listener(Addr),
+    /// A link that this listener accepted.
+    Accepted(ChanNo),
+    /// A link to this address.
+    Connected(Addr),
+}
+
+/// What stands under a channel of a net.
+#[derive(Clone, Copy, Debug, PartialEq, Eq)]
+pub enum Standing {
+    /// Nothing was made there.
+    Nothing,
+    /// A listener.
+    Listening,
+    /// A link that isn't connected yet.
+    Connecting,
+    /// A link, which can be read and written.
+    Linked,
+    /// A link whose side on which bytes are written was shut.
+    Shut,
+    /// What stood there was closed.
+    Gone,
+}
+
+/// What a channel was asked to be, and what stands there.
+#[derive(Clone, Copy, Debug, PartialEq, Eq)]
+pub struct Place {
+    pub role: Role,
+    pub standing: Standing,
+}
+
+/// A call on a channel that can change its place, with its answer. The list of a net's changes tells its places
+/// (`places_after`).
+#[derive(Clone, Copy, Debug, PartialEq, Eq)]
+pub enum Change {
+    Listen(Addr, Result<(), Failed>),
+    Accept(ChanNo, Result<bool, Failed>),
+    Connect(Addr, Result<bool, Failed>),
+    FinishConnect(Result<bool, Failed>),
+    ShutWrite(Result<(), Failed>),
+    Close,
+}
