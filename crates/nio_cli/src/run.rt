@@ -52,8 +52,8 @@ pub struct Ended<N> {
 }
 
 /// Does what the words say: all that the program does. `script`, `race` and `load` make their calls on this table, by the
-/// rules of now; `check` and `check-1` make theirs on a system of their own with the same limits; `proxy` relays over the net,
-/// with a table of its own.
+/// rules of now; `check` and `check-1` make theirs on a system of their own with the same limits; `proxy` relays over the
+/// net, with a table of its own.
 pub fn run<R: Threads + Wait + Sync, S: Source, K: Sink, N: Net, G: Gate + Sync>(
     rt: &R,
     alloc: Global,
