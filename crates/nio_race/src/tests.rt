@@ -120,6 +120,7 @@ fn ends<R: Threads + Wait + Sync + Abort>(
     let gate = InOrder::over(order);
     let ended = end_of(rt, alloc, LIMITS, text.as_bytes(), &gate)?;
     assert_eq!(rt; gate.passed.load(Ordering::SeqCst), order.len(), "{label}");
+    assert!(rt; !gate.given_up.load(Ordering::SeqCst), "{label}");
     assert_eq!(rt; ended.code, code, "{label}");
     assert!(rt; is_one_of(&ended.output, lawful), "{label}");
     Ok(())

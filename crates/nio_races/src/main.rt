@@ -1,8 +1,5 @@
-//! Runs each race text of the examples some times, and counts the outputs that are listed beside it.
+//! Runs each race text of the examples some times, and says whether each output is listed beside it.
 #![tactic(auto)]
-
-ghost use Rattle.std.specs.Prelude.{◌↔◌, IsTrue, map};
-ghost use Rattle.std.specs.List.{Contains};
 
 use nio_base::{Limits, NoGate};
 use nio_bytes::{MemorySink, MemorySource};
@@ -44,8 +41,11 @@ struct Example {
 fn main(rt: HostRuntime) -> anyhow::Result<()> {
     for (name, outcomes) in EXAMPLES {
         let example = read_example(&rt, rt.alloc(), name, outcomes)?;
-        let listed = listed_runs(&rt, rt.alloc(), &example)?;
-        println!(rt; "{name}: {listed} of {RUNS} runs gave one of the {outcomes} listed outputs")?;
+        if are_listed(&rt, rt.alloc(), &example)? {
+            println!(rt; "{name}: each of {RUNS} runs gave one of {outcomes} listed outputs")?;
+        } else {
+            println!(rt; "{name}: an output isn't listed")?;
+        }
     }
     Ok(())
 }
@@ -65,20 +65,19 @@ fn read_example<R: Files + AllocGlobal>(
     Ok(Example { text, listed })
 }
 
-/// How many of the runs gave a listed output.
-fn listed_runs<R: Threads + Wait + Sync>(
+/// Whether each of the runs gave a listed output.
+fn are_listed<R: Threads + Wait + Sync>(
     rt: &R,
     alloc: Global,
     example: &Example,
-) -> Result<u32, AllocError> {
-    let mut listed = 0;
+) -> Result<bool, AllocError> {
     for _ in 0..RUNS {
         let output = run_once(rt, alloc, &example.text)?;
-        if is_listed(&output, &example.listed) {
-            listed += 1;
+        if !is_listed(&output, &example.listed) {
+            return Ok(false);
         }
     }
-    Ok(listed)
+    Ok(true)
 }
 
 /// The output of the race on a table of its own.
@@ -102,8 +101,6 @@ fn run_once<R: Threads + Wait + Sync>(
     sink.bytes().to_vec(alloc)
 }
 
-fn is_listed(output: &[u8], listed: &[Vec<u8>]) -> bool
-    ensures { IsTrue result ↔ Contains (map (λ text. text.items) listed.now) output.now }
-{
+fn is_listed(output: &[u8], listed: &[Vec<u8>]) -> bool {
     listed.iter().any(|text| text.as_slice() == output)
 }
