@@ -1,5 +1,6 @@
 -- The command that the words say.
 use Rattle.std.proofs.Common.{◌≡◌, ◌≢◌, ◌⊎◌, inl, inr, ℕ, Option, Some, None, List, [], ◌∷◌, Result, Ok, Err, slice_index_or, refl, sym, ap, ◌∙◌, arith}
+use Rattle.nio_command.specs.Words.{IsProxyCommand}
 use Rattle.nio_command.specs.declared.command.Command.{Command}
 use Rattle.nio_command.specs.declared.command.Command.TheVariants.{Load, Proxy}
 use Rattle.nio_command.specs.declared.command.WordsError.{WordsError}
@@ -32,6 +33,11 @@ its_plan x p p' is (inr clash) = absurd (cc clash)
 -- the rounds of a command are those that the words say
 pub its_rounds : (x : Command) (n m : ℕ) → x ≡ Load n → ◌≡◌ {A = Result Command WordsError} (Ok x) (Ok (Load m)) → n ≡ m
 its_rounds x n m is same = let e : ◌≡◌ {A = Result Command WordsError} (Ok (Load n)) (Ok (Load m)) = ap (λ (y : Command). Ok y) (sym is) ∙ same in cc e
+
+-- the words of a plan begin with `proxy`
+pub begins_proxy : (words : List (List ℕ)) (x : Command) (p : ProxyPlan) → x ≡ Proxy p
+    → ((q : ProxyPlan) → ◌≡◌ {A = Result Command WordsError} (Ok x) (Ok (Proxy q)) → IsProxyCommand words q) → BeginsProxy words
+begins_proxy words x p is says = let it : IsProxyCommand words p = says p (ap (λ (y : Command). Ok y) is) in record { rest = it.rest; begins = it.begins }
 
 -- words that say nothing are no `proxy`
 pub no_plan : (x : WordsError) (p : ProxyPlan) → x ≡ Usage → (◌≡◌ {A = Result Command WordsError} (Err x) (Ok (Proxy p))) ⊎ (◌≡◌ {A = Result Command WordsError} (Err x) (Err Memory)) → ⊥

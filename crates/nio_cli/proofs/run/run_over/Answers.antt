@@ -1,4 +1,5 @@
-use Rattle.std.proofs.Common.{ℕ, refl, subst}
+use Rattle.std.proofs.Common.{ℕ, map, refl, subst}
+use Rattle.std.specs.String.{string_bytes}
 use Rattle.nio_script.specs.Output.{Notes}
 use Rattle.nio_cli.specs.declared.run.TheConstants.{PROGRAM_LIMITS}
 use Rattle.nio_relay.specs.declared.plan.ProxyPlan.{ProxyPlan}
@@ -6,7 +7,7 @@ use Rattle.nio_cli.specs.Load.{DoesLoad}
 use Rattle.nio_cli.specs.Proxy.{DoesProxy, EndsProxy}
 use Rattle.nio_load.specs.Load.{EndsLoad}
 use Rattle.nio_cli.proofs.Legal.{writes_legal}
-use Rattle.nio_cli.proofs.Named.{its_plan, its_rounds, no_plan, takes_none}
+use Rattle.nio_cli.proofs.Named.{begins_proxy, its_plan, its_rounds, no_plan, takes_none}
 use Rattle.nio_cli.proofs.Unserved.{unserved}
 use Rattle.nio_cli.proofs.run.run_over.Goals as goal
 
@@ -30,6 +31,10 @@ returns-in-Ok-Proxy-clause-proxy g c = λ plan says.
 pub returns-in-Ok-Proxy-clause-too_long : goal.returns-in-Ok-Proxy-clause-too_long
 returns-in-Ok-Proxy-clause-too_long g c = takes_none g.S.Source c.args.input.now c.serve.result
     (λ long. subst EndsProxy long c.serve.ensures.proxy.ends)
+
+pub returns-in-Ok-Proxy-clause-no_net : goal.returns-in-Ok-Proxy-clause-no_net
+returns-in-Ok-Proxy-clause-no_net g c = λ other. absurd (other
+    (begins_proxy (map string_bytes c.args.words.now) c.in-Ok-Proxy.field-0 c.in-Ok-Proxy.plan c.in-Ok-Proxy.field-0-is c.in-Ok-Proxy.ensures.proxy))
 
 pub returns-in-Ok-Load-clause-load : goal.returns-in-Ok-Load-clause-load
 returns-in-Ok-Load-clause-load g c = λ rounds says.
