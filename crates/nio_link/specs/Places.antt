@@ -42,7 +42,7 @@ place_after_listen (Err _) at = record { role = role.Listener at; standing = sta
 abbrev pub place_after_accept : Result Bool Failed → ChanNo → Place → Place
 place_after_accept (Ok true) listener before = record { role = role.Accepted listener; standing = standing.Linked }
 place_after_accept (Ok false) listener before = before
-place_after_accept (Err _) listener before = before
+place_after_accept (Err _) listener before = record { role = role.Accepted listener; standing = standing.Nothing }
 
 abbrev pub place_after_connect : Result Bool Failed → Addr → Place
 place_after_connect (Ok true) to = record { role = role.Connected to; standing = standing.Linked }

@@ -9,7 +9,7 @@ pub enum Role {
     Nothing,
     /// A listener at this address.
     Listener(Addr),
-    /// A link that this listener accepted.
+    /// A link from this listener.
     Accepted(ChanNo),
     /// A link to this address.
     Connected(Addr),

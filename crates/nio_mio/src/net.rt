@@ -128,7 +128,11 @@ impl<S: System + Clock + Copy> Net for MioNet<S> {
                 self.readiness.take(listener, Ops::ACCEPT);
                 Ok(false)
             }
-            Err(Failed) => Err(self.counts.fail(listener)),
+            Err(Failed) => {
+                self.changes
+                    .push(&(chan, Change::Accept(listener, Err(Failed))));
+                Err(self.counts.fail(listener))
+            }
         }
     }
 

@@ -1,8 +1,9 @@
 -- The ends of a connection, from piece of work to piece of work.
-use Rattle.std.proofs.Common.{◌≡◌, Bool, true, false, sym, subst}
+use Rattle.std.proofs.Common.{◌≡◌, Bool, true, false, refl, sym, ap, subst, ◌∙◌}
 use Rattle.nio_link.specs.Links.{Link}
-use Rattle.nio_link.specs.Places.{IsLinked}
+use Rattle.nio_link.specs.Places.{IsLinked, closed, place_after_close}
 use Rattle.nio_link.specs.declared.place.Place.{Place}
+use Rattle.nio_link.specs.declared.place.Standing.TheVariants.{Gone}
 use Rattle.nio_relay.specs.Connection.{Carried}
 use Rattle.nio_relay.specs.Flow.{Flow}
 use Rattle.nio_proxy.specs.Relaying.{IsEnd, SameSink, SameSource, carried, open_or_shut}
@@ -13,6 +14,13 @@ open_linked false = tt
 
 pub end_linked : {l : Link} {p : Place} {c : Carried} → IsEnd l p c → IsLinked p.standing
 end_linked {c = c} is = subst IsLinked (sym is.stands) (open_linked c.shut)
+
+open_gone : (b : Bool) → closed (open_or_shut b) ≡ Gone
+open_gone true = refl
+open_gone false = refl
+
+pub end_gone : {l : Link} {p : Place} {c : Carried} (q : Place) → q ≡ place_after_close p → IsEnd l p c → q.standing ≡ Gone
+end_gone {c = c} q is_closed is = ap (λ (x : Place). x.standing) is_closed ∙ ap closed is.stands ∙ open_gone c.shut
 
 -- the link and its place are the same
 pub end_moved : {l0 l1 : Link} {p0 p1 : Place} {c : Carried} → l1 ≡ l0 → p1 ≡ p0 → IsEnd l0 p0 c → IsEnd l1 p1 c

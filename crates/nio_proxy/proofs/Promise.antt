@@ -7,13 +7,13 @@ use Rattle.nio_base.specs.declared.numbers.Addr.{Addr}
 use Rattle.nio_base.specs.declared.numbers.ChanNo.{ChanNo}
 use Rattle.nio_bytes.specs.Cause.{Rose}
 use Rattle.nio_link.specs.Links.{Link, IsUnused, IsSameBut}
-use Rattle.nio_link.specs.Places.{unused, IsVacant, place_after_listen}
+use Rattle.nio_link.specs.Places.{unused, IsVacant, place_after_close, place_after_listen}
 use Rattle.nio_link.specs.declared.net.Failed.{Failed}
 use Rattle.nio_link.specs.declared.place.Place.{Place}
 use Rattle.nio_link.specs.declared.place.Role.{Role}
 use Rattle.nio_link.specs.declared.place.Role.TheVariants as role
 use Rattle.nio_link.specs.declared.place.Standing.{Standing}
-use Rattle.nio_link.specs.declared.place.Standing.TheVariants.{Listening}
+use Rattle.nio_link.specs.declared.place.Standing.TheVariants.{Listening, Gone}
 use Rattle.nio_relay.proofs.ConnectionLemmas.{lawful-few}
 use Rattle.nio_relay.specs.Connection.{Carried, IsClean, IsRelayed, IsWhole}
 use Rattle.nio_relay.specs.Flow.{Flow, IsLawful}
@@ -21,8 +21,9 @@ use Rattle.nio_relay.specs.declared.plan.ProxyPlan.{ProxyPlan}
 use Rattle.nio_relay.specs.declared.plan.Served.{Served}
 use Rattle.nio_proxy.proofs.Begun.{unused_relayed}
 use Rattle.nio_proxy.proofs.Counts.{count_all, count_none}
+use Rattle.nio_proxy.proofs.Ends.{end_gone}
 use Rattle.nio_proxy.proofs.Slotting.{faulted_from, client_listener, target_listener}
-use Rattle.nio_proxy.proofs.Working.{chan_as, is_or_not, later_all, quiet_then, role_stays, rose_from, vacant_stays}
+use Rattle.nio_proxy.proofs.Working.{chan_as, gone_stays, is_or_not, later_all, quiet_then, role_stays, rose_from, vacant_stays}
 use Rattle.nio_proxy.specs.Nets.{Members, IsQuiet, OnlyCloses}
 use Rattle.nio_proxy.specs.Relaying.{carried, IsTarget}
 use Rattle.nio_proxy.specs.Serving.{HasCarried, HaveCarried, AreRelayed, RelaysBytes, IsAtMost, LeavesNothing, WasBegun, HasFaulted, HasServed, Serves, NoneRose, ServesAllOr, client_of, target_of, listener, count_below}
@@ -73,12 +74,12 @@ have_moved : {P : Carried → Carried → Type 0} (c0 c1 t0 t1 : Link) → c1 �
 have_moved {P} c0 c1 t0 t1 clients targets have = subst (λ c. HaveCarried P c t1) (sym clients) (subst (λ t. HaveCarried P c0 t) (sym targets) have)
 
 -- a connection that is closed after a fault, or where both directions are shut
-module _ (made : Bool) (there back : Flow) (c0 c1 t0 t1 : Link) (p0 p1 q0 q1 : Place) (live : IsLive made there back c0 t0 p0 q0) (clients : c1 ≡ c0) (targets : t1 ≡ t0) (client : IsVacant p1.standing) (target : IsVacant q1.standing) where
+module _ (made : Bool) (there back : Flow) (c0 c1 t0 t1 : Link) (p0 p1 q0 q1 : Place) (live : IsLive made there back c0 t0 p0 q0) (clients : c1 ≡ c0) (targets : t1 ≡ t0) (client : p1 ≡ place_after_close p0) (target : IsVacant q1.standing) where
   pub ended_faulty : HasEnded AreRelayed c1 t1 p1 q1
-  ended_faulty = record { carried = have_moved c0 c1 t0 t1 clients targets (live_relayed made there back c0 t0 p0 q0 live); client_closed = client; target_closed = target }
+  ended_faulty = record { carried = have_moved c0 c1 t0 t1 clients targets (live_relayed made there back c0 t0 p0 q0 live); client_closed = end_gone p1 client live.relaying.by_client; target_closed = target }
 
   pub ended_clean : IsTrue there.shut → IsTrue back.shut → HasEnded IsClean c1 t1 p1 q1
-  ended_clean there_shut back_shut = record { carried = have_moved c0 c1 t0 t1 clients targets (live_clean made there back c0 t0 p0 q0 live there_shut back_shut); client_closed = client; target_closed = target }
+  ended_clean there_shut back_shut = record { carried = have_moved c0 c1 t0 t1 clients targets (live_clean made there back c0 t0 p0 q0 live there_shut back_shut); client_closed = end_gone p1 client live.relaying.by_client; target_closed = target }
 
 slot_relayed : (slot : Option Slot) (client target : Link) (p q : Place) → IsSlot slot client target p q → HaveCarried AreRelayed client target
 slot_relayed None client target p q is = unused_relayed client target is.client_unused is.target_unused
@@ -105,9 +106,20 @@ slot_clean (Some Dropped) client target p q ended clean is = cc
 pub slot_vacant : (slot : Option Slot) (client target : Link) (p q : Place) → IsTrue (has_ended slot) → IsSlot slot client target p q → IsVacant p.standing × IsVacant q.standing
 slot_vacant None client target p q ended is = absurd (cc)
 slot_vacant (Some (Live relay)) client target p q ended is = absurd (cc)
-slot_vacant (Some Clean) client target p q ended is = (is.client_closed, is.target_closed)
-slot_vacant (Some Faulted) client target p q ended is = (is.client_closed, is.target_closed)
+slot_vacant (Some Clean) client target p q ended is = (subst IsVacant (sym is.client_closed) tt, is.target_closed)
+slot_vacant (Some Faulted) client target p q ended is = (subst IsVacant (sym is.client_closed) tt, is.target_closed)
 slot_vacant (Some Dropped) client target p q ended is = absurd (cc)
+
+slot_gone : (slot : Option Slot) (client target : Link) (p q : Place) → IsTrue (has_ended slot) → IsSlot slot client target p q → p.standing ≡ Gone
+slot_gone None client target p q ended is = absurd (cc)
+slot_gone (Some (Live relay)) client target p q ended is = absurd (cc)
+slot_gone (Some Clean) client target p q ended is = is.client_closed
+slot_gone (Some Faulted) client target p q ended is = is.client_closed
+slot_gone (Some Dropped) client target p q ended is = absurd (cc)
+
+place_as : (p : Place) (r : Role) (s : Standing) → p.role ≡ r → p.standing ≡ s → p ≡ record { role = r; standing = s }
+place_as p r s roles stands =
+    ap (λ (x : Role). let q : Place = record { role = x; standing = p.standing } in q) roles ∙ ap (λ (x : Standing). let q : Place = record { role = r; standing = x } in q) stands
 
 roles_at_most : (to : Addr) (slot : Option Slot) (r s : Role) → HasRoles to slot r s → IsAtMost (role.Accepted listener) r × IsAtMost (role.Connected to) s
 roles_at_most to None r s has = (inl has.0, inl has.1)
@@ -386,7 +398,9 @@ module _ {N : Type 0} (n : Members N) where
       begun_of : (k : ℕ) → k < plan.conns → WasBegun plan.target (n.place net3) k
       begun_of k few =
           let roles = roles_ended c1.target (slice_get c1.slots.items k) _ _ (all_ended k few) (ran.serving.served.slots k).roles in
-          record { accepted = same_role (client_of k) ∙ roles.0; asked = same_role (target_of k) ∙ (roles.1 ∙ ap role.Connected to) }
+          let gone = slot_gone (slice_get c1.slots.items k) _ _ _ _ (all_ended k few) (ran.serving.served.slots k).is_slot in
+          let stands = gone_stays (n.place net2 (client_of k)) (n.place net3 (client_of k)) (ran.quiet.places (client_of k)) gone in
+          record { accepted = place_as (n.place net3 (client_of k)) (role.Accepted listener) Gone (same_role (client_of k) ∙ roles.0) stands; asked = same_role (target_of k) ∙ (roles.1 ∙ ap role.Connected to) }
 
       clean_of : (k : ℕ) → k < plan.conns → IsFalse (has_faulted (slice_get c1.slots.items k)) → HaveCarried IsClean (n.link net3 (client_of k)) (n.link net3 (target_of k))
       clean_of k few not =

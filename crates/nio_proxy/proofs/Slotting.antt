@@ -5,17 +5,20 @@ use Rattle.std.proofs.lemmas.Option.{slice_get_past, slice_get_within}
 use Rattle.nio_base.specs.declared.numbers.Addr.{Addr}
 use Rattle.nio_base.specs.declared.numbers.ChanNo.{ChanNo}
 use Rattle.nio_bytes.specs.Cause.{Rose}
-use Rattle.nio_link.specs.Links.{Link, IsSameBut}
+use Rattle.nio_link.specs.Links.{Link, IsSameBut, IsUnused}
+use Rattle.nio_link.specs.Places.{unused, IsVacant}
 use Rattle.nio_link.specs.declared.place.Place.{Place}
 use Rattle.nio_link.specs.declared.place.Role.{Role}
+use Rattle.nio_link.specs.declared.place.Role.TheVariants as role
+use Rattle.nio_link.specs.declared.place.Standing.TheVariants.{Nothing}
 use Rattle.nio_proxy.specs.Serving.{HasFaulted, IsUnfaulted, client_of, target_of, listener, count_below}
-use Rattle.nio_proxy.specs.Nets.{Members, Begins, IsQuiet, IsStill, Works}
+use Rattle.nio_proxy.specs.Nets.{Members, Begins, FailsToAccept, IsQuiet, IsStill, Works}
 use Rattle.nio_proxy.specs.Slots.{IsSlot, IsUnbegun, HasRoles, IsSlotOf, AreSlots, AreServed, ListensAt, Serving, has_ended, has_faulted}
 use Rattle.nio_proxy.specs.declared.board.Port.{Port}
 use Rattle.nio_proxy.specs.declared.connections.Connections.{Connections}
 use Rattle.nio_proxy.specs.declared.slot.Relay.{Relay}
 use Rattle.nio_proxy.specs.declared.slot.Slot.{Slot}
-use Rattle.nio_proxy.specs.declared.slot.Slot.TheVariants.{Live}
+use Rattle.nio_proxy.specs.declared.slot.Slot.TheVariants.{Live, Dropped}
 use Rattle.nio_proxy.proofs.Counts.{one_if, count_one}
 use Rattle.nio_proxy.proofs.Working.{rose_from, rose_on, chan_as}
 
@@ -261,7 +264,7 @@ module _ {N : Type 0} (n : Members N) where
   }
 
   pub serving_still : (x y : N) (c : Connections) → AreServed (n.link x) (n.place x) c → IsStill n x y → Serving n x y c c
-  serving_still x y c served still = serving_alone x y c served still.links (λ k _. still.places k) still.faults still.later (omega (arith, still.polls))
+  serving_still x y c served still = serving_alone x y c served still.links (λ k _. still.places k) (λ k _. still.faults k) (λ k. omega (arith, still.faults k)) (omega (arith, still.polls))
 
   -- where work was done on the links of one connection
   pub serving_step : (k : ℕ) (slot : Slot) (relay : Relay) (own : ChanNo) (x y : N) (c0 c1 : Connections) → AreServed (n.link x) (n.place x) c0
@@ -359,6 +362,43 @@ module _ {N : Type 0} (n : Members N) where
         client = begun.faults (client_of k) (client_target k k);
         target = subst (λ b. n.faults y b ≡ n.faults x b) is_target (calm f);
       })
+
+  -- where the next client couldn't be accepted
+  pub serving_unaccepted : (client : ChanNo) (x y : N) (c0 c1 : Connections) → client ≡ client_of (length c0.slots.items) → AreServed (n.link x) (n.place x) c0
+      → length c0.slots.items < c0.conns → FailsToAccept n client x y → n.place y client ≡ record { role = role.Accepted listener; standing = Nothing }
+      → c1.slots.items ≡ c0.slots.items ++ Dropped ∷ [] → vec_capacity c0.slots ≤ vec_capacity c1.slots → c1.conns ≡ c0.conns → c1.target ≡ c0.target
+      → c1.ended ≡ c0.ended + one_if (has_ended (Some Dropped)) → c1.faulted ≡ c0.faulted + one_if (has_faulted (Some Dropped)) → Serving n x y c0 c1
+  serving_unaccepted client x y c0 c1 is_client served few fails unmade slots room conns target ended faulted =
+      let k = length c0.slots.items in
+      let none : slice_get c0.slots.items k ≡ None = slice_get_past c0.slots.items k (omega arith) in
+      let changes : Changes c0.slots.items c1.slots.items k Dropped = subst (λ xs. Changes c0.slots.items xs k Dropped) (sym slots) (changes_push c0.slots.items Dropped) in
+      let next = next_unbegun (n.link x) (n.place x) c0 (client_of k) (target_of k) served refl refl in
+      let places : (c : ChanNo) → c ≢ client_of k → n.place y c ≡ n.place x c = λ c other. fails.places c (λ at. other (at ∙ is_client)) in
+      let at_client : n.place y (client_of k) ≡ record { role = role.Accepted listener; standing = Nothing } =
+      subst (λ a. n.place y a ≡ record { role = role.Accepted listener; standing = Nothing }) is_client unmade in
+      let at_target : n.place y (target_of k) ≡ unused = places (target_of k) (λ at. client_target k k (sym at)) ∙ next.target_unasked in
+      let is : IsSlotOf c0.target (Some Dropped) (n.link y (client_of k)) (n.link y (target_of k)) (n.place y (client_of k)) (n.place y (target_of k)) = record {
+        is_slot = record {
+          client_unused = subst IsUnused (sym (fails.links (client_of k))) next.client_unused;
+          target_unused = subst IsUnused (sym (fails.links (target_of k))) next.target_unused;
+          client_closed = subst (λ (p : Place). IsVacant p.standing) (sym at_client) tt;
+          target_closed = subst (λ (p : Place). IsVacant p.standing) (sym at_target) tt;
+        };
+        roles = (ap (λ (p : Place). p.role) at_client, ap (λ (p : Place). p.role) at_target);
+      } in
+      record {
+        served = served_change k Dropped (n.link x) (n.link y) (n.place x) (n.place y) c0 c1 served few conns target (omega (arith, served.room, room))
+            (omega (arith, few, ap length slots, length-append c0.slots.items (Dropped ∷ []))) changes (λ c _ _. fails.links c) (λ c not_client _. places c not_client) is
+            (ap has_ended none) (ap has_faulted none) ended faulted;
+        conns = conns;
+        target = target;
+        faulty = faulty_change k Dropped (n.faults x) (n.faults y) c0 c1 changes (λ never. absurd (not_true false refl never));
+        lasting = lasting_change k Dropped (n.faults x) (n.faults y) c0 c1 changes (ap has_faulted none);
+        unfaulted = λ j _. record { client = fails.faults (client_of j) (client_listener j); target = fails.faults (target_of j) (target_listener j) };
+        no_bytes = fails.links listener;
+        later = fails.later;
+        polls = omega (arith, fails.polls);
+      }
 
   -- where a link was closed, or the listener
   pub serving_quiet : (x y z : N) (c0 c1 c2 : Connections) → Serving n x y c0 c1 → IsQuiet n y z → IsSameBut listener (n.place y) (n.place z) → c2 ≡ c1 → Serving n x z c0 c2

@@ -69,6 +69,15 @@ pub vacant_stays : (before now : Place) → OnlyCloses before now → IsVacant b
 vacant_stays before now (inl same) vacant = subst (λ (p : Place). IsVacant p.standing) (sym same) vacant
 vacant_stays before now (inr is) vacant = vacant_after_close before now is
 
+-- what is closed stays so
+pub gone_stays : (before now : Place) → OnlyCloses before now → before.standing ≡ standing.Gone → now.standing ≡ standing.Gone
+gone_stays before now (inl same) gone = ap (λ (p : Place). p.standing) same ∙ gone
+gone_stays before now (inr is) gone = ap (λ (p : Place). p.standing) is ∙ ap closed gone
+
+-- a link that was closed
+pub linked_gone : (before now : Place) → before.standing ≡ standing.Linked → now ≡ place_after_close before → now.standing ≡ standing.Gone
+linked_gone before now linked is = ap (λ (p : Place). p.standing) is ∙ ap closed linked
+
 pub role_stays : (before now : Place) → OnlyCloses before now → now.role ≡ before.role
 role_stays before now (inl same) = ap (λ (p : Place). p.role) same
 role_stays before now (inr is) = ap (λ (p : Place). p.role) is

@@ -49,13 +49,22 @@ pub record Begins {N : Type 0} (n : Members N) (client target : ChanNo) (x y : N
   pub later : (c : ChanNo) → n.faults x c ≤ n.faults y c
   pub polls : n.poll_faults y ≡ n.poll_faults x
 
--- No link has carried more, no channel's place has changed, and only the listener may have failed, and be ready for less.
-pub record IsStill {N : Type 0} (n : Members N) (x y : N) : Type 0 where
+-- A link couldn't be accepted: no link has carried more, only the listener may have failed, and be ready for less, and only
+-- this channel stands in another way.
+pub record FailsToAccept {N : Type 0} (n : Members N) (client : ChanNo) (x y : N) : Type 0 where
   pub links : (c : ChanNo) → n.link y c ≡ n.link x c
-  pub places : (c : ChanNo) → n.place y c ≡ n.place x c
+  pub places : (c : ChanNo) → c ≢ client → n.place y c ≡ n.place x c
   pub faults : (c : ChanNo) → c ≢ listener → n.faults y c ≡ n.faults x c
   pub ready : (c : ChanNo) → c ≢ listener → n.ready y c ≡ n.ready x c
   pub later : (c : ChanNo) → n.faults x c ≤ n.faults y c
+  pub polls : n.poll_faults y ≡ n.poll_faults x
+
+-- No link has carried more, no call failed, no channel's place has changed, and only the listener may be ready for less.
+pub record IsStill {N : Type 0} (n : Members N) (x y : N) : Type 0 where
+  pub links : (c : ChanNo) → n.link y c ≡ n.link x c
+  pub places : (c : ChanNo) → n.place y c ≡ n.place x c
+  pub faults : (c : ChanNo) → n.faults y c ≡ n.faults x c
+  pub ready : (c : ChanNo) → c ≢ listener → n.ready y c ≡ n.ready x c
   pub polls : n.poll_faults y ≡ n.poll_faults x
 
 -- the place is the same, or what stood there was closed

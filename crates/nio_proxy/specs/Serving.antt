@@ -8,6 +8,7 @@ use Rattle.nio_link.specs.Places.{IsVacant}
 use Rattle.nio_link.specs.declared.place.Place.{Place}
 use Rattle.nio_link.specs.declared.place.Role.{Role}
 use Rattle.nio_link.specs.declared.place.Role.TheVariants as role
+use Rattle.nio_link.specs.declared.place.Standing.TheVariants.{Gone}
 use Rattle.nio_relay.specs.Connection.{Carried, IsRelayed, IsClean}
 use Rattle.nio_relay.specs.declared.plan.ProxyPlan.{ProxyPlan}
 use Rattle.nio_relay.specs.declared.plan.Served.{Served}
@@ -58,8 +59,8 @@ RelaysBytes link = (k : ℕ) → HaveCarried AreRelayed (link (client_of k)) (li
 abbrev pub IsAtMost : Role → Role → Type 0
 IsAtMost wanted r = (r ≡ role.Nothing) ⊎ (r ≡ wanted)
 
--- At every end: nothing stands under any channel. Channels were used for nothing but a listener at the plan's address
--- and, for each connection of the plan, a link that it accepted and one to the plan's target. Others carried nothing.
+-- At every end: nothing stands under any channel. Channels were asked to be nothing but a listener at the plan's address
+-- and, for each connection of the plan, a link from it and one to the plan's target. Others carried nothing.
 pub record LeavesNothing (plan : ProxyPlan) (link : ChanNo → Link) (place : ChanNo → Place) : Type 0 where
   pub vacant : (c : ChanNo) → IsVacant (place c).standing
   pub listens : IsAtMost (role.Listener plan.listen) (place listener).role
@@ -69,9 +70,9 @@ pub record LeavesNothing (plan : ProxyPlan) (link : ChanNo → Link) (place : Ch
   pub no_bytes : IsUnused (link listener)
   pub rest : (c : ChanNo) → 2 * plan.conns < c.0 → IsUnused (link c)
 
--- the connection's client was accepted, and its link to this target was asked for
+-- the connection's client was accepted, and is closed; its link to this target was asked for
 pub record WasBegun (target : Addr) (place : ChanNo → Place) (k : ℕ) : Type 0 where
-  pub accepted : (place (client_of k)).role ≡ role.Accepted listener
+  pub accepted : place (client_of k) ≡ record { role = role.Accepted listener; standing = Gone }
   pub asked : (place (target_of k)).role ≡ role.Connected target
 
 -- the count of faults of one of the connection's two links rose

@@ -8,7 +8,7 @@ use Rattle.nio_link.specs.declared.place.Place.{Place}
 use Rattle.nio_link.specs.declared.place.Role.{Role}
 use Rattle.nio_link.specs.declared.place.Role.TheVariants as role
 use Rattle.nio_link.specs.declared.place.Standing.{Standing}
-use Rattle.nio_link.specs.declared.place.Standing.TheVariants.{Listening}
+use Rattle.nio_link.specs.declared.place.Standing.TheVariants.{Listening, Gone}
 use Rattle.nio_relay.specs.Connection.{Carried, IsClean}
 use Rattle.nio_relay.specs.Flow.{Flow, IsLawful}
 use Rattle.nio_proxy.specs.Nets.{Members}
@@ -33,10 +33,10 @@ pub record IsLive (is_connected : Bool) (there back : Flow) (client target : Lin
 -- a connection that has ended: its links are closed
 pub record HasEnded (P : Carried → Carried → Type 0) (client target : Link) (at_client at_target : Place) : Type 0 where
   pub carried : HaveCarried P client target
-  pub client_closed : IsVacant at_client.standing
+  pub client_closed : at_client.standing ≡ Gone
   pub target_closed : IsVacant at_target.standing
 
--- a connection whose client was accepted, and closed for want of memory
+-- a connection whose client couldn't be accepted, or was closed for want of memory
 pub record IsDropped (client target : Link) (at_client at_target : Place) : Type 0 where
   pub client_unused : IsUnused client
   pub target_unused : IsUnused target

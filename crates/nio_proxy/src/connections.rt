@@ -5,9 +5,9 @@ ghost use Rattle.nio_bytes.specs.Cause.{Rose};
 ghost use Rattle.nio_link.specs.Links.{IsSameBut};
 ghost use Rattle.nio_link.specs.Places.{unused, IsVacant};
 ghost use Rattle.nio_link.specs.declared.place.Role.TheVariants as role;
-ghost use Rattle.nio_link.specs.declared.place.Standing.TheVariants.{Linked, Listening};
+ghost use Rattle.nio_link.specs.declared.place.Standing.TheVariants.{Linked, Listening, Nothing};
 ghost use Rattle.nio_steps.specs.KeyCalls.{is_within};
-ghost use Rattle.nio_proxy.specs.Nets.{Accepts, IsQuiet, IsStill};
+ghost use Rattle.nio_proxy.specs.Nets.{Accepts, FailsToAccept, IsQuiet, IsStill};
 ghost use Rattle.nio_proxy.specs.Serving.{client_of, listener, target_of};
 ghost use Rattle.nio_proxy.specs.declared.serve.ServeError.TheVariants.{NetFault};
 ghost use Rattle.nio_proxy.specs.declared.slot.Slot.TheVariants.{Live};
@@ -43,7 +43,8 @@ fn accept<N: Net>(net: &mut N, client: ChanNo) -> Result<bool, Failed>
     ensures begun { IfOk result (λ more. IsTrue more → Accepts N.Net client net.old net.new) }
     ensures accepted { IfOk result (λ more. IsTrue more → N.place net.new client ≡ record { role = role.Accepted listener; standing = Linked }) }
     ensures early { IfOk result (λ more. IsFalse more → IsStill N.Net net.old net.new) }
-    ensures failed { OnErr result (IsStill N.Net net.old net.new) }
+    ensures failed { OnErr result (FailsToAccept N.Net client net.old net.new) }
+    ensures unmade { OnErr result (N.place net.new client ≡ record { role = role.Accepted listener; standing = Nothing }) }
     ensures cause { OnErr result (Rose (N.faults net.old listener) (N.faults net.new listener)) }
 {
     net.accept(LISTENER, client)
@@ -193,7 +194,10 @@ impl Connections {
                 }
             }
             Ok(false) => Ok(false),
-            Err(Failed) => Err(ServeError::NetFault),
+            Err(Failed) => {
+                self.add(Slot::Dropped);
+                Err(ServeError::NetFault)
+            }
         }
     }
 

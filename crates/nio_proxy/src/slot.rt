@@ -4,7 +4,7 @@ ghost use Rattle.nio_base.specs.declared.numbers.Addr.{Addr};
 ghost use Rattle.nio_base.specs.declared.numbers.ChanNo.{ChanNo};
 ghost use Rattle.nio_bytes.specs.Cause.{Rose};
 ghost use Rattle.nio_link.specs.Links.{IsUnused, Link};
-ghost use Rattle.nio_link.specs.Places.{unused, IsVacant};
+ghost use Rattle.nio_link.specs.Places.{unused, IsVacant, place_after_close};
 ghost use Rattle.nio_link.specs.declared.place.Place.{Place};
 ghost use Rattle.nio_link.specs.declared.place.Role.{Role};
 ghost use Rattle.nio_link.specs.declared.place.Role.TheVariants as role;
@@ -50,7 +50,7 @@ pub(crate) enum Slot {
     Clean,
     /// A call on one of its links failed.
     Faulted,
-    /// There was no memory to relay it: its client's link was closed.
+    /// Its client couldn't be accepted; or there was no memory to relay it, and its client's link was closed.
     Dropped,
 }
 
@@ -126,7 +126,7 @@ pub(crate) fn close_links<N: Net>(net: &mut N, client: ChanNo, target: ChanNo)
     requires apart { client ≢ target }
     ensures quiet { IsQuiet N.Net net.old net.new }
     ensures places { (c : ChanNo) → c ≢ client → c ≢ target → N.place net.new c ≡ N.place net.old c }
-    ensures client { IsVacant (N.place net.new client).standing }
+    ensures client { N.place net.new client ≡ place_after_close (N.place net.old client) }
     ensures target { IsVacant (N.place net.new target).standing }
 {
     net.close(client);
@@ -138,7 +138,7 @@ fn hang_up<N: Net>(net: &mut N, board: &mut Board, client: ChanNo, target: ChanN
     requires apart { client ≢ target }
     ensures quiet { IsQuiet N.Net net.old net.new }
     ensures places { (c : ChanNo) → c ≢ client → c ≢ target → N.place net.new c ≡ N.place net.old c }
-    ensures client { IsVacant (N.place net.new client).standing }
+    ensures client { N.place net.new client ≡ place_after_close (N.place net.old client) }
     ensures target { IsVacant (N.place net.new target).standing }
 {
     close_links(net, client, target);
@@ -318,7 +318,7 @@ fn open_relay<R: Wait>(
 }
 
 // Begins to connect the target of a connection. It ends at once where that fails.
-#[tactic(auto, using(crate::proofs::Begun::unused_live, crate::proofs::Begun::unused_relayed))]
+#[tactic(auto, using(crate::proofs::Begun::unused_live, crate::proofs::Begun::unused_relayed, crate::proofs::Working::linked_gone))]
 fn connect_relay<N: Net>(
     net: &mut N,
     board: &mut Board,

@@ -4,7 +4,7 @@ use Rattle.nio_link.specs.Links.{IsUnused}
 use Rattle.nio_proxy.specs.Serving.{client_of, target_of}
 use Rattle.nio_proxy.specs.Slots.{has_ended, has_faulted}
 use Rattle.nio_proxy.proofs.Counts.{count_few}
-use Rattle.nio_proxy.proofs.Slotting.{next_unbegun, serving_new}
+use Rattle.nio_proxy.proofs.Slotting.{next_unbegun, serving_new, serving_unaccepted}
 use Rattle.nio_proxy.proofs.Seen.{seen}
 use Rattle.nio_proxy.proofs.Working.{begins_then}
 use Rattle.nio_proxy.proofs.connections.Connections.accept.Goals as goal
@@ -59,3 +59,16 @@ returns-in-Err-taken-clause-serving g c =
     c.add.ensures.slots c.add.ensures.room c.add.ensures.conns c.add.ensures.target c.take_on-slot.ensures.slot c.add.ensures.ended c.add.ensures.faulted
     (λ f. subst (λ a. Rose a (g.N.Net.faults c.take_on-slot.new.net c.links_of.result.1)) (accepts.faults c.links_of.result.1) (c.take_on-slot.ensures.faulty f))
     (λ f. c.take_on-slot.ensures.calm f ∙ accepts.faults c.links_of.result.1)
+
+pub add-requires-in-Err-clause-few : goal.add-requires-in-Err-clause-few
+add-requires-in-Err-clause-few g c = omega (arith, c.requires.served.ended, c.requires.served.bound, count_few (λ k. has_ended (slice_get c.args.self.now.slots.items k)) c.args.self.now.conns)
+
+pub add-requires-in-Err-clause-few_faulted : goal.add-requires-in-Err-clause-few_faulted
+add-requires-in-Err-clause-few_faulted g c = omega (arith, c.requires.served.faulted, c.requires.served.bound, count_few (λ k. has_faulted (slice_get c.args.self.now.slots.items k)) c.args.self.now.conns)
+
+pub returns-in-Err-clause-serving : goal.returns-in-Err-clause-serving
+returns-in-Err-clause-serving g c =
+    let at : c.len.result ≡ length c.args.self.now.slots.items = search rules in
+    serving_unaccepted (seen g.N.Poller g.N.Net) c.links_of.result.0 c.args.net.now c.accept.new.net c.args.self.now c.add-in-Err.new.self
+    (c.links_of.ensures.client ∙ ap client_of at) c.requires.served c.requires.few c.in-Err.ensures.failed c.in-Err.ensures.unmade
+    c.add-in-Err.ensures.slots c.add-in-Err.ensures.room c.add-in-Err.ensures.conns c.add-in-Err.ensures.target c.add-in-Err.ensures.ended c.add-in-Err.ensures.faulted
