@@ -5,9 +5,10 @@ use Rattle.std.proofs.lemmas.Option.{same_Some, none-some}
 use Rattle.nio_base.specs.declared.numbers.ChanNo.{ChanNo}
 use Rattle.nio_base.specs.declared.numbers.KeyId.{KeyId}
 use Rattle.nio_base.specs.declared.numbers.SelNo.{SelNo}
-use Rattle.nio_event.specs.Arguments.{Arguments, nothing, one_caller, one_selector, one_channel, one_kind, channel_mode, channel_selector, registration, selector_key, key_ops, key_number, selector_wait, selector_told, ArgumentsFit, ReadsArguments, argument_words}
+use Rattle.nio_event.specs.Arguments.{Arguments, nothing, one_caller, one_selector, one_channel, one_kind, channel_mode, channel_selector, registration, selector_key, key_ops, key_number, selector_wait, selector_told, on_group, ArgumentsFit, ReadsArguments, argument_words}
 use Rattle.nio_event.specs.Calls.{IsCall, call_words}
 use Rattle.nio_event.specs.CallWords.{arguments, call_word, call_word_text}
+use Rattle.nio_event.specs.GroupCalls.{ReadsGroupCall, group_word}
 use Rattle.nio_event.specs.Lines.{ReadsCall}
 use Rattle.nio_event.specs.Reading.{Reads}
 use Rattle.nio_event.specs.declared.call.Call.{Call}
@@ -25,6 +26,8 @@ use Rattle.nio_event.specs.declared.call_word.LoneWord.{LoneWord}
 use Rattle.nio_event.specs.declared.call_word.LoneWord.TheVariants as alone
 use Rattle.nio_event.specs.declared.call_word.SelectorWord.{SelectorWord}
 use Rattle.nio_event.specs.declared.call_word.SelectorWord.TheVariants as on_selector
+use Rattle.nio_event.specs.declared.group_call.GroupCall.{GroupCall}
+use Rattle.nio_event.specs.declared.group_word.GroupWord.{GroupWord}
 use Rattle.nio_event.proofs.Readers.{reads_none}
 
 -- ---- from a word and arguments to the call
@@ -74,6 +77,7 @@ call_from word.Attach (key_number s k att) = Some (call.Attach s k att)
 call_from word.Begin (selector_wait s waiting) = Some (call.Begin s waiting)
 call_from word.Told (selector_told s elapsed pairs) = Some (call.Told s elapsed pairs)
 call_from word.Interrupt (one_caller t) = Some (call.Interrupt t)
+call_from (word.OnGroup w) (on_group g) = Some (call.Group g)
 call_from _ _ = None
 
 call_from-parts : (c : Call) → call_from (call_word c) (arguments c) ≡ Some c
@@ -105,8 +109,9 @@ AreOf word.Attach args = HaveShape (λ (p : SelNo × KeyId × ℕ). key_number p
 AreOf word.Begin args = HaveShape (λ (p : SelNo × Waiting). selector_wait p.0 p.1) args
 AreOf word.Told args = HaveShape (λ (p : SelNo × Bool × List (KeyId × ℕ)). selector_told p.0 p.1 p.2) args
 AreOf word.Interrupt args = HaveShape one_caller args
+AreOf (word.OnGroup w) args = (g : GroupCall) × (args ≡ on_group g) × (group_word g ≡ w)
 
-from_shape : (w : CallWord) (args : Arguments) → IsSomeAnd (call_from w args) (λ _. ⊤) → AreOf w args
+from_shape : (w : CallWord) (args : Arguments) → IsSomeAnd (call_from w args) (λ c. call_word c ≡ w) → AreOf w args
 from_shape (word.Alone w) nothing h = (tt, refl)
 from_shape (word.OnChannel w) (one_channel c) h = (c, refl)
 from_shape (word.OnKey w) (selector_key s k) h = ((s, k), refl)
@@ -120,10 +125,11 @@ from_shape word.Attach (key_number s k att) h = ((s, k, att), refl)
 from_shape word.Begin (selector_wait s waiting) h = ((s, waiting), refl)
 from_shape word.Told (selector_told s elapsed pairs) h = ((s, elapsed, pairs), refl)
 from_shape word.Interrupt (one_caller t) h = (t, refl)
+from_shape (word.OnGroup w) (on_group g) h = (g, refl, (cc h))
 from_shape _ _ h = absurd h
 
 pub have_shape : (c : Call) → AreOf (call_word c) (arguments c)
-have_shape c = from_shape (call_word c) (arguments c) (subst (λ o. IsSomeAnd o (λ _. ⊤)) (sym (call_from-parts c)) tt)
+have_shape c = from_shape (call_word c) (arguments c) (subst (λ o. IsSomeAnd o (λ d. call_word d ≡ call_word c)) (sym (call_from-parts c)) refl)
 
 -- ---- reading
 
@@ -152,6 +158,31 @@ made_call w shape of_word words (Some x) (Some c) read cases says =
           let own = of_word (arguments d) (subst (λ v. AreOf v (arguments d)) fits.1 (have_shape d)) in
           let same = same_Some x own.0 (read.only own.0 (subst ArgumentsFit own.1 fits.0) (e ∙ ap argument_words own.1)) in
           ap Some (parts_one c d (parts.0 ∙ sym fits.1) (parts.1 ∙ (ap shape same ∙ sym own.1)));
+    }
+
+-- a call on the group that is read is the call with its word
+pub made_on_group : {Made : GroupCall → Call → Type 0} (w : GroupWord) (words : List (List ℕ)) (o : Option GroupCall)
+    (r : Option Call) → ReadsGroupCall w words o → MatchOption o (r ≡ None) (λ g. IsSomeAnd r (Made g))
+    → ((g : GroupCall) (c : Call) → Made g c → c ≡ call.Group g) → ReadsCall (word.OnGroup w) words r
+made_on_group w words None None read cases says = record {
+  found = tt;
+  only = λ d fits e.
+      let own = subst (λ v. AreOf v (arguments d)) fits.1 (have_shape d) in
+      absurd (none-some own.0 (read.only own.0 (subst ArgumentsFit own.1 fits.0, own.2) (e ∙ ap argument_words own.1)));
+}
+made_on_group w words None (Some c) read cases says = absurd (none-some c (sym cases))
+made_on_group w words (Some g) None read cases says = absurd cases
+made_on_group w words (Some g) (Some c) read cases says =
+    let is = says g c cases in
+    record {
+      found = (
+        (subst IsCall (sym is) read.found.0.0, ap call_word is ∙ ap word.OnGroup read.found.0.1),
+        read.found.1 ∙ ap (λ d. argument_words (arguments d)) (sym is),
+      );
+      only = λ d fits e.
+          let own = subst (λ v. AreOf v (arguments d)) fits.1 (have_shape d) in
+          let same = same_Some g own.0 (read.only own.0 (subst ArgumentsFit own.1 fits.0, own.2) (e ∙ ap argument_words own.1)) in
+          ap Some (is ∙ (ap call.Group same ∙ sym (parts_one d (call.Group own.0) (fits.1 ∙ ap word.OnGroup (sym own.2)) own.1)));
     }
 
 reads_call : (word : List ℕ) (w : CallWord) (args words : List (List ℕ)) (r : Option Call)

@@ -16,6 +16,7 @@ use Rattle.nio_event.specs.declared.call_word.KeyWord.TheVariants as on_key
 use Rattle.nio_event.specs.declared.call_word.LoneWord.TheVariants as alone
 use Rattle.nio_event.specs.declared.call_word.SelectorWord.TheVariants as on_selector
 use Rattle.nio_event.specs.declared.call_word.TheConstants.{CALL_WORDS}
+use Rattle.nio_event.specs.declared.group_word.GroupWord.TheVariants as group
 
 pub in_table : (w : CallWord) → find (λ v. bytes_eq (call_word_text v) (call_word_text w)) CALL_WORDS ≡ Some w
 in_table (word.Alone alone.Selector) = refl
@@ -28,6 +29,8 @@ in_table (word.OnKey on_key.Valid) = refl
 in_table (word.OnKey _) = refl
 in_table (word.OnKeyOps on_key_ops.Iset) = refl
 in_table (word.OnKeyOps _) = refl
+in_table (word.OnGroup group.Gopen) = refl
+in_table (word.OnGroup _) = refl
 in_table _ = refl
 
 -- what is found is the first element or behind it

@@ -6,10 +6,13 @@ pub mod Times
 pub mod CallWordTable
 pub mod PairLists
 pub mod Elapsed
+pub mod GroupParts
 pub mod CallParts
 pub mod PlainWords
 pub mod Spaces
 pub mod LineTexts
+pub mod Ones
+pub mod OneGroupCall
 pub mod OneReading
 pub mod JoinedWords
 pub mod PlainTexts

@@ -9,9 +9,9 @@ use Rattle.std.proofs.lemmas.List.Elements.{All-append, All-from_get_or, All-con
 use Rattle.std.proofs.lemmas.Option.{same_Some}
 use Rattle.std.proofs.lemmas.Str.Parse.{not_in_digits}
 use Rattle.nio_base.specs.declared.numbers.KeyId.{KeyId}
-use Rattle.nio_event.specs.Arguments.{IsKeyName, IsNumber, IsPair, IsSerial}
+use Rattle.nio_event.specs.Arguments.{IsKeyName, IsPair, IsSerial}
 use Rattle.nio_event.specs.Reading.{Reads}
-use Rattle.nio_event.specs.Words.{key_word, pair_word}
+use Rattle.nio_event.specs.Words.{IsNumber, key_word, pair_word}
 use Rattle.nio_event.proofs.Numbers.{own}
 use Rattle.nio_event.proofs.Readers.{reads_none}
 

@@ -13,12 +13,12 @@ use Rattle.nio_base.specs.declared.numbers.CallerNo.{CallerNo}
 use Rattle.nio_base.specs.declared.numbers.ChanNo.{ChanNo}
 use Rattle.nio_base.specs.declared.numbers.KeyId.{KeyId}
 use Rattle.nio_base.specs.declared.numbers.SelNo.{SelNo}
-use Rattle.nio_event.specs.Arguments.{Arguments, nothing, one_caller, one_selector, one_channel, one_kind, channel_mode, channel_selector, registration, selector_key, key_ops, key_number, selector_wait, selector_told, ArgumentsFit, IsAttachment, IsKeyName, IsMilliseconds, IsNumber, IsPair, IsTime, argument_words, attachment_words, elapsed_words, mode_word, waiting_words}
+use Rattle.nio_event.specs.Arguments.{Arguments, nothing, one_caller, one_selector, one_channel, one_kind, channel_mode, channel_selector, registration, selector_key, key_ops, key_number, selector_wait, selector_told, on_group, ArgumentsFit, IsAttachment, IsKeyName, IsMilliseconds, IsPair, IsTime, argument_words, attachment_words, elapsed_words, mode_word, waiting_words}
 use Rattle.nio_event.specs.Calls.{IsBlank, IsCall, IsLine, call_words}
 use Rattle.nio_event.specs.CallWords.{arguments, call_word, call_word_text}
 use Rattle.nio_event.specs.Printing.{spaced}
 use Rattle.nio_event.specs.Script.{AreCalls, no_lines, blank_line, call_line}
-use Rattle.nio_event.specs.Words.{caller_word, selector_word, channel_word, key_word, pair_word, kind_word}
+use Rattle.nio_event.specs.Words.{IsNumber, caller_word, selector_word, channel_word, key_word, pair_word, kind_word}
 use Rattle.nio_event.specs.declared.call.Call.{Call}
 use Rattle.nio_event.specs.declared.call.ScriptCall.{ScriptCall}
 use Rattle.nio_event.specs.declared.call.Waiting.{Waiting}
@@ -31,22 +31,12 @@ use Rattle.nio_event.proofs.CallWordTable.{reads_call_word}
 use Rattle.nio_event.proofs.Cuts.{position-cut, parts-cut}
 use Rattle.nio_event.proofs.JoinedWords.{join_spaced}
 use Rattle.nio_event.proofs.NameWords.{KeyForm, first, later, decimal_lacks, index_word, index_word_lacks, key_form, key_same, key_word_lacks_colon, lacks_none, pair_word_cut}
+use Rattle.nio_event.proofs.OneGroupCall.{group_call_one}
+use Rattle.nio_event.proofs.Ones.{IsOne, all_three, both, byte_at, numbered_one, word_at}
+use Rattle.nio_event.proofs.GroupParts.{of_word}
 use Rattle.nio_event.proofs.Spaces.{split_join, caller_spaceless, call_spaceless}
 
--- what fits and is printed alike is the same
-abbrev IsOne : {A T : Type 0} → (A → Type 0) → (A → T) → Type 0
-IsOne {A} Fits print = (x y : A) → Fits x → Fits y → print x ≡ print y → x ≡ y
-
 -- words
-
-word_at : (k : ℕ) {xs ys : List (List ℕ)} → xs ≡ ys → get_or xs k [] ≡ get_or ys k []
-word_at k e = ap (λ (ws : List (List ℕ)). get_or ws k []) e
-
-byte_at : (k : ℕ) {xs ys : List ℕ} → xs ≡ ys → get_or xs k 0 ≡ get_or ys k 0
-byte_at k e = ap (λ (w : List ℕ). get_or w k 0) e
-
-numbered_one : (letter m n : ℕ) → m < 2 ^ 64 → n < 2 ^ 64 → letter ∷ decimal m ≡ letter ∷ decimal n → m ≡ n
-numbered_one letter m n h k e = decimal_injective m n h k (ap (drop 1) e)
 
 abbrev caller_no : ℕ → CallerNo
 caller_no n = record { 0 = n }
@@ -177,12 +167,6 @@ told_one false true xs ys f g e = absurd (not_elapsed ys xs (sym e))
 
 -- arguments
 
-both : {A B : Type 0} (x y : A × B) → x.0 ≡ y.0 → x.1 ≡ y.1 → x ≡ y
-both x y p q = ap (λ a. (a, x.1)) p ∙ ap (λ b. (y.0, b)) q
-
-all_three : {A B C : Type 0} (x y : A × B × C) → x.0 ≡ y.0 → x.1 ≡ y.1 → x.2 ≡ y.2 → x ≡ y
-all_three x y p q r = ap (λ a. (a, x.1, x.2)) p ∙ ap (λ b. (y.0, b, x.2)) q ∙ ap (λ c. (y.0, y.1, c)) r
-
 all_four : {A B C D : Type 0} (x y : A × B × C × D) → x.0 ≡ y.0 → x.1 ≡ y.1 → x.2 ≡ y.2 → x.3 ≡ y.3 → x ≡ y
 all_four x y p q r s = ap (λ a. (a, x.1, x.2, x.3)) p ∙ ap (λ b. (y.0, b, x.2, x.3)) q ∙ ap (λ c. (y.0, y.1, c, x.3)) r ∙ ap (λ d. (y.0, y.1, y.2, d)) s
 
@@ -260,6 +244,9 @@ arguments_one word.Attach a b = shaped_one (λ (p : SelNo × KeyId × ℕ). key_
 arguments_one word.Begin a b = shaped_one (λ (p : SelNo × Waiting). selector_wait p.0 p.1) selector_wait_one a b
 arguments_one word.Told a b = shaped_one (λ (p : SelNo × Bool × List (KeyId × ℕ)). selector_told p.0 p.1 p.2) selector_told_one a b
 arguments_one word.Interrupt a b = shaped_one one_caller one_caller_one a b
+arguments_one (word.OnGroup w) a b = λ x y f g e.
+    let same = group_call_one w x.0 y.0 (of_word w x.0 x.2) (of_word w y.0 y.2) (subst ArgumentsFit x.1 f) (subst ArgumentsFit y.1 g) (ap argument_words (sym x.1) ∙ (e ∙ ap argument_words y.1)) in
+    x.1 ∙ (ap on_group same ∙ sym y.1)
 
 -- calls
 

@@ -7,20 +7,37 @@ use Rattle.std.specs.Str.{bytes_eq}
 use Rattle.std.proofs.lemmas.Bool.{and_parts, cond_both, eq-eqb, false≢true, leb-true, lt-ltb}
 use Rattle.std.proofs.lemmas.List.Elements.{All-append, All-cons, All-from_recursion, All-nil, All-weaker, recursion_from_All}
 use Rattle.std.proofs.lemmas.List.Sums.{AllPass-from_list_all}
+use Rattle.nio_base.specs.declared.group.Finished.{Finished}
+use Rattle.nio_base.specs.declared.group.Finished.TheVariants as finished
+use Rattle.nio_base.specs.declared.group.GKind.{GKind}
+use Rattle.nio_base.specs.declared.group.GKind.TheVariants as group_kind
+use Rattle.nio_base.specs.declared.group.OpKind.{OpKind}
+use Rattle.nio_base.specs.declared.group.OpKind.TheVariants as op
+use Rattle.nio_base.specs.declared.group.Outcome.{Outcome}
+use Rattle.nio_base.specs.declared.group.Outcome.TheVariants as outcome
+use Rattle.nio_base.specs.declared.group.Why.TheVariants as failed
 use Rattle.nio_base.specs.declared.kind.Kind.{Kind}
 use Rattle.nio_base.specs.declared.kind.Kind.TheVariants.{Stream, Listener, Source, Sink}
 use Rattle.nio_base.specs.declared.numbers.CallerNo.{CallerNo}
 use Rattle.nio_base.specs.declared.numbers.ChanNo.{ChanNo}
+use Rattle.nio_base.specs.declared.numbers.GChan.{GChan}
 use Rattle.nio_base.specs.declared.numbers.KeyId.{KeyId}
 use Rattle.nio_base.specs.declared.numbers.SelNo.{SelNo}
-use Rattle.nio_event.specs.Arguments.{Arguments, nothing, one_caller, one_selector, one_channel, one_kind, channel_mode, channel_selector, registration, selector_key, key_ops, key_number, selector_wait, selector_told, argument_words, attachment_words, elapsed_words, mode_word, waiting_words}
+use Rattle.nio_event.specs.Arguments.{Arguments, nothing, one_caller, one_selector, one_channel, one_kind, channel_mode, channel_selector, registration, selector_key, key_ops, key_number, selector_wait, selector_told, on_group, argument_words, attachment_words, elapsed_words, mode_word, waiting_words}
 use Rattle.nio_event.specs.Calls.{call_words}
 use Rattle.nio_event.specs.CallWords.{arguments, call_word, call_word_text}
+use Rattle.nio_event.specs.GroupCalls.{group_argument_words}
+use Rattle.nio_event.specs.GroupReplies.{group_reply_words}
+use Rattle.nio_event.specs.GroupWords.{finished_words, group_channel_word, group_kind_word, operation_kind_word, outcome_words}
 use Rattle.nio_event.specs.Replies.{pairs_words, reply_words, why_word}
 use Rattle.nio_event.specs.Words.{caller_word, channel_word, key_word, kind_word, pair_word, selector_word}
 use Rattle.nio_event.specs.declared.call.Call.{Call}
 use Rattle.nio_event.specs.declared.call.Waiting.{Waiting}
 use Rattle.nio_event.specs.declared.call.Waiting.TheVariants.{Now, Wait, For}
+use Rattle.nio_event.specs.declared.group_call.GroupCall.{GroupCall}
+use Rattle.nio_event.specs.declared.group_call.GroupCall.TheVariants as group
+use Rattle.nio_event.specs.declared.group_reply.GroupReply.{GroupReply}
+use Rattle.nio_event.specs.declared.group_reply.GroupReply.TheVariants as group_reply
 use Rattle.nio_event.specs.declared.reply.Reply.{Reply}
 use Rattle.nio_event.specs.declared.reply.Reply.TheVariants as reply
 use Rattle.nio_event.specs.declared.reply.Why.{Why}
@@ -91,6 +108,9 @@ selector_plain s = numbered_plain 115 s.0 (omega arith, omega arith)
 channel_plain : (c : ChanNo) → IsPlain (channel_word c)
 channel_plain c = numbered_plain 99 c.0 (omega arith, omega arith)
 
+group_channel_plain : (g : GChan) → IsPlain (group_channel_word g)
+group_channel_plain g = numbered_plain 103 g.0 (omega arith, omega arith)
+
 key_plain : (k : KeyId) → IsPlain (key_word k)
 key_plain k = by_form (key_form k)
   where
@@ -141,6 +161,41 @@ told_plain : (elapsed : Bool) (pairs : List (KeyId × ℕ)) → AllByRecursion I
 told_plain true pairs = (literal (codes "elapsed") refl, pairs_plain pairs)
 told_plain false pairs = pairs_plain pairs
 
+-- the words of calls on the group
+
+group_kind_plain : (kind : GKind) → IsPlain (group_kind_word kind)
+group_kind_plain group_kind.Stream = literal (codes "stream") refl
+group_kind_plain group_kind.Listener = literal (codes "listener") refl
+
+operation_kind_plain : (kind : OpKind) → IsPlain (operation_kind_word kind)
+operation_kind_plain op.Accept = literal (codes "accept") refl
+operation_kind_plain op.Connect = literal (codes "connect") refl
+operation_kind_plain op.Read = literal (codes "read") refl
+operation_kind_plain op.Write = literal (codes "write") refl
+
+outcome_plain : (o : Outcome) → AllByRecursion IsPlain (outcome_words o)
+outcome_plain (outcome.Count k) = (literal (codes "count") refl, (decimal_plain k, tt))
+outcome_plain outcome.End = (literal (codes "end") refl, tt)
+outcome_plain outcome.Connected = (literal (codes "connected") refl, tt)
+outcome_plain outcome.Accepted = (literal (codes "accepted") refl, tt)
+outcome_plain outcome.Fault = (literal (codes "fault") refl, tt)
+
+group_arguments_plain : (g : GroupCall) → AllByRecursion IsPlain (group_argument_words g)
+group_arguments_plain (group.Gopen kind) = (group_kind_plain kind, tt)
+group_arguments_plain (group.Gbind g) = (group_channel_plain g, tt)
+group_arguments_plain (group.Start g kind len) =
+    (group_channel_plain g, (operation_kind_plain kind, (decimal_plain len, tt)))
+group_arguments_plain (group.Report n o) = (decimal_plain n.0, outcome_plain o)
+group_arguments_plain group.Take = tt
+group_arguments_plain (group.Done n) = (decimal_plain n.0, tt)
+group_arguments_plain (group.Gclose g) = (group_channel_plain g, tt)
+group_arguments_plain group.Shutdown = tt
+group_arguments_plain group.ShutdownNow = tt
+group_arguments_plain group.IsShutdown = tt
+group_arguments_plain group.Terminated = tt
+
+-- the arguments of calls
+
 arguments_plain : (args : Arguments) → AllByRecursion IsPlain (argument_words args)
 arguments_plain nothing = tt
 arguments_plain (one_caller t) = (caller_plain t, tt)
@@ -156,6 +211,7 @@ arguments_plain (key_ops s k ops) = (selector_plain s, (key_plain k, (decimal_pl
 arguments_plain (key_number s k n) = (selector_plain s, (key_plain k, (decimal_plain n, tt)))
 arguments_plain (selector_wait s waiting) = (selector_plain s, waiting_plain waiting)
 arguments_plain (selector_told s elapsed pairs) = (selector_plain s, told_plain elapsed pairs)
+arguments_plain (on_group g) = group_arguments_plain g
 
 -- each word of the table is plain
 word_plain : (w : CallWord) → IsPlain (call_word_text w)
@@ -183,6 +239,38 @@ keys_plain (k ∷ keys) = (key_plain k, keys_plain keys)
 looked_plain : (pairs : List (KeyId × ℕ)) → AllByRecursion IsPlain (pairs_words pairs)
 looked_plain [] = (literal (codes "none") refl, tt)
 looked_plain (p ∷ pairs) = pairs_plain (p ∷ pairs)
+
+finished_plain : (result : Finished) → AllByRecursion IsPlain (finished_words result)
+finished_plain (finished.Count k) = (literal (codes "count") refl, (decimal_plain k, tt))
+finished_plain finished.End = (literal (codes "end") refl, tt)
+finished_plain finished.Connected = (literal (codes "connected") refl, tt)
+finished_plain (finished.Accepted g) = (literal (codes "accepted") refl, (group_channel_plain g, tt))
+finished_plain (finished.Failed failed.Fault) = (literal (codes "fault") refl, tt)
+finished_plain (finished.Failed failed.AsynchronousClose) = (literal (codes "async-close") refl, tt)
+finished_plain (finished.Failed failed.ClosedChannel) = (literal (codes "closed-channel") refl, tt)
+finished_plain (finished.Failed failed.ShutdownGroup) = (literal (codes "shutdown-group") refl, tt)
+finished_plain (finished.Failed failed.ChannelsSpent) = (literal (codes "channels-spent") refl, tt)
+
+group_reply_plain : (r : GroupReply) → AllByRecursion IsPlain (group_reply_words r)
+group_reply_plain (group_reply.Channel g) = (group_channel_plain g, tt)
+group_reply_plain (group_reply.Op n) = (literal (codes "op") refl, (decimal_plain n.0, tt))
+group_reply_plain (group_reply.Completed n result) =
+    (literal (codes "op") refl, (decimal_plain n.0, finished_plain result))
+group_reply_plain group_reply.ShutdownGroup = (literal (codes "shutdown-group") refl, tt)
+group_reply_plain group_reply.WrongKind = (literal (codes "wrong-kind") refl, tt)
+group_reply_plain group_reply.AlreadyBound = (literal (codes "already-bound") refl, tt)
+group_reply_plain group_reply.AlreadyConnected = (literal (codes "already-connected") refl, tt)
+group_reply_plain group_reply.ConnectionPending = (literal (codes "connection-pending") refl, tt)
+group_reply_plain group_reply.NotYetConnected = (literal (codes "not-yet-connected") refl, tt)
+group_reply_plain group_reply.NotYetBound = (literal (codes "not-yet-bound") refl, tt)
+group_reply_plain group_reply.ReadPending = (literal (codes "read-pending") refl, tt)
+group_reply_plain group_reply.WritePending = (literal (codes "write-pending") refl, tt)
+group_reply_plain group_reply.AcceptPending = (literal (codes "accept-pending") refl, tt)
+group_reply_plain group_reply.OpsSpent = (literal (codes "ops-spent") refl, tt)
+group_reply_plain group_reply.FlightFull = (literal (codes "flight-full") refl, tt)
+group_reply_plain group_reply.NotPending = (literal (codes "not-pending") refl, tt)
+group_reply_plain group_reply.WrongOutcome = (literal (codes "wrong-outcome") refl, tt)
+group_reply_plain group_reply.NotRunning = (literal (codes "not-running") refl, tt)
 
 pub reply_words_plain : (r : Reply) → AllByRecursion IsPlain (reply_words r)
 reply_words_plain (reply.Selector s) = (selector_plain s, tt)
@@ -217,3 +305,4 @@ reply_words_plain reply.NoCaller = (literal (codes "no-caller") refl, tt)
 reply_words_plain reply.NoSelector = (literal (codes "no-selector") refl, tt)
 reply_words_plain reply.NoChannel = (literal (codes "no-channel") refl, tt)
 reply_words_plain reply.NoKey = (literal (codes "no-key") refl, tt)
+reply_words_plain (reply.Group r) = group_reply_plain r

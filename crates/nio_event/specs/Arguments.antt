@@ -7,12 +7,15 @@ use Rattle.nio_base.specs.declared.numbers.CallerNo.{CallerNo}
 use Rattle.nio_base.specs.declared.numbers.ChanNo.{ChanNo}
 use Rattle.nio_base.specs.declared.numbers.KeyId.{KeyId}
 use Rattle.nio_base.specs.declared.numbers.SelNo.{SelNo}
+use Rattle.nio_event.specs.GroupCalls.{IsGroupCall, group_argument_words}
 use Rattle.nio_event.specs.Reading.{Reads}
-use Rattle.nio_event.specs.Words.{caller_word, selector_word, channel_word, key_word, kind_word, pair_word}
+use Rattle.nio_event.specs.Words.{IsNumber, caller_word, selector_word, channel_word, key_word, kind_word, pair_word}
 use Rattle.nio_event.specs.declared.call.Waiting.{Waiting}
 use Rattle.nio_event.specs.declared.call.Waiting.TheVariants.{Now, Wait, For}
+use Rattle.nio_event.specs.declared.group_call.GroupCall.{GroupCall}
 
--- the arguments of a call, by their shape, in the order of the line
+-- the arguments of a call, by their shape, in the order of the line; those of a call on the group are the
+-- call's own
 pub data Arguments : Type 0 where
   nothing : Arguments
   one_caller : CallerNo → Arguments
@@ -27,6 +30,7 @@ pub data Arguments : Type 0 where
   key_number : SelNo → KeyId → ℕ → Arguments
   selector_wait : SelNo → Waiting → Arguments
   selector_told : SelNo → Bool → List (KeyId × ℕ) → Arguments
+  on_group : GroupCall → Arguments
 
 -- ---- their words
 
@@ -62,11 +66,9 @@ argument_words (key_ops s k ops) = selector_word s ∷ key_word k ∷ decimal op
 argument_words (key_number s k n) = selector_word s ∷ key_word k ∷ decimal n ∷ []
 argument_words (selector_wait s waiting) = selector_word s ∷ waiting_words waiting
 argument_words (selector_told s elapsed pairs) = selector_word s ∷ (elapsed_words elapsed ++ map pair_word pairs)
+argument_words (on_group g) = group_argument_words g
 
 -- ---- their ranges
-
-abbrev pub IsNumber : ℕ → Type 0
-IsNumber n = n < 2 ^ 32
 
 -- a serial that stands behind a point
 pub record IsSerial (m : ℕ) : Type 0 where
@@ -115,6 +117,7 @@ ArgumentsFit (key_ops s k ops) = IsNumber s.0 × IsKeyName k × (ops < 256)
 ArgumentsFit (key_number s k n) = IsNumber s.0 × IsKeyName k × (n < 2 ^ 64)
 ArgumentsFit (selector_wait s waiting) = IsNumber s.0 × IsTime waiting
 ArgumentsFit (selector_told s elapsed pairs) = IsNumber s.0 × ArePairs pairs
+ArgumentsFit (on_group g) = IsGroupCall g
 
 -- ---- their keys
 
@@ -133,6 +136,7 @@ HaveSerial (key_ops s k ops) = k.serial ≢ 0
 HaveSerial (key_number s k n) = k.serial ≢ 0
 HaveSerial (selector_wait s waiting) = ⊥
 HaveSerial (selector_told s elapsed pairs) = Any (λ p. p.0.serial ≢ 0) pairs
+HaveSerial (on_group g) = ⊥
 
 -- ---- reading them
 

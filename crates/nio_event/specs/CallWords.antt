@@ -1,6 +1,7 @@
 -- A call is a word and its arguments.
 use Rattle.std.specs.Prelude.{ℕ, List, codes}
-use Rattle.nio_event.specs.Arguments.{Arguments, nothing, one_caller, one_selector, one_channel, one_kind, channel_mode, channel_selector, registration, selector_key, key_ops, key_number, selector_wait, selector_told}
+use Rattle.nio_event.specs.Arguments.{Arguments, nothing, one_caller, one_selector, one_channel, one_kind, channel_mode, channel_selector, registration, selector_key, key_ops, key_number, selector_wait, selector_told, on_group}
+use Rattle.nio_event.specs.GroupCalls.{group_word, group_word_text}
 use Rattle.nio_event.specs.declared.call.Call.{Call}
 use Rattle.nio_event.specs.declared.call.Call.TheVariants as call
 use Rattle.nio_event.specs.declared.call_word.CallWord.{CallWord}
@@ -41,6 +42,7 @@ call_word_text (word.OnSelector on_selector.Keys) = codes "keys"
 call_word_text (word.OnSelector on_selector.Selected) = codes "selected"
 call_word_text word.Interrupt = codes "interrupt"
 call_word_text (word.Alone alone.Interrupted) = codes "interrupted"
+call_word_text (word.OnGroup w) = group_word_text w
 
 -- a call's word and its arguments
 abbrev pub call_parts : Call → CallWord × Arguments
@@ -73,6 +75,7 @@ call_parts (call.Keys s) = (word.OnSelector on_selector.Keys, one_selector s)
 call_parts (call.Selected s) = (word.OnSelector on_selector.Selected, one_selector s)
 call_parts (call.Interrupt t) = (word.Interrupt, one_caller t)
 call_parts call.Interrupted = (word.Alone alone.Interrupted, nothing)
+call_parts (call.Group g) = (word.OnGroup (group_word g), on_group g)
 
 abbrev pub call_word : Call → CallWord
 call_word call = (call_parts call).0

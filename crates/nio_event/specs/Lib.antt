@@ -17,9 +17,12 @@ pub mod Found
 pub mod Worked
 pub mod Reading
 pub mod Words
+pub mod GroupWords
+pub mod GroupCalls
 pub mod Arguments
 pub mod CallWords
 pub mod Calls
+pub mod GroupReplies
 pub mod Replies
 pub mod Script
 pub mod Lines

@@ -5,6 +5,7 @@ use Rattle.std.specs.List.{join_with_byte}
 use Rattle.nio_base.specs.declared.numbers.CallerNo.{CallerNo}
 use Rattle.nio_base.specs.declared.numbers.KeyId.{KeyId}
 use Rattle.nio_event.specs.Calls.{line_text}
+use Rattle.nio_event.specs.GroupReplies.{group_reply_words}
 use Rattle.nio_event.specs.Words.{selector_word, channel_word, key_word, pair_word}
 use Rattle.nio_event.specs.declared.call.Call.{Call}
 use Rattle.nio_event.specs.declared.reply.Reply.{Reply}
@@ -58,6 +59,7 @@ reply_words reply.NoCaller = codes "no-caller" ∷ []
 reply_words reply.NoSelector = codes "no-selector" ∷ []
 reply_words reply.NoChannel = codes "no-channel" ∷ []
 reply_words reply.NoKey = codes "no-key" ∷ []
+reply_words (reply.Group r) = group_reply_words r
 
 abbrev pub reply_text : Reply → List ℕ
 reply_text r = join_with_byte 32 (reply_words r)

@@ -1,4 +1,6 @@
-//! The calls of a script: one variant for each call word, its arguments in the order of the line.
+//! The calls of a script: one variant for each call word, its arguments in the order of the line, and one for
+//! all calls on the group.
+use crate::group_call::GroupCall;
 use crate::pairs::Pairs;
 use nio_base::{CallerNo, ChanNo, KeyId, Kind, Ops, SelNo};
 
@@ -65,6 +67,8 @@ pub enum Call {
     Interrupt(CallerNo),
     /// `interrupted`: whether the own interrupt status was set, which it clears.
     Interrupted,
+    /// A call on the group.
+    Group(GroupCall),
 }
 
 impl Call {
@@ -93,7 +97,8 @@ impl Call {
             | Call::Keys(..)
             | Call::Selected(..)
             | Call::Interrupt(..)
-            | Call::Interrupted => false,
+            | Call::Interrupted
+            | Call::Group(..) => false,
             Call::Valid(_, key)
             | Call::Interest(_, key)
             | Call::Ready(_, key)

@@ -5,6 +5,7 @@ ghost use Rattle.nio_event.specs.CallWords.{arguments, call_word, call_word_text
 ghost use Rattle.nio_event.specs.Reading.{Reads};
 
 use crate::call::Call;
+use crate::group_word::GroupWord;
 use nio_base::{ChanNo, KeyId, Ops, SelNo};
 
 /// A call without its arguments. Words whose calls have the same arguments have a type of their own.
@@ -25,6 +26,7 @@ pub enum CallWord {
     Begin,
     Told,
     Interrupt,
+    OnGroup(GroupWord),
 }
 
 /// The words without arguments.
@@ -73,7 +75,7 @@ pub enum KeyOpsWord {
     Iand,
 }
 
-const CALL_WORDS: [CallWord; 29] = [
+const CALL_WORDS: [CallWord; 40] = [
     CallWord::Alone(LoneWord::Selector),
     CallWord::Channel,
     CallWord::Blocking,
@@ -103,6 +105,17 @@ const CALL_WORDS: [CallWord; 29] = [
     CallWord::OnSelector(SelectorWord::Selected),
     CallWord::Interrupt,
     CallWord::Alone(LoneWord::Interrupted),
+    CallWord::OnGroup(GroupWord::Gopen),
+    CallWord::OnGroup(GroupWord::Gbind),
+    CallWord::OnGroup(GroupWord::Start),
+    CallWord::OnGroup(GroupWord::Report),
+    CallWord::OnGroup(GroupWord::Take),
+    CallWord::OnGroup(GroupWord::Done),
+    CallWord::OnGroup(GroupWord::Gclose),
+    CallWord::OnGroup(GroupWord::Shutdown),
+    CallWord::OnGroup(GroupWord::ShutdownNow),
+    CallWord::OnGroup(GroupWord::IsShutdown),
+    CallWord::OnGroup(GroupWord::Terminated),
 ];
 
 impl CallWord {
@@ -140,6 +153,7 @@ impl CallWord {
             Call::Selected(..) => CallWord::OnSelector(SelectorWord::Selected),
             Call::Interrupt(..) => CallWord::Interrupt,
             Call::Interrupted => CallWord::Alone(LoneWord::Interrupted),
+            Call::Group(call) => CallWord::OnGroup(GroupWord::of(call)),
         }
     }
 
@@ -176,6 +190,7 @@ impl CallWord {
             CallWord::OnSelector(SelectorWord::Selected) => b"selected",
             CallWord::Interrupt => b"interrupt",
             CallWord::Alone(LoneWord::Interrupted) => b"interrupted",
+            CallWord::OnGroup(word) => word.text(),
         }
     }
 

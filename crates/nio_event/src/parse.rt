@@ -14,6 +14,7 @@ use thiserror::Error;
 mod arguments;
 mod call;
 mod cut;
+mod group;
 mod line;
 mod name;
 mod number;

@@ -12,6 +12,7 @@ use std::alloc::{AllocError, Global};
 
 mod arguments;
 mod call;
+mod group;
 mod piece;
 mod reply;
 #[cfg(test)]

@@ -1,4 +1,6 @@
-//! The replies to the calls of a script: one variant for each reply.
+//! The replies to the calls of a script: one variant for each reply, and one for those that calls on the group
+//! alone have.
+use crate::group_reply::GroupReply;
 use crate::names::Names;
 use crate::pairs::Pairs;
 use nio_base::{ChanNo, KeyId, SelNo};
@@ -51,6 +53,8 @@ pub enum Reply {
     NoSelector,
     NoChannel,
     NoKey,
+    /// A reply that calls on the group alone have.
+    Group(GroupReply),
 }
 
 /// Why a selection ended: the first that holds, in this order.

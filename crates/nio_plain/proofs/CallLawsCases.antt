@@ -1,10 +1,12 @@
 -- What holds of every call: a call refuses or only tells, or it makes the one change of its word. So a
 -- fact of all calls is shown once for each change.
-use Rattle.std.proofs.Common.{◌≡◌, ℕ, Bool, true, false, not, ◌&&◌, ◌||◌, cond, nat_lt, Option, Some, None, is_some, List, [], ◌∷◌, filter, map, find, refl, bit_and, bit_or}
+use Rattle.std.proofs.Common.{◌≡◌, ℕ, ◌<◌, Bool, true, false, not, ◌&&◌, ◌||◌, cond, nat_lt, Option, Some, None, is_some, List, [], ◌∷◌, length, filter, map, find, refl, bit_and, bit_or}
+use Rattle.std.proofs.lemmas.Bool.{ltb-true}
 use Rattle.nio_base.specs.declared.kind.Kind.{Kind}
 use Rattle.nio_base.specs.declared.limits.Limits.{Limits}
 use Rattle.nio_base.specs.declared.numbers.CallerNo.{CallerNo}
 use Rattle.nio_base.specs.declared.numbers.ChanNo.{ChanNo}
+use Rattle.nio_base.specs.declared.numbers.GChan.{GChan}
 use Rattle.nio_base.specs.declared.numbers.KeyId.{KeyId}
 use Rattle.nio_base.specs.declared.numbers.SelNo.{SelNo}
 use Rattle.nio_event.specs.Sets.{fits, in_key_set, in_selected_set, was_published, is_valid_key}
@@ -13,14 +15,20 @@ use Rattle.nio_event.specs.declared.call.Call.{Call}
 use Rattle.nio_event.specs.declared.call.Call.TheVariants as call
 use Rattle.nio_event.specs.declared.call.Waiting.{Waiting}
 use Rattle.nio_event.specs.declared.found.Mode.{Mode}
+use Rattle.nio_event.specs.declared.group_call.GroupCall.{GroupCall}
+use Rattle.nio_event.specs.declared.group_call.GroupCall.TheVariants as group
 use Rattle.nio_event.specs.declared.reply.Reply.{Reply}
 use Rattle.nio_event.specs.declared.reply.Reply.TheVariants as reply
 use Rattle.nio_event.specs.declared.reply.Why.{Why}
+use Rattle.nio_group.specs.Group.{is_terminated}
+use Rattle.nio_group.specs.Run as step
+use Rattle.nio_group.specs.Run.{IsCallOf}
 use Rattle.nio_plain.specs.ScriptState.{ScriptState, Selection, with_shared, with_selection}
 use Rattle.nio_plain.specs.Seq.{call_of, seq}
 use Rattle.nio_plain.specs.Seq.Answers.{Answered, unchanged, answered, yes_or_no}
 use Rattle.nio_plain.specs.Seq.Cancelling.{channel_closed, cancelled_in_set, closec_call, cancel_call}
 use Rattle.nio_plain.specs.Seq.Closing.{without_keys, close_call, close_end_call}
+use Rattle.nio_plain.specs.Seq.Grouping.{stepped, group_call}
 use Rattle.nio_plain.specs.Seq.Keys.{are_legal_at, is_in_selected_set, valid_call, interest_call, ready_call, iset_call, ior_call, iand_call, unselect_call, attach_call, attachment_call}
 use Rattle.nio_plain.specs.Seq.Listing.{names_or_none, keys_call, selected_call}
 use Rattle.nio_plain.specs.Seq.Modes.{name_or_none, key_of, is_registered, blocking_call, is_blocking_call, is_open_call, is_registered_call, key_for_call}
@@ -38,6 +46,20 @@ told_ended rules st s pairs selection count why = record {
   reply = reply.Selected count why;
   left = with_selection (with_shared st (selection_ended rules st.shared s selection pairs)) s None;
 }
+
+-- the step of the group that a call makes; the two that only ask make none
+abbrev pub step_of : GroupCall → Option step.Call
+step_of (group.Gopen kind) = Some (step.open_channel kind)
+step_of (group.Gbind g) = Some (step.bind g)
+step_of (group.Start g kind len) = Some (step.start g kind len)
+step_of (group.Report n outcome) = Some (step.report n outcome)
+step_of group.Take = Some step.take
+step_of (group.Done n) = Some (step.finish n)
+step_of (group.Gclose g) = Some (step.close_channel g)
+step_of group.Shutdown = Some step.shutdown
+step_of group.ShutdownNow = Some step.shutdown_now
+step_of group.IsShutdown = None
+step_of group.Terminated = None
 
 -- the replies of calls that change nothing; some of them are also those of calls that do
 abbrev pub may_keep : Reply → Bool
@@ -73,6 +95,7 @@ pub record HoldsOfChanges (rules : Rules) (st : ScriptState) (me : CallerNo) (P 
   pub close : (s : SelNo) → P (call.Close s) (answered st reply.Closing (with_closer (with_gate st.shared s.0 (record (st.shared.gate s.0) { shut = true })) s.0 (Some me)))
   pub close_end : (s : SelNo) → P (call.CloseEnd s) (answered st reply.Closed (with_entered (without_keys st.shared s.0) s.0 true))
   pub interrupt : (target : CallerNo) → P (call.Interrupt target) (answered st reply.«Ok» (with_interrupted st.shared target.0 true))
+  pub group : (g : GroupCall) (s : step.Call) → step_of g ≡ Some s → IsCallOf st.group s → P (call.Group g) (stepped st s)
   pub interrupted : P call.Interrupted (answered st (yes_or_no (st.shared.interrupted me.0)) (with_interrupted st.shared me.0 false))
 
 module _ (rules : Rules) (l : Limits) (st : ScriptState) (me : CallerNo) (P : Call → Answered → Type 0) (h : HoldsOfChanges rules st me P) where
@@ -153,6 +176,27 @@ module _ (rules : Rules) (l : Limits) (st : ScriptState) (me : CallerNo) (P : Ca
   valid_named : {c : Call} {x : Answered} (s : SelNo) (k : KeyId) → P c x → P c (cond (st.shared.selector s.0) (cond (was_published (st.shared.key s.0 k.index) k.serial) (cond (is_valid_key (st.shared.key s.0 k.index) k.serial) x (unchanged st reply.CancelledKey)) (unchanged st reply.NoKey)) (unchanged st reply.NoSelector))
   valid_named {c = c} s k done = key_named s k (either (is_valid_key (st.shared.key s.0 k.index) k.serial) done (says c reply.CancelledKey refl))
 
+  -- calls on the group
+
+  group_channel_named : {c : Call} {x : Answered} (g : GChan) → (g.0 < length st.group.channels → P c x) → P c (cond (nat_lt g.0 (length st.group.channels)) x (unchanged st reply.NoChannel))
+  group_channel_named {c = c} g done =
+      either_where (nat_lt g.0 (length st.group.channels)) (λ e. done (ltb-true g.0 (length st.group.channels) e)) (λ _. says c reply.NoChannel refl)
+
+  of_group : (g : GroupCall) → P (call.Group g) (group_call st g)
+  unfolding group_call
+  of_group (group.Gopen kind) = h.group (group.Gopen kind) (step.open_channel kind) refl tt
+  of_group (group.Gbind g) = group_channel_named g (h.group (group.Gbind g) (step.bind g) refl)
+  of_group (group.Start g kind len) =
+      group_channel_named g (h.group (group.Start g kind len) (step.start g kind len) refl)
+  of_group (group.Report n outcome) = h.group (group.Report n outcome) (step.report n outcome) refl tt
+  of_group group.Take = h.group group.Take step.take refl tt
+  of_group (group.Done n) = h.group (group.Done n) (step.finish n) refl tt
+  of_group (group.Gclose g) = group_channel_named g (h.group (group.Gclose g) (step.close_channel g) refl)
+  of_group group.Shutdown = h.group group.Shutdown step.shutdown refl tt
+  of_group group.ShutdownNow = h.group group.ShutdownNow step.shutdown_now refl tt
+  of_group group.IsShutdown = says_whether (call.Group group.IsShutdown) st.group.is_shut
+  of_group group.Terminated = says_whether (call.Group group.Terminated) (is_terminated st.group)
+
   pub each_call : (c : Call) → P c (call_of rules l st me c)
   unfolding call_of selector_call channel_call blocking_call is_blocking_call is_open_call is_registered_call key_for_call register_call closec_call cancel_call valid_call interest_call ready_call iset_call ior_call iand_call unselect_call attach_call attachment_call begin_call told_call failed_call wakeup_call interrupt_call interrupted_call close_call close_end_call keys_call selected_call
   each_call call.Selector = of_selector (find (λ s. not (st.shared.selector s)) (below l.selectors))
@@ -199,6 +243,7 @@ module _ (rules : Rules) (l : Limits) (st : ScriptState) (me : CallerNo) (P : Ca
   each_call (call.Selected s) = selector_named s (either (st.shared.gate s.0).shut (says (call.Selected s) reply.ClosedSelector refl) (says_names (call.Selected s) (map (key_at st.shared s.0) (filter (λ i. in_selected_set st.shared s.0 i) (below (st.shared.keys_high s.0))))))
   each_call (call.Interrupt target) = either (nat_lt target.0 l.callers) (h.interrupt target) (says (call.Interrupt target) reply.NoCaller refl)
   each_call call.Interrupted = h.interrupted
+  each_call (call.Group g) = of_group g
 
   -- what holds of the change of each word holds of each call
   pub holds_of_calls : (c : Call) → P c (seq rules l st me c)

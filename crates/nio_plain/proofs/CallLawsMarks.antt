@@ -115,6 +115,7 @@ module _ (rules : Rules) (st : ScriptState) (me : CallerNo) (s i : ℕ) where
     close = λ _. same m 0;
     close_end = λ t. after_sweep _ (same m 0);
     interrupt = λ _. same m 0;
+    group = λ _ _ _ _. same m 0;
     interrupted = same m 0;
   }
 

@@ -1,11 +1,14 @@
 -- A refused call changes nothing.
-use Rattle.std.proofs.Common.{◌≡◌, Bool, true, false, refl}
+use Rattle.std.proofs.Common.{◌≡◌, Bool, true, false, refl, sym, ap, ◌∙◌}
 use Rattle.nio_base.specs.declared.numbers.CallerNo.{CallerNo}
 use Rattle.nio_event.specs.declared.call.Call.{Call}
 use Rattle.nio_plain.proofs.CallLawsCases.{HoldsOfChanges, holds_of_calls}
+use Rattle.nio_group.specs.Run.{reply_to}
+use Rattle.nio_plain.proofs.GroupSteps.{refused_step, same_effect}
 use Rattle.nio_plain.specs.CallLaws.{refuses, is_without_effect, RefusalsChangeNothing}
-use Rattle.nio_plain.specs.ScriptState.{ScriptState}
+use Rattle.nio_plain.specs.ScriptState.{ScriptState, with_group}
 use Rattle.nio_plain.specs.Seq.Answers.{Answered, yes_or_no}
+use Rattle.nio_plain.specs.Seq.Grouping.{answer_of}
 use Rattle.nio_plain.specs.declared.rules.Rules.{Rules}
 
 abbrev Keeps : ScriptState → Call → Answered → Type 0
@@ -40,6 +43,7 @@ changes rules st me = record {
   close = λ s. no_refusal;
   close_end = λ s. no_refusal;
   interrupt = λ target. no_refusal;
+  group = λ g s is made e. ap (with_group st) (refused_step st.group s (sym (same_effect g s is (answer_of (reply_to st.group s))) ∙ e));
   interrupted = said (st.shared.interrupted me.0);
 }
 

@@ -172,6 +172,7 @@ module _ (rules : Rules) (st : ScriptState) (me : CallerNo) (s : ℕ) (selection
     close = λ _. before;
     close_end = λ _. before;
     interrupt = λ _. before;
+    group = λ _ _ _ _. before;
     interrupted = before;
   }
 
@@ -247,6 +248,7 @@ module _ (rules : Rules) (st : ScriptState) (me other : CallerNo) (s : ℕ) (sel
     close = λ _. stays;
     close_end = λ _. stays;
     interrupt = λ _. stays;
+    group = λ _ _ _ _. stays;
     interrupted = stays;
   }
 

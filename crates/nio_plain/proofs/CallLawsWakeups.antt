@@ -101,6 +101,7 @@ module _ (rules : Rules) (st : ScriptState) (me : CallerNo) (s : ℕ) where
     close = λ t. by_close t.0;
     close_end = λ _. same;
     interrupt = λ _. same;
+    group = λ _ _ _ _. same;
     interrupted = same;
   }
 

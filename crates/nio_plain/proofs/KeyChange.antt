@@ -5,6 +5,7 @@ use Rattle.nio_event.specs.State.{put, put_at, with_key, with_interest, with_mar
 use Rattle.nio_event.specs.declared.found.Chan.{Chan}
 use Rattle.nio_event.specs.declared.found.Mark.{Mark}
 use Rattle.nio_event.specs.declared.found.Stage.{Stage}
+use Rattle.nio_group.specs.Group.{Group}
 use Rattle.nio_plain.proofs.Answering.{rows_of}
 use Rattle.nio_plain.proofs.Parts.{keys_changed}
 use Rattle.nio_plain.proofs.Places.{put_part, put_by, put_at_same, places_past}
@@ -22,14 +23,14 @@ claimed-made p s i h =
     absurd (omega arith))
     (cases_lt s (length p.selectors.items))
 
-module _ (interrupted : ℕ → Bool) (mark : ℕ) (chan : ℕ → Chan) (row : ℕ → SelectorRow) (s i : ℕ) (x : KeyRow) where
+module _ (group : Group) (interrupted : ℕ → Bool) (mark : ℕ) (chan : ℕ → Chan) (row : ℕ → SelectorRow) (s i : ℕ) (x : KeyRow) where
   pub part_put : {A : Type 0} (part : KeyRow → A) → ◌≡◌ {A = ℕ → ℕ → A} (put (λ t j. part ((row t).keys j)) s (λ j. part (put (row s).keys i x j))) (put_at (λ t j. part ((row t).keys j)) s i (part x))
   part_put part =
       ap (put (λ t j. part ((row t).keys j)) s) (put_part part (row s).keys i x)
       ∙ put_by (λ t j. part ((row t).keys j)) s (λ b t j. cond (b && eqb j i) (part x) (part ((row t).keys j))) (λ t. refl)
 
-  pub state-key : state_from interrupted mark chan (put row s (with_key_at (row s) i x)) ≡ with_key_row (state_from interrupted mark chan row) s i x
-  state-key = keys_changed interrupted mark chan s row (put (row s).keys i x)
+  pub state-key : state_from group interrupted mark chan (put row s (with_key_at (row s) i x)) ≡ with_key_row (state_from group interrupted mark chan row) s i x
+  state-key = keys_changed group interrupted mark chan s row (put (row s).keys i x)
       _ (part_put (λ (k : KeyRow). k.stage))
       _ (part_put (λ (k : KeyRow). k.interest))
       _ (part_put (λ (k : KeyRow). k.mark))

@@ -10,6 +10,7 @@ pub mod Rows
 pub mod Registered
 pub mod KeyChange
 pub mod Calling
+pub mod Grouping
 pub mod Lists
 pub mod Sweeping
 pub mod Marking
@@ -20,6 +21,7 @@ pub mod Registering
 pub mod RegisteringAt
 pub mod TellingAt
 pub mod CallLawsCases
+pub mod GroupSteps
 pub mod CallLawsRefusals
 pub mod CallLawsWakeups
 pub mod CallLawsMarks
@@ -31,3 +33,4 @@ pub mod ReachedChannels
 pub mod ReachedRegistering
 pub mod ReachedCalls
 pub mod ReachedLaws
+pub mod ReachedGroups

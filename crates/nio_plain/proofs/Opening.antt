@@ -5,6 +5,7 @@ use Rattle.nio_base.specs.declared.limits.Limits.{Limits}
 use Rattle.nio_event.specs.State.{put, with_selector}
 use Rattle.nio_event.specs.declared.found.Chan.{Chan}
 use Rattle.nio_event.specs.declared.reply.Reply.TheVariants as reply
+use Rattle.nio_group.specs.Group.{Group}
 use Rattle.nio_plain.proofs.Found.{find_unmade, find_spent}
 use Rattle.nio_plain.proofs.Parts.{makes-made}
 use Rattle.nio_plain.specs.PlainState.{SelectorRow, no_selector, new_selector, state_from}
@@ -12,9 +13,9 @@ use Rattle.nio_plain.specs.ScriptState.{ScriptState, with_shared}
 use Rattle.nio_plain.specs.Seq.Answers.{unchanged, answered}
 use Rattle.nio_plain.specs.Seq.Opening.{selector_call, selector_made, channel_call, channel_made}
 
-module _ (l : Limits) (interrupted : ℕ → Bool) (mark : ℕ) (chan : ℕ → Chan) (row : ℕ → SelectorRow) where
+module _ (l : Limits) (group : Group) (interrupted : ℕ → Bool) (mark : ℕ) (chan : ℕ → Chan) (row : ℕ → SelectorRow) where
   abbrev st : ScriptState
-  st = state_from interrupted mark chan row
+  st = state_from group interrupted mark chan row
 
   module _ (n : ℕ) (is_made : (k : ℕ) → k < n → (row k).made ≡ true) (is_unmade : (k : ℕ) → n ≤ k → (row k).made ≡ false) where
     pub selector_call-spent : l.selectors ≤ n → selector_call l st ≡ unchanged st reply.SelectorsSpent
@@ -39,6 +40,6 @@ module _ (l : Limits) (interrupted : ℕ → Bool) (mark : ℕ) (chan : ℕ → 
         ap (channel_made st kind) (find_unmade (λ c. (chan c).made) l.channels n is_made is_unmade h)
 
   -- the state with a selector more
-  pub state-new_selector : (n : ℕ) → row n ≡ no_selector → state_from interrupted mark chan (put row n new_selector) ≡ with_shared st (with_selector st.shared n true)
+  pub state-new_selector : (n : ℕ) → row n ≡ no_selector → state_from group interrupted mark chan (put row n new_selector) ≡ with_shared st (with_selector st.shared n true)
   state-new_selector n e =
-      ap (λ (r : SelectorRow). state_from interrupted mark chan (put row n (record r { made = true }))) (sym e) ∙ makes-made interrupted mark chan n true row
+      ap (λ (r : SelectorRow). state_from group interrupted mark chan (put row n (record r { made = true }))) (sym e) ∙ makes-made group interrupted mark chan n true row

@@ -7,6 +7,7 @@ use Rattle.nio_event.specs.declared.found.Chan.{Chan}
 use Rattle.nio_event.specs.declared.found.GateWord.{GateWord}
 use Rattle.nio_event.specs.declared.found.Mark.{Mark}
 use Rattle.nio_event.specs.declared.found.Stage.{Stage}
+use Rattle.nio_group.specs.Group.{Group}
 use Rattle.nio_plain.proofs.Places.{same_function, put_part, put_same, put_by, put-here, put-elsewhere}
 use Rattle.nio_plain.specs.PlainState.{SelectorRow, KeyRow, state_from, removed_row}
 use Rattle.nio_plain.specs.ScriptState.{ScriptState, Selection, with_shared}
@@ -57,9 +58,9 @@ free_cond : (frees : Stage → Bool) (b : Bool) (k : KeyRow) → (cond {A = KeyR
 free_cond frees true k = refl
 free_cond frees false k = refl
 
-module _ (interrupted : ℕ → Bool) (mark : ℕ) (chan : ℕ → Chan) where
+module _ (group : Group) (interrupted : ℕ → Bool) (mark : ℕ) (chan : ℕ → Chan) where
   abbrev pub state : (ℕ → SelectorRow) → ScriptState
-  state row = state_from interrupted mark chan row
+  state row = state_from group interrupted mark chan row
 
   module _ (s : ℕ) where
     pub state-row : (row : ℕ → SelectorRow) (r : SelectorRow) → state (put row s r) ≡ with_row (state row) s r
@@ -118,11 +119,11 @@ module _ (interrupted : ℕ → Bool) (mark : ℕ) (chan : ℕ → Chan) where
         ∙ ap (λ (x : ScriptState). with_shared x (record x.shared { entered = put (state row).shared.entered s entered })) (same_row row)
 
     -- the turn is taken and a selection has begun, or both are over
-    pub makes-selecting : (turn : Option CallerNo) (selection : Option Selection) → Makes (λ r. record r { turn = turn; selection = selection }) (λ x. record { shared = record x.shared { turn = put x.shared.turn s turn; begun = put x.shared.begun s (is_some turn) }; selection = put x.selection s selection })
+    pub makes-selecting : (turn : Option CallerNo) (selection : Option Selection) → Makes (λ r. record r { turn = turn; selection = selection }) (λ x. record x { shared = record x.shared { turn = put x.shared.turn s turn; begun = put x.shared.begun s (is_some turn) }; selection = put x.selection s selection })
     makes-selecting turn selection = λ row.
         let st = state row in
         state-row row (record (row s) { turn = turn; selection = selection })
-        ∙ ap (λ (x : ScriptState). record { shared = record x.shared { turn = put st.shared.turn s turn; begun = put st.shared.begun s (is_some turn) }; selection = put st.selection s selection }) (same_row row)
+        ∙ ap (λ (x : ScriptState). record x { shared = record x.shared { turn = put st.shared.turn s turn; begun = put st.shared.begun s (is_some turn) }; selection = put st.selection s selection }) (same_row row)
 
     -- the change of the keys
     module _ (row : ℕ → SelectorRow) (keys : ℕ → KeyRow) where

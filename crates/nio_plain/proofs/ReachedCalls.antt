@@ -1,11 +1,12 @@
 -- Each call of the documented system leaves a sound state, ends no invalid key and no closing, and so
 -- does every list of calls.
-use Rattle.std.proofs.Common.{◌≡◌, ℕ, ◌<◌, Bool, true, false, cond, not, ◌&&◌, ◌||◌, nat_lt, Option, Some, None, is_some, find, List, [], ◌∷◌, bit_and, bit_or, refl}
+use Rattle.std.proofs.Common.{◌≡◌, ℕ, ◌<◌, Bool, true, false, cond, not, ◌&&◌, ◌||◌, nat_lt, Option, Some, None, is_some, find, List, [], ◌∷◌, length, bit_and, bit_or, refl}
 use Rattle.std.proofs.lemmas.Bool.{or_parts, both_ways, not-true, not-false}
 use Rattle.nio_base.specs.declared.kind.Kind.{Kind}
 use Rattle.nio_base.specs.declared.limits.Limits.{Limits}
 use Rattle.nio_base.specs.declared.numbers.CallerNo.{CallerNo}
 use Rattle.nio_base.specs.declared.numbers.ChanNo.{ChanNo}
+use Rattle.nio_base.specs.declared.numbers.GChan.{GChan}
 use Rattle.nio_base.specs.declared.numbers.KeyId.{KeyId}
 use Rattle.nio_base.specs.declared.numbers.SelNo.{SelNo}
 use Rattle.nio_event.specs.Sets.{fits, was_published, is_valid_key}
@@ -15,10 +16,14 @@ use Rattle.nio_event.specs.declared.call.Call.TheVariants as call
 use Rattle.nio_event.specs.declared.call.ScriptCall.{ScriptCall}
 use Rattle.nio_event.specs.declared.call.Waiting.{Waiting}
 use Rattle.nio_event.specs.declared.found.Mode.{Mode}
+use Rattle.nio_event.specs.declared.group_call.GroupCall.{GroupCall}
+use Rattle.nio_event.specs.declared.group_call.GroupCall.TheVariants as group
 use Rattle.nio_event.specs.declared.reply.Reply.{Reply}
 use Rattle.nio_event.specs.declared.reply.Reply.TheVariants as reply
 use Rattle.nio_plain.proofs.Found.{found_below}
-use Rattle.nio_plain.proofs.ReachedChanges.{keeps_beside, keeps_woken, keeps_unselected, keeps_shut, keeps_left, keeps_cancelled_key}
+use Rattle.nio_group.specs.Run as step
+use Rattle.nio_group.specs.Run.{after, reply_to}
+use Rattle.nio_plain.proofs.ReachedChanges.{keeps_beside, keeps_grouped, keeps_woken, keeps_unselected, keeps_shut, keeps_left, keeps_cancelled_key}
 use Rattle.nio_plain.proofs.ReachedChannels.{keeps_selector, keeps_channel, keeps_mode, keeps_closed_channel}
 use Rattle.nio_plain.proofs.ReachedRegistering.{next-is, keeps_new_key}
 use Rattle.nio_plain.proofs.ReachedRemoving.{keeps_begun, keeps_ended, keeps_closed}
@@ -29,6 +34,7 @@ use Rattle.nio_plain.specs.Seq.{call_of, seq}
 use Rattle.nio_plain.specs.Seq.Answers.{Answered, unchanged, answered}
 use Rattle.nio_plain.specs.Seq.Cancelling.{closec_call, cancel_call}
 use Rattle.nio_plain.specs.Seq.Closing.{close_call, close_end_call}
+use Rattle.nio_plain.specs.Seq.Grouping.{answer_of, stepped, with_named_group_channel, group_call}
 use Rattle.nio_plain.specs.Seq.Keys.{with_valid_key, are_legal_at, is_in_selected_set, valid_call, interest_call, ready_call, iset_call, ior_call, iand_call, unselect_call, attach_call, attachment_call}
 use Rattle.nio_plain.specs.Seq.Listing.{listed, keys_call, selected_call}
 use Rattle.nio_plain.specs.Seq.Modes.{is_registered, blocking_call, is_blocking_call, is_open_call, is_registered_call, key_of, key_for_call}
@@ -282,6 +288,28 @@ module _ (rules : Rules) (l : Limits) (st : ScriptState) (sound : Sound rules l 
   unfolding selected_call
   keeps-selected_call s = keeps-listed s _
 
+  -- calls on the group
+
+  keeps-stepped : (s : step.Call) → Keeps rules l st (stepped st s)
+  keeps-stepped s = keeps_grouped rules l st (answer_of (reply_to st.group s)) (after st.group s) sound
+
+  named_group_channel : (g : GChan) (s : step.Call) → Keeps rules l st (with_named_group_channel st g (stepped st s))
+  named_group_channel g s = allowed (nat_lt g.0 (length st.group.channels)) reply.NoChannel _ (λ _. keeps-stepped s)
+
+  keeps-group_call : (g : GroupCall) → Keeps rules l st (group_call st g)
+  unfolding group_call
+  keeps-group_call (group.Gopen kind) = keeps-stepped (step.open_channel kind)
+  keeps-group_call (group.Gbind g) = named_group_channel g (step.bind g)
+  keeps-group_call (group.Start g kind len) = named_group_channel g (step.start g kind len)
+  keeps-group_call (group.Report n outcome) = keeps-stepped (step.report n outcome)
+  keeps-group_call group.Take = keeps-stepped step.take
+  keeps-group_call (group.Done n) = keeps-stepped (step.finish n)
+  keeps-group_call (group.Gclose g) = named_group_channel g (step.close_channel g)
+  keeps-group_call group.Shutdown = keeps-stepped step.shutdown
+  keeps-group_call group.ShutdownNow = keeps-stepped step.shutdown_now
+  keeps-group_call group.IsShutdown = refusal _
+  keeps-group_call group.Terminated = refusal _
+
   keeps-call_of : (me : CallerNo) (word : Call) → Keeps rules l st (call_of rules l st me word)
   unfolding call_of
   keeps-call_of me call.Selector = keeps-selector_call
@@ -313,6 +341,7 @@ module _ (rules : Rules) (l : Limits) (st : ScriptState) (sound : Sound rules l 
   keeps-call_of me (call.Selected s) = keeps-selected_call s
   keeps-call_of me (call.Interrupt target) = keeps-interrupt_call target
   keeps-call_of me call.Interrupted = keeps-interrupted_call me
+  keeps-call_of me (call.Group g) = keeps-group_call g
 
   pub keeps-seq : (me : CallerNo) (word : Call) → Keeps rules l st (seq rules l st me word)
   unfolding seq

@@ -8,6 +8,7 @@ use Rattle.nio_base.specs.declared.numbers.SelNo.{SelNo}
 use Rattle.nio_event.specs.State.{put, with_interest, with_note}
 use Rattle.nio_event.specs.declared.found.Chan.{Chan}
 use Rattle.nio_event.specs.declared.reply.Reply.TheVariants as reply
+use Rattle.nio_group.specs.Group.{Group}
 use Rattle.nio_plain.proofs.KeyChange.{part_put}
 use Rattle.nio_plain.proofs.Parts.{state-row, same_row}
 use Rattle.nio_plain.proofs.Places.{put_same}
@@ -72,24 +73,24 @@ noted_at : {A : Type 0} (f : ℕ → A) (s : ℕ) (b : Bool) (x : A) → put f s
 noted_at f s true x = refl
 noted_at f s false x = put_same f s (f s) refl
 
-module _ (interrupted : ℕ → Bool) (mark : ℕ) (chan : ℕ → Chan) (row : ℕ → SelectorRow) (s : ℕ) where
+module _ (group : Group) (interrupted : ℕ → Bool) (mark : ℕ) (chan : ℕ → Chan) (row : ℕ → SelectorRow) (s : ℕ) where
   abbrev st : ScriptState
-  st = state_from interrupted mark chan row
+  st = state_from group interrupted mark chan row
 
   -- the key that the selector gives next
   pub next-row : (l : Limits) → next_key l st.shared s ≡ next_in l.keys (row s)
   next-row l = by (free_in (row s))
     where
-      by : (o : Option ℕ) → next_by l (state_from interrupted mark chan row).shared s o ≡ next_by_row l.keys (row s) o
+      by : (o : Option ℕ) → next_by l (state_from group interrupted mark chan row).shared s o ≡ next_by_row l.keys (row s) o
       by None = refl
       by (Some i) = refl
 
   -- a selector with a new key
-  pub state-new_key : (c ops att : ℕ) (k : KeyId) → state_from interrupted mark chan (put row s (with_key_added (row s) c k (new_key_row c k.serial ops att))) ≡ with_shared st (with_new_key st.shared s c k ops att)
+  pub state-new_key : (c ops att : ℕ) (k : KeyId) → state_from group interrupted mark chan (put row s (with_key_added (row s) c k (new_key_row c k.serial ops att))) ≡ with_shared st (with_new_key st.shared s c k ops att)
   state-new_key c ops att k =
       let x = new_key_row c k.serial ops att in
       let r = with_key_added (row s) c k x in
-      state-row interrupted mark chan s row r
+      state-row group interrupted mark chan s row r
       ∙ (ap (λ (m : ScriptState). with_shared m (record m.shared {
         noted = λ n. put (st.shared.noted n) s (r.noted n);
         keys_high = put st.shared.keys_high s r.keys_high;
@@ -98,15 +99,15 @@ module _ (interrupted : ℕ → Bool) (mark : ℕ) (chan : ℕ → Chan) (row : 
         mark = put st.shared.mark s (λ i. (r.keys i).mark);
         note = put st.shared.note s (λ i. (r.keys i).note);
         free = put st.shared.free s (λ i. (r.keys i).free);
-      })) (same_row interrupted mark chan s row)
+      })) (same_row group interrupted mark chan s row)
       ∙ (λ j. with_shared st (record st.shared {
         noted = λ n. noted_at (λ t. (row t).noted n) s (eqb n c) (Some k) j;
         keys_high = put st.shared.keys_high s r.keys_high;
-        key = part_put interrupted mark chan row s k.index x (λ (q : KeyRow). q.stage) j;
-        interest = part_put interrupted mark chan row s k.index x (λ (q : KeyRow). q.interest) j;
-        mark = part_put interrupted mark chan row s k.index x (λ (q : KeyRow). q.mark) j;
-        note = part_put interrupted mark chan row s k.index x (λ (q : KeyRow). q.note) j;
-        free = part_put interrupted mark chan row s k.index x (λ (q : KeyRow). q.free) j;
+        key = part_put group interrupted mark chan row s k.index x (λ (q : KeyRow). q.stage) j;
+        interest = part_put group interrupted mark chan row s k.index x (λ (q : KeyRow). q.interest) j;
+        mark = part_put group interrupted mark chan row s k.index x (λ (q : KeyRow). q.mark) j;
+        note = part_put group interrupted mark chan row s k.index x (λ (q : KeyRow). q.note) j;
+        free = part_put group interrupted mark chan row s k.index x (λ (q : KeyRow). q.free) j;
       })))
 
 -- the attachment of a new key

@@ -53,5 +53,5 @@ module _ (p : Plain) (me : CallerNo) (sel : SelNo) (elapsed : Bool) (pairs : Lis
         answered_as p q _ _ _
         (call_is ∙ told-done p.rules (state_of p) me sel.0 elapsed pairs own count count_is gate gate_is interrupted (sym asked) h)
         (ap (reply.Selected count) because)
-        (left ∙ (state-set_selector p _ sel.0 z within refl ∙ (ap (λ r. with_rows p (put (rows_of p) sel.0 r)) row ∙ state-ended (places (λ b. b) false p.interrupted.items) (length p.channels.items) (places channel_row unmade_channel p.channels.items) sel.0 p.rules (rows_of p) own pairs)))
+        (left ∙ (state-set_selector p _ sel.0 z within refl ∙ (ap (λ r. with_rows p (put (rows_of p) sel.0 r)) row ∙ state-ended p.group (places (λ b. b) false p.interrupted.items) (length p.channels.items) (places channel_row unmade_channel p.channels.items) sel.0 p.rules (rows_of p) own pairs)))
         kept

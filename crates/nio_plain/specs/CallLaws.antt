@@ -14,6 +14,10 @@ use Rattle.nio_event.specs.declared.call.Call.TheVariants as call
 use Rattle.nio_event.specs.declared.call.ScriptCall.{ScriptCall}
 use Rattle.nio_event.specs.declared.call.Waiting.{Waiting}
 use Rattle.nio_event.specs.declared.found.Mark.{Mark}
+use Rattle.nio_event.specs.declared.group_call.GroupCall.{GroupCall}
+use Rattle.nio_event.specs.declared.group_call.GroupCall.TheVariants as group
+use Rattle.nio_event.specs.declared.group_reply.GroupReply.{GroupReply}
+use Rattle.nio_event.specs.declared.group_reply.GroupReply.TheVariants as of_group
 use Rattle.nio_event.specs.declared.reply.Reply.{Reply}
 use Rattle.nio_event.specs.declared.reply.Reply.TheVariants as reply
 use Rattle.nio_plain.specs.Answer.{left_from}
@@ -24,7 +28,28 @@ use Rattle.nio_plain.specs.Seq.Names.{key_at}
 use Rattle.nio_plain.specs.Seq.Selections.{own_selection, told_bits}
 use Rattle.nio_plain.specs.declared.rules.Rules.{Rules}
 
--- REFUSALS. A reply that refuses: `already` is counted with them, since what the call asks for was done
+-- REFUSALS. A reply that calls on the group alone have, and that refuses.
+abbrev pub group_refuses : GroupReply → Bool
+group_refuses (of_group.Channel g) = false
+group_refuses (of_group.Op n) = false
+group_refuses (of_group.Completed n finished) = false
+group_refuses of_group.ShutdownGroup = true
+group_refuses of_group.WrongKind = true
+group_refuses of_group.AlreadyBound = true
+group_refuses of_group.AlreadyConnected = true
+group_refuses of_group.ConnectionPending = true
+group_refuses of_group.NotYetConnected = true
+group_refuses of_group.NotYetBound = true
+group_refuses of_group.ReadPending = true
+group_refuses of_group.WritePending = true
+group_refuses of_group.AcceptPending = true
+group_refuses of_group.OpsSpent = true
+group_refuses of_group.FlightFull = true
+group_refuses of_group.NotPending = true
+group_refuses of_group.WrongOutcome = true
+group_refuses of_group.NotRunning = true
+
+-- A reply that refuses: `already` is counted with them, since what the call asks for was done
 -- before, and so is `again`, since the selection goes on as it was.
 abbrev pub refuses : Reply → Bool
 refuses (reply.Selector s) = false
@@ -59,6 +84,21 @@ refuses reply.NoCaller = true
 refuses reply.NoSelector = true
 refuses reply.NoChannel = true
 refuses reply.NoKey = true
+refuses (reply.Group r) = group_refuses r
+
+-- a call on the group with a reply that changes nothing
+abbrev pub is_without_group_effect : GroupCall → Reply → Bool
+is_without_group_effect (group.Gopen kind) r = refuses r
+is_without_group_effect (group.Gbind g) r = refuses r
+is_without_group_effect (group.Start g kind len) r = refuses r
+is_without_group_effect (group.Report n outcome) r = refuses r
+is_without_group_effect group.Take r = refuses r
+is_without_group_effect (group.Done n) r = refuses r
+is_without_group_effect (group.Gclose g) r = refuses r
+is_without_group_effect group.Shutdown r = refuses r
+is_without_group_effect group.ShutdownNow r = refuses r
+is_without_group_effect group.IsShutdown r = true
+is_without_group_effect group.Terminated r = true
 
 -- a call with a reply that changes nothing: each call that is refused, and a call that only asks,
 -- whatever its reply
@@ -92,6 +132,7 @@ is_without_effect (call.Keys s) r = true
 is_without_effect (call.Selected s) r = true
 is_without_effect (call.Interrupt target) r = refuses r
 is_without_effect call.Interrupted r = refuses r
+is_without_effect (call.Group g) r = is_without_group_effect g r
 
 -- a refused call changes nothing, nor does one that only asks
 abbrev pub RefusalsChangeNothing : Type 0

@@ -12,6 +12,7 @@ use Rattle.nio_event.specs.declared.found.Chan.{Chan}
 use Rattle.nio_event.specs.declared.found.GateWord.{GateWord}
 use Rattle.nio_event.specs.declared.found.Mark.{Mark}
 use Rattle.nio_event.specs.declared.found.Stage.{Stage}
+use Rattle.nio_group.specs.Group.{Group}
 use Rattle.nio_plain.specs.ScriptState.{ScriptState, Selection, with_shared}
 use Rattle.nio_plain.specs.Seq.Cancelling.{cancelled_key, has_index}
 use Rattle.nio_plain.specs.Seq.Names.{below}
@@ -247,9 +248,9 @@ selector_row s = record {
   noted = λ c. get nat_cmp s.noted c;
 }
 
--- the state whose parts are these, by the caller, the channel and the selector
-abbrev pub state_from : (ℕ → Bool) → ℕ → (ℕ → Chan) → (ℕ → SelectorRow) → ScriptState
-state_from interrupted channels_high chan selector = record {
+-- the state whose parts are these: the group, and the rest by the caller, the channel and the selector
+abbrev pub state_from : Group → (ℕ → Bool) → ℕ → (ℕ → Chan) → (ℕ → SelectorRow) → ScriptState
+state_from group interrupted channels_high chan selector = record {
   shared = record {
     drawn = λ _. false;
     interrupted = interrupted;
@@ -274,12 +275,14 @@ state_from interrupted channels_high chan selector = record {
     put_due = λ _ _. false;
   };
   selection = λ s. (selector s).selection;
+  group = group;
 }
 
 -- the state that a plain system holds
 abbrev pub state_of : Plain → ScriptState
 state_of p =
     state_from
+    p.group
     (places (λ b. b) false p.interrupted.items)
     (length p.channels.items)
     (places channel_row unmade_channel p.channels.items)

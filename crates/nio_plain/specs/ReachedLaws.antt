@@ -1,5 +1,6 @@
 -- Laws of the documented system, by either of the rules, over every list of calls from the opening state:
--- what holds of the sets of a selector, of keys and free indexes, of channels, and of what is closed.
+-- what holds of the sets of a selector, of keys and free indexes, of channels, of what is closed, and of the
+-- group.
 use Rattle.std.specs.Prelude.{◌≡◌, ◌≢◌, ℕ, ◌<◌, IsTrue, IsFalse, ◌↔◌, Option, Some, None, List, ◌∷◌, ◌++◌}
 use Rattle.nio_base.specs.declared.limits.Limits.{Limits}
 use Rattle.nio_base.specs.declared.numbers.CallerNo.{CallerNo}
@@ -11,9 +12,12 @@ use Rattle.nio_event.specs.State.{State}
 use Rattle.nio_event.specs.declared.call.Call.TheVariants as call
 use Rattle.nio_event.specs.declared.call.ScriptCall.{ScriptCall}
 use Rattle.nio_event.specs.declared.reply.Reply.TheVariants as reply
+use Rattle.nio_group.specs.Group.{Group, IsLawful, empty_group}
+use Rattle.nio_group.specs.Run as step
+use Rattle.nio_group.specs.Run.{IsRunOf, left_by}
 use Rattle.nio_plain.specs.Answer.{left_by_script}
 use Rattle.nio_plain.specs.Seq.{seq}
-use Rattle.nio_plain.specs.ScriptState.{ScriptState, Selection}
+use Rattle.nio_plain.specs.ScriptState.{ScriptState, Selection, group_limits}
 use Rattle.nio_plain.specs.Seq.Modes.{key_of, is_registered}
 use Rattle.nio_plain.specs.Seq.Names.{key_at}
 use Rattle.nio_plain.specs.Seq.Selections.{is_looked}
@@ -157,3 +161,19 @@ abbrev pub ClosedSelectorIsEmpty : Type 0
 ClosedSelectorIsEmpty = (rules : Rules) (l : Limits) (calls more : List ScriptCall) (me : CallerNo) (s : SelNo)
     → (seq rules l (left_by_script rules l calls) me (call.CloseEnd s)).reply ≡ reply.Closed
     → IsEmptied (left_by_script rules l (calls ++ record { caller = me; call = call.CloseEnd s } ∷ more)).shared s.0
+
+-- THE GROUP
+
+-- a run of the group, from the empty one on, leaves this one
+pub record IsLeftByARun (g : Group) : Type 0 where
+  pub steps : List step.Call
+  pub run : IsRunOf (empty_group group_limits) steps
+  pub leaves : g ≡ left_by (empty_group group_limits) steps
+
+-- the group that a script leaves is left by a run of the group, so that what holds of runs holds of it
+abbrev pub GroupIsLeftByARun : Type 0
+GroupIsLeftByARun = (rules : Rules) (l : Limits) (calls : List ScriptCall) → IsLeftByARun (left_by_script rules l calls).group
+
+-- and it is lawful
+abbrev pub GroupIsLawful : Type 0
+GroupIsLawful = (rules : Rules) (l : Limits) (calls : List ScriptCall) → IsLawful (left_by_script rules l calls).group

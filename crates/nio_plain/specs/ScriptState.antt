@@ -1,12 +1,14 @@
--- What a script's system holds: the shared state of selectors, keys and channels, and the selections
--- in progress.
+-- What a script's system holds: the shared state of selectors, keys and channels, the selections in progress,
+-- and a group of asynchronous channels.
 --
 -- A state of a script counts no caller as drawn, and counts a removed key as neither cancelled nor
 -- selected: no call of a script tells these apart. Between its calls nobody has a pin or uses an index.
-use Rattle.std.specs.Prelude.{ℕ, List, Option, None}
+use Rattle.std.specs.Prelude.{ℕ, ◌^◌, List, Option, None}
 use Rattle.nio_base.specs.declared.numbers.KeyId.{KeyId}
 use Rattle.nio_event.specs.State.{State, opening, put}
 use Rattle.nio_event.specs.declared.found.Mode.{Mode}
+use Rattle.nio_group.specs.Group.{Group, empty_group}
+use Rattle.nio_group.specs.declared.limits.GroupLimits.{GroupLimits}
 
 -- a selection in progress: how long it waits, the number of indexes that were claimed when it began,
 -- and the keys that it looked at with the interest that each had then. Its caller has the selector's turn
@@ -19,10 +21,15 @@ pub record ScriptState : Type 0 where
   pub shared : State
   -- by the selector's number
   pub selection : ℕ → Option Selection
+  pub group : Group
+
+-- how many channels a script's group makes, how many operations it has in flight, and how many it accepts
+abbrev pub group_limits : GroupLimits
+group_limits = record { channels = 1024; flight = 4096; ops = 2 ^ 62 }
 
 -- the state in which a script begins
 abbrev pub script_opening : ScriptState
-script_opening = record { shared = opening; selection = λ _. None }
+script_opening = record { shared = opening; selection = λ _. None; group = empty_group group_limits }
 
 -- the setters
 
@@ -31,3 +38,6 @@ with_shared st x = record st { shared = x }
 
 abbrev pub with_selection : ScriptState → ℕ → Option Selection → ScriptState
 with_selection st s x = record st { selection = put st.selection s x }
+
+abbrev pub with_group : ScriptState → Group → ScriptState
+with_group st x = record st { group = x }

@@ -19,6 +19,7 @@ pub mod Selections
 pub mod Wakeups
 pub mod Closing
 pub mod Listing
+pub mod Grouping
 use Rattle.std.specs.Prelude.{nat_lt, if◌then◌else◌}
 use Rattle.nio_base.specs.declared.limits.Limits.{Limits}
 use Rattle.nio_base.specs.declared.numbers.CallerNo.{CallerNo}
@@ -29,6 +30,7 @@ use Rattle.nio_plain.specs.ScriptState.{ScriptState}
 use Rattle.nio_plain.specs.Seq.Answers.{Answered, unchanged}
 use Rattle.nio_plain.specs.Seq.Cancelling.{closec_call, cancel_call}
 use Rattle.nio_plain.specs.Seq.Closing.{close_call, close_end_call}
+use Rattle.nio_plain.specs.Seq.Grouping.{group_call}
 use Rattle.nio_plain.specs.Seq.Keys.{valid_call, interest_call, ready_call, iset_call, ior_call, iand_call, unselect_call, attach_call, attachment_call}
 use Rattle.nio_plain.specs.Seq.Listing.{keys_call, selected_call}
 use Rattle.nio_plain.specs.Seq.Modes.{blocking_call, is_blocking_call, is_open_call, is_registered_call, key_for_call}
@@ -69,6 +71,7 @@ call_of rules l st me (call.Keys s) = keys_call st s
 call_of rules l st me (call.Selected s) = selected_call st s
 call_of rules l st me (call.Interrupt target) = interrupt_call l st target
 call_of rules l st me call.Interrupted = interrupted_call st me
+call_of rules l st me (call.Group g) = group_call st g
 
 unfoldable pub seq : Rules → Limits → ScriptState → CallerNo → Call → Answered
 seq rules l st me call =

@@ -10,6 +10,7 @@ use crate::rules::Rules;
 use crate::system::System;
 use nio_base::{CallerNo, Limits};
 use nio_event::{Call, Reply};
+use nio_group::{GroupCore, GroupLimits};
 use std::alloc::{AllocError, Global};
 
 mod blocking;
@@ -17,6 +18,8 @@ mod calling;
 mod channel;
 mod channels;
 mod closing;
+mod group_replies;
+mod grouping;
 mod interest;
 mod keys;
 mod looking;
@@ -30,7 +33,14 @@ mod sets;
 mod telling;
 mod waking;
 
-/// A system of selectors, keys and channels, kept in vectors.
+/// How much a script's group can hold.
+pub const GROUP_LIMITS: GroupLimits = GroupLimits {
+    channels: 1_024,
+    flight: 4_096,
+    ops: 4_611_686_018_427_387_904,
+};
+
+/// A system of selectors, keys and channels, kept in vectors, with its group.
 #[derive(Drop)]
 pub struct Plain {
     limits: Limits,
@@ -39,6 +49,7 @@ pub struct Plain {
     interrupted: Vec<bool>,
     channels: Vec<Channel>,
     selectors: Vec<Selector>,
+    group: GroupCore,
     ghost each_caller: { vec_len interrupted ≡ limits.callers },
     ghost few_selectors: { vec_len selectors ≤ limits.selectors },
 }
@@ -80,6 +91,7 @@ impl Plain {
             interrupted: Vec::from_elem(alloc, false, limits.callers as usize)?,
             channels: Vec::new(alloc),
             selectors: Vec::new(alloc),
+            group: GroupCore::make(alloc, GROUP_LIMITS)?,
         })
     }
 }

@@ -85,3 +85,76 @@ fn calls_on_keys_and_channels(rt: HostRuntime) -> Result<(), Fail> {
         ],
     )
 }
+
+#[test]
+fn calls_on_the_group(rt: HostRuntime) -> Result<(), Fail> {
+    let alloc = rt.alloc();
+    row(
+        &rt,
+        alloc,
+        "group_shutdown_now",
+        &[
+            ("t1 gopen stream", "g0"),
+            ("t1 start g0 read 10", "not-yet-connected"),
+            ("t1 start g0 connect 0", "op 0"),
+            ("t1 report 0 connected", "ok"),
+            ("t1 take", "op 0 connected"),
+            ("t1 done 0", "ok"),
+            ("t1 start g0 read 10", "op 1"),
+            ("t1 start g0 read 10", "read-pending"),
+            ("t1 shutdown-now", "ok"),
+            ("t1 terminated", "no"),
+            ("t1 take", "op 1 async-close"),
+            ("t1 terminated", "no"),
+            ("t1 done 1", "ok"),
+            ("t1 terminated", "yes"),
+            ("t1 start g0 read 1", "shutdown-group"),
+            ("t1 take", "none"),
+            ("t1 gopen stream", "shutdown-group"),
+        ],
+    )?;
+    row(
+        &rt,
+        alloc,
+        "accept_after_shutdown",
+        &[
+            ("t1 gopen listener", "g0"),
+            ("t1 start g0 accept 0", "not-yet-bound"),
+            ("t1 gbind g1", "no-channel"),
+            ("t1 gbind g0", "ok"),
+            ("t1 gbind g0", "already-bound"),
+            ("t1 start g0 accept 0", "op 0"),
+            ("t1 start g0 accept 0", "accept-pending"),
+            ("t1 is-shutdown", "no"),
+            ("t1 shutdown", "ok"),
+            ("t1 is-shutdown", "yes"),
+            ("t1 report 0 accepted", "ok"),
+            ("t1 take", "op 0 shutdown-group"),
+            ("t1 report 0 accepted", "not-pending"),
+        ],
+    )?;
+    row(
+        &rt,
+        alloc,
+        "accepted_stream",
+        &[
+            ("t1 gopen listener", "g0"),
+            ("t1 start g0 accept 0", "not-yet-bound"),
+            ("t1 gbind g0", "ok"),
+            ("t1 start g0 accept 0", "op 0"),
+            ("t1 report 0 accepted", "ok"),
+            ("t1 take", "op 0 accepted g1"),
+            ("t1 start g1 read 0", "op 1"),
+            ("t1 take", "op 1 count 0"),
+            ("t1 start g1 read 5", "op 2"),
+            ("t1 report 2 count 6", "wrong-outcome"),
+            ("t1 report 2 end", "ok"),
+            ("t1 take", "op 2 end"),
+            ("t1 gclose g1", "ok"),
+            ("t1 gclose g1", "already"),
+            ("t1 start g1 write 3", "op 3"),
+            ("t1 take", "op 3 closed-channel"),
+            ("t1 done 4", "not-running"),
+        ],
+    )
+}

@@ -3,9 +3,8 @@ use Rattle.std.specs.Prelude.{◌≡◌, ⊤, ℕ, ◌<◌, List, [], ◌∷◌,
 use Rattle.std.specs.List.{join_with_byte}
 use Rattle.nio_base.specs.declared.numbers.CallerNo.{CallerNo}
 use Rattle.nio_base.specs.declared.numbers.SelNo.{SelNo}
-use Rattle.nio_event.specs.Arguments.{IsNumber}
 use Rattle.nio_event.specs.Calls.{IsBlank, IsLine, call_words}
-use Rattle.nio_event.specs.Words.{caller_word, selector_word}
+use Rattle.nio_event.specs.Words.{IsNumber, caller_word, selector_word}
 use Rattle.nio_event.specs.declared.call.Call.{Call}
 use Rattle.nio_event.specs.declared.call.Call.TheVariants as call
 use Rattle.nio_race_text.specs.declared.call.RaceCall.{RaceCall}

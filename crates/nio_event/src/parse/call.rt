@@ -8,6 +8,7 @@ use super::arguments::{
     read_channel_selector, read_key_number, read_key_ops, read_kind, read_mode, read_none,
     read_one_caller, read_one_channel, read_one_selector, read_registration, read_selector_key,
 };
+use super::group::read_group_call;
 use super::told::read_told;
 use super::waiting::read_wait;
 use crate::call::Call;
@@ -49,5 +50,6 @@ fn read_arguments(alloc: Global, word: CallWord, args: &[&[u8]]) -> Result<Optio
             s, elapsed, pairs,
         ))),
         CallWord::Interrupt => Ok(read_one_caller(args).map(Call::Interrupt)),
+        CallWord::OnGroup(word) => Ok(read_group_call(word, args).map(Call::Group)),
     }
 }

@@ -1,13 +1,14 @@
-//! The words of a line that name something: `t1`, `s0`, `c2`, `k3`, `k3.1`, and `k3:5`.
+//! The words of a line that name something: `t1`, `s0`, `c2`, `g0`, `k3`, `k3.1`, and `k3:5`.
 ghost use Rattle.std.specs.Prelude.{◌≡◌, ℕ, ◌<◌, ◌≤◌, ◌^◌, ◌∷◌, ◌++◌, All, ◌≢◌, IfSome};
 ghost use Rattle.std.specs.Fmt.{decimal};
-ghost use Rattle.nio_event.specs.Arguments.{IsKeyName, IsNumber, IsPair, IsSerial};
+ghost use Rattle.nio_event.specs.Arguments.{IsKeyName, IsPair, IsSerial};
+ghost use Rattle.nio_event.specs.GroupWords.{group_channel_word, operation_word};
 ghost use Rattle.nio_event.specs.Reading.{Reads};
-ghost use Rattle.nio_event.specs.Words.{caller_word, selector_word, channel_word, key_word, pair_word};
+ghost use Rattle.nio_event.specs.Words.{IsNumber, caller_word, selector_word, channel_word, key_word, pair_word};
 
 use super::cut::cut_at;
 use super::number::read_number;
-use nio_base::{CallerNo, ChanNo, KeyId, Ops, SelNo};
+use nio_base::{CallerNo, ChanNo, GChan, KeyId, OpNo, Ops, SelNo};
 
 pub fn read_caller(word: &[u8]) -> Option<CallerNo>
     ensures { Reads (λ t. t.0 < 64) caller_word word.now result }
@@ -25,6 +26,20 @@ pub fn read_channel(word: &[u8]) -> Option<ChanNo>
     ensures { Reads (λ c. c.0 < 2 ^ 32) channel_word word.now result }
 {
     read_numbered(word, b'c', u32::MAX).map(ChanNo)
+}
+
+/// A channel of the group.
+pub fn read_group_channel(word: &[u8]) -> Option<GChan>
+    ensures { Reads (λ g. IsNumber g.0) group_channel_word word.now result }
+{
+    read_numbered(word, b'g', u32::MAX).map(GChan)
+}
+
+/// The number of an operation of the group.
+pub fn read_operation(word: &[u8]) -> Option<OpNo>
+    ensures { Reads (λ n. IsNumber n.0) operation_word word.now result }
+{
+    read_number(word, u64::from(u32::MAX)).map(OpNo)
 }
 
 /// A key's index, and its serial behind a point, where that isn't 0.

@@ -30,7 +30,7 @@ fn read_waiting(args: &[&[u8]]) -> Option<Waiting>
     }
 }
 
-fn is_word(word: &[u8], wanted: &[u8]) -> bool
+pub(super) fn is_word(word: &[u8], wanted: &[u8]) -> bool
     ensures { IsTrue result ↔ (word.now ≡ wanted.now) }
 {
     word == wanted

@@ -9,6 +9,7 @@ use super::arguments::{
     push_channel_selector, push_key_number, push_key_ops, push_kind, push_mode, push_registration,
     push_selector_key, push_told, push_wait,
 };
+use super::group::push_group_arguments;
 use super::piece::{push_name, push_numbered, push_word};
 use crate::call::Call;
 use crate::call_word::CallWord;
@@ -66,6 +67,7 @@ fn push_arguments(line: &mut Vec<u8>, call: &Call) -> Result<(), AllocError>
             push_key_number(line, *selector, *key, *attachment)
         }
         Call::Begin(selector, waiting) => push_wait(line, *selector, *waiting),
+        Call::Group(call) => push_group_arguments(line, *call),
         Call::Told(selector, elapsed, pairs) => {
             push_told(line, *selector, *elapsed, pairs.as_slice())
         }

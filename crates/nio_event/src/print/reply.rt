@@ -5,6 +5,7 @@ ghost use Rattle.nio_event.specs.Printing.{spaced};
 ghost use Rattle.nio_event.specs.Replies.{pairs_words, reply_text, why_word};
 ghost use Rattle.nio_event.specs.Words.{key_word};
 
+use super::group::push_group_reply;
 use super::piece::{
     push_bytes, push_key, push_keys, push_number, push_numbered, push_pairs, push_word,
 };
@@ -55,6 +56,7 @@ pub fn push_reply(line: &mut Vec<u8>, reply: &Reply) -> Result<(), AllocError>
         Reply::NoSelector => push_bytes(line, b"no-selector"),
         Reply::NoChannel => push_bytes(line, b"no-channel"),
         Reply::NoKey => push_bytes(line, b"no-key"),
+        Reply::Group(reply) => push_group_reply(line, *reply),
     }
 }
 

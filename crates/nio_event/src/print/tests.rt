@@ -1,9 +1,10 @@
 //! The text of each reply.
 use super::*;
+use crate::group_reply::GroupReply;
 use crate::names::Names;
 use crate::pairs::Pairs;
 use crate::reply::Why;
-use nio_base::{ChanNo, KeyId, Ops, SelNo};
+use nio_base::{ChanNo, Finished, GChan, KeyId, OpNo, Ops, SelNo, Why as Failure};
 use std::test::Fail;
 
 #[test]
@@ -68,6 +69,71 @@ fn prints_each_reply(rt: HostRuntime) -> Result<(), Fail> {
         (Reply::NoSelector, "no-selector"),
         (Reply::NoChannel, "no-channel"),
         (Reply::NoKey, "no-key"),
+        (Reply::Group(GroupReply::Channel(GChan(7))), "g7"),
+        (Reply::Group(GroupReply::Op(OpNo(7))), "op 7"),
+        (
+            Reply::Group(GroupReply::Completed(OpNo(7), Finished::Count(5))),
+            "op 7 count 5",
+        ),
+        (
+            Reply::Group(GroupReply::Completed(OpNo(7), Finished::End)),
+            "op 7 end",
+        ),
+        (
+            Reply::Group(GroupReply::Completed(OpNo(7), Finished::Connected)),
+            "op 7 connected",
+        ),
+        (
+            Reply::Group(GroupReply::Completed(OpNo(7), Finished::Accepted(GChan(1)))),
+            "op 7 accepted g1",
+        ),
+        (
+            Reply::Group(GroupReply::Completed(OpNo(7), Finished::Failed(Failure::Fault))),
+            "op 7 fault",
+        ),
+        (
+            Reply::Group(GroupReply::Completed(
+                OpNo(7),
+                Finished::Failed(Failure::AsynchronousClose),
+            )),
+            "op 7 async-close",
+        ),
+        (
+            Reply::Group(GroupReply::Completed(OpNo(7), Finished::Failed(Failure::ClosedChannel))),
+            "op 7 closed-channel",
+        ),
+        (
+            Reply::Group(GroupReply::Completed(OpNo(7), Finished::Failed(Failure::ShutdownGroup))),
+            "op 7 shutdown-group",
+        ),
+        (
+            Reply::Group(GroupReply::Completed(OpNo(7), Finished::Failed(Failure::ChannelsSpent))),
+            "op 7 channels-spent",
+        ),
+        (Reply::Group(GroupReply::ShutdownGroup), "shutdown-group"),
+        (Reply::Group(GroupReply::WrongKind), "wrong-kind"),
+        (Reply::Group(GroupReply::AlreadyBound), "already-bound"),
+        (
+            Reply::Group(GroupReply::AlreadyConnected),
+            "already-connected",
+        ),
+        (
+            Reply::Group(GroupReply::ConnectionPending),
+            "connection-pending",
+        ),
+        (
+            Reply::Group(GroupReply::NotYetConnected),
+            "not-yet-connected",
+        ),
+        (Reply::Group(GroupReply::NotYetBound), "not-yet-bound"),
+        (Reply::Group(GroupReply::ReadPending), "read-pending"),
+        (Reply::Group(GroupReply::WritePending), "write-pending"),
+        (Reply::Group(GroupReply::AcceptPending), "accept-pending"),
+        (Reply::Group(GroupReply::OpsSpent), "ops-spent"),
+        (Reply::Group(GroupReply::FlightFull), "flight-full"),
+        (Reply::Group(GroupReply::NotPending), "not-pending"),
+        (Reply::Group(GroupReply::WrongOutcome), "wrong-outcome"),
+        (Reply::Group(GroupReply::NotRunning), "not-running"),
     ];
     for (reply, wanted) in replies {
         let printed = print_line(

@@ -1,5 +1,5 @@
 //! Laws of the states that scripts leave, whatever is called and within whatever limits.
-ghost use Rattle.nio_plain.specs.ReachedLaws.{SetsAreWithinKeySet, KeysAreBelowTheMark, LookedAreInKeySet, PublishedStays, InvalidKeysStayInvalid, FreeIndexHasNoKey, FirstRulesFreeNone, FirstRulesRemoveBelowTheBound, NewKeyIsNew, NewKeysDiffer, KeyOfAChannelIsFound, OneKeyOfAChannel, RegisteredIsInAKeySet, RegisteredIsNonBlocking, ClosedChannelHasNoValidKey, ClosedSelectorIsEmpty};
+ghost use Rattle.nio_plain.specs.ReachedLaws.{SetsAreWithinKeySet, KeysAreBelowTheMark, LookedAreInKeySet, PublishedStays, InvalidKeysStayInvalid, FreeIndexHasNoKey, FirstRulesFreeNone, FirstRulesRemoveBelowTheBound, NewKeyIsNew, NewKeysDiffer, KeyOfAChannelIsFound, OneKeyOfAChannel, RegisteredIsInAKeySet, RegisteredIsNonBlocking, ClosedChannelHasNoValidKey, ClosedSelectorIsEmpty, GroupIsLeftByARun, GroupIsLawful};
 
 /// The cancelled set and the selected set are within the key set, and each key of the key set is below
 /// its selector's mark, so that a selection that begins looks at all of them. What a selection in
@@ -57,4 +57,11 @@ pub fn closed_channel_law()
 /// A selector whose closing has ended has no key, and never has one again.
 pub fn closed_selector_law()
     ensures { ClosedSelectorIsEmpty }
+{}
+
+/// The group that a script leaves is one that a run of the group leaves, so that its laws hold of it, and it is
+/// lawful.
+pub fn group_law()
+    ensures run { GroupIsLeftByARun }
+    ensures lawful { GroupIsLawful }
 {}

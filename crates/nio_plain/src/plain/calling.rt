@@ -50,6 +50,7 @@ impl Plain {
             Call::Selected(sel) => self.selected(alloc, *sel),
             Call::Interrupt(target) => Ok(self.interrupt(*target)),
             Call::Interrupted => Ok(self.interrupted(me)),
+            Call::Group(call) => Ok(self.group_call(*call)),
         }
     }
 }

@@ -1,6 +1,6 @@
 -- Each arm reads the arguments by their shape, and makes the call of them.
 use Rattle.std.proofs.Common.{map, rules}
-use Rattle.nio_event.proofs.CallParts.{made_call}
+use Rattle.nio_event.proofs.CallParts.{made_call, made_on_group}
 use Rattle.nio_event.proofs.parse.call.read_arguments.Goals as goal
 
 pub returns-in-Alone : goal.returns-in-Alone
@@ -67,3 +67,8 @@ pub returns-in-Interrupt : goal.returns-in-Interrupt
 returns-in-Interrupt c =
     rw c.in-Interrupt.is
     (made_call _ _ (λ args own. own) (map (λ w. w.now) c.args.args.now) c.read_one_caller.result c.map-in-Interrupt.result c.read_one_caller.ensures c.map-in-Interrupt.ensures.cases (λ x k h. search rules))
+
+pub returns-in-OnGroup : goal.returns-in-OnGroup
+returns-in-OnGroup c =
+    rw c.in-OnGroup.is
+    (made_on_group _ (map (λ w. w.now) c.args.args.now) c.read_group_call.result c.map-in-OnGroup.result c.read_group_call.ensures c.map-in-OnGroup.ensures.cases (λ g d h. search rules))

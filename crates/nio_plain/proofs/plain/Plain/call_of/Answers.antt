@@ -177,3 +177,9 @@ unfolding call_of
 returns-in-Interrupted c =
     let p = c.args.self.now in
     of_word _ _ _ _ _ (ap (call_of (rules_of p) (limits_of p) (state_of p) c.args.me) c.in-Interrupted.is) (without_memory _ _ _ _ c.interrupted.ensures)
+
+pub returns-in-Group : goal.returns-in-Group
+unfolding call_of
+returns-in-Group c =
+    let p = c.args.self.now in
+    of_word _ _ _ _ _ (ap (call_of (rules_of p) (limits_of p) (state_of p) c.args.me) c.in-Group.is) (without_memory _ _ _ _ c.group_call.ensures)

@@ -10,4 +10,5 @@ invariant-loop-place l = record {
   rules : l.self.rules ≡ l.initial.self.rules;
   channels : l.self.channels ≡ l.initial.self.channels;
   interrupted : l.self.interrupted ≡ l.initial.self.interrupted;
+  group : l.self.group ≡ l.initial.self.group;
 }

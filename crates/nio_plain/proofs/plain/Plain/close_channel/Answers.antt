@@ -35,7 +35,7 @@ returns c =
     let within : chan < length p.channels.items = omega (arith, p.channels.ok.0, c.in-Ok.ensures.made) in
     let at = places_at channel_row unmade_channel p.channels.items chan x within c.index_mut.ensures.value in
     let opened = ap (λ (y : Chan). y.closed) c.in-Ok.ensures.row ∙ c.if-channel.false in
-    let bit = state-set_channel _ (rows_of p) p.channels.items _ chan (record x { closed = true }) within refl ∙ ap (λ (r : Chan). with_shared st (with_chan st.shared chan (record r { closed = true }))) (sym at) in
+    let bit = state-set_channel _ _ (rows_of p) p.channels.items _ chan (record x { closed = true }) within refl ∙ ap (λ (r : Chan). with_shared st (with_chan st.shared chan (record r { closed = true }))) (sym at) in
     answered_without_memory p _ _ _ _
     (c.in-Ok.ensures.through _ ∙ cond-false (st.shared.chan chan).closed (unchanged st reply.Already) _ opened)
     refl

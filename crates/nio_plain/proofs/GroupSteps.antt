@@ -1,0 +1,54 @@
+-- A step of the group with a reply that refuses leaves the group as it was.
+use Rattle.std.proofs.Common.{◌≡◌, ℕ, Bool, true, false, cond, Option, Some, None, Result, Ok, refl, sym, ◌∙◌}
+use Rattle.std.proofs.lemmas.Bool.{false≢true}
+use Rattle.nio_event.specs.declared.group_call.GroupCall.{GroupCall}
+use Rattle.nio_event.specs.declared.group_call.GroupCall.TheVariants as group
+use Rattle.nio_event.specs.declared.reply.Reply.{Reply}
+use Rattle.nio_group.specs.Completion.{CompletionFields}
+use Rattle.nio_group.specs.Group.{Group, channel_at}
+use Rattle.nio_group.specs.Refusals.{open_refusal, bind_refusal, start_refusal, report_refusal}
+use Rattle.nio_group.specs.Run as step
+use Rattle.nio_group.specs.Run.{after, reply_to}
+use Rattle.nio_group.specs.Stages.{is_running}
+use Rattle.nio_group.specs.Flight.{op_at}
+use Rattle.nio_group.specs.Steps.{answer_to_take, finish_refusal, kept_if_refused, unless_refused}
+use Rattle.nio_plain.proofs.CallLawsCases.{step_of}
+use Rattle.nio_plain.specs.CallLaws.{is_without_group_effect, refuses}
+use Rattle.nio_plain.specs.Seq.Grouping.{answer_of}
+
+-- no refusal
+not_refused : {P : Type 0} {b : Bool} → b ≡ false → b ≡ true → P
+not_refused fine refuses = absurd (false≢true (sym fine ∙ refuses))
+
+kept : {E T : Type 0} (o : Option E) (answer : T) (g new : Group) (wrap : Result T E → step.Reply)
+    → refuses (answer_of (wrap (Ok answer))) ≡ false → refuses (answer_of (wrap (unless_refused o answer))) ≡ true
+    → kept_if_refused o g new ≡ g
+kept None answer g new wrap fine e = not_refused fine e
+kept (Some refusal) answer g new wrap fine e = refl
+
+taken_fine : (o : Option CompletionFields) → refuses (answer_of (step.taken o)) ≡ false
+taken_fine None = refl
+taken_fine (Some done) = refl
+
+closed_before : (b : Bool) (g new : Group) → refuses (answer_of (step.closed b)) ≡ true → cond b new g ≡ g
+closed_before true g new e = not_refused refl e
+closed_before false g new e = refl
+
+pub refused_step : (g : Group) (s : step.Call) → refuses (answer_of (reply_to g s)) ≡ true → after g s ≡ g
+refused_step g (step.open_channel kind) e = kept (open_refusal g) _ g _ step.opened refl e
+refused_step g (step.bind chan) e =
+    kept (bind_refusal (channel_at g chan.0).is_open (channel_at g chan.0).endpoint) _ g _ step.bound refl e
+refused_step g (step.start chan kind len) e = kept (start_refusal g chan.0 kind) _ g _ step.started refl e
+refused_step g (step.report n outcome) e =
+    kept (report_refusal (op_at g.flight n.0) outcome) _ g _ step.reported refl e
+refused_step g step.take e = not_refused (taken_fine (answer_to_take g)) e
+refused_step g (step.finish n) e = kept (finish_refusal (is_running (op_at g.flight n.0))) _ g _ step.finished refl e
+refused_step g (step.close_channel chan) e = closed_before (channel_at g chan.0).is_open g _ e
+refused_step g step.shutdown e = not_refused refl e
+refused_step g step.shutdown_now e = not_refused refl e
+
+-- a call that makes a step only asks nothing
+pub same_effect : (g : GroupCall) (s : step.Call) → step_of g ≡ Some s → (r : Reply) → is_without_group_effect g r ≡ refuses r
+same_effect group.IsShutdown s is r = absurd (cc is)
+same_effect group.Terminated s is r = absurd (cc is)
+same_effect _ s is r = refl

@@ -1,0 +1,81 @@
+-- The group that a script leaves is left by a run of the group.
+use Rattle.std.proofs.Common.{◌≡◌, ◌⊎◌, inl, inr, List, [], ◌∷◌, refl, sym, subst}
+use Rattle.nio_base.specs.declared.limits.Limits.{Limits}
+use Rattle.nio_base.specs.declared.numbers.CallerNo.{CallerNo}
+use Rattle.nio_event.specs.declared.call.Call.{Call}
+use Rattle.nio_event.specs.declared.call.ScriptCall.{ScriptCall}
+use Rattle.nio_group.proofs.RestLemmas.{lawful-empty}
+use Rattle.nio_group.proofs.RunLemmas.{lawful-after}
+use Rattle.nio_group.specs.Group.{Group, IsLawful, empty_group}
+use Rattle.nio_group.specs.Run as step
+use Rattle.nio_group.specs.Run.{IsCallOf, IsRunOf, after, left_by}
+use Rattle.nio_plain.proofs.CallLawsCases.{HoldsOfChanges, holds_of_calls}
+use Rattle.nio_plain.specs.Answer.{left_from}
+use Rattle.nio_plain.specs.ReachedLaws.{GroupIsLawful, GroupIsLeftByARun, IsLeftByARun}
+use Rattle.nio_plain.specs.ScriptState.{ScriptState, group_limits, script_opening}
+use Rattle.nio_plain.specs.Seq.{seq}
+use Rattle.nio_plain.specs.Seq.Answers.{Answered}
+use Rattle.nio_plain.specs.declared.rules.Rules.{Rules}
+
+-- a call leaves the group as it was, or it makes a step of it
+abbrev Steps : ScriptState → Call → Answered → Type 0
+Steps st c done =
+    (done.left.group ≡ st.group) ⊎ ((s : step.Call) × IsCallOf st.group s × (done.left.group ≡ after st.group s))
+
+changes : (rules : Rules) (st : ScriptState) (me : CallerNo) → HoldsOfChanges rules st me (Steps st)
+changes rules st me = record {
+  nothing = λ _ _ _. inl refl;
+  selector = λ _. inl refl;
+  channel = λ _ _. inl refl;
+  blocking = λ _ _. inl refl;
+  register = λ _ _ _ _ _ _. inl refl;
+  register_again = λ _ _ _ _ _ _. inl refl;
+  closec = λ _. inl refl;
+  cancel = λ _ _. inl refl;
+  iset = λ _ _ _. inl refl;
+  ior = λ _ _ _. inl refl;
+  iand = λ _ _ _. inl refl;
+  unselect = λ _ _. inl refl;
+  attach = λ _ _ _. inl refl;
+  begin = λ _ _ _ _. inl refl;
+  told = λ _ _ _ _ _ _ _. inl refl;
+  failed = λ _ _ _. inl refl;
+  wakeup = λ _. inl refl;
+  close = λ _. inl refl;
+  close_end = λ _. inl refl;
+  interrupt = λ _. inl refl;
+  group = λ g s _ made. inr (s, made, refl);
+  interrupted = inl refl;
+}
+
+-- from a group on, a run of it leaves this one
+pub record IsRunTo (before left : Group) : Type 0 where
+  pub steps : List step.Call
+  pub run : IsRunOf before steps
+  pub leaves : left ≡ left_by before steps
+
+runs : (rules : Rules) (l : Limits) (calls : List ScriptCall) (st : ScriptState) → IsRunTo st.group (left_from rules l st calls).group
+runs rules l [] st = record { steps = []; run = tt; leaves = refl }
+runs rules l (c ∷ calls) st =
+    let done = seq rules l st c.caller c.call in
+    let rest = runs rules l calls done.left in
+    elim (holds_of_calls rules l st c.caller (Steps st) (changes rules st c.caller) c.call) [
+      | inl same ↦ subst (λ (g : Group). IsRunTo g (left_from rules l done.left calls).group) same rest
+      | inr first ↦
+          let on = subst (λ (g : Group). IsRunTo g (left_from rules l done.left calls).group) first.2 rest in
+          record { steps = first.0 ∷ on.steps; run = (first.1, on.run); leaves = on.leaves }
+    ]
+
+lawful_run : (g : Group) (steps : List step.Call) → IsLawful g → IsRunOf g steps → IsLawful (left_by g steps)
+lawful_run g [] lawful run = lawful
+lawful_run g (s ∷ steps) lawful run = lawful_run (after g s) steps (lawful-after g s lawful run.0) run.1
+
+pub group_is_left_by_a_run : GroupIsLeftByARun
+group_is_left_by_a_run rules l calls =
+    let is = runs rules l calls script_opening in
+    record { steps = is.steps; run = is.run; leaves = is.leaves }
+
+pub group_is_lawful : GroupIsLawful
+group_is_lawful rules l calls =
+    let is = runs rules l calls script_opening in
+    subst IsLawful (sym is.leaves) (lawful_run (empty_group group_limits) is.steps (lawful-empty group_limits) is.run)

@@ -1,0 +1,98 @@
+//! The replies that the group's answers are.
+ghost use Rattle.std.specs.Prelude.{◌≡◌};
+ghost use Rattle.nio_group.specs.Run as step;
+ghost use Rattle.nio_plain.specs.Seq.Grouping.{answer_of, report_refused, start_refused};
+
+use nio_base::{GChan, OpNo};
+use nio_event::{GroupReply, Reply};
+use nio_group::{Completion, NotRunning, ReportError, StartError};
+
+pub(super) fn opened(answer: Result<GChan, StartError>) -> Reply
+    ensures { result ≡ answer_of (step.opened answer) }
+{
+    match answer {
+        Ok(chan) => Reply::Group(GroupReply::Channel(chan)),
+        Err(refusal) => start_refusal(refusal),
+    }
+}
+
+pub(super) fn bound(answer: Result<(), StartError>) -> Reply
+    ensures { result ≡ answer_of (step.bound answer) }
+{
+    match answer {
+        Ok(()) => Reply::Ok,
+        Err(refusal) => start_refusal(refusal),
+    }
+}
+
+pub(super) fn started(answer: Result<OpNo, StartError>) -> Reply
+    ensures { result ≡ answer_of (step.started answer) }
+{
+    match answer {
+        Ok(operation) => Reply::Group(GroupReply::Op(operation)),
+        Err(refusal) => start_refusal(refusal),
+    }
+}
+
+pub(super) fn reported(answer: Result<(), ReportError>) -> Reply
+    ensures { result ≡ answer_of (step.reported answer) }
+{
+    match answer {
+        Ok(()) => Reply::Ok,
+        Err(refusal) => report_refusal(refusal),
+    }
+}
+
+pub(super) fn taken(answer: Option<Completion>) -> Reply
+    ensures { result ≡ answer_of (step.taken answer) }
+{
+    match answer {
+        None => Reply::None,
+        Some(done) => Reply::Group(GroupReply::Completed(done.op(), done.result())),
+    }
+}
+
+pub(super) fn finished(answer: Result<(), NotRunning>) -> Reply
+    ensures { result ≡ answer_of (step.finished answer) }
+{
+    match answer {
+        Ok(()) => Reply::Ok,
+        Err(NotRunning) => Reply::Group(GroupReply::NotRunning),
+    }
+}
+
+pub(super) fn closed(was_open: bool) -> Reply
+    ensures { result ≡ answer_of (step.closed was_open) }
+{
+    if was_open { Reply::Ok } else { Reply::Already }
+}
+
+fn start_refusal(refusal: StartError) -> Reply
+    ensures { result ≡ start_refused refusal }
+{
+    match refusal {
+        StartError::ShutdownGroup => Reply::Group(GroupReply::ShutdownGroup),
+        StartError::WrongKind => Reply::Group(GroupReply::WrongKind),
+        StartError::ClosedChannel => Reply::ClosedChannel,
+        StartError::AlreadyBound => Reply::Group(GroupReply::AlreadyBound),
+        StartError::AlreadyConnected => Reply::Group(GroupReply::AlreadyConnected),
+        StartError::ConnectionPending => Reply::Group(GroupReply::ConnectionPending),
+        StartError::NotYetConnected => Reply::Group(GroupReply::NotYetConnected),
+        StartError::NotYetBound => Reply::Group(GroupReply::NotYetBound),
+        StartError::ReadPending => Reply::Group(GroupReply::ReadPending),
+        StartError::WritePending => Reply::Group(GroupReply::WritePending),
+        StartError::AcceptPending => Reply::Group(GroupReply::AcceptPending),
+        StartError::OpsSpent => Reply::Group(GroupReply::OpsSpent),
+        StartError::FlightFull => Reply::Group(GroupReply::FlightFull),
+        StartError::ChannelsSpent => Reply::ChannelsSpent,
+    }
+}
+
+fn report_refusal(refusal: ReportError) -> Reply
+    ensures { result ≡ report_refused refusal }
+{
+    match refusal {
+        ReportError::NotPending => Reply::Group(GroupReply::NotPending),
+        ReportError::WrongOutcome => Reply::Group(GroupReply::WrongOutcome),
+    }
+}
