@@ -2,10 +2,11 @@
 use Rattle.std.proofs.Common.{◌≡◌, ℕ, List, ◌∷◌, Bool, Option, Some, None, IfSome, IsSomeAnd, MatchOption, Result, Ok, Err, IfOk, refl, sym, ap, subst, ◌∙◌}
 use Rattle.std.specs.Prelude.{⊤}
 use Rattle.std.proofs.lemmas.Option.{same_Some, none-some}
+use Rattle.nio_base.specs.declared.numbers.CallerNo.{CallerNo}
 use Rattle.nio_base.specs.declared.numbers.ChanNo.{ChanNo}
 use Rattle.nio_base.specs.declared.numbers.KeyId.{KeyId}
 use Rattle.nio_base.specs.declared.numbers.SelNo.{SelNo}
-use Rattle.nio_event.specs.Arguments.{Arguments, nothing, one_caller, one_selector, one_channel, one_kind, channel_mode, channel_selector, registration, selector_key, key_ops, key_number, selector_wait, selector_told, on_group, ArgumentsFit, ReadsArguments, argument_words}
+use Rattle.nio_event.specs.Arguments.{Arguments, nothing, one_caller, one_selector, one_channel, one_kind, channel_mode, channel_selector, channel_bytes, channel_count, registration, selector_key, key_ops, key_number, selector_wait, selector_told, on_group, ArgumentsFit, ReadsArguments, argument_words}
 use Rattle.nio_event.specs.Calls.{IsCall, call_words}
 use Rattle.nio_event.specs.CallWords.{arguments, call_word, call_word_text}
 use Rattle.nio_event.specs.GroupCalls.{ReadsGroupCall, group_word}
@@ -16,6 +17,8 @@ use Rattle.nio_event.specs.declared.call.Call.TheVariants as call
 use Rattle.nio_event.specs.declared.call.Waiting.{Waiting}
 use Rattle.nio_event.specs.declared.call_word.CallWord.{CallWord}
 use Rattle.nio_event.specs.declared.call_word.CallWord.TheVariants as word
+use Rattle.nio_event.specs.declared.call_word.CallerWord.{CallerWord}
+use Rattle.nio_event.specs.declared.call_word.CallerWord.TheVariants as on_caller
 use Rattle.nio_event.specs.declared.call_word.ChannelWord.{ChannelWord}
 use Rattle.nio_event.specs.declared.call_word.ChannelWord.TheVariants as on_channel
 use Rattle.nio_event.specs.declared.call_word.KeyOpsWord.{KeyOpsWord}
@@ -35,6 +38,10 @@ use Rattle.nio_event.proofs.Readers.{reads_none}
 abbrev lone_call : LoneWord → Call
 lone_call alone.Selector = call.Selector
 lone_call alone.Interrupted = call.Interrupted
+
+abbrev caller_call : CallerWord → CallerNo → Call
+caller_call on_caller.Interrupt t = call.Interrupt t
+caller_call on_caller.Pipe t = call.Pipe t
 
 abbrev channel_call : ChannelWord → ChanNo → Call
 channel_call on_channel.IsBlocking c = call.IsBlocking c
@@ -65,6 +72,7 @@ selector_call on_selector.Selected s = call.Selected s
 
 abbrev call_from : CallWord → Arguments → Option Call
 call_from (word.Alone w) nothing = Some (lone_call w)
+call_from (word.OnCaller w) (one_caller t) = Some (caller_call w t)
 call_from (word.OnChannel w) (one_channel c) = Some (channel_call w c)
 call_from (word.OnKey w) (selector_key s k) = Some (key_call w s k)
 call_from (word.OnKeyOps w) (key_ops s k ops) = Some (key_ops_call w s k ops)
@@ -76,7 +84,8 @@ call_from word.Register (registration s c ops att) = Some (call.Register s c ops
 call_from word.Attach (key_number s k att) = Some (call.Attach s k att)
 call_from word.Begin (selector_wait s waiting) = Some (call.Begin s waiting)
 call_from word.Told (selector_told s elapsed pairs) = Some (call.Told s elapsed pairs)
-call_from word.Interrupt (one_caller t) = Some (call.Interrupt t)
+call_from word.Pwrite (channel_bytes c bytes) = Some (call.Pwrite c bytes)
+call_from word.Pread (channel_count c n) = Some (call.Pread c n)
 call_from (word.OnGroup w) (on_group g) = Some (call.Group g)
 call_from _ _ = None
 
@@ -97,6 +106,7 @@ HaveShape {A} shape args = (x : A) × (args ≡ shape x)
 
 abbrev pub AreOf : CallWord → Arguments → Type 0
 AreOf (word.Alone w) args = HaveShape {A = ⊤} (λ _. nothing) args
+AreOf (word.OnCaller w) args = HaveShape one_caller args
 AreOf (word.OnChannel w) args = HaveShape one_channel args
 AreOf (word.OnKey w) args = HaveShape (λ (p : SelNo × KeyId). selector_key p.0 p.1) args
 AreOf (word.OnKeyOps w) args = HaveShape (λ (p : SelNo × KeyId × ℕ). key_ops p.0 p.1 p.2) args
@@ -108,11 +118,13 @@ AreOf word.Register args = HaveShape (λ (p : SelNo × ChanNo × ℕ × Option �
 AreOf word.Attach args = HaveShape (λ (p : SelNo × KeyId × ℕ). key_number p.0 p.1 p.2) args
 AreOf word.Begin args = HaveShape (λ (p : SelNo × Waiting). selector_wait p.0 p.1) args
 AreOf word.Told args = HaveShape (λ (p : SelNo × Bool × List (KeyId × ℕ)). selector_told p.0 p.1 p.2) args
-AreOf word.Interrupt args = HaveShape one_caller args
+AreOf word.Pwrite args = HaveShape (λ (p : ChanNo × List ℕ). channel_bytes p.0 p.1) args
+AreOf word.Pread args = HaveShape (λ (p : ChanNo × ℕ). channel_count p.0 p.1) args
 AreOf (word.OnGroup w) args = (g : GroupCall) × (args ≡ on_group g) × (group_word g ≡ w)
 
 from_shape : (w : CallWord) (args : Arguments) → IsSomeAnd (call_from w args) (λ c. call_word c ≡ w) → AreOf w args
 from_shape (word.Alone w) nothing h = (tt, refl)
+from_shape (word.OnCaller w) (one_caller t) h = (t, refl)
 from_shape (word.OnChannel w) (one_channel c) h = (c, refl)
 from_shape (word.OnKey w) (selector_key s k) h = ((s, k), refl)
 from_shape (word.OnKeyOps w) (key_ops s k ops) h = ((s, k, ops), refl)
@@ -124,7 +136,8 @@ from_shape word.Register (registration s c ops att) h = ((s, c, ops, att), refl)
 from_shape word.Attach (key_number s k att) h = ((s, k, att), refl)
 from_shape word.Begin (selector_wait s waiting) h = ((s, waiting), refl)
 from_shape word.Told (selector_told s elapsed pairs) h = ((s, elapsed, pairs), refl)
-from_shape word.Interrupt (one_caller t) h = (t, refl)
+from_shape word.Pwrite (channel_bytes c bytes) h = ((c, bytes), refl)
+from_shape word.Pread (channel_count c n) h = ((c, n), refl)
 from_shape (word.OnGroup w) (on_group g) h = (g, refl, (cc h))
 from_shape _ _ h = absurd h
 

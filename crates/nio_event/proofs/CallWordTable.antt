@@ -10,6 +10,7 @@ use Rattle.nio_event.specs.CallWords.{call_word_text}
 use Rattle.nio_event.specs.Reading.{Reads}
 use Rattle.nio_event.specs.declared.call_word.CallWord.{CallWord}
 use Rattle.nio_event.specs.declared.call_word.CallWord.TheVariants as word
+use Rattle.nio_event.specs.declared.call_word.CallerWord.TheVariants as on_caller
 use Rattle.nio_event.specs.declared.call_word.ChannelWord.TheVariants as on_channel
 use Rattle.nio_event.specs.declared.call_word.KeyOpsWord.TheVariants as on_key_ops
 use Rattle.nio_event.specs.declared.call_word.KeyWord.TheVariants as on_key
@@ -29,6 +30,8 @@ in_table (word.OnKey on_key.Valid) = refl
 in_table (word.OnKey _) = refl
 in_table (word.OnKeyOps on_key_ops.Iset) = refl
 in_table (word.OnKeyOps _) = refl
+in_table (word.OnCaller on_caller.Interrupt) = refl
+in_table (word.OnCaller _) = refl
 in_table (word.OnGroup group.Gopen) = refl
 in_table (word.OnGroup _) = refl
 in_table _ = refl

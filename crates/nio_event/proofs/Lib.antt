@@ -13,6 +13,7 @@ pub mod Spaces
 pub mod LineTexts
 pub mod Ones
 pub mod OneGroupCall
+pub mod HexWords
 pub mod OneReading
 pub mod JoinedWords
 pub mod PlainTexts

@@ -13,7 +13,7 @@ use Rattle.nio_base.specs.declared.numbers.CallerNo.{CallerNo}
 use Rattle.nio_base.specs.declared.numbers.ChanNo.{ChanNo}
 use Rattle.nio_base.specs.declared.numbers.KeyId.{KeyId}
 use Rattle.nio_base.specs.declared.numbers.SelNo.{SelNo}
-use Rattle.nio_event.specs.Arguments.{Arguments, nothing, one_caller, one_selector, one_channel, one_kind, channel_mode, channel_selector, registration, selector_key, key_ops, key_number, selector_wait, selector_told, on_group, ArgumentsFit, IsAttachment, IsKeyName, IsMilliseconds, IsPair, IsTime, argument_words, attachment_words, elapsed_words, mode_word, waiting_words}
+use Rattle.nio_event.specs.Arguments.{Arguments, nothing, one_caller, one_selector, one_channel, one_kind, channel_mode, channel_selector, channel_bytes, channel_count, registration, selector_key, key_ops, key_number, selector_wait, selector_told, on_group, ArgumentsFit, IsAttachment, IsKeyName, IsMilliseconds, IsPair, IsTime, argument_words, attachment_words, elapsed_words, mode_word, waiting_words}
 use Rattle.nio_event.specs.Calls.{IsBlank, IsCall, IsLine, call_words}
 use Rattle.nio_event.specs.CallWords.{arguments, call_word, call_word_text}
 use Rattle.nio_event.specs.Printing.{spaced}
@@ -29,6 +29,7 @@ use Rattle.nio_event.specs.declared.call_word.TheConstants.{CALL_WORDS}
 use Rattle.nio_event.proofs.CallParts.{AreOf, HaveShape, have_shape, parts_one}
 use Rattle.nio_event.proofs.CallWordTable.{reads_call_word}
 use Rattle.nio_event.proofs.Cuts.{position-cut, parts-cut}
+use Rattle.nio_event.proofs.HexWords.{bytes_one}
 use Rattle.nio_event.proofs.JoinedWords.{join_spaced}
 use Rattle.nio_event.proofs.NameWords.{KeyForm, first, later, decimal_lacks, index_word, index_word_lacks, key_form, key_same, key_word_lacks_colon, lacks_none, pair_word_cut}
 use Rattle.nio_event.proofs.OneGroupCall.{group_call_one}
@@ -196,6 +197,15 @@ channel_selector_one : IsOneShape (λ (p : ChanNo × SelNo). channel_selector p.
 channel_selector_one x y f g e =
     both x y (channel_one x.0 y.0 f.0 g.0 (word_at 0 e)) (selector_one x.1 y.1 f.1 g.1 (word_at 1 e))
 
+channel_bytes_one : IsOneShape (λ (p : ChanNo × List ℕ). channel_bytes p.0 p.1)
+channel_bytes_one x y f g e =
+    both x y (channel_one x.0 y.0 f.0 g.0 (word_at 0 e)) (bytes_one x.1 y.1 f.1.each g.1.each (word_at 1 e))
+
+channel_count_one : IsOneShape (λ (p : ChanNo × ℕ). channel_count p.0 p.1)
+channel_count_one x y f g e =
+    both x y (channel_one x.0 y.0 f.0 g.0 (word_at 0 e))
+    (decimal_injective x.1 y.1 (omega (arith, f.1)) (omega (arith, g.1)) (word_at 1 e))
+
 registration_one : IsOneShape (λ (p : SelNo × ChanNo × ℕ × Option ℕ). registration p.0 p.1 p.2 p.3)
 registration_one x y f g e =
     all_four x y (selector_one x.0 y.0 f.0 g.0 (word_at 0 e)) (channel_one x.1 y.1 f.1 g.1 (word_at 1 e))
@@ -232,6 +242,7 @@ shaped_one shape one a b x y f g e =
 arguments_one : (w : CallWord) (a b : Arguments) → AreOf w a → AreOf w b → ArgumentsFit a → ArgumentsFit b
     → argument_words a ≡ argument_words b → a ≡ b
 arguments_one (word.Alone w) a b = shaped_one {A = ⊤} (λ _. nothing) nothing_one a b
+arguments_one (word.OnCaller w) a b = shaped_one one_caller one_caller_one a b
 arguments_one (word.OnSelector w) a b = shaped_one one_selector one_selector_one a b
 arguments_one (word.OnChannel w) a b = shaped_one one_channel one_channel_one a b
 arguments_one (word.OnKey w) a b = shaped_one (λ (p : SelNo × KeyId). selector_key p.0 p.1) selector_key_one a b
@@ -243,7 +254,8 @@ arguments_one word.Register a b = shaped_one (λ (p : SelNo × ChanNo × ℕ × 
 arguments_one word.Attach a b = shaped_one (λ (p : SelNo × KeyId × ℕ). key_number p.0 p.1 p.2) key_number_one a b
 arguments_one word.Begin a b = shaped_one (λ (p : SelNo × Waiting). selector_wait p.0 p.1) selector_wait_one a b
 arguments_one word.Told a b = shaped_one (λ (p : SelNo × Bool × List (KeyId × ℕ)). selector_told p.0 p.1 p.2) selector_told_one a b
-arguments_one word.Interrupt a b = shaped_one one_caller one_caller_one a b
+arguments_one word.Pwrite a b = shaped_one (λ (p : ChanNo × List ℕ). channel_bytes p.0 p.1) channel_bytes_one a b
+arguments_one word.Pread a b = shaped_one (λ (p : ChanNo × ℕ). channel_count p.0 p.1) channel_count_one a b
 arguments_one (word.OnGroup w) a b = λ x y f g e.
     let same = group_call_one w x.0 y.0 (of_word w x.0 x.2) (of_word w y.0 y.2) (subst ArgumentsFit x.1 f) (subst ArgumentsFit y.1 g) (ap argument_words (sym x.1) ∙ (e ∙ ap argument_words y.1)) in
     x.1 ∙ (ap on_group same ∙ sym y.1)

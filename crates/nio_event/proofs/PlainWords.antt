@@ -1,10 +1,10 @@
 -- Plain words, of which lines and replies are made: no byte below `-`, so no space and no newline, and no `>`.
-use Rattle.std.proofs.Common.{◌≡◌, ◌≢◌, ℕ, zero, suc, ◌+◌, ℤ, pos, negsuc, Bool, true, false, not, ◌&&◌, if◌then◌else◌, Option, None, Some, List, [], ◌∷◌, ◌++◌, ◌<◌, ◌≤◌, ◌/◌, ◌%◌, ◌==◌, nat_le, map, codes, refl, sym, subst, ap, ◌∙◌, arith, All}
+use Rattle.std.proofs.Common.{◌≡◌, ◌≢◌, ℕ, zero, suc, ◌+◌, ℤ, pos, negsuc, Bool, true, false, not, ◌&&◌, if◌then◌else◌, Option, None, Some, List, [], ◌∷◌, ◌++◌, ◌<◌, ◌≤◌, ◌/◌, ◌%◌, ◌==◌, nat_le, nat_lt, map, codes, refl, sym, subst, ap, ◌∙◌, arith, All}
 use Rattle.std.specs.Fmt.{decimal, signed_decimal, digits, digits_onto, digit_glyph}
 use Rattle.std.specs.Int.{IsInRange}
 use Rattle.std.specs.List.{AllByRecursion, list_all}
 use Rattle.std.specs.Str.{bytes_eq}
-use Rattle.std.proofs.lemmas.Bool.{and_parts, cond_both, eq-eqb, false≢true, leb-true, lt-ltb}
+use Rattle.std.proofs.lemmas.Bool.{and_parts, cond_both, eq-eqb, false≢true, leb-true, lt-ltb, ltb-true}
 use Rattle.std.proofs.lemmas.List.Elements.{All-append, All-cons, All-from_recursion, All-nil, All-weaker, recursion_from_All}
 use Rattle.std.proofs.lemmas.List.Sums.{AllPass-from_list_all}
 use Rattle.nio_base.specs.declared.group.Finished.{Finished}
@@ -23,14 +23,14 @@ use Rattle.nio_base.specs.declared.numbers.ChanNo.{ChanNo}
 use Rattle.nio_base.specs.declared.numbers.GChan.{GChan}
 use Rattle.nio_base.specs.declared.numbers.KeyId.{KeyId}
 use Rattle.nio_base.specs.declared.numbers.SelNo.{SelNo}
-use Rattle.nio_event.specs.Arguments.{Arguments, nothing, one_caller, one_selector, one_channel, one_kind, channel_mode, channel_selector, registration, selector_key, key_ops, key_number, selector_wait, selector_told, on_group, argument_words, attachment_words, elapsed_words, mode_word, waiting_words}
+use Rattle.nio_event.specs.Arguments.{Arguments, nothing, one_caller, one_selector, one_channel, one_kind, channel_mode, channel_selector, channel_bytes, channel_count, registration, selector_key, key_ops, key_number, selector_wait, selector_told, on_group, argument_words, attachment_words, elapsed_words, mode_word, waiting_words}
 use Rattle.nio_event.specs.Calls.{call_words}
 use Rattle.nio_event.specs.CallWords.{arguments, call_word, call_word_text}
 use Rattle.nio_event.specs.GroupCalls.{group_argument_words}
 use Rattle.nio_event.specs.GroupReplies.{group_reply_words}
 use Rattle.nio_event.specs.GroupWords.{finished_words, group_channel_word, group_kind_word, operation_kind_word, outcome_words}
 use Rattle.nio_event.specs.Replies.{pairs_words, reply_words, why_word}
-use Rattle.nio_event.specs.Words.{caller_word, channel_word, key_word, kind_word, pair_word, selector_word}
+use Rattle.nio_event.specs.Words.{bytes_word, caller_word, channel_word, hex_digit, hex_digits, key_word, kind_word, pair_word, selector_word}
 use Rattle.nio_event.specs.declared.call.Call.{Call}
 use Rattle.nio_event.specs.declared.call.Waiting.{Waiting}
 use Rattle.nio_event.specs.declared.call.Waiting.TheVariants.{Now, Wait, For}
@@ -132,6 +132,22 @@ time_plain : (ms : ℤ) → IsPlain (signed_decimal ms)
 time_plain (pos n) = decimal_plain n
 time_plain (negsuc n) = numbered_plain 45 (suc n) (omega arith, omega arith)
 
+-- bytes
+
+hex_digit_plain : (d : ℕ) → IsPlainByte (hex_digit d)
+hex_digit_plain d =
+    cond_both (nat_lt d 10) (48 + d) (87 + d) IsPlainByte (λ e. let small = ltb-true d 10 e in (omega arith, omega arith)) (λ _. (omega arith, omega arith))
+
+hex_digits_plain : (bytes : List ℕ) → IsPlain (hex_digits bytes)
+hex_digits_plain [] = All-nil IsPlainByte
+hex_digits_plain (b ∷ bytes) =
+    All-cons IsPlainByte (hex_digit (b / 16)) (hex_digit (b % 16) ∷ hex_digits bytes) (hex_digit_plain (b / 16))
+    (All-cons IsPlainByte (hex_digit (b % 16)) (hex_digits bytes) (hex_digit_plain (b % 16)) (hex_digits_plain bytes))
+
+bytes_plain : (bytes : List ℕ) → IsPlain (bytes_word bytes)
+bytes_plain [] = literal (codes "-") refl
+bytes_plain (b ∷ bytes) = hex_digits_plain (b ∷ bytes)
+
 -- the words of calls
 
 kind_plain : (kind : Kind) → IsPlain (kind_word kind)
@@ -203,6 +219,8 @@ arguments_plain (one_selector s) = (selector_plain s, tt)
 arguments_plain (one_channel c) = (channel_plain c, tt)
 arguments_plain (one_kind kind) = (kind_plain kind, tt)
 arguments_plain (channel_mode c on) = (channel_plain c, (mode_plain on, tt))
+arguments_plain (channel_bytes c bytes) = (channel_plain c, (bytes_plain bytes, tt))
+arguments_plain (channel_count c n) = (channel_plain c, (decimal_plain n, tt))
 arguments_plain (channel_selector c s) = (channel_plain c, (selector_plain s, tt))
 arguments_plain (registration s c ops att) =
     (selector_plain s, (channel_plain c, (decimal_plain ops, attachment_plain att)))
@@ -305,4 +323,11 @@ reply_words_plain reply.NoCaller = (literal (codes "no-caller") refl, tt)
 reply_words_plain reply.NoSelector = (literal (codes "no-selector") refl, tt)
 reply_words_plain reply.NoChannel = (literal (codes "no-channel") refl, tt)
 reply_words_plain reply.NoKey = (literal (codes "no-key") refl, tt)
+reply_words_plain (reply.Ends source sink) = (channel_plain source, (channel_plain sink, tt))
+reply_words_plain (reply.Bytes bytes) = (bytes_plain bytes, tt)
+reply_words_plain reply.End = (literal (codes "end") refl, tt)
+reply_words_plain reply.NotOwner = (literal (codes "not-owner") refl, tt)
+reply_words_plain reply.ClosedByInterrupt = (literal (codes "closed-by-interrupt") refl, tt)
+reply_words_plain reply.AsyncClose = (literal (codes "async-close") refl, tt)
+reply_words_plain reply.BrokenPipe = (literal (codes "broken-pipe") refl, tt)
 reply_words_plain (reply.Group r) = group_reply_plain r

@@ -1,5 +1,5 @@
 -- The arguments of calls: the shapes that they may have, and for each its words and its ranges.
-use Rattle.std.specs.Prelude.{◌≢◌, ℕ, ◌<◌, ℤ, nat_abs, ◌^◌, ⊤, Bool, true, false, Option, None, Some, List, [], ◌∷◌, ◌++◌, map, codes, All, Any}
+use Rattle.std.specs.Prelude.{◌≢◌, ℕ, ◌<◌, ◌≤◌, ℤ, nat_abs, ◌^◌, ⊤, Bool, true, false, Option, None, Some, List, [], ◌∷◌, ◌++◌, length, map, codes, All, Any}
 use Rattle.std.specs.Fmt.{decimal, signed_decimal}
 use Rattle.std.specs.List.{AllPairs}
 use Rattle.nio_base.specs.declared.kind.Kind.{Kind}
@@ -9,7 +9,7 @@ use Rattle.nio_base.specs.declared.numbers.KeyId.{KeyId}
 use Rattle.nio_base.specs.declared.numbers.SelNo.{SelNo}
 use Rattle.nio_event.specs.GroupCalls.{IsGroupCall, group_argument_words}
 use Rattle.nio_event.specs.Reading.{Reads}
-use Rattle.nio_event.specs.Words.{IsNumber, caller_word, selector_word, channel_word, key_word, kind_word, pair_word}
+use Rattle.nio_event.specs.Words.{IsNumber, caller_word, selector_word, bytes_word, channel_word, key_word, kind_word, pair_word}
 use Rattle.nio_event.specs.declared.call.Waiting.{Waiting}
 use Rattle.nio_event.specs.declared.call.Waiting.TheVariants.{Now, Wait, For}
 use Rattle.nio_event.specs.declared.group_call.GroupCall.{GroupCall}
@@ -24,6 +24,8 @@ pub data Arguments : Type 0 where
   one_kind : Kind → Arguments
   channel_mode : ChanNo → Bool → Arguments
   channel_selector : ChanNo → SelNo → Arguments
+  channel_bytes : ChanNo → List ℕ → Arguments
+  channel_count : ChanNo → ℕ → Arguments
   registration : SelNo → ChanNo → ℕ → Option ℕ → Arguments
   selector_key : SelNo → KeyId → Arguments
   key_ops : SelNo → KeyId → ℕ → Arguments
@@ -60,6 +62,8 @@ argument_words (one_channel c) = channel_word c ∷ []
 argument_words (one_kind kind) = kind_word kind ∷ []
 argument_words (channel_mode c on) = channel_word c ∷ mode_word on ∷ []
 argument_words (channel_selector c s) = channel_word c ∷ selector_word s ∷ []
+argument_words (channel_bytes c bytes) = channel_word c ∷ bytes_word bytes ∷ []
+argument_words (channel_count c n) = channel_word c ∷ decimal n ∷ []
 argument_words (registration s c ops att) = selector_word s ∷ channel_word c ∷ decimal ops ∷ attachment_words att
 argument_words (selector_key s k) = selector_word s ∷ key_word k ∷ []
 argument_words (key_ops s k ops) = selector_word s ∷ key_word k ∷ decimal ops ∷ []
@@ -102,6 +106,11 @@ abbrev pub IsAttachment : Option ℕ → Type 0
 IsAttachment None = ⊤
 IsAttachment (Some att) = att < 2 ^ 64
 
+-- bytes that a line can say
+pub record AreBytes (bytes : List ℕ) : Type 0 where
+  pub few : length bytes ≤ 2000
+  pub each : All (λ b. b < 256) bytes
+
 -- arguments that a line can say
 abbrev pub ArgumentsFit : Arguments → Type 0
 ArgumentsFit nothing = ⊤
@@ -111,6 +120,8 @@ ArgumentsFit (one_channel c) = IsNumber c.0
 ArgumentsFit (one_kind kind) = ⊤
 ArgumentsFit (channel_mode c on) = IsNumber c.0
 ArgumentsFit (channel_selector c s) = IsNumber c.0 × IsNumber s.0
+ArgumentsFit (channel_bytes c bytes) = IsNumber c.0 × AreBytes bytes
+ArgumentsFit (channel_count c n) = IsNumber c.0 × (n ≤ 2048)
 ArgumentsFit (registration s c ops att) = IsNumber s.0 × IsNumber c.0 × (ops < 256) × IsAttachment att
 ArgumentsFit (selector_key s k) = IsNumber s.0 × IsKeyName k
 ArgumentsFit (key_ops s k ops) = IsNumber s.0 × IsKeyName k × (ops < 256)
@@ -130,6 +141,8 @@ HaveSerial (one_channel c) = ⊥
 HaveSerial (one_kind kind) = ⊥
 HaveSerial (channel_mode c on) = ⊥
 HaveSerial (channel_selector c s) = ⊥
+HaveSerial (channel_bytes c bytes) = ⊥
+HaveSerial (channel_count c n) = ⊥
 HaveSerial (registration s c ops att) = ⊥
 HaveSerial (selector_key s k) = k.serial ≢ 0
 HaveSerial (key_ops s k ops) = k.serial ≢ 0

@@ -1,11 +1,12 @@
 -- A call is a word and its arguments.
 use Rattle.std.specs.Prelude.{ℕ, List, codes}
-use Rattle.nio_event.specs.Arguments.{Arguments, nothing, one_caller, one_selector, one_channel, one_kind, channel_mode, channel_selector, registration, selector_key, key_ops, key_number, selector_wait, selector_told, on_group}
+use Rattle.nio_event.specs.Arguments.{Arguments, nothing, one_caller, one_selector, one_channel, one_kind, channel_mode, channel_selector, channel_bytes, channel_count, registration, selector_key, key_ops, key_number, selector_wait, selector_told, on_group}
 use Rattle.nio_event.specs.GroupCalls.{group_word, group_word_text}
 use Rattle.nio_event.specs.declared.call.Call.{Call}
 use Rattle.nio_event.specs.declared.call.Call.TheVariants as call
 use Rattle.nio_event.specs.declared.call_word.CallWord.{CallWord}
 use Rattle.nio_event.specs.declared.call_word.CallWord.TheVariants as word
+use Rattle.nio_event.specs.declared.call_word.CallerWord.TheVariants as on_caller
 use Rattle.nio_event.specs.declared.call_word.ChannelWord.TheVariants as on_channel
 use Rattle.nio_event.specs.declared.call_word.KeyOpsWord.TheVariants as on_key_ops
 use Rattle.nio_event.specs.declared.call_word.KeyWord.TheVariants as on_key
@@ -40,8 +41,11 @@ call_word_text (word.OnSelector on_selector.Close) = codes "close"
 call_word_text (word.OnSelector on_selector.CloseEnd) = codes "close-end"
 call_word_text (word.OnSelector on_selector.Keys) = codes "keys"
 call_word_text (word.OnSelector on_selector.Selected) = codes "selected"
-call_word_text word.Interrupt = codes "interrupt"
+call_word_text (word.OnCaller on_caller.Interrupt) = codes "interrupt"
 call_word_text (word.Alone alone.Interrupted) = codes "interrupted"
+call_word_text (word.OnCaller on_caller.Pipe) = codes "pipe"
+call_word_text word.Pwrite = codes "pwrite"
+call_word_text word.Pread = codes "pread"
 call_word_text (word.OnGroup w) = group_word_text w
 
 -- a call's word and its arguments
@@ -73,8 +77,11 @@ call_parts (call.Close s) = (word.OnSelector on_selector.Close, one_selector s)
 call_parts (call.CloseEnd s) = (word.OnSelector on_selector.CloseEnd, one_selector s)
 call_parts (call.Keys s) = (word.OnSelector on_selector.Keys, one_selector s)
 call_parts (call.Selected s) = (word.OnSelector on_selector.Selected, one_selector s)
-call_parts (call.Interrupt t) = (word.Interrupt, one_caller t)
+call_parts (call.Interrupt t) = (word.OnCaller on_caller.Interrupt, one_caller t)
 call_parts call.Interrupted = (word.Alone alone.Interrupted, nothing)
+call_parts (call.Pipe t) = (word.OnCaller on_caller.Pipe, one_caller t)
+call_parts (call.Pwrite c bytes) = (word.Pwrite, channel_bytes c bytes)
+call_parts (call.Pread c n) = (word.Pread, channel_count c n)
 call_parts (call.Group g) = (word.OnGroup (group_word g), on_group g)
 
 abbrev pub call_word : Call → CallWord

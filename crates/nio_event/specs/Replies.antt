@@ -6,7 +6,7 @@ use Rattle.nio_base.specs.declared.numbers.CallerNo.{CallerNo}
 use Rattle.nio_base.specs.declared.numbers.KeyId.{KeyId}
 use Rattle.nio_event.specs.Calls.{line_text}
 use Rattle.nio_event.specs.GroupReplies.{group_reply_words}
-use Rattle.nio_event.specs.Words.{selector_word, channel_word, key_word, pair_word}
+use Rattle.nio_event.specs.Words.{bytes_word, selector_word, channel_word, key_word, pair_word}
 use Rattle.nio_event.specs.declared.call.Call.{Call}
 use Rattle.nio_event.specs.declared.reply.Reply.{Reply}
 use Rattle.nio_event.specs.declared.reply.Reply.TheVariants as reply
@@ -59,6 +59,13 @@ reply_words reply.NoCaller = codes "no-caller" ∷ []
 reply_words reply.NoSelector = codes "no-selector" ∷ []
 reply_words reply.NoChannel = codes "no-channel" ∷ []
 reply_words reply.NoKey = codes "no-key" ∷ []
+reply_words (reply.Ends source sink) = channel_word source ∷ channel_word sink ∷ []
+reply_words (reply.Bytes bytes) = bytes_word bytes ∷ []
+reply_words reply.End = codes "end" ∷ []
+reply_words reply.NotOwner = codes "not-owner" ∷ []
+reply_words reply.ClosedByInterrupt = codes "closed-by-interrupt" ∷ []
+reply_words reply.AsyncClose = codes "async-close" ∷ []
+reply_words reply.BrokenPipe = codes "broken-pipe" ∷ []
 reply_words (reply.Group r) = group_reply_words r
 
 abbrev pub reply_text : Reply → List ℕ

@@ -1,6 +1,7 @@
 -- The words of a script that name something.
-use Rattle.std.specs.Prelude.{ℕ, ◌<◌, ◌^◌, ◌==◌, List, [], ◌++◌, codes, if◌then◌else◌}
+use Rattle.std.specs.Prelude.{ℕ, ◌+◌, ◌/◌, ◌%◌, ◌<◌, ◌^◌, ◌==◌, nat_lt, List, [], ◌∷◌, ◌++◌, codes, if◌then◌else◌}
 use Rattle.std.specs.Fmt.{decimal}
+use Rattle.std.specs.List.{flat_map}
 use Rattle.nio_base.specs.declared.kind.Kind.{Kind}
 use Rattle.nio_base.specs.declared.kind.Kind.TheVariants.{Stream, Listener, Source, Sink}
 use Rattle.nio_base.specs.declared.numbers.CallerNo.{CallerNo}
@@ -33,6 +34,17 @@ key_word k = codes "k" ++ decimal k.index ++ serial_text k.serial
 -- a key with operations: k3:5, k3.1:5
 abbrev pub pair_word : KeyId × ℕ → List ℕ
 pair_word p = key_word p.0 ++ codes ":" ++ decimal p.1
+
+-- bytes, each as two hexadecimal digits with small letters; no bytes are a dash
+abbrev pub hex_digit : ℕ → ℕ
+hex_digit d = if nat_lt d 10 then 48 + d else 87 + d
+
+abbrev pub hex_digits : List ℕ → List ℕ
+hex_digits bytes = flat_map (λ b. hex_digit (b / 16) ∷ hex_digit (b % 16) ∷ []) bytes
+
+abbrev pub bytes_word : List ℕ → List ℕ
+bytes_word [] = codes "-"
+bytes_word (b ∷ bytes) = hex_digits (b ∷ bytes)
 
 abbrev pub kind_word : Kind → List ℕ
 kind_word Stream = codes "stream"

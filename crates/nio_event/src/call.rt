@@ -1,5 +1,6 @@
 //! The calls of a script: one variant for each call word, its arguments in the order of the line, and one for
 //! all calls on the group.
+use crate::bytes::Bytes;
 use crate::group_call::GroupCall;
 use crate::pairs::Pairs;
 use nio_base::{CallerNo, ChanNo, KeyId, Kind, Ops, SelNo};
@@ -67,6 +68,12 @@ pub enum Call {
     Interrupt(CallerNo),
     /// `interrupted`: whether the own interrupt status was set, which it clears.
     Interrupted,
+    /// `pipe T`: makes a pipe whose source the caller owns, and whose sink the caller T.
+    Pipe(CallerNo),
+    /// `pwrite C HEX`: writes the bytes into a pipe by its sink, as many as fit.
+    Pwrite(ChanNo, Bytes),
+    /// `pread C N`: reads up to N bytes from a pipe by its source.
+    Pread(ChanNo, u32),
     /// A call on the group.
     Group(GroupCall),
 }
@@ -98,6 +105,9 @@ impl Call {
             | Call::Selected(..)
             | Call::Interrupt(..)
             | Call::Interrupted
+            | Call::Pipe(..)
+            | Call::Pwrite(..)
+            | Call::Pread(..)
             | Call::Group(..) => false,
             Call::Valid(_, key)
             | Call::Interest(_, key)

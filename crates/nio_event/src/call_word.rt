@@ -1,12 +1,12 @@
 //! The words with which calls begin, found by their texts.
 ghost use Rattle.std.specs.Prelude.{◌≡◌, ⊤};
-ghost use Rattle.nio_event.specs.Arguments.{nothing, one_channel, one_selector, selector_key, key_ops};
+ghost use Rattle.nio_event.specs.Arguments.{nothing, one_caller, one_channel, one_selector, selector_key, key_ops};
 ghost use Rattle.nio_event.specs.CallWords.{arguments, call_word, call_word_text};
 ghost use Rattle.nio_event.specs.Reading.{Reads};
 
 use crate::call::Call;
 use crate::group_word::GroupWord;
-use nio_base::{ChanNo, KeyId, Ops, SelNo};
+use nio_base::{CallerNo, ChanNo, KeyId, Ops, SelNo};
 
 /// A call without its arguments. Words whose calls have the same arguments have a type of their own.
 /// A new word needs a variant there or here, and a line in `CALL_WORDS`, in `of`, in `text` and in the
@@ -14,6 +14,7 @@ use nio_base::{ChanNo, KeyId, Ops, SelNo};
 #[derive(Clone, Copy)]
 pub enum CallWord {
     Alone(LoneWord),
+    OnCaller(CallerWord),
     OnSelector(SelectorWord),
     OnChannel(ChannelWord),
     OnKey(KeyWord),
@@ -25,7 +26,8 @@ pub enum CallWord {
     Attach,
     Begin,
     Told,
-    Interrupt,
+    Pwrite,
+    Pread,
     OnGroup(GroupWord),
 }
 
@@ -34,6 +36,13 @@ pub enum CallWord {
 pub enum LoneWord {
     Selector,
     Interrupted,
+}
+
+/// The words of calls that name another caller.
+#[derive(Clone, Copy)]
+pub enum CallerWord {
+    Interrupt,
+    Pipe,
 }
 
 /// The words of calls on a selector.
@@ -75,7 +84,7 @@ pub enum KeyOpsWord {
     Iand,
 }
 
-const CALL_WORDS: [CallWord; 40] = [
+const CALL_WORDS: [CallWord; 43] = [
     CallWord::Alone(LoneWord::Selector),
     CallWord::Channel,
     CallWord::Blocking,
@@ -103,8 +112,11 @@ const CALL_WORDS: [CallWord; 40] = [
     CallWord::OnSelector(SelectorWord::CloseEnd),
     CallWord::OnSelector(SelectorWord::Keys),
     CallWord::OnSelector(SelectorWord::Selected),
-    CallWord::Interrupt,
+    CallWord::OnCaller(CallerWord::Interrupt),
     CallWord::Alone(LoneWord::Interrupted),
+    CallWord::OnCaller(CallerWord::Pipe),
+    CallWord::Pwrite,
+    CallWord::Pread,
     CallWord::OnGroup(GroupWord::Gopen),
     CallWord::OnGroup(GroupWord::Gbind),
     CallWord::OnGroup(GroupWord::Start),
@@ -151,8 +163,11 @@ impl CallWord {
             Call::CloseEnd(..) => CallWord::OnSelector(SelectorWord::CloseEnd),
             Call::Keys(..) => CallWord::OnSelector(SelectorWord::Keys),
             Call::Selected(..) => CallWord::OnSelector(SelectorWord::Selected),
-            Call::Interrupt(..) => CallWord::Interrupt,
+            Call::Interrupt(..) => CallWord::OnCaller(CallerWord::Interrupt),
             Call::Interrupted => CallWord::Alone(LoneWord::Interrupted),
+            Call::Pipe(..) => CallWord::OnCaller(CallerWord::Pipe),
+            Call::Pwrite(..) => CallWord::Pwrite,
+            Call::Pread(..) => CallWord::Pread,
             Call::Group(call) => CallWord::OnGroup(GroupWord::of(call)),
         }
     }
@@ -188,8 +203,11 @@ impl CallWord {
             CallWord::OnSelector(SelectorWord::CloseEnd) => b"close-end",
             CallWord::OnSelector(SelectorWord::Keys) => b"keys",
             CallWord::OnSelector(SelectorWord::Selected) => b"selected",
-            CallWord::Interrupt => b"interrupt",
+            CallWord::OnCaller(CallerWord::Interrupt) => b"interrupt",
             CallWord::Alone(LoneWord::Interrupted) => b"interrupted",
+            CallWord::OnCaller(CallerWord::Pipe) => b"pipe",
+            CallWord::Pwrite => b"pwrite",
+            CallWord::Pread => b"pread",
             CallWord::OnGroup(word) => word.text(),
         }
     }
@@ -209,6 +227,18 @@ impl LoneWord {
         match self {
             LoneWord::Selector => Call::Selector,
             LoneWord::Interrupted => Call::Interrupted,
+        }
+    }
+}
+
+impl CallerWord {
+    pub fn call(self, caller: CallerNo) -> Call
+        ensures word { call_word result ≡ CallWord.OnCaller self }
+        ensures arguments { arguments result ≡ one_caller caller }
+    {
+        match self {
+            CallerWord::Interrupt => Call::Interrupt(caller),
+            CallerWord::Pipe => Call::Pipe(caller),
         }
     }
 }

@@ -3,6 +3,7 @@
 #![tactic(auto)]
 
 pub use act::Act;
+pub use bytes::Bytes;
 pub use call::{Call, ScriptCall, Waiting};
 pub use event::Event;
 pub use found::{Chan, GateWord, Mark, Mode, Stage};
@@ -16,6 +17,7 @@ pub use reply::{Reply, Why};
 pub use timeout::NegativeTimeout;
 
 mod act;
+mod bytes;
 mod call;
 mod call_word;
 mod event;

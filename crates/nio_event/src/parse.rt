@@ -12,6 +12,7 @@ use std::alloc::{AllocError, Global};
 use thiserror::Error;
 
 mod arguments;
+mod bytes;
 mod call;
 mod cut;
 mod group;

@@ -6,6 +6,7 @@ use crate::call::Call;
 use crate::reply::Reply;
 use call::push_line_text;
 use nio_base::CallerNo;
+pub use piece::push_hex;
 use piece::{push_bytes, push_number};
 use reply::push_reply;
 use std::alloc::{AllocError, Global};

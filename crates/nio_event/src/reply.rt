@@ -1,5 +1,6 @@
 //! The replies to the calls of a script: one variant for each reply, and one for those that calls on the group
 //! alone have.
+use crate::bytes::Bytes;
 use crate::group_reply::GroupReply;
 use crate::names::Names;
 use crate::pairs::Pairs;
@@ -53,6 +54,20 @@ pub enum Reply {
     NoSelector,
     NoChannel,
     NoKey,
+    /// `cN cM`: the source and the sink of the pipe that was made.
+    Ends(ChanNo, ChanNo),
+    /// The bytes that were read, at least one.
+    Bytes(Bytes),
+    /// All bytes of the pipe were read, and no more come.
+    End,
+    /// The channel isn't this end of a pipe that the caller owns.
+    NotOwner,
+    /// The caller was interrupted, and its channel is closed.
+    ClosedByInterrupt,
+    /// Another caller closed the channel while the caller waited.
+    AsyncClose,
+    /// The pipe's source is closed.
+    BrokenPipe,
     /// A reply that calls on the group alone have.
     Group(GroupReply),
 }

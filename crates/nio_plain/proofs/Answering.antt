@@ -1,5 +1,5 @@
 -- How a call of a plain system is shown to answer as the documented one, at each of its returns.
-use Rattle.std.proofs.Common.{◌≡◌, ℕ, ◌+◌, ◌<◌, ◌≤◌, Option, None, Some, is_some, Bool, true, false, Result, Ok, Err, List, [], ◌∷◌, ◌++◌, length, get_or, set, refl, sym, ap, subst, ◌∙◌}
+use Rattle.std.proofs.Common.{◌≡◌, ℕ, ◌+◌, ◌<◌, ◌≤◌, Option, None, Some, is_some, Bool, true, false, Result, Ok, Err, List, [], ◌∷◌, ◌++◌, length, get_or, set, refl, sym, ap, subst, ◌∙◌, map}
 use Rattle.std.proofs.lemmas.List.{length-set, length_push}
 use Rattle.std.proofs.lemmas.Result.{IfOk-from_err}
 use Rattle.std.specs.Result.{IsErr, OnErr}
@@ -10,11 +10,12 @@ use Rattle.nio_event.specs.declared.reply.Reply.{Reply}
 use Rattle.nio_group.specs.Group.{Group, empty_group}
 use Rattle.nio_plain.proofs.Places.{places-nil, places-replicate, places_all, places_past, places-set, places-push, places_at, part_kept}
 use Rattle.nio_plain.specs.Plain.{Answers, AnswersAs, Kept}
-use Rattle.nio_plain.specs.PlainState.{places, caller_of, channel_row, selector_row, SelectorRow, no_selector, state_from, state_of}
-use Rattle.nio_plain.specs.ScriptState.{ScriptState, group_limits, script_opening, with_shared}
+use Rattle.nio_plain.specs.PlainState.{places, caller_of, channel_row, selector_row, SelectorRow, no_selector, state_from, state_of, pipe_of}
+use Rattle.nio_plain.specs.ScriptState.{ScriptState, group_limits, script_opening, with_shared, Pipe}
 use Rattle.nio_plain.specs.Seq.Answers.{Answered, unchanged}
 use Rattle.nio_plain.specs.declared.plain.Plain.{Plain}
 use Rattle.nio_plain.specs.declared.plain.channel.Channel.{Channel}
+use Rattle.nio_plain.specs.declared.plain.pipe.Pipe.{Pipe as PlainPipe}
 use Rattle.nio_plain.specs.declared.plain.selector.Selecting.{Selecting}
 use Rattle.nio_plain.specs.declared.plain.selector.Selector.{Selector}
 
@@ -56,12 +57,12 @@ channel_made-past xs k h =
     ap (λ r. r.made) (places_past channel_row unmade_channel xs k h)
 
 -- a system in which nothing is made
-pub state-opening : (n : ℕ) (g : Group) (bs : List Bool) (cs : List Channel) (ss : List Selector) → g ≡ empty_group group_limits → bs ≡ replicate n false → cs ≡ [] → ss ≡ [] → state_from g (places (λ b. b) false bs) (length cs) (places channel_row unmade_channel cs) (places selector_row no_selector ss) ≡ script_opening
-state-opening n group bs cs ss d e f g =
+pub state-opening : (n : ℕ) (g : Group) (ps : List PlainPipe) (bs : List Bool) (cs : List Channel) (ss : List Selector) → g ≡ empty_group group_limits → ps ≡ [] → bs ≡ replicate n false → cs ≡ [] → ss ≡ [] → state_from g (map pipe_of ps) (places (λ b. b) false bs) (length cs) (places channel_row unmade_channel cs) (places selector_row no_selector ss) ≡ script_opening
+state-opening n group ps bs cs ss d h e f g =
     let no_interrupt = ap (places (λ b. b) false) e ∙ places-replicate n false in
     let no_channel = ap (places channel_row unmade_channel) f ∙ places-nil channel_row unmade_channel in
     let no_row = ap (places selector_row no_selector) g ∙ places-nil selector_row no_selector in
-    λ i. state_from (d i) (no_interrupt i) (length (f i)) (no_channel i) (no_row i)
+    λ i. state_from (d i) (map pipe_of (h i)) (no_interrupt i) (length (f i)) (no_channel i) (no_row i)
 
 -- the rows of the selectors, and the state with other rows
 abbrev pub rows_of : Plain → ℕ → SelectorRow
@@ -69,7 +70,7 @@ rows_of p = places selector_row no_selector p.selectors.items
 
 abbrev pub with_rows : Plain → (ℕ → SelectorRow) → ScriptState
 with_rows p row =
-    state_from p.group (places (λ b. b) false p.interrupted.items) (length p.channels.items) (places channel_row unmade_channel p.channels.items) row
+    state_from p.group (map pipe_of p.pipes.items) (places (λ b. b) false p.interrupted.items) (length p.channels.items) (places channel_row unmade_channel p.channels.items) row
 
 -- the state after a write of one selector, after a push of one, and after a push of a channel
 pub state-set_selector : (p : Plain) (ys : List Selector) (s : ℕ) (x : Selector) → s < length p.selectors.items → ys ≡ set p.selectors.items s x → with_rows p (places selector_row no_selector ys) ≡ with_rows p (put (rows_of p) s (selector_row x))
@@ -80,17 +81,17 @@ pub state-push_selector : (p : Plain) (ys : List Selector) (x : Selector) (r : S
 state-push_selector p ys x r e same =
     (ap (λ zs. with_rows p (places selector_row no_selector zs)) e ∙ ap (with_rows p) (places-push selector_row no_selector p.selectors.items x)) ∙ ap (λ q. with_rows p (put (rows_of p) (length p.selectors.items) q)) same
 
-pub state-push_channel : (group : Group) (interrupted : ℕ → Bool) (row : ℕ → SelectorRow) (xs ys : List Channel) (x : Channel) → ys ≡ xs ++ x ∷ [] → state_from group interrupted (length ys) (places channel_row unmade_channel ys) row ≡ state_from group interrupted (length xs + 1) (put (places channel_row unmade_channel xs) (length xs) (channel_row x)) row
-state-push_channel group interrupted row xs ys x e =
+pub state-push_channel : (group : Group) (pipes : List Pipe) (interrupted : ℕ → Bool) (row : ℕ → SelectorRow) (xs ys : List Channel) (x : Channel) → ys ≡ xs ++ x ∷ [] → state_from group pipes interrupted (length ys) (places channel_row unmade_channel ys) row ≡ state_from group pipes interrupted (length xs + 1) (put (places channel_row unmade_channel xs) (length xs) (channel_row x)) row
+state-push_channel group pipes interrupted row xs ys x e =
     let len = ap length e ∙ length_push xs x in
     let chan = ap (places channel_row unmade_channel) e ∙ places-push channel_row unmade_channel xs x in
-    λ i. state_from group interrupted (len i) (chan i) row
+    λ i. state_from group pipes interrupted (len i) (chan i) row
 
-pub state-set_channel : (group : Group) (interrupted : ℕ → Bool) (row : ℕ → SelectorRow) (xs ys : List Channel) (c : ℕ) (x : Channel) → c < length xs → ys ≡ set xs c x → state_from group interrupted (length ys) (places channel_row unmade_channel ys) row ≡ state_from group interrupted (length xs) (put (places channel_row unmade_channel xs) c (channel_row x)) row
-state-set_channel group interrupted row xs ys c x h e =
+pub state-set_channel : (group : Group) (pipes : List Pipe) (interrupted : ℕ → Bool) (row : ℕ → SelectorRow) (xs ys : List Channel) (c : ℕ) (x : Channel) → c < length xs → ys ≡ set xs c x → state_from group pipes interrupted (length ys) (places channel_row unmade_channel ys) row ≡ state_from group pipes interrupted (length xs) (put (places channel_row unmade_channel xs) c (channel_row x)) row
+state-set_channel group pipes interrupted row xs ys c x h e =
     let len = ap length e ∙ length-set xs c x in
     let chan = ap (places channel_row unmade_channel) e ∙ places-set channel_row unmade_channel xs c x h in
-    λ i. state_from group interrupted (len i) (chan i) row
+    λ i. state_from group pipes interrupted (len i) (chan i) row
 
 -- the same of a call that takes no memory
 pub unchanged_without_memory : (p : Plain) (r : Reply) (a : Answered) → a ≡ unchanged (state_of p) r → Answers p p r a
@@ -137,9 +138,9 @@ is_some-caller_of None = refl
 is_some-caller_of (Some x) = refl
 
 -- the state after a write of a caller's interrupt status
-pub interrupted-set : (p : Plain) (n : ℕ) (b : Bool) → n < length p.interrupted.items → state_from p.group (places (λ (x : Bool). x) false (set p.interrupted.items n b)) (length p.channels.items) (places channel_row unmade_channel p.channels.items) (rows_of p) ≡ with_shared (state_of p) (with_interrupted (state_of p).shared n b)
+pub interrupted-set : (p : Plain) (n : ℕ) (b : Bool) → n < length p.interrupted.items → state_from p.group (map pipe_of p.pipes.items) (places (λ (x : Bool). x) false (set p.interrupted.items n b)) (length p.channels.items) (places channel_row unmade_channel p.channels.items) (rows_of p) ≡ with_shared (state_of p) (with_interrupted (state_of p).shared n b)
 interrupted-set p n b h =
-    ap (λ f. state_from p.group f (length p.channels.items) (places channel_row unmade_channel p.channels.items) (rows_of p)) (places-set (λ (x : Bool). x) false p.interrupted.items n b h)
+    ap (λ f. state_from p.group (map pipe_of p.pipes.items) f (length p.channels.items) (places channel_row unmade_channel p.channels.items) (rows_of p)) (places-set (λ (x : Bool). x) false p.interrupted.items n b h)
 
 -- a call without want of memory, as one that may lack it
 pub without_memory : (p q : Plain) (r : Reply) (a : Answered) → Answers p q r a → AnswersAs p q (Ok r) a

@@ -1,8 +1,9 @@
 -- What holds of every call: a call refuses or only tells, or it makes the one change of its word. So a
 -- fact of all calls is shown once for each change.
-use Rattle.std.proofs.Common.{◌≡◌, ℕ, ◌<◌, Bool, true, false, not, ◌&&◌, ◌||◌, cond, nat_lt, Option, Some, None, is_some, List, [], ◌∷◌, length, filter, map, find, refl, bit_and, bit_or}
+use Rattle.std.proofs.Common.{◌≡◌, ℕ, ◌<◌, ◌==◌, Bool, true, false, not, ◌&&◌, ◌||◌, cond, nat_lt, Option, Some, None, is_some, List, [], ◌∷◌, ◌++◌, length, take, drop, filter, map, find, refl, bit_and, bit_or}
 use Rattle.std.proofs.lemmas.Bool.{ltb-true}
 use Rattle.nio_base.specs.declared.kind.Kind.{Kind}
+use Rattle.nio_base.specs.declared.kind.Kind.TheVariants.{Source}
 use Rattle.nio_base.specs.declared.limits.Limits.{Limits}
 use Rattle.nio_base.specs.declared.numbers.CallerNo.{CallerNo}
 use Rattle.nio_base.specs.declared.numbers.ChanNo.{ChanNo}
@@ -33,7 +34,9 @@ use Rattle.nio_plain.specs.Seq.Keys.{are_legal_at, is_in_selected_set, valid_cal
 use Rattle.nio_plain.specs.Seq.Listing.{names_or_none, keys_call, selected_call}
 use Rattle.nio_plain.specs.Seq.Modes.{name_or_none, key_of, is_registered, blocking_call, is_blocking_call, is_open_call, is_registered_call, key_for_call}
 use Rattle.nio_plain.specs.Seq.Names.{below, key_at}
-use Rattle.nio_plain.specs.Seq.Opening.{channel_made, selector_made, selector_call, channel_call}
+use Rattle.nio_plain.specs.Seq.Opening.{channel_made, next_channel, selector_made, selector_call, channel_call}
+use Rattle.nio_plain.specs.Seq.Pipes.{own_source, own_sink, pipe_at, with_pipe, marking}
+use Rattle.nio_plain.specs.Seq.Piping.{with_sink, with_source, finds_interrupt, not_now, read_first, read_from, room_for, write_first, write_to, pipe_call, pread_call, pwrite_call}
 use Rattle.nio_plain.specs.Seq.Registering.{given_or_none, given_or_kept, next_key, with_new_key, are_legal, registered, registered_new, register_call}
 use Rattle.nio_plain.specs.Seq.Removing.{unselected}
 use Rattle.nio_plain.specs.Seq.Selections.{mode_of, selection_begun, updated_count, is_again, why_ended, selection_ended, own_selection, left_selection, is_caller, begun_with, told_selection, begin_call, told_call, failed_call}
@@ -71,6 +74,8 @@ may_keep reply.«Ok» = false
 may_keep reply.Left = false
 may_keep reply.Closing = false
 may_keep reply.Closed = false
+may_keep (reply.Ends source sink) = false
+may_keep (reply.Bytes bytes) = false
 may_keep _ = true
 
 -- what is to be shown of each change
@@ -81,7 +86,8 @@ pub record HoldsOfChanges (rules : Rules) (st : ScriptState) (me : CallerNo) (P 
   pub blocking : (c : ChanNo) (on : Bool) → P (call.Blocking c on) (answered st reply.«Ok» (with_chan st.shared c.0 (record (st.shared.chan c.0) { blocking = on })))
   pub register : (s : SelNo) (c : ChanNo) (ops : ℕ) (att : Option ℕ) (k : KeyId) (note : ℕ) → P (call.Register s c ops att) (answered st (reply.Key k) (with_new_key st.shared s.0 c.0 k ops note))
   pub register_again : (s : SelNo) (c : ChanNo) (ops : ℕ) (att : Option ℕ) (k : KeyId) (note : ℕ) → P (call.Register s c ops att) (answered st (reply.Key k) (with_note (with_interest st.shared s.0 k.index ops) s.0 k.index note))
-  pub closec : (c : ChanNo) → P (call.Closec c) (answered st reply.«Ok» (channel_closed st.shared c.0))
+  pub closec : (c : ChanNo) → P (call.Closec c) (marking (own_sink st me c) (answered st reply.«Ok» (channel_closed st.shared c.0)))
+  pub closec_again : (c : ChanNo) → P (call.Closec c) (marking (own_sink st me c) (unchanged st reply.Already))
   pub cancel : (s : SelNo) (k : KeyId) → P (call.Cancel s k) (answered st reply.«Ok» (with_key st.shared s.0 k.index (cancelled_in_set (st.shared.key s.0 k.index) k.serial)))
   pub iset : (s : SelNo) (k : KeyId) (ops : ℕ) → P (call.Iset s k ops) (answered st reply.«Ok» (with_interest st.shared s.0 k.index ops))
   pub ior : (s : SelNo) (k : KeyId) (ops : ℕ) → P (call.Ior s k ops) (answered st (reply.Number (st.shared.interest s.0 k.index)) (with_interest st.shared s.0 k.index (bit_or (st.shared.interest s.0 k.index) ops)))
@@ -95,6 +101,13 @@ pub record HoldsOfChanges (rules : Rules) (st : ScriptState) (me : CallerNo) (P 
   pub close : (s : SelNo) → P (call.Close s) (answered st reply.Closing (with_closer (with_gate st.shared s.0 (record (st.shared.gate s.0) { shut = true })) s.0 (Some me)))
   pub close_end : (s : SelNo) → P (call.CloseEnd s) (answered st reply.Closed (with_entered (without_keys st.shared s.0) s.0 true))
   pub interrupt : (target : CallerNo) → P (call.Interrupt target) (answered st reply.«Ok» (with_interrupted st.shared target.0 true))
+  pub pipe : (target : CallerNo) (source sink : ℕ) → P (call.Pipe target) (with_sink (channel_made st Source (Some source)).left me target source (Some sink))
+  pub pipe_spent : (target : CallerNo) (source : ℕ) → P (call.Pipe target) (with_sink (channel_made st Source (Some source)).left me target source None)
+  pub pread : (c : ChanNo) (n i b : ℕ) (bytes : List ℕ) → P (call.Pread c n) (record { reply = reply.Bytes (take n (b ∷ bytes)); left = with_pipe st i (record (pipe_at st i) { waiting = drop n (b ∷ bytes) }) })
+  pub pread_interrupted : (c : ChanNo) (n : ℕ) → P (call.Pread c n) (answered st reply.ClosedByInterrupt (channel_closed st.shared c.0))
+  pub pwrite : (c : ChanNo) (bytes : List ℕ) (i n : ℕ) → P (call.Pwrite c bytes) (record { reply = reply.Number n; left = with_pipe st i (record (pipe_at st i) { waiting = (pipe_at st i).waiting ++ take n bytes }) })
+  pub pwrite_closed : (c : ChanNo) (bytes : List ℕ) (i : ℕ) → P (call.Pwrite c bytes) (marking (Some i) (unchanged st reply.ClosedChannel))
+  pub pwrite_interrupted : (c : ChanNo) (bytes : List ℕ) (i : ℕ) → P (call.Pwrite c bytes) (marking (Some i) (answered st reply.ClosedByInterrupt (channel_closed st.shared c.0)))
   pub group : (g : GroupCall) (s : step.Call) → step_of g ≡ Some s → IsCallOf st.group s → P (call.Group g) (stepped st s)
   pub interrupted : P call.Interrupted (answered st (yes_or_no (st.shared.interrupted me.0)) (with_interrupted st.shared me.0 false))
 
@@ -176,6 +189,49 @@ module _ (rules : Rules) (l : Limits) (st : ScriptState) (me : CallerNo) (P : Ca
   valid_named : {c : Call} {x : Answered} (s : SelNo) (k : KeyId) → P c x → P c (cond (st.shared.selector s.0) (cond (was_published (st.shared.key s.0 k.index) k.serial) (cond (is_valid_key (st.shared.key s.0 k.index) k.serial) x (unchanged st reply.CancelledKey)) (unchanged st reply.NoKey)) (unchanged st reply.NoSelector))
   valid_named {c = c} s k done = key_named s k (either (is_valid_key (st.shared.key s.0 k.index) k.serial) done (says c reply.CancelledKey refl))
 
+  -- calls on pipes
+
+  of_closec : (c : ChanNo) (closed : Bool) → P (call.Closec c) (marking (own_sink st me c) (cond closed (unchanged st reply.Already) (answered st reply.«Ok» (channel_closed st.shared c.0))))
+  of_closec c true = h.closec_again c
+  of_closec c false = h.closec c
+
+  of_sink : (target : CallerNo) (source : ℕ) (sink : Option ℕ) → P (call.Pipe target) (with_sink (channel_made st Source (Some source)).left me target source sink)
+  of_sink target source None = h.pipe_spent target source
+  of_sink target source (Some sink) = h.pipe target source sink
+
+  of_pipe : (target : CallerNo) (source : Option ℕ) → P (call.Pipe target) (with_source l st me target source)
+  of_pipe target None = says (call.Pipe target) reply.ChannelsSpent refl
+  of_pipe target (Some source) = of_sink target source (next_channel l (channel_made st Source (Some source)).left)
+
+  of_not_now : (c : Call) (blocking : Bool) → P c (unchanged st (not_now blocking))
+  of_not_now c true = says c reply.Again refl
+  of_not_now c false = says c (reply.Number 0) refl
+
+  of_read : (c : ChanNo) (n i : ℕ) (blocking : Bool) (waiting : List ℕ) (marked : Bool) → P (call.Pread c n) (read_first st blocking n i waiting marked)
+  of_read c n i blocking [] false = of_not_now (call.Pread c n) blocking
+  of_read c n i blocking [] true = says (call.Pread c n) reply.End refl
+  of_read c n i blocking (b ∷ bytes) marked = h.pread c n i b bytes
+
+  of_pread : (c : ChanNo) (n : ℕ) (place : Option ℕ) → P (call.Pread c n) (read_from st me c n place)
+  of_pread c n None = says (call.Pread c n) reply.NotOwner refl
+  of_pread c n (Some i) =
+      let word = call.Pread c n in
+      either (st.shared.chan c.0).closed (says word reply.ClosedChannel refl)
+      (either (finds_interrupt st me c) (h.pread_interrupted c n)
+      (either (n == 0) (says word (reply.Number 0) refl)
+      (of_read c n i (st.shared.chan c.0).blocking (pipe_at st i).waiting (pipe_at st i).marked)))
+
+  of_pwrite : (c : ChanNo) (bytes : List ℕ) (place : Option ℕ) → P (call.Pwrite c bytes) (write_to st me c bytes place)
+  of_pwrite c bytes None = says (call.Pwrite c bytes) reply.NotOwner refl
+  of_pwrite c bytes (Some i) =
+      let word = call.Pwrite c bytes in
+      either (st.shared.chan c.0).closed (h.pwrite_closed c bytes i)
+      (either (finds_interrupt st me c) (h.pwrite_interrupted c bytes i)
+      (either (st.shared.chan (pipe_at st i).source.0).closed (says word reply.BrokenPipe refl)
+      (either (length bytes == 0) (says word (reply.Number 0) refl)
+      (either (room_for bytes (pipe_at st i) == 0) (of_not_now word (st.shared.chan c.0).blocking)
+      (h.pwrite c bytes i (room_for bytes (pipe_at st i)))))))
+
   -- calls on the group
 
   group_channel_named : {c : Call} {x : Answered} (g : GChan) → (g.0 < length st.group.channels → P c x) → P c (cond (nat_lt g.0 (length st.group.channels)) x (unchanged st reply.NoChannel))
@@ -198,7 +254,7 @@ module _ (rules : Rules) (l : Limits) (st : ScriptState) (me : CallerNo) (P : Ca
   of_group group.Terminated = says_whether (call.Group group.Terminated) (is_terminated st.group)
 
   pub each_call : (c : Call) → P c (call_of rules l st me c)
-  unfolding call_of selector_call channel_call blocking_call is_blocking_call is_open_call is_registered_call key_for_call register_call closec_call cancel_call valid_call interest_call ready_call iset_call ior_call iand_call unselect_call attach_call attachment_call begin_call told_call failed_call wakeup_call interrupt_call interrupted_call close_call close_end_call keys_call selected_call
+  unfolding call_of selector_call channel_call blocking_call is_blocking_call is_open_call is_registered_call key_for_call register_call closec_call cancel_call valid_call interest_call ready_call iset_call ior_call iand_call unselect_call attach_call attachment_call begin_call told_call failed_call wakeup_call interrupt_call interrupted_call close_call close_end_call keys_call selected_call pipe_call pread_call pwrite_call
   each_call call.Selector = of_selector (find (λ s. not (st.shared.selector s)) (below l.selectors))
   each_call (call.Channel kind) = of_channel kind (find (λ c. not (st.shared.chan c).made) (below l.channels))
   each_call (call.Blocking c on) =
@@ -218,7 +274,7 @@ module _ (rules : Rules) (l : Limits) (st : ScriptState) (me : CallerNo) (P : Ca
       (either (st.shared.chan c.0).closed (says word reply.ClosedChannel refl)
       (either (st.shared.chan c.0).blocking (says word reply.IllegalBlockingMode refl)
       (of_register s c ops att (key_of st.shared c.0 s.0))))))
-  each_call (call.Closec c) = channel_named c (either (st.shared.chan c.0).closed (says (call.Closec c) reply.Already refl) (h.closec c))
+  each_call (call.Closec c) = channel_named c (of_closec c (st.shared.chan c.0).closed)
   each_call (call.Valid s k) = key_named s k (says_whether (call.Valid s k) (is_valid_key (st.shared.key s.0 k.index) k.serial))
   each_call (call.Interest s k) = valid_named s k (says (call.Interest s k) (reply.Number (st.shared.interest s.0 k.index)) refl)
   each_call (call.Ready s k) = valid_named s k (says (call.Ready s k) (reply.Number (st.shared.mark s.0 k.index).ready) refl)
@@ -243,6 +299,10 @@ module _ (rules : Rules) (l : Limits) (st : ScriptState) (me : CallerNo) (P : Ca
   each_call (call.Selected s) = selector_named s (either (st.shared.gate s.0).shut (says (call.Selected s) reply.ClosedSelector refl) (says_names (call.Selected s) (map (key_at st.shared s.0) (filter (λ i. in_selected_set st.shared s.0 i) (below (st.shared.keys_high s.0))))))
   each_call (call.Interrupt target) = either (nat_lt target.0 l.callers) (h.interrupt target) (says (call.Interrupt target) reply.NoCaller refl)
   each_call call.Interrupted = h.interrupted
+  each_call (call.Pipe target) =
+      either (nat_lt target.0 l.callers) (of_pipe target (next_channel l st)) (says (call.Pipe target) reply.NoCaller refl)
+  each_call (call.Pwrite c bytes) = channel_named c (of_pwrite c bytes (own_sink st me c))
+  each_call (call.Pread c n) = channel_named c (of_pread c n (own_source st me c))
   each_call (call.Group g) = of_group g
 
   -- what holds of the change of each word holds of each call

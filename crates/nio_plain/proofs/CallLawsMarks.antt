@@ -102,6 +102,7 @@ module _ (rules : Rules) (st : ScriptState) (me : CallerNo) (s i : ℕ) where
     register = λ t _ _ _ k _. put_at_keeps (λ s' i' n. GainsOnly (st.shared.mark s' i') n 0) st.shared.mark t.0 k.index unmarked (λ _. cleared (st.shared.mark t.0 k.index)) s i (same m 0);
     register_again = λ _ _ _ _ _ _. same m 0;
     closec = λ _. same m 0;
+    closec_again = λ _. same m 0;
     cancel = λ _ _. same m 0;
     iset = λ _ _ _. same m 0;
     ior = λ _ _ _. same m 0;
@@ -115,6 +116,13 @@ module _ (rules : Rules) (st : ScriptState) (me : CallerNo) (s i : ℕ) where
     close = λ _. same m 0;
     close_end = λ t. after_sweep _ (same m 0);
     interrupt = λ _. same m 0;
+    pipe = λ _ _ _. same m 0;
+    pipe_spent = λ _ _. same m 0;
+    pread = λ _ _ _ _ _. same m 0;
+    pread_interrupted = λ _ _. same m 0;
+    pwrite = λ _ _ _ _. same m 0;
+    pwrite_closed = λ _ _ _. same m 0;
+    pwrite_interrupted = λ _ _ _. same m 0;
     group = λ _ _ _ _. same m 0;
     interrupted = same m 0;
   }

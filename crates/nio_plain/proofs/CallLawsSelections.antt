@@ -159,6 +159,7 @@ module _ (rules : Rules) (st : ScriptState) (me : CallerNo) (s : ℕ) (selection
     register = λ _ _ _ _ _ _. before;
     register_again = λ _ _ _ _ _ _. before;
     closec = λ _. before;
+    closec_again = λ _. before;
     cancel = λ _ _. before;
     iset = λ _ _ _. before;
     ior = λ _ _ _. before;
@@ -172,6 +173,13 @@ module _ (rules : Rules) (st : ScriptState) (me : CallerNo) (s : ℕ) (selection
     close = λ _. before;
     close_end = λ _. before;
     interrupt = λ _. before;
+    pipe = λ _ _ _. before;
+    pipe_spent = λ _ _. before;
+    pread = λ _ _ _ _ _. before;
+    pread_interrupted = λ _ _. before;
+    pwrite = λ _ _ _ _. before;
+    pwrite_closed = λ _ _ _. before;
+    pwrite_interrupted = λ _ _ _. before;
     group = λ _ _ _ _. before;
     interrupted = before;
   }
@@ -235,6 +243,7 @@ module _ (rules : Rules) (st : ScriptState) (me other : CallerNo) (s : ℕ) (sel
     register = λ _ _ _ _ _ _. stays;
     register_again = λ _ _ _ _ _ _. stays;
     closec = λ _. stays;
+    closec_again = λ _. stays;
     cancel = λ _ _. stays;
     iset = λ _ _ _. stays;
     ior = λ _ _ _. stays;
@@ -248,6 +257,13 @@ module _ (rules : Rules) (st : ScriptState) (me other : CallerNo) (s : ℕ) (sel
     close = λ _. stays;
     close_end = λ _. stays;
     interrupt = λ _. stays;
+    pipe = λ _ _ _. stays;
+    pipe_spent = λ _ _. stays;
+    pread = λ _ _ _ _ _. stays;
+    pread_interrupted = λ _ _. stays;
+    pwrite = λ _ _ _ _. stays;
+    pwrite_closed = λ _ _ _. stays;
+    pwrite_interrupted = λ _ _ _. stays;
     group = λ _ _ _ _. stays;
     interrupted = stays;
   }

@@ -88,6 +88,7 @@ module _ (rules : Rules) (st : ScriptState) (me : CallerNo) (s : ℕ) where
     register = λ _ _ _ _ _ _. same;
     register_again = λ _ _ _ _ _ _. same;
     closec = λ _. same;
+    closec_again = λ _. same;
     cancel = λ _ _. same;
     iset = λ _ _ _. same;
     ior = λ _ _ _. same;
@@ -101,6 +102,13 @@ module _ (rules : Rules) (st : ScriptState) (me : CallerNo) (s : ℕ) where
     close = λ t. by_close t.0;
     close_end = λ _. same;
     interrupt = λ _. same;
+    pipe = λ _ _ _. same;
+    pipe_spent = λ _ _. same;
+    pread = λ _ _ _ _ _. same;
+    pread_interrupted = λ _ _. same;
+    pwrite = λ _ _ _ _. same;
+    pwrite_closed = λ _ _ _. same;
+    pwrite_interrupted = λ _ _ _. same;
     group = λ _ _ _ _. same;
     interrupted = same;
   }

@@ -1,6 +1,6 @@
 -- The changes of one selector's parts when it is closed, and when a channel is, and the changes of the
 -- state that they are.
-use Rattle.std.proofs.Common.{◌≡◌, ℕ, ◌<◌, ◌≤◌, eqb, Bool, true, false, cond, Option, Some, None, is_some, List, length, get_or, set, refl, sym, ap, ◌∙◌, ⊎_elim}
+use Rattle.std.proofs.Common.{◌≡◌, ℕ, ◌<◌, ◌≤◌, eqb, Bool, true, false, cond, Option, Some, None, is_some, List, length, get_or, set, refl, sym, ap, ◌∙◌, ⊎_elim, map}
 use Rattle.std.proofs.lemmas.Bool.{cases_lt, eq-eqb, ne_eqb, cond-true, cond-false, true≢false}
 use Rattle.nio_event.specs.State.{put, unmade_channel}
 use Rattle.nio_event.specs.declared.found.Chan.{Chan}
@@ -11,8 +11,8 @@ use Rattle.nio_plain.proofs.Changing.{changed-below, changed-past}
 use Rattle.nio_plain.proofs.Parts.{Makes, state-removed, part_cond, cond_stays}
 use Rattle.nio_plain.proofs.Places.{same_function, put_is, places_at, places_all, places_past}
 use Rattle.nio_plain.proofs.Registered.{key_of-row}
-use Rattle.nio_plain.specs.PlainState.{SelectorRow, KeyRow, places, changed, key_row, no_key, removed_row, state_from, state_of, channel_row, selector_row, no_selector, cancelled_row, emptied, key_in, with_cancelled_key, has_finished}
-use Rattle.nio_plain.specs.ScriptState.{ScriptState, with_shared}
+use Rattle.nio_plain.specs.PlainState.{SelectorRow, KeyRow, places, changed, key_row, no_key, removed_row, state_from, state_of, channel_row, selector_row, no_selector, cancelled_row, emptied, key_in, with_cancelled_key, has_finished, pipe_of}
+use Rattle.nio_plain.specs.ScriptState.{ScriptState, with_shared, Pipe}
 use Rattle.nio_plain.specs.Seq.Cancelling.{has_index, cancelled_key, with_keys_cancelled}
 use Rattle.nio_plain.specs.Seq.Closing.{without_keys}
 use Rattle.nio_plain.specs.declared.plain.Plain.{Plain}
@@ -21,7 +21,7 @@ use Rattle.nio_plain.specs.declared.plain.selector.Key.{Key}
 use Rattle.nio_plain.specs.declared.plain.selector.Selector.{Selector}
 
 -- a call that changes the parts of one selector: x is the selector before, y the one after
-pub changed_selector : (p : Plain) (s place : ℕ) (x y : Selector) (f : SelectorRow → SelectorRow) (F : ScriptState → ScriptState) → Makes p.group (places (λ b. b) false p.interrupted.items) (length p.channels.items) (places channel_row unmade_channel p.channels.items) s f F → place ≡ s → s < length p.selectors.items → x ≡ get_or p.selectors.items place x → selector_row y ≡ f (selector_row x) → with_rows p (places selector_row no_selector (set p.selectors.items place y)) ≡ F (state_of p)
+pub changed_selector : (p : Plain) (s place : ℕ) (x y : Selector) (f : SelectorRow → SelectorRow) (F : ScriptState → ScriptState) → Makes p.group (map pipe_of p.pipes.items) (places (λ b. b) false p.interrupted.items) (length p.channels.items) (places channel_row unmade_channel p.channels.items) s f F → place ≡ s → s < length p.selectors.items → x ≡ get_or p.selectors.items place x → selector_row y ≡ f (selector_row x) → with_rows p (places selector_row no_selector (set p.selectors.items place y)) ≡ F (state_of p)
 changed_selector p s place x y f F makes same h e done =
     let at = places_at selector_row no_selector p.selectors.items s x h (e ∙ ap (λ n. get_or p.selectors.items n x) same) in
     ap (λ n. with_rows p (places selector_row no_selector (set p.selectors.items n y))) same ∙ (state-set_selector p _ s y h refl ∙ (ap (λ r. with_rows p (put (rows_of p) s r)) (done ∙ ap f (sym at)) ∙ makes (rows_of p)))
@@ -53,14 +53,14 @@ cancelled-one keys i =
     (cond-true (eqb i i) (cancelled_row (keys i)) (keys i) (eq-eqb i i refl))
     (λ j ne. cond-false (eqb i j) (cancelled_row (keys j)) (keys j) (ne_eqb i j (λ e. ne (sym e))))
 
-module _ (group : Group) (interrupted : ℕ → Bool) (mark : ℕ) (chan : ℕ → Chan) where
+module _ (group : Group) (pipes : List Pipe) (interrupted : ℕ → Bool) (mark : ℕ) (chan : ℕ → Chan) where
   -- every key is removed
-  pub makes-emptied : (s : ℕ) → Makes group interrupted mark chan s (λ r. record r { keys = emptied r.keys }) (λ x. with_shared x (without_keys x.shared s))
-  makes-emptied s = λ row. state-removed group interrupted mark chan s row (λ i. ((row s).keys i).stage.claimed) (λ _. false)
+  pub makes-emptied : (s : ℕ) → Makes group pipes interrupted mark chan s (λ r. record r { keys = emptied r.keys }) (λ x. with_shared x (without_keys x.shared s))
+  makes-emptied s = λ row. state-removed group pipes interrupted mark chan s row (λ i. ((row s).keys i).stage.claimed) (λ _. false)
 
   module _ (row : ℕ → SelectorRow) (c : ℕ) where
     abbrev st : ScriptState
-    st = state_from group interrupted mark chan row
+    st = state_from group pipes interrupted mark chan row
 
     abbrev goes : ℕ → ℕ → Bool
     goes s i = has_index (key_in (row s) c) i
@@ -69,9 +69,9 @@ module _ (group : Group) (interrupted : ℕ → Bool) (mark : ℕ) (chan : ℕ �
     stays part h = same_function (λ s. same_function (λ i. cond_stays part (goes s i) (cancelled_row ((row s).keys i)) ((row s).keys i) (h ((row s).keys i))))
 
     -- the channel's key is cancelled in each selector
-    pub state-cancelled : state_from group interrupted mark chan (λ s. with_cancelled_key (row s) c) ≡ with_shared st (with_keys_cancelled st.shared c)
+    pub state-cancelled : state_from group pipes interrupted mark chan (λ s. with_cancelled_key (row s) c) ≡ with_shared st (with_keys_cancelled st.shared c)
     state-cancelled =
-        let stage : ◌≡◌ {A = ℕ → ℕ → Stage} (λ s i. ((with_cancelled_key (row s) c).keys i).stage) (with_keys_cancelled st.shared c).key = same_function (λ s. same_function (λ i. part_cond (λ (k : KeyRow). k.stage) (goes s i) (cancelled_row ((row s).keys i)) ((row s).keys i) ∙ ap (λ o. cond (has_index o i) (cancelled_key ((row s).keys i).stage) ((row s).keys i).stage) (sym (key_of-row group interrupted mark chan row c s)))) in
+        let stage : ◌≡◌ {A = ℕ → ℕ → Stage} (λ s i. ((with_cancelled_key (row s) c).keys i).stage) (with_keys_cancelled st.shared c).key = same_function (λ s. same_function (λ i. part_cond (λ (k : KeyRow). k.stage) (goes s i) (cancelled_row ((row s).keys i)) ((row s).keys i) ∙ ap (λ o. cond (has_index o i) (cancelled_key ((row s).keys i).stage) ((row s).keys i).stage) (sym (key_of-row group pipes interrupted mark chan row c s)))) in
         λ j. with_shared st (record st.shared {
           key = stage j;
           interest = stays (λ (k : KeyRow). k.interest) (λ _. refl) j;

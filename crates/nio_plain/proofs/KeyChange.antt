@@ -1,5 +1,5 @@
 -- Another key in the place of one, and the changes of a state that it is.
-use Rattle.std.proofs.Common.{◌≡◌, ℕ, ◌<◌, ◌≤◌, eqb, Bool, cond, ◌&&◌, length, refl, ap, ◌∙◌, arith, ⊎_elim}
+use Rattle.std.proofs.Common.{◌≡◌, ℕ, ◌<◌, ◌≤◌, eqb, Bool, cond, ◌&&◌, length, refl, ap, ◌∙◌, arith, ⊎_elim, List}
 use Rattle.std.proofs.lemmas.Bool.{cases_lt}
 use Rattle.nio_event.specs.State.{put, put_at, with_key, with_interest, with_mark, with_note}
 use Rattle.nio_event.specs.declared.found.Chan.{Chan}
@@ -10,7 +10,7 @@ use Rattle.nio_plain.proofs.Answering.{rows_of}
 use Rattle.nio_plain.proofs.Parts.{keys_changed}
 use Rattle.nio_plain.proofs.Places.{put_part, put_by, put_at_same, places_past}
 use Rattle.nio_plain.specs.PlainState.{SelectorRow, KeyRow, state_from, state_of, selector_row, no_selector, with_key_at, with_key_row}
-use Rattle.nio_plain.specs.ScriptState.{ScriptState, with_shared}
+use Rattle.nio_plain.specs.ScriptState.{ScriptState, with_shared, Pipe}
 use Rattle.nio_plain.specs.declared.plain.Plain.{Plain}
 
 -- a key is claimed in a selector that is made
@@ -23,14 +23,14 @@ claimed-made p s i h =
     absurd (omega arith))
     (cases_lt s (length p.selectors.items))
 
-module _ (group : Group) (interrupted : ℕ → Bool) (mark : ℕ) (chan : ℕ → Chan) (row : ℕ → SelectorRow) (s i : ℕ) (x : KeyRow) where
+module _ (group : Group) (pipes : List Pipe) (interrupted : ℕ → Bool) (mark : ℕ) (chan : ℕ → Chan) (row : ℕ → SelectorRow) (s i : ℕ) (x : KeyRow) where
   pub part_put : {A : Type 0} (part : KeyRow → A) → ◌≡◌ {A = ℕ → ℕ → A} (put (λ t j. part ((row t).keys j)) s (λ j. part (put (row s).keys i x j))) (put_at (λ t j. part ((row t).keys j)) s i (part x))
   part_put part =
       ap (put (λ t j. part ((row t).keys j)) s) (put_part part (row s).keys i x)
       ∙ put_by (λ t j. part ((row t).keys j)) s (λ b t j. cond (b && eqb j i) (part x) (part ((row t).keys j))) (λ t. refl)
 
-  pub state-key : state_from group interrupted mark chan (put row s (with_key_at (row s) i x)) ≡ with_key_row (state_from group interrupted mark chan row) s i x
-  state-key = keys_changed group interrupted mark chan s row (put (row s).keys i x)
+  pub state-key : state_from group pipes interrupted mark chan (put row s (with_key_at (row s) i x)) ≡ with_key_row (state_from group pipes interrupted mark chan row) s i x
+  state-key = keys_changed group pipes interrupted mark chan s row (put (row s).keys i x)
       _ (part_put (λ (k : KeyRow). k.stage))
       _ (part_put (λ (k : KeyRow). k.interest))
       _ (part_put (λ (k : KeyRow). k.mark))

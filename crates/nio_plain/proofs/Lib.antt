@@ -11,6 +11,7 @@ pub mod Registered
 pub mod KeyChange
 pub mod Calling
 pub mod Grouping
+pub mod Piping
 pub mod Lists
 pub mod Sweeping
 pub mod Marking
@@ -31,6 +32,7 @@ pub mod ReachedRemoving
 pub mod ReachedChanges
 pub mod ReachedChannels
 pub mod ReachedRegistering
+pub mod ReachedPipes
 pub mod ReachedCalls
 pub mod ReachedLaws
 pub mod ReachedGroups

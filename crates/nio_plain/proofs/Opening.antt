@@ -1,5 +1,5 @@
 -- Opening a selector and a channel, over the parts of a state.
-use Rattle.std.proofs.Common.{◌≡◌, ℕ, ◌<◌, ◌≤◌, Bool, true, false, Some, sym, ap, ◌∙◌}
+use Rattle.std.proofs.Common.{◌≡◌, ℕ, ◌<◌, ◌≤◌, Bool, true, false, None, Some, sym, ap, ◌∙◌, List}
 use Rattle.nio_base.specs.declared.kind.Kind.{Kind}
 use Rattle.nio_base.specs.declared.limits.Limits.{Limits}
 use Rattle.nio_event.specs.State.{put, with_selector}
@@ -9,13 +9,13 @@ use Rattle.nio_group.specs.Group.{Group}
 use Rattle.nio_plain.proofs.Found.{find_unmade, find_spent}
 use Rattle.nio_plain.proofs.Parts.{makes-made}
 use Rattle.nio_plain.specs.PlainState.{SelectorRow, no_selector, new_selector, state_from}
-use Rattle.nio_plain.specs.ScriptState.{ScriptState, with_shared}
+use Rattle.nio_plain.specs.ScriptState.{ScriptState, with_shared, Pipe}
 use Rattle.nio_plain.specs.Seq.Answers.{unchanged, answered}
-use Rattle.nio_plain.specs.Seq.Opening.{selector_call, selector_made, channel_call, channel_made}
+use Rattle.nio_plain.specs.Seq.Opening.{next_channel, selector_call, selector_made, channel_call, channel_made}
 
-module _ (l : Limits) (group : Group) (interrupted : ℕ → Bool) (mark : ℕ) (chan : ℕ → Chan) (row : ℕ → SelectorRow) where
+module _ (l : Limits) (group : Group) (pipes : List Pipe) (interrupted : ℕ → Bool) (mark : ℕ) (chan : ℕ → Chan) (row : ℕ → SelectorRow) where
   abbrev st : ScriptState
-  st = state_from group interrupted mark chan row
+  st = state_from group pipes interrupted mark chan row
 
   module _ (n : ℕ) (is_made : (k : ℕ) → k < n → (row k).made ≡ true) (is_unmade : (k : ℕ) → n ≤ k → (row k).made ≡ false) where
     pub selector_call-spent : l.selectors ≤ n → selector_call l st ≡ unchanged st reply.SelectorsSpent
@@ -29,17 +29,21 @@ module _ (l : Limits) (group : Group) (interrupted : ℕ → Bool) (mark : ℕ) 
         ap (selector_made st) (find_unmade (λ s. (row s).made) l.selectors n is_made is_unmade h)
 
   module _ (kind : Kind) (n : ℕ) (is_made : (k : ℕ) → k < n → (chan k).made ≡ true) (is_unmade : (k : ℕ) → n ≤ k → (chan k).made ≡ false) where
+    pub next_channel-spent : l.channels ≤ n → next_channel l st ≡ None
+    next_channel-spent h = find_spent (λ c. (chan c).made) l.channels n is_made is_unmade h
+
+    pub next_channel-found : n < l.channels → next_channel l st ≡ Some n
+    next_channel-found h = find_unmade (λ c. (chan c).made) l.channels n is_made is_unmade h
+
     pub channel_call-spent : l.channels ≤ n → channel_call l st kind ≡ unchanged st reply.ChannelsSpent
     unfolding channel_call
-    channel_call-spent h =
-        ap (channel_made st kind) (find_spent (λ c. (chan c).made) l.channels n is_made is_unmade h)
+    channel_call-spent h = ap (channel_made st kind) (next_channel-spent h)
 
     pub channel_call-found : n < l.channels → channel_call l st kind ≡ channel_made st kind (Some n)
     unfolding channel_call
-    channel_call-found h =
-        ap (channel_made st kind) (find_unmade (λ c. (chan c).made) l.channels n is_made is_unmade h)
+    channel_call-found h = ap (channel_made st kind) (next_channel-found h)
 
   -- the state with a selector more
-  pub state-new_selector : (n : ℕ) → row n ≡ no_selector → state_from group interrupted mark chan (put row n new_selector) ≡ with_shared st (with_selector st.shared n true)
+  pub state-new_selector : (n : ℕ) → row n ≡ no_selector → state_from group pipes interrupted mark chan (put row n new_selector) ≡ with_shared st (with_selector st.shared n true)
   state-new_selector n e =
-      ap (λ (r : SelectorRow). state_from group interrupted mark chan (put row n (record r { made = true }))) (sym e) ∙ makes-made group interrupted mark chan n true row
+      ap (λ (r : SelectorRow). state_from group pipes interrupted mark chan (put row n (record r { made = true }))) (sym e) ∙ makes-made group pipes interrupted mark chan n true row

@@ -1,5 +1,5 @@
 -- The parts of one selector, put into a state: what the state holds after any change of a selector.
-use Rattle.std.proofs.Common.{◌≡◌, ℕ, eqb, Bool, true, false, cond, ◌&&◌, ◌||◌, Option, is_some, refl, sym, ap, ◌∙◌, ⊎_elim}
+use Rattle.std.proofs.Common.{◌≡◌, ℕ, eqb, Bool, true, false, cond, ◌&&◌, ◌||◌, Option, is_some, refl, sym, ap, ◌∙◌, ⊎_elim, List}
 use Rattle.std.proofs.lemmas.Bool.{cases_eq}
 use Rattle.nio_base.specs.declared.numbers.CallerNo.{CallerNo}
 use Rattle.nio_event.specs.State.{put}
@@ -10,7 +10,7 @@ use Rattle.nio_event.specs.declared.found.Stage.{Stage}
 use Rattle.nio_group.specs.Group.{Group}
 use Rattle.nio_plain.proofs.Places.{same_function, put_part, put_same, put_by, put-here, put-elsewhere}
 use Rattle.nio_plain.specs.PlainState.{SelectorRow, KeyRow, state_from, removed_row}
-use Rattle.nio_plain.specs.ScriptState.{ScriptState, Selection, with_shared}
+use Rattle.nio_plain.specs.ScriptState.{ScriptState, Selection, with_shared, Pipe}
 use Rattle.nio_plain.specs.Seq.Removing.{removed_key, unselected, without_keys_where}
 
 -- the state in which the parts of the selector are these
@@ -58,9 +58,9 @@ free_cond : (frees : Stage → Bool) (b : Bool) (k : KeyRow) → (cond {A = KeyR
 free_cond frees true k = refl
 free_cond frees false k = refl
 
-module _ (group : Group) (interrupted : ℕ → Bool) (mark : ℕ) (chan : ℕ → Chan) where
+module _ (group : Group) (pipes : List Pipe) (interrupted : ℕ → Bool) (mark : ℕ) (chan : ℕ → Chan) where
   abbrev pub state : (ℕ → SelectorRow) → ScriptState
-  state row = state_from group interrupted mark chan row
+  state row = state_from group pipes interrupted mark chan row
 
   module _ (s : ℕ) where
     pub state-row : (row : ℕ → SelectorRow) (r : SelectorRow) → state (put row s r) ≡ with_row (state row) s r

@@ -25,6 +25,7 @@ use Rattle.nio_group.specs.Run as step
 use Rattle.nio_group.specs.Run.{after, reply_to}
 use Rattle.nio_plain.proofs.ReachedChanges.{keeps_beside, keeps_grouped, keeps_woken, keeps_unselected, keeps_shut, keeps_left, keeps_cancelled_key}
 use Rattle.nio_plain.proofs.ReachedChannels.{keeps_selector, keeps_channel, keeps_mode, keeps_closed_channel}
+use Rattle.nio_plain.proofs.ReachedPipes.{keeps_marked, keeps_pipe, keeps_read, keeps_write}
 use Rattle.nio_plain.proofs.ReachedRegistering.{next-is, keeps_new_key}
 use Rattle.nio_plain.proofs.ReachedRemoving.{keeps_begun, keeps_ended, keeps_closed}
 use Rattle.nio_plain.proofs.ReachedSound.{Sound, Keeps, Stays, keeps_unchanged, same_stays, by_test}
@@ -40,6 +41,8 @@ use Rattle.nio_plain.specs.Seq.Listing.{listed, keys_call, selected_call}
 use Rattle.nio_plain.specs.Seq.Modes.{is_registered, blocking_call, is_blocking_call, is_open_call, is_registered_call, key_of, key_for_call}
 use Rattle.nio_plain.specs.Seq.Names.{below, with_named_channel, with_named_selector, with_named_key}
 use Rattle.nio_plain.specs.Seq.Opening.{selector_made, selector_call, channel_made, channel_call}
+use Rattle.nio_plain.specs.Seq.Pipes.{own_sink, own_source}
+use Rattle.nio_plain.specs.Seq.Piping.{pipe_call, pread_call, pwrite_call}
 use Rattle.nio_plain.specs.Seq.Registering.{are_legal, given_or_none, given_or_kept, next_key, registered, registered_new, register_call}
 use Rattle.nio_plain.specs.Seq.Selections.{mode_of, begun_with, begin_call, updated_count, is_again, told_selection, is_caller, own_selection, told_call, left_selection, failed_call}
 use Rattle.nio_plain.specs.Seq.Wakeups.{wakeup_call, interrupt_call, interrupted_call}
@@ -129,7 +132,8 @@ module _ (rules : Rules) (l : Limits) (st : ScriptState) (sound : Sound rules l 
   keeps-closec_call : (me : CallerNo) (c : ChanNo) → Keeps rules l st (closec_call st me c)
   unfolding closec_call
   keeps-closec_call me c =
-      named_channel c _ (λ _. denied (st.shared.chan c.0).closed reply.Already _ (λ _. keeps_closed_channel rules l st c.0 reply.«Ok» sound))
+      named_channel c _ (λ _. keeps_marked rules l st (own_sink st me c) _
+      (denied (st.shared.chan c.0).closed reply.Already _ (λ _. keeps_closed_channel rules l st c.0 reply.«Ok» sound)))
 
   keeps-is_blocking_call : (c : ChanNo) → Keeps rules l st (is_blocking_call st c)
   unfolding is_blocking_call
@@ -288,6 +292,22 @@ module _ (rules : Rules) (l : Limits) (st : ScriptState) (sound : Sound rules l 
   unfolding selected_call
   keeps-selected_call s = keeps-listed s _
 
+  -- calls on pipes
+
+  keeps-pipe_call : (me target : CallerNo) → Keeps rules l st (pipe_call l st me target)
+  unfolding pipe_call
+  keeps-pipe_call me target =
+      allowed (nat_lt target.0 l.callers) reply.NoCaller _ (λ _. keeps_pipe rules l st me target sound)
+
+  keeps-pread_call : (me : CallerNo) (c : ChanNo) (n : ℕ) → Keeps rules l st (pread_call st me c n)
+  unfolding pread_call
+  keeps-pread_call me c n = named_channel c _ (λ _. keeps_read rules l st sound me c n (own_source st me c))
+
+  keeps-pwrite_call : (me : CallerNo) (c : ChanNo) (bytes : List ℕ) → Keeps rules l st (pwrite_call st me c bytes)
+  unfolding pwrite_call
+  keeps-pwrite_call me c bytes =
+      named_channel c _ (λ _. keeps_write rules l st sound me c bytes (own_sink st me c))
+
   -- calls on the group
 
   keeps-stepped : (s : step.Call) → Keeps rules l st (stepped st s)
@@ -341,6 +361,9 @@ module _ (rules : Rules) (l : Limits) (st : ScriptState) (sound : Sound rules l 
   keeps-call_of me (call.Selected s) = keeps-selected_call s
   keeps-call_of me (call.Interrupt target) = keeps-interrupt_call target
   keeps-call_of me call.Interrupted = keeps-interrupted_call me
+  keeps-call_of me (call.Pipe target) = keeps-pipe_call me target
+  keeps-call_of me (call.Pwrite c bytes) = keeps-pwrite_call me c bytes
+  keeps-call_of me (call.Pread c n) = keeps-pread_call me c n
   keeps-call_of me (call.Group g) = keeps-group_call g
 
   pub keeps-seq : (me : CallerNo) (word : Call) → Keeps rules l st (seq rules l st me word)

@@ -1,5 +1,5 @@
 -- A channel's key in a selector, and whether it is registered, over the parts of a state.
-use Rattle.std.proofs.Common.{◌≡◌, ℕ, zero, suc, ◌<◌, ◌≤◌, Bool, true, false, ◌||◌, Option, Some, None, is_some, List, [], ◌∷◌, ◌++◌, length, get_or, cond, refl, sym, ap, ◌∙◌, subst, arith, ⊎_elim}
+use Rattle.std.proofs.Common.{◌≡◌, ℕ, zero, suc, ◌<◌, ◌≤◌, Bool, true, false, ◌||◌, Option, Some, None, is_some, List, [], ◌∷◌, ◌++◌, length, get_or, cond, refl, sym, ap, ◌∙◌, subst, arith, ⊎_elim, map}
 use Rattle.std.proofs.lemmas.Bool.{cases_lt, or_right, or_cases, cond-true}
 use Rattle.std.specs.List.{list_any}
 use Rattle.nio_base.specs.declared.limits.Limits.{Limits}
@@ -10,10 +10,10 @@ use Rattle.nio_event.specs.declared.found.Chan.{Chan}
 use Rattle.nio_group.specs.Group.{Group}
 use Rattle.nio_plain.proofs.Answering.{rows_of}
 use Rattle.nio_plain.proofs.Places.{places_past, places_at}
-use Rattle.nio_plain.specs.PlainState.{SelectorRow, key_in, if_in_set, state_from, state_of, limits_of, places, selector_row, no_selector, channel_row}
+use Rattle.nio_plain.specs.PlainState.{SelectorRow, key_in, if_in_set, state_from, state_of, limits_of, places, selector_row, no_selector, channel_row, pipe_of}
 use Rattle.nio_plain.specs.declared.plain.Plain.{Plain}
 use Rattle.nio_plain.specs.declared.plain.selector.Selector.{Selector}
-use Rattle.nio_plain.specs.ScriptState.{ScriptState}
+use Rattle.nio_plain.specs.ScriptState.{ScriptState, Pipe}
 use Rattle.nio_plain.specs.Seq.Modes.{key_of, if_in_key_set, is_registered}
 use Rattle.nio_plain.specs.Seq.Names.{below}
 
@@ -70,9 +70,9 @@ registered-key l st c h =
     named s None e t = absurd cc
     named s (Some k) e t = (s, k, e)
 
-module _ (group : Group) (interrupted : ℕ → Bool) (mark : ℕ) (chan : ℕ → Chan) (row : ℕ → SelectorRow) where
+module _ (group : Group) (pipes : List Pipe) (interrupted : ℕ → Bool) (mark : ℕ) (chan : ℕ → Chan) (row : ℕ → SelectorRow) where
   abbrev st : ScriptState
-  st = state_from group interrupted mark chan row
+  st = state_from group pipes interrupted mark chan row
 
   in_set-row : (s : ℕ) (o : Option KeyId) → if_in_key_set st.shared s o ≡ if_in_set (row s).keys o
   in_set-row s None = refl
@@ -85,7 +85,7 @@ module _ (group : Group) (interrupted : ℕ → Bool) (mark : ℕ) (chan : ℕ �
 
 pub is_registered-none : (p : Plain) (c : ℕ) → ((k : ℕ) → k < length p.selectors.items → is_some (key_in (rows_of p k) c) ≡ false) → is_registered (limits_of p) (state_of p).shared c ≡ false
 is_registered-none p c h =
-    let at = key_of-row p.group (places (λ b. b) false p.interrupted.items) (length p.channels.items) (places channel_row unmade_channel p.channels.items) (rows_of p) c in
+    let at = key_of-row p.group (map pipe_of p.pipes.items) (places (λ b. b) false p.interrupted.items) (length p.channels.items) (places channel_row unmade_channel p.channels.items) (rows_of p) c in
     any-none (λ s. is_some (key_of (state_of p).shared c s)) p.limits.selectors
     (λ k _. ap is_some (at k) ∙ ⊎_elim
     (λ (l : k < length p.selectors.items). h k l)
@@ -94,11 +94,11 @@ is_registered-none p c h =
 
 pub is_registered-some : (p : Plain) (c s : ℕ) → s < length p.selectors.items → is_some (key_in (rows_of p s) c) ≡ true → is_registered (limits_of p) (state_of p).shared c ≡ true
 is_registered-some p c s h t =
-    let at = key_of-row p.group (places (λ b. b) false p.interrupted.items) (length p.channels.items) (places channel_row unmade_channel p.channels.items) (rows_of p) c in
+    let at = key_of-row p.group (map pipe_of p.pipes.items) (places (λ b. b) false p.interrupted.items) (length p.channels.items) (places channel_row unmade_channel p.channels.items) (rows_of p) c in
     any-some (λ s. is_some (key_of (state_of p).shared c s)) p.limits.selectors s (omega (arith, p.selectors.ok.0, p.few_selectors)) (ap is_some (at s) ∙ t)
 
 -- the channel's key, as the selector answers it
 pub key_of-read : (p : Plain) (s c : ℕ) (x : Selector) (o : Option KeyId) → s < length p.selectors.items → x ≡ get_or p.selectors.items s x → o ≡ key_in (selector_row x) c → key_of (state_of p).shared c s ≡ o
 key_of-read p s c x o h e key =
-    let at = key_of-row p.group (places (λ b. b) false p.interrupted.items) (length p.channels.items) (places channel_row unmade_channel p.channels.items) (rows_of p) c s in
+    let at = key_of-row p.group (map pipe_of p.pipes.items) (places (λ b. b) false p.interrupted.items) (length p.channels.items) (places channel_row unmade_channel p.channels.items) (rows_of p) c s in
     (at ∙ ap (λ r. key_in r c) (places_at selector_row no_selector p.selectors.items s x h e)) ∙ sym key

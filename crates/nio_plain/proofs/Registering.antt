@@ -1,5 +1,5 @@
 -- Registering a channel, over the parts of a state.
-use Rattle.std.proofs.Common.{◌≡◌, ℕ, ◌==◌, eqb, Bool, true, false, cond, ◌&&◌, Option, Some, None, unwrap_or, bit_and, refl, ap, ◌∙◌}
+use Rattle.std.proofs.Common.{◌≡◌, ℕ, ◌==◌, eqb, Bool, true, false, cond, ◌&&◌, Option, Some, None, unwrap_or, bit_and, refl, ap, ◌∙◌, List}
 use Rattle.nio_base.specs.Kind.{valid_operations}
 use Rattle.nio_base.specs.declared.limits.Limits.{Limits}
 use Rattle.nio_base.specs.declared.numbers.ChanNo.{ChanNo}
@@ -13,7 +13,7 @@ use Rattle.nio_plain.proofs.KeyChange.{part_put}
 use Rattle.nio_plain.proofs.Parts.{state-row, same_row}
 use Rattle.nio_plain.proofs.Places.{put_same}
 use Rattle.nio_plain.specs.PlainState.{SelectorRow, KeyRow, state_from, free_in, next_by_row, next_in, with_key_added, new_key_row}
-use Rattle.nio_plain.specs.ScriptState.{ScriptState, with_shared}
+use Rattle.nio_plain.specs.ScriptState.{ScriptState, with_shared, Pipe}
 use Rattle.nio_plain.specs.Seq.Answers.{unchanged, answered}
 use Rattle.nio_plain.specs.Seq.Modes.{key_of}
 use Rattle.nio_plain.specs.Seq.Registering.{register_call, registered, registered_new, next_by, next_key, with_new_key, given_or_kept, given_or_none}
@@ -73,24 +73,24 @@ noted_at : {A : Type 0} (f : ℕ → A) (s : ℕ) (b : Bool) (x : A) → put f s
 noted_at f s true x = refl
 noted_at f s false x = put_same f s (f s) refl
 
-module _ (group : Group) (interrupted : ℕ → Bool) (mark : ℕ) (chan : ℕ → Chan) (row : ℕ → SelectorRow) (s : ℕ) where
+module _ (group : Group) (pipes : List Pipe) (interrupted : ℕ → Bool) (mark : ℕ) (chan : ℕ → Chan) (row : ℕ → SelectorRow) (s : ℕ) where
   abbrev st : ScriptState
-  st = state_from group interrupted mark chan row
+  st = state_from group pipes interrupted mark chan row
 
   -- the key that the selector gives next
   pub next-row : (l : Limits) → next_key l st.shared s ≡ next_in l.keys (row s)
   next-row l = by (free_in (row s))
     where
-      by : (o : Option ℕ) → next_by l (state_from group interrupted mark chan row).shared s o ≡ next_by_row l.keys (row s) o
+      by : (o : Option ℕ) → next_by l (state_from group pipes interrupted mark chan row).shared s o ≡ next_by_row l.keys (row s) o
       by None = refl
       by (Some i) = refl
 
   -- a selector with a new key
-  pub state-new_key : (c ops att : ℕ) (k : KeyId) → state_from group interrupted mark chan (put row s (with_key_added (row s) c k (new_key_row c k.serial ops att))) ≡ with_shared st (with_new_key st.shared s c k ops att)
+  pub state-new_key : (c ops att : ℕ) (k : KeyId) → state_from group pipes interrupted mark chan (put row s (with_key_added (row s) c k (new_key_row c k.serial ops att))) ≡ with_shared st (with_new_key st.shared s c k ops att)
   state-new_key c ops att k =
       let x = new_key_row c k.serial ops att in
       let r = with_key_added (row s) c k x in
-      state-row group interrupted mark chan s row r
+      state-row group pipes interrupted mark chan s row r
       ∙ (ap (λ (m : ScriptState). with_shared m (record m.shared {
         noted = λ n. put (st.shared.noted n) s (r.noted n);
         keys_high = put st.shared.keys_high s r.keys_high;
@@ -99,15 +99,15 @@ module _ (group : Group) (interrupted : ℕ → Bool) (mark : ℕ) (chan : ℕ �
         mark = put st.shared.mark s (λ i. (r.keys i).mark);
         note = put st.shared.note s (λ i. (r.keys i).note);
         free = put st.shared.free s (λ i. (r.keys i).free);
-      })) (same_row group interrupted mark chan s row)
+      })) (same_row group pipes interrupted mark chan s row)
       ∙ (λ j. with_shared st (record st.shared {
         noted = λ n. noted_at (λ t. (row t).noted n) s (eqb n c) (Some k) j;
         keys_high = put st.shared.keys_high s r.keys_high;
-        key = part_put group interrupted mark chan row s k.index x (λ (q : KeyRow). q.stage) j;
-        interest = part_put group interrupted mark chan row s k.index x (λ (q : KeyRow). q.interest) j;
-        mark = part_put group interrupted mark chan row s k.index x (λ (q : KeyRow). q.mark) j;
-        note = part_put group interrupted mark chan row s k.index x (λ (q : KeyRow). q.note) j;
-        free = part_put group interrupted mark chan row s k.index x (λ (q : KeyRow). q.free) j;
+        key = part_put group pipes interrupted mark chan row s k.index x (λ (q : KeyRow). q.stage) j;
+        interest = part_put group pipes interrupted mark chan row s k.index x (λ (q : KeyRow). q.interest) j;
+        mark = part_put group pipes interrupted mark chan row s k.index x (λ (q : KeyRow). q.mark) j;
+        note = part_put group pipes interrupted mark chan row s k.index x (λ (q : KeyRow). q.note) j;
+        free = part_put group pipes interrupted mark chan row s k.index x (λ (q : KeyRow). q.free) j;
       })))
 
 -- the attachment of a new key

@@ -1,6 +1,6 @@
 -- What `register` answers at each of its returns, once its names are made and the channel may be
 -- registered.
-use Rattle.std.proofs.Common.{◌≡◌, ℕ, ◌<◌, true, false, Option, Some, None, Ok, is_some, refl, sym, ap, ◌∙◌, length, set, get_or}
+use Rattle.std.proofs.Common.{◌≡◌, ℕ, ◌<◌, true, false, Option, Some, None, Ok, is_some, refl, sym, ap, ◌∙◌, length, set, get_or, map}
 use Rattle.nio_base.specs.declared.numbers.ChanNo.{ChanNo}
 use Rattle.nio_base.specs.declared.numbers.KeyId.{KeyId}
 use Rattle.nio_base.specs.declared.numbers.SelNo.{SelNo}
@@ -12,7 +12,7 @@ use Rattle.nio_plain.proofs.Places.{places_at}
 use Rattle.nio_plain.proofs.Registered.{key_of-read}
 use Rattle.nio_plain.proofs.Registering.{registered-cancelled, registered-shut, registered-again, registered_new-shut, registered-next, next-row, state-new_key}
 use Rattle.nio_plain.specs.Plain.{AnswersAs, Kept}
-use Rattle.nio_plain.specs.PlainState.{SelectorRow, KeyRow, places, state_of, channel_row, selector_row, no_selector, key_row, no_key, with_key_at, with_key_added, new_key_row, key_in, next_in}
+use Rattle.nio_plain.specs.PlainState.{SelectorRow, KeyRow, places, state_of, channel_row, selector_row, no_selector, key_row, no_key, with_key_at, with_key_added, new_key_row, key_in, next_in, pipe_of}
 use Rattle.nio_plain.specs.ScriptState.{with_shared}
 use Rattle.nio_plain.specs.Seq.Modes.{key_of}
 use Rattle.nio_plain.specs.Seq.Registering.{registered, register_call, next_key, given_or_kept, given_or_none}
@@ -55,14 +55,14 @@ module _ (p : Plain) (sel : SelNo) (chan : ChanNo) (ops : ℕ) (att : Option ℕ
         answered_as p q _ _ _
         (call_is (Some id) key ∙ registered-again p.limits (state_of p) sel.0 chan.0 ops att id (cancelled_is false h) (shut_is false s))
         refl
-        (left ∙ (state-set_selector p _ sel.0 y within refl ∙ (ap (λ r. with_rows p (put (rows_of p) sel.0 r)) (done ∙ ap (λ r. with_key_at r id.index new) (sym row_is)) ∙ (state-key _ _ _ _ (rows_of p) sel.0 id.index new ∙ (key-registered p sel.0 id.index (key_row k) key_is ops (given_or_kept att k.note) ∙ note_is)))))
+        (left ∙ (state-set_selector p _ sel.0 y within refl ∙ (ap (λ r. with_rows p (put (rows_of p) sel.0 r)) (done ∙ ap (λ r. with_key_at r id.index new) (sym row_is)) ∙ (state-key _ _ _ _ _ (rows_of p) sel.0 id.index new ∙ (key-registered p sel.0 id.index (key_row k) key_is ops (given_or_kept att k.note) ∙ note_is)))))
         kept
 
   -- the channel has no key there
   module _ (key : None ≡ key_in (selector_row x) chan.0) where
     next_is : (next : Option KeyId) → next ≡ next_in p.limits.keys (selector_row x) → next_key p.limits (state_of p).shared sel.0 ≡ next
     next_is next e =
-        next-row p.group (places (λ b. b) false p.interrupted.items) (length p.channels.items) (places channel_row unmade_channel p.channels.items) (rows_of p) sel.0 p.limits ∙ (ap (next_in p.limits.keys) row_is ∙ sym e)
+        next-row p.group (map pipe_of p.pipes.items) (places (λ b. b) false p.interrupted.items) (length p.channels.items) (places channel_row unmade_channel p.channels.items) (rows_of p) sel.0 p.limits ∙ (ap (next_in p.limits.keys) row_is ∙ sym e)
 
     pub answers_new-shut : is_some x.closing ≡ true → AnswersAs p p (Ok reply.ClosedSelector) (register_call p.limits (state_of p) sel chan ops att)
     answers_new-shut h =
@@ -79,5 +79,5 @@ module _ (p : Plain) (sel : SelNo) (chan : ChanNo) (ops : ℕ) (att : Option ℕ
         answered_as p q _ _ _
         (call_is None key ∙ registered-next p.limits (state_of p) sel.0 chan.0 ops att (Some id) (shut_is false h) (next_is (Some id) next))
         refl
-        (left ∙ (state-set_selector p _ sel.0 y within refl ∙ (ap (λ r. with_rows p (put (rows_of p) sel.0 r)) (done ∙ ap (λ r. with_key_added r chan.0 id (new_key_row chan.0 id.serial ops (given_or_none att))) (sym row_is)) ∙ state-new_key _ _ _ _ (rows_of p) sel.0 chan.0 ops (given_or_none att) id)))
+        (left ∙ (state-set_selector p _ sel.0 y within refl ∙ (ap (λ r. with_rows p (put (rows_of p) sel.0 r)) (done ∙ ap (λ r. with_key_added r chan.0 id (new_key_row chan.0 id.serial ops (given_or_none att))) (sym row_is)) ∙ state-new_key _ _ _ _ _ (rows_of p) sel.0 chan.0 ops (given_or_none att) id)))
         kept

@@ -16,7 +16,7 @@ use Rattle.nio_group.specs.Group.{Group}
 use Rattle.nio_plain.proofs.Parts.{Makes, then, makes-selecting, state-removed}
 use Rattle.nio_plain.proofs.Places.{same_function}
 use Rattle.nio_plain.specs.PlainState.{SelectorRow, state_from, swept, looked_below, with_selection_begun}
-use Rattle.nio_plain.specs.ScriptState.{ScriptState, Selection, with_shared}
+use Rattle.nio_plain.specs.ScriptState.{ScriptState, Selection, with_shared, Pipe}
 use Rattle.nio_plain.specs.Seq.Answers.{unchanged}
 use Rattle.nio_plain.specs.Seq.Names.{below}
 use Rattle.nio_plain.specs.Seq.Removing.{removed_key, comes_back}
@@ -62,15 +62,15 @@ pub serial_after : (k : Stage) (b : Bool) → (cond b (removed_key k) k).serial 
 serial_after k true = refl
 serial_after k false = refl
 
-module _ (rules : Rules) (group : Group) (interrupted : ℕ → Bool) (mark : ℕ) (chan : ℕ → Chan) (s : ℕ) where
+module _ (rules : Rules) (group : Group) (pipes : List Pipe) (interrupted : ℕ → Bool) (mark : ℕ) (chan : ℕ → Chan) (s : ℕ) where
   -- the cancelled keys are removed
-  makes-swept : Makes group interrupted mark chan s (λ r. record r { keys = swept rules r.keys }) (λ x. with_shared x (without_cancelled rules x.shared s))
+  makes-swept : Makes group pipes interrupted mark chan s (λ r. record r { keys = swept rules r.keys }) (λ x. with_shared x (without_cancelled rules x.shared s))
   makes-swept = λ row.
-      state-removed group interrupted mark chan s row (λ i. in_cancelled_set ((row s).keys i).stage) (comes_back rules)
+      state-removed group pipes interrupted mark chan s row (λ i. in_cancelled_set ((row s).keys i).stage) (comes_back rules)
 
   module _ (row : ℕ → SelectorRow) where
     abbrev st : ScriptState
-    st = state_from group interrupted mark chan row
+    st = state_from group pipes interrupted mark chan row
 
     pub looked-begun : looked_keys (without_cancelled rules st.shared s) s ≡ looked_below (row s).keys (row s).keys_high
     looked-begun =
@@ -82,17 +82,17 @@ module _ (rules : Rules) (group : Group) (interrupted : ℕ → Bool) (mark : �
         ap (λ (p : ℕ → Bool). map name (filter p (below (row s).keys_high))) in_set
         ∙ ap (λ (f : ℕ → KeyId × ℕ). map f (filter (λ i. is_valid (stage i)) (below (row s).keys_high))) named
 
-    pub state-begun : (me : CallerNo) (how : Mode) → state_from group interrupted mark chan (put row s (with_selection_begun rules (row s) me how)) ≡ (selection_begun rules st me s how).left
+    pub state-begun : (me : CallerNo) (how : Mode) → state_from group pipes interrupted mark chan (put row s (with_selection_begun rules (row s) me how)) ≡ (selection_begun rules st me s how).left
     state-begun me how =
         let n = (row s).keys_high in
         let sel : List (KeyId × ℕ) → Option Selection = λ looked. Some (record { mode = how; bound = n; looked = looked }) in
         let looked = looked_below (row s).keys n in
-        let selects = makes-selecting group interrupted mark chan s (Some me) (sel looked) in
+        let selects = makes-selecting group pipes interrupted mark chan s (Some me) (sel looked) in
         let first : ScriptState → ScriptState = λ x. with_shared x (without_cancelled rules x.shared s) in
         let second : ScriptState → ScriptState = λ x. record x {
           shared = with_begun (with_turn x.shared s (Some me)) s true;
           selection = put x.selection s (sel looked);
         } in
-        let both = then group interrupted mark chan s (λ r. record r { keys = swept rules r.keys }) (λ r. record r { turn = Some me; selection = sel looked }) first second makes-swept selects row in
+        let both = then group pipes interrupted mark chan s (λ r. record r { keys = swept rules r.keys }) (λ r. record r { turn = Some me; selection = sel looked }) first second makes-swept selects row in
         let left : List (KeyId × ℕ) → ScriptState = λ l. record st { shared = with_begun (with_turn (without_cancelled rules st.shared s) s (Some me)) s true; selection = put st.selection s (sel l) } in
         both ∙ ap left (sym looked-begun)

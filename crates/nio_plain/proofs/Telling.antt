@@ -15,7 +15,7 @@ use Rattle.nio_plain.proofs.Answering.{rows_of}
 use Rattle.nio_plain.proofs.Parts.{Makes, then, makes-gate, makes-selecting, keys_changed, part_stays, state-removed}
 use Rattle.nio_plain.proofs.Places.{same_function, put_by}
 use Rattle.nio_plain.specs.PlainState.{SelectorRow, KeyRow, state_from, state_of, selector_row, key_id, caller_of, selection_of, removed_row, swept_looked}
-use Rattle.nio_plain.specs.ScriptState.{ScriptState, Selection, with_shared, with_selection}
+use Rattle.nio_plain.specs.ScriptState.{ScriptState, Selection, with_shared, with_selection, Pipe}
 use Rattle.nio_plain.specs.Seq.Answers.{unchanged}
 use Rattle.nio_plain.specs.Seq.Removing.{comes_back}
 use Rattle.nio_plain.specs.Seq.Selections.{told_call, told_selection, own_selection, selection_ended, with_marks, without_looked_cancelled, is_looked, told_bits, marked, updated_count, is_again, why_ended, is_caller}
@@ -63,28 +63,28 @@ cond_both : {A : Type 0} (a b : Bool) (x y : A) → cond a (cond b x y) y ≡ co
 cond_both true b x y = refl
 cond_both false b x y = refl
 
-module _ (group : Group) (interrupted : ℕ → Bool) (mark : ℕ) (chan : ℕ → Chan) (s : ℕ) where
+module _ (group : Group) (pipes : List Pipe) (interrupted : ℕ → Bool) (mark : ℕ) (chan : ℕ → Chan) (s : ℕ) where
   -- the looked keys are marked
-  makes-marked : (looked pairs : List (KeyId × ℕ)) → Makes group interrupted mark chan s (λ r. record r { keys = told_keys looked pairs r.keys }) (λ x. with_shared x (with_marks x.shared s looked pairs))
+  makes-marked : (looked pairs : List (KeyId × ℕ)) → Makes group pipes interrupted mark chan s (λ r. record r { keys = told_keys looked pairs r.keys }) (λ x. with_shared x (with_marks x.shared s looked pairs))
   makes-marked looked pairs = λ row.
       let keys = told_keys looked pairs (row s).keys in
       let marks : ℕ → ℕ → Mark = λ t i. ((row t).keys i).mark in
-      keys_changed group interrupted mark chan s row keys
-      _ (part_stays group interrupted mark chan s row keys (λ (k : KeyRow). k.stage) (λ _. refl))
-      _ (part_stays group interrupted mark chan s row keys (λ (k : KeyRow). k.interest) (λ _. refl))
+      keys_changed group pipes interrupted mark chan s row keys
+      _ (part_stays group pipes interrupted mark chan s row keys (λ (k : KeyRow). k.stage) (λ _. refl))
+      _ (part_stays group pipes interrupted mark chan s row keys (λ (k : KeyRow). k.interest) (λ _. refl))
       _ (put_by marks s (λ b t i. cond b (marked (marks t i) (told_bits looked pairs (key_id (row t).keys i))) (marks t i)) (λ t. refl))
-      _ (part_stays group interrupted mark chan s row keys (λ (k : KeyRow). k.note) (λ _. refl))
-      _ (part_stays group interrupted mark chan s row keys (λ (k : KeyRow). k.free) (λ _. refl))
+      _ (part_stays group pipes interrupted mark chan s row keys (λ (k : KeyRow). k.note) (λ _. refl))
+      _ (part_stays group pipes interrupted mark chan s row keys (λ (k : KeyRow). k.free) (λ _. refl))
 
   -- the looked keys that are cancelled are removed
-  makes-swept_looked : (rules : Rules) (looked : List (KeyId × ℕ)) → Makes group interrupted mark chan s (λ r. record r { keys = swept_looked rules r.keys looked }) (λ x. with_shared x (without_looked_cancelled rules x.shared s looked))
+  makes-swept_looked : (rules : Rules) (looked : List (KeyId × ℕ)) → Makes group pipes interrupted mark chan s (λ r. record r { keys = swept_looked rules r.keys looked }) (λ x. with_shared x (without_looked_cancelled rules x.shared s looked))
   makes-swept_looked rules looked = λ row.
       let keys = (row s).keys in
       let same = same_function (λ i. cond_both (is_looked looked (key_id keys i)) (in_cancelled_set (keys i).stage) (removed_row (comes_back rules) (keys i)) (keys i)) in
-      ap (λ (ks : ℕ → KeyRow). state_from group interrupted mark chan (put row s (record (row s) { keys = ks }))) same
-      ∙ state-removed group interrupted mark chan s row (λ i. is_looked looked (key_id keys i) && in_cancelled_set (keys i).stage) (comes_back rules)
+      ap (λ (ks : ℕ → KeyRow). state_from group pipes interrupted mark chan (put row s (record (row s) { keys = ks }))) same
+      ∙ state-removed group pipes interrupted mark chan s row (λ i. is_looked looked (key_id keys i) && in_cancelled_set (keys i).stage) (comes_back rules)
 
-  pub state-ended : (rules : Rules) (row : ℕ → SelectorRow) (selection : Selection) (pairs : List (KeyId × ℕ)) → state_from group interrupted mark chan (put row s (after_selection rules selection.looked pairs (row s))) ≡ with_selection (with_shared (state_from group interrupted mark chan row) (selection_ended rules (state_from group interrupted mark chan row).shared s selection pairs)) s None
+  pub state-ended : (rules : Rules) (row : ℕ → SelectorRow) (selection : Selection) (pairs : List (KeyId × ℕ)) → state_from group pipes interrupted mark chan (put row s (after_selection rules selection.looked pairs (row s))) ≡ with_selection (with_shared (state_from group pipes interrupted mark chan row) (selection_ended rules (state_from group pipes interrupted mark chan row).shared s selection pairs)) s None
   state-ended rules row selection pairs =
       let marks : SelectorRow → SelectorRow = λ r. record r { keys = told_keys selection.looked pairs r.keys } in
       let marks' : ScriptState → ScriptState = λ x. with_shared x (with_marks x.shared s selection.looked pairs) in
@@ -94,9 +94,9 @@ module _ (group : Group) (interrupted : ℕ → Bool) (mark : ℕ) (chan : ℕ �
       let sleeps' : ScriptState → ScriptState = λ x. with_shared x (with_gate x.shared s (record (x.shared.gate s) { woken = false })) in
       let ends : SelectorRow → SelectorRow = λ r. record r { turn = None; selection = None } in
       let ends' : ScriptState → ScriptState = λ x. record x { shared = with_begun (with_turn x.shared s None) s false; selection = put x.selection s None } in
-      let two = then group interrupted mark chan s marks sweeps marks' sweeps' (makes-marked selection.looked pairs) (makes-swept_looked rules selection.looked) in
-      let three = then group interrupted mark chan s (λ r. sweeps (marks r)) sleeps (λ x. sweeps' (marks' x)) sleeps' two (makes-gate group interrupted mark chan s (λ g. record g { woken = false })) in
-      then group interrupted mark chan s (λ r. sleeps (sweeps (marks r))) ends (λ x. sleeps' (sweeps' (marks' x))) ends' three (makes-selecting group interrupted mark chan s None None) row
+      let two = then group pipes interrupted mark chan s marks sweeps marks' sweeps' (makes-marked selection.looked pairs) (makes-swept_looked rules selection.looked) in
+      let three = then group pipes interrupted mark chan s (λ r. sweeps (marks r)) sleeps (λ x. sweeps' (marks' x)) sleeps' two (makes-gate group pipes interrupted mark chan s (λ g. record g { woken = false })) in
+      then group pipes interrupted mark chan s (λ r. sleeps (sweeps (marks r))) ends (λ x. sleeps' (sweeps' (marks' x))) ends' three (makes-selecting group pipes interrupted mark chan s None None) row
 
 pub if_some : {A : Type 0} (o : Option A) (x : A) (P : A → Type 0) → o ≡ Some x → P x → IfSome o P
 if_some o x P e h = subst (λ m. IfSome m P) (sym e) h

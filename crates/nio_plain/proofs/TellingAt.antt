@@ -1,5 +1,5 @@
 -- What `told` answers where the caller has a selection in progress.
-use Rattle.std.proofs.Common.{◌≡◌, ℕ, ◌<◌, Bool, true, false, Some, Ok, List, get_or, set, length, bit_and, count_by, refl, sym, ap, ◌∙◌}
+use Rattle.std.proofs.Common.{◌≡◌, ℕ, ◌<◌, Bool, true, false, Some, Ok, List, get_or, set, length, bit_and, count_by, refl, sym, ap, ◌∙◌, map}
 use Rattle.nio_base.specs.declared.numbers.CallerNo.{CallerNo}
 use Rattle.nio_base.specs.declared.numbers.KeyId.{KeyId}
 use Rattle.nio_base.specs.declared.numbers.SelNo.{SelNo}
@@ -12,7 +12,7 @@ use Rattle.nio_plain.proofs.Marking.{TellsLooked, marked_keys-told, counted-at}
 use Rattle.nio_plain.proofs.Places.{places_at}
 use Rattle.nio_plain.proofs.Telling.{told-own, told-again, told-done, own-some, after_selection, state-ended}
 use Rattle.nio_plain.specs.Plain.{AnswersAs, Kept}
-use Rattle.nio_plain.specs.PlainState.{SelectorRow, KeyRow, places, state_of, channel_row, selector_row, no_selector, key_row, no_key, swept_looked, with_selection_ended}
+use Rattle.nio_plain.specs.PlainState.{SelectorRow, KeyRow, places, state_of, channel_row, selector_row, no_selector, key_row, no_key, swept_looked, with_selection_ended, pipe_of}
 use Rattle.nio_plain.specs.ScriptState.{Selection}
 use Rattle.nio_plain.specs.Seq.Selections.{told_call, told_selection, updated_count, is_updated, told_bits, is_again, why_ended}
 use Rattle.nio_plain.specs.declared.plain.Plain.{Plain}
@@ -53,5 +53,5 @@ module _ (p : Plain) (me : CallerNo) (sel : SelNo) (elapsed : Bool) (pairs : Lis
         answered_as p q _ _ _
         (call_is ∙ told-done p.rules (state_of p) me sel.0 elapsed pairs own count count_is gate gate_is interrupted (sym asked) h)
         (ap (reply.Selected count) because)
-        (left ∙ (state-set_selector p _ sel.0 z within refl ∙ (ap (λ r. with_rows p (put (rows_of p) sel.0 r)) row ∙ state-ended p.group (places (λ b. b) false p.interrupted.items) (length p.channels.items) (places channel_row unmade_channel p.channels.items) sel.0 p.rules (rows_of p) own pairs)))
+        (left ∙ (state-set_selector p _ sel.0 z within refl ∙ (ap (λ r. with_rows p (put (rows_of p) sel.0 r)) row ∙ state-ended p.group (map pipe_of p.pipes.items) (places (λ b. b) false p.interrupted.items) (length p.channels.items) (places channel_row unmade_channel p.channels.items) sel.0 p.rules (rows_of p) own pairs)))
         kept

@@ -1,7 +1,7 @@
 -- Laws of one call, and of the calls between two wakeups: by either of the rules, for all limits, from
 -- every state, also from those that no script reaches. They follow from the documented system, and say what a reader may rely
 -- on without going through its calls.
-use Rattle.std.specs.Prelude.{◌≡◌, ◌≢◌, ◌⊎◌, ℕ, ◌<◌, ◌==◌, Bool, true, false, not, ◌&&◌, ◌||◌, if◌then◌else◌, Option, Some, None, List, [], ◌∷◌, ◌++◌, IsTrue, IsFalse}
+use Rattle.std.specs.Prelude.{◌≡◌, ◌≢◌, ◌⊎◌, ℕ, ◌<◌, ◌==◌, Bool, true, false, not, ◌&&◌, ◌||◌, if◌then◌else◌, Option, Some, None, is_some, List, [], ◌∷◌, ◌++◌, IsTrue, IsFalse}
 use Rattle.std.specs.Int.{bit_at}
 use Rattle.std.specs.List.{All, Contains}
 use Rattle.nio_base.specs.declared.limits.Limits.{Limits}
@@ -25,6 +25,7 @@ use Rattle.nio_plain.specs.ScriptState.{ScriptState, Selection}
 use Rattle.nio_plain.specs.Seq.{seq}
 use Rattle.nio_plain.specs.Seq.Answers.{Answered}
 use Rattle.nio_plain.specs.Seq.Names.{key_at}
+use Rattle.nio_plain.specs.Seq.Pipes.{own_sink}
 use Rattle.nio_plain.specs.Seq.Selections.{own_selection, told_bits}
 use Rattle.nio_plain.specs.declared.rules.Rules.{Rules}
 
@@ -84,6 +85,13 @@ refuses reply.NoCaller = true
 refuses reply.NoSelector = true
 refuses reply.NoChannel = true
 refuses reply.NoKey = true
+refuses (reply.Ends source sink) = false
+refuses (reply.Bytes bytes) = false
+refuses reply.End = false
+refuses reply.NotOwner = true
+refuses reply.ClosedByInterrupt = true
+refuses reply.AsyncClose = true
+refuses reply.BrokenPipe = true
 refuses (reply.Group r) = group_refuses r
 
 -- a call on the group with a reply that changes nothing
@@ -132,12 +140,27 @@ is_without_effect (call.Keys s) r = true
 is_without_effect (call.Selected s) r = true
 is_without_effect (call.Interrupt target) r = refuses r
 is_without_effect call.Interrupted r = refuses r
+is_without_effect (call.Pipe target) r = refuses r
+is_without_effect (call.Pwrite c bytes) r = refuses r
+is_without_effect (call.Pread c n) r = refuses r
 is_without_effect (call.Group g) r = is_without_group_effect g r
 
--- a refused call changes nothing, nor does one that only asks
+-- A refused call that changes a pipe or its channels all the same: an owner's call that finds its sink closed leaves
+-- the end mark; an interrupted caller's call closes its channel; a `pipe` that finds one number left closes the
+-- channel that it made.
+abbrev pub changes_pipe : ScriptState → CallerNo → Call → Reply → Bool
+changes_pipe st me (call.Closec c) reply.Already = is_some (own_sink st me c)
+changes_pipe st me (call.Pwrite c bytes) reply.ClosedChannel = true
+changes_pipe st me (call.Pwrite c bytes) reply.ClosedByInterrupt = true
+changes_pipe st me (call.Pread c n) reply.ClosedByInterrupt = true
+changes_pipe st me (call.Pipe target) reply.ChannelsSpent = true
+changes_pipe st me _ _ = false
+
+-- any other refused call changes nothing, nor does one that only asks
 abbrev pub RefusalsChangeNothing : Type 0
 RefusalsChangeNothing = (rules : Rules) (l : Limits) (st : ScriptState) (me : CallerNo) (c : Call)
-    → IsTrue (is_without_effect c (seq rules l st me c).reply) → (seq rules l st me c).left ≡ st
+    → let done = seq rules l st me c in
+    IsTrue (is_without_effect c done.reply) → IsFalse (changes_pipe st me c done.reply) → done.left ≡ st
 
 -- READINESS. What a call may select: the bits that its poller told of the key that an index has, and
 -- that the caller's own selection looked for there. There is none but in a `told` of a selection in progress.

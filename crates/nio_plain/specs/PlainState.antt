@@ -13,7 +13,7 @@ use Rattle.nio_event.specs.declared.found.GateWord.{GateWord}
 use Rattle.nio_event.specs.declared.found.Mark.{Mark}
 use Rattle.nio_event.specs.declared.found.Stage.{Stage}
 use Rattle.nio_group.specs.Group.{Group}
-use Rattle.nio_plain.specs.ScriptState.{ScriptState, Selection, with_shared}
+use Rattle.nio_plain.specs.ScriptState.{Pipe, ScriptState, Selection, with_shared}
 use Rattle.nio_plain.specs.Seq.Cancelling.{cancelled_key, has_index}
 use Rattle.nio_plain.specs.Seq.Names.{below}
 use Rattle.nio_plain.specs.Seq.Registering.{new_stage}
@@ -21,6 +21,7 @@ use Rattle.nio_plain.specs.Seq.Removing.{removed_key, unselected, comes_back}
 use Rattle.nio_plain.specs.Seq.Selections.{marked, looked_interest, is_looked}
 use Rattle.nio_plain.specs.declared.plain.Plain.{Plain}
 use Rattle.nio_plain.specs.declared.plain.channel.Channel.{Channel}
+use Rattle.nio_plain.specs.declared.plain.pipe.Pipe.{Pipe as PlainPipe}
 use Rattle.nio_plain.specs.declared.plain.selector.Closing.{Closing}
 use Rattle.nio_plain.specs.declared.plain.selector.Key.{Key}
 use Rattle.nio_plain.specs.declared.plain.selector.Selecting.{Selecting}
@@ -248,9 +249,9 @@ selector_row s = record {
   noted = λ c. get nat_cmp s.noted c;
 }
 
--- the state whose parts are these: the group, and the rest by the caller, the channel and the selector
-abbrev pub state_from : Group → (ℕ → Bool) → ℕ → (ℕ → Chan) → (ℕ → SelectorRow) → ScriptState
-state_from group interrupted channels_high chan selector = record {
+-- the state whose parts are these: the group, the pipes, and the rest by the caller, the channel and the selector
+abbrev pub state_from : Group → List Pipe → (ℕ → Bool) → ℕ → (ℕ → Chan) → (ℕ → SelectorRow) → ScriptState
+state_from group pipes interrupted channels_high chan selector = record {
   shared = record {
     drawn = λ _. false;
     interrupted = interrupted;
@@ -276,6 +277,18 @@ state_from group interrupted channels_high chan selector = record {
   };
   selection = λ s. (selector s).selection;
   group = group;
+  pipes = pipes;
+}
+
+-- a pipe
+abbrev pub pipe_of : PlainPipe → Pipe
+pipe_of p = record {
+  source = p.source;
+  sink = p.sink;
+  reader = p.reader;
+  writer = p.writer;
+  waiting = p.waiting.items;
+  marked = p.marked;
 }
 
 -- the state that a plain system holds
@@ -283,6 +296,7 @@ abbrev pub state_of : Plain → ScriptState
 state_of p =
     state_from
     p.group
+    (map pipe_of p.pipes.items)
     (places (λ b. b) false p.interrupted.items)
     (length p.channels.items)
     (places channel_row unmade_channel p.channels.items)

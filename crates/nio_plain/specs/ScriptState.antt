@@ -1,9 +1,11 @@
 -- What a script's system holds: the shared state of selectors, keys and channels, the selections in progress,
--- and a group of asynchronous channels.
+-- a group of asynchronous channels, and pipes.
 --
 -- A state of a script counts no caller as drawn, and counts a removed key as neither cancelled nor
 -- selected: no call of a script tells these apart. Between its calls nobody has a pin or uses an index.
-use Rattle.std.specs.Prelude.{ℕ, ◌^◌, List, Option, None}
+use Rattle.std.specs.Prelude.{ℕ, ◌^◌, Bool, List, [], Option, None}
+use Rattle.nio_base.specs.declared.numbers.CallerNo.{CallerNo}
+use Rattle.nio_base.specs.declared.numbers.ChanNo.{ChanNo}
 use Rattle.nio_base.specs.declared.numbers.KeyId.{KeyId}
 use Rattle.nio_event.specs.State.{State, opening, put}
 use Rattle.nio_event.specs.declared.found.Mode.{Mode}
@@ -17,11 +19,23 @@ pub record Selection : Type 0 where
   pub bound : ℕ
   pub looked : List (KeyId × ℕ)
 
+-- a pipe: its channels, the callers that own them, the bytes that wait in it, the first to be read first, and
+-- whether its sink has left the end mark
+pub record Pipe : Type 0 where
+  pub source : ChanNo
+  pub sink : ChanNo
+  pub reader : CallerNo
+  pub writer : CallerNo
+  pub waiting : List ℕ
+  pub marked : Bool
+
 pub record ScriptState : Type 0 where
   pub shared : State
   -- by the selector's number
   pub selection : ℕ → Option Selection
   pub group : Group
+  -- in the order in which they were made
+  pub pipes : List Pipe
 
 -- how many channels a script's group makes, how many operations it has in flight, and how many it accepts
 abbrev pub group_limits : GroupLimits
@@ -29,7 +43,7 @@ group_limits = record { channels = 1024; flight = 4096; ops = 2 ^ 62 }
 
 -- the state in which a script begins
 abbrev pub script_opening : ScriptState
-script_opening = record { shared = opening; selection = λ _. None; group = empty_group group_limits }
+script_opening = record { shared = opening; selection = λ _. None; group = empty_group group_limits; pipes = [] }
 
 -- the setters
 
@@ -41,3 +55,6 @@ with_selection st s x = record st { selection = put st.selection s x }
 
 abbrev pub with_group : ScriptState → Group → ScriptState
 with_group st x = record st { group = x }
+
+abbrev pub with_pipes : ScriptState → List Pipe → ScriptState
+with_pipes st x = record st { pipes = x }

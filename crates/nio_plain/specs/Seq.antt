@@ -9,6 +9,7 @@
 -- end of a selection cite.
 pub mod Answers
 pub mod Names
+pub mod Pipes
 pub mod Opening
 pub mod Modes
 pub mod Removing
@@ -20,6 +21,7 @@ pub mod Wakeups
 pub mod Closing
 pub mod Listing
 pub mod Grouping
+pub mod Piping
 use Rattle.std.specs.Prelude.{nat_lt, if◌then◌else◌}
 use Rattle.nio_base.specs.declared.limits.Limits.{Limits}
 use Rattle.nio_base.specs.declared.numbers.CallerNo.{CallerNo}
@@ -35,6 +37,7 @@ use Rattle.nio_plain.specs.Seq.Keys.{valid_call, interest_call, ready_call, iset
 use Rattle.nio_plain.specs.Seq.Listing.{keys_call, selected_call}
 use Rattle.nio_plain.specs.Seq.Modes.{blocking_call, is_blocking_call, is_open_call, is_registered_call, key_for_call}
 use Rattle.nio_plain.specs.Seq.Opening.{selector_call, channel_call}
+use Rattle.nio_plain.specs.Seq.Piping.{pipe_call, pread_call, pwrite_call}
 use Rattle.nio_plain.specs.Seq.Registering.{register_call}
 use Rattle.nio_plain.specs.Seq.Selections.{begin_call, told_call, failed_call}
 use Rattle.nio_plain.specs.Seq.Wakeups.{wakeup_call, interrupt_call, interrupted_call}
@@ -71,6 +74,9 @@ call_of rules l st me (call.Keys s) = keys_call st s
 call_of rules l st me (call.Selected s) = selected_call st s
 call_of rules l st me (call.Interrupt target) = interrupt_call l st target
 call_of rules l st me call.Interrupted = interrupted_call st me
+call_of rules l st me (call.Pipe target) = pipe_call l st me target
+call_of rules l st me (call.Pwrite c bytes) = pwrite_call st me c bytes
+call_of rules l st me (call.Pread c n) = pread_call st me c n
 call_of rules l st me (call.Group g) = group_call st g
 
 unfoldable pub seq : Rules → Limits → ScriptState → CallerNo → Call → Answered

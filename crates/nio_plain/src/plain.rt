@@ -5,6 +5,7 @@
 ghost use Rattle.std.specs.Prelude.{◌≡◌, ◌≤◌, vec_len};
 
 use self::channel::Channel;
+use self::pipe::Pipe;
 use self::selector::Selector;
 use crate::rules::Rules;
 use crate::system::System;
@@ -26,6 +27,8 @@ mod looking;
 mod marking;
 mod naming;
 mod opening;
+mod pipe;
+mod piping;
 mod registering;
 mod selecting;
 mod selector;
@@ -40,7 +43,7 @@ pub const GROUP_LIMITS: GroupLimits = GroupLimits {
     ops: 4_611_686_018_427_387_904,
 };
 
-/// A system of selectors, keys and channels, kept in vectors, with its group.
+/// A system of selectors, keys and channels, kept in vectors, with its group and its pipes.
 #[derive(Drop)]
 pub struct Plain {
     limits: Limits,
@@ -50,6 +53,7 @@ pub struct Plain {
     channels: Vec<Channel>,
     selectors: Vec<Selector>,
     group: GroupCore,
+    pipes: Vec<Pipe>,
     ghost each_caller: { vec_len interrupted ≡ limits.callers },
     ghost few_selectors: { vec_len selectors ≤ limits.selectors },
 }
@@ -92,6 +96,7 @@ impl Plain {
             channels: Vec::new(alloc),
             selectors: Vec::new(alloc),
             group: GroupCore::make(alloc, GROUP_LIMITS)?,
+            pipes: Vec::new(alloc),
         })
     }
 }

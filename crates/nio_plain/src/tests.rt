@@ -158,3 +158,45 @@ fn calls_on_the_group(rt: HostRuntime) -> Result<(), Fail> {
         ],
     )
 }
+
+#[test]
+fn calls_on_pipes(rt: HostRuntime) -> Result<(), Fail> {
+    let alloc = rt.alloc();
+    row(
+        &rt,
+        alloc,
+        "pipe_bytes",
+        &[
+            ("t1 pipe t2", "c0 c1"),
+            ("t2 pwrite c1 68656c6c6f", "5"),
+            ("t1 pwrite c1 00", "not-owner"),
+            ("t1 pread c0 3", "68656c"),
+            ("t1 pread c0 9", "6c6f"),
+            ("t1 pread c0 1", "again"),
+            ("t1 pread c0 0", "0"),
+            ("t1 blocking c0 off", "ok"),
+            ("t1 pread c0 1", "0"),
+            ("t1 closec c1", "ok"),
+            ("t1 pread c0 1", "0"),
+            ("t2 closec c1", "already"),
+            ("t1 pread c0 1", "end"),
+        ],
+    )?;
+    row(
+        &rt,
+        alloc,
+        "broken_pipe",
+        &[
+            ("t1 pipe t2", "c0 c1"),
+            ("t1 closec c0", "ok"),
+            ("t2 pwrite c1 00", "broken-pipe"),
+            ("t1 interrupt t2", "ok"),
+            ("t2 pwrite c1 00", "closed-by-interrupt"),
+            ("t2 pwrite c1 00", "closed-channel"),
+            ("t2 interrupted", "yes"),
+            ("t1 pread c1 1", "not-owner"),
+            ("t1 pread c2 1", "no-channel"),
+            ("t1 pread c0 1", "closed-channel"),
+        ],
+    )
+}

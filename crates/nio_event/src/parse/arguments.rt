@@ -1,6 +1,6 @@
 //! The arguments of calls: one reader for each shape that the arguments of a call may have.
 ghost use Rattle.std.specs.Prelude.{map, ⊤};
-ghost use Rattle.nio_event.specs.Arguments.{IsAttachment, ReadsArguments, attachment_words, channel_mode, channel_selector, key_number, key_ops, mode_word, nothing, one_caller, one_channel, one_kind, one_selector, registration, selector_key};
+ghost use Rattle.nio_event.specs.Arguments.{IsAttachment, ReadsArguments, attachment_words, channel_count, channel_mode, channel_selector, key_number, key_ops, mode_word, nothing, one_caller, one_channel, one_kind, one_selector, registration, selector_key};
 ghost use Rattle.nio_event.specs.Reading.{Reads};
 ghost use Rattle.nio_event.specs.Words.{kind_word};
 
@@ -95,6 +95,21 @@ pub fn read_channel_selector(args: &[&[u8]]) -> Option<(ChanNo, SelNo)>
     let selector = read_selector(selector)?;
     Some((channel, selector))
 }
+
+/// A channel, and how many bytes to read at most.
+pub fn read_channel_count(args: &[&[u8]]) -> Option<(ChanNo, u32)>
+    ensures { ReadsArguments (λ p. channel_count p.0 p.1) (map (λ w. w.now) args.now) result }
+{
+    let [channel, count] = args else {
+        return None;
+    };
+    let channel = read_channel(channel)?;
+    let count = read_number(count, COUNT_LIMIT)?;
+    Some((channel, count as u32))
+}
+
+/// The most bytes that a line can ask for.
+const COUNT_LIMIT: u64 = 2048;
 
 /// A selector, a channel, operations, and an attachment or none.
 pub fn read_registration(args: &[&[u8]]) -> Option<(SelNo, ChanNo, Ops, Option<u64>)>

@@ -5,9 +5,11 @@ ghost use Rattle.nio_event.specs.Lines.{ReadsCall};
 ghost use Rattle.nio_event.specs.Reading.{Reads};
 
 use super::arguments::{
-    read_channel_selector, read_key_number, read_key_ops, read_kind, read_mode, read_none,
-    read_one_caller, read_one_channel, read_one_selector, read_registration, read_selector_key,
+    read_channel_count, read_channel_selector, read_key_number, read_key_ops, read_kind, read_mode,
+    read_none, read_one_caller, read_one_channel, read_one_selector, read_registration,
+    read_selector_key,
 };
+use super::bytes::read_channel_bytes;
 use super::group::read_group_call;
 use super::told::read_told;
 use super::waiting::read_wait;
@@ -34,6 +36,7 @@ fn read_arguments(alloc: Global, word: CallWord, args: &[&[u8]]) -> Result<Optio
 {
     match word {
         CallWord::Alone(word) => Ok(read_none(args).map(|()| word.call())),
+        CallWord::OnCaller(word) => Ok(read_one_caller(args).map(|t| word.call(t))),
         CallWord::OnSelector(word) => Ok(read_one_selector(args).map(|s| word.call(s))),
         CallWord::OnChannel(word) => Ok(read_one_channel(args).map(|c| word.call(c))),
         CallWord::OnKey(word) => Ok(read_selector_key(args).map(|(s, k)| word.call(s, k))),
@@ -49,7 +52,10 @@ fn read_arguments(alloc: Global, word: CallWord, args: &[&[u8]]) -> Result<Optio
         CallWord::Told => Ok(read_told(alloc, args)?.map(|(s, elapsed, pairs)| Call::Told(
             s, elapsed, pairs,
         ))),
-        CallWord::Interrupt => Ok(read_one_caller(args).map(Call::Interrupt)),
+        CallWord::Pwrite => {
+            Ok(read_channel_bytes(alloc, args)?.map(|(c, bytes)| Call::Pwrite(c, bytes)))
+        }
+        CallWord::Pread => Ok(read_channel_count(args).map(|(c, n)| Call::Pread(c, n))),
         CallWord::OnGroup(word) => Ok(read_group_call(word, args).map(Call::Group)),
     }
 }

@@ -145,6 +145,19 @@ fn reads_lines(rt: HostRuntime) -> Result<(), Fail> {
         ("t1 selected s0", 1, "Selected(SelNo(0))"),
         ("t1 interrupt t63", 1, "Interrupt(CallerNo(63))"),
         ("t1 interrupted", 1, "Interrupted"),
+        ("t1 pipe t63", 1, "Pipe(CallerNo(63))"),
+        (
+            "t2 pwrite c1 680aff",
+            2,
+            "Pwrite(ChanNo(1), Bytes { bytes: [104, 10, 255] })",
+        ),
+        (
+            "t2 pwrite c1 -",
+            2,
+            "Pwrite(ChanNo(1), Bytes { bytes: [] })",
+        ),
+        ("t1 pread c0 0", 1, "Pread(ChanNo(0), 0)"),
+        ("t1 pread c0 2048", 1, "Pread(ChanNo(0), 2048)"),
         ("t1 gopen stream", 1, "Group(Gopen(Stream))"),
         ("t1 gopen listener", 1, "Group(Gopen(Listener))"),
         ("t1 gbind g4294967295", 1, "Group(Gbind(GChan(4294967295)))"),
@@ -290,7 +303,20 @@ fn refuses_lines(rt: HostRuntime) {
         "t1 done",
         "t1 shutdown now",
         "t1 is-terminated",
-        "t1 pipe t1",
+        "t1 pipe t64",
+        "t1 pipe",
+        "t1 pwrite c0",
+        "t1 pwrite c0 6",
+        "t1 pwrite c0 686",
+        "t1 pwrite c0 6G",
+        "t1 pwrite c0 0A",
+        "t1 pwrite c0 --",
+        "t1 pwrite c0 68 68",
+        "t1 pwrite s0 68",
+        "t1 pread c0",
+        "t1 pread c0 2049",
+        "t1 pread c0 01",
+        "t1 pread c0 -",
         "t1 block s0",
         "go",
     ];
@@ -315,6 +341,10 @@ fn reads_lines_of_every_length(rt: HostRuntime) -> Result<(), Fail> {
     let longer = told_line(rt.alloc(), "t1 told s0 k100:1")?;
     assert_eq!(rt; longer.len(), 4097);
     assert!(rt; is_malformed(rt.alloc(), longer.as_bytes()));
+    let most = write_line(rt.alloc(), 2000)?;
+    assert!(rt; !is_malformed(rt.alloc(), most.as_bytes()));
+    let more = write_line(rt.alloc(), 2001)?;
+    assert!(rt; is_malformed(rt.alloc(), more.as_bytes()));
     let comment = format!(in rt.alloc(); "#{longer}")?;
     assert!(rt; is_blank_line(rt.alloc(), comment.as_bytes()));
     assert!(rt; is_blank_line(rt.alloc(), b"#"));
@@ -327,6 +357,15 @@ fn told_line(alloc: Global, begin: &str) -> Result<String, AllocError> {
     let mut line = String::from_str(alloc, begin)?;
     for key in 1000..1510 {
         line.push_str(format!(in alloc; " k{key}:1")?.as_str())?;
+    }
+    Ok(line)
+}
+
+/// The line that writes so many bytes into a pipe.
+fn write_line(alloc: Global, bytes: usize) -> Result<String, AllocError> {
+    let mut line = String::from_str(alloc, "t1 pwrite c0 ")?;
+    for _ in 0..bytes {
+        line.push_str("0f")?;
     }
     Ok(line)
 }

@@ -1,12 +1,13 @@
 //! Writing the arguments of calls, each after a space: one function for each shape that has more than
 //! one argument, or more than one form.
 ghost use Rattle.std.specs.Prelude.{◌≡◌, ◌++◌, OnOk};
-ghost use Rattle.nio_event.specs.Arguments.{argument_words, attachment_words, channel_mode, channel_selector, elapsed_words, key_number, key_ops, mode_word, one_kind, registration, selector_key, selector_told, selector_wait, waiting_words};
+ghost use Rattle.nio_event.specs.Arguments.{argument_words, attachment_words, channel_bytes, channel_count, channel_mode, channel_selector, elapsed_words, key_number, key_ops, mode_word, one_kind, registration, selector_key, selector_told, selector_wait, waiting_words};
 ghost use Rattle.nio_event.specs.Printing.{spaced};
 ghost use Rattle.nio_event.specs.Words.{kind_word};
 
 use super::piece::{
-    push_key_word, push_name, push_number_word, push_ops, push_pairs, push_time, push_word,
+    push_hex, push_key_word, push_name, push_number_word, push_ops, push_pairs, push_time,
+    push_word,
 };
 use crate::call::Waiting;
 use nio_base::{ChanNo, KeyId, Kind, Ops, SelNo};
@@ -35,6 +36,27 @@ pub fn push_channel_selector(
 {
     push_name(line, b'c', channel.0)?;
     push_name(line, b's', selector.0)
+}
+
+pub fn push_channel_bytes(
+    line: &mut Vec<u8>,
+    channel: ChanNo,
+    bytes: &[u8],
+) -> Result<(), AllocError>
+    ensures { OnOk result
+        (line.new.items ≡ line.old.items ++ spaced (argument_words (channel_bytes channel bytes.now))) }
+{
+    push_name(line, b'c', channel.0)?;
+    line.push(b' ')?;
+    push_hex(line, bytes)
+}
+
+pub fn push_channel_count(line: &mut Vec<u8>, channel: ChanNo, count: u32) -> Result<(), AllocError>
+    ensures { OnOk result
+        (line.new.items ≡ line.old.items ++ spaced (argument_words (channel_count channel count))) }
+{
+    push_name(line, b'c', channel.0)?;
+    push_number_word(line, u64::from(count))
 }
 
 pub fn push_registration(

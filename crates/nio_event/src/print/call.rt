@@ -6,8 +6,8 @@ ghost use Rattle.nio_event.specs.Calls.{call_words, line_text};
 ghost use Rattle.nio_event.specs.Printing.{spaced};
 
 use super::arguments::{
-    push_channel_selector, push_key_number, push_key_ops, push_kind, push_mode, push_registration,
-    push_selector_key, push_told, push_wait,
+    push_channel_bytes, push_channel_count, push_channel_selector, push_key_number, push_key_ops,
+    push_kind, push_mode, push_registration, push_selector_key, push_told, push_wait,
 };
 use super::group::push_group_arguments;
 use super::piece::{push_name, push_numbered, push_word};
@@ -37,7 +37,7 @@ fn push_arguments(line: &mut Vec<u8>, call: &Call) -> Result<(), AllocError>
 {
     match call {
         Call::Selector | Call::Interrupted => Ok(()),
-        Call::Interrupt(caller) => push_name(line, b't', caller.0),
+        Call::Interrupt(caller) | Call::Pipe(caller) => push_name(line, b't', caller.0),
         Call::Failed(selector)
         | Call::Wakeup(selector)
         | Call::Close(selector)
@@ -67,6 +67,8 @@ fn push_arguments(line: &mut Vec<u8>, call: &Call) -> Result<(), AllocError>
             push_key_number(line, *selector, *key, *attachment)
         }
         Call::Begin(selector, waiting) => push_wait(line, *selector, *waiting),
+        Call::Pwrite(channel, bytes) => push_channel_bytes(line, *channel, bytes.as_slice()),
+        Call::Pread(channel, count) => push_channel_count(line, *channel, *count),
         Call::Group(call) => push_group_arguments(line, *call),
         Call::Told(selector, elapsed, pairs) => {
             push_told(line, *selector, *elapsed, pairs.as_slice())

@@ -1,8 +1,8 @@
 //! The pieces of a line.
-ghost use Rattle.std.specs.Prelude.{◌≡◌, ◌∷◌, ◌++◌, OnOk, map};
+ghost use Rattle.std.specs.Prelude.{◌≡◌, ◌<◌, ◌/◌, ◌%◌, [], ◌∷◌, ◌++◌, OnOk, map};
 ghost use Rattle.std.specs.Fmt.{decimal, signed_decimal};
 ghost use Rattle.nio_event.specs.Printing.{spaced};
-ghost use Rattle.nio_event.specs.Words.{key_word, pair_word, serial_text};
+ghost use Rattle.nio_event.specs.Words.{bytes_word, hex_digit, hex_digits, key_word, pair_word, serial_text};
 
 use itoa::Buffer;
 use nio_base::{KeyId, Ops};
@@ -120,4 +120,43 @@ fn push_pair(line: &mut Vec<u8>, pair: (KeyId, Ops)) -> Result<(), AllocError>
     push_key_word(line, pair.0)?;
     line.push(b':')?;
     push_number(line, u64::from(pair.1.bits()))
+}
+
+/// Bytes, each as two hexadecimal digits; a dash where there are none.
+pub fn push_hex(line: &mut Vec<u8>, bytes: &[u8]) -> Result<(), AllocError>
+    ensures { OnOk result (line.new.items ≡ line.old.items ++ bytes_word bytes.now) }
+{
+    if bytes.is_empty() {
+        push_bytes(line, b"-")
+    } else {
+        push_digits(line, bytes)
+    }
+}
+
+fn push_digits(line: &mut Vec<u8>, bytes: &[u8]) -> Result<(), AllocError>
+    ensures { OnOk result (line.new.items ≡ line.old.items ++ hex_digits bytes.now) }
+{
+    for byte in bytes {
+        push_byte(line, *byte)?;
+    }
+    Ok(())
+}
+
+fn push_byte(line: &mut Vec<u8>, byte: u8) -> Result<(), AllocError>
+    ensures { OnOk result (line.new.items ≡ line.old.items ++ hex_digit (byte / 16) ∷ hex_digit (byte % 16) ∷ []) }
+{
+    line.push(digit(byte / 16))?;
+    line.push(digit(byte % 16))?;
+    Ok(())
+}
+
+fn digit(value: u8) -> u8
+    requires { value < 16 }
+    ensures { result ≡ hex_digit value }
+{
+    if value < 10 {
+        b'0' + value
+    } else {
+        b'a' - 10 + value
+    }
 }

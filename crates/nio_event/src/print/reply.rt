@@ -7,7 +7,8 @@ ghost use Rattle.nio_event.specs.Words.{key_word};
 
 use super::group::push_group_reply;
 use super::piece::{
-    push_bytes, push_key, push_keys, push_number, push_numbered, push_pairs, push_word,
+    push_bytes, push_hex, push_key, push_keys, push_name, push_number, push_numbered, push_pairs,
+    push_word,
 };
 use crate::reply::{Reply, Why};
 use nio_base::{KeyId, Ops};
@@ -56,6 +57,16 @@ pub fn push_reply(line: &mut Vec<u8>, reply: &Reply) -> Result<(), AllocError>
         Reply::NoSelector => push_bytes(line, b"no-selector"),
         Reply::NoChannel => push_bytes(line, b"no-channel"),
         Reply::NoKey => push_bytes(line, b"no-key"),
+        Reply::Ends(source, sink) => {
+            push_numbered(line, b'c', source.0)?;
+            push_name(line, b'c', sink.0)
+        }
+        Reply::Bytes(bytes) => push_hex(line, bytes.as_slice()),
+        Reply::End => push_bytes(line, b"end"),
+        Reply::NotOwner => push_bytes(line, b"not-owner"),
+        Reply::ClosedByInterrupt => push_bytes(line, b"closed-by-interrupt"),
+        Reply::AsyncClose => push_bytes(line, b"async-close"),
+        Reply::BrokenPipe => push_bytes(line, b"broken-pipe"),
         Reply::Group(reply) => push_group_reply(line, *reply),
     }
 }

@@ -1,5 +1,6 @@
 //! The text of each reply.
 use super::*;
+use crate::bytes::Bytes;
 use crate::group_reply::GroupReply;
 use crate::names::Names;
 use crate::pairs::Pairs;
@@ -19,6 +20,7 @@ fn prints_each_reply(rt: HostRuntime) -> Result<(), Fail> {
     };
     let some = vec![in rt.alloc(); (first, Ops::READ), (last, Ops::of(21))]?;
     let none = Vec::new(rt.alloc());
+    let bytes = vec![in rt.alloc(); 0, 15, 109, 255]?;
     let names = vec![in rt.alloc(); first, last]?;
     let replies = [
         (Reply::Selector(SelNo(0)), "s0"),
@@ -69,6 +71,13 @@ fn prints_each_reply(rt: HostRuntime) -> Result<(), Fail> {
         (Reply::NoSelector, "no-selector"),
         (Reply::NoChannel, "no-channel"),
         (Reply::NoKey, "no-key"),
+        (Reply::Ends(ChanNo(3), ChanNo(14)), "c3 c14"),
+        (Reply::Bytes(Bytes::from_vec(bytes)), "000f6dff"),
+        (Reply::End, "end"),
+        (Reply::NotOwner, "not-owner"),
+        (Reply::ClosedByInterrupt, "closed-by-interrupt"),
+        (Reply::AsyncClose, "async-close"),
+        (Reply::BrokenPipe, "broken-pipe"),
         (Reply::Group(GroupReply::Channel(GChan(7))), "g7"),
         (Reply::Group(GroupReply::Op(OpNo(7))), "op 7"),
         (

@@ -14,6 +14,7 @@ use Rattle.nio_plain.specs.ScriptState.{ScriptState}
 use Rattle.nio_plain.specs.Seq.Answers.{Answered, unchanged, answered}
 use Rattle.nio_plain.specs.Seq.Modes.{key_of}
 use Rattle.nio_plain.specs.Seq.Names.{with_named_channel, with_named_key}
+use Rattle.nio_plain.specs.Seq.Pipes.{own_sink, marking}
 
 abbrev pub cancelled_key : Stage → Stage
 cancelled_key k = record k { cancelled = true }
@@ -31,11 +32,13 @@ with_keys_cancelled st c = record st {
 abbrev pub channel_closed : State → ℕ → State
 channel_closed st c = with_keys_cancelled (with_chan st c (record (st.chan c) { closed = true })) c
 
+-- a sink that its owner closes leaves its end mark
 unfoldable pub closec_call : ScriptState → CallerNo → ChanNo → Answered
 closec_call st me c =
     with_named_channel st c
+    (marking (own_sink st me c)
     (if (st.shared.chan c.0).closed then unchanged st reply.Already
-    else answered st reply.«Ok» (channel_closed st.shared c.0))
+    else answered st reply.«Ok» (channel_closed st.shared c.0)))
 
 -- a key that is in the key set is cancelled, and no other
 abbrev pub cancelled_in_set : Stage → ℕ → Stage

@@ -18,6 +18,10 @@ unfoldable pub selector_call : Limits → ScriptState → Answered
 selector_call l st =
     selector_made st (find (λ s. not (st.shared.selector s)) (below l.selectors))
 
+-- the least number of a channel that isn't made
+abbrev pub next_channel : Limits → ScriptState → Option ℕ
+next_channel l st = find (λ c. not (st.shared.chan c).made) (below l.channels)
+
 abbrev pub channel_made : ScriptState → Kind → Option ℕ → Answered
 channel_made st kind None = unchanged st reply.ChannelsSpent
 channel_made st kind (Some c) =
@@ -27,4 +31,4 @@ channel_made st kind (Some c) =
 
 unfoldable pub channel_call : Limits → ScriptState → Kind → Answered
 channel_call l st kind =
-    channel_made st kind (find (λ c. not (st.shared.chan c).made) (below l.channels))
+    channel_made st kind (next_channel l st)

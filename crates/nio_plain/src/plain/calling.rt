@@ -50,6 +50,9 @@ impl Plain {
             Call::Selected(sel) => self.selected(alloc, *sel),
             Call::Interrupt(target) => Ok(self.interrupt(*target)),
             Call::Interrupted => Ok(self.interrupted(me)),
+            Call::Pipe(target) => self.pipe(alloc, me, *target),
+            Call::Pwrite(chan, bytes) => self.pwrite(me, *chan, bytes.as_slice()),
+            Call::Pread(chan, most) => self.pread(alloc, me, *chan, *most),
             Call::Group(call) => Ok(self.group_call(*call)),
         }
     }

@@ -1,9 +1,9 @@
 //! Closing a selector, in two parts, and closing a channel.
-ghost use Rattle.std.specs.Prelude.{◌≡◌};
+ghost use Rattle.std.specs.Prelude.{◌≡◌, ◌<◌, vec_len};
 ghost use Rattle.nio_plain.specs.Plain.{Answers, Kept};
 ghost use Rattle.nio_plain.specs.PlainState.{state_of};
 ghost use Rattle.nio_plain.specs.ScriptState.{with_shared};
-ghost use Rattle.nio_plain.specs.Seq.Cancelling.{closec_call, with_keys_cancelled};
+ghost use Rattle.nio_plain.specs.Seq.Cancelling.{channel_closed, closec_call, with_keys_cancelled};
 ghost use Rattle.nio_plain.specs.Seq.Closing.{close_call, close_end_call};
 
 use super::Plain;
@@ -55,7 +55,7 @@ impl Plain {
         Reply::Closed
     }
 
-    /// Closes the channel, and cancels its key in each selector.
+    /// Closes the channel, and cancels its key in each selector. A sink's owner leaves the end mark.
     pub(super) fn close_channel(&mut self, me: CallerNo, chan: ChanNo) -> Reply
         ensures { Answers self.old self.new result (closec_call (state_of self.old) me chan) }
     {
@@ -64,11 +64,22 @@ impl Plain {
             Err(refusal) => return refusal,
         };
         if channel.closed {
+            self.leave_mark(me, chan);
             return Reply::Already;
         }
+        self.shut_channel(chan);
+        self.leave_mark(me, chan);
+        Reply::Ok
+    }
+
+    /// Closes a channel that is made.
+    pub(super) fn shut_channel(&mut self, chan: ChanNo)
+        requires { chan.0 < vec_len self.old.channels }
+        ensures left { state_of self.new ≡ with_shared (state_of self.old) (channel_closed (state_of self.old).shared chan.0) }
+        ensures kept { Kept self.old self.new }
+    {
         self.channels[chan.0 as usize].closed = true;
         self.cancel_keys_of(chan);
-        Reply::Ok
     }
 
     /// Cancels the channel's key in each selector.

@@ -29,11 +29,7 @@ impl Plain {
         if number >= self.limits.channels as usize {
             return Ok(Reply::ChannelsSpent);
         }
-        self.channels.push(Channel {
-            kind,
-            closed: false,
-            blocking: true,
-        })?;
+        self.channels.push(Channel::new(kind))?;
         Ok(Reply::Channel(ChanNo(number as u32)))
     }
 }

@@ -63,10 +63,20 @@ returns-in_ok-read_told-in-Told c =
     rw c.in-Told.is
     (made_call _ _ (λ args own. own) (map (λ w. w.now) c.args.args.now) c.in_ok-read_told-in-Told.field-0 c.map-in-Told.result c.in_ok-read_told-in-Told.ensures c.map-in-Told.ensures.cases (λ x k h. search rules))
 
-pub returns-in-Interrupt : goal.returns-in-Interrupt
-returns-in-Interrupt c =
-    rw c.in-Interrupt.is
-    (made_call _ _ (λ args own. own) (map (λ w. w.now) c.args.args.now) c.read_one_caller.result c.map-in-Interrupt.result c.read_one_caller.ensures c.map-in-Interrupt.ensures.cases (λ x k h. search rules))
+pub returns-in-OnCaller : goal.returns-in-OnCaller
+returns-in-OnCaller c =
+    rw c.in-OnCaller.is
+    (made_call _ _ (λ args own. own) (map (λ w. w.now) c.args.args.now) c.read_one_caller.result c.map-in-OnCaller.result c.read_one_caller.ensures c.map-in-OnCaller.ensures.cases (λ x k h. search rules))
+
+pub returns-in_ok-read_channel_bytes-in-Pwrite : goal.returns-in_ok-read_channel_bytes-in-Pwrite
+returns-in_ok-read_channel_bytes-in-Pwrite c =
+    rw c.in-Pwrite.is
+    (made_call _ _ (λ args own. own) (map (λ w. w.now) c.args.args.now) c.in_ok-read_channel_bytes-in-Pwrite.field-0 c.map-in-Pwrite.result c.in_ok-read_channel_bytes-in-Pwrite.ensures c.map-in-Pwrite.ensures.cases (λ x k h. search rules))
+
+pub returns-in-Pread : goal.returns-in-Pread
+returns-in-Pread c =
+    rw c.in-Pread.is
+    (made_call _ _ (λ args own. own) (map (λ w. w.now) c.args.args.now) c.read_channel_count.result c.map-in-Pread.result c.read_channel_count.ensures c.map-in-Pread.ensures.cases (λ x k h. search rules))
 
 pub returns-in-OnGroup : goal.returns-in-OnGroup
 returns-in-OnGroup c =

@@ -1,10 +1,10 @@
-use Rattle.std.proofs.Common.{◌<◌, ◌≤◌, false, is_some, refl, sym, ap, ◌∙◌, length, arith}
+use Rattle.std.proofs.Common.{◌<◌, ◌≤◌, false, is_some, refl, sym, ap, ◌∙◌, length, arith, map}
 use Rattle.nio_event.specs.State.{put, unmade_channel}
 use Rattle.nio_event.specs.declared.reply.Reply.TheVariants as reply
 use Rattle.nio_plain.proofs.Answering.{unchanged_as, answered_as, failed_as, state-same_selector, state-set_selector, rows_of, with_rows, is_some-caller_of, selector_made-below, selector_made-past}
 use Rattle.nio_plain.proofs.Places.{places_at}
 use Rattle.nio_plain.proofs.Selecting.{begin-no_selector, begin-negative, begin-shut, begin-busy, begin-begun, state-begun, looked-begun}
-use Rattle.nio_plain.specs.PlainState.{places, channel_row, SelectorRow, state_of, selector_row, no_selector, with_selection_begun, looked_below}
+use Rattle.nio_plain.specs.PlainState.{places, channel_row, SelectorRow, state_of, selector_row, no_selector, with_selection_begun, looked_below, pipe_of}
 use Rattle.nio_plain.proofs.plain.Plain.begin.Goals as goal
 
 pub returns-then-sel-len : goal.returns-then-sel-len
@@ -70,9 +70,9 @@ returns c =
     let free = ap (λ (r : SelectorRow). is_some r.turn) at ∙ (is_some-caller_of x.selecting ∙ sym c.if-is_some.ensures) in
     let how = c.in-Some.mode in
     let left = c.in_ok-looked.ensures.left ∙ ap (λ r. with_selection_begun p.rules r c.args.me how) (sym at') in
-    let looked = c.in_ok-looked.ensures.looked ∙ (ap (λ (r : SelectorRow). looked_below r.keys r.keys_high) (sym at') ∙ sym (looked-begun p.rules p.group (places (λ b. b) false p.interrupted.items) (length p.channels.items) (places channel_row unmade_channel p.channels.items) s rows)) in
+    let looked = c.in_ok-looked.ensures.looked ∙ (ap (λ (r : SelectorRow). looked_below r.keys r.keys_high) (sym at') ∙ sym (looked-begun p.rules p.group (map pipe_of p.pipes.items) (places (λ b. b) false p.interrupted.items) (length p.channels.items) (places channel_row unmade_channel p.channels.items) s rows)) in
     answered_as p _ _ _ _
     (begin-begun p.rules (state_of p) c.args.me c.args.sel c.args.waiting made c.in-Some.mode (sym c.mode_of.ensures ∙ c.in-Some.is) not_shut free)
     (ap reply.Looked looked)
-    (state-set_selector p _ s c.begin.new.self within refl ∙ (ap (λ r. with_rows p (put rows s r)) left ∙ state-begun p.rules _ _ _ _ s rows c.args.me how))
+    (state-set_selector p _ s c.begin.new.self within refl ∙ (ap (λ r. with_rows p (put rows s r)) left ∙ state-begun p.rules _ _ _ _ _ s rows c.args.me how))
     (record { limits = refl; rules = refl })

@@ -20,6 +20,7 @@ loop-place-preserved c =
       channels = before.channels;
       interrupted = before.interrupted;
       group = before.group;
+      pipes = before.pipes;
     }
 
 pub returns-clause-left : goal.returns-clause-left
@@ -28,4 +29,4 @@ returns-clause-left c =
     let kept = c.loop-place.invariant in
     let past : length p.selectors.items ≤ c.loop-place.place = omega (arith, p.selectors.ok.0) in
     let all = kept.cancelled ∙ changed-all selector_row no_selector (λ r. with_cancelled_key r c.args.chan.0) p.selectors.items c.loop-place.place past refl in
-    (λ j. state_from (kept.group j) (places (λ b. b) false (kept.interrupted j).items) (length (kept.channels j).items) (places channel_row unmade_channel (kept.channels j).items) (all j)) ∙ state-cancelled _ _ _ _ (rows_of p) c.args.chan.0
+    (λ j. state_from (kept.group j) (map pipe_of (kept.pipes j).items) (places (λ b. b) false (kept.interrupted j).items) (length (kept.channels j).items) (places channel_row unmade_channel (kept.channels j).items) (all j)) ∙ state-cancelled _ _ _ _ _ (rows_of p) c.args.chan.0

@@ -11,4 +11,5 @@ invariant-loop-place l = record {
   channels : l.self.channels ≡ l.initial.self.channels;
   interrupted : l.self.interrupted ≡ l.initial.self.interrupted;
   group : l.self.group ≡ l.initial.self.group;
+  pipes : l.self.pipes ≡ l.initial.self.pipes;
 }

@@ -42,7 +42,7 @@ returns c =
     let shuts' : ScriptState → ScriptState = λ st. with_shared st (with_gate st.shared s (record (st.shared.gate s) { shut = true })) in
     let closes : SelectorRow → SelectorRow = λ r. record r { closer = Some c.args.me } in
     let closes' : ScriptState → ScriptState = λ st. with_shared st (with_closer st.shared s (Some c.args.me)) in
-    let both = then _ _ _ _ s shuts closes shuts' closes' (makes-gate _ _ _ _ s (λ g. record g { shut = true })) (makes-closer _ _ _ _ s (Some c.args.me)) in
+    let both = then _ _ _ _ _ s shuts closes shuts' closes' (makes-gate _ _ _ _ _ s (λ g. record g { shut = true })) (makes-closer _ _ _ _ _ s (Some c.args.me)) in
     answered_without_memory p _ _ _ _
     (c.in-Ok.ensures.through _ ∙ cond-false ((state_of p).shared.gate s).shut (unchanged (state_of p) reply.Already) _ opened)
     refl

@@ -94,7 +94,7 @@ returns c =
     let empties' : ScriptState → ScriptState = λ m. with_shared m (without_keys m.shared s) in
     let enters : SelectorRow → SelectorRow = λ r. record r { entered = true } in
     let enters' : ScriptState → ScriptState = λ m. with_shared m (with_entered m.shared s true) in
-    let both = then _ _ _ _ s empties enters empties' enters' (makes-emptied _ _ _ _ s) (makes-entered _ _ _ _ s true) in
+    let both = then _ _ _ _ _ s empties enters empties' enters' (makes-emptied _ _ _ _ _ s) (makes-entered _ _ _ _ _ s true) in
     answered_without_memory p _ _ _ _
     (c.in-Ok.ensures.through _ ∙ (cond-false (not (is_caller c.args.me (st.shared.closer s)) || st.shared.entered s) (unchanged st reply.NotClosing) _ own ∙ cond-false (is_some (st.shared.turn s)) (unchanged st reply.Busy) _ free))
     refl

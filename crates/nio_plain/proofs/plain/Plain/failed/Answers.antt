@@ -49,5 +49,5 @@ returns c =
     answered_without_memory p _ _ _ _
     (c.in-Ok.ensures.through _ ∙ ap (left_selection (state_of p) s) (own-some p c.args.me s x row c.in-Some.selecting c.in-Some.is c.if-selecting-me.false))
     refl
-    (changed_selector p s c.in-Ok.place c.index_mut.result.now _ leaves leaves' (makes-selecting _ _ _ _ s None None) c.in-Ok.ensures.place within c.index_mut.ensures.value refl)
+    (changed_selector p s c.in-Ok.place c.index_mut.result.now _ leaves leaves' (makes-selecting _ _ _ _ _ s None None) c.in-Ok.ensures.place within c.index_mut.ensures.value refl)
     (record { limits = refl; rules = refl })

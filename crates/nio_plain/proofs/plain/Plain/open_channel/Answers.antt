@@ -9,7 +9,7 @@ returns-then-number-self c =
     let xs = c.args.self.now.channels.items in
     let full : c.args.self.now.limits.channels ≤ length xs = omega (arith, c.args.self.now.channels.ok.0) in
     unchanged_as c.args.self.now reply.ChannelsSpent _
-    (channel_call-spent c.args.self.now.limits _ _ _ _ _ c.args.kind (length xs) (channel_made-below xs) (channel_made-past xs) full)
+    (channel_call-spent c.args.self.now.limits _ _ _ _ _ _ c.args.kind (length xs) (channel_made-below xs) (channel_made-past xs) full)
 
 pub returns : goal.returns
 returns c =
@@ -17,7 +17,7 @@ returns c =
     let room : length xs < c.args.self.now.limits.channels = omega (arith, c.args.self.now.channels.ok.0) in
     let number : c.len-number.result ≡ length xs = omega (arith, c.args.self.now.channels.ok.0) in
     answered_as _ _ _ _ _
-    (channel_call-found c.args.self.now.limits _ _ _ _ _ c.args.kind (length xs) (channel_made-below xs) (channel_made-past xs) room)
+    (channel_call-found c.args.self.now.limits _ _ _ _ _ _ c.args.kind (length xs) (channel_made-below xs) (channel_made-past xs) room)
     (ap (λ n. reply.Channel (record { 0 = n })) number)
-    (state-push_channel _ _ _ xs c.push.new.self.items _ c.in_ok-push.ensures.items)
+    (state-push_channel _ _ _ _ xs c.push.new.self.items _ c.in_ok-push.ensures.items)
     (record { limits = refl; rules = refl })

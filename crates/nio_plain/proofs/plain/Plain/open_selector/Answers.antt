@@ -11,7 +11,7 @@ returns-then-number-self c =
     let xs = c.args.self.now.selectors.items in
     let full : c.args.self.now.limits.selectors ≤ length xs = omega (arith, c.args.self.now.selectors.ok.0) in
     unchanged_as c.args.self.now reply.SelectorsSpent _
-    (selector_call-spent c.args.self.now.limits _ _ _ _ _ (length xs) (selector_made-below xs) (selector_made-past xs) full)
+    (selector_call-spent c.args.self.now.limits _ _ _ _ _ _ (length xs) (selector_made-below xs) (selector_made-past xs) full)
 
 pub returns : goal.returns
 returns c =
@@ -20,8 +20,8 @@ returns c =
     let room : length xs < p.limits.selectors = omega (arith, p.selectors.ok.0) in
     let number : c.len-number.result ≡ length xs = omega (arith, p.selectors.ok.0) in
     let past = places_past selector_row no_selector xs (length xs) (omega arith) in
-    let made = selector_call-found p.limits _ _ _ _ (rows_of p) (length xs) (selector_made-below xs) (selector_made-past xs) room in
+    let made = selector_call-found p.limits _ _ _ _ _ (rows_of p) (length xs) (selector_made-below xs) (selector_made-past xs) room in
     answered_as _ _ _ _ _ made
     (ap (λ n. reply.Selector (record { 0 = n })) number)
-    (state-push_selector p c.push.new.self.items c.new.result _ c.in_ok-push.ensures.items c.new.ensures ∙ state-new_selector p.limits _ _ _ _ (rows_of p) (length xs) past)
+    (state-push_selector p c.push.new.self.items c.new.result _ c.in_ok-push.ensures.items c.new.ensures ∙ state-new_selector p.limits _ _ _ _ _ (rows_of p) (length xs) past)
     (record { limits = refl; rules = refl })

@@ -28,4 +28,4 @@ returns-clause-left c =
     let made = claimed-made p s c.args.index c.requires in
     let at = places_at selector_row no_selector p.selectors.items s c.index_mut.result.now made c.index_mut.ensures.value in
     let row = c.put_key.ensures ∙ ap (λ r. with_key_at r c.args.index key) (sym at) in
-    state-set_selector p _ s c.put_key.new.self made refl ∙ (ap (λ r. with_rows p (put (rows_of p) s r)) row ∙ state-key _ _ _ _ (rows_of p) s c.args.index key)
+    state-set_selector p _ s c.put_key.new.self made refl ∙ (ap (λ r. with_rows p (put (rows_of p) s r)) row ∙ state-key _ _ _ _ _ (rows_of p) s c.args.index key)

@@ -48,5 +48,5 @@ returns c =
     answered_without_memory _ _ _ _ _
     (blocking-set p.limits (state_of p) c.args.chan c.args.on (channel_row x) at refl opened free)
     refl
-    (state-set_channel _ _ (rows_of p) p.channels.items _ chan (record x { blocking = c.args.on }) within refl)
+    (state-set_channel _ _ _ (rows_of p) p.channels.items _ chan (record x { blocking = c.args.on }) within refl)
     (record { limits = refl; rules = refl })

@@ -24,5 +24,5 @@ returns-in-Ok c =
     answered_without_memory p _ _ _ _
     (c.in-Ok.ensures.through _)
     refl
-    (changed_selector p s c.in-Ok.place c.index_mut.result.now _ wakes wakes' (makes-gate _ _ _ _ s (λ g. record g { woken = true })) c.in-Ok.ensures.place within c.index_mut.ensures.value refl)
+    (changed_selector p s c.in-Ok.place c.index_mut.result.now _ wakes wakes' (makes-gate _ _ _ _ _ s (λ g. record g { woken = true })) c.in-Ok.ensures.place within c.index_mut.ensures.value refl)
     (record { limits = refl; rules = refl })

@@ -1,0 +1,54 @@
+-- The pipes of a plain system, as those of the documented one.
+use Rattle.std.proofs.Common.{◌≡◌, ◌≢◌, ℕ, ◌+◌, ◌<◌, Bool, true, false, cond, nat_lt, not, Option, Some, None, List, [], ◌∷◌, length, get_or, map, set, take, drop, position, refl, sym, ap, ◌∙◌, arith}
+use Rattle.std.specs.List.{prefix_len}
+use Rattle.std.proofs.lemmas.List.{get_or-map, length-map, map-set}
+use Rattle.std.proofs.lemmas.List.Quantifiers.{position-Some}
+use Rattle.nio_event.specs.declared.reply.Reply.TheVariants as reply
+use Rattle.nio_plain.specs.PlainState.{pipe_of}
+use Rattle.nio_plain.specs.ScriptState.{Pipe, ScriptState}
+use Rattle.nio_plain.specs.Seq.Answers.{Answered, unchanged}
+use Rattle.nio_plain.specs.Seq.Pipes.{no_pipe, pipe_at, with_pipe}
+use Rattle.nio_plain.specs.Seq.Piping.{not_now, read_first}
+use Rattle.nio_plain.specs.declared.plain.pipe.Pipe.{Pipe as PlainPipe}
+
+-- the first place of a list, and of its image
+
+prefix_len-map : {X A : Type 0} (p : A → Bool) (f : X → A) (xs : List X) → prefix_len p (map f xs) ≡ prefix_len (λ x. p (f x)) xs
+prefix_len-map p f [] = refl
+prefix_len-map {X} p f (x ∷ xs) = ap (λ (n : ℕ). cond (p (f x)) (1 + n) 0) (prefix_len-map p f xs)
+
+pub position-map : {X A : Type 0} (q : A → Bool) (f : X → A) (xs : List X) → position q (map f xs) ≡ position (λ x. q (f x)) xs
+position-map {X} q f xs =
+    let first : ◌≡◌ {A = ℕ} (prefix_len (λ a. not (q a)) (map f xs)) (prefix_len (λ (x : X). not (q (f x))) xs) = prefix_len-map (λ a. not (q a)) f xs in
+    let size : ◌≡◌ {A = ℕ} (length (map f xs)) (length xs) = length-map xs f in
+    λ i. cond (nat_lt (first i) (size i)) (Some (first i)) None
+
+-- the pipe at a place
+pub pipe_at-is : (items : List PlainPipe) (place : ℕ) (x : PlainPipe) → place < length items → x ≡ get_or items place x → get_or (map pipe_of items) place no_pipe ≡ pipe_of x
+pipe_at-is items place x within is = get_or-map pipe_of items place x no_pipe within ∙ ap pipe_of (sym is)
+
+-- one pipe is changed
+pub changed_pipe : (items : List PlainPipe) (place : ℕ) (x new : PlainPipe) (change : Pipe → Pipe) → place < length items → x ≡ get_or items place x → pipe_of new ≡ change (pipe_of x)
+    → map pipe_of (set items place new) ≡ set (map pipe_of items) place (change (get_or (map pipe_of items) place no_pipe))
+changed_pipe items place x new change within is changes =
+    map-set pipe_of items place new
+    ∙ ap (set (map pipe_of items) place) (changes ∙ ap change (sym (pipe_at-is items place x within is)))
+
+-- reading where bytes wait, and where none does
+
+pub read_first-some : (st : ScriptState) (blocking : Bool) (n i : ℕ) (waiting : List ℕ) (marked : Bool) → waiting ≢ []
+    → read_first st blocking n i waiting marked ≡ record { reply = reply.Bytes (take n waiting); left = with_pipe st i (record (pipe_at st i) { waiting = drop n waiting }) }
+read_first-some st blocking n i [] marked some = absurd (some refl)
+read_first-some st blocking n i (b ∷ bytes) marked some = refl
+
+pub read_first-none : (st : ScriptState) (blocking : Bool) (n i : ℕ) (waiting : List ℕ) (marked : Bool) → waiting ≡ []
+    → read_first st blocking n i waiting marked ≡ unchanged st (cond marked reply.End (not_now blocking))
+read_first-none st blocking n i [] true none = refl
+read_first-none st blocking n i [] false none = refl
+read_first-none st blocking n i (b ∷ bytes) marked none = absurd (cc none)
+
+-- a place that was found is one of the list
+pub place_within : (q : Pipe → Bool) (items : List PlainPipe) (place : ℕ) → position q (map pipe_of items) ≡ Some place → place < length items
+place_within q items place e =
+    let found = position-Some q (map pipe_of items) place no_pipe e in
+    omega (arith, found.0, length-map items pipe_of)

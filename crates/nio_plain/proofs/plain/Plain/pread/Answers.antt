@@ -1,0 +1,83 @@
+use Rattle.std.proofs.Common.{◌<◌, ◌==◌, ◌&&◌, length, refl, sym, ap, ◌∙◌, arith}
+use Rattle.std.proofs.lemmas.Bool.{cond-true, cond-false, eq-eqb, ne_eqb}
+use Rattle.nio_event.specs.declared.found.Chan.{Chan}
+use Rattle.nio_event.specs.declared.reply.Reply.TheVariants as reply
+use Rattle.nio_plain.proofs.Answering.{unchanged_as, answered_as, of_word}
+use Rattle.nio_plain.proofs.Piping.{place_within}
+use Rattle.nio_plain.specs.PlainState.{state_of}
+use Rattle.nio_plain.specs.Seq.Answers.{unchanged, answered}
+use Rattle.nio_plain.specs.Seq.Cancelling.{channel_closed}
+use Rattle.nio_plain.specs.Seq.Pipes.{owns_source, pipe_at}
+use Rattle.nio_plain.specs.Seq.Piping.{finds_interrupt, pread_call, read_first, read_from}
+use Rattle.nio_plain.proofs.plain.Plain.pread.Goals as goal
+
+pub returns-in-Err : goal.returns-in-Err
+unfolding pread_call
+returns-in-Err c = unchanged_as c.args.self.now _ _ (c.in-Err.ensures.refused _)
+
+pub returns-in_default : goal.returns-in_default
+unfolding pread_call
+returns-in_default c =
+    let p = c.args.self.now in
+    let st = state_of p in
+    unchanged_as p _ _
+    (c.in-Ok.ensures.through _ ∙ ap (read_from st c.args.me c.args.chan c.args.most) (sym c.in_default.ensures))
+
+pub returns-then-channel : goal.returns-then-channel
+unfolding pread_call
+returns-then-channel c =
+    let p = c.args.self.now in
+    let st = state_of p in
+    let closed = ap (λ (x : Chan). x.closed) c.in-Ok.ensures.row ∙ c.if-channel.true in
+    unchanged_as p _ _
+    (c.in-Ok.ensures.through _ ∙ (ap (read_from st c.args.me c.args.chan c.args.most) (sym c.in-Some.ensures)
+    ∙ cond-true (st.shared.chan c.args.chan.0).closed (unchanged st reply.ClosedChannel) _ closed))
+
+pub returns-then-finds_interrupt : goal.returns-then-finds_interrupt
+unfolding pread_call
+returns-then-finds_interrupt c =
+    let p = c.args.self.now in
+    let st = state_of p in
+    let opened = ap (λ (x : Chan). x.closed) c.in-Ok.ensures.row ∙ c.if-channel.false in
+    let found = ap (λ (x : Chan). x.blocking && st.shared.interrupted c.args.me.0) c.in-Ok.ensures.row ∙ sym c.if-finds_interrupt.ensures in
+    answered_as p _ _ _ _
+    (c.in-Ok.ensures.through _ ∙ (ap (read_from st c.args.me c.args.chan c.args.most) (sym c.in-Some.ensures)
+    ∙ (cond-false (st.shared.chan c.args.chan.0).closed (unchanged st reply.ClosedChannel) _ opened
+    ∙ cond-true (finds_interrupt st c.args.me c.args.chan) (answered st reply.ClosedByInterrupt (channel_closed st.shared c.args.chan.0)) _ found)))
+    refl
+    c.shut_channel.ensures.left
+    c.shut_channel.ensures.kept
+
+pub returns-then-most-eq0 : goal.returns-then-most-eq0
+unfolding pread_call
+returns-then-most-eq0 c =
+    let p = c.args.self.now in
+    let st = state_of p in
+    let opened = ap (λ (x : Chan). x.closed) c.in-Ok.ensures.row ∙ c.if-channel.false in
+    let none = ap (λ (x : Chan). x.blocking && st.shared.interrupted c.args.me.0) c.in-Ok.ensures.row ∙ sym c.if-finds_interrupt.ensures in
+    unchanged_as p _ _
+    (c.in-Ok.ensures.through _ ∙ (ap (read_from st c.args.me c.args.chan c.args.most) (sym c.in-Some.ensures)
+    ∙ (cond-false (st.shared.chan c.args.chan.0).closed (unchanged st reply.ClosedChannel) _ opened
+    ∙ (cond-false (finds_interrupt st c.args.me c.args.chan) (answered st reply.ClosedByInterrupt (channel_closed st.shared c.args.chan.0)) _ none
+    ∙ cond-true (c.args.most == 0) (unchanged st (reply.Number 0)) _ (eq-eqb c.args.most 0 c.if-most-eq0.true)))))
+
+pub read_from-requires : goal.read_from-requires
+read_from-requires c =
+    let p = c.args.self.now in
+    let within : c.in-Some.place < length p.pipes.items = place_within (owns_source c.args.me c.args.chan) p.pipes.items c.in-Some.place (sym c.in-Some.ensures) in
+    omega (arith, p.pipes.ok.0)
+
+pub returns : goal.returns
+unfolding pread_call
+returns c =
+    let p = c.args.self.now in
+    let st = state_of p in
+    let opened = ap (λ (x : Chan). x.closed) c.in-Ok.ensures.row ∙ c.if-channel.false in
+    let none = ap (λ (x : Chan). x.blocking && st.shared.interrupted c.args.me.0) c.in-Ok.ensures.row ∙ sym c.if-finds_interrupt.ensures in
+    of_word _ _ _ _ _
+    (c.in-Ok.ensures.through _ ∙ (ap (read_from st c.args.me c.args.chan c.args.most) (sym c.in-Some.ensures)
+    ∙ (cond-false (st.shared.chan c.args.chan.0).closed (unchanged st reply.ClosedChannel) _ opened
+    ∙ (cond-false (finds_interrupt st c.args.me c.args.chan) (answered st reply.ClosedByInterrupt (channel_closed st.shared c.args.chan.0)) _ none
+    ∙ (cond-false (c.args.most == 0) (unchanged st (reply.Number 0)) _ (ne_eqb c.args.most 0 c.if-most-eq0.false)
+    ∙ ap (λ (x : Chan). read_first st x.blocking c.args.most c.in-Some.place (pipe_at st c.in-Some.place).waiting (pipe_at st c.in-Some.place).marked) c.in-Ok.ensures.row)))))
+    c.read_from.ensures

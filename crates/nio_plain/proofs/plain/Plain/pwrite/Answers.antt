@@ -1,0 +1,61 @@
+use Rattle.std.proofs.Common.{◌<◌, ◌==◌, ◌&&◌, Some, length, refl, sym, ap, ◌∙◌, arith}
+use Rattle.std.proofs.lemmas.Bool.{cond-true, cond-false, eq-eqb, ne_eqb}
+use Rattle.nio_event.specs.declared.found.Chan.{Chan}
+use Rattle.nio_event.specs.declared.reply.Reply.TheVariants as reply
+use Rattle.nio_plain.proofs.Answering.{unchanged_as, answered_as, of_word}
+use Rattle.nio_plain.proofs.Piping.{pipe_at-is, place_within}
+use Rattle.nio_plain.specs.PlainState.{state_of}
+use Rattle.nio_plain.specs.ScriptState.{Pipe, ScriptState}
+use Rattle.nio_plain.specs.Seq.Answers.{unchanged, answered}
+use Rattle.nio_plain.specs.Seq.Cancelling.{channel_closed}
+use Rattle.nio_plain.specs.Seq.Pipes.{marking, owns_sink, pipe_at, with_mark}
+use Rattle.nio_plain.specs.Seq.Piping.{finds_interrupt, pwrite_call, room_for, write_first, write_to}
+use Rattle.nio_plain.proofs.plain.Plain.pwrite.Goals as goal
+
+pub returns-in-Err : goal.returns-in-Err
+unfolding pwrite_call
+returns-in-Err c = unchanged_as c.args.self.now _ _ (c.in-Err.ensures.refused _)
+
+pub returns-in_default : goal.returns-in_default
+unfolding pwrite_call
+returns-in_default c =
+    let p = c.args.self.now in
+    unchanged_as p _ _
+    (c.in-Ok.ensures.through _ ∙ ap (write_to (state_of p) c.args.me c.args.chan c.args.bytes.now) (sym c.in_default.ensures))
+
+pub mark-requires : goal.mark-requires
+mark-requires c =
+    let p = c.args.self.now in
+    let within : c.in-Some.place < length p.pipes.items = place_within (owns_sink c.args.me c.args.chan) p.pipes.items c.in-Some.place (sym c.in-Some.ensures) in
+    omega (arith, p.pipes.ok.0)
+
+pub returns-then-channel : goal.returns-then-channel
+unfolding pwrite_call
+returns-then-channel c =
+    let p = c.args.self.now in
+    let st = state_of p in
+    let closed = ap (λ (x : Chan). x.closed) c.in-Ok.ensures.row ∙ c.if-channel.true in
+    answered_as p _ _ _ _
+    (c.in-Ok.ensures.through _ ∙ (ap (write_to st c.args.me c.args.chan c.args.bytes.now) (sym c.in-Some.ensures)
+    ∙ cond-true (st.shared.chan c.args.chan.0).closed (marking (Some c.in-Some.place) (unchanged st reply.ClosedChannel)) _ closed))
+    refl
+    c.mark.ensures.left
+    c.mark.ensures.kept
+
+pub returns-then-finds_interrupt : goal.returns-then-finds_interrupt
+unfolding pwrite_call
+returns-then-finds_interrupt c =
+    let p = c.args.self.now in
+    let st = state_of p in
+    let opened = ap (λ (x : Chan). x.closed) c.in-Ok.ensures.row ∙ c.if-channel.false in
+    let found = ap (λ (x : Chan). x.blocking && st.shared.interrupted c.args.me.0) c.in-Ok.ensures.row ∙ sym c.if-finds_interrupt.ensures in
+    answered_as p _ _ _ _
+    (c.in-Ok.ensures.through _ ∙ (ap (write_to st c.args.me c.args.chan c.args.bytes.now) (sym c.in-Some.ensures)
+    ∙ (cond-false (st.shared.chan c.args.chan.0).closed (marking (Some c.in-Some.place) (unchanged st reply.ClosedChannel)) _ opened
+    ∙ cond-true (finds_interrupt st c.args.me c.args.chan) (marking (Some c.in-Some.place) (answered st reply.ClosedByInterrupt (channel_closed st.shared c.args.chan.0))) _ found)))
+    refl
+    (c.mark-2.ensures.left ∙ ap (with_mark (Some c.in-Some.place)) c.shut_channel.ensures.left)
+    (record {
+      limits = c.mark-2.ensures.kept.limits ∙ c.shut_channel.ensures.kept.limits;
+      rules = c.mark-2.ensures.kept.rules ∙ c.shut_channel.ensures.kept.rules;
+    })

@@ -1,0 +1,48 @@
+-- The pipes of a state: whose ends they are, and the end mark.
+use Rattle.std.specs.Prelude.{ℕ, ◌==◌, ◌&&◌, Bool, true, false, Option, Some, None, List, [], position, slice_index_or, slice_set}
+use Rattle.nio_base.specs.declared.numbers.CallerNo.{CallerNo}
+use Rattle.nio_base.specs.declared.numbers.ChanNo.{ChanNo}
+use Rattle.nio_plain.specs.ScriptState.{Pipe, ScriptState, with_pipes}
+use Rattle.nio_plain.specs.Seq.Answers.{Answered}
+
+abbrev pub owns_source : CallerNo → ChanNo → Pipe → Bool
+owns_source me c p = (p.source.0 == c.0) && (p.reader.0 == me.0)
+
+abbrev pub owns_sink : CallerNo → ChanNo → Pipe → Bool
+owns_sink me c p = (p.sink.0 == c.0) && (p.writer.0 == me.0)
+
+-- the place of the pipe whose source, or whose sink, is this channel and the caller's own
+abbrev pub own_source : ScriptState → CallerNo → ChanNo → Option ℕ
+own_source st me c = position (owns_source me c) st.pipes
+
+abbrev pub own_sink : ScriptState → CallerNo → ChanNo → Option ℕ
+own_sink st me c = position (owns_sink me c) st.pipes
+
+-- what `pipe_at` gives past the end
+abbrev pub no_pipe : Pipe
+no_pipe = record {
+  source = record { 0 = 0 };
+  sink = record { 0 = 0 };
+  reader = record { 0 = 0 };
+  writer = record { 0 = 0 };
+  waiting = [];
+  marked = false;
+}
+
+abbrev pub pipe_at : ScriptState → ℕ → Pipe
+pipe_at st i = slice_index_or st.pipes i no_pipe
+
+-- the state with another pipe at a place
+abbrev pub with_pipe : ScriptState → ℕ → Pipe → ScriptState
+with_pipe st i p = with_pipes st (slice_set st.pipes i p)
+
+-- the sink of the pipe at a place leaves its end mark, where there is such a pipe
+abbrev pub marked_pipes : Option ℕ → List Pipe → List Pipe
+marked_pipes None pipes = pipes
+marked_pipes (Some i) pipes = slice_set pipes i (record (slice_index_or pipes i no_pipe) { marked = true })
+
+abbrev pub with_mark : Option ℕ → ScriptState → ScriptState
+with_mark place st = with_pipes st (marked_pipes place st.pipes)
+
+abbrev pub marking : Option ℕ → Answered → Answered
+marking place done = record done { left = with_mark place done.left }

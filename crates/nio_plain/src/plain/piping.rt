@@ -1,0 +1,251 @@
+//! Pipes: making, reading and writing them, and the end mark.
+ghost use Rattle.std.specs.Prelude.{◌≡◌, ◌<◌, ◌==◌, ◌&&◌, if◌then◌else◌, Some, position, vec_len};
+ghost use Rattle.nio_plain.specs.Plain.{Answers, AnswersAs, Kept};
+ghost use Rattle.nio_plain.specs.PlainState.{limits_of, state_of};
+ghost use Rattle.nio_plain.specs.Seq.Pipes.{own_sink, own_source, pipe_at, with_mark};
+ghost use Rattle.nio_plain.specs.Seq.Piping.{not_now, pipe_call, pread_call, pwrite_call, read_first, room_for, write_first};
+
+use super::Plain;
+use super::channel::Channel;
+use super::pipe::Pipe;
+use nio_base::{CallerNo, ChanNo, Kind};
+use nio_event::{Bytes, Reply};
+use std::alloc::{AllocError, Global};
+
+/// The most bytes that wait in a pipe.
+const PIPE_ROOM: usize = 65_536;
+
+impl Plain {
+    /// Makes a pipe whose source the caller owns, and whose sink the other.
+    pub(super) fn pipe(
+        &mut self,
+        alloc: Global,
+        me: CallerNo,
+        target: CallerNo,
+    ) -> Result<Reply, AllocError>
+        ensures { AnswersAs self.old self.new result (pipe_call (limits_of self.old) (state_of self.old) me target) }
+    {
+        if target.0 >= self.limits.callers {
+            return Ok(Reply::NoCaller);
+        }
+        let number = self.channels.len();
+        if number >= self.limits.channels as usize {
+            return Ok(Reply::ChannelsSpent);
+        }
+        self.channels.reserve(2)?;
+        self.pipes.reserve(1)?;
+        self.channels.push_reserved(Channel::new(Kind::Source));
+        let source = ChanNo(number as u32);
+        if number + 1 >= self.limits.channels as usize {
+            self.shut_channel(source);
+            return Ok(Reply::ChannelsSpent);
+        }
+        self.channels.push_reserved(Channel::new(Kind::Sink));
+        let sink = ChanNo(number as u32 + 1);
+        self.pipes.push_reserved(Pipe {
+            source,
+            sink,
+            reader: me,
+            writer: target,
+            waiting: Vec::new(alloc),
+            marked: false,
+        });
+        Ok(Reply::Ends(source, sink))
+    }
+
+    /// The place of the pipe whose source is this channel and the caller's own.
+    fn own_source(&self, me: CallerNo, chan: ChanNo) -> Option<usize>
+        ensures { result ≡ own_source (state_of self.now) me chan }
+    {
+        source_place(&self.pipes, me, chan)
+    }
+
+    /// The place of the pipe whose sink is this channel and the caller's own.
+    fn own_sink(&self, me: CallerNo, chan: ChanNo) -> Option<usize>
+        ensures { result ≡ own_sink (state_of self.now) me chan }
+    {
+        sink_place(&self.pipes, me, chan)
+    }
+
+    /// Leaves the end mark in the caller's own sink, where the channel is one.
+    pub(super) fn leave_mark(&mut self, me: CallerNo, chan: ChanNo)
+        ensures left { state_of self.new ≡ with_mark (own_sink (state_of self.old) me chan) (state_of self.old) }
+        ensures kept { Kept self.old self.new }
+    {
+        if let Some(place) = self.own_sink(me, chan) {
+            self.mark(place);
+        }
+    }
+
+    /// Reads up to so many bytes from a pipe by its source.
+    pub(super) fn pread(
+        &mut self,
+        alloc: Global,
+        me: CallerNo,
+        chan: ChanNo,
+        most: u32,
+    ) -> Result<Reply, AllocError>
+        requires { me.0 < (limits_of self.old).callers }
+        ensures { AnswersAs self.old self.new result (pread_call (state_of self.old) me chan most) }
+    {
+        let channel = match self.channel(chan) {
+            Ok(channel) => channel,
+            Err(refusal) => return Ok(refusal),
+        };
+        let Some(place) = self.own_source(me, chan) else {
+            return Ok(Reply::NotOwner);
+        };
+        if channel.closed {
+            return Ok(Reply::ClosedChannel);
+        }
+        if self.finds_interrupt(me, channel.blocking) {
+            self.shut_channel(chan);
+            return Ok(Reply::ClosedByInterrupt);
+        }
+        if most == 0 {
+            return Ok(Reply::Number(0));
+        }
+        self.read_from(alloc, channel, place, most)
+    }
+
+    /// Reads from the pipe at this place, whose source is open.
+    fn read_from(
+        &mut self,
+        alloc: Global,
+        channel: Channel,
+        place: usize,
+        most: u32,
+    ) -> Result<Reply, AllocError>
+        requires { place < vec_len self.old.pipes }
+        ensures { AnswersAs self.old self.new result (read_first (state_of self.old) channel.blocking most place (pipe_at (state_of self.old) place).waiting (pipe_at (state_of self.old) place).marked) }
+    {
+        let pipe = &mut self.pipes[place];
+        if pipe.waiting.is_empty() {
+            return Ok(end_or_not_now(pipe.marked, channel.blocking));
+        }
+        let bytes = pipe.take(alloc, most as usize)?;
+        Ok(Reply::Bytes(Bytes::from_vec(bytes)))
+    }
+
+    /// Writes bytes into a pipe by its sink, as many as have room.
+    pub(super) fn pwrite(
+        &mut self,
+        me: CallerNo,
+        chan: ChanNo,
+        bytes: &[u8],
+    ) -> Result<Reply, AllocError>
+        requires { me.0 < (limits_of self.old).callers }
+        ensures { AnswersAs self.old self.new result (pwrite_call (state_of self.old) me chan bytes.now) }
+    {
+        let channel = match self.channel(chan) {
+            Ok(channel) => channel,
+            Err(refusal) => return Ok(refusal),
+        };
+        let Some(place) = self.own_sink(me, chan) else {
+            return Ok(Reply::NotOwner);
+        };
+        if channel.closed {
+            self.mark(place);
+            return Ok(Reply::ClosedChannel);
+        }
+        if self.finds_interrupt(me, channel.blocking) {
+            self.shut_channel(chan);
+            self.mark(place);
+            return Ok(Reply::ClosedByInterrupt);
+        }
+        let source = self.pipes[place].source;
+        if self.is_closed(source) {
+            return Ok(Reply::BrokenPipe);
+        }
+        if bytes.is_empty() {
+            return Ok(Reply::Number(0));
+        }
+        self.write_to(channel, place, bytes)
+    }
+
+    /// Writes into the pipe at this place, whose ends are open.
+    fn write_to(
+        &mut self,
+        channel: Channel,
+        place: usize,
+        bytes: &[u8],
+    ) -> Result<Reply, AllocError>
+        requires { place < vec_len self.old.pipes }
+        ensures { AnswersAs self.old self.new result (write_first (state_of self.old) channel.blocking bytes.now place (room_for bytes.now (pipe_at (state_of self.old) place))) }
+    {
+        let pipe = &mut self.pipes[place];
+        let room = bytes
+            .len()
+            .min(PIPE_ROOM.saturating_sub(pipe.waiting.len()));
+        if room == 0 {
+            return Ok(not_now(channel.blocking));
+        }
+        pipe.waiting.extend_from_slice(&bytes[..room])?;
+        Ok(Reply::Number(room as u64))
+    }
+
+    /// The sink of the pipe at this place leaves its end mark.
+    fn mark(&mut self, place: usize)
+        requires { place < vec_len self.old.pipes }
+        ensures left { state_of self.new ≡ with_mark (Some place) (state_of self.old) }
+        ensures kept { Kept self.old self.new }
+    {
+        self.pipes[place].marked = true;
+    }
+
+    /// Whether a call in this mode finds its caller interrupted.
+    fn finds_interrupt(&self, me: CallerNo, blocking: bool) -> bool
+        requires { me.0 < (limits_of self.now).callers }
+        ensures { result ≡ (blocking && (state_of self.now).shared.interrupted me.0) }
+    {
+        blocking && self.is_interrupted(me)
+    }
+
+    /// Whether a channel is made and closed.
+    fn is_closed(&self, chan: ChanNo) -> bool
+        ensures { result ≡ ((state_of self.now).shared.chan chan.0).closed }
+    {
+        match self.channels.get(chan.0 as usize) {
+            Some(channel) => channel.closed,
+            None => false,
+        }
+    }
+}
+
+/// The reply where nothing can be read or written now, of a channel that is in blocking mode or not.
+fn not_now(blocking: bool) -> Reply
+    ensures { result ≡ not_now blocking }
+{
+    if blocking {
+        Reply::Again
+    } else {
+        Reply::Number(0)
+    }
+}
+
+/// The reply where no byte waits, of a pipe with the end mark or without.
+fn end_or_not_now(marked: bool, blocking: bool) -> Reply
+    ensures { result ≡ (if marked then Reply.End else not_now blocking) }
+{
+    if marked {
+        Reply::End
+    } else {
+        not_now(blocking)
+    }
+}
+
+fn source_place(pipes: &[Pipe], me: CallerNo, chan: ChanNo) -> Option<usize>
+    ensures { result ≡ position (λ p. (p.source.0 == chan.0) && (p.reader.0 == me.0)) pipes.now }
+{
+    pipes
+        .iter()
+        .position(|pipe| pipe.source.0 == chan.0 && pipe.reader.0 == me.0)
+}
+
+fn sink_place(pipes: &[Pipe], me: CallerNo, chan: ChanNo) -> Option<usize>
+    ensures { result ≡ position (λ p. (p.sink.0 == chan.0) && (p.writer.0 == me.0)) pipes.now }
+{
+    pipes
+        .iter()
+        .position(|pipe| pipe.sink.0 == chan.0 && pipe.writer.0 == me.0)
+}
