@@ -1,15 +1,16 @@
 -- Each documented call keeps that nothing is at work.
-use Rattle.std.proofs.Common.{◌≡◌, ℕ, ◌<◌, ◌≤◌, ◌==◌, nat_lt, Bool, true, false, cond, not, ◌&&◌, ◌||◌, Option, Some, None, is_some, find, List, [], ◌∷◌, bit_and, bit_or, ⊎_elim, refl, ap, sym, ◌∙◌, subst, arith, eqb-true}
+use Rattle.std.proofs.Common.{◌≡◌, ℕ, ◌<◌, ◌≤◌, ◌==◌, nat_lt, Bool, true, false, cond, not, ◌&&◌, ◌||◌, Option, Some, None, is_some, find, List, [], ◌∷◌, length, bit_and, bit_or, ⊎_elim, refl, ap, sym, ◌∙◌, subst, arith, eqb-true}
 use Rattle.std.proofs.lemmas.Bool.{both_ways, and_parts, or_parts, false_from_ne_true, lt-ltb, le-ltb, ltb-true, cases_lt}
 use lib.Bits.{and_zero_r}
 use Rattle.nio_base.specs.declared.kind.Kind.{Kind}
+use Rattle.nio_base.specs.declared.kind.Kind.TheVariants.{Source, Sink}
 use Rattle.nio_base.specs.declared.limits.Limits.{Limits}
 use Rattle.nio_base.specs.declared.numbers.CallerNo.{CallerNo}
 use Rattle.nio_base.specs.declared.numbers.ChanNo.{ChanNo}
 use Rattle.nio_base.specs.declared.numbers.KeyId.{KeyId}
 use Rattle.nio_base.specs.declared.numbers.SelNo.{SelNo}
 use Rattle.nio_event.specs.Sets.{fits, in_key_set, in_cancelled_set, was_published, is_in_key_set, is_valid_key}
-use Rattle.nio_event.specs.State.{last_serial, put, put_at}
+use Rattle.nio_event.specs.State.{State, last_serial, put, put_at}
 use Rattle.nio_event.specs.declared.call.Call.{Call}
 use Rattle.nio_event.specs.declared.call.Call.TheVariants as call
 use Rattle.nio_event.specs.declared.call.Waiting.{Waiting}
@@ -19,17 +20,19 @@ use Rattle.nio_event.specs.declared.found.Stage.{Stage}
 use Rattle.nio_event.specs.declared.reply.Reply.{Reply}
 use Rattle.nio_event.specs.declared.reply.Reply.TheVariants as reply
 use Rattle.nio_plain.proofs.Found.{find_unmade, find_spent, found_below}
-use Rattle.nio_plain.proofs.ReachedSound.{Sound, by_test}
+use Rattle.nio_plain.proofs.ReachedSound.{Sound, by_test, some_same}
 use Rattle.nio_plain.specs.ScriptState.{ScriptState, Selection}
 use Rattle.nio_plain.specs.Seq.{call_of, seq}
 use Rattle.nio_plain.specs.Seq.Answers.{Answered, unchanged}
-use Rattle.nio_plain.specs.Seq.Cancelling.{cancelled_key, cancelled_in_set, has_index, closec_call, cancel_call}
+use Rattle.nio_plain.specs.Seq.Cancelling.{cancelled_key, cancelled_in_set, channel_closed, has_index, closec_call, cancel_call}
 use Rattle.nio_plain.specs.Seq.Closing.{close_call, close_end_call}
 use Rattle.nio_plain.specs.Seq.Keys.{with_valid_key, are_legal_at, is_in_selected_set, valid_call, interest_call, ready_call, iset_call, ior_call, iand_call, unselect_call, attach_call, attachment_call}
 use Rattle.nio_plain.specs.Seq.Listing.{listed, keys_call, selected_call}
 use Rattle.nio_plain.specs.Seq.Modes.{is_registered, blocking_call, is_blocking_call, is_open_call, is_registered_call, key_of, key_for_call}
 use Rattle.nio_plain.specs.Seq.Names.{below, key_at, is_same_key, with_named_channel, with_named_selector, with_named_key}
-use Rattle.nio_plain.specs.Seq.Opening.{selector_made, selector_call, channel_made, channel_call}
+use Rattle.nio_plain.specs.Seq.Opening.{selector_made, selector_call, next_channel, channel_made, channel_call}
+use Rattle.nio_plain.specs.Seq.Pipes.{own_source, own_sink, pipe_at}
+use Rattle.nio_plain.specs.Seq.Piping.{with_sink, with_source, pipe_call, finds_interrupt, read_first, read_from, pread_call, room_for, write_to, pwrite_call}
 use Rattle.nio_plain.specs.Seq.Registering.{are_legal, given_or_none, given_or_kept, free_index, next_by, next_key, registered, registered_new, register_call}
 use Rattle.nio_plain.specs.Seq.Removing.{removed_key, unselected, comes_back}
 use Rattle.nio_plain.specs.Seq.Selections.{all_told, looked_interest, told_bits, marked, is_looked, mode_of, begun_with, begin_call, updated_count, is_again, told_selection, is_caller, own_selection, told_call, left_selection, failed_call}
@@ -37,6 +40,72 @@ use Rattle.nio_plain.specs.Seq.Wakeups.{wakeup_call, interrupt_call, interrupted
 use Rattle.nio_plain.specs.declared.rules.Rules.TheVariants.{Now}
 use Rattle.nio_serial.proofs.ClosingChannels.{index_in_set}
 use Rattle.nio_serial.proofs.Resting.{KeysRest, FreesRest, Rests, channels-changed, channels-more, above-out, keys-cancelled, frees-cancelled, keys-removed, frees-removed, keys-new, frees-new, keys-unselected, one_cancelled}
+
+-- ---- channels
+
+-- the least number that isn't made is the one at the mark
+next-at : (l : Limits) (st : ScriptState) → Rests l st.shared → (c : ℕ) → next_channel l st ≡ Some c
+    → (c ≡ st.shared.channels_high) × (c < l.channels)
+next-at l st rest c e = ⊎_elim here spent (cases_lt m l.channels)
+  where
+    m : ℕ
+    m = st.shared.channels_high
+
+    made : ℕ → Bool
+    made n = (st.shared.chan n).made
+
+    below_made : (n : ℕ) → n < m → made n ≡ true
+    below_made n low = rest.channels.made n ∙ lt-ltb n m low
+
+    above_unmade : (n : ℕ) → m ≤ n → made n ≡ false
+    above_unmade n high = rest.channels.made n ∙ le-ltb n m high
+
+    here : m < l.channels → (c ≡ m) × (c < l.channels)
+    here room =
+        let same : m ≡ c = some_same m c (sym (find_unmade made l.channels m below_made above_unmade room) ∙ e) in
+        (sym same, omega arith)
+
+    spent : l.channels ≤ m → (c ≡ m) × (c < l.channels)
+    spent full =
+        let none : None ≡ Some c = sym (find_spent made l.channels m below_made above_unmade full) ∙ e in
+        absurd cc
+
+-- it is made
+rests-made : (l : Limits) (st : ScriptState) → Rests l st.shared → (kind : Kind) (c : ℕ) → next_channel l st ≡ Some c
+    → Rests l (channel_made st kind (Some c)).left.shared
+rests-made l st rest kind c e =
+    let at = next-at l st rest c e in
+    let same : c ≡ st.shared.channels_high = at.0 in
+    let within : c < l.channels = at.1 in
+    subst (λ (n : ℕ). Rests l (channel_made st kind (Some n)).left.shared) (sym same)
+    (record {
+      unused = rest.unused;
+      channels = channels-more l st.shared.channels_high st.shared.chan rest.channels (omega arith)
+          (record { made = true; kind = kind; closed = false; blocking = true }) refl;
+      keys = rest.keys;
+      frees = rest.frees;
+    })
+
+-- a channel is closed
+rests-closed : (l : Limits) (st : State) → Rests l st → (c : ℕ) → Rests l (channel_closed st c)
+rests-closed l st rest c =
+    let test : ℕ → ℕ → Bool = λ s i. has_index (key_of st c s) i in
+    let within = λ (s i : ℕ). index_in_set st s i (st.noted c s) in
+    record {
+      unused = rest.unused;
+      channels =
+          channels-changed l st.channels_high st.chan rest.channels c (record (st.chan c) { closed = true }) refl;
+      keys = keys-cancelled l st rest test within;
+      frees = frees-cancelled l st rest test within;
+    }
+
+-- a sink is made for the source, or the source is closed
+rests-sink : (l : Limits) (st : ScriptState) → Rests l st.shared → (me target : CallerNo) (source : ℕ) (o : Option ℕ)
+    → next_channel l st ≡ o → Rests l (with_sink st me target source o).left.shared
+rests-sink l st rest me target source None e = rests-closed l st.shared rest source
+rests-sink l st rest me target source (Some sink) e = rests-made l st rest Sink sink e
+
+-- ---- calls
 
 module _ (l : Limits) (st : ScriptState) (sound : Sound Now l st) (rest : Rests l st.shared) where
   abbrev Keeps : Answered → Type 0
@@ -65,8 +134,10 @@ module _ (l : Limits) (st : ScriptState) (sound : Sound Now l st) (rest : Rests 
       named_key s k (cond valid a (unchanged st reply.CancelledKey)) (allowed valid reply.CancelledKey a (λ _. h))
 
   -- parts of which no other rests
-  beside : (interrupted : ℕ → Bool) (interest note : ℕ → ℕ → ℕ) → Rests l (record st.shared { interrupted = interrupted; interest = interest; note = note })
-  beside interrupted interest note = record { unused = rest.unused; channels = rest.channels; keys = rest.keys; frees = rest.frees }
+  beside : (interrupted : ℕ → Bool) (interest note : ℕ → ℕ → ℕ)
+      → Rests l (record st.shared { interrupted = interrupted; interest = interest; note = note })
+  beside interrupted interest note =
+      record { unused = rest.unused; channels = rest.channels; keys = rest.keys; frees = rest.frees }
 
   -- ---- opening, mode, registering and closing of channels
 
@@ -76,50 +147,41 @@ module _ (l : Limits) (st : ScriptState) (sound : Sound Now l st) (rest : Rests 
     where
       by_found : (o : Option ℕ) → Keeps (selector_made st o)
       by_found None = rest
-      by_found (Some s) = record { unused = rest.unused; channels = rest.channels; keys = rest.keys; frees = rest.frees }
+      by_found (Some s) =
+          record { unused = rest.unused; channels = rest.channels; keys = rest.keys; frees = rest.frees }
 
   rests-channel_call : (kind : Kind) → Keeps (channel_call l st kind)
   unfolding channel_call
-  rests-channel_call kind = ⊎_elim here spent (cases_lt m l.channels)
+  rests-channel_call kind = by_next (next_channel l st) refl
     where
-      m : ℕ
-      m = st.shared.channels_high
-
-      unmade : ℕ → Bool
-      unmade c = not (st.shared.chan c).made
-
-      below_made : (c : ℕ) → c < m → (st.shared.chan c).made ≡ true
-      below_made c low = rest.channels.made c ∙ lt-ltb c m low
-
-      above_unmade : (c : ℕ) → m ≤ c → (st.shared.chan c).made ≡ false
-      above_unmade c high = rest.channels.made c ∙ le-ltb c m high
-
-      here : m < l.channels → Keeps (channel_made st kind (find unmade (below l.channels)))
-      here room = subst (λ o. Keeps (channel_made st kind o)) (sym (find_unmade (λ c. (st.shared.chan c).made) l.channels m below_made above_unmade room))
-          (record {
-            unused = rest.unused;
-            channels = channels-more l m st.shared.chan rest.channels room (record { made = true; kind = kind; closed = false; blocking = true }) refl;
-            keys = rest.keys;
-            frees = rest.frees;
-          })
-
-      spent : l.channels ≤ m → Keeps (channel_made st kind (find unmade (below l.channels)))
-      spent full = subst (λ o. Keeps (channel_made st kind o)) (sym (find_spent (λ c. (st.shared.chan c).made) l.channels m below_made above_unmade full)) rest
+      by_next : (o : Option ℕ) → next_channel l st ≡ o → Keeps (channel_made st kind o)
+      by_next None e = rest
+      by_next (Some c) e = rests-made l st rest kind c e
 
   rests-blocking_call : (c : ChanNo) (on : Bool) → Keeps (blocking_call l st c on)
   unfolding blocking_call
   rests-blocking_call c on =
       named_channel c _ (denied (st.shared.chan c.0).closed reply.ClosedChannel _
       (λ _. denied (on && is_registered l st.shared c.0) reply.IllegalBlockingMode _
-      (λ _. record { unused = rest.unused; channels = channels-changed l st.shared.channels_high st.shared.chan rest.channels c.0 (record (st.shared.chan c.0) { blocking = on }) refl; keys = rest.keys; frees = rest.frees })))
+      (λ _. record {
+        unused = rest.unused;
+        channels =
+            channels-changed l st.shared.channels_high st.shared.chan rest.channels c.0
+            (record (st.shared.chan c.0) { blocking = on }) refl;
+        keys = rest.keys;
+        frees = rest.frees;
+      })))
 
   -- the index that a new key gets
-  next_low : (s : ℕ) (k : KeyId) → next_key l st.shared s ≡ Some k → (k.index ≤ st.shared.keys_high s) × (k.index < l.keys)
+  next_low : (s : ℕ) (k : KeyId) → next_key l st.shared s ≡ Some k
+      → (k.index ≤ st.shared.keys_high s) × (k.index < l.keys)
   next_low s k e = by_free (free_index st.shared s) refl e
     where
-      by_free : (o : Option ℕ) → free_index st.shared s ≡ o → next_by l st.shared s o ≡ Some k → (k.index ≤ st.shared.keys_high s) × (k.index < l.keys)
+      by_free : (o : Option ℕ) → free_index st.shared s ≡ o → next_by l st.shared s o ≡ Some k
+          → (k.index ≤ st.shared.keys_high s) × (k.index < l.keys)
       by_free (Some i) is now =
-          let low : i < st.shared.keys_high s = (found_below (λ j. st.shared.free s j) (st.shared.keys_high s) i is).1 in
+          let low : i < st.shared.keys_high s =
+          (found_below (λ j. st.shared.free s j) (st.shared.keys_high s) i is).1 in
           let within = rest.keys.within s in
           let index : i ≡ k.index = ap (λ o. index_or o) now in
           (omega arith, omega arith)
@@ -133,14 +195,17 @@ module _ (l : Limits) (st : ScriptState) (sound : Sound Now l st) (rest : Rests 
           index_or None = 0
           index_or (Some m) = m.index
 
-          by_room : (b : Bool) → nat_lt (st.shared.keys_high s) l.keys ≡ b → cond b (Some (record { index = st.shared.keys_high s; serial = 0 })) None ≡ Some k → (k.index ≤ st.shared.keys_high s) × (k.index < l.keys)
+          by_room : (b : Bool) → nat_lt (st.shared.keys_high s) l.keys ≡ b
+              → cond b (Some (record { index = st.shared.keys_high s; serial = 0 })) None ≡ Some k
+              → (k.index ≤ st.shared.keys_high s) × (k.index < l.keys)
           by_room true e' now' =
               let room : st.shared.keys_high s < l.keys = ltb-true (st.shared.keys_high s) l.keys e' in
               let index : st.shared.keys_high s ≡ k.index = ap (λ o. index_or o) now' in
               (omega arith, omega arith)
           by_room false e' now' = absurd cc
 
-  rests_new : (s c ops note : ℕ) (o : Option KeyId) → next_key l st.shared s ≡ o → Keeps (registered_new st s c ops note o)
+  rests_new : (s c ops note : ℕ) (o : Option KeyId) → next_key l st.shared s ≡ o
+      → Keeps (registered_new st s c ops note o)
   rests_new s c ops note None e = rest
   rests_new s c ops note (Some k) e =
       let low = next_low s k e in
@@ -152,12 +217,15 @@ module _ (l : Limits) (st : ScriptState) (sound : Sound Now l st) (rest : Rests 
       }
 
   rests_registered : (s c ops : ℕ) (att : Option ℕ) (o : Option KeyId) → Keeps (registered l st s c ops att o)
-  rests_registered s c ops att None = denied (st.shared.gate s).shut reply.ClosedSelector _ (λ _. rests_new s c ops (given_or_none att) (next_key l st.shared s) refl)
+  rests_registered s c ops att None =
+      denied (st.shared.gate s).shut reply.ClosedSelector _
+      (λ _. rests_new s c ops (given_or_none att) (next_key l st.shared s) refl)
   rests_registered s c ops att (Some k) =
       let i = k.index in
       denied (st.shared.key s i).cancelled reply.CancelledKey _
       (λ _. denied (st.shared.gate s).shut reply.ClosedSelector _
-      (λ _. beside st.shared.interrupted (put_at st.shared.interest s i ops) (put_at st.shared.note s i (given_or_kept att (st.shared.note s i)))))
+      (λ _. beside st.shared.interrupted (put_at st.shared.interest s i ops)
+      (put_at st.shared.note s i (given_or_kept att (st.shared.note s i)))))
 
   rests-register_call : (s : SelNo) (c : ChanNo) (ops : ℕ) (att : Option ℕ) → Keeps (register_call l st s c ops att)
   unfolding register_call
@@ -171,15 +239,7 @@ module _ (l : Limits) (st : ScriptState) (sound : Sound Now l st) (rest : Rests 
   rests-closec_call : (me : CallerNo) (c : ChanNo) → Keeps (closec_call st me c)
   unfolding closec_call
   rests-closec_call me c =
-      let test : ℕ → ℕ → Bool = λ s i. has_index (key_of st.shared c.0 s) i in
-      let within = λ (s i : ℕ). index_in_set st.shared s i (st.shared.noted c.0 s) in
-      named_channel c _ (denied (st.shared.chan c.0).closed reply.Already _
-      (λ _. record {
-        unused = rest.unused;
-        channels = channels-changed l st.shared.channels_high st.shared.chan rest.channels c.0 (record (st.shared.chan c.0) { closed = true }) refl;
-        keys = keys-cancelled l st.shared rest test within;
-        frees = frees-cancelled l st.shared rest test within;
-      }))
+      named_channel c _ (denied (st.shared.chan c.0).closed reply.Already _ (λ _. rests-closed l st.shared rest c.0))
 
   rests-is_blocking_call : (c : ChanNo) → Keeps (is_blocking_call st c)
   unfolding is_blocking_call
@@ -202,21 +262,30 @@ module _ (l : Limits) (st : ScriptState) (sound : Sound Now l st) (rest : Rests 
   rests-cancel_call : (s : SelNo) (k : KeyId) → Keeps (cancel_call st s k)
   unfolding cancel_call
   rests-cancel_call s k =
-      let test : ℕ → ℕ → Bool = λ t i. ((t == s.0) && (i == k.index)) && is_in_key_set (st.shared.key s.0 k.index) k.serial in
-      let same : (λ t i. cond (test t i) (cancelled_key (st.shared.key t i)) (st.shared.key t i)) ≡ put_at st.shared.key s.0 k.index (cancelled_in_set (st.shared.key s.0 k.index) k.serial) = λ j t i. sym (one_cancelled st.shared s.0 k t i) j in
+      let test : ℕ → ℕ → Bool =
+      λ t i. ((t == s.0) && (i == k.index)) && is_in_key_set (st.shared.key s.0 k.index) k.serial in
+      let same : (λ t i. cond (test t i) (cancelled_key (st.shared.key t i)) (st.shared.key t i))
+      ≡ put_at st.shared.key s.0 k.index (cancelled_in_set (st.shared.key s.0 k.index) k.serial) = λ j t i. sym
+      (one_cancelled st.shared s.0 k t i) j in
       named_key s k _ (record {
         unused = rest.unused;
         channels = rest.channels;
-        keys = subst (λ f. KeysRest l st.shared.keys_high f st.shared.mark st.shared.free) same (keys-cancelled l st.shared rest test within);
-        frees = subst (λ f. FreesRest st.shared.entered f st.shared.free) same (frees-cancelled l st.shared rest test within);
+        keys = subst (λ f. KeysRest l st.shared.keys_high f st.shared.mark st.shared.free) same
+            (keys-cancelled l st.shared rest test within);
+        frees = subst (λ f. FreesRest st.shared.entered f st.shared.free) same
+            (frees-cancelled l st.shared rest test within);
       })
     where
-      within : (t i : ℕ) → (((t == s.0) && (i == k.index)) && is_in_key_set (st.shared.key s.0 k.index) k.serial) ≡ true → in_key_set (st.shared.key t i) ≡ true
+      within : (t i : ℕ) → (((t == s.0) && (i == k.index)) && is_in_key_set (st.shared.key s.0 k.index) k.serial) ≡ true
+          → in_key_set (st.shared.key t i) ≡ true
       within t i h =
           let both = and_parts ((t == s.0) && (i == k.index)) (is_in_key_set (st.shared.key s.0 k.index) k.serial) h in
           let place = and_parts (t == s.0) (i == k.index) both.0 in
-          let there = (and_parts (fits (st.shared.key s.0 k.index) k.serial) (in_key_set (st.shared.key s.0 k.index)) both.1).1 in
-          subst (λ (n : ℕ). in_key_set (st.shared.key n i) ≡ true) (sym (eqb-true t s.0 place.0)) (subst (λ (n : ℕ). in_key_set (st.shared.key s.0 n) ≡ true) (sym (eqb-true i k.index place.1)) there)
+          let there =
+          (and_parts (fits (st.shared.key s.0 k.index) k.serial)
+          (in_key_set (st.shared.key s.0 k.index)) both.1).1 in
+          subst (λ (n : ℕ). in_key_set (st.shared.key n i) ≡ true) (sym (eqb-true t s.0 place.0))
+          (subst (λ (n : ℕ). in_key_set (st.shared.key s.0 n) ≡ true) (sym (eqb-true i k.index place.1)) there)
 
   rests-valid_call : (s : SelNo) (k : KeyId) → Keeps (valid_call st s k)
   unfolding valid_call
@@ -238,11 +307,15 @@ module _ (l : Limits) (st : ScriptState) (sound : Sound Now l st) (rest : Rests 
 
   rests-iset_call : (s : SelNo) (k : KeyId) (ops : ℕ) → Keeps (iset_call st s k ops)
   unfolding iset_call
-  rests-iset_call s k ops = valid_key s k _ (allowed (are_legal_at st.shared s.0 k.index ops) reply.IllegalOps _ (λ _. interest_set s.0 k.index ops))
+  rests-iset_call s k ops =
+      valid_key s k _ (allowed (are_legal_at st.shared s.0 k.index ops) reply.IllegalOps _
+      (λ _. interest_set s.0 k.index ops))
 
   rests-ior_call : (s : SelNo) (k : KeyId) (ops : ℕ) → Keeps (ior_call st s k ops)
   unfolding ior_call
-  rests-ior_call s k ops = valid_key s k _ (allowed (are_legal_at st.shared s.0 k.index ops) reply.IllegalOps _ (λ _. interest_set s.0 k.index (bit_or (st.shared.interest s.0 k.index) ops)))
+  rests-ior_call s k ops =
+      valid_key s k _ (allowed (are_legal_at st.shared s.0 k.index ops) reply.IllegalOps _
+      (λ _. interest_set s.0 k.index (bit_or (st.shared.interest s.0 k.index) ops)))
 
   rests-iand_call : (s : SelNo) (k : KeyId) (ops : ℕ) → Keeps (iand_call st s k ops)
   unfolding iand_call
@@ -252,11 +325,19 @@ module _ (l : Limits) (st : ScriptState) (sound : Sound Now l st) (rest : Rests 
   unfolding unselect_call
   rests-unselect_call s k =
       named_key s k _ (allowed (is_in_selected_set st.shared s.0 k) reply.No _
-      (λ _. record { unused = rest.unused; channels = rest.channels; keys = keys-unselected l st.shared rest s.0 k.index; frees = rest.frees }))
+      (λ _. record {
+        unused = rest.unused;
+        channels = rest.channels;
+        keys =
+            keys-unselected l st.shared rest s.0 k.index;
+        frees = rest.frees;
+      }))
 
   rests-attach_call : (s : SelNo) (k : KeyId) (att : ℕ) → Keeps (attach_call st s k att)
   unfolding attach_call
-  rests-attach_call s k att = named_key s k _ (allowed (fits (st.shared.key s.0 k.index) k.serial) (reply.Number 0) _ (λ _. note_set s.0 k.index att))
+  rests-attach_call s k att =
+      named_key s k _ (allowed (fits (st.shared.key s.0 k.index) k.serial) (reply.Number 0) _
+      (λ _. note_set s.0 k.index att))
 
   rests-attachment_call : (s : SelNo) (k : KeyId) → Keeps (attachment_call st s k)
   unfolding attachment_call
@@ -265,7 +346,8 @@ module _ (l : Limits) (st : ScriptState) (sound : Sound Now l st) (rest : Rests 
   -- ---- selections
 
   -- the cancelled keys that pass the test are removed by a selection
-  module _ (s : ℕ) (test : ℕ → Bool) (cancelled : (i : ℕ) → test i ≡ true → in_cancelled_set (st.shared.key s i) ≡ true) (marks : ℕ → ℕ → Mark)
+  module _ (s : ℕ) (test : ℕ → Bool) (cancelled : (i : ℕ) → test i ≡ true → in_cancelled_set (st.shared.key s i) ≡ true)
+      (marks : ℕ → ℕ → Mark)
       (quiet : (t i : ℕ) → nat_lt i (st.shared.keys_high t) ≡ false → marks t i ≡ st.shared.mark t i) where
     abbrev goes : ℕ → ℕ → Bool
     goes t i = (t == s) && test i
@@ -273,15 +355,19 @@ module _ (l : Limits) (st : ScriptState) (sound : Sound Now l st) (rest : Rests 
     goes_in_set : (t i : ℕ) → goes t i ≡ true → in_key_set (st.shared.key t i) ≡ true
     goes_in_set t i h =
         let both = and_parts (t == s) (test i) h in
-        subst (λ (n : ℕ). in_key_set (st.shared.key n i) ≡ true) (sym (eqb-true t s both.0)) (and_parts (in_key_set (st.shared.key s i)) (st.shared.key s i).cancelled (cancelled i both.1)).0
+        subst (λ (n : ℕ). in_key_set (st.shared.key n i) ≡ true) (sym (eqb-true t s both.0))
+        (and_parts (in_key_set (st.shared.key s i)) (st.shared.key s i).cancelled (cancelled i both.1)).0
 
-    swept_keys : KeysRest l st.shared.keys_high (λ t i. cond (goes t i) (removed_key (st.shared.key t i)) (st.shared.key t i)) (λ t i. cond (goes t i) (unselected (marks t i)) (marks t i)) (λ t i. (goes t i && comes_back Now (st.shared.key t i)) || st.shared.free t i)
+    swept_keys : KeysRest l st.shared.keys_high (λ t i. cond (goes t i) (removed_key (st.shared.key t i))
+        (st.shared.key t i)) (λ t i. cond (goes t i) (unselected (marks t i)) (marks t i))
+        (λ t i. (goes t i && comes_back Now (st.shared.key t i)) || st.shared.free t i)
     swept_keys =
         keys-removed l st.shared rest goes (comes_back Now) st.shared.entered marks
         (λ t i h. (and_parts (st.shared.key t i).published (not (st.shared.key t i).removed) (goes_in_set t i h)).0)
         quiet (λ _ h. h) (λ t i _ h. (goes_in_set t i h, refl))
 
-    swept_frees : FreesRest st.shared.entered (λ t i. cond (goes t i) (removed_key (st.shared.key t i)) (st.shared.key t i)) (λ t i. (goes t i && comes_back Now (st.shared.key t i)) || st.shared.free t i)
+    swept_frees : FreesRest st.shared.entered (λ t i. cond (goes t i) (removed_key (st.shared.key t i))
+        (st.shared.key t i)) (λ t i. (goes t i && comes_back Now (st.shared.key t i)) || st.shared.free t i)
     swept_frees =
         frees-removed l st.shared rest goes (comes_back Now) st.shared.entered marks
         (λ t i h. (and_parts (st.shared.key t i).published (not (st.shared.key t i).removed) (goes_in_set t i h)).0)
@@ -307,7 +393,8 @@ module _ (l : Limits) (st : ScriptState) (sound : Sound Now l st) (rest : Rests 
     unlooked : (i : ℕ) → nat_lt i (st.shared.keys_high s) ≡ false → is_looked x.looked (key_at st.shared s i) ≡ false
     unlooked i above = false_from_ne_true (is_looked x.looked (key_at st.shared s i)) (λ h.
         let in_set = (sound.looks s).in_set x is (key_at st.shared s i) h in
-        both_ways (in_key_set (st.shared.key s i)) (above-out l st.shared.keys_high st.shared.key st.shared.mark st.shared.free rest.keys s i above)
+        both_ways (in_key_set (st.shared.key s i))
+        (above-out l st.shared.keys_high st.shared.key st.shared.mark st.shared.free rest.keys s i above)
         (and_parts (fits (st.shared.key s i) (st.shared.key s i).serial) (in_key_set (st.shared.key s i)) in_set).1)
 
     no_interest : (looked : List (KeyId × ℕ)) (k : KeyId) → is_looked looked k ≡ false → looked_interest looked k ≡ 0
@@ -317,26 +404,37 @@ module _ (l : Limits) (st : ScriptState) (sound : Sound Now l st) (rest : Rests 
         ap (λ b. cond b q.1 (looked_interest looked k)) parts.0 ∙ no_interest looked k parts.1
 
     abbrev marks : ℕ → ℕ → Mark
-    marks t i = cond (t == s) (marked (st.shared.mark t i) (told_bits x.looked pairs (key_at st.shared t i))) (st.shared.mark t i)
+    marks t i =
+        cond (t == s) (marked (st.shared.mark t i) (told_bits x.looked pairs (key_at st.shared t i)))
+        (st.shared.mark t i)
 
     quiet_marks : (t i : ℕ) → nat_lt i (st.shared.keys_high t) ≡ false → marks t i ≡ st.shared.mark t i
     quiet_marks t i above = by_selector (t == s) refl
       where
-        here : nat_lt i (st.shared.keys_high s) ≡ false → marked (st.shared.mark s i) (told_bits x.looked pairs (key_at st.shared s i)) ≡ st.shared.mark s i
+        here : nat_lt i (st.shared.keys_high s) ≡ false
+            → marked (st.shared.mark s i) (told_bits x.looked pairs (key_at st.shared s i)) ≡ st.shared.mark s i
         here above' =
             let k = key_at st.shared s i in
-            ap (marked (st.shared.mark s i)) (ap (bit_and (all_told pairs k)) (no_interest x.looked k (unlooked i above')) ∙ and_zero_r (all_told pairs k))
+            ap (marked (st.shared.mark s i)) (ap (bit_and (all_told pairs k))
+            (no_interest x.looked k (unlooked i above')) ∙ and_zero_r (all_told pairs k))
 
-        by_selector : (b : Bool) → (t == s) ≡ b → cond b (marked (st.shared.mark t i) (told_bits x.looked pairs (key_at st.shared t i))) (st.shared.mark t i) ≡ st.shared.mark t i
+        by_selector : (b : Bool) → (t == s) ≡ b
+            → cond b (marked (st.shared.mark t i) (told_bits x.looked pairs (key_at st.shared t i)))
+            (st.shared.mark t i) ≡ st.shared.mark t i
         by_selector true there =
-            subst (λ (n : ℕ). nat_lt i (st.shared.keys_high n) ≡ false → marked (st.shared.mark n i) (told_bits x.looked pairs (key_at st.shared n i)) ≡ st.shared.mark n i) (sym (eqb-true t s there)) here above
+            subst (λ (n : ℕ). nat_lt i (st.shared.keys_high n) ≡ false
+            → marked (st.shared.mark n i) (told_bits x.looked pairs (key_at st.shared n i)) ≡ st.shared.mark n i)
+            (sym (eqb-true t s there)) here above
         by_selector false other = refl
 
     rests_told : (me : CallerNo) (elapsed : Bool) → Keeps (told_selection Now st me s pairs elapsed (Some x))
     rests_told me elapsed =
         let test : ℕ → Bool = λ i. is_looked x.looked (key_at st.shared s i) && in_cancelled_set (st.shared.key s i) in
-        let cancelled = λ (i : ℕ) (h : (is_looked x.looked (key_at st.shared s i) && in_cancelled_set (st.shared.key s i)) ≡ true). (and_parts (is_looked x.looked (key_at st.shared s i)) (in_cancelled_set (st.shared.key s i)) h).1 in
-        denied (is_again (st.shared.gate s) (st.shared.interrupted me.0) x.mode elapsed (updated_count st.shared s x.looked pairs)) reply.Again _
+        let cancelled =
+        λ (i : ℕ) (h : (is_looked x.looked (key_at st.shared s i) && in_cancelled_set (st.shared.key s i)) ≡ true).
+        (and_parts (is_looked x.looked (key_at st.shared s i)) (in_cancelled_set (st.shared.key s i)) h).1 in
+        denied (is_again (st.shared.gate s) (st.shared.interrupted me.0) x.mode elapsed
+        (updated_count st.shared s x.looked pairs)) reply.Again _
         (λ _. record {
           unused = rest.unused;
           channels = rest.channels;
@@ -351,11 +449,13 @@ module _ (l : Limits) (st : ScriptState) (sound : Sound Now l st) (rest : Rests 
       by_caller true now = now
       by_caller false now = absurd cc
 
-  rests-told_call : (me : CallerNo) (s : SelNo) (elapsed : Bool) (pairs : List (KeyId × ℕ)) → Keeps (told_call Now st me s elapsed pairs)
+  rests-told_call : (me : CallerNo) (s : SelNo) (elapsed : Bool) (pairs : List (KeyId × ℕ))
+      → Keeps (told_call Now st me s elapsed pairs)
   unfolding told_call
   rests-told_call me s elapsed pairs = named_selector s _ (by_own (own_selection st me s.0) (own_is me s.0))
     where
-      by_own : (o : Option Selection) → ((x : Selection) → o ≡ Some x → st.selection s.0 ≡ Some x) → Keeps (told_selection Now st me s.0 pairs elapsed o)
+      by_own : (o : Option Selection) → ((x : Selection) → o ≡ Some x → st.selection s.0 ≡ Some x)
+          → Keeps (told_selection Now st me s.0 pairs elapsed o)
       by_own None own = rest
       by_own (Some x) own = rests_told s.0 x (own x refl) pairs me elapsed
 
@@ -371,11 +471,20 @@ module _ (l : Limits) (st : ScriptState) (sound : Sound Now l st) (rest : Rests 
 
   rests-wakeup_call : (s : SelNo) → Keeps (wakeup_call st s)
   unfolding wakeup_call
-  rests-wakeup_call s = named_selector s _ (record { unused = rest.unused; channels = rest.channels; keys = rest.keys; frees = rest.frees })
+  rests-wakeup_call s =
+      named_selector s _ (record {
+        unused = rest.unused;
+        channels = rest.channels;
+        keys = rest.keys;
+        frees =
+            rest.frees;
+      })
 
   rests-interrupt_call : (target : CallerNo) → Keeps (interrupt_call l st target)
   unfolding interrupt_call
-  rests-interrupt_call target = allowed (nat_lt target.0 l.callers) reply.NoCaller _ (λ _. beside (put st.shared.interrupted target.0 true) st.shared.interest st.shared.note)
+  rests-interrupt_call target =
+      allowed (nat_lt target.0 l.callers) reply.NoCaller _
+      (λ _. beside (put st.shared.interrupted target.0 true) st.shared.interest st.shared.note)
 
   rests-interrupted_call : (me : CallerNo) → Keeps (interrupted_call st me)
   unfolding interrupted_call
@@ -384,7 +493,8 @@ module _ (l : Limits) (st : ScriptState) (sound : Sound Now l st) (rest : Rests 
   rests-close_call : (me : CallerNo) (s : SelNo) → Keeps (close_call st me s)
   unfolding close_call
   rests-close_call me s =
-      named_selector s _ (denied (st.shared.gate s.0).shut reply.Already _ (λ _. record { unused = rest.unused; channels = rest.channels; keys = rest.keys; frees = rest.frees }))
+      named_selector s _ (denied (st.shared.gate s.0).shut reply.Already _
+      (λ _. record { unused = rest.unused; channels = rest.channels; keys = rest.keys; frees = rest.frees }))
 
   -- the claimed keys of a selector are removed, and none of their indexes becomes free
   module _ (s : ℕ) where
@@ -397,7 +507,8 @@ module _ (l : Limits) (st : ScriptState) (sound : Sound Now l st) (rest : Rests 
     claimed_published : (t i : ℕ) → empties t i ≡ true → (st.shared.key t i).published ≡ true
     claimed_published t i h =
         let both = and_parts (t == s) (st.shared.key s i).claimed h in
-        subst (λ (n : ℕ). (st.shared.key n i).published ≡ true) (sym (eqb-true t s both.0)) (rest.keys.published s i ∙ (sym (rest.keys.claimed s i) ∙ both.1))
+        subst (λ (n : ℕ). (st.shared.key n i).published ≡ true) (sym (eqb-true t s both.0))
+        (rest.keys.published s i ∙ (sym (rest.keys.claimed s i) ∙ both.1))
 
     abbrev ended : ℕ → Bool
     ended = put st.shared.entered s true
@@ -409,21 +520,38 @@ module _ (l : Limits) (st : ScriptState) (sound : Sound Now l st) (rest : Rests 
         by_selector true e = absurd (both_ways true e refl)
         by_selector false e = e
 
-    none_go : (t i : ℕ) → ended t ≡ false → empties t i ≡ true → (in_key_set (st.shared.key t i) ≡ true) × (none (st.shared.key t i) ≡ nat_lt (st.shared.key t i).serial last_serial)
-    none_go t i h going = absurd (both_ways true (sym (ap (λ b. cond b true (st.shared.entered t)) (and_parts (t == s) (st.shared.key s i).claimed going).0) ∙ h) refl)
+    none_go : (t i : ℕ) → ended t ≡ false → empties t i ≡ true
+        → (in_key_set (st.shared.key t i) ≡ true) × (none (st.shared.key t i)
+        ≡ nat_lt (st.shared.key t i).serial last_serial)
+    none_go t i h going =
+        absurd (both_ways true (sym (ap (λ b. cond b true (st.shared.entered t))
+        (and_parts (t == s) (st.shared.key s i).claimed going).0) ∙ h) refl)
 
-    emptied_keys : KeysRest l st.shared.keys_high (λ t i. cond (empties t i) (removed_key (st.shared.key t i)) (st.shared.key t i)) (λ t i. cond (empties t i) (unselected (st.shared.mark t i)) (st.shared.mark t i)) (λ t i. (empties t i && false) || st.shared.free t i)
-    emptied_keys = keys-removed l st.shared rest empties none ended st.shared.mark claimed_published (λ _ _ _. refl) kept_open none_go
+    emptied_keys : KeysRest l st.shared.keys_high (λ t i. cond (empties t i) (removed_key (st.shared.key t i))
+        (st.shared.key t i)) (λ t i. cond (empties t i) (unselected (st.shared.mark t i)) (st.shared.mark t i))
+        (λ t i. (empties t i && false) || st.shared.free t i)
+    emptied_keys =
+        keys-removed l st.shared rest empties none ended st.shared.mark claimed_published
+        (λ _ _ _. refl) kept_open none_go
 
-    emptied_frees : FreesRest ended (λ t i. cond (empties t i) (removed_key (st.shared.key t i)) (st.shared.key t i)) (λ t i. (empties t i && false) || st.shared.free t i)
-    emptied_frees = frees-removed l st.shared rest empties none ended st.shared.mark claimed_published (λ _ _ _. refl) kept_open none_go
+    emptied_frees : FreesRest ended (λ t i. cond (empties t i) (removed_key (st.shared.key t i)) (st.shared.key t i))
+        (λ t i. (empties t i && false) || st.shared.free t i)
+    emptied_frees =
+        frees-removed l st.shared rest empties none ended st.shared.mark claimed_published
+        (λ _ _ _. refl) kept_open none_go
 
   rests-close_end_call : (me : CallerNo) (s : SelNo) → Keeps (close_end_call st me s)
   unfolding close_end_call
   rests-close_end_call me s =
       named_selector s _ (denied (not (is_caller me (st.shared.closer s.0)) || st.shared.entered s.0) reply.NotClosing _
       (λ _. denied (is_some (st.shared.turn s.0)) reply.Busy _
-      (λ _. record { unused = rest.unused; channels = rest.channels; keys = emptied_keys s.0; frees = emptied_frees s.0 })))
+      (λ _. record {
+        unused = rest.unused;
+        channels = rest.channels;
+        keys = emptied_keys s.0;
+        frees =
+            emptied_frees s.0;
+      })))
 
   rests_listed : (s : SelNo) (in_set : ℕ → Bool) → Keeps (listed st s in_set)
   rests_listed s in_set = named_selector s _ (denied (st.shared.gate s.0).shut reply.ClosedSelector _ (λ _. rest))
@@ -435,6 +563,53 @@ module _ (l : Limits) (st : ScriptState) (sound : Sound Now l st) (rest : Rests 
   rests-selected_call : (s : SelNo) → Keeps (selected_call st s)
   unfolding selected_call
   rests-selected_call s = rests_listed s _
+
+  -- ---- pipes
+
+  both : (test : Bool) (a b : Answered) → Keeps a → Keeps b → Keeps (cond test a b)
+  both test a b h k = by_test Keeps test a b (λ _. h) (λ _. k)
+
+  rests-pipe_call : (me target : CallerNo) → Keeps (pipe_call l st me target)
+  unfolding pipe_call
+  rests-pipe_call me target =
+      allowed (nat_lt target.0 l.callers) reply.NoCaller _ (λ _. by_next (next_channel l st) refl)
+    where
+      by_next : (o : Option ℕ) → next_channel l st ≡ o → Keeps (with_source l st me target o)
+      by_next None e = rest
+      by_next (Some source) e =
+          let made = (channel_made st Source (Some source)).left in
+          rests-sink l made (rests-made l st rest Source source e) me target source (next_channel l made) refl
+
+  rests_first : (blocking : Bool) (n i : ℕ) (waiting : List ℕ) (marked : Bool)
+      → Keeps (read_first st blocking n i waiting marked)
+  rests_first blocking n i [] false = rest
+  rests_first blocking n i [] true = rest
+  rests_first blocking n i (b ∷ bytes) marked = rest
+
+  rests_read : (me : CallerNo) (c : ChanNo) (n : ℕ) (place : Option ℕ) → Keeps (read_from st me c n place)
+  rests_read me c n None = rest
+  rests_read me c n (Some i) =
+      both (st.shared.chan c.0).closed _ _ rest
+      (both (finds_interrupt st me c) _ _ (rests-closed l st.shared rest c.0)
+      (both (n == 0) _ _ rest
+      (rests_first (st.shared.chan c.0).blocking n i (pipe_at st i).waiting (pipe_at st i).marked)))
+
+  rests-pread_call : (me : CallerNo) (c : ChanNo) (n : ℕ) → Keeps (pread_call st me c n)
+  unfolding pread_call
+  rests-pread_call me c n = named_channel c _ (rests_read me c n (own_source st me c))
+
+  rests_write : (me : CallerNo) (c : ChanNo) (bytes : List ℕ) (place : Option ℕ) → Keeps (write_to st me c bytes place)
+  rests_write me c bytes None = rest
+  rests_write me c bytes (Some i) =
+      both (st.shared.chan c.0).closed _ _ rest
+      (both (finds_interrupt st me c) _ _ (rests-closed l st.shared rest c.0)
+      (both (st.shared.chan (pipe_at st i).source.0).closed _ _ rest
+      (both (length bytes == 0) _ _ rest
+      (both (room_for bytes (pipe_at st i) == 0) _ _ rest rest))))
+
+  rests-pwrite_call : (me : CallerNo) (c : ChanNo) (bytes : List ℕ) → Keeps (pwrite_call st me c bytes)
+  unfolding pwrite_call
+  rests-pwrite_call me c bytes = named_channel c _ (rests_write me c bytes (own_sink st me c))
 
   rests-call_of : (me : CallerNo) (word : Call) → Keeps (call_of Now l st me word)
   unfolding call_of
@@ -467,7 +642,12 @@ module _ (l : Limits) (st : ScriptState) (sound : Sound Now l st) (rest : Rests 
   rests-call_of me (call.Selected s) = rests-selected_call s
   rests-call_of me (call.Interrupt target) = rests-interrupt_call target
   rests-call_of me call.Interrupted = rests-interrupted_call me
+  rests-call_of me (call.Pipe target) = rests-pipe_call me target
+  rests-call_of me (call.Pwrite c bytes) = rests-pwrite_call me c bytes
+  rests-call_of me (call.Pread c n) = rests-pread_call me c n
+  rests-call_of me (call.Group g) = rest
 
   pub rests-seq : (me : CallerNo) (word : Call) → Keeps (seq Now l st me word)
   unfolding seq
-  rests-seq me word = allowed (nat_lt me.0 l.callers) reply.NoCaller (call_of Now l st me word) (λ _. rests-call_of me word)
+  rests-seq me word =
+      allowed (nat_lt me.0 l.callers) reply.NoCaller (call_of Now l st me word) (λ _. rests-call_of me word)
