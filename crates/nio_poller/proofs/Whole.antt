@@ -21,7 +21,7 @@ use Rattle.nio_steps.specs.declared.selected.Selected.{Selected}
 use Rattle.nio_poller.proofs.Marks.{begins-unmarked}
 use Rattle.nio_poller.proofs.Telling.{adds_none}
 use Rattle.nio_poller.specs.Polled.{Polled}
-use Rattle.nio_poller.specs.Selecting.{Answers, AddsPolls, MarksReady, MarksAllReady, SelectClause, looked_by}
+use Rattle.nio_poller.specs.Selecting.{Answers, AddsPolls, MarksReady, MarksAllReady, SelectClause, looked_by, polls_of}
 use Rattle.nio_poller.specs.Telling.{PollsClause}
 use Rattle.nio_poller.specs.declared.selecting.SelectError.{SelectError}
 
@@ -44,7 +44,7 @@ module _ {me : CallerNo} {v0 v1 : PassView} (s : SelNo) (mode : Mode) where
           shape = record { first = acts; middle = Err found; second = []; parts = sym (append-nil acts); runs_first = begins.shape; runs_second = (refl, refl, refl) };
         };
         answers = subst (λ (e : BeginError). Answers (not_begun e) result) (sym is) answers;
-        adds = adds_none p [] mode;
+        adds = adds_none p;
         marks = λ on i told from there. absurd (begins-unmarked s mode acts (Err found) begins.shape on i told from there);
       }
 
@@ -60,7 +60,7 @@ module _ {me : CallerNo} {v0 v1 : PassView} (s : SelNo) (mode : Mode) where
           shape = record { first = xs; middle = Ok selection; second = ys; parts = same; runs_first = begins.shape; runs_second = rest.call.shape };
         };
         answers = rest.answers;
-        adds = subst (λ (m : Mode). AddsPolls p0 p1 selection.looked m rest.polls) (begun-mode s mode xs selection begins.shape) rest.adds;
+        adds = subst (λ (m : Mode). AddsPolls p0 p1 (polls_of selection.looked m rest.polls)) (begun-mode s mode xs selection begins.shape) rest.adds;
         marks = λ on i told from there. by_place on i told from (Contains-append_cases xs ys (Mark on i from told (Ok tt)) (subst (λ acts. Contains acts (Mark on i from told (Ok tt))) same there));
       }
     where
