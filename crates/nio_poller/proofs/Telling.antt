@@ -1,5 +1,6 @@
 -- What a selection was told so far.
-use Rattle.std.proofs.Common.{◌≡◌, ℕ, Bool, true, false, ◌⊎◌, inl, inr, Option, Some, None, Result, Ok, Err, List, [], ◌∷◌, ◌++◌, map, refl, ap, sym, ◌∙◌, subst, append_assoc}
+use Rattle.std.proofs.Common.{◌≡◌, ℕ, Bool, true, false, ◌⊎◌, inl, inr, Option, Some, None, Result, Ok, Err, List, []}
+use Rattle.std.proofs.Common.{◌∷◌, ◌++◌, map, refl, ap, sym, ◌∙◌, subst, append_assoc}
 use Rattle.std.specs.List.{All, Contains}
 use Rattle.std.proofs.lemmas.List.{append-nil, map-append}
 use Rattle.std.proofs.lemmas.List.Elements.{Contains-append_cases}
@@ -24,7 +25,8 @@ use Rattle.nio_steps.proofs.UnmarkedLaws.{again_unmarked}
 use Rattle.nio_steps.proofs.WaitingLaws.{tries_none, tries_more, repeats_last}
 use Rattle.nio_steps.specs.Calls.{CallClause}
 use Rattle.nio_steps.specs.Runs.{Completes}
-use Rattle.nio_steps.specs.SelectCalls.{Selection, Poll, Tells, TellsAll, TellsAndLeaves, goes_on_after, ToldReply, done, again, leave_plan, SelectsRest, SelectReply, selected, left}
+use Rattle.nio_steps.specs.SelectCalls.{Selection, Poll, Tells, TellsAll, TellsAndLeaves, goes_on_after, ToldReply}
+use Rattle.nio_steps.specs.SelectCalls.{done, again, leave_plan, SelectsRest, SelectReply, selected, left}
 use Rattle.nio_steps.specs.Waiting.{Run, Tries, Repeats}
 use Rattle.nio_steps.specs.declared.looked.LookedKey.{LookedKey}
 use Rattle.nio_steps.specs.declared.selected.Selected.{Selected}
@@ -58,7 +60,8 @@ first_once [] poll = refl
 first_once (x ∷ later) poll = refl
 
 polls_of-more : (asked : List LookedKey) (mode : Mode) (polls : List Poll) (poll : Poll)
-    → polls_of asked mode polls ++ record { asked = asked; mode = poll_mode (is_first_after polls) mode; answer = poll } ∷ []
+    → polls_of asked mode polls ++ record { asked = asked; mode = poll_mode (is_first_after polls) mode; answer = poll }
+    ∷ []
     ≡ polls_of asked mode (polls ++ poll ∷ [])
 polls_of-more asked mode [] poll = refl
 polls_of-more asked mode (first ∷ later) poll =
@@ -80,32 +83,41 @@ pub record TellsSoFar (selection : Selection) (polls : List Poll) (acts : List A
 
 tells_none : (selection : Selection) → TellsSoFar selection [] []
 unfolding tries_none
-tells_none selection = record { tells = tries_none (Tells selection) goes_on_after; polls_are = refl; unmarked = unmarked_none }
+tells_none selection =
+    record { tells = tries_none (Tells selection) goes_on_after; polls_are = refl; unmarked = unmarked_none }
 
-given-more : (runs : List (Run Poll ToldReply)) (run : Run Poll ToldReply) (polls : List Poll) → polls ≡ map (λ (r : Run Poll ToldReply). r.given) runs
+given-more : (runs : List (Run Poll ToldReply)) (run : Run Poll ToldReply) (polls : List Poll)
+    → polls ≡ map (λ (r : Run Poll ToldReply). r.given) runs
     → polls ++ run.given ∷ [] ≡ map (λ (r : Run Poll ToldReply). r.given) (runs ++ run ∷ [])
-given-more runs run polls are = ap (λ xs. xs ++ run.given ∷ []) are ∙ sym (map-append (λ (r : Run Poll ToldReply). r.given) runs (run ∷ []))
+given-more runs run polls are =
+    ap (λ xs. xs ++ run.given ∷ []) are ∙ sym (map-append (λ (r : Run Poll ToldReply). r.given) runs (run ∷ []))
 
-tells_more : (selection : Selection) (polls : List Poll) (poll : Poll) (next : Selection) (xs ys : List Act) → TellsSoFar selection polls xs → Tells selection poll ys (again next)
+tells_more : (selection : Selection) (polls : List Poll) (poll : Poll) (next : Selection) (xs ys : List Act)
+    → TellsSoFar selection polls xs → Tells selection poll ys (again next)
     → TellsSoFar selection (polls ++ poll ∷ []) (xs ++ ys)
 unfolding tries_more
 tells_more selection polls poll next xs ys so_far run = record {
   tells = tries_more poll ys (again next) so_far.tells run refl;
-  polls_are = given-more so_far.tells.runs (record { given = poll; acts = ys; answer = again next }) polls so_far.polls_are;
+  polls_are = given-more so_far.tells.runs (record { given = poll; acts = ys; answer = again next }) polls
+      so_far.polls_are;
   unmarked = unmarked_append xs ys so_far.unmarked (again-unmarked selection next poll ys run);
 }
 
-tells_last : (selection : Selection) (polls : List Poll) (poll : Poll) (answer : Selected) (xs ys : List Act) → TellsSoFar selection polls xs → Tells selection poll ys (done answer)
+tells_last : (selection : Selection) (polls : List Poll) (poll : Poll) (answer : Selected) (xs ys : List Act)
+    → TellsSoFar selection polls xs → Tells selection poll ys (done answer)
     → TellsAll selection (polls ++ poll ∷ []) (xs ++ ys) answer
 unfolding repeats_last
 tells_last selection polls poll answer xs ys so_far run = record {
   tells = repeats_last poll ys (done answer) so_far.tells run refl;
-  polls_are = given-more so_far.tells.runs (record { given = poll; acts = ys; answer = done answer }) polls so_far.polls_are;
+  polls_are = given-more so_far.tells.runs (record { given = poll; acts = ys; answer = done answer }) polls
+      so_far.polls_are;
 }
 
-tells_and_leaves : (selection : Selection) (polls : List Poll) (xs ys : List Act) → TellsSoFar selection polls xs → Completes (leave_plan selection) ys tt
+tells_and_leaves : (selection : Selection) (polls : List Poll) (xs ys : List Act) → TellsSoFar selection polls xs
+    → Completes (leave_plan selection) ys tt
     → TellsAndLeaves selection polls (xs ++ ys)
-tells_and_leaves selection polls xs ys so_far run = record { told = xs; leaves = ys; parts = refl; tells = so_far.tells; polls_are = so_far.polls_are; left = run }
+tells_and_leaves selection polls xs ys so_far run =
+    record { told = xs; leaves = ys; parts = refl; tells = so_far.tells; polls_are = so_far.polls_are; left = run }
 
 -- leaving a selection marks no key
 leave-unmarked : (selection : Selection) (acts : List Act) → Completes (leave_plan selection) acts tt → Unmarked acts
@@ -143,7 +155,8 @@ module _ {me : CallerNo} {selection : Selection} {is_first : Bool} {v0 v1 v2 : P
 
   adds_next : (poll : Poll)
       → AddsPolls p1 p2
-      (record { asked = selection.looked; mode = poll_mode (is_first_after so_far.polls) selection.mode; answer = poll } ∷ [])
+      (record { asked = selection.looked; mode = poll_mode (is_first_after so_far.polls) selection.mode; answer = poll }
+      ∷ [])
       → AddsPolls p0 p2 (polls_of selection.looked selection.mode (so_far.polls ++ poll ∷ []))
   adds_next poll added =
       subst (AddsPolls p0 p2) (polls_of-more selection.looked selection.mode so_far.polls poll)
@@ -157,10 +170,13 @@ module _ {me : CallerNo} {selection : Selection} {is_first : Bool} {v0 v1 v2 : P
         record {
           polls = so_far.polls ++ one.poll ∷ [];
           first_is = first_once so_far.polls one.poll;
-          call = calls_then (λ acts (_ : Unit {0}). TellsSoFar selection (told_from (so_far.polls ++ one.poll ∷ [])) acts) tt
+          call = calls_then
+              (λ acts (_ : Unit {0}). TellsSoFar selection (told_from (so_far.polls ++ one.poll ∷ [])) acts) tt
               (λ xs ys here run.
-              subst (λ (polls : List Poll). TellsSoFar selection polls (xs ++ ys)) (told_from-more so_far.polls one.poll)
-              (tells_more selection (told_from so_far.polls) (told_poll (is_first_after so_far.polls) one.poll) next xs ys here run))
+              subst (λ (polls : List Poll). TellsSoFar selection polls (xs ++ ys))
+              (told_from-more so_far.polls one.poll)
+              (tells_more selection (told_from so_far.polls) (told_poll (is_first_after so_far.polls) one.poll) next xs
+              ys here run))
               so_far.call one.call;
           adds = adds_next one.poll one.adds;
         },
@@ -173,13 +189,15 @@ module _ {me : CallerNo} {selection : Selection} {is_first : Bool} {v0 v1 v2 : P
       let told = told_poll (is_first_after so_far.polls) one.poll in
       let polls = so_far.polls ++ one.poll ∷ [] in
       let both : CallClause me (λ acts (r : SelectReply).
-      SelectsRest (told_from polls) (Ok selection) acts r × MarksAllReady ready selection.looked acts) v0 v2 (selected answer) =
+      SelectsRest (told_from polls) (Ok selection) acts r × MarksAllReady ready selection.looked acts) v0 v2
+      (selected answer) =
       calls_then _ (selected answer)
       (λ xs ys here run. (
         subst (λ (ps : List Poll). TellsAll selection ps (xs ++ ys) answer) (told_from-more so_far.polls one.poll)
             (tells_last selection (told_from so_far.polls) told answer xs ys here run),
         λ s i bits from there.
-            by_place told one.ready_is xs ys here run s i bits from (Contains-append_cases xs ys (Mark s i from bits (Ok tt)) there),
+            by_place told one.ready_is xs ys here run s i bits from
+            (Contains-append_cases xs ys (Mark s i from bits (Ok tt)) there),
       )) so_far.call one.call in
       record {
         polls = polls;
@@ -190,7 +208,8 @@ module _ {me : CallerNo} {selection : Selection} {is_first : Bool} {v0 v1 v2 : P
         marks = both.shape.1;
       }
     where
-      by_place : (poll : Poll) → ((c : ChanNo) → ready c ≡ told_of_channel selection.looked poll.pairs c) → (xs ys : List Act)
+      by_place : (poll : Poll) → ((c : ChanNo) → ready c ≡ told_of_channel selection.looked poll.pairs c)
+          → (xs ys : List Act)
           → TellsSoFar selection (told_from so_far.polls) xs → Tells selection poll ys (done answer)
           → (s : SelNo) (i told : ℕ) (from : KeyMark)
           → Contains xs (Mark s i from told (Ok tt)) ⊎ Contains ys (Mark s i from told (Ok tt))
@@ -224,13 +243,16 @@ module _ {me : CallerNo} {selection : Selection} {is_first : Bool} {v0 v1 v2 : P
 pub one_as : {me : CallerNo} {is_first : Bool} {v1 v2 : PassView} {p1 p2 : Option (List Polled)} {ready : ChanNo → ℕ}
     (selection now : Selection) (a b : After) → now ≡ selection → a ≡ b
     → TellsOne me now is_first v1 v2 p1 p2 ready a → TellsOne me selection is_first v1 v2 p1 p2 ready b
-one_as {me = me} {is_first = is_first} {v1 = v1} {v2 = v2} {p1 = p1} {p2 = p2} {ready = ready} selection now a b same is one =
+one_as {me = me} {is_first = is_first} {v1 = v1} {v2 = v2} {p1 = p1} {p2 = p2} {ready = ready} selection now a b same is
+    one =
     subst (λ (x : Selection). TellsOne me x is_first v1 v2 p1 p2 ready b) same
     (subst (λ (x : After). TellsOne me now is_first v1 v2 p1 p2 ready x) is one)
 
-pub leaves_as : {me : CallerNo} {v1 v2 : PassView} {p1 p2 : Option (List Polled)} (selection now : Selection) → now ≡ selection
+pub leaves_as : {me : CallerNo} {v1 v2 : PassView} {p1 p2 : Option (List Polled)} (selection now : Selection)
+    → now ≡ selection
     → LeavesIt me now v1 v2 p1 p2 → LeavesIt me selection v1 v2 p1 p2
-leaves_as {me = me} {v1 = v1} {v2 = v2} {p1 = p1} {p2 = p2} selection now same leaves = subst (λ (x : Selection). LeavesIt me x v1 v2 p1 p2) same leaves
+leaves_as {me = me} {v1 = v1} {v2 = v2} {p1 = p1} {p2 = p2} selection now same leaves =
+    subst (λ (x : Selection). LeavesIt me x v1 v2 p1 p2) same leaves
 
 pub if_again : (P : Selection → Type 0) (a : After) (next : Selection) → a ≡ after.Again next → IfAgain a P → P next
 if_again P a next is here = subst (λ (x : After). IfAgain x P) is here

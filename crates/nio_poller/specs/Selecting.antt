@@ -1,5 +1,6 @@
 -- What a whole selection promises: its steps, its polls, what it marks, and its answer.
-use Rattle.std.specs.Prelude.{◌≡◌, ℕ, ◌==◌, false, not, ℤ, IsTrue, ◌⊎◌, Option, Some, None, Result, Ok, Err, List, [], ◌∷◌, ◌++◌, map}
+use Rattle.std.specs.Prelude.{◌≡◌, ℕ, ◌==◌, false, not, ℤ, IsTrue, ◌⊎◌, Option, Some, None, Result, Ok, Err, List, []}
+use Rattle.std.specs.Prelude.{◌∷◌, ◌++◌, map}
 use Rattle.std.specs.List.{Contains}
 use Rattle.nio_base.specs.declared.numbers.CallerNo.{CallerNo}
 use Rattle.nio_base.specs.declared.numbers.ChanNo.{ChanNo}
@@ -21,7 +22,8 @@ use Rattle.nio_steps.specs.declared.refusal.BeginError.TheVariants as begin_erro
 use Rattle.nio_steps.specs.declared.selected.Selected.{Selected}
 use Rattle.nio_poller.specs.Polled.{Polled}
 use Rattle.nio_poller.specs.declared.selecting.SelectError.{SelectError}
-use Rattle.nio_poller.specs.declared.selecting.SelectError.TheVariants.{NegativeTimeout, ClosedSelector, PollFault, Memory}
+use Rattle.nio_poller.specs.declared.selecting.SelectError.TheVariants.{NegativeTimeout, ClosedSelector, PollFault}
+use Rattle.nio_poller.specs.declared.selecting.SelectError.TheVariants.{Memory}
 
 -- what the call answers where its steps reply this; a selection that begins again on Busy never ends with it
 abbrev pub Answers : SelectReply → Result Selected SelectError → Type 0
@@ -41,7 +43,8 @@ abbrev pub AddsPolls : Option (List Polled) → Option (List Polled) → List Po
 AddsPolls None now polls = now ≡ None
 AddsPolls (Some before) now polls = now ≡ Some (before ++ polls)
 
--- The polls of a selection, by their answers. Each is asked for the keys that the selection looked at. The first doesn't
+-- The polls of a selection, by their answers. Each is asked for the keys that the selection looked at. The first
+-- doesn't
 -- wait, so that the selection looks at the table before it waits; each further one may wait as the mode says.
 abbrev pub polls_of : List LookedKey → Mode → List Poll → List Polled
 polls_of looked mode [] = []
@@ -65,11 +68,14 @@ pub record MarksReady (ready : ChanNo → ℕ) (looked : List LookedKey) (i told
 
 -- each mark among these acts that succeeded is such a one
 abbrev pub MarksAllReady : (ChanNo → ℕ) → List LookedKey → List Act → Type 0
-MarksAllReady ready looked acts = (s : SelNo) (i told : ℕ) (from : KeyMark) → Contains acts (MarkKey s i from told (Ok tt)) → MarksReady ready looked i told
+MarksAllReady ready looked acts = (s : SelNo) (i told : ℕ) (from : KeyMark)
+    → Contains acts (MarkKey s i from told (Ok tt)) → MarksReady ready looked i told
 
 -- A whole selection of a caller on a pass, before and after, with a poller that tells these polls before and after,
 -- and after it that the channels are ready so.
-pub record SelectClause (me : CallerNo) (s : SelNo) (mode : Mode) (old new : PassView) (polls_old polls_new : Option (List Polled)) (ready : ChanNo → ℕ) (result : Result Selected SelectError) : Type 0 where
+pub record SelectClause (me : CallerNo) (s : SelNo) (mode : Mode) (old new : PassView)
+    (polls_old polls_new : Option (List Polled)) (ready : ChanNo → ℕ) (result : Result Selected SelectError) : Type
+    0 where
   -- the answers of its polls
   pub polls : List Poll
   -- what the steps reply
@@ -80,16 +86,20 @@ pub record SelectClause (me : CallerNo) (s : SelNo) (mode : Mode) (old new : Pas
   pub marks : MarksAllReady ready (looked_by call.shape.middle) (done_between me old new)
 
 -- nothing was done, and no poll was asked
-pub record IsRefused (old new : PassView) (polls_old polls_new : Option (List Polled)) (result : Result Selected SelectError) : Type 0 where
+pub record IsRefused (old new : PassView) (polls_old polls_new : Option (List Polled))
+    (result : Result Selected SelectError) : Type 0 where
   pub same : new ≡ old
   pub unasked : polls_new ≡ polls_old
   pub answer : result ≡ Err NegativeTimeout
 
 -- with this mode, or refused
-abbrev pub TimedBy : Result Mode TooLow → CallerNo → SelNo → PassView → PassView → Option (List Polled) → Option (List Polled) → (ChanNo → ℕ) → Result Selected SelectError → Type 0
-TimedBy (Ok mode) me s old new polls_old polls_new ready result = SelectClause me s mode old new polls_old polls_new ready result
+abbrev pub TimedBy : Result Mode TooLow → CallerNo → SelNo → PassView → PassView → Option (List Polled)
+    → Option (List Polled) → (ChanNo → ℕ) → Result Selected SelectError → Type 0
+TimedBy (Ok mode) me s old new polls_old polls_new ready result =
+    SelectClause me s mode old new polls_old polls_new ready result
 TimedBy (Err too_low) me s old new polls_old polls_new ready result = IsRefused old new polls_old polls_new result
 
 -- a whole selection for so many milliseconds
-abbrev pub TimedClause : CallerNo → SelNo → ℤ → PassView → PassView → Option (List Polled) → Option (List Polled) → (ChanNo → ℕ) → Result Selected SelectError → Type 0
+abbrev pub TimedClause : CallerNo → SelNo → ℤ → PassView → PassView → Option (List Polled) → Option (List Polled)
+    → (ChanNo → ℕ) → Result Selected SelectError → Type 0
 TimedClause me s ms = TimedBy (mode_for ms) me s

@@ -27,7 +27,8 @@ abbrev pub told_poll : (is_first : Bool) → Poll → Poll
 told_poll is_first answer = record answer { elapsed = not is_first && answer.elapsed }
 
 -- a poll answered, and the selection was told it
-pub record TellsOne (me : CallerNo) (selection : Selection) (is_first : Bool) (old new : PassView) (polls_old polls_new : Option (List Polled)) (ready : ChanNo → ℕ) (after : After) : Type 0 where
+pub record TellsOne (me : CallerNo) (selection : Selection) (is_first : Bool) (old new : PassView)
+    (polls_old polls_new : Option (List Polled)) (ready : ChanNo → ℕ) (after : After) : Type 0 where
   pub poll : Poll
   pub call : CallClause me (Tells selection (told_poll is_first poll)) old new (told_reply after)
   pub adds : AddsPolls polls_old polls_new
@@ -35,16 +36,22 @@ pub record TellsOne (me : CallerNo) (selection : Selection) (is_first : Bool) (o
   pub ready_is : (c : ChanNo) → ready c ≡ told_of_channel selection.looked poll.pairs c
 
 -- a poll failed, and the selection was left
-pub record LeavesIt (me : CallerNo) (selection : Selection) (old new : PassView) (polls_old polls_new : Option (List Polled)) : Type 0 where
+pub record LeavesIt (me : CallerNo) (selection : Selection) (old new : PassView)
+    (polls_old polls_new : Option (List Polled)) : Type 0 where
   pub call : CallClause me (Completes (leave_plan selection)) old new tt
   pub adds : AddsPolls polls_old polls_new []
 
-abbrev pub PollsOnce : CallerNo → Selection → (is_first : Bool) → PassView → PassView → Option (List Polled) → Option (List Polled) → (ChanNo → ℕ) → Result After PollError → Type 0
-PollsOnce me selection is_first old new polls_old polls_new ready (Ok after) = TellsOne me selection is_first old new polls_old polls_new ready after
-PollsOnce me selection is_first old new polls_old polls_new ready (Err error) = LeavesIt me selection old new polls_old polls_new
+abbrev pub PollsOnce : CallerNo → Selection → (is_first : Bool) → PassView → PassView → Option (List Polled)
+    → Option (List Polled) → (ChanNo → ℕ) → Result After PollError → Type 0
+PollsOnce me selection is_first old new polls_old polls_new ready (Ok after) =
+    TellsOne me selection is_first old new polls_old polls_new ready after
+PollsOnce me selection is_first old new polls_old polls_new ready (Err error) =
+    LeavesIt me selection old new polls_old polls_new
 
 -- the selection was told of these answers of its polls, and is over or was left
-pub record PollsClause (me : CallerNo) (selection : Selection) (old new : PassView) (polls_old polls_new : Option (List Polled)) (ready : ChanNo → ℕ) (result : Result Selected SelectError) : Type 0 where
+pub record PollsClause (me : CallerNo) (selection : Selection) (old new : PassView)
+    (polls_old polls_new : Option (List Polled)) (ready : ChanNo → ℕ) (result : Result Selected SelectError) : Type
+    0 where
   pub polls : List Poll
   pub reply : SelectReply
   pub call : CallClause me (SelectsRest (told_from polls) (Ok selection)) old new reply
