@@ -12,7 +12,8 @@ use Rattle.nio_base.specs.declared.numbers.CallerNo.{CallerNo}
 use Rattle.nio_event.specs.State.{put, unmade_channel}
 use Rattle.nio_event.specs.declared.found.Chan.{Chan}
 use Rattle.nio_event.specs.declared.reply.Reply.TheVariants as reply
-use Rattle.nio_plain.proofs.Answering.{rows_of, state-push_channel}
+use Rattle.nio_plain.proofs.Answering.{channel_made-below, channel_made-past, rows_of, state-push_channel}
+use Rattle.nio_plain.proofs.Found.{find_spent, find_unmade}
 use Rattle.nio_plain.specs.PlainState.{channel_row, pipe_of, places, state_from, state_of}
 use Rattle.nio_plain.specs.ScriptState.{Pipe, ScriptState, with_pipes}
 use Rattle.nio_plain.specs.Seq.Answers.{Answered, unchanged}
@@ -149,3 +150,17 @@ sink_made p before pipes ones channels sink pipe new more longer row is =
     (length ones + 1)
     (put (places channel_row unmade_channel ones) (length ones) (row i))
     (rows_of p))
+
+-- the number of the channel that comes next
+
+pub next_end : (p : Plain) (pipes : List PlainPipe) (channels : List Channel) → length channels < p.limits.channels
+    → next_channel p.limits (with_ends p pipes channels) ≡ Some (length channels)
+next_end p pipes channels room =
+    find_unmade (λ c. (places channel_row unmade_channel channels c).made) p.limits.channels (length channels)
+    (channel_made-below channels) (channel_made-past channels) room
+
+pub no_next_end : (p : Plain) (pipes : List PlainPipe) (channels : List Channel) → p.limits.channels ≤ length channels
+    → next_channel p.limits (with_ends p pipes channels) ≡ None
+no_next_end p pipes channels full =
+    find_spent (λ c. (places channel_row unmade_channel channels c).made) p.limits.channels (length channels)
+    (channel_made-below channels) (channel_made-past channels) full

@@ -1,5 +1,6 @@
 -- The laws of calls that don't overlap.
 use Rattle.std.specs.Prelude.{◌≡◌, ℕ, ◌<◌, Bool, true, Some, List, ◌++◌, map, IsTrue, ⊤}
+use Rattle.std.specs.List.{All}
 use Rattle.nio_base.specs.Limits.{IsFit}
 use Rattle.nio_base.specs.declared.limits.Limits.{Limits}
 use Rattle.nio_base.specs.declared.numbers.CallerNo.{CallerNo}
@@ -23,7 +24,7 @@ use Rattle.nio_steps.specs.Calls.{CallClause}
 use Rattle.nio_steps.specs.Perform.{perform}
 use Rattle.nio_steps.specs.Runs.{Completes}
 use Rattle.nio_steps.specs.SelectCalls.{Selection, told_of, told_plan, try_begin_plan, keys_plan, selected_keys_plan, ToldReply}
-use Rattle.nio_serial.specs.Between.{IsBetween}
+use Rattle.nio_serial.specs.Between.{IsBetween, IsWholePipe}
 use Rattle.nio_serial.specs.Documented.{Progress, nothing_yet, looked_pair, documented, amounts}
 use Rattle.nio_serial.specs.Lines.{Said, comes_to, own_selection, after_told, call_plan, line_plan}
 use Rattle.nio_serial.specs.Replies.{told_reply}
@@ -130,6 +131,11 @@ LinesStayBetween = (l : Limits) (st : State) (now : Progress) (me : CallerNo) (w
     → IsFit l → IsBetween l st now
     → let done = perform me (line_plan l now me word) st in
     IsBetween l done.state done.answer.left
+
+-- so that each pipe is whole
+abbrev pub PipesAreWhole : Type 0
+PipesAreWhole =
+    (l : Limits) (st : State) (now : Progress) → IsBetween l st now → All (IsWholePipe st.chan) now.pipes
 
 -- A call for which there is no memory leaves the state as it was: it has no reply, and nothing is in progress by it.
 pub record LacksOnlyMemory (me : CallerNo) (s : SelNo) (mode : Mode) (st : State) : Type 0 where
