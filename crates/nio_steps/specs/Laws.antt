@@ -18,7 +18,8 @@ use Rattle.nio_event.specs.declared.found.Stage.{Stage}
 use Rattle.nio_steps.specs.Perform.{perform}
 use Rattle.nio_steps.specs.Plan.{Plan}
 use Rattle.nio_steps.specs.Runs.{Completes}
-use Rattle.nio_steps.specs.SelectCalls.{Selection, Begins, Poll, Tells, ToldReply, done, again, told_bits, closed, try_finish_plan}
+use Rattle.nio_steps.specs.SelectCalls.{Selection, Begins, Poll, Tells, ToldReply, done, again, told_bits, closed}
+use Rattle.nio_steps.specs.SelectCalls.{try_finish_plan}
 use Rattle.nio_steps.specs.Selections.{marks_on, IsBegun, IsClosing}
 use Rattle.nio_steps.specs.declared.looked.LookedKey.{LookedKey}
 use Rattle.nio_steps.specs.declared.selected.Selected.{Selected}
@@ -29,7 +30,10 @@ abbrev pub RunsArePerformed : Type 0 → Type 0
 RunsArePerformed R =
     (l : Limits) (me : CallerNo) (plan : Plan R) (past : List Event) (acts : List Act) (answer : R)
     → IsLegal l (past ++ map (event_of me) acts) → Completes plan acts answer
-    → perform me plan (state_after past) ≡ record { answer = answer; state = state_after (past ++ map (event_of me) acts) }
+    → perform me plan (state_after past) ≡ record {
+      answer = answer;
+      state = state_after (past ++ map (event_of me) acts);
+    }
 
 -- ---- selections
 
@@ -72,11 +76,14 @@ LooksAtValidKeys =
 -- is removed after it, and isn't in the looked list. What the caller did after `before` is this call.
 abbrev pub CancelledKeysGo : Type 0
 CancelledKeysGo =
-    (l : Limits) (n : CallerNo) (before later : List Event) (s : SelNo) (mode : Mode) (selection : Selection) (i serial : ℕ)
+    (l : Limits) (n : CallerNo) (before later : List Event) (s : SelNo) (mode : Mode) (selection : Selection)
+    (i serial : ℕ)
     → IsLegal l (before ++ later) → Begins s mode (mine n later) (Ok selection)
-    → IsTrue (was_published ((state_after before).key s.0 i) serial) → IsTrue (was_cancelled ((state_after before).key s.0 i) serial)
+    → IsTrue (was_published ((state_after before).key s.0 i) serial)
+    → IsTrue (was_cancelled ((state_after before).key s.0 i) serial)
     → i < selection.bound
-    → IsTrue (was_removed ((state_after (before ++ later)).key s.0 i) serial) × All (λ entry. ¬ ((entry.index ≡ i) × (entry.serial ≡ serial))) selection.looked
+    → IsTrue (was_removed ((state_after (before ++ later)).key s.0 i) serial)
+    × All (λ entry. ¬ ((entry.index ≡ i) × (entry.serial ≡ serial))) selection.looked
 
 -- Index i of selector s is marked with exactly its told bits, of which there are some: the bits that the
 -- poller told of the index of a looked key, met with the interest set that the selection found.
@@ -98,7 +105,8 @@ MarksOnlyAsTold =
 
 -- Index i of selector s is marked as told, and has the key that the selection looked at there: that key is in the key
 -- set, with the serial and the channel of its entry.
-pub record MarksLookedKey (st : State) (selection : Selection) (pairs : List (ℕ × ℕ)) (s : SelNo) (i told : ℕ) : Type 0 where
+pub record MarksLookedKey (st : State) (selection : Selection) (pairs : List (ℕ × ℕ)) (s : SelNo)
+    (i told : ℕ) : Type 0 where
   pub as_told : MarksAsTold selection pairs s i told
   pub in_set : IsTrue (is_in_key_set (st.key s.0 i) as_told.entry.serial)
   pub channel : (st.key s.0 i).chan ≡ as_told.entry.channel
@@ -107,7 +115,8 @@ pub record MarksLookedKey (st : State) (selection : Selection) (pairs : List (�
 -- after `before` is this `told`, and the mark stands after `past`.
 abbrev pub MarksLookedKeys : Type 0
 MarksLookedKeys =
-    (l : Limits) (n : CallerNo) (before past later : List Event) (selection : Selection) (poll : Poll) (answer : ToldReply)
+    (l : Limits) (n : CallerNo) (before past later : List Event) (selection : Selection) (poll : Poll)
+    (answer : ToldReply)
     (s : SelNo) (i told : ℕ) (from : KeyMark) (found : Result (Unit {0}) KeyMark)
     → let call = past ++ event_of n (Mark s i from told found) ∷ later in
     IsLegal l (before ++ call) → IsBegun (mine n before) selection → Tells selection poll (mine n call) answer
@@ -132,7 +141,8 @@ CountsSelection =
 abbrev pub SelectionsStand : Type 0
 SelectionsStand =
     (l : Limits) (n : CallerNo) (events : List Event) (selection : Selection)
-    → IsLegal l events → IsBegun (mine n events) selection → IsTrue (has_begun (state_after events) n selection.selector)
+    → IsLegal l events → IsBegun (mine n events) selection
+    → IsTrue (has_begun (state_after events) n selection.selector)
 
 -- Who is closing a selector is its closer, in every legal history.
 abbrev pub ClosingsStand : Type 0
