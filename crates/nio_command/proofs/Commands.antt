@@ -1,5 +1,6 @@
 -- Which command words are.
-use Rattle.std.proofs.Common.{◌≡◌, ◌≢◌, ◌↔◌, ◌∙◌, ◌<◌, ◌≤◌, ℕ, List, [], ◌∷◌, Result, Ok, Err, Option, Some, None, codes}
+use Rattle.std.proofs.Common.{◌≡◌, ◌≢◌, ◌↔◌, ◌∙◌, ◌<◌, ◌≤◌, ℕ, List, [], ◌∷◌, Result, Ok, Err, Option, Some, None}
+use Rattle.std.proofs.Common.{codes}
 use Rattle.std.proofs.Common.{length, map, arith, refl, sym, ap, subst, true, get_or, Global, String, take, drop, ◌-◌}
 use Rattle.std.specs.Prelude.{IfSome, IsSomeAnd}
 use Rattle.std.specs.Fmt.{decimal}
@@ -118,7 +119,8 @@ behind_proxy words w text is some same e =
     (sym same ∙ (bytes_eq-Decides text (codes "proxy")).0 e)
 
 -- two words whose first is `load`
-pub behind_load : (words : List (String Global)) (w r : String Global) (first second : Text) → w ≡ slice_index_or words 0 w
+pub behind_load : (words : List (String Global)) (w r : String Global) (first second : Text)
+    → w ≡ slice_index_or words 0 w
     → r ≡ slice_index_or words 1 r → 2 ≤ length words → length words < 3
     → first ≡ string_bytes w → bytes_eq first (codes "load") ≡ true → second ≡ string_bytes r
     → map string_bytes words ≡ codes "load" ∷ second ∷ []
