@@ -45,7 +45,8 @@ not_named word Script s k f r h = s (cc)
 not_named word Check s k f r h = k (cc)
 not_named word CheckFirst s k f r h = f (cc)
 not_named word Race s k f r h = r (cc)
-not_named word (Load rounds) s k f r h = let two : word ∷ [] ≡ codes "load" ∷ decimal rounds ∷ [] = h.says in absurd (cc)
+not_named word (Load rounds) s k f r h = let two : word ∷ [] ≡ codes "load" ∷ decimal rounds ∷ [] =
+    h.says in absurd (cc)
 not_named word (Proxy plan) s k f r h =
     let begins : word ∷ [] ≡ codes "proxy" ∷ h.rest = h.begins in
     let none : h.rest ≡ [] = cc in
@@ -127,7 +128,8 @@ pub behind_load : (words : List (String Global)) (w r : String Global) (first se
 behind_load [] w r first second one two some few same e also = absurd (omega arith)
 behind_load (x ∷ []) w r first second one two some few same e also = absurd (omega arith)
 behind_load (x ∷ y ∷ []) w r first second one two some few same e also =
-    ap (λ (t : Text). t ∷ string_bytes y ∷ []) (ap string_bytes (sym one) ∙ sym same ∙ (bytes_eq-Decides first (codes "load")).0 e)
+    ap (λ (t : Text). t ∷ string_bytes y ∷ [])
+    (ap string_bytes (sym one) ∙ sym same ∙ (bytes_eq-Decides first (codes "load")).0 e)
     ∙ ap (λ (t : Text). codes "load" ∷ t ∷ []) (ap string_bytes (sym two) ∙ sym also)
 behind_load (x ∷ y ∷ z ∷ words) w r first second one two some few same e also = absurd (omega arith)
 

@@ -66,7 +66,8 @@ are_two c =
 pub returns-in-len2-clause-found : goal.returns-in-len2-clause-found
 returns-in-len2-clause-found c = λ command ok.
     subst (λ (ws : List (List ℕ)). IsCommand ws command) (sym (are_two c))
-    (if_some_as c.read_load.result (IsCommand (codes "load" ∷ c.as_str-in-len2.result.now ∷ [])) Usage c.ok_or.result command c.read_load.ensures.found c.ok_or.ensures.value ok)
+    (if_some_as c.read_load.result (IsCommand (codes "load" ∷ c.as_str-in-len2.result.now ∷ [])) Usage c.ok_or.result
+    command c.read_load.ensures.found c.ok_or.ensures.value ok)
 
 pub returns-in-len2-clause-only : goal.returns-in-len2-clause-only
 returns-in-len2-clause-only c = λ command is room.
