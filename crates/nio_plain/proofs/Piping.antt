@@ -6,6 +6,7 @@ use Rattle.std.proofs.Math.Seq.{drop-length, take-append_seam}
 use Rattle.std.proofs.lemmas.Bool.{cases_lt, cond-true, lt-ltb}
 use Rattle.std.proofs.lemmas.List.{get_or-map, length-drop, length-map, map-append, map-set}
 use Rattle.std.proofs.lemmas.List.Quantifiers.{position-Some}
+use Rattle.nio_base.specs.declared.kind.Kind.{Kind}
 use Rattle.nio_base.specs.declared.kind.Kind.TheVariants.{Source, Sink}
 use Rattle.nio_base.specs.declared.limits.Limits.{Limits}
 use Rattle.nio_base.specs.declared.numbers.CallerNo.{CallerNo}
@@ -113,14 +114,14 @@ with_ends p pipes channels =
     (places channel_row unmade_channel channels)
     (rows_of p)
 
--- a system whose source is made
-pub source_made : (p : Plain) (pipes : List PlainPipe) (channels : List Channel) (source : Channel)
-    → pipes ≡ p.pipes.items → channels ≡ p.channels.items ++ source ∷ []
-    → channel_row source ≡ record { made = true; kind = Source; closed = false; blocking = true }
-    → with_ends p pipes channels ≡ (channel_made (state_of p) Source (Some (length p.channels.items))).left
-source_made p pipes channels source same more new =
+-- a system with a channel more
+pub channel_added : (p : Plain) (kind : Kind) (pipes : List PlainPipe) (channels : List Channel) (new : Channel)
+    → pipes ≡ p.pipes.items → channels ≡ p.channels.items ++ new ∷ []
+    → channel_row new ≡ record { made = true; kind = kind; closed = false; blocking = true }
+    → with_ends p pipes channels ≡ (channel_made (state_of p) kind (Some (length p.channels.items))).left
+channel_added p kind pipes channels new same more is =
     ap (λ (ps : List PlainPipe). with_ends p ps channels) same
-    ∙ (state-push_channel _ _ _ (rows_of p) p.channels.items channels source more
+    ∙ (state-push_channel _ _ _ (rows_of p) p.channels.items channels new more
     ∙ ap
     (λ (row : Chan).
     state_from
@@ -130,9 +131,9 @@ source_made p pipes channels source same more new =
     (length p.channels.items + 1)
     (put (places channel_row unmade_channel p.channels.items) (length p.channels.items) row)
     (rows_of p))
-    new)
+    is)
 
--- and whose sink is made too
+-- a system with a sink and a pipe more
 pub sink_made : (p : Plain) (before pipes : List PlainPipe) (ones channels : List Channel) (sink : Channel) (pipe : PlainPipe) (new : Pipe)
     → pipes ≡ before ++ pipe ∷ [] → channels ≡ ones ++ sink ∷ []
     → channel_row sink ≡ record { made = true; kind = Sink; closed = false; blocking = true }

@@ -4,7 +4,7 @@ use Rattle.std.proofs.lemmas.List.{length_push}
 use Rattle.nio_base.specs.declared.kind.Kind.TheVariants.{Source, Sink}
 use Rattle.nio_event.specs.declared.reply.Reply.TheVariants as reply
 use Rattle.nio_plain.proofs.Answering.{answered_as, unchanged_as}
-use Rattle.nio_plain.proofs.Piping.{next_end, no_next_end, pipe_call-is, sink_made, source_made}
+use Rattle.nio_plain.proofs.Piping.{channel_added, next_end, no_next_end, pipe_call-is, sink_made}
 use Rattle.nio_plain.specs.PlainState.{channel_row, pipe_of, state_of}
 use Rattle.nio_plain.specs.ScriptState.{ScriptState, with_pipes, with_shared}
 use Rattle.nio_plain.specs.Seq.Answers.{unchanged}
@@ -48,7 +48,7 @@ returns-then-number-self-2 c =
     let more : ys ≡ xs ++ c.new.result ∷ [] =
         c.push_reserved.ensures.items ∙ ap (λ (zs : List Channel). zs ++ c.new.result ∷ []) c.reserve.ensures.items in
     let full : l.channels ≤ length ys = omega (arith, number, ap length more, length_push xs c.new.result) in
-    let made = source_made p c.reserve-2.new.self.items ys c.new.result c.reserve-2.ensures.items more (ap channel_row c.new.ensures) in
+    let made = channel_added p Source c.reserve-2.new.self.items ys c.new.result c.reserve-2.ensures.items more (ap channel_row c.new.ensures) in
     let next = next_end p p.pipes.items xs room in
     let none = sym (ap (next_channel l) made) ∙ no_next_end p c.reserve-2.new.self.items ys full in
     answered_as p _ _ _ _
@@ -73,7 +73,7 @@ returns c =
     let size : length ys ≡ length xs + 1 = ap length more ∙ length_push xs c.new.result in
     let further : length ys < l.channels = omega (arith, number, size) in
     let second : c.len-number.result + 1 ≡ length ys = omega (arith, number, size) in
-    let made = source_made p ps ys c.new.result refl more (ap channel_row c.new.ensures) in
+    let made = channel_added p Source ps ys c.new.result refl more (ap channel_row c.new.ensures) in
     let next = next_end p ps xs room in
     let after = sym (ap (next_channel l) made) ∙ next_end p ps ys further in
     let pipe = new_pipe c.args.me c.args.target (record { 0 = length xs }) (record { 0 = length ys }) in
