@@ -31,51 +31,63 @@ use Rattle.nio_words.specs.declared.words.Words.{Words}
 use Rattle.nio_bench.specs.SetUp.{caller, selector, drawn, IsIdle, IsSetUp, StaysIdle}
 
 -- after a call
-pub stays_after : {w : Words} {p q : Pass} {me : CallerNo} {s : SelNo} {acts : List Act} → ActsClause me acts (view w p) (view w q) → IsReady w q me → HasNoPin (view w q) me → IsIdle w p me s → StaysIdle w p q me s
+pub stays_after : {w : Words} {p q : Pass} {me : CallerNo} {s : SelNo} {acts : List Act}
+    → ActsClause me acts (view w p) (view w q) → IsReady w q me → HasNoPin (view w q) me → IsIdle w p me s
+    → StaysIdle w p q me s
 stays_after clause ready none idle = record {
   idle = record { ready = ready; unpinned = none; selector = selector_after clause idle.selector };
   channels = λ c has. channel_after clause has;
 }
 
 -- after a call that gives its pins back
-pub idle_call : {R : Type 0} {Shape : List Act → R → Type 0} {answer : R} {w : Words} {p q : Pass} {me : CallerNo} {s : SelNo} → GivesPinsBack Shape → CallClause me Shape (view w p) (view w q) answer
+pub idle_call : {R : Type 0} {Shape : List Act → R → Type 0} {answer : R} {w : Words} {p q : Pass} {me : CallerNo}
+    {s : SelNo} → GivesPinsBack Shape → CallClause me Shape (view w p) (view w q) answer
     → IsReady w q me → IsIdle w p me s → IsIdle w q me s
-idle_call {answer = answer} gives call ready idle = (stays_after call.acts ready (no_pin_after (λ acts shape. gives acts answer shape) call idle.unpinned) idle).idle
+idle_call {answer = answer} gives call ready idle =
+    (stays_after call.acts ready (no_pin_after (λ acts shape. gives acts answer shape) call idle.unpinned) idle).idle
 
 pub begin_gives : (s : SelNo) (mode : Mode) → GivesPinsBack (Begins s mode)
 begin_gives s mode = λ acts answer shape. pins_are_given_back.try_begin s mode _ acts answer shape
 
 -- after a step
-pub stays_step : {w : Words} {p q : Pass} {me : CallerNo} {s : SelNo} {act : Act} → Steps w p q me act → finds_drawn act ≡ false → changes_pins act ≡ false → IsIdle w p me s → StaysIdle w p q me s
+pub stays_step : {w : Words} {p q : Pass} {me : CallerNo} {s : SelNo} {act : Act} → Steps w p q me act
+    → finds_drawn act ≡ false → changes_pins act ≡ false → IsIdle w p me s → StaysIdle w p q me s
 stays_step {w = w} {p = p} {q = q} {me = me} {act = act} steps new keeps idle =
-    stays_after (step_acts steps new) (still_ready w p q me me act steps idle.ready) (no_pin_stays (step_acts steps new) keeps idle.unpinned) idle
+    stays_after (step_acts steps new) (still_ready w p q me me act steps idle.ready)
+    (no_pin_stays (step_acts steps new) keeps idle.unpinned) idle
 
-pub stays_then : {w : Words} {p q r : Pass} {me : CallerNo} {s : SelNo} → StaysIdle w p q me s → StaysIdle w q r me s → StaysIdle w p r me s
+pub stays_then : {w : Words} {p q r : Pass} {me : CallerNo} {s : SelNo} → StaysIdle w p q me s → StaysIdle w q r me s
+    → StaysIdle w p r me s
 stays_then first second = record { idle = second.idle; channels = λ c has. second.channels c (first.channels c has) }
 
 -- with the channels that were opened
-pub set_up_after : {w : Words} {p q : Pass} {me : CallerNo} {s : SelNo} (opened : List ChanNo) → StaysIdle w p q me s → IsSetUp w p me s opened → IsSetUp w q me s opened
+pub set_up_after : {w : Words} {p q : Pass} {me : CallerNo} {s : SelNo} (opened : List ChanNo) → StaysIdle w p q me s
+    → IsSetUp w p me s opened → IsSetUp w q me s opened
 set_up_after {w = w} {p = p} {q = q} opened stays before = record {
   idle = stays.idle;
   channels = All-weaker (HasChannel (view w p)) (HasChannel (view w q)) stays.channels opened before.channels;
 }
 
 -- after the selector was made
-pub idle_made : {w : Words} {p q : Pass} {found : Bool} → Steps w p q caller (MakeSelector selector found) → IsReady w p caller → seen p ≡ drawn → IsSelector (limits_of w) selector → IsIdle w q caller selector
+pub idle_made : {w : Words} {p q : Pass} {found : Bool} → Steps w p q caller (MakeSelector selector found)
+    → IsReady w p caller → seen p ≡ drawn → IsSelector (limits_of w) selector → IsIdle w q caller selector
 idle_made {w = w} {p = p} {q = q} {found = found} steps ready is inside = record {
   ready = still_ready w p q caller caller _ steps ready;
-  unpinned = no_pin_stays (step_acts steps refl) refl (λ s i. ap (λ events. has_pin (state_after events) caller s i) is);
+  unpinned = no_pin_stays (step_acts steps refl) refl
+      (λ s i. ap (λ events. has_pin (state_after events) caller s i) is);
   selector = record { inside = inside; made = made };
 }
   where
     made : (known (view w q)).selector 0 ≡ true
     made =
-        let leaves = step_leaves (limits_of w) (HoldsNumber (view w p)) caller (MakeSelector selector found) (seen p) (seen q) (step_acts steps refl).history in
+        let leaves = step_leaves (limits_of w) (HoldsNumber (view w p)) caller (MakeSelector selector found) (seen p)
+        (seen q) (step_acts steps refl).history in
         let before : State = state_after (seen p ++ leaves.between) in
         ap (λ st. st.selector 0) leaves.state ∙ put-same before.selector 0 true
 
 -- with one channel more
-pub one_more : {w : Words} {p : Pass} {me : CallerNo} {s : SelNo} (opened more : List ChanNo) (c : ChanNo) → more ≡ opened ++ c ∷ [] → HasChannel (view w p) c → IsSetUp w p me s opened
+pub one_more : {w : Words} {p : Pass} {me : CallerNo} {s : SelNo} (opened more : List ChanNo) (c : ChanNo)
+    → more ≡ opened ++ c ∷ [] → HasChannel (view w p) c → IsSetUp w p me s opened
     → IsSetUp w p me s more
 one_more {w = w} {p = p} {me = me} {s = s} opened more c is has before = subst (IsSetUp w p me s) (sym is) (record {
   idle = before.idle;

@@ -1,5 +1,6 @@
 -- What a script leaves of the table, from what its calls did with the table's only use.
-use Rattle.std.proofs.Common.{◌≡◌, suc, ◌+◌, ◌<◌, ◌++◌, [], ◌∷◌, nat_lt, true, Bool, List, length, if◌then◌else◌, rules, refl, ap, sym, ◌∙◌, subst, ◌⊎◌, inl, inr, arith}
+use Rattle.std.proofs.Common.{◌≡◌, suc, ◌+◌, ◌<◌, ◌++◌, [], ◌∷◌, nat_lt, true, Bool, List, length, if◌then◌else◌, rules}
+use Rattle.std.proofs.Common.{refl, ap, sym, ◌∙◌, subst, ◌⊎◌, inl, inr, arith}
 use Rattle.std.proofs.Math.Logic.{∥∥₁_map}
 use Rattle.std.proofs.lemmas.List.{append-nil, length-append}
 use mathlib.Core.List.{IsPrefix}
@@ -33,7 +34,9 @@ longer_is : (xs ys : List Event) → IsPrefix xs ys → longer xs ys ≡ ys
 longer_is xs ys begins = by_rest begins.0 begins.1
   where
     by_rest : (rest : List Event) → xs ++ rest ≡ ys → longer xs ys ≡ ys
-    by_rest [] joined = subst (λ (zs : List Event). longer xs zs ≡ zs) (sym (append-nil xs) ∙ joined) (either (nat_lt (length xs) (length xs)))
+    by_rest [] joined =
+        subst (λ (zs : List Event). longer xs zs ≡ zs) (sym (append-nil xs) ∙ joined)
+        (either (nat_lt (length xs) (length xs)))
       where
         either : (b : Bool) → (if b then xs else xs) ≡ xs
         either true = refl
@@ -45,7 +48,8 @@ longer_is xs ys begins = by_rest begins.0 begins.1
         ap (λ b. if b then ys else xs) is_less
 
 -- an orderly history owes nothing that nobody has still to do, and neither does a beginning of a whole one
-owed_before : (l : Limits) (events before : List Event) → IsFit l → IsLegal l events → IsPrefix before events → IsWhole l events → Owed before
+owed_before : (l : Limits) (events before : List Event) → IsFit l → IsLegal l events → IsPrefix before events
+    → IsWhole l events → Owed before
 owed_before l events before fit legal begins whole =
     let rest = begins.0 in
     orderly_owes l before fit (legal_beginning l before rest (subst (IsLegal l) (sym begins.1) legal))
@@ -60,35 +64,52 @@ module _ (w : Words) (first last : Sole) (kept : Kept first last) (table : words
   same_table : words_of last ≡ w
   same_table = kept.table ∙ table
 
-  pub joined_table : (p : Pass) → p ≡ pass_of last → ((n : CallerNo) → n.0 < (limits_of last).callers → passes.IsReady (words_of last) p n) → passes.IsPassOf w p
+  pub joined_table : (p : Pass) → p ≡ pass_of last
+      → ((n : CallerNo) → n.0 < (limits_of last).callers → passes.IsReady (words_of last) p n) → passes.IsPassOf w p
   joined_table p is ready =
       let fit : IsFit (passes.limits_of w) = w.fit in
-      let some : 0 < (limits_of last).callers = subst (λ (v : Words). 0 < (passes.limits_of v).callers) (sym same_table) (omega (arith, fit)) in
+      let some : 0 < (limits_of last).callers = subst (λ (v : Words). 0 < (passes.limits_of v).callers) (sym same_table)
+      (omega (arith, fit)) in
       subst (λ (v : Words). passes.IsPassOf v p) same_table (ready (record { 0 = 0 }) some).pass
 
-  pub leaves : (st : ScriptState) (before other after : Pass) → passes.seen before ≡ passes.seen (pass_of first) → AreAllDrawn (limits_of first) (passes.state_seen (pass_of first))
-      → state_of last ≡ st → other ≡ pass_of last → ((n : CallerNo) → n.0 < (limits_of last).callers → passes.IsReady (words_of last) other n)
+  pub leaves : (st : ScriptState) (before other after : Pass) → passes.seen before ≡ passes.seen (pass_of first)
+      → AreAllDrawn (limits_of first) (passes.state_seen (pass_of first))
+      → state_of last ≡ st → other ≡ pass_of last
+      → ((n : CallerNo) → n.0 < (limits_of last).callers → passes.IsReady (words_of last) other n)
       → ∥ IsWhole (limits_of last) (passes.seen other) ∥₁ → Joins w before other after → Leaves w after st
   leaves st before other after sight drawn state is ready whole joins = record {
-    state = record { now = progress_of last.desk; is = ap (λ (es : List Event). documented (state_after es) (progress_of last.desk)) seen_last ∙ state };
+    state = record {
+      now = progress_of last.desk;
+      is = ap (λ (es : List Event). documented (state_after es) (progress_of last.desk))
+          seen_last ∙ state;
+    };
     drawn = λ n below.
         ap (λ (es : List Event). (state_after es).drawn n.0) seen_last
-        ∙ facts_are_permanent (passes.limits_of w) (passes.seen (pass_of first)) (passes.seen (pass_of last)) kept.later (subst (IsLegal (passes.limits_of w)) seen_last joins.pass.legal) (caller_drawn n.0)
+        ∙ facts_are_permanent (passes.limits_of w) (passes.seen (pass_of first)) (passes.seen (pass_of last)) kept.later
+        (subst (IsLegal (passes.limits_of w)) seen_last joins.pass.legal) (caller_drawn n.0)
         (drawn n (subst (λ (v : Words). n.0 < (passes.limits_of v).callers) (sym table) below));
-    holds = λ n below. record { pass = joins.pass; number = (joins.numbers n).1 (inr (ready n (subst (λ (v : Words). n.0 < (passes.limits_of v).callers) (sym same_table) below)).number) };
+    holds = λ n below. record {
+      pass = joins.pass;
+      number = (joins.numbers n).1
+          (inr (ready n
+          (subst (λ (v : Words). n.0 < (passes.limits_of v).callers) (sym same_table) below)).number);
+    };
     whole = whole_after;
-    owed = λ earlier begins. ∥∥₁_map whole_after (λ here. owed_before (passes.limits_of w) (passes.seen after) earlier w.fit joins.pass.legal begins here);
+    owed = λ earlier begins. ∥∥₁_map whole_after
+        (λ here. owed_before (passes.limits_of w) (passes.seen after) earlier w.fit joins.pass.legal begins here);
   }
     where
       seen_other : passes.seen after ≡ passes.seen other
       seen_other =
           joins.sight
           ∙ longer_is (passes.seen before) (passes.seen other)
-          (subst (λ (es : List Event). IsPrefix es (passes.seen other)) (sym sight) (subst (λ (p : Pass). IsPrefix (passes.seen (pass_of first)) (passes.seen p)) (sym is) kept.later))
+          (subst (λ (es : List Event). IsPrefix es (passes.seen other)) (sym sight)
+          (subst (λ (p : Pass). IsPrefix (passes.seen (pass_of first)) (passes.seen p)) (sym is) kept.later))
 
       seen_last : passes.seen after ≡ passes.seen (pass_of last)
       seen_last = seen_other ∙ ap passes.seen is
 
       whole_after : ∥ IsWhole (passes.limits_of w) (passes.seen after) ∥₁
       whole_after =
-          subst (λ (v : Words). ∥ IsWhole (passes.limits_of v) (passes.seen after) ∥₁) same_table (subst (λ (es : List Event). ∥ IsWhole (limits_of last) es ∥₁) (sym seen_other) whole)
+          subst (λ (v : Words). ∥ IsWhole (passes.limits_of v) (passes.seen after) ∥₁) same_table
+          (subst (λ (es : List Event). ∥ IsWhole (limits_of last) es ∥₁) (sym seen_other) whole)

@@ -11,7 +11,8 @@ use Rattle.nio_words.specs.declared.words.Pass.{Pass}
 use Rattle.nio_words.specs.declared.words.Words.{Words}
 use Rattle.nio_cli.specs.Commands.{IsAnsweredOn, WritesLegal}
 
-pub writes_legal : {K : Type 0} (k : sink.Ghosts K) (w : Words) (output output' : K) (pass : Pass) (l : Limits) (text : List ℕ)
+pub writes_legal : {K : Type 0} (k : sink.Ghosts K) (w : Words) (output output' : K) (pass : Pass) (l : Limits)
+    (text : List ℕ)
     → limits_of w ≡ l → IsAnsweredOn k w output output' pass text → WritesLegal k output output' Now l text
 writes_legal k w output output' pass l text limits answered = record {
   calls = answered.calls;

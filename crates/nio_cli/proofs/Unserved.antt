@@ -10,8 +10,10 @@ use Rattle.nio_relay.specs.declared.plan.ProxyPlan.{ProxyPlan}
 use Rattle.nio_script.specs.declared.status.Status.TheVariants.{Memory}
 use Rattle.nio_cli.specs.Proxy.{DoesProxy}
 
-pub unserved : {K : Type 0} (k : sink.Ghosts K) (plan : ProxyPlan) (link : ChanNo → Link) (place : ChanNo → Place) (faults : ChanNo → ℕ) (polls : ℕ) (output : K)
-    → ((c : ChanNo) → IsUnused (link c)) → ((c : ChanNo) → place c ≡ unused) → DoesProxy k plan link place faults faults polls polls output output Memory
+pub unserved : {K : Type 0} (k : sink.Ghosts K) (plan : ProxyPlan) (link : ChanNo → Link) (place : ChanNo → Place)
+    (faults : ChanNo → ℕ) (polls : ℕ) (output : K)
+    → ((c : ChanNo) → IsUnused (link c)) → ((c : ChanNo) → place c ≡ unused)
+    → DoesProxy k plan link place faults faults polls polls output output Memory
 unserved k plan link place faults polls output fresh unasked = record {
   done = λ e. absurd (cc e);
   write_fault = λ e. absurd (cc e);

@@ -17,20 +17,23 @@ use Rattle.nio_plain.specs.Answer.{answer_to, left_by_script}
 use Rattle.nio_plain.specs.ScriptState.{ScriptState, script_opening}
 use Rattle.nio_plain.specs.declared.rules.Rules.{Rules}
 use Rattle.nio_plain.specs.declared.rules.Rules.TheVariants.{Now}
-use Rattle.nio_script.specs.Check.{HasLegalHistory, IsLegalHistory, IsFirstIllegal, IsVerdict, IsFoundLegal, IsFoundIllegal, IsHalfSaid, IsNoHistory, EndsCheck}
+use Rattle.nio_script.specs.Check.{HasLegalHistory, IsLegalHistory, IsFirstIllegal, IsVerdict, IsFoundLegal}
+use Rattle.nio_script.specs.Check.{IsFoundIllegal, IsHalfSaid, IsNoHistory, EndsCheck}
 use Rattle.nio_script.specs.History.{Entry, IsHistory, IsFirstBadEntry}
 use Rattle.nio_script.specs.Output.{IsWritten, Notes, WritesPrefix}
 use Rattle.nio_script.specs.Run.{ReadsText, bad_line, EndsScript}
 use Rattle.nio_script.specs.declared.input.TheConstants.{LONGEST_INPUT}
 use Rattle.nio_script.specs.declared.status.Status.{Status}
-use Rattle.nio_script.specs.declared.status.Status.TheVariants.{Done, BadScript, ReadFault, WriteFault, Memory, Illegal, TooLong}
+use Rattle.nio_script.specs.declared.status.Status.TheVariants.{Done, BadScript, ReadFault, WriteFault, Memory, Illegal}
+use Rattle.nio_script.specs.declared.status.Status.TheVariants.{TooLong}
 use Rattle.nio_serial.specs.Documented.{Progress, documented}
 use Rattle.nio_words.specs.Passes.{IsReady, limits_of, state_seen, seen}
 use Rattle.nio_words.specs.declared.words.Pass.{Pass}
 use Rattle.nio_words.specs.declared.words.Words.{Words}
 
 -- The text is a script, and what was written is a legal history of its calls by these rules and limits.
-pub record WritesLegal {K : Type 0} (k : sink.Ghosts K) (output output' : K) (rules : Rules) (limits : Limits) (text : List ℕ) : Type 0 where
+pub record WritesLegal {K : Type 0} (k : sink.Ghosts K) (output output' : K) (rules : Rules) (limits : Limits)
+    (text : List ℕ) : Type 0 where
   pub calls : List ScriptCall
   pub script : IsScript text calls
   pub written : IsWritten k output output' (answer_to rules limits calls)
@@ -43,7 +46,8 @@ pub record LeavesState (st : State) (left : ScriptState) : Type 0 where
   pub now : Progress
   pub is : documented st now ≡ left
 
--- What a script leaves of the table. What the pass has seen leaves this state of scripts. Every number is drawn, and the
+-- What a script leaves of the table. What the pass has seen leaves this state of scripts. Every number is drawn, and
+-- the
 -- pass holds each. Each caller made whole calls. At each moment what is owed is owed by a caller that has still to
 -- do it: no cancellation is lost.
 pub record Leaves (w : Words) (pass : Pass) (left : ScriptState) : Type 0 where
@@ -55,7 +59,8 @@ pub record Leaves (w : Words) (pass : Pass) (left : ScriptState) : Type 0 where
 
 -- The text is a script, its answer was written and flushed, no write failed, and the table is left as the script
 -- leaves it.
-pub record IsAnsweredOn {K : Type 0} (k : sink.Ghosts K) (w : Words) (output output' : K) (pass : Pass) (text : List ℕ) : Type 0 where
+pub record IsAnsweredOn {K : Type 0} (k : sink.Ghosts K) (w : Words) (output output' : K) (pass : Pass)
+    (text : List ℕ) : Type 0 where
   pub calls : List ScriptCall
   pub script : IsScript text calls
   pub written : IsWritten k output output' (answer_to Now (limits_of w) calls)
@@ -69,7 +74,8 @@ pub record IsCutShortOn {K : Type 0} (k : sink.Ghosts K) (w : Words) (output out
   pub written : WritesPrefix k output output' (answer_to Now (limits_of w) calls)
 
 -- The line is the text's first that isn't in the grammar, which was said, and no call was made.
-pub record IsRefusedOn {K : Type 0} (k : sink.Ghosts K) (w : Words) (output output' : K) (pass : Pass) (line : ℕ) (text : List ℕ) : Type 0 where
+pub record IsRefusedOn {K : Type 0} (k : sink.Ghosts K) (w : Words) (output output' : K) (pass : Pass) (line : ℕ)
+    (text : List ℕ) : Type 0 where
   pub first : IsFirstBad text line
   pub said : Notes k output output' (bad_line line)
   pub uncalled : Leaves w pass script_opening
@@ -80,7 +86,8 @@ pub record IsUntouchedOn {K : Type 0} (w : Words) (output output' : K) (pass : P
   pub uncalled : Leaves w pass script_opening
 
 -- What `script` does where it ends with this status, and the pass has then seen so much of the table.
-pub record DoesScript {S K : Type 0} (s : source.Ghosts S) (k : sink.Ghosts K) (w : Words) (input input' : S) (output output' : K) (pass : Pass) (status : Status) : Type 0 where
+pub record DoesScript {S K : Type 0} (s : source.Ghosts S) (k : sink.Ghosts K) (w : Words) (input input' : S)
+    (output output' : K) (pass : Pass) (status : Status) : Type 0 where
   -- what each status says
   pub done : status ≡ Done → ReadsText s input input' (IsAnsweredOn k w output output' pass)
   pub bad_script : (line : ℕ) → status ≡ BadScript line
@@ -108,7 +115,8 @@ pub record DoesScript {S K : Type 0} (s : source.Ghosts S) (k : sink.Ghosts K) (
 
 -- What `check` and `check-1` do over a system of these rules and limits where they end with this
 -- status. They make no step on the program's own table.
-pub record DoesCheck {S K : Type 0} (s : source.Ghosts S) (k : sink.Ghosts K) (rules : Rules) (limits : Limits) (input input' : S) (output output' : K) (pass pass' : Pass) (status : Status) : Type 0 where
+pub record DoesCheck {S K : Type 0} (s : source.Ghosts S) (k : sink.Ghosts K) (rules : Rules) (limits : Limits)
+    (input input' : S) (output output' : K) (pass pass' : Pass) (status : Status) : Type 0 where
   -- what each status says
   pub done : status ≡ Done → ReadsText s input input' (IsFoundLegal k output output' rules limits)
   pub illegal : (number : ℕ) → status ≡ Illegal number

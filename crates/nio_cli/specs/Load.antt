@@ -23,21 +23,24 @@ pub record IsLoadedOn (w : Words) (pass : Pass) (rounds : ℕ) (calls : List Scr
   pub left : Leaves w pass (left_by_script Now (limits_of w) calls)
 
 -- The generated script was run, and its summary was written and flushed; no write failed.
-pub record IsSummedOn {K : Type 0} (k : sink.Ghosts K) (w : Words) (rounds : ℕ) (output output' : K) (pass : Pass) : Type 0 where
+pub record IsSummedOn {K : Type 0} (k : sink.Ghosts K) (w : Words) (rounds : ℕ) (output output' : K)
+    (pass : Pass) : Type 0 where
   pub calls : List ScriptCall
   pub loaded : IsLoadedOn w pass rounds calls
   pub written : IsWritten k output output' (summary_of Now (limits_of w) calls)
   pub still : k.faults output' ≡ k.faults output
 
 -- The generated script was run, and some of its summary was written, from its front.
-pub record IsHalfSummedOn {K : Type 0} (k : sink.Ghosts K) (w : Words) (rounds : ℕ) (output output' : K) (pass : Pass) : Type 0 where
+pub record IsHalfSummedOn {K : Type 0} (k : sink.Ghosts K) (w : Words) (rounds : ℕ) (output output' : K)
+    (pass : Pass) : Type 0 where
   pub calls : List ScriptCall
   pub loaded : IsLoadedOn w pass rounds calls
   pub written : WritesPrefix k output output' (summary_of Now (limits_of w) calls)
 
 -- What `load` does for so many rounds where it ends with this status, and the pass has then seen so much of the
 -- table.
-pub record DoesLoad {K : Type 0} (k : sink.Ghosts K) (w : Words) (rounds : ℕ) (output output' : K) (pass : Pass) (status : Status) : Type 0 where
+pub record DoesLoad {K : Type 0} (k : sink.Ghosts K) (w : Words) (rounds : ℕ) (output output' : K) (pass : Pass)
+    (status : Status) : Type 0 where
   pub done : status ≡ Done → IsSummedOn k w rounds output output' pass
   pub write_fault : status ≡ WriteFault → IsHalfSummedOn k w rounds output output' pass
   pub memory : status ≡ Memory → output' ≡ output

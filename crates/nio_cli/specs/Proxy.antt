@@ -11,36 +11,42 @@ use Rattle.nio_relay.specs.declared.plan.ProxyPlan.{ProxyPlan}
 use Rattle.nio_relay.specs.declared.plan.Served.{Served}
 use Rattle.nio_script.specs.Output.{IsWritten, WritesPrefix}
 use Rattle.nio_script.specs.declared.status.Status.{Status}
-use Rattle.nio_script.specs.declared.status.Status.TheVariants.{Done, Usage, BadScript, ReadFault, WriteFault, Memory, NetFault, Illegal, TooLong}
+use Rattle.nio_script.specs.declared.status.Status.TheVariants.{Done, Usage, BadScript, ReadFault, WriteFault, Memory}
+use Rattle.nio_script.specs.declared.status.Status.TheVariants.{NetFault, Illegal, TooLong}
 
 -- what is said of the connections that were served, and of those that ended by a fault
 abbrev pub served_line : Served → List ℕ
 served_line s = codes "served " ++ decimal s.connections ++ codes " faults " ++ decimal s.faults ++ 10 ∷ []
 
 -- All connections were served, and that was written and flushed.
-pub record IsServed {K : Type 0} (k : sink.Ghosts K) (plan : ProxyPlan) (link : ChanNo → Link) (place : ChanNo → Place) (before now : ChanNo → ℕ) (output output' : K) : Type 0 where
+pub record IsServed {K : Type 0} (k : sink.Ghosts K) (plan : ProxyPlan) (link : ChanNo → Link) (place : ChanNo → Place)
+    (before now : ChanNo → ℕ) (output output' : K) : Type 0 where
   pub served : Served
   pub has_served : HasServed plan link place before now served
   pub written : IsWritten k output output' (served_line served)
   pub still : k.faults output' ≡ k.faults output
 
 -- All connections were served, and some of that was written, from its front.
-pub record IsServedUnsaid {K : Type 0} (k : sink.Ghosts K) (plan : ProxyPlan) (link : ChanNo → Link) (place : ChanNo → Place) (before now : ChanNo → ℕ) (output output' : K) : Type 0 where
+pub record IsServedUnsaid {K : Type 0} (k : sink.Ghosts K) (plan : ProxyPlan) (link : ChanNo → Link)
+    (place : ChanNo → Place) (before now : ChanNo → ℕ) (output output' : K) : Type 0 where
   pub served : Served
   pub has_served : HasServed plan link place before now served
   pub written : WritesPrefix k output output' (served_line served)
 
 -- All connections were served without a fault, and that was written and flushed.
-pub record IsServedCleanly {K : Type 0} (k : sink.Ghosts K) (conns : ℕ) (link : ChanNo → Link) (output output' : K) (status : Status) : Type 0 where
+pub record IsServedCleanly {K : Type 0} (k : sink.Ghosts K) (conns : ℕ) (link : ChanNo → Link) (output output' : K)
+    (status : Status) : Type 0 where
   pub done : status ≡ Done
   pub served : Served
   pub cleanly : ServesCleanly conns link served
   pub written : IsWritten k output output' (served_line served)
 
 -- the line was written and flushed, or some of it and the sink failed, or there was no memory for it
-pub record SaysServed {K : Type 0} (k : sink.Ghosts K) (served : Served) (output output' : K) (status : Status) : Type 0 where
+pub record SaysServed {K : Type 0} (k : sink.Ghosts K) (served : Served) (output output' : K)
+    (status : Status) : Type 0 where
   pub done : status ≡ Done → IsWritten k output output' (served_line served) × (k.faults output' ≡ k.faults output)
-  pub write_fault : status ≡ WriteFault → WritesPrefix k output output' (served_line served) × Rose (k.faults output) (k.faults output')
+  pub write_fault : status ≡ WriteFault → WritesPrefix k output output' (served_line served)
+      × Rose (k.faults output) (k.faults output')
   pub memory : status ≡ Memory → output' ≡ output
   pub ends : (status ≡ Done) ⊎ ((status ≡ WriteFault) ⊎ (status ≡ Memory))
 
@@ -58,7 +64,8 @@ EndsProxy TooLong = ⊥
 
 -- What `proxy` does by this plan where it ends with this status. Links and places are told as after it; counts of
 -- faults, of links and of polls, as before it and after it.
-pub record DoesProxy {K : Type 0} (k : sink.Ghosts K) (plan : ProxyPlan) (link : ChanNo → Link) (place : ChanNo → Place) (before now : ChanNo → ℕ) (polls_before polls_now : ℕ) (output output' : K) (status : Status) : Type 0 where
+pub record DoesProxy {K : Type 0} (k : sink.Ghosts K) (plan : ProxyPlan) (link : ChanNo → Link) (place : ChanNo → Place)
+    (before now : ChanNo → ℕ) (polls_before polls_now : ℕ) (output output' : K) (status : Status) : Type 0 where
   pub done : status ≡ Done → IsServed k plan link place before now output output'
   pub write_fault : status ≡ WriteFault → IsServedUnsaid k plan link place before now output output'
   pub rose : status ≡ WriteFault → Rose (k.faults output) (k.faults output')

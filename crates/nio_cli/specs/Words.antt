@@ -16,7 +16,8 @@ usage_line =
     ++ 10 ∷ []
 
 -- The usage was said, nothing was read, and no step was made.
-pub record IsUsage {S K : Type 0} (k : sink.Ghosts K) (input input' : S) (output output' : K) (pass pass' : Pass) : Type 0 where
+pub record IsUsage {S K : Type 0} (k : sink.Ghosts K) (input input' : S) (output output' : K)
+    (pass pass' : Pass) : Type 0 where
   pub said : Notes k output output' usage_line
   pub unread : input' ≡ input
   pub uncalled : pass' ≡ pass

@@ -1,5 +1,7 @@
 -- The calls that the generated text is a script of.
-use Rattle.std.proofs.Common.{◌≡◌, ◌≢◌, ℕ, zero, suc, ◌+◌, ◌*◌, ◌<◌, ◌≤◌, ◌%◌, ◌==◌, false, true, Bool, List, [], ◌∷◌, ◌++◌, length, codes, None, refl, sym, ap, ◌∙◌, subst, append_assoc, append-nil, inl, arith, if◌then◌else◌}
+use Rattle.std.proofs.Common.{◌≡◌, ◌≢◌, ℕ, zero, suc, ◌+◌, ◌*◌, ◌<◌, ◌≤◌, ◌%◌, ◌==◌, false, true, Bool, List, [], ◌∷◌}
+use Rattle.std.proofs.Common.{◌++◌, length, codes, None, refl, sym, ap, ◌∙◌, subst, append_assoc, append-nil, inl}
+use Rattle.std.proofs.Common.{arith, if◌then◌else◌}
 use Rattle.std.specs.Fmt.{decimal}
 use Rattle.std.specs.List.{flat_map, range_with_len}
 use Rattle.std.proofs.Math.Nat.{mul-suc}
@@ -22,7 +24,8 @@ use Rattle.nio_event.specs.declared.call.ScriptCall.{ScriptCall}
 use Rattle.nio_event.specs.declared.call.Waiting.TheVariants.{Now}
 use Rattle.nio_event.proofs.OneReading.{calls_one}
 use Rattle.nio_event.proofs.PlainTexts.{line_plain}
-use Rattle.nio_load.specs.Generator.{channel_lines, generated, generated_lines, key_of_round, lines_below, round_lines, selection_lines, text_of, wakeup_lines}
+use Rattle.nio_load.specs.Generator.{channel_lines, generated, generated_lines, key_of_round, lines_below, round_lines}
+use Rattle.nio_load.specs.Generator.{selection_lines, text_of, wakeup_lines}
 
 -- ---- lines that are calls, none of them blank
 
@@ -124,13 +127,20 @@ short n below = record { below = below; digits = length-decimal-le 2 n (omega ar
 line_length : (n : ℕ) → IsShort n → (before behind : List ℕ) → length before ≤ 100 → length behind ≤ 100
     → length (before ++ decimal n ++ behind) ≤ 4096
 line_length n is before behind few less =
-    let whole : length (before ++ decimal n ++ behind) ≡ length (before ++ decimal n) + length behind = length-append (before ++ decimal n) behind in
+    let whole : length (before ++ decimal n ++ behind) ≡ length (before ++ decimal n) + length behind = length-append
+    (before ++ decimal n) behind in
     let front : length (before ++ decimal n) ≡ length before + length (decimal n) = length-append before (decimal n) in
     let two = is.digits in
     omega (arith, whole, front, two)
 
 source_line : IsLine first_caller (call.Channel Source) (codes "t1 channel source")
-source_line = record { caller_fits = omega arith; call_fits = tt; text = rw (decimal_digit 1 (omega arith)) refl; short = omega arith }
+source_line =
+    record {
+      caller_fits = omega arith;
+      call_fits = tt;
+      text = rw (decimal_digit 1 (omega arith)) refl;
+      short = omega arith;
+    }
 
 blocking_line : (c : ℕ) → IsShort c → IsLine first_caller (call.Blocking (channel c) false) (codes "t1 blocking c" ++ decimal c ++ codes " off")
 blocking_line c is = record {
@@ -149,18 +159,46 @@ register_line c is = record {
 }
 
 selector_line : IsLine first_caller call.Selector (codes "t1 selector")
-selector_line = record { caller_fits = omega arith; call_fits = tt; text = rw (decimal_digit 1 (omega arith)) refl; short = omega arith }
+selector_line =
+    record {
+      caller_fits = omega arith;
+      call_fits = tt;
+      text = rw (decimal_digit 1 (omega arith)) refl;
+      short = omega arith;
+    }
 
 wakeup_line : IsLine second_caller (call.Wakeup selector) (codes "t2 wakeup s0")
-wakeup_line = record { caller_fits = omega arith; call_fits = omega arith; text = rw (decimal_digit 2 (omega arith), decimal_digit 0 (omega arith)) refl; short = omega arith }
+wakeup_line =
+    record {
+      caller_fits = omega arith;
+      call_fits = omega arith;
+      text = rw (decimal_digit 2 (omega arith), decimal_digit 0 (omega arith)) refl;
+      short = omega arith;
+    }
 
 begin_line : IsLine first_caller (call.Begin selector Now) (codes "t1 begin s0 now")
-begin_line = record { caller_fits = omega arith; call_fits = (omega arith, tt); text = rw (decimal_digit 1 (omega arith), decimal_digit 0 (omega arith)) refl; short = omega arith }
+begin_line =
+    record {
+      caller_fits = omega arith;
+      call_fits = (omega arith, tt);
+      text = rw (decimal_digit 1 (omega arith), decimal_digit 0 (omega arith)) refl;
+      short = omega arith;
+    }
 
 told_line : (k : ℕ) → IsShort k → IsLine first_caller (call.Told selector false ((key k, 1) ∷ [])) (codes "t1 told s0 k" ++ decimal k ++ codes ":1")
 told_line k is = record {
   caller_fits = omega arith;
-  call_fits = (omega arith, (All-cons IsPair (key k, 1) [] (record { key_fits = record { index_fits = omega (arith, is.below); serial_fits = omega arith }; ops_fit = omega arith }) (All-nil IsPair), λ i j d less within. absurd (omega (arith, less, within))));
+  call_fits = (
+    omega arith,
+    (
+      All-cons IsPair (key k, 1) []
+          (record {
+            key_fits = record { index_fits = omega (arith, is.below); serial_fits = omega arith };
+            ops_fit = omega arith;
+          }) (All-nil IsPair),
+      λ i j d less within. absurd (omega (arith, less, within)),
+    ),
+  );
   text = rw (decimal_digit 1 (omega arith), decimal_digit 0 (omega arith)) (sym (ap (λ t. codes "t1 told s0 k" ++ t) (append_assoc (decimal k ++ []) (codes ":") (codes "1") ∙ ap (λ d. d ++ codes ":1") (append-nil (decimal k)))));
   short = line_length k is (codes "t1 told s0 k") (codes ":1") (omega arith) (omega arith);
 }
@@ -188,7 +226,8 @@ selection_are k below = (begin_line, (told_line k (short k below), (unselect_lin
 
 round_are : (r : ℕ) → AreLines (round_lines r) (round_calls r)
 round_are r =
-    lines_append (wakeup_lines r) (wakeup_calls r) (selection_lines (key_of_round r)) (selection_calls (key_of_round r)) (wakeup_are r)
+    lines_append (wakeup_lines r) (wakeup_calls r) (selection_lines (key_of_round r)) (selection_calls (key_of_round r))
+    (wakeup_are r)
     (selection_are (key_of_round r) (omega arith))
 
 below_are : (n : ℕ) (f : ℕ → List (List ℕ)) (g : ℕ → List ScriptCall) → ((k : ℕ) → k < n → AreLines (f k) (g k))
@@ -199,8 +238,10 @@ below_are n f g all = lines_each f g 0 n (λ k below. all k (omega (arith, below
 generated_are : (rounds : ℕ) → AreLines (generated_lines rounds) (generated_calls rounds)
 generated_are rounds = (
   selector_line,
-  lines_append (lines_below 64 channel_lines) (calls_below 64 channel_calls) (lines_below rounds round_lines) (calls_below rounds round_calls)
-      (below_are 64 channel_lines channel_calls channel_are) (below_are rounds round_lines round_calls (λ r below. round_are r)),
+  lines_append (lines_below 64 channel_lines) (calls_below 64 channel_calls) (lines_below rounds round_lines)
+      (calls_below rounds round_calls)
+      (below_are 64 channel_lines channel_calls channel_are)
+      (below_are rounds round_lines round_calls (λ r below. round_are r)),
 )
 
 pub generated_script : (rounds : ℕ) → IsScript (generated rounds) (generated_calls rounds)
@@ -208,10 +249,13 @@ generated_script rounds = script_of (generated_lines rounds) (generated_calls ro
 
 -- ---- how many they are
 
-few_each : (g : ℕ → List ScriptCall) (m a n : ℕ) → ((k : ℕ) → length (g k) ≤ m) → length (flat_map g (range_with_len a n)) ≤ m * n
+few_each : (g : ℕ → List ScriptCall) (m a n : ℕ) → ((k : ℕ) → length (g k) ≤ m)
+    → length (flat_map g (range_with_len a n)) ≤ m * n
 few_each g m a zero few = omega arith
 few_each g m a (suc n) few =
-    let whole : length (g a ++ flat_map g (range_with_len (a + 1) n)) ≡ length (g a) + length (flat_map g (range_with_len (a + 1) n)) = length-append (g a) (flat_map g (range_with_len (a + 1) n)) in
+    let whole : length (g a ++ flat_map g (range_with_len (a + 1) n)) ≡ length (g a)
+    + length (flat_map g (range_with_len (a + 1) n)) = length-append (g a)
+    (flat_map g (range_with_len (a + 1) n)) in
     let first = few a in
     let rest = few_each g m (a + 1) n few in
     let product : m * suc n ≡ m * n + m = mul-suc m n in
@@ -224,20 +268,27 @@ few_below m n g few = few_each g m 0 n few
 few_round : (r : ℕ) → length (round_calls r) ≤ 4
 few_round r = either (r % 8 == 0)
   where
-    either : (b : Bool) → length ((if b then record { caller = second_caller; call = call.Wakeup selector } ∷ [] else []) ++ selection_calls (key_of_round r)) ≤ 4
+    either : (b : Bool)
+        → length ((if b then record { caller = second_caller; call = call.Wakeup selector } ∷ [] else [])
+        ++ selection_calls (key_of_round r)) ≤ 4
     either true = omega arith
     either false = omega arith
 
 few_calls : (rounds : ℕ) → length (generated_calls rounds) ≤ 193 + 4 * rounds
 few_calls rounds =
-    let whole : length (calls_below 64 channel_calls ++ calls_below rounds round_calls) ≡ length (calls_below 64 channel_calls) + length (calls_below rounds round_calls) = length-append (calls_below 64 channel_calls) (calls_below rounds round_calls) in
+    let whole : length (calls_below 64 channel_calls ++ calls_below rounds round_calls)
+    ≡ length (calls_below 64 channel_calls) + length (calls_below rounds round_calls) = length-append
+    (calls_below 64 channel_calls) (calls_below rounds round_calls) in
     let first = few_below 3 64 channel_calls (λ c. omega arith) in
     let rest = few_below 4 rounds round_calls few_round in
     omega (arith, whole, first, rest)
 
 -- the generated text is a script of these calls alone
-pub only_calls : (rounds : ℕ) (calls : List ScriptCall) → IsScript (generated rounds) calls → calls ≡ generated_calls rounds
+pub only_calls : (rounds : ℕ) (calls : List ScriptCall) → IsScript (generated rounds) calls
+    → calls ≡ generated_calls rounds
 only_calls rounds calls is = calls_one is (generated_script rounds)
 
-pub few_read : (rounds : ℕ) (calls : List ScriptCall) → IsScript (generated rounds) calls → length calls ≤ 193 + 4 * rounds
-few_read rounds calls is = subst (λ (cs : List ScriptCall). length cs ≤ 193 + 4 * rounds) (sym (only_calls rounds calls is)) (few_calls rounds)
+pub few_read : (rounds : ℕ) (calls : List ScriptCall) → IsScript (generated rounds) calls
+    → length calls ≤ 193 + 4 * rounds
+few_read rounds calls is =
+    subst (λ (cs : List ScriptCall). length cs ≤ 193 + 4 * rounds) (sym (only_calls rounds calls is)) (few_calls rounds)

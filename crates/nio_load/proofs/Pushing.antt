@@ -1,5 +1,6 @@
 -- How the generated text grows.
-use Rattle.std.proofs.Common.{◌≡◌, ℕ, zero, suc, ◌+◌, List, [], ◌∷◌, ◌++◌, refl, sym, ap, ◌∙◌, append_assoc, append-nil, arith}
+use Rattle.std.proofs.Common.{◌≡◌, ℕ, zero, suc, ◌+◌, List, [], ◌∷◌, ◌++◌, refl, sym, ap, ◌∙◌, append_assoc, append-nil}
+use Rattle.std.proofs.Common.{arith}
 use Rattle.std.specs.Prelude.{Result, Ok, Err, OnOk}
 use Rattle.std.specs.List.{flat_map, range_with_len}
 use Rattle.std.proofs.lemmas.Grind.{flat_map-append}
@@ -41,7 +42,8 @@ module _ (lines : ℕ → List (List ℕ)) where
       next
       ∙ ap (λ t. t ++ text_of (lines n)) so
       ∙ append_assoc before (text_of (lines_below n lines)) (text_of (lines n))
-      ∙ ap (λ t. before ++ t) (sym (text-append (lines_below n lines) (lines n)) ∙ ap text_of (sym (lines_below_more n)))
+      ∙ ap (λ t. before ++ t)
+      (sym (text-append (lines_below n lines) (lines n)) ∙ ap text_of (sym (lines_below_more n)))
 
 -- what follows from what holds at an `Ok`
 pub on_ok_map : {T E P Q : Type 0} (r : Result T E) → (P → Q) → OnOk r P → OnOk r Q
@@ -56,12 +58,17 @@ pushed_three before first second third one two two' three three' a b same c also
     let line = λ (l : List ℕ). l ++ 10 ∷ [] in
     c
     ∙ ap (λ t. second ++ line t) also
-    ∙ ap (λ t. t ++ line three) (b ∙ ap (λ t. first ++ line t) same ∙ ap (λ t. t ++ line two) a ∙ append_assoc before (line one) (line two))
+    ∙ ap (λ t. t ++ line three)
+    (b ∙ ap (λ t. first ++ line t) same ∙ ap (λ t. t ++ line two) a ∙ append_assoc before (line one) (line two))
     ∙ append_assoc before (line one ++ line two) (line three)
-    ∙ ap (λ t. before ++ t) (append_assoc (line one) (line two) (line three) ∙ ap (λ t. line one ++ (line two ++ t)) (sym (append-nil (line three))))
+    ∙ ap (λ t. before ++ t)
+    (append_assoc (line one) (line two) (line three)
+    ∙ ap (λ t. line one ++ (line two ++ t)) (sym (append-nil (line three))))
 
 -- some lines, and then others
-pub pushed_both : (before first second : List ℕ) (xs ys : List (List ℕ)) → first ≡ before ++ text_of xs → second ≡ first ++ text_of ys
+pub pushed_both : (before first second : List ℕ) (xs ys : List (List ℕ)) → first ≡ before ++ text_of xs
+    → second ≡ first ++ text_of ys
     → second ≡ before ++ text_of (xs ++ ys)
 pushed_both before first second xs ys a b =
-    b ∙ ap (λ t. t ++ text_of ys) a ∙ append_assoc before (text_of xs) (text_of ys) ∙ ap (λ t. before ++ t) (sym (text-append xs ys))
+    b ∙ ap (λ t. t ++ text_of ys) a ∙ append_assoc before (text_of xs) (text_of ys)
+    ∙ ap (λ t. before ++ t) (sym (text-append xs ys))

@@ -33,14 +33,16 @@ module _ (line : List ℕ) where
     pub no_block_behind : ((rest : List ℕ) → back ≢ codes "block " ++ rest) → (p : CallerNo × SelNo) → IsBlockLine p.0 p.1 line → ⊥
     no_block_behind none p is = none (selector_word p.1) (block_parts p is).1
 
-    pub no_caller : Reads (λ n. n ≤ 63) (λ n. 116 ∷ decimal n) front None → (p : CallerNo × SelNo) → IsBlockLine p.0 p.1 line → ⊥
+    pub no_caller : Reads (λ n. n ≤ 63) (λ n. 116 ∷ decimal n) front None → (p : CallerNo × SelNo)
+        → IsBlockLine p.0 p.1 line → ⊥
     no_caller read p is = none-some p.0.0 (read.only p.0.0 (omega (arith, is.caller_fits)) (block_parts p is).0)
 
     module _ (word : List ℕ) (prefixed : back ≡ codes "block " ++ word) where
       selector_part : (p : CallerNo × SelNo) → IsBlockLine p.0 p.1 line → word ≡ selector_word p.1
       selector_part p is = append_cancel_left (codes "block ") word (selector_word p.1) (sym prefixed ∙ (block_parts p is).1)
 
-      pub no_selector : Reads (λ n. n ≤ 4294967295) (λ n. 115 ∷ decimal n) word None → (p : CallerNo × SelNo) → IsBlockLine p.0 p.1 line → ⊥
+      pub no_selector : Reads (λ n. n ≤ 4294967295) (λ n. 115 ∷ decimal n) word None → (p : CallerNo × SelNo)
+          → IsBlockLine p.0 p.1 line → ⊥
       no_selector read p is = none-some p.1.0 (read.only p.1.0 (omega (arith, is.selector_fits)) (selector_part p is))
 
       pub finds_block : (caller : CallerNo) (s : SelNo) → line ≡ front ++ 32 ∷ back
@@ -57,8 +59,10 @@ module _ (line : List ℕ) where
               ∙ ap (λ w. caller_word caller ++ 32 ∷ w) (prefixed ∙ ap (λ w. codes "block " ++ w) second.found.1);
         };
         only = λ p is.
-            let callers = same_Some caller.0 p.0.0 (first.only p.0.0 (omega (arith, is.caller_fits)) (block_parts p is).0) in
-            let selectors = same_Some s.0 p.1.0 (second.only p.1.0 (omega (arith, is.selector_fits)) (selector_part p is)) in
+            let callers = same_Some caller.0 p.0.0
+            (first.only p.0.0 (omega (arith, is.caller_fits)) (block_parts p is).0) in
+            let selectors = same_Some s.0 p.1.0
+            (second.only p.1.0 (omega (arith, is.selector_fits)) (selector_part p is)) in
             ap (λ n. Some (record { 0 = n }, s)) callers ∙ ap (λ n. Some (p.0, record { 0 = n })) selectors;
       }
 
@@ -68,7 +72,8 @@ abbrev pub FindsRaceLine : List ℕ → Option RaceLine → Type 0
 FindsRaceLine line answer = Finds (λ (r : RaceLine). IsRaceLine r.caller r.call line) answer
 
 module _ {line : List ℕ} where
-  pub finds_race : {caller : CallerNo} {c : RaceCall} → IsRaceLine caller c line → FindsRaceLine line (Some (record { caller = caller; call = c }))
+  pub finds_race : {caller : CallerNo} {c : RaceCall} → IsRaceLine caller c line
+      → FindsRaceLine line (Some (record { caller = caller; call = c }))
   finds_race {caller = caller} {c = c} is = record {
     found = is;
     only = λ r other.
@@ -91,7 +96,8 @@ module _ {line : List ℕ} where
   finds_no_blank blank = finds_nothing (λ r is. race_full is blank)
 
   -- neither a script's line nor `block`
-  pub finds_neither : (IsInGrammar line → ⊥) → Finds (λ (p : CallerNo × SelNo). IsBlockLine p.0 p.1 line) None → FindsRaceLine line None
+  pub finds_neither : (IsInGrammar line → ⊥) → Finds (λ (p : CallerNo × SelNo). IsBlockLine p.0 p.1 line) None
+      → FindsRaceLine line None
   finds_neither bad unblocked = finds_nothing (λ r is. by_call r.caller r.call is)
     where
       by_call : (t : CallerNo) (d : RaceCall) → IsRaceLine t d line → ⊥

@@ -1,5 +1,6 @@
 -- A line behind `go` is one call of one caller; and a caller's line is neither blank nor `go`.
-use Rattle.std.proofs.Common.{◌≡◌, ◌≢◌, ℕ, ◌<◌, ◌^◌, ◌==◌, List, [], ◌∷◌, ◌++◌, drop, get_or, codes, None, inl, inr, refl, sym, ap, ◌∙◌, arith}
+use Rattle.std.proofs.Common.{◌≡◌, ◌≢◌, ℕ, ◌<◌, ◌^◌, ◌==◌, List, [], ◌∷◌, ◌++◌, drop, get_or, codes, None, inl, inr}
+use Rattle.std.proofs.Common.{refl, sym, ap, ◌∙◌, arith}
 use Rattle.std.specs.Fmt.{decimal}
 use Rattle.std.specs.List.{join_with_byte, slice_split}
 use Rattle.std.proofs.lemmas.Fmt.{decimal_injective}
@@ -15,7 +16,8 @@ use Rattle.nio_event.proofs.CallWordTable.{reads_call_word}
 use Rattle.nio_event.proofs.NameWords.{decimal_lacks}
 use Rattle.nio_event.proofs.OneReading.{line_one}
 use Rattle.nio_event.proofs.Spaces.{Spaceless, split_join, caller_spaceless, call_spaceless}
-use Rattle.nio_race_text.specs.RaceLines.{IsBlockLine, IsRaceLine, script_line, block_line, AreRaceLines, no_lines, blank_line, race_line, race_words}
+use Rattle.nio_race_text.specs.RaceLines.{IsBlockLine, IsRaceLine, script_line, block_line, AreRaceLines, no_lines}
+use Rattle.nio_race_text.specs.RaceLines.{blank_line, race_line, race_words}
 use Rattle.nio_race_text.specs.RaceText.{go_line}
 use Rattle.nio_race_text.specs.declared.call.RaceCall.{RaceCall}
 use Rattle.nio_race_text.specs.declared.call.RaceCall.TheVariants.{Script, Block}
@@ -32,7 +34,8 @@ line_begins {caller = caller} {c = c} is = (decimal caller.0 ++ 32 ∷ join_with
 
 race_begins : {caller : CallerNo} {c : RaceCall} {line : List ℕ} → IsRaceLine caller c line → Begins line
 race_begins (script_line is may) = line_begins is
-race_begins (block_line {caller = caller} {s = s} is) = (decimal caller.0 ++ 32 ∷ join_with_byte 32 (race_words (Block s)), is.text)
+race_begins (block_line {caller = caller} {s = s} is) =
+    (decimal caller.0 ++ 32 ∷ join_with_byte 32 (race_words (Block s)), is.text)
 
 begins_full : {line : List ℕ} → Begins line → IsBlank line → ⊥
 begins_full begins (inl none) = cc (begins.1, none)
@@ -69,13 +72,15 @@ block_spaceless =
     each b bs = All-cons (λ b. b ≢ 32) b bs
 
 selector_spaceless : (n : ℕ) → n < 2 ^ 32 → Spaceless (115 ∷ decimal n)
-selector_spaceless n fits = All-cons (λ b. b ≢ 32) 115 (decimal n) (omega arith) (decimal_lacks n 32 (omega arith) (λ r. omega (arith, r)))
+selector_spaceless n fits =
+    All-cons (λ b. b ≢ 32) 115 (decimal n) (omega arith) (decimal_lacks n 32 (omega arith) (λ r. omega (arith, r)))
 
 line_words_of : {caller : CallerNo} {c : Call} {line : List ℕ} → IsLine caller c line
     → slice_split (λ b. b == 32) line ≡ caller_word caller ∷ call_words c
 line_words_of {caller = caller} {c = c} is =
     ap (slice_split (λ b. b == 32)) is.text
-    ∙ split_join (caller_word caller) (call_words c) (caller_spaceless caller.0 is.caller_fits) (call_spaceless c is.call_fits)
+    ∙ split_join (caller_word caller) (call_words c) (caller_spaceless caller.0 is.caller_fits)
+    (call_spaceless c is.call_fits)
 
 block_words_of : {caller : CallerNo} {s : SelNo} {line : List ℕ} → IsBlockLine caller s line
     → slice_split (λ b. b == 32) line ≡ caller_word caller ∷ race_words (Block s)
@@ -88,7 +93,8 @@ block_words_of {caller = caller} {s = s} is =
 no_block_word : (c : Call) → call_word_text (call_word c) ≡ codes "block" → ⊥
 no_block_word c e = none-some (call_word c) ((reads_call_word (codes "block") None refl).only (call_word c) tt (sym e))
 
-pub no_block : {caller other : CallerNo} {c : Call} {s : SelNo} {line : List ℕ} → IsLine caller c line → IsBlockLine other s line → ⊥
+pub no_block : {caller other : CallerNo} {c : Call} {s : SelNo} {line : List ℕ} → IsLine caller c line
+    → IsBlockLine other s line → ⊥
 no_block {c = c} x y = no_block_word c (word_at 1 (sym (line_words_of x) ∙ block_words_of y))
 
 -- ---- one reading
@@ -96,16 +102,22 @@ no_block {c = c} x y = no_block_word c (word_at 1 (sym (line_words_of x) ∙ blo
 numbered_one : (letter m n : ℕ) → m < 2 ^ 64 → n < 2 ^ 64 → letter ∷ decimal m ≡ letter ∷ decimal n → m ≡ n
 numbered_one letter m n h k e = decimal_injective m n h k (ap (drop 1) e)
 
-block_one : {caller other : CallerNo} {s r : SelNo} {line : List ℕ} → IsBlockLine caller s line → IsBlockLine other r line
+block_one : {caller other : CallerNo} {s r : SelNo} {line : List ℕ} → IsBlockLine caller s line
+    → IsBlockLine other r line
     → (caller ≡ other) × (s ≡ r)
 block_one {caller = caller} {other = other} {s = s} {r = r} x y =
     let words = sym (block_words_of x) ∙ block_words_of y in (
-      ap (λ n. record { 0 = n }) (numbered_one 116 caller.0 other.0 (omega (arith, x.caller_fits)) (omega (arith, y.caller_fits)) (word_at 0 words)),
-      ap (λ n. record { 0 = n }) (numbered_one 115 s.0 r.0 (omega (arith, x.selector_fits)) (omega (arith, y.selector_fits)) (word_at 2 words)),
+      ap (λ n. record { 0 = n })
+          (numbered_one 116 caller.0 other.0 (omega (arith, x.caller_fits)) (omega (arith, y.caller_fits))
+          (word_at 0 words)),
+      ap (λ n. record { 0 = n })
+          (numbered_one 115 s.0 r.0 (omega (arith, x.selector_fits)) (omega (arith, y.selector_fits))
+          (word_at 2 words)),
     )
 
 -- a line behind `go` is a call of one caller alone
-pub race_line_one : {caller other : CallerNo} {c d : RaceCall} {line : List ℕ} → IsRaceLine caller c line → IsRaceLine other d line
+pub race_line_one : {caller other : CallerNo} {c d : RaceCall} {line : List ℕ} → IsRaceLine caller c line
+    → IsRaceLine other d line
     → (caller ≡ other) × (c ≡ d)
 race_line_one (script_line x may) (script_line y also) = let one = line_one x y in (one.0, ap Script one.1)
 race_line_one (script_line x may) (block_line y) = absurd (no_block x y)
@@ -117,7 +129,8 @@ same_race_line x y callers calls =
     ap (λ t. record { caller = t; call = x.call }) callers ∙ ap (λ c. record { caller = y.caller; call = c }) calls
 
 -- lines behind `go` are one list of calls
-pub race_one : {lines : List (List ℕ)} {race others : List RaceLine} → AreRaceLines lines race → AreRaceLines lines others → race ≡ others
+pub race_one : {lines : List (List ℕ)} {race others : List RaceLine} → AreRaceLines lines race
+    → AreRaceLines lines others → race ≡ others
 race_one no_lines no_lines = refl
 race_one (blank_line b rest) (blank_line c more) = race_one rest more
 race_one (blank_line b rest) (race_line is more) = absurd (race_full is b)

@@ -1,5 +1,6 @@
 -- The line of a history and the line of a race's output.
-use Rattle.std.proofs.Common.{◌≡◌, ℕ, List, [], ◌∷◌, ◌++◌, drop, length, codes, refl, ap, ◌∙◌, append_assoc, length-append, arith}
+use Rattle.std.proofs.Common.{◌≡◌, ℕ, List, [], ◌∷◌, ◌++◌, drop, length, codes, refl, ap, ◌∙◌, append_assoc}
+use Rattle.std.proofs.Common.{length-append, arith}
 use Rattle.std.specs.Fmt.{decimal}
 use Rattle.std.specs.List.{join_with_byte}
 use Rattle.std.proofs.Math.Seq.{drop-append_seam}
@@ -25,7 +26,8 @@ module _ (caller number space rest arrow reply newline : List ℕ) where
       ≡ caller ++ space ++ number ++ space ++ rest ++ arrow ++ reply ++ newline
   caller_first = simp append_assoc refl
 
-  behind_swapped : drop (length (caller ++ space ++ number ++ space)) (number ++ space ++ (caller ++ (space ++ rest)) ++ arrow ++ reply ++ newline)
+  behind_swapped : drop (length (caller ++ space ++ number ++ space))
+      (number ++ space ++ (caller ++ (space ++ rest)) ++ arrow ++ reply ++ newline)
       ≡ rest ++ arrow ++ reply ++ newline
   behind_swapped =
       ap (λ n. drop n (number ++ space ++ (caller ++ (space ++ rest)) ++ arrow ++ reply ++ newline)) swapped_size

@@ -33,14 +33,17 @@ pub no_setup_line : {line : List ℕ} → (script.IsInGrammar line → ⊥) → 
 no_setup_line bad calls (script.blank_line b _) = bad (script.is_blank b)
 no_setup_line bad calls (script.call_line {caller = caller} {c = c} is _) = bad (script.is_call caller c is)
 
-pub no_race_line : {line : List ℕ} → (IsBlank line → ⊥) → ((r : RaceLine) → IsRaceLine r.caller r.call line → ⊥) → IsNoLine AreRaceLines line
+pub no_race_line : {line : List ℕ} → (IsBlank line → ⊥) → ((r : RaceLine) → IsRaceLine r.caller r.call line → ⊥)
+    → IsNoLine AreRaceLines line
 no_race_line full bad calls (blank_line b _) = full b
 no_race_line full bad calls (race_line {caller = caller} {c = c} is _) = bad (record { caller = caller; call = c }) is
 
 -- the next line has no calls
-pub stops_here : {A : Type 0} {Are : List (List ℕ) → List A → Type 0} {lines : List (List ℕ)} {i n skipped : ℕ} {line : List ℕ} {calls : List A}
+pub stops_here : {A : Type 0} {Are : List (List ℕ) → List A → Type 0} {lines : List (List ℕ)} {i n skipped : ℕ}
+    {line : List ℕ} {calls : List A}
     → ((xs ys : List (List ℕ)) (all : List A) → Are (xs ++ ys) all → (rest : List A) × Are ys rest)
-    → IsNext lines i line → Are (take i lines) calls → IsNoLine Are line → skipped + i + 1 ≡ n → StopsAt Are skipped lines n
+    → IsNext lines i line → Are (take i lines) calls → IsNoLine Are line → skipped + i + 1 ≡ n
+    → StopsAt Are skipped lines n
 stops_here {lines = lines} {i = i} {skipped = skipped} {line = line} {calls = calls} behind next are none e = record {
   line = line;
   before = take i lines;

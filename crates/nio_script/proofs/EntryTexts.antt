@@ -1,5 +1,6 @@
 -- From the parts of a line to its entry.
-use Rattle.std.proofs.Common.{◌≡◌, ◌≢◌, ℕ, ◌<◌, ◌≤◌, ◌^◌, List, [], ◌∷◌, ◌++◌, Option, Some, None, Result, Ok, Err, codes, sym, ◌∙◌, ap, subst, append_assoc, arith, All}
+use Rattle.std.proofs.Common.{◌≡◌, ◌≢◌, ℕ, ◌<◌, ◌≤◌, ◌^◌, List, [], ◌∷◌, ◌++◌, Option, Some, None, Result, Ok, Err}
+use Rattle.std.proofs.Common.{codes, sym, ◌∙◌, ap, subst, append_assoc, arith, All}
 use Rattle.std.specs.Fmt.{decimal}
 use Rattle.std.proofs.lemmas.List.Elements.{All-append, All-cons, All-nil, All-weaker}
 use Rattle.std.proofs.lemmas.Option.{none-some, same_Some}
@@ -19,8 +20,10 @@ use Rattle.nio_script.specs.Entries.{Finds}
 use Rattle.nio_script.specs.History.{Entry, IsCallOf, IsEntry, call_text}
 use Rattle.nio_script.proofs.EntryLemmas.{same_entry, same_line}
 
-pub finds_none : {A : Type 0} (IsSo : A → Type 0) (answer : Option A) → answer ≡ None → ((x : A) → IsSo x → ⊥) → Finds IsSo answer
-finds_none IsSo answer nothing none = subst (Finds IsSo) (sym nothing) (record { found = tt; only = λ x so. absurd (none x so) })
+pub finds_none : {A : Type 0} (IsSo : A → Type 0) (answer : Option A) → answer ≡ None → ((x : A) → IsSo x → ⊥)
+    → Finds IsSo answer
+finds_none IsSo answer nothing none =
+    subst (Finds IsSo) (sym nothing) (record { found = tt; only = λ x so. absurd (none x so) })
 
 -- a number, and what stands behind it
 module _ (text : List ℕ) (number : ℕ) (small : number < 2 ^ 64) where
@@ -51,15 +54,18 @@ module _ (text : List ℕ) (number : ℕ) (small : number < 2 ^ 64) where
 pub lacks_arrow : (before : List ℕ) → All (λ b. b ≢ 62) before → All (λ b. b ≢ 62) (before ++ 32 ∷ 45 ∷ [])
 lacks_arrow before none =
     let so = λ (b : ℕ). b ≢ 62 in
-    All-append so before (32 ∷ 45 ∷ []) none (All-cons so 32 (45 ∷ []) (omega arith) (All-cons so 45 [] (omega arith) (All-nil so)))
+    All-append so before (32 ∷ 45 ∷ []) none
+    (All-cons so 32 (45 ∷ []) (omega arith) (All-cons so 45 [] (omega arith) (All-nil so)))
 
 -- the texts before and behind the first arrow
 module _ (text before after : List ℕ) where
   arrow_cut : text ≡ before ++ codes " -> " ++ after → text ≡ (before ++ 32 ∷ 45 ∷ []) ++ 62 ∷ 32 ∷ after
   arrow_cut e =
-      e ∙ append_assoc before (32 ∷ 45 ∷ 62 ∷ 32 ∷ []) after ∙ sym (append_assoc before (32 ∷ 45 ∷ []) (62 ∷ 32 ∷ after))
+      e ∙ append_assoc before (32 ∷ 45 ∷ 62 ∷ 32 ∷ []) after
+      ∙ sym (append_assoc before (32 ∷ 45 ∷ []) (62 ∷ 32 ∷ after))
 
-  pub arrow_found : (front back : List ℕ) → text ≡ front ++ 62 ∷ back → front ≡ before ++ 32 ∷ 45 ∷ [] → back ≡ 32 ∷ after
+  pub arrow_found : (front back : List ℕ) → text ≡ front ++ 62 ∷ back → front ≡ before ++ 32 ∷ 45 ∷ []
+      → back ≡ 32 ∷ after
       → text ≡ before ++ codes " -> " ++ after
   arrow_found front back cut e f =
       cut ∙ ap (λ xs. xs ++ 62 ∷ back) e ∙ append_assoc before (32 ∷ 45 ∷ []) (62 ∷ back)
@@ -68,13 +74,15 @@ module _ (text before after : List ℕ) where
   -- where the text is cut at its first `>`
   pub arrow_parts : (front back : List ℕ) → OnlyCut 62 text front back → All (λ b. b ≢ 62) before → text ≡ before ++ codes " -> " ++ after
       → (front ≡ before ++ 32 ∷ 45 ∷ []) × (back ≡ 32 ∷ after)
-  arrow_parts front back only none e = only (before ++ 32 ∷ 45 ∷ []) (32 ∷ after) (lacks_arrow before none) (arrow_cut e)
+  arrow_parts front back only none e =
+      only (before ++ 32 ∷ 45 ∷ []) (32 ∷ after) (lacks_arrow before none) (arrow_cut e)
 
   pub arrow_uncut : NoCut 62 text → All (λ b. b ≢ 62) before → text ≡ before ++ codes " -> " ++ after → ⊥
   arrow_uncut no_cut none e = no_cut (before ++ 32 ∷ 45 ∷ []) (32 ∷ after) (lacks_arrow before none) (arrow_cut e)
 
 -- the call that was read of a text
-pub call_found : (text : List ℕ) (r : Result Parsed ParseError) (caller : CallerNo) (call : Call) → r ≡ Ok (Line caller call)
+pub call_found : (text : List ℕ) (r : Result Parsed ParseError) (caller : CallerNo) (call : Call)
+    → r ≡ Ok (Line caller call)
     → ((t : CallerNo) (k : Call) → r ≡ Ok (Line t k) → IsLine t k text)
     → ((t : CallerNo) (k : Call) → IsLine t k text → r ≢ Err Memory → r ≡ Ok (Line t k))
     → Finds (λ (line : ScriptCall). IsLine line.caller line.call text) (Some (record { caller = caller; call = call }))
@@ -93,30 +101,37 @@ module _ (rules : Rules) (number : ℕ) (line : List ℕ) where
   AreParts call reply = line ≡ decimal number ++ codes " " ++ call ++ codes " -> " ++ reply
 
   pub arrowless : (e : Entry) → IsEntry rules number e line → All (λ b. b ≢ 62) (call_text e)
-  arrowless e is = All-weaker (λ b. (b ≢ 10) × (b ≢ 62)) (λ b. b ≢ 62) (λ b both. both.1) (call_text e) (line_plain is.call)
+  arrowless e is =
+      All-weaker (λ b. (b ≢ 10) × (b ≢ 62)) (λ b. b ≢ 62) (λ b both. both.1) (call_text e) (line_plain is.call)
 
-  pub no_entry_unsplit : ((call reply : List ℕ) → All (λ b. b ≢ 62) call → AreParts call reply → ⊥) → (e : Entry) → IsEntry rules number e line → ⊥
+  pub no_entry_unsplit : ((call reply : List ℕ) → All (λ b. b ≢ 62) call → AreParts call reply → ⊥) → (e : Entry)
+      → IsEntry rules number e line → ⊥
   no_entry_unsplit none e is = none (call_text e) e.reply (arrowless e is) is.text
 
-  module _ (text reply : List ℕ) (only : (call back : List ℕ) → All (λ b. b ≢ 62) call → AreParts call back → (text ≡ call) × (reply ≡ back)) where
+  module _ (text reply : List ℕ) (only : (call back : List ℕ) → All (λ b. b ≢ 62) call → AreParts call back
+      → (text ≡ call) × (reply ≡ back)) where
     entry_parts : (e : Entry) → IsEntry rules number e line → (text ≡ call_text e) × (reply ≡ e.reply)
     entry_parts e is = only (call_text e) e.reply (arrowless e is) is.text
 
     called : (e : Entry) → IsEntry rules number e line → IsLine e.line.caller e.line.call text
     called e is = subst (IsLine e.line.caller e.line.call) (sym (entry_parts e is).0) is.call
 
-    pub no_entry_uncalled : Finds (λ (c : ScriptCall). IsLine c.caller c.call text) None → (e : Entry) → IsEntry rules number e line → ⊥
+    pub no_entry_uncalled : Finds (λ (c : ScriptCall). IsLine c.caller c.call text) None → (e : Entry)
+        → IsEntry rules number e line → ⊥
     no_entry_uncalled read e is = none-some e.line (read.only e.line (called e is))
 
     -- the call that was read is that of an entry
-    same_call : (c : ScriptCall) → Finds (λ (c : ScriptCall). IsLine c.caller c.call text) (Some c) → (e : Entry) → IsEntry rules number e line → c ≡ e.line
+    same_call : (c : ScriptCall) → Finds (λ (c : ScriptCall). IsLine c.caller c.call text) (Some c) → (e : Entry)
+        → IsEntry rules number e line → c ≡ e.line
     same_call c read e is = same_Some c e.line (read.only e.line (called e is))
 
-    pub no_entry_of_rules : (c : ScriptCall) → Finds (λ (c : ScriptCall). IsLine c.caller c.call text) (Some c) → ¬ IsCallOf rules c.call → (e : Entry) → IsEntry rules number e line → ⊥
+    pub no_entry_of_rules : (c : ScriptCall) → Finds (λ (c : ScriptCall). IsLine c.caller c.call text) (Some c)
+        → ¬ IsCallOf rules c.call → (e : Entry) → IsEntry rules number e line → ⊥
     no_entry_of_rules c read unknown e is =
         unknown (subst (λ (c : ScriptCall). IsCallOf rules c.call) (sym (same_call c read e is)) is.of_rules)
 
-    pub finds_entry : (c : ScriptCall) → AreParts text reply → Finds (λ (c : ScriptCall). IsLine c.caller c.call text) (Some c) → IsCallOf rules c.call
+    pub finds_entry : (c : ScriptCall) → AreParts text reply
+        → Finds (λ (c : ScriptCall). IsLine c.caller c.call text) (Some c) → IsCallOf rules c.call
         → Finds (λ e. IsEntry rules number e line) (Some (record { line = c; reply = reply }))
     finds_entry c parts read known = record {
       found = record {

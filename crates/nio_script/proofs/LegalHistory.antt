@@ -1,5 +1,6 @@
 -- The history that is written for a script is a legal history of its calls.
-use Rattle.std.proofs.Common.{◌≡◌, ◌≢◌, ℕ, ◌+◌, ◌==◌, false, List, [], ◌∷◌, ◌++◌, refl, sym, ◌∙◌, ap, subst, append_assoc, inl, arith, All}
+use Rattle.std.proofs.Common.{◌≡◌, ◌≢◌, ℕ, ◌+◌, ◌==◌, false, List, [], ◌∷◌, ◌++◌, refl, sym, ◌∙◌, ap, subst}
+use Rattle.std.proofs.Common.{append_assoc, inl, arith, All}
 use Rattle.std.specs.Fmt.{decimal}
 use Rattle.std.specs.Int.{IsInRange}
 use Rattle.std.proofs.lemmas.Bool.{ne_eqb}
@@ -27,11 +28,14 @@ answered rules l st (c ∷ calls) =
     let done = seq rules l st c.caller c.call in
     record { line = c; reply = reply_text done.reply } ∷ answered rules l done.left calls
 
-calls_answered : (rules : Rules) (l : Limits) (st : ScriptState) (calls : List ScriptCall) → calls_of (answered rules l st calls) ≡ calls
+calls_answered : (rules : Rules) (l : Limits) (st : ScriptState) (calls : List ScriptCall)
+    → calls_of (answered rules l st calls) ≡ calls
 calls_answered rules l st [] = refl
-calls_answered rules l st (c ∷ calls) = ap (λ cs. c ∷ cs) (calls_answered rules l (seq rules l st c.caller c.call).left calls)
+calls_answered rules l st (c ∷ calls) =
+    ap (λ cs. c ∷ cs) (calls_answered rules l (seq rules l st c.caller c.call).left calls)
 
-legal_answered : (rules : Rules) (l : Limits) (st : ScriptState) (calls : List ScriptCall) → IsLegalFrom rules l st (answered rules l st calls)
+legal_answered : (rules : Rules) (l : Limits) (st : ScriptState) (calls : List ScriptCall)
+    → IsLegalFrom rules l st (answered rules l st calls)
 legal_answered rules l st [] = tt
 legal_answered rules l st (c ∷ calls) = (refl, legal_answered rules l (seq rules l st c.caller c.call).left calls)
 
@@ -42,25 +46,32 @@ number_in_line : (n : ℕ) → IsOneLine (decimal n)
 number_in_line n = All-weaker (IsInRange 48 57) (λ b. b ≢ 10) (λ b r. omega (arith, r)) (decimal n) (decimal_digits n)
 
 -- no newline stands within an entry whose reply has none
-entry_in_line : (n : ℕ) (e : Entry) → IsLine e.line.caller e.line.call (call_text e) → IsOneLine e.reply → IsOneLine (entry_text n e)
+entry_in_line : (n : ℕ) (e : Entry) → IsLine e.line.caller e.line.call (call_text e) → IsOneLine e.reply
+    → IsOneLine (entry_text n e)
 entry_in_line n e call reply =
     let so = λ (b : ℕ). b ≢ 10 in
-    let called : IsOneLine (call_text e) = All-weaker (λ b. (b ≢ 10) × (b ≢ 62)) (λ b. b ≢ 10) (λ b both. both.0) (call_text e) (line_plain call) in
+    let called : IsOneLine (call_text e) = All-weaker (λ b. (b ≢ 10) × (b ≢ 62)) (λ b. b ≢ 10) (λ b both. both.0)
+    (call_text e) (line_plain call) in
     let arrow : IsOneLine (32 ∷ 45 ∷ 62 ∷ 32 ∷ e.reply) =
-    All-cons so 32 (45 ∷ 62 ∷ 32 ∷ e.reply) (omega arith) (All-cons so 45 (62 ∷ 32 ∷ e.reply) (omega arith) (All-cons so 62 (32 ∷ e.reply) (omega arith) (All-cons so 32 e.reply (omega arith) reply))) in
+    All-cons so 32 (45 ∷ 62 ∷ 32 ∷ e.reply) (omega arith)
+    (All-cons so 45 (62 ∷ 32 ∷ e.reply) (omega arith)
+    (All-cons so 62 (32 ∷ e.reply) (omega arith) (All-cons so 32 e.reply (omega arith) reply))) in
     let behind : IsOneLine (call_text e ++ 32 ∷ 45 ∷ 62 ∷ 32 ∷ e.reply) = All-append so (call_text e) _ called arrow in
     subst IsOneLine (sym (entry_flat (decimal n) (call_text e) e.reply))
-    (All-append so (decimal n) _ (number_in_line n) (All-cons so 32 (call_text e ++ 32 ∷ 45 ∷ 62 ∷ 32 ∷ e.reply) (omega arith) behind))
+    (All-append so (decimal n) _ (number_in_line n)
+    (All-cons so 32 (call_text e ++ 32 ∷ 45 ∷ 62 ∷ 32 ∷ e.reply) (omega arith) behind))
 
 -- the first line of a history is its first entry
-first_line : (n : ℕ) (e : Entry) (rest : List ℕ) → IsOneLine (entry_text n e) → lines_of (entry_text n e ++ 10 ∷ rest) ≡ entry_text n e ∷ lines_of rest
+first_line : (n : ℕ) (e : Entry) (rest : List ℕ) → IsOneLine (entry_text n e)
+    → lines_of (entry_text n e ++ 10 ∷ rest) ≡ entry_text n e ∷ lines_of rest
 first_line n e rest plain =
     slice_split_at (λ b. b == 10) (entry_text n e) 10 rest
     (All-weaker (λ b. b ≢ 10) (λ b. (b == 10) ≡ false) (λ b ne. ne_eqb b 10 ne) (entry_text n e) plain)
     refl
 
 -- the lines that are written for a script's calls are their entries
-written : (rules : Rules) (l : Limits) (st : ScriptState) (n : ℕ) {lines : List (List ℕ)} (calls : List ScriptCall) → AreCalls lines calls
+written : (rules : Rules) (l : Limits) (st : ScriptState) (n : ℕ) {lines : List (List ℕ)} (calls : List ScriptCall)
+    → AreCalls lines calls
     → All (λ c. IsCallOf rules c.call) calls
     → AreEntries rules n (lines_of (answer_from rules l st n calls)) (answered rules l st calls)
 written rules l st n calls no_lines so = AreEntries.blank_line (inl refl) AreEntries.no_lines
@@ -72,11 +83,14 @@ written rules l st n calls (call_line {caller = caller} {c = c} {calls = more} i
     let rest = answer_from rules l done.left (n + 1) more in
     let e : Entry = record { line = line; reply = reply_text done.reply } in
     let call : IsLine caller c (line_text caller c) = subst (IsLine caller c) is.text is in
-    let cut = ap lines_of (append_assoc (entry_text n e) (10 ∷ []) rest) ∙ first_line n e rest (entry_in_line n e call (reply_plain done.reply)) in
+    let cut = ap lines_of (append_assoc (entry_text n e) (10 ∷ []) rest)
+    ∙ first_line n e rest (entry_in_line n e call (reply_plain done.reply)) in
     subst (λ lines. AreEntries rules n lines (e ∷ answered rules l done.left more)) (sym cut)
-    (AreEntries.entry_line (record { call = call; of_rules = All-head allowed line more so; text = refl }) (written rules l done.left (n + 1) more others (All-tail allowed line more so)))
+    (AreEntries.entry_line (record { call = call; of_rules = All-head allowed line more so; text = refl })
+    (written rules l done.left (n + 1) more others (All-tail allowed line more so)))
 
-pub history_is_legal : (rules : Rules) (l : Limits) (text : List ℕ) (calls : List ScriptCall) → IsScript text calls → All (λ c. IsCallOf rules c.call) calls → HasLegalHistory rules l calls
+pub history_is_legal : (rules : Rules) (l : Limits) (text : List ℕ) (calls : List ScriptCall) → IsScript text calls
+    → All (λ c. IsCallOf rules c.call) calls → HasLegalHistory rules l calls
 history_is_legal rules l text calls script so = record {
   entries = answered rules l script_opening calls;
   history = written rules l script_opening 1 calls script so;

@@ -1,5 +1,6 @@
 -- Lists that are gone over from the front, and the lines of a text among them.
-use Rattle.std.proofs.Common.{◌≡◌, ℕ, ◌+◌, ◌<◌, List, ◌∷◌, [], ◌++◌, length, drop, take, get_or, refl, sym, ◌∙◌, ap, subst, append-nil, arith, add-one, drop-cons}
+use Rattle.std.proofs.Common.{◌≡◌, ℕ, ◌+◌, ◌<◌, List, ◌∷◌, [], ◌++◌, length, drop, take, get_or, refl, sym, ◌∙◌, ap}
+use Rattle.std.proofs.Common.{subst, append-nil, arith, add-one, drop-cons}
 use Rattle.std.specs.Prelude.{map}
 use Rattle.std.specs.Borrow.{Bor}
 use Rattle.std.proofs.Math.ListN.{get_or-map}
@@ -19,7 +20,8 @@ module _ {A : Type 0} {xs : List A} {i : ℕ} {x : A} (next : IsNext xs i x) whe
   take_one_more = rw (add-one, take-suc xs i x next.within, next.at) refl
 
   pub parts : xs ≡ take i xs ++ x ∷ drop (i + 1) xs
-  parts = sym (take-append-drop i xs) ∙ ap (λ ys. take i xs ++ ys) (rw (drop-cons xs i x next.within, next.at, add-one) refl)
+  parts = sym (take-append-drop i xs)
+      ∙ ap (λ ys. take i xs ++ ys) (rw (drop-cons xs i x next.within, next.at, add-one) refl)
 
   pub number_of_next : length (take i xs) + 1 ≡ i + 1
   number_of_next = ap (λ n. n + 1) (length-take-le i xs (omega (arith, next.within)))
@@ -35,9 +37,11 @@ next_now items i d within = record {
 }
 
 -- what is read of the first i lines, and of the next
-pub reads_more : {A : Type 0} (Are : List (List ℕ) → List A → Type 0) {AreSo : List A → Type 0} {lines : List (List ℕ)} {i : ℕ} {line : List ℕ} {before after : List A}
+pub reads_more : {A : Type 0} (Are : List (List ℕ) → List A → Type 0) {AreSo : List A → Type 0} {lines : List (List ℕ)}
+    {i : ℕ} {line : List ℕ} {before after : List A}
     → IsNext lines i line → Adds AreSo before after
-    → ((added : List A) → AreSo added → Are (take i lines ++ line ∷ []) (before ++ added)) → Are (take (i + 1) lines) after
+    → ((added : List A) → AreSo added → Are (take i lines ++ line ∷ []) (before ++ added))
+    → Are (take (i + 1) lines) after
 reads_more Are {lines = lines} {i = i} {before = before} next adds append =
     subst (Are (take (i + 1) lines)) (sym adds.adds)
     (subst (λ ls. Are ls (before ++ adds.added)) (sym (take_one_more next)) (append adds.added adds.so))

@@ -15,13 +15,15 @@ pub record HasRead {S : Type 0} (s : source.Ghosts S) (old now : S) (input : Lis
   pub taken : s.left old ≡ prepend_known input (s.left now)
   pub still : s.faults now ≡ s.faults old
 
-module _ {S : Type 0} (s : source.Ghosts S) (old mid now : S) (input piece : List ℕ) (before : HasRead s old mid input) (read : s.left mid ≡ prepend_known piece (s.left now)) where
+module _ {S : Type 0} (s : source.Ghosts S) (old mid now : S) (input piece : List ℕ) (before : HasRead s old mid input)
+    (read : s.left mid ≡ prepend_known piece (s.left now)) where
   -- one more read
   pub taken_more : s.left old ≡ prepend_known (input ++ piece) (s.left now)
   taken_more = before.taken ∙ ap (prepend_known input) read ∙ sym (prepend_known-append input piece (s.left now))
 
   -- a read that fits
-  pub has_read_more : length piece ≤ LONGEST_INPUT - length input → s.faults now ≡ s.faults mid → HasRead s old now (input ++ piece)
+  pub has_read_more : length piece ≤ LONGEST_INPUT - length input → s.faults now ≡ s.faults mid
+      → HasRead s old now (input ++ piece)
   has_read_more fits still = record {
     fits = omega (arith, length-append input piece, before.fits);
     taken = taken_more;
@@ -38,7 +40,8 @@ module _ {S : Type 0} (s : source.Ghosts S) (old mid now : S) (input piece : Lis
   }
 
   -- a read that takes the one byte too many
-  pub stops_past : (P : Type 0) → P → length piece ≤ LONGEST_INPUT + 1 - length input → LONGEST_INPUT - length input < length piece → StopsPastLongest s old now P
+  pub stops_past : (P : Type 0) → P → length piece ≤ LONGEST_INPUT + 1 - length input
+      → LONGEST_INPUT - length input < length piece → StopsPastLongest s old now P
   stops_past P long most past = record {
     count = length (input ++ piece);
     taken = record { bytes = input ++ piece; taken = taken_more; counted = refl };

@@ -13,17 +13,21 @@ use Rattle.nio_script.proofs.Writing.{writes_both, writes_prefix_after}
 
 -- Some calls were made, and the rest of them are left. What was written, what is kept back and the
 -- answer to the rest are the whole answer.
-pub record IsRunning {K Y : Type 0} (k : sink.Ghosts K) (y : system.Ghosts Y) (output output' : K) (run run' : Y) (kept : List ℕ) (number : ℕ) (rest calls : List ScriptCall) : Type 0 where
+pub record IsRunning {K Y : Type 0} (k : sink.Ghosts K) (y : system.Ghosts Y) (output output' : K) (run run' : Y)
+    (kept : List ℕ) (number : ℕ) (rest calls : List ScriptCall) : Type 0 where
   pub bytes : List ℕ
   pub written : Writes k output output' bytes
-  pub answer : bytes ++ (kept ++ answer_from (y.rules run) (y.limits run) (y.state run') number rest) ≡ answer_from (y.rules run) (y.limits run) (y.state run) 1 calls
-  pub left : left_from (y.rules run) (y.limits run) (y.state run') rest ≡ left_from (y.rules run) (y.limits run) (y.state run) calls
+  pub answer : bytes ++ (kept ++ answer_from (y.rules run) (y.limits run) (y.state run') number rest)
+      ≡ answer_from (y.rules run) (y.limits run) (y.state run) 1 calls
+  pub left : left_from (y.rules run) (y.limits run) (y.state run') rest ≡ left_from (y.rules run) (y.limits run)
+      (y.state run) calls
   pub still : k.faults output' ≡ k.faults output
   pub kept_on : y.kept run run'
   pub rules : y.rules run' ≡ y.rules run
   pub limits : y.limits run' ≡ y.limits run
 
-module _ {K Y : Type 0} (k : sink.Ghosts K) (y : system.Ghosts Y) (output mid now : K) (run before : Y) (kept : List ℕ) (number : ℕ) (call : ScriptCall) (rest calls : List ScriptCall)
+module _ {K Y : Type 0} (k : sink.Ghosts K) (y : system.Ghosts Y) (output mid now : K) (run before : Y) (kept : List ℕ)
+    (number : ℕ) (call : ScriptCall) (rest calls : List ScriptCall)
     (running : IsRunning k y output mid run before kept number (call ∷ rest) calls) where
   -- the line of the next call
   abbrev pub next_line : List ℕ
@@ -34,19 +38,31 @@ module _ {K Y : Type 0} (k : sink.Ghosts K) (y : system.Ghosts Y) (output mid no
   next_state = left_by_call (y.rules before) (y.limits before) (y.state before) call
 
   -- what was written, what is kept back, the next line, and the answer to the calls after it
-  pub answer_on : running.bytes ++ ((kept ++ next_line) ++ answer_from (y.rules run) (y.limits run) next_state (number + 1) rest) ≡ answer_from (y.rules run) (y.limits run) (y.state run) 1 calls
+  pub answer_on : running.bytes
+      ++ ((kept ++ next_line) ++ answer_from (y.rules run) (y.limits run) next_state (number + 1) rest)
+      ≡ answer_from (y.rules run) (y.limits run) (y.state run) 1 calls
   answer_on =
       let by = λ (rules : Rules) (l : Limits).
-      running.bytes ++ (kept ++ (line_for rules l (y.state before) number call ++ answer_from (y.rules run) (y.limits run) (left_by_call rules l (y.state before) call) (number + 1) rest)) in
-      ap (λ xs. running.bytes ++ xs) (append_assoc kept next_line (answer_from (y.rules run) (y.limits run) next_state (number + 1) rest)) ∙ ap (λ rules. by rules (y.limits before)) running.rules ∙ ap (by (y.rules run)) running.limits ∙ running.answer
+      running.bytes
+      ++ (kept ++ (line_for rules l (y.state before) number call ++ answer_from (y.rules run) (y.limits run)
+      (left_by_call rules l (y.state before) call) (number + 1) rest)) in
+      ap (λ xs. running.bytes ++ xs)
+      (append_assoc kept next_line (answer_from (y.rules run) (y.limits run) next_state (number + 1) rest))
+      ∙ ap (λ rules. by rules (y.limits before)) running.rules ∙ ap (by (y.rules run)) running.limits
+      ∙ running.answer
 
   -- the next call fails
-  pub stops : WritesPrefix k mid now (kept ++ next_line) → WritesPrefix k output now (answer_from (y.rules run) (y.limits run) (y.state run) 1 calls)
-  stops some = subst (WritesPrefix k output now) answer_on (writes_prefix_after k output mid now running.bytes (kept ++ next_line) _ running.written some)
+  pub stops : WritesPrefix k mid now (kept ++ next_line)
+      → WritesPrefix k output now (answer_from (y.rules run) (y.limits run) (y.state run) 1 calls)
+  stops some =
+      subst (WritesPrefix k output now) answer_on
+      (writes_prefix_after k output mid now running.bytes (kept ++ next_line) _ running.written some)
 
   -- the next call is answered
-  pub goes_on : (after : Y) (kept' : List ℕ) → Gathers k mid now kept kept' next_line → y.state after ≡ next_state → k.faults now ≡ k.faults mid
-      → y.kept run after → y.rules after ≡ y.rules before → y.limits after ≡ y.limits before → IsRunning k y output now run after kept' (number + 1) rest calls
+  pub goes_on : (after : Y) (kept' : List ℕ) → Gathers k mid now kept kept' next_line → y.state after ≡ next_state
+      → k.faults now ≡ k.faults mid
+      → y.kept run after → y.rules after ≡ y.rules before → y.limits after ≡ y.limits before
+      → IsRunning k y output now run after kept' (number + 1) rest calls
   goes_on after kept' gathers left still kept_on rules limits = record {
     bytes = running.bytes ++ gathers.bytes;
     written = writes_both k output mid now running.bytes gathers.bytes running.written gathers.written;
@@ -55,12 +71,15 @@ module _ {K Y : Type 0} (k : sink.Ghosts K) (y : system.Ghosts Y) (output mid no
         append_assoc running.bytes gathers.bytes (kept' ++ after_all)
         ∙ ap (λ xs. running.bytes ++ xs) (sym (append_assoc gathers.bytes kept' after_all))
         ∙ ap (λ xs. running.bytes ++ (xs ++ after_all)) gathers.rest
-        ∙ ap (λ st. running.bytes ++ ((kept ++ next_line) ++ answer_from (y.rules run) (y.limits run) st (number + 1) rest)) left
+        ∙ ap (λ st. running.bytes
+        ++ ((kept ++ next_line) ++ answer_from (y.rules run) (y.limits run) st (number + 1) rest)) left
         ∙ answer_on;
     left =
         ap (λ st. left_from (y.rules run) (y.limits run) st rest) left
-        ∙ ap (λ r. left_from (y.rules run) (y.limits run) (left_by_call r (y.limits before) (y.state before) call) rest) running.rules
-        ∙ ap (λ l. left_from (y.rules run) (y.limits run) (left_by_call (y.rules run) l (y.state before) call) rest) running.limits
+        ∙ ap (λ r. left_from (y.rules run) (y.limits run) (left_by_call r (y.limits before) (y.state before) call) rest)
+        running.rules
+        ∙ ap (λ l. left_from (y.rules run) (y.limits run) (left_by_call (y.rules run) l (y.state before) call) rest)
+        running.limits
         ∙ running.left;
     still = still ∙ running.still;
     kept_on = kept_on;

@@ -15,7 +15,8 @@ use Rattle.nio_plain.specs.declared.system.System as system
 use Rattle.nio_script.specs.Input.{IsReadWhole}
 use Rattle.nio_script.specs.Output.{IsWritten, Notes, WritesPrefix}
 use Rattle.nio_script.specs.declared.status.Status.{Status}
-use Rattle.nio_script.specs.declared.status.Status.TheVariants.{Done, Usage, BadScript, ReadFault, WriteFault, Memory, NetFault, Illegal, TooLong}
+use Rattle.nio_script.specs.declared.status.Status.TheVariants.{Done, Usage, BadScript, ReadFault, WriteFault, Memory}
+use Rattle.nio_script.specs.declared.status.Status.TheVariants.{NetFault, Illegal, TooLong}
 
 -- the line of the history for a call in this state, by these rules
 abbrev pub line_for : Rules → Limits → ScriptState → ℕ → ScriptCall → List ℕ

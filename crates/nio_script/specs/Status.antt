@@ -1,7 +1,8 @@
 -- The exit statuses.
 use Rattle.std.specs.Prelude.{ℕ}
 use Rattle.nio_script.specs.declared.status.Status.{Status}
-use Rattle.nio_script.specs.declared.status.Status.TheVariants.{Done, Usage, BadScript, ReadFault, WriteFault, Memory, NetFault, Illegal, TooLong}
+use Rattle.nio_script.specs.declared.status.Status.TheVariants.{Done, Usage, BadScript, ReadFault, WriteFault, Memory}
+use Rattle.nio_script.specs.declared.status.Status.TheVariants.{NetFault, Illegal, TooLong}
 
 -- the exit status of the process
 abbrev pub code_of : Status → ℕ

@@ -1,5 +1,7 @@
 -- Each call that doesn't wait, made between two calls: what it leaves.
-use Rattle.std.proofs.Common.{◌≡◌, ℕ, zero, suc, ◌==◌, nat_lt, Bool, true, false, not, ◌&&◌, cond, if◌then◌else◌, Option, Some, None, option_map, Result, Ok, Err, List, [], ◌∷◌, ◌++◌, map, refl, ap, sym, ◌∙◌, subst, arith}
+use Rattle.std.proofs.Common.{◌≡◌, ℕ, zero, suc, ◌==◌, nat_lt, Bool, true, false, not, ◌&&◌, cond, if◌then◌else◌}
+use Rattle.std.proofs.Common.{Option, Some, None, option_map, Result, Ok, Err, List, [], ◌∷◌, ◌++◌, map, refl, ap, sym}
+use Rattle.std.proofs.Common.{◌∙◌, subst, arith}
 use Rattle.std.specs.Prelude.{is_some, IsTrue}
 use Rattle.std.proofs.lemmas.Bool.{both_ways, lt-ltb, cond-true}
 use Rattle.nio_base.specs.Limits.{IsFit}
@@ -23,7 +25,12 @@ use Rattle.nio_event.specs.declared.event.Event.{Event}
 use Rattle.nio_event.specs.declared.found.Mode.{Mode}
 use Rattle.nio_event.specs.declared.reply.Reply.{Reply}
 use Rattle.nio_event.specs.declared.reply.Reply.TheVariants as reply
-use Rattle.nio_orderly.specs.Made.{Made, IsRun, Ongoing, after_call, MayCome, draw, find_selector, find_channel, find, is_valid, interest, set_interest, interest_or, interest_and, ready, cancel, unselect, attach, attachment, open_channel, is_open, is_blocking, is_registered, key_for, try_set_blocking, try_register, close_channel, open_selector, try_begin, told, leave, shut, try_finish, keys, selected_keys, wakeup, interrupt, interrupted, pipe, try_read, try_write, set_blocking, register, select, close, read, write}
+use Rattle.nio_orderly.specs.Made.{Made, IsRun, Ongoing, after_call, MayCome, draw, find_selector, find_channel, find}
+use Rattle.nio_orderly.specs.Made.{is_valid, interest, set_interest, interest_or, interest_and, ready, cancel, unselect}
+use Rattle.nio_orderly.specs.Made.{attach, attachment, open_channel, is_open, is_blocking, is_registered, key_for}
+use Rattle.nio_orderly.specs.Made.{try_set_blocking, try_register, close_channel, open_selector, try_begin, told, leave}
+use Rattle.nio_orderly.specs.Made.{shut, try_finish, keys, selected_keys, wakeup, interrupt, interrupted, pipe}
+use Rattle.nio_orderly.specs.Made.{try_read, try_write, set_blocking, register, select, close, read, write}
 use Rattle.nio_orderly.specs.Waited.{waits}
 use Rattle.nio_plain.proofs.Naming.{selector-through}
 use Rattle.nio_plain.specs.ScriptState.{ScriptState}
@@ -38,25 +45,36 @@ use Rattle.nio_serial.proofs.Lines.{selector-found, channel-found, key-found}
 use Rattle.nio_serial.specs.Between.{IsBetween}
 use Rattle.nio_serial.specs.Documented.{Progress, Selecting, documented, shown}
 use Rattle.nio_serial.specs.Laws.{IsMadeSelector, IsNamed, Amounts, by_key}
-use Rattle.nio_serial.specs.Lines.{Said, makes, asks, refused, begin_line, failed_line, close_end_line, call_plan, own_selection, after_begin, after_told, after_shut, after_finish, with_selection}
+use Rattle.nio_serial.specs.Lines.{Said, makes, asks, refused, begin_line, failed_line, close_end_line, call_plan}
+use Rattle.nio_serial.specs.Lines.{own_selection, after_begin, after_told, after_shut, after_finish, with_selection}
 use Rattle.nio_serial.specs.PipeLines.{own_sink, with_mark}
-use Rattle.nio_serial.specs.Replies.{key_id, find_reply, set_reply, put_reply, channel_reply, mode_reply, register_reply, closed_reply, selector_reply, begin_reply, told_reply, shut_reply, finish_reply, list_reply}
+use Rattle.nio_serial.specs.Replies.{key_id, find_reply, set_reply, put_reply, channel_reply, mode_reply}
+use Rattle.nio_serial.specs.Replies.{register_reply, closed_reply, selector_reply, begin_reply, told_reply, shut_reply}
+use Rattle.nio_serial.specs.Replies.{finish_reply, list_reply}
 use Rattle.nio_steps.proofs.EachLaws.{each_run, split}
 use Rattle.nio_steps.proofs.PerformLaws.{perform_ran}
 use Rattle.nio_steps.proofs.RunLaws.{follows_bind}
 use Rattle.nio_steps.proofs.SelectionLaws.{NoMark, Replies, after-replies}
-use Rattle.nio_steps.specs.KeyCalls.{find_selector_plan, find_channel_plan, find_plan, is_valid_plan, interest_plan, set_interest_plan, interest_or_plan, interest_and_plan, ready_plan, cancel_plan, unselect_plan, attach_plan, attachment_plan}
-use Rattle.nio_steps.specs.ChannelCalls.{open_channel_plan, is_open_plan, is_blocking_plan, is_registered_plan, key_for_plan, try_set_blocking_plan, try_register_plan, close_channel_plan}
+use Rattle.nio_steps.specs.KeyCalls.{find_selector_plan, find_channel_plan, find_plan, is_valid_plan, interest_plan}
+use Rattle.nio_steps.specs.KeyCalls.{set_interest_plan, interest_or_plan, interest_and_plan, ready_plan, cancel_plan}
+use Rattle.nio_steps.specs.KeyCalls.{unselect_plan, attach_plan, attachment_plan}
+use Rattle.nio_steps.specs.ChannelCalls.{open_channel_plan, is_open_plan, is_blocking_plan, is_registered_plan}
+use Rattle.nio_steps.specs.ChannelCalls.{key_for_plan, try_set_blocking_plan, try_register_plan, close_channel_plan}
 use Rattle.nio_steps.specs.Perform.{perform}
 use Rattle.nio_steps.specs.Plan.{Plan}
 use Rattle.nio_steps.specs.Runs.{Completes}
-use Rattle.nio_steps.specs.SelectCalls.{Selection, open_selector_plan, wakeup_plan, interrupt_plan, interrupted_plan, try_begin_plan, told_plan, mark_entry, after_marks, Poll, ToldReply, done, again, leave_plan, shut_plan, ShutReply, closing, already_closed, try_finish_plan, FinishReply, closed, busy, keys_plan, selected_keys_plan}
+use Rattle.nio_steps.specs.SelectCalls.{Selection, open_selector_plan, wakeup_plan, interrupt_plan, interrupted_plan}
+use Rattle.nio_steps.specs.SelectCalls.{try_begin_plan, told_plan, mark_entry, after_marks, Poll, ToldReply, done}
+use Rattle.nio_steps.specs.SelectCalls.{again, leave_plan, shut_plan, ShutReply, closing, already_closed}
+use Rattle.nio_steps.specs.SelectCalls.{try_finish_plan, FinishReply, closed, busy, keys_plan, selected_keys_plan}
 use Rattle.nio_steps.specs.Sweeps.{sweep_over}
 use Rattle.nio_steps.specs.declared.refusal.BeginError.{BeginError}
 use Rattle.nio_steps.specs.declared.refusal.ListError.{ListError}
 use Rattle.nio_sequence.proofs.Pipes.{unmarked}
-use Rattle.nio_sequence.proofs.Progress.{put_selection, put_closing, put_same, own-is, own_of_caller, closing_of_caller, others_begun, others_ended, others_shut, others_closed}
-use Rattle.nio_sequence.specs.Called.{Scripted, as_call, unseen, unscripted, waiting_of, script_call, lacks_memory, HasTime, HasNames}
+use Rattle.nio_sequence.proofs.Progress.{put_selection, put_closing, put_same, own-is, own_of_caller, closing_of_caller}
+use Rattle.nio_sequence.proofs.Progress.{others_begun, others_ended, others_shut, others_closed}
+use Rattle.nio_sequence.specs.Called.{Scripted, as_call, unseen, unscripted, waiting_of, script_call, lacks_memory}
+use Rattle.nio_sequence.specs.Called.{HasTime, HasNames}
 use Rattle.nio_sequence.specs.Laws.{is_of_script}
 use Rattle.nio_sequence.specs.Left.{after_made, IsOngoing}
 

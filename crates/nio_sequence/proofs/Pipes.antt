@@ -1,5 +1,6 @@
 -- Calls on pipes, made between two calls: what they leave.
-use Rattle.std.proofs.Common.{◌≡◌, ℕ, Bool, true, false, Option, Some, None, Result, Ok, Err, List, [], position, refl, ap, sym, ◌∙◌, subst}
+use Rattle.std.proofs.Common.{◌≡◌, ℕ, Bool, true, false, Option, Some, None, Result, Ok, Err, List, [], position, refl}
+use Rattle.std.proofs.Common.{ap, sym, ◌∙◌, subst}
 use Rattle.nio_base.specs.Limits.{IsFit}
 use Rattle.nio_base.specs.declared.kind.Kind.{Kind}
 use Rattle.nio_base.specs.declared.kind.Kind.TheVariants.{Source, Sink}
@@ -29,7 +30,8 @@ use Rattle.nio_serial.specs.Replies.{channel_reply, closed_reply}
 use Rattle.nio_steps.proofs.PerformLaws.{perform-bind}
 use Rattle.nio_steps.specs.ChannelCalls.{open_channel_plan, close_channel_plan}
 use Rattle.nio_steps.specs.Perform.{Performed, perform}
-use Rattle.nio_steps.specs.PipeCalls.{PipeEnds, without_sink, with_sink, with_source, pipe_plan, if_interrupted, if_open, try_read_plan, if_unbroken, try_write_plan}
+use Rattle.nio_steps.specs.PipeCalls.{PipeEnds, without_sink, with_sink, with_source, pipe_plan, if_interrupted}
+use Rattle.nio_steps.specs.PipeCalls.{if_open, try_read_plan, if_unbroken, try_write_plan}
 use Rattle.nio_steps.specs.Plan.{Plan}
 use Rattle.nio_steps.specs.declared.refusal.ChannelError.{ChannelError}
 use Rattle.nio_steps.specs.declared.refusal.PipeError.{PipeError}

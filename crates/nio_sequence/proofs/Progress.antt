@@ -1,16 +1,23 @@
 -- What callers have in progress, where a progress shows it: what a call puts in progress, for its caller and for
 -- others.
-use Rattle.std.proofs.Common.{◌≡◌, ℕ, ◌==◌, Bool, true, false, if◌then◌else◌, Option, Some, None, Ok, Err, List, [], ◌∷◌, refl, ap, sym, ◌∙◌, eqb-true, eq-eqb}
+use Rattle.std.proofs.Common.{◌≡◌, ℕ, ◌==◌, Bool, true, false, if◌then◌else◌, Option, Some, None, Ok, Err, List, []}
+use Rattle.std.proofs.Common.{◌∷◌, refl, ap, sym, ◌∙◌, eqb-true, eq-eqb}
 use Rattle.nio_base.specs.declared.numbers.CallerNo.{CallerNo}
 use Rattle.nio_event.proofs.Put.{put_keeps, put_both}
 use Rattle.nio_event.specs.State.{put}
-use Rattle.nio_orderly.specs.Made.{Made, Ongoing, draw, find_selector, find_channel, find, is_valid, interest, set_interest, interest_or, interest_and, ready, cancel, unselect, attach, attachment, open_channel, is_open, is_blocking, is_registered, key_for, try_set_blocking, try_register, close_channel, open_selector, try_begin, told, leave, shut, try_finish, keys, selected_keys, wakeup, interrupt, interrupted, pipe, try_read, try_write, set_blocking, register, select, close, read, write}
+use Rattle.nio_orderly.specs.Made.{Made, Ongoing, draw, find_selector, find_channel, find, is_valid, interest}
+use Rattle.nio_orderly.specs.Made.{set_interest, interest_or, interest_and, ready, cancel, unselect, attach, attachment}
+use Rattle.nio_orderly.specs.Made.{open_channel, is_open, is_blocking, is_registered, key_for, try_set_blocking}
+use Rattle.nio_orderly.specs.Made.{try_register, close_channel, open_selector, try_begin, told, leave, shut, try_finish}
+use Rattle.nio_orderly.specs.Made.{keys, selected_keys, wakeup, interrupt, interrupted, pipe, try_read, try_write}
+use Rattle.nio_orderly.specs.Made.{set_blocking, register, select, close, read, write}
 use Rattle.nio_orderly.specs.Orderly.{MadeBy}
 use Rattle.nio_plain.specs.Seq.Selections.{is_caller}
 use Rattle.nio_serial.specs.Documented.{Progress, Selecting}
 use Rattle.nio_serial.specs.Lines.{if_own, own_selection}
 use Rattle.nio_steps.specs.Names.{selector}
-use Rattle.nio_steps.specs.SelectCalls.{Selection, done, again, closing, already_closed, closed, busy, selected, not_begun, left}
+use Rattle.nio_steps.specs.SelectCalls.{Selection, done, again, closing, already_closed, closed, busy, selected}
+use Rattle.nio_steps.specs.SelectCalls.{not_begun, left}
 use Rattle.nio_sequence.specs.Left.{after_made, in_progress, IsOngoing}
 
 -- ---- pipes of a script

@@ -1,5 +1,6 @@
 -- What serial histories leave: call by call, from the opening state on.
-use Rattle.std.proofs.Common.{◌≡◌, ℕ, ◌==◌, Bool, true, false, not, ◌&&◌, IsTrue, if◌then◌else◌, List, [], ◌∷◌, ◌++◌, map, refl, ap, sym, ◌∙◌, subst, append_assoc, eqb-true, eq-eqb}
+use Rattle.std.proofs.Common.{◌≡◌, ℕ, ◌==◌, Bool, true, false, not, ◌&&◌, IsTrue, if◌then◌else◌, List, [], ◌∷◌, ◌++◌}
+use Rattle.std.proofs.Common.{map, refl, ap, sym, ◌∙◌, subst, append_assoc, eqb-true, eq-eqb}
 use Rattle.std.proofs.lemmas.List.{append-nil}
 use Rattle.std.proofs.lemmas.List.Elements.{All-head, All-tail}
 use Rattle.nio_base.specs.Limits.{IsFit}
@@ -13,7 +14,13 @@ use Rattle.nio_event.specs.declared.call.ScriptCall.{ScriptCall}
 use Rattle.nio_event.specs.declared.event.Event.{Event}
 use Rattle.nio_event.specs.declared.reply.Reply.{Reply}
 use Rattle.nio_orderly.proofs.CallLists.{calls-by, calls-append, serial_call_more}
-use Rattle.nio_orderly.specs.Made.{Made, IsRun, Ongoing, nothing_ongoing, after_call, after_calls, MayCome, AreInOrder, draw, find_selector, find_channel, find, is_valid, interest, set_interest, interest_or, interest_and, ready, cancel, unselect, attach, attachment, open_channel, is_open, is_blocking, is_registered, key_for, try_set_blocking, try_register, close_channel, open_selector, try_begin, told, leave, shut, try_finish, keys, selected_keys, wakeup, interrupt, interrupted, pipe, try_read, try_write, set_blocking, register, select, close, read, write}
+use Rattle.nio_orderly.specs.Made.{Made, IsRun, Ongoing, nothing_ongoing, after_call, after_calls, MayCome, AreInOrder}
+use Rattle.nio_orderly.specs.Made.{draw, find_selector, find_channel, find, is_valid, interest, set_interest}
+use Rattle.nio_orderly.specs.Made.{interest_or, interest_and, ready, cancel, unselect, attach, attachment, open_channel}
+use Rattle.nio_orderly.specs.Made.{is_open, is_blocking, is_registered, key_for, try_set_blocking, try_register}
+use Rattle.nio_orderly.specs.Made.{close_channel, open_selector, try_begin, told, leave, shut, try_finish, keys}
+use Rattle.nio_orderly.specs.Made.{selected_keys, wakeup, interrupt, interrupted, pipe, try_read, try_write}
+use Rattle.nio_orderly.specs.Made.{set_blocking, register, select, close, read, write}
 use Rattle.nio_orderly.specs.Orderly.{MadeBy, IsRunBy, AreRunsBy, calls_of}
 use Rattle.nio_plain.specs.Answer.{left_from}
 use Rattle.nio_plain.specs.ScriptState.{ScriptState}
@@ -27,9 +34,12 @@ use Rattle.nio_serial.specs.Documented.{Progress, nothing_yet, documented}
 use Rattle.nio_serial.specs.Serial.{replies_from}
 use Rattle.nio_sequence.proofs.Calls.{after, IsScripted, Ends, ends}
 use Rattle.nio_sequence.proofs.Progress.{pipes-after, pipes-in_progress}
-use Rattle.nio_sequence.proofs.Waiting.{blocking-ends, register-ends, select-ends, close-ends, read-ends, write-ends, pipe-ends, try_read-ends, try_write-ends}
-use Rattle.nio_sequence.specs.Called.{Scripted, as_call, unseen, unscripted, script_call, lacks_memory, HasNames, IsNamedCall}
-use Rattle.nio_sequence.specs.Laws.{is_of_script, AreOfScript, line_of, reply_of, script_of, replies_of, SequencesStand, NextCallIsDocumented, SequencesGrow, NothingIsSequence, SequencesAreScripts}
+use Rattle.nio_sequence.proofs.Waiting.{blocking-ends, register-ends, select-ends, close-ends, read-ends, write-ends}
+use Rattle.nio_sequence.proofs.Waiting.{pipe-ends, try_read-ends, try_write-ends}
+use Rattle.nio_sequence.specs.Called.{Scripted, as_call, unseen, unscripted, script_call, lacks_memory, HasNames}
+use Rattle.nio_sequence.specs.Called.{IsNamedCall}
+use Rattle.nio_sequence.specs.Laws.{is_of_script, AreOfScript, line_of, reply_of, script_of, replies_of, SequencesStand}
+use Rattle.nio_sequence.specs.Laws.{NextCallIsDocumented, SequencesGrow, NothingIsSequence, SequencesAreScripts}
 use Rattle.nio_sequence.specs.Left.{after_made, in_progress, IsOngoing, AreNamed, AreNoted, IsSequence, IsLeftBy}
 
 -- ---- every call

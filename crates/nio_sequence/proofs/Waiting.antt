@@ -1,5 +1,6 @@
 -- Calls that wait, and calls on pipes, made between two calls: what they leave.
-use Rattle.std.proofs.Common.{◌≡◌, ℕ, Bool, true, false, Some, None, Result, Ok, Err, List, [], ◌∷◌, ◌++◌, map, refl, ap, sym, ◌∙◌, subst, append_assoc}
+use Rattle.std.proofs.Common.{◌≡◌, ℕ, Bool, true, false, Some, None, Result, Ok, Err, List, [], ◌∷◌, ◌++◌, map, refl}
+use Rattle.std.proofs.Common.{ap, sym, ◌∙◌, subst, append_assoc}
 use Rattle.std.specs.List.{All}
 use Rattle.std.proofs.lemmas.List.{append-nil, map-append}
 use Rattle.std.proofs.lemmas.List.Elements.{All-head, All-tail}
@@ -18,7 +19,9 @@ use Rattle.nio_event.specs.State.{put}
 use Rattle.nio_event.specs.declared.act.Act.{Act}
 use Rattle.nio_event.specs.declared.event.Event.{Event}
 use Rattle.nio_event.specs.declared.found.Mode.{Mode}
-use Rattle.nio_orderly.specs.Made.{IsRun, Ongoing, selecting, closes_on, try_set_blocking, try_register, try_begin, told, leave, shut, try_finish, pipe, try_read, try_write, set_blocking, register, select, close, read, write}
+use Rattle.nio_orderly.specs.Made.{IsRun, Ongoing, selecting, closes_on, try_set_blocking, try_register, try_begin}
+use Rattle.nio_orderly.specs.Made.{told, leave, shut, try_finish, pipe, try_read, try_write, set_blocking, register}
+use Rattle.nio_orderly.specs.Made.{select, close, read, write}
 use Rattle.nio_serial.proofs.Base.{put-twice}
 use Rattle.nio_serial.specs.Between.{IsBetween}
 use Rattle.nio_serial.specs.Documented.{Progress}
@@ -30,7 +33,10 @@ use Rattle.nio_steps.specs.Perform.{Performed, perform}
 use Rattle.nio_steps.specs.PipeCalls.{PipeEnds, pipe_plan, pipe_lacks_memory, try_read_plan, try_write_plan}
 use Rattle.nio_steps.specs.Plan.{Plan}
 use Rattle.nio_steps.specs.Runs.{Completes}
-use Rattle.nio_steps.specs.SelectCalls.{Selection, Begins, begin_finds_busy, Poll, Tells, goes_on_after, ToldReply, done, again, SelectReply, selected, not_begun, left, SelectsRest, TellsAll, TellsAndLeaves, ShutReply, closing, already_closed, FinishReply, closed, busy, finish_finds_busy, ClosesRest, shut_plan, try_finish_plan}
+use Rattle.nio_steps.specs.SelectCalls.{Selection, Begins, begin_finds_busy, Poll, Tells, goes_on_after, ToldReply}
+use Rattle.nio_steps.specs.SelectCalls.{done, again, SelectReply, selected, not_begun, left, SelectsRest, TellsAll}
+use Rattle.nio_steps.specs.SelectCalls.{TellsAndLeaves, ShutReply, closing, already_closed, FinishReply, closed, busy}
+use Rattle.nio_steps.specs.SelectCalls.{finish_finds_busy, ClosesRest, shut_plan, try_finish_plan}
 use Rattle.nio_steps.specs.Waiting.{Run, acts_of, Tries, Repeats, Retries}
 use Rattle.nio_steps.specs.declared.refusal.BeginError.{BeginError}
 use Rattle.nio_steps.specs.declared.refusal.ChannelError.{ChannelError}

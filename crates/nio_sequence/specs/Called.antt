@@ -11,11 +11,18 @@ use Rattle.nio_event.specs.declared.call.Waiting.TheVariants as waiting
 use Rattle.nio_event.specs.declared.found.Mode.{Mode}
 use Rattle.nio_event.specs.declared.reply.Reply.{Reply}
 use Rattle.nio_event.specs.declared.reply.Reply.TheVariants as reply
-use Rattle.nio_orderly.specs.Made.{Made, draw, find_selector, find_channel, find, is_valid, interest, set_interest, interest_or, interest_and, ready, cancel, unselect, attach, attachment, open_channel, is_open, is_blocking, is_registered, key_for, try_set_blocking, try_register, close_channel, open_selector, try_begin, told, leave, shut, try_finish, keys, selected_keys, wakeup, interrupt, interrupted, pipe, try_read, try_write, set_blocking, register, select, close, read, write}
+use Rattle.nio_orderly.specs.Made.{Made, draw, find_selector, find_channel, find, is_valid, interest, set_interest}
+use Rattle.nio_orderly.specs.Made.{interest_or, interest_and, ready, cancel, unselect, attach, attachment, open_channel}
+use Rattle.nio_orderly.specs.Made.{is_open, is_blocking, is_registered, key_for, try_set_blocking, try_register}
+use Rattle.nio_orderly.specs.Made.{close_channel, open_selector, try_begin, told, leave, shut, try_finish, keys}
+use Rattle.nio_orderly.specs.Made.{selected_keys, wakeup, interrupt, interrupted, pipe, try_read, try_write}
+use Rattle.nio_orderly.specs.Made.{set_blocking, register, select, close, read, write}
 use Rattle.nio_orderly.specs.Orderly.{MadeBy}
 use Rattle.nio_plain.specs.Seq.Answers.{yes_or_no}
 use Rattle.nio_serial.specs.Laws.{IsMadeSelector, IsMadeChannel, IsMadeKey, by_key}
-use Rattle.nio_serial.specs.Replies.{key_id, find_reply, set_reply, put_reply, channel_reply, mode_reply, register_reply, closed_reply, selector_reply, begin_reply, told_reply, shut_reply, finish_reply, list_reply}
+use Rattle.nio_serial.specs.Replies.{key_id, find_reply, set_reply, put_reply, channel_reply, mode_reply}
+use Rattle.nio_serial.specs.Replies.{register_reply, closed_reply, selector_reply, begin_reply, told_reply, shut_reply}
+use Rattle.nio_serial.specs.Replies.{finish_reply, list_reply}
 use Rattle.nio_steps.specs.PipeCalls.{pipe_lacks_memory}
 use Rattle.nio_steps.specs.declared.refusal.BeginError.{BeginError}
 use Rattle.nio_steps.specs.SelectCalls.{begin_lacks_memory, list_lacks_memory, selected, not_begun, left}
@@ -62,7 +69,8 @@ script_call (try_register s c ops att answer) = as_call (call.Register s c ops (
 script_call (close_channel c answer) = as_call (call.Closec c) (closed_reply answer)
 script_call (open_selector answer) = as_call call.Selector (selector_reply answer)
 script_call (try_begin s mode answer) = as_call (call.Begin s (waiting_of mode)) (begin_reply answer)
-script_call (told selection poll answer) = as_call (call.Told selection.selector poll.elapsed (by_key selection poll.pairs)) (told_reply answer)
+script_call (told selection poll answer) =
+    as_call (call.Told selection.selector poll.elapsed (by_key selection poll.pairs)) (told_reply answer)
 script_call (leave selection) = as_call (call.Failed selection.selector) reply.Left
 script_call (shut s answer) = as_call (call.Close s) (shut_reply answer)
 script_call (try_finish s answer) = as_call (call.CloseEnd s) (finish_reply answer)

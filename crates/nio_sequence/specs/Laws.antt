@@ -19,13 +19,15 @@ use Rattle.nio_plain.specs.Answer.{left_by_script}
 use Rattle.nio_plain.specs.Seq.{seq}
 use Rattle.nio_plain.specs.declared.rules.Rules.TheVariants.{Now}
 use Rattle.nio_serial.specs.Documented.{Progress, nothing_yet, documented}
-use Rattle.nio_sequence.specs.Called.{Scripted, as_call, unseen, unscripted, script_call, lacks_memory, HasNames, IsNamedCall}
+use Rattle.nio_sequence.specs.Called.{Scripted, as_call, unseen, unscripted, script_call, lacks_memory, HasNames}
+use Rattle.nio_sequence.specs.Called.{IsNamedCall}
 use Rattle.nio_sequence.specs.Left.{after_made, in_progress, IsSequence, IsLeftBy}
 
 -- ---- what every serial history leaves
 
 abbrev pub SequencesStand : Type 0
-SequencesStand = (l : Limits) (events : List Event) (made : List MadeBy) → IsFit l → IsSequence l events made → IsLeftBy l events made (in_progress nothing_yet made)
+SequencesStand = (l : Limits) (events : List Event) (made : List MadeBy) → IsFit l → IsSequence l events made
+    → IsLeftBy l events made (in_progress nothing_yet made)
 
 -- ---- one call more
 
@@ -33,7 +35,8 @@ abbrev pub one_more : List MadeBy → CallerNo → Made → List MadeBy
 one_more made me call = made ++ record { caller = me; call = call } ∷ []
 
 -- The history `past` of the calls `made`, and one more call of a caller, which did these acts in it.
-pub record IsNextCall (l : Limits) (past : List Event) (made : List MadeBy) (now : Progress) (me : CallerNo) (acts : List Act) (call : Made) (word : Call) (said : Reply) : Type 0 where
+pub record IsNextCall (l : Limits) (past : List Event) (made : List MadeBy) (now : Progress) (me : CallerNo)
+    (acts : List Act) (call : Made) (word : Call) (said : Reply) : Type 0 where
   -- the history is legal and serial
   pub sequence : IsSequence l past made
   -- it is legal still where the acts follow, with no event of another caller between
@@ -53,15 +56,18 @@ pub record IsNextCall (l : Limits) (past : List Event) (made : List MadeBy) (now
 
 -- The reply is the documented system's in the state that the history leaves, and the history with the call leaves
 -- its next state.
-pub record IsDocumented (l : Limits) (past : List Event) (made : List MadeBy) (now : Progress) (me : CallerNo) (acts : List Act) (call : Made) (word : Call) (said : Reply) : Type 0 where
+pub record IsDocumented (l : Limits) (past : List Event) (made : List MadeBy) (now : Progress) (me : CallerNo)
+    (acts : List Act) (call : Made) (word : Call) (said : Reply) : Type 0 where
   pub replies : said ≡ (seq Now l (documented (state_after past) now) me word).reply
-  pub leaves : documented (state_after (past ++ map (event_of me) acts)) (after_made now me call) ≡ (seq Now l (documented (state_after past) now) me word).left
+  pub leaves : documented (state_after (past ++ map (event_of me) acts)) (after_made now me call)
+      ≡ (seq Now l (documented (state_after past) now) me word).left
   pub stands : IsLeftBy l (past ++ map (event_of me) acts) (one_more made me call) (after_made now me call)
 
 -- Where calls don't overlap, the table is the sequential selector of Java.
 abbrev pub NextCallIsDocumented : Type 0
 NextCallIsDocumented =
-    (l : Limits) (past : List Event) (made : List MadeBy) (now : Progress) (me : CallerNo) (acts : List Act) (call : Made) (word : Call) (said : Reply)
+    (l : Limits) (past : List Event) (made : List MadeBy) (now : Progress) (me : CallerNo) (acts : List Act)
+    (call : Made) (word : Call) (said : Reply)
     → IsFit l → IsNextCall l past made now me acts call word said → IsDocumented l past made now me acts call word said
 
 -- the history with the call is one again, whatever the call is
@@ -69,7 +75,8 @@ abbrev pub SequencesGrow : Type 0
 SequencesGrow =
     (l : Limits) (past : List Event) (made : List MadeBy) (me : CallerNo) (acts : List Act) (call : Made)
     → IsSequence l past made → IsLegal l (past ++ map (event_of me) acts) → IsRun l call acts
-    → IsNamedCall l (state_after past) (record { caller = me; call = call }) → MayCome (after_calls nothing_ongoing (calls_of me made)) call
+    → IsNamedCall l (state_after past) (record { caller = me; call = call })
+    → MayCome (after_calls nothing_ongoing (calls_of me made)) call
     → IsSequence l (past ++ map (event_of me) acts) (one_more made me call)
 
 -- and nothing is one
@@ -113,4 +120,5 @@ pub record AreAsScript (l : Limits) (events : List Event) (made : List MadeBy) :
   pub left : documented (state_after events) (in_progress nothing_yet made) ≡ left_by_script Now l (script_of made)
 
 abbrev pub SequencesAreScripts : Type 0
-SequencesAreScripts = (l : Limits) (events : List Event) (made : List MadeBy) → IsFit l → IsSequence l events made → AreOfScript made → AreAsScript l events made
+SequencesAreScripts = (l : Limits) (events : List Event) (made : List MadeBy) → IsFit l → IsSequence l events made
+    → AreOfScript made → AreAsScript l events made

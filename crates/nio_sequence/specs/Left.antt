@@ -6,12 +6,18 @@ use Rattle.nio_event.specs.State.{State}
 use Rattle.nio_event.specs.Sets.{in_key_set}
 use Rattle.nio_event.specs.Histories.{state_after, IsLegal}
 use Rattle.nio_event.specs.declared.event.Event.{Event}
-use Rattle.nio_orderly.specs.Made.{Made, Ongoing, nothing_ongoing, after_calls, draw, find_selector, find_channel, find, is_valid, interest, set_interest, interest_or, interest_and, ready, cancel, unselect, attach, attachment, open_channel, is_open, is_blocking, is_registered, key_for, try_set_blocking, try_register, close_channel, open_selector, try_begin, told, leave, shut, try_finish, keys, selected_keys, wakeup, interrupt, interrupted, pipe, try_read, try_write, set_blocking, register, select, close, read, write}
+use Rattle.nio_orderly.specs.Made.{Made, Ongoing, nothing_ongoing, after_calls, draw, find_selector, find_channel, find}
+use Rattle.nio_orderly.specs.Made.{is_valid, interest, set_interest, interest_or, interest_and, ready, cancel, unselect}
+use Rattle.nio_orderly.specs.Made.{attach, attachment, open_channel, is_open, is_blocking, is_registered, key_for}
+use Rattle.nio_orderly.specs.Made.{try_set_blocking, try_register, close_channel, open_selector, try_begin, told, leave}
+use Rattle.nio_orderly.specs.Made.{shut, try_finish, keys, selected_keys, wakeup, interrupt, interrupted, pipe}
+use Rattle.nio_orderly.specs.Made.{try_read, try_write, set_blocking, register, select, close, read, write}
 use Rattle.nio_orderly.specs.Orderly.{MadeBy, AreRunsBy, calls_of, IsSerial}
 use Rattle.nio_plain.specs.Seq.Selections.{is_caller}
 use Rattle.nio_serial.specs.Between.{IsBetween}
 use Rattle.nio_serial.specs.Documented.{Progress}
-use Rattle.nio_serial.specs.Lines.{with_selection, with_closing, own_selection, after_begin, after_told, after_shut, after_finish}
+use Rattle.nio_serial.specs.Lines.{with_selection, with_closing, own_selection, after_begin, after_told, after_shut}
+use Rattle.nio_serial.specs.Lines.{after_finish}
 use Rattle.nio_steps.specs.Names.{selector}
 use Rattle.nio_steps.specs.SelectCalls.{selected, not_begun, left}
 use Rattle.nio_sequence.specs.Called.{IsNamedCall}
@@ -80,9 +86,11 @@ pub record IsOngoing (n : CallerNo) (now : Progress) (ongoing : Ongoing) : Type 
 -- ---- serial histories
 
 -- each call names what is there when it is made
-abbrev pub AreNamed : (l : Limits) (past : List Event) (made : List MadeBy) (events : List Event) → AreRunsBy l made events → Type 0
+abbrev pub AreNamed : (l : Limits) (past : List Event) (made : List MadeBy) (events : List Event)
+    → AreRunsBy l made events → Type 0
 AreNamed l past [] events runs = ⊤
-AreNamed l past (one ∷ later) events runs = IsNamedCall l (state_after past) one × AreNamed l (past ++ runs.first) later runs.second runs.is_second
+AreNamed l past (one ∷ later) events runs =
+    IsNamedCall l (state_after past) one × AreNamed l (past ++ runs.first) later runs.second runs.is_second
 
 -- A legal serial history, whose calls name what is there: a call is given the selectors, channels and keys that
 -- earlier calls answered with.
@@ -93,7 +101,8 @@ pub record IsSequence (l : Limits) (events : List Event) (made : List MadeBy) : 
 
 -- each key of a key set is noted for its channel
 abbrev pub AreNoted : State → Type 0
-AreNoted st = (s i : ℕ) → IsTrue (in_key_set (st.key s i)) → st.noted (st.key s i).chan.0 s ≡ Some (record { index = i; serial = (st.key s i).serial })
+AreNoted st = (s i : ℕ) → IsTrue (in_key_set (st.key s i))
+    → st.noted (st.key s i).chan.0 s ≡ Some (record { index = i; serial = (st.key s i).serial })
 
 -- What it leaves: a state between two calls, with what its calls left in progress, for each of its callers.
 pub record IsLeftBy (l : Limits) (events : List Event) (made : List MadeBy) (now : Progress) : Type 0 where

@@ -1,6 +1,7 @@
 -- What the equations of all calls rest on: parts of a state that are changed and changed back, settled keys, and
 -- the steps of a plan at a test or under a pin.
-use Rattle.std.proofs.Common.{◌≡◌, ℕ, Bool, true, false, cond, not, ◌==◌, ◌&&◌, if◌then◌else◌, Option, Some, None, is_some, Result, Err, refl, ap, sym, ◌∙◌}
+use Rattle.std.proofs.Common.{◌≡◌, ℕ, Bool, true, false, cond, not, ◌==◌, ◌&&◌, if◌then◌else◌, Option, Some, None}
+use Rattle.std.proofs.Common.{is_some, Result, Err, refl, ap, sym, ◌∙◌}
 use Rattle.nio_base.specs.declared.numbers.CallerNo.{CallerNo}
 use Rattle.nio_base.specs.declared.numbers.ChanNo.{ChanNo}
 use Rattle.nio_base.specs.declared.numbers.SelNo.{SelNo}
@@ -55,17 +56,20 @@ pub put_at-back : {A : Type 0} (f : ℕ → ℕ → A) (i k : ℕ) (x y : A) →
 put_at-back f i k x y e = put_at-twice f i k x y ∙ put_at-here f i k y e
 
 -- a function of what is put
-pub put-under : {A B : Type 0} (g : ℕ → A → B) (f : ℕ → A) (i : ℕ) (x : A) → (λ n. g n (put f i x n)) ≡ put (λ n. g n (f n)) i (g i x)
+pub put-under : {A B : Type 0} (g : ℕ → A → B) (f : ℕ → A) (i : ℕ) (x : A)
+    → (λ n. g n (put f i x n)) ≡ put (λ n. g n (f n)) i (g i x)
 put-under {A = A} {B = B} g f i x = λ j n. at n j
   where
     at : (n : ℕ) → g n (put f i x n) ≡ put (λ n'. g n' (f n')) i (g i x) n
     at n = put_both (λ n' a b. g n' a ≡ b) f (λ n'. g n' (f n')) i x (g i x) refl n refl
 
-pub put_at-under : {A B : Type 0} (g : ℕ → ℕ → A → B) (f : ℕ → ℕ → A) (i k : ℕ) (x : A) → (λ m n. g m n (put_at f i k x m n)) ≡ put_at (λ m n. g m n (f m n)) i k (g i k x)
+pub put_at-under : {A B : Type 0} (g : ℕ → ℕ → A → B) (f : ℕ → ℕ → A) (i k : ℕ) (x : A)
+    → (λ m n. g m n (put_at f i k x m n)) ≡ put_at (λ m n. g m n (f m n)) i k (g i k x)
 put_at-under {A = A} {B = B} g f i k x = λ j m n. at m n j
   where
     at : (m n : ℕ) → g m n (put_at f i k x m n) ≡ put_at (λ m' n'. g m' n' (f m' n')) i k (g i k x) m n
-    at m n = put_at_both (λ m' n' a b. g m' n' a ≡ b) f (λ m' n'. g m' n' (f m' n')) i k x (g i k x) (λ _. refl) m n refl
+    at m n = put_at_both (λ m' n' a b. g m' n' a ≡ b) f (λ m' n'. g m' n' (f m' n')) i k x (g i k x)
+        (λ _. refl) m n refl
 
 -- a pin that is taken and given back
 pub pin-back : (p : ℕ → ℕ → ℕ → Bool) (s i n : ℕ) → p s i n ≡ false
@@ -80,13 +84,15 @@ pin-back p s i n free =
 
 -- ---- settled keys
 
-settled_parts : (in_set removed c : Bool) → (in_set && not removed) && not (not removed && c) ≡ (in_set && not removed) && not c
+settled_parts : (in_set removed c : Bool) → (in_set && not removed) && not (not removed && c) ≡ (in_set && not removed)
+    && not c
 settled_parts true true c = refl
 settled_parts true false c = refl
 settled_parts false true c = refl
 settled_parts false false c = refl
 
-pub cancelled_parts : (in_set removed c : Bool) → (in_set && not removed) && (not removed && c) ≡ (in_set && not removed) && c
+pub cancelled_parts : (in_set removed c : Bool)
+    → (in_set && not removed) && (not removed && c) ≡ (in_set && not removed) && c
 cancelled_parts true true c = refl
 cancelled_parts true false c = refl
 cancelled_parts false true c = refl
@@ -117,12 +123,14 @@ in_set-is k q whole =
 -- `F` is what becomes of a performed plan
 module _ {R : Type 0} (F : Performed R → Answered) (me : CallerNo) (P Q : Plan R) (st : State) (A B : Answered) where
   -- one test on both sides
-  pub branch : (b c : Bool) → b ≡ c → (c ≡ true → A ≡ F (perform me P st)) → (c ≡ false → B ≡ F (perform me Q st)) → cond b A B ≡ F (perform me (if c then P else Q) st)
+  pub branch : (b c : Bool) → b ≡ c → (c ≡ true → A ≡ F (perform me P st)) → (c ≡ false → B ≡ F (perform me Q st))
+      → cond b A B ≡ F (perform me (if c then P else Q) st)
   branch b true e on_true on_false = ap (λ (x : Bool). cond x A B) e ∙ on_true refl
   branch b false e on_true on_false = ap (λ (x : Bool). cond x A B) e ∙ on_false refl
 
   -- the plan asks the other way round
-  pub branch_not : (b c : Bool) → b ≡ c → (c ≡ true → A ≡ F (perform me P st)) → (c ≡ false → B ≡ F (perform me Q st)) → cond b A B ≡ F (perform me (if not c then Q else P) st)
+  pub branch_not : (b c : Bool) → b ≡ c → (c ≡ true → A ≡ F (perform me P st)) → (c ≡ false → B ≡ F (perform me Q st))
+      → cond b A B ≡ F (perform me (if not c then Q else P) st)
   branch_not b true e on_true on_false = ap (λ (x : Bool). cond x A B) e ∙ on_true refl
   branch_not b false e on_true on_false = ap (λ (x : Bool). cond x A B) e ∙ on_false refl
 
@@ -133,7 +141,8 @@ abbrev pub unpinned : {R : Type 0} → CallerNo → SelNo → ℕ → Performed 
 unpinned me s i done = record { answer = done.answer; state = with_pin done.state s.0 i me.0 false }
 
 pub perform_pinned : {A : Type 0} (me : CallerNo) (s : SelNo) (i : ℕ) (steps : Stage → Plan A) (st : State)
-    → perform me (under_pin s i steps) st ≡ unpinned me s i (perform me (steps (st.key s.0 i)) (with_pin st s.0 i me.0 true))
+    → perform me (under_pin s i steps) st
+    ≡ unpinned me s i (perform me (steps (st.key s.0 i)) (with_pin st s.0 i me.0 true))
 perform_pinned me s i steps st =
     perform-bind me (steps (st.key s.0 i)) (λ answer. unpin s i >> reply answer) (with_pin st s.0 i me.0 true)
 
@@ -148,13 +157,16 @@ settled-key st s i x same = λ j. record (settled_state st) {
 }
   where
     marks : (m n : ℕ) → settled_mark (put_at st.key s i x m n) (st.mark m n) ≡ settled_mark (st.key m n) (st.mark m n)
-    marks m n = put_at_keeps (λ m' n' a. settled_mark a (st.mark m' n') ≡ settled_mark (st.key m' n') (st.mark m' n')) st.key s i x
+    marks m n =
+        put_at_keeps (λ m' n' a. settled_mark a (st.mark m' n') ≡ settled_mark (st.key m' n') (st.mark m' n')) st.key s
+        i x
         (λ _ j. record (st.mark s i) { selected = not (same j) && (st.mark s i).selected }) m n refl
 
 -- a mark that is changed
 pub settled-marked : (st : State) (s i : ℕ) (x : Mark)
     → settled_state (with_mark st s i x) ≡ with_mark (settled_state st) s i (settled_mark (st.key s i) x)
-settled-marked st s i x = λ j. record (settled_state st) { mark = put_at-under (λ m n a. settled_mark (st.key m n) a) st.mark s i x j }
+settled-marked st s i x =
+    λ j. record (settled_state st) { mark = put_at-under (λ m n a. settled_mark (st.key m n) a) st.mark s i x j }
 
 -- ---- under the hold of a channel
 
@@ -162,8 +174,11 @@ settled-marked st s i x = λ j. record (settled_state st) { mark = put_at-under 
 abbrev pub released : {R : Type 0} → ChanNo → Performed R → Performed R
 released c done = record { answer = done.answer; state = with_hold done.state c.0 None }
 
-pub perform_held : {A : Type 0} (me : CallerNo) (c : ChanNo) (steps : Plan (Result A ChannelError)) (st : State) → st.hold c.0 ≡ None
+pub perform_held : {A : Type 0} (me : CallerNo) (c : ChanNo) (steps : Plan (Result A ChannelError)) (st : State)
+    → st.hold c.0 ≡ None
     → perform me (under_hold c steps) st ≡ released c (perform me steps (with_hold st c.0 (Some me)))
 perform_held me c steps st unheld =
-    ap (λ (o : Option CallerNo). perform me (if is_some o then reply (Err Busy) else (steps >>= (λ answer. release c >> reply answer))) (with_hold st c.0 (taken_by me o))) unheld
+    ap (λ (o : Option CallerNo). perform me
+    (if is_some o then reply (Err Busy) else (steps >>= (λ answer. release c >> reply answer)))
+    (with_hold st c.0 (taken_by me o))) unheld
     ∙ perform-bind me steps (λ answer. release c >> reply answer) (with_hold st c.0 (Some me))

@@ -1,6 +1,9 @@
 -- Beginning a selection amounts to the documented call.
-use Rattle.std.proofs.Common.{◌≡◌, ℕ, zero, suc, ◌<◌, ◌==◌, nat_lt, Bool, true, false, cond, not, ◌&&◌, ◌||◌, if◌then◌else◌, Option, Some, None, option_map, is_some, Result, Ok, Err, List, [], ◌∷◌, ◌++◌, map, filter, refl, ap, sym, ◌∙◌, subst, ⊎_elim, arith, eq-eqb}
-use Rattle.std.proofs.lemmas.Bool.{both_ways, false_from_ne_true, and_parts, cases_eq, lt-ltb, ltb-true, not-true, or_left, or_right}
+use Rattle.std.proofs.Common.{◌≡◌, ℕ, zero, suc, ◌<◌, ◌==◌, nat_lt, Bool, true, false, cond, not, ◌&&◌, ◌||◌}
+use Rattle.std.proofs.Common.{if◌then◌else◌, Option, Some, None, option_map, is_some, Result, Ok, Err, List, [], ◌∷◌}
+use Rattle.std.proofs.Common.{◌++◌, map, filter, refl, ap, sym, ◌∙◌, subst, ⊎_elim, arith, eq-eqb}
+use Rattle.std.proofs.lemmas.Bool.{both_ways, false_from_ne_true, and_parts, cases_eq, lt-ltb, ltb-true, not-true}
+use Rattle.std.proofs.lemmas.Bool.{or_left, or_right}
 use Rattle.std.proofs.lemmas.List.Elements.{All-filter, All-contains, All-map}
 use Rattle.std.proofs.lemmas.List.Kept.{AllPairs-cons, AllPairs-filter}
 use Rattle.std.proofs.lemmas.List.Folds.{list_any-append}
@@ -24,7 +27,8 @@ use Rattle.nio_steps.proofs.Lists.{contains-middle, pairs-none, pairs-head, pair
 use Rattle.nio_steps.proofs.PerformLaws.{perform_then_on}
 use Rattle.nio_steps.specs.Perform.{Performed, perform}
 use Rattle.nio_steps.specs.Plan.{Plan, ◌>>=◌}
-use Rattle.nio_steps.specs.SelectCalls.{Selection, LookedOver, given_back, list_below, look_over, looked_key, begin_below, begin_with_turn, begin_open, try_begin_plan}
+use Rattle.nio_steps.specs.SelectCalls.{Selection, LookedOver, given_back, list_below, look_over, looked_key}
+use Rattle.nio_steps.specs.SelectCalls.{begin_below, begin_with_turn, begin_open, try_begin_plan}
 use Rattle.nio_steps.specs.Steps.{look_keys}
 use Rattle.nio_steps.specs.Sweeps.{sweep_over}
 use Rattle.nio_steps.specs.declared.looked.LookedKey.{LookedKey}

@@ -1,5 +1,6 @@
 -- Setting a channel's mode amounts to the documented call.
-use Rattle.std.proofs.Common.{◌≡◌, ℕ, Bool, true, false, cond, ◌&&◌, Option, Some, None, is_some, Result, Ok, Err, refl, ap, sym, ◌∙◌}
+use Rattle.std.proofs.Common.{◌≡◌, ℕ, Bool, true, false, cond, ◌&&◌, Option, Some, None, is_some, Result, Ok, Err, refl}
+use Rattle.std.proofs.Common.{ap, sym, ◌∙◌}
 use Rattle.nio_base.specs.declared.limits.Limits.{Limits}
 use Rattle.nio_base.specs.declared.numbers.CallerNo.{CallerNo}
 use Rattle.nio_base.specs.declared.numbers.ChanNo.{ChanNo}
@@ -11,7 +12,8 @@ use Rattle.nio_plain.specs.ScriptState.{ScriptState}
 use Rattle.nio_plain.specs.Seq.Answers.{Answered, unchanged, answered}
 use Rattle.nio_plain.specs.Seq.Modes.{is_registered, blocking_call}
 use Rattle.nio_steps.proofs.PerformLaws.{perform_then_on, perform_else}
-use Rattle.nio_steps.specs.ChannelCalls.{first_key, set_mode_clear, set_mode_open, set_mode_held, try_set_blocking_plan, under_hold}
+use Rattle.nio_steps.specs.ChannelCalls.{first_key, set_mode_clear, set_mode_open, set_mode_held, try_set_blocking_plan}
+use Rattle.nio_steps.specs.ChannelCalls.{under_hold}
 use Rattle.nio_steps.specs.Perform.{Performed, perform}
 use Rattle.nio_steps.specs.Plan.{Plan, ◌>>=◌}
 use Rattle.nio_steps.specs.Steps.{set_mode}
@@ -37,27 +39,41 @@ module _ (l : Limits) (st : State) (now : Progress) (me : CallerNo) (c : ChanNo)
 
   -- the mode is set unless the channel is registered and blocking mode is asked for
   set : (on : Bool) (o : Option KeyNo) (b : Bool) → b ≡ is_some o
-      → cond b (unchanged ds reply.IllegalBlockingMode) (answered ds reply.«Ok» (with_chan ds.shared c.0 (record (st.chan c.0) { blocking = on })))
+      → cond b (unchanged ds reply.IllegalBlockingMode)
+      (answered ds reply.«Ok» (with_chan ds.shared c.0 (record (st.chan c.0) { blocking = on })))
       ≡ after (perform me (set_mode_clear c on o) held)
   set on o b same =
-      branch after me (Plan.reply (Err ChannelError.IllegalBlockingMode)) (set_mode c on >>= (λ _. Plan.reply (Ok tt))) held _ _ b (is_some o) same
+      branch after me (Plan.reply (Err ChannelError.IllegalBlockingMode)) (set_mode c on >>= (λ _. Plan.reply (Ok tt)))
+      held _ _ b (is_some o) same
       (λ _. back (λ h. record { reply = reply.IllegalBlockingMode; left = documented (record st { hold = h }) now }))
-      (λ _. back (λ h. record { reply = reply.«Ok»; left = documented (record (with_chan st c.0 (record (st.chan c.0) { blocking = on })) { hold = h }) now }))
+      (λ _. back
+      (λ h. record {
+        reply = reply.«Ok»;
+        left =
+            documented (record (with_chan st c.0 (record (st.chan c.0) { blocking = on })) { hold = h }) now;
+      }))
 
-  opened : (on : Bool) → cond (on && is_registered l st c.0) (unchanged ds reply.IllegalBlockingMode) (answered ds reply.«Ok» (with_chan ds.shared c.0 (record (st.chan c.0) { blocking = on })))
+  opened : (on : Bool)
+      → cond (on && is_registered l st c.0) (unchanged ds reply.IllegalBlockingMode)
+      (answered ds reply.«Ok» (with_chan ds.shared c.0 (record (st.chan c.0) { blocking = on })))
       ≡ after (perform me (set_mode_open l c on) held)
   opened true =
       let finds = first_key-performed l me c held in
       set true finds.found (is_registered l st c.0) (sym finds.where_registered)
-      ∙ sym (ap after (perform_then_on me (first_key l c) (set_mode_clear c true) held finds.found held finds.performed))
+      ∙ sym (ap after
+      (perform_then_on me (first_key l c) (set_mode_clear c true) held finds.found held finds.performed))
   opened false = set false None false refl
 
-  pub blocking-amounts : (on : Bool) → (st.chan c.0).made ≡ true → blocking_call l ds c on ≡ amounts mode_reply (λ _. now) (perform me (try_set_blocking_plan l c on) st)
+  pub blocking-amounts : (on : Bool) → (st.chan c.0).made ≡ true
+      → blocking_call l ds c on ≡ amounts mode_reply (λ _. now) (perform me (try_set_blocking_plan l c on) st)
   unfolding blocking_call try_set_blocking_plan
   blocking-amounts on made =
       channel-through ds c made _
-      ∙ branch (amounts mode_reply (λ _. now)) me (Plan.reply (Err ChannelError.ClosedChannel)) (under_hold c (set_mode_held l c on)) st _ _ (st.chan c.0).closed (st.chan c.0).closed refl
+      ∙ branch (amounts mode_reply (λ _. now)) me (Plan.reply (Err ChannelError.ClosedChannel))
+      (under_hold c (set_mode_held l c on)) st _ _ (st.chan c.0).closed (st.chan c.0).closed refl
       (λ _. refl)
       (λ is_open. opened on
-      ∙ (ap after (sym (perform_else me (st.chan c.0).closed (Plan.reply (Err ChannelError.ClosedChannel)) (set_mode_open l c on) held is_open))
+      ∙ (ap after
+      (sym (perform_else me (st.chan c.0).closed (Plan.reply (Err ChannelError.ClosedChannel))
+      (set_mode_open l c on) held is_open))
       ∙ sym (ap (amounts mode_reply (λ _. now)) (perform_held me c (set_mode_held l c on) st unheld))))

@@ -1,5 +1,6 @@
 -- Each call, made on the table with its names found, amounts to the documented one.
-use Rattle.std.proofs.Common.{◌≡◌, ℕ, ◌<◌, ◌==◌, nat_lt, Bool, true, false, cond, not, ◌||◌, if◌then◌else◌, Option, Some, None, option_map, List, map, refl, ap, sym, ◌∙◌, subst, arith}
+use Rattle.std.proofs.Common.{◌≡◌, ℕ, ◌<◌, ◌==◌, nat_lt, Bool, true, false, cond, not, ◌||◌, if◌then◌else◌, Option}
+use Rattle.std.proofs.Common.{Some, None, option_map, List, map, refl, ap, sym, ◌∙◌, subst, arith}
 use Rattle.std.proofs.lemmas.Bool.{lt-ltb, le-ltb, or_left, or_right, cond-true}
 use Rattle.nio_base.specs.declared.limits.Limits.{Limits}
 use Rattle.nio_base.specs.declared.numbers.CallerNo.{CallerNo}
@@ -22,35 +23,50 @@ use Rattle.nio_plain.specs.Seq.Answers.{unchanged, yes_or_no}
 use Rattle.nio_plain.specs.Seq.Closing.{close_end_call}
 use Rattle.nio_plain.specs.Seq.Piping.{pipe_call, read_from, pread_call, write_to, pwrite_call}
 use Rattle.nio_plain.specs.Seq.Registering.{given_or_none}
-use Rattle.nio_plain.specs.Seq.Selections.{mode_of, begun_with, begin_call, is_looked, is_caller, told_selection, told_call, left_selection, failed_call}
+use Rattle.nio_plain.specs.Seq.Selections.{mode_of, begun_with, begin_call, is_looked, is_caller, told_selection}
+use Rattle.nio_plain.specs.Seq.Selections.{told_call, left_selection, failed_call}
 use Rattle.nio_plain.specs.declared.rules.Rules.TheVariants.{Now}
 use Rattle.nio_steps.proofs.PerformLaws.{perform-bind}
-use Rattle.nio_steps.specs.ChannelCalls.{open_channel_plan, is_open_plan, is_blocking_plan, is_registered_plan, key_for_plan, try_set_blocking_plan, try_register_plan, close_channel_plan}
-use Rattle.nio_steps.specs.KeyCalls.{is_valid_plan, interest_plan, set_interest_plan, interest_or_plan, interest_and_plan, ready_plan, cancel_plan, unselect_plan, attach_plan, attachment_plan}
+use Rattle.nio_steps.specs.ChannelCalls.{open_channel_plan, is_open_plan, is_blocking_plan, is_registered_plan}
+use Rattle.nio_steps.specs.ChannelCalls.{key_for_plan, try_set_blocking_plan, try_register_plan, close_channel_plan}
+use Rattle.nio_steps.specs.KeyCalls.{is_valid_plan, interest_plan, set_interest_plan, interest_or_plan}
+use Rattle.nio_steps.specs.KeyCalls.{interest_and_plan, ready_plan, cancel_plan, unselect_plan, attach_plan}
+use Rattle.nio_steps.specs.KeyCalls.{attachment_plan}
 use Rattle.nio_steps.specs.Names.{key}
 use Rattle.nio_steps.specs.Perform.{perform}
 use Rattle.nio_steps.specs.PipeCalls.{pipe_plan, try_read_plan, try_write_plan}
 use Rattle.nio_steps.specs.Plan.{Plan}
-use Rattle.nio_steps.specs.SelectCalls.{Selection, open_selector_plan, try_begin_plan, told_plan, leave_plan, shut_plan, try_finish_plan, keys_plan, selected_keys_plan, wakeup_plan, interrupt_plan, interrupted_plan}
+use Rattle.nio_steps.specs.SelectCalls.{Selection, open_selector_plan, try_begin_plan, told_plan, leave_plan, shut_plan}
+use Rattle.nio_steps.specs.SelectCalls.{try_finish_plan, keys_plan, selected_keys_plan, wakeup_plan, interrupt_plan}
+use Rattle.nio_steps.specs.SelectCalls.{interrupted_plan}
 use Rattle.nio_serial.proofs.Beginning.{begin-amounts}
 use Rattle.nio_serial.proofs.Blocking.{blocking-amounts}
 use Rattle.nio_serial.proofs.ClosingChannels.{closec-amounts}
 use Rattle.nio_serial.proofs.ClosingSelectors.{close_end-amounts}
-use Rattle.nio_serial.proofs.Facts.{unpinned, untaken, unheld, none_due, channels, claimed, published, whole, free, fresh_mark, fresh_free, within, begun, looked_in_set, own-is}
-use Rattle.nio_serial.proofs.KeyCalls.{valid-amounts, interest-amounts, ready-amounts, iset-amounts, ior-amounts, iand-amounts, cancel-amounts, unselect-amounts, attach-amounts, attachment-amounts}
+use Rattle.nio_serial.proofs.Facts.{unpinned, untaken, unheld, none_due, channels, claimed, published, whole, free}
+use Rattle.nio_serial.proofs.Facts.{fresh_mark, fresh_free, within, begun, looked_in_set, own-is}
+use Rattle.nio_serial.proofs.KeyCalls.{valid-amounts, interest-amounts, ready-amounts, iset-amounts, ior-amounts}
+use Rattle.nio_serial.proofs.KeyCalls.{iand-amounts, cancel-amounts, unselect-amounts, attach-amounts}
+use Rattle.nio_serial.proofs.KeyCalls.{attachment-amounts}
 use Rattle.nio_serial.proofs.Listing.{keys-amounts, selected-amounts}
 use Rattle.nio_serial.proofs.PipeLines.{read-amounts, write-amounts}
 use Rattle.nio_serial.proofs.PipeMaking.{ends-amount}
 use Rattle.nio_serial.proofs.Registering.{register-amounts}
-use Rattle.nio_serial.proofs.Simple.{is_blocking-amounts, is_open-amounts, is_registered-amounts, key_for-amounts, wakeup-amounts, close-amounts, interrupt-amounts, interrupted-amounts, selector-amounts, channel-amounts}
+use Rattle.nio_serial.proofs.Simple.{is_blocking-amounts, is_open-amounts, is_registered-amounts, key_for-amounts}
+use Rattle.nio_serial.proofs.Simple.{wakeup-amounts, close-amounts, interrupt-amounts, interrupted-amounts}
+use Rattle.nio_serial.proofs.Simple.{selector-amounts, channel-amounts}
 use Rattle.nio_serial.proofs.Marking.{by_index-tells, by_key-tells}
 use Rattle.nio_serial.proofs.Telling.{told-amounts, failed-amounts}
 use Rattle.nio_serial.specs.Between.{IsOn, IsBetween}
 use Rattle.nio_serial.specs.Documented.{Progress, Selecting, looked_pair, shown, documented, amounts}
 use Rattle.nio_serial.specs.Laws.{IsNamed, by_key}
 use Rattle.nio_serial.specs.PipeLines.{own_source, own_sink, pipe_at, with_mark, after_pipe}
-use Rattle.nio_serial.specs.Lines.{Said, comes_to, makes, asks, refused, with_selection, if_own, own_selection, after_begin, after_told, after_shut, after_finish, begin_line, by_index, told_line, failed_line, close_end_line, read_line, write_line, call_plan}
-use Rattle.nio_serial.specs.Replies.{find_reply, set_reply, put_reply, channel_reply, mode_reply, register_reply, closed_reply, ends_reply, selector_reply, begin_reply, told_reply, shut_reply, finish_reply, list_reply}
+use Rattle.nio_serial.specs.Lines.{Said, comes_to, makes, asks, refused, with_selection, if_own, own_selection}
+use Rattle.nio_serial.specs.Lines.{after_begin, after_told, after_shut, after_finish, begin_line, by_index, told_line}
+use Rattle.nio_serial.specs.Lines.{failed_line, close_end_line, read_line, write_line, call_plan}
+use Rattle.nio_serial.specs.Replies.{find_reply, set_reply, put_reply, channel_reply, mode_reply, register_reply}
+use Rattle.nio_serial.specs.Replies.{closed_reply, ends_reply, selector_reply, begin_reply, told_reply, shut_reply}
+use Rattle.nio_serial.specs.Replies.{finish_reply, list_reply}
 
 -- a line that makes a call comes to what the call amounts to
 pub made-is : {R : Type 0} (me : CallerNo) (plan : Plan R) (said : R → Reply) (left : R → Progress) (st : State)

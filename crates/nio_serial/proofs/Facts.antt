@@ -1,5 +1,6 @@
 -- What holds between two calls, in the forms in which the equations take it.
-use Rattle.std.proofs.Common.{◌≡◌, ℕ, ◌<◌, ◌==◌, nat_lt, Bool, true, false, cond, not, ◌&&◌, Option, Some, None, option_map, is_some, map, refl, ap, sym, ◌∙◌, subst}
+use Rattle.std.proofs.Common.{◌≡◌, ℕ, ◌<◌, ◌==◌, nat_lt, Bool, true, false, cond, not, ◌&&◌, Option, Some, None}
+use Rattle.std.proofs.Common.{option_map, is_some, map, refl, ap, sym, ◌∙◌, subst}
 use Rattle.std.proofs.lemmas.Bool.{and_parts}
 use Rattle.nio_base.specs.declared.limits.Limits.{Limits}
 use Rattle.nio_base.specs.declared.numbers.CallerNo.{CallerNo}
@@ -21,7 +22,8 @@ use Rattle.nio_serial.specs.Lines.{own_selection as own_now}
 
 -- a state that a script leaves is sound
 pub left_is_sound : (l : Limits) (st : ScriptState) → IsLeft l st → Sound Now l st
-left_is_sound l st left = subst (Sound Now l) (sym left.left) (sound-left Now l left.calls script_opening (sound-opening Now l))
+left_is_sound l st left =
+    subst (Sound Now l) (sym left.left) (sound-left Now l left.calls script_opening (sound-opening Now l))
 
 unmarked_from : (k : Stage) (m : Mark) → settled k ≡ unclaimed → settled_mark k m ≡ unmarked → m ≡ unmarked
 unmarked_from k m key mark =
@@ -71,7 +73,9 @@ module _ (l : Limits) (st : State) (now : Progress) (between : IsBetween l st no
   fresh_free s i above = (between.at_rest.marks.fresh s i above).free
 
   pub within : (s i : ℕ) → in_key_set (st.key s i) ≡ true → s < l.selectors
-  within s i in_set = sound.keys.selectors s (sound.keys.indexes.made s i (and_parts (st.key s i).published (not (st.key s i).removed) in_set).0)
+  within s i in_set =
+      sound.keys.selectors s
+      (sound.keys.indexes.made s i (and_parts (st.key s i).published (not (st.key s i).removed) in_set).0)
 
   pub begun : (s : ℕ) → st.begun s ≡ is_some (st.turn s)
   begun s = (between.shown s).begun ∙ (sym (mapped (now.selection s)) ∙ ap is_some (sym (between.shown s).turn))
@@ -81,17 +85,23 @@ module _ (l : Limits) (st : State) (now : Progress) (between : IsBetween l st no
       mapped (Some x) = refl
 
   -- what a selection in progress looks at is in the key set
-  pub looked_in_set : (s : ℕ) (y : Selecting) → now.selection s ≡ Some y → (k : KeyId) → is_looked (map looked_pair y.selection.looked) k ≡ true → is_in_key_set (st.key s k.index) k.serial ≡ true
-  looked_in_set s y is k there = (sound.looks s).in_set (shown y.selection) (ap (option_map (λ x. shown x.selection)) is) k there
+  pub looked_in_set : (s : ℕ) (y : Selecting) → now.selection s ≡ Some y → (k : KeyId)
+      → is_looked (map looked_pair y.selection.looked) k ≡ true → is_in_key_set (st.key s k.index) k.serial ≡ true
+  looked_in_set s y is k there =
+      (sound.looks s).in_set (shown y.selection) (ap (option_map (λ x. shown x.selection)) is) k there
 
   -- the caller's own selection
   pub own-is : (me : CallerNo) (s : SelNo) → own_selection ds me s.0 ≡ option_map shown (own_now now me s)
-  own-is me s = ap (λ o. cond (is_caller me o) (ds.selection s.0) None) (between.shown s.0).turn ∙ by_selection (now.selection s.0)
+  own-is me s = ap (λ o. cond (is_caller me o) (ds.selection s.0) None) (between.shown s.0).turn
+      ∙ by_selection (now.selection s.0)
     where
-      by_selection : (o : Option Selecting) → cond (is_caller me (option_map (λ x. x.caller) o)) (option_map (λ x. shown x.selection) o) None ≡ option_map shown (if_own me o)
+      by_selection : (o : Option Selecting)
+          → cond (is_caller me (option_map (λ x. x.caller) o)) (option_map (λ x. shown x.selection) o) None
+          ≡ option_map shown (if_own me o)
       by_selection None = refl
       by_selection (Some x) = by_caller (x.caller.0 == me.0)
         where
-          by_caller : (b : Bool) → cond b (Some (shown x.selection)) None ≡ option_map shown (cond b (Some x.selection) None)
+          by_caller : (b : Bool)
+              → cond b (Some (shown x.selection)) None ≡ option_map shown (cond b (Some x.selection) None)
           by_caller true = refl
           by_caller false = refl

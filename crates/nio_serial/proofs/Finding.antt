@@ -1,5 +1,6 @@
 -- A channel's key, and searches and sweeps over the selectors, performed.
-use Rattle.std.proofs.Common.{◌≡◌, ℕ, zero, suc, ◌+◌, ◌-◌, Bool, true, false, cond, ◌||◌, Option, Some, None, option_map, is_some, find, List, [], ◌∷◌, ◌++◌, refl, ap, sym, ◌∙◌, add-one, arith}
+use Rattle.std.proofs.Common.{◌≡◌, ℕ, zero, suc, ◌+◌, ◌-◌, Bool, true, false, cond, ◌||◌, Option, Some, None}
+use Rattle.std.proofs.Common.{option_map, is_some, find, List, [], ◌∷◌, ◌++◌, refl, ap, sym, ◌∙◌, add-one, arith}
 use Rattle.std.proofs.lemmas.List.Folds.{list_any-append}
 use Rattle.std.specs.List.{list_any}
 use Rattle.nio_base.specs.declared.limits.Limits.{Limits}
@@ -37,12 +38,15 @@ pub found-any : (p : ℕ → Bool) (xs : List ℕ) → is_some (find p xs) ≡ l
 found-any p [] = refl
 found-any p (x ∷ xs) = by_test (p x) (found-any p xs)
   where
-    by_test : (b : Bool) → is_some (find p xs) ≡ list_any p xs → is_some (cond b (Some x) (find p xs)) ≡ (b || list_any p xs)
+    by_test : (b : Bool) → is_some (find p xs) ≡ list_any p xs
+        → is_some (cond b (Some x) (find p xs)) ≡ (b || list_any p xs)
     by_test true rest = refl
     by_test false rest = rest
 
 pub any-push : (p : ℕ → Bool) (n : ℕ) → list_any p (below (n + 1)) ≡ (list_any p (below n) || p n)
-any-push p n = ap (λ k. list_any p (below k)) (add-one n) ∙ (list_any-append p (below n) (n ∷ []) ∙ ap (λ b. list_any p (below n) || b) (or_false (p n)))
+any-push p n =
+    ap (λ k. list_any p (below k)) (add-one n)
+    ∙ (list_any-append p (below n) (n ∷ []) ∙ ap (λ b. list_any p (below n) || b) (or_false (p n)))
   where
     or_false : (b : Bool) → (b || false) ≡ b
     or_false true = refl
@@ -52,11 +56,16 @@ any-push p n = ap (λ k. list_any p (below k)) (add-one n) ∙ (list_any-append 
 
 -- the look at the noted key, and where it is in the key set
 noted_performed : (me : CallerNo) (s : SelNo) (noted : Option KeyId) (st : State)
-    → perform me (noted_in_set s noted) st ≡ record { answer = option_map (key s) (if_in_key_set st s.0 noted); state = st }
+    → perform me (noted_in_set s noted) st ≡ record {
+      answer = option_map (key s) (if_in_key_set st s.0 noted);
+      state = st;
+    }
 noted_performed me s None st = refl
 noted_performed me s (Some k) st = by_set (is_in_key_set (st.key s.0 k.index) k.serial)
   where
-    by_set : (b : Bool) → ◌≡◌ {A = Performed (Option KeyNo)} (record { answer = cond b (Some (key s k)) None; state = st }) (record { answer = option_map (key s) (cond b (Some k) None); state = st })
+    by_set : (b : Bool)
+        → ◌≡◌ {A = Performed (Option KeyNo)} (record { answer = cond b (Some (key s k)) None; state = st })
+        (record { answer = option_map (key s) (cond b (Some k) None); state = st })
     by_set true = refl
     by_set false = refl
 
@@ -80,8 +89,10 @@ registered-performed l me c st =
     perform_sweep me l.selectors 0 (registered_or c) (λ n. list_any (has_key st c.0) (below n)) (λ _. st) (omega arith)
     (λ n _ _.
     let before = list_any (has_key st c.0) (below n) in
-    perform_then_on me (key_for_plan c (selector n)) (λ here. Plan.reply (before || is_some here)) st _ st (key_for-performed me c (selector n) st)
-    ∙ ap (λ b. record { answer = b; state = st }) (ap (λ b. before || b) (mapped_some (key (selector n)) (key_of st c.0 n)) ∙ sym (any-push (has_key st c.0) n)))
+    perform_then_on me (key_for_plan c (selector n)) (λ here. Plan.reply (before || is_some here)) st _ st
+    (key_for-performed me c (selector n) st)
+    ∙ ap (λ b. record { answer = b; state = st })
+    (ap (λ b. before || b) (mapped_some (key (selector n)) (key_of st c.0 n)) ∙ sym (any-push (has_key st c.0) n)))
 
 -- the key that is found, or any where there is none
 key_or : SelNo → Option KeyId → KeyNo
@@ -112,12 +123,15 @@ first_key-performed l me c st =
       found = option_map x o;
       performed =
           perform_seek me l.selectors 0 (λ n. key_for_plan c (selector n)) p x st (λ _. st) (omega arith)
-          (λ n _ _ not_found. key_for-performed me c (selector n) st ∙ ap (λ a. record { answer = a; state = st }) (none_mapped (selector n) (key_of st c.0 n) not_found))
-          (λ n _ _ found. key_for-performed me c (selector n) st ∙ ap (λ a. record { answer = a; state = st }) (some_mapped (selector n) (key_of st c.0 n) found))
+          (λ n _ _ not_found. key_for-performed me c (selector n) st
+          ∙ ap (λ a. record { answer = a; state = st }) (none_mapped (selector n) (key_of st c.0 n) not_found))
+          (λ n _ _ found. key_for-performed me c (selector n) st
+          ∙ ap (λ a. record { answer = a; state = st }) (some_mapped (selector n) (key_of st c.0 n) found))
           ∙ found_same x o;
       where_registered = mapped_some x o ∙ (ap is_some (find-below p l.selectors) ∙ found-any p (below l.selectors));
     }
   where
-    found_same : (x : ℕ → KeyNo) (o : Option ℕ) → found_at st x (λ _. st) o ≡ record { answer = option_map x o; state = st }
+    found_same : (x : ℕ → KeyNo) (o : Option ℕ)
+        → found_at st x (λ _. st) o ≡ record { answer = option_map x o; state = st }
     found_same x None = refl
     found_same x (Some n) = refl

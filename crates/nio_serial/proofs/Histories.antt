@@ -38,8 +38,11 @@ use Rattle.nio_serial.proofs.Lines.{selector-found, channel-found, key-found, li
 use Rattle.nio_serial.proofs.Staying.{line-stays, left-more}
 use Rattle.nio_serial.specs.Between.{IsBetween, IsLeft, IsAtRest}
 use Rattle.nio_serial.specs.Documented.{Progress, documented, amounts}
-use Rattle.nio_serial.specs.Laws.{IsMadeSelector, IsMadeChannel, IsMadeKey, IsNamed, CallsAmount, LinesAmount, DrawsStayBetween, CallsStayBetween, Amounts, CallRunsAmount, LineRunsAmount, PassLinesAmount, ToldAmounts, LackingLeaves, by_key, ToldStaysBetween, ToldRunsAmount}
-use Rattle.nio_serial.specs.Lines.{Said, comes_to, refused, if_found, if_selector, if_channel, if_key, if_named, call_plan, line_plan, after_told}
+use Rattle.nio_serial.specs.Laws.{IsMadeSelector, IsMadeChannel, IsMadeKey, IsNamed, CallsAmount, LinesAmount}
+use Rattle.nio_serial.specs.Laws.{DrawsStayBetween, CallsStayBetween, Amounts, CallRunsAmount, LineRunsAmount}
+use Rattle.nio_serial.specs.Laws.{PassLinesAmount, ToldAmounts, LackingLeaves, by_key, ToldStaysBetween, ToldRunsAmount}
+use Rattle.nio_serial.specs.Lines.{Said, comes_to, refused, if_found, if_selector, if_channel, if_key, if_named}
+use Rattle.nio_serial.specs.Lines.{call_plan, line_plan, after_told}
 
 -- ---- names that are found
 

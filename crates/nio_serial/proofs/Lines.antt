@@ -1,5 +1,6 @@
 -- A line of a script, made on the table with its look-ups, amounts to the documented call.
-use Rattle.std.proofs.Common.{◌≡◌, ℕ, ◌<◌, ◌≤◌, ◌==◌, nat_lt, Bool, true, false, cond, not, ◌&&◌, ◌||◌, if◌then◌else◌, Option, Some, None, refl, ap, sym, ◌∙◌, arith}
+use Rattle.std.proofs.Common.{◌≡◌, ℕ, ◌<◌, ◌≤◌, ◌==◌, nat_lt, Bool, true, false, cond, not, ◌&&◌, ◌||◌, if◌then◌else◌}
+use Rattle.std.proofs.Common.{Option, Some, None, refl, ap, sym, ◌∙◌, arith}
 use Rattle.std.proofs.lemmas.Bool.{both_ways, ltb-true, ltb-false, lt-ltb, le-ltb, false_from_ne_true, cond-false}
 use Rattle.nio_base.specs.Limits.{IsFit}
 use Rattle.nio_base.specs.declared.limits.Limits.{Limits}
@@ -23,7 +24,8 @@ use Rattle.nio_plain.specs.Seq.{call_of, seq}
 use Rattle.nio_plain.specs.Seq.Answers.{Answered, unchanged}
 use Rattle.nio_plain.specs.Seq.Cancelling.{closec_call, cancel_call}
 use Rattle.nio_plain.specs.Seq.Closing.{close_call, close_end_call}
-use Rattle.nio_plain.specs.Seq.Keys.{valid_call, interest_call, ready_call, iset_call, ior_call, iand_call, unselect_call, attach_call, attachment_call}
+use Rattle.nio_plain.specs.Seq.Keys.{valid_call, interest_call, ready_call, iset_call, ior_call, iand_call}
+use Rattle.nio_plain.specs.Seq.Keys.{unselect_call, attach_call, attachment_call}
 use Rattle.nio_plain.specs.Seq.Listing.{keys_call, selected_call}
 use Rattle.nio_plain.specs.Seq.Modes.{blocking_call, is_blocking_call, is_open_call, is_registered_call, key_for_call}
 use Rattle.nio_plain.specs.Seq.Names.{with_named_channel, with_named_selector, with_named_key}
@@ -42,7 +44,8 @@ use Rattle.nio_serial.proofs.Calls.{call-amounts}
 use Rattle.nio_serial.proofs.Facts.{sound, channels}
 use Rattle.nio_serial.specs.Between.{IsBetween}
 use Rattle.nio_serial.specs.Documented.{Progress, settled, documented}
-use Rattle.nio_serial.specs.Lines.{Said, comes_to, refused, if_found, if_selector, if_channel, if_key, if_named, call_plan, line_plan}
+use Rattle.nio_serial.specs.Lines.{Said, comes_to, refused, if_found, if_selector, if_channel, if_key, if_named}
+use Rattle.nio_serial.specs.Lines.{call_plan, line_plan}
 
 -- ---- look-ups
 
@@ -209,7 +212,10 @@ module _ (l : Limits) (st : State) (now : Progress) (me : CallerNo) (fit : IsFit
 
   pub named-amounts : (word : Call) → call_of Now l ds me word
       ≡ comes_to (perform me (if_named l now word (call_plan l now me word)) st)
-  unfolding call_of if_named blocking_call is_blocking_call is_open_call is_registered_call key_for_call register_call closec_call valid_call interest_call ready_call iset_call ior_call iand_call cancel_call unselect_call attach_call attachment_call begin_call told_call failed_call wakeup_call close_call close_end_call keys_call selected_call interrupt_call pipe_call pwrite_call pread_call
+  unfolding call_of if_named blocking_call is_blocking_call is_open_call is_registered_call key_for_call register_call
+      closec_call valid_call interest_call ready_call iset_call ior_call iand_call cancel_call unselect_call attach_call
+      attachment_call begin_call told_call failed_call wakeup_call close_call close_end_call keys_call selected_call
+      interrupt_call pipe_call pwrite_call pread_call
   named-amounts call.Selector = call-amounts l st now me between call.Selector tt
   named-amounts (call.Channel kind) = call-amounts l st now me between (call.Channel kind) tt
   named-amounts (call.Blocking c on) =

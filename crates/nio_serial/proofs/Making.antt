@@ -1,5 +1,6 @@
 -- The making of a new key, performed on a state in which nobody else is at work.
-use Rattle.std.proofs.Common.{◌≡◌, ℕ, suc, ◌+◌, ◌<◌, ◌≤◌, max, nat_lt, Bool, true, false, if◌then◌else◌, Option, Some, None, Result, Ok, Err, refl, ap, sym, ◌∙◌, add-one, arith}
+use Rattle.std.proofs.Common.{◌≡◌, ℕ, suc, ◌+◌, ◌<◌, ◌≤◌, max, nat_lt, Bool, true, false, if◌then◌else◌, Option, Some}
+use Rattle.std.proofs.Common.{None, Result, Ok, Err, refl, ap, sym, ◌∙◌, add-one, arith}
 use Rattle.std.proofs.lemmas.Bool.{ltb-true, ltb-false}
 use Rattle.nio_base.specs.declared.limits.Limits.{Limits}
 use Rattle.nio_base.specs.declared.numbers.CallerNo.{CallerNo}
@@ -9,12 +10,14 @@ use Rattle.nio_base.specs.declared.numbers.KeyNo.{KeyNo}
 use Rattle.nio_base.specs.declared.numbers.SelNo.{SelNo}
 use Rattle.nio_event.proofs.Put.{put_at-same}
 use Rattle.nio_event.specs.Acts.{new_key}
-use Rattle.nio_event.specs.State.{State, unmarked, put, put_at, with_noted, with_keys_high, with_interest, with_mark, with_note}
+use Rattle.nio_event.specs.State.{State, unmarked, put, put_at, with_noted, with_keys_high, with_interest, with_mark}
+use Rattle.nio_event.specs.State.{with_note}
 use Rattle.nio_event.specs.declared.found.Stage.{Stage}
 use Rattle.nio_plain.proofs.Found.{found_below}
 use Rattle.nio_plain.specs.Seq.Registering.{free_index, next_by, next_key, new_stage, with_new_key}
 use Rattle.nio_steps.proofs.PerformLaws.{perform_else, perform_then_on}
-use Rattle.nio_steps.specs.ChannelCalls.{claim_new, search_free, settle_key, publish_key, make_key, make_claimed, register_first, register_again, register_next, register_new}
+use Rattle.nio_steps.specs.ChannelCalls.{claim_new, search_free, settle_key, publish_key, make_key, make_claimed}
+use Rattle.nio_steps.specs.ChannelCalls.{register_first, register_again, register_next, register_new}
 use Rattle.nio_steps.specs.Names.{key}
 use Rattle.nio_steps.specs.Perform.{Performed, perform}
 use Rattle.nio_steps.specs.Plan.{Plan, when, ◌>>=◌, ◌>>◌}
@@ -22,7 +25,8 @@ use Rattle.nio_steps.specs.Steps.{cancel_key, unpin}
 use Rattle.nio_steps.specs.Sweeps.{seek_to}
 use Rattle.nio_steps.specs.declared.refusal.ChannelError.{ChannelError}
 use Rattle.nio_serial.proofs.Base.{put-here, put_at-here, put_at-twice, pin-back}
-use Rattle.nio_serial.proofs.Claiming.{claimed_again, next_at, found, search-performed, claimed_first, first-performed, full-performed}
+use Rattle.nio_serial.proofs.Claiming.{claimed_again, next_at, found, search-performed, claimed_first, first-performed}
+use Rattle.nio_serial.proofs.Claiming.{full-performed}
 
 -- a claimed index gets its parts, its key is noted and published, and the pin of the claim is given back
 pub made-performed : (st : State) (me : CallerNo) (s : SelNo) (c : ChanNo) (ops att : ℕ) (k : KeyId)
@@ -36,9 +40,13 @@ pub made-performed : (st : State) (me : CallerNo) (s : SelNo) (c : ChanNo) (ops 
       };
     }
 made-performed st me s c ops att k claimed not_shut is_open =
-    perform_then_on me (make_key s c ops att k) (λ answer. unpin s k.index >> Plan.reply answer) st (Ok (key s k)) published
-    (perform_else me (st.gate s.0).shut (Plan.reply (Err ChannelError.ClosedSelector)) (publish_key s c ops att k) st not_shut
-    ∙ (ap (λ (x : Stage). perform me (if x.removed then Plan.reply (Err ChannelError.ClosedSelector) else settle_key s c k) (record noted { key = put_at st.key s.0 k.index (record x { published = true }) })) claimed
+    perform_then_on me (make_key s c ops att k) (λ answer. unpin s k.index >> Plan.reply answer) st
+    (Ok (key s k)) published
+    (perform_else me (st.gate s.0).shut (Plan.reply (Err ChannelError.ClosedSelector))
+    (publish_key s c ops att k) st not_shut
+    ∙ (ap (λ (x : Stage). perform me
+    (if x.removed then Plan.reply (Err ChannelError.ClosedSelector) else settle_key s c k)
+    (record noted { key = put_at st.key s.0 k.index (record x { published = true }) })) claimed
     ∙ ap (λ (b : Bool). perform me (when b (cancel_key s k.index) >> Plan.reply (Ok (key s k))) published) is_open))
   where
     noted : State
@@ -67,36 +75,58 @@ module _ (l : Limits) (st : State) (me : CallerNo) (s : SelNo) (c : ChanNo) (ops
     there : claimed.key s.0 k.index ≡ new_key c k.serial
     there = ap (λ f. f s.0 k.index) is ∙ put_at-same st.key s.0 k.index (new_key c k.serial)
 
-    key-made : put_at claimed.key s.0 k.index (new_stage c.0 k.serial) ≡ put_at st.key s.0 k.index (new_stage c.0 k.serial)
-    key-made = ap (λ f. put_at f s.0 k.index (new_stage c.0 k.serial)) is ∙ put_at-twice st.key s.0 k.index (new_key c k.serial) (new_stage c.0 k.serial)
+    key-made : put_at claimed.key s.0 k.index (new_stage c.0 k.serial) ≡ put_at st.key s.0 k.index
+        (new_stage c.0 k.serial)
+    key-made =
+        ap (λ f. put_at f s.0 k.index (new_stage c.0 k.serial)) is
+        ∙ put_at-twice st.key s.0 k.index (new_key c k.serial) (new_stage c.0 k.serial)
 
     pins-made : put_at claimed.pinned s.0 k.index (put (claimed.pinned s.0 k.index) me.0 false) ≡ st.pinned
-    pins-made = ap (λ f. put_at f s.0 k.index (put (f s.0 k.index) me.0 false)) pinned_is ∙ pin-back st.pinned s.0 k.index me.0 (unpinned k.index me.0)
+    pins-made =
+        ap (λ f. put_at f s.0 k.index (put (f s.0 k.index) me.0 false)) pinned_is
+        ∙ pin-back st.pinned s.0 k.index me.0 (unpinned k.index me.0)
 
     claimed-made : perform me (make_claimed s c ops att k) claimed
         ≡ record {
           answer = Ok (key s k);
-          state = record (with_noted (with_note (with_interest claimed s.0 k.index ops) s.0 k.index att) c.0 s.0 (Some k)) {
-            key = put_at st.key s.0 k.index (new_stage c.0 k.serial);
-            pinned = st.pinned;
-          };
+          state = record (with_noted (with_note (with_interest claimed s.0 k.index ops) s.0 k.index att) c.0 s.0
+              (Some k)) {
+                key = put_at st.key s.0 k.index (new_stage c.0 k.serial);
+                pinned = st.pinned;
+              };
         }
     claimed-made =
-        made-performed claimed me s c ops att k there (ap (λ f. (f s.0).shut) gate_is ∙ not_shut) (ap (λ f. (f c.0).closed) chan_is ∙ is_open)
-        ∙ (λ j. record { answer = Ok (key s k); state = record (with_noted (with_note (with_interest claimed s.0 k.index ops) s.0 k.index att) c.0 s.0 (Some k)) { key = key-made j; pinned = pins-made j } })
+        made-performed claimed me s c ops att k there (ap (λ f. (f s.0).shut) gate_is ∙ not_shut)
+        (ap (λ f. (f c.0).closed) chan_is ∙ is_open)
+        ∙ (λ j. record {
+          answer = Ok (key s k);
+          state =
+              record (with_noted (with_note (with_interest claimed s.0 k.index ops) s.0 k.index att) c.0 s.0
+              (Some k)) { key = key-made j; pinned = pins-made j };
+        })
 
-  again-made : (i : ℕ) → i < mark → perform me (register_again s c ops att (next_at st me s c unpinned untaken i)) (claimed_again st me s c unpinned untaken i)
+  again-made : (i : ℕ) → i < mark
+      → perform me (register_again s c ops att (next_at st me s c unpinned untaken i))
+      (claimed_again st me s c unpinned untaken i)
       ≡ made (Some (next_at st me s c unpinned untaken i))
   again-made i low =
       claimed-made k (with_mark (claimed_again st me s c unpinned untaken i) s.0 i unmarked) refl refl refl refl
-      ∙ (λ j. record { answer = Ok (key s k); state = record (with_new_key st s.0 c.0 k ops att) { keys_high = sym (put-here st.keys_high s.0 (max mark (suc i)) (omega arith)) j } })
+      ∙ (λ j. record {
+        answer = Ok (key s k);
+        state =
+            record (with_new_key st s.0 c.0 k ops
+            att) { keys_high = sym (put-here st.keys_high s.0 (max mark (suc i)) (omega arith)) j };
+      })
     where
       k : KeyId
       k = next_at st me s c unpinned untaken i
 
-  first-made : mark < l.keys → perform me (seek_to l.keys mark (claim_new s c) >>= register_first s c ops att) st ≡ made (Some (record { index = mark; serial = 0 }))
+  first-made : mark < l.keys
+      → perform me (seek_to l.keys mark (claim_new s c) >>= register_first s c ops att) st
+      ≡ made (Some (record { index = mark; serial = 0 }))
   first-made room =
-      perform_then_on me (seek_to l.keys mark (claim_new s c)) (register_first s c ops att) st (Some k) claimed (first-performed st me s c exact (λ i. unpinned i me.0) l room)
+      perform_then_on me (seek_to l.keys mark (claim_new s c)) (register_first s c ops att) st (Some k) claimed
+      (first-performed st me s c exact (λ i. unpinned i me.0) l room)
       ∙ (claimed-made k (with_keys_high claimed s.0 (max mark (mark + 1))) refl refl refl refl
       ∙ (λ j. record {
         answer = Ok (key s k);
@@ -113,20 +143,26 @@ module _ (l : Limits) (st : State) (me : CallerNo) (s : SelNo) (c : ChanNo) (ops
       claimed : State
       claimed = claimed_first st me s c exact (λ i. unpinned i me.0)
 
-  first-full : l.keys ≤ mark → perform me (seek_to l.keys mark (claim_new s c) >>= register_first s c ops att) st ≡ made None
+  first-full : l.keys ≤ mark
+      → perform me (seek_to l.keys mark (claim_new s c) >>= register_first s c ops att) st ≡ made None
   first-full full =
-      perform_then_on me (seek_to l.keys mark (claim_new s c)) (register_first s c ops att) st None st (full-performed st me s c exact (λ i. unpinned i me.0) l full)
+      perform_then_on me (seek_to l.keys mark (claim_new s c)) (register_first s c ops att) st None st
+      (full-performed st me s c exact (λ i. unpinned i me.0) l full)
 
   pub new-performed : perform me (register_new l s c ops att) st ≡ made (next_key l st s.0)
   new-performed =
-      perform_then_on me (search_free s c mark) (register_next l s c ops att mark) st _ _ (search-performed st me s c unpinned untaken mark)
+      perform_then_on me (search_free s c mark) (register_next l s c ops att mark) st _ _
+      (search-performed st me s c unpinned untaken mark)
       ∙ by_free (free_index st s.0) refl
     where
       by_free : (o : Option ℕ) → free_index st s.0 ≡ o
-          → perform me (register_next l s c ops att mark (found st me s c unpinned untaken mark o).answer) (found st me s c unpinned untaken mark o).state ≡ made (next_by l st s.0 o)
+          → perform me (register_next l s c ops att mark (found st me s c unpinned untaken mark o).answer)
+          (found st me s c unpinned untaken mark o).state ≡ made (next_by l st s.0 o)
       by_free (Some i) is = again-made i (found_below (λ j. st.free s.0 j) mark i is).1
       by_free None is = by_room (nat_lt mark l.keys) refl
         where
-          by_room : (b : Bool) → nat_lt mark l.keys ≡ b → perform me (seek_to l.keys mark (claim_new s c) >>= register_first s c ops att) st ≡ made (if b then Some (record { index = mark; serial = 0 }) else None)
+          by_room : (b : Bool) → nat_lt mark l.keys ≡ b
+              → perform me (seek_to l.keys mark (claim_new s c) >>= register_first s c ops att) st
+              ≡ made (if b then Some (record { index = mark; serial = 0 }) else None)
           by_room true e = first-made (ltb-true mark l.keys e)
           by_room false e = first-full (ltb-false mark l.keys e)

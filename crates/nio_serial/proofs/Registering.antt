@@ -1,5 +1,6 @@
 -- Registering amounts to the documented call.
-use Rattle.std.proofs.Common.{◌≡◌, ℕ, ◌==◌, nat_lt, Bool, true, false, cond, not, ◌&&◌, if◌then◌else◌, Option, Some, None, Result, Ok, Err, refl, ap, sym, ◌∙◌}
+use Rattle.std.proofs.Common.{◌≡◌, ℕ, ◌==◌, nat_lt, Bool, true, false, cond, not, ◌&&◌, if◌then◌else◌, Option, Some}
+use Rattle.std.proofs.Common.{None, Result, Ok, Err, refl, ap, sym, ◌∙◌}
 use Rattle.std.proofs.lemmas.Bool.{both_ways, and_parts, not-true}
 use Rattle.nio_base.specs.Kind.{valid_operations}
 use Rattle.nio_base.specs.declared.limits.Limits.{Limits}
@@ -18,16 +19,19 @@ use Rattle.nio_plain.proofs.Naming.{channel-through, selector-through}
 use Rattle.nio_plain.specs.ScriptState.{ScriptState, with_shared}
 use Rattle.nio_plain.specs.Seq.Answers.{Answered, unchanged, answered}
 use Rattle.nio_plain.specs.Seq.Modes.{if_in_key_set}
-use Rattle.nio_plain.specs.Seq.Registering.{given_or_none, given_or_kept, next_key, new_stage, with_new_key, registered_new, registered, register_call}
+use Rattle.nio_plain.specs.Seq.Registering.{given_or_none, given_or_kept, next_key, new_stage, with_new_key}
+use Rattle.nio_plain.specs.Seq.Registering.{registered_new, registered, register_call}
 use Rattle.nio_steps.proofs.PerformLaws.{perform_else, perform_then_on}
-use Rattle.nio_steps.specs.ChannelCalls.{under_hold, update_key, register_noted, register_over, register_rest, register_new, register_unblocked, register_held, try_register_plan}
+use Rattle.nio_steps.specs.ChannelCalls.{under_hold, update_key, register_noted, register_over, register_rest}
+use Rattle.nio_steps.specs.ChannelCalls.{register_new, register_unblocked, register_held, try_register_plan}
 use Rattle.nio_steps.specs.KeyCalls.{under_pin, is_within}
 use Rattle.nio_steps.specs.Names.{key}
 use Rattle.nio_steps.specs.Perform.{Performed, perform}
 use Rattle.nio_steps.specs.Plan.{Plan, when, ◌>>=◌, ◌>>◌}
 use Rattle.nio_steps.specs.Steps.{look_gate, swap_note}
 use Rattle.nio_steps.specs.declared.refusal.ChannelError.{ChannelError}
-use Rattle.nio_serial.proofs.Base.{put-back, put_at-here, put_at-under, pin-back, branch, unpinned, perform_pinned, released, perform_held}
+use Rattle.nio_serial.proofs.Base.{put-back, put_at-here, put_at-under, pin-back, branch, unpinned, perform_pinned}
+use Rattle.nio_serial.proofs.Base.{released, perform_held}
 use Rattle.nio_serial.proofs.Making.{made, new-performed}
 use Rattle.nio_serial.specs.Documented.{Progress, settled, settled_mark, settled_state, documented, amounts}
 use Rattle.nio_serial.specs.Replies.{register_reply}

@@ -1,5 +1,6 @@
 -- Keys that are removed one after the other: the state after so many of them, in closed form.
-use Rattle.std.proofs.Common.{◌≡◌, ℕ, ◌==◌, nat_lt, Bool, true, false, cond, not, ◌&&◌, ◌||◌, None, refl, ap, sym, ◌∙◌, subst, eqb-true}
+use Rattle.std.proofs.Common.{◌≡◌, ℕ, ◌==◌, nat_lt, Bool, true, false, cond, not, ◌&&◌, ◌||◌, None, refl, ap, sym, ◌∙◌}
+use Rattle.std.proofs.Common.{subst, eqb-true}
 use Rattle.std.proofs.lemmas.Bool.{and_parts}
 use Rattle.nio_base.specs.declared.numbers.CallerNo.{CallerNo}
 use Rattle.nio_base.specs.declared.numbers.SelNo.{SelNo}
@@ -15,7 +16,8 @@ use Rattle.nio_serial.proofs.Base.{put_at-here, put_at-back}
 use Rattle.nio_serial.specs.Documented.{settled, settled_mark, settled_state}
 
 -- what is put at a pair of numbers, where both the new value and the others are those of a function
-pub put_at-is : {A : Type 0} (f g : ℕ → ℕ → A) (s i : ℕ) (y : A) → y ≡ g s i → ((t j : ℕ) → ((t == s) && (j == i)) ≡ false → f t j ≡ g t j)
+pub put_at-is : {A : Type 0} (f g : ℕ → ℕ → A) (s i : ℕ) (y : A) → y ≡ g s i
+    → ((t j : ℕ) → ((t == s) && (j == i)) ≡ false → f t j ≡ g t j)
     → (t j : ℕ) → put_at f s i y t j ≡ g t j
 put_at-is {A = A} f g s i y new old t j = by_place ((t == s) && (j == i)) refl
   where
@@ -45,14 +47,16 @@ module _ (st : State) (frees : Stage → Bool) where
     free = λ t i. (sym (none t i) j && frees (st.key t i)) || st.free t i;
   }
 
-  pub removed_same : (goes goes' : ℕ → ℕ → Bool) → ((t i : ℕ) → goes t i ≡ goes' t i) → removed_where st goes frees ≡ removed_where st goes' frees
+  pub removed_same : (goes goes' : ℕ → ℕ → Bool) → ((t i : ℕ) → goes t i ≡ goes' t i)
+      → removed_where st goes frees ≡ removed_where st goes' frees
   removed_same goes goes' same = λ j. record st {
     key = λ t i. cond (same t i j) (gone (st.key t i)) (st.key t i);
     free = λ t i. (same t i j && frees (st.key t i)) || st.free t i;
   }
 
   -- one key more
-  module _ (goes goes' : ℕ → ℕ → Bool) (s i : ℕ) (here : goes' s i ≡ true) (others : (t j : ℕ) → ((t == s) && (j == i)) ≡ false → goes' t j ≡ goes t j) where
+  module _ (goes goes' : ℕ → ℕ → Bool) (s i : ℕ) (here : goes' s i ≡ true)
+      (others : (t j : ℕ) → ((t == s) && (j == i)) ≡ false → goes' t j ≡ goes t j) where
     again : (b : Bool) (k : Stage) → gone (cond b (gone k) k) ≡ gone k
     again true k = refl
     again false k = refl
@@ -64,7 +68,11 @@ module _ (st : State) (frees : Stage → Bool) where
 
     -- its index is free where it frees
     pub removed_more : let now = removed_where st goes frees in
-        record now { key = put_at now.key s i (gone (now.key s i)); free = put_at now.free s i (frees (st.key s i) || now.free s i) } ≡ removed_where st goes' frees
+        record now {
+          key = put_at now.key s i (gone (now.key s i));
+          free =
+              put_at now.free s i (frees (st.key s i) || now.free s i);
+        } ≡ removed_where st goes' frees
     removed_more =
         let now = removed_where st goes frees in
         λ j. record st {
@@ -72,7 +80,8 @@ module _ (st : State) (frees : Stage → Bool) where
               (again (goes s i) (st.key s i) ∙ ap (λ b. cond b (gone (st.key s i)) (st.key s i)) (sym here))
               (λ t' n' other. ap (λ b. cond b (gone (st.key t' n')) (st.key t' n')) (sym (others t' n' other))) t n j;
           free = λ t n. put_at-is now.free (removed_where st goes' frees).free s i (frees (st.key s i) || now.free s i)
-              (more_free (goes s i) (frees (st.key s i)) (st.free s i) ∙ ap (λ b. (b && frees (st.key s i)) || st.free s i) (sym here))
+              (more_free (goes s i) (frees (st.key s i)) (st.free s i)
+              ∙ ap (λ b. (b && frees (st.key s i)) || st.free s i) (sym here))
               (λ t' n' other. ap (λ b. (b && frees (st.key t' n')) || st.free t' n') (sym (others t' n' other))) t n j;
         }
 
@@ -81,12 +90,15 @@ settled_gone : (b : Bool) (k : Stage) → settled (cond b (gone k) k) ≡ cond b
 settled_gone true k = refl
 settled_gone false k = refl
 
-settled_gone_mark : (b : Bool) (k : Stage) (m : Mark) → settled_mark (cond b (gone k) k) m ≡ cond b (unselected (settled_mark k m)) (settled_mark k m)
+settled_gone_mark : (b : Bool) (k : Stage) (m : Mark)
+    → settled_mark (cond b (gone k) k) m ≡ cond b (unselected (settled_mark k m)) (settled_mark k m)
 settled_gone_mark true k m = refl
 settled_gone_mark false k m = refl
 
-pub settled-removed : (st : State) (frees : Stage → Bool) (s : ℕ) (test : ℕ → Bool) → ((k : Stage) → frees (settled k) ≡ frees k)
-    → settled_state (removed_where st (λ t i. (t == s) && test i) frees) ≡ without_keys_where (settled_state st) s test frees
+pub settled-removed : (st : State) (frees : Stage → Bool) (s : ℕ) (test : ℕ → Bool)
+    → ((k : Stage) → frees (settled k) ≡ frees k)
+    → settled_state (removed_where st (λ t i. (t == s) && test i) frees) ≡ without_keys_where
+    (settled_state st) s test frees
 settled-removed st frees s test alike = λ j. record (settled_state st) {
   key = λ t i. settled_gone ((t == s) && test i) (st.key t i) j;
   mark = λ t i. settled_gone_mark ((t == s) && test i) (st.key t i) (st.mark t i) j;
@@ -96,10 +108,19 @@ settled-removed st frees s test alike = λ j. record (settled_state st) {
 -- ---- the steps
 
 -- a key that is removed, and its index put where there is a next serial
-pub removal-performed : (st : State) (me : CallerNo) (s : SelNo) (i : ℕ) → st.put_due s.0 i ≡ false → st.taker s.0 i ≡ None
+pub removal-performed : (st : State) (me : CallerNo) (s : SelNo) (i : ℕ) → st.put_due s.0 i ≡ false
+    → st.taker s.0 i ≡ None
     → let k = st.key s.0 i in
     perform me (remove_cancelled s i k) st
-    ≡ record { answer = tt; state = record st { key = put_at st.key s.0 i (gone k); free = put_at st.free s.0 i (nat_lt k.serial last_serial || st.free s.0 i) } }
+    ≡ record {
+      answer = tt;
+      state =
+          record st {
+            key = put_at st.key s.0 i (gone k);
+            free =
+                put_at st.free s.0 i (nat_lt k.serial last_serial || st.free s.0 i);
+          };
+    }
 removal-performed st me s i none_due untaken = by_serial (nat_lt k.serial last_serial) refl
   where
     k : Stage
@@ -118,7 +139,11 @@ removal-performed st me s i none_due untaken = by_serial (nat_lt k.serial last_s
 
     by_serial : (b : Bool) → nat_lt k.serial last_serial ≡ b
         → perform me (when b (put_free s i)) (removed (nat_lt k.serial last_serial))
-        ≡ record { answer = tt; state = record st { key = put_at st.key s.0 i (gone k); free = put_at st.free s.0 i (b || st.free s.0 i) } }
+        ≡ record {
+          answer = tt;
+          state =
+              record st { key = put_at st.key s.0 i (gone k); free = put_at st.free s.0 i (b || st.free s.0 i) };
+        }
     by_serial true e = λ j. record {
       answer = tt;
       state = record (with_key st s.0 i (gone k)) {
@@ -131,6 +156,7 @@ removal-performed st me s i none_due untaken = by_serial (nat_lt k.serial last_s
       answer = tt;
       state = record (with_key st s.0 i (gone k)) {
         free = sym (put_at-here st.free s.0 i (st.free s.0 i) refl) j;
-        put_due = put_at-here st.put_due s.0 i (due (nat_lt k.serial last_serial)) (none_due ∙ sym (ap due e ∙ (λ n. none_due n || not_due (st.begun s.0) (not k.removed) n))) j;
+        put_due = put_at-here st.put_due s.0 i (due (nat_lt k.serial last_serial))
+            (none_due ∙ sym (ap due e ∙ (λ n. none_due n || not_due (st.begun s.0) (not k.removed) n))) j;
       };
     }

@@ -1,6 +1,8 @@
 -- Between two calls of a script nothing is at work: each documented call keeps that.
-use Rattle.std.proofs.Common.{◌≡◌, ◌≢◌, ℕ, suc, ◌+◌, ◌<◌, ◌≤◌, max, ◌==◌, nat_lt, Bool, true, false, cond, not, ◌&&◌, ◌||◌, Option, None, refl, ap, sym, ◌∙◌, ⊎_elim, arith, eqb-true, eq-eqb}
-use Rattle.std.proofs.lemmas.Bool.{both_ways, and_parts, and_left, not-true, false_from_ne_true, lt-ltb, le-ltb, ltb-false, cases_lt}
+use Rattle.std.proofs.Common.{◌≡◌, ◌≢◌, ℕ, suc, ◌+◌, ◌<◌, ◌≤◌, max, ◌==◌, nat_lt, Bool, true, false, cond, not, ◌&&◌}
+use Rattle.std.proofs.Common.{◌||◌, Option, None, refl, ap, sym, ◌∙◌, ⊎_elim, arith, eqb-true, eq-eqb}
+use Rattle.std.proofs.lemmas.Bool.{both_ways, and_parts, and_left, not-true, false_from_ne_true, lt-ltb, le-ltb}
+use Rattle.std.proofs.lemmas.Bool.{ltb-false, cases_lt}
 use Rattle.nio_base.specs.declared.limits.Limits.{Limits}
 use Rattle.nio_base.specs.declared.numbers.CallerNo.{CallerNo}
 use Rattle.nio_base.specs.declared.numbers.KeyId.{KeyId}
@@ -18,7 +20,8 @@ use Rattle.nio_serial.specs.Between.{IsAtRest}
 
 -- ---- the parts
 
-pub record Unused (hold : ℕ → Option CallerNo) (pinned : ℕ → ℕ → ℕ → Bool) (taker : ℕ → ℕ → Option CallerNo) (put_due : ℕ → ℕ → Bool) : Type 0 where
+pub record Unused (hold : ℕ → Option CallerNo) (pinned : ℕ → ℕ → ℕ → Bool) (taker : ℕ → ℕ → Option CallerNo)
+    (put_due : ℕ → ℕ → Bool) : Type 0 where
   pub unheld : (c : ℕ) → hold c ≡ None
   pub unpinned : (s i n : ℕ) → pinned s i n ≡ false
   pub untaken : (s i : ℕ) → taker s i ≡ None
@@ -33,7 +36,8 @@ pub record Fresh (k : Stage) (m : Mark) (f : Bool) : Type 0 where
   pub mark : m ≡ unmarked
   pub free : f ≡ false
 
-pub record KeysRest (l : Limits) (keys_high : ℕ → ℕ) (key : ℕ → ℕ → Stage) (mark : ℕ → ℕ → Mark) (free : ℕ → ℕ → Bool) : Type 0 where
+pub record KeysRest (l : Limits) (keys_high : ℕ → ℕ) (key : ℕ → ℕ → Stage) (mark : ℕ → ℕ → Mark)
+    (free : ℕ → ℕ → Bool) : Type 0 where
   pub within : (s : ℕ) → keys_high s ≤ l.keys
   pub claimed : (s i : ℕ) → (key s i).claimed ≡ nat_lt i (keys_high s)
   pub published : (s i : ℕ) → (key s i).published ≡ nat_lt i (keys_high s)
@@ -51,27 +55,39 @@ pub record Rests (l : Limits) (st : State) : Type 0 where
 
 pub rests-from : (l : Limits) (st : State) → IsAtRest l st → Rests l st
 rests-from l st rest = record {
-  unused = record { unheld = rest.unused.unheld; unpinned = rest.unused.unpinned; untaken = rest.unused.untaken; none_due = rest.unused.none_due };
+  unused = record {
+    unheld = rest.unused.unheld;
+    unpinned = rest.unused.unpinned;
+    untaken = rest.unused.untaken;
+    none_due = rest.unused.none_due;
+  };
   channels = record { within = rest.marks.channels_within; made = rest.marks.channels };
   keys = record {
     within = rest.marks.keys_within;
     claimed = rest.marks.claimed;
     published = rest.marks.published;
-    fresh = λ s i above. let new = rest.marks.fresh s i above in record { key = new.key; mark = new.mark; free = new.free };
+    fresh = λ s i above. let new = rest.marks.fresh s i above in
+        record { key = new.key; mark = new.mark; free = new.free };
   };
   frees = record { removed = rest.free.removed; exactly = rest.free.exactly };
 }
 
 pub rests-is : (l : Limits) (st : State) → Rests l st → IsAtRest l st
 rests-is l st rest = record {
-  unused = record { unheld = rest.unused.unheld; unpinned = rest.unused.unpinned; untaken = rest.unused.untaken; none_due = rest.unused.none_due };
+  unused = record {
+    unheld = rest.unused.unheld;
+    unpinned = rest.unused.unpinned;
+    untaken = rest.unused.untaken;
+    none_due = rest.unused.none_due;
+  };
   marks = record {
     channels_within = rest.channels.within;
     keys_within = rest.keys.within;
     channels = rest.channels.made;
     claimed = rest.keys.claimed;
     published = rest.keys.published;
-    fresh = λ s i above. let new = rest.keys.fresh s i above in record { key = new.key; mark = new.mark; free = new.free };
+    fresh = λ s i above. let new = rest.keys.fresh s i above in
+        record { key = new.key; mark = new.mark; free = new.free };
   };
   free = record { removed = rest.frees.removed; exactly = rest.frees.exactly };
 }
@@ -106,9 +122,12 @@ module _ (l : Limits) (mark : ℕ) (chan : ℕ → Chan) (rest : ChannelsRest l 
 -- ---- keys
 
 -- keys that are changed so stay claimed and published, or not, and a fresh index stays fresh
-pub keys-kept : (l : Limits) (keys_high : ℕ → ℕ) (key after : ℕ → ℕ → Stage) (mark marked : ℕ → ℕ → Mark) (free freed : ℕ → ℕ → Bool)
-    → KeysRest l keys_high key mark free → ((s i : ℕ) → (after s i).claimed ≡ (key s i).claimed) → ((s i : ℕ) → (after s i).published ≡ (key s i).published)
-    → ((s i : ℕ) → nat_lt i (keys_high s) ≡ false → Fresh (key s i) (mark s i) (free s i) → Fresh (after s i) (marked s i) (freed s i))
+pub keys-kept : (l : Limits) (keys_high : ℕ → ℕ) (key after : ℕ → ℕ → Stage) (mark marked : ℕ → ℕ → Mark)
+    (free freed : ℕ → ℕ → Bool)
+    → KeysRest l keys_high key mark free → ((s i : ℕ) → (after s i).claimed ≡ (key s i).claimed)
+    → ((s i : ℕ) → (after s i).published ≡ (key s i).published)
+    → ((s i : ℕ) → nat_lt i (keys_high s) ≡ false → Fresh (key s i) (mark s i) (free s i)
+    → Fresh (after s i) (marked s i) (freed s i))
     → KeysRest l keys_high after marked freed
 keys-kept l keys_high key after mark marked free freed rest claimed published fresh = record {
   within = rest.within;
@@ -118,12 +137,15 @@ keys-kept l keys_high key after mark marked free freed rest claimed published fr
 }
 
 -- an index above the mark has no key in the key set
-pub above-out : (l : Limits) (keys_high : ℕ → ℕ) (key : ℕ → ℕ → Stage) (mark : ℕ → ℕ → Mark) (free : ℕ → ℕ → Bool) → KeysRest l keys_high key mark free
+pub above-out : (l : Limits) (keys_high : ℕ → ℕ) (key : ℕ → ℕ → Stage) (mark : ℕ → ℕ → Mark) (free : ℕ → ℕ → Bool)
+    → KeysRest l keys_high key mark free
     → (s i : ℕ) → nat_lt i (keys_high s) ≡ false → in_key_set (key s i) ≡ false
-above-out l keys_high key mark free rest s i above = and_left (key s i).published (not (key s i).removed) (rest.published s i ∙ above)
+above-out l keys_high key mark free rest s i above =
+    and_left (key s i).published (not (key s i).removed) (rest.published s i ∙ above)
 
 -- keys that are cancelled or stay
-module _ (l : Limits) (st : State) (rest : Rests l st) (test : ℕ → ℕ → Bool) (within : (s i : ℕ) → test s i ≡ true → in_key_set (st.key s i) ≡ true) where
+module _ (l : Limits) (st : State) (rest : Rests l st) (test : ℕ → ℕ → Bool)
+    (within : (s i : ℕ) → test s i ≡ true → in_key_set (st.key s i) ≡ true) where
   abbrev cancelled : ℕ → ℕ → Stage
   cancelled s i = cond (test s i) (cancelled_key (st.key s i)) (st.key s i)
 
@@ -148,21 +170,31 @@ module _ (l : Limits) (st : State) (rest : Rests l st) (test : ℕ → ℕ → B
       keys-kept l st.keys_high st.key cancelled st.mark st.mark st.free st.free rest.keys
       (λ s i. claimed_same (test s i) (st.key s i)) (λ s i. published_same (test s i) (st.key s i))
       (λ s i above fresh.
-      let out : test s i ≡ false = false_from_ne_true (test s i) (λ h. both_ways (in_key_set (st.key s i)) (above-out l st.keys_high st.key st.mark st.free rest.keys s i above) (within s i h)) in
-      record { key = ap (λ b. cond b (cancelled_key (st.key s i)) (st.key s i)) out ∙ fresh.key; mark = fresh.mark; free = fresh.free })
+      let out : test s i ≡ false = false_from_ne_true (test s i)
+      (λ h. both_ways (in_key_set (st.key s i))
+      (above-out l st.keys_high st.key st.mark st.free rest.keys s i above) (within s i h)) in
+      record {
+        key = ap (λ b. cond b (cancelled_key (st.key s i)) (st.key s i)) out ∙ fresh.key;
+        mark = fresh.mark;
+        free = fresh.free;
+      })
 
   pub frees-cancelled : FreesRest st.entered cancelled st.free
   frees-cancelled = record {
     removed = λ s i h. removed_same (test s i) (st.key s i) ∙ rest.frees.removed s i h;
-    exactly = λ s i h. rest.frees.exactly s i h ∙ (λ j. sym (removed_same (test s i) (st.key s i)) j && nat_lt (sym (serial_same (test s i) (st.key s i)) j) last_serial);
+    exactly = λ s i h. rest.frees.exactly s i h
+        ∙ (λ j. sym (removed_same (test s i) (st.key s i)) j
+        && nat_lt (sym (serial_same (test s i) (st.key s i)) j) last_serial);
   }
 
 -- keys that are removed, by a selection or by the end of a closing
-module _ (l : Limits) (st : State) (rest : Rests l st) (goes : ℕ → ℕ → Bool) (frees : Stage → Bool) (ended : ℕ → Bool) (marks : ℕ → ℕ → Mark)
+module _ (l : Limits) (st : State) (rest : Rests l st) (goes : ℕ → ℕ → Bool) (frees : Stage → Bool) (ended : ℕ → Bool)
+    (marks : ℕ → ℕ → Mark)
     (published : (s i : ℕ) → goes s i ≡ true → (st.key s i).published ≡ true)
     (quiet : (s i : ℕ) → nat_lt i (st.keys_high s) ≡ false → marks s i ≡ st.mark s i)
     (kept : (s : ℕ) → ended s ≡ false → st.entered s ≡ false)
-    (exactly : (s i : ℕ) → ended s ≡ false → goes s i ≡ true → (in_key_set (st.key s i) ≡ true) × (frees (st.key s i) ≡ nat_lt (st.key s i).serial last_serial)) where
+    (exactly : (s i : ℕ) → ended s ≡ false → goes s i ≡ true
+    → (in_key_set (st.key s i) ≡ true) × (frees (st.key s i) ≡ nat_lt (st.key s i).serial last_serial)) where
   abbrev removed : ℕ → ℕ → Stage
   removed s i = cond (goes s i) (removed_key (st.key s i)) (st.key s i)
 
@@ -181,7 +213,9 @@ module _ (l : Limits) (st : State) (rest : Rests l st) (goes : ℕ → ℕ → B
   still_published false k = refl
 
   stays_out : (s i : ℕ) → nat_lt i (st.keys_high s) ≡ false → goes s i ≡ false
-  stays_out s i above = false_from_ne_true (goes s i) (λ h. both_ways (nat_lt i (st.keys_high s)) above (sym (rest.keys.published s i) ∙ published s i h))
+  stays_out s i above =
+      false_from_ne_true (goes s i)
+      (λ h. both_ways (nat_lt i (st.keys_high s)) above (sym (rest.keys.published s i) ∙ published s i h))
 
   pub keys-removed : KeysRest l st.keys_high removed unselected_where freed
   keys-removed =
@@ -196,18 +230,28 @@ module _ (l : Limits) (st : State) (rest : Rests l st) (goes : ℕ → ℕ → B
       })
 
   pub frees-removed : FreesRest ended removed freed
-  frees-removed = record { removed = λ s i h. by_goes s i (goes s i) h (rest.frees.removed s i); exactly = λ s i still_open. exact s i (goes s i) refl still_open }
+  frees-removed =
+      record {
+        removed = λ s i h. by_goes s i (goes s i) h (rest.frees.removed s i);
+        exactly = λ s i still_open. exact s i (goes s i) refl still_open;
+      }
     where
-      by_goes : (s i : ℕ) (b : Bool) → ((b && frees (st.key s i)) || st.free s i) ≡ true → (st.free s i ≡ true → (st.key s i).removed ≡ true) → (cond b (removed_key (st.key s i)) (st.key s i)).removed ≡ true
+      by_goes : (s i : ℕ) (b : Bool) → ((b && frees (st.key s i)) || st.free s i) ≡ true
+          → (st.free s i ≡ true → (st.key s i).removed ≡ true)
+          → (cond b (removed_key (st.key s i)) (st.key s i)).removed ≡ true
       by_goes s i true h old = refl
       by_goes s i false h old = old h
 
       exact : (s i : ℕ) (b : Bool) → goes s i ≡ b → ended s ≡ false
-          → ((b && frees (st.key s i)) || st.free s i) ≡ ((cond b (removed_key (st.key s i)) (st.key s i)).removed && nat_lt (cond b (removed_key (st.key s i)) (st.key s i)).serial last_serial)
+          → ((b && frees (st.key s i)) || st.free s i)
+          ≡ ((cond b (removed_key (st.key s i)) (st.key s i)).removed
+          && nat_lt (cond b (removed_key (st.key s i)) (st.key s i)).serial last_serial)
       exact s i true e still_open =
           let both = exactly s i still_open e in
-          let present : (st.key s i).removed ≡ false = not-true (st.key s i).removed (and_parts (st.key s i).published (not (st.key s i).removed) both.0).1 in
-          let not_free : st.free s i ≡ false = rest.frees.exactly s i (kept s still_open) ∙ (λ j. present j && nat_lt (st.key s i).serial last_serial) in
+          let present : (st.key s i).removed ≡ false = not-true (st.key s i).removed
+          (and_parts (st.key s i).published (not (st.key s i).removed) both.0).1 in
+          let not_free : st.free s i ≡ false = rest.frees.exactly s i (kept s still_open)
+          ∙ (λ j. present j && nat_lt (st.key s i).serial last_serial) in
           (λ j. both.1 j || not_free j) ∙ or_false (nat_lt (st.key s i).serial last_serial)
         where
           or_false : (b : Bool) → (b || false) ≡ b
@@ -218,7 +262,8 @@ module _ (l : Limits) (st : State) (rest : Rests l st) (goes : ℕ → ℕ → B
 -- ---- one key
 
 -- a key that the index gets: a free one below the mark, or the one at the mark
-module _ (l : Limits) (st : State) (rest : Rests l st) (s c : ℕ) (k : KeyId) (low : k.index ≤ st.keys_high s) (room : k.index < l.keys) where
+module _ (l : Limits) (st : State) (rest : Rests l st) (s c : ℕ) (k : KeyId) (low : k.index ≤ st.keys_high s)
+    (room : k.index < l.keys) where
   abbrev top : ℕ
   top = max (st.keys_high s) (suc k.index)
 
@@ -236,12 +281,17 @@ module _ (l : Limits) (st : State) (rest : Rests l st) (s c : ℕ) (k : KeyId) (
   abbrev mark_after : ℕ → ℕ
   mark_after = put st.keys_high s top
 
-  exact_after : (g : Stage → Bool) → g (new_stage c k.serial) ≡ true → ((t j : ℕ) → g (st.key t j) ≡ nat_lt j (st.keys_high t)) → (t j : ℕ) → g (key_after t j) ≡ nat_lt j (mark_after t)
+  exact_after : (g : Stage → Bool) → g (new_stage c k.serial) ≡ true
+      → ((t j : ℕ) → g (st.key t j) ≡ nat_lt j (st.keys_high t)) → (t j : ℕ)
+      → g (key_after t j) ≡ nat_lt j (mark_after t)
   exact_after g new old t j = by_selector (t == s) refl (j == k.index) refl
     where
-      by_selector : (b : Bool) → (t == s) ≡ b → (i : Bool) → (j == k.index) ≡ i → g (cond (b && i) (new_stage c k.serial) (st.key t j)) ≡ nat_lt j (cond b top (st.keys_high t))
-      by_selector true same true e = new ∙ sym (lt-ltb j top (let there : j ≡ k.index = eqb-true j k.index e in omega arith))
-      by_selector true same false e = old t j ∙ (ap (λ n. nat_lt j (st.keys_high n)) (eqb-true t s same) ∙ sym (below_top j e))
+      by_selector : (b : Bool) → (t == s) ≡ b → (i : Bool) → (j == k.index) ≡ i
+          → g (cond (b && i) (new_stage c k.serial) (st.key t j)) ≡ nat_lt j (cond b top (st.keys_high t))
+      by_selector true same true e =
+          new ∙ sym (lt-ltb j top (let there : j ≡ k.index = eqb-true j k.index e in omega arith))
+      by_selector true same false e =
+          old t j ∙ (ap (λ n. nat_lt j (st.keys_high n)) (eqb-true t s same) ∙ sym (below_top j e))
       by_selector false other i e = old t j
 
   pub keys-new : KeysRest l mark_after key_after (put_at st.mark s k.index unmarked) (put_at st.free s k.index false)
@@ -252,13 +302,16 @@ module _ (l : Limits) (st : State) (rest : Rests l st) (s c : ℕ) (k : KeyId) (
     fresh = λ t j above. fresh_after t j (t == s) refl (j == k.index) refl above;
   }
     where
-      fresh_after : (t j : ℕ) (b : Bool) → (t == s) ≡ b → (i : Bool) → (j == k.index) ≡ i → nat_lt j (cond b top (st.keys_high t)) ≡ false
-          → Fresh (cond (b && i) (new_stage c k.serial) (st.key t j)) (cond (b && i) unmarked (st.mark t j)) (cond (b && i) false (st.free t j))
+      fresh_after : (t j : ℕ) (b : Bool) → (t == s) ≡ b → (i : Bool) → (j == k.index) ≡ i
+          → nat_lt j (cond b top (st.keys_high t)) ≡ false
+          → Fresh (cond (b && i) (new_stage c k.serial) (st.key t j)) (cond (b && i) unmarked (st.mark t j))
+          (cond (b && i) false (st.free t j))
       fresh_after t j true same true e above =
           let there : j ≡ k.index = eqb-true j k.index e in
           let past : top ≤ j = ltb-false j top above in
           absurd (omega arith)
-      fresh_after t j true same false e above = rest.keys.fresh t j (ap (λ n. nat_lt j (st.keys_high n)) (eqb-true t s same) ∙ (sym (below_top j e) ∙ above))
+      fresh_after t j true same false e above =
+          rest.keys.fresh t j (ap (λ n. nat_lt j (st.keys_high n)) (eqb-true t s same) ∙ (sym (below_top j e) ∙ above))
       fresh_after t j false other i e above = rest.keys.fresh t j above
 
   pub frees-new : FreesRest st.entered key_after (put_at st.free s k.index false)
@@ -267,31 +320,44 @@ module _ (l : Limits) (st : State) (rest : Rests l st) (s c : ℕ) (k : KeyId) (
     exactly = λ t j still_open. exact ((t == s) && (j == k.index)) t j still_open;
   }
     where
-      by_place : (b : Bool) (t j : ℕ) → cond b false (st.free t j) ≡ true → (cond b (new_stage c k.serial) (st.key t j)).removed ≡ true
+      by_place : (b : Bool) (t j : ℕ) → cond b false (st.free t j) ≡ true
+          → (cond b (new_stage c k.serial) (st.key t j)).removed ≡ true
       by_place true t j h = absurd (both_ways false refl h)
       by_place false t j h = rest.frees.removed t j h
 
-      exact : (b : Bool) (t j : ℕ) → st.entered t ≡ false → cond b false (st.free t j) ≡ ((cond b (new_stage c k.serial) (st.key t j)).removed && nat_lt (cond b (new_stage c k.serial) (st.key t j)).serial last_serial)
+      exact : (b : Bool) (t j : ℕ) → st.entered t ≡ false
+          → cond b false (st.free t j)
+          ≡ ((cond b (new_stage c k.serial) (st.key t j)).removed
+          && nat_lt (cond b (new_stage c k.serial) (st.key t j)).serial last_serial)
       exact true t j still_open = refl
       exact false t j still_open = rest.frees.exactly t j still_open
 
 -- a key that is taken out of the selected set
-pub keys-unselected : (l : Limits) (st : State) → Rests l st → (s i : ℕ) → KeysRest l st.keys_high st.key (put_at st.mark s i (unselected (st.mark s i))) st.free
+pub keys-unselected : (l : Limits) (st : State) → Rests l st → (s i : ℕ)
+    → KeysRest l st.keys_high st.key (put_at st.mark s i (unselected (st.mark s i))) st.free
 keys-unselected l st rest s i =
-    keys-kept l st.keys_high st.key st.key st.mark (put_at st.mark s i (unselected (st.mark s i))) st.free st.free rest.keys (λ _ _. refl) (λ _ _. refl)
+    keys-kept l st.keys_high st.key st.key st.mark (put_at st.mark s i (unselected (st.mark s i))) st.free st.free
+    rest.keys (λ _ _. refl) (λ _ _. refl)
     (λ t j above fresh. record {
       key = fresh.key;
-      mark = put_at_keeps (λ _ _ (x : Mark). x ≡ unmarked) st.mark s i (unselected (st.mark s i)) (λ h n. record (h n) { selected = false }) t j fresh.mark;
+      mark = put_at_keeps (λ _ _ (x : Mark). x ≡ unmarked) st.mark s i (unselected (st.mark s i))
+          (λ h n. record (h n) { selected = false }) t j fresh.mark;
       free = fresh.free;
     })
 
 -- one key that is cancelled where it is in the key set
 pub one_cancelled : (st : State) (s : ℕ) (k : KeyId) (t i : ℕ)
     → put_at st.key s k.index (cancelled_in_set (st.key s k.index) k.serial) t i
-    ≡ cond (((t == s) && (i == k.index)) && is_in_key_set (st.key s k.index) k.serial) (cancelled_key (st.key t i)) (st.key t i)
+    ≡ cond (((t == s) && (i == k.index)) && is_in_key_set (st.key s k.index) k.serial) (cancelled_key (st.key t i))
+    (st.key t i)
 one_cancelled st s k t i =
-    put_at-is st.key (λ t' i'. cond (((t' == s) && (i' == k.index)) && is_in_key_set (st.key s k.index) k.serial) (cancelled_key (st.key t' i')) (st.key t' i')) s k.index
+    put_at-is st.key
+    (λ t' i'. cond (((t' == s) && (i' == k.index)) && is_in_key_set (st.key s k.index) k.serial)
+    (cancelled_key (st.key t' i')) (st.key t' i')) s k.index
     (cancelled_in_set (st.key s k.index) k.serial)
-    (λ j. cond ((sym (eq-eqb s s refl) j && sym (eq-eqb k.index k.index refl) j) && is_in_key_set (st.key s k.index) k.serial) (cancelled_key (st.key s k.index)) (st.key s k.index))
-    (λ t' i' other. ap (λ b. cond (b && is_in_key_set (st.key s k.index) k.serial) (cancelled_key (st.key t' i')) (st.key t' i')) (sym other))
+    (λ j. cond ((sym (eq-eqb s s refl) j && sym (eq-eqb k.index k.index refl) j)
+    && is_in_key_set (st.key s k.index) k.serial) (cancelled_key (st.key s k.index)) (st.key s k.index))
+    (λ t' i' other. ap
+    (λ b. cond (b && is_in_key_set (st.key s k.index) k.serial) (cancelled_key (st.key t' i')) (st.key t' i'))
+    (sym other))
     t i

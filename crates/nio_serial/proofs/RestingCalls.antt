@@ -1,6 +1,9 @@
 -- Each documented call keeps that nothing is at work.
-use Rattle.std.proofs.Common.{◌≡◌, ℕ, ◌<◌, ◌≤◌, ◌==◌, nat_lt, Bool, true, false, cond, not, ◌&&◌, ◌||◌, Option, Some, None, is_some, find, List, [], ◌∷◌, length, bit_and, bit_or, ⊎_elim, refl, ap, sym, ◌∙◌, subst, arith, eqb-true}
-use Rattle.std.proofs.lemmas.Bool.{both_ways, and_parts, or_parts, false_from_ne_true, lt-ltb, le-ltb, ltb-true, cases_lt}
+use Rattle.std.proofs.Common.{◌≡◌, ℕ, ◌<◌, ◌≤◌, ◌==◌, nat_lt, Bool, true, false, cond, not, ◌&&◌, ◌||◌, Option, Some}
+use Rattle.std.proofs.Common.{None, is_some, find, List, [], ◌∷◌, length, bit_and, bit_or, ⊎_elim, refl, ap, sym, ◌∙◌}
+use Rattle.std.proofs.Common.{subst, arith, eqb-true}
+use Rattle.std.proofs.lemmas.Bool.{both_ways, and_parts, or_parts, false_from_ne_true, lt-ltb, le-ltb, ltb-true}
+use Rattle.std.proofs.lemmas.Bool.{cases_lt}
 use lib.Bits.{and_zero_r}
 use Rattle.nio_base.specs.declared.kind.Kind.{Kind}
 use Rattle.nio_base.specs.declared.kind.Kind.TheVariants.{Source, Sink}
@@ -24,22 +27,33 @@ use Rattle.nio_plain.proofs.ReachedSound.{Sound, by_test, some_same}
 use Rattle.nio_plain.specs.ScriptState.{ScriptState, Selection}
 use Rattle.nio_plain.specs.Seq.{call_of, seq}
 use Rattle.nio_plain.specs.Seq.Answers.{Answered, unchanged}
-use Rattle.nio_plain.specs.Seq.Cancelling.{cancelled_key, cancelled_in_set, channel_closed, has_index, closec_call, cancel_call}
+use Rattle.nio_plain.specs.Seq.Cancelling.{cancelled_key, cancelled_in_set, channel_closed, has_index, closec_call}
+use Rattle.nio_plain.specs.Seq.Cancelling.{cancel_call}
 use Rattle.nio_plain.specs.Seq.Closing.{close_call, close_end_call}
-use Rattle.nio_plain.specs.Seq.Keys.{with_valid_key, are_legal_at, is_in_selected_set, valid_call, interest_call, ready_call, iset_call, ior_call, iand_call, unselect_call, attach_call, attachment_call}
+use Rattle.nio_plain.specs.Seq.Keys.{with_valid_key, are_legal_at, is_in_selected_set, valid_call, interest_call}
+use Rattle.nio_plain.specs.Seq.Keys.{ready_call, iset_call, ior_call, iand_call, unselect_call, attach_call}
+use Rattle.nio_plain.specs.Seq.Keys.{attachment_call}
 use Rattle.nio_plain.specs.Seq.Listing.{listed, keys_call, selected_call}
-use Rattle.nio_plain.specs.Seq.Modes.{is_registered, blocking_call, is_blocking_call, is_open_call, is_registered_call, key_of, key_for_call}
-use Rattle.nio_plain.specs.Seq.Names.{below, key_at, is_same_key, with_named_channel, with_named_selector, with_named_key}
+use Rattle.nio_plain.specs.Seq.Modes.{is_registered, blocking_call, is_blocking_call, is_open_call, is_registered_call}
+use Rattle.nio_plain.specs.Seq.Modes.{key_of, key_for_call}
+use Rattle.nio_plain.specs.Seq.Names.{below, key_at, is_same_key, with_named_channel, with_named_selector}
+use Rattle.nio_plain.specs.Seq.Names.{with_named_key}
 use Rattle.nio_plain.specs.Seq.Opening.{selector_made, selector_call, next_channel, channel_made, channel_call}
 use Rattle.nio_plain.specs.Seq.Pipes.{own_source, own_sink, pipe_at}
-use Rattle.nio_plain.specs.Seq.Piping.{with_sink, with_source, pipe_call, finds_interrupt, read_first, read_from, pread_call, room_for, write_to, pwrite_call}
-use Rattle.nio_plain.specs.Seq.Registering.{are_legal, given_or_none, given_or_kept, free_index, next_by, next_key, registered, registered_new, register_call}
+use Rattle.nio_plain.specs.Seq.Piping.{with_sink, with_source, pipe_call, finds_interrupt, read_first, read_from}
+use Rattle.nio_plain.specs.Seq.Piping.{pread_call, room_for, write_to, pwrite_call}
+use Rattle.nio_plain.specs.Seq.Registering.{are_legal, given_or_none, given_or_kept, free_index, next_by, next_key}
+use Rattle.nio_plain.specs.Seq.Registering.{registered, registered_new, register_call}
 use Rattle.nio_plain.specs.Seq.Removing.{removed_key, unselected, comes_back}
-use Rattle.nio_plain.specs.Seq.Selections.{all_told, looked_interest, told_bits, marked, is_looked, mode_of, begun_with, begin_call, updated_count, is_again, told_selection, is_caller, own_selection, told_call, left_selection, failed_call}
+use Rattle.nio_plain.specs.Seq.Selections.{all_told, looked_interest, told_bits, marked, is_looked, mode_of, begun_with}
+use Rattle.nio_plain.specs.Seq.Selections.{begin_call, updated_count, is_again, told_selection, is_caller}
+use Rattle.nio_plain.specs.Seq.Selections.{own_selection, told_call, left_selection, failed_call}
 use Rattle.nio_plain.specs.Seq.Wakeups.{wakeup_call, interrupt_call, interrupted_call}
 use Rattle.nio_plain.specs.declared.rules.Rules.TheVariants.{Now}
 use Rattle.nio_serial.proofs.ClosingChannels.{index_in_set}
-use Rattle.nio_serial.proofs.Resting.{KeysRest, FreesRest, Rests, channels-changed, channels-more, above-out, keys-cancelled, frees-cancelled, keys-removed, frees-removed, keys-new, frees-new, keys-unselected, one_cancelled}
+use Rattle.nio_serial.proofs.Resting.{KeysRest, FreesRest, Rests, channels-changed, channels-more, above-out}
+use Rattle.nio_serial.proofs.Resting.{keys-cancelled, frees-cancelled, keys-removed, frees-removed, keys-new, frees-new}
+use Rattle.nio_serial.proofs.Resting.{keys-unselected, one_cancelled}
 
 -- ---- channels
 

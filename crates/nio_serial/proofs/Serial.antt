@@ -17,16 +17,19 @@ use Rattle.nio_serial.proofs.Histories.{line-runs-amount, draws-stay}
 use Rattle.nio_serial.proofs.Staying.{begins-between}
 use Rattle.nio_serial.specs.Between.{IsBetween}
 use Rattle.nio_serial.specs.Documented.{Progress, nothing_yet, documented}
-use Rattle.nio_serial.specs.Serial.{Entry, draw, line, history_of, AreLines, left_in_progress, script_of, replies_of, replies_from, SerialLinesAmount}
+use Rattle.nio_serial.specs.Serial.{Entry, draw, line, history_of, AreLines, left_in_progress, script_of, replies_of}
+use Rattle.nio_serial.specs.Serial.{replies_from, SerialLinesAmount}
 
 -- the same from a history on
 record AmountFrom (l : Limits) (now : Progress) (past : List Event) (entries : List Entry) : Type 0 where
   replies : replies_of entries ≡ replies_from l (documented (state_after past) now) (script_of entries)
-  left : documented (state_after (past ++ history_of entries)) (left_in_progress now entries) ≡ left_from Now l (documented (state_after past) now) (script_of entries)
+  left : documented (state_after (past ++ history_of entries)) (left_in_progress now entries)
+      ≡ left_from Now l (documented (state_after past) now) (script_of entries)
   between : IsBetween l (state_after (past ++ history_of entries)) (left_in_progress now entries)
 
 module _ (l : Limits) (fit : IsFit l) where
-  amount_from : (entries : List Entry) (now : Progress) (past : List Event) → IsLegal l (past ++ history_of entries) → IsBetween l (state_after past) now → AreLines l now entries → AmountFrom l now past entries
+  amount_from : (entries : List Entry) (now : Progress) (past : List Event) → IsLegal l (past ++ history_of entries)
+      → IsBetween l (state_after past) now → AreLines l now entries → AmountFrom l now past entries
   amount_from [] now past legal between lines = record {
     replies = refl;
     left = ap (λ (events : List Event). documented (state_after events) now) (append-nil past);
@@ -34,26 +37,36 @@ module _ (l : Limits) (fit : IsFit l) where
   }
   amount_from (draw n ∷ later) now past legal between lines =
       let e = event_of n (DrawBit n false) in
-      let joined : (past ++ e ∷ []) ++ history_of later ≡ past ++ e ∷ history_of later = append_assoc past (e ∷ []) (history_of later) in
+      let joined : (past ++ e ∷ []) ++ history_of later ≡ past ++ e ∷ history_of later = append_assoc past (e ∷ [])
+      (history_of later) in
       let after : state_after (past ++ e ∷ []) ≡ with_drawn (state_after past) n.0 true = state_after-more past e in
-      let same : documented (state_after (past ++ e ∷ [])) now ≡ documented (state_after past) now = ap (λ st. documented st now) after in
-      let rest = amount_from later now (past ++ e ∷ []) (subst (IsLegal l) (sym joined) legal) (subst (λ st. IsBetween l st now) (sym after) (draws-stay l (state_after past) now n between)) lines in
+      let same : documented (state_after (past ++ e ∷ [])) now ≡ documented (state_after past) now = ap
+      (λ st. documented st now) after in
+      let rest = amount_from later now (past ++ e ∷ []) (subst (IsLegal l) (sym joined) legal)
+      (subst (λ st. IsBetween l st now) (sym after) (draws-stay l (state_after past) now n between)) lines in
       record {
         replies = rest.replies ∙ ap (λ (st : ScriptState). replies_from l st (script_of later)) same;
-        left = ap (λ (events : List Event). documented (state_after events) (left_in_progress now later)) (sym joined) ∙ (rest.left ∙ ap (λ (st : ScriptState). left_from Now l st (script_of later)) same);
-        between = subst (λ (events : List Event). IsBetween l (state_after events) (left_in_progress now later)) joined rest.between;
+        left = ap (λ (events : List Event). documented (state_after events) (left_in_progress now later)) (sym joined)
+            ∙ (rest.left ∙ ap (λ (st : ScriptState). left_from Now l st (script_of later)) same);
+        between = subst (λ (events : List Event). IsBetween l (state_after events) (left_in_progress now later)) joined
+            rest.between;
       }
   amount_from (line me word acts said ∷ later) now past legal between lines =
       let events = map (event_of me) acts in
-      let joined : (past ++ events) ++ history_of later ≡ past ++ (events ++ history_of later) = append_assoc past events (history_of later) in
+      let joined : (past ++ events) ++ history_of later ≡ past ++ (events ++ history_of later) =
+      append_assoc past events (history_of later) in
       let legal' = subst (IsLegal l) (sym joined) legal in
-      let first = line-runs-amount l now me word past acts said fit between (beginnings_are_legal l (past ++ events) ((past ++ events) ++ history_of later) (history_of later, refl) legal') lines.0 in
+      let first = line-runs-amount l now me word past acts said fit between
+      (beginnings_are_legal l (past ++ events) ((past ++ events) ++ history_of later)
+      (history_of later, refl) legal') lines.0 in
       let rest = amount_from later said.left (past ++ events) legal' first.between lines.1 in
       record {
-        replies = (λ j. said.reply ∷ rest.replies j) ∙ ap (λ (a : Answered). a.reply ∷ replies_from l a.left (script_of later)) (sym first.answered);
+        replies = (λ j. said.reply ∷ rest.replies j)
+            ∙ ap (λ (a : Answered). a.reply ∷ replies_from l a.left (script_of later)) (sym first.answered);
         left = ap (λ (xs : List Event). documented (state_after xs) (left_in_progress said.left later)) (sym joined)
             ∙ (rest.left ∙ ap (λ (a : Answered). left_from Now l a.left (script_of later)) (sym first.answered));
-        between = subst (λ (xs : List Event). IsBetween l (state_after xs) (left_in_progress said.left later)) joined rest.between;
+        between = subst (λ (xs : List Event). IsBetween l (state_after xs) (left_in_progress said.left later)) joined
+            rest.between;
       }
 
 pub serial-lines-amount : SerialLinesAmount

@@ -1,7 +1,8 @@
 -- What is in progress stays what the state shows, after each line.
 use Rattle.nio_plain.proofs.ReachedSound.{some_same}
 use Rattle.nio_serial.specs.Laws.{by_key}
-use Rattle.std.proofs.Common.{◌≡◌, ℕ, ◌==◌, Bool, true, false, cond, ◌||◌, if◌then◌else◌, Option, Some, None, option_map, is_some, List, map, refl, ap, sym, ◌∙◌, subst}
+use Rattle.std.proofs.Common.{◌≡◌, ℕ, ◌==◌, Bool, true, false, cond, ◌||◌, if◌then◌else◌, Option, Some, None}
+use Rattle.std.proofs.Common.{option_map, is_some, List, map, refl, ap, sym, ◌∙◌, subst}
 use Rattle.std.specs.Prelude.{⊤}
 use Rattle.std.proofs.lemmas.Bool.{both_ways, false_from_ne_true}
 use Rattle.nio_base.specs.declared.limits.Limits.{Limits}
@@ -18,7 +19,8 @@ use Rattle.nio_plain.specs.Seq.Selections.{is_looked, is_caller}
 use Rattle.nio_steps.proofs.PerformLaws.{perform-bind}
 use Rattle.nio_steps.specs.Perform.{Performed, perform}
 use Rattle.nio_steps.specs.Plan.{Plan}
-use Rattle.nio_steps.specs.SelectCalls.{Selection, try_begin_plan, told_plan, leave_plan, shut_plan, closing, already_closed, try_finish_plan}
+use Rattle.nio_steps.specs.SelectCalls.{Selection, try_begin_plan, told_plan, leave_plan, shut_plan, closing}
+use Rattle.nio_steps.specs.SelectCalls.{already_closed, try_finish_plan}
 use Rattle.nio_serial.proofs.Base.{put-here}
 use Rattle.nio_serial.proofs.Beginning.{begin-cases, begun-on}
 use Rattle.nio_serial.proofs.ClosingSelectors.{finish-cases}
@@ -27,7 +29,9 @@ use Rattle.nio_serial.proofs.Marking.{by_key-tells}
 use Rattle.nio_serial.proofs.Telling.{told-cases}
 use Rattle.nio_serial.specs.Between.{IsOn, IsShownBy, IsBetween}
 use Rattle.nio_serial.specs.Documented.{Progress, Selecting, looked_pair}
-use Rattle.nio_serial.specs.Lines.{Said, makes, refused, with_selection, if_own, after_begin, after_told, after_shut, after_finish, begin_line, by_index, told_line, failed_line, close_end_line, own_selection}
+use Rattle.nio_serial.specs.Lines.{Said, makes, refused, with_selection, if_own, after_begin, after_told, after_shut}
+use Rattle.nio_serial.specs.Lines.{after_finish, begin_line, by_index, told_line, failed_line, close_end_line}
+use Rattle.nio_serial.specs.Lines.{own_selection}
 use Rattle.nio_serial.specs.Replies.{begin_reply, told_reply, shut_reply, finish_reply}
 
 -- what a performed line leaves in progress is what its state shows

@@ -1,5 +1,6 @@
 -- The calls of one look at a channel, those of one step, and those that open: they amount to the documented ones.
-use Rattle.std.proofs.Common.{◌≡◌, ℕ, suc, ◌+◌, ◌-◌, ◌<◌, ◌≤◌, max, nat_lt, Bool, true, false, cond, not, Option, Some, None, option_map, Ok, Err, find, ⊎_elim, refl, ap, sym, ◌∙◌, arith}
+use Rattle.std.proofs.Common.{◌≡◌, ℕ, suc, ◌+◌, ◌-◌, ◌<◌, ◌≤◌, max, nat_lt, Bool, true, false, cond, not, Option, Some}
+use Rattle.std.proofs.Common.{None, option_map, Ok, Err, find, ⊎_elim, refl, ap, sym, ◌∙◌, arith}
 use Rattle.std.proofs.lemmas.Bool.{cases_lt, lt-ltb, le-ltb, not-true, not-false, cond-true}
 use Rattle.nio_base.specs.declared.kind.Kind.{Kind}
 use Rattle.nio_base.specs.declared.limits.Limits.{Limits}
@@ -16,17 +17,20 @@ use Rattle.nio_plain.proofs.Naming.{channel-through, selector-through}
 use Rattle.nio_plain.specs.ScriptState.{ScriptState}
 use Rattle.nio_plain.specs.Seq.Answers.{Answered, unchanged, answered, yes_or_no}
 use Rattle.nio_plain.specs.Seq.Closing.{close_call}
-use Rattle.nio_plain.specs.Seq.Modes.{key_of, name_or_none, is_blocking_call, is_open_call, is_registered_call, key_for_call}
+use Rattle.nio_plain.specs.Seq.Modes.{key_of, name_or_none, is_blocking_call, is_open_call, is_registered_call}
+use Rattle.nio_plain.specs.Seq.Modes.{key_for_call}
 use Rattle.nio_plain.specs.Seq.Names.{below}
 use Rattle.nio_plain.specs.Seq.Opening.{selector_made, selector_call, next_channel, channel_made, channel_call}
 use Rattle.nio_plain.specs.Seq.Wakeups.{wakeup_call, interrupt_call, interrupted_call}
 use Rattle.nio_steps.proofs.PerformLaws.{perform_then_on, perform_seek, indexes, found_at}
 use Rattle.nio_steps.proofs.SweepLaws.{seek_to-done}
-use Rattle.nio_steps.specs.ChannelCalls.{is_open_plan, is_blocking_plan, is_registered_plan, key_for_plan, makes_channel, opened_channel, open_channel_plan}
+use Rattle.nio_steps.specs.ChannelCalls.{is_open_plan, is_blocking_plan, is_registered_plan, key_for_plan}
+use Rattle.nio_steps.specs.ChannelCalls.{makes_channel, opened_channel, open_channel_plan}
 use Rattle.nio_steps.specs.Names.{selector, channel, key}
 use Rattle.nio_steps.specs.Perform.{Performed, perform}
 use Rattle.nio_steps.specs.Plan.{Plan}
-use Rattle.nio_steps.specs.SelectCalls.{makes_selector, opened_selector, open_selector_plan, shut_plan, closing, already_closed, wakeup_plan, interrupt_plan, interrupted_plan}
+use Rattle.nio_steps.specs.SelectCalls.{makes_selector, opened_selector, open_selector_plan, shut_plan, closing}
+use Rattle.nio_steps.specs.SelectCalls.{already_closed, wakeup_plan, interrupt_plan, interrupted_plan}
 use Rattle.nio_steps.specs.Sweeps.{seek_to}
 use Rattle.nio_steps.specs.declared.refusal.ChannelError.{ChannelError}
 use Rattle.nio_serial.proofs.Base.{put-here}

@@ -1,5 +1,6 @@
 -- What holds between two calls holds at the beginning and after each line.
-use Rattle.std.proofs.Common.{◌≡◌, ℕ, nat_lt, Bool, true, false, if◌then◌else◌, Option, Some, None, is_some, Result, Ok, Err, List, [], ◌∷◌, ◌++◌, refl, ap, sym, ◌∙◌, subst, arith}
+use Rattle.std.proofs.Common.{◌≡◌, ℕ, nat_lt, Bool, true, false, if◌then◌else◌, Option, Some, None, is_some, Result, Ok}
+use Rattle.std.proofs.Common.{Err, List, [], ◌∷◌, ◌++◌, refl, ap, sym, ◌∙◌, subst, arith}
 use Rattle.std.specs.Prelude.{⊤}
 use Rattle.std.proofs.lemmas.Bool.{both_ways, le-ltb}
 use Rattle.nio_base.specs.Limits.{IsFit}
@@ -37,12 +38,19 @@ use Rattle.nio_serial.proofs.Facts.{sound}
 use Rattle.nio_serial.proofs.Lines.{selector-found, found-is, named-amounts, line-amounts}
 use Rattle.nio_serial.proofs.Resting.{rests-from, rests-is}
 use Rattle.nio_serial.proofs.RestingCalls.{rests-seq}
-use Rattle.nio_serial.proofs.Showing.{Shows, ShowsAsBefore, shows-on, shows-same, begin-shows, told-shows, failed-shows, close-shows, close_end-shows}
-use Rattle.nio_serial.proofs.Steady.{IsSteady, steady-selector, steady-channel, steady-blocking, steady-is_blocking, steady-is_open, steady-is_registered, steady-key_for, steady-register, steady-closec, steady-valid, steady-interest, steady-ready, steady-iset, steady-ior, steady-iand, steady-cancel, steady-unselect, steady-attach, steady-attachment, steady-wakeup, steady-keys, steady-selected, steady-interrupt, steady-interrupted, steady-pipe, steady-pread, steady-pwrite, steady-group}
+use Rattle.nio_serial.proofs.Showing.{Shows, ShowsAsBefore, shows-on, shows-same, begin-shows, told-shows, failed-shows}
+use Rattle.nio_serial.proofs.Showing.{close-shows, close_end-shows}
+use Rattle.nio_serial.proofs.Steady.{IsSteady, steady-selector, steady-channel, steady-blocking, steady-is_blocking}
+use Rattle.nio_serial.proofs.Steady.{steady-is_open, steady-is_registered, steady-key_for, steady-register}
+use Rattle.nio_serial.proofs.Steady.{steady-closec, steady-valid, steady-interest, steady-ready, steady-iset}
+use Rattle.nio_serial.proofs.Steady.{steady-ior, steady-iand, steady-cancel, steady-unselect, steady-attach}
+use Rattle.nio_serial.proofs.Steady.{steady-attachment, steady-wakeup, steady-keys, steady-selected, steady-interrupt}
+use Rattle.nio_serial.proofs.Steady.{steady-interrupted, steady-pipe, steady-pread, steady-pwrite, steady-group}
 use Rattle.nio_serial.specs.Between.{IsLeft, IsAtRest, IsBetween}
 use Rattle.nio_serial.specs.Documented.{Progress, documented}
 use Rattle.nio_serial.specs.Laws.{BeginsBetween, LinesStayBetween}
-use Rattle.nio_serial.specs.Lines.{Said, comes_to, makes, asks, refused, if_caller, if_found, if_selector, if_channel, if_key, if_named, read_line, write_line, call_plan, line_plan}
+use Rattle.nio_serial.specs.Lines.{Said, comes_to, makes, asks, refused, if_caller, if_found, if_selector, if_channel}
+use Rattle.nio_serial.specs.Lines.{if_key, if_named, read_line, write_line, call_plan, line_plan}
 use Rattle.nio_serial.specs.PipeLines.{own_source, own_sink, pipe_at, after_pipe}
 
 -- ---- a line that begins and ends nothing leaves the selections and closings in progress

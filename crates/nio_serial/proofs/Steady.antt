@@ -1,5 +1,6 @@
 -- The documented calls that begin and end nothing: they leave turns and closings as they are.
-use Rattle.std.proofs.Common.{◌≡◌, ℕ, ◌==◌, nat_lt, Bool, true, false, cond, not, ◌&&◌, Option, Some, None, List, [], ◌∷◌, length, find, refl}
+use Rattle.std.proofs.Common.{◌≡◌, ℕ, ◌==◌, nat_lt, Bool, true, false, cond, not, ◌&&◌, Option, Some, None, List, []}
+use Rattle.std.proofs.Common.{◌∷◌, length, find, refl}
 use Rattle.nio_base.specs.declared.kind.Kind.{Kind}
 use Rattle.nio_base.specs.declared.kind.Kind.TheVariants.{Source}
 use Rattle.nio_base.specs.declared.limits.Limits.{Limits}
@@ -16,14 +17,19 @@ use Rattle.nio_plain.specs.ScriptState.{Pipe, ScriptState, with_pipes}
 use Rattle.nio_plain.specs.Seq.Answers.{Answered, unchanged, answered}
 use Rattle.nio_plain.specs.Seq.Cancelling.{channel_closed, closec_call, cancel_call}
 use Rattle.nio_plain.specs.Seq.Grouping.{group_call}
-use Rattle.nio_plain.specs.Seq.Keys.{with_valid_key, are_legal_at, is_in_selected_set, valid_call, interest_call, ready_call, iset_call, ior_call, iand_call, unselect_call, attach_call, attachment_call}
+use Rattle.nio_plain.specs.Seq.Keys.{with_valid_key, are_legal_at, is_in_selected_set, valid_call, interest_call}
+use Rattle.nio_plain.specs.Seq.Keys.{ready_call, iset_call, ior_call, iand_call, unselect_call, attach_call}
+use Rattle.nio_plain.specs.Seq.Keys.{attachment_call}
 use Rattle.nio_plain.specs.Seq.Listing.{keys_call, selected_call}
-use Rattle.nio_plain.specs.Seq.Modes.{is_registered, blocking_call, is_blocking_call, is_open_call, is_registered_call, key_of, key_for_call}
+use Rattle.nio_plain.specs.Seq.Modes.{is_registered, blocking_call, is_blocking_call, is_open_call, is_registered_call}
+use Rattle.nio_plain.specs.Seq.Modes.{key_of, key_for_call}
 use Rattle.nio_plain.specs.Seq.Names.{below, with_named_channel, with_named_selector, with_named_key}
 use Rattle.nio_plain.specs.Seq.Opening.{selector_made, selector_call, next_channel, channel_made, channel_call}
 use Rattle.nio_plain.specs.Seq.Pipes.{own_source, own_sink, pipe_at, marked_pipes, marking}
-use Rattle.nio_plain.specs.Seq.Piping.{with_sink, with_source, pipe_call, finds_interrupt, not_now, read_first, read_from, pread_call, room_for, write_first, write_to, pwrite_call}
-use Rattle.nio_plain.specs.Seq.Registering.{are_legal, given_or_none, next_key, registered, registered_new, register_call}
+use Rattle.nio_plain.specs.Seq.Piping.{with_sink, with_source, pipe_call, finds_interrupt, not_now, read_first}
+use Rattle.nio_plain.specs.Seq.Piping.{read_from, pread_call, room_for, write_first, write_to, pwrite_call}
+use Rattle.nio_plain.specs.Seq.Registering.{are_legal, given_or_none, next_key, registered, registered_new}
+use Rattle.nio_plain.specs.Seq.Registering.{register_call}
 use Rattle.nio_plain.specs.Seq.Wakeups.{wakeup_call, interrupt_call, interrupted_call}
 
 -- turns and closings are as before

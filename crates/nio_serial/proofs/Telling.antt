@@ -1,5 +1,7 @@
 -- Telling a selection, and leaving it, amount to the documented calls.
-use Rattle.std.proofs.Common.{◌≡◌, ℕ, ◌+◌, ◌<◌, ◌==◌, Bool, true, false, cond, not, ◌&&◌, ◌||◌, if◌then◌else◌, Some, None, option_map, List, [], ◌∷◌, map, count_by, bit_and, bit_or, refl, ap, sym, ◌∙◌, subst, arith, eqb-true, eq-eqb}
+use Rattle.std.proofs.Common.{◌≡◌, ℕ, ◌+◌, ◌<◌, ◌==◌, Bool, true, false, cond, not, ◌&&◌, ◌||◌, if◌then◌else◌, Some}
+use Rattle.std.proofs.Common.{None, option_map, List, [], ◌∷◌, map, count_by, bit_and, bit_or, refl, ap, sym, ◌∙◌}
+use Rattle.std.proofs.Common.{subst, arith, eqb-true, eq-eqb}
 use Rattle.std.proofs.lemmas.Bool.{both_ways, and_parts, or_parts}
 use Rattle.std.proofs.lemmas.List.Sums.{sum_by-cons}
 use Rattle.std.proofs.lemmas.List.{map-append}
@@ -21,13 +23,17 @@ use Rattle.nio_plain.specs.ScriptState.{ScriptState}
 use Rattle.nio_plain.specs.Seq.Answers.{Answered}
 use Rattle.nio_plain.specs.Seq.Names.{is_same_key, key_at}
 use Rattle.nio_plain.specs.Seq.Removing.{without_keys_where}
-use Rattle.nio_plain.specs.Seq.Selections.{all_told, looked_interest, told_bits, is_looked, marked, is_updated, with_marks, goes_on, is_again, why_ended, selection_ended, told_selection, left_selection}
+use Rattle.nio_plain.specs.Seq.Selections.{all_told, looked_interest, told_bits, is_looked, marked, is_updated}
+use Rattle.nio_plain.specs.Seq.Selections.{with_marks, goes_on, is_again, why_ended, selection_ended, told_selection}
+use Rattle.nio_plain.specs.Seq.Selections.{left_selection}
 use Rattle.nio_plain.specs.declared.rules.Rules.TheVariants.{Now}
 use Rattle.nio_steps.proofs.Lists.{parted}
 use Rattle.nio_steps.proofs.PerformLaws.{perform_then_on}
 use Rattle.nio_steps.specs.Perform.{Performed, perform}
 use Rattle.nio_steps.specs.Plan.{Plan, ◌>>◌}
-use Rattle.nio_steps.specs.SelectCalls.{Selection, mark_entry, remove_if_cancelled, after_marks, end_selection, told_plan, leave_plan, ToldReply, done, again, is_again as is_again_by_look, why_ended as why_over, told_of}
+use Rattle.nio_steps.specs.SelectCalls.{Selection, mark_entry, remove_if_cancelled, after_marks, end_selection}
+use Rattle.nio_steps.specs.SelectCalls.{told_plan, leave_plan, ToldReply, done, again, is_again as is_again_by_look}
+use Rattle.nio_steps.specs.SelectCalls.{why_ended as why_over, told_of}
 use Rattle.nio_steps.specs.Steps.{end_wake, give_turn}
 use Rattle.nio_steps.specs.Sweeps.{sweep_over}
 use Rattle.nio_steps.specs.declared.looked.LookedKey.{LookedKey}
@@ -37,7 +43,8 @@ use Rattle.nio_serial.proofs.Marking.{looked-middle, updated, counts, serial-is,
 use Rattle.nio_serial.proofs.Marks.{marked-same}
 use Rattle.nio_serial.proofs.Removing.{settled-removed}
 use Rattle.nio_serial.proofs.Sweeping.{has_index, has_next, swept, sweep-performed}
-use Rattle.nio_serial.specs.Documented.{Progress, settled, settled_mark, settled_state, looked_pair, shown, documented, amounts}
+use Rattle.nio_serial.specs.Documented.{Progress, settled, settled_mark, settled_state, looked_pair, shown, documented}
+use Rattle.nio_serial.specs.Documented.{amounts}
 use Rattle.nio_serial.specs.Lines.{after_told, with_selection}
 use Rattle.nio_serial.specs.Replies.{told_reply}
 

@@ -1,5 +1,7 @@
 -- Between two calls each pipe is whole: each call of a script keeps that.
-use Rattle.std.proofs.Common.{◌≡◌, ℕ, ◌+◌, ◌-◌, ◌<◌, ◌≤◌, ◌==◌, nat_lt, Bool, true, false, cond, not, ◌&&◌, Option, Some, None, List, [], ◌∷◌, length, take, get_or, set, ⊎_elim, refl, ap, sym, ◌∙◌, subst, arith}
+use Rattle.std.proofs.Common.{◌≡◌, ℕ, ◌+◌, ◌-◌, ◌<◌, ◌≤◌, ◌==◌, nat_lt, Bool, true, false, cond, not, ◌&&◌, Option}
+use Rattle.std.proofs.Common.{Some, None, List, [], ◌∷◌, length, take, get_or, set, ⊎_elim, refl, ap, sym, ◌∙◌, subst}
+use Rattle.std.proofs.Common.{arith}
 use Rattle.std.proofs.lemmas.Bool.{both_ways, cases_lt, not-true}
 use Rattle.std.proofs.Math.Nat.{min-le_left, min-le_right}
 use Rattle.std.proofs.lemmas.List.{get_or_past, length-append, length-drop, length-take, set_past}
@@ -31,7 +33,8 @@ use Rattle.nio_plain.specs.Seq.Modes.{is_registered, blocking_call}
 use Rattle.nio_plain.specs.Seq.Names.{with_named_channel}
 use Rattle.nio_plain.specs.Seq.Opening.{next_channel, channel_made, channel_call}
 use Rattle.nio_plain.specs.Seq.Pipes.{no_pipe, own_source, own_sink, pipe_at, marked_pipes, marking}
-use Rattle.nio_plain.specs.Seq.Piping.{with_sink, with_source, pipe_call, finds_interrupt, read_first, read_from, pread_call, room_for, write_first, write_to, pwrite_call}
+use Rattle.nio_plain.specs.Seq.Piping.{with_sink, with_source, pipe_call, finds_interrupt, read_first, read_from}
+use Rattle.nio_plain.specs.Seq.Piping.{pread_call, room_for, write_first, write_to, pwrite_call}
 use Rattle.nio_plain.specs.declared.rules.Rules.TheVariants.{Now}
 use Rattle.nio_serial.specs.Between.{IsChannelOf, IsWholePipe}
 use Rattle.nio_serial.specs.Laws.{PipesAreWhole}

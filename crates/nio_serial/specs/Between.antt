@@ -1,5 +1,6 @@
 -- What holds between two calls of a serial history, in which each call ends before the next begins.
-use Rattle.std.specs.Prelude.{◌≡◌, ℕ, ◌<◌, ◌≤◌, nat_lt, ◌&&◌, if◌then◌else◌, IsTrue, IsFalse, Some, None, option_map, is_some, List, length, map}
+use Rattle.std.specs.Prelude.{◌≡◌, ℕ, ◌<◌, ◌≤◌, nat_lt, ◌&&◌, if◌then◌else◌, IsTrue, IsFalse, Some, None, option_map}
+use Rattle.std.specs.Prelude.{is_some, List, length, map}
 use Rattle.std.specs.List.{AllPairs}
 use Rattle.nio_base.specs.declared.kind.Kind.{Kind}
 use Rattle.nio_base.specs.declared.kind.Kind.TheVariants.{Source, Sink}
@@ -41,7 +42,8 @@ pub record HasExactMarks (l : Limits) (st : State) : Type 0 where
 -- exactly where there is a next serial: a selection removed the key. A closing removes keys without freeing them.
 pub record AreFree (st : State) : Type 0 where
   pub removed : (s i : ℕ) → IsTrue (st.free s i) → IsTrue (st.key s i).removed
-  pub exactly : (s i : ℕ) → IsFalse (st.entered s) → st.free s i ≡ ((st.key s i).removed && nat_lt (st.key s i).serial last_serial)
+  pub exactly : (s i : ℕ) → IsFalse (st.entered s)
+      → st.free s i ≡ ((st.key s i).removed && nat_lt (st.key s i).serial last_serial)
 
 pub record IsAtRest (l : Limits) (st : State) : Type 0 where
   pub unused : IsUnused st

@@ -23,7 +23,8 @@ use Rattle.nio_plain.specs.declared.rules.Rules.TheVariants.{Now}
 use Rattle.nio_steps.specs.Calls.{CallClause}
 use Rattle.nio_steps.specs.Perform.{perform}
 use Rattle.nio_steps.specs.Runs.{Completes}
-use Rattle.nio_steps.specs.SelectCalls.{Selection, told_of, told_plan, try_begin_plan, keys_plan, selected_keys_plan, ToldReply}
+use Rattle.nio_steps.specs.SelectCalls.{Selection, told_of, told_plan, try_begin_plan, keys_plan, selected_keys_plan}
+use Rattle.nio_steps.specs.SelectCalls.{ToldReply}
 use Rattle.nio_serial.specs.Between.{IsBetween, IsWholePipe}
 use Rattle.nio_serial.specs.Documented.{Progress, nothing_yet, looked_pair, documented, amounts}
 use Rattle.nio_serial.specs.Lines.{Said, comes_to, own_selection, after_told, call_plan, line_plan}

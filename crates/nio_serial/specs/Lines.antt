@@ -1,5 +1,6 @@
 -- How the line of a script is made on the table: its look-ups, the plan of its call, and its reply.
-use Rattle.std.specs.Prelude.{ℕ, ◌==◌, nat_lt, Bool, false, if◌then◌else◌, Option, Some, None, is_some, Result, Ok, Err, List, map, filter}
+use Rattle.std.specs.Prelude.{ℕ, ◌==◌, nat_lt, Bool, false, if◌then◌else◌, Option, Some, None, is_some, Result, Ok, Err}
+use Rattle.std.specs.Prelude.{List, map, filter}
 use Rattle.nio_base.specs.declared.limits.Limits.{Limits}
 use Rattle.nio_base.specs.declared.numbers.CallerNo.{CallerNo}
 use Rattle.nio_base.specs.declared.numbers.ChanNo.{ChanNo}
@@ -17,18 +18,27 @@ use Rattle.nio_plain.specs.Seq.Answers.{Answered, yes_or_no}
 use Rattle.nio_plain.specs.Seq.Grouping.{group_reply, group_left}
 use Rattle.nio_plain.specs.Seq.Registering.{given_or_none}
 use Rattle.nio_plain.specs.Seq.Selections.{mode_of, is_looked, is_caller}
-use Rattle.nio_steps.specs.ChannelCalls.{open_channel_plan, is_open_plan, is_blocking_plan, is_registered_plan, key_for_plan, try_set_blocking_plan, try_register_plan, close_channel_plan}
-use Rattle.nio_steps.specs.KeyCalls.{find_selector_plan, find_channel_plan, find_plan, is_valid_plan, interest_plan, set_interest_plan, interest_or_plan, interest_and_plan, ready_plan, cancel_plan, unselect_plan, attach_plan, attachment_plan}
+use Rattle.nio_steps.specs.ChannelCalls.{open_channel_plan, is_open_plan, is_blocking_plan, is_registered_plan}
+use Rattle.nio_steps.specs.ChannelCalls.{key_for_plan, try_set_blocking_plan, try_register_plan, close_channel_plan}
+use Rattle.nio_steps.specs.KeyCalls.{find_selector_plan, find_channel_plan, find_plan, is_valid_plan, interest_plan}
+use Rattle.nio_steps.specs.KeyCalls.{set_interest_plan, interest_or_plan, interest_and_plan, ready_plan, cancel_plan}
+use Rattle.nio_steps.specs.KeyCalls.{unselect_plan, attach_plan, attachment_plan}
 use Rattle.nio_steps.specs.Names.{key}
 use Rattle.nio_steps.specs.Perform.{Performed}
 use Rattle.nio_steps.specs.PipeCalls.{pipe_plan, try_read_plan, try_write_plan}
 use Rattle.nio_steps.specs.Plan.{Plan, ◌>>=◌}
-use Rattle.nio_steps.specs.SelectCalls.{Selection, open_selector_plan, try_begin_plan, told_plan, ToldReply, done, again, leave_plan, shut_plan, ShutReply, closing, already_closed, try_finish_plan, FinishReply, closed, busy, keys_plan, selected_keys_plan, wakeup_plan, interrupt_plan, interrupted_plan}
+use Rattle.nio_steps.specs.SelectCalls.{Selection, open_selector_plan, try_begin_plan, told_plan, ToldReply, done}
+use Rattle.nio_steps.specs.SelectCalls.{again, leave_plan, shut_plan, ShutReply, closing, already_closed}
+use Rattle.nio_steps.specs.SelectCalls.{try_finish_plan, FinishReply, closed, busy, keys_plan, selected_keys_plan}
+use Rattle.nio_steps.specs.SelectCalls.{wakeup_plan, interrupt_plan, interrupted_plan}
 use Rattle.nio_steps.specs.declared.refusal.BeginError.{BeginError}
 use Rattle.nio_steps.specs.declared.refusal.PipeError.{PipeError}
 use Rattle.nio_serial.specs.Documented.{Progress, Selecting, shown, amounts}
-use Rattle.nio_serial.specs.PipeLines.{own_source, own_sink, pipe_at, with_pipe, with_mark, after_pipe, Piped, read_gives, write_gives}
-use Rattle.nio_serial.specs.Replies.{find_reply, set_reply, put_reply, channel_reply, mode_reply, register_reply, closed_reply, ends_reply, selector_reply, begin_reply, told_reply, shut_reply, finish_reply, list_reply}
+use Rattle.nio_serial.specs.PipeLines.{own_source, own_sink, pipe_at, with_pipe, with_mark, after_pipe, Piped}
+use Rattle.nio_serial.specs.PipeLines.{read_gives, write_gives}
+use Rattle.nio_serial.specs.Replies.{find_reply, set_reply, put_reply, channel_reply, mode_reply, register_reply}
+use Rattle.nio_serial.specs.Replies.{closed_reply, ends_reply, selector_reply, begin_reply, told_reply, shut_reply}
+use Rattle.nio_serial.specs.Replies.{finish_reply, list_reply}
 
 -- what a line answers, and what is in progress after it
 pub record Said : Type 0 where

@@ -8,7 +8,8 @@ use Rattle.nio_event.specs.declared.reply.Reply.{Reply}
 use Rattle.nio_event.specs.declared.reply.Reply.TheVariants as reply
 use Rattle.nio_plain.specs.Seq.Listing.{names_or_none}
 use Rattle.nio_steps.specs.PipeCalls.{PipeEnds}
-use Rattle.nio_steps.specs.SelectCalls.{Selection, ToldReply, done, again, ShutReply, closing, already_closed, FinishReply, closed, busy}
+use Rattle.nio_steps.specs.SelectCalls.{Selection, ToldReply, done, again, ShutReply, closing, already_closed}
+use Rattle.nio_steps.specs.SelectCalls.{FinishReply, closed, busy}
 use Rattle.nio_steps.specs.declared.refusal.BeginError.{BeginError}
 use Rattle.nio_steps.specs.declared.refusal.ChannelError.{ChannelError}
 use Rattle.nio_steps.specs.declared.refusal.KeyError.{KeyError}

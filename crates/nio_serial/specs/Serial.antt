@@ -1,4 +1,5 @@
--- Serial histories of lines: callers are drawn and lines are made one after the other, each over before the next begins.
+-- Serial histories of lines: callers are drawn and lines are made one after the other, each over before the next
+-- begins.
 use Rattle.std.specs.Prelude.{◌≡◌, ⊤, false, List, [], ◌∷◌, ◌++◌, map}
 use Rattle.nio_base.specs.Limits.{IsFit}
 use Rattle.nio_base.specs.declared.limits.Limits.{Limits}
@@ -34,7 +35,8 @@ history_of (line me word acts said ∷ later) = map (event_of me) acts ++ histor
 abbrev pub AreLines : Limits → Progress → List Entry → Type 0
 AreLines l now [] = ⊤
 AreLines l now (draw n ∷ later) = AreLines l now later
-AreLines l now (line me word acts said ∷ later) = Completes (line_plan l now me word) acts said × AreLines l said.left later
+AreLines l now (line me word acts said ∷ later) =
+    Completes (line_plan l now me word) acts said × AreLines l said.left later
 
 -- what is in progress after them
 abbrev pub left_in_progress : Progress → List Entry → Progress
@@ -63,7 +65,8 @@ replies_from l st (c ∷ calls) =
 -- what a serial history of lines comes to: the replies and the state of the documented system, between two calls
 pub record AmountToScript (l : Limits) (entries : List Entry) : Type 0 where
   pub replies : replies_of entries ≡ replies_from l script_opening (script_of entries)
-  pub left : documented (state_after (history_of entries)) (left_in_progress nothing_yet entries) ≡ left_by_script Now l (script_of entries)
+  pub left : documented (state_after (history_of entries)) (left_in_progress nothing_yet entries) ≡ left_by_script Now l
+      (script_of entries)
   pub between : IsBetween l (state_after (history_of entries)) (left_in_progress nothing_yet entries)
 
 -- Where lines don't overlap, a legal history of them is a run of the script by the documented system.

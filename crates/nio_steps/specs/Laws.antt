@@ -58,8 +58,8 @@ ListsInOrder =
     (s : SelNo) (mode : Mode) (acts : List Act) (selection : Selection)
     → Begins s mode acts (Ok selection) → IsInOrder selection
 
--- Among these acts are a look at the key's index that found the key valid, with the serial and the channel of the entry,
--- and a look that found the entry's interest set.
+-- Among these acts are a look at the key's index that found the key valid, with the serial and the channel of the
+-- entry, and a look that found the entry's interest set.
 pub record IsLookedAt (s : SelNo) (acts : List Act) (entry : LookedKey) : Type 0 where
   pub stage : Stage
   pub look : Contains acts (LookKey s entry.index stage)
@@ -114,8 +114,9 @@ pub record MarksLookedKey (st : State) (selection : Selection) (pairs : List (�
   pub in_set : IsTrue (is_in_key_set (st.key s.0 i) as_told.entry.serial)
   pub channel : (st.key s.0 i).chan ≡ as_told.entry.channel
 
--- In a legal history, when a `told` marks an index, the index still has the key that the selection looked at. `before` is
--- the history before the call; what the caller did after it is this `told`, and `past` is what stands before the mark.
+-- In a legal history, when a `told` marks an index, the index still has the key that the selection looked at. `before`
+-- is the history before the call; what the caller did after it is this `told`, and `past` is what stands before the
+-- mark.
 abbrev pub MarksLookedKeys : Type 0
 MarksLookedKeys =
     (l : Limits) (n : CallerNo) (before past later : List Event) (selection : Selection) (poll : Poll)
@@ -154,9 +155,9 @@ ClosingsStand =
     (l : Limits) (n : CallerNo) (events : List Event) (s : SelNo)
     → IsLegal l events → IsClosing (mine n events) s → IsTrue (is_closer (state_after events) n s)
 
--- A `try_finish` that answers Closed looks at the selector's high-water mark. When it returns, each key that was claimed
--- before that look, at an index below the mark, is removed. `before` is the history before the call; what the caller did
--- after it is this call, and `looked` is what stands before the look.
+-- A `try_finish` that answers Closed looks at the selector's high-water mark. When it returns, each key that was
+-- claimed before that look, at an index below the mark, is removed. `before` is the history before the call; what the
+-- caller did after it is this call, and `looked` is what stands before the look.
 abbrev pub ClosedRemovesKeys : Type 0
 ClosedRemovesKeys =
     (l : Limits) (n : CallerNo) (before looked later : List Event) (s : SelNo) (mark i serial : ℕ)

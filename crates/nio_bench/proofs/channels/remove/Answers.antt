@@ -34,7 +34,8 @@ remove-found-requires-clause-may c =
     let free : c.take_turn.result ≡ None = search rules in
     let turn : has_turn (state_seen c.take_turn.new.p) caller selector ≡ true = turn_now c.take_turn.ensures free in
     let unshut : c.begin_look.result.shut ≡ false = search rules in
-    let begun : has_begun (state_seen c.begin_look.new.p) caller selector ≡ true = begun_now c.begin_look.ensures unshut c.take_turn.ensures.pass turn in
+    let begun : has_begun (state_seen c.begin_look.new.p) caller selector
+    ≡ true = begun_now c.begin_look.ensures unshut c.take_turn.ensures.pass turn in
     let inside : in_cancelled_set c.look_key-stage.result ≡ true = search rules in
     may_remove_found c.look_key-stage.ensures c.begin_look.ensures.pass begun inside
 
@@ -50,9 +51,11 @@ put_free-requires-clause-may c =
     let free : c.take_turn.result ≡ None = search rules in
     let turn : has_turn (state_seen c.take_turn.new.p) caller selector ≡ true = turn_now c.take_turn.ensures free in
     let unshut : c.begin_look.result.shut ≡ false = search rules in
-    let begun : has_begun (state_seen c.begin_look.new.p) caller selector ≡ true = begun_now c.begin_look.ensures unshut c.take_turn.ensures.pass turn in
+    let begun : has_begun (state_seen c.begin_look.new.p) caller selector
+    ≡ true = begun_now c.begin_look.ensures unshut c.take_turn.ensures.pass turn in
     let frees : frees_index c.remove-found.result ≡ true = search rules in
-    may_put_removed c.remove-found.ensures c.look_key-stage.ensures.pass (had_stays (a_selection selector) c.look_key-stage.ensures refl refl c.begin_look.ensures.pass begun) frees
+    may_put_removed c.remove-found.ensures c.look_key-stage.ensures.pass
+    (had_stays (a_selection selector) c.look_key-stage.ensures refl refl c.begin_look.ensures.pass begun) frees
 
 pub give_turn-requires-clause-turn : goal.give_turn-requires-clause-turn
 give_turn-requires-clause-turn c =

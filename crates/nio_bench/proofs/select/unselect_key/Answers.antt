@@ -3,7 +3,8 @@ use Rattle.nio_bench.proofs.SetUp.{idle_call, stays_after}
 use Rattle.nio_bench.proofs.select.unselect_key.Goals as goal
 
 pub unselect-requires-clause-unpinned : goal.unselect-requires-clause-unpinned
-unselect-requires-clause-unpinned c = (idle_call (pins_are_given_back.find _ _ _ _) c.find.ensures.call c.find.ensures.ready c.requires).unpinned
+unselect-requires-clause-unpinned c =
+    (idle_call (pins_are_given_back.find _ _ _ _) c.find.ensures.call c.find.ensures.ready c.requires).unpinned
 
 pub returns : goal.returns
 returns c =

@@ -12,7 +12,8 @@ use Rattle.nio_cli.proofs.run.run_on_table.Goals as goal
 
 pub join-requires-clause-other : goal.join-requires-clause-other
 join-requires-clause-other g c =
-    joined_table c.args.table.now c.in-Ok.sole c.run_script-status.new.system c.run_script-status.ensures.kept c.in-Ok.ensures.table c.into_pass.result c.into_pass.ensures.pass c.into_pass.ensures.ready
+    joined_table c.args.table.now c.in-Ok.sole c.run_script-status.new.system c.run_script-status.ensures.kept
+    c.in-Ok.ensures.table c.into_pass.result c.into_pass.ensures.pass c.into_pass.ensures.ready
 
 pub returns-in-Ok-clause-script : goal.returns-in-Ok-clause-script
 returns-in-Ok-clause-script g c =
@@ -21,7 +22,8 @@ returns-in-Ok-clause-script g c =
     let its = c.run_script-status.ensures in
     let same : limits_of (words_of first) ≡ limits_of w = ap limits_of c.in-Ok.ensures.table in
     let left : (st : ScriptState) → state_of c.run_script-status.new.system ≡ st → Leaves w c.join.new.p st = λ st is.
-    leaves w first c.run_script-status.new.system its.kept c.in-Ok.ensures.table st c.make.new.pass c.into_pass.result c.join.new.p c.in-Ok.ensures.sight c.in-Ok.ensures.drawn is c.into_pass.ensures.pass
+    leaves w first c.run_script-status.new.system its.kept c.in-Ok.ensures.table st c.make.new.pass c.into_pass.result
+    c.join.new.p c.in-Ok.ensures.sight c.in-Ok.ensures.drawn is c.into_pass.ensures.pass
     c.into_pass.ensures.ready c.into_pass.ensures.whole c.join.ensures in
     record {
       done = λ is. let read = its.done is in (
@@ -30,9 +32,12 @@ returns-in-Ok-clause-script g c =
         record {
           calls = read.2.calls;
           script = read.2.script;
-          written = subst (λ (l : Limits). IsWritten g.K.Sink c.args.output.now c.run_script-status.new.output (answer_to Now l read.2.calls)) same read.2.written;
+          written = subst
+              (λ (l : Limits). IsWritten g.K.Sink c.args.output.now c.run_script-status.new.output
+              (answer_to Now l read.2.calls)) same read.2.written;
           still = read.2.still;
-          left = left (left_by_script Now (limits_of w) read.2.calls) (read.2.left ∙ ap (λ (l : Limits). left_by_script Now l read.2.calls) same);
+          left = left (left_by_script Now (limits_of w) read.2.calls)
+              (read.2.left ∙ ap (λ (l : Limits). left_by_script Now l read.2.calls) same);
         },
       );
       bad_script = λ line is. let read = its.bad_script line is in (
@@ -50,7 +55,9 @@ returns-in-Ok-clause-script g c =
         record {
           calls = read.2.calls;
           script = read.2.script;
-          written = subst (λ (l : Limits). WritesPrefix g.K.Sink c.args.output.now c.run_script-status.new.output (answer_to Now l read.2.calls)) same read.2.written;
+          written = subst
+              (λ (l : Limits). WritesPrefix g.K.Sink c.args.output.now c.run_script-status.new.output
+              (answer_to Now l read.2.calls)) same read.2.written;
         },
       );
       memory = λ is. either_way (λ none. none.unwritten) (λ read. (
@@ -59,10 +66,16 @@ returns-in-Ok-clause-script g c =
         record {
           calls = read.2.calls;
           script = read.2.script;
-          written = subst (λ (l : Limits). WritesPrefix g.K.Sink c.args.output.now c.run_script-status.new.output (answer_to Now l read.2.calls)) same read.2.written;
+          written = subst
+              (λ (l : Limits). WritesPrefix g.K.Sink c.args.output.now c.run_script-status.new.output
+              (answer_to Now l read.2.calls)) same read.2.written;
         },
       )) (its.memory is);
-      unread = λ is. let none = its.unread is in record { unwritten = none.unwritten; uncalled = left script_opening (ap state_of none.uncalled ∙ c.in-Ok.ensures.opening) };
+      unread = λ is. let none = its.unread is in
+          record {
+            unwritten = none.unwritten;
+            uncalled = left script_opening (ap state_of none.uncalled ∙ c.in-Ok.ensures.opening);
+          };
       ends = its.ends;
       of_script = its.of_script;
       of_bad = its.of_bad;

@@ -8,10 +8,12 @@ pub loop-round-init : goal.loop-round-init
 loop-round-init c = (number_first, pushed_none round_lines c.args.text.now.items)
 
 pub overflow_mul-number : goal.overflow_mul-number
-overflow_mul-number c = let small = number_small c.loop-round.round in let is = c.loop-round.invariant.0 in omega (arith, small, is)
+overflow_mul-number c = let small = number_small c.loop-round.round in let is =
+    c.loop-round.invariant.0 in omega (arith, small, is)
 
 pub overflow_add-number : goal.overflow_add-number
-overflow_add-number c = let small = number_small c.loop-round.round in let is = c.loop-round.invariant.0 in omega (arith, small, is)
+overflow_add-number c = let small = number_small c.loop-round.round in let is =
+    c.loop-round.invariant.0 in omega (arith, small, is)
 
 pub loop-round-preserved : goal.loop-round-preserved
 loop-round-preserved c =
@@ -20,7 +22,9 @@ loop-round-preserved c =
       next,
       pushed_more round_lines c.args.text.now.items c.loop-round.text.items c.push_selection.new.text.items r
           c.loop-round.invariant.1
-          (pushed_both c.loop-round.text.items c.push_wakeup.new.text.items c.push_selection.new.text.items (wakeup_lines r) _
+          (pushed_both c.loop-round.text.items c.push_wakeup.new.text.items c.push_selection.new.text.items
+          (wakeup_lines r) _
           c.in_ok-push_wakeup.ensures
-          (c.in_ok-push_selection.ensures ∙ ap (λ n. c.push_wakeup.new.text.items ++ text_of (selection_lines (n / 65536 % 64))) next)),
+          (c.in_ok-push_selection.ensures
+          ∙ ap (λ n. c.push_wakeup.new.text.items ++ text_of (selection_lines (n / 65536 % 64))) next)),
     )

@@ -12,5 +12,6 @@ returns-in-Ok-clause-few c =
 pub unreachable-requires : goal.unreachable-requires
 unreachable-requires c =
     let text = c.deref.ensures.value ∙ c.in_ok-text.ensures in
-    let only : c.in-Err-BadLine.field-0 ≡ Memory = c.in-Err-BadLine.ensures.only (generated_calls c.args.rounds) (subst (λ t. IsScript t (generated_calls c.args.rounds)) (sym text) (generated_script c.args.rounds)) in
+    let only : c.in-Err-BadLine.field-0 ≡ Memory = c.in-Err-BadLine.ensures.only (generated_calls c.args.rounds)
+    (subst (λ t. IsScript t (generated_calls c.args.rounds)) (sym text) (generated_script c.args.rounds)) in
     cc

@@ -11,4 +11,6 @@ returns-clause-summary g c =
     let updates = sym its.updates in
     rw (selections, updates)
     (if_ok_map c.format.result _ _
-    (λ text is. is ∙ summary_pieces (decimal (length c.args.calls.now)) (decimal tally.selections) (decimal tally.updates)) c.format.ensures.ok)
+    (λ text is. is
+    ∙ summary_pieces (decimal (length c.args.calls.now)) (decimal tally.selections) (decimal tally.updates))
+    c.format.ensures.ok)

@@ -8,12 +8,14 @@ use Rattle.nio_race_text.proofs.line.read_race_call.Goals as goal
 pub returns-then-may_race : goal.returns-then-may_race
 returns-then-may_race c =
     let read = c.in-Ok-Line in
-    finds_race (script_line (read.ensures.found read.caller read.call (ap Ok read.field-0-is)) (c.if-may_race.ensures.0 refl))
+    finds_race
+    (script_line (read.ensures.found read.caller read.call (ap Ok read.field-0-is)) (c.if-may_race.ensures.0 refl))
 
 pub returns-else-may_race : goal.returns-else-may_race
 returns-else-may_race c =
     let read = c.in-Ok-Line in
-    finds_barred (read.ensures.found read.caller read.call (ap Ok read.field-0-is)) (λ may. false≢true (c.if-may_race.ensures.1 may))
+    finds_barred (read.ensures.found read.caller read.call (ap Ok read.field-0-is))
+    (λ may. false≢true (c.if-may_race.ensures.1 may))
 
 pub returns-in-Some : goal.returns-in-Some
 returns-in-Some c = finds_race (block_line c.in-Some.ensures.found)

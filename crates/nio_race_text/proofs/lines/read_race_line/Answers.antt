@@ -7,7 +7,8 @@ use Rattle.nio_race_text.proofs.Parts.{no_race_line}
 use Rattle.nio_race_text.proofs.lines.read_race_line.Goals as goal
 
 pub returns-then-is_blank-clause-read : goal.returns-then-is_blank-clause-read
-returns-then-is_blank-clause-read c = adds_nothing _ (blank_line {line = c.args.line.now} (c.if-is_blank.ensures.0 refl) no_lines)
+returns-then-is_blank-clause-read c =
+    adds_nothing _ (blank_line {line = c.args.line.now} (c.if-is_blank.ensures.0 refl) no_lines)
 
 pub returns-in_ok-push_line-in-Some-clause-read : goal.returns-in_ok-push_line-in-Some-clause-read
 returns-in_ok-push_line-in-Some-clause-read c = record {

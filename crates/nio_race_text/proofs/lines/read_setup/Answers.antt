@@ -17,7 +17,8 @@ overflow_add-number c = omega (arith, c.loop-line.invariant.0, c.requires)
 pub loop-line-preserved : goal.loop-line-preserved
 loop-line-preserved c = (
   omega arith,
-  reads_more AreCalls (next_now c.args.lines.now c.loop-line.line-index _ c.loop-line-test.true) c.in_ok-read_setup_line.ensures.read
+  reads_more AreCalls (next_now c.args.lines.now c.loop-line.line-index _ c.loop-line-test.true)
+      c.in_ok-read_setup_line.ensures.read
       (λ added. AreCalls-append c.loop-line.invariant.1),
 )
 
@@ -26,10 +27,12 @@ returns-in_err-read_setup_line-clause-bad c n is =
     let p = err_from_is_err_and c.from_residual.result c.from_residual.ensures.1 in
     let named : p.0 ≡ BadLine n = cc in
     let b = c.in_err-read_setup_line.ensures.bad n (ap Err (sym p.2 ∙ named)) in
-    stops_here AreCalls-behind (next_now c.args.lines.now c.loop-line.line-index _ c.loop-line-test.true) c.loop-line.invariant.1 b.1
+    stops_here AreCalls-behind (next_now c.args.lines.now c.loop-line.line-index _ c.loop-line-test.true)
+    c.loop-line.invariant.1 b.1
     (omega (arith, b.0, c.loop-line.invariant.0))
 
 pub returns-clause-ok : goal.returns-clause-ok
 returns-clause-ok c =
     let lines = map (λ r. r.now) c.args.lines.now in
-    subst (λ ls. AreCalls ls c.loop-line.setup.items) (take_all c.loop-line.line-index lines (simp length-map c.loop-line-test.false)) c.loop-line.invariant.1
+    subst (λ ls. AreCalls ls c.loop-line.setup.items)
+    (take_all c.loop-line.line-index lines (simp length-map c.loop-line-test.false)) c.loop-line.invariant.1

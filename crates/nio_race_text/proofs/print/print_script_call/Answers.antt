@@ -10,7 +10,8 @@ returns c =
     let bytes = c.deref.result.now in
     let head = c.len-head.result in
     let rest : take (length bytes - head) (drop head bytes) ≡ drop head history =
-    take_all (length bytes - head) (drop head bytes) (omega (arith, length-drop head bytes)) ∙ ap (drop head) c.deref.ensures.value
+    take_all (length bytes - head) (drop head bytes) (omega (arith, length-drop head bytes))
+    ∙ ap (drop head) c.deref.ensures.value
     in
     c.in_ok-extend_from_slice.ensures.items
     ∙ exchanged c.args.number c.args.caller c.args.call.now c.args.reply.now line history _ head

@@ -21,7 +21,8 @@ returns-in_err-setup-2-clause-bad c text n e is =
     let p = err_from_is_err_and c.from_residual-in_err-setup-2.result c.from_residual-in_err-setup-2.ensures.1 in
     let named : p.0 ≡ BadLine n = cc in
     let stops = c.in_err-setup-2.ensures.bad n (ap Err (sym p.2 ∙ named)) in
-    bad_setup (go_line ∷ map (λ r. r.now) c.in-Some.back.now) (e ∙ c.in-Some.ensures.parts) c.in-Some.ensures.first stops
+    bad_setup (go_line ∷ map (λ r. r.now) c.in-Some.back.now) (e ∙ c.in-Some.ensures.parts) c.in-Some.ensures.first
+    stops
 
 pub returns-in_err-race-clause-bad : goal.returns-in_err-race-clause-bad
 returns-in_err-race-clause-bad c text n e is =

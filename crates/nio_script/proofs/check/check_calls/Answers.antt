@@ -8,4 +8,5 @@ returns-in-Ok-None-clause-ends g c =
 pub returns-in-Ok-Some-clause-ends : goal.returns-in-Ok-Some-clause-ends
 returns-in-Ok-Some-clause-ends g c =
     let wrong = c.in-Ok-Some.wrong in
-    ends_illegal _ _ _ _ wrong.number wrong.right (rw c.in-Ok-Some.field-0-is at c.in-Ok-Some.ensures.illegal) c.say_illegal.ensures.status
+    ends_illegal _ _ _ _ wrong.number wrong.right (rw c.in-Ok-Some.field-0-is at c.in-Ok-Some.ensures.illegal)
+    c.say_illegal.ensures.status

@@ -8,10 +8,12 @@ use Rattle.nio_script.proofs.check.follow_calls.Goals as goal
 use Rattle.nio_script.proofs.check.follow_calls.Goals.{After-correction}
 
 -- the entry of the next call
-next : (g : _) (c : After-correction g) → IsNext (map entry_of c.args.calls.now) c.loop-index.index (entry_of c.index-calls-index.result)
+next : (g : _) (c : After-correction g)
+    → IsNext (map entry_of c.args.calls.now) c.loop-index.index (entry_of c.index-calls-index.result)
 next g c = record {
   within = simp length-map c.loop-index-test.true;
-  at = get_or-map entry_of c.args.calls.now c.loop-index.index c.index-calls-index.result ∙ ap entry_of (sym c.index-calls-index.is);
+  at = get_or-map entry_of c.args.calls.now c.loop-index.index c.index-calls-index.result
+      ∙ ap entry_of (sym c.index-calls-index.is);
 }
 
 pub returns-in-Some-clause-illegal : goal.returns-in-Some-clause-illegal
@@ -21,7 +23,8 @@ returns-in-Some-clause-illegal g c =
     let kept = c.loop-index.invariant.kept in
     let is = rw c.in-Some.is at c.in_ok-right.ensures.right in
     let wrong = rw c.in-Some.is at c.in_ok-right.ensures.wrong in
-    followed_wrong _ _ _ _ (laws.kept_rules _ _ kept) (laws.kept_limits _ _ kept) (map entry_of c.args.calls.now) c.loop-index.index (g.Y.System.state c.loop-index.system)
+    followed_wrong _ _ _ _ (laws.kept_rules _ _ kept) (laws.kept_limits _ _ kept)
+    (map entry_of c.args.calls.now) c.loop-index.index (g.Y.System.state c.loop-index.system)
     (entry_of c.index-calls-index.result) (next g after) c.loop-index.invariant.followed c.in-Some.right is wrong
 
 pub loop-index-preserved : goal.loop-index-preserved
@@ -32,7 +35,9 @@ loop-index-preserved g c =
     let right = rw c.in_default.is at c.in_ok-right.ensures.same in
     record {
       followed =
-          followed_more _ _ _ _ (laws.kept_rules _ _ kept) (laws.kept_limits _ _ kept) (map entry_of c.args.calls.now) c.loop-index.index (g.Y.System.state c.loop-index.system)
-          (entry_of c.index-calls-index.result) (next g after) c.loop-index.invariant.followed (g.Y.System.state c.correction.new.system) right c.in_ok-right.ensures.left;
+          followed_more _ _ _ _ (laws.kept_rules _ _ kept) (laws.kept_limits _ _ kept)
+          (map entry_of c.args.calls.now) c.loop-index.index (g.Y.System.state c.loop-index.system)
+          (entry_of c.index-calls-index.result) (next g after) c.loop-index.invariant.followed
+          (g.Y.System.state c.correction.new.system) right c.in_ok-right.ensures.left;
       kept = laws.kept_on _ _ _ kept c.correction.ensures.kept;
     }

@@ -25,13 +25,17 @@ next_number calls = simp length-map (omega (arith, calls.ok.0))
 pub loop-line-preserved : goal.loop-line-preserved
 loop-line-preserved c = (
   omega arith,
-  reads_more (AreEntries c.args.rules 1) (next_now c.deref-line-items.result.now c.loop-line.line-index _ c.loop-line-test.true) c.in_ok-read_history_line.ensures.read
-      (λ added so. AreEntries-append c.loop-line.invariant.1 (renumbered (next_number c.loop-line.calls ∙ omega arith) so)),
+  reads_more (AreEntries c.args.rules 1)
+      (next_now c.deref-line-items.result.now c.loop-line.line-index _ c.loop-line-test.true)
+      c.in_ok-read_history_line.ensures.read
+      (λ added so. AreEntries-append c.loop-line.invariant.1
+      (renumbered (next_number c.loop-line.calls ∙ omega arith) so)),
 )
 
 pub returns-in_err-read_history_line-clause-bad : goal.returns-in_err-read_history_line-clause-bad
 returns-in_err-read_history_line-clause-bad c line is =
-    let p = err_from_is_err_and c.from_residual-in_err-read_history_line.result c.from_residual-in_err-read_history_line.ensures.1 in
+    let p = err_from_is_err_and c.from_residual-in_err-read_history_line.result
+    c.from_residual-in_err-read_history_line.ensures.1 in
     let named : p.0 ≡ BadLine line = cc in
     let b = c.in_err-read_history_line.ensures.bad line (ap Err (sym p.2 ∙ named)) in
     subst (IsFirstBadEntry c.args.rules c.args.text.now) (sym (b.0 ∙ ap (λ n. n + 1) c.loop-line.invariant.0))
@@ -41,15 +45,18 @@ returns-in_err-read_history_line-clause-bad c line is =
 
 pub returns-in_err-read_history_line-clause-only : goal.returns-in_err-read_history_line-clause-only
 returns-in_err-read_history_line-clause-only c entries are =
-    let p = err_from_is_err_and c.from_residual-in_err-read_history_line.result c.from_residual-in_err-read_history_line.ensures.1 in
+    let p = err_from_is_err_and c.from_residual-in_err-read_history_line.result
+    c.from_residual-in_err-read_history_line.ensures.1 in
     rw p.1 (only_memory p.0 (λ n named.
     history_not_bad _ _ entries n are (returns-in_err-read_history_line-clause-bad c n (p.1 ∙ ap Err named))))
 
 pub returns-clause-ok : goal.returns-clause-ok
 returns-clause-ok c =
     let lines = map (λ r. r.now) c.deref-line-items.result.now in
-    let text : lines ≡ lines_of c.args.text.now = ap (map (λ r. r.now)) c.deref-line-items.ensures.value ∙ c.in_ok-lines.ensures in
-    subst (λ ls. AreEntries c.args.rules 1 ls (map entry_of c.loop-line.calls.items)) (take_all c.loop-line.line-index lines (simp length-map c.loop-line-test.false) ∙ text)
+    let text : lines ≡ lines_of c.args.text.now = ap (map (λ r. r.now)) c.deref-line-items.ensures.value
+    ∙ c.in_ok-lines.ensures in
+    subst (λ ls. AreEntries c.args.rules 1 ls (map entry_of c.loop-line.calls.items))
+    (take_all c.loop-line.line-index lines (simp length-map c.loop-line-test.false) ∙ text)
     c.loop-line.invariant.1
 
 pub returns-clause-only : goal.returns-clause-only

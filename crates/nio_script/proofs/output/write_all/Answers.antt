@@ -12,6 +12,7 @@ loop-taken-preserved g c =
       within = omega (arith, c.in-Ok.ensures.within);
       written = writes_on g.K.Sink _ _ _ bytes c.loop-taken.taken c.in-Ok.count kept.written c.in-Ok.ensures.taken;
       untouched = λ none. absurd (omega arith);
-      unflushed = λ _. unflushed_on g.K.Sink _ _ _ c.loop-taken.taken kept.untouched kept.unflushed c.in-Ok.ensures.unflushed;
+      unflushed = λ _. unflushed_on g.K.Sink _ _ _ c.loop-taken.taken kept.untouched kept.unflushed
+          c.in-Ok.ensures.unflushed;
       still = c.in-Ok.ensures.cause.still ∙ kept.still;
     }

@@ -6,27 +6,40 @@ use Rattle.nio_script.proofs.run.run_calls.Goals as goal
 use Rattle.nio_script.proofs.run.run_calls.Goals.{After-answer_call}
 
 -- the next call and those after it are left
-next_is : (g : _) (c : After-answer_call g) → drop c.loop-index.index c.args.calls.now ≡ c.index-calls-index.result ∷ drop (c.loop-index.index + 1) c.args.calls.now
+next_is : (g : _) (c : After-answer_call g)
+    → drop c.loop-index.index c.args.calls.now ≡ c.index-calls-index.result
+    ∷ drop (c.loop-index.index + 1) c.args.calls.now
 next_is g c =
     let calls = c.args.calls.now in
     let call = c.index-calls-index.result in
-    rw (add-one, drop-cons calls c.loop-index.index call c.loop-index-test.true) (ap (λ x. x ∷ drop (suc c.loop-index.index) calls) (sym c.index-calls-index.is))
+    rw (add-one, drop-cons calls c.loop-index.index call c.loop-index-test.true)
+    (ap (λ x. x ∷ drop (suc c.loop-index.index) calls) (sym c.index-calls-index.is))
 
 -- what is kept before the next call
-running : (g : _) (c : After-answer_call g) → IsRunning g.K.Sink g.Y.System c.args.output.now c.loop-index.output c.args.system.now c.loop-index.system c.loop-index.kept.items (c.loop-index.index + 1) (c.index-calls-index.result ∷ drop (c.loop-index.index + 1) c.args.calls.now) c.args.calls.now
+running : (g : _) (c : After-answer_call g)
+    → IsRunning g.K.Sink g.Y.System c.args.output.now c.loop-index.output c.args.system.now c.loop-index.system
+    c.loop-index.kept.items (c.loop-index.index + 1)
+    (c.index-calls-index.result ∷ drop (c.loop-index.index + 1) c.args.calls.now) c.args.calls.now
 running g c =
-    subst (λ rest. IsRunning g.K.Sink g.Y.System c.args.output.now c.loop-index.output c.args.system.now c.loop-index.system c.loop-index.kept.items (c.loop-index.index + 1) rest c.args.calls.now) (next_is g c) c.loop-index.invariant
+    subst (λ rest. IsRunning g.K.Sink g.Y.System c.args.output.now c.loop-index.output c.args.system.now
+    c.loop-index.system c.loop-index.kept.items (c.loop-index.index + 1) rest c.args.calls.now)
+    (next_is g c) c.loop-index.invariant
 
 pub returns-in_err-answer_call-clause-err : goal.returns-in_err-answer_call-clause-err
 returns-in_err-answer_call-clause-err g c =
-    on_err c.from_residual.result (stops g.K.Sink g.Y.System _ _ _ _ _ _ _ _ _ _ (running g (goal.at.returns-in_err-answer_call-clause-err g c).After-answer_call) c.in_err-answer_call.ensures.err)
+    on_err c.from_residual.result
+    (stops g.K.Sink g.Y.System _ _ _ _ _ _ _ _ _ _
+    (running g (goal.at.returns-in_err-answer_call-clause-err g c).After-answer_call)
+    c.in_err-answer_call.ensures.err)
 
 pub loop-index-preserved : goal.loop-index-preserved
 loop-index-preserved g c =
     let laws = g.met.Y.System in
-    goes_on g.K.Sink g.Y.System _ _ _ _ _ _ _ _ _ _ (running g (goal.at.loop-index-preserved g c).After-answer_call) c.answer_call.new.system c.answer_call.new.kept.items
+    goes_on g.K.Sink g.Y.System _ _ _ _ _ _ _ _ _ _ (running g (goal.at.loop-index-preserved g c).After-answer_call)
+    c.answer_call.new.system c.answer_call.new.kept.items
     c.in_ok-answer_call.ensures.ok c.in_ok-answer_call.ensures.left (c.in_ok-answer_call.ensures.cause.still (λ e. cc))
-    (laws.kept_on _ _ _ c.loop-index.invariant.kept_on c.answer_call.ensures.kept) (laws.kept_rules _ _ c.answer_call.ensures.kept) (laws.kept_limits _ _ c.answer_call.ensures.kept)
+    (laws.kept_on _ _ _ c.loop-index.invariant.kept_on c.answer_call.ensures.kept)
+    (laws.kept_rules _ _ c.answer_call.ensures.kept) (laws.kept_limits _ _ c.answer_call.ensures.kept)
 
 pub returns-in_err-answer_call-clause-kept : goal.returns-in_err-answer_call-clause-kept
 returns-in_err-answer_call-clause-kept g c =
@@ -35,6 +48,9 @@ returns-in_err-answer_call-clause-kept g c =
 pub returns-clause-err : goal.returns-clause-err
 returns-clause-err g c =
     let before = c.loop-index.invariant in
-    on_err_map c.write_out.result (λ some. subst (WritesPrefix g.K.Sink c.args.output.now c.write_out.new.sink) before.answer
-    (writes_prefix_after g.K.Sink c.args.output.now c.loop-index.output c.write_out.new.sink before.bytes c.loop-index.kept.items _ before.written
-    (subst (WritesPrefix g.K.Sink c.loop-index.output c.write_out.new.sink) c.deref.ensures.value some))) c.write_out.ensures.err
+    on_err_map c.write_out.result
+    (λ some. subst (WritesPrefix g.K.Sink c.args.output.now c.write_out.new.sink) before.answer
+    (writes_prefix_after g.K.Sink c.args.output.now c.loop-index.output c.write_out.new.sink before.bytes
+    c.loop-index.kept.items _ before.written
+    (subst (WritesPrefix g.K.Sink c.loop-index.output c.write_out.new.sink) c.deref.ensures.value some)))
+    c.write_out.ensures.err

@@ -17,7 +17,8 @@ overflow_add-number c = omega (arith, c.loop-line.invariant.0, c.deref-line-item
 pub loop-line-preserved : goal.loop-line-preserved
 loop-line-preserved c = (
   omega arith,
-  reads_more AreCalls (next_now c.deref-line-items.result.now c.loop-line.line-index _ c.loop-line-test.true) c.in_ok-read_line.ensures.read
+  reads_more AreCalls (next_now c.deref-line-items.result.now c.loop-line.line-index _ c.loop-line-test.true)
+      c.in_ok-read_line.ensures.read
       (λ added. AreCalls-append c.loop-line.invariant.1),
 )
 
@@ -33,13 +34,16 @@ returns-in_err-read_line-clause-bad c line is =
 pub returns-in_err-read_line-clause-only : goal.returns-in_err-read_line-clause-only
 returns-in_err-read_line-clause-only c calls are =
     let p = err_from_is_err_and c.from_residual-in_err-read_line.result c.from_residual-in_err-read_line.ensures.1 in
-    rw p.1 (only_memory p.0 (λ n named. script_not_bad _ calls n are (returns-in_err-read_line-clause-bad c n (p.1 ∙ ap Err named))))
+    rw p.1 (only_memory p.0
+    (λ n named. script_not_bad _ calls n are (returns-in_err-read_line-clause-bad c n (p.1 ∙ ap Err named))))
 
 pub returns-clause-ok : goal.returns-clause-ok
 returns-clause-ok c =
     let lines = map (λ r. r.now) c.deref-line-items.result.now in
-    let text : lines ≡ lines_of c.args.text.now = ap (map (λ r. r.now)) c.deref-line-items.ensures.value ∙ c.in_ok-lines.ensures in
-    subst (λ ls. AreCalls ls c.loop-line.calls.items) (take_all c.loop-line.line-index lines (simp length-map c.loop-line-test.false) ∙ text) c.loop-line.invariant.1
+    let text : lines ≡ lines_of c.args.text.now = ap (map (λ r. r.now)) c.deref-line-items.ensures.value
+    ∙ c.in_ok-lines.ensures in
+    subst (λ ls. AreCalls ls c.loop-line.calls.items)
+    (take_all c.loop-line.line-index lines (simp length-map c.loop-line-test.false) ∙ text) c.loop-line.invariant.1
 
 pub returns-clause-only : goal.returns-clause-only
 returns-clause-only c all are = calls_one (returns-clause-ok c) are

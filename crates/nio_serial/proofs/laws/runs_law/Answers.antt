@@ -2,4 +2,5 @@ use Rattle.nio_serial.proofs.Histories.{call-runs-amount, line-runs-amount, pass
 use Rattle.nio_serial.proofs.laws.runs_law.Goals as goal
 
 pub returns : goal.returns
-returns c = record { calls = call-runs-amount; told = told-runs-amount; lines = line-runs-amount; only = pass-lines-amount }
+returns c =
+    record { calls = call-runs-amount; told = told-runs-amount; lines = line-runs-amount; only = pass-lines-amount }
