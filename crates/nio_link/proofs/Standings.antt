@@ -6,7 +6,7 @@ use Rattle.nio_link.specs.declared.place.Place.{Place}
 use Rattle.nio_link.specs.declared.place.Standing.{Standing}
 use Rattle.nio_link.specs.declared.place.Standing.TheVariants as standing
 
-is_linked : (s : Standing) → s ≡ standing.Linked → IsLinked s
+pub is_linked : (s : Standing) → s ≡ standing.Linked → IsLinked s
 is_linked s linked = subst IsLinked (sym linked) tt
 
 -- a link can still be read after a call that was to shut it for writing

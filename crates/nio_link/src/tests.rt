@@ -333,6 +333,7 @@ fn connected_again<N: Net>(net: &mut N) -> [Result<bool, LinkError>; 2]
 }
 
 #[test]
+#[tactic(auto, using(crate::proofs::Standings::is_linked))]
 fn an_accepted_link_is_connected(rt: HostRuntime) -> Result<(), Fail> {
     let mut net = MemoryNet::make(rt.alloc(), plan(rt.alloc())?)?;
     let accepted = accept_first(&mut net);
