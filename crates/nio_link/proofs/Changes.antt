@@ -12,11 +12,14 @@ module _ (changes : List (ChanNo × Change)) (c : ChanNo) (change : Change) wher
   one_more k = ap (λ (places : ChanNo → Place). places k) (fold-append changed (λ _. unused) changes ((c, change) ∷ []))
 
   pub changed_here : places_after (changes ++ (c, change) ∷ []) c ≡ place_after change (places_after changes c)
-  changed_here = one_more c ∙ ap (λ (b : Bool). if b then place_after change (places_after changes c) else places_after changes c) (eq-eqb c.0 c.0 refl)
+  changed_here =
+      one_more c ∙ ap (λ (b : Bool). if b then place_after change (places_after changes c) else places_after changes c)
+      (eq-eqb c.0 c.0 refl)
 
   pub changed_else : IsSameBut c (places_after changes) (places_after (changes ++ (c, change) ∷ []))
   changed_else k differ = one_more k ∙ by_test (k.0 == c.0) refl
     where
-      by_test : (b : Bool) → (k.0 == c.0) ≡ b → (if b then place_after change (places_after changes k) else places_after changes k) ≡ places_after changes k
+      by_test : (b : Bool) → (k.0 == c.0) ≡ b
+          → (if b then place_after change (places_after changes k) else places_after changes k) ≡ places_after changes k
       by_test true same = absurd (differ (ap (λ n. let x : ChanNo = record { 0 = n } in x) (eqb-true k.0 c.0 same)))
       by_test false other = refl

@@ -53,9 +53,11 @@ in_order m n = grind arith
 
 -- a channel under which something stands is one of the net's
 in_net : (slots : List Slot) (c : ChanNo) → slot_at slots c ≢ slot.Free → c.0 < length slots
-in_net slots c some = elim (in_order c.0 (length slots)) [ inl within ↦ within | inr past ↦ absurd (some (slot_past slots c past)) ]
+in_net slots c some =
+    elim (in_order c.0 (length slots)) [ inl within ↦ within | inr past ↦ absurd (some (slot_past slots c past)) ]
 
-slot_here : (slots : List Slot) (c : ChanNo) (x : Slot) → slot_at slots c ≢ slot.Free → slot_at (slice_set slots c.0 x) c ≡ x
+slot_here : (slots : List Slot) (c : ChanNo) (x : Slot) → slot_at slots c ≢ slot.Free
+    → slot_at (slice_set slots c.0 x) c ≡ x
 slot_here slots c x some = get_or-set_same slots c.0 x slot.Free (in_net slots c some)
 
 -- ---- links
@@ -81,48 +83,58 @@ connecting_link (slot.Link m) l is = by_test (is_connecting m.stage) is
 link_some : (s : Slot) (l : LinkState) → s ≡ slot.Link l → s ≢ slot.Free
 link_some s l is free = cc
 
-placed_else : (slots : List Slot) (c : ChanNo) (o : Option LinkState) → IsSameBut c (carried_at slots) (carried_at (placed c slots o))
+placed_else : (slots : List Slot) (c : ChanNo) (o : Option LinkState)
+    → IsSameBut c (carried_at slots) (carried_at (placed c slots o))
 placed_else slots c None k differ = refl
 placed_else slots c (Some l) k differ = ap carried_by (slot_else slots c k (slot.Link l) differ)
 
 -- ---- reading
 
 read_link : (g : Got) (l : LinkState) (buffer : List ℕ) (pieces : List (List ℕ))
-    → carried (record l { pieces = pieces; got = got_after g buffer l.got; ended = ended_after g l.ended }) ≡ after_read (Ok g) buffer (carried l)
+    → carried (record l { pieces = pieces; got = got_after g buffer l.got; ended = ended_after g l.ended })
+    ≡ after_read (Ok g) buffer (carried l)
 read_link (got.Bytes n) l buffer pieces = refl
 read_link got.End l buffer pieces = refl
 read_link got.NotYet l buffer pieces = refl
 
 module _ (slots : List Slot) (c : ChanNo) (buffer : List ℕ) where
   read_by : (o : Option LinkState) → connected (slot_at slots c) ≡ o
-      → carried_at (placed c slots (option_map (λ l. link_after_read l buffer) o)) c ≡ after_read (read_answer o (length buffer)) (read_buffer o buffer) (carried_at slots c)
+      → carried_at (placed c slots (option_map (λ l. link_after_read l buffer) o)) c
+      ≡ after_read (read_answer o (length buffer)) (read_buffer o buffer) (carried_at slots c)
   read_by None is = refl
   read_by (Some l) is =
       let here : slot_at slots c ≡ slot.Link l = connected_link (slot_at slots c) l is in
       ap carried_by (slot_here slots c (slot.Link (link_after_read l buffer)) (link_some _ l here))
-      ∙ read_link (got_of l.pieces (length buffer)) l (buffer_after l.pieces buffer) (pieces_after l.pieces (length buffer))
-      ∙ ap (λ s. after_read (Ok (got_of l.pieces (length buffer))) (buffer_after l.pieces buffer) (carried_by s)) (sym here)
+      ∙ read_link (got_of l.pieces (length buffer)) l (buffer_after l.pieces buffer)
+      (pieces_after l.pieces (length buffer))
+      ∙ ap (λ s. after_read (Ok (got_of l.pieces (length buffer))) (buffer_after l.pieces buffer) (carried_by s))
+      (sym here)
 
-  pub read_carried : carried_at (slots_after_read slots c buffer) c ≡ after_read (read_answer (connected (slot_at slots c)) (length buffer)) (read_buffer (connected (slot_at slots c)) buffer) (carried_at slots c)
+  pub read_carried : carried_at (slots_after_read slots c buffer) c
+      ≡ after_read (read_answer (connected (slot_at slots c)) (length buffer))
+      (read_buffer (connected (slot_at slots c)) buffer) (carried_at slots c)
   read_carried = read_by (connected (slot_at slots c)) refl
 
   pub read_else : IsSameBut c (carried_at slots) (carried_at (slots_after_read slots c buffer))
   read_else = placed_else slots c (option_map (λ l. link_after_read l buffer) (connected (slot_at slots c)))
 
-pub read_got : (o : Option LinkState) (buffer : List ℕ) → buffer ≢ [] → IfOk (read_answer o (length buffer)) (IsGot buffer (read_buffer o buffer))
+pub read_got : (o : Option LinkState) (buffer : List ℕ) → buffer ≢ []
+    → IfOk (read_answer o (length buffer)) (IsGot buffer)
 read_got None buffer some = tt
 read_got (Some l) buffer some = is_got l.pieces buffer some
 
 -- ---- writing
 
-write_link : (r : Result Put Failed) (l : LinkState) (bytes : List ℕ) → carried (record l { put = put_after r bytes l.put }) ≡ after_write r bytes (carried l)
+write_link : (r : Result Put Failed) (l : LinkState) (bytes : List ℕ)
+    → carried (record l { put = put_after r bytes l.put }) ≡ after_write r bytes (carried l)
 write_link (Ok (put.Bytes n)) l bytes = refl
 write_link (Ok put.NotYet) l bytes = refl
 write_link (Err failed) l bytes = refl
 
 module _ (slots : List Slot) (c : ChanNo) (bytes : List ℕ) where
   write_by : (o : Option LinkState) → connected (slot_at slots c) ≡ o
-      → carried_at (placed c slots (option_map (λ l. link_after_write l bytes) o)) c ≡ after_write (write_answer o (length bytes)) bytes (carried_at slots c)
+      → carried_at (placed c slots (option_map (λ l. link_after_write l bytes) o)) c
+      ≡ after_write (write_answer o (length bytes)) bytes (carried_at slots c)
   write_by None is = refl
   write_by (Some l) is =
       let here : slot_at slots c ≡ slot.Link l = connected_link (slot_at slots c) l is in
@@ -130,7 +142,8 @@ module _ (slots : List Slot) (c : ChanNo) (bytes : List ℕ) where
       ∙ write_link (put_of l (length bytes)) l bytes
       ∙ ap (λ s. after_write (put_of l (length bytes)) bytes (carried_by s)) (sym here)
 
-  pub write_carried : carried_at (slots_after_write slots c bytes) c ≡ after_write (write_answer (connected (slot_at slots c)) (length bytes)) bytes (carried_at slots c)
+  pub write_carried : carried_at (slots_after_write slots c bytes) c
+      ≡ after_write (write_answer (connected (slot_at slots c)) (length bytes)) bytes (carried_at slots c)
   write_carried = write_by (connected (slot_at slots c)) refl
 
   pub write_else : IsSameBut c (carried_at slots) (carried_at (slots_after_write slots c bytes))
@@ -143,24 +156,28 @@ write_ready_by false n ops = refl
 
 pub write_ready : (o : Option LinkState) (count : ℕ) (ops : ℕ) → ops ≡ ready_after_write (write_answer o count) ops
 write_ready None count ops = refl
-write_ready (Some l) count ops = write_ready_by (nat_lt (length l.put) l.limit) (min count (min l.most (l.limit - length l.put))) ops
+write_ready (Some l) count ops =
+    write_ready_by (nat_lt (length l.put) l.limit) (min count (min l.most (l.limit - length l.put))) ops
 
 -- ---- shutting
 
 module _ (slots : List Slot) (c : ChanNo) where
   shut_by : (o : Option LinkState) → connected (slot_at slots c) ≡ o
-      → carried_at (placed c slots (option_map (λ (l : LinkState). record l { shut = true }) o)) c ≡ after_shut (shut_answer o) (carried_at slots c)
+      → carried_at (placed c slots (option_map (λ (l : LinkState). record l { shut = true }) o)) c
+      ≡ after_shut (shut_answer o) (carried_at slots c)
   shut_by None is = refl
   shut_by (Some l) is =
       let here : slot_at slots c ≡ slot.Link l = connected_link (slot_at slots c) l is in
       ap carried_by (slot_here slots c (slot.Link (record l { shut = true })) (link_some _ l here))
       ∙ ap (λ s. after_shut (Ok tt) (carried_by s)) (sym here)
 
-  pub shut_carried : carried_at (slots_after_shut slots c) c ≡ after_shut (shut_answer (connected (slot_at slots c))) (carried_at slots c)
+  pub shut_carried : carried_at (slots_after_shut slots c) c
+      ≡ after_shut (shut_answer (connected (slot_at slots c))) (carried_at slots c)
   shut_carried = shut_by (connected (slot_at slots c)) refl
 
   pub shut_else : IsSameBut c (carried_at slots) (carried_at (slots_after_shut slots c))
-  shut_else = placed_else slots c (option_map (λ (l : LinkState). record l { shut = true }) (connected (slot_at slots c)))
+  shut_else = placed_else slots c
+      (option_map (λ (l : LinkState). record l { shut = true }) (connected (slot_at slots c)))
 
 -- ---- failures
 
@@ -175,26 +192,35 @@ times_else xs c k differ =
     let other : (c.0 == k.0) ≡ false = is_another (c.0 == k.0) c k refl (λ same. differ (sym same)) in
     times_more xs c k ∙ ap (λ (b : Bool). times xs k + cond b 1 0) other ∙ omega arith
 
-pub cause_after : {T : Type 0} (result : Result T Failed) (xs : List ChanNo) (c : ChanNo) → HasCause (times xs c) (times (faulted_after result c xs) c) result
+pub cause_after : {T : Type 0} (result : Result T Failed) (xs : List ChanNo) (c : ChanNo)
+    → HasCause (times xs c) (times (faulted_after result c xs) c) result
 cause_after (Ok value) xs c = record { later = omega arith; still = refl; failed = tt }
-cause_after (Err failed) xs c = let more = times_here xs c in record { later = omega arith; still = tt; failed = inl (omega arith) }
+cause_after (Err failed) xs c =
+    let more = times_here xs c in record { later = omega arith; still = tt; failed = inl (omega arith) }
 
-pub cause_else : {T : Type 0} (result : Result T Failed) (xs : List ChanNo) (c : ChanNo) → IsSameBut c (times xs) (times (faulted_after result c xs))
+pub cause_else : {T : Type 0} (result : Result T Failed) (xs : List ChanNo) (c : ChanNo)
+    → IsSameBut c (times xs) (times (faulted_after result c xs))
 cause_else (Ok value) xs c k differ = refl
 cause_else (Err failed) xs c k differ = times_else xs c k differ
 
 -- ---- readiness
 
-ready_more : (findings : List Finding) (x : Finding) (c : ChanNo) → ready_told (findings ++ x ∷ []) c ≡ heed (ready_told findings) x c
+ready_more : (findings : List Finding) (x : Finding) (c : ChanNo)
+    → ready_told (findings ++ x ∷ []) c ≡ heed (ready_told findings) x c
 ready_more findings x c = ap (λ (f : ChanNo → ℕ). f c) (fold-append heed (λ _. 0) findings (x ∷ []))
 
-pub ready_here : (findings : List Finding) (c : ChanNo) (op : ℕ) → ready_told (findings ++ NotReady c op ∷ []) c ≡ without op (ready_told findings c)
-ready_here findings c op = ready_more findings (NotReady c op) c ∙ ap (λ (b : Bool). if b then without op (ready_told findings c) else ready_told findings c) (is_itself c)
+pub ready_here : (findings : List Finding) (c : ChanNo) (op : ℕ)
+    → ready_told (findings ++ NotReady c op ∷ []) c ≡ without op (ready_told findings c)
+ready_here findings c op =
+    ready_more findings (NotReady c op) c
+    ∙ ap (λ (b : Bool). if b then without op (ready_told findings c) else ready_told findings c) (is_itself c)
 
-pub ready_else : (findings : List Finding) (c : ChanNo) (op : ℕ) → IsSameBut c (ready_told findings) (ready_told (findings ++ NotReady c op ∷ []))
+pub ready_else : (findings : List Finding) (c : ChanNo) (op : ℕ)
+    → IsSameBut c (ready_told findings) (ready_told (findings ++ NotReady c op ∷ []))
 ready_else findings c op k differ =
     ready_more findings (NotReady c op) k
-    ∙ ap (λ (b : Bool). if b then without op (ready_told findings k) else ready_told findings k) (is_another (c.0 == k.0) c k refl (λ same. differ (sym same)))
+    ∙ ap (λ (b : Bool). if b then without op (ready_told findings k) else ready_told findings k)
+    (is_another (c.0 == k.0) c k refl (λ same. differ (sym same)))
 
 read_ready_by : (r : Result Got Failed) (findings : List Finding) (c : ChanNo)
     → ready_told (findings_after (is_early r) c 1 findings) c ≡ ready_after_read r (ready_told findings c)
@@ -207,16 +233,20 @@ pub read_ready : (r : Result Got Failed) (findings : List Finding) (c : ChanNo)
     → ready_told (findings_after (is_early r) c 1 findings) c ≡ ready_after_read r (ready_told findings c)
 read_ready = read_ready_by
 
-by_early : (b : Bool) (findings : List Finding) (c : ChanNo) (op : ℕ) → IsSameBut c (ready_told findings) (ready_told (findings_after b c op findings))
+by_early : (b : Bool) (findings : List Finding) (c : ChanNo) (op : ℕ)
+    → IsSameBut c (ready_told findings) (ready_told (findings_after b c op findings))
 by_early true findings c op = ready_else findings c op
 by_early false findings c op = λ k differ. refl
 
-pub read_ready_else : (r : Result Got Failed) (findings : List Finding) (c : ChanNo) → IsSameBut c (ready_told findings) (ready_told (findings_after (is_early r) c 1 findings))
+pub read_ready_else : (r : Result Got Failed) (findings : List Finding) (c : ChanNo)
+    → IsSameBut c (ready_told findings) (ready_told (findings_after (is_early r) c 1 findings))
 read_ready_else r findings c = by_early (is_early r) findings c 1
 
 -- after a poll
-pub ready_polled : (findings now : List Finding) (polled : Polled) (c : ChanNo) → now ≡ findings ++ WasTold polled ∷ [] → ready_told now c ≡ told_of_channel polled.asked polled.answer.pairs c
-ready_polled findings now polled c is = ap (λ (xs : List Finding). ready_told xs c) is ∙ ready_more findings (WasTold polled) c
+pub ready_polled : (findings now : List Finding) (polled : Polled) (c : ChanNo) → now ≡ findings ++ WasTold polled ∷ []
+    → ready_told now c ≡ told_of_channel polled.asked polled.answer.pairs c
+ready_polled findings now polled c is =
+    ap (λ (xs : List Finding). ready_told xs c) is ∙ ready_more findings (WasTold polled) c
 
 -- ---- links that are made, connected and closed
 
@@ -239,12 +269,14 @@ right_of false b is = absurd (cc)
 -- where a link with nothing carried is put under a free channel, no channel has carried anything else
 module _ (slots : List Slot) (c : ChanNo) (free : is_free slots c ≡ true) where
   was_free : slot_at slots c ≡ slot.Free
-  was_free = nothing_there (slot_at slots c) (right_of (nat_lt c.0 (length slots)) (holds_nothing (slot_at slots c)) free)
+  was_free = nothing_there (slot_at slots c)
+      (right_of (nat_lt c.0 (length slots)) (holds_nothing (slot_at slots c)) free)
 
   within_net : c.0 < length slots
   within_net = ltb-true c.0 (length slots) (left_of (nat_lt c.0 (length slots)) (holds_nothing (slot_at slots c)) free)
 
-  pub put_free : (x : Slot) → carried_by x ≡ carried_by slot.Free → (k : ChanNo) → carried_at (slice_set slots c.0 x) k ≡ carried_at slots k
+  pub put_free : (x : Slot) → carried_by x ≡ carried_by slot.Free → (k : ChanNo)
+      → carried_at (slice_set slots c.0 x) k ≡ carried_at slots k
   put_free x nothing k = by_test (k.0 == c.0) refl
     where
       by_test : (b : Bool) → (k.0 == c.0) ≡ b → carried_at (slice_set slots c.0 x) k ≡ carried_at slots k
@@ -256,20 +288,25 @@ module _ (slots : List Slot) (c : ChanNo) (free : is_free slots c ≡ true) wher
           ∙ ap (λ (chan : ChanNo). carried_at slots chan) (sym same)
       by_test false is = ap carried_by (get_or-set_other slots c.0 k.0 x slot.Free (eqb-false k.0 c.0 is))
 
-  pub put_fresh : (l : LinkState) → IsFresh l → (k : ChanNo) → carried_at (slice_set slots c.0 (slot.Link l)) k ≡ carried_at slots k
+  pub put_fresh : (l : LinkState) → IsFresh l → (k : ChanNo)
+      → carried_at (slice_set slots c.0 (slot.Link l)) k ≡ carried_at slots k
   put_fresh l fresh = put_free (slot.Link l) (fresh_slot l fresh)
 
-pub listen_carried : (s : NetState) (c : ChanNo) (k : ChanNo) → carried_at (after_listen s c).slots k ≡ carried_at s.slots k
+pub listen_carried : (s : NetState) (c : ChanNo) (k : ChanNo)
+    → carried_at (after_listen s c).slots k ≡ carried_at s.slots k
 listen_carried s c k = by_test (is_free s.slots c) refl
   where
     by_test : (b : Bool) → is_free s.slots c ≡ b
-        → carried_at (if b then record s { slots = slice_set s.slots c.0 slot.Listener } else record s { faulted = s.faulted ++ c ∷ [] }).slots k ≡ carried_at s.slots k
+        → carried_at
+        (if b then record s { slots = slice_set s.slots c.0 slot.Listener }
+        else record s { faulted = s.faulted ++ c ∷ [] }).slots k ≡ carried_at s.slots k
     by_test true free = put_free s.slots c free slot.Listener refl k
     by_test false taken = refl
 
 -- putting a link that has carried the same where one stands
 module _ (slots : List Slot) (c : ChanNo) where
-  same_there : (x : Slot) → carried_by x ≡ carried_by (slot_at slots c) → c.0 < length slots → (k : ChanNo) → carried_at (slice_set slots c.0 x) k ≡ carried_at slots k
+  same_there : (x : Slot) → carried_by x ≡ carried_by (slot_at slots c) → c.0 < length slots → (k : ChanNo)
+      → carried_at (slice_set slots c.0 x) k ≡ carried_at slots k
   same_there x same within k = by_test (k.0 == c.0) refl
     where
       by_test : (b : Bool) → (k.0 == c.0) ≡ b → carried_at (slice_set slots c.0 x) k ≡ carried_at slots k
@@ -282,33 +319,42 @@ module _ (slots : List Slot) (c : ChanNo) where
       by_test false is = ap carried_by (get_or-set_other slots c.0 k.0 x slot.Free (eqb-false k.0 c.0 is))
 
   finish_by : (o : Option LinkState) → connecting (slot_at slots c) ≡ o → (k : ChanNo)
-      → carried_at (placed c slots (option_map (λ (l : LinkState). record l { stage = stage_after_connect l.fail_connect }) o)) k ≡ carried_at slots k
+      → carried_at
+      (placed c slots (option_map (λ (l : LinkState). record l { stage = stage_after_connect l.fail_connect }) o)) k
+      ≡ carried_at slots k
   finish_by None is k = refl
   finish_by (Some l) is k =
       let here : slot_at slots c ≡ slot.Link l = connecting_link (slot_at slots c) l is in
-      same_there (slot.Link (record l { stage = stage_after_connect l.fail_connect })) (ap carried_by (sym here)) (in_net slots c (link_some _ l here)) k
+      same_there (slot.Link (record l { stage = stage_after_connect l.fail_connect })) (ap carried_by (sym here))
+      (in_net slots c (link_some _ l here)) k
 
   pub finish_carried : (k : ChanNo) → carried_at (slots_after_finish slots c) k ≡ carried_at slots k
   finish_carried = finish_by (connecting (slot_at slots c)) refl
 
-  close_by : (s : Slot) → slot_at slots c ≡ s → (k : ChanNo) → carried_at (slice_set slots c.0 (closed s)) k ≡ carried_at slots k
+  close_by : (s : Slot) → slot_at slots c ≡ s → (k : ChanNo)
+      → carried_at (slice_set slots c.0 (closed s)) k ≡ carried_at slots k
   close_by slot.Free is k = by_place (in_order c.0 (length slots))
     where
-      by_place : (c.0 < length slots) ⊎ (length slots ≤ c.0) → carried_at (slice_set slots c.0 slot.Free) k ≡ carried_at slots k
+      by_place : (c.0 < length slots) ⊎ (length slots ≤ c.0)
+          → carried_at (slice_set slots c.0 slot.Free) k ≡ carried_at slots k
       by_place (inl within) = same_there slot.Free (ap carried_by (sym is)) within k
       by_place (inr past) = ap (λ (xs : List Slot). carried_at xs k) (set_past slots c.0 slot.Free past)
   close_by slot.Listener is k = same_there slot.Free (ap carried_by (sym is)) (in_net slots c (λ free. cc)) k
-  close_by (slot.Link l) is k = same_there (closed (slot.Link l)) (ap carried_by (sym is)) (in_net slots c (link_some _ l is)) k
+  close_by (slot.Link l) is k =
+      same_there (closed (slot.Link l)) (ap carried_by (sym is)) (in_net slots c (link_some _ l is)) k
 
   pub close_carried : (k : ChanNo) → carried_at (slots_after_close slots c) k ≡ carried_at slots k
   close_carried = close_by (slot_at slots c) refl
 
 -- ---- the calls that make links
 
-pub listen_faulted : (s : NetState) (c : ChanNo) → (after_listen s c).faulted ≡ faulted_after (listen_answer s c) c s.faulted
+pub listen_faulted : (s : NetState) (c : ChanNo)
+    → (after_listen s c).faulted ≡ faulted_after (listen_answer s c) c s.faulted
 listen_faulted s c = by_test (is_free s.slots c)
   where
-    by_test : (b : Bool) → (if b then record s { slots = slice_set s.slots c.0 slot.Listener } else record s { faulted = s.faulted ++ c ∷ [] }).faulted
+    by_test : (b : Bool)
+        → (if b then record s { slots = slice_set s.slots c.0 slot.Listener }
+        else record s { faulted = s.faulted ++ c ∷ [] }).faulted
         ≡ faulted_after {T = Unit {0}} (if b then Ok tt else Err (record {})) c s.faulted
     by_test true = refl
     by_test false = refl
@@ -316,14 +362,18 @@ listen_faulted s c = by_test (is_free s.slots c)
 pub listen_polls : (s : NetState) (c : ChanNo) → (after_listen s c).polls ≡ s.polls
 listen_polls s c = by_test (is_free s.slots c)
   where
-    by_test : (b : Bool) → (if b then record s { slots = slice_set s.slots c.0 slot.Listener } else record s { faulted = s.faulted ++ c ∷ [] }).polls ≡ s.polls
+    by_test : (b : Bool)
+        → (if b then record s { slots = slice_set s.slots c.0 slot.Listener }
+        else record s { faulted = s.faulted ++ c ∷ [] }).polls ≡ s.polls
     by_test true = refl
     by_test false = refl
 
 pub listen_findings : (s : NetState) (c : ChanNo) → (after_listen s c).findings ≡ s.findings
 listen_findings s c = by_test (is_free s.slots c)
   where
-    by_test : (b : Bool) → (if b then record s { slots = slice_set s.slots c.0 slot.Listener } else record s { faulted = s.faulted ++ c ∷ [] }).findings ≡ s.findings
+    by_test : (b : Bool)
+        → (if b then record s { slots = slice_set s.slots c.0 slot.Listener }
+        else record s { faulted = s.faulted ++ c ∷ [] }).findings ≡ s.findings
     by_test true = refl
     by_test false = refl
 
@@ -337,13 +387,15 @@ pub record Connects (s now : NetState) (c : ChanNo) (answer : Result Bool Failed
 with_target_is : (s : NetState) (c : ChanNo) (targets : List LinkState) → AreFresh targets → is_free s.slots c ≡ true
     → Connects s (with_target targets c s) c (if is_waiting targets then Ok false else Err (record {}))
 with_target_is s c [] fresh free = record { carried = λ k. refl; faulted = refl; polls = refl; findings = refl }
-with_target_is s c (l ∷ later) fresh free = record { carried = put_fresh s.slots c free l fresh.0; faulted = refl; polls = refl; findings = refl }
+with_target_is s c (l ∷ later) fresh free =
+    record { carried = put_fresh s.slots c free l fresh.0; faulted = refl; polls = refl; findings = refl }
 
 pub connects : (s : NetState) (c : ChanNo) → AreFresh s.targets → Connects s (after_connect s c) c (connect_answer s c)
 connects s c fresh = by_test (is_free s.slots c) refl
   where
     by_test : (b : Bool) → is_free s.slots c ≡ b
-        → Connects s (if b then with_target s.targets c s else record s { faulted = s.faulted ++ c ∷ [] }) c (if b && is_waiting s.targets then Ok false else Err (record {}))
+        → Connects s (if b then with_target s.targets c s else record s { faulted = s.faulted ++ c ∷ [] }) c
+        (if b && is_waiting s.targets then Ok false else Err (record {}))
     by_test true free = with_target_is s c s.targets fresh free
     by_test false taken = record { carried = λ k. refl; faulted = refl; polls = refl; findings = refl }
 
@@ -355,10 +407,13 @@ pub record Accepts (s now : NetState) (listener c : ChanNo) (made : Bool) : Type
   pub ready : ready_told now.findings listener ≡ ready_after_accept (Ok made) (ready_told s.findings listener)
   pub ready_else : IsSameBut listener (ready_told s.findings) (ready_told now.findings)
 
-pub accepts : (s : NetState) (listener c : ChanNo) → AreFresh s.clients → can_accept s listener c ≡ true → Accepts s (after_accept s listener c) listener c (is_waiting s.clients)
+pub accepts : (s : NetState) (listener c : ChanNo) → AreFresh s.clients → can_accept s listener c ≡ true
+    → Accepts s (after_accept s listener c) listener c (is_waiting s.clients)
 accepts s listener c fresh able = by_clients s.clients fresh
   where
-    by_clients : (clients : List LinkState) → AreFresh clients → Accepts s (with_client clients listener c (record s { accepts = after_success s.accepts })) listener c (is_waiting clients)
+    by_clients : (clients : List LinkState) → AreFresh clients
+        → Accepts s (with_client clients listener c (record s { accepts = after_success s.accepts })) listener c
+        (is_waiting clients)
     by_clients [] none = record {
       carried = λ k. refl;
       faulted = refl;
@@ -395,7 +450,9 @@ targets_fresh (peer ∷ peers) = (record { got = refl; ended = refl; put = refl;
 -- two more channels
 pub slots_more : (n : ℕ) → (free_slots n ++ slot.Free ∷ []) ++ slot.Free ∷ [] ≡ free_slots (n + 1)
 slots_more n =
-    let first : replicate (2 * n + 1 + 1) slot.Free ≡ replicate (2 * n + 1) slot.Free ++ slot.Free ∷ [] = grind (arith, common_steps) in
-    let second : replicate (2 * n + 1 + 1 + 1) slot.Free ≡ replicate (2 * n + 1 + 1) slot.Free ++ slot.Free ∷ [] = grind (arith, common_steps) in
+    let first : replicate (2 * n + 1 + 1) slot.Free ≡ replicate (2 * n + 1) slot.Free ++ slot.Free ∷ [] =
+    grind (arith, common_steps) in
+    let second : replicate (2 * n + 1 + 1 + 1) slot.Free ≡ replicate (2 * n + 1 + 1) slot.Free ++ slot.Free ∷ [] =
+    grind (arith, common_steps) in
     let same : 2 * n + 1 + 1 + 1 ≡ 2 * (n + 1) + 1 = omega arith in
     ap (λ xs. xs ++ slot.Free ∷ []) (sym first) ∙ sym second ∙ ap (λ k. replicate k slot.Free) same

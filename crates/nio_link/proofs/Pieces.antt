@@ -1,16 +1,16 @@
 -- What is left of pieces of bytes.
 use Rattle.std.proofs.Common.{◌≡◌, ◌≢◌, ℕ, ◌+◌, ◌<◌, ◌≤◌, min, List, [], ◌∷◌, ◌++◌, length, map, get_or, take, drop, refl, ap, arith, sym, ◌∙◌, length-drop}
-use Rattle.std.proofs.lemmas.Grind.{common_steps}
-use Rattle.std.proofs.Math.Seq.{drop-append_seam}
 use Rattle.std.proofs.lemmas.List.{drop_min, map-append, take_more}
 use Rattle.nio_link.specs.Links.{IsGot}
-use Rattle.nio_link.specs.Pieces.{pieces_left, pieces_after, got_of, count_of, buffer_after, filled_by, total}
+use Rattle.nio_link.specs.Pieces.{pieces_left, pieces_after, got_of, count_of, total}
 
 -- what is left where a piece was begun
-pub left_next : (begun : List ℕ) (piece : List ℕ) (later : List (List ℕ)) (room count : ℕ) → begun ≡ [] → 0 < length piece → count ≡ min room (length piece)
+pub left_next : (begun : List ℕ) (piece : List ℕ) (later : List (List ℕ)) (room count : ℕ) → begun ≡ []
+    → 0 < length piece → count ≡ min room (length piece)
     → pieces_left (drop count piece) later ≡ pieces_after (pieces_left begun (piece ∷ later)) room
 left_next [] [] later room count over some is = absurd (omega arith)
-left_next [] (byte ∷ rest) later room count over some is = ap (λ (left : List ℕ). pieces_left left later) (ap (λ n. drop n (byte ∷ rest)) is ∙ drop_min room (byte ∷ rest))
+left_next [] (byte ∷ rest) later room count over some is =
+    ap (λ (left : List ℕ). pieces_left left later) (ap (λ n. drop n (byte ∷ rest)) is ∙ drop_min room (byte ∷ rest))
 left_next (b ∷ begun) piece later room count over some is = absurd (cc)
 
 total_left : (left : List ℕ) (later : List (List ℕ)) → total (pieces_left left later) ≡ length left + total later
@@ -18,33 +18,20 @@ total_left [] later = omega arith
 total_left (byte ∷ rest) later = refl
 
 -- a read takes its bytes from the pieces
-pub total_after : (pieces : List (List ℕ)) (room : ℕ) → total (pieces_after pieces room) + count_of (got_of pieces room) ≤ total pieces
+pub total_after : (pieces : List (List ℕ)) (room : ℕ)
+    → total (pieces_after pieces room) + count_of (got_of pieces room) ≤ total pieces
 total_after [] room = omega arith
 total_after ([] ∷ later) room = omega arith
-total_after ((byte ∷ rest) ∷ later) room = omega (arith, total_left (drop room (byte ∷ rest)) later, length-drop room (byte ∷ rest))
-
-filled-length : (piece buffer : List ℕ) → length (filled_by piece buffer) ≡ length buffer
-filled-length piece buffer = grind (arith, common_steps)
-
-filled-rest : (piece buffer : List ℕ) → drop (min (length buffer) (length piece)) (filled_by piece buffer) ≡ drop (min (length buffer) (length piece)) buffer
-filled-rest piece buffer =
-    let front : length (take (length buffer) piece) ≡ min (length buffer) (length piece) = grind (arith, common_steps) in
-    let behind : drop (min (length piece) (length buffer)) buffer ≡ drop (length piece) buffer = drop_min (length piece) buffer in
-    let same : min (length piece) (length buffer) ≡ min (length buffer) (length piece) = omega arith in
-    ap (λ n. drop n (filled_by piece buffer)) (sym front) ∙ drop-append_seam (take (length buffer) piece) (drop (length piece) buffer)
-    ∙ sym behind ∙ ap (λ n. drop n buffer) same
+total_after ((byte ∷ rest) ∷ later) room =
+    omega (arith, total_left (drop room (byte ∷ rest)) later, length-drop room (byte ∷ rest))
 
 -- what a read puts into the buffer
-pub is_got : (pieces : List (List ℕ)) (buffer : List ℕ) → buffer ≢ [] → IsGot buffer (buffer_after pieces buffer) (got_of pieces (length buffer))
-is_got [] buffer some = refl
-is_got ([] ∷ later) buffer some = grind (arith, common_steps)
+pub is_got : (pieces : List (List ℕ)) (buffer : List ℕ) → buffer ≢ []
+    → IsGot buffer (got_of pieces (length buffer))
+is_got [] buffer some = tt
+is_got ([] ∷ later) buffer some = tt
 is_got ((byte ∷ rest) ∷ later) [] some = absurd (some refl)
-is_got ((byte ∷ rest) ∷ later) (x ∷ buffer) some = (
-  omega arith,
-  omega arith,
-  filled-length (byte ∷ rest) (x ∷ buffer),
-  filled-rest (byte ∷ rest) (x ∷ buffer),
-)
+is_got ((byte ∷ rest) ∷ later) (x ∷ buffer) some = (omega arith, omega arith)
 
 total-added : (pieces : List (List ℕ)) (piece : List ℕ) → total (pieces ++ piece ∷ []) ≡ total pieces + length piece
 total-added [] piece = omega arith

@@ -1,5 +1,5 @@
 -- What links have carried.
-use Rattle.std.specs.Prelude.{◌≡◌, ◌≢◌, ℕ, ◌≤◌, Bool, true, false, Option, option_map, IfSome, Result, Ok, Err, List, [], ◌++◌, length, take, drop}
+use Rattle.std.specs.Prelude.{◌≡◌, ◌≢◌, ℕ, ◌≤◌, Bool, true, false, Option, option_map, IfSome, Result, Ok, Err, List, [], ◌++◌, length, take}
 use Rattle.nio_base.specs.declared.numbers.ChanNo.{ChanNo}
 use Rattle.nio_link.specs.declared.net.Failed.{Failed}
 use Rattle.nio_link.specs.declared.net.Got.{Got}
@@ -28,11 +28,12 @@ IsSameBut c before now = (k : ChanNo) → k ≢ c → now k ≡ before k
 
 -- ---- reading
 
--- The buffer has what was read at its front, and behind it what it had before.
-abbrev pub IsGot : List ℕ → List ℕ → Got → Type 0
-IsGot before now (got.Bytes n) = (1 ≤ n) × (n ≤ length before) × (length now ≡ length before) × (drop n now ≡ drop n before)
-IsGot before now got.End = now ≡ before
-IsGot before now got.NotYet = now ≡ before
+-- A read gives at least one byte, and no more than its buffer has room for. It puts them at the buffer's front, and may
+-- change what lies behind them.
+abbrev pub IsGot : List ℕ → Got → Type 0
+IsGot buffer (got.Bytes n) = (1 ≤ n) × (n ≤ length buffer)
+IsGot buffer got.End = Unit {0}
+IsGot buffer got.NotYet = Unit {0}
 
 -- after a read that left the buffer so
 abbrev pub after_read : Result Got Failed → List ℕ → Link → Link

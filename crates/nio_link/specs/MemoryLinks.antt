@@ -79,7 +79,9 @@ link_after_read l buffer = record l {
 
 -- what a write of so many bytes answers
 abbrev pub put_of : LinkState → ℕ → Result Put Failed
-put_of l count = if nat_lt (length l.put) l.limit then Ok (put.Bytes (min count (min l.most (l.limit - length l.put)))) else Err (record {})
+put_of l count =
+    if nat_lt (length l.put) l.limit then Ok (put.Bytes (min count (min l.most (l.limit - length l.put))))
+    else Err (record {})
 
 abbrev pub put_after : Result Put Failed → List ℕ → List ℕ → List ℕ
 put_after (Ok (put.Bytes n)) bytes before = before ++ take n bytes

@@ -35,14 +35,21 @@ limit_of (Some after) room = min after room
 
 -- the target's end, which is still to be connected, and takes what the client sends
 abbrev pub target_of : List (List ℕ) → List (List ℕ) → ℕ → Option ℕ → Bool → LinkState
-target_of sends answers most after fails = record (fresh_link answers (max most 1) (limit_of after (total sends))) { stage = stage.Connecting; fail_connect = fails }
+target_of sends answers most after fails =
+    record (fresh_link answers (max most 1) (limit_of after (total sends))) {
+      stage = stage.Connecting;
+      fail_connect = fails;
+    }
 
 -- both ends of a peer
 abbrev pub client_end : PeerPlan → LinkState
-client_end peer = client_of (map (λ piece. piece.items) peer.sends.items) (map (λ piece. piece.items) peer.answers.items)
+client_end peer =
+    client_of (map (λ piece. piece.items) peer.sends.items) (map (λ piece. piece.items) peer.answers.items)
 
 abbrev pub target_end : PeerPlan → LinkState
-target_end peer = target_of (map (λ piece. piece.items) peer.sends.items) (map (λ piece. piece.items) peer.answers.items) peer.most peer.fail_write_after peer.fail_connect
+target_end peer =
+    target_of (map (λ piece. piece.items) peer.sends.items) (map (λ piece. piece.items) peer.answers.items)
+    peer.most peer.fail_write_after peer.fail_connect
 
 -- the numbers of the calls that fail
 abbrev pub numbers_of : Option ℕ → List ℕ

@@ -20,8 +20,10 @@ pub record NetView : Type 0 where
   pub poll_faults : ℕ
 
 -- those of a net, of the functions that tell them
-abbrev pub view_by : {N : Type 0} → (N → ChanNo → Link) → (N → ChanNo → ℕ) → (N → ChanNo → Place) → (N → ChanNo → ℕ) → (N → ℕ) → N → NetView
-view_by link faults place ready poll_faults net = record { link = link net; faults = faults net; place = place net; ready = ready net; poll_faults = poll_faults net }
+abbrev pub view_by : {N : Type 0} → (N → ChanNo → Link) → (N → ChanNo → ℕ) → (N → ChanNo → Place) → (N → ChanNo → ℕ)
+    → (N → ℕ) → N → NetView
+view_by link faults place ready poll_faults net =
+    record { link = link net; faults = faults net; place = place net; ready = ready net; poll_faults = poll_faults net }
 
 -- the place of a link whose connecting was answered so: a link that failed is closed
 abbrev pub closed_at_fault : Result Bool Failed → Place → Place
@@ -53,7 +55,7 @@ pub record Finishes (c : ChanNo) (old new : NetView) (result : Result Bool Faile
 pub record Reads (c : ChanNo) (old new : NetView) (before now : List ℕ) (result : Result Got Failed) : Type 0 where
   pub cause : HasCause (old.faults c) (new.faults c) result
   pub others : IsSameBut c old.faults new.faults
-  pub got : IfOk result (IsGot before now)
+  pub got : IfOk result (IsGot before)
   pub link : new.link c ≡ after_read result now (old.link c)
   pub links : IsSameBut c old.link new.link
   pub ready : new.ready c ≡ ready_after_read result (old.ready c)

@@ -66,7 +66,8 @@ read_buffer None buffer = buffer
 read_buffer (Some l) buffer = buffer_after l.pieces buffer
 
 abbrev pub slots_after_read : List Slot → ChanNo → List ℕ → List Slot
-slots_after_read slots c buffer = placed c slots (option_map (λ l. link_after_read l buffer) (connected (slot_at slots c)))
+slots_after_read slots c buffer =
+    placed c slots (option_map (λ l. link_after_read l buffer) (connected (slot_at slots c)))
 
 -- ---- writing
 
@@ -75,7 +76,8 @@ write_answer None count = Err (record {})
 write_answer (Some l) count = put_of l count
 
 abbrev pub slots_after_write : List Slot → ChanNo → List ℕ → List Slot
-slots_after_write slots c bytes = placed c slots (option_map (λ l. link_after_write l bytes) (connected (slot_at slots c)))
+slots_after_write slots c bytes =
+    placed c slots (option_map (λ l. link_after_write l bytes) (connected (slot_at slots c)))
 
 -- ---- shutting
 
@@ -84,7 +86,8 @@ shut_answer None = Err (record {})
 shut_answer (Some l) = Ok tt
 
 abbrev pub slots_after_shut : List Slot → ChanNo → List Slot
-slots_after_shut slots c = placed c slots (option_map (λ (l : LinkState). record l { shut = true }) (connected (slot_at slots c)))
+slots_after_shut slots c =
+    placed c slots (option_map (λ (l : LinkState). record l { shut = true }) (connected (slot_at slots c)))
 
 -- ---- connecting
 
@@ -93,7 +96,10 @@ finish_answer None = Err (record {})
 finish_answer (Some l) = connect_answer l.fail_connect
 
 abbrev pub slots_after_finish : List Slot → ChanNo → List Slot
-slots_after_finish slots c = placed c slots (option_map (λ (l : LinkState). record l { stage = stage_after_connect l.fail_connect }) (connecting (slot_at slots c)))
+slots_after_finish slots c =
+    placed c slots
+    (option_map (λ (l : LinkState). record l { stage = stage_after_connect l.fail_connect })
+    (connecting (slot_at slots c)))
 
 -- ---- closing
 

@@ -3,7 +3,7 @@ use Rattle.std.specs.Prelude.{◌≡◌, ℕ, Bool, true, false, Option, Some, N
 use Rattle.nio_base.specs.declared.numbers.Addr.{Addr}
 use Rattle.nio_base.specs.declared.numbers.ChanNo.{ChanNo}
 use Rattle.nio_link.specs.Nets.{NetView, Connects, Finishes, Reads, Writes, Closes}
-use Rattle.nio_link.specs.Places.{unused, IsVacant}
+use Rattle.nio_link.specs.Places.{unused, IsLinked, IsVacant}
 use Rattle.nio_link.specs.declared.net.Failed.{Failed}
 use Rattle.nio_link.specs.declared.net.Got.{Got}
 use Rattle.nio_link.specs.declared.net.Put.{Put}
@@ -22,7 +22,7 @@ pub record Stream : Type 0 where
 abbrev pub StandsAs : StreamState → Place → Type 0
 StandsAs Unconnected place = place ≡ unused
 StandsAs Connecting place = place.standing ≡ standing.Connecting
-StandsAs Connected place = place.standing ≡ standing.Linked
+StandsAs Connected place = IsLinked place.standing
 StandsAs Closed place = IsVacant place.standing
 
 -- the refusal of each call, where the state refuses it
@@ -50,19 +50,22 @@ as_fault (Ok value) = Ok value
 as_fault (Err failed) = Err Fault
 
 -- a call that didn't reach the net, and left the link as it was
-pub record IsAnswered {N T : Type 0} (reply : Result T LinkError) (before now : Stream) (old new : N) (result : Result T LinkError) : Type 0 where
+pub record IsAnswered {N T : Type 0} (reply : Result T LinkError) (before now : Stream) (old new : N)
+    (result : Result T LinkError) : Type 0 where
   pub answer : result ≡ reply
   pub link : now ≡ before
   pub net : new ≡ old
 
 -- connecting
-pub record BeginsStream (to : Addr) (before now : Stream) (old new : NetView) (result : Result Bool LinkError) : Type 0 where
+pub record BeginsStream (to : Addr) (before now : Stream) (old new : NetView)
+    (result : Result Bool LinkError) : Type 0 where
   pub made : Result Bool Failed
   pub told : result ≡ as_fault made
   pub net : Connects before.channel to old new made
   pub link : now ≡ record before { state = state_after result }
 
-abbrev pub ConnectClause : {N : Type 0} → (N → NetView) → Option LinkError → Addr → Stream → Stream → N → N → Result Bool LinkError → Type 0
+abbrev pub ConnectClause : {N : Type 0} → (N → NetView) → Option LinkError → Addr → Stream → Stream → N → N
+    → Result Bool LinkError → Type 0
 ConnectClause view (Some error) to before now old new result = IsAnswered (Err error) before now old new result
 ConnectClause view None to before now old new result = BeginsStream to before now (view old) (view new) result
 
@@ -72,31 +75,38 @@ pub record FinishesStream (before now : Stream) (old new : NetView) (result : Re
   pub net : Finishes before.channel old new made
   pub link : now ≡ record before { state = state_after result }
 
-abbrev pub FinishClause : {N : Type 0} → (N → NetView) → StreamState → Stream → Stream → N → N → Result Bool LinkError → Type 0
+abbrev pub FinishClause : {N : Type 0} → (N → NetView) → StreamState → Stream → Stream → N → N → Result Bool LinkError
+    → Type 0
 FinishClause view Unconnected before now old new result = IsAnswered (Err NoConnectionPending) before now old new result
 FinishClause view Connecting before now old new result = FinishesStream before now (view old) (view new) result
 FinishClause view Connected before now old new result = IsAnswered (Ok true) before now old new result
 FinishClause view Closed before now old new result = IsAnswered (Err ClosedChannel) before now old new result
 
 -- reading
-pub record ReadsStream (before now : Stream) (old new : NetView) (buffer filled : List ℕ) (result : Result Got LinkError) : Type 0 where
+pub record ReadsStream (before now : Stream) (old new : NetView) (buffer filled : List ℕ)
+    (result : Result Got LinkError) : Type 0 where
   pub made : Result Got Failed
   pub told : result ≡ as_fault made
   pub net : Reads before.channel old new buffer filled made
   pub link : now ≡ before
 
-abbrev pub ReadClause : {N : Type 0} → (N → NetView) → Option LinkError → Stream → Stream → N → N → List ℕ → List ℕ → Result Got LinkError → Type 0
-ReadClause view (Some error) before now old new buffer filled result = IsAnswered (Err error) before now old new result × (filled ≡ buffer)
-ReadClause view None before now old new buffer filled result = ReadsStream before now (view old) (view new) buffer filled result
+abbrev pub ReadClause : {N : Type 0} → (N → NetView) → Option LinkError → Stream → Stream → N → N → List ℕ → List ℕ
+    → Result Got LinkError → Type 0
+ReadClause view (Some error) before now old new buffer filled result =
+    IsAnswered (Err error) before now old new result × (filled ≡ buffer)
+ReadClause view None before now old new buffer filled result =
+    ReadsStream before now (view old) (view new) buffer filled result
 
 -- writing
-pub record WritesStream (before now : Stream) (old new : NetView) (bytes : List ℕ) (result : Result Put LinkError) : Type 0 where
+pub record WritesStream (before now : Stream) (old new : NetView) (bytes : List ℕ)
+    (result : Result Put LinkError) : Type 0 where
   pub made : Result Put Failed
   pub told : result ≡ as_fault made
   pub net : Writes before.channel old new bytes made
   pub link : now ≡ before
 
-abbrev pub WriteClause : {N : Type 0} → (N → NetView) → Option LinkError → Stream → Stream → N → N → List ℕ → Result Put LinkError → Type 0
+abbrev pub WriteClause : {N : Type 0} → (N → NetView) → Option LinkError → Stream → Stream → N → N → List ℕ
+    → Result Put LinkError → Type 0
 WriteClause view (Some error) before now old new bytes result = IsAnswered (Err error) before now old new result
 WriteClause view None before now old new bytes result = WritesStream before now (view old) (view new) bytes result
 

@@ -37,8 +37,8 @@ pub enum Put {
 
 /// Links and listeners, and a poller that says what they are ready for. Each is named by the channel under which it
 /// was made. A call may be made only where its channel's place allows it: so a call that fails does so for what the net
-/// finds, and not because the caller made it at a wrong time. A call that needs readiness may be made where the last poll
-/// told it and no call since has found otherwise.
+/// finds, and not because the caller made it at a wrong time. A call that needs readiness may be made where the last
+/// poll told it and no call since has found otherwise.
 pub trait Net: Poller {
     ghost use Rattle.std.specs.Prelude.{ℕ};
     ghost use Rattle.nio_base.specs.declared.numbers.ChanNo.{ChanNo};
@@ -111,7 +111,7 @@ pub trait Net: Poller {
         requires linked { IsLinked (place self.old chan).standing }
         ensures cause { HasCause (faults self.old chan) (faults self.new chan) result }
         ensures others { IsSameBut chan (faults self.old) (faults self.new) }
-        ensures got { IfOk result (IsGot into.old into.new) }
+        ensures got { IfOk result (IsGot into.old) }
         ensures link { link self.new chan ≡ after_read result into.new (link self.old chan) }
         ensures links { IsSameBut chan (link self.old) (link self.new) }
         ensures ready { Self.ready self.new chan ≡ ready_after_read result (Self.ready self.old chan) }

@@ -3,6 +3,7 @@ ghost use Rattle.std.specs.Prelude.{◌≡◌, ◌≢◌, [], IsTrue};
 ghost use Rattle.nio_steps.specs.KeyCalls.{is_within};
 ghost use Rattle.nio_link.specs.Nets.{Settles, view_by};
 ghost use Rattle.nio_link.specs.Streams.{StandsAs, as_fault, connect_refusal, transfer_refusal, state_after, ConnectClause, FinishClause, ReadClause, WriteClause, CloseClause};
+ghost use Rattle.nio_link.specs.declared.place.Standing.TheVariants as standing;
 ghost use Rattle.nio_link.specs.declared.stream.StreamState.TheVariants as state;
 
 use crate::net::{Failed, Got, Net, Put};
@@ -43,7 +44,8 @@ pub enum StreamState {
 }
 
 /// A link of a net. Its calls look at its state first: what that refuses doesn't reach the net. What stands under its
-/// channel is what its state says, as long as no other calls are made there.
+/// channel is what its state says, as long as no other calls are made there. `Net::shut_write` may be called there
+/// where it is connected: it can then still be read.
 #[derive(Drop)]
 pub struct StreamLink {
     chan: ChanNo,
@@ -82,7 +84,8 @@ impl StreamLink {
     /// Begins to connect. True where it is connected; false where that isn't done yet. A fault closes the link.
     pub fn connect<N: Net>(&mut self, net: &mut N, to: Addr) -> Result<bool, LinkError>
         requires { StandsAs self.old.state (N.place net.old self.old.channel) }
-        ensures connect { ConnectClause (view_by N.link N.faults N.place N.ready N.poll_faults) (connect_refusal self.old.state) to self.old self.new net.old net.new result }
+        ensures connect { ConnectClause (view_by N.link N.faults N.place N.ready N.poll_faults)
+            (connect_refusal self.old.state) to self.old self.new net.old net.new result }
         ensures stands { StandsAs self.new.state (N.place net.new self.new.channel) }
     {
         match self.state {
@@ -100,7 +103,8 @@ impl StreamLink {
     pub fn finish_connect<N: Net>(&mut self, net: &mut N) -> Result<bool, LinkError>
         requires ready { self.old.state ≡ state.Connecting → IsTrue (is_within 8 (N.ready net.old self.old.channel)) }
         requires stands { StandsAs self.old.state (N.place net.old self.old.channel) }
-        ensures finish { FinishClause (view_by N.link N.faults N.place N.ready N.poll_faults) self.old.state self.old self.new net.old net.new result }
+        ensures finish { FinishClause (view_by N.link N.faults N.place N.ready N.poll_faults)
+            self.old.state self.old self.new net.old net.new result }
         ensures stands { StandsAs self.new.state (N.place net.new self.new.channel) }
     {
         match self.state {
@@ -119,7 +123,8 @@ impl StreamLink {
         requires some { self.old.state ≡ state.Connected → into.old ≢ [] }
         requires ready { self.old.state ≡ state.Connected → IsTrue (is_within 1 (N.ready net.old self.old.channel)) }
         requires stands { StandsAs self.old.state (N.place net.old self.old.channel) }
-        ensures read { ReadClause (view_by N.link N.faults N.place N.ready N.poll_faults) (transfer_refusal self.old.state) self.old self.new net.old net.new into.old into.new result }
+        ensures read { ReadClause (view_by N.link N.faults N.place N.ready N.poll_faults)
+            (transfer_refusal self.old.state) self.old self.new net.old net.new into.old into.new result }
         ensures stands { StandsAs self.new.state (N.place net.new self.new.channel) }
     {
         match self.state {
@@ -129,12 +134,15 @@ impl StreamLink {
         }
     }
 
-    /// Writes bytes, as many as the link takes.
+    /// Writes bytes, as many as the link takes. The net's link may not have been shut for writing.
     pub fn write<N: Net>(&mut self, net: &mut N, from: &[u8]) -> Result<Put, LinkError>
         requires some { self.old.state ≡ state.Connected → from.now ≢ [] }
         requires ready { self.old.state ≡ state.Connected → IsTrue (is_within 4 (N.ready net.old self.old.channel)) }
+        requires unshut { self.old.state ≡ state.Connected
+            → (N.place net.old self.old.channel).standing ≡ standing.Linked }
         requires stands { StandsAs self.old.state (N.place net.old self.old.channel) }
-        ensures write { WriteClause (view_by N.link N.faults N.place N.ready N.poll_faults) (transfer_refusal self.old.state) self.old self.new net.old net.new from.now result }
+        ensures write { WriteClause (view_by N.link N.faults N.place N.ready N.poll_faults)
+            (transfer_refusal self.old.state) self.old self.new net.old net.new from.now result }
         ensures stands { StandsAs self.new.state (N.place net.new self.new.channel) }
     {
         match self.state {
@@ -147,7 +155,8 @@ impl StreamLink {
     /// Closes the link. False where it was closed before.
     pub fn close<N: Net>(&mut self, net: &mut N) -> bool
         requires { StandsAs self.old.state (N.place net.old self.old.channel) }
-        ensures close { CloseClause (view_by N.link N.faults N.place N.ready N.poll_faults) self.old.state self.old self.new net.old net.new result }
+        ensures close { CloseClause (view_by N.link N.faults N.place N.ready N.poll_faults)
+            self.old.state self.old self.new net.old net.new result }
         ensures stands { StandsAs self.new.state (N.place net.new self.new.channel) }
     {
         if self.state == StreamState::Closed {
@@ -162,7 +171,9 @@ impl StreamLink {
     fn settle<N: Net>(&mut self, net: &mut N, made: Result<bool, Failed>) -> Result<bool, LinkError>
         ensures told { result ≡ as_fault made }
         ensures link { self.new ≡ record self.old { state = state_after result } }
-        ensures net { Settles made self.old.channel (view_by N.link N.faults N.place N.ready N.poll_faults net.old) (view_by N.link N.faults N.place N.ready N.poll_faults net.new) }
+        ensures net { Settles made self.old.channel
+            (view_by N.link N.faults N.place N.ready N.poll_faults net.old)
+            (view_by N.link N.faults N.place N.ready N.poll_faults net.new) }
     {
         if made.is_err() {
             net.close(self.chan);

@@ -1,6 +1,6 @@
 //! A net in memory by its plan, a stream link by its state, and the calls of a net through its trait.
 ghost use Rattle.std.specs.Prelude.{◌≡◌, ◌≢◌, [], IsTrue};
-ghost use Rattle.nio_link.specs.Places.{places_after, unused};
+ghost use Rattle.nio_link.specs.Places.{places_after, unused, IsLinked};
 ghost use Rattle.nio_link.specs.Streams.{StandsAs};
 ghost use Rattle.nio_link.specs.declared.place.Standing.TheVariants as standing;
 ghost use Rattle.nio_link.specs.declared.stream.StreamState.TheVariants as state;
@@ -303,7 +303,7 @@ fn a_stream_link_refuses_by_its_state(rt: HostRuntime) -> Result<(), Fail> {
     Ok(())
 }
 
-/// Accepts the first client, as the net that was just made can.
+/// Accepts the first client, as a net can that was just made.
 #[tactic(auto, using(crate::proofs::Changes::changed_here))]
 fn accept_first(net: &mut MemoryNet) -> bool
     ensures { IsTrue result → (places_after net.new.changes (record { 0 = 1 })).standing ≡ standing.Linked }
@@ -313,9 +313,19 @@ fn accept_first(net: &mut MemoryNet) -> bool
     matches!(net.accept_link(ChanNo(0), ChanNo(1)), Ok(true))
 }
 
+/// Shuts for writing the link that was accepted first.
+#[tactic(auto, using(crate::proofs::Changes::changed_here, crate::proofs::Standings::linked_after_shut))]
+fn shut_first(net: &mut MemoryNet) -> Result<(), Failed>
+    requires { (places_after net.old.changes (record { 0 = 1 })).standing ≡ standing.Linked }
+    ensures { IsLinked (places_after net.new.changes (record { 0 = 1 })).standing }
+{
+    net.shut_link(ChanNo(1))
+}
+
 /// What an accepted link answers where it is to be connected.
 fn connected_again<N: Net>(net: &mut N) -> [Result<bool, LinkError>; 2]
-    requires { (N.place net.old (record { 0 = 1 })).standing ≡ standing.Linked }
+    requires { IsLinked (N.place net.old (record { 0 = 1 })).standing }
+    ensures { net.new ≡ net.old }
 {
     let mut link = StreamLink::accepted(ChanNo(1));
     let again = link.connect(net, ANYWHERE);
@@ -323,10 +333,14 @@ fn connected_again<N: Net>(net: &mut N) -> [Result<bool, LinkError>; 2]
 }
 
 #[test]
+#[tactic(auto, using(crate::proofs::Standings::is_linked))]
 fn an_accepted_link_is_connected(rt: HostRuntime) -> Result<(), Fail> {
     let mut net = MemoryNet::make(rt.alloc(), plan(rt.alloc())?)?;
     let accepted = accept_first(&mut net);
     assert!(rt; accepted);
-    assert!(rt; connected_again(&mut net) == [Err(LinkError::AlreadyConnected), Ok(true)]);
+    let is_connected = [Err(LinkError::AlreadyConnected), Ok(true)];
+    assert!(rt; connected_again(&mut net) == is_connected);
+    assert!(rt; shut_first(&mut net) == Ok(()));
+    assert!(rt; connected_again(&mut net) == is_connected);
     Ok(())
 }

@@ -11,7 +11,8 @@ use Rattle.nio_words.specs.Views.{view}
 use Rattle.nio_words.specs.declared.words.Pass.{Pass}
 use Rattle.nio_words.specs.declared.words.Words.{Words}
 
-pub drawn_unpinned : {w : Words} {p q : Pass} (n : CallerNo) → IsFirstPass w p → Draws w p q n false → HasNoPin (view w q) n
+pub drawn_unpinned : {w : Words} {p q : Pass} (n : CallerNo) → IsFirstPass w p → Draws w p q n false
+    → HasNoPin (view w q) n
 drawn_unpinned n first draws s i =
     ap (λ events. has_pin (state_after events) n s i)
     ((draws.only first.only).1 ∙ ap (λ events. events ++ event_of n (DrawBit n false) ∷ []) first.unseen)

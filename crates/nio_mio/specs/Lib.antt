@@ -1,4 +1,3 @@
 pub mod Counts
-pub mod Filled
 pub mod Readiness
 pub mod Unasked

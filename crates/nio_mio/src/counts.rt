@@ -1,6 +1,5 @@
 //! How often calls on each channel have failed.
-ghost use Rattle.std.specs.Prelude.{◌≡◌, ℕ, ◌≤◌, IfOk};
-ghost use Rattle.nio_base.specs.declared.numbers.ChanNo.{ChanNo as Channel};
+ghost use Rattle.std.specs.Prelude.{◌≤◌};
 ghost use Rattle.nio_bytes.specs.Cause.{Rose};
 ghost use Rattle.nio_link.specs.Links.{IsSameBut};
 

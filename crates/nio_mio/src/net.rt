@@ -31,8 +31,8 @@ pub struct MioNet<S> {
 impl<S: System + Clock + Copy> MioNet<S> {
     ghost use Rattle.nio_mio.specs.Unasked.{IsUnasked};
 
-    /// A net without sockets, and its bell. Takes the memory for all sockets that there may be. Where the system refuses
-    /// a poll object or a waker, the bell does nothing, and each call of the net that can fail fails.
+    /// A net without sockets, and its bell. Takes the memory for all sockets that there may be. Where the system
+    /// refuses a poll object or a waker, the bell does nothing, and each call of the net that can fail fails.
     pub fn make(system: S, alloc: Global) -> Result<(MioNet<S>, MioBell), AllocError>
         ensures { IfOk result (λ made. IsUnasked made.0) }
     {

@@ -32,7 +32,8 @@ impl Readiness {
 
     /// A poll answered.
     pub(crate) fn answered(&mut self, asked: &Asked, mode: Mode, told: &Told)
-        ensures polls { self.new.polls ≡ self.old.polls ++ record { asked = asked.now; mode = mode; answer = poll_of told.now } ∷ [] }
+        ensures polls { self.new.polls
+            ≡ self.old.polls ++ record { asked = asked.now; mode = mode; answer = poll_of told.now } ∷ [] }
         ensures ready { (c : Channel) → ready_of self.new c ≡ told_of_channel asked.now told.now.pairs.items c }
     {
         self.polls
@@ -64,5 +65,9 @@ impl<'a> Reading<Answer<'a>, ToldPoll> for OnePoll {
     ghost use Rattle.std.specs.Prelude.{[], ◌∷◌};
     ghost use Rattle.nio_select.specs.InProgress.{poll_of};
 
-    ghost items = { λ answer. record { asked = answer.asked.now; mode = answer.mode; answer = poll_of answer.told.now } ∷ [] };
+    ghost items = { λ answer. record {
+      asked = answer.asked.now;
+      mode = answer.mode;
+      answer = poll_of answer.told.now;
+    } ∷ [] };
 }

@@ -1,7 +1,5 @@
 //! One socket: a listener, or a link.
-ghost use Rattle.std.specs.Prelude.{◌≡◌, IfOk, OnErr};
 ghost use Rattle.std.specs.Io.{ReadsAtMost, WritesAtMost};
-ghost use Rattle.nio_mio.specs.Filled.{IsFilled};
 
 use mio::net::{TcpListener, TcpStream};
 use mio::{Interest, Poll, Registry, Token};
@@ -124,27 +122,15 @@ fn has_connected(stream: &TcpStream) -> io::Result<bool> {
     }
 }
 
-/// Reads to the front of a buffer, through a piece of memory, since the system may write past what it counts.
 pub(crate) fn read(
     sockets: &mut [Option<Socket>],
     chan: ChanNo,
-    piece: &mut [u8],
     into: &mut [u8],
 ) -> io::Result<usize>
-    ensures ok { IfOk result (IsFilled into.old into.new) }
-    ensures err { OnErr result (into.new ≡ into.old) }
-{
-    let room = into.len().min(piece.len());
-    let count = read_piece(sockets, chan, &mut piece[..room])?;
-    into[..count].copy_from_slice(&piece[..count]);
-    Ok(count)
-}
-
-fn read_piece(sockets: &mut [Option<Socket>], chan: ChanNo, piece: &mut [u8]) -> io::Result<usize>
-    ensures { ReadsAtMost result piece.new }
+    ensures { ReadsAtMost result into.new }
 {
     match sockets.get_mut(chan.0 as usize) {
-        Some(Some(Socket::Link(stream))) => stream.read(piece),
+        Some(Some(Socket::Link(stream))) => stream.read(into),
         _ => Err(missing()),
     }
 }

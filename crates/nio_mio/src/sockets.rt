@@ -19,6 +19,9 @@ use std::net::Net;
 use std::sync::Wait;
 use std::time::{Clock, Duration, Instant};
 
+#[cfg(test)]
+mod tests;
+
 /// How many sockets there may be: the listener, and two links of each of 16,000 connections.
 pub(crate) const PLACES: usize = 32_001;
 
@@ -28,9 +31,6 @@ const BELL: Token = Token(PLACES);
 /// How many events one poll takes from the system.
 const EVENTS: usize = 1_024;
 
-/// How many bytes one read takes.
-const PIECE: usize = 65_536;
-
 /// The sockets. A bit is kept for an operation of a channel from an event until a call finds it not ready.
 #[derive(Drop)]
 pub(crate) struct Sockets {
@@ -38,7 +38,6 @@ pub(crate) struct Sockets {
     events: Events,
     sockets: Vec<Option<Socket>>,
     kept: Vec<Ops>,
-    piece: Vec<u8>,
     // How many links stand.
     links: usize,
     // The listeners that wait until a descriptor is free.
@@ -54,7 +53,6 @@ impl Sockets {
         let mut sockets = Vec::new(alloc);
         sockets.resize_with(PLACES, no_socket)?;
         let kept = vec![in alloc; Ops::NONE; PLACES]?;
-        let piece = vec![in alloc; 0_u8; PIECE]?;
         let events = Events::with_capacity(alloc, EVENTS)?;
         let waiting = Vec::with_capacity(alloc, PLACES)?;
         let (poll, bell) = poll_and_bell(rt);
@@ -63,7 +61,6 @@ impl Sockets {
             events,
             sockets,
             kept,
-            piece,
             links: 0,
             waiting,
             spare: None,
@@ -97,8 +94,8 @@ impl Sockets {
         }
     }
 
-    // Waits until a bit that is asked for is kept, or the bell rings. What comes for other channels is kept meanwhile, and
-    // a signal ends no wait.
+    // Waits until a bit that is asked for is kept, or the bell rings. What comes for other channels is kept meanwhile,
+    // and a signal ends no wait.
     fn wait_for<R: Wait>(&mut self, rt: &R, asked: &Asked) -> Result<(), Failed> {
         for _ in rt.forever() {
             self.poll_for(None)?;
@@ -292,9 +289,9 @@ impl Sockets {
     }
 
     pub(crate) fn read(&mut self, chan: ChanNo, into: &mut [u8]) -> Result<Got, Failed>
-        ensures { IfOk result (IsGot into.old into.new) }
+        ensures { IfOk result (IsGot into.old) }
     {
-        match socket::read(&mut self.sockets, chan, &mut self.piece, into) {
+        match socket::read(&mut self.sockets, chan, into) {
             Ok(0) => Ok(Got::End),
             Ok(count) => Ok(Got::Bytes(count)),
             Err(error) => match self.not_moved(chan, Ops::READ, cause_of(&error)) {

@@ -6,22 +6,21 @@ ghost use Rattle.nio_link.specs.Places.{unused};
 ghost use Rattle.nio_words.specs.Passes.{IsReady};
 ghost use Rattle.nio_words.specs.Views.{view};
 
-use crate::causes::{Cause, cause_of};
 use crate::sockets::{PLACES, Sockets};
 use crate::*;
 use nio_base::{Addr, CallerNo, ChanNo, Kind, Limits, Ops};
 use nio_channel::{open_channel, register, set_blocking};
 use nio_event::Mode;
 use nio_link::{Failed, Got, Net, Put};
-use nio_poller::Bell;
-use nio_select::{Asked, Selecting, open_selector, try_begin};
+use nio_poller::{Bell, PollError, Poller};
+use nio_select::{Asked, Selecting, Told, open_selector, try_begin};
 use nio_words::{Pass, Words};
 use std::alloc::Global;
 use std::io::{Read, Write};
 use std::net::{Shutdown, TcpListener, TcpStream};
 use std::sync::Wait;
 use std::test::Fail;
-use std::thread::join;
+use std::thread::{join, sleep};
 use std::time::{Clock, Duration, Instant};
 use std::{io, net};
 
@@ -176,21 +175,26 @@ fn passes_bytes_back_over_loopback(rt: HostRuntime) -> Result<(), Fail> {
     Ok(())
 }
 
-/// Linux's numbers of errors, and what each means.
-const CAUSES: [(i32, Cause); 6] = [
-    (11, Cause::NotReady),
-    (4, Cause::Interrupted),
-    (103, Cause::Aborted),
-    (23, Cause::NoDescriptor),
-    (24, Cause::NoDescriptor),
-    (104, Cause::Fault),
-];
+/// Rings after a time that is long enough for the other thread to wait.
+fn ring_late(rt: &HostRuntime, bell: &MioBell) {
+    sleep(rt, Duration::from_millis(20));
+    bell.ring();
+}
 
 #[test]
-fn tells_causes_apart(rt: HostRuntime) {
-    for (number, cause) in CAUSES {
-        assert_eq!(rt; cause_of(&io::Error::from_raw_os_error(number)), cause);
-    }
+fn a_bell_ends_a_poll(rt: HostRuntime) -> Result<(), Fail> {
+    let (mut net, bell) = MioNet::make(rt, rt.alloc())?;
+    let (words, mut p) = table(rt.alloc())?;
+    let selection = begin(&rt, rt.alloc(), &words, &mut p)?;
+    let (told, ()) = join(
+        &rt,
+        || -> Result<Told, PollError> { net.poll(&rt, rt.alloc(), selection.asked(), Mode::Wait) },
+        || -> () { ring_late(&rt, &bell) },
+    );
+    selection.forget();
+    let told = told?;
+    assert!(rt; told.pairs.is_empty() && !told.elapsed);
+    Ok(())
 }
 
 /// Whether it listens past the places, and at an address that is free, taken, and free again.

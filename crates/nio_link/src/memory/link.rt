@@ -81,7 +81,7 @@ impl MemoryLink {
         ensures answer { result ≡ got_of self.old.pieces (length into.old) }
         ensures buffer { into.new ≡ buffer_after self.old.pieces into.old }
         ensures after { self.new ≡ link_after_read self.old into.old }
-        ensures got { IsGot into.old into.new result }
+        ensures got { IsGot into.old result }
     {
         match self.pieces.read(into) {
             Got::Bytes(count) => {

@@ -1,6 +1,6 @@
 //! The net in memory.
-ghost use Rattle.std.specs.Prelude.{◌≡◌, ◌≢◌, ◌⊎◌, ◌↔◌, ℕ, [], ◌∷◌, ◌++◌, true, false, Some, None, Ok, Err, IfOk, IsErr, OnErr, IsTrue, length, refl};
-ghost use Rattle.nio_bytes.specs.Calls.{FailsNext, after_failure};
+ghost use Rattle.std.specs.Prelude.{◌≡◌, ◌≢◌, ◌⊎◌, ◌↔◌, [], ◌∷◌, ◌++◌, true, false, Some, None, Ok, Err, IfOk, IsErr, OnErr, IsTrue, length, refl};
+ghost use Rattle.nio_bytes.specs.Calls.{FailsNext};
 ghost use Rattle.nio_bytes.specs.Cause.{HasCause};
 ghost use Rattle.nio_link.specs.Links.{Link, IsSameBut, IsGot, IsPut, after_read as carried_after_read, after_write as carried_after_write, after_shut as carried_after_shut};
 ghost use Rattle.nio_link.specs.Readiness.{ready_after_read, ready_after_write, ready_after_accept, ready_after_connect};
@@ -289,8 +289,10 @@ impl MemoryNet {
         ensures fails { IsErr result ↔ (FailsNext self.old.accepts ⊎ (can_accept self.old listener chan ≡ false)) }
         ensures answer { IfOk result (λ made. made ≡ is_waiting self.old.clients) }
         ensures free { IfOk result (λ _. can_accept self.old listener chan ≡ true) }
-        ensures ok { IfOk result (λ _. self.new ≡ noted chan (change.Accept listener result) (after_accept self.old listener chan)) }
-        ensures err { OnErr result (self.new ≡ noted chan (change.Accept listener result) (after_failed_accept self.old listener)) }
+        ensures ok { IfOk result (λ _. self.new
+            ≡ noted chan (change.Accept listener result) (after_accept self.old listener chan)) }
+        ensures err { OnErr result (self.new
+            ≡ noted chan (change.Accept listener result) (after_failed_accept self.old listener)) }
         ensures fresh { AreFresh self.old.clients }
         ensures changes { self.new.changes ≡ self.old.changes ++ (chan, change.Accept listener result) ∷ [] }
     {
@@ -322,7 +324,8 @@ impl MemoryNet {
     }
 
     pub(crate) fn close_channel(&mut self, chan: ChanNo)
-        ensures after { self.new ≡ noted chan change.Close (record self.old { slots = slots_after_close self.old.slots chan }) }
+        ensures after { self.new
+            ≡ noted chan change.Close (record self.old { slots = slots_after_close self.old.slots chan }) }
         ensures changes { self.new.changes ≡ self.old.changes ++ (chan, change.Close) ∷ [] }
     {
         self.close_there(chan);
@@ -357,14 +360,17 @@ impl Poller for MemoryNet {
     ) -> Result<Told, PollError>
         // As every poller.
         ensures cause { CountsFaults Fault self.old.polls.faults self.new.polls.faults result }
-        ensures ready { IfOk result (λ told. (c : ChanNo) → ready_told self.new.findings c ≡ told_of_channel asked.now told.pairs.items c) }
+        ensures ready { IfOk result (λ told. (c : ChanNo)
+            → ready_told self.new.findings c ≡ told_of_channel asked.now told.pairs.items c) }
         ensures polls { AddsPoll None None asked.now mode result }
         ensures kept { KeepsLinks self.old self.new }
 
         // By its plan.
         ensures fails { (result ≡ Err Fault) ↔ FailsNext self.old.polls }
-        ensures answer { IfOk result (λ told. poll_of told ≡ answer_of (told_pairs self.old.slots (is_waiting self.old.clients) asked.now)) }
-        ensures ok { IfOk result (λ told. self.new ≡ after_poll self.old (record { asked = asked.now; mode = mode; answer = poll_of told })) }
+        ensures answer { IfOk result (λ told. poll_of told
+            ≡ answer_of (told_pairs self.old.slots (is_waiting self.old.clients) asked.now)) }
+        ensures ok { IfOk result (λ told. self.new
+            ≡ after_poll self.old (record { asked = asked.now; mode = mode; answer = poll_of told })) }
         ensures lost { result ≡ Err Memory → self.new ≡ after_lost_poll self.old }
         ensures failed { result ≡ Err Fault → self.new ≡ after_failed_poll self.old }
     {
@@ -389,7 +395,11 @@ impl Poller for MemoryNet {
 
     ghost kept_same = { λ s. record { slots = refl; faulted = refl; changes = refl } };
 
-    ghost kept_on = { λ x y z first second. record { slots = second.slots ∙ first.slots; faulted = second.faulted ∙ first.faulted; changes = second.changes ∙ first.changes } };
+    ghost kept_on = { λ x y z first second. record {
+      slots = second.slots ∙ first.slots;
+      faulted = second.faulted ∙ first.faulted;
+      changes = second.changes ∙ first.changes;
+    } };
 }
 
 #[derive(Clone, Copy)]
@@ -407,7 +417,11 @@ impl<'a> Reading<PollAnswer<'a>, Finding> for OnePoll {
     ghost use Rattle.nio_link.specs.declared.memory.finding.Finding.TheVariants.{Told as WasTold};
     ghost use Rattle.nio_select.specs.InProgress.{poll_of};
 
-    ghost items = { λ answer. WasTold (record { asked = answer.asked.now; mode = answer.mode; answer = poll_of answer.told.now }) ∷ [] };
+    ghost items = { λ answer. WasTold (record {
+      asked = answer.asked.now;
+      mode = answer.mode;
+      answer = poll_of answer.told.now;
+    }) ∷ [] };
 }
 
 impl Net for MemoryNet {
@@ -446,17 +460,21 @@ impl Net for MemoryNet {
         ensures cause { HasCause (times self.old.faulted listener) (times self.new.faulted listener) result }
         ensures others { IsSameBut listener (times self.old.faulted) (times self.new.faulted) }
         ensures links { (c : ChanNo) → carried_at self.new.slots c ≡ carried_at self.old.slots c }
-        ensures ready { ready_told self.new.findings listener ≡ ready_after_accept result (ready_told self.old.findings listener) }
+        ensures ready { ready_told self.new.findings listener
+            ≡ ready_after_accept result (ready_told self.old.findings listener) }
         ensures ready_else { IsSameBut listener (ready_told self.old.findings) (ready_told self.new.findings) }
-        ensures place { places_after self.new.changes chan ≡ place_after_accept result listener (places_after self.old.changes chan) }
+        ensures place { places_after self.new.changes chan
+            ≡ place_after_accept result listener (places_after self.old.changes chan) }
         ensures places { IsSameBut chan (places_after self.old.changes) (places_after self.new.changes) }
         ensures polls { self.new.polls.faults ≡ self.old.polls.faults }
 
         // By its plan.
         ensures fails { IsErr result ↔ (FailsNext self.old.accepts ⊎ (can_accept self.old listener chan ≡ false)) }
         ensures answer { IfOk result (λ made. made ≡ is_waiting self.old.clients) }
-        ensures ok { IfOk result (λ _. self.new ≡ noted chan (change.Accept listener result) (after_accept self.old listener chan)) }
-        ensures err { OnErr result (self.new ≡ noted chan (change.Accept listener result) (after_failed_accept self.old listener)) }
+        ensures ok { IfOk result (λ _. self.new
+            ≡ noted chan (change.Accept listener result) (after_accept self.old listener chan)) }
+        ensures err { OnErr result (self.new
+            ≡ noted chan (change.Accept listener result) (after_failed_accept self.old listener)) }
     {
         self.accept_link(listener, chan)
     }
@@ -486,9 +504,11 @@ impl Net for MemoryNet {
         ensures cause { HasCause (times self.old.faulted chan) (times self.new.faulted chan) result }
         ensures others { IsSameBut chan (times self.old.faulted) (times self.new.faulted) }
         ensures links { (c : ChanNo) → carried_at self.new.slots c ≡ carried_at self.old.slots c }
-        ensures ready { ready_told self.new.findings chan ≡ ready_after_connect result (ready_told self.old.findings chan) }
+        ensures ready { ready_told self.new.findings chan
+            ≡ ready_after_connect result (ready_told self.old.findings chan) }
         ensures ready_else { IsSameBut chan (ready_told self.old.findings) (ready_told self.new.findings) }
-        ensures place { places_after self.new.changes chan ≡ place_after_finish result (places_after self.old.changes chan) }
+        ensures place { places_after self.new.changes chan
+            ≡ place_after_finish result (places_after self.old.changes chan) }
         ensures places { IsSameBut chan (places_after self.old.changes) (places_after self.new.changes) }
         ensures polls { self.new.polls.faults ≡ self.old.polls.faults }
 
@@ -506,10 +526,12 @@ impl Net for MemoryNet {
         requires linked { IsLinked (places_after self.old.changes chan).standing }
         ensures cause { HasCause (times self.old.faulted chan) (times self.new.faulted chan) result }
         ensures others { IsSameBut chan (times self.old.faulted) (times self.new.faulted) }
-        ensures got { IfOk result (IsGot into.old into.new) }
-        ensures link { carried_at self.new.slots chan ≡ carried_after_read result into.new (carried_at self.old.slots chan) }
+        ensures got { IfOk result (IsGot into.old) }
+        ensures link { carried_at self.new.slots chan
+            ≡ carried_after_read result into.new (carried_at self.old.slots chan) }
         ensures links { IsSameBut chan (carried_at self.old.slots) (carried_at self.new.slots) }
-        ensures ready { ready_told self.new.findings chan ≡ ready_after_read result (ready_told self.old.findings chan) }
+        ensures ready { ready_told self.new.findings chan
+            ≡ ready_after_read result (ready_told self.old.findings chan) }
         ensures ready_else { IsSameBut chan (ready_told self.old.findings) (ready_told self.new.findings) }
         ensures places { (c : ChanNo) → places_after self.new.changes c ≡ places_after self.old.changes c }
         ensures polls { self.new.polls.faults ≡ self.old.polls.faults }
@@ -530,9 +552,11 @@ impl Net for MemoryNet {
         ensures cause { HasCause (times self.old.faulted chan) (times self.new.faulted chan) result }
         ensures others { IsSameBut chan (times self.old.faulted) (times self.new.faulted) }
         ensures put { IfOk result (IsPut from.now) }
-        ensures link { carried_at self.new.slots chan ≡ carried_after_write result from.now (carried_at self.old.slots chan) }
+        ensures link { carried_at self.new.slots chan
+            ≡ carried_after_write result from.now (carried_at self.old.slots chan) }
         ensures links { IsSameBut chan (carried_at self.old.slots) (carried_at self.new.slots) }
-        ensures ready { ready_told self.new.findings chan ≡ ready_after_write result (ready_told self.old.findings chan) }
+        ensures ready { ready_told self.new.findings chan
+            ≡ ready_after_write result (ready_told self.old.findings chan) }
         ensures ready_else { IsSameBut chan (ready_told self.old.findings) (ready_told self.new.findings) }
         ensures places { (c : ChanNo) → places_after self.new.changes c ≡ places_after self.old.changes c }
         ensures polls { self.new.polls.faults ≡ self.old.polls.faults }
@@ -552,7 +576,8 @@ impl Net for MemoryNet {
         ensures link { carried_at self.new.slots chan ≡ carried_after_shut result (carried_at self.old.slots chan) }
         ensures links { IsSameBut chan (carried_at self.old.slots) (carried_at self.new.slots) }
         ensures ready { (c : ChanNo) → ready_told self.new.findings c ≡ ready_told self.old.findings c }
-        ensures place { places_after self.new.changes chan ≡ place_after_shut result (places_after self.old.changes chan) }
+        ensures place { places_after self.new.changes chan
+            ≡ place_after_shut result (places_after self.old.changes chan) }
         ensures places { IsSameBut chan (places_after self.old.changes) (places_after self.new.changes) }
         ensures polls { self.new.polls.faults ≡ self.old.polls.faults }
 
@@ -573,7 +598,8 @@ impl Net for MemoryNet {
         ensures polls { self.new.polls.faults ≡ self.old.polls.faults }
 
         // By its plan.
-        ensures after { self.new ≡ noted chan change.Close (record self.old { slots = slots_after_close self.old.slots chan }) }
+        ensures after { self.new
+            ≡ noted chan change.Close (record self.old { slots = slots_after_close self.old.slots chan }) }
     {
         self.close_channel(chan);
     }

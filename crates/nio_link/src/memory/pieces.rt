@@ -45,7 +45,7 @@ impl Pieces {
     pub(crate) fn read(&mut self, into: &mut [u8]) -> Got
         requires { into.old ≢ [] }
         ensures got { result ≡ got_of self.old (length into.old) }
-        ensures is_got { IsGot into.old into.new result }
+        ensures is_got { IsGot into.old result }
         ensures buffer { into.new ≡ buffer_after self.old into.old }
         ensures left { self.new ≡ pieces_after self.old (length into.old) }
     {

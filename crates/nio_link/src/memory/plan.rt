@@ -1,5 +1,5 @@
 //! What a net in memory is to do.
-ghost use Rattle.std.specs.Prelude.{◌≡◌, ℕ, ◌≤◌, map, IfOk};
+ghost use Rattle.std.specs.Prelude.{◌≡◌, ◌≤◌, map, IfOk};
 ghost use Rattle.nio_link.specs.NetPlans.{fresh_link, client_end, target_end, limit_of, numbers_of, planned};
 ghost use Rattle.nio_link.specs.Pieces.{total};
 

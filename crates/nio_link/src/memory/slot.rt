@@ -5,7 +5,6 @@ ghost use Rattle.nio_link.specs.MemoryLinks.{carried};
 ghost use Rattle.nio_link.specs.Slots.{carried_at, nothing_carried, slot_at, connected, connecting, read_answer, read_buffer, slots_after_read, write_answer, slots_after_write, shut_answer, slots_after_shut, finish_answer, slots_after_finish, slots_after_close, ready_at};
 
 use crate::memory::link::MemoryLink;
-use crate::memory::stage::Stage;
 use crate::net::{Failed, Got, Put};
 use nio_base::{ChanNo, Ops};
 
@@ -18,7 +17,8 @@ pub(crate) enum Slot {
 }
 
 pub(crate) fn link_at(slots: &[Slot], chan: ChanNo) -> Option<&MemoryLink>
-    ensures { MatchOption result (carried_at slots.now chan ≡ nothing_carried) (λ link. carried_at slots.now chan ≡ carried link.now) }
+    ensures { MatchOption result (carried_at slots.now chan ≡ nothing_carried)
+        (λ link. carried_at slots.now chan ≡ carried link.now) }
 {
     let at = chan.0 as usize;
     if at >= slots.len() {

@@ -4,7 +4,9 @@ use Rattle.nio_steps.proofs.PinLaws.{pins_are_given_back}
 use Rattle.nio_mio.proofs.tests.begin.Goals as goal
 
 pub register-requires-clause-selector : goal.register-requires-clause-selector
-register-requires-clause-selector g c = selector_after c.in_ok-set_blocking.ensures.call.acts (selector_after c.in_ok-chan.ensures.call.acts c.in_ok-sel.ensures.made)
+register-requires-clause-selector g c =
+    selector_after c.in_ok-set_blocking.ensures.call.acts
+    (selector_after c.in_ok-chan.ensures.call.acts c.in_ok-sel.ensures.made)
 
 pub register-requires-clause-channel : goal.register-requires-clause-channel
 register-requires-clause-channel g c = channel_after c.in_ok-set_blocking.ensures.call.acts c.in_ok-chan.ensures.made
@@ -13,7 +15,8 @@ pub register-requires-clause-unpinned : goal.register-requires-clause-unpinned
 register-requires-clause-unpinned g c =
     no_pin_after (λ acts shape. pins_are_given_back.set_blocking _ _ _ acts _ shape) c.in_ok-set_blocking.ensures.call
     (no_pin_after (λ acts shape. pins_are_given_back.open_channel _ _ acts _ shape) c.in_ok-chan.ensures.call
-    (no_pin_after (λ acts shape. pins_are_given_back.open_selector _ acts _ shape) c.in_ok-sel.ensures.call c.requires.unpinned))
+    (no_pin_after (λ acts shape. pins_are_given_back.open_selector _ acts _ shape)
+    c.in_ok-sel.ensures.call c.requires.unpinned))
 
 pub try_begin-requires-clause-selector : goal.try_begin-requires-clause-selector
 try_begin-requires-clause-selector g c =

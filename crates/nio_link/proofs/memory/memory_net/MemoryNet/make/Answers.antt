@@ -7,12 +7,16 @@ use Rattle.nio_link.proofs.memory.memory_net.MemoryNet.make.Goals as goal
 pub loop-peer-preserved : goal.loop-peer-preserved
 loop-peer-preserved c = record {
   slots =
-      let more : length (c.loop-peer.yielded ++ c.in-Some.peer ∷ []) ≡ length c.loop-peer.yielded + 1 = length-append c.loop-peer.yielded (c.in-Some.peer ∷ []) in
-      rw (more, c.in_ok-push-5.ensures.items, c.in_ok-push-4.ensures.items, c.loop-peer.invariant.slots) (slots_more (length c.loop-peer.yielded));
+      let more : length (c.loop-peer.yielded ++ c.in-Some.peer ∷ []) ≡ length c.loop-peer.yielded + 1 =
+      length-append c.loop-peer.yielded (c.in-Some.peer ∷ []) in
+      rw (more, c.in_ok-push-5.ensures.items, c.in_ok-push-4.ensures.items, c.loop-peer.invariant.slots)
+      (slots_more (length c.loop-peer.yielded));
   clients =
-      rw (c.in_ok-push-2.ensures.items, c.loop-peer.invariant.clients, c.in_ok-client.ensures.0) (sym (map-append client_end c.loop-peer.yielded (c.in-Some.peer ∷ [])));
+      rw (c.in_ok-push-2.ensures.items, c.loop-peer.invariant.clients, c.in_ok-client.ensures.0)
+      (sym (map-append client_end c.loop-peer.yielded (c.in-Some.peer ∷ [])));
   targets =
-      rw (c.in_ok-push-3.ensures.items, c.loop-peer.invariant.targets, c.in_ok-client.ensures.1) (sym (map-append target_end c.loop-peer.yielded (c.in-Some.peer ∷ [])));
+      rw (c.in_ok-push-3.ensures.items, c.loop-peer.invariant.targets, c.in_ok-client.ensures.1)
+      (sym (map-append target_end c.loop-peer.yielded (c.in-Some.peer ∷ [])));
 }
 
 pub invariant_of-result : goal.invariant_of-result

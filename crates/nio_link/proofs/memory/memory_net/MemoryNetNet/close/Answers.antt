@@ -7,7 +7,9 @@ pub returns-clause-links : goal.returns-clause-links
 returns-clause-links c = rw c.close_channel.ensures.after (close_carried c.args.self.now.slots c.args.chan)
 
 pub returns-clause-place : goal.returns-clause-place
-returns-clause-place c = rw c.close_channel.ensures.changes (changed_here c.args.self.now.changes c.args.chan change.Close)
+returns-clause-place c =
+    rw c.close_channel.ensures.changes (changed_here c.args.self.now.changes c.args.chan change.Close)
 
 pub returns-clause-places : goal.returns-clause-places
-returns-clause-places c = rw c.close_channel.ensures.changes (changed_else c.args.self.now.changes c.args.chan change.Close)
+returns-clause-places c =
+    rw c.close_channel.ensures.changes (changed_else c.args.self.now.changes c.args.chan change.Close)

@@ -5,22 +5,37 @@ use Rattle.nio_link.specs.MemoryNet.{connect_answer}
 use Rattle.nio_link.proofs.memory.memory_net.MemoryNetNet.connect.Goals as goal
 
 pub returns-clause-cause : goal.returns-clause-cause
-returns-clause-cause c = let made = connects c.args.self.now c.args.chan c.connect_link.ensures.fresh in rw (c.connect_link.ensures.answer, c.connect_link.ensures.after, made.faulted) (cause_after (connect_answer c.args.self.now c.args.chan) c.args.self.now.faulted c.args.chan)
+returns-clause-cause c =
+    let made = connects c.args.self.now c.args.chan c.connect_link.ensures.fresh in
+    rw (c.connect_link.ensures.answer, c.connect_link.ensures.after, made.faulted)
+    (cause_after (connect_answer c.args.self.now c.args.chan) c.args.self.now.faulted c.args.chan)
 
 pub returns-clause-others : goal.returns-clause-others
-returns-clause-others c = let made = connects c.args.self.now c.args.chan c.connect_link.ensures.fresh in rw (c.connect_link.ensures.after, made.faulted) (cause_else (connect_answer c.args.self.now c.args.chan) c.args.self.now.faulted c.args.chan)
+returns-clause-others c =
+    let made = connects c.args.self.now c.args.chan c.connect_link.ensures.fresh in
+    rw (c.connect_link.ensures.after, made.faulted)
+    (cause_else (connect_answer c.args.self.now c.args.chan) c.args.self.now.faulted c.args.chan)
 
 pub returns-clause-links : goal.returns-clause-links
-returns-clause-links c = rw c.connect_link.ensures.after (connects c.args.self.now c.args.chan c.connect_link.ensures.fresh).carried
+returns-clause-links c =
+    rw c.connect_link.ensures.after (connects c.args.self.now c.args.chan c.connect_link.ensures.fresh).carried
 
 pub returns-clause-ready : goal.returns-clause-ready
-returns-clause-ready c = let made = connects c.args.self.now c.args.chan c.connect_link.ensures.fresh in λ k. rw (c.connect_link.ensures.after, made.findings)
+returns-clause-ready c =
+    let made = connects c.args.self.now c.args.chan c.connect_link.ensures.fresh in
+    λ k. rw (c.connect_link.ensures.after, made.findings)
 
 pub returns-clause-polls : goal.returns-clause-polls
-returns-clause-polls c = let made = connects c.args.self.now c.args.chan c.connect_link.ensures.fresh in rw (c.connect_link.ensures.after, made.polls)
+returns-clause-polls c =
+    let made = connects c.args.self.now c.args.chan c.connect_link.ensures.fresh in
+    rw (c.connect_link.ensures.after, made.polls)
 
 pub returns-clause-place : goal.returns-clause-place
-returns-clause-place c = rw c.connect_link.ensures.changes (changed_here c.args.self.now.changes c.args.chan (change.Connect c.args.to c.connect_link.result))
+returns-clause-place c =
+    rw c.connect_link.ensures.changes
+    (changed_here c.args.self.now.changes c.args.chan (change.Connect c.args.to c.connect_link.result))
 
 pub returns-clause-places : goal.returns-clause-places
-returns-clause-places c = rw c.connect_link.ensures.changes (changed_else c.args.self.now.changes c.args.chan (change.Connect c.args.to c.connect_link.result))
+returns-clause-places c =
+    rw c.connect_link.ensures.changes
+    (changed_else c.args.self.now.changes c.args.chan (change.Connect c.args.to c.connect_link.result))

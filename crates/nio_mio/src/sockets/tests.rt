@@ -1,0 +1,79 @@
+//! What errors of the system mean to the calls.
+use super::*;
+use std::test::Fail;
+
+const LISTENER: ChanNo = ChanNo(0);
+
+const LINK: ChanNo = ChanNo(1);
+
+/// What a call comes to that found an error.
+#[derive(Clone, Copy, Debug, PartialEq, Eq)]
+enum Outcome {
+    /// It answers "not yet", and may be made again at once.
+    Again,
+    /// It answers "not yet", and may be made again once a poll tells that it is ready.
+    NotReady,
+    Failed,
+}
+
+/// Linux's numbers of errors: EAGAIN, EINTR, ECONNABORTED, ENFILE, EMFILE, ECONNRESET. With each what it means to a
+/// read or a write; to an accept where no link stands; and to one where a link does, whose descriptor can be had once
+/// it is closed.
+const ERRORS: [(i32, [Outcome; 3]); 6] = [
+    (
+        11,
+        [Outcome::NotReady, Outcome::NotReady, Outcome::NotReady],
+    ),
+    (4, [Outcome::Again, Outcome::Again, Outcome::Again]),
+    (103, [Outcome::Failed, Outcome::Again, Outcome::Again]),
+    (23, [Outcome::Failed, Outcome::Failed, Outcome::NotReady]),
+    (24, [Outcome::Failed, Outcome::Failed, Outcome::NotReady]),
+    (104, [Outcome::Failed, Outcome::Failed, Outcome::Failed]),
+];
+
+/// How a "not yet" leaves the channel.
+fn not_yet(sockets: &Sockets, chan: ChanNo, op: Ops) -> Outcome {
+    if kept_of(&sockets.kept, chan).meet(op) == op {
+        Outcome::Again
+    } else {
+        Outcome::NotReady
+    }
+}
+
+/// A read that finds the error.
+fn read(sockets: &mut Sockets, cause: Cause) -> Outcome {
+    add(&mut sockets.kept, LINK, Ops::READ);
+    match sockets.not_moved(LINK, Ops::READ, cause) {
+        Ok(()) => not_yet(sockets, LINK, Ops::READ),
+        Err(Failed) => Outcome::Failed,
+    }
+}
+
+/// An accept that finds the error, where so many links stand.
+fn accept(sockets: &mut Sockets, links: usize, cause: Cause) -> Outcome {
+    sockets.links = links;
+    add(&mut sockets.kept, LISTENER, Ops::ACCEPT);
+    match sockets.not_accepted(LISTENER, cause) {
+        Ok(_made) => not_yet(sockets, LISTENER, Ops::ACCEPT),
+        Err(Failed) => Outcome::Failed,
+    }
+}
+
+#[test]
+fn calls_take_errors_by_their_kind(rt: HostRuntime) -> Result<(), Fail> {
+    let (mut sockets, _bell) = Sockets::make(&rt, rt.alloc())?;
+    for (number, wanted) in ERRORS {
+        let cause = cause_of(&io::Error::from_raw_os_error(number));
+        let found = [
+            read(&mut sockets, cause),
+            accept(&mut sockets, 0, cause),
+            accept(&mut sockets, 1, cause),
+        ];
+        assert_eq!(rt; found, wanted);
+    }
+    // A listener that waits for a descriptor is tried again once a link is closed.
+    clear(&mut sockets.kept, LISTENER, Ops::ACCEPT);
+    sockets.retry_waiting();
+    assert_eq!(rt; kept_of(&sockets.kept, LISTENER), Ops::ACCEPT);
+    Ok(())
+}
