@@ -1,5 +1,8 @@
 -- The laws that a net keeps, at a net in memory.
-use Rattle.std.proofs.Common.{◌≡◌, ◌≢◌, ℕ, ◌+◌, ◌-◌, ◌<◌, ◌≤◌, ◌⊎◌, inl, inr, ◌==◌, nat_lt, min, Bool, true, false, ◌&&◌, if◌then◌else◌, cond, Option, Some, None, option_map, Result, Ok, Err, IfOk, List, [], ◌∷◌, ◌++◌, length, map, replicate, ◌*◌, slice_set, refl, ap, sym, ◌∙◌, arith, eq-eqb, eqb-true, ltb-true, get_or-set_other, get_or-set_same}
+use Rattle.std.proofs.Common.{◌≡◌, ◌≢◌, ℕ, ◌+◌, ◌-◌, ◌<◌, ◌≤◌, ◌⊎◌, inl, inr, ◌==◌, nat_lt, min, Bool, true, false}
+use Rattle.std.proofs.Common.{◌&&◌, if◌then◌else◌, cond, Option, Some, None, option_map, Result, Ok, Err, IfOk, List}
+use Rattle.std.proofs.Common.{[], ◌∷◌, ◌++◌, length, map, replicate, ◌*◌, slice_set, refl, ap, sym, ◌∙◌, arith, eq-eqb}
+use Rattle.std.proofs.Common.{eqb-true, ltb-true, get_or-set_other, get_or-set_same}
 use Rattle.std.proofs.lemmas.Bool.{eqb-false}
 use Rattle.std.proofs.lemmas.Grind.{common_steps}
 use Rattle.std.proofs.lemmas.List.{set_past}
@@ -11,13 +14,21 @@ use Rattle.nio_link.proofs.Pieces.{is_got}
 use Rattle.nio_poller.specs.Polled.{Polled}
 use Rattle.nio_poller.specs.Polls.{told_of_channel}
 use Rattle.nio_link.specs.Links.{IsSameBut, IsGot, after_read, after_write, after_shut}
-use Rattle.nio_link.specs.MemoryLinks.{LinkState, IsFresh, carried, is_connected, is_connecting, link_after_read, link_after_write, got_after, ended_after, put_of, put_after, stage_after_connect, connect_answer as connect_link_answer}
-use Rattle.nio_link.specs.MemoryNet.{ready_told, heed, times, faulted_after, findings_after, is_early, AreFresh, NetState, is_free, is_waiting, after_listen, listen_answer, with_target, after_connect, connect_answer, with_client, after_accept, can_accept, is_listener}
+use Rattle.nio_link.specs.MemoryLinks.{LinkState, IsFresh, carried, is_connected, is_connecting, link_after_read}
+use Rattle.nio_link.specs.MemoryLinks.{link_after_write, got_after, ended_after, put_of, put_after, stage_after_connect}
+use Rattle.nio_link.specs.MemoryLinks.{connect_answer as connect_link_answer}
+use Rattle.nio_link.specs.MemoryNet.{ready_told, heed, times, faulted_after, findings_after, is_early, AreFresh}
+use Rattle.nio_link.specs.MemoryNet.{NetState, is_free, is_waiting, after_listen, listen_answer, with_target}
+use Rattle.nio_link.specs.MemoryNet.{after_connect, connect_answer, with_client, after_accept, can_accept, is_listener}
 use Rattle.nio_link.specs.NetPlans.{client_end, target_end, free_slots}
 use Rattle.nio_link.specs.Pieces.{got_of, pieces_after, buffer_after}
 use Rattle.nio_link.specs.declared.memory.plan.PeerPlan.{PeerPlan}
-use Rattle.nio_link.specs.Readiness.{without, ready_after_read, ready_after_write, ready_after_connect, ready_after_accept}
-use Rattle.nio_link.specs.Slots.{slot_at, carried_by, carried_at, connected, connecting, placed, read_answer, read_buffer, slots_after_read, write_answer, slots_after_write, shut_answer, slots_after_shut, finish_answer, slots_after_finish, slots_after_close, closed, holds_nothing}
+use Rattle.nio_link.specs.Readiness.{without, ready_after_read, ready_after_write, ready_after_connect}
+use Rattle.nio_link.specs.Readiness.{ready_after_accept}
+use Rattle.nio_link.specs.Slots.{slot_at, carried_by, carried_at, connected, connecting, placed, read_answer}
+use Rattle.nio_link.specs.Slots.{read_buffer, slots_after_read, write_answer, slots_after_write, shut_answer}
+use Rattle.nio_link.specs.Slots.{slots_after_shut, finish_answer, slots_after_finish, slots_after_close, closed}
+use Rattle.nio_link.specs.Slots.{holds_nothing}
 use Rattle.nio_link.specs.declared.memory.finding.Finding.{Finding}
 use Rattle.nio_link.specs.declared.memory.finding.Finding.TheVariants.{Told as WasTold, NotReady}
 use Rattle.nio_link.specs.declared.memory.slot.Slot.{Slot}

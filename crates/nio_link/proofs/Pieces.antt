@@ -1,5 +1,6 @@
 -- What is left of pieces of bytes.
-use Rattle.std.proofs.Common.{◌≡◌, ◌≢◌, ℕ, ◌+◌, ◌<◌, ◌≤◌, min, List, [], ◌∷◌, ◌++◌, length, map, get_or, take, drop, refl, ap, arith, sym, ◌∙◌, length-drop}
+use Rattle.std.proofs.Common.{◌≡◌, ◌≢◌, ℕ, ◌+◌, ◌<◌, ◌≤◌, min, List, [], ◌∷◌, ◌++◌, length, map, get_or, take, drop}
+use Rattle.std.proofs.Common.{refl, ap, arith, sym, ◌∙◌, length-drop}
 use Rattle.std.proofs.lemmas.List.{drop_min, map-append, take_more}
 use Rattle.nio_link.specs.Links.{IsGot}
 use Rattle.nio_link.specs.Pieces.{pieces_left, pieces_after, got_of, count_of, total}

@@ -1,5 +1,6 @@
 -- A link in memory, as the net in memory sees it.
-use Rattle.std.specs.Prelude.{◌≡◌, ℕ, ◌-◌, nat_lt, min, Bool, true, false, if◌then◌else◌, Some, Result, Ok, Err, List, [], ◌++◌, length, take, bit_or}
+use Rattle.std.specs.Prelude.{◌≡◌, ℕ, ◌-◌, nat_lt, min, Bool, true, false, if◌then◌else◌, Some, Result, Ok, Err, List}
+use Rattle.std.specs.Prelude.{[], ◌++◌, length, take, bit_or}
 use Rattle.nio_link.specs.Links.{Link}
 use Rattle.nio_link.specs.Pieces.{got_of, pieces_after, buffer_after}
 use Rattle.nio_link.specs.declared.memory.stage.Stage.{Stage}

@@ -1,5 +1,6 @@
 -- A net in memory, as its callers see it.
-use Rattle.std.specs.Prelude.{◌≡◌, ℕ, ◌==◌, nat_lt, Bool, true, false, not, ◌&&◌, if◌then◌else◌, Result, Ok, Err, List, [], ◌∷◌, ◌++◌, length, map, filter, fold, count_by, slice_set, bit_and}
+use Rattle.std.specs.Prelude.{◌≡◌, ℕ, ◌==◌, nat_lt, Bool, true, false, not, ◌&&◌, if◌then◌else◌, Result, Ok, Err, List}
+use Rattle.std.specs.Prelude.{[], ◌∷◌, ◌++◌, length, map, filter, fold, count_by, slice_set, bit_and}
 use Rattle.nio_base.specs.declared.numbers.ChanNo.{ChanNo}
 use Rattle.nio_bytes.specs.Calls.{Calls, after_success, after_failure}
 use Rattle.nio_poller.specs.Polled.{Polled}
@@ -8,7 +9,9 @@ use Rattle.nio_steps.specs.SelectCalls.{Poll}
 use Rattle.nio_steps.specs.declared.looked.LookedKey.{LookedKey}
 use Rattle.nio_link.specs.MemoryLinks.{LinkState, IsFresh}
 use Rattle.nio_link.specs.Readiness.{without}
-use Rattle.nio_link.specs.Slots.{slot_at, ready_at, holds_nothing, holds_listener, connected, connecting, read_answer, slots_after_read, write_answer, slots_after_write, shut_answer, slots_after_shut, finish_answer, slots_after_finish}
+use Rattle.nio_link.specs.Slots.{slot_at, ready_at, holds_nothing, holds_listener, connected, connecting, read_answer}
+use Rattle.nio_link.specs.Slots.{slots_after_read, write_answer, slots_after_write, shut_answer, slots_after_shut}
+use Rattle.nio_link.specs.Slots.{finish_answer, slots_after_finish}
 use Rattle.nio_link.specs.declared.memory.finding.Finding.{Finding}
 use Rattle.nio_link.specs.declared.memory.finding.Finding.TheVariants.{Told as WasTold, NotReady}
 use Rattle.nio_link.specs.declared.memory.slot.Slot.{Slot}

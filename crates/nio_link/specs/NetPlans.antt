@@ -1,5 +1,6 @@
 -- How a net in memory begins.
-use Rattle.std.specs.Prelude.{ℕ, ◌+◌, ◌*◌, ◌-◌, ◌^◌, min, max, Bool, false, Option, Some, None, List, [], ◌∷◌, length, map, replicate}
+use Rattle.std.specs.Prelude.{ℕ, ◌+◌, ◌*◌, ◌-◌, ◌^◌, min, max, Bool, false, Option, Some, None, List, [], ◌∷◌, length}
+use Rattle.std.specs.Prelude.{map, replicate}
 use Rattle.nio_bytes.specs.Calls.{no_calls}
 use Rattle.nio_link.specs.MemoryLinks.{LinkState}
 use Rattle.nio_link.specs.MemoryNet.{NetState}

@@ -1,9 +1,11 @@
 -- The channels of a net in memory: what stands under each, and what calls answer and leave there.
-use Rattle.std.specs.Prelude.{ℕ, Bool, true, false, if◌then◌else◌, Option, Some, None, option_map, Result, Ok, Err, List, [], slice_set}
+use Rattle.std.specs.Prelude.{ℕ, Bool, true, false, if◌then◌else◌, Option, Some, None, option_map, Result, Ok, Err}
+use Rattle.std.specs.Prelude.{List, [], slice_set}
 use Rattle.std.specs.List.{slice_index_or}
 use Rattle.nio_base.specs.declared.numbers.ChanNo.{ChanNo}
 use Rattle.nio_link.specs.Links.{Link}
-use Rattle.nio_link.specs.MemoryLinks.{LinkState, carried, is_connected, is_connecting, link_ready, link_after_read, link_after_write, put_of, connect_answer, stage_after_connect}
+use Rattle.nio_link.specs.MemoryLinks.{LinkState, carried, is_connected, is_connecting, link_ready, link_after_read}
+use Rattle.nio_link.specs.MemoryLinks.{link_after_write, put_of, connect_answer, stage_after_connect}
 use Rattle.nio_link.specs.Pieces.{got_of, buffer_after}
 use Rattle.nio_link.specs.declared.memory.slot.Slot.{Slot}
 use Rattle.nio_link.specs.declared.memory.slot.Slot.TheVariants as slot

@@ -10,7 +10,8 @@ use Rattle.nio_link.specs.declared.net.Put.{Put}
 use Rattle.nio_link.specs.declared.place.Place.{Place}
 use Rattle.nio_link.specs.declared.place.Standing.TheVariants as standing
 use Rattle.nio_link.specs.declared.stream.LinkError.{LinkError}
-use Rattle.nio_link.specs.declared.stream.LinkError.TheVariants.{ClosedChannel, AlreadyConnected, ConnectionPending, NoConnectionPending, NotYetConnected, Fault}
+use Rattle.nio_link.specs.declared.stream.LinkError.TheVariants.{ClosedChannel, AlreadyConnected, ConnectionPending}
+use Rattle.nio_link.specs.declared.stream.LinkError.TheVariants.{NoConnectionPending, NotYetConnected, Fault}
 use Rattle.nio_link.specs.declared.stream.StreamState.{StreamState}
 use Rattle.nio_link.specs.declared.stream.StreamState.TheVariants.{Unconnected, Connecting, Connected, Closed}
 

@@ -19,10 +19,12 @@ module _ (l : Limits) (st : ScriptState) (c : ChanNo) (on : Bool) (x : Chan) (e 
   unfolding blocking_call
   blocking-closed h k = rw (e, h, k)
 
-  pub blocking-registered : x.made ≡ true → x.closed ≡ false → (on && is_registered l st.shared c.0) ≡ true → blocking_call l st c on ≡ unchanged st reply.IllegalBlockingMode
+  pub blocking-registered : x.made ≡ true → x.closed ≡ false → (on && is_registered l st.shared c.0) ≡ true
+      → blocking_call l st c on ≡ unchanged st reply.IllegalBlockingMode
   unfolding blocking_call
   blocking-registered h k r = rw (e, h, k, r)
 
-  pub blocking-set : x.made ≡ true → x.closed ≡ false → (on && is_registered l st.shared c.0) ≡ false → blocking_call l st c on ≡ answered st reply.«Ok» (with_chan st.shared c.0 (record x { blocking = on }))
+  pub blocking-set : x.made ≡ true → x.closed ≡ false → (on && is_registered l st.shared c.0) ≡ false
+      → blocking_call l st c on ≡ answered st reply.«Ok» (with_chan st.shared c.0 (record x { blocking = on }))
   unfolding blocking_call
   blocking-set h k r = rw (e, h, k, r)

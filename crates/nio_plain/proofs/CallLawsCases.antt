@@ -1,6 +1,8 @@
 -- What holds of every call: a call refuses or only tells, or it makes the one change of its word. So a
 -- fact of all calls is shown once for each change.
-use Rattle.std.proofs.Common.{◌≡◌, ℕ, ◌<◌, ◌==◌, Bool, true, false, not, ◌&&◌, ◌||◌, cond, nat_lt, Option, Some, None, is_some, List, [], ◌∷◌, ◌++◌, length, take, drop, filter, map, find, refl, bit_and, bit_or}
+use Rattle.std.proofs.Common.{◌≡◌, ℕ, ◌<◌, ◌==◌, Bool, true, false, not, ◌&&◌, ◌||◌, cond, nat_lt, Option, Some, None}
+use Rattle.std.proofs.Common.{is_some, List, [], ◌∷◌, ◌++◌, length, take, drop, filter, map, find, refl, bit_and}
+use Rattle.std.proofs.Common.{bit_or}
 use Rattle.std.proofs.lemmas.Bool.{ltb-true}
 use Rattle.nio_base.specs.declared.kind.Kind.{Kind}
 use Rattle.nio_base.specs.declared.kind.Kind.TheVariants.{Source}
@@ -11,7 +13,8 @@ use Rattle.nio_base.specs.declared.numbers.GChan.{GChan}
 use Rattle.nio_base.specs.declared.numbers.KeyId.{KeyId}
 use Rattle.nio_base.specs.declared.numbers.SelNo.{SelNo}
 use Rattle.nio_event.specs.Sets.{fits, in_key_set, in_selected_set, was_published, is_valid_key}
-use Rattle.nio_event.specs.State.{with_interrupted, with_chan, with_gate, with_key, with_interest, with_mark, with_note, with_closer, with_entered}
+use Rattle.nio_event.specs.State.{with_interrupted, with_chan, with_gate, with_key, with_interest, with_mark, with_note}
+use Rattle.nio_event.specs.State.{with_closer, with_entered}
 use Rattle.nio_event.specs.declared.call.Call.{Call}
 use Rattle.nio_event.specs.declared.call.Call.TheVariants as call
 use Rattle.nio_event.specs.declared.call.Waiting.{Waiting}
@@ -29,17 +32,24 @@ use Rattle.nio_plain.specs.Seq.{call_of, seq}
 use Rattle.nio_plain.specs.Seq.Answers.{Answered, unchanged, answered, yes_or_no}
 use Rattle.nio_plain.specs.Seq.Cancelling.{channel_closed, cancelled_in_set, closec_call, cancel_call}
 use Rattle.nio_plain.specs.Seq.Closing.{without_keys, close_call, close_end_call}
-use Rattle.nio_plain.specs.Seq.Grouping.{GroupAnswered, answered_by_group, group_answer, group_call, stepped, with_named_group_channel}
-use Rattle.nio_plain.specs.Seq.Keys.{are_legal_at, is_in_selected_set, valid_call, interest_call, ready_call, iset_call, ior_call, iand_call, unselect_call, attach_call, attachment_call}
+use Rattle.nio_plain.specs.Seq.Grouping.{GroupAnswered, answered_by_group, group_answer, group_call, stepped}
+use Rattle.nio_plain.specs.Seq.Grouping.{with_named_group_channel}
+use Rattle.nio_plain.specs.Seq.Keys.{are_legal_at, is_in_selected_set, valid_call, interest_call, ready_call, iset_call}
+use Rattle.nio_plain.specs.Seq.Keys.{ior_call, iand_call, unselect_call, attach_call, attachment_call}
 use Rattle.nio_plain.specs.Seq.Listing.{names_or_none, keys_call, selected_call}
-use Rattle.nio_plain.specs.Seq.Modes.{name_or_none, key_of, is_registered, blocking_call, is_blocking_call, is_open_call, is_registered_call, key_for_call}
+use Rattle.nio_plain.specs.Seq.Modes.{name_or_none, key_of, is_registered, blocking_call, is_blocking_call}
+use Rattle.nio_plain.specs.Seq.Modes.{is_open_call, is_registered_call, key_for_call}
 use Rattle.nio_plain.specs.Seq.Names.{below, key_at}
 use Rattle.nio_plain.specs.Seq.Opening.{channel_made, next_channel, selector_made, selector_call, channel_call}
 use Rattle.nio_plain.specs.Seq.Pipes.{own_source, own_sink, pipe_at, with_pipe, marking}
-use Rattle.nio_plain.specs.Seq.Piping.{with_sink, with_source, finds_interrupt, not_now, read_first, read_from, room_for, write_to, pipe_call, pread_call, pwrite_call}
-use Rattle.nio_plain.specs.Seq.Registering.{given_or_none, given_or_kept, next_key, with_new_key, are_legal, registered, registered_new, register_call}
+use Rattle.nio_plain.specs.Seq.Piping.{with_sink, with_source, finds_interrupt, not_now, read_first, read_from}
+use Rattle.nio_plain.specs.Seq.Piping.{room_for, write_to, pipe_call, pread_call, pwrite_call}
+use Rattle.nio_plain.specs.Seq.Registering.{given_or_none, given_or_kept, next_key, with_new_key, are_legal, registered}
+use Rattle.nio_plain.specs.Seq.Registering.{registered_new, register_call}
 use Rattle.nio_plain.specs.Seq.Removing.{unselected}
-use Rattle.nio_plain.specs.Seq.Selections.{mode_of, selection_begun, updated_count, is_again, why_ended, selection_ended, own_selection, left_selection, is_caller, begun_with, told_selection, begin_call, told_call, failed_call}
+use Rattle.nio_plain.specs.Seq.Selections.{mode_of, selection_begun, updated_count, is_again, why_ended}
+use Rattle.nio_plain.specs.Seq.Selections.{selection_ended, own_selection, left_selection, is_caller, begun_with}
+use Rattle.nio_plain.specs.Seq.Selections.{told_selection, begin_call, told_call, failed_call}
 use Rattle.nio_plain.specs.Seq.Wakeups.{wakeup_call, interrupt_call, interrupted_call}
 use Rattle.nio_plain.specs.declared.rules.Rules.{Rules}
 
@@ -79,40 +89,91 @@ may_keep (reply.Bytes bytes) = false
 may_keep _ = true
 
 -- what is to be shown of each change
-pub record HoldsOfChanges (rules : Rules) (st : ScriptState) (me : CallerNo) (P : Call → Answered → Type 0) : Type 0 where
+pub record HoldsOfChanges (rules : Rules) (st : ScriptState) (me : CallerNo)
+    (P : Call → Answered → Type 0) : Type 0 where
   pub nothing : (c : Call) (r : Reply) → may_keep r ≡ true → P c (unchanged st r)
   pub selector : (s : ℕ) → P call.Selector (selector_made st (Some s))
   pub channel : (kind : Kind) (c : ℕ) → P (call.Channel kind) (channel_made st kind (Some c))
-  pub blocking : (c : ChanNo) (on : Bool) → P (call.Blocking c on) (answered st reply.«Ok» (with_chan st.shared c.0 (record (st.shared.chan c.0) { blocking = on })))
-  pub register : (s : SelNo) (c : ChanNo) (ops : ℕ) (att : Option ℕ) (k : KeyId) (note : ℕ) → P (call.Register s c ops att) (answered st (reply.Key k) (with_new_key st.shared s.0 c.0 k ops note))
-  pub register_again : (s : SelNo) (c : ChanNo) (ops : ℕ) (att : Option ℕ) (k : KeyId) (note : ℕ) → P (call.Register s c ops att) (answered st (reply.Key k) (with_note (with_interest st.shared s.0 k.index ops) s.0 k.index note))
-  pub closec : (c : ChanNo) → P (call.Closec c) (marking (own_sink st me c) (answered st reply.«Ok» (channel_closed st.shared c.0)))
+  pub blocking : (c : ChanNo) (on : Bool)
+      → P (call.Blocking c on)
+      (answered st reply.«Ok» (with_chan st.shared c.0 (record (st.shared.chan c.0) { blocking = on })))
+  pub register : (s : SelNo) (c : ChanNo) (ops : ℕ) (att : Option ℕ) (k : KeyId) (note : ℕ)
+      → P (call.Register s c ops att) (answered st (reply.Key k) (with_new_key st.shared s.0 c.0 k ops note))
+  pub register_again : (s : SelNo) (c : ChanNo) (ops : ℕ) (att : Option ℕ) (k : KeyId) (note : ℕ)
+      → P (call.Register s c ops att)
+      (answered st (reply.Key k) (with_note (with_interest st.shared s.0 k.index ops) s.0 k.index note))
+  pub closec : (c : ChanNo)
+      → P (call.Closec c) (marking (own_sink st me c) (answered st reply.«Ok» (channel_closed st.shared c.0)))
   pub closec_again : (c : ChanNo) → P (call.Closec c) (marking (own_sink st me c) (unchanged st reply.Already))
-  pub cancel : (s : SelNo) (k : KeyId) → P (call.Cancel s k) (answered st reply.«Ok» (with_key st.shared s.0 k.index (cancelled_in_set (st.shared.key s.0 k.index) k.serial)))
-  pub iset : (s : SelNo) (k : KeyId) (ops : ℕ) → P (call.Iset s k ops) (answered st reply.«Ok» (with_interest st.shared s.0 k.index ops))
-  pub ior : (s : SelNo) (k : KeyId) (ops : ℕ) → P (call.Ior s k ops) (answered st (reply.Number (st.shared.interest s.0 k.index)) (with_interest st.shared s.0 k.index (bit_or (st.shared.interest s.0 k.index) ops)))
-  pub iand : (s : SelNo) (k : KeyId) (ops : ℕ) → P (call.Iand s k ops) (answered st (reply.Number (st.shared.interest s.0 k.index)) (with_interest st.shared s.0 k.index (bit_and (st.shared.interest s.0 k.index) ops)))
-  pub unselect : (s : SelNo) (k : KeyId) → P (call.Unselect s k) (answered st reply.Yes (with_mark st.shared s.0 k.index (unselected (st.shared.mark s.0 k.index))))
-  pub attach : (s : SelNo) (k : KeyId) (att : ℕ) → P (call.Attach s k att) (answered st (reply.Number (st.shared.note s.0 k.index)) (with_note st.shared s.0 k.index att))
-  pub begin : (s : SelNo) (waiting : Waiting) (how : Mode) → is_some (st.shared.turn s.0) ≡ false → P (call.Begin s waiting) (selection_begun rules st me s.0 how)
-  pub told : (s : SelNo) (elapsed : Bool) (pairs : List (KeyId × ℕ)) (selection : Selection) (count : ℕ) (why : Why) → own_selection st me s.0 ≡ Some selection → P (call.Told s elapsed pairs) (told_ended rules st s.0 pairs selection count why)
-  pub failed : (s : SelNo) (selection : Selection) → own_selection st me s.0 ≡ Some selection → P (call.Failed s) (left_selection st s.0 (Some selection))
-  pub wakeup : (s : SelNo) → P (call.Wakeup s) (answered st reply.«Ok» (with_gate st.shared s.0 (record (st.shared.gate s.0) { woken = true })))
-  pub close : (s : SelNo) → P (call.Close s) (answered st reply.Closing (with_closer (with_gate st.shared s.0 (record (st.shared.gate s.0) { shut = true })) s.0 (Some me)))
-  pub close_end : (s : SelNo) → P (call.CloseEnd s) (answered st reply.Closed (with_entered (without_keys st.shared s.0) s.0 true))
-  pub interrupt : (target : CallerNo) → P (call.Interrupt target) (answered st reply.«Ok» (with_interrupted st.shared target.0 true))
-  pub pipe : (target : CallerNo) (source sink : ℕ) → P (call.Pipe target) (with_sink (channel_made st Source (Some source)).left me target source (Some sink))
-  pub pipe_spent : (target : CallerNo) (source : ℕ) → P (call.Pipe target) (with_sink (channel_made st Source (Some source)).left me target source None)
-  pub pread : (c : ChanNo) (n i b : ℕ) (bytes : List ℕ) → P (call.Pread c n) (record { reply = reply.Bytes (take n (b ∷ bytes)); left = with_pipe st i (record (pipe_at st i) { waiting = drop n (b ∷ bytes) }) })
-  pub pread_interrupted : (c : ChanNo) (n : ℕ) → P (call.Pread c n) (answered st reply.ClosedByInterrupt (channel_closed st.shared c.0))
-  pub pwrite : (c : ChanNo) (bytes : List ℕ) (i n : ℕ) → P (call.Pwrite c bytes) (record { reply = reply.Number n; left = with_pipe st i (record (pipe_at st i) { waiting = (pipe_at st i).waiting ++ take n bytes }) })
-  pub pwrite_closed : (c : ChanNo) (bytes : List ℕ) (i : ℕ) → P (call.Pwrite c bytes) (marking (Some i) (unchanged st reply.ClosedChannel))
-  pub pwrite_interrupted : (c : ChanNo) (bytes : List ℕ) (i : ℕ) → P (call.Pwrite c bytes) (marking (Some i) (answered st reply.ClosedByInterrupt (channel_closed st.shared c.0)))
+  pub cancel : (s : SelNo) (k : KeyId)
+      → P (call.Cancel s k)
+      (answered st reply.«Ok»
+      (with_key st.shared s.0 k.index (cancelled_in_set (st.shared.key s.0 k.index) k.serial)))
+  pub iset : (s : SelNo) (k : KeyId) (ops : ℕ)
+      → P (call.Iset s k ops) (answered st reply.«Ok» (with_interest st.shared s.0 k.index ops))
+  pub ior : (s : SelNo) (k : KeyId) (ops : ℕ)
+      → P (call.Ior s k ops)
+      (answered st (reply.Number (st.shared.interest s.0 k.index))
+      (with_interest st.shared s.0 k.index (bit_or (st.shared.interest s.0 k.index) ops)))
+  pub iand : (s : SelNo) (k : KeyId) (ops : ℕ)
+      → P (call.Iand s k ops)
+      (answered st (reply.Number (st.shared.interest s.0 k.index))
+      (with_interest st.shared s.0 k.index (bit_and (st.shared.interest s.0 k.index) ops)))
+  pub unselect : (s : SelNo) (k : KeyId)
+      → P (call.Unselect s k)
+      (answered st reply.Yes (with_mark st.shared s.0 k.index (unselected (st.shared.mark s.0 k.index))))
+  pub attach : (s : SelNo) (k : KeyId) (att : ℕ)
+      → P (call.Attach s k att)
+      (answered st (reply.Number (st.shared.note s.0 k.index)) (with_note st.shared s.0 k.index att))
+  pub begin : (s : SelNo) (waiting : Waiting) (how : Mode) → is_some (st.shared.turn s.0) ≡ false
+      → P (call.Begin s waiting) (selection_begun rules st me s.0 how)
+  pub told : (s : SelNo) (elapsed : Bool) (pairs : List (KeyId × ℕ)) (selection : Selection) (count : ℕ) (why : Why)
+      → own_selection st me s.0 ≡ Some selection
+      → P (call.Told s elapsed pairs) (told_ended rules st s.0 pairs selection count why)
+  pub failed : (s : SelNo) (selection : Selection) → own_selection st me s.0 ≡ Some selection
+      → P (call.Failed s) (left_selection st s.0 (Some selection))
+  pub wakeup : (s : SelNo)
+      → P (call.Wakeup s)
+      (answered st reply.«Ok» (with_gate st.shared s.0 (record (st.shared.gate s.0) { woken = true })))
+  pub close : (s : SelNo)
+      → P (call.Close s)
+      (answered st reply.Closing
+      (with_closer (with_gate st.shared s.0 (record (st.shared.gate s.0) { shut = true })) s.0 (Some me)))
+  pub close_end : (s : SelNo)
+      → P (call.CloseEnd s) (answered st reply.Closed (with_entered (without_keys st.shared s.0) s.0 true))
+  pub interrupt : (target : CallerNo)
+      → P (call.Interrupt target) (answered st reply.«Ok» (with_interrupted st.shared target.0 true))
+  pub pipe : (target : CallerNo) (source sink : ℕ)
+      → P (call.Pipe target) (with_sink (channel_made st Source (Some source)).left me target source (Some sink))
+  pub pipe_spent : (target : CallerNo) (source : ℕ)
+      → P (call.Pipe target) (with_sink (channel_made st Source (Some source)).left me target source None)
+  pub pread : (c : ChanNo) (n i b : ℕ) (bytes : List ℕ)
+      → P (call.Pread c n)
+      (record {
+        reply = reply.Bytes (take n (b ∷ bytes));
+        left =
+            with_pipe st i (record (pipe_at st i) { waiting = drop n (b ∷ bytes) });
+      })
+  pub pread_interrupted : (c : ChanNo) (n : ℕ)
+      → P (call.Pread c n) (answered st reply.ClosedByInterrupt (channel_closed st.shared c.0))
+  pub pwrite : (c : ChanNo) (bytes : List ℕ) (i n : ℕ)
+      → P (call.Pwrite c bytes)
+      (record {
+        reply = reply.Number n;
+        left =
+            with_pipe st i (record (pipe_at st i) { waiting = (pipe_at st i).waiting ++ take n bytes });
+      })
+  pub pwrite_closed : (c : ChanNo) (bytes : List ℕ) (i : ℕ)
+      → P (call.Pwrite c bytes) (marking (Some i) (unchanged st reply.ClosedChannel))
+  pub pwrite_interrupted : (c : ChanNo) (bytes : List ℕ) (i : ℕ)
+      → P (call.Pwrite c bytes) (marking (Some i) (answered st reply.ClosedByInterrupt (channel_closed st.shared c.0)))
   pub group : (g : GroupCall) (s : step.Call) → step_of g ≡ Some s → IsCallOf st.group s
       → P (call.Group g) (answered_by_group st (stepped st.group s))
-  pub interrupted : P call.Interrupted (answered st (yes_or_no (st.shared.interrupted me.0)) (with_interrupted st.shared me.0 false))
+  pub interrupted : P call.Interrupted
+      (answered st (yes_or_no (st.shared.interrupted me.0)) (with_interrupted st.shared me.0 false))
 
-module _ (rules : Rules) (l : Limits) (st : ScriptState) (me : CallerNo) (P : Call → Answered → Type 0) (h : HoldsOfChanges rules st me P) where
+module _ (rules : Rules) (l : Limits) (st : ScriptState) (me : CallerNo) (P : Call → Answered → Type 0)
+    (h : HoldsOfChanges rules st me P) where
   -- both ways of a test
   either : {c : Call} {x y : Answered} (b : Bool) → P c x → P c y → P c (cond b x y)
   either true p q = p
@@ -146,57 +207,81 @@ module _ (rules : Rules) (l : Limits) (st : ScriptState) (me : CallerNo) (P : Ca
   of_channel kind None = says (call.Channel kind) reply.ChannelsSpent refl
   of_channel kind (Some c) = h.channel kind c
 
-  of_new : (s : SelNo) (c : ChanNo) (ops : ℕ) (att : Option ℕ) (note : ℕ) (next : Option KeyId) → P (call.Register s c ops att) (registered_new st s.0 c.0 ops note next)
+  of_new : (s : SelNo) (c : ChanNo) (ops : ℕ) (att : Option ℕ) (note : ℕ) (next : Option KeyId)
+      → P (call.Register s c ops att) (registered_new st s.0 c.0 ops note next)
   of_new s c ops att note None = says (call.Register s c ops att) reply.Full refl
   of_new s c ops att note (Some k) = h.register s c ops att k note
 
-  of_register : (s : SelNo) (c : ChanNo) (ops : ℕ) (att : Option ℕ) (key : Option KeyId) → P (call.Register s c ops att) (registered l st s.0 c.0 ops att key)
+  of_register : (s : SelNo) (c : ChanNo) (ops : ℕ) (att : Option ℕ) (key : Option KeyId)
+      → P (call.Register s c ops att) (registered l st s.0 c.0 ops att key)
   of_register s c ops att None =
-      either (st.shared.gate s.0).shut (says (call.Register s c ops att) reply.ClosedSelector refl) (of_new s c ops att (given_or_none att) (next_key l st.shared s.0))
+      either (st.shared.gate s.0).shut (says (call.Register s c ops att) reply.ClosedSelector refl)
+      (of_new s c ops att (given_or_none att) (next_key l st.shared s.0))
   of_register s c ops att (Some k) =
       let word = call.Register s c ops att in
       either (st.shared.key s.0 k.index).cancelled (says word reply.CancelledKey refl)
-      (either (st.shared.gate s.0).shut (says word reply.ClosedSelector refl) (h.register_again s c ops att k (given_or_kept att (st.shared.note s.0 k.index))))
+      (either (st.shared.gate s.0).shut (says word reply.ClosedSelector refl)
+      (h.register_again s c ops att k (given_or_kept att (st.shared.note s.0 k.index))))
 
-  of_begin : (s : SelNo) (waiting : Waiting) (how : Option Mode) → P (call.Begin s waiting) (begun_with rules st me s.0 how)
+  of_begin : (s : SelNo) (waiting : Waiting) (how : Option Mode)
+      → P (call.Begin s waiting) (begun_with rules st me s.0 how)
   of_begin s waiting None = says (call.Begin s waiting) reply.NegativeTimeout refl
   of_begin s waiting (Some how) =
       let word = call.Begin s waiting in
-      either (st.shared.gate s.0).shut (says word reply.ClosedSelector refl) (either_where (is_some (st.shared.turn s.0)) (λ _. says word reply.Busy refl) (h.begin s waiting how))
+      either (st.shared.gate s.0).shut (says word reply.ClosedSelector refl)
+      (either_where (is_some (st.shared.turn s.0)) (λ _. says word reply.Busy refl) (h.begin s waiting how))
 
-  of_told : (s : SelNo) (elapsed : Bool) (pairs : List (KeyId × ℕ)) (own : Option Selection) → own_selection st me s.0 ≡ own → P (call.Told s elapsed pairs) (told_selection rules st me s.0 pairs elapsed own)
+  of_told : (s : SelNo) (elapsed : Bool) (pairs : List (KeyId × ℕ)) (own : Option Selection)
+      → own_selection st me s.0 ≡ own → P (call.Told s elapsed pairs) (told_selection rules st me s.0 pairs elapsed own)
   of_told s elapsed pairs None e = says (call.Told s elapsed pairs) reply.NotSelecting refl
   of_told s elapsed pairs (Some selection) e =
       let count = updated_count st.shared s.0 selection.looked pairs in
       let gate = st.shared.gate s.0 in
       let interrupted = st.shared.interrupted me.0 in
-      either (is_again gate interrupted selection.mode elapsed count) (says (call.Told s elapsed pairs) reply.Again refl)
+      either (is_again gate interrupted selection.mode elapsed count)
+      (says (call.Told s elapsed pairs) reply.Again refl)
       (h.told s elapsed pairs selection count (why_ended gate interrupted selection.mode count) e)
 
-  of_failed : (s : SelNo) (own : Option Selection) → own_selection st me s.0 ≡ own → P (call.Failed s) (left_selection st s.0 own)
+  of_failed : (s : SelNo) (own : Option Selection) → own_selection st me s.0 ≡ own
+      → P (call.Failed s) (left_selection st s.0 own)
   of_failed s None e = says (call.Failed s) reply.NotSelecting refl
   of_failed s (Some selection) e = h.failed s selection e
 
   -- the tests of the names of a line
-  channel_named : {c : Call} {x : Answered} (k : ChanNo) → P c x → P c (cond (st.shared.chan k.0).made x (unchanged st reply.NoChannel))
+  channel_named : {c : Call} {x : Answered} (k : ChanNo) → P c x
+      → P c (cond (st.shared.chan k.0).made x (unchanged st reply.NoChannel))
   channel_named {c = c} k done = either (st.shared.chan k.0).made done (says c reply.NoChannel refl)
 
-  selector_named : {c : Call} {x : Answered} (s : SelNo) → P c x → P c (cond (st.shared.selector s.0) x (unchanged st reply.NoSelector))
+  selector_named : {c : Call} {x : Answered} (s : SelNo) → P c x
+      → P c (cond (st.shared.selector s.0) x (unchanged st reply.NoSelector))
   selector_named {c = c} s done = either (st.shared.selector s.0) done (says c reply.NoSelector refl)
 
-  key_named : {c : Call} {x : Answered} (s : SelNo) (k : KeyId) → P c x → P c (cond (st.shared.selector s.0) (cond (was_published (st.shared.key s.0 k.index) k.serial) x (unchanged st reply.NoKey)) (unchanged st reply.NoSelector))
-  key_named {c = c} s k done = selector_named s (either (was_published (st.shared.key s.0 k.index) k.serial) done (says c reply.NoKey refl))
+  key_named : {c : Call} {x : Answered} (s : SelNo) (k : KeyId) → P c x
+      → P c (cond (st.shared.selector s.0)
+      (cond (was_published (st.shared.key s.0 k.index) k.serial) x (unchanged st reply.NoKey))
+      (unchanged st reply.NoSelector))
+  key_named {c = c} s k done =
+      selector_named s (either (was_published (st.shared.key s.0 k.index) k.serial) done (says c reply.NoKey refl))
 
-  valid_named : {c : Call} {x : Answered} (s : SelNo) (k : KeyId) → P c x → P c (cond (st.shared.selector s.0) (cond (was_published (st.shared.key s.0 k.index) k.serial) (cond (is_valid_key (st.shared.key s.0 k.index) k.serial) x (unchanged st reply.CancelledKey)) (unchanged st reply.NoKey)) (unchanged st reply.NoSelector))
-  valid_named {c = c} s k done = key_named s k (either (is_valid_key (st.shared.key s.0 k.index) k.serial) done (says c reply.CancelledKey refl))
+  valid_named : {c : Call} {x : Answered} (s : SelNo) (k : KeyId) → P c x
+      → P c (cond (st.shared.selector s.0)
+      (cond (was_published (st.shared.key s.0 k.index) k.serial)
+      (cond (is_valid_key (st.shared.key s.0 k.index) k.serial) x (unchanged st reply.CancelledKey))
+      (unchanged st reply.NoKey)) (unchanged st reply.NoSelector))
+  valid_named {c = c} s k done =
+      key_named s k (either (is_valid_key (st.shared.key s.0 k.index) k.serial) done (says c reply.CancelledKey refl))
 
   -- calls on pipes
 
-  of_closec : (c : ChanNo) (closed : Bool) → P (call.Closec c) (marking (own_sink st me c) (cond closed (unchanged st reply.Already) (answered st reply.«Ok» (channel_closed st.shared c.0))))
+  of_closec : (c : ChanNo) (closed : Bool)
+      → P (call.Closec c)
+      (marking (own_sink st me c)
+      (cond closed (unchanged st reply.Already) (answered st reply.«Ok» (channel_closed st.shared c.0))))
   of_closec c true = h.closec_again c
   of_closec c false = h.closec c
 
-  of_sink : (target : CallerNo) (source : ℕ) (sink : Option ℕ) → P (call.Pipe target) (with_sink (channel_made st Source (Some source)).left me target source sink)
+  of_sink : (target : CallerNo) (source : ℕ) (sink : Option ℕ)
+      → P (call.Pipe target) (with_sink (channel_made st Source (Some source)).left me target source sink)
   of_sink target source None = h.pipe_spent target source
   of_sink target source (Some sink) = h.pipe target source sink
 
@@ -208,7 +293,8 @@ module _ (rules : Rules) (l : Limits) (st : ScriptState) (me : CallerNo) (P : Ca
   of_not_now c true = says c reply.Again refl
   of_not_now c false = says c (reply.Number 0) refl
 
-  of_read : (c : ChanNo) (n i : ℕ) (blocking : Bool) (waiting : List ℕ) (marked : Bool) → P (call.Pread c n) (read_first st blocking n i waiting marked)
+  of_read : (c : ChanNo) (n i : ℕ) (blocking : Bool) (waiting : List ℕ) (marked : Bool)
+      → P (call.Pread c n) (read_first st blocking n i waiting marked)
   of_read c n i blocking [] false = of_not_now (call.Pread c n) blocking
   of_read c n i blocking [] true = says (call.Pread c n) reply.End refl
   of_read c n i blocking (b ∷ bytes) marked = h.pread c n i b bytes
@@ -263,7 +349,11 @@ module _ (rules : Rules) (l : Limits) (st : ScriptState) (me : CallerNo) (P : Ca
   of_group group.Terminated = says_whether (call.Group group.Terminated) (is_terminated st.group)
 
   pub each_call : (c : Call) → P c (call_of rules l st me c)
-  unfolding call_of selector_call channel_call blocking_call is_blocking_call is_open_call is_registered_call key_for_call register_call closec_call cancel_call valid_call interest_call ready_call iset_call ior_call iand_call unselect_call attach_call attachment_call begin_call told_call failed_call wakeup_call interrupt_call interrupted_call close_call close_end_call keys_call selected_call pipe_call pread_call pwrite_call
+  unfolding call_of selector_call channel_call blocking_call is_blocking_call is_open_call is_registered_call
+      key_for_call register_call closec_call cancel_call valid_call interest_call ready_call iset_call ior_call
+      iand_call unselect_call attach_call attachment_call begin_call told_call failed_call wakeup_call
+      interrupt_call interrupted_call close_call close_end_call keys_call selected_call pipe_call pread_call
+      pwrite_call
   each_call call.Selector = of_selector (find (λ s. not (st.shared.selector s)) (below l.selectors))
   each_call (call.Channel kind) = of_channel kind (find (λ c. not (st.shared.chan c).made) (below l.channels))
   each_call (call.Blocking c on) =
@@ -274,7 +364,8 @@ module _ (rules : Rules) (l : Limits) (st : ScriptState) (me : CallerNo) (P : Ca
   each_call (call.IsBlocking c) = channel_named c (says_whether (call.IsBlocking c) (st.shared.chan c.0).blocking)
   each_call (call.IsOpen c) = channel_named c (says_whether (call.IsOpen c) (not (st.shared.chan c.0).closed))
   each_call (call.IsRegistered c) = channel_named c (says_whether (call.IsRegistered c) (is_registered l st.shared c.0))
-  each_call (call.KeyFor c s) = channel_named c (selector_named s (says_name (call.KeyFor c s) (key_of st.shared c.0 s.0)))
+  each_call (call.KeyFor c s) =
+      channel_named c (selector_named s (says_name (call.KeyFor c s) (key_of st.shared c.0 s.0)))
   each_call (call.Register s c ops att) =
       let word = call.Register s c ops att in
       selector_named s
@@ -284,32 +375,62 @@ module _ (rules : Rules) (l : Limits) (st : ScriptState) (me : CallerNo) (P : Ca
       (either (st.shared.chan c.0).blocking (says word reply.IllegalBlockingMode refl)
       (of_register s c ops att (key_of st.shared c.0 s.0))))))
   each_call (call.Closec c) = channel_named c (of_closec c (st.shared.chan c.0).closed)
-  each_call (call.Valid s k) = key_named s k (says_whether (call.Valid s k) (is_valid_key (st.shared.key s.0 k.index) k.serial))
-  each_call (call.Interest s k) = valid_named s k (says (call.Interest s k) (reply.Number (st.shared.interest s.0 k.index)) refl)
-  each_call (call.Ready s k) = valid_named s k (says (call.Ready s k) (reply.Number (st.shared.mark s.0 k.index).ready) refl)
-  each_call (call.Iset s k ops) = valid_named s k (either (are_legal_at st.shared s.0 k.index ops) (h.iset s k ops) (says (call.Iset s k ops) reply.IllegalOps refl))
-  each_call (call.Ior s k ops) = valid_named s k (either (are_legal_at st.shared s.0 k.index ops) (h.ior s k ops) (says (call.Ior s k ops) reply.IllegalOps refl))
+  each_call (call.Valid s k) =
+      key_named s k (says_whether (call.Valid s k) (is_valid_key (st.shared.key s.0 k.index) k.serial))
+  each_call (call.Interest s k) =
+      valid_named s k (says (call.Interest s k) (reply.Number (st.shared.interest s.0 k.index)) refl)
+  each_call (call.Ready s k) =
+      valid_named s k (says (call.Ready s k) (reply.Number (st.shared.mark s.0 k.index).ready) refl)
+  each_call (call.Iset s k ops) =
+      valid_named s k
+      (either (are_legal_at st.shared s.0 k.index ops) (h.iset s k ops)
+      (says (call.Iset s k ops) reply.IllegalOps refl))
+  each_call (call.Ior s k ops) =
+      valid_named s k
+      (either (are_legal_at st.shared s.0 k.index ops) (h.ior s k ops)
+      (says (call.Ior s k ops) reply.IllegalOps refl))
   each_call (call.Iand s k ops) = valid_named s k (h.iand s k ops)
   each_call (call.Cancel s k) = key_named s k (h.cancel s k)
-  each_call (call.Unselect s k) = key_named s k (either (is_in_selected_set st.shared s.0 k) (h.unselect s k) (says (call.Unselect s k) reply.No refl))
-  each_call (call.Attach s k att) = key_named s k (either (fits (st.shared.key s.0 k.index) k.serial) (h.attach s k att) (says (call.Attach s k att) (reply.Number 0) refl))
-  each_call (call.Attachment s k) = key_named s k (says (call.Attachment s k) (reply.Number (cond (fits (st.shared.key s.0 k.index) k.serial) (st.shared.note s.0 k.index) 0)) refl)
+  each_call (call.Unselect s k) =
+      key_named s k
+      (either (is_in_selected_set st.shared s.0 k) (h.unselect s k) (says (call.Unselect s k) reply.No refl))
+  each_call (call.Attach s k att) =
+      key_named s k
+      (either (fits (st.shared.key s.0 k.index) k.serial) (h.attach s k att)
+      (says (call.Attach s k att) (reply.Number 0) refl))
+  each_call (call.Attachment s k) =
+      key_named s k
+      (says (call.Attachment s k)
+      (reply.Number (cond (fits (st.shared.key s.0 k.index) k.serial) (st.shared.note s.0 k.index) 0)) refl)
   each_call (call.Begin s waiting) = selector_named s (of_begin s waiting (mode_of waiting))
   each_call (call.Told s elapsed pairs) = selector_named s (of_told s elapsed pairs (own_selection st me s.0) refl)
   each_call (call.Failed s) = selector_named s (of_failed s (own_selection st me s.0) refl)
   each_call (call.Wakeup s) = selector_named s (h.wakeup s)
-  each_call (call.Close s) = selector_named s (either (st.shared.gate s.0).shut (says (call.Close s) reply.Already refl) (h.close s))
+  each_call (call.Close s) =
+      selector_named s (either (st.shared.gate s.0).shut (says (call.Close s) reply.Already refl) (h.close s))
   each_call (call.CloseEnd s) =
       let word = call.CloseEnd s in
       selector_named s
       (either (not (is_caller me (st.shared.closer s.0)) || st.shared.entered s.0) (says word reply.NotClosing refl)
       (either (is_some (st.shared.turn s.0)) (says word reply.Busy refl) (h.close_end s)))
-  each_call (call.Keys s) = selector_named s (either (st.shared.gate s.0).shut (says (call.Keys s) reply.ClosedSelector refl) (says_names (call.Keys s) (map (key_at st.shared s.0) (filter (λ i. in_key_set (st.shared.key s.0 i)) (below (st.shared.keys_high s.0))))))
-  each_call (call.Selected s) = selector_named s (either (st.shared.gate s.0).shut (says (call.Selected s) reply.ClosedSelector refl) (says_names (call.Selected s) (map (key_at st.shared s.0) (filter (λ i. in_selected_set st.shared s.0 i) (below (st.shared.keys_high s.0))))))
-  each_call (call.Interrupt target) = either (nat_lt target.0 l.callers) (h.interrupt target) (says (call.Interrupt target) reply.NoCaller refl)
+  each_call (call.Keys s) =
+      selector_named s
+      (either (st.shared.gate s.0).shut (says (call.Keys s) reply.ClosedSelector refl)
+      (says_names (call.Keys s)
+      (map (key_at st.shared s.0)
+      (filter (λ i. in_key_set (st.shared.key s.0 i)) (below (st.shared.keys_high s.0))))))
+  each_call (call.Selected s) =
+      selector_named s
+      (either (st.shared.gate s.0).shut (says (call.Selected s) reply.ClosedSelector refl)
+      (says_names (call.Selected s)
+      (map (key_at st.shared s.0)
+      (filter (λ i. in_selected_set st.shared s.0 i) (below (st.shared.keys_high s.0))))))
+  each_call (call.Interrupt target) =
+      either (nat_lt target.0 l.callers) (h.interrupt target) (says (call.Interrupt target) reply.NoCaller refl)
   each_call call.Interrupted = h.interrupted
   each_call (call.Pipe target) =
-      either (nat_lt target.0 l.callers) (of_pipe target (next_channel l st)) (says (call.Pipe target) reply.NoCaller refl)
+      either (nat_lt target.0 l.callers) (of_pipe target (next_channel l st))
+      (says (call.Pipe target) reply.NoCaller refl)
   each_call (call.Pwrite c bytes) = channel_named c (of_pwrite c bytes (own_sink st me c))
   each_call (call.Pread c n) = channel_named c (of_pread c n (own_source st me c))
   each_call (call.Group g) = of_group g

@@ -1,5 +1,7 @@
 -- A key becomes selected, and its ready set gains a bit, only for bits that were told and looked for.
-use Rattle.std.proofs.Common.{◌≡◌, ◌≢◌, ◌⊎◌, ℕ, suc, ◌<◌, max, min, ◌==◌, Bool, true, false, cond, Option, Some, None, List, [], ◌∷◌, bit_and, bit_or, refl, sym, ap, subst, ◌∙◌, inl, inr, ⊎_elim, arith, eqb-true, eq-eqb}
+use Rattle.std.proofs.Common.{◌≡◌, ◌≢◌, ◌⊎◌, ℕ, suc, ◌<◌, max, min, ◌==◌, Bool, true, false, cond, Option, Some, None}
+use Rattle.std.proofs.Common.{List, [], ◌∷◌, bit_and, bit_or, refl, sym, ap, subst, ◌∙◌, inl, inr, ⊎_elim, arith}
+use Rattle.std.proofs.Common.{eqb-true, eq-eqb}
 use Rattle.std.proofs.lemmas.Bool.{both_ways, cases_eq, cond-true, cond-false, cond_both, eqb-false, ne_eqb}
 use Rattle.std.proofs.lemmas.Nat.Bits.{bit_at-zero, bit_at_and, bit_at_or, bit_at-lt}
 use Rattle.std.specs.Int.{bit_at}
@@ -12,7 +14,8 @@ use Rattle.nio_event.specs.declared.call.Call.{Call}
 use Rattle.nio_event.specs.declared.call.Call.TheVariants as call
 use Rattle.nio_event.specs.declared.found.Mark.{Mark}
 use Rattle.nio_plain.proofs.CallLawsCases.{HoldsOfChanges, holds_of_calls}
-use Rattle.nio_plain.specs.CallLaws.{told_of, newly_told, HasBit, GainsOnly, OnlyToldBitsAreSelected, IsGiven, IsToldAndLookedFor, BitsAreToldAndLookedFor}
+use Rattle.nio_plain.specs.CallLaws.{told_of, newly_told, HasBit, GainsOnly, OnlyToldBitsAreSelected, IsGiven}
+use Rattle.nio_plain.specs.CallLaws.{IsToldAndLookedFor, BitsAreToldAndLookedFor}
 use Rattle.nio_plain.specs.ScriptState.{ScriptState, Selection}
 use Rattle.nio_plain.specs.Seq.Answers.{Answered}
 use Rattle.nio_plain.specs.Seq.Selections.{own_selection, all_told, looked_interest, told_bits, marked}
@@ -29,7 +32,8 @@ or_bit : (a b bit : ℕ) → HasBit (bit_or a b) bit → HasBit a bit ⊎ HasBit
 or_bit a b bit has =
     ⊎_elim
     (λ (e : bit_at a bit ≡ 1). inl e)
-    (λ (ne : bit_at a bit ≢ 1). inr (one_of_max (bit_at a bit) (bit_at b bit) ne (bit_at-lt a bit) (sym (bit_at_or a b bit) ∙ has)))
+    (λ (ne : bit_at a bit ≢ 1). inr
+    (one_of_max (bit_at a bit) (bit_at b bit) ne (bit_at-lt a bit) (sym (bit_at_or a b bit) ∙ has)))
     (cases_eq (bit_at a bit) 1)
 
 both_of_min : (x y : ℕ) → x < 2 → y < 2 → min x y ≡ 1 → (x ≡ 1) × (y ≡ 1)
@@ -72,18 +76,23 @@ cleared : (m : Mark) → GainsOnly m unmarked 0
 cleared m = record { ready = λ bit has. no_bit bit has; selected = λ was is. absurd cc }
 
 -- a mark of the selector t by what its own selection was told, seen from each selector
-after_told : (m : Mark) (s t : ℕ) (own : ℕ → Option Selection) (selection : Selection) (pairs : List (KeyId × ℕ)) (k : KeyId) → own t ≡ Some selection → GainsOnly m (cond (s == t) (marked m (told_bits selection.looked pairs k)) m) (cond (t == s) (told_of (own s) pairs k) 0)
+after_told : (m : Mark) (s t : ℕ) (own : ℕ → Option Selection) (selection : Selection) (pairs : List (KeyId × ℕ))
+    (k : KeyId) → own t ≡ Some selection
+    → GainsOnly m (cond (s == t) (marked m (told_bits selection.looked pairs k)) m)
+    (cond (t == s) (told_of (own s) pairs k) 0)
 after_told m s t own selection pairs k h =
     let bits = told_bits selection.looked pairs k in
     ⊎_elim
     (λ (e : s ≡ t).
     let now = cond-true (s == t) (marked m bits) m (eq-eqb s t e) in
-    let told = cond-true (t == s) (told_of (own s) pairs k) 0 (eq-eqb t s (sym e)) ∙ (ap (λ n. told_of (own n) pairs k) e ∙ ap (λ o. told_of o pairs k) h) in
+    let told = cond-true (t == s) (told_of (own s) pairs k) 0 (eq-eqb t s (sym e))
+    ∙ (ap (λ n. told_of (own n) pairs k) e ∙ ap (λ o. told_of o pairs k) h) in
     subst (λ (n : Mark). GainsOnly m n (cond (t == s) (told_of (own s) pairs k) 0)) (sym now)
     (subst (λ (b : ℕ). GainsOnly m (marked m bits) b) (sym told) (after_marking m bits)))
     (λ (ne : s ≡ t → ⊥).
     let now = cond-false (s == t) (marked m bits) m (ne_eqb s t ne) in
-    subst (λ (n : Mark). GainsOnly m n (cond (t == s) (told_of (own s) pairs k) 0)) (sym now) (same m (cond (t == s) (told_of (own s) pairs k) 0)))
+    subst (λ (n : Mark). GainsOnly m n (cond (t == s) (told_of (own s) pairs k) 0)) (sym now)
+    (same m (cond (t == s) (told_of (own s) pairs k) 0)))
     (cases_eq s t)
 
 module _ (rules : Rules) (st : ScriptState) (me : CallerNo) (s i : ℕ) where
@@ -99,7 +108,8 @@ module _ (rules : Rules) (st : ScriptState) (me : CallerNo) (s i : ℕ) where
     selector = λ _. same m 0;
     channel = λ _ _. same m 0;
     blocking = λ _ _. same m 0;
-    register = λ t _ _ _ k _. put_at_keeps (λ s' i' n. GainsOnly (st.shared.mark s' i') n 0) st.shared.mark t.0 k.index unmarked (λ _. cleared (st.shared.mark t.0 k.index)) s i (same m 0);
+    register = λ t _ _ _ k _. put_at_keeps (λ s' i' n. GainsOnly (st.shared.mark s' i') n 0) st.shared.mark t.0 k.index
+        unmarked (λ _. cleared (st.shared.mark t.0 k.index)) s i (same m 0);
     register_again = λ _ _ _ _ _ _. same m 0;
     closec = λ _. same m 0;
     closec_again = λ _. same m 0;
@@ -107,10 +117,12 @@ module _ (rules : Rules) (st : ScriptState) (me : CallerNo) (s i : ℕ) where
     iset = λ _ _ _. same m 0;
     ior = λ _ _ _. same m 0;
     iand = λ _ _ _. same m 0;
-    unselect = λ t k. put_at_keeps (λ s' i' n. GainsOnly (st.shared.mark s' i') n 0) st.shared.mark t.0 k.index (unselected (st.shared.mark t.0 k.index)) after_unselecting s i (same m 0);
+    unselect = λ t k. put_at_keeps (λ s' i' n. GainsOnly (st.shared.mark s' i') n 0) st.shared.mark t.0 k.index
+        (unselected (st.shared.mark t.0 k.index)) after_unselecting s i (same m 0);
     attach = λ _ _ _. same m 0;
     begin = λ t _ _ _. after_sweep _ (same m 0);
-    told = λ t elapsed pairs selection count why own. after_sweep _ (after_told m s t.0 (own_selection st me) selection pairs (key_at st.shared s i) own);
+    told = λ t elapsed pairs selection count why own. after_sweep _
+        (after_told m s t.0 (own_selection st me) selection pairs (key_at st.shared s i) own);
     failed = λ _ _ _. same m 0;
     wakeup = λ _. same m 0;
     close = λ _. same m 0;
@@ -128,13 +140,16 @@ module _ (rules : Rules) (st : ScriptState) (me : CallerNo) (s i : ℕ) where
   }
 
 pub only_told_bits_are_selected : OnlyToldBitsAreSelected
-only_told_bits_are_selected rules l st me c s i = holds_of_calls rules l st me (Gains rules st me s i) (changes rules st me s i) c
+only_told_bits_are_selected rules l st me c s i =
+    holds_of_calls rules l st me (Gains rules st me s i) (changes rules st me s i) c
 
 -- where the bits come from
-later : {pairs : List (KeyId × ℕ)} {k : KeyId} {bit : ℕ} (p : KeyId × ℕ) → IsGiven pairs k bit → IsGiven (p ∷ pairs) k bit
+later : {pairs : List (KeyId × ℕ)} {k : KeyId} {bit : ℕ} (p : KeyId × ℕ) → IsGiven pairs k bit
+    → IsGiven (p ∷ pairs) k bit
 later p given = record { ops = given.ops; pair = (suc given.pair.0, omega arith, given.pair.2); has = given.has }
 
-first : (p : KeyId × ℕ) (pairs : List (KeyId × ℕ)) (k : KeyId) (bit : ℕ) → p.0 ≡ k → HasBit p.1 bit → IsGiven (p ∷ pairs) k bit
+first : (p : KeyId × ℕ) (pairs : List (KeyId × ℕ)) (k : KeyId) (bit : ℕ) → p.0 ≡ k → HasBit p.1 bit
+    → IsGiven (p ∷ pairs) k bit
 first p pairs k bit e has = record { ops = p.1; pair = (0, omega arith, λ j. (e j, p.1)); has = has }
 
 all_told-given : (pairs : List (KeyId × ℕ)) (k : KeyId) (bit : ℕ) → HasBit (all_told pairs k) bit → IsGiven pairs k bit
@@ -149,15 +164,19 @@ all_told-given (p ∷ pairs) k bit has =
     here true e h = first p pairs k bit (same-is p.0 k e) h
     here false e h = no_bit bit h
 
-looked_interest-given : (looked : List (KeyId × ℕ)) (k : KeyId) (bit : ℕ) → HasBit (looked_interest looked k) bit → IsGiven looked k bit
+looked_interest-given : (looked : List (KeyId × ℕ)) (k : KeyId) (bit : ℕ) → HasBit (looked_interest looked k) bit
+    → IsGiven looked k bit
 looked_interest-given [] k bit has = no_bit bit has
 looked_interest-given (p ∷ looked) k bit has = here (is_same_key p.0 k) refl (looked_interest-given looked k bit) has
   where
-    here : (b : Bool) → is_same_key p.0 k ≡ b → (HasBit (looked_interest looked k) bit → IsGiven looked k bit) → HasBit (cond b p.1 (looked_interest looked k)) bit → IsGiven (p ∷ looked) k bit
+    here : (b : Bool) → is_same_key p.0 k ≡ b → (HasBit (looked_interest looked k) bit → IsGiven looked k bit)
+        → HasBit (cond b p.1 (looked_interest looked k)) bit → IsGiven (p ∷ looked) k bit
     here true e rest h = first p looked k bit (same-is p.0 k e) h
     here false e rest h = later p (rest h)
 
-told-given : (st : ScriptState) (me : CallerNo) (t : SelNo) (elapsed : Bool) (pairs : List (KeyId × ℕ)) (s : ℕ) (k : KeyId) (bit : ℕ) (b : Bool) (own : Option Selection) → (t.0 == s) ≡ b → own_selection st me s ≡ own → HasBit (cond b (told_of own pairs k) 0) bit → IsToldAndLookedFor st me (call.Told t elapsed pairs) s k bit
+told-given : (st : ScriptState) (me : CallerNo) (t : SelNo) (elapsed : Bool) (pairs : List (KeyId × ℕ)) (s : ℕ)
+    (k : KeyId) (bit : ℕ) (b : Bool) (own : Option Selection) → (t.0 == s) ≡ b → own_selection st me s ≡ own
+    → HasBit (cond b (told_of own pairs k) 0) bit → IsToldAndLookedFor st me (call.Told t elapsed pairs) s k bit
 told-given st me t elapsed pairs s k bit false own e o has = no_bit bit has
 told-given st me t elapsed pairs s k bit true None e o has = no_bit bit has
 told-given st me t elapsed pairs s k bit true (Some selection) e o has =

@@ -60,7 +60,8 @@ changes rules st me = record {
   pwrite = λ c bytes i n. no_refusal;
   pwrite_closed = λ c bytes i e. changed;
   pwrite_interrupted = λ c bytes i e. changed;
-  group = λ g s is made e keeps. ap (with_group st) (refused_step st.group s (sym (same_effect g s is (answer_of (reply_to st.group s))) ∙ e));
+  group = λ g s is made e keeps. ap (with_group st)
+      (refused_step st.group s (sym (same_effect g s is (answer_of (reply_to st.group s))) ∙ e));
   interrupted = said (st.shared.interrupted me.0);
 }
 

@@ -1,6 +1,8 @@
 -- A selection in progress was begun by a `begin`, looks at what was answered, and stays so until its
 -- own caller ends it.
-use Rattle.std.proofs.Common.{◌≡◌, ◌⊎◌, ℕ, zero, suc, ◌<◌, ◌==◌, Bool, true, false, cond, not, ◌&&◌, Option, Some, None, is_some, List, [], ◌∷◌, map, length, get_or, refl, sym, ap, subst, ◌∙◌, inl, inr, ⊎_elim, arith, eq-eqb, eqb-true}
+use Rattle.std.proofs.Common.{◌≡◌, ◌⊎◌, ℕ, zero, suc, ◌<◌, ◌==◌, Bool, true, false, cond, not, ◌&&◌, Option, Some, None}
+use Rattle.std.proofs.Common.{is_some, List, [], ◌∷◌, map, length, get_or, refl, sym, ap, subst, ◌∙◌, inl, inr, ⊎_elim}
+use Rattle.std.proofs.Common.{arith, eq-eqb, eqb-true}
 use Rattle.std.proofs.lemmas.Bool.{cases_eq, cond-true, true≢false, both_ways}
 use Rattle.std.proofs.lemmas.List.{get_or-map, length-map}
 use Rattle.std.proofs.lemmas.List.Elements.{All-map, filter_passes}
@@ -31,10 +33,12 @@ use Rattle.nio_plain.specs.Seq.Selections.{without_cancelled, looked_keys, selec
 contains_later : {X : Type 0} (y : X) (xs : List X) (x : X) → Contains xs x → Contains (y ∷ xs) x
 contains_later y xs x c = (suc c.0, omega arith, c.2)
 
-filter-contains : {X : Type 0} (p : X → Bool) (xs : List X) (x : X) (k : ℕ) → k < length xs → get_or xs k x ≡ x → p x ≡ true → Contains (filter p xs) x
+filter-contains : {X : Type 0} (p : X → Bool) (xs : List X) (x : X) (k : ℕ) → k < length xs → get_or xs k x ≡ x
+    → p x ≡ true → Contains (filter p xs) x
 filter-contains p [] x k l e passes = absurd (omega arith)
 filter-contains {X} p (y ∷ xs) x zero l e passes =
-    subst (λ (ys : List X). Contains ys x) (sym (cond-true (p y) (y ∷ filter p xs) (filter p xs) (ap p e ∙ passes))) (0, omega arith, e)
+    subst (λ (ys : List X). Contains ys x) (sym (cond-true (p y) (y ∷ filter p xs) (filter p xs) (ap p e ∙ passes)))
+    (0, omega arith, e)
 filter-contains {X} p (y ∷ xs) x (suc k) l e passes =
     let rest = filter-contains p xs x k (omega arith) e passes in
     at (p y) rest
@@ -60,11 +64,13 @@ still_valid k set out = by (in_key_set k) k.cancelled set out
     by true true e o = absurd (true≢false o)
     by false b e o = absurd (true≢false (sym e))
 
-swept_valid : (k : Stage) (b : Bool) → b ≡ true → in_key_set (cond (b && in_cancelled_set k) (removed_key k) k) ≡ true → is_valid (cond (b && in_cancelled_set k) (removed_key k) k) ≡ true
+swept_valid : (k : Stage) (b : Bool) → b ≡ true → in_key_set (cond (b && in_cancelled_set k) (removed_key k) k) ≡ true
+    → is_valid (cond (b && in_cancelled_set k) (removed_key k) k) ≡ true
 swept_valid k false e set = absurd (true≢false (sym e))
 swept_valid k true e set = by (in_cancelled_set k) refl set
   where
-    by : (c : Bool) → in_cancelled_set k ≡ c → in_key_set (cond c (removed_key k) k) ≡ true → is_valid (cond c (removed_key k) k) ≡ true
+    by : (c : Bool) → in_cancelled_set k ≡ c → in_key_set (cond c (removed_key k) k) ≡ true
+        → is_valid (cond c (removed_key k) k) ≡ true
     by true o set' = absurd (not_removed k.published set')
     by false o set' = still_valid k set' o
 
@@ -98,14 +104,17 @@ module _ (rules : Rules) (st : ScriptState) (me : CallerNo) (t : SelNo) (how : M
       All-map IsLooked pair kept (λ k d l. (valid_in (get_or kept k d) (passes k d l), refl))
 
   looked_present : All (λ (p : KeyId × ℕ). p.0 ≡ key_at swept t.0 p.0.index) (looked_keys swept t.0)
-  looked_present = All-map (λ (p : KeyId × ℕ). p.0 ≡ key_at swept t.0 p.0.index) pair (filter in_set (below bound)) (λ k d l. refl)
+  looked_present =
+      All-map (λ (p : KeyId × ℕ). p.0 ≡ key_at swept t.0 p.0.index) pair (filter in_set (below bound)) (λ k d l. refl)
 
   looked_all : (i : ℕ) → i < bound → in_set i ≡ true → Contains (looked_keys swept t.0) (pair i)
   looked_all i l set =
       let there = below_contains bound i l in
-      map-contains pair (filter in_set (below bound)) i (filter-contains in_set (below bound) i there.0 there.1 there.2 set)
+      map-contains pair (filter in_set (below bound)) i
+      (filter-contains in_set (below bound) i there.0 there.1 there.2 set)
 
-  own_begun : cond (is_caller me (put st.shared.turn t.0 (Some me) t.0)) (put st.selection t.0 (Some begun) t.0) None ≡ Some begun
+  own_begun : cond (is_caller me (put st.shared.turn t.0 (Some me) t.0)) (put st.selection t.0 (Some begun) t.0) None
+      ≡ Some begun
   own_begun =
       cond-true (is_caller me (put st.shared.turn t.0 (Some me) t.0)) (put st.selection t.0 (Some begun) t.0) None
       (ap (is_caller me) (put-same st.shared.turn t.0 (Some me)) ∙ eq-eqb me.0 me.0 refl)
@@ -129,24 +138,29 @@ some_is e = cc
 
 module _ (rules : Rules) (st : ScriptState) (me : CallerNo) (s : ℕ) (selection : Selection) where
   abbrev Begun : Call → Answered → Type 0
-  Begun c done = done.left.selection s ≡ Some selection → (st.selection s ≡ Some selection) ⊎ IsBegunBy me c done s selection
+  Begun c done =
+      done.left.selection s ≡ Some selection → (st.selection s ≡ Some selection) ⊎ IsBegunBy me c done s selection
 
-  before : {c : Call} {done : Answered} → st.selection s ≡ Some selection → (st.selection s ≡ Some selection) ⊎ IsBegunBy me c done s selection
+  before : {c : Call} {done : Answered} → st.selection s ≡ Some selection
+      → (st.selection s ≡ Some selection) ⊎ IsBegunBy me c done s selection
   before e = inl e
 
   -- where a selection is over none is left
   over : (t : ℕ) → put st.selection t None s ≡ Some selection → st.selection s ≡ Some selection
   over t e = put_gave (λ _ o. o ≡ Some selection) st.selection t None (λ none. absurd cc) s e
 
-  by_begin : (t : SelNo) (waiting : Waiting) (how : Mode) → Begun (call.Begin t waiting) (selection_begun rules st me t.0 how)
+  by_begin : (t : SelNo) (waiting : Waiting) (how : Mode)
+      → Begun (call.Begin t waiting) (selection_begun rules st me t.0 how)
   by_begin t waiting how now =
       let new = begun rules st me t how in
       let done = selection_begun rules st me t.0 how in
       ⊎_elim
       (λ (e : s ≡ t.0).
-      let same : new ≡ selection = some_is (sym (put-same st.selection t.0 (Some new)) ∙ (ap (put st.selection t.0 (Some new)) (sym e) ∙ now)) in
+      let same : new ≡ selection = some_is
+      (sym (put-same st.selection t.0 (Some new)) ∙ (ap (put st.selection t.0 (Some new)) (sym e) ∙ now)) in
       inr (subst (λ (n : ℕ). IsBegunBy me (call.Begin t waiting) done n selection) (sym e)
-      (subst (λ (x : Selection). IsBegunBy me (call.Begin t waiting) done t.0 x) same (is_begun rules st me t how waiting))))
+      (subst (λ (x : Selection). IsBegunBy me (call.Begin t waiting) done t.0 x) same
+      (is_begun rules st me t how waiting))))
       (λ (ne : s ≡ t.0 → ⊥). inl (sym (put-elsewhere st.selection t.0 s (Some new) ne) ∙ now))
       (cases_eq s t.0)
 
@@ -185,14 +199,16 @@ module _ (rules : Rules) (st : ScriptState) (me : CallerNo) (s : ℕ) (selection
   }
 
 pub looked_is_answered : LookedIsAnswered
-looked_is_answered rules l st me c s selection = holds_of_calls rules l st me (Begun rules st me s selection) (changes rules st me s selection) c
+looked_is_answered rules l st me c s selection =
+    holds_of_calls rules l st me (Begun rules st me s selection) (changes rules st me s selection) c
 
 -- whoever has the turn
 some_caller : (me : CallerNo) (o : Option CallerNo) → is_caller me o ≡ true → is_some o ≡ true
 some_caller me None h = absurd cc
 some_caller me (Some x) h = refl
 
-one_caller : (me other : CallerNo) (o : Option CallerNo) → is_caller me o ≡ true → is_caller other o ≡ true → other.0 ≡ me.0
+one_caller : (me other : CallerNo) (o : Option CallerNo) → is_caller me o ≡ true → is_caller other o ≡ true
+    → other.0 ≡ me.0
 one_caller me other None h k = absurd cc
 one_caller me other (Some x) h k = sym (eqb-true x.0 other.0 k) ∙ eqb-true x.0 me.0 h
 
@@ -201,7 +217,8 @@ has_turn : {selection : Selection} (b : Bool) (o : Option Selection) → cond b 
 has_turn true o e = refl
 has_turn false o e = absurd cc
 
-module _ (rules : Rules) (st : ScriptState) (me other : CallerNo) (s : ℕ) (selection : Selection) (own : own_selection st me s ≡ Some selection) where
+module _ (rules : Rules) (st : ScriptState) (me other : CallerNo) (s : ℕ) (selection : Selection)
+    (own : own_selection st me s ≡ Some selection) where
   abbrev Stays : Call → Answered → Type 0
   Stays c done = (own_selection done.left me s ≡ Some selection) ⊎ ((other.0 ≡ me.0) × (is_over s c done.reply ≡ true))
 
@@ -212,25 +229,36 @@ module _ (rules : Rules) (st : ScriptState) (me other : CallerNo) (s : ℕ) (sel
   stays = inl own
 
   -- what changes at another selector
-  elsewhere : (t : ℕ) (o : Option CallerNo) (x : Option Selection) → (s ≡ t → ⊥) → cond (is_caller me (put st.shared.turn t o s)) (put st.selection t x s) None ≡ Some selection
+  elsewhere : (t : ℕ) (o : Option CallerNo) (x : Option Selection) → (s ≡ t → ⊥)
+      → cond (is_caller me (put st.shared.turn t o s)) (put st.selection t x s) None ≡ Some selection
   elsewhere t o x ne =
-      ap (λ (c : Option CallerNo). cond (is_caller me c) (put st.selection t x s) None) (put-elsewhere st.shared.turn t s o ne)
-      ∙ (ap (λ (y : Option Selection). cond (is_caller me (st.shared.turn s)) y None) (put-elsewhere st.selection t s x ne) ∙ own)
+      ap (λ (c : Option CallerNo). cond (is_caller me c) (put st.selection t x s) None)
+      (put-elsewhere st.shared.turn t s o ne)
+      ∙ (ap (λ (y : Option Selection). cond (is_caller me (st.shared.turn s)) y None)
+      (put-elsewhere st.selection t s x ne) ∙ own)
 
-  begins : (t : SelNo) (waiting : Waiting) (how : Mode) → is_some (st.shared.turn t.0) ≡ false → Stays (call.Begin t waiting) (selection_begun rules st other t.0 how)
+  begins : (t : SelNo) (waiting : Waiting) (how : Mode) → is_some (st.shared.turn t.0) ≡ false
+      → Stays (call.Begin t waiting) (selection_begun rules st other t.0 how)
   begins t waiting how free =
       ⊎_elim
-      (λ (e : s ≡ t.0). absurd (both_ways (is_some (st.shared.turn t.0)) free (some_caller me (st.shared.turn t.0) (ap (λ k. is_caller me (st.shared.turn k)) (sym e) ∙ turn))))
+      (λ (e : s ≡ t.0). absurd
+      (both_ways (is_some (st.shared.turn t.0)) free
+      (some_caller me (st.shared.turn t.0) (ap (λ k. is_caller me (st.shared.turn k)) (sym e) ∙ turn))))
       (λ (ne : s ≡ t.0 → ⊥). inl (elsewhere t.0 (Some other) (Some (begun rules st other t how)) ne))
       (cases_eq s t.0)
 
   -- a call that ends the selection of the caller that has the turn
-  ends : {x : Selection} (t : ℕ) → own_selection st other t ≡ Some x → (cond (is_caller me (put st.shared.turn t None s)) (put st.selection t None s) None ≡ Some selection) ⊎ ((other.0 ≡ me.0) × ((t == s) ≡ true))
+  ends : {x : Selection} (t : ℕ) → own_selection st other t ≡ Some x
+      → (cond (is_caller me (put st.shared.turn t None s)) (put st.selection t None s) None ≡ Some selection)
+      ⊎ ((other.0 ≡ me.0) × ((t == s) ≡ true))
   ends t theirs =
       ⊎_elim
       (λ (e : s ≡ t).
       let their_turn = has_turn (is_caller other (st.shared.turn t)) (st.selection t) theirs in
-      inr (one_caller me other (st.shared.turn s) turn (ap (λ k. is_caller other (st.shared.turn k)) e ∙ their_turn), eq-eqb t s (sym e)))
+      inr (
+        one_caller me other (st.shared.turn s) turn (ap (λ k. is_caller other (st.shared.turn k)) e ∙ their_turn),
+        eq-eqb t s (sym e),
+      ))
       (λ (ne : s ≡ t → ⊥). inl (elsewhere t None None ne))
       (cases_eq s t)
 
@@ -270,4 +298,5 @@ module _ (rules : Rules) (st : ScriptState) (me other : CallerNo) (s : ℕ) (sel
 
 pub only_itself_ends_a_selection : OnlyItselfEndsASelection
 only_itself_ends_a_selection rules l st me other c s selection own =
-    holds_of_calls rules l st other (Stays rules st me other s selection own) (changes_stay rules st me other s selection own) c
+    holds_of_calls rules l st other (Stays rules st me other s selection own)
+    (changes_stay rules st me other s selection own) c

@@ -1,5 +1,6 @@
 -- A wakeup stays until a selection ends, which uses it up, and further ones change nothing until then.
-use Rattle.std.proofs.Common.{◌≡◌, ℕ, ◌==◌, nat_lt, Bool, true, false, cond, not, ◌&&◌, ◌||◌, ⊎_elim, List, [], ◌∷◌, ◌++◌, refl, sym, ap, ◌∙◌}
+use Rattle.std.proofs.Common.{◌≡◌, ℕ, ◌==◌, nat_lt, Bool, true, false, cond, not, ◌&&◌, ◌||◌, ⊎_elim, List, [], ◌∷◌}
+use Rattle.std.proofs.Common.{◌++◌, refl, sym, ap, ◌∙◌}
 use Rattle.std.proofs.lemmas.Bool.{cases_eq, and_from, or_left, or_right, eq-eqb, ne_eqb, lt-ltb}
 use Rattle.nio_base.specs.declared.limits.Limits.{Limits}
 use Rattle.nio_base.specs.declared.numbers.CallerNo.{CallerNo}
@@ -15,7 +16,8 @@ use Rattle.nio_event.specs.declared.reply.Reply.TheVariants as reply
 use Rattle.nio_plain.proofs.CallLawsCases.{may_keep, HoldsOfChanges, holds_of_calls}
 use Rattle.nio_plain.proofs.Places.{put-elsewhere, put_same, put_kept}
 use Rattle.nio_plain.specs.Answer.{left_from}
-use Rattle.nio_plain.specs.CallLaws.{is_woken, is_wakeup, is_end, WakeupsArePending, FurtherWakeupsChangeNothing, WakeupsAreAnswered, NoneEnds, WakeupsActAsOne}
+use Rattle.nio_plain.specs.CallLaws.{is_woken, is_wakeup, is_end, WakeupsArePending, FurtherWakeupsChangeNothing}
+use Rattle.nio_plain.specs.CallLaws.{WakeupsAreAnswered, NoneEnds, WakeupsActAsOne}
 use Rattle.nio_plain.specs.ScriptState.{ScriptState}
 use Rattle.nio_plain.specs.Seq.{call_of, seq}
 use Rattle.nio_plain.specs.Seq.Answers.{Answered, answered, unchanged}
@@ -52,30 +54,38 @@ module _ (rules : Rules) (st : ScriptState) (me : CallerNo) (s : ℕ) where
 
   nothing : (c : Call) (r : Reply) → may_keep r ≡ true → Pending c (unchanged st r)
   nothing c r keeps =
-      same ∙ (ap (λ b. b || (w && not false)) (sym (no_wakeup s c r keeps)) ∙ ap (λ b. is_wakeup s c r || (w && not b)) (sym (no_end s c r keeps)))
+      same ∙ (ap (λ b. b || (w && not false)) (sym (no_wakeup s c r keeps))
+      ∙ ap (λ b. is_wakeup s c r || (w && not b)) (sym (no_end s c r keeps)))
 
   -- a gate that is woken where its selector is this one, and one that isn't
-  by_wakeup : (t : ℕ) → (put st.shared.gate t (record (st.shared.gate t) { woken = true }) s).woken ≡ ((t == s) || (w && not false))
+  by_wakeup : (t : ℕ)
+      → (put st.shared.gate t (record (st.shared.gate t) { woken = true }) s).woken ≡ ((t == s) || (w && not false))
   by_wakeup t =
       let gate : GateWord = record (st.shared.gate t) { woken = true } in
       ⊎_elim
       (λ (e : s ≡ t).
-      ap (λ (g : GateWord). g.woken) (ap (put st.shared.gate t gate) e ∙ put-same st.shared.gate t gate) ∙ ap (λ b. b || (w && not false)) (sym (eq-eqb t s (sym e))))
+      ap (λ (g : GateWord). g.woken) (ap (put st.shared.gate t gate) e ∙ put-same st.shared.gate t gate)
+      ∙ ap (λ b. b || (w && not false)) (sym (eq-eqb t s (sym e))))
       (λ (ne : s ≡ t → ⊥).
-      ap (λ (g : GateWord). g.woken) (put-elsewhere st.shared.gate t s gate ne) ∙ (same ∙ ap (λ b. b || (w && not false)) (sym (ne_eqb t s (λ e. ne (sym e))))))
+      ap (λ (g : GateWord). g.woken) (put-elsewhere st.shared.gate t s gate ne)
+      ∙ (same ∙ ap (λ b. b || (w && not false)) (sym (ne_eqb t s (λ e. ne (sym e))))))
       (cases_eq s t)
 
-  by_end : (t : ℕ) → (put st.shared.gate t (record (st.shared.gate t) { woken = false }) s).woken ≡ (false || (w && not (t == s)))
+  by_end : (t : ℕ)
+      → (put st.shared.gate t (record (st.shared.gate t) { woken = false }) s).woken ≡ (false || (w && not (t == s)))
   by_end t =
       let gate : GateWord = record (st.shared.gate t) { woken = false } in
       ⊎_elim
       (λ (e : s ≡ t).
-      ap (λ (g : GateWord). g.woken) (ap (put st.shared.gate t gate) e ∙ put-same st.shared.gate t gate) ∙ (used_up w ∙ ap (λ b. false || (w && not b)) (sym (eq-eqb t s (sym e)))))
+      ap (λ (g : GateWord). g.woken) (ap (put st.shared.gate t gate) e ∙ put-same st.shared.gate t gate)
+      ∙ (used_up w ∙ ap (λ b. false || (w && not b)) (sym (eq-eqb t s (sym e)))))
       (λ (ne : s ≡ t → ⊥).
-      ap (λ (g : GateWord). g.woken) (put-elsewhere st.shared.gate t s gate ne) ∙ (same ∙ ap (λ b. false || (w && not b)) (sym (ne_eqb t s (λ e. ne (sym e))))))
+      ap (λ (g : GateWord). g.woken) (put-elsewhere st.shared.gate t s gate ne)
+      ∙ (same ∙ ap (λ b. false || (w && not b)) (sym (ne_eqb t s (λ e. ne (sym e))))))
       (cases_eq s t)
 
-  by_close : (t : ℕ) → (put st.shared.gate t (record (st.shared.gate t) { shut = true }) s).woken ≡ (false || (w && not false))
+  by_close : (t : ℕ)
+      → (put st.shared.gate t (record (st.shared.gate t) { shut = true }) s).woken ≡ (false || (w && not false))
   by_close t =
       put_kept (λ (g : GateWord). g.woken) st.shared.gate t (record (st.shared.gate t) { shut = true }) s refl ∙ same
 
@@ -122,16 +132,19 @@ module _ (st : ScriptState) (s : SelNo) where
   done = answered st reply.«Ok» (with_gate st.shared s.0 (record (st.shared.gate s.0) { woken = true }))
 
   abbrev by_names : Bool → Bool → Answered
-  by_names caller selector = cond caller (cond selector done (unchanged st reply.NoSelector)) (unchanged st reply.NoCaller)
+  by_names caller selector =
+      cond caller (cond selector done (unchanged st reply.NoSelector)) (unchanged st reply.NoCaller)
 
-  wakeup-is : (rules : Rules) (l : Limits) (me : CallerNo) → seq rules l st me (call.Wakeup s) ≡ by_names (nat_lt me.0 l.callers) (st.shared.selector s.0)
+  wakeup-is : (rules : Rules) (l : Limits) (me : CallerNo)
+      → seq rules l st me (call.Wakeup s) ≡ by_names (nat_lt me.0 l.callers) (st.shared.selector s.0)
   unfolding seq call_of wakeup_call
   wakeup-is rules l me = refl
 
   woken_as_before : is_woken st s.0 ≡ true → (a b : Bool) → (by_names a b).left ≡ st
   woken_as_before h true true =
       ap (λ (g : ℕ → GateWord). record st { shared = record st.shared { gate = g } })
-      (put_same st.shared.gate s.0 (record (st.shared.gate s.0) { woken = true }) (λ j. record (st.shared.gate s.0) { woken = h j }))
+      (put_same st.shared.gate s.0 (record (st.shared.gate s.0) { woken = true })
+      (λ j. record (st.shared.gate s.0) { woken = h j }))
   woken_as_before h true false = refl
   woken_as_before h false b = refl
 
@@ -142,30 +155,41 @@ module _ (st : ScriptState) (s : SelNo) where
 
 pub wakeups_are_answered : WakeupsAreAnswered
 wakeups_are_answered rules l st me s below made =
-    ap (λ (a : Answered). a.reply) (wakeup-is st s rules l me) ∙ answered_where st s (nat_lt me.0 l.callers) (st.shared.selector s.0) (lt-ltb me.0 l.callers below) made
+    ap (λ (a : Answered). a.reply) (wakeup-is st s rules l me)
+    ∙ answered_where st s (nat_lt me.0 l.callers) (st.shared.selector s.0) (lt-ltb me.0 l.callers below) made
 
 pub further_wakeups_change_nothing : FurtherWakeupsChangeNothing
 further_wakeups_change_nothing rules l st me s h =
-    ap (λ (a : Answered). a.left) (wakeup-is st s rules l me) ∙ woken_as_before st s h (nat_lt me.0 l.callers) (st.shared.selector s.0)
+    ap (λ (a : Answered). a.left) (wakeup-is st s rules l me)
+    ∙ woken_as_before st s h (nat_lt me.0 l.callers) (st.shared.selector s.0)
 
 -- over lists of calls
-left_from-append : (rules : Rules) (l : Limits) (st : ScriptState) (xs ys : List ScriptCall) → left_from rules l st (xs ++ ys) ≡ left_from rules l (left_from rules l st xs) ys
+left_from-append : (rules : Rules) (l : Limits) (st : ScriptState) (xs ys : List ScriptCall)
+    → left_from rules l st (xs ++ ys) ≡ left_from rules l (left_from rules l st xs) ys
 left_from-append rules l st [] ys = refl
 left_from-append rules l st (x ∷ xs) ys = left_from-append rules l (seq rules l st x.caller x.call).left xs ys
 
-stays_through : (rules : Rules) (l : Limits) (st : ScriptState) (s : ℕ) (calls : List ScriptCall) → NoneEnds rules l st s calls → is_woken st s ≡ true → is_woken (left_from rules l st calls) s ≡ true
+stays_through : (rules : Rules) (l : Limits) (st : ScriptState) (s : ℕ) (calls : List ScriptCall)
+    → NoneEnds rules l st s calls → is_woken st s ≡ true → is_woken (left_from rules l st calls) s ≡ true
 stays_through rules l st s [] none h = h
 stays_through rules l st s (c ∷ calls) none h =
     let done = seq rules l st c.caller c.call in
-    let stays : (is_woken st s && not (is_end s c.call done.reply)) ≡ true = and_from (is_woken st s) (not (is_end s c.call done.reply)) h (ap not none.0) in
+    let stays : (is_woken st s && not (is_end s c.call done.reply)) ≡ true = and_from (is_woken st s)
+    (not (is_end s c.call done.reply)) h (ap not none.0) in
     stays_through rules l done.left s calls none.1
-    (wakeups_are_pending rules l st c.caller c.call s ∙ or_right (is_wakeup s c.call done.reply) (is_woken st s && not (is_end s c.call done.reply)) stays)
+    (wakeups_are_pending rules l st c.caller c.call s
+    ∙ or_right (is_wakeup s c.call done.reply) (is_woken st s && not (is_end s c.call done.reply)) stays)
 
 pub wakeups_act_as_one : WakeupsActAsOne
 wakeups_act_as_one rules l st s first further between later wakeup none called =
     let done = seq rules l st first.caller first.call in
     let mid = left_from rules l done.left between in
-    let woken : is_woken done.left s.0 ≡ true = wakeups_are_pending rules l st first.caller first.call s.0 ∙ or_left (is_wakeup s.0 first.call done.reply) (is_woken st s.0 && not (is_end s.0 first.call done.reply)) wakeup in
+    let woken : is_woken done.left s.0 ≡ true = wakeups_are_pending rules l st first.caller first.call s.0
+    ∙ or_left (is_wakeup s.0 first.call done.reply) (is_woken st s.0 && not (is_end s.0 first.call done.reply))
+    wakeup in
     let pending = stays_through rules l done.left s.0 between none.1 woken in
-    let same : (seq rules l mid further.caller further.call).left ≡ mid = ap (λ c. (seq rules l mid further.caller c).left) called ∙ further_wakeups_change_nothing rules l mid further.caller s pending in
-    left_from-append rules l done.left between (further ∷ later) ∙ (ap (λ x. left_from rules l x later) same ∙ sym (left_from-append rules l done.left between later))
+    let same : (seq rules l mid further.caller further.call).left
+    ≡ mid = ap (λ c. (seq rules l mid further.caller c).left) called
+    ∙ further_wakeups_change_nothing rules l mid further.caller s pending in
+    left_from-append rules l done.left between (further ∷ later)
+    ∙ (ap (λ x. left_from rules l x later) same ∙ sym (left_from-append rules l done.left between later))

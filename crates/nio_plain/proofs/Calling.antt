@@ -14,9 +14,11 @@ module _ (rules : Rules) (l : Limits) (st : ScriptState) (me : CallerNo) (call :
   pub seq-no_caller : l.callers ≤ me.0 → seq rules l st me call ≡ unchanged st reply.NoCaller
   unfolding seq
   seq-no_caller h =
-      cond-false (ltb me.0 l.callers) (call_of rules l st me call) (unchanged st reply.NoCaller) (le-ltb me.0 l.callers h)
+      cond-false (ltb me.0 l.callers) (call_of rules l st me call) (unchanged st reply.NoCaller)
+      (le-ltb me.0 l.callers h)
 
   pub seq-call : me.0 < l.callers → seq rules l st me call ≡ call_of rules l st me call
   unfolding seq
   seq-call h =
-      cond-true (ltb me.0 l.callers) (call_of rules l st me call) (unchanged st reply.NoCaller) (lt-ltb me.0 l.callers h)
+      cond-true (ltb me.0 l.callers) (call_of rules l st me call) (unchanged st reply.NoCaller)
+      (lt-ltb me.0 l.callers h)

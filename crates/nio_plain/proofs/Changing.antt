@@ -22,17 +22,23 @@ module _ {A : Type 0} (change : A → A) (f : ℕ → A) where
       (cases_lt m n))
 
 -- one place more is changed
-pub changed-step : {X A : Type 0} (row : X → A) (none : A) (change : A → A) (f : ℕ → A) (items : List X) (i : ℕ) (x y : X) → places row none items ≡ changed change f i → i < length items → x ≡ get_or items i x → row y ≡ change (row x) → places row none (set items i y) ≡ changed change f (i + 1)
+pub changed-step : {X A : Type 0} (row : X → A) (none : A) (change : A → A) (f : ℕ → A) (items : List X) (i : ℕ)
+    (x y : X) → places row none items ≡ changed change f i → i < length items → x ≡ get_or items i x
+    → row y ≡ change (row x) → places row none (set items i y) ≡ changed change f (i + 1)
 changed-step {X} {A} row none change f items i x y so_far h e done =
     let at = places_at row none items i x h e in
     let same = (sym at ∙ ap (λ (g : ℕ → A). g i) so_far) ∙ changed-past change f i i (omega arith) in
-    (places-set row none items i y h ∙ (ap (λ r. put (places row none items) i r) (done ∙ ap change same) ∙ ap (λ g. put g i (change (f i))) so_far)) ∙ sym (changed-more change f i)
+    (places-set row none items i y h
+    ∙ (ap (λ r. put (places row none items) i r) (done ∙ ap change same) ∙ ap (λ g. put g i (change (f i))) so_far))
+    ∙ sym (changed-more change f i)
 
 -- all that a vector holds is changed, where the change of what isn't there is nothing
-pub changed-all : {X A : Type 0} (row : X → A) (none : A) (change : A → A) (items : List X) (n : ℕ) → length items ≤ n → change none ≡ none → changed change (places row none items) n ≡ (λ i. change (places row none items i))
+pub changed-all : {X A : Type 0} (row : X → A) (none : A) (change : A → A) (items : List X) (n : ℕ) → length items ≤ n
+    → change none ≡ none → changed change (places row none items) n ≡ (λ i. change (places row none items i))
 changed-all row none change items n h e =
     let f = places row none items in
     same_function (λ i. ⊎_elim
     (λ (l : i < n). changed-below change f n i l)
-    (λ (l : n ≤ i). let past = places_past row none items i (omega arith) in changed-past change f n i l ∙ (past ∙ (sym e ∙ ap change (sym past))))
+    (λ (l : n ≤ i). let past = places_past row none items i (omega arith) in
+    changed-past change f n i l ∙ (past ∙ (sym e ∙ ap change (sym past))))
     (cases_lt i n))

@@ -48,7 +48,8 @@ refused_step g step.shutdown e = not_refused refl e
 refused_step g step.shutdown_now e = not_refused refl e
 
 -- a call that makes a step only asks nothing
-pub same_effect : (g : GroupCall) (s : step.Call) → step_of g ≡ Some s → (r : Reply) → is_without_group_effect g r ≡ refuses r
+pub same_effect : (g : GroupCall) (s : step.Call) → step_of g ≡ Some s → (r : Reply)
+    → is_without_group_effect g r ≡ refuses r
 same_effect group.IsShutdown s is r = absurd (cc is)
 same_effect group.Terminated s is r = absurd (cc is)
 same_effect _ s is r = refl

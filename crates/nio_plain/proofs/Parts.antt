@@ -1,5 +1,6 @@
 -- The parts of one selector, put into a state: what the state holds after any change of a selector.
-use Rattle.std.proofs.Common.{◌≡◌, ℕ, eqb, Bool, true, false, cond, ◌&&◌, ◌||◌, Option, is_some, refl, sym, ap, ◌∙◌, ⊎_elim, List}
+use Rattle.std.proofs.Common.{◌≡◌, ℕ, eqb, Bool, true, false, cond, ◌&&◌, ◌||◌, Option, is_some, refl, sym, ap, ◌∙◌}
+use Rattle.std.proofs.Common.{⊎_elim, List}
 use Rattle.std.proofs.lemmas.Bool.{cases_eq}
 use Rattle.nio_base.specs.declared.numbers.CallerNo.{CallerNo}
 use Rattle.nio_event.specs.State.{put}
@@ -37,8 +38,10 @@ with_row st s r = record st {
 put-put : {A : Type 0} (f : ℕ → A) (s : ℕ) (x y : A) → put (put f s x) s y ≡ put f s y
 put-put f s x y =
     same_function (λ n. ⊎_elim
-    (λ (e : n ≡ s). ap (put (put f s x) s y) e ∙ (put-here (put f s x) s y ∙ (sym (put-here f s y) ∙ ap (put f s y) (sym e))))
-    (λ (ne : n ≡ s → ⊥). put-elsewhere (put f s x) s n y ne ∙ (put-elsewhere f s n x ne ∙ sym (put-elsewhere f s n y ne)))
+    (λ (e : n ≡ s). ap (put (put f s x) s y) e
+    ∙ (put-here (put f s x) s y ∙ (sym (put-here f s y) ∙ ap (put f s y) (sym e))))
+    (λ (ne : n ≡ s → ⊥). put-elsewhere (put f s x) s n y ne
+    ∙ (put-elsewhere f s n x ne ∙ sym (put-elsewhere f s n y ne)))
     (cases_eq n s))
 
 pub and_true : (b : Bool) → b ≡ (b && true)
@@ -54,7 +57,8 @@ pub cond_stays : {R A : Type 0} (part : R → A) (b : Bool) (x y : R) → part x
 cond_stays part true x y e = e
 cond_stays part false x y e = refl
 
-free_cond : (frees : Stage → Bool) (b : Bool) (k : KeyRow) → (cond {A = KeyRow} b (removed_row frees k) k).free ≡ ((b && frees k.stage) || k.free)
+free_cond : (frees : Stage → Bool) (b : Bool) (k : KeyRow)
+    → (cond {A = KeyRow} b (removed_row frees k) k).free ≡ ((b && frees k.stage) || k.free)
 free_cond frees true k = refl
 free_cond frees false k = refl
 
@@ -91,39 +95,65 @@ module _ (group : Group) (pipes : List Pipe) (interrupted : ℕ → Bool) (mark 
     Makes f F = (row : ℕ → SelectorRow) → state (put row s (f (row s))) ≡ F (state row)
 
     -- one change after another
-    pub then : (f g : SelectorRow → SelectorRow) (F G : ScriptState → ScriptState) → Makes f F → Makes g G → Makes (λ r. g (f r)) (λ st. G (F st))
+    pub then : (f g : SelectorRow → SelectorRow) (F G : ScriptState → ScriptState) → Makes f F → Makes g G
+        → Makes (λ r. g (f r)) (λ st. G (F st))
     then f g F G first second = λ row.
         let row' = put row s (f (row s)) in
-        let same = sym (put-put row s (f (row s)) (g (f (row s)))) ∙ ap (λ r. put row' s (g r)) (sym (put-here row s (f (row s)))) in
+        let same = sym (put-put row s (f (row s)) (g (f (row s))))
+        ∙ ap (λ r. put row' s (g r)) (sym (put-here row s (f (row s)))) in
         (ap state same ∙ second row') ∙ ap G (first row)
 
     -- the change of one part
-    pub makes-made : (made : Bool) → Makes (λ r. record r { made = made }) (λ x. with_shared x (record x.shared { selector = put x.shared.selector s made }))
+    pub makes-made : (made : Bool)
+        → Makes (λ r. record r { made = made })
+        (λ x. with_shared x (record x.shared { selector = put x.shared.selector s made }))
     makes-made made = λ row.
         state-row row (record (row s) { made = made })
-        ∙ ap (λ (x : ScriptState). with_shared x (record x.shared { selector = put (state row).shared.selector s made })) (same_row row)
+        ∙ ap (λ (x : ScriptState). with_shared x
+        (record x.shared { selector = put (state row).shared.selector s made })) (same_row row)
 
-    pub makes-gate : (change : GateWord → GateWord) → Makes (λ r. record r { gate = change r.gate }) (λ x. with_shared x (record x.shared { gate = put x.shared.gate s (change (x.shared.gate s)) }))
+    pub makes-gate : (change : GateWord → GateWord)
+        → Makes (λ r. record r { gate = change r.gate })
+        (λ x. with_shared x (record x.shared { gate = put x.shared.gate s (change (x.shared.gate s)) }))
     makes-gate change = λ row.
         state-row row (record (row s) { gate = change (row s).gate })
-        ∙ ap (λ (x : ScriptState). with_shared x (record x.shared { gate = put (state row).shared.gate s (change (row s).gate) })) (same_row row)
+        ∙ ap (λ (x : ScriptState). with_shared x
+        (record x.shared { gate = put (state row).shared.gate s (change (row s).gate) })) (same_row row)
 
-    pub makes-closer : (closer : Option CallerNo) → Makes (λ r. record r { closer = closer }) (λ x. with_shared x (record x.shared { closer = put x.shared.closer s closer }))
+    pub makes-closer : (closer : Option CallerNo)
+        → Makes (λ r. record r { closer = closer })
+        (λ x. with_shared x (record x.shared { closer = put x.shared.closer s closer }))
     makes-closer closer = λ row.
         state-row row (record (row s) { closer = closer })
-        ∙ ap (λ (x : ScriptState). with_shared x (record x.shared { closer = put (state row).shared.closer s closer })) (same_row row)
+        ∙ ap (λ (x : ScriptState). with_shared x (record x.shared { closer = put (state row).shared.closer s closer }))
+        (same_row row)
 
-    pub makes-entered : (entered : Bool) → Makes (λ r. record r { entered = entered }) (λ x. with_shared x (record x.shared { entered = put x.shared.entered s entered }))
+    pub makes-entered : (entered : Bool)
+        → Makes (λ r. record r { entered = entered })
+        (λ x. with_shared x (record x.shared { entered = put x.shared.entered s entered }))
     makes-entered entered = λ row.
         state-row row (record (row s) { entered = entered })
-        ∙ ap (λ (x : ScriptState). with_shared x (record x.shared { entered = put (state row).shared.entered s entered })) (same_row row)
+        ∙ ap (λ (x : ScriptState). with_shared x
+        (record x.shared { entered = put (state row).shared.entered s entered })) (same_row row)
 
     -- the turn is taken and a selection has begun, or both are over
-    pub makes-selecting : (turn : Option CallerNo) (selection : Option Selection) → Makes (λ r. record r { turn = turn; selection = selection }) (λ x. record x { shared = record x.shared { turn = put x.shared.turn s turn; begun = put x.shared.begun s (is_some turn) }; selection = put x.selection s selection })
+    pub makes-selecting : (turn : Option CallerNo) (selection : Option Selection)
+        → Makes (λ r. record r { turn = turn; selection = selection })
+        (λ x. record x {
+          shared = record x.shared {
+            turn = put x.shared.turn s turn;
+            begun = put x.shared.begun s (is_some turn);
+          };
+          selection =
+              put x.selection s selection;
+        })
     makes-selecting turn selection = λ row.
         let st = state row in
         state-row row (record (row s) { turn = turn; selection = selection })
-        ∙ ap (λ (x : ScriptState). record x { shared = record x.shared { turn = put st.shared.turn s turn; begun = put st.shared.begun s (is_some turn) }; selection = put st.selection s selection }) (same_row row)
+        ∙ ap (λ (x : ScriptState). record x {
+          shared = record x.shared { turn = put st.shared.turn s turn; begun = put st.shared.begun s (is_some turn) };
+          selection = put st.selection s selection;
+        }) (same_row row)
 
     -- the change of the keys
     module _ (row : ℕ → SelectorRow) (keys : ℕ → KeyRow) where
@@ -136,7 +166,8 @@ module _ (group : Group) (pipes : List Pipe) (interrupted : ℕ → Bool) (mark 
           → (marks : ℕ → ℕ → Mark) → put (state row).shared.mark s (λ i. (keys i).mark) ≡ marks
           → (note : ℕ → ℕ → ℕ) → put (state row).shared.note s (λ i. (keys i).note) ≡ note
           → (free : ℕ → ℕ → Bool) → put (state row).shared.free s (λ i. (keys i).free) ≡ free
-          → state (put row s (record (row s) { keys = keys })) ≡ with_shared (state row) (record (state row).shared { key = key; interest = interest; mark = marks; note = note; free = free })
+          → state (put row s (record (row s) { keys = keys })) ≡ with_shared (state row)
+          (record (state row).shared { key = key; interest = interest; mark = marks; note = note; free = free })
       keys_changed key k interest i marks m note n free f =
           state-row row (record (row s) { keys = keys })
           ∙ (ap (λ (x : ScriptState). with_shared x (record x.shared {
@@ -149,27 +180,45 @@ module _ (group : Group) (pipes : List Pipe) (interrupted : ℕ → Bool) (mark 
           ∙ (λ j. with_shared st (record st.shared { key = k j; interest = i j; mark = m j; note = n j; free = f j })))
 
       -- a part of the keys that stays as it was
-      pub part_stays : {A : Type 0} (part : KeyRow → A) → ((i : ℕ) → part (keys i) ≡ part ((row s).keys i)) → ◌≡◌ {A = ℕ → ℕ → A} (put (λ t i. part ((row t).keys i)) s (λ i. part (keys i))) (λ t i. part ((row t).keys i))
-      part_stays {A} part same = put_same (λ t (i : ℕ). part ((row t).keys i)) s (λ i. part (keys i)) (sym (same_function same))
+      pub part_stays : {A : Type 0} (part : KeyRow → A) → ((i : ℕ) → part (keys i) ≡ part ((row s).keys i))
+          → ◌≡◌ {A = ℕ → ℕ → A} (put (λ t i. part ((row t).keys i)) s (λ i. part (keys i)))
+          (λ t i. part ((row t).keys i))
+      part_stays {A} part same =
+          put_same (λ t (i : ℕ). part ((row t).keys i)) s (λ i. part (keys i)) (sym (same_function same))
 
     -- the keys that the test finds are removed
     module _ (row : ℕ → SelectorRow) (test : ℕ → Bool) (frees : Stage → Bool) where
       abbrev pub removed : ℕ → KeyRow
       removed i = cond (test i) (removed_row frees ((row s).keys i)) ((row s).keys i)
 
-      pub state-removed : state (put row s (record (row s) { keys = removed })) ≡ with_shared (state row) (without_keys_where (state row).shared s test frees)
+      pub state-removed : state (put row s (record (row s) { keys = removed })) ≡ with_shared (state row)
+          (without_keys_where (state row).shared s test frees)
       state-removed =
           let key : ℕ → ℕ → Stage = λ t i. ((row t).keys i).stage in
           let marks : ℕ → ℕ → Mark = λ t i. ((row t).keys i).mark in
           let free : ℕ → ℕ → Bool = λ t i. ((row t).keys i).free in
           keys_changed row removed
           (λ t i. cond (eqb t s && test i) (removed_key (key t i)) (key t i))
-          (ap (put key s) (same_function (λ i. part_cond (λ (k : KeyRow). k.stage) (test i) (removed_row frees ((row s).keys i)) ((row s).keys i))) ∙ put_by key s (λ b t i. cond (b && test i) (removed_key (key t i)) (key t i)) (λ t. refl))
+          (ap (put key s)
+          (same_function
+          (λ i. part_cond (λ (k : KeyRow). k.stage) (test i) (removed_row frees ((row s).keys i))
+          ((row s).keys i)))
+          ∙ put_by key s (λ b t i. cond (b && test i) (removed_key (key t i)) (key t i)) (λ t. refl))
           (λ t i. ((row t).keys i).interest)
-          (part_stays row removed (λ (k : KeyRow). k.interest) (λ i. cond_stays (λ (k : KeyRow). k.interest) (test i) (removed_row frees ((row s).keys i)) ((row s).keys i) refl))
+          (part_stays row removed (λ (k : KeyRow). k.interest)
+          (λ i. cond_stays (λ (k : KeyRow). k.interest) (test i) (removed_row frees ((row s).keys i))
+          ((row s).keys i) refl))
           (λ t i. cond (eqb t s && test i) (unselected (marks t i)) (marks t i))
-          (ap (put marks s) (same_function (λ i. part_cond (λ (k : KeyRow). k.mark) (test i) (removed_row frees ((row s).keys i)) ((row s).keys i))) ∙ put_by marks s (λ b t i. cond (b && test i) (unselected (marks t i)) (marks t i)) (λ t. refl))
+          (ap (put marks s)
+          (same_function
+          (λ i. part_cond (λ (k : KeyRow). k.mark) (test i) (removed_row frees ((row s).keys i))
+          ((row s).keys i)))
+          ∙ put_by marks s (λ b t i. cond (b && test i) (unselected (marks t i)) (marks t i))
+          (λ t. refl))
           (λ t i. ((row t).keys i).note)
-          (part_stays row removed (λ (k : KeyRow). k.note) (λ i. cond_stays (λ (k : KeyRow). k.note) (test i) (removed_row frees ((row s).keys i)) ((row s).keys i) refl))
+          (part_stays row removed (λ (k : KeyRow). k.note)
+          (λ i. cond_stays (λ (k : KeyRow). k.note) (test i) (removed_row frees ((row s).keys i))
+          ((row s).keys i) refl))
           (λ t i. ((eqb t s && test i) && frees (key t i)) || free t i)
-          (ap (put free s) (same_function (λ i. free_cond frees (test i) ((row s).keys i))) ∙ put_by free s (λ b t i. ((b && test i) && frees (key t i)) || free t i) (λ t. refl))
+          (ap (put free s) (same_function (λ i. free_cond frees (test i) ((row s).keys i)))
+          ∙ put_by free s (λ b t i. ((b && test i) && frees (key t i)) || free t i) (λ t. refl))

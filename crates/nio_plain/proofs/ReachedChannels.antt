@@ -1,6 +1,7 @@
 -- What holds after a selector or a channel was made, after a channel's mode was set, and after it was
 -- closed.
-use Rattle.std.proofs.Common.{◌≡◌, ℕ, ◌==◌, ◌<◌, Bool, true, false, cond, ◌&&◌, Option, Some, None, is_some, refl, sym, ap, ◌∙◌, subst, eqb-true, eq-eqb}
+use Rattle.std.proofs.Common.{◌≡◌, ℕ, ◌==◌, ◌<◌, Bool, true, false, cond, ◌&&◌, Option, Some, None, is_some, refl, sym}
+use Rattle.std.proofs.Common.{ap, ◌∙◌, subst, eqb-true, eq-eqb}
 use Rattle.std.proofs.lemmas.Bool.{and_parts, and_from, both_ways, false_from_ne_true}
 use Rattle.nio_base.specs.declared.limits.Limits.{Limits}
 use Rattle.nio_base.specs.declared.numbers.KeyId.{KeyId}
@@ -10,7 +11,8 @@ use Rattle.nio_event.specs.State.{State, put, with_selector, with_chan, with_cha
 use Rattle.nio_event.specs.declared.found.Chan.{Chan}
 use Rattle.nio_event.specs.declared.found.Stage.{Stage}
 use Rattle.nio_event.specs.declared.reply.Reply.{Reply}
-use Rattle.nio_plain.proofs.ReachedSound.{ChannelsSound, Sound, Keeps, Aged, aged-same, aged-cancelled, not_valid_cancelled, in_set-cancelled, same_stays, keeps_cancelled}
+use Rattle.nio_plain.proofs.ReachedSound.{ChannelsSound, Sound, Keeps, Aged, aged-same, aged-cancelled}
+use Rattle.nio_plain.proofs.ReachedSound.{not_valid_cancelled, in_set-cancelled, same_stays, keeps_cancelled}
 use Rattle.nio_plain.proofs.Registered.{any-some, key_of-some, key_of-is}
 use Rattle.nio_plain.specs.ScriptState.{ScriptState, with_shared}
 use Rattle.nio_plain.specs.Seq.Answers.{answered}
@@ -20,17 +22,22 @@ use Rattle.nio_plain.specs.declared.rules.Rules.{Rules}
 
 -- the present key of an index is in the key set by its serial too
 pub present-in_set : (k : Stage) → k.claimed ≡ true → in_key_set k ≡ true → is_in_key_set k k.serial ≡ true
-present-in_set k claimed in_set = and_from (fits k k.serial) (in_key_set k) (and_from k.claimed (k.serial == k.serial) claimed (eq-eqb k.serial k.serial refl)) in_set
+present-in_set k claimed in_set =
+    and_from (fits k k.serial) (in_key_set k)
+    (and_from k.claimed (k.serial == k.serial) claimed (eq-eqb k.serial k.serial refl)) in_set
 
-pub keeps_selector : (rules : Rules) (l : Limits) (st : ScriptState) (r : Reply) (s : ℕ) → s < l.selectors → Sound rules l st → Keeps rules l st (answered st r (with_selector st.shared s true))
+pub keeps_selector : (rules : Rules) (l : Limits) (st : ScriptState) (r : Reply) (s : ℕ) → s < l.selectors
+    → Sound rules l st → Keeps rules l st (answered st r (with_selector st.shared s true))
 keeps_selector rules l st r s within sound = record {
   sound = record {
     keys = record {
-      selectors = λ n. put_keeps (λ k b. b ≡ true → k < l.selectors) st.shared.selector s true (λ _ _. within) n (sound.keys.selectors n);
+      selectors = λ n. put_keeps (λ k b. b ≡ true → k < l.selectors) st.shared.selector s true (λ _ _. within) n
+          (sound.keys.selectors n);
       indexes = record {
         claimed = sound.keys.indexes.claimed;
         below = sound.keys.indexes.below;
-        made = λ n i h. put_keeps (λ _ b. b ≡ true) st.shared.selector s true (λ _. refl) n (sound.keys.indexes.made n i h);
+        made = λ n i h. put_keeps (λ _ b. b ≡ true) st.shared.selector s true (λ _. refl) n
+            (sound.keys.indexes.made n i h);
         fresh = sound.keys.indexes.fresh;
       };
       notes = sound.keys.notes;
@@ -47,7 +54,9 @@ keeps_selector rules l st r s within sound = record {
 }
 
 -- channels that are other than before, as the keys want them
-keeps_channels : (rules : Rules) (l : Limits) (st : ScriptState) (r : Reply) (chan : ℕ → Chan) (channels_high : ℕ) → ChannelsSound chan st.shared.key → Sound rules l st → Keeps rules l st (answered st r (record st.shared { chan = chan; channels_high = channels_high }))
+keeps_channels : (rules : Rules) (l : Limits) (st : ScriptState) (r : Reply) (chan : ℕ → Chan) (channels_high : ℕ)
+    → ChannelsSound chan st.shared.key → Sound rules l st
+    → Keeps rules l st (answered st r (record st.shared { chan = chan; channels_high = channels_high }))
 keeps_channels rules l st r chan channels_high channels sound = record {
   sound = record {
     keys = record {
@@ -67,42 +76,60 @@ keeps_channels rules l st r chan channels_high channels sound = record {
 }
 
 -- a channel that wasn't made has no key
-pub keeps_channel : (rules : Rules) (l : Limits) (st : ScriptState) (r : Reply) (c : ℕ) (new : Chan) (mark : ℕ) → new.made ≡ true → new.closed ≡ false → (st.shared.chan c).made ≡ false → Sound rules l st → Keeps rules l st (answered st r (with_channels_high (with_chan st.shared c new) mark))
+pub keeps_channel : (rules : Rules) (l : Limits) (st : ScriptState) (r : Reply) (c : ℕ) (new : Chan) (mark : ℕ)
+    → new.made ≡ true → new.closed ≡ false → (st.shared.chan c).made ≡ false → Sound rules l st
+    → Keeps rules l st (answered st r (with_channels_high (with_chan st.shared c new) mark))
 keeps_channel rules l st r c new mark made is_open unmade sound =
     let key = st.shared.key in
     let channels = sound.keys.channels in
     keeps_channels rules l st r (put st.shared.chan c new) mark
     (record {
-      made = λ s i h. put_keeps (λ _ (x : Chan). x.made ≡ true) st.shared.chan c new (λ _. made) (key s i).chan.0 (channels.made s i h);
+      made = λ s i h. put_keeps (λ _ (x : Chan). x.made ≡ true) st.shared.chan c new (λ _. made) (key s i).chan.0
+          (channels.made s i h);
       non_blocking = λ s i h.
-          (put_keeps (λ _ (x : Chan). (x.made ≡ true) × (x.blocking ≡ false)) st.shared.chan c new (λ old. absurd (both_ways (st.shared.chan c).made unmade old.0)) (key s i).chan.0
+          (put_keeps (λ _ (x : Chan). (x.made ≡ true) × (x.blocking ≡ false)) st.shared.chan c new
+          (λ old. absurd (both_ways (st.shared.chan c).made unmade old.0)) (key s i).chan.0
           (channels.made s i (and_parts (key s i).published _ h).0, channels.non_blocking s i h)).1;
-      is_open = λ s i h. put_keeps (λ _ (x : Chan). x.closed ≡ false) st.shared.chan c new (λ _. is_open) (key s i).chan.0 (channels.is_open s i h);
+      is_open = λ s i h. put_keeps (λ _ (x : Chan). x.closed ≡ false) st.shared.chan c new (λ _. is_open)
+          (key s i).chan.0 (channels.is_open s i h);
     })
     sound
 
 -- a channel with a key in a key set counts as registered
-pub in_set-registered : (rules : Rules) (l : Limits) (st : ScriptState) (c s i : ℕ) → Sound rules l st → in_key_set (st.shared.key s i) ≡ true → (st.shared.key s i).chan.0 ≡ c → is_registered l st.shared c ≡ true
+pub in_set-registered : (rules : Rules) (l : Limits) (st : ScriptState) (c s i : ℕ) → Sound rules l st
+    → in_key_set (st.shared.key s i) ≡ true → (st.shared.key s i).chan.0 ≡ c → is_registered l st.shared c ≡ true
 in_set-registered rules l st c s i sound in_set of_channel =
     let key = st.shared.key s i in
-    let noted : st.shared.noted c s ≡ Some (record { index = i; serial = key.serial }) = ap (λ k. st.shared.noted k s) (sym of_channel) ∙ sound.keys.notes.in_set s i in_set in
+    let noted : st.shared.noted c s ≡ Some (record { index = i; serial = key.serial }) = ap (λ k. st.shared.noted k s)
+    (sym of_channel) ∙ sound.keys.notes.in_set s i in_set in
     let published = (and_parts key.published _ in_set).0 in
-    any-some (λ t. is_some (key_of st.shared c t)) l.selectors s (sound.keys.selectors s (sound.keys.indexes.made s i published))
-    (ap is_some (key_of-some st.shared c s (record { index = i; serial = key.serial }) noted (present-in_set key (sound.keys.indexes.claimed s i published) in_set)))
+    any-some (λ t. is_some (key_of st.shared c t)) l.selectors s
+    (sound.keys.selectors s (sound.keys.indexes.made s i published))
+    (ap is_some
+    (key_of-some st.shared c s (record { index = i; serial = key.serial }) noted
+    (present-in_set key (sound.keys.indexes.claimed s i published) in_set)))
 
-pub keeps_mode : (rules : Rules) (l : Limits) (st : ScriptState) (r : Reply) (c : ℕ) (on : Bool) → (on && is_registered l st.shared c) ≡ false → Sound rules l st → Keeps rules l st (answered st r (with_chan st.shared c (record (st.shared.chan c) { blocking = on })))
+pub keeps_mode : (rules : Rules) (l : Limits) (st : ScriptState) (r : Reply) (c : ℕ) (on : Bool)
+    → (on && is_registered l st.shared c) ≡ false → Sound rules l st
+    → Keeps rules l st (answered st r (with_chan st.shared c (record (st.shared.chan c) { blocking = on })))
 keeps_mode rules l st r c on allowed sound =
     let key = st.shared.key in
     let channels = sound.keys.channels in
     let new : Chan = record (st.shared.chan c) { blocking = on } in
     let off : (s i : ℕ) → in_key_set (key s i) ≡ true → c ≡ (key s i).chan.0 → on ≡ false = λ s i h of_channel.
-    false_from_ne_true on (λ t. both_ways (on && is_registered l st.shared c) allowed (and_from on (is_registered l st.shared c) t (in_set-registered rules l st c s i sound h (sym of_channel)))) in
+    false_from_ne_true on
+    (λ t. both_ways (on && is_registered l st.shared c) allowed
+    (and_from on (is_registered l st.shared c) t
+    (in_set-registered rules l st c s i sound h (sym of_channel)))) in
     keeps_channels rules l st r (put st.shared.chan c new) st.shared.channels_high
     (record {
-      made = λ s i h. put_keeps (λ _ (x : Chan). x.made ≡ true) st.shared.chan c new (λ old. old) (key s i).chan.0 (channels.made s i h);
+      made = λ s i h. put_keeps (λ _ (x : Chan). x.made ≡ true) st.shared.chan c new (λ old. old) (key s i).chan.0
+          (channels.made s i h);
       non_blocking = λ s i h.
-          put_keeps (λ n (x : Chan). n ≡ (key s i).chan.0 → x.blocking ≡ false) st.shared.chan c new (λ _ of_channel. off s i h of_channel) (key s i).chan.0 (λ _. channels.non_blocking s i h) refl;
-      is_open = λ s i h. put_keeps (λ _ (x : Chan). x.closed ≡ false) st.shared.chan c new (λ old. old) (key s i).chan.0 (channels.is_open s i h);
+          put_keeps (λ n (x : Chan). n ≡ (key s i).chan.0 → x.blocking ≡ false) st.shared.chan c new
+          (λ _ of_channel. off s i h of_channel) (key s i).chan.0 (λ _. channels.non_blocking s i h) refl;
+      is_open = λ s i h. put_keeps (λ _ (x : Chan). x.closed ≡ false) st.shared.chan c new (λ old. old) (key s i).chan.0
+          (channels.is_open s i h);
     })
     sound
 
@@ -115,14 +142,17 @@ module _ (rules : Rules) (l : Limits) (st : ScriptState) (c : ℕ) where
   abbrev cancelled : ℕ → ℕ → Stage
   cancelled = (with_keys_cancelled closed c).key
 
-  cancelled_at : (s i : ℕ) (o : Option KeyId) → key_of closed c s ≡ o → Aged (st.shared.key s i) (cond (has_index o i) (cancelled_key (st.shared.key s i)) (st.shared.key s i))
+  cancelled_at : (s i : ℕ) (o : Option KeyId) → key_of closed c s ≡ o
+      → Aged (st.shared.key s i) (cond (has_index o i) (cancelled_key (st.shared.key s i)) (st.shared.key s i))
   cancelled_at s i None e = aged-same (st.shared.key s i)
   cancelled_at s i (Some k) e = by_index (k.index == i) refl
     where
-      by_index : (b : Bool) → (k.index == i) ≡ b → Aged (st.shared.key s i) (cond b (cancelled_key (st.shared.key s i)) (st.shared.key s i))
+      by_index : (b : Bool) → (k.index == i) ≡ b
+          → Aged (st.shared.key s i) (cond b (cancelled_key (st.shared.key s i)) (st.shared.key s i))
       by_index true same =
           let in_set = (and_parts (fits (st.shared.key s k.index) k.serial) _ (key_of-is closed c s k e).1).1 in
-          aged-cancelled (st.shared.key s i) (subst (λ (n : ℕ). in_key_set (st.shared.key s n) ≡ true) (eqb-true k.index i same) in_set)
+          aged-cancelled (st.shared.key s i)
+          (subst (λ (n : ℕ). in_key_set (st.shared.key s n) ≡ true) (eqb-true k.index i same) in_set)
       by_index false other = aged-same (st.shared.key s i)
 
   -- no key of the channel is valid then
@@ -132,24 +162,32 @@ module _ (rules : Rules) (l : Limits) (st : ScriptState) (c : ℕ) where
       let was_valid = (cancelled_at s i (key_of closed c s) refl).valid valid in
       let in_set = (and_parts (in_key_set key) _ was_valid).0 in
       let name : KeyId = record { index = i; serial = key.serial } in
-      let noted : st.shared.noted c s ≡ Some name = ap (λ n. st.shared.noted n s) of_channel ∙ sound.keys.notes.in_set s i in_set in
+      let noted : st.shared.noted c s ≡ Some name = ap (λ n. st.shared.noted n s) of_channel
+      ∙ sound.keys.notes.in_set s i in_set in
       let claimed = sound.keys.indexes.claimed s i (and_parts key.published _ in_set).0 in
-      let is_named : has_index (key_of closed c s) i ≡ true = ap (λ o. has_index o i) (key_of-some closed c s name noted (present-in_set key claimed in_set)) ∙ eq-eqb i i refl in
+      let is_named : has_index (key_of closed c s) i ≡ true = ap (λ o. has_index o i)
+      (key_of-some closed c s name noted (present-in_set key claimed in_set)) ∙ eq-eqb i i refl in
       not_valid_cancelled key (ap (λ b. is_valid (cond b (cancelled_key key) key)) (sym is_named) ∙ valid)
 
-  pub keeps_closed_channel : (r : Reply) → Sound rules l st → Keeps rules l st (answered st r (channel_closed st.shared c))
+  pub keeps_closed_channel : (r : Reply) → Sound rules l st
+      → Keeps rules l st (answered st r (channel_closed st.shared c))
   keeps_closed_channel r sound =
       let new : Chan = record (st.shared.chan c) { closed = true } in
       let without : ScriptState = with_shared st (record st.shared { key = cancelled }) in
-      let first = keeps_cancelled rules l st r cancelled (λ s i. cancelled_at s i (key_of closed c s) refl) (λ s i. in_set-cancelled (has_index (key_of closed c s) i) (st.shared.key s i)) sound in
+      let first = keeps_cancelled rules l st r cancelled (λ s i. cancelled_at s i (key_of closed c s) refl)
+      (λ s i. in_set-cancelled (has_index (key_of closed c s) i) (st.shared.key s i)) sound in
       let channels = first.sound.keys.channels in
       let second = keeps_channels rules l without r (put st.shared.chan c new) st.shared.channels_high
       (record {
-        made = λ s i h. put_keeps (λ _ (x : Chan). x.made ≡ true) st.shared.chan c new (λ old. old) (cancelled s i).chan.0 (channels.made s i h);
-        non_blocking = λ s i h. put_keeps (λ _ (x : Chan). x.blocking ≡ false) st.shared.chan c new (λ old. old) (cancelled s i).chan.0 (channels.non_blocking s i h);
+        made = λ s i h. put_keeps (λ _ (x : Chan). x.made ≡ true) st.shared.chan c new (λ old. old)
+            (cancelled s i).chan.0 (channels.made s i h);
+        non_blocking = λ s i h. put_keeps (λ _ (x : Chan). x.blocking ≡ false) st.shared.chan c new (λ old. old)
+            (cancelled s i).chan.0 (channels.non_blocking s i h);
         is_open = λ s i h.
             put_keeps (λ n (x : Chan). n ≡ (cancelled s i).chan.0 → x.closed ≡ false) st.shared.chan c new
-            (λ _ of_channel. absurd (not_valid_at sound s i (of_channel ∙ ap (λ n. n.0) (cancelled_at s i (key_of closed c s) refl).chan) h))
+            (λ _ of_channel. absurd
+            (not_valid_at sound s i (of_channel ∙ ap (λ n. n.0) (cancelled_at s i (key_of closed c s) refl).chan)
+            h))
             (cancelled s i).chan.0 (λ _. channels.is_open s i h) refl;
       })
       first.sound in

@@ -62,7 +62,8 @@ pub record IsRunTo (before left : Group) : Type 0 where
   pub run : IsRunOf before steps
   pub leaves : left ≡ left_by before steps
 
-runs : (rules : Rules) (l : Limits) (calls : List ScriptCall) (st : ScriptState) → IsRunTo st.group (left_from rules l st calls).group
+runs : (rules : Rules) (l : Limits) (calls : List ScriptCall) (st : ScriptState)
+    → IsRunTo st.group (left_from rules l st calls).group
 runs rules l [] st = record { steps = []; run = tt; leaves = refl }
 runs rules l (c ∷ calls) st =
     let done = seq rules l st c.caller c.call in

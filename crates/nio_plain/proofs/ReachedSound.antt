@@ -1,6 +1,7 @@
 -- What holds of every state that a script leaves, part by part, and what the changes of a state keep
 -- of it.
-use Rattle.std.proofs.Common.{◌≡◌, ℕ, ◌==◌, ◌<◌, ◌≤◌, nat_lt, ◌&&◌, ◌||◌, Bool, true, false, cond, Option, Some, is_some, refl, sym, ap, ◌∙◌, subst, eqb-true}
+use Rattle.std.proofs.Common.{◌≡◌, ℕ, ◌==◌, ◌<◌, ◌≤◌, nat_lt, ◌&&◌, ◌||◌, Bool, true, false, cond, Option, Some}
+use Rattle.std.proofs.Common.{is_some, refl, sym, ap, ◌∙◌, subst, eqb-true}
 use Rattle.std.proofs.lemmas.Bool.{and_parts, and_from, both_ways, false_from_ne_true}
 use Rattle.nio_base.specs.declared.limits.Limits.{Limits}
 use Rattle.nio_base.specs.declared.numbers.CallerNo.{CallerNo}
@@ -32,8 +33,10 @@ pub record IndexesSound (selector : ℕ → Bool) (keys_high : ℕ → ℕ) (key
 -- of a key set is noted for its channel
 pub record NotesSound (noted : ℕ → ℕ → Option KeyId) (key : ℕ → ℕ → Stage) : Type 0 where
   pub published : (c s : ℕ) (k : KeyId) → noted c s ≡ Some k → was_published (key s k.index) k.serial ≡ true
-  pub channel : (c s : ℕ) (k : KeyId) → noted c s ≡ Some k → is_in_key_set (key s k.index) k.serial ≡ true → (key s k.index).chan.0 ≡ c
-  pub in_set : (s i : ℕ) → in_key_set (key s i) ≡ true → noted (key s i).chan.0 s ≡ Some (record { index = i; serial = (key s i).serial })
+  pub channel : (c s : ℕ) (k : KeyId) → noted c s ≡ Some k → is_in_key_set (key s k.index) k.serial ≡ true
+      → (key s k.index).chan.0 ≡ c
+  pub in_set : (s i : ℕ) → in_key_set (key s i) ≡ true
+      → noted (key s i).chan.0 s ≡ Some (record { index = i; serial = (key s i).serial })
 
 -- the channel of a published key is made, it is non-blocking while the key is in the key set, and open
 -- while the key is valid
@@ -58,14 +61,16 @@ pub record ClosingSound (shut : Bool) (closer : Option CallerNo) (entered : Bool
 -- of one selector: a selection in progress has the turn, and what it looks at is in the key set
 pub record LookSound (selection : Option Selection) (turn : Option CallerNo) (key : ℕ → Stage) : Type 0 where
   pub has_turn : is_some selection ≡ true → is_some turn ≡ true
-  pub in_set : (x : Selection) → selection ≡ Some x → (k : KeyId) → is_looked x.looked k ≡ true → is_in_key_set (key k.index) k.serial ≡ true
+  pub in_set : (x : Selection) → selection ≡ Some x → (k : KeyId) → is_looked x.looked k ≡ true
+      → is_in_key_set (key k.index) k.serial ≡ true
 
 -- of one selector: what a selection in progress looks at is below its bound, and by the first rules it looks
 -- at each key of the key set there
 pub record BoundSound (rules : Rules) (selection : Option Selection) (keys_high : ℕ) (key : ℕ → Stage) : Type 0 where
   pub within : (x : Selection) → selection ≡ Some x → x.bound ≤ keys_high
   pub below : (x : Selection) → selection ≡ Some x → (k : KeyId) → is_looked x.looked k ≡ true → k.index < x.bound
-  pub all : rules ≡ First → (x : Selection) → selection ≡ Some x → (i : ℕ) → i < x.bound → in_key_set (key i) ≡ true → is_looked x.looked (record { index = i; serial = (key i).serial }) ≡ true
+  pub all : rules ≡ First → (x : Selection) → selection ≡ Some x → (i : ℕ) → i < x.bound → in_key_set (key i) ≡ true
+      → is_looked x.looked (record { index = i; serial = (key i).serial }) ≡ true
 
 -- of all indexes: a free one has no key in the key set, and by the first rules none is free
 pub record FreeSound (rules : Rules) (free : ℕ → ℕ → Bool) (key : ℕ → ℕ → Stage) : Type 0 where
@@ -73,7 +78,8 @@ pub record FreeSound (rules : Rules) (free : ℕ → ℕ → Bool) (key : ℕ �
   pub none : rules ≡ First → (s i : ℕ) → free s i ≡ false
 
 -- of all keys
-pub record KeysSound (l : Limits) (selector : ℕ → Bool) (keys_high : ℕ → ℕ) (noted : ℕ → ℕ → Option KeyId) (chan : ℕ → Chan) (key : ℕ → ℕ → Stage) : Type 0 where
+pub record KeysSound (l : Limits) (selector : ℕ → Bool) (keys_high : ℕ → ℕ) (noted : ℕ → ℕ → Option KeyId)
+    (chan : ℕ → Chan) (key : ℕ → ℕ → Stage) : Type 0 where
   pub selectors : (s : ℕ) → selector s ≡ true → s < l.selectors
   pub indexes : IndexesSound selector keys_high key
   pub notes : NotesSound noted key
@@ -84,7 +90,8 @@ pub record Sound (rules : Rules) (l : Limits) (st : ScriptState) : Type 0 where
   pub keys : KeysSound l st.shared.selector st.shared.keys_high st.shared.noted st.shared.chan st.shared.key
   pub free : FreeSound rules st.shared.free st.shared.key
   pub selected : SelectedSound st.shared.key st.shared.mark
-  pub closings : (s : ℕ) → ClosingSound (st.shared.gate s).shut (st.shared.closer s) (st.shared.entered s) (st.shared.key s)
+  pub closings : (s : ℕ)
+      → ClosingSound (st.shared.gate s).shut (st.shared.closer s) (st.shared.entered s) (st.shared.key s)
   pub looks : (s : ℕ) → LookSound (st.selection s) (st.shared.turn s) (st.shared.key s)
   pub bounds : (s : ℕ) → BoundSound rules (st.selection s) (st.shared.keys_high s) (st.shared.key s)
 
@@ -150,19 +157,22 @@ pub same_stays : (key : ℕ → ℕ → Stage) (entered : ℕ → Bool) → Stay
 same_stays key entered = record { published = λ s i q h. h; invalid = λ s i q h. h; closed = λ s h. h }
 
 -- a call that changes nothing
-pub keeps_unchanged : (rules : Rules) (l : Limits) (st : ScriptState) (r : Reply) → Sound rules l st → Keeps rules l st (record { reply = r; left = st })
+pub keeps_unchanged : (rules : Rules) (l : Limits) (st : ScriptState) (r : Reply) → Sound rules l st
+    → Keeps rules l st (record { reply = r; left = st })
 keeps_unchanged rules l st r sound = record { sound = sound; stays = same_stays st.shared.key st.shared.entered }
 
 pub some_same : {A : Type 0} (x y : A) → ◌≡◌ {A = Option A} (Some x) (Some y) → x ≡ y
 some_same x y e = cc
 
 -- what a test answers, by what stands on each side of it
-pub by_test : (P : Answered → Type 0) (test : Bool) (a b : Answered) → (test ≡ true → P a) → (test ≡ false → P b) → P (cond test a b)
+pub by_test : (P : Answered → Type 0) (test : Bool) (a b : Answered) → (test ≡ true → P a) → (test ≡ false → P b)
+    → P (cond test a b)
 by_test P true a b on_true on_false = on_true refl
 by_test P false a b on_true on_false = on_false refl
 
 -- what holds at a number where it is found, and at every other
-pub here_or_there : (s : ℕ) (P : Bool → ℕ → Type 0) → P true s → ((t : ℕ) → (t == s) ≡ false → P false t) → (t : ℕ) → P (t == s) t
+pub here_or_there : (s : ℕ) (P : Bool → ℕ → Type 0) → P true s → ((t : ℕ) → (t == s) ≡ false → P false t) → (t : ℕ)
+    → P (t == s) t
 here_or_there s P here there t = at (t == s) refl
   where
     at : (b : Bool) → (t == s) ≡ b → P b t
@@ -246,12 +256,14 @@ module _ (k after : Stage) (aged : Aged k after) where
     published = aged-was_published q ∙ h.published;
     invalid = false_from_ne_true (is_valid_key after q) (λ v.
         let both = and_parts (fits after q) (is_valid after) v in
-        both_ways (is_valid_key k q) h.invalid (and_from (fits k q) (is_valid k) (sym (aged-fits q) ∙ both.0) (aged.valid both.1)));
+        both_ways (is_valid_key k q) h.invalid
+        (and_from (fits k q) (is_valid k) (sym (aged-fits q) ∙ both.0) (aged.valid both.1)));
   }
 
 -- every key has aged, each in its way
 module _ (key after : ℕ → ℕ → Stage) (aged : (s i : ℕ) → Aged (key s i) (after s i)) where
-  indexes-aged : (selector : ℕ → Bool) (keys_high : ℕ → ℕ) → IndexesSound selector keys_high key → IndexesSound selector keys_high after
+  indexes-aged : (selector : ℕ → Bool) (keys_high : ℕ → ℕ) → IndexesSound selector keys_high key
+      → IndexesSound selector keys_high after
   indexes-aged selector keys_high sound = record {
     claimed = λ s i h. (aged s i).claimed ∙ sound.claimed s i (sym (aged s i).published ∙ h);
     below = λ s i h. sound.below s i (sym (aged s i).published ∙ h);
@@ -261,19 +273,25 @@ module _ (key after : ℕ → ℕ → Stage) (aged : (s i : ℕ) → Aged (key s
 
   notes-aged : (noted : ℕ → ℕ → Option KeyId) → NotesSound noted key → NotesSound noted after
   notes-aged noted sound = record {
-    published = λ c s k h. aged-was_published (key s k.index) (after s k.index) (aged s k.index) k.serial ∙ sound.published c s k h;
-    channel = λ c s k h in_set. ap (λ x. x.0) (aged s k.index).chan ∙ sound.channel c s k h (aged-in_set (key s k.index) (after s k.index) (aged s k.index) k.serial in_set);
-    in_set = λ s i h. (ap (λ x. noted x.0 s) (aged s i).chan ∙ sound.in_set s i ((aged s i).in_set h)) ∙ (λ j. Some (record { index = i; serial = sym (aged s i).serial j }));
+    published = λ c s k h. aged-was_published (key s k.index) (after s k.index) (aged s k.index) k.serial
+        ∙ sound.published c s k h;
+    channel = λ c s k h in_set. ap (λ x. x.0) (aged s k.index).chan
+        ∙ sound.channel c s k h (aged-in_set (key s k.index) (after s k.index) (aged s k.index) k.serial in_set);
+    in_set = λ s i h. (ap (λ x. noted x.0 s) (aged s i).chan ∙ sound.in_set s i ((aged s i).in_set h))
+        ∙ (λ j. Some (record { index = i; serial = sym (aged s i).serial j }));
   }
 
   channels-aged : (chan : ℕ → Chan) → ChannelsSound chan key → ChannelsSound chan after
   channels-aged chan sound = record {
     made = λ s i h. ap (λ x. (chan x.0).made) (aged s i).chan ∙ sound.made s i (sym (aged s i).published ∙ h);
-    non_blocking = λ s i h. ap (λ x. (chan x.0).blocking) (aged s i).chan ∙ sound.non_blocking s i ((aged s i).in_set h);
+    non_blocking = λ s i h. ap (λ x. (chan x.0).blocking) (aged s i).chan
+        ∙ sound.non_blocking s i ((aged s i).in_set h);
     is_open = λ s i h. ap (λ x. (chan x.0).closed) (aged s i).chan ∙ sound.is_open s i ((aged s i).valid h);
   }
 
-  pub keys-aged : (l : Limits) (selector : ℕ → Bool) (keys_high : ℕ → ℕ) (noted : ℕ → ℕ → Option KeyId) (chan : ℕ → Chan) → KeysSound l selector keys_high noted chan key → KeysSound l selector keys_high noted chan after
+  pub keys-aged : (l : Limits) (selector : ℕ → Bool) (keys_high : ℕ → ℕ) (noted : ℕ → ℕ → Option KeyId)
+      (chan : ℕ → Chan) → KeysSound l selector keys_high noted chan key
+      → KeysSound l selector keys_high noted chan after
   keys-aged l selector keys_high noted chan sound = record {
     selectors = sound.selectors;
     indexes = indexes-aged selector keys_high sound.indexes;
@@ -282,19 +300,22 @@ module _ (key after : ℕ → ℕ → Stage) (aged : (s i : ℕ) → Aged (key s
     cancelled = λ s i h. (aged s i).cancelled (sound.cancelled s i) h;
   }
 
-  pub closing-aged : (s : ℕ) (shut : Bool) (closer : Option CallerNo) (entered : Bool) → ClosingSound shut closer entered (key s) → ClosingSound shut closer entered (after s)
+  pub closing-aged : (s : ℕ) (shut : Bool) (closer : Option CallerNo) (entered : Bool)
+      → ClosingSound shut closer entered (key s) → ClosingSound shut closer entered (after s)
   closing-aged s shut closer entered sound = record {
     closer_shut = sound.closer_shut;
     entered_shut = sound.entered_shut;
     entered_empty = λ h i. aged-out (key s i) (after s i) (aged s i) (sound.entered_empty h i);
   }
 
-  pub bound-aged : (rules : Rules) (s : ℕ) (selection : Option Selection) (keys_high : ℕ) → BoundSound rules selection keys_high (key s) → BoundSound rules selection keys_high (after s)
+  pub bound-aged : (rules : Rules) (s : ℕ) (selection : Option Selection) (keys_high : ℕ)
+      → BoundSound rules selection keys_high (key s) → BoundSound rules selection keys_high (after s)
   bound-aged rules s selection keys_high sound = record {
     within = sound.within;
     below = sound.below;
     all = λ e x h i l in_set.
-        subst (λ (q : ℕ). is_looked x.looked (record { index = i; serial = q }) ≡ true) (sym (aged s i).serial) (sound.all e x h i l ((aged s i).in_set in_set));
+        subst (λ (q : ℕ). is_looked x.looked (record { index = i; serial = q }) ≡ true) (sym (aged s i).serial)
+        (sound.all e x h i l ((aged s i).in_set in_set));
   }
 
   pub free-aged : (rules : Rules) (free : ℕ → ℕ → Bool) → FreeSound rules free key → FreeSound rules free after
@@ -303,7 +324,8 @@ module _ (key after : ℕ → ℕ → Stage) (aged : (s i : ℕ) → Aged (key s
     none = sound.none;
   }
 
-  pub stays-aged : (entered ended : ℕ → Bool) → ((s : ℕ) → entered s ≡ true → ended s ≡ true) → Stays key after entered ended
+  pub stays-aged : (entered ended : ℕ → Bool) → ((s : ℕ) → entered s ≡ true → ended s ≡ true)
+      → Stays key after entered ended
   stays-aged entered ended closed = record {
     published = λ s i q h. aged-was_published (key s i) (after s i) (aged s i) q ∙ h;
     invalid = λ s i q h. aged-invalid (key s i) (after s i) (aged s i) q h;
@@ -311,26 +333,34 @@ module _ (key after : ℕ → ℕ → Stage) (aged : (s i : ℕ) → Aged (key s
   }
 
 -- what a selection looks at stays in the key set where no key of the selector leaves it
-pub look-kept : (selection : Option Selection) (turn : Option CallerNo) (key after : ℕ → Stage) → ((i q : ℕ) → is_in_key_set (key i) q ≡ true → is_in_key_set (after i) q ≡ true) → LookSound selection turn key → LookSound selection turn after
+pub look-kept : (selection : Option Selection) (turn : Option CallerNo) (key after : ℕ → Stage)
+    → ((i q : ℕ) → is_in_key_set (key i) q ≡ true → is_in_key_set (after i) q ≡ true) → LookSound selection turn key
+    → LookSound selection turn after
 look-kept selection turn key after kept sound = record {
   has_turn = sound.has_turn;
   in_set = λ x e k l. kept k.index k.serial (sound.in_set x e k l);
 }
 
 -- keys that are cancelled, and so leave no set
-pub keeps_cancelled : (rules : Rules) (l : Limits) (st : ScriptState) (r : Reply) (after : ℕ → ℕ → Stage) → ((s i : ℕ) → Aged (st.shared.key s i) (after s i)) → ((s i : ℕ) → in_key_set (st.shared.key s i) ≡ true → in_key_set (after s i) ≡ true) → Sound rules l st → Keeps rules l st (record { reply = r; left = with_shared st (record st.shared { key = after }) })
+pub keeps_cancelled : (rules : Rules) (l : Limits) (st : ScriptState) (r : Reply) (after : ℕ → ℕ → Stage)
+    → ((s i : ℕ) → Aged (st.shared.key s i) (after s i))
+    → ((s i : ℕ) → in_key_set (st.shared.key s i) ≡ true → in_key_set (after s i) ≡ true) → Sound rules l st
+    → Keeps rules l st (record { reply = r; left = with_shared st (record st.shared { key = after }) })
 keeps_cancelled rules l st r after aged kept sound =
     let key = st.shared.key in
     record {
       sound = record {
-        keys = keys-aged key after aged l st.shared.selector st.shared.keys_high st.shared.noted st.shared.chan sound.keys;
+        keys = keys-aged key after aged l st.shared.selector st.shared.keys_high st.shared.noted st.shared.chan
+            sound.keys;
         free = free-aged key after aged rules st.shared.free sound.free;
         selected = λ s i h. kept s i (sound.selected s i h);
-        closings = λ s. closing-aged key after aged s (st.shared.gate s).shut (st.shared.closer s) (st.shared.entered s) (sound.closings s);
+        closings = λ s. closing-aged key after aged s (st.shared.gate s).shut (st.shared.closer s) (st.shared.entered s)
+            (sound.closings s);
         looks = λ s. look-kept (st.selection s) (st.shared.turn s) (key s) (after s)
             (λ i q h.
             let both = and_parts (fits (key s i) q) (in_key_set (key s i)) h in
-            and_from (fits (after s i) q) (in_key_set (after s i)) (aged-fits (key s i) (after s i) (aged s i) q ∙ both.0) (kept s i both.1))
+            and_from (fits (after s i) q) (in_key_set (after s i))
+            (aged-fits (key s i) (after s i) (aged s i) q ∙ both.0) (kept s i both.1))
             (sound.looks s);
         bounds = λ s. bound-aged key after aged rules s (st.selection s) (st.shared.keys_high s) (sound.bounds s);
       };

@@ -1,5 +1,6 @@
 -- A channel's key in a selector, and whether it is registered, over the parts of a state.
-use Rattle.std.proofs.Common.{◌≡◌, ℕ, zero, suc, ◌<◌, ◌≤◌, Bool, true, false, ◌||◌, Option, Some, None, is_some, List, [], ◌∷◌, ◌++◌, length, get_or, cond, refl, sym, ap, ◌∙◌, subst, arith, ⊎_elim, map}
+use Rattle.std.proofs.Common.{◌≡◌, ℕ, zero, suc, ◌<◌, ◌≤◌, Bool, true, false, ◌||◌, Option, Some, None, is_some, List}
+use Rattle.std.proofs.Common.{[], ◌∷◌, ◌++◌, length, get_or, cond, refl, sym, ap, ◌∙◌, subst, arith, ⊎_elim, map}
 use Rattle.std.proofs.lemmas.Bool.{cases_lt, or_right, or_cases, cond-true}
 use Rattle.std.specs.List.{list_any}
 use Rattle.nio_base.specs.declared.limits.Limits.{Limits}
@@ -10,7 +11,8 @@ use Rattle.nio_event.specs.declared.found.Chan.{Chan}
 use Rattle.nio_group.specs.Group.{Group}
 use Rattle.nio_plain.proofs.Answering.{rows_of}
 use Rattle.nio_plain.proofs.Places.{places_past, places_at}
-use Rattle.nio_plain.specs.PlainState.{SelectorRow, key_in, if_in_set, state_from, state_of, limits_of, places, selector_row, no_selector, channel_row, pipe_of}
+use Rattle.nio_plain.specs.PlainState.{SelectorRow, key_in, if_in_set, state_from, state_of, limits_of, places}
+use Rattle.nio_plain.specs.PlainState.{selector_row, no_selector, channel_row, pipe_of}
 use Rattle.nio_plain.specs.declared.plain.Plain.{Plain}
 use Rattle.nio_plain.specs.declared.plain.selector.Selector.{Selector}
 use Rattle.nio_plain.specs.ScriptState.{ScriptState, Pipe}
@@ -20,7 +22,8 @@ use Rattle.nio_plain.specs.Seq.Names.{below}
 list_any-push : (p : ℕ → Bool) (xs : List ℕ) (y : ℕ) → list_any p (xs ++ y ∷ []) ≡ (list_any p xs || p y)
 list_any-push p [] y = elim (p y) as (λ b. (b || false) ≡ b) [ true ↦ refl | false ↦ refl ]
 list_any-push p (x ∷ xs) y =
-    elim (p x) as (λ b. (b || list_any p (xs ++ y ∷ [])) ≡ ((b || list_any p xs) || p y)) [ true ↦ refl | false ↦ list_any-push p xs y ]
+    elim (p x) as (λ b. (b || list_any p (xs ++ y ∷ [])) ≡ ((b || list_any p xs) || p y))
+    [ true ↦ refl | false ↦ list_any-push p xs y ]
 
 any-none : (p : ℕ → Bool) (m : ℕ) → ((k : ℕ) → k < m → p k ≡ false) → list_any p (below m) ≡ false
 any-none p zero h = refl
@@ -39,38 +42,49 @@ any-some p (suc m) n l t =
 
 any-witness : (p : ℕ → Bool) (m : ℕ) → list_any p (below m) ≡ true → (k : ℕ) × (p k ≡ true)
 any-witness p zero h = absurd cc
-any-witness p (suc m) h = ⊎_elim (any-witness p m) (λ t. (m, t)) (or_cases (list_any p (below m)) (p m) (sym (list_any-push p (below m) m) ∙ h))
+any-witness p (suc m) h =
+    ⊎_elim (any-witness p m) (λ t. (m, t))
+    (or_cases (list_any p (below m)) (p m) (sym (list_any-push p (below m) m) ∙ h))
 
 -- over a state
 
 -- the key that is noted is the channel's, where it is in the key set
-pub key_of-some : (st : State) (c s : ℕ) (k : KeyId) → st.noted c s ≡ Some k → is_in_key_set (st.key s k.index) k.serial ≡ true → key_of st c s ≡ Some k
-key_of-some st c s k e h = ap (if_in_key_set st s) e ∙ cond-true (is_in_key_set (st.key s k.index) k.serial) (Some k) None h
+pub key_of-some : (st : State) (c s : ℕ) (k : KeyId) → st.noted c s ≡ Some k
+    → is_in_key_set (st.key s k.index) k.serial ≡ true → key_of st c s ≡ Some k
+key_of-some st c s k e h =
+    ap (if_in_key_set st s) e ∙ cond-true (is_in_key_set (st.key s k.index) k.serial) (Some k) None h
 
-in_set-is : (st : State) (s : ℕ) (k : KeyId) (o : Option KeyId) → if_in_key_set st s o ≡ Some k → (o ≡ Some k) × (is_in_key_set (st.key s k.index) k.serial ≡ true)
+in_set-is : (st : State) (s : ℕ) (k : KeyId) (o : Option KeyId) → if_in_key_set st s o ≡ Some k
+    → (o ≡ Some k) × (is_in_key_set (st.key s k.index) k.serial ≡ true)
 in_set-is st s k None e = absurd cc
 in_set-is st s k (Some m) e = by_set (is_in_key_set (st.key s m.index) m.serial) refl e
   where
-    by_set : (b : Bool) → is_in_key_set (st.key s m.index) m.serial ≡ b → cond {A = Option KeyId} b (Some m) None ≡ Some k → (◌≡◌ {A = Option KeyId} (Some m) (Some k)) × (is_in_key_set (st.key s k.index) k.serial ≡ true)
+    by_set : (b : Bool) → is_in_key_set (st.key s m.index) m.serial ≡ b
+        → cond {A = Option KeyId} b (Some m) None ≡ Some k → (◌≡◌ {A = Option KeyId} (Some m) (Some k))
+        × (is_in_key_set (st.key s k.index) k.serial ≡ true)
     by_set true t now =
         let same : m ≡ k = cc in
         (now, subst (λ (n : KeyId). is_in_key_set (st.key s n.index) n.serial ≡ true) same t)
     by_set false t now = absurd cc
 
-pub key_of-is : (st : State) (c s : ℕ) (k : KeyId) → key_of st c s ≡ Some k → (st.noted c s ≡ Some k) × (is_in_key_set (st.key s k.index) k.serial ≡ true)
+pub key_of-is : (st : State) (c s : ℕ) (k : KeyId) → key_of st c s ≡ Some k
+    → (st.noted c s ≡ Some k) × (is_in_key_set (st.key s k.index) k.serial ≡ true)
 key_of-is st c s k e = in_set-is st s k (st.noted c s) e
 
 -- a channel that counts as registered has a key in a selector
-pub registered-key : (l : Limits) (st : State) (c : ℕ) → is_registered l st c ≡ true → (s : ℕ) × (k : KeyId) × (key_of st c s ≡ Some k)
+pub registered-key : (l : Limits) (st : State) (c : ℕ) → is_registered l st c ≡ true
+    → (s : ℕ) × (k : KeyId) × (key_of st c s ≡ Some k)
 registered-key l st c h =
     let found = any-witness (λ s. is_some (key_of st c s)) l.selectors h in
     named found.0 (key_of st c found.0) refl found.1
   where
-    named : (s : ℕ) (o : Option KeyId) → key_of st c s ≡ o → is_some o ≡ true → (s : ℕ) × (k : KeyId) × (key_of st c s ≡ Some k)
+    named : (s : ℕ) (o : Option KeyId) → key_of st c s ≡ o → is_some o ≡ true
+        → (s : ℕ) × (k : KeyId) × (key_of st c s ≡ Some k)
     named s None e t = absurd cc
     named s (Some k) e t = (s, k, e)
 
-module _ (group : Group) (pipes : List Pipe) (interrupted : ℕ → Bool) (mark : ℕ) (chan : ℕ → Chan) (row : ℕ → SelectorRow) where
+module _ (group : Group) (pipes : List Pipe) (interrupted : ℕ → Bool) (mark : ℕ) (chan : ℕ → Chan)
+    (row : ℕ → SelectorRow) where
   abbrev st : ScriptState
   st = state_from group pipes interrupted mark chan row
 
@@ -83,22 +97,31 @@ module _ (group : Group) (pipes : List Pipe) (interrupted : ℕ → Bool) (mark 
 
 -- over a plain system
 
-pub is_registered-none : (p : Plain) (c : ℕ) → ((k : ℕ) → k < length p.selectors.items → is_some (key_in (rows_of p k) c) ≡ false) → is_registered (limits_of p) (state_of p).shared c ≡ false
+pub is_registered-none : (p : Plain) (c : ℕ)
+    → ((k : ℕ) → k < length p.selectors.items → is_some (key_in (rows_of p k) c) ≡ false)
+    → is_registered (limits_of p) (state_of p).shared c ≡ false
 is_registered-none p c h =
-    let at = key_of-row p.group (map pipe_of p.pipes.items) (places (λ b. b) false p.interrupted.items) (length p.channels.items) (places channel_row unmade_channel p.channels.items) (rows_of p) c in
+    let at = key_of-row p.group (map pipe_of p.pipes.items) (places (λ b. b) false p.interrupted.items)
+    (length p.channels.items) (places channel_row unmade_channel p.channels.items) (rows_of p) c in
     any-none (λ s. is_some (key_of (state_of p).shared c s)) p.limits.selectors
     (λ k _. ap is_some (at k) ∙ ⊎_elim
     (λ (l : k < length p.selectors.items). h k l)
-    (λ (l : length p.selectors.items ≤ k). ap (λ (r : SelectorRow). is_some (key_in r c)) (places_past selector_row no_selector p.selectors.items k l))
+    (λ (l : length p.selectors.items ≤ k). ap (λ (r : SelectorRow). is_some (key_in r c))
+    (places_past selector_row no_selector p.selectors.items k l))
     (cases_lt k (length p.selectors.items)))
 
-pub is_registered-some : (p : Plain) (c s : ℕ) → s < length p.selectors.items → is_some (key_in (rows_of p s) c) ≡ true → is_registered (limits_of p) (state_of p).shared c ≡ true
+pub is_registered-some : (p : Plain) (c s : ℕ) → s < length p.selectors.items → is_some (key_in (rows_of p s) c) ≡ true
+    → is_registered (limits_of p) (state_of p).shared c ≡ true
 is_registered-some p c s h t =
-    let at = key_of-row p.group (map pipe_of p.pipes.items) (places (λ b. b) false p.interrupted.items) (length p.channels.items) (places channel_row unmade_channel p.channels.items) (rows_of p) c in
-    any-some (λ s. is_some (key_of (state_of p).shared c s)) p.limits.selectors s (omega (arith, p.selectors.ok.0, p.few_selectors)) (ap is_some (at s) ∙ t)
+    let at = key_of-row p.group (map pipe_of p.pipes.items) (places (λ b. b) false p.interrupted.items)
+    (length p.channels.items) (places channel_row unmade_channel p.channels.items) (rows_of p) c in
+    any-some (λ s. is_some (key_of (state_of p).shared c s)) p.limits.selectors s
+    (omega (arith, p.selectors.ok.0, p.few_selectors)) (ap is_some (at s) ∙ t)
 
 -- the channel's key, as the selector answers it
-pub key_of-read : (p : Plain) (s c : ℕ) (x : Selector) (o : Option KeyId) → s < length p.selectors.items → x ≡ get_or p.selectors.items s x → o ≡ key_in (selector_row x) c → key_of (state_of p).shared c s ≡ o
+pub key_of-read : (p : Plain) (s c : ℕ) (x : Selector) (o : Option KeyId) → s < length p.selectors.items
+    → x ≡ get_or p.selectors.items s x → o ≡ key_in (selector_row x) c → key_of (state_of p).shared c s ≡ o
 key_of-read p s c x o h e key =
-    let at = key_of-row p.group (map pipe_of p.pipes.items) (places (λ b. b) false p.interrupted.items) (length p.channels.items) (places channel_row unmade_channel p.channels.items) (rows_of p) c s in
+    let at = key_of-row p.group (map pipe_of p.pipes.items) (places (λ b. b) false p.interrupted.items)
+    (length p.channels.items) (places channel_row unmade_channel p.channels.items) (rows_of p) c s in
     (at ∙ ap (λ r. key_in r c) (places_at selector_row no_selector p.selectors.items s x h e)) ∙ sym key

@@ -1,5 +1,6 @@
 -- Registering a channel, over the parts of a state.
-use Rattle.std.proofs.Common.{◌≡◌, ℕ, ◌==◌, eqb, Bool, true, false, cond, ◌&&◌, Option, Some, None, unwrap_or, bit_and, refl, ap, ◌∙◌, List}
+use Rattle.std.proofs.Common.{◌≡◌, ℕ, ◌==◌, eqb, Bool, true, false, cond, ◌&&◌, Option, Some, None, unwrap_or, bit_and}
+use Rattle.std.proofs.Common.{refl, ap, ◌∙◌, List}
 use Rattle.nio_base.specs.Kind.{valid_operations}
 use Rattle.nio_base.specs.declared.limits.Limits.{Limits}
 use Rattle.nio_base.specs.declared.numbers.ChanNo.{ChanNo}
@@ -12,15 +13,18 @@ use Rattle.nio_group.specs.Group.{Group}
 use Rattle.nio_plain.proofs.KeyChange.{part_put}
 use Rattle.nio_plain.proofs.Parts.{state-row, same_row}
 use Rattle.nio_plain.proofs.Places.{put_same}
-use Rattle.nio_plain.specs.PlainState.{SelectorRow, KeyRow, state_from, free_in, next_by_row, next_in, with_key_added, new_key_row}
+use Rattle.nio_plain.specs.PlainState.{SelectorRow, KeyRow, state_from, free_in, next_by_row, next_in, with_key_added}
+use Rattle.nio_plain.specs.PlainState.{new_key_row}
 use Rattle.nio_plain.specs.ScriptState.{ScriptState, with_shared, Pipe}
 use Rattle.nio_plain.specs.Seq.Answers.{unchanged, answered}
 use Rattle.nio_plain.specs.Seq.Modes.{key_of}
-use Rattle.nio_plain.specs.Seq.Registering.{register_call, registered, registered_new, next_by, next_key, with_new_key, given_or_kept, given_or_none}
+use Rattle.nio_plain.specs.Seq.Registering.{register_call, registered, registered_new, next_by, next_key, with_new_key}
+use Rattle.nio_plain.specs.Seq.Registering.{given_or_kept, given_or_none}
 
 -- x is the channel
 module _ (l : Limits) (st : ScriptState) (s : SelNo) (c : ChanNo) (ops : ℕ) (att : Option ℕ) where
-  pub register-no_selector : st.shared.selector s.0 ≡ false → register_call l st s c ops att ≡ unchanged st reply.NoSelector
+  pub register-no_selector : st.shared.selector s.0 ≡ false
+      → register_call l st s c ops att ≡ unchanged st reply.NoSelector
   unfolding register_call
   register-no_selector h = rw h
 
@@ -30,7 +34,8 @@ module _ (l : Limits) (st : ScriptState) (s : SelNo) (c : ChanNo) (ops : ℕ) (a
     register-no_channel h = rw (there, e, h)
 
     module _ (made : x.made ≡ true) where
-      pub register-illegal_ops : (bit_and ops (valid_operations x.kind) == ops) ≡ false → register_call l st s c ops att ≡ unchanged st reply.IllegalOps
+      pub register-illegal_ops : (bit_and ops (valid_operations x.kind) == ops) ≡ false
+          → register_call l st s c ops att ≡ unchanged st reply.IllegalOps
       unfolding register_call
       register-illegal_ops h = rw (there, e, made, h)
 
@@ -39,41 +44,53 @@ module _ (l : Limits) (st : ScriptState) (s : SelNo) (c : ChanNo) (ops : ℕ) (a
         unfolding register_call
         register-closed h = rw (there, e, made, valid, h)
 
-        pub register-blocking : x.closed ≡ false → x.blocking ≡ true → register_call l st s c ops att ≡ unchanged st reply.IllegalBlockingMode
+        pub register-blocking : x.closed ≡ false → x.blocking ≡ true
+            → register_call l st s c ops att ≡ unchanged st reply.IllegalBlockingMode
         unfolding register_call
         register-blocking h k = rw (there, e, made, valid, h, k)
 
-        pub register-passed : (o : Option KeyId) → x.closed ≡ false → x.blocking ≡ false → key_of st.shared c.0 s.0 ≡ o → register_call l st s c ops att ≡ registered l st s.0 c.0 ops att o
+        pub register-passed : (o : Option KeyId) → x.closed ≡ false → x.blocking ≡ false → key_of st.shared c.0 s.0 ≡ o
+            → register_call l st s c ops att ≡ registered l st s.0 c.0 ops att o
         unfolding register_call
         register-passed o h k same =
-            let passed : register_call l st s c ops att ≡ registered l st s.0 c.0 ops att (key_of st.shared c.0 s.0) = rw (there, e, made, valid, h, k) in
+            let passed : register_call l st s c ops att ≡ registered l st s.0 c.0 ops att (key_of st.shared c.0 s.0) =
+            rw (there, e, made, valid, h, k) in
             passed ∙ ap (registered l st s.0 c.0 ops att) same
 
 module _ (l : Limits) (st : ScriptState) (s c ops : ℕ) (att : Option ℕ) where
   module _ (k : KeyId) where
-    pub registered-cancelled : (st.shared.key s k.index).cancelled ≡ true → registered l st s c ops att (Some k) ≡ unchanged st reply.CancelledKey
+    pub registered-cancelled : (st.shared.key s k.index).cancelled ≡ true
+        → registered l st s c ops att (Some k) ≡ unchanged st reply.CancelledKey
     registered-cancelled h = rw h
 
-    pub registered-shut : (st.shared.key s k.index).cancelled ≡ false → (st.shared.gate s).shut ≡ true → registered l st s c ops att (Some k) ≡ unchanged st reply.ClosedSelector
+    pub registered-shut : (st.shared.key s k.index).cancelled ≡ false → (st.shared.gate s).shut ≡ true
+        → registered l st s c ops att (Some k) ≡ unchanged st reply.ClosedSelector
     registered-shut h g = rw (h, g)
 
-    pub registered-again : (st.shared.key s k.index).cancelled ≡ false → (st.shared.gate s).shut ≡ false → registered l st s c ops att (Some k) ≡ answered st (reply.Key k) (with_note (with_interest st.shared s k.index ops) s k.index (given_or_kept att (st.shared.note s k.index)))
+    pub registered-again : (st.shared.key s k.index).cancelled ≡ false → (st.shared.gate s).shut ≡ false
+        → registered l st s c ops att (Some k) ≡ answered st (reply.Key k)
+        (with_note (with_interest st.shared s k.index ops) s k.index (given_or_kept att (st.shared.note s k.index)))
     registered-again h g = rw (h, g)
 
-  pub registered_new-shut : (st.shared.gate s).shut ≡ true → registered l st s c ops att None ≡ unchanged st reply.ClosedSelector
+  pub registered_new-shut : (st.shared.gate s).shut ≡ true
+      → registered l st s c ops att None ≡ unchanged st reply.ClosedSelector
   registered_new-shut g = rw g
 
-  pub registered-next : (next : Option KeyId) → (st.shared.gate s).shut ≡ false → next_key l st.shared s ≡ next → registered l st s c ops att None ≡ registered_new st s c ops (given_or_none att) next
+  pub registered-next : (next : Option KeyId) → (st.shared.gate s).shut ≡ false → next_key l st.shared s ≡ next
+      → registered l st s c ops att None ≡ registered_new st s c ops (given_or_none att) next
   registered-next next g e =
-      let opened : registered l st s c ops att None ≡ registered_new st s c ops (given_or_none att) (next_key l st.shared s) = rw g in
+      let opened : registered l st s c ops att None ≡ registered_new st s c ops (given_or_none att)
+      (next_key l st.shared s) = rw g in
       opened ∙ ap (registered_new st s c ops (given_or_none att)) e
 
 -- a change at one number of a part of two
-noted_at : {A : Type 0} (f : ℕ → A) (s : ℕ) (b : Bool) (x : A) → put f s (cond b x (f s)) ≡ (λ t. cond (b && eqb t s) x (f t))
+noted_at : {A : Type 0} (f : ℕ → A) (s : ℕ) (b : Bool) (x : A)
+    → put f s (cond b x (f s)) ≡ (λ t. cond (b && eqb t s) x (f t))
 noted_at f s true x = refl
 noted_at f s false x = put_same f s (f s) refl
 
-module _ (group : Group) (pipes : List Pipe) (interrupted : ℕ → Bool) (mark : ℕ) (chan : ℕ → Chan) (row : ℕ → SelectorRow) (s : ℕ) where
+module _ (group : Group) (pipes : List Pipe) (interrupted : ℕ → Bool) (mark : ℕ) (chan : ℕ → Chan)
+    (row : ℕ → SelectorRow) (s : ℕ) where
   abbrev st : ScriptState
   st = state_from group pipes interrupted mark chan row
 
@@ -81,12 +98,16 @@ module _ (group : Group) (pipes : List Pipe) (interrupted : ℕ → Bool) (mark 
   pub next-row : (l : Limits) → next_key l st.shared s ≡ next_in l.keys (row s)
   next-row l = by (free_in (row s))
     where
-      by : (o : Option ℕ) → next_by l (state_from group pipes interrupted mark chan row).shared s o ≡ next_by_row l.keys (row s) o
+      by : (o : Option ℕ)
+          → next_by l (state_from group pipes interrupted mark chan row).shared s o ≡ next_by_row l.keys (row s) o
       by None = refl
       by (Some i) = refl
 
   -- a selector with a new key
-  pub state-new_key : (c ops att : ℕ) (k : KeyId) → state_from group pipes interrupted mark chan (put row s (with_key_added (row s) c k (new_key_row c k.serial ops att))) ≡ with_shared st (with_new_key st.shared s c k ops att)
+  pub state-new_key : (c ops att : ℕ) (k : KeyId)
+      → state_from group pipes interrupted mark chan
+      (put row s (with_key_added (row s) c k (new_key_row c k.serial ops att)))
+      ≡ with_shared st (with_new_key st.shared s c k ops att)
   state-new_key c ops att k =
       let x = new_key_row c k.serial ops att in
       let r = with_key_added (row s) c k x in

@@ -1,7 +1,9 @@
 -- Laws of one call, and of the calls between two wakeups: by either of the rules, for all limits, from
--- every state, also from those that no script reaches. They follow from the documented system, and say what a reader may rely
+-- every state, also from those that no script reaches. They follow from the documented system, and say what a reader
+-- may rely
 -- on without going through its calls.
-use Rattle.std.specs.Prelude.{◌≡◌, ◌≢◌, ◌⊎◌, ℕ, ◌<◌, ◌==◌, Bool, true, false, not, ◌&&◌, ◌||◌, if◌then◌else◌, Option, Some, None, is_some, List, [], ◌∷◌, ◌++◌, IsTrue, IsFalse}
+use Rattle.std.specs.Prelude.{◌≡◌, ◌≢◌, ◌⊎◌, ℕ, ◌<◌, ◌==◌, Bool, true, false, not, ◌&&◌, ◌||◌, if◌then◌else◌, Option}
+use Rattle.std.specs.Prelude.{Some, None, is_some, List, [], ◌∷◌, ◌++◌, IsTrue, IsFalse}
 use Rattle.std.specs.Int.{bit_at}
 use Rattle.std.specs.List.{All, Contains}
 use Rattle.nio_base.specs.declared.limits.Limits.{Limits}
@@ -223,13 +225,15 @@ pub record IsBegunBy (me : CallerNo) (c : Call) (done : Answered) (s : ℕ) (sel
   pub own : own_selection done.left me s ≡ Some selection
   pub answered : done.reply ≡ reply.Looked selection.looked
   pub present : All (λ p. p.0 ≡ key_at done.left.shared s p.0.index) selection.looked
-  pub valid : All (λ p. IsTrue (is_valid (done.left.shared.key s p.0.index)) × (p.1 ≡ done.left.shared.interest s p.0.index)) selection.looked
+  pub valid : All (λ p. IsTrue (is_valid (done.left.shared.key s p.0.index))
+      × (p.1 ≡ done.left.shared.interest s p.0.index)) selection.looked
   pub all : (i : ℕ) → i < done.left.shared.keys_high s → IsTrue (in_key_set (done.left.shared.key s i))
       → Contains selection.looked (key_at done.left.shared s i, done.left.shared.interest s i)
 
 -- a selection that is in progress after a call was so before, or the call began it
 abbrev pub LookedIsAnswered : Type 0
-LookedIsAnswered = (rules : Rules) (l : Limits) (st : ScriptState) (me : CallerNo) (c : Call) (s : ℕ) (selection : Selection)
+LookedIsAnswered =
+    (rules : Rules) (l : Limits) (st : ScriptState) (me : CallerNo) (c : Call) (s : ℕ) (selection : Selection)
     → (seq rules l st me c).left.selection s ≡ Some selection
     → (st.selection s ≡ Some selection) ⊎ IsBegunBy me c (seq rules l st me c) s selection
 
@@ -245,7 +249,8 @@ is_over s c r = is_end s c r
 
 -- a caller's own selection stays so, as it is, until the caller itself makes the call in which it is over
 abbrev pub OnlyItselfEndsASelection : Type 0
-OnlyItselfEndsASelection = (rules : Rules) (l : Limits) (st : ScriptState) (me other : CallerNo) (c : Call) (s : ℕ) (selection : Selection)
+OnlyItselfEndsASelection =
+    (rules : Rules) (l : Limits) (st : ScriptState) (me other : CallerNo) (c : Call) (s : ℕ) (selection : Selection)
     → own_selection st me s ≡ Some selection → let done = seq rules l st other c in
     (own_selection done.left me s ≡ Some selection) ⊎ ((other.0 ≡ me.0) × IsTrue (is_over s c done.reply))
 
@@ -286,7 +291,10 @@ NoneEnds rules l st s (c ∷ calls) =
 -- several wakeups act as one: after a wakeup, and calls in which no selection of its selector ends, a
 -- further one may be left out, and all later calls leave the same state
 abbrev pub WakeupsActAsOne : Type 0
-WakeupsActAsOne = (rules : Rules) (l : Limits) (st : ScriptState) (s : SelNo) (first further : ScriptCall) (between later : List ScriptCall)
-    → IsTrue (is_wakeup s.0 first.call (seq rules l st first.caller first.call).reply) → NoneEnds rules l st s.0 (first ∷ between)
+WakeupsActAsOne =
+    (rules : Rules) (l : Limits) (st : ScriptState) (s : SelNo) (first further : ScriptCall)
+    (between later : List ScriptCall)
+    → IsTrue (is_wakeup s.0 first.call (seq rules l st first.caller first.call).reply)
+    → NoneEnds rules l st s.0 (first ∷ between)
     → further.call ≡ call.Wakeup s
     → left_from rules l st (first ∷ between ++ further ∷ later) ≡ left_from rules l st (first ∷ between ++ later)

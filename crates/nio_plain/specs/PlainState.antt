@@ -1,11 +1,13 @@
 -- The state that a plain system holds, read from its vectors.
-use Rattle.std.specs.Prelude.{ℕ, suc, max, Bool, true, false, not, ◌&&◌, ◌||◌, Option, Some, None, is_some, if◌then◌else◌, nat_lt, List, map, filter, find, length, get_or, bit_and}
+use Rattle.std.specs.Prelude.{ℕ, suc, max, Bool, true, false, not, ◌&&◌, ◌||◌, Option, Some, None, is_some}
+use Rattle.std.specs.Prelude.{if◌then◌else◌, nat_lt, List, map, filter, find, length, get_or, bit_and}
 use Rattle.std.specs.BTreeMap.{get}
 use Rattle.std.specs.Ordering.{nat_cmp}
 use Rattle.nio_base.specs.declared.limits.Limits.{Limits}
 use Rattle.nio_base.specs.declared.numbers.CallerNo.{CallerNo}
 use Rattle.nio_base.specs.declared.numbers.KeyId.{KeyId}
-use Rattle.nio_event.specs.State.{unmade_channel, open_gate, unclaimed, unmarked, last_serial, put, with_key, with_interest, with_mark, with_note, with_free}
+use Rattle.nio_event.specs.State.{unmade_channel, open_gate, unclaimed, unmarked, last_serial, put, with_key}
+use Rattle.nio_event.specs.State.{with_interest, with_mark, with_note, with_free}
 use Rattle.nio_event.specs.Sets.{in_key_set, in_cancelled_set, is_in_key_set, is_valid}
 use Rattle.nio_event.specs.declared.found.Mode.{Mode}
 use Rattle.nio_event.specs.declared.found.Chan.{Chan}
@@ -312,4 +314,6 @@ rules_of p = p.rules
 abbrev pub with_key_row : ScriptState → ℕ → ℕ → KeyRow → ScriptState
 with_key_row st s i k =
     with_shared st
-    (with_free (with_note (with_mark (with_interest (with_key st.shared s i k.stage) s i k.interest) s i k.mark) s i k.note) s i k.free)
+    (with_free
+    (with_note (with_mark (with_interest (with_key st.shared s i k.stage) s i k.interest) s i k.mark) s i k.note) s
+    i k.free)

@@ -7,7 +7,8 @@ use Rattle.nio_base.specs.declared.numbers.CallerNo.{CallerNo}
 use Rattle.nio_base.specs.declared.numbers.ChanNo.{ChanNo}
 use Rattle.nio_base.specs.declared.numbers.KeyId.{KeyId}
 use Rattle.nio_base.specs.declared.numbers.SelNo.{SelNo}
-use Rattle.nio_event.specs.Sets.{in_key_set, in_cancelled_set, in_selected_set, is_valid, was_published, is_in_key_set, is_valid_key, IsRegistered}
+use Rattle.nio_event.specs.Sets.{in_key_set, in_cancelled_set, in_selected_set, is_valid, was_published, is_in_key_set}
+use Rattle.nio_event.specs.Sets.{is_valid_key, IsRegistered}
 use Rattle.nio_event.specs.State.{State}
 use Rattle.nio_event.specs.declared.call.Call.TheVariants as call
 use Rattle.nio_event.specs.declared.call.ScriptCall.{ScriptCall}
@@ -33,7 +34,8 @@ pub record AreWithinKeySet (st : State) : Type 0 where
 
 -- the cancelled set and the selected set are within the key set, and nothing outside it is marked so
 abbrev pub SetsAreWithinKeySet : Type 0
-SetsAreWithinKeySet = (rules : Rules) (l : Limits) (calls : List ScriptCall) → AreWithinKeySet (left_by_script rules l calls).shared
+SetsAreWithinKeySet = (rules : Rules) (l : Limits) (calls : List ScriptCall)
+    → AreWithinKeySet (left_by_script rules l calls).shared
 
 -- each key of a key set is below its selector's mark, so that a selection that begins looks at all keys
 -- of the key set
@@ -111,7 +113,8 @@ NewKeyIsNew = (rules : Rules) (l : Limits) (calls : List ScriptCall) (c : Script
 
 -- two keys of a selector have different names: those of one index have different serials
 abbrev pub NewKeysDiffer : Type 0
-NewKeysDiffer = (rules : Rules) (l : Limits) (calls more : List ScriptCall) (first second : ScriptCall) (s : ℕ) (k m : KeyId)
+NewKeysDiffer =
+    (rules : Rules) (l : Limits) (calls more : List ScriptCall) (first second : ScriptCall) (s : ℕ) (k m : KeyId)
     → IsNewKey rules l (left_by_script rules l calls) first s k
     → IsNewKey rules l (left_by_script rules l (calls ++ first ∷ more)) second s m
     → k ≢ m
@@ -172,7 +175,8 @@ pub record IsLeftByARun (g : Group) : Type 0 where
 
 -- the group that a script leaves is left by a run of the group, so that what holds of runs holds of it
 abbrev pub GroupIsLeftByARun : Type 0
-GroupIsLeftByARun = (rules : Rules) (l : Limits) (calls : List ScriptCall) → IsLeftByARun (left_by_script rules l calls).group
+GroupIsLeftByARun = (rules : Rules) (l : Limits) (calls : List ScriptCall)
+    → IsLeftByARun (left_by_script rules l calls).group
 
 -- and it is lawful
 abbrev pub GroupIsLawful : Type 0

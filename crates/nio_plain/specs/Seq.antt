@@ -33,7 +33,8 @@ use Rattle.nio_plain.specs.Seq.Answers.{Answered, unchanged}
 use Rattle.nio_plain.specs.Seq.Cancelling.{closec_call, cancel_call}
 use Rattle.nio_plain.specs.Seq.Closing.{close_call, close_end_call}
 use Rattle.nio_plain.specs.Seq.Grouping.{group_call}
-use Rattle.nio_plain.specs.Seq.Keys.{valid_call, interest_call, ready_call, iset_call, ior_call, iand_call, unselect_call, attach_call, attachment_call}
+use Rattle.nio_plain.specs.Seq.Keys.{valid_call, interest_call, ready_call, iset_call, ior_call, iand_call}
+use Rattle.nio_plain.specs.Seq.Keys.{unselect_call, attach_call, attachment_call}
 use Rattle.nio_plain.specs.Seq.Listing.{keys_call, selected_call}
 use Rattle.nio_plain.specs.Seq.Modes.{blocking_call, is_blocking_call, is_open_call, is_registered_call, key_for_call}
 use Rattle.nio_plain.specs.Seq.Opening.{selector_call, channel_call}

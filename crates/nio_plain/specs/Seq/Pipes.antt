@@ -1,5 +1,6 @@
 -- The pipes of a state: whose ends they are, and the end mark.
-use Rattle.std.specs.Prelude.{ℕ, ◌==◌, ◌&&◌, Bool, true, false, Option, Some, None, List, [], position, slice_index_or, slice_set}
+use Rattle.std.specs.Prelude.{ℕ, ◌==◌, ◌&&◌, Bool, true, false, Option, Some, None, List, [], position, slice_index_or}
+use Rattle.std.specs.Prelude.{slice_set}
 use Rattle.nio_base.specs.declared.numbers.CallerNo.{CallerNo}
 use Rattle.nio_base.specs.declared.numbers.ChanNo.{ChanNo}
 use Rattle.nio_plain.specs.ScriptState.{Pipe, ScriptState, with_pipes}

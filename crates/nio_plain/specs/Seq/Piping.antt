@@ -5,7 +5,8 @@
 -- A call in blocking mode that finds its caller interrupted closes its channel, and the status stays set. Where
 -- nothing is to be read, or no byte has room, a call in blocking mode would wait: its reply is `again`. In
 -- non-blocking mode it is 0.
-use Rattle.std.specs.Prelude.{ℕ, ◌-◌, ◌==◌, nat_lt, min, Bool, true, false, ◌&&◌, if◌then◌else◌, Option, Some, None, List, [], ◌∷◌, ◌++◌, length, take, drop}
+use Rattle.std.specs.Prelude.{ℕ, ◌-◌, ◌==◌, nat_lt, min, Bool, true, false, ◌&&◌, if◌then◌else◌, Option, Some, None}
+use Rattle.std.specs.Prelude.{List, [], ◌∷◌, ◌++◌, length, take, drop}
 use Rattle.nio_base.specs.declared.kind.Kind.TheVariants.{Source, Sink}
 use Rattle.nio_base.specs.declared.limits.Limits.{Limits}
 use Rattle.nio_base.specs.declared.numbers.CallerNo.{CallerNo}
@@ -105,7 +106,8 @@ abbrev pub write_to : ScriptState → CallerNo → ChanNo → List ℕ → Optio
 write_to st me c bytes None = unchanged st reply.NotOwner
 write_to st me c bytes (Some i) =
     if (st.shared.chan c.0).closed then marking (Some i) (unchanged st reply.ClosedChannel)
-    else if finds_interrupt st me c then marking (Some i) (answered st reply.ClosedByInterrupt (channel_closed st.shared c.0))
+    else if finds_interrupt st me c
+    then marking (Some i) (answered st reply.ClosedByInterrupt (channel_closed st.shared c.0))
     else if (st.shared.chan (pipe_at st i).source.0).closed then unchanged st reply.BrokenPipe
     else if length bytes == 0 then unchanged st (reply.Number 0)
     else write_first st (st.shared.chan c.0).blocking bytes i (room_for bytes (pipe_at st i))

@@ -2,14 +2,16 @@
 -- the key set. A valid key gets the new interest; else there is a new key. Its index is the least free
 -- one, with the next serial; where none is free, it is the number of indexes claimed so far, with
 -- serial 0.
-use Rattle.std.specs.Prelude.{ℕ, suc, ◌==◌, max, nat_lt, Bool, true, false, not, if◌then◌else◌, Option, Some, None, bit_and, find}
+use Rattle.std.specs.Prelude.{ℕ, suc, ◌==◌, max, nat_lt, Bool, true, false, not, if◌then◌else◌, Option, Some, None}
+use Rattle.std.specs.Prelude.{bit_and, find}
 use Rattle.nio_base.specs.Kind.{valid_operations}
 use Rattle.nio_base.specs.declared.kind.Kind.{Kind}
 use Rattle.nio_base.specs.declared.limits.Limits.{Limits}
 use Rattle.nio_base.specs.declared.numbers.ChanNo.{ChanNo}
 use Rattle.nio_base.specs.declared.numbers.KeyId.{KeyId}
 use Rattle.nio_base.specs.declared.numbers.SelNo.{SelNo}
-use Rattle.nio_event.specs.State.{State, unmarked, with_noted, with_keys_high, with_key, with_interest, with_mark, with_note, with_free}
+use Rattle.nio_event.specs.State.{State, unmarked, with_noted, with_keys_high, with_key, with_interest, with_mark}
+use Rattle.nio_event.specs.State.{with_note, with_free}
 use Rattle.nio_event.specs.declared.found.Stage.{Stage}
 use Rattle.nio_event.specs.declared.reply.Reply.TheVariants as reply
 use Rattle.nio_plain.specs.ScriptState.{ScriptState}
@@ -55,7 +57,8 @@ new_stage c serial = record {
 abbrev pub with_new_key : State → ℕ → ℕ → KeyId → ℕ → ℕ → State
 with_new_key st s c k ops att =
     let i = k.index in
-    let claimed = with_keys_high (with_free (with_key st s i (new_stage c k.serial)) s i false) s (max (st.keys_high s) (suc i)) in
+    let claimed = with_keys_high (with_free (with_key st s i (new_stage c k.serial)) s i false) s
+    (max (st.keys_high s) (suc i)) in
     with_note (with_mark (with_interest (with_noted claimed c s (Some k)) s i ops) s i unmarked) s i att
 
 abbrev pub registered_new : ScriptState → ℕ → ℕ → ℕ → ℕ → Option KeyId → Answered

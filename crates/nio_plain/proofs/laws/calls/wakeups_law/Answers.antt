@@ -1,4 +1,5 @@
-use Rattle.nio_plain.proofs.CallLawsWakeups.{wakeups_are_pending, further_wakeups_change_nothing, wakeups_are_answered, wakeups_act_as_one}
+use Rattle.nio_plain.proofs.CallLawsWakeups.{wakeups_are_pending, further_wakeups_change_nothing, wakeups_are_answered}
+use Rattle.nio_plain.proofs.CallLawsWakeups.{wakeups_act_as_one}
 use Rattle.nio_plain.proofs.laws.calls.wakeups_law.Goals as goal
 
 pub returns-clause-pending : goal.returns-clause-pending

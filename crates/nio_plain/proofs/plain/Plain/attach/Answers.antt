@@ -17,7 +17,8 @@ returns-then-not-fits c =
     let id = c.args.id in
     let other = ap (λ (k : KeyRow). fits k.stage id.serial) c.in-Ok.ensures.row ∙ sym c.if-not-fits.ensures in
     unchanged_without_memory p _ _
-    (c.in-Ok.ensures.through _ ∙ cond-false (fits (st.shared.key c.args.sel.0 id.index) id.serial) _ (unchanged st (reply.Number 0)) other)
+    (c.in-Ok.ensures.through _
+    ∙ cond-false (fits (st.shared.key c.args.sel.0 id.index) id.serial) _ (unchanged st (reply.Number 0)) other)
 
 pub returns : goal.returns
 unfolding attach_call
@@ -28,7 +29,8 @@ returns c =
     let row = c.in-Ok.ensures.row in
     let same = ap (λ (k : KeyRow). fits k.stage id.serial) row ∙ sym c.if-not-fits.ensures in
     answered_without_memory p _ _ _ _
-    (c.in-Ok.ensures.through _ ∙ cond-true (fits (st.shared.key c.args.sel.0 id.index) id.serial) _ (unchanged st (reply.Number 0)) same)
+    (c.in-Ok.ensures.through _
+    ∙ cond-true (fits (st.shared.key c.args.sel.0 id.index) id.serial) _ (unchanged st (reply.Number 0)) same)
     (ap (λ (k : KeyRow). reply.Number k.note) (sym row))
     (c.put_key.ensures.left ∙ key-note p c.args.sel.0 id.index (key_row c.in-Ok.key) row c.args.note)
     c.put_key.ensures.kept

@@ -16,7 +16,10 @@ returns-then-not-fits c =
     let id = c.args.id in
     let other = ap (λ (k : KeyRow). fits k.stage id.serial) c.in-Ok.ensures.row ∙ sym c.if-not-fits.ensures in
     unchanged_without_memory p _ _
-    (c.in-Ok.ensures.through _ ∙ ap (λ n. unchanged st (reply.Number n)) (cond-false (fits (st.shared.key c.args.sel.0 id.index) id.serial) (st.shared.note c.args.sel.0 id.index) 0 other))
+    (c.in-Ok.ensures.through _
+    ∙ ap (λ n. unchanged st (reply.Number n))
+    (cond-false (fits (st.shared.key c.args.sel.0 id.index) id.serial) (st.shared.note c.args.sel.0 id.index) 0
+    other))
 
 pub returns : goal.returns
 unfolding attachment_call
@@ -27,7 +30,10 @@ returns c =
     let row = c.in-Ok.ensures.row in
     let same = ap (λ (k : KeyRow). fits k.stage id.serial) row ∙ sym c.if-not-fits.ensures in
     unchanged_without_memory p _ _
-    (c.in-Ok.ensures.through _ ∙ ap (λ n. unchanged st (reply.Number n)) (cond-true (fits (st.shared.key c.args.sel.0 id.index) id.serial) (st.shared.note c.args.sel.0 id.index) 0 same ∙ ap (λ (k : KeyRow). k.note) row))
+    (c.in-Ok.ensures.through _
+    ∙ ap (λ n. unchanged st (reply.Number n))
+    (cond-true (fits (st.shared.key c.args.sel.0 id.index) id.serial) (st.shared.note c.args.sel.0 id.index) 0
+    same ∙ ap (λ (k : KeyRow). k.note) row))
 
 pub returns-in-Err : goal.returns-in-Err
 unfolding attachment_call

@@ -20,10 +20,12 @@ returns-then-not-is_in_key_set c =
     let s = c.args.sel.0 in
     let id = c.args.id in
     let stage = st.shared.key s id.index in
-    let out = ap (λ (k : KeyRow). is_in_key_set k.stage id.serial) c.in-Ok.ensures.row ∙ sym c.if-not-is_in_key_set.ensures in
+    let out = ap (λ (k : KeyRow). is_in_key_set k.stage id.serial) c.in-Ok.ensures.row
+    ∙ sym c.if-not-is_in_key_set.ensures in
     let same = cond-false (is_in_key_set stage id.serial) (cancelled_key stage) stage out in
     unchanged_without_memory p _ _
-    (c.in-Ok.ensures.through _ ∙ ap (answered st reply.«Ok») (ap (with_key st.shared s id.index) same ∙ stage-same p s id.index))
+    (c.in-Ok.ensures.through _
+    ∙ ap (answered st reply.«Ok») (ap (with_key st.shared s id.index) same ∙ stage-same p s id.index))
 
 pub returns : goal.returns
 unfolding cancel_call
@@ -35,11 +37,14 @@ returns c =
     let stage = st.shared.key s id.index in
     let row = c.in-Ok.ensures.row in
     let in_set = ap (λ (k : KeyRow). is_in_key_set k.stage id.serial) row ∙ sym c.if-not-is_in_key_set.ensures in
-    let same = cond-true (is_in_key_set stage id.serial) (cancelled_key stage) stage in_set ∙ ap (λ (k : KeyRow). cancelled_key k.stage) row in
+    let same = cond-true (is_in_key_set stage id.serial) (cancelled_key stage) stage in_set
+    ∙ ap (λ (k : KeyRow). cancelled_key k.stage) row in
     answered_without_memory p _ _ _ _
     (c.in-Ok.ensures.through _)
     refl
-    ((c.put_key.ensures.left ∙ key-stage p s id.index (key_row c.in-Ok.key) row (cancelled_key (key_row c.in-Ok.key).stage)) ∙ ap (λ (x : Stage). with_shared st (with_key st.shared s id.index x)) (sym same))
+    ((c.put_key.ensures.left
+    ∙ key-stage p s id.index (key_row c.in-Ok.key) row (cancelled_key (key_row c.in-Ok.key).stage))
+    ∙ ap (λ (x : Stage). with_shared st (with_key st.shared s id.index x)) (sym same))
     c.put_key.ensures.kept
 
 pub returns-in-Err : goal.returns-in-Err

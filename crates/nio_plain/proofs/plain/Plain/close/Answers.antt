@@ -25,7 +25,8 @@ returns-then-is_shut c =
     let row = read_row p s c.in-Ok.place c.index.result.now c.in-Ok.ensures.place within c.index.ensures in
     let shut = ap (λ (r : SelectorRow). r.gate.shut) row ∙ sym c.if-is_shut.ensures in
     unchanged_without_memory p _ _
-    (c.in-Ok.ensures.through _ ∙ cond-true ((state_of p).shared.gate s).shut (unchanged (state_of p) reply.Already) _ shut)
+    (c.in-Ok.ensures.through _
+    ∙ cond-true ((state_of p).shared.gate s).shut (unchanged (state_of p) reply.Already) _ shut)
 
 pub returns : goal.returns
 unfolding close_call
@@ -39,14 +40,18 @@ returns c =
     let opened = ap (λ (r : SelectorRow). r.gate.shut) row ∙ sym c.if-is_shut.ensures in
     let unfinished = not_finished x.closing (ap (λ (r : SelectorRow). r.gate.shut) (sym row') ∙ opened) in
     let shuts : SelectorRow → SelectorRow = λ r. record r { gate = record r.gate { shut = true } } in
-    let shuts' : ScriptState → ScriptState = λ st. with_shared st (with_gate st.shared s (record (st.shared.gate s) { shut = true })) in
+    let shuts' : ScriptState
+    → ScriptState = λ st. with_shared st (with_gate st.shared s (record (st.shared.gate s) { shut = true })) in
     let closes : SelectorRow → SelectorRow = λ r. record r { closer = Some c.args.me } in
     let closes' : ScriptState → ScriptState = λ st. with_shared st (with_closer st.shared s (Some c.args.me)) in
-    let both = then _ _ _ _ _ s shuts closes shuts' closes' (makes-gate _ _ _ _ _ s (λ g. record g { shut = true })) (makes-closer _ _ _ _ _ s (Some c.args.me)) in
+    let both = then _ _ _ _ _ s shuts closes shuts' closes' (makes-gate _ _ _ _ _ s (λ g. record g { shut = true }))
+    (makes-closer _ _ _ _ _ s (Some c.args.me)) in
     answered_without_memory p _ _ _ _
-    (c.in-Ok.ensures.through _ ∙ cond-false ((state_of p).shared.gate s).shut (unchanged (state_of p) reply.Already) _ opened)
+    (c.in-Ok.ensures.through _
+    ∙ cond-false ((state_of p).shared.gate s).shut (unchanged (state_of p) reply.Already) _ opened)
     refl
-    (changed_selector p s c.in-Ok.place x _ (λ r. closes (shuts r)) (λ st. closes' (shuts' st)) both c.in-Ok.ensures.place within c.index_mut.ensures.value
+    (changed_selector p s c.in-Ok.place x _ (λ r. closes (shuts r))
+    (λ st. closes' (shuts' st)) both c.in-Ok.ensures.place within c.index_mut.ensures.value
     (λ j. record (selector_row x) {
       gate = record { woken = x.woken; shut = true };
       closer = Some c.args.me;

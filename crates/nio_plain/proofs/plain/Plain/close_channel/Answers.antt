@@ -22,7 +22,9 @@ returns-then-channel c =
     let st = state_of p in
     let closed = ap (λ (x : Chan). x.closed) c.in-Ok.ensures.row ∙ c.if-channel.true in
     answered_without_memory p _ _ _ _
-    (c.in-Ok.ensures.through _ ∙ ap (marking (own_sink st c.args.me c.args.chan)) (cond-true (st.shared.chan c.args.chan.0).closed (unchanged st reply.Already) _ closed))
+    (c.in-Ok.ensures.through _
+    ∙ ap (marking (own_sink st c.args.me c.args.chan))
+    (cond-true (st.shared.chan c.args.chan.0).closed (unchanged st reply.Already) _ closed))
     refl
     c.leave_mark.ensures.left
     (record { limits = c.leave_mark.ensures.kept.limits; rules = c.leave_mark.ensures.kept.rules })
@@ -34,9 +36,12 @@ returns c =
     let st = state_of p in
     let opened = ap (λ (x : Chan). x.closed) c.in-Ok.ensures.row ∙ c.if-channel.false in
     answered_without_memory p _ _ _ _
-    (c.in-Ok.ensures.through _ ∙ ap (marking (own_sink st c.args.me c.args.chan)) (cond-false (st.shared.chan c.args.chan.0).closed (unchanged st reply.Already) _ opened))
+    (c.in-Ok.ensures.through _
+    ∙ ap (marking (own_sink st c.args.me c.args.chan))
+    (cond-false (st.shared.chan c.args.chan.0).closed (unchanged st reply.Already) _ opened))
     refl
-    (c.leave_mark-2.ensures.left ∙ ap (λ (m : ScriptState). with_mark (own_sink m c.args.me c.args.chan) m) c.shut_channel.ensures.left)
+    (c.leave_mark-2.ensures.left
+    ∙ ap (λ (m : ScriptState). with_mark (own_sink m c.args.me c.args.chan) m) c.shut_channel.ensures.left)
     (record {
       limits = c.leave_mark-2.ensures.kept.limits ∙ c.shut_channel.ensures.kept.limits;
       rules = c.leave_mark-2.ensures.kept.rules ∙ c.shut_channel.ensures.kept.rules;

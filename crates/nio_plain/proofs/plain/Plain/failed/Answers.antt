@@ -34,7 +34,9 @@ returns-then-selecting-me c =
     let within : c.args.sel.0 < length p.selectors.items = omega (arith, p.selectors.ok.0, c.in-Ok.ensures.made) in
     let row = read_row p s c.in-Ok.place x c.in-Ok.ensures.place within c.index.ensures in
     unchanged_without_memory p _ _
-    (c.in-Ok.ensures.through _ ∙ ap (left_selection (state_of p) s) (own-others p c.args.me s x row c.in-Some.selecting c.in-Some.is c.if-selecting-me.true))
+    (c.in-Ok.ensures.through _
+    ∙ ap (left_selection (state_of p) s)
+    (own-others p c.args.me s x row c.in-Some.selecting c.in-Some.is c.if-selecting-me.true))
 
 pub returns : goal.returns
 unfolding failed_call
@@ -45,9 +47,16 @@ returns c =
     let within : c.args.sel.0 < length p.selectors.items = omega (arith, p.selectors.ok.0, c.in-Ok.ensures.made) in
     let row = read_row p s c.in-Ok.place x c.in-Ok.ensures.place within c.index.ensures in
     let leaves : SelectorRow → SelectorRow = λ r. record r { turn = None; selection = None } in
-    let leaves' : ScriptState → ScriptState = λ m. record m { shared = with_begun (with_turn m.shared s None) s false; selection = put m.selection s None } in
+    let leaves' : ScriptState
+    → ScriptState = λ m. record m {
+      shared = with_begun (with_turn m.shared s None) s false;
+      selection = put m.selection s None;
+    } in
     answered_without_memory p _ _ _ _
-    (c.in-Ok.ensures.through _ ∙ ap (left_selection (state_of p) s) (own-some p c.args.me s x row c.in-Some.selecting c.in-Some.is c.if-selecting-me.false))
+    (c.in-Ok.ensures.through _
+    ∙ ap (left_selection (state_of p) s)
+    (own-some p c.args.me s x row c.in-Some.selecting c.in-Some.is c.if-selecting-me.false))
     refl
-    (changed_selector p s c.in-Ok.place c.index_mut.result.now _ leaves leaves' (makes-selecting _ _ _ _ _ s None None) c.in-Ok.ensures.place within c.index_mut.ensures.value refl)
+    (changed_selector p s c.in-Ok.place c.index_mut.result.now _ leaves leaves' (makes-selecting _ _ _ _ _ s None None)
+    c.in-Ok.ensures.place within c.index_mut.ensures.value refl)
     (record { limits = refl; rules = refl })

@@ -20,7 +20,8 @@ returns c =
     answered_without_memory p _ _ _ _
     (c.in-Ok.ensures.through _)
     (ap reply.Number ((c.from.ensures ∙ c.bits.ensures.bits) ∙ ap (λ (k : KeyRow). k.interest) (sym row)))
-    ((c.put_key.ensures.left ∙ key-interest p s i (key_row c.in-Ok.key) row c.meet-interest.result) ∙ ap (λ n. with_shared st (with_interest st.shared s i n)) changed)
+    ((c.put_key.ensures.left ∙ key-interest p s i (key_row c.in-Ok.key) row c.meet-interest.result)
+    ∙ ap (λ n. with_shared st (with_interest st.shared s i n)) changed)
     c.put_key.ensures.kept
 
 pub returns-in-Err : goal.returns-in-Err

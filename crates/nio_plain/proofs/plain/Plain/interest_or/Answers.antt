@@ -16,9 +16,12 @@ unfolding ior_call
 returns-then-not-are_legal c =
     let p = c.args.self.now in
     let st = state_of p in
-    let illegal = ap (λ (k : KeyRow). are_legal (st.shared.chan k.stage.chan.0).kind c.args.ops) c.in-Ok.ensures.row ∙ sym c.if-not-are_legal.ensures in
+    let illegal = ap (λ (k : KeyRow). are_legal (st.shared.chan k.stage.chan.0).kind c.args.ops) c.in-Ok.ensures.row
+    ∙ sym c.if-not-are_legal.ensures in
     unchanged_without_memory p _ _
-    (c.in-Ok.ensures.through _ ∙ cond-false (are_legal_at st.shared c.args.sel.0 c.args.id.index c.args.ops) _ (unchanged st reply.IllegalOps) illegal)
+    (c.in-Ok.ensures.through _
+    ∙ cond-false (are_legal_at st.shared c.args.sel.0 c.args.id.index c.args.ops) _
+    (unchanged st reply.IllegalOps) illegal)
 
 pub returns : goal.returns
 unfolding ior_call
@@ -28,12 +31,15 @@ returns c =
     let s = c.args.sel.0 in
     let i = c.args.id.index in
     let row = c.in-Ok.ensures.row in
-    let legal = ap (λ (k : KeyRow). are_legal (st.shared.chan k.stage.chan.0).kind c.args.ops) row ∙ sym c.if-not-are_legal.ensures in
+    let legal = ap (λ (k : KeyRow). are_legal (st.shared.chan k.stage.chan.0).kind c.args.ops) row
+    ∙ sym c.if-not-are_legal.ensures in
     let changed = c.union-interest.ensures ∙ ap (λ (k : KeyRow). bit_or k.interest c.args.ops) (sym row) in
     answered_without_memory p _ _ _ _
-    (c.in-Ok.ensures.through _ ∙ cond-true (are_legal_at st.shared s i c.args.ops) _ (unchanged st reply.IllegalOps) legal)
+    (c.in-Ok.ensures.through _
+    ∙ cond-true (are_legal_at st.shared s i c.args.ops) _ (unchanged st reply.IllegalOps) legal)
     (ap reply.Number ((c.from.ensures ∙ c.bits.ensures.bits) ∙ ap (λ (k : KeyRow). k.interest) (sym row)))
-    ((c.put_key.ensures.left ∙ key-interest p s i (key_row c.in-Ok.key) row c.union-interest.result) ∙ ap (λ n. with_shared st (with_interest st.shared s i n)) changed)
+    ((c.put_key.ensures.left ∙ key-interest p s i (key_row c.in-Ok.key) row c.union-interest.result)
+    ∙ ap (λ n. with_shared st (with_interest st.shared s i n)) changed)
     c.put_key.ensures.kept
 
 pub returns-in-Err : goal.returns-in-Err

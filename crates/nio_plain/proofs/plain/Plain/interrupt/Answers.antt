@@ -10,7 +10,8 @@ use Rattle.nio_plain.proofs.plain.Plain.interrupt.Goals as goal
 pub returns-then-target-self : goal.returns-then-target-self
 unfolding interrupt_call
 returns-then-target-self c =
-    unchanged_without_memory c.args.self.now _ _ (cond-false _ _ (unchanged (state_of c.args.self.now) reply.NoCaller) (le-ltb _ _ c.if-target-self.true))
+    unchanged_without_memory c.args.self.now _ _
+    (cond-false _ _ (unchanged (state_of c.args.self.now) reply.NoCaller) (le-ltb _ _ c.if-target-self.true))
 
 pub returns : goal.returns
 unfolding interrupt_call

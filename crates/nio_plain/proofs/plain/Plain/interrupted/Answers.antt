@@ -8,7 +8,8 @@ pub returns : goal.returns
 unfolding interrupted_call
 returns c =
     let p = c.args.self.now in
-    let within : c.args.me.0 < length p.interrupted.items = omega (arith, p.interrupted.ok.0, p.each_caller, c.requires) in
+    let within : c.args.me.0 < length p.interrupted.items = omega
+    (arith, p.interrupted.ok.0, p.each_caller, c.requires) in
     answered_without_memory p _ _ _ _
     refl
     (c.yes_or_no.ensures ∙ ap yes_or_no c.is_interrupted-was.ensures)

@@ -11,7 +11,9 @@ unfolding is_open_call
 returns-in-Ok c =
     let st = state_of c.args.self.now in
     unchanged_without_memory c.args.self.now _ _
-    (c.in-Ok.ensures.through _ ∙ (ap (λ (x : Chan). unchanged st (yes_or_no (not x.closed))) c.in-Ok.ensures.row ∙ ap (unchanged st) (sym c.yes_or_no.ensures)))
+    (c.in-Ok.ensures.through _
+    ∙ (ap (λ (x : Chan). unchanged st (yes_or_no (not x.closed))) c.in-Ok.ensures.row
+    ∙ ap (unchanged st) (sym c.yes_or_no.ensures)))
 
 pub returns-in-Err : goal.returns-in-Err
 unfolding is_open_call

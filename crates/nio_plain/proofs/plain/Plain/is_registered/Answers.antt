@@ -22,7 +22,8 @@ returns-then-is_some c =
     let within : i < length xs = omega (arith, ap length c.deref-selector-items.ensures.value) in
     let item : x ≡ get_or xs i x = c.selector-item.is ∙ ap (λ ys. get_or ys i x) c.deref-selector-items.ensures.value in
     let here = ap (λ r. is_some (key_in r c.args.chan.0)) (places_at selector_row no_selector xs i x within item) in
-    sym (is_registered-some c.args.self.now c.args.chan.0 i within (here ∙ (ap is_some (sym c.key_of.ensures.key) ∙ sym c.if-is_some.ensures)))
+    sym (is_registered-some c.args.self.now c.args.chan.0 i within
+    (here ∙ (ap is_some (sym c.key_of.ensures.key) ∙ sym c.if-is_some.ensures)))
 
 pub returns : goal.returns
 returns c =

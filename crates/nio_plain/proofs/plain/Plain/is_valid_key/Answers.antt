@@ -12,7 +12,9 @@ returns-in-Ok c =
     let st = state_of c.args.self.now in
     let told = c.yes_or_no.ensures ∙ ap yes_or_no c.is_valid_key.ensures in
     unchanged_without_memory c.args.self.now _ _
-    (c.in-Ok.ensures.through _ ∙ (ap (λ (k : KeyRow). unchanged st (yes_or_no (is_valid_key k.stage c.args.id.serial))) c.in-Ok.ensures.row ∙ ap (unchanged st) (sym told)))
+    (c.in-Ok.ensures.through _
+    ∙ (ap (λ (k : KeyRow). unchanged st (yes_or_no (is_valid_key k.stage c.args.id.serial))) c.in-Ok.ensures.row
+    ∙ ap (unchanged st) (sym told)))
 
 pub returns-in-Err : goal.returns-in-Err
 unfolding valid_call

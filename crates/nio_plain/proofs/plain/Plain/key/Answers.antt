@@ -11,7 +11,8 @@ use Rattle.nio_plain.proofs.plain.Plain.key.Goals as goal
 -- a key with a higher serial was not published, and one with none was
 not_yet : (k : Key) (serial : ℕ) → k.serial < serial → was_published (key_row k).stage serial ≡ false
 not_yet k serial h =
-    ap (λ b. b || (eqb k.serial serial && true)) (le-ltb serial k.serial (omega arith)) ∙ ap (λ b. b && true) (ne_eqb k.serial serial (λ e. omega arith))
+    ap (λ b. b || (eqb k.serial serial && true)) (le-ltb serial k.serial (omega arith))
+    ∙ ap (λ b. b && true) (ne_eqb k.serial serial (λ e. omega arith))
 
 was : (k : Key) (serial : ℕ) → serial ≤ k.serial → was_published (key_row k).stage serial ≡ true
 was k serial h =
@@ -19,7 +20,8 @@ was k serial h =
     (λ (l : serial < k.serial). or_left (ltb serial k.serial) _ (lt-ltb serial k.serial l))
     (λ (l : k.serial ≤ serial).
     let same : k.serial ≡ serial = omega arith in
-    ap (λ b. b || (eqb k.serial serial && true)) (le-ltb serial k.serial l) ∙ ap (λ b. b && true) (eq-eqb k.serial serial same))
+    ap (λ b. b || (eqb k.serial serial && true)) (le-ltb serial k.serial l)
+    ∙ ap (λ b. b && true) (eq-eqb k.serial serial same))
     (cases_lt serial k.serial)
 
 pub returns-then-sel-len-clause-refused : goal.returns-then-sel-len-clause-refused
@@ -37,7 +39,9 @@ returns-then-id-len-clause-refused c =
     let at = places_at selector_row no_selector p.selectors.items c.args.sel.0 x within c.index-selector.ensures in
     let past : length x.keys.items ≤ id.index = omega (arith, x.keys.ok.0) in
     let none = ap (λ (r : SelectorRow). r.keys id.index) at ∙ places_past key_row no_key x.keys.items id.index past in
-    key-no_key (state_of p) c.args.sel id (selector_made-below p.selectors.items c.args.sel.0 within) (ap (λ (k : KeyRow). was_published k.stage id.serial) none ∙ ap (λ b. b || false) (le-ltb id.serial 0 (omega arith)))
+    key-no_key (state_of p) c.args.sel id (selector_made-below p.selectors.items c.args.sel.0 within)
+    (ap (λ (k : KeyRow). was_published k.stage id.serial) none
+    ∙ ap (λ b. b || false) (le-ltb id.serial 0 (omega arith)))
 
 pub returns-then-key-id-clause-refused : goal.returns-then-key-id-clause-refused
 returns-then-key-id-clause-refused c =
@@ -47,8 +51,11 @@ returns-then-key-id-clause-refused c =
     let within : c.args.sel.0 < length p.selectors.items = omega (arith, p.selectors.ok.0) in
     let at = places_at selector_row no_selector p.selectors.items c.args.sel.0 x within c.index-selector.ensures in
     let in_keys : id.index < length x.keys.items = omega (arith, x.keys.ok.0) in
-    let row = ap (λ (r : SelectorRow). r.keys id.index) at ∙ places_at key_row no_key x.keys.items id.index c.index-key.result.now in_keys c.index-key.ensures in
-    key-no_key (state_of p) c.args.sel id (selector_made-below p.selectors.items c.args.sel.0 within) (ap (λ (k : KeyRow). was_published k.stage id.serial) row ∙ not_yet c.index-key.result.now id.serial c.if-key-id.true)
+    let row = ap (λ (r : SelectorRow). r.keys id.index) at
+    ∙ places_at key_row no_key x.keys.items id.index c.index-key.result.now in_keys c.index-key.ensures in
+    key-no_key (state_of p) c.args.sel id (selector_made-below p.selectors.items c.args.sel.0 within)
+    (ap (λ (k : KeyRow). was_published k.stage id.serial) row
+    ∙ not_yet c.index-key.result.now id.serial c.if-key-id.true)
 
 pub returns-clause-through : goal.returns-clause-through
 returns-clause-through c =
@@ -58,8 +65,11 @@ returns-clause-through c =
     let within : c.args.sel.0 < length p.selectors.items = omega (arith, p.selectors.ok.0) in
     let at = places_at selector_row no_selector p.selectors.items c.args.sel.0 x within c.index-selector.ensures in
     let in_keys : id.index < length x.keys.items = omega (arith, x.keys.ok.0) in
-    let row = ap (λ (r : SelectorRow). r.keys id.index) at ∙ places_at key_row no_key x.keys.items id.index c.index-key.result.now in_keys c.index-key.ensures in
-    key-through (state_of p) c.args.sel id (selector_made-below p.selectors.items c.args.sel.0 within) (ap (λ (k : KeyRow). was_published k.stage id.serial) row ∙ was c.index-key.result.now id.serial c.if-key-id.false)
+    let row = ap (λ (r : SelectorRow). r.keys id.index) at
+    ∙ places_at key_row no_key x.keys.items id.index c.index-key.result.now in_keys c.index-key.ensures in
+    key-through (state_of p) c.args.sel id (selector_made-below p.selectors.items c.args.sel.0 within)
+    (ap (λ (k : KeyRow). was_published k.stage id.serial) row
+    ∙ was c.index-key.result.now id.serial c.if-key-id.false)
 
 pub returns-clause-row : goal.returns-clause-row
 returns-clause-row c =
@@ -68,12 +78,14 @@ returns-clause-row c =
     let within : c.args.sel.0 < length p.selectors.items = omega (arith, p.selectors.ok.0) in
     let at = places_at selector_row no_selector p.selectors.items c.args.sel.0 x within c.index-selector.ensures in
     let in_keys : c.args.id.index < length x.keys.items = omega (arith, x.keys.ok.0) in
-    ap (λ (r : SelectorRow). r.keys c.args.id.index) at ∙ places_at key_row no_key x.keys.items c.args.id.index c.index-key.result.now in_keys c.index-key.ensures
+    ap (λ (r : SelectorRow). r.keys c.args.id.index) at
+    ∙ places_at key_row no_key x.keys.items c.args.id.index c.index-key.result.now in_keys c.index-key.ensures
 
 pub returns-clause-claimed : goal.returns-clause-claimed
 returns-clause-claimed c =
     let p = c.args.self.now in
     let x = c.index-selector.result.now in
     let within : c.args.sel.0 < length p.selectors.items = omega (arith, p.selectors.ok.0) in
-    let mark = ap (λ (r : SelectorRow). r.keys_high) (places_at selector_row no_selector p.selectors.items c.args.sel.0 x within c.index-selector.ensures) in
+    let mark = ap (λ (r : SelectorRow). r.keys_high)
+    (places_at selector_row no_selector p.selectors.items c.args.sel.0 x within c.index-selector.ensures) in
     omega (arith, x.keys.ok.0, mark)

@@ -26,7 +26,8 @@ returns-in-Some c =
     let read = c.index.ensures ∙ ap (λ n. get_or p.selectors.items n x) c.in-Ok.ensures.place in
     let key = key_of-read p c.args.sel.0 c.args.chan.0 x (Some c.in-Some.key) within read c.in-Some.ensures.key in
     unchanged_without_memory p _ _
-    (c.in_default.ensures.through _ ∙ (c.in-Ok.ensures.through _ ∙ ap (λ (o : Option KeyId). unchanged (state_of p) (name_or_none o)) key))
+    (c.in_default.ensures.through _
+    ∙ (c.in-Ok.ensures.through _ ∙ ap (λ (o : Option KeyId). unchanged (state_of p) (name_or_none o)) key))
 
 pub returns-in-None : goal.returns-in-None
 unfolding key_for_call
@@ -37,4 +38,5 @@ returns-in-None c =
     let read = c.index.ensures ∙ ap (λ n. get_or p.selectors.items n x) c.in-Ok.ensures.place in
     let key = key_of-read p c.args.sel.0 c.args.chan.0 x None within read c.in-None.ensures.key in
     unchanged_without_memory p _ _
-    (c.in_default.ensures.through _ ∙ (c.in-Ok.ensures.through _ ∙ ap (λ (o : Option KeyId). unchanged (state_of p) (name_or_none o)) key))
+    (c.in_default.ensures.through _
+    ∙ (c.in-Ok.ensures.through _ ∙ ap (λ (o : Option KeyId). unchanged (state_of p) (name_or_none o)) key))

@@ -9,4 +9,6 @@ returns-clause-left c =
     let p = c.args.self.now in
     let x = c.index_mut.result.now in
     let within : c.args.place < length p.pipes.items = omega (arith, p.pipes.ok.0, c.requires) in
-    ap (with_pipes (state_of p)) (changed_pipe p.pipes.items c.args.place x (record x { marked = true }) (λ (q : Pipe). record q { marked = true }) within c.index_mut.ensures.value refl)
+    ap (with_pipes (state_of p))
+    (changed_pipe p.pipes.items c.args.place x (record x { marked = true })
+    (λ (q : Pipe). record q { marked = true }) within c.index_mut.ensures.value refl)

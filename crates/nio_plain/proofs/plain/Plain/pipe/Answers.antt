@@ -1,4 +1,5 @@
-use Rattle.std.proofs.Common.{◌≡◌, ◌+◌, ◌<◌, ◌≤◌, false, nat_lt, Some, None, List, [], ◌∷◌, ◌++◌, length, refl, sym, ap, ◌∙◌, arith}
+use Rattle.std.proofs.Common.{◌≡◌, ◌+◌, ◌<◌, ◌≤◌, false, nat_lt, Some, None, List, [], ◌∷◌, ◌++◌, length, refl, sym, ap}
+use Rattle.std.proofs.Common.{◌∙◌, arith}
 use Rattle.std.proofs.lemmas.Bool.{cond-true, cond-false, le-ltb, lt-ltb}
 use Rattle.std.proofs.lemmas.List.{length_push}
 use Rattle.nio_base.specs.declared.kind.Kind.TheVariants.{Source, Sink}
@@ -103,7 +104,8 @@ returns c =
     answered_as p _ _ _ _
     (pipe_call-is l st c.args.me c.args.target (length xs) (Some (length ys)) within next after)
     (λ i. reply.Ends (record { 0 = number i }) (record { 0 = second i }))
-    (sink_made p ps c.push_reserved-3.new.self.items ys c.push_reserved-2.new.self.items c.new-2.result one pipe one_more
+    (sink_made p ps c.push_reserved-3.new.self.items ys c.push_reserved-2.new.self.items c.new-2.result one pipe
+    one_more
     c.push_reserved-2.ensures.items (ap channel_row c.new-2.ensures) is
     ∙ ap (λ (m : ScriptState). with_pipes (channel_made m Sink (Some (length ys))).left (m.pipes ++ pipe ∷ [])) made)
     (record { limits = refl; rules = refl })

@@ -17,7 +17,8 @@ put_key-requires c =
     let p = c.args.self.now in
     let x = c.index_mut.result.now in
     let made = claimed-made p c.args.sel.0 c.args.index c.requires in
-    let mark = ap (λ (r : SelectorRow). r.keys_high) (places_at selector_row no_selector p.selectors.items c.args.sel.0 x made c.index_mut.ensures.value) in
+    let mark = ap (λ (r : SelectorRow). r.keys_high)
+    (places_at selector_row no_selector p.selectors.items c.args.sel.0 x made c.index_mut.ensures.value) in
     omega (arith, x.keys.ok.0, c.requires, mark)
 
 pub returns-clause-left : goal.returns-clause-left
@@ -26,6 +27,8 @@ returns-clause-left c =
     let s = c.args.sel.0 in
     let key = key_row c.args.key in
     let made = claimed-made p s c.args.index c.requires in
-    let at = places_at selector_row no_selector p.selectors.items s c.index_mut.result.now made c.index_mut.ensures.value in
+    let at = places_at selector_row no_selector p.selectors.items s c.index_mut.result.now made
+    c.index_mut.ensures.value in
     let row = c.put_key.ensures ∙ ap (λ r. with_key_at r c.args.index key) (sym at) in
-    state-set_selector p _ s c.put_key.new.self made refl ∙ (ap (λ r. with_rows p (put (rows_of p) s r)) row ∙ state-key _ _ _ _ _ (rows_of p) s c.args.index key)
+    state-set_selector p _ s c.put_key.new.self made refl
+    ∙ (ap (λ r. with_rows p (put (rows_of p) s r)) row ∙ state-key _ _ _ _ _ (rows_of p) s c.args.index key)

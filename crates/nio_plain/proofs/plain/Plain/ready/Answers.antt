@@ -12,7 +12,8 @@ returns-in-Ok c =
     let st = state_of c.args.self.now in
     let number = ap (λ n. unchanged st (reply.Number n)) (sym (c.from.ensures ∙ c.bits.ensures.bits)) in
     unchanged_without_memory c.args.self.now _ _
-    (c.in-Ok.ensures.through _ ∙ (ap (λ (k : KeyRow). unchanged st (reply.Number k.mark.ready)) c.in-Ok.ensures.row ∙ number))
+    (c.in-Ok.ensures.through _
+    ∙ (ap (λ (k : KeyRow). unchanged st (reply.Number k.mark.ready)) c.in-Ok.ensures.row ∙ number))
 
 pub returns-in-Err : goal.returns-in-Err
 unfolding ready_call

@@ -4,7 +4,8 @@ use Rattle.nio_base.specs.Kind.{valid_operations}
 use Rattle.nio_event.specs.State.{unmade_channel}
 use Rattle.nio_plain.proofs.Answering.{selector_made-below, selector_made-past}
 use Rattle.nio_plain.proofs.Places.{places_at, places_past}
-use Rattle.nio_plain.proofs.Registering.{register-no_selector, register-no_channel, register-illegal_ops, register-closed, register-blocking, register-passed}
+use Rattle.nio_plain.proofs.Registering.{register-no_selector, register-no_channel, register-illegal_ops}
+use Rattle.nio_plain.proofs.Registering.{register-closed, register-blocking, register-passed}
 use Rattle.nio_plain.specs.PlainState.{state_of, channel_row}
 use Rattle.nio_plain.proofs.plain.Plain.refusal.Goals as goal
 
@@ -38,10 +39,13 @@ returns-then-not-within-clause-refused c =
     let in_selectors : c.args.sel.0 < length p.selectors.items = omega (arith, p.selectors.ok.0) in
     let in_channels : c.args.chan.0 < length p.channels.items = omega (arith, p.channels.ok.0) in
     let x = c.index-channel.result.now in
-    let at = places_at channel_row unmade_channel p.channels.items c.args.chan.0 x in_channels c.index-channel.ensures in
+    let at = places_at channel_row unmade_channel p.channels.items c.args.chan.0 x in_channels
+    c.index-channel.ensures in
     let made = selector_made-below p.selectors.items c.args.sel.0 in_selectors in
-    let illegal = never_valid c.args.ops c.valid_ops.result (valid_operations x.kind) c.valid_ops.ensures (λ k. true≢false (sym (c.within.ensures.1 k) ∙ c.if-not-within.true)) in
-    λ note. register-illegal_ops p.limits (state_of p) c.args.sel c.args.chan c.args.ops note made (channel_row x) at refl illegal
+    let illegal = never_valid c.args.ops c.valid_ops.result (valid_operations x.kind) c.valid_ops.ensures
+    (λ k. true≢false (sym (c.within.ensures.1 k) ∙ c.if-not-within.true)) in
+    λ note. register-illegal_ops p.limits (state_of p) c.args.sel c.args.chan c.args.ops note made
+    (channel_row x) at refl illegal
 
 pub returns-then-channel-clause-refused : goal.returns-then-channel-clause-refused
 returns-then-channel-clause-refused c =
@@ -49,10 +53,13 @@ returns-then-channel-clause-refused c =
     let in_selectors : c.args.sel.0 < length p.selectors.items = omega (arith, p.selectors.ok.0) in
     let in_channels : c.args.chan.0 < length p.channels.items = omega (arith, p.channels.ok.0) in
     let x = c.index-channel.result.now in
-    let at = places_at channel_row unmade_channel p.channels.items c.args.chan.0 x in_channels c.index-channel.ensures in
+    let at = places_at channel_row unmade_channel p.channels.items c.args.chan.0 x in_channels
+    c.index-channel.ensures in
     let made = selector_made-below p.selectors.items c.args.sel.0 in_selectors in
-    let valid = is_valid c.args.ops c.valid_ops.result (valid_operations x.kind) c.valid_ops.ensures (c.within.ensures.0 c.if-not-within.false) in
-    λ note. register-closed p.limits (state_of p) c.args.sel c.args.chan c.args.ops note made (channel_row x) at refl valid c.if-channel.true
+    let valid = is_valid c.args.ops c.valid_ops.result (valid_operations x.kind) c.valid_ops.ensures
+    (c.within.ensures.0 c.if-not-within.false) in
+    λ note. register-closed p.limits (state_of p) c.args.sel c.args.chan c.args.ops note made
+    (channel_row x) at refl valid c.if-channel.true
 
 pub returns-then-channel-2-clause-refused : goal.returns-then-channel-2-clause-refused
 returns-then-channel-2-clause-refused c =
@@ -60,10 +67,13 @@ returns-then-channel-2-clause-refused c =
     let in_selectors : c.args.sel.0 < length p.selectors.items = omega (arith, p.selectors.ok.0) in
     let in_channels : c.args.chan.0 < length p.channels.items = omega (arith, p.channels.ok.0) in
     let x = c.index-channel.result.now in
-    let at = places_at channel_row unmade_channel p.channels.items c.args.chan.0 x in_channels c.index-channel.ensures in
+    let at = places_at channel_row unmade_channel p.channels.items c.args.chan.0 x in_channels
+    c.index-channel.ensures in
     let made = selector_made-below p.selectors.items c.args.sel.0 in_selectors in
-    let valid = is_valid c.args.ops c.valid_ops.result (valid_operations x.kind) c.valid_ops.ensures (c.within.ensures.0 c.if-not-within.false) in
-    λ note. register-blocking p.limits (state_of p) c.args.sel c.args.chan c.args.ops note made (channel_row x) at refl valid c.if-channel.false c.if-channel-2.true
+    let valid = is_valid c.args.ops c.valid_ops.result (valid_operations x.kind) c.valid_ops.ensures
+    (c.within.ensures.0 c.if-not-within.false) in
+    λ note. register-blocking p.limits (state_of p) c.args.sel c.args.chan c.args.ops note made
+    (channel_row x) at refl valid c.if-channel.false c.if-channel-2.true
 
 pub returns-clause-passed : goal.returns-clause-passed
 returns-clause-passed c =
@@ -71,7 +81,10 @@ returns-clause-passed c =
     let in_selectors : c.args.sel.0 < length p.selectors.items = omega (arith, p.selectors.ok.0) in
     let in_channels : c.args.chan.0 < length p.channels.items = omega (arith, p.channels.ok.0) in
     let x = c.index-channel.result.now in
-    let at = places_at channel_row unmade_channel p.channels.items c.args.chan.0 x in_channels c.index-channel.ensures in
+    let at = places_at channel_row unmade_channel p.channels.items c.args.chan.0 x in_channels
+    c.index-channel.ensures in
     let made = selector_made-below p.selectors.items c.args.sel.0 in_selectors in
-    let valid = is_valid c.args.ops c.valid_ops.result (valid_operations x.kind) c.valid_ops.ensures (c.within.ensures.0 c.if-not-within.false) in
-    λ note. register-passed p.limits (state_of p) c.args.sel c.args.chan c.args.ops note made (channel_row x) at refl valid _ c.if-channel.false c.if-channel-2.false refl
+    let valid = is_valid c.args.ops c.valid_ops.result (valid_operations x.kind) c.valid_ops.ensures
+    (c.within.ensures.0 c.if-not-within.false) in
+    λ note. register-passed p.limits (state_of p) c.args.sel c.args.chan c.args.ops note made
+    (channel_row x) at refl valid _ c.if-channel.false c.if-channel-2.false refl

@@ -22,18 +22,23 @@ pub returns-then-index : goal.returns-then-index
 returns-then-index c =
     let p = c.args.self.now in
     let within : c.args.chan.0 < length p.channels.items = omega (arith, p.channels.ok.0) in
-    let at = places_at channel_row unmade_channel p.channels.items c.args.chan.0 c.index.result.now within c.index.ensures in
+    let at = places_at channel_row unmade_channel p.channels.items c.args.chan.0 c.index.result.now within
+    c.index.ensures in
     unchanged_without_memory p reply.ClosedChannel _
-    (blocking-closed p.limits (state_of p) c.args.chan c.args.on (channel_row c.index.result.now) at refl c.if-index.true)
+    (blocking-closed p.limits (state_of p) c.args.chan c.args.on (channel_row c.index.result.now) at refl
+    c.if-index.true)
 
 pub returns-then-is_registered : goal.returns-then-is_registered
 returns-then-is_registered c =
     let p = c.args.self.now in
     let within : c.args.chan.0 < length p.channels.items = omega (arith, p.channels.ok.0) in
-    let at = places_at channel_row unmade_channel p.channels.items c.args.chan.0 c.index.result.now within c.index.ensures in
-    let registered = and_from c.args.on (is_registered (limits_of p) (state_of p).shared c.args.chan.0) c.if-on.true (sym c.if-is_registered.ensures) in
+    let at = places_at channel_row unmade_channel p.channels.items c.args.chan.0 c.index.result.now within
+    c.index.ensures in
+    let registered = and_from c.args.on (is_registered (limits_of p) (state_of p).shared c.args.chan.0) c.if-on.true
+    (sym c.if-is_registered.ensures) in
     unchanged_without_memory p reply.IllegalBlockingMode _
-    (blocking-registered p.limits (state_of p) c.args.chan c.args.on (channel_row c.index.result.now) at refl c.if-index.false registered)
+    (blocking-registered p.limits (state_of p) c.args.chan c.args.on (channel_row c.index.result.now) at refl
+    c.if-index.false registered)
 
 pub returns : goal.returns
 returns c =
@@ -44,7 +49,12 @@ returns c =
     let at = places_at channel_row unmade_channel p.channels.items chan x within c.index_mut.ensures.value in
     let at' = places_at channel_row unmade_channel p.channels.items chan c.index.result.now within c.index.ensures in
     let opened : x.closed ≡ false = ap (λ r. r.closed) (sym at ∙ at') ∙ c.if-index.false in
-    let free : (c.args.on && is_registered (limits_of p) (state_of p).shared chan) ≡ false = elim c.else-on.branch [ else-on-via-then-on+else-is_registered w ↦ and_right c.args.on _ (sym w.if-is_registered.ensures) | else-on-via-else-on w ↦ and_left c.args.on _ w.if-on.false ] in
+    let free : (c.args.on && is_registered (limits_of p) (state_of p).shared chan)
+    ≡ false =
+    elim c.else-on.branch [
+      | else-on-via-then-on+else-is_registered w ↦ and_right c.args.on _ (sym w.if-is_registered.ensures)
+      | else-on-via-else-on w ↦ and_left c.args.on _ w.if-on.false
+    ] in
     answered_without_memory _ _ _ _ _
     (blocking-set p.limits (state_of p) c.args.chan c.args.on (channel_row x) at refl opened free)
     refl

@@ -14,9 +14,12 @@ unfolding iset_call
 returns-then-not-are_legal c =
     let p = c.args.self.now in
     let st = state_of p in
-    let illegal = ap (λ (k : KeyRow). are_legal (st.shared.chan k.stage.chan.0).kind c.args.ops) c.in-Ok.ensures.row ∙ sym c.if-not-are_legal.ensures in
+    let illegal = ap (λ (k : KeyRow). are_legal (st.shared.chan k.stage.chan.0).kind c.args.ops) c.in-Ok.ensures.row
+    ∙ sym c.if-not-are_legal.ensures in
     unchanged_without_memory p _ _
-    (c.in-Ok.ensures.through _ ∙ cond-false (are_legal_at st.shared c.args.sel.0 c.args.id.index c.args.ops) _ (unchanged st reply.IllegalOps) illegal)
+    (c.in-Ok.ensures.through _
+    ∙ cond-false (are_legal_at st.shared c.args.sel.0 c.args.id.index c.args.ops) _
+    (unchanged st reply.IllegalOps) illegal)
 
 pub returns : goal.returns
 unfolding iset_call
@@ -24,9 +27,12 @@ returns c =
     let p = c.args.self.now in
     let st = state_of p in
     let row = c.in-Ok.ensures.row in
-    let legal = ap (λ (k : KeyRow). are_legal (st.shared.chan k.stage.chan.0).kind c.args.ops) row ∙ sym c.if-not-are_legal.ensures in
+    let legal = ap (λ (k : KeyRow). are_legal (st.shared.chan k.stage.chan.0).kind c.args.ops) row
+    ∙ sym c.if-not-are_legal.ensures in
     answered_without_memory p _ _ _ _
-    (c.in-Ok.ensures.through _ ∙ cond-true (are_legal_at st.shared c.args.sel.0 c.args.id.index c.args.ops) _ (unchanged st reply.IllegalOps) legal)
+    (c.in-Ok.ensures.through _
+    ∙ cond-true (are_legal_at st.shared c.args.sel.0 c.args.id.index c.args.ops) _
+    (unchanged st reply.IllegalOps) legal)
     refl
     (c.put_key.ensures.left ∙ key-interest p c.args.sel.0 c.args.id.index (key_row c.in-Ok.key) row c.args.ops)
     c.put_key.ensures.kept

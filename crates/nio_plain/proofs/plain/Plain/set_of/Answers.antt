@@ -19,10 +19,12 @@ returns-then-is_shut c =
     let p = c.args.self.now in
     let s = c.args.sel.0 in
     let within : c.args.sel.0 < length p.selectors.items = omega (arith, p.selectors.ok.0, c.in-Ok.ensures.made) in
-    let row = read_row p s c.in-Ok.place c.index-selector.result.now c.in-Ok.ensures.place within c.index-selector.ensures in
+    let row = read_row p s c.in-Ok.place c.index-selector.result.now c.in-Ok.ensures.place within
+    c.index-selector.ensures in
     let shut = ap (λ (r : SelectorRow). r.gate.shut) row ∙ sym c.if-is_shut.ensures in
     unchanged_as p _ _
-    (c.in-Ok.ensures.through _ ∙ cond-true ((state_of p).shared.gate s).shut (unchanged (state_of p) reply.ClosedSelector) _ shut)
+    (c.in-Ok.ensures.through _
+    ∙ cond-true ((state_of p).shared.gate s).shut (unchanged (state_of p) reply.ClosedSelector) _ shut)
 
 pub returns : goal.returns
 returns c =
@@ -34,8 +36,12 @@ returns c =
     let row = read_row p s c.in-Ok.place x c.in-Ok.ensures.place within c.index-selector.ensures in
     let opened = ap (λ (r : SelectorRow). r.gate.shut) row ∙ sym c.if-is_shut.ensures in
     let names : List KeyId → Answered = λ ks. unchanged (state_of p) (names_or_none ks) in
-    let of_row = ap (λ (r : SelectorRow). names (map (key_id r.keys) (filter (λ i. is_listed (r.keys i) selected) (below r.keys_high)))) row in
+    let of_row = ap
+    (λ (r : SelectorRow). names
+    (map (key_id r.keys) (filter (λ i. is_listed (r.keys i) selected) (below r.keys_high)))) row in
     let read = ap (λ ys. listed_below (places key_row no_key ys) selected (length ys)) c.deref.ensures.value in
     let told = c.names_or_none.ensures ∙ ap names_or_none (c.in_ok-names.ensures ∙ read) in
     unchanged_as p _ _
-    (c.in-Ok.ensures.through _ ∙ (cond-false ((state_of p).shared.gate s).shut (unchanged (state_of p) reply.ClosedSelector) _ opened ∙ (of_row ∙ ap (unchanged (state_of p)) (sym told))))
+    (c.in-Ok.ensures.through _
+    ∙ (cond-false ((state_of p).shared.gate s).shut (unchanged (state_of p) reply.ClosedSelector) _ opened
+    ∙ (of_row ∙ ap (unchanged (state_of p)) (sym told))))

@@ -16,5 +16,6 @@ returns-clause-left c =
     let x = c.index_mut.result.now in
     let within : chan < length p.channels.items = omega (arith, p.channels.ok.0, c.requires) in
     let at = places_at channel_row unmade_channel p.channels.items chan x within c.index_mut.ensures.value in
-    let bit = state-set_channel _ _ _ (rows_of p) p.channels.items _ chan (record x { closed = true }) within refl ∙ ap (λ (r : Chan). with_shared st (with_chan st.shared chan (record r { closed = true }))) (sym at) in
+    let bit = state-set_channel _ _ _ (rows_of p) p.channels.items _ chan (record x { closed = true }) within refl
+    ∙ ap (λ (r : Chan). with_shared st (with_chan st.shared chan (record r { closed = true }))) (sym at) in
     c.cancel_keys_of.ensures.left ∙ ap (λ (m : ScriptState). with_shared m (with_keys_cancelled m.shared chan)) bit

@@ -18,9 +18,11 @@ returns-then-not-is_selected_key c =
     let p = c.args.self.now in
     let st = state_of p in
     let id = c.args.id in
-    let out = ap (λ (k : KeyRow). fits k.stage id.serial && is_listed k true) c.in-Ok.ensures.row ∙ sym c.if-not-is_selected_key.ensures in
+    let out = ap (λ (k : KeyRow). fits k.stage id.serial && is_listed k true) c.in-Ok.ensures.row
+    ∙ sym c.if-not-is_selected_key.ensures in
     unchanged_without_memory p _ _
-    (c.in-Ok.ensures.through _ ∙ cond-false (is_in_selected_set st.shared c.args.sel.0 id) _ (unchanged st reply.No) out)
+    (c.in-Ok.ensures.through _
+    ∙ cond-false (is_in_selected_set st.shared c.args.sel.0 id) _ (unchanged st reply.No) out)
 
 pub returns : goal.returns
 unfolding unselect_call
@@ -31,7 +33,8 @@ returns c =
     let id = c.args.id in
     let key = c.in-Ok.key in
     let row = c.in-Ok.ensures.row in
-    let is_in = ap (λ (k : KeyRow). fits k.stage id.serial && is_listed k true) row ∙ sym c.if-not-is_selected_key.ensures in
+    let is_in = ap (λ (k : KeyRow). fits k.stage id.serial && is_listed k true) row
+    ∙ sym c.if-not-is_selected_key.ensures in
     let marked = ap (λ (k : KeyRow). with_shared st (with_mark st.shared s id.index (unselected k.mark))) (sym row) in
     answered_without_memory p _ _ _ _
     (c.in-Ok.ensures.through _ ∙ cond-true (is_in_selected_set st.shared s id) _ (unchanged st reply.No) is_in)

@@ -10,8 +10,12 @@ returns-in-Err-clause-refused c =
 
 pub returns-then-not-is_valid_key-clause-refused : goal.returns-then-not-is_valid_key-clause-refused
 returns-then-not-is_valid_key-clause-refused c =
-    valid-cancelled (state_of c.args.self.now) c.args.sel c.args.id c.in-Ok.ensures.through (ap (λ (k : KeyRow). is_valid_key k.stage c.args.id.serial) c.in-Ok.ensures.row ∙ sym c.if-not-is_valid_key.ensures)
+    valid-cancelled (state_of c.args.self.now) c.args.sel c.args.id c.in-Ok.ensures.through
+    (ap (λ (k : KeyRow). is_valid_key k.stage c.args.id.serial) c.in-Ok.ensures.row
+    ∙ sym c.if-not-is_valid_key.ensures)
 
 pub returns-clause-through : goal.returns-clause-through
 returns-clause-through c =
-    valid-through (state_of c.args.self.now) c.args.sel c.args.id c.in-Ok.ensures.through (ap (λ (k : KeyRow). is_valid_key k.stage c.args.id.serial) c.in-Ok.ensures.row ∙ sym c.if-not-is_valid_key.ensures)
+    valid-through (state_of c.args.self.now) c.args.sel c.args.id c.in-Ok.ensures.through
+    (ap (λ (k : KeyRow). is_valid_key k.stage c.args.id.serial) c.in-Ok.ensures.row
+    ∙ sym c.if-not-is_valid_key.ensures)

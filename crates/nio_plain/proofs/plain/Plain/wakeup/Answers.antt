@@ -20,9 +20,12 @@ returns-in-Ok c =
     let s = c.args.sel.0 in
     let within : c.args.sel.0 < length p.selectors.items = omega (arith, p.selectors.ok.0, c.in-Ok.ensures.made) in
     let wakes : SelectorRow → SelectorRow = λ r. record r { gate = record r.gate { woken = true } } in
-    let wakes' : ScriptState → ScriptState = λ st. with_shared st (with_gate st.shared s (record (st.shared.gate s) { woken = true })) in
+    let wakes' : ScriptState
+    → ScriptState = λ st. with_shared st (with_gate st.shared s (record (st.shared.gate s) { woken = true })) in
     answered_without_memory p _ _ _ _
     (c.in-Ok.ensures.through _)
     refl
-    (changed_selector p s c.in-Ok.place c.index_mut.result.now _ wakes wakes' (makes-gate _ _ _ _ _ s (λ g. record g { woken = true })) c.in-Ok.ensures.place within c.index_mut.ensures.value refl)
+    (changed_selector p s c.in-Ok.place c.index_mut.result.now _ wakes wakes'
+    (makes-gate _ _ _ _ _ s (λ g. record g { woken = true })) c.in-Ok.ensures.place within c.index_mut.ensures.value
+    refl)
     (record { limits = refl; rules = refl })

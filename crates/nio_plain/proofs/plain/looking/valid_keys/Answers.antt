@@ -17,13 +17,16 @@ loop-index-preserved c =
     let before = c.loop-index.invariant in
     let name : KeyId = record { index = n; serial = k.serial } in
     let at = places_at key_row no_key c.args.keys.now n k c.loop-index-test.true c.index-keys-index.is in
-    let below_more = All-weaker (λ (p : KeyId × ℕ). p.0.index < n) (λ (p : KeyId × ℕ). p.0.index < n + 1) (λ p h. omega arith) xs before.below in
+    let below_more = All-weaker (λ (p : KeyId × ℕ). p.0.index < n) (λ (p : KeyId × ℕ). p.0.index < n + 1)
+    (λ p h. omega arith) xs before.below in
     elim c.if-is_valid.branch [
       | then-is_valid+in_ok-push w ↦
           rw (w.looked-is, w.in_ok-push.ensures.items, w.id.ensures)
           (record {
-            looked = ap (λ ys. ys ++ (name, k.interest) ∷ []) before.looked ∙ sym (looked_below-valid keys n (key_row k) at (sym w.if-is_valid.ensures));
-            rising = all_pairs_push (λ (p q : KeyId × ℕ). p.0.index < q.0.index) xs (name, k.interest) before.rising before.below;
+            looked = ap (λ ys. ys ++ (name, k.interest) ∷ []) before.looked
+                ∙ sym (looked_below-valid keys n (key_row k) at (sym w.if-is_valid.ensures));
+            rising = all_pairs_push (λ (p q : KeyId × ℕ). p.0.index < q.0.index) xs
+                (name, k.interest) before.rising before.below;
             below = All-push (λ (p : KeyId × ℕ). p.0.index < n + 1) xs (name, k.interest) below_more (omega arith);
             few = omega (arith, w.in_ok-push.ensures.len);
           })

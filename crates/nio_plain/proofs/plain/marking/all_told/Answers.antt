@@ -2,7 +2,9 @@ use Rattle.std.proofs.Common.{◌≡◌, bit_or, length, refl, ap, ◌∙◌, ar
 use Rattle.std.proofs.lemmas.List.{get_or_read}
 use Rattle.nio_plain.proofs.Marking.{all_told-step, all_told-past, all_told-skip}
 use Rattle.nio_plain.proofs.plain.marking.all_told.Goals as goal
-use Rattle.nio_plain.proofs.plain.marking.all_told.Goals.{then-index-serials+then-serials-index, else-index-serials, else-index-serials-via-then-index-serials+else-serials-index, else-index-serials-via-else-index-serials}
+use Rattle.nio_plain.proofs.plain.marking.all_told.Goals.{then-index-serials+then-serials-index, else-index-serials}
+use Rattle.nio_plain.proofs.plain.marking.all_told.Goals.{else-index-serials-via-then-index-serials+else-serials-index}
+use Rattle.nio_plain.proofs.plain.marking.all_told.Goals.{else-index-serials-via-else-index-serials}
 
 pub loop-key-preserved : goal.loop-key-preserved
 loop-key-preserved c =
@@ -19,18 +21,22 @@ loop-key-preserved c =
           rw w.told-is
           (record {
             long = before.long;
-            told = all_told-step ps j p told serials c.loop-key-test.true c.loop-key-item.is long before.told p.0.index w.union.result refl w.if-index-serials.true w.if-serials-index.true (w.union.ensures ∙ ap (λ n. bit_or n p.1) read);
+            told = all_told-step ps j p told serials c.loop-key-test.true c.loop-key-item.is long before.told p.0.index
+                w.union.result refl w.if-index-serials.true w.if-serials-index.true
+                (w.union.ensures ∙ ap (λ n. bit_or n p.1) read);
           })
       | else-index-serials w ↦ elim w.else-index-serials.branch [
         | else-index-serials-via-then-index-serials+else-serials-index v ↦ rw w.told-is
             (record {
               long = before.long;
-              told = all_told-skip ps j p told serials c.loop-key-test.true c.loop-key-item.is long before.told p.0.index refl v.if-serials-index.false;
+              told = all_told-skip ps j p told serials c.loop-key-test.true c.loop-key-item.is long before.told
+                  p.0.index refl v.if-serials-index.false;
             })
         | else-index-serials-via-else-index-serials v ↦ rw w.told-is
             (record {
               long = before.long;
-              told = all_told-past ps j p told serials c.loop-key-test.true c.loop-key-item.is long before.told (omega (arith, v.if-index-serials.false));
+              told = all_told-past ps j p told serials c.loop-key-test.true c.loop-key-item.is long before.told
+                  (omega (arith, v.if-index-serials.false));
             })
       ]
     ]

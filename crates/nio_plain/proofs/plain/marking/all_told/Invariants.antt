@@ -5,5 +5,7 @@ use Rattle.nio_plain.proofs.plain.marking.all_told.Given as goal
 abbrev pub invariant-loop-key : goal.invariant-loop-key
 invariant-loop-key l = record {
   long : vec_len l.told ≡ length l.serials;
-  told : (i : ℕ) → i < length l.serials → slice_index l.told.items i ≡ all_told (take l.key-index l.pairs) (record { index = i; serial = slice_index l.serials i });
+  told : (i : ℕ) → i < length l.serials
+      → slice_index l.told.items i ≡ all_told (take l.key-index l.pairs)
+      (record { index = i; serial = slice_index l.serials i });
 }

@@ -15,7 +15,8 @@ loop-key-preserved c =
     let xs = c.args.looked.now in
     let j = c.loop-key.key-index in
     let p = c.loop-key-item.result in
-    let test = λ (q : KeyId × ℕ). is_updated (places key_row no_key keys q.0.index).mark (bit_and (get_or told q.0.index 0) q.1) in
+    let test = λ (q : KeyId × ℕ). is_updated (places key_row no_key keys q.0.index).mark
+    (bit_and (get_or told q.0.index 0) q.1) in
     let there = ap (λ (q : KeyId × ℕ). q.0.index) c.loop-key-item.is in
     let in_keys' = c.requires.in_keys j p c.loop-key-test.true in
     let in_told' = c.requires.in_told j p c.loop-key-test.true in
@@ -25,7 +26,17 @@ loop-key-preserved c =
     let read = ap (λ (k : Key). is_updated k.mark c.meet-bits.result) (sym c.index-keys-key.is) in
     elim c.if-is_updated.branch [
       | then-is_updated w ↦
-          rw w.count-is (ap (λ n. n + 1) c.loop-key.invariant ∙ sym (count_by_more_yes test xs j p c.loop-key-test.true (ap test (sym c.loop-key-item.is) ∙ at true in_keys c.index-keys-key.is in_told c.index-told-key.is c.meet-bits.ensures (w.if-is_updated.ensures ∙ read))))
+          rw w.count-is
+          (ap (λ n. n + 1) c.loop-key.invariant
+          ∙ sym (count_by_more_yes test xs j p c.loop-key-test.true
+          (ap test (sym c.loop-key-item.is)
+          ∙ at true in_keys c.index-keys-key.is in_told c.index-told-key.is c.meet-bits.ensures
+          (w.if-is_updated.ensures ∙ read))))
       | else-is_updated w ↦
-          rw w.count-is (c.loop-key.invariant ∙ sym (count_by_more_no test xs j p c.loop-key-test.true (ap test (sym c.loop-key-item.is) ∙ at false in_keys c.index-keys-key.is in_told c.index-told-key.is c.meet-bits.ensures (w.if-is_updated.ensures ∙ read))))
+          rw w.count-is
+          (c.loop-key.invariant
+          ∙ sym (count_by_more_no test xs j p c.loop-key-test.true
+          (ap test (sym c.loop-key-item.is)
+          ∙ at false in_keys c.index-keys-key.is in_told c.index-told-key.is c.meet-bits.ensures
+          (w.if-is_updated.ensures ∙ read))))
     ]

@@ -5,4 +5,6 @@ use Rattle.nio_plain.proofs.plain.marking.updated_count.Given as goal
 
 abbrev pub invariant-loop-key : goal.invariant-loop-key
 invariant-loop-key l =
-    l.count ≡ count_by (λ p. is_updated (places key_row no_key l.keys p.0.index).mark (bit_and (slice_index l.told p.0.index) p.1)) (take l.key-index l.looked)
+    l.count ≡ count_by
+    (λ p. is_updated (places key_row no_key l.keys p.0.index).mark (bit_and (slice_index l.told p.0.index) p.1))
+    (take l.key-index l.looked)

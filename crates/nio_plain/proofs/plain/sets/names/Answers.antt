@@ -16,12 +16,14 @@ loop-index-preserved c =
       | then-is_listed+in_ok-push w ↦
           rw (w.names-is, w.in_ok-push.ensures.items, w.id.ensures)
           (record {
-            listed = ap (λ ys. ys ++ record { index = n; serial = k.serial } ∷ []) before.listed ∙ sym (listed_below-yes keys n (key_row k) at c.args.selected (sym w.if-is_listed.ensures));
+            listed = ap (λ ys. ys ++ record { index = n; serial = k.serial } ∷ []) before.listed
+                ∙ sym (listed_below-yes keys n (key_row k) at c.args.selected (sym w.if-is_listed.ensures));
             few = omega (arith, w.in_ok-push.ensures.len);
           })
       | else-is_listed w ↦ rw w.names-is
           (record {
-            listed = before.listed ∙ sym (listed_below-no keys n (key_row k) at c.args.selected (sym w.if-is_listed.ensures));
+            listed = before.listed
+                ∙ sym (listed_below-no keys n (key_row k) at c.args.selected (sym w.if-is_listed.ensures));
             few = omega arith;
           })
     ]

@@ -1,6 +1,7 @@
 use Rattle.nio_link.proofs.Changes.{changed_here, changed_else}
 use Rattle.nio_link.specs.declared.place.Change.TheVariants as change
-use Rattle.nio_link.proofs.MemoryLaws.{cause_after, cause_else, listen_carried, listen_faulted, listen_findings, listen_polls}
+use Rattle.nio_link.proofs.MemoryLaws.{cause_after, cause_else, listen_carried, listen_faulted, listen_findings}
+use Rattle.nio_link.proofs.MemoryLaws.{listen_polls}
 use Rattle.nio_link.specs.MemoryNet.{listen_answer}
 use Rattle.nio_link.proofs.memory.memory_net.MemoryNetNet.listen.Goals as goal
 

@@ -1,5 +1,6 @@
 use Rattle.std.proofs.Common.{length}
-use Rattle.nio_link.proofs.MemoryLaws.{cause_after, cause_else, read_carried, read_else, read_got, read_ready, read_ready_else}
+use Rattle.nio_link.proofs.MemoryLaws.{cause_after, cause_else, read_carried, read_else, read_got, read_ready}
+use Rattle.nio_link.proofs.MemoryLaws.{read_ready_else}
 use Rattle.nio_link.specs.Slots.{connected, slot_at, read_answer}
 use Rattle.nio_link.proofs.memory.memory_net.MemoryNetNet.read.Goals as goal
 

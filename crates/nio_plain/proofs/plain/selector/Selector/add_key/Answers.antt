@@ -30,11 +30,13 @@ returns-in_ok-push-clause-ok c =
     let xs = self.keys.items in
     let key = c.args.key in
     let id = c.args.id in
-    let pushed : c.push.new.self.items ≡ xs ++ key ∷ [] = c.in_ok-push.ensures.items ∙ ap (λ ys. ys ++ key ∷ []) c.in_ok-reserve.ensures.items in
+    let pushed : c.push.new.self.items ≡ xs ++ key ∷ [] = c.in_ok-push.ensures.items
+    ∙ ap (λ ys. ys ++ key ∷ []) c.in_ok-reserve.ensures.items in
     let index : length xs ≡ id.index = omega (arith, self.keys.ok.0, c.requires.there) in
     let len = ap length pushed ∙ length_push xs key in
     let mark : length c.push.new.self.items ≡ max (length xs) (suc id.index) = omega (arith, len) in
-    let keys = ap (places key_row no_key) pushed ∙ (places-push key_row no_key xs key ∙ ap (λ n. put (places key_row no_key xs) n (key_row key)) index) in
+    let keys = ap (places key_row no_key) pushed
+    ∙ (places-push key_row no_key xs key ∙ ap (λ n. put (places key_row no_key xs) n (key_row key)) index) in
     let noted = get-insert self.noted c.insert-else-index-len.new.self key.chan.0 id c.in_ok-insert-2.ensures.updates in
     λ i. record (selector_row self) {
       keys_high = mark i;

@@ -7,10 +7,12 @@ returns-clause-left c =
     let self = c.args.self.now in
     let keys = (selector_row self).keys in
     let bound : c.len-bound.result ≡ length self.keys.items = omega (arith, self.keys.ok.0) in
-    let looked = c.in_ok-looked.ensures.looked ∙ ap (λ xs. looked_below (places key_row no_key xs) (length xs)) c.deref.ensures.value in
+    let looked = c.in_ok-looked.ensures.looked
+    ∙ ap (λ xs. looked_below (places key_row no_key xs) (length xs)) c.deref.ensures.value in
     let selecting : SelectorRow → SelectorRow = λ r. record r {
       turn = Some c.args.caller;
-      selection = Some (record { mode = c.args.mode; bound = c.len-bound.result; looked = c.in_ok-looked.looked.items });
+      selection = Some
+          (record { mode = c.args.mode; bound = c.len-bound.result; looked = c.in_ok-looked.looked.items });
     } in
     ap selecting c.sweep.ensures
     ∙ (λ j. record (selector_row self) {

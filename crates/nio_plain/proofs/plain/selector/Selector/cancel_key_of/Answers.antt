@@ -18,7 +18,8 @@ returns-in-Some c =
     let keys = places key_row no_key xs in
     let at = places_at key_row no_key xs i k within c.index_mut.ensures.value in
     let set_there = places-set key_row no_key xs i key within ∙ ap (λ r. put keys i (cancelled_row r)) (sym at) in
-    let by_name = ap (λ (o : Option KeyId). λ (j : ℕ). cond (has_index o j) (cancelled_row (keys j)) (keys j)) c.in-Some.ensures.key in
+    let by_name = ap (λ (o : Option KeyId). λ (j : ℕ). cond (has_index o j) (cancelled_row (keys j)) (keys j))
+    c.in-Some.ensures.key in
     let cancelled = set_there ∙ (sym (cancelled-one keys i) ∙ by_name) in
     let len = length-set xs i key in
     λ j. record (selector_row c.args.self.now) {

@@ -12,7 +12,8 @@ returns-in-Some c =
     let none = c.take.ensures.after in
     let looked = c.deref.ensures.value in
     let looked' = c.deref-in-Some.ensures.value in
-    let sweeps : SelectorRow → SelectorRow = λ r. record r { keys = swept_looked rules r.keys c.deref-in-Some.result.now } in
+    let sweeps : SelectorRow
+    → SelectorRow = λ r. record r { keys = swept_looked rules r.keys c.deref-in-Some.result.now } in
     let sleeps : SelectorRow → SelectorRow = λ r. record r { gate = record r.gate { woken = false } } in
     if_some _ _ _ was
     (ap sleeps (c.sweep_looked.ensures ∙ ap sweeps c.mark.ensures.row) ∙ (λ j. record (selector_row self) {

@@ -22,10 +22,12 @@ returns-then-is_free-clause-least c =
     let within : i < length xs = omega (arith, ap length c.deref-key-items.ensures.value) in
     let item : k ≡ get_or xs i k = c.key-item.is ∙ ap (λ ys. get_or ys i k) c.deref-key-items.ensures.value in
     let here = ap (λ (r : KeyRow). r.free) (places_at key_row no_key xs i k within item) in
-    sym (find_first (λ n. (places key_row no_key xs n).free) (length xs) i within (here ∙ sym c.if-is_free.ensures) c.loop-index.invariant)
+    sym (find_first (λ n. (places key_row no_key xs n).free) (length xs) i within
+    (here ∙ sym c.if-is_free.ensures) c.loop-index.invariant)
 
 pub returns-clause-least : goal.returns-clause-least
 returns-clause-least c =
     let xs = c.args.self.now.keys.items in
     let len = ap length c.deref-key-items.ensures.value in
-    sym (find_none (λ n. (places key_row no_key xs n).free) (length xs) (λ k l. c.loop-index.invariant k (omega (arith, len))))
+    sym (find_none (λ n. (places key_row no_key xs n).free) (length xs)
+    (λ k l. c.loop-index.invariant k (omega (arith, len))))

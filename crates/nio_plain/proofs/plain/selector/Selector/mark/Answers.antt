@@ -20,12 +20,17 @@ loop-id-preserved c =
     let in_told : p.0.index < length told = omega arith in
     let within : p.0.index < length items = omega (arith, s.keys.ok.0, c.loop-id.invariant.long, c.requires.in_keys) in
     let k = c.index_mut.result.now in
-    let bits = c.meet-bits.ensures ∙ ap (λ n. bit_and n p.1) (get_or_read told p.0.index c.index-told-id.result in_told c.index-told-id.is 0) in
-    let done = c.mark_key.ensures ∙ ap (λ n. cond {A = KeyRow} (eqb k.serial p.0.serial) (record (key_row k) { mark = marked k.mark n }) (key_row k)) bits in
+    let bits = c.meet-bits.ensures
+    ∙ ap (λ n. bit_and n p.1) (get_or_read told p.0.index c.index-told-id.result in_told c.index-told-id.is 0) in
+    let done = c.mark_key.ensures
+    ∙ ap (λ n. cond {A = KeyRow} (eqb k.serial p.0.serial) (record (key_row k) { mark = marked k.mark n })
+    (key_row k)) bits in
     let so_far = ap (λ (r : SelectorRow). r.keys) c.loop-id.invariant.marked in
-    let step = marked_keys-turn keys looked (λ i. get_or told i 0) items j p k c.requires.rising c.loop-id-test.true c.loop-id-item.is so_far within c.index_mut.ensures.value c.mark_key.new.self done in
+    let step = marked_keys-turn keys looked (λ i. get_or told i 0) items j p k c.requires.rising c.loop-id-test.true
+    c.loop-id-item.is so_far within c.index_mut.ensures.value c.mark_key.new.self done in
     let len = length-set items p.0.index c.mark_key.new.self in
-    let other_keys : SelectorRow → SelectorRow = λ r. record r { keys = marked_keys keys (take (j + 1) looked) (λ i. get_or told i 0) } in
+    let other_keys : SelectorRow
+    → SelectorRow = λ r. record r { keys = marked_keys keys (take (j + 1) looked) (λ i. get_or told i 0) } in
     record {
       marked = (λ i. record (selector_row s) {
         keys_high = len i;

@@ -26,5 +26,9 @@ returns-in-Some-clause-next c =
     let row = selector_row c.args.self.now in
     let within : i < length xs = omega (arith, c.args.self.now.keys.ok.0, c.in-Some.ensures.there) in
     let serial = ap (λ (r : KeyRow). r.stage.serial) (places_at key_row no_key xs i k within c.index.ensures) in
-    let named : ◌≡◌ {A = KeyId} (record { index = i; serial = k.serial + 1 }) (record { index = i; serial = suc (row.keys i).stage.serial }) = λ j. record { index = i; serial = (add-one k.serial ∙ ap suc (sym serial)) j } in
+    let named : ◌≡◌ {A = KeyId} (record { index = i; serial = k.serial + 1 })
+    (record { index = i; serial = suc (row.keys i).stage.serial }) = λ j. record {
+      index = i;
+      serial = (add-one k.serial ∙ ap suc (sym serial)) j;
+    } in
     ap (λ (m : KeyId). Some m) named ∙ ap (next_by_row c.args.limit row) c.in-Some.ensures.least

@@ -13,9 +13,11 @@ loop-index-preserved c =
     let keys = (selector_row c.args.self.now).keys in
     let within : i < length xs = omega (arith, s.keys.ok.0, c.loop-index.invariant.long) in
     let so_far = ap (λ r. r.keys) c.loop-index.invariant.emptied in
-    let step = changed-step key_row no_key (removed_row (λ _. false)) keys xs i c.index_mut.result.now c.remove.new.self so_far within c.index_mut.ensures.value c.remove.ensures in
+    let step = changed-step key_row no_key (removed_row (λ _. false)) keys xs i c.index_mut.result.now c.remove.new.self
+    so_far within c.index_mut.ensures.value c.remove.ensures in
     let len = length-set xs i c.remove.new.self in
-    let other_keys : SelectorRow → SelectorRow = λ r. record r { keys = changed (removed_row (λ _. false)) keys (i + 1) } in
+    let other_keys : SelectorRow
+    → SelectorRow = λ r. record r { keys = changed (removed_row (λ _. false)) keys (i + 1) } in
     record {
       emptied = (λ j. record (selector_row s) {
         keys_high = len j;
@@ -29,4 +31,6 @@ returns c =
     let xs = c.args.self.now.keys.items in
     let end : c.loop-index.index ≡ length xs = omega (arith, c.args.self.now.keys.ok.0) in
     let keys = (selector_row c.args.self.now).keys in
-    c.loop-index.invariant.emptied ∙ ((λ j. record (selector_row c.args.self.now) { keys = changed (removed_row (λ _. false)) keys (end j) }) ∙ ap (λ ks. record (selector_row c.args.self.now) { keys = ks }) (emptied-all xs))
+    c.loop-index.invariant.emptied
+    ∙ ((λ j. record (selector_row c.args.self.now) { keys = changed (removed_row (λ _. false)) keys (end j) })
+    ∙ ap (λ ks. record (selector_row c.args.self.now) { keys = ks }) (emptied-all xs))

@@ -18,9 +18,12 @@ loop-id-preserved c =
     let in_keys' = c.requires.in_keys j p c.loop-id-test.true in
     let within : p.0.index < length items = omega (arith, s.keys.ok.0, c.loop-id.invariant.long) in
     let so_far = ap (λ (r : SelectorRow). r.keys) c.loop-id.invariant.swept in
-    let step = swept_looked-turn rules keys looked items j p c.index_mut.result.now c.requires.rising c.loop-id-test.true c.loop-id-item.is so_far within c.index_mut.ensures.value c.remove_if_cancelled.new.self c.remove_if_cancelled.ensures in
+    let step = swept_looked-turn rules keys looked items j p c.index_mut.result.now c.requires.rising
+    c.loop-id-test.true c.loop-id-item.is so_far within c.index_mut.ensures.value c.remove_if_cancelled.new.self
+    c.remove_if_cancelled.ensures in
     let len = length-set items p.0.index c.remove_if_cancelled.new.self in
-    let other_keys : SelectorRow → SelectorRow = λ r. record r { keys = swept_looked rules keys (take (j + 1) looked) } in
+    let other_keys : SelectorRow
+    → SelectorRow = λ r. record r { keys = swept_looked rules keys (take (j + 1) looked) } in
     record {
       swept = (λ i. record (selector_row s) {
         keys_high = len i;
