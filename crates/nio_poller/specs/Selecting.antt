@@ -44,8 +44,7 @@ AddsPolls None now polls = now ≡ None
 AddsPolls (Some before) now polls = now ≡ Some (before ++ polls)
 
 -- The polls of a selection, by their answers. Each is asked for the keys that the selection looked at. The first
--- doesn't
--- wait, so that the selection looks at the table before it waits; each further one may wait as the mode says.
+-- doesn't wait, so that the selection looks at the table before it waits; each further one may wait as the mode says.
 abbrev pub polls_of : List LookedKey → Mode → List Poll → List Polled
 polls_of looked mode [] = []
 polls_of looked mode (first ∷ later) =
