@@ -15,9 +15,10 @@ use Rattle.nio_event.specs.declared.act.Act.TheVariants.{Mark}
 use Rattle.nio_event.specs.declared.found.Mark.{Mark as KeyMark}
 use Rattle.nio_event.specs.declared.found.Mode.{Mode}
 use Rattle.nio_event.specs.declared.found.Mode.TheVariants.{Now as WithoutWaiting}
-use Rattle.nio_select.specs.InProgress.{IfAgain}
+use Rattle.nio_select.specs.InProgress.{IfAgain, poll_of}
 use Rattle.nio_select.specs.declared.selecting.After.{After}
 use Rattle.nio_select.specs.declared.selecting.After.TheVariants as after
+use Rattle.nio_select.specs.declared.told.Told.{Told}
 use Rattle.nio_steps.proofs.CallLaws.{call_of_acts, calls_then}
 use Rattle.nio_steps.proofs.EachLaws.{each_run}
 use Rattle.nio_steps.proofs.SelectionLaws.{NoMark, no_marks}
@@ -31,7 +32,7 @@ use Rattle.nio_steps.specs.Waiting.{Run, Tries, Repeats}
 use Rattle.nio_steps.specs.declared.looked.LookedKey.{LookedKey}
 use Rattle.nio_steps.specs.declared.selected.Selected.{Selected}
 use Rattle.nio_poller.specs.Polled.{Polled}
-use Rattle.nio_poller.specs.Polls.{told_of_channel}
+use Rattle.nio_poller.specs.Polls.{AddsPoll, told_of_channel}
 use Rattle.nio_poller.proofs.Marks.{Unmarked, unmarked_none, unmarked_append, unmarked_on, again-unmarked, marks_ready}
 use Rattle.nio_poller.specs.Selecting.{AddsPolls, MarksReady, MarksAllReady, polls_of, told_from}
 use Rattle.nio_poller.specs.Telling.{TellsOne, LeavesIt, PollsClause, poll_mode, told_poll}
@@ -44,6 +45,18 @@ pub adds_none : (polls : Option (List Polled)) → AddsPolls polls polls []
 adds_none None = refl
 adds_none (Some before) = ap Some (sym (append-nil before))
 
+-- what a poll that answered adds, where it was asked for these keys and might wait so long
+pub adds_one : (p0 p1 : Option (List Polled)) (asked looked : List LookedKey) (found mode : Mode) (told : Told)
+    → asked ≡ looked → found ≡ mode → AddsPoll p0 p1 asked found (Ok told)
+    → AddsPolls p0 p1 (record { asked = looked; mode = mode; answer = poll_of told } ∷ [])
+adds_one None p1 asked looked found mode told same waits added = added
+adds_one (Some before) p1 asked looked found mode told same waits added =
+    subst
+    (λ (m : Mode). AddsPolls (Some before) p1 (record { asked = looked; mode = m; answer = poll_of told } ∷ [])) waits
+    (subst
+    (λ (keys : List LookedKey).
+    AddsPolls (Some before) p1 (record { asked = keys; mode = found; answer = poll_of told } ∷ [])) same added)
+
 adds_more : (p0 p1 p2 : Option (List Polled)) (xs ys : List Polled)
     → AddsPolls p0 p1 xs → AddsPolls p1 p2 ys → AddsPolls p0 p2 (xs ++ ys)
 adds_more None p1 p2 xs ys first second = subst (λ p. AddsPolls p p2 ys) first second
@@ -51,7 +64,7 @@ adds_more (Some before) p1 p2 xs ys first second =
     subst (λ p. AddsPolls p p2 ys) first second ∙ ap Some (append_assoc before xs ys)
 
 -- whether no poll answered yet
-pub is_first_after : List Poll → Bool
+abbrev pub is_first_after : List Poll → Bool
 is_first_after [] = true
 is_first_after (poll ∷ later) = false
 
@@ -67,6 +80,16 @@ polls_of-more asked mode [] poll = refl
 polls_of-more asked mode (first ∷ later) poll =
     ap (λ xs. record { asked = asked; mode = WithoutWaiting; answer = first } ∷ xs)
     (sym (map-append (λ (answer : Poll). record { asked = asked; mode = mode; answer = answer }) later (poll ∷ [])))
+
+-- the next poll is added to those so far
+adds_next : (p0 p1 p2 : Option (List Polled)) (asked : List LookedKey) (mode : Mode) (polls : List Poll) (poll : Poll)
+    → AddsPolls p0 p1 (polls_of asked mode polls)
+    → AddsPolls p1 p2
+    (record { asked = asked; mode = poll_mode (is_first_after polls) mode; answer = poll } ∷ [])
+    → AddsPolls p0 p2 (polls_of asked mode (polls ++ poll ∷ []))
+adds_next p0 p1 p2 asked mode polls poll before added =
+    subst (AddsPolls p0 p2) (polls_of-more asked mode polls poll)
+    (adds_more p0 p1 p2 (polls_of asked mode polls) _ before added)
 
 told_from-more : (polls : List Poll) (poll : Poll)
     → told_from polls ++ told_poll (is_first_after polls) poll ∷ [] ≡ told_from (polls ++ poll ∷ [])
@@ -153,15 +176,6 @@ module _ {me : CallerNo} {selection : Selection} {is_first : Bool} {v0 v1 v2 : P
       → TellsOne me selection (is_first_after so_far.polls) v1 v2 p1 p2 ready a
   next_one a one = subst (λ (first : Bool). TellsOne me selection first v1 v2 p1 p2 ready a) so_far.first_is one
 
-  adds_next : (poll : Poll)
-      → AddsPolls p1 p2
-      (record { asked = selection.looked; mode = poll_mode (is_first_after so_far.polls) selection.mode; answer = poll }
-      ∷ [])
-      → AddsPolls p0 p2 (polls_of selection.looked selection.mode (so_far.polls ++ poll ∷ []))
-  adds_next poll added =
-      subst (AddsPolls p0 p2) (polls_of-more selection.looked selection.mode so_far.polls poll)
-      (adds_more p0 p1 p2 (polls_of selection.looked selection.mode so_far.polls) _ so_far.adds added)
-
   pub goes_on : (next : Selection) → TellsOne me selection is_first v1 v2 p1 p2 ready (after.Again next)
       → (next ≡ selection) × SoFar me selection false v0 v2 p0 p2
   goes_on next found =
@@ -178,7 +192,7 @@ module _ {me : CallerNo} {selection : Selection} {is_first : Bool} {v0 v1 v2 : P
               (tells_more selection (told_from so_far.polls) (told_poll (is_first_after so_far.polls) one.poll) next xs
               ys here run))
               so_far.call one.call;
-          adds = adds_next one.poll one.adds;
+          adds = adds_next p0 p1 p2 selection.looked selection.mode so_far.polls one.poll so_far.adds one.adds;
         },
       )
 
@@ -204,7 +218,7 @@ module _ {me : CallerNo} {selection : Selection} {is_first : Bool} {v0 v1 v2 : P
         reply = selected answer;
         call = record { acts = both.acts; shape = both.shape.0 };
         answers = refl;
-        adds = adds_next one.poll one.adds;
+        adds = adds_next p0 p1 p2 selection.looked selection.mode so_far.polls one.poll so_far.adds one.adds;
         marks = both.shape.1;
       }
     where
