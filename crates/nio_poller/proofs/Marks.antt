@@ -1,9 +1,8 @@
 -- What is marked is what a poll told of the key's channel.
-use Rattle.std.proofs.Common.{◌≡◌, ℕ, ◌==◌, Bool, true, false, if◌then◌else◌, ◌⊎◌, inl, inr, Result, Ok, Err, List, []}
+use Rattle.std.proofs.Common.{◌≡◌, ℕ, ◌==◌, Bool, true, false, if◌then◌else◌, ◌⊎◌, inl, inr, Result, Ok, List, []}
 use Rattle.std.proofs.Common.{◌∷◌, ◌++◌, fold, bit_and, bit_or, refl, ap, sym, ◌∙◌, subst, arith, eq-eqb, IsTrue}
-use Rattle.std.proofs.Common.{IsFalse}
-use Rattle.std.specs.List.{All, Contains, list_any}
-use Rattle.std.proofs.lemmas.List.Elements.{All-contains, All-head, All-tail, Contains-append_cases}
+use Rattle.std.specs.List.{All, Contains}
+use Rattle.std.proofs.lemmas.List.Elements.{All-head, All-tail, Contains-append_cases}
 use Rattle.std.proofs.lemmas.List.Folds.{list_any-append}
 use Rattle.std.proofs.lemmas.List.Sums.{fold-append}
 use Rattle.std.proofs.lemmas.Bool.{or_left, or_right}
@@ -15,14 +14,14 @@ use Rattle.nio_event.specs.declared.act.Act.{Act}
 use Rattle.nio_event.specs.declared.act.Act.TheVariants.{Mark}
 use Rattle.nio_event.specs.declared.found.Mark.{Mark as KeyMark}
 use Rattle.nio_event.specs.declared.found.Mode.{Mode}
-use Rattle.nio_steps.proofs.Lists.{parted, contains-none, contains-middle}
+use Rattle.nio_steps.proofs.Lists.{parted, contains-none}
 use Rattle.nio_steps.proofs.ToldLaws.{marks_only_as_told}
 use Rattle.nio_steps.proofs.UnmarkedLaws.{begin_unmarked, again_unmarked}
 use Rattle.nio_steps.specs.KeyCalls.{is_within}
 use Rattle.nio_steps.specs.SelectCalls.{Selection, Begins, Poll, Tells, ToldReply, again, told_of, told_bits}
 use Rattle.nio_steps.specs.SelectCalls.{begin_finds_busy}
 use Rattle.nio_steps.specs.Selections.{marks_on}
-use Rattle.nio_steps.specs.Waiting.{Run, acts_of, Tries, Repeats, Retries}
+use Rattle.nio_steps.specs.Waiting.{Run, acts_of, Retries}
 use Rattle.nio_steps.specs.declared.looked.LookedKey.{LookedKey}
 use Rattle.nio_steps.specs.declared.refusal.BeginError.{BeginError}
 use Rattle.nio_poller.specs.Polls.{told_of_channel}

@@ -1,6 +1,6 @@
 -- A poller that tells nothing.
 use Rattle.std.proofs.Common.{◌≡◌, ℕ, ◌==◌, Bool, true, false, if◌then◌else◌, List, [], ◌∷◌, fold, bit_or, refl, ◌∙◌}
-use Rattle.std.proofs.Common.{ap, sym, subst}
+use Rattle.std.proofs.Common.{ap, sym}
 use Rattle.nio_base.specs.declared.numbers.ChanNo.{ChanNo}
 use Rattle.nio_steps.specs.SelectCalls.{told_of}
 use Rattle.nio_steps.specs.declared.looked.LookedKey.{LookedKey}

@@ -1,12 +1,11 @@
 -- What a caller's pass has after a call, and what the passes have that a pass is parted into.
-use Rattle.std.proofs.Common.{◌≡◌, ℕ, ℤ, Bool, Option, Result, Ok, Err, List, refl, ap, sym, ◌∙◌, subst, eqb-true}
+use Rattle.std.proofs.Common.{◌≡◌, ℕ, ℤ, Bool, Option, Result, Ok, Err, List, ap, sym, ◌∙◌, subst, eqb-true}
 use Rattle.std.proofs.Common.{eq-eqb}
 use Rattle.std.specs.Int.{bit_at}
 use Rattle.nio_base.specs.declared.numbers.CallerNo.{CallerNo}
 use Rattle.nio_base.specs.declared.numbers.ChanNo.{ChanNo}
 use Rattle.nio_base.specs.declared.numbers.SelNo.{SelNo}
 use Rattle.nio_event.proofs.PassViews.{selector_after}
-use Rattle.nio_event.specs.Conditions.{is_made}
 use Rattle.nio_event.specs.Histories.{state_after}
 use Rattle.nio_event.specs.PassViews.{PassView, ActsClause, HasSelector}
 use Rattle.nio_event.specs.Timeout.{mode_for}

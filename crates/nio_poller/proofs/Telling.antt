@@ -1,7 +1,7 @@
 -- What a selection was told so far.
 use Rattle.std.proofs.Common.{◌≡◌, ℕ, Bool, true, false, ◌⊎◌, inl, inr, Option, Some, None, Result, Ok, Err, List, []}
 use Rattle.std.proofs.Common.{◌∷◌, ◌++◌, map, refl, ap, sym, ◌∙◌, subst, append_assoc}
-use Rattle.std.specs.List.{All, Contains}
+use Rattle.std.specs.List.{Contains}
 use Rattle.std.proofs.lemmas.List.{append-nil, map-append}
 use Rattle.std.proofs.lemmas.List.Elements.{Contains-append_cases}
 use Rattle.nio_base.specs.declared.numbers.CallerNo.{CallerNo}
@@ -28,7 +28,7 @@ use Rattle.nio_steps.specs.Calls.{CallClause}
 use Rattle.nio_steps.specs.Runs.{Completes}
 use Rattle.nio_steps.specs.SelectCalls.{Selection, Poll, Tells, TellsAll, TellsAndLeaves, goes_on_after, ToldReply}
 use Rattle.nio_steps.specs.SelectCalls.{done, again, leave_plan, SelectsRest, SelectReply, selected, left}
-use Rattle.nio_steps.specs.Waiting.{Run, Tries, Repeats}
+use Rattle.nio_steps.specs.Waiting.{Run, Tries}
 use Rattle.nio_steps.specs.declared.looked.LookedKey.{LookedKey}
 use Rattle.nio_steps.specs.declared.selected.Selected.{Selected}
 use Rattle.nio_poller.specs.Polled.{Polled}

@@ -1,5 +1,5 @@
 -- Calls that are made again while another caller is in the way.
-use Rattle.std.proofs.Common.{◌≡◌, Bool, true, false, Result, Ok, Err, List, [], refl, sym, subst}
+use Rattle.std.proofs.Common.{◌≡◌, Bool, true, false, Result, List, [], refl, sym, subst}
 use Rattle.std.proofs.lemmas.List.{append-nil}
 use Rattle.nio_base.specs.declared.numbers.CallerNo.{CallerNo}
 use Rattle.nio_base.specs.declared.numbers.SelNo.{SelNo}
@@ -12,7 +12,7 @@ use Rattle.nio_steps.proofs.CallLaws.{call_of_acts, call_as}
 use Rattle.nio_steps.proofs.WaitingLaws.{TryingClause, tries_none, try_more, try_last, then_call}
 use Rattle.nio_steps.specs.Calls.{CallClause}
 use Rattle.nio_steps.specs.Runs.{Completes}
-use Rattle.nio_steps.specs.SelectCalls.{Selection, Begins, begin_finds_busy, FinishReply, closed, ShutReply, closing}
+use Rattle.nio_steps.specs.SelectCalls.{Selection, Begins, begin_finds_busy, FinishReply, closed, closing}
 use Rattle.nio_steps.specs.SelectCalls.{already_closed, shut_plan, try_finish_plan, finish_finds_busy, Closes}
 use Rattle.nio_steps.specs.SelectCalls.{ClosesRest}
 use Rattle.nio_steps.specs.Waiting.{Tries, Retries}

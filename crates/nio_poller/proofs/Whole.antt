@@ -1,5 +1,5 @@
 -- Whole selections, from their beginning on.
-use Rattle.std.proofs.Common.{◌≡◌, ℕ, Option, Some, None, Result, Ok, Err, List, [], ◌++◌, inl, inr, ◌⊎◌, refl, ap, sym}
+use Rattle.std.proofs.Common.{◌≡◌, ℕ, Option, Result, Ok, Err, List, [], ◌++◌, inl, inr, ◌⊎◌, refl, sym}
 use Rattle.std.proofs.Common.{subst}
 use Rattle.std.specs.List.{Contains}
 use Rattle.std.proofs.lemmas.List.{append-nil}
@@ -15,14 +15,14 @@ use Rattle.nio_event.specs.declared.found.Mark.{Mark as KeyMark}
 use Rattle.nio_event.specs.declared.found.Mode.{Mode}
 use Rattle.nio_steps.proofs.BeginLaws.{begin-parts}
 use Rattle.nio_steps.specs.Calls.{CallClause}
-use Rattle.nio_steps.specs.SelectCalls.{Selection, Begins, begin_finds_busy, Selects, SelectsRest, not_begun}
-use Rattle.nio_steps.specs.Waiting.{Retries, Then}
+use Rattle.nio_steps.specs.SelectCalls.{Selection, Begins, begin_finds_busy, not_begun}
+use Rattle.nio_steps.specs.Waiting.{Retries}
 use Rattle.nio_steps.specs.declared.refusal.BeginError.{BeginError}
 use Rattle.nio_steps.specs.declared.selected.Selected.{Selected}
 use Rattle.nio_poller.proofs.Marks.{begins-unmarked}
 use Rattle.nio_poller.proofs.Telling.{adds_none}
 use Rattle.nio_poller.specs.Polled.{Polled}
-use Rattle.nio_poller.specs.Selecting.{Answers, AddsPolls, MarksReady, MarksAllReady, SelectClause, looked_by, polls_of}
+use Rattle.nio_poller.specs.Selecting.{Answers, AddsPolls, MarksReady, SelectClause, polls_of}
 use Rattle.nio_poller.specs.Telling.{PollsClause}
 use Rattle.nio_poller.specs.declared.selecting.SelectError.{SelectError}
 

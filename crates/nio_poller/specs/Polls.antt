@@ -10,7 +10,6 @@ use Rattle.nio_steps.specs.SelectCalls.{told_of}
 use Rattle.nio_steps.specs.declared.looked.LookedKey.{LookedKey}
 use Rattle.nio_poller.specs.Polled.{Polled}
 use Rattle.nio_poller.specs.declared.poller.PollError.{PollError}
-use Rattle.nio_poller.specs.declared.poller.PollError.TheVariants.{Fault}
 
 -- What was told of a channel: of the keys that were asked for, what was told of those of this channel. Of a channel
 -- that has none of these keys nothing was told.

@@ -1,4 +1,4 @@
-use Rattle.std.proofs.Common.{◌≡◌, Ok, Err, true, false, refl, ap, rules}
+use Rattle.std.proofs.Common.{◌≡◌, Ok, Err, true, refl, ap, rules}
 use Rattle.nio_event.proofs.PassViews.{selector_after}
 use Rattle.nio_steps.proofs.WaitingLaws.{try_more}
 use Rattle.nio_steps.specs.SelectCalls.{begin_finds_busy}

@@ -1,4 +1,4 @@
-use Rattle.std.proofs.Common.{◌≡◌, inl, inr, refl, ◌∙◌}
+use Rattle.std.proofs.Common.{inl, inr, refl, ◌∙◌}
 use Rattle.nio_select.specs.InProgress.{Selects}
 use Rattle.nio_words.specs.Views.{view}
 use Rattle.nio_poller.proofs.Telling.{so_far_none, goes_on, is_over, is_left, one_as, leaves_as, if_again}

@@ -1,6 +1,4 @@
-use Rattle.std.proofs.Common.{◌≡◌, true, ◌∙◌, refl, rules}
-use Rattle.nio_select.specs.InProgress.{finish_reply}
-use Rattle.nio_steps.specs.SelectCalls.{finish_finds_busy}
+use Rattle.std.proofs.Common.{◌∙◌, refl}
 use Rattle.nio_poller.proofs.Trying.{finish_more, finish_last}
 use Rattle.nio_poller.proofs.waking.finish.Goals as goal
 
