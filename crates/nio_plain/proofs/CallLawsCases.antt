@@ -29,7 +29,7 @@ use Rattle.nio_plain.specs.Seq.{call_of, seq}
 use Rattle.nio_plain.specs.Seq.Answers.{Answered, unchanged, answered, yes_or_no}
 use Rattle.nio_plain.specs.Seq.Cancelling.{channel_closed, cancelled_in_set, closec_call, cancel_call}
 use Rattle.nio_plain.specs.Seq.Closing.{without_keys, close_call, close_end_call}
-use Rattle.nio_plain.specs.Seq.Grouping.{stepped, group_call}
+use Rattle.nio_plain.specs.Seq.Grouping.{GroupAnswered, answered_by_group, group_answer, group_call, stepped, with_named_group_channel}
 use Rattle.nio_plain.specs.Seq.Keys.{are_legal_at, is_in_selected_set, valid_call, interest_call, ready_call, iset_call, ior_call, iand_call, unselect_call, attach_call, attachment_call}
 use Rattle.nio_plain.specs.Seq.Listing.{names_or_none, keys_call, selected_call}
 use Rattle.nio_plain.specs.Seq.Modes.{name_or_none, key_of, is_registered, blocking_call, is_blocking_call, is_open_call, is_registered_call, key_for_call}
@@ -108,7 +108,8 @@ pub record HoldsOfChanges (rules : Rules) (st : ScriptState) (me : CallerNo) (P 
   pub pwrite : (c : ChanNo) (bytes : List ℕ) (i n : ℕ) → P (call.Pwrite c bytes) (record { reply = reply.Number n; left = with_pipe st i (record (pipe_at st i) { waiting = (pipe_at st i).waiting ++ take n bytes }) })
   pub pwrite_closed : (c : ChanNo) (bytes : List ℕ) (i : ℕ) → P (call.Pwrite c bytes) (marking (Some i) (unchanged st reply.ClosedChannel))
   pub pwrite_interrupted : (c : ChanNo) (bytes : List ℕ) (i : ℕ) → P (call.Pwrite c bytes) (marking (Some i) (answered st reply.ClosedByInterrupt (channel_closed st.shared c.0)))
-  pub group : (g : GroupCall) (s : step.Call) → step_of g ≡ Some s → IsCallOf st.group s → P (call.Group g) (stepped st s)
+  pub group : (g : GroupCall) (s : step.Call) → step_of g ≡ Some s → IsCallOf st.group s
+      → P (call.Group g) (answered_by_group st (stepped st.group s))
   pub interrupted : P call.Interrupted (answered st (yes_or_no (st.shared.interrupted me.0)) (with_interrupted st.shared me.0 false))
 
 module _ (rules : Rules) (l : Limits) (st : ScriptState) (me : CallerNo) (P : Call → Answered → Type 0) (h : HoldsOfChanges rules st me P) where
@@ -234,20 +235,28 @@ module _ (rules : Rules) (l : Limits) (st : ScriptState) (me : CallerNo) (P : Ca
 
   -- calls on the group
 
-  group_channel_named : {c : Call} {x : Answered} (g : GChan) → (g.0 < length st.group.channels → P c x) → P c (cond (nat_lt g.0 (length st.group.channels)) x (unchanged st reply.NoChannel))
-  group_channel_named {c = c} g done =
-      either_where (nat_lt g.0 (length st.group.channels)) (λ e. done (ltb-true g.0 (length st.group.channels) e)) (λ _. says c reply.NoChannel refl)
+  either_group : {c : Call} (b : Bool) (x y : GroupAnswered) → (b ≡ true → P c (answered_by_group st x))
+      → P c (answered_by_group st y) → P c (answered_by_group st (cond b x y))
+  either_group true x y p q = p refl
+  either_group false x y p q = q
+
+  group_channel_named : {c : Call} (g : GChan) (x : GroupAnswered)
+      → (g.0 < length st.group.channels → P c (answered_by_group st x))
+      → P c (answered_by_group st (with_named_group_channel st.group g x))
+  group_channel_named {c = c} g x done =
+      either_group (nat_lt g.0 (length st.group.channels)) x _
+      (λ e. done (ltb-true g.0 (length st.group.channels) e)) (says c reply.NoChannel refl)
 
   of_group : (g : GroupCall) → P (call.Group g) (group_call st g)
-  unfolding group_call
+  unfolding group_answer
   of_group (group.Gopen kind) = h.group (group.Gopen kind) (step.open_channel kind) refl tt
-  of_group (group.Gbind g) = group_channel_named g (h.group (group.Gbind g) (step.bind g) refl)
+  of_group (group.Gbind g) = group_channel_named g _ (h.group (group.Gbind g) (step.bind g) refl)
   of_group (group.Start g kind len) =
-      group_channel_named g (h.group (group.Start g kind len) (step.start g kind len) refl)
+      group_channel_named g _ (h.group (group.Start g kind len) (step.start g kind len) refl)
   of_group (group.Report n outcome) = h.group (group.Report n outcome) (step.report n outcome) refl tt
   of_group group.Take = h.group group.Take step.take refl tt
   of_group (group.Done n) = h.group (group.Done n) (step.finish n) refl tt
-  of_group (group.Gclose g) = group_channel_named g (h.group (group.Gclose g) (step.close_channel g) refl)
+  of_group (group.Gclose g) = group_channel_named g _ (h.group (group.Gclose g) (step.close_channel g) refl)
   of_group group.Shutdown = h.group group.Shutdown step.shutdown refl tt
   of_group group.ShutdownNow = h.group group.ShutdownNow step.shutdown_now refl tt
   of_group group.IsShutdown = says_whether (call.Group group.IsShutdown) st.group.is_shut

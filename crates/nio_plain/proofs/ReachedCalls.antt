@@ -35,7 +35,7 @@ use Rattle.nio_plain.specs.Seq.{call_of, seq}
 use Rattle.nio_plain.specs.Seq.Answers.{Answered, unchanged, answered}
 use Rattle.nio_plain.specs.Seq.Cancelling.{closec_call, cancel_call}
 use Rattle.nio_plain.specs.Seq.Closing.{close_call, close_end_call}
-use Rattle.nio_plain.specs.Seq.Grouping.{answer_of, stepped, with_named_group_channel, group_call}
+use Rattle.nio_plain.specs.Seq.Grouping.{answer_of, answered_by_group, group_answer, group_call, group_kept, stepped}
 use Rattle.nio_plain.specs.Seq.Keys.{with_valid_key, are_legal_at, is_in_selected_set, valid_call, interest_call, ready_call, iset_call, ior_call, iand_call, unselect_call, attach_call, attachment_call}
 use Rattle.nio_plain.specs.Seq.Listing.{listed, keys_call, selected_call}
 use Rattle.nio_plain.specs.Seq.Modes.{is_registered, blocking_call, is_blocking_call, is_open_call, is_registered_call, key_of, key_for_call}
@@ -310,14 +310,22 @@ module _ (rules : Rules) (l : Limits) (st : ScriptState) (sound : Sound rules l 
 
   -- calls on the group
 
-  keeps-stepped : (s : step.Call) → Keeps rules l st (stepped st s)
+  keeps-stepped : (s : step.Call) → Keeps rules l st (answered_by_group st (stepped st.group s))
   keeps-stepped s = keeps_grouped rules l st (answer_of (reply_to st.group s)) (after st.group s) sound
 
-  named_group_channel : (g : GChan) (s : step.Call) → Keeps rules l st (with_named_group_channel st g (stepped st s))
-  named_group_channel g s = allowed (nat_lt g.0 (length st.group.channels)) reply.NoChannel _ (λ _. keeps-stepped s)
+  if_named : (b : Bool) (s : step.Call)
+      → Keeps rules l st (answered_by_group st (cond b (stepped st.group s) (group_kept st.group reply.NoChannel)))
+  if_named true s = keeps-stepped s
+  if_named false s = refusal _
+
+  named_group_channel : (g : GChan) (s : step.Call)
+      → Keeps rules l st
+      (answered_by_group st
+      (cond (nat_lt g.0 (length st.group.channels)) (stepped st.group s) (group_kept st.group reply.NoChannel)))
+  named_group_channel g s = if_named (nat_lt g.0 (length st.group.channels)) s
 
   keeps-group_call : (g : GroupCall) → Keeps rules l st (group_call st g)
-  unfolding group_call
+  unfolding group_answer
   keeps-group_call (group.Gopen kind) = keeps-stepped (step.open_channel kind)
   keeps-group_call (group.Gbind g) = named_group_channel g (step.bind g)
   keeps-group_call (group.Start g kind len) = named_group_channel g (step.start g kind len)

@@ -4,6 +4,8 @@
 //! next, and the keys of a selector by their indexes.
 ghost use Rattle.std.specs.Prelude.{◌≡◌, ◌≤◌, vec_len};
 
+pub use self::grouping::answer_group;
+
 use self::channel::Channel;
 use self::pipe::Pipe;
 use self::selector::Selector;

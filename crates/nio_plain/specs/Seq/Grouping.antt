@@ -1,5 +1,6 @@
 -- Calls on the group. Each but the two that only ask is one step of the group, whose answer is the reply. A
--- channel of the group that the line names has to be made.
+-- channel of the group that the line names has to be made. The reply, and the group that the call leaves, depend on
+-- the group alone.
 use Rattle.std.specs.Prelude.{length, nat_lt, true, false, if◌then◌else◌, Result, Ok, Err, Option, Some, None}
 use Rattle.nio_base.specs.declared.numbers.GChan.{GChan}
 use Rattle.nio_event.specs.declared.group_call.GroupCall.{GroupCall}
@@ -7,7 +8,7 @@ use Rattle.nio_event.specs.declared.group_call.GroupCall.TheVariants as group
 use Rattle.nio_event.specs.declared.group_reply.GroupReply.TheVariants as of_group
 use Rattle.nio_event.specs.declared.reply.Reply.{Reply}
 use Rattle.nio_event.specs.declared.reply.Reply.TheVariants as reply
-use Rattle.nio_group.specs.Group.{is_terminated}
+use Rattle.nio_group.specs.Group.{Group, is_terminated}
 use Rattle.nio_group.specs.Run as step
 use Rattle.nio_group.specs.Run.{after, reply_to}
 use Rattle.nio_group.specs.declared.refusal.NotRunning.{NotRunning}
@@ -16,7 +17,7 @@ use Rattle.nio_group.specs.declared.refusal.ReportError.TheVariants as unreporte
 use Rattle.nio_group.specs.declared.refusal.StartError.{StartError}
 use Rattle.nio_group.specs.declared.refusal.StartError.TheVariants as refused
 use Rattle.nio_plain.specs.ScriptState.{ScriptState, with_group}
-use Rattle.nio_plain.specs.Seq.Answers.{Answered, unchanged, yes_or_no}
+use Rattle.nio_plain.specs.Seq.Answers.{Answered, yes_or_no}
 
 -- the reply to what is refused
 
@@ -59,23 +60,45 @@ answer_of (step.closed true) = reply.«Ok»
 answer_of (step.closed false) = reply.Already
 answer_of step.done = reply.«Ok»
 
+-- what a call on the group answers: a reply, and the group that it leaves
+pub record GroupAnswered : Type 0 where
+  pub reply : Reply
+  pub left : Group
+
 -- a call that is a step of the group
-abbrev pub stepped : ScriptState → step.Call → Answered
-stepped st call = record { reply = answer_of (reply_to st.group call); left = with_group st (after st.group call) }
+abbrev pub stepped : Group → step.Call → GroupAnswered
+stepped g call = record { reply = answer_of (reply_to g call); left = after g call }
 
-abbrev pub with_named_group_channel : ScriptState → GChan → Answered → Answered
-with_named_group_channel st g done =
-    if nat_lt g.0 (length st.group.channels) then done else unchanged st reply.NoChannel
+-- a call that leaves the group as it was
+abbrev pub group_kept : Group → Reply → GroupAnswered
+group_kept g reply = record { reply = reply; left = g }
 
-unfoldable pub group_call : ScriptState → GroupCall → Answered
-group_call st (group.Gopen kind) = stepped st (step.open_channel kind)
-group_call st (group.Gbind g) = with_named_group_channel st g (stepped st (step.bind g))
-group_call st (group.Start g kind len) = with_named_group_channel st g (stepped st (step.start g kind len))
-group_call st (group.Report n outcome) = stepped st (step.report n outcome)
-group_call st group.Take = stepped st step.take
-group_call st (group.Done n) = stepped st (step.finish n)
-group_call st (group.Gclose g) = with_named_group_channel st g (stepped st (step.close_channel g))
-group_call st group.Shutdown = stepped st step.shutdown
-group_call st group.ShutdownNow = stepped st step.shutdown_now
-group_call st group.IsShutdown = unchanged st (yes_or_no st.group.is_shut)
-group_call st group.Terminated = unchanged st (yes_or_no (is_terminated st.group))
+abbrev pub with_named_group_channel : Group → GChan → GroupAnswered → GroupAnswered
+with_named_group_channel g chan done =
+    if nat_lt chan.0 (length g.channels) then done else group_kept g reply.NoChannel
+
+unfoldable pub group_answer : Group → GroupCall → GroupAnswered
+group_answer g (group.Gopen kind) = stepped g (step.open_channel kind)
+group_answer g (group.Gbind chan) = with_named_group_channel g chan (stepped g (step.bind chan))
+group_answer g (group.Start chan kind len) = with_named_group_channel g chan (stepped g (step.start chan kind len))
+group_answer g (group.Report n outcome) = stepped g (step.report n outcome)
+group_answer g group.Take = stepped g step.take
+group_answer g (group.Done n) = stepped g (step.finish n)
+group_answer g (group.Gclose chan) = with_named_group_channel g chan (stepped g (step.close_channel chan))
+group_answer g group.Shutdown = stepped g step.shutdown
+group_answer g group.ShutdownNow = stepped g step.shutdown_now
+group_answer g group.IsShutdown = group_kept g (yes_or_no g.is_shut)
+group_answer g group.Terminated = group_kept g (yes_or_no (is_terminated g))
+
+abbrev pub group_reply : Group → GroupCall → Reply
+group_reply g call = (group_answer g call).reply
+
+abbrev pub group_left : Group → GroupCall → Group
+group_left g call = (group_answer g call).left
+
+-- such a call in a script
+abbrev pub answered_by_group : ScriptState → GroupAnswered → Answered
+answered_by_group st done = record { reply = done.reply; left = with_group st done.left }
+
+abbrev pub group_call : ScriptState → GroupCall → Answered
+group_call st call = answered_by_group st (group_answer st.group call)

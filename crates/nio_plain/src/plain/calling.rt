@@ -5,6 +5,7 @@ ghost use Rattle.nio_plain.specs.PlainState.{limits_of, rules_of, state_of};
 ghost use Rattle.nio_plain.specs.Seq.{call_of};
 
 use super::Plain;
+use super::grouping::answer_group;
 use nio_base::CallerNo;
 use nio_event::{Call, Reply};
 use std::alloc::{AllocError, Global};
@@ -53,7 +54,7 @@ impl Plain {
             Call::Pipe(target) => self.pipe(alloc, me, *target),
             Call::Pwrite(chan, bytes) => self.pwrite(me, *chan, bytes.as_slice()),
             Call::Pread(chan, most) => self.pread(alloc, me, *chan, *most),
-            Call::Group(call) => Ok(self.group_call(*call)),
+            Call::Group(call) => Ok(answer_group(&mut self.group, *call)),
         }
     }
 }

@@ -1,69 +1,70 @@
 //! Calls on the group.
+ghost use Rattle.std.specs.Prelude.{◌≡◌};
 ghost use Rattle.nio_group.specs.Run as step;
-ghost use Rattle.nio_plain.specs.Plain.{Answers};
-ghost use Rattle.nio_plain.specs.PlainState.{state_of};
-ghost use Rattle.nio_plain.specs.Seq.Grouping.{group_call, stepped, with_named_group_channel};
+ghost use Rattle.nio_plain.specs.Seq.Grouping.{group_left, group_reply, stepped, with_named_group_channel};
 
-use super::Plain;
 use super::channels::yes_or_no;
 use super::group_replies::{bound, closed, finished, opened, reported, started, taken};
 use nio_base::{GChan, OpKind};
 use nio_event::{GroupCall, Reply};
+use nio_group::GroupCore;
 
-impl Plain {
-    pub(super) fn group_call(&mut self, call: GroupCall) -> Reply
-        ensures { Answers self.old self.new result (group_call (state_of self.old) call) }
-    {
-        match call {
-            GroupCall::Gopen(kind) => opened(self.group.open_channel(kind)),
-            GroupCall::Gbind(chan) => self.bind(chan),
-            GroupCall::Start(chan, kind, len) => self.start(chan, kind, len),
-            GroupCall::Report(operation, outcome) => {
-                reported(self.group.report(operation, outcome))
-            }
-            GroupCall::Take => taken(self.group.take()),
-            GroupCall::Done(operation) => finished(self.group.finish(operation)),
-            GroupCall::Gclose(chan) => self.close_group_channel(chan),
-            GroupCall::Shutdown => {
-                self.group.shutdown();
-                Reply::Ok
-            }
-            GroupCall::ShutdownNow => {
-                self.group.shutdown_now();
-                Reply::Ok
-            }
-            GroupCall::IsShutdown => yes_or_no(self.group.is_shutdown()),
-            GroupCall::Terminated => yes_or_no(self.group.is_terminated()),
+/// Makes one call on a group. It needs no memory, and none but the group's own state.
+pub fn answer_group(group: &mut GroupCore, call: GroupCall) -> Reply
+    ensures reply { result ≡ group_reply group.old call }
+    ensures left { group.new ≡ group_left group.old call }
+{
+    match call {
+        GroupCall::Gopen(kind) => opened(group.open_channel(kind)),
+        GroupCall::Gbind(chan) => bind(group, chan),
+        GroupCall::Start(chan, kind, len) => start(group, chan, kind, len),
+        GroupCall::Report(operation, outcome) => reported(group.report(operation, outcome)),
+        GroupCall::Take => taken(group.take()),
+        GroupCall::Done(operation) => finished(group.finish(operation)),
+        GroupCall::Gclose(chan) => close_channel(group, chan),
+        GroupCall::Shutdown => {
+            group.shutdown();
+            Reply::Ok
         }
+        GroupCall::ShutdownNow => {
+            group.shutdown_now();
+            Reply::Ok
+        }
+        GroupCall::IsShutdown => yes_or_no(group.is_shutdown()),
+        GroupCall::Terminated => yes_or_no(group.is_terminated()),
     }
+}
 
-    fn bind(&mut self, chan: GChan) -> Reply
-        ensures { Answers self.old self.new result
-            (with_named_group_channel (state_of self.old) chan (stepped (state_of self.old) (step.bind chan))) }
-    {
-        if chan.0 >= self.group.channels() {
-            return Reply::NoChannel;
-        }
-        bound(self.group.bind(chan))
+fn bind(group: &mut GroupCore, chan: GChan) -> Reply
+    ensures reply { result ≡ (with_named_group_channel group.old chan (stepped group.old (step.bind chan))).reply }
+    ensures left { group.new ≡ (with_named_group_channel group.old chan (stepped group.old (step.bind chan))).left }
+{
+    if chan.0 >= group.channels() {
+        return Reply::NoChannel;
     }
+    bound(group.bind(chan))
+}
 
-    fn start(&mut self, chan: GChan, kind: OpKind, len: u64) -> Reply
-        ensures { Answers self.old self.new result
-            (with_named_group_channel (state_of self.old) chan (stepped (state_of self.old) (step.start chan kind len))) }
-    {
-        if chan.0 >= self.group.channels() {
-            return Reply::NoChannel;
-        }
-        started(self.group.start(chan, kind, len))
+fn start(group: &mut GroupCore, chan: GChan, kind: OpKind, len: u64) -> Reply
+    ensures reply { result ≡
+        (with_named_group_channel group.old chan (stepped group.old (step.start chan kind len))).reply }
+    ensures left { group.new ≡
+        (with_named_group_channel group.old chan (stepped group.old (step.start chan kind len))).left }
+{
+    if chan.0 >= group.channels() {
+        return Reply::NoChannel;
     }
+    started(group.start(chan, kind, len))
+}
 
-    fn close_group_channel(&mut self, chan: GChan) -> Reply
-        ensures { Answers self.old self.new result
-            (with_named_group_channel (state_of self.old) chan (stepped (state_of self.old) (step.close_channel chan))) }
-    {
-        if chan.0 >= self.group.channels() {
-            return Reply::NoChannel;
-        }
-        closed(self.group.close_channel(chan))
+fn close_channel(group: &mut GroupCore, chan: GChan) -> Reply
+    ensures reply { result ≡
+        (with_named_group_channel group.old chan (stepped group.old (step.close_channel chan))).reply }
+    ensures left { group.new ≡
+        (with_named_group_channel group.old chan (stepped group.old (step.close_channel chan))).left }
+{
+    if chan.0 >= group.channels() {
+        return Reply::NoChannel;
     }
+    closed(group.close_channel(chan))
 }

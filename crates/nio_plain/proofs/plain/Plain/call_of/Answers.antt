@@ -1,6 +1,8 @@
-use Rattle.std.proofs.Common.{ap}
+use Rattle.std.proofs.Common.{ap, refl}
 use Rattle.nio_plain.proofs.Answering.{of_word, without_memory}
+use Rattle.nio_plain.proofs.Grouping.{answers_by_group}
 use Rattle.nio_plain.specs.PlainState.{limits_of, rules_of, state_of}
+use Rattle.nio_plain.specs.ScriptState.{with_group}
 use Rattle.nio_plain.specs.Seq.{call_of}
 use Rattle.nio_plain.proofs.plain.Plain.call_of.Goals as goal
 
@@ -178,8 +180,28 @@ returns-in-Interrupted c =
     let p = c.args.self.now in
     of_word _ _ _ _ _ (ap (call_of (rules_of p) (limits_of p) (state_of p) c.args.me) c.in-Interrupted.is) (without_memory _ _ _ _ c.interrupted.ensures)
 
+pub returns-in-Pipe : goal.returns-in-Pipe
+unfolding call_of
+returns-in-Pipe c =
+    let p = c.args.self.now in
+    of_word _ _ _ _ _ (ap (call_of (rules_of p) (limits_of p) (state_of p) c.args.me) c.in-Pipe.is) c.pipe.ensures
+
+pub returns-in-Pwrite : goal.returns-in-Pwrite
+unfolding call_of
+returns-in-Pwrite c =
+    let p = c.args.self.now in
+    of_word _ _ _ _ _ (ap (call_of (rules_of p) (limits_of p) (state_of p) c.args.me) c.in-Pwrite.is) c.pwrite.ensures
+
+pub returns-in-Pread : goal.returns-in-Pread
+unfolding call_of
+returns-in-Pread c =
+    let p = c.args.self.now in
+    of_word _ _ _ _ _ (ap (call_of (rules_of p) (limits_of p) (state_of p) c.args.me) c.in-Pread.is) c.pread.ensures
+
 pub returns-in-Group : goal.returns-in-Group
 unfolding call_of
 returns-in-Group c =
     let p = c.args.self.now in
-    of_word _ _ _ _ _ (ap (call_of (rules_of p) (limits_of p) (state_of p) c.args.me) c.in-Group.is) (without_memory _ _ _ _ c.group_call.ensures)
+    of_word _ _ _ _ _ (ap (call_of (rules_of p) (limits_of p) (state_of p) c.args.me) c.in-Group.is)
+    (answers_by_group p _ c.in-Group.call c.answer_group.result c.answer_group.ensures.reply
+    (ap (with_group (state_of p)) c.answer_group.ensures.left) (record { limits = refl; rules = refl }))
