@@ -1,14 +1,19 @@
 -- The pipes of a plain system, as those of the documented one.
-use Rattle.std.proofs.Common.{◌≡◌, ◌≢◌, ℕ, ◌+◌, ◌<◌, Bool, true, false, cond, nat_lt, not, Option, Some, None, List, [], ◌∷◌, length, get_or, map, set, take, drop, position, refl, sym, ap, ◌∙◌, arith}
+use Rattle.std.proofs.Common.{◌≡◌, ◌≢◌, ℕ, ◌+◌, ◌<◌, Bool, true, false, cond, nat_lt, not, Option, Some, None, List, [], ◌∷◌, ◌++◌, length, get_or, map, set, take, drop, position, refl, sym, ap, ◌∙◌, arith}
 use Rattle.std.specs.List.{prefix_len}
-use Rattle.std.proofs.lemmas.List.{get_or-map, length-map, map-set}
+use Rattle.std.proofs.lemmas.Bool.{cond-true, lt-ltb}
+use Rattle.std.proofs.lemmas.List.{get_or-map, length-map, map-append, map-set}
 use Rattle.std.proofs.lemmas.List.Quantifiers.{position-Some}
+use Rattle.nio_base.specs.declared.kind.Kind.TheVariants.{Source}
+use Rattle.nio_base.specs.declared.limits.Limits.{Limits}
+use Rattle.nio_base.specs.declared.numbers.CallerNo.{CallerNo}
 use Rattle.nio_event.specs.declared.reply.Reply.TheVariants as reply
 use Rattle.nio_plain.specs.PlainState.{pipe_of}
 use Rattle.nio_plain.specs.ScriptState.{Pipe, ScriptState}
 use Rattle.nio_plain.specs.Seq.Answers.{Answered, unchanged}
+use Rattle.nio_plain.specs.Seq.Opening.{channel_made, next_channel}
 use Rattle.nio_plain.specs.Seq.Pipes.{no_pipe, pipe_at, with_pipe}
-use Rattle.nio_plain.specs.Seq.Piping.{not_now, read_first}
+use Rattle.nio_plain.specs.Seq.Piping.{not_now, pipe_call, read_first, with_sink, with_source}
 use Rattle.nio_plain.specs.declared.plain.pipe.Pipe.{Pipe as PlainPipe}
 
 -- the first place of a list, and of its image
@@ -52,3 +57,21 @@ pub place_within : (q : Pipe → Bool) (items : List PlainPipe) (place : ℕ) �
 place_within q items place e =
     let found = position-Some q (map pipe_of items) place no_pipe e in
     omega (arith, found.0, length-map items pipe_of)
+
+-- making a pipe
+
+-- the caller is one that there is, and these are the numbers that come next
+pub pipe_call-is : (l : Limits) (st : ScriptState) (me target : CallerNo) (source : ℕ) (sink : Option ℕ)
+    → target.0 < l.callers → next_channel l st ≡ Some source
+    → next_channel l (channel_made st Source (Some source)).left ≡ sink
+    → pipe_call l st me target ≡ with_sink (channel_made st Source (Some source)).left me target source sink
+unfolding pipe_call
+pipe_call-is l st me target source sink within next further =
+    cond-true (nat_lt target.0 l.callers) (with_source l st me target (next_channel l st)) _ (lt-ltb target.0 l.callers within)
+    ∙ (ap (with_source l st me target) next
+    ∙ ap (with_sink (channel_made st Source (Some source)).left me target source) further)
+
+-- one pipe more
+pub pipes-push : (items all : List PlainPipe) (x : PlainPipe) → all ≡ items ++ x ∷ []
+    → map pipe_of all ≡ map pipe_of items ++ pipe_of x ∷ []
+pipes-push items all x is = ap (map pipe_of) is ∙ map-append pipe_of items (x ∷ [])

@@ -5,7 +5,7 @@ use nio_base::CallerNo;
 use nio_event::{Call, Reply};
 use std::alloc::{AllocError, Global};
 
-/// A system of selectors, keys and channels, which answers as the documented one.
+/// A system of selectors, keys and channels, a group and pipes, which answers as the documented one.
 pub trait System {
     ghost use Rattle.nio_base.specs.declared.limits.Limits.{Limits};
     ghost use Rattle.nio_plain.specs.declared.rules.Rules.{Rules};
@@ -21,7 +21,7 @@ pub trait System {
     // What it holds.
     ghost state: { Self → ScriptState };
 
-    // What stays the same from a state of the system to one that calls made of it.
+    // What every call keeps: a relation between the system before some calls and after them.
     ghost kept: { Self → Self → Type 0 };
 
     /// Makes one call. Want of memory leaves all as it was.

@@ -1,9 +1,9 @@
 //! Laws of the states that scripts leave, whatever is called and within whatever limits.
 ghost use Rattle.nio_plain.specs.ReachedLaws.{SetsAreWithinKeySet, KeysAreBelowTheMark, LookedAreInKeySet, PublishedStays, InvalidKeysStayInvalid, FreeIndexHasNoKey, FirstRulesFreeNone, FirstRulesRemoveBelowTheBound, NewKeyIsNew, NewKeysDiffer, KeyOfAChannelIsFound, OneKeyOfAChannel, RegisteredIsInAKeySet, RegisteredIsNonBlocking, ClosedChannelHasNoValidKey, ClosedSelectorIsEmpty, GroupIsLeftByARun, GroupIsLawful};
 
-/// The cancelled set and the selected set are within the key set, and each key of the key set is below
-/// its selector's mark, so that a selection that begins looks at all of them. What a selection in
-/// progress looks at stays in the key set.
+/// The cancelled set and the selected set are subsets of the key set. Every key of the key set has an index
+/// below the number of indexes that its selector has claimed, so a selection that begins looks at all of
+/// them. The keys that a selection in progress looks at stay in the key set.
 pub fn sets_law()
     ensures within { SetsAreWithinKeySet }
     ensures below { KeysAreBelowTheMark }
