@@ -1,6 +1,7 @@
 //! A line of a script: its look-ups, and its call by its word.
-ghost use Rattle.std.specs.Prelude.{◌<◌};
+ghost use Rattle.std.specs.Prelude.{◌≡◌, ◌<◌, IsSome};
 ghost use Rattle.nio_event.specs.PassViews.{HasNoPin};
+ghost use Rattle.nio_event.specs.declared.group_call.GroupCall.{GroupCall};
 ghost use Rattle.nio_serial.specs.Lines.{if_named};
 ghost use Rattle.nio_sole.specs.Made.{HasMade};
 ghost use Rattle.nio_sole.specs.Makes.{MayMake, MakesCall};
@@ -10,17 +11,18 @@ ghost use Rattle.nio_words.specs.Passes.{IsReady, limits_of, acts_seen};
 ghost use Rattle.nio_words.specs.Views.{view};
 
 use crate::channels::{
-    close_channel, is_blocking, is_open, is_registered, key_for, open_channel, register,
-    set_blocking,
+    is_blocking, is_open, is_registered, key_for, open_channel, register, set_blocking,
 };
 use crate::closing::{close, close_end};
 use crate::desk::Desk;
+use crate::group::call_group;
 use crate::keys::{
     attach, attachment, cancel, interest, interest_and, interest_or, is_valid, ready, set_interest,
     unselect,
 };
 use crate::listing;
 use crate::names::find_names;
+use crate::pipes::{close_channel, pipe, pread, pwrite};
 use crate::selections::{begin, failed, told};
 use crate::selectors::{interrupt, interrupted, open_selector, wakeup};
 use nio_base::CallerNo;
@@ -46,7 +48,7 @@ pub fn say_line(
 }
 
 /// A line of a caller below the limit, on a desk whose pass acts for it. Other callers may make steps between its
-/// own.
+/// own. A line on the group needs a desk that has one.
 pub fn make_line(
     alloc: Global,
     w: &Words,
@@ -57,6 +59,7 @@ pub fn make_line(
     requires ready { IsReady w.now d.old.pass me }
     requires unpinned { HasNoPin (view w.now d.old.pass) me }
     requires places { HasPlaces w.now d.old }
+    requires group { (g : GroupCall) → call.now ≡ Call.Group g → IsSome d.old.group }
     requires made { ∥ HasMade (limits_of w.now) (acts_seen d.old.pass me) me (progress_of d.old) ∥₁ }
     ensures { MakesCall (if_named (limits_of w.now) (progress_of d.old) call.now) w.now d.old d.new me call.now result }
 {
@@ -88,7 +91,7 @@ fn call_of(
         Call::Register(sel, chan, ops, att) => {
             Ok(register(w, &mut d.pass, me, *sel, *chan, *ops, *att))
         }
-        Call::Closec(chan) => Ok(close_channel(w, &mut d.pass, me, *chan)),
+        Call::Closec(chan) => close_channel(w, d, me, *chan),
         Call::Valid(sel, id) => Ok(is_valid(w, &mut d.pass, me, *sel, *id)),
         Call::Interest(sel, id) => Ok(interest(w, &mut d.pass, me, *sel, *id)),
         Call::Ready(sel, id) => Ok(ready(w, &mut d.pass, me, *sel, *id)),
@@ -109,5 +112,9 @@ fn call_of(
         Call::Selected(sel) => listing::selected(alloc, w, d, me, *sel),
         Call::Interrupt(target) => Ok(interrupt(w, &mut d.pass, me, *target)),
         Call::Interrupted => Ok(interrupted(w, &mut d.pass, me)),
+        Call::Pipe(target) => pipe(alloc, w, d, me, *target),
+        Call::Pwrite(chan, bytes) => pwrite(w, d, me, *chan, bytes),
+        Call::Pread(chan, most) => pread(alloc, w, d, me, *chan, *most),
+        Call::Group(call) => Ok(call_group(&mut d.group, *call)),
     }
 }
