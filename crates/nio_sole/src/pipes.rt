@@ -56,6 +56,7 @@ pub(crate) fn pread(
     };
     let mut bytes = Vec::from_elem(alloc, 0u8, CAPACITY.min(most as usize))?;
     let pipe = &mut d.pipes[place].pipe;
+    pipe.law();
     match pipe.try_read_in_mode(w, &mut d.pass, me, &mut bytes) {
         Ok((PipeRead::Bytes(0), _)) => Ok(Reply::Number(0)),
         Ok((PipeRead::Bytes(count), _)) => {
@@ -83,6 +84,7 @@ pub(crate) fn pwrite(
         return Ok(Reply::NotOwner);
     };
     let pipe = &mut d.pipes[place].pipe;
+    pipe.law();
     match pipe.try_write_in_mode(w, &mut d.pass, me, bytes.as_slice()) {
         Ok((PipeWrite::Bytes(count), _)) => Ok(Reply::Number(count as u64)),
         Ok((PipeWrite::NotYet, blocking)) => Ok(not_now(blocking)),
