@@ -1,12 +1,14 @@
 -- Bytes as hexadecimal digits: what they are printed as decodes to them, and to no others.
-use Rattle.std.proofs.Common.{◌≡◌, ℕ, zero, suc, ◌+◌, ◌/◌, ◌%◌, ◌<◌, ◌==◌, nat_lt, Bool, true, false, ◌&&◌, List, [], ◌∷◌, get_or, Option, Some, None, Result, Ok, Err, inl, inr, refl, sym, ap, subst, ◌∙◌, ⊎_elim, arith, All}
-use Rattle.std.specs.Option.{option_map}
-use Rattle.std.proofs.lemmas.Bool.{and_parts, cases_eq, cond_both, eqb-true, ltb-true}
-use Rattle.std.proofs.lemmas.List.Elements.{All-head, All-tail, All-get_or}
+use Rattle.std.proofs.Common.{◌≡◌, ◌↔◌, IsTrue, Fits, w8, ℕ, zero, suc, ◌+◌, ◌/◌, ◌%◌, ◌<◌, ◌≤◌, length, ◌==◌, nat_lt, Bool, true, false, ◌&&◌, List, [], ◌∷◌, get_or, Option, Some, None, Result, Ok, Err, refl, sym, ap, subst, ◌∙◌, ⊎_elim, arith, All}
+use Rattle.std.proofs.lemmas.Bool.{and_parts, cases_eq, cond_both, eqb-true, false≢true}
+use Rattle.std.proofs.lemmas.List.Elements.{All-head, All-tail, All-from_get_or}
+use Rattle.std.proofs.lemmas.Slice.Eq.{bytes_eq-Decides}
+use Rattle.std.specs.Str.{bytes_eq}
 use Rattle.hex.proofs.HexLemmas.{decode_of-encode_lower}
 use Rattle.hex.specs.Hex.{IsBytes, decode_of, encode_lower, encode_with, lower_digits}
 use Rattle.hex.specs.declared.error.FromHexError.{FromHexError}
 use Rattle.nio_event.specs.Arguments.{AreBytes}
+use Rattle.nio_event.specs.Reading.{Reads}
 use Rattle.nio_event.specs.Words.{bytes_word, hex_digit, hex_digits}
 use Rattle.nio_event.proofs.Ones.{IsOne, byte_at}
 
@@ -21,7 +23,8 @@ agree-at zero d e h = absurd (omega arith)
 agree-at (suc n) d e h =
     let parts = and_parts (hex_digit n == get_or lower_digits n 0) (agree_below n) e in
     ⊎_elim
-    (λ (same : d ≡ n). subst (λ (k : ℕ). hex_digit k ≡ get_or lower_digits k 0) (sym same) (eqb-true (hex_digit n) (get_or lower_digits n 0) parts.0))
+    (λ (same : d ≡ n). subst (λ (k : ℕ). hex_digit k ≡ get_or lower_digits k 0) (sym same)
+    (eqb-true (hex_digit n) (get_or lower_digits n 0) parts.0))
     (λ (differ : d ≡ n → ⊥). agree-at n d parts.1 (omega arith))
     (cases_eq d n)
 
@@ -43,7 +46,8 @@ each_byte [] all i = omega arith
 each_byte (b ∷ xs) all zero = All-head (λ b. b < 256) b xs all
 each_byte (b ∷ xs) all (suc i) = each_byte xs (All-tail (λ b. b < 256) b xs all) i
 
-pub decode_of-printed : (b : ℕ) (xs : List ℕ) → All (λ b. b < 256) (b ∷ xs) → decode_of (bytes_word (b ∷ xs)) ≡ Ok (b ∷ xs)
+pub decode_of-printed : (b : ℕ) (xs : List ℕ) → All (λ b. b < 256) (b ∷ xs)
+    → decode_of (bytes_word (b ∷ xs)) ≡ Ok (b ∷ xs)
 decode_of-printed b xs all =
     ap decode_of (encoded (b ∷ xs) all) ∙ decode_of-encode_lower (b ∷ xs) (each_byte (b ∷ xs) all)
 
@@ -62,8 +66,15 @@ bytes_one [] [] f g e = refl
 bytes_one [] (y ∷ ys) f g e = absurd (dash_is_empty y ys (sym e))
 bytes_one (x ∷ xs) [] f g e = absurd (dash_is_empty x xs e)
 bytes_one (x ∷ xs) (y ∷ ys) f g e =
-    let same : ◌≡◌ {A = Result (List ℕ) FromHexError} (Ok (x ∷ xs)) (Ok (y ∷ ys)) = sym (decode_of-printed x xs f) ∙ (ap decode_of e ∙ decode_of-printed y ys g) in
+    let same : ◌≡◌ {A = Result (List ℕ) FromHexError} (Ok (x ∷ xs)) (Ok (y ∷ ys)) =
+    sym (decode_of-printed x xs f) ∙ (ap decode_of e ∙ decode_of-printed y ys g) in
     cc same
+
+-- a word that was found unlike a dash
+pub not_dash : (word dash : List ℕ) (same : Bool) → dash ≡ 45 ∷ [] → same ≡ bytes_eq word dash → same ≡ false
+    → word ≡ 45 ∷ [] → ⊥
+not_dash word dash same is tested differs e =
+    false≢true (sym differs ∙ (tested ∙ (bytes_eq-Decides word dash).1 (e ∙ sym is)))
 
 -- what a word decodes to, where it is printed from bytes
 
@@ -74,14 +85,37 @@ pub dash_decodes : (word : List ℕ) → word ≡ 45 ∷ [] → Decodes word (So
 dash_decodes word is [] fits e = refl
 dash_decodes word is (b ∷ bytes) fits e = absurd (dash_is_empty b bytes (sym e ∙ is))
 
-pub word_decodes : (word found : List ℕ) → (word ≡ 45 ∷ [] → ⊥) → decode_of word ≡ Ok found → Decodes word (Some found)
+pub word_decodes : (word found : List ℕ) → (word ≡ 45 ∷ [] → ⊥) → decode_of word ≡ Ok found
+    → Decodes word (Some found)
 word_decodes word found no_dash is [] fits e = absurd (no_dash e)
 word_decodes word found no_dash is (b ∷ bytes) fits e =
-    let same : ◌≡◌ {A = Result (List ℕ) FromHexError} (Ok found) (Ok (b ∷ bytes)) = sym is ∙ (ap decode_of e ∙ decode_of-printed b bytes fits.each) in
+    let same : ◌≡◌ {A = Result (List ℕ) FromHexError} (Ok found) (Ok (b ∷ bytes)) =
+    sym is ∙ (ap decode_of e ∙ decode_of-printed b bytes fits.each) in
     ap Some (cc same)
 
-pub word_fails : (word : List ℕ) (error : FromHexError) → (word ≡ 45 ∷ [] → ⊥) → decode_of word ≡ Err error → Decodes word None
+pub word_fails : (word : List ℕ) (error : FromHexError) → (word ≡ 45 ∷ [] → ⊥) → decode_of word ≡ Err error
+    → Decodes word None
 word_fails word error no_dash is [] fits e = absurd (no_dash e)
 word_fails word error no_dash is (b ∷ bytes) fits e =
-    let same : ◌≡◌ {A = Result (List ℕ) FromHexError} (Err error) (Ok (b ∷ bytes)) = sym is ∙ (ap decode_of e ∙ decode_of-printed b bytes fits.each) in
+    let same : ◌≡◌ {A = Result (List ℕ) FromHexError} (Err error) (Ok (b ∷ bytes)) =
+    sym is ∙ (ap decode_of e ∙ decode_of-printed b bytes fits.each) in
     absurd (cc same)
+
+-- bytes that a line says are bytes of eight bits, and few
+
+pub few_bytes : (word printed bytes : List ℕ) (same : Bool) → length bytes ≤ 2000
+    → ((i : ℕ) → Fits w8 (get_or bytes i 0)) → printed ≡ bytes_word bytes → same ≡ bytes_eq printed word
+    → (IsTrue same ↔ (AreBytes bytes × (word ≡ bytes_word bytes)))
+few_bytes word printed bytes same few small is tested =
+    let each = All-from_get_or (λ b. b < 256) bytes 0 (λ i _. let fits = small i in omega arith) in
+    let decides = bytes_eq-Decides printed word in (
+      λ yes. (record { few = few; each = each }, sym (decides.0 (sym tested ∙ yes)) ∙ is),
+      λ says. tested ∙ decides.1 (is ∙ sym says.1),
+    )
+
+pub bytes_read : (word bytes : List ℕ) → AreBytes bytes × (word ≡ bytes_word bytes) → Decodes word (Some bytes)
+    → Reads AreBytes bytes_word word (Some bytes)
+bytes_read word bytes says decodes = record {
+  found = says;
+  only = decodes;
+}

@@ -1,5 +1,5 @@
 -- What one call did with a pass, and then another; and what a pass has after a call, as before it.
-use Rattle.std.proofs.Common.{◌≡◌, true, IsTrue, List, [], ◌∷◌, ◌++◌, map, length, drop, refl, ap, sym, ◌∙◌, subst, append_assoc}
+use Rattle.std.proofs.Common.{◌≡◌, true, IsTrue, List, [], ◌++◌, map, length, drop, refl, ap, sym, ◌∙◌, subst, append_assoc}
 use Rattle.std.proofs.lemmas.List.{append-nil, map-append, drop_at}
 use Rattle.nio_base.specs.declared.limits.Limits.{Limits}
 use Rattle.nio_base.specs.declared.numbers.CallerNo.{CallerNo}

@@ -31,8 +31,8 @@ abbrev pub taken_by : CallerNo → Option CallerNo → Option CallerNo
 taken_by me None = Some me
 taken_by me (Some n) = Some n
 
--- a key that is told of: not selected, it becomes selected, and ready for exactly what is told;
--- selected, its ready set gains what is told
+-- the key's mark after a selection that found it ready for the operations `told`: a key that was not yet in the
+-- selected set joins it with `told` as its ready set; the ready set of one that was selected already gains `told`
 abbrev pub selected_with : KeyMark → ℕ → KeyMark
 selected_with from told = record { selected = true; ready = (if from.selected then bit_or from.ready told else told) }
 
@@ -80,7 +80,9 @@ effect st me (MakeChannel c kind found) = with_chan st c.0 (if found then st.cha
 effect st me (LookChannel c found) = st
 -- where the index wasn't claimed, it is claimed for the channel with serial 0, and the caller has a pin on it
 effect st me (Claim s i c found) =
-    with_pin (with_key st s.0 i (if found then st.key s.0 i else new_key c 0)) s.0 i me.0 (st.pinned s.0 i me.0 || not found)
+    with_pin
+    (with_key st s.0 i (if found then st.key s.0 i else new_key c 0))
+    s.0 i me.0 (st.pinned s.0 i me.0 || not found)
 -- the keys' mark is at least n
 effect st me (RaiseKeys s n found) = with_keys_high st s.0 (max (st.keys_high s.0) n)
 -- looks
@@ -99,7 +101,9 @@ effect st me (BeginLook s found) = with_begun st s.0 (st.begun s.0 || not found.
 effect st me (GiveTurn s) = with_no_put_due (with_begun (with_turn st s.0 None) s.0 false) s.0
 -- the key is removed; where a selection removes it, at a serial below the last, it has still to put the index
 effect st me (Remove s i found) =
-    with_put_due (with_key st s.0 i (record (st.key s.0 i) { removed = true })) s.0 i (st.put_due s.0 i || (st.begun s.0 && frees_index found))
+    with_put_due
+    (with_key st s.0 i (record (st.key s.0 i) { removed = true }))
+    s.0 i (st.put_due s.0 i || (st.begun s.0 && frees_index found))
 -- looks
 effect st me (LookMark s i found) = st
 -- where the mark is the one that is named, the key becomes selected with what is told
@@ -121,7 +125,8 @@ effect st me (SetMode c blocking found) = with_chan st c.0 (record (st.chan c.0)
 -- the channel is closed
 effect st me (CloseBit c found) = with_chan st c.0 (record (st.chan c.0) { closed = true })
 -- the selector is shut; where it wasn't, the caller is its closer
-effect st me (ShutBit s found) = with_closer (with_gate st s.0 (record (st.gate s.0) { shut = true })) s.0 (if found then st.closer s.0 else Some me)
+effect st me (ShutBit s found) =
+    with_closer (with_gate st s.0 (record (st.gate s.0) { shut = true })) s.0 (if found then st.closer s.0 else Some me)
 -- where the turn is free, the closer has entered
 effect st me (Enter s found) = with_entered st s.0 (st.entered s.0 || is_none found)
 -- the caller has a pin on the index
@@ -133,11 +138,15 @@ effect st me (ClearMark s i found) = with_mark st s.0 i unmarked
 -- where nobody has a pin on the index, it is claimed for the channel with the next serial, the caller has a
 -- pin on it, and it isn't taken any more
 effect st me (ClaimAgain s i c from found) =
-    with_taker (with_pin (with_key st s.0 i (if found then st.key s.0 i else new_key c (suc (st.key s.0 i).serial))) s.0 i me.0 (st.pinned s.0 i me.0 || not found))
+    with_taker
+    (with_pin
+    (with_key st s.0 i (if found then st.key s.0 i else new_key c (suc (st.key s.0 i).serial)))
+    s.0 i me.0 (st.pinned s.0 i me.0 || not found))
     s.0 i (if found then st.taker s.0 i else None)
 -- looks
 effect st me (LookFree s j found) = st
 -- the index is free: nobody has taken it, and no selection has still to put it
 effect st me (PutFree s i) = with_put_due (with_taker (with_free st s.0 i true) s.0 i None) s.0 i false
 -- the index isn't free; where it was, the caller has taken it
-effect st me (TakeFree s i found) = with_taker (with_free st s.0 i false) s.0 i (if found then Some me else st.taker s.0 i)
+effect st me (TakeFree s i found) =
+    with_taker (with_free st s.0 i false) s.0 i (if found then Some me else st.taker s.0 i)

@@ -21,7 +21,7 @@ has p own = list_any p own
 abbrev pub count : (Act → Bool) → List Act → ℕ
 count p own = count_by p own
 
--- what the last act tells that tells anything
+-- the answer of `tells` for the latest act that it has an answer for; None where it has none for any act
 abbrev pub last : {A : Type 0} → (Act → Option A) → List Act → Option A
 last tells own = fold (λ told act. option_or (tells act) told) None own
 
@@ -34,7 +34,7 @@ abbrev pub since_first : (Act → Bool) → List Act → List Act
 since_first opens [] = []
 since_first opens (act ∷ later) = if opens act then later else since_first opens later
 
--- it is known, and so
+-- whether a fact that may be unknown (None) is known to be true
 abbrev pub is_yes : Option Bool → Bool
 is_yes None = false
 is_yes (Some b) = b
@@ -102,7 +102,8 @@ finds_below s i _ = false
 -- which key it found noted for channel c in selector s, or noted there
 abbrev pub noted_found : ℕ → ℕ → Act → Option (Option KeyId)
 noted_found c s (LookReg c' s' found) = if (c'.0 == c) && (s'.0 == s) then Some found else None
-noted_found c s (Enrol c' s' i serial _) = if (c'.0 == c) && (s'.0 == s) then Some (Some (record { index = i; serial = serial })) else None
+noted_found c s (Enrol c' s' i serial _) =
+    if (c'.0 == c) && (s'.0 == s) then Some (Some (record { index = i; serial = serial })) else None
 noted_found c s _ = None
 
 -- it gave back the turn of selector s
@@ -163,7 +164,8 @@ pub record OwnClaim : Type 0 where
 -- what an act does to the caller's claim of index i: it makes one, or it takes the pin off, and then there
 -- is none
 abbrev pub claim_changed : ℕ → ℕ → Act → Option (Option OwnClaim)
-claim_changed s i (Claim s' i' c false) = if (s'.0 == s) && (i' == i) then Some (Some (record { channel = c; serial = 0 })) else None
+claim_changed s i (Claim s' i' c false) =
+    if (s'.0 == s) && (i' == i) then Some (Some (record { channel = c; serial = 0 })) else None
 claim_changed s i (ClaimAgain s' i' c from false) =
     if (s'.0 == s) && (i' == i) then Some (Some (record { channel = c; serial = suc from.serial })) else None
 claim_changed s i (Unpin s' i') = if (s'.0 == s) && (i' == i) then Some None else None

@@ -60,19 +60,19 @@ pub enum Call {
     Close(SelNo),
     /// `close-end S`: ends the closing that the caller began.
     CloseEnd(SelNo),
-    /// `keys S`: the key set.
+    /// `keys S`: answers the selector's key set.
     Keys(SelNo),
-    /// `selected S`: the selected set.
+    /// `selected S`: answers the selector's selected-key set.
     Selected(SelNo),
-    /// `interrupt T`: sets the caller's interrupt status.
+    /// `interrupt T`: sets the interrupt status of caller T.
     Interrupt(CallerNo),
-    /// `interrupted`: whether the own interrupt status was set, which it clears.
+    /// `interrupted`: answers whether the caller's interrupt status was set, and clears it, as `Thread.interrupted` does.
     Interrupted,
-    /// `pipe T`: makes a pipe whose source the caller owns, and whose sink the caller T.
+    /// `pipe T`: opens a pipe; this caller owns its source, and caller T its sink.
     Pipe(CallerNo),
-    /// `pwrite C HEX`: writes the bytes into a pipe by its sink, as many as fit.
+    /// `pwrite C HEX`: writes bytes into the pipe whose sink is C, and answers how many were written: as many as fit.
     Pwrite(ChanNo, Bytes),
-    /// `pread C N`: reads up to N bytes from a pipe by its source.
+    /// `pread C N`: reads at most N bytes from the pipe whose source is C.
     Pread(ChanNo, u32),
     /// A call on the group.
     Group(GroupCall),

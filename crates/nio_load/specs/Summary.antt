@@ -58,6 +58,14 @@ count_of reply.NoCaller = None
 count_of reply.NoSelector = None
 count_of reply.NoChannel = None
 count_of reply.NoKey = None
+count_of (reply.Ends source sink) = None
+count_of (reply.Bytes bytes) = None
+count_of reply.End = None
+count_of reply.NotOwner = None
+count_of reply.ClosedByInterrupt = None
+count_of reply.AsyncClose = None
+count_of reply.BrokenPipe = None
+count_of (reply.Group r) = None
 
 -- the counts of the replies `selected` to calls from a state on
 abbrev pub counts_from : Rules → Limits → ScriptState → List ScriptCall → List ℕ

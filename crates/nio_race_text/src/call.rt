@@ -21,12 +21,18 @@ pub struct RaceLine {
     pub call: RaceCall,
 }
 
-/// Whether a script's call may stand behind `go`: whether it opens neither a selector nor a channel.
+/// Whether a script's call may stand behind `go`: whether it neither opens a selector, a channel or a pipe, nor
+/// reads or writes a pipe, nor is a call on the group.
 pub fn may_race(call: &Call) -> bool
     ensures { IsTrue result ↔ MayRace call.now }
 {
     match call {
-        Call::Selector | Call::Channel(..) => false,
+        Call::Selector
+        | Call::Channel(..)
+        | Call::Pipe(..)
+        | Call::Pwrite(..)
+        | Call::Pread(..)
+        | Call::Group(..) => false,
         Call::Blocking(..)
         | Call::IsBlocking(..)
         | Call::IsOpen(..)

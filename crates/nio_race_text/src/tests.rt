@@ -49,6 +49,28 @@ fn race_texts(rt: HostRuntime) {
             bad(3),
         ),
         ("a channel behind go", "go\nt1 channel source\n", bad(2)),
+        (
+            "a pipe before go",
+            "t1 pipe t2\ngo\nt2 closec c1\n",
+            Ok((1, 1)),
+        ),
+        ("a pipe behind go", "go\nt1 pipe t2\n", bad(2)),
+        (
+            "bytes behind go",
+            "t1 pipe t1\ngo\nt1 pwrite c1 00\n",
+            bad(3),
+        ),
+        (
+            "a read behind go",
+            "t1 pipe t1\ngo\nt1 pread c0 1\n",
+            bad(3),
+        ),
+        ("the group before go", "t1 gopen stream\ngo\n", Ok((1, 0))),
+        (
+            "the group behind go",
+            "t1 gopen stream\ngo\nt1 take\n",
+            bad(3),
+        ),
         ("go and a space", "go \n", bad(1)),
         ("bad lines in both parts", "#\nt1\ngo\nt1\n", bad(2)),
         ("a caller too large", "go\nt64 block s0\n", bad(2)),

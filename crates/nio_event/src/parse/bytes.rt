@@ -41,7 +41,7 @@ fn read_bytes(alloc: Global, word: &[u8]) -> Result<Option<Vec<u8>>, AllocError>
     let Some(bytes) = decode(alloc, word)? else {
         return Ok(None);
     };
-    if bytes.len() > BYTES_LIMIT || !is_printed(alloc, &bytes, word)? {
+    if !is_printed(alloc, &bytes, word)? {
         return Ok(None);
     }
     Ok(Some(bytes))
@@ -49,22 +49,28 @@ fn read_bytes(alloc: Global, word: &[u8]) -> Result<Option<Vec<u8>>, AllocError>
 
 /// What a word decodes to; nothing where it is a dash.
 fn decode(alloc: Global, word: &[u8]) -> Result<Option<Vec<u8>>, AllocError>
-    ensures { IfOk result (λ r. (bytes : List ℕ) → AreBytes bytes → word.now ≡ bytes_word bytes → option_map (λ v. v.items) r ≡ Some bytes) }
+    ensures { IfOk result (λ r. (bytes : List ℕ) → AreBytes bytes → word.now ≡ bytes_word bytes
+        → option_map (λ v. v.items) r ≡ Some bytes) }
 {
     if word == b"-".as_slice() {
         return Ok(Some(Vec::new(alloc)));
     }
     match hex::decode(alloc, word) {
         Ok(bytes) => Ok(Some(bytes)),
-        Err(FromHexError::OutOfMemory) => Err(AllocError),
-        Err(_) => Ok(None),
+        Err(error) => match error {
+            FromHexError::OutOfMemory => Err(AllocError),
+            _ => Ok(None),
+        },
     }
 }
 
-/// Whether the word is what is printed of the bytes.
+/// Whether the bytes are few enough for a line, and are printed as this word.
 fn is_printed(alloc: Global, bytes: &[u8], word: &[u8]) -> Result<bool, AllocError>
-    ensures { IfOk result (λ b. IsTrue b ↔ (word.now ≡ bytes_word bytes.now)) }
+    ensures { IfOk result (λ b. IsTrue b ↔ (AreBytes bytes.now × (word.now ≡ bytes_word bytes.now))) }
 {
+    if bytes.len() > BYTES_LIMIT {
+        return Ok(false);
+    }
     let mut printed = Vec::with_capacity(alloc, word.len())?;
     push_hex(&mut printed, bytes)?;
     Ok(printed.as_slice() == word)

@@ -1,4 +1,4 @@
-use Rattle.std.proofs.Common.{◌∙◌, ◌∷◌, ap, codes, refl, sym}
+use Rattle.std.proofs.Common.{◌∙◌, ◌∷◌, codes, refl, sym}
 use Rattle.std.specs.List.{join_with_byte}
 use Rattle.nio_event.specs.GroupReplies.{group_reply_words}
 use Rattle.nio_event.specs.GroupWords.{finished_words, operation_word}
