@@ -1,19 +1,26 @@
 -- The pipes of a plain system, as those of the documented one.
-use Rattle.std.proofs.Common.{◌≡◌, ◌≢◌, ℕ, ◌+◌, ◌<◌, Bool, true, false, cond, nat_lt, not, Option, Some, None, List, [], ◌∷◌, ◌++◌, length, get_or, map, set, take, drop, position, refl, sym, ap, ◌∙◌, arith}
+use Rattle.std.proofs.Common.{◌≡◌, ◌≢◌, ℕ, ◌+◌, ◌-◌, ◌<◌, ◌≤◌, min, ⊎_elim, Bool, true, false, cond, nat_lt, not, Option, Some, None, List, [], ◌∷◌, ◌++◌, length, get_or, map, set, take, drop, position, refl, sym, ap, ◌∙◌, arith}
 use Rattle.std.specs.List.{prefix_len}
-use Rattle.std.proofs.lemmas.Bool.{cond-true, lt-ltb}
-use Rattle.std.proofs.lemmas.List.{get_or-map, length-map, map-append, map-set}
+use Rattle.std.proofs.Math.ListN.{drop_of_length-le}
+use Rattle.std.proofs.Math.Seq.{drop-length, take-append_seam}
+use Rattle.std.proofs.lemmas.Bool.{cases_lt, cond-true, lt-ltb}
+use Rattle.std.proofs.lemmas.List.{get_or-map, length-drop, length-map, map-append, map-set}
 use Rattle.std.proofs.lemmas.List.Quantifiers.{position-Some}
-use Rattle.nio_base.specs.declared.kind.Kind.TheVariants.{Source}
+use Rattle.nio_base.specs.declared.kind.Kind.TheVariants.{Source, Sink}
 use Rattle.nio_base.specs.declared.limits.Limits.{Limits}
 use Rattle.nio_base.specs.declared.numbers.CallerNo.{CallerNo}
+use Rattle.nio_event.specs.State.{put, unmade_channel}
+use Rattle.nio_event.specs.declared.found.Chan.{Chan}
 use Rattle.nio_event.specs.declared.reply.Reply.TheVariants as reply
-use Rattle.nio_plain.specs.PlainState.{pipe_of}
-use Rattle.nio_plain.specs.ScriptState.{Pipe, ScriptState}
+use Rattle.nio_plain.proofs.Answering.{rows_of, state-push_channel}
+use Rattle.nio_plain.specs.PlainState.{channel_row, pipe_of, places, state_from, state_of}
+use Rattle.nio_plain.specs.ScriptState.{Pipe, ScriptState, with_pipes}
 use Rattle.nio_plain.specs.Seq.Answers.{Answered, unchanged}
 use Rattle.nio_plain.specs.Seq.Opening.{channel_made, next_channel}
 use Rattle.nio_plain.specs.Seq.Pipes.{no_pipe, pipe_at, with_pipe}
 use Rattle.nio_plain.specs.Seq.Piping.{not_now, pipe_call, read_first, with_sink, with_source}
+use Rattle.nio_plain.specs.declared.plain.Plain.{Plain}
+use Rattle.nio_plain.specs.declared.plain.channel.Channel.{Channel}
 use Rattle.nio_plain.specs.declared.plain.pipe.Pipe.{Pipe as PlainPipe}
 
 -- the first place of a list, and of its image
@@ -75,3 +82,70 @@ pipe_call-is l st me target source sink within next further =
 pub pipes-push : (items all : List PlainPipe) (x : PlainPipe) → all ≡ items ++ x ∷ []
     → map pipe_of all ≡ map pipe_of items ++ pipe_of x ∷ []
 pipes-push items all x is = ap (map pipe_of) is ∙ map-append pipe_of items (x ∷ [])
+
+-- taking bytes out
+
+drop_min : (n : ℕ) (xs : List ℕ) → drop (min n (length xs)) xs ≡ drop n xs
+drop_min n xs =
+    ⊎_elim
+    (λ (h : n < length xs). let e : min n (length xs) ≡ n = omega arith in ap (λ (k : ℕ). drop k xs) e)
+    (λ (h : length xs ≤ n).
+    let e : min n (length xs) ≡ length xs = omega arith in
+    ap (λ (k : ℕ). drop k xs) e ∙ (drop-length xs ∙ sym (drop_of_length-le xs h)))
+    (cases_lt n (length xs))
+
+-- the first c were rotated to the end, and cut off there
+pub left_by_take : (xs : List ℕ) (n c : ℕ) → c ≡ min n (length xs) → take (length xs - c) (drop c xs ++ take c xs) ≡ drop n xs
+left_by_take xs n c is =
+    ap (λ (k : ℕ). take k (drop c xs ++ take c xs)) (sym (length-drop c xs))
+    ∙ (take-append_seam (drop c xs) (take c xs)
+    ∙ (ap (λ (k : ℕ). drop k xs) is ∙ drop_min n xs))
+
+-- a system with other channels and pipes
+abbrev pub with_ends : Plain → List PlainPipe → List Channel → ScriptState
+with_ends p pipes channels =
+    state_from
+    p.group
+    (map pipe_of pipes)
+    (places (λ (b : Bool). b) false p.interrupted.items)
+    (length channels)
+    (places channel_row unmade_channel channels)
+    (rows_of p)
+
+-- a system whose source is made
+pub source_made : (p : Plain) (pipes : List PlainPipe) (channels : List Channel) (source : Channel)
+    → pipes ≡ p.pipes.items → channels ≡ p.channels.items ++ source ∷ []
+    → channel_row source ≡ record { made = true; kind = Source; closed = false; blocking = true }
+    → with_ends p pipes channels ≡ (channel_made (state_of p) Source (Some (length p.channels.items))).left
+source_made p pipes channels source same more new =
+    ap (λ (ps : List PlainPipe). with_ends p ps channels) same
+    ∙ (state-push_channel _ _ _ (rows_of p) p.channels.items channels source more
+    ∙ ap
+    (λ (row : Chan).
+    state_from
+    p.group
+    (map pipe_of p.pipes.items)
+    (places (λ (b : Bool). b) false p.interrupted.items)
+    (length p.channels.items + 1)
+    (put (places channel_row unmade_channel p.channels.items) (length p.channels.items) row)
+    (rows_of p))
+    new)
+
+-- and whose sink is made too
+pub sink_made : (p : Plain) (before pipes : List PlainPipe) (ones channels : List Channel) (sink : Channel) (pipe : PlainPipe) (new : Pipe)
+    → pipes ≡ before ++ pipe ∷ [] → channels ≡ ones ++ sink ∷ []
+    → channel_row sink ≡ record { made = true; kind = Sink; closed = false; blocking = true }
+    → pipe_of pipe ≡ new
+    → with_ends p pipes channels
+    ≡ with_pipes (channel_made (with_ends p before ones) Sink (Some (length ones))).left
+    (map pipe_of before ++ new ∷ [])
+sink_made p before pipes ones channels sink pipe new more longer row is =
+    state-push_channel _ (map pipe_of pipes) _ (rows_of p) ones channels sink longer
+    ∙ (λ i.
+    state_from
+    p.group
+    ((pipes-push before pipes pipe more ∙ ap (λ (q : Pipe). map pipe_of before ++ q ∷ []) is) i)
+    (places (λ (b : Bool). b) false p.interrupted.items)
+    (length ones + 1)
+    (put (places channel_row unmade_channel ones) (length ones) (row i))
+    (rows_of p))

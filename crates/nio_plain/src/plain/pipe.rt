@@ -1,5 +1,6 @@
 //! A pipe of the plain system.
-ghost use Rattle.std.specs.Prelude.{◌≡◌, IfOk, OnErr, OnOk, drop, take};
+ghost use Rattle.std.specs.Prelude.{◌≡◌, ◌++◌, IfOk, OnErr, OnOk, drop, take};
+ghost use Rattle.nio_plain.specs.PlainState.{pipe_of};
 
 use nio_base::{CallerNo, ChanNo};
 use std::alloc::{AllocError, Global};
@@ -19,18 +20,23 @@ impl Pipe {
     /// Takes up to so many waiting bytes out of the pipe. Want of memory leaves it as it was.
     pub(super) fn take(&mut self, alloc: Global, most: usize) -> Result<Vec<u8>, AllocError>
         ensures bytes { IfOk result (λ v. v.items ≡ take most self.old.waiting.items) }
-        ensures left { OnOk result (self.new.waiting.items ≡ drop most self.old.waiting.items) }
-        ensures memory { OnErr result (self.new.waiting.items ≡ self.old.waiting.items) }
-        ensures source { self.new.source ≡ self.old.source }
-        ensures sink { self.new.sink ≡ self.old.sink }
-        ensures reader { self.new.reader ≡ self.old.reader }
-        ensures writer { self.new.writer ≡ self.old.writer }
-        ensures marked { self.new.marked ≡ self.old.marked }
+        ensures left { OnOk result
+            (pipe_of self.new ≡ record (pipe_of self.old) { waiting = drop most self.old.waiting.items }) }
+        ensures memory { OnErr result (pipe_of self.new ≡ pipe_of self.old) }
     {
         let count = most.min(self.waiting.len());
         let bytes = Vec::from_slice(alloc, &self.waiting[..count])?;
         self.waiting.rotate_left(count);
         self.waiting.truncate(self.waiting.len() - count);
         Ok(bytes)
+    }
+
+    /// Puts bytes behind those that wait in the pipe. Want of memory leaves it as it was.
+    pub(super) fn put(&mut self, bytes: &[u8]) -> Result<(), AllocError>
+        ensures left { OnOk result
+            (pipe_of self.new ≡ record (pipe_of self.old) { waiting = self.old.waiting.items ++ bytes.now }) }
+        ensures memory { OnErr result (pipe_of self.new ≡ pipe_of self.old) }
+    {
+        self.waiting.extend_from_slice(bytes)
     }
 }

@@ -119,11 +119,11 @@ impl Plain {
         requires { place < vec_len self.old.pipes }
         ensures { AnswersAs self.old self.new result (read_first (state_of self.old) channel.blocking most place (pipe_at (state_of self.old) place).waiting (pipe_at (state_of self.old) place).marked) }
     {
-        let pipe = &mut self.pipes[place];
+        let pipe = &self.pipes[place];
         if pipe.waiting.is_empty() {
             return Ok(end_or_not_now(pipe.marked, channel.blocking));
         }
-        let bytes = pipe.take(alloc, most as usize)?;
+        let bytes = self.pipes[place].take(alloc, most as usize)?;
         Ok(Reply::Bytes(Bytes::from_vec(bytes)))
     }
 
@@ -173,14 +173,12 @@ impl Plain {
         requires { place < vec_len self.old.pipes }
         ensures { AnswersAs self.old self.new result (write_first (state_of self.old) channel.blocking bytes.now place (room_for bytes.now (pipe_at (state_of self.old) place))) }
     {
-        let pipe = &mut self.pipes[place];
-        let room = bytes
-            .len()
-            .min(PIPE_ROOM.saturating_sub(pipe.waiting.len()));
+        let waiting = self.pipes[place].waiting.len();
+        let room = bytes.len().min(PIPE_ROOM.saturating_sub(waiting));
         if room == 0 {
             return Ok(not_now(channel.blocking));
         }
-        pipe.waiting.extend_from_slice(&bytes[..room])?;
+        self.pipes[place].put(&bytes[..room])?;
         Ok(Reply::Number(room as u64))
     }
 

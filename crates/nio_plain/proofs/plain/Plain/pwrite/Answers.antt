@@ -59,3 +59,73 @@ returns-then-finds_interrupt c =
       limits = c.mark-2.ensures.kept.limits ∙ c.shut_channel.ensures.kept.limits;
       rules = c.mark-2.ensures.kept.rules ∙ c.shut_channel.ensures.kept.rules;
     })
+
+pub index-source-requires : goal.index-source-requires
+index-source-requires c =
+    let p = c.args.self.now in
+    let within : c.in-Some.place < length p.pipes.items = place_within (owns_sink c.args.me c.args.chan) p.pipes.items c.in-Some.place (sym c.in-Some.ensures) in
+    omega (arith, p.pipes.ok.0)
+
+pub returns-then-is_closed : goal.returns-then-is_closed
+unfolding pwrite_call
+returns-then-is_closed c =
+    let p = c.args.self.now in
+    let st = state_of p in
+    let place = c.in-Some.place in
+    let within : place < length p.pipes.items = place_within (owns_sink c.args.me c.args.chan) p.pipes.items place (sym c.in-Some.ensures) in
+    let opened = ap (λ (x : Chan). x.closed) c.in-Ok.ensures.row ∙ c.if-channel.false in
+    let none = ap (λ (x : Chan). x.blocking && st.shared.interrupted c.args.me.0) c.in-Ok.ensures.row ∙ sym c.if-finds_interrupt.ensures in
+    let broken =
+        ap (λ (q : Pipe). (st.shared.chan q.source.0).closed) (pipe_at-is p.pipes.items place c.index-source.result.now within c.index-source.ensures)
+        ∙ sym c.if-is_closed.ensures in
+    unchanged_as p _ _
+    (c.in-Ok.ensures.through _ ∙ (ap (write_to st c.args.me c.args.chan c.args.bytes.now) (sym c.in-Some.ensures)
+    ∙ (cond-false (st.shared.chan c.args.chan.0).closed (marking (Some place) (unchanged st reply.ClosedChannel)) _ opened
+    ∙ (cond-false (finds_interrupt st c.args.me c.args.chan) (marking (Some place) (answered st reply.ClosedByInterrupt (channel_closed st.shared c.args.chan.0))) _ none
+    ∙ cond-true (st.shared.chan (pipe_at st place).source.0).closed (unchanged st reply.BrokenPipe) _ broken))))
+
+pub returns-then-is_empty : goal.returns-then-is_empty
+unfolding pwrite_call
+returns-then-is_empty c =
+    let p = c.args.self.now in
+    let st = state_of p in
+    let place = c.in-Some.place in
+    let within : place < length p.pipes.items = place_within (owns_sink c.args.me c.args.chan) p.pipes.items place (sym c.in-Some.ensures) in
+    let opened = ap (λ (x : Chan). x.closed) c.in-Ok.ensures.row ∙ c.if-channel.false in
+    let none = ap (λ (x : Chan). x.blocking && st.shared.interrupted c.args.me.0) c.in-Ok.ensures.row ∙ sym c.if-finds_interrupt.ensures in
+    let whole =
+        ap (λ (q : Pipe). (st.shared.chan q.source.0).closed) (pipe_at-is p.pipes.items place c.index-source.result.now within c.index-source.ensures)
+        ∙ sym c.if-is_closed.ensures in
+    unchanged_as p _ _
+    (c.in-Ok.ensures.through _ ∙ (ap (write_to st c.args.me c.args.chan c.args.bytes.now) (sym c.in-Some.ensures)
+    ∙ (cond-false (st.shared.chan c.args.chan.0).closed (marking (Some place) (unchanged st reply.ClosedChannel)) _ opened
+    ∙ (cond-false (finds_interrupt st c.args.me c.args.chan) (marking (Some place) (answered st reply.ClosedByInterrupt (channel_closed st.shared c.args.chan.0))) _ none
+    ∙ (cond-false (st.shared.chan (pipe_at st place).source.0).closed (unchanged st reply.BrokenPipe) _ whole
+    ∙ cond-true (length c.args.bytes.now == 0) (unchanged st (reply.Number 0)) _ (sym c.if-is_empty.ensures))))))
+
+pub write_to-requires : goal.write_to-requires
+write_to-requires c =
+    let p = c.args.self.now in
+    let within : c.in-Some.place < length p.pipes.items = place_within (owns_sink c.args.me c.args.chan) p.pipes.items c.in-Some.place (sym c.in-Some.ensures) in
+    omega (arith, p.pipes.ok.0)
+
+pub returns : goal.returns
+unfolding pwrite_call
+returns c =
+    let p = c.args.self.now in
+    let st = state_of p in
+    let place = c.in-Some.place in
+    let within : place < length p.pipes.items = place_within (owns_sink c.args.me c.args.chan) p.pipes.items place (sym c.in-Some.ensures) in
+    let opened = ap (λ (x : Chan). x.closed) c.in-Ok.ensures.row ∙ c.if-channel.false in
+    let none = ap (λ (x : Chan). x.blocking && st.shared.interrupted c.args.me.0) c.in-Ok.ensures.row ∙ sym c.if-finds_interrupt.ensures in
+    let whole =
+        ap (λ (q : Pipe). (st.shared.chan q.source.0).closed) (pipe_at-is p.pipes.items place c.index-source.result.now within c.index-source.ensures)
+        ∙ sym c.if-is_closed.ensures in
+    of_word _ _ _ _ _
+    (c.in-Ok.ensures.through _ ∙ (ap (write_to st c.args.me c.args.chan c.args.bytes.now) (sym c.in-Some.ensures)
+    ∙ (cond-false (st.shared.chan c.args.chan.0).closed (marking (Some place) (unchanged st reply.ClosedChannel)) _ opened
+    ∙ (cond-false (finds_interrupt st c.args.me c.args.chan) (marking (Some place) (answered st reply.ClosedByInterrupt (channel_closed st.shared c.args.chan.0))) _ none
+    ∙ (cond-false (st.shared.chan (pipe_at st place).source.0).closed (unchanged st reply.BrokenPipe) _ whole
+    ∙ (cond-false (length c.args.bytes.now == 0) (unchanged st (reply.Number 0)) _ (sym c.if-is_empty.ensures)
+    ∙ ap (λ (x : Chan). write_first st x.blocking c.args.bytes.now place (room_for c.args.bytes.now (pipe_at st place))) c.in-Ok.ensures.row))))))
+    c.write_to.ensures
