@@ -1,5 +1,5 @@
 -- Closing a channel amounts to the documented call.
-use Rattle.std.proofs.Common.{◌≡◌, ◌≢◌, ℕ, ◌+◌, ◌<◌, ◌≤◌, ◌==◌, nat_lt, Bool, true, false, cond, not, ◌&&◌, Option, Some, None, ⊎_elim, refl, ap, sym, ◌∙◌, subst, arith, eqb-true, eq-eqb}
+use Rattle.std.proofs.Common.{◌≡◌, ◌≢◌, ℕ, ◌+◌, ◌<◌, ◌≤◌, ◌==◌, nat_lt, Bool, true, false, cond, not, ◌&&◌, Option, Some, None, if◌then◌else◌, ⊎_elim, refl, ap, sym, ◌∙◌, subst, arith, eqb-true, eq-eqb}
 use Rattle.std.proofs.lemmas.Bool.{and_parts, and_left, and_right, both_ways, cases_eq, cases_lt, lt-ltb, le-ltb, ne_eqb, not-true, cond-false}
 use Rattle.nio_base.specs.declared.limits.Limits.{Limits}
 use Rattle.nio_base.specs.declared.numbers.CallerNo.{CallerNo}
@@ -12,12 +12,14 @@ use Rattle.nio_event.specs.State.{State, put_at, with_chan, with_key, with_pin}
 use Rattle.nio_event.specs.declared.found.Chan.{Chan}
 use Rattle.nio_event.specs.declared.found.Mark.{Mark}
 use Rattle.nio_event.specs.declared.found.Stage.{Stage}
+use Rattle.nio_event.specs.declared.reply.Reply.{Reply}
 use Rattle.nio_event.specs.declared.reply.Reply.TheVariants as reply
 use Rattle.nio_plain.proofs.Naming.{channel-through}
 use Rattle.nio_plain.specs.ScriptState.{ScriptState}
 use Rattle.nio_plain.specs.Seq.Answers.{answered}
-use Rattle.nio_plain.specs.Seq.Cancelling.{cancelled_key, has_index, closec_call}
+use Rattle.nio_plain.specs.Seq.Cancelling.{cancelled_key, channel_closed, has_index, closec_call}
 use Rattle.nio_plain.specs.Seq.Modes.{if_in_key_set, key_of}
+use Rattle.nio_plain.specs.Seq.Pipes.{marking}
 use Rattle.nio_steps.proofs.PerformLaws.{perform_then_on, perform_sweep}
 use Rattle.nio_steps.specs.ChannelCalls.{cancel_at, cancel_noted, cancel_keys, close_channel_plan}
 use Rattle.nio_steps.specs.KeyCalls.{cancel_plan, cancel_present}
@@ -28,6 +30,7 @@ use Rattle.nio_steps.specs.Steps.{cancel_key}
 use Rattle.nio_steps.specs.Sweeps.{sweep_to}
 use Rattle.nio_serial.proofs.Base.{put-here, put_at-here, pin-back, in_set-is, branch, unpinned, perform_pinned}
 use Rattle.nio_serial.specs.Documented.{Progress, settled, settled_mark, settled_state, documented, amounts}
+use Rattle.nio_serial.specs.PipeLines.{own_sink, with_mark}
 use Rattle.nio_serial.specs.Replies.{closed_reply}
 
 -- ---- one key
@@ -178,31 +181,56 @@ marked_where : (b : Bool) (k : Stage) (m : Mark) → settled_mark (cond b (cance
 marked_where true k m = refl
 marked_where false k m = refl
 
-pub closec-amounts : (l : Limits) (st : State) (now : Progress) (me : CallerNo) (c : ChanNo)
-    → ((s i : ℕ) → st.pinned s i me.0 ≡ false) → ((s i : ℕ) → (st.key s i).claimed ≡ (st.key s i).published)
-    → ((s i : ℕ) → in_key_set (st.key s i) ≡ true → s < l.selectors) → (st.chan c.0).made ≡ true
-    → closec_call (documented st now) me c ≡ amounts closed_reply (λ _. now) (perform me (close_channel_plan l c) st)
-unfolding closec_call close_channel_plan
-closec-amounts l st now me c free whole within made =
-    channel-through ds c made _
-    ∙ branch (amounts closed_reply (λ _. now)) me (Plan.reply false) (cancel_keys l c) closed_st _ _ (st.chan c.0).closed (st.chan c.0).closed refl
-    (λ is. ap (λ f. record { reply = reply.Already; left = documented (record st { chan = f }) now }) (sym (put-here st.chan c.0 closed_chan (λ j. record (st.chan c.0) { closed = is j }))))
-    (λ _. (λ j. answered ds reply.«Ok» (record (settled_state closed_st) { key = λ s i. keys s i j; mark = λ s i. marks s i j }))
-    ∙ sym (ap (amounts closed_reply (λ _. now)) (cancel_keys-performed closed_st me c free whole l)))
-  where
-    ds : ScriptState
-    ds = documented st now
+-- a close of the channel on the table
+module _ (l : Limits) (st : State) (now : Progress) (me : CallerNo) (c : ChanNo)
+    (free : (s i : ℕ) → st.pinned s i me.0 ≡ false) (whole : (s i : ℕ) → (st.key s i).claimed ≡ (st.key s i).published)
+    (within : (s i : ℕ) → in_key_set (st.key s i) ≡ true → s < l.selectors) where
+  abbrev ds : ScriptState
+  ds = documented st now
 
-    closed_chan : Chan
-    closed_chan = record (st.chan c.0) { closed = true }
+  abbrev closed_chan : Chan
+  closed_chan = record (st.chan c.0) { closed = true }
 
-    closed_st : State
-    closed_st = with_chan st c.0 closed_chan
+  abbrev closed_st : State
+  closed_st = with_chan st c.0 closed_chan
 
-    keys : (s i : ℕ) → cond (has_index (key_of st c.0 s) i) (cancelled_key (settled (st.key s i))) (settled (st.key s i)) ≡ settled (keys_after closed_st c.0 l.selectors s i)
-    keys s i = sym (settled_where (nat_lt s l.selectors) (has_index (key_of st c.0 s) i) (st.key s i)
-        (λ h. let in_set = index_in_set st s i (st.noted c.0 s) h in
-        (lt-ltb s l.selectors (within s i in_set), not-true (st.key s i).removed (and_parts (st.key s i).published (not (st.key s i).removed) in_set).1)))
+  -- the channel is closed, and its keys in the table's selectors are cancelled
+  abbrev pub closed_left : State
+  closed_left = record closed_st { key = keys_after closed_st c.0 l.selectors }
 
-    marks : (s i : ℕ) → settled_mark (st.key s i) (st.mark s i) ≡ settled_mark (keys_after closed_st c.0 l.selectors s i) (st.mark s i)
-    marks s i = sym (marked_where (nat_lt s l.selectors && has_index (key_of st c.0 s) i) (st.key s i) (st.mark s i))
+  keys : (s i : ℕ) → cond (has_index (key_of st c.0 s) i) (cancelled_key (settled (st.key s i))) (settled (st.key s i))
+      ≡ settled (keys_after closed_st c.0 l.selectors s i)
+  keys s i = sym (settled_where (nat_lt s l.selectors) (has_index (key_of st c.0 s) i) (st.key s i)
+      (λ h. let in_set = index_in_set st s i (st.noted c.0 s) h in
+      (lt-ltb s l.selectors (within s i in_set),
+      not-true (st.key s i).removed (and_parts (st.key s i).published (not (st.key s i).removed) in_set).1)))
+
+  marks : (s i : ℕ) → settled_mark (st.key s i) (st.mark s i) ≡ settled_mark (keys_after closed_st c.0 l.selectors s i) (st.mark s i)
+  marks s i = sym (marked_where (nat_lt s l.selectors && has_index (key_of st c.0 s) i) (st.key s i) (st.mark s i))
+
+  pub closed-documented : (r : Reply) → answered ds r (channel_closed ds.shared c.0)
+      ≡ record { reply = r; left = documented closed_left now }
+  closed-documented r =
+      λ j. answered ds r (record (settled_state closed_st) { key = λ s i. keys s i j; mark = λ s i. marks s i j })
+
+  pub close-open : (st.chan c.0).closed ≡ false
+      → perform me (close_channel_plan l c) st ≡ record { answer = true; state = closed_left }
+  unfolding close_channel_plan
+  close-open is =
+      ap (λ (b : Bool). perform me (if b then Plan.reply false else cancel_keys l c) closed_st) is
+      ∙ cancel_keys-performed closed_st me c free whole l
+
+  -- a sink that its owner closes leaves its end mark
+  pub closec-amounts : (st.chan c.0).made ≡ true
+      → closec_call ds me c
+      ≡ amounts closed_reply (λ _. with_mark now (own_sink now me c)) (perform me (close_channel_plan l c) st)
+  unfolding closec_call close_channel_plan
+  closec-amounts made =
+      channel-through ds c made _
+      ∙ ap (marking (own_sink now me c))
+      (branch (amounts closed_reply (λ _. now)) me (Plan.reply false) (cancel_keys l c) closed_st _ _
+      (st.chan c.0).closed (st.chan c.0).closed refl
+      (λ is. ap (λ f. record { reply = reply.Already; left = documented (record st { chan = f }) now })
+      (sym (put-here st.chan c.0 closed_chan (λ j. record (st.chan c.0) { closed = is j }))))
+      (λ _. closed-documented reply.«Ok»
+      ∙ sym (ap (amounts closed_reply (λ _. now)) (cancel_keys-performed closed_st me c free whole l))))

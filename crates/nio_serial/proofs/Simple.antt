@@ -1,5 +1,5 @@
 -- The calls of one look at a channel, those of one step, and those that open: they amount to the documented ones.
-use Rattle.std.proofs.Common.{◌≡◌, ℕ, suc, ◌+◌, ◌-◌, ◌<◌, ◌≤◌, max, nat_lt, Bool, true, false, cond, not, Option, Some, None, option_map, find, ⊎_elim, refl, ap, sym, ◌∙◌, arith}
+use Rattle.std.proofs.Common.{◌≡◌, ℕ, suc, ◌+◌, ◌-◌, ◌<◌, ◌≤◌, max, nat_lt, Bool, true, false, cond, not, Option, Some, None, option_map, Result, Ok, Err, find, ⊎_elim, refl, ap, sym, ◌∙◌, arith}
 use Rattle.std.proofs.lemmas.Bool.{cases_lt, lt-ltb, le-ltb, not-true, not-false, cond-true}
 use Rattle.nio_base.specs.declared.kind.Kind.{Kind}
 use Rattle.nio_base.specs.declared.limits.Limits.{Limits}
@@ -18,7 +18,7 @@ use Rattle.nio_plain.specs.Seq.Answers.{Answered, unchanged, answered, yes_or_no
 use Rattle.nio_plain.specs.Seq.Closing.{close_call}
 use Rattle.nio_plain.specs.Seq.Modes.{key_of, name_or_none, is_blocking_call, is_open_call, is_registered_call, key_for_call}
 use Rattle.nio_plain.specs.Seq.Names.{below}
-use Rattle.nio_plain.specs.Seq.Opening.{selector_made, selector_call, channel_made, channel_call}
+use Rattle.nio_plain.specs.Seq.Opening.{selector_made, selector_call, next_channel, channel_made, channel_call}
 use Rattle.nio_plain.specs.Seq.Wakeups.{wakeup_call, interrupt_call, interrupted_call}
 use Rattle.nio_steps.proofs.PerformLaws.{perform_then_on, perform_seek, indexes, found_at}
 use Rattle.nio_steps.proofs.SweepLaws.{seek_to-done}
@@ -28,6 +28,7 @@ use Rattle.nio_steps.specs.Perform.{Performed, perform}
 use Rattle.nio_steps.specs.Plan.{Plan}
 use Rattle.nio_steps.specs.SelectCalls.{makes_selector, opened_selector, open_selector_plan, shut_plan, closing, already_closed, wakeup_plan, interrupt_plan, interrupted_plan}
 use Rattle.nio_steps.specs.Sweeps.{seek_to}
+use Rattle.nio_steps.specs.declared.refusal.ChannelError.{ChannelError}
 use Rattle.nio_serial.proofs.Base.{put-here}
 use Rattle.nio_serial.proofs.Finding.{find-below, key_for-performed, registered-performed}
 use Rattle.nio_serial.specs.Documented.{Progress, documented, amounts}
@@ -121,51 +122,77 @@ module _ (st : State) (now : Progress) (me : CallerNo) where
       by_found None = refl
       by_found (Some n) = refl
 
-  module _ (exact : (c : ℕ) → (st.chan c).made ≡ nat_lt c st.channels_high) where
-    below_made : (c : ℕ) → c < st.channels_high → not (st.chan c).made ≡ false
-    below_made c below_mark = ap not (exact c ∙ lt-ltb c st.channels_high below_mark)
+  -- the state with one channel more, which is the one at the mark
+  abbrev pub with_channel : Kind → State
+  with_channel kind = with_channels_high (with_chan st st.channels_high (new_channel kind)) (st.channels_high + 1)
 
-    mark_unmade : (st.chan st.channels_high).made ≡ false
-    mark_unmade = exact st.channels_high ∙ le-ltb st.channels_high st.channels_high (omega arith)
+  module _ (exact : (c : ℕ) → (st.chan c).made ≡ nat_lt c st.channels_high) (l : Limits) where
+    abbrev m : ℕ
+    m = st.channels_high
 
-    pub channel-amounts : (l : Limits) (kind : Kind) → channel_call l ds kind ≡ stays channel_reply (perform me (open_channel_plan l kind) st)
-    unfolding channel_call open_channel_plan indexes
-    channel-amounts l kind = ⊎_elim here spent (cases_lt st.channels_high l.channels)
-      where
-        unmade : ℕ → Bool
-        unmade c = not (st.chan c).made
+    unmade : ℕ → Bool
+    unmade c = not (st.chan c).made
 
-        makes : ℕ → Plan (Option ChanNo)
-        makes n = makes_channel kind (channel n)
+    below_made : (c : ℕ) → c < m → unmade c ≡ false
+    below_made c below_mark = ap not (exact c ∙ lt-ltb c m below_mark)
 
-        first : st.channels_high < l.channels → find unmade (indexes st.channels_high (l.channels - st.channels_high)) ≡ Some st.channels_high
-        first room =
-            let more : l.channels - st.channels_high ≡ suc (l.channels - (st.channels_high + 1)) = omega arith in
-            ap (λ n. find unmade (indexes st.channels_high n)) more
-            ∙ cond-true (unmade st.channels_high) (Some st.channels_high) (find unmade (indexes (st.channels_high + 1) (l.channels - (st.channels_high + 1)))) (ap not mark_unmade)
+    mark_unmade : (st.chan m).made ≡ false
+    mark_unmade = exact m ∙ le-ltb m m (omega arith)
 
-        left : ℕ → State
-        left n = with_chan st n (new_channel kind)
+    pub next-is : m < l.channels → next_channel l ds ≡ Some m
+    next-is room = find_first unmade l.channels m room (ap not mark_unmade) below_made
 
-        here : st.channels_high < l.channels → channel_call l ds kind ≡ stays channel_reply (perform me (open_channel_plan l kind) st)
-        here room =
-            let m = st.channels_high in
-            let sought : perform me (seek_to l.channels m makes) st ≡ record { answer = Some (channel m); state = left m } =
-            perform_seek me l.channels m makes unmade channel st left (omega arith)
-            (λ n _ _ is. let was : (st.chan n).made ≡ true = not-false (st.chan n).made is in
-            ap (λ b. record { answer = cond b None (Some (channel n)); state = with_chan st n (cond b (st.chan n) (new_channel kind)) }) was
-            ∙ ap (λ f. record { answer = None; state = record st { chan = f } }) (put-here st.chan n (st.chan n) refl))
-            (λ n _ _ is. ap (λ b. record { answer = cond b None (Some (channel n)); state = with_chan st n (cond b (st.chan n) (new_channel kind)) }) (not-true (st.chan n).made is))
-            ∙ ap (found_at st channel left) (first room) in
-            ap (channel_made ds kind) (find_first unmade l.channels m room (ap not mark_unmade) below_made)
-            ∙ (ap (λ n. answered ds (reply.Channel (channel m)) (with_channels_high (with_chan ds.shared m (new_channel kind)) n)) raised
-            ∙ sym (ap (stays channel_reply) (perform_then_on me (seek_to l.channels m makes) opened_channel st (Some (channel m)) (left m) sought)))
-          where
-            raised : st.channels_high + 1 ≡ max st.channels_high (st.channels_high + 1)
-            raised = omega arith
+    pub next-spent : l.channels ≤ m → next_channel l ds ≡ None
+    next-spent full = find_none unmade l.channels (λ n below_limit. below_made n (omega arith))
 
-        spent : l.channels ≤ st.channels_high → channel_call l ds kind ≡ stays channel_reply (perform me (open_channel_plan l kind) st)
-        spent full =
-            let m = st.channels_high in
-            ap (channel_made ds kind) (find_none unmade l.channels (λ n below_limit. below_made n (omega arith)))
-            ∙ sym (ap (stays channel_reply) (perform_then_on me (seek_to l.channels m makes) opened_channel st None st (ap (λ plan. perform me plan st) (seek_to-done l.channels m makes full))))
+    module _ (kind : Kind) where
+      makes : ℕ → Plan (Option ChanNo)
+      makes n = makes_channel kind (channel n)
+
+      first : m < l.channels → find unmade (indexes m (l.channels - m)) ≡ Some m
+      unfolding indexes
+      first room =
+          let more : l.channels - m ≡ suc (l.channels - (m + 1)) = omega arith in
+          ap (λ n. find unmade (indexes m n)) more
+          ∙ cond-true (unmade m) (Some m) (find unmade (indexes (m + 1) (l.channels - (m + 1)))) (ap not mark_unmade)
+
+      left : ℕ → State
+      left n = with_chan st n (new_channel kind)
+
+      turn : ℕ → Bool → Performed (Option ChanNo)
+      turn n b = record {
+        answer = cond b None (Some (channel n));
+        state = with_chan st n (cond b (st.chan n) (new_channel kind));
+      }
+
+      sought : m < l.channels → perform me (seek_to l.channels m makes) st ≡ record { answer = Some (channel m); state = left m }
+      sought room =
+          perform_seek me l.channels m makes unmade channel st left (omega arith)
+          (λ n _ _ is. ap (turn n) (not-false (st.chan n).made is)
+          ∙ ap (λ f. record { answer = None; state = record st { chan = f } }) (put-here st.chan n (st.chan n) refl))
+          (λ n _ _ is. ap (turn n) (not-true (st.chan n).made is))
+          ∙ ap (found_at st channel left) (first room)
+
+      pub open-performed : m < l.channels
+          → perform me (open_channel_plan l kind) st ≡ record { answer = Ok (channel m); state = with_channel kind }
+      unfolding open_channel_plan
+      open-performed room =
+          let raised : max m (m + 1) ≡ m + 1 = omega arith in
+          perform_then_on me (seek_to l.channels m makes) opened_channel st (Some (channel m)) (left m) (sought room)
+          ∙ ap (λ n. record { answer = Ok (channel m); state = with_channels_high (left m) n }) raised
+
+      pub open-spent : l.channels ≤ m
+          → perform me (open_channel_plan l kind) st ≡ record { answer = Err ChannelError.ChannelsSpent; state = st }
+      unfolding open_channel_plan
+      open-spent full =
+          perform_then_on me (seek_to l.channels m makes) opened_channel st None st
+          (ap (λ plan. perform me plan st) (seek_to-done l.channels m makes full))
+
+      pub channel-amounts : channel_call l ds kind ≡ stays channel_reply (perform me (open_channel_plan l kind) st)
+      unfolding channel_call
+      channel-amounts = ⊎_elim
+          (λ (room : m < l.channels). ap (channel_made ds kind) (next-is room)
+          ∙ sym (ap (stays channel_reply) (open-performed room)))
+          (λ (full : l.channels ≤ m). ap (channel_made ds kind) (next-spent full)
+          ∙ sym (ap (stays channel_reply) (open-spent full)))
+          (cases_lt m l.channels)

@@ -1,13 +1,14 @@
 -- From the table to the documented system: what a state of the table, with the selections in progress, is as a
 -- state of a script; and what a performed plan comes to there.
-use Rattle.std.specs.Prelude.{ℕ, false, not, ◌&&◌, Option, None, option_map, map}
+use Rattle.std.specs.Prelude.{ℕ, false, not, ◌&&◌, Option, None, option_map, List, [], map}
 use Rattle.nio_base.specs.declared.numbers.CallerNo.{CallerNo}
 use Rattle.nio_base.specs.declared.numbers.KeyId.{KeyId}
 use Rattle.nio_event.specs.State.{State}
 use Rattle.nio_event.specs.declared.found.Mark.{Mark}
 use Rattle.nio_event.specs.declared.found.Stage.{Stage}
 use Rattle.nio_event.specs.declared.reply.Reply.{Reply}
-use Rattle.nio_plain.specs.ScriptState.{ScriptState, Selection as ScriptSelection}
+use Rattle.nio_group.specs.Group.{Group, empty_group}
+use Rattle.nio_plain.specs.ScriptState.{Pipe, ScriptState, Selection as ScriptSelection, group_limits}
 use Rattle.nio_plain.specs.Seq.Answers.{Answered}
 use Rattle.nio_steps.specs.Perform.{Performed}
 use Rattle.nio_steps.specs.SelectCalls.{Selection}
@@ -20,14 +21,23 @@ pub record Selecting : Type 0 where
   pub caller : CallerNo
   pub selection : Selection
 
--- What is in progress between two calls, by the selector: the selection, and the caller that closes the selector
--- and hasn't finished. It stands in no word of the table: who makes the calls keeps it.
+-- What is in progress between two calls. It stands in no word of the table: who makes the calls keeps it.
 pub record Progress : Type 0 where
+  -- by the selector: the selection, and the caller that closes the selector and hasn't finished
   pub selection : ℕ → Option Selecting
   pub closing : ℕ → Option CallerNo
+  -- the group of asynchronous channels
+  pub group : Group
+  -- the pipes, with the bytes that wait in them, in the order in which they were made
+  pub pipes : List Pipe
 
 abbrev pub nothing_yet : Progress
-nothing_yet = record { selection = λ _. None; closing = λ _. None }
+nothing_yet = record {
+  selection = λ _. None;
+  closing = λ _. None;
+  group = empty_group group_limits;
+  pipes = [];
+}
 
 -- ---- the documented state
 
@@ -59,6 +69,8 @@ abbrev pub documented : State → Progress → ScriptState
 documented st now = record {
   shared = settled_state st;
   selection = λ s. option_map (λ x. shown x.selection) (now.selection s);
+  group = now.group;
+  pipes = now.pipes;
 }
 
 -- ---- what a performed plan comes to

@@ -70,6 +70,10 @@ IsNamed l st (call.Keys s) = IsMadeSelector st s
 IsNamed l st (call.Selected s) = IsMadeSelector st s
 IsNamed l st (call.Interrupt target) = target.0 < l.callers
 IsNamed l st call.Interrupted = ⊤
+IsNamed l st (call.Pipe target) = target.0 < l.callers
+IsNamed l st (call.Pwrite c bytes) = IsMadeChannel st c
+IsNamed l st (call.Pread c n) = IsMadeChannel st c
+IsNamed l st (call.Group g) = ⊤
 
 -- ---- the laws
 

@@ -9,20 +9,26 @@ use Rattle.nio_event.specs.State.{put}
 use Rattle.nio_event.specs.declared.call.Call.{Call}
 use Rattle.nio_event.specs.declared.call.Call.TheVariants as call
 use Rattle.nio_event.specs.declared.found.Mode.{Mode}
+use Rattle.nio_event.specs.declared.group_call.GroupCall.{GroupCall}
 use Rattle.nio_event.specs.declared.reply.Reply.{Reply}
 use Rattle.nio_event.specs.declared.reply.Reply.TheVariants as reply
+use Rattle.nio_plain.specs.ScriptState.{Pipe}
 use Rattle.nio_plain.specs.Seq.Answers.{Answered, yes_or_no}
+use Rattle.nio_plain.specs.Seq.Grouping.{group_reply, group_left}
 use Rattle.nio_plain.specs.Seq.Registering.{given_or_none}
 use Rattle.nio_plain.specs.Seq.Selections.{mode_of, is_looked, is_caller}
 use Rattle.nio_steps.specs.ChannelCalls.{open_channel_plan, is_open_plan, is_blocking_plan, is_registered_plan, key_for_plan, try_set_blocking_plan, try_register_plan, close_channel_plan}
 use Rattle.nio_steps.specs.KeyCalls.{find_selector_plan, find_channel_plan, find_plan, is_valid_plan, interest_plan, set_interest_plan, interest_or_plan, interest_and_plan, ready_plan, cancel_plan, unselect_plan, attach_plan, attachment_plan}
 use Rattle.nio_steps.specs.Names.{key}
 use Rattle.nio_steps.specs.Perform.{Performed}
+use Rattle.nio_steps.specs.PipeCalls.{pipe_plan, try_read_plan, try_write_plan}
 use Rattle.nio_steps.specs.Plan.{Plan, ◌>>=◌}
 use Rattle.nio_steps.specs.SelectCalls.{Selection, open_selector_plan, try_begin_plan, told_plan, ToldReply, done, again, leave_plan, shut_plan, ShutReply, closing, already_closed, try_finish_plan, FinishReply, closed, busy, keys_plan, selected_keys_plan, wakeup_plan, interrupt_plan, interrupted_plan}
 use Rattle.nio_steps.specs.declared.refusal.BeginError.{BeginError}
+use Rattle.nio_steps.specs.declared.refusal.PipeError.{PipeError}
 use Rattle.nio_serial.specs.Documented.{Progress, Selecting, shown, amounts}
-use Rattle.nio_serial.specs.Replies.{find_reply, set_reply, put_reply, channel_reply, mode_reply, register_reply, closed_reply, selector_reply, begin_reply, told_reply, shut_reply, finish_reply, list_reply}
+use Rattle.nio_serial.specs.PipeLines.{own_source, own_sink, pipe_at, with_pipe, with_mark, after_pipe, Piped, read_gives, write_gives}
+use Rattle.nio_serial.specs.Replies.{find_reply, set_reply, put_reply, channel_reply, mode_reply, register_reply, closed_reply, ends_reply, selector_reply, begin_reply, told_reply, shut_reply, finish_reply, list_reply}
 
 -- what a line answers, and what is in progress after it
 pub record Said : Type 0 where
@@ -98,6 +104,27 @@ abbrev pub close_end_line : Progress → CallerNo → SelNo → Plan Said
 close_end_line now me s =
     if is_caller me (now.closing s.0) then makes (try_finish_plan s) finish_reply (after_finish now s) else refused now reply.NotClosing
 
+-- a call on the group makes no step on the table: its reply and the group that it leaves follow from the group alone
+abbrev pub group_line : Progress → GroupCall → Plan Said
+group_line now g = Plan.reply (record {
+  reply = group_reply now.group g;
+  left = record now { group = group_left now.group g };
+})
+
+-- a read or a write on the pipe at a place
+abbrev pub on_pipe : Progress → ℕ → Plan (Result Bool PipeError) → (Pipe → Result Bool PipeError → Piped) → Plan Said
+on_pipe now i plan gives =
+    makes plan (λ answer. (gives (pipe_at now i) answer).reply) (λ answer. with_pipe now i (gives (pipe_at now i) answer).left)
+
+-- of the caller's own pipe
+abbrev pub read_line : Limits → Progress → ChanNo → ℕ → Option ℕ → Plan Said
+read_line l now c n None = refused now reply.NotOwner
+read_line l now c n (Some i) = on_pipe now i (try_read_plan l c) (read_gives n)
+
+abbrev pub write_line : Limits → Progress → ChanNo → List ℕ → Option ℕ → Plan Said
+write_line l now c bytes None = refused now reply.NotOwner
+write_line l now c bytes (Some i) = on_pipe now i (try_write_plan l (pipe_at now i).source c) (write_gives bytes)
+
 -- each call, once the line's names are found
 unfoldable pub call_plan : Limits → Progress → CallerNo → Call → Plan Said
 call_plan l now me call.Selector = asks now (open_selector_plan l) selector_reply
@@ -108,7 +135,8 @@ call_plan l now me (call.IsOpen c) = asks now (is_open_plan c) yes_or_no
 call_plan l now me (call.IsRegistered c) = asks now (is_registered_plan l c) yes_or_no
 call_plan l now me (call.KeyFor c s) = asks now (key_for_plan c s) find_reply
 call_plan l now me (call.Register s c ops att) = asks now (try_register_plan l s c ops (given_or_none att)) register_reply
-call_plan l now me (call.Closec c) = asks now (close_channel_plan l c) closed_reply
+call_plan l now me (call.Closec c) =
+    makes (close_channel_plan l c) closed_reply (λ _. with_mark now (own_sink now me c))
 call_plan l now me (call.Valid s k) = asks now (is_valid_plan (key s k)) yes_or_no
 call_plan l now me (call.Interest s k) = asks now (interest_plan (key s k)) set_reply
 call_plan l now me (call.Ready s k) = asks now (ready_plan (key s k)) set_reply
@@ -129,6 +157,10 @@ call_plan l now me (call.Keys s) = asks now (keys_plan s false) list_reply
 call_plan l now me (call.Selected s) = asks now (selected_keys_plan s false) list_reply
 call_plan l now me (call.Interrupt target) = asks now (interrupt_plan target) (λ _. reply.«Ok»)
 call_plan l now me call.Interrupted = asks now interrupted_plan yes_or_no
+call_plan l now me (call.Pipe target) = makes (pipe_plan l false) ends_reply (after_pipe now me target)
+call_plan l now me (call.Pwrite c bytes) = write_line l now c bytes (own_sink now me c)
+call_plan l now me (call.Pread c n) = read_line l now c n (own_source now me c)
+call_plan l now me (call.Group g) = group_line now g
 
 -- ---- the names of a line
 
@@ -148,7 +180,8 @@ if_channel l now c plan = find_channel_plan l c.0 >>= if_found now reply.NoChann
 abbrev pub if_key : Limits → Progress → SelNo → KeyId → Plan Said → Plan Said
 if_key l now s k plan = if_selector l now s (find_plan l s k.index k.serial >>= if_found now reply.NoKey plan)
 
--- the names of a line are looked up in their order
+-- The names of a line are looked up in their order. The channels of a group aren't the table's: a call on the group
+-- finds its channel itself.
 unfoldable pub if_named : Limits → Progress → Call → Plan Said → Plan Said
 if_named l now call.Selector plan = plan
 if_named l now (call.Channel kind) plan = plan
@@ -179,6 +212,10 @@ if_named l now (call.Keys s) plan = if_selector l now s plan
 if_named l now (call.Selected s) plan = if_selector l now s plan
 if_named l now (call.Interrupt target) plan = if_caller l now target plan
 if_named l now call.Interrupted plan = plan
+if_named l now (call.Pipe target) plan = if_caller l now target plan
+if_named l now (call.Pwrite c bytes) plan = if_channel l now c plan
+if_named l now (call.Pread c n) plan = if_channel l now c plan
+if_named l now (call.Group g) plan = plan
 
 -- a line of a script
 unfoldable pub line_plan : Limits → Progress → CallerNo → Call → Plan Said

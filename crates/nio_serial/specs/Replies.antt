@@ -7,11 +7,14 @@ use Rattle.nio_base.specs.declared.numbers.SelNo.{SelNo}
 use Rattle.nio_event.specs.declared.reply.Reply.{Reply}
 use Rattle.nio_event.specs.declared.reply.Reply.TheVariants as reply
 use Rattle.nio_plain.specs.Seq.Listing.{names_or_none}
+use Rattle.nio_steps.specs.PipeCalls.{PipeEnds}
 use Rattle.nio_steps.specs.SelectCalls.{Selection, ToldReply, done, again, ShutReply, closing, already_closed, FinishReply, closed, busy}
 use Rattle.nio_steps.specs.declared.refusal.BeginError.{BeginError}
 use Rattle.nio_steps.specs.declared.refusal.ChannelError.{ChannelError}
 use Rattle.nio_steps.specs.declared.refusal.KeyError.{KeyError}
 use Rattle.nio_steps.specs.declared.refusal.ListError.{ListError}
+use Rattle.nio_steps.specs.declared.refusal.PipeError.{PipeError}
+use Rattle.nio_steps.specs.declared.refusal.PipeMakeError.{PipeMakeError}
 use Rattle.nio_steps.specs.declared.refusal.SelectorsSpent.{SelectorsSpent}
 use Rattle.nio_serial.specs.Documented.{shown}
 
@@ -31,6 +34,12 @@ channel_refusal ChannelError.CancelledKey = reply.CancelledKey
 channel_refusal ChannelError.ClosedSelector = reply.ClosedSelector
 channel_refusal ChannelError.Full = reply.Full
 
+abbrev pub pipe_refusal : PipeError → Reply
+pipe_refusal PipeError.ClosedChannel = reply.ClosedChannel
+pipe_refusal PipeError.ClosedByInterrupt = reply.ClosedByInterrupt
+pipe_refusal PipeError.AsynchronousClose = reply.AsyncClose
+pipe_refusal PipeError.BrokenPipe = reply.BrokenPipe
+
 -- Want of memory has no reply. The plans of lines are those of calls that have memory, and never answer it.
 
 abbrev pub begin_refusal : BeginError → Reply
@@ -41,6 +50,10 @@ begin_refusal BeginError.Memory = reply.Busy
 abbrev pub list_refusal : ListError → Reply
 list_refusal ListError.ClosedSelector = reply.ClosedSelector
 list_refusal ListError.Memory = reply.Busy
+
+abbrev pub make_refusal : PipeMakeError → Reply
+make_refusal PipeMakeError.ChannelsSpent = reply.ChannelsSpent
+make_refusal PipeMakeError.Memory = reply.ChannelsSpent
 
 -- ---- keys
 
@@ -77,6 +90,10 @@ register_reply (Err refusal) = channel_refusal refusal
 abbrev pub closed_reply : Bool → Reply
 closed_reply true = reply.«Ok»
 closed_reply false = reply.Already
+
+abbrev pub ends_reply : Result PipeEnds PipeMakeError → Reply
+ends_reply (Ok ends) = reply.Ends ends.source ends.sink
+ends_reply (Err refusal) = make_refusal refusal
 
 -- ---- selectors
 
