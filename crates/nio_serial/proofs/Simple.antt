@@ -35,6 +35,11 @@ use Rattle.nio_serial.specs.Documented.{Progress, documented, amounts}
 use Rattle.nio_serial.specs.Lines.{after_shut}
 use Rattle.nio_serial.specs.Replies.{find_reply, channel_reply, selector_reply, shut_reply}
 
+-- the state with one channel more, which is the one at the mark
+abbrev pub with_channel : State → Kind → State
+with_channel st kind =
+    with_channels_high (with_chan st st.channels_high (new_channel kind)) (st.channels_high + 1)
+
 module _ (st : State) (now : Progress) (me : CallerNo) where
   abbrev ds : ScriptState
   ds = documented st now
@@ -122,10 +127,6 @@ module _ (st : State) (now : Progress) (me : CallerNo) where
       by_found None = refl
       by_found (Some n) = refl
 
-  -- the state with one channel more, which is the one at the mark
-  abbrev pub with_channel : Kind → State
-  with_channel kind = with_channels_high (with_chan st st.channels_high (new_channel kind)) (st.channels_high + 1)
-
   module _ (exact : (c : ℕ) → (st.chan c).made ≡ nat_lt c st.channels_high) (l : Limits) where
     abbrev m : ℕ
     m = st.channels_high
@@ -174,7 +175,7 @@ module _ (st : State) (now : Progress) (me : CallerNo) where
           ∙ ap (found_at st channel left) (first room)
 
       pub open-performed : m < l.channels
-          → perform me (open_channel_plan l kind) st ≡ record { answer = Ok (channel m); state = with_channel kind }
+          → perform me (open_channel_plan l kind) st ≡ record { answer = Ok (channel m); state = with_channel st kind }
       unfolding open_channel_plan
       open-performed room =
           let raised : max m (m + 1) ≡ m + 1 = omega arith in
