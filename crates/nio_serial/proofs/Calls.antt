@@ -39,7 +39,8 @@ use Rattle.nio_serial.proofs.ClosingSelectors.{close_end-amounts}
 use Rattle.nio_serial.proofs.Facts.{unpinned, untaken, unheld, none_due, channels, claimed, published, whole, free, fresh_mark, fresh_free, within, begun, looked_in_set, own-is}
 use Rattle.nio_serial.proofs.KeyCalls.{valid-amounts, interest-amounts, ready-amounts, iset-amounts, ior-amounts, iand-amounts, cancel-amounts, unselect-amounts, attach-amounts, attachment-amounts}
 use Rattle.nio_serial.proofs.Listing.{keys-amounts, selected-amounts}
-use Rattle.nio_serial.proofs.PipeLines.{ends-amount, read-amounts, write-amounts}
+use Rattle.nio_serial.proofs.PipeLines.{read-amounts, write-amounts}
+use Rattle.nio_serial.proofs.PipeMaking.{ends-amount}
 use Rattle.nio_serial.proofs.Registering.{register-amounts}
 use Rattle.nio_serial.proofs.Simple.{is_blocking-amounts, is_open-amounts, is_registered-amounts, key_for-amounts, wakeup-amounts, close-amounts, interrupt-amounts, interrupted-amounts, selector-amounts, channel-amounts}
 use Rattle.nio_serial.proofs.Marking.{by_index-tells, by_key-tells}

@@ -19,6 +19,7 @@ pub mod Registering
 pub mod Facts
 pub mod Resting
 pub mod PipeLines
+pub mod PipeMaking
 pub mod Calls
 pub mod Lines
 pub mod RestingCalls

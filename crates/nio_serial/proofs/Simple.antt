@@ -131,7 +131,7 @@ module _ (st : State) (now : Progress) (me : CallerNo) where
     abbrev m : ℕ
     m = st.channels_high
 
-    unmade : ℕ → Bool
+    abbrev unmade : ℕ → Bool
     unmade c = not (st.chan c).made
 
     below_made : (c : ℕ) → c < m → unmade c ≡ false
@@ -147,7 +147,7 @@ module _ (st : State) (now : Progress) (me : CallerNo) where
     next-spent full = find_none unmade l.channels (λ n below_limit. below_made n (omega arith))
 
     module _ (kind : Kind) where
-      makes : ℕ → Plan (Option ChanNo)
+      abbrev makes : ℕ → Plan (Option ChanNo)
       makes n = makes_channel kind (channel n)
 
       first : m < l.channels → find unmade (indexes m (l.channels - m)) ≡ Some m
@@ -157,10 +157,10 @@ module _ (st : State) (now : Progress) (me : CallerNo) where
           ap (λ n. find unmade (indexes m n)) more
           ∙ cond-true (unmade m) (Some m) (find unmade (indexes (m + 1) (l.channels - (m + 1)))) (ap not mark_unmade)
 
-      left : ℕ → State
+      abbrev left : ℕ → State
       left n = with_chan st n (new_channel kind)
 
-      turn : ℕ → Bool → Performed (Option ChanNo)
+      abbrev turn : ℕ → Bool → Performed (Option ChanNo)
       turn n b = record {
         answer = cond b None (Some (channel n));
         state = with_chan st n (cond b (st.chan n) (new_channel kind));
