@@ -132,7 +132,7 @@ abbrev no_one : Option CallerNo
 no_one = None
 
 module _ (l : Limits) (past : List Event) (now : Progress) (me : CallerNo) (fit : IsFit l) (by : IsCaller l me)
-    (between : IsBetween l (state_after past) now) (none : now.pipes ≡ []) where
+    (between : IsBetween l (state_after past) now) (no_pipes : now.pipes ≡ []) where
   abbrev st : State
   st = state_after past
 
@@ -394,7 +394,7 @@ module _ (l : Limits) (past : List Event) (now : Progress) (me : CallerNo) (fit 
   ends o (close_channel c answer) acts plain run legal names at may =
       quiet-line o (call.Closec c) (closed_reply answer) acts names legal
       (subst (λ (x : Progress). Completes (call_plan l now me (call.Closec c)) acts (record { reply = closed_reply answer; left = x }))
-      (unmarked now me c none)
+      (unmarked now me c no_pipes)
       (made-run (close_channel_plan l c) closed_reply (λ _. with_mark now (own_sink now me c)) acts answer run)) at
   ends o (open_selector answer) acts plain run legal names at may = quiet-line o call.Selector (selector_reply answer) acts names legal (made-run (open_selector_plan l) selector_reply (λ _. now) acts answer run) at
   ends o (try_begin s mode answer) acts plain run legal names at may = begin-ends o s mode answer acts run legal names.0 names.1 at

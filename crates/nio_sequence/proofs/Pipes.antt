@@ -37,9 +37,9 @@ use Rattle.nio_steps.specs.declared.refusal.PipeMakeError.{PipeMakeError}
 
 -- where there are no pipes of a script, a closed channel leaves what is in progress
 pub unmarked : (now : Progress) (me : CallerNo) (c : ChanNo) → now.pipes ≡ [] → with_mark now (own_sink now me c) ≡ now
-unmarked now me c none =
-    ap (λ (pipes : List Pipe). record now { pipes = marked_pipes (position (owns_sink me c) pipes) pipes }) none
-    ∙ ap (λ (pipes : List Pipe). record now { pipes = pipes }) (sym none)
+unmarked now me c no_pipes =
+    ap (λ (pipes : List Pipe). record now { pipes = marked_pipes (position (owns_sink me c) pipes) pipes }) no_pipes
+    ∙ ap (λ (pipes : List Pipe). record now { pipes = pipes }) (sym no_pipes)
 
 -- a channel that is put is made, and the others stay so
 module _ (l : Limits) (ds : ScriptState) (kind : Kind) where
@@ -57,7 +57,7 @@ module _ (l : Limits) (ds : ScriptState) (kind : Kind) where
       put-there m = ap (λ (x : Chan). x.made) (put-same ds.shared.chan m (record { made = true; kind = kind; closed = false; blocking = true }))
 
 module _ (l : Limits) (st : State) (now : Progress) (me : CallerNo) (fit : IsFit l) (by : IsCaller l me)
-    (between : IsBetween l st now) (none : now.pipes ≡ []) where
+    (between : IsBetween l st now) (no_pipes : now.pipes ≡ []) where
   abbrev ds : ScriptState
   ds = documented st now
 
@@ -72,7 +72,7 @@ module _ (l : Limits) (st : State) (now : Progress) (me : CallerNo) (fit : IsFit
       line-leaves (close_channel_plan l c) closed_reply
       (subst (λ (x : Progress). IsBetween l (perform me (makes (close_channel_plan l c) closed_reply (λ _. x)) st).state
       (perform me (makes (close_channel_plan l c) closed_reply (λ _. x)) st).answer.left)
-      (unmarked now me c none) (calls-stay l st now me (call.Closec c) fit by between made))
+      (unmarked now me c no_pipes) (calls-stay l st now me (call.Closec c) fit by between made))
 
   pub opens-leave : (kind : Kind) → IsBetween l (perform me (open_channel_plan l kind) st).state now
   unfolding call_plan
@@ -123,11 +123,11 @@ module _ (l : Limits) (st : State) (now : Progress) (me : CallerNo) (fit : IsFit
 
 -- ---- making a pipe
 
-module _ (l : Limits) (now : Progress) (me : CallerNo) (fit : IsFit l) (by : IsCaller l me) (none : now.pipes ≡ []) where
+module _ (l : Limits) (now : Progress) (me : CallerNo) (fit : IsFit l) (by : IsCaller l me) (no_pipes : now.pipes ≡ []) where
   without-leaves : (st : State) (source : ChanNo) → IsBetween l st now → IsMadeChannel st source → IsBetween l (perform me (without_sink l source) st).state now
   without-leaves st source between made =
       subst (λ (p : Performed (Result PipeEnds PipeMakeError)). IsBetween l p.state now) (sym (perform-bind me (close_channel_plan l source) (λ _. Plan.reply (Err PipeMakeError.ChannelsSpent)) st))
-      (closes-leave l st now me fit by between none source made)
+      (closes-leave l st now me fit by between no_pipes source made)
 
   sink-leaves : (st : State) (source : ChanNo) (a : Result ChanNo ChannelError) → IsBetween l st now → IsMadeChannel st source → IsBetween l (perform me (with_sink l source a) st).state now
   sink-leaves st source (Ok sink) between made = between
@@ -144,7 +144,7 @@ module _ (l : Limits) (now : Progress) (me : CallerNo) (fit : IsFit l) (by : IsC
   source-leaves st (Ok source) between made =
       let done = perform me (open_channel_plan l Sink) st in
       subst (λ (p : Performed (Result PipeEnds PipeMakeError)). IsBetween l p.state now) (sym (perform-bind me (open_channel_plan l Sink) (with_sink l source) st))
-      (sink-leaves done.state source done.answer (opens-leave l st now me fit by between none Sink) (opens-keep l st now me fit by between none Sink source (made source refl)))
+      (sink-leaves done.state source done.answer (opens-leave l st now me fit by between no_pipes Sink) (opens-keep l st now me fit by between no_pipes Sink source (made source refl)))
   source-leaves st (Err ChannelError.ChannelsSpent) between made = between
   source-leaves st (Err ChannelError.IllegalOps) between made = between
   source-leaves st (Err ChannelError.ClosedChannel) between made = between
@@ -160,4 +160,4 @@ module _ (l : Limits) (now : Progress) (me : CallerNo) (fit : IsFit l) (by : IsC
   pipe-leaves st false between =
       let done = perform me (open_channel_plan l Source) st in
       subst (λ (p : Performed (Result PipeEnds PipeMakeError)). IsBetween l p.state now) (sym (perform-bind me (open_channel_plan l Source) (with_source l) st))
-      (source-leaves done.state done.answer (opens-leave l st now me fit by between none Source) (opens-make l st now me fit by between none Source))
+      (source-leaves done.state done.answer (opens-leave l st now me fit by between no_pipes Source) (opens-make l st now me fit by between no_pipes Source))

@@ -1,5 +1,5 @@
 -- What serial histories leave: call by call, from the opening state on.
-use Rattle.std.proofs.Common.{◌≡◌, ℕ, ◌==◌, Bool, true, false, not, ◌&&◌, IsTrue, if◌then◌else◌, Result, Ok, Err, List, [], ◌∷◌, ◌++◌, map, refl, ap, sym, ◌∙◌, subst, append_assoc, eqb-true, eq-eqb}
+use Rattle.std.proofs.Common.{◌≡◌, ℕ, ◌==◌, Bool, true, false, not, ◌&&◌, IsTrue, if◌then◌else◌, List, [], ◌∷◌, ◌++◌, map, refl, ap, sym, ◌∙◌, subst, append_assoc, eqb-true, eq-eqb}
 use Rattle.std.proofs.lemmas.List.{append-nil}
 use Rattle.std.proofs.lemmas.List.Elements.{All-head, All-tail}
 use Rattle.nio_base.specs.Limits.{IsFit}
@@ -25,119 +25,60 @@ use Rattle.nio_serial.proofs.Staying.{begins-between}
 use Rattle.nio_serial.specs.Between.{IsBetween}
 use Rattle.nio_serial.specs.Documented.{Progress, nothing_yet, documented}
 use Rattle.nio_serial.specs.Serial.{replies_from}
-use Rattle.nio_steps.specs.SelectCalls.{done, again, closing, already_closed, closed, busy}
 use Rattle.nio_sequence.proofs.Calls.{after, IsScripted, Ends, ends}
+use Rattle.nio_sequence.proofs.Progress.{pipes-after, pipes-in_progress}
 use Rattle.nio_sequence.proofs.Waiting.{blocking-ends, register-ends, select-ends, close-ends, read-ends, write-ends, pipe-ends, try_read-ends, try_write-ends}
 use Rattle.nio_sequence.specs.Called.{Scripted, as_call, unseen, unscripted, script_call, lacks_memory, HasNames, IsNamedCall}
 use Rattle.nio_sequence.specs.Laws.{is_of_script, AreOfScript, line_of, reply_of, script_of, replies_of, SequencesStand, NextCallIsDocumented, SequencesGrow, NothingIsSequence, SequencesAreScripts}
 use Rattle.nio_sequence.specs.Left.{after_made, in_progress, IsOngoing, AreNamed, AreNoted, IsSequence, IsLeftBy}
 
--- ---- pipes of a script
-
--- The calls of a history make no pipe of a script: its pipes are made by lines.
-pipes-after : (now : Progress) (me : CallerNo) (made : Made) → (after_made now me made).pipes ≡ now.pipes
-pipes-after now me (draw n) = refl
-pipes-after now me (find_selector n answer) = refl
-pipes-after now me (find_channel n answer) = refl
-pipes-after now me (find s i serial answer) = refl
-pipes-after now me (is_valid k answer) = refl
-pipes-after now me (interest k answer) = refl
-pipes-after now me (set_interest k ops answer) = refl
-pipes-after now me (interest_or k ops answer) = refl
-pipes-after now me (interest_and k ops answer) = refl
-pipes-after now me (ready k answer) = refl
-pipes-after now me (cancel k) = refl
-pipes-after now me (unselect k answer) = refl
-pipes-after now me (attach k att answer) = refl
-pipes-after now me (attachment k answer) = refl
-pipes-after now me (open_channel kind answer) = refl
-pipes-after now me (is_open c answer) = refl
-pipes-after now me (is_blocking c answer) = refl
-pipes-after now me (is_registered c answer) = refl
-pipes-after now me (key_for c s answer) = refl
-pipes-after now me (try_set_blocking c on answer) = refl
-pipes-after now me (try_register s c ops att answer) = refl
-pipes-after now me (close_channel c answer) = refl
-pipes-after now me (open_selector answer) = refl
-pipes-after now me (try_begin s mode (Ok x)) = refl
-pipes-after now me (try_begin s mode (Err refusal)) = refl
-pipes-after now me (told selection poll (done answer)) = refl
-pipes-after now me (told selection poll (again x)) = refl
-pipes-after now me (leave selection) = refl
-pipes-after now me (shut s closing) = refl
-pipes-after now me (shut s already_closed) = refl
-pipes-after now me (try_finish s closed) = refl
-pipes-after now me (try_finish s busy) = refl
-pipes-after now me (keys s answer) = refl
-pipes-after now me (selected_keys s answer) = refl
-pipes-after now me (wakeup s) = refl
-pipes-after now me (interrupt n) = refl
-pipes-after now me (interrupted answer) = refl
-pipes-after now me (pipe answer) = refl
-pipes-after now me (try_read source answer) = refl
-pipes-after now me (try_write source sink answer) = refl
-pipes-after now me (set_blocking c on answer) = refl
-pipes-after now me (register s c ops att answer) = refl
-pipes-after now me (select s mode polls (selected answer)) = refl
-pipes-after now me (select s mode polls (not_begun refusal)) = refl
-pipes-after now me (select s mode polls left) = refl
-pipes-after now me (close s true) = refl
-pipes-after now me (close s false) = refl
-pipes-after now me (read source none answer) = refl
-pipes-after now me (write source sink none answer) = refl
-
-pipes-in_progress : (now : Progress) (made : List MadeBy) → (in_progress now made).pipes ≡ now.pipes
-pipes-in_progress now [] = refl
-pipes-in_progress now (one ∷ later) =
-    pipes-in_progress (after_made now one.caller one.call) later ∙ pipes-after now one.caller one.call
-
 -- ---- every call
 
 module _ (l : Limits) (past : List Event) (now : Progress) (me : CallerNo) (fit : IsFit l) (by : IsCaller l me)
-    (between : IsBetween l (state_after past) now) (none : now.pipes ≡ []) where
+    (between : IsBetween l (state_after past) now) (no_pipes : now.pipes ≡ []) where
   pub each-ends : (o : Ongoing) (made : Made) (acts : List Act) → IsRun l made acts → IsLegal l (after past me acts) → HasNames (state_after past) made → IsOngoing me now o → MayCome o made → Ends l past now me o acts made
-  each-ends o (draw n) acts run legal names at may = ends l past now me fit by between none o (draw n) acts refl run legal names at may
-  each-ends o (find_selector n answer) acts run legal names at may = ends l past now me fit by between none o (find_selector n answer) acts refl run legal names at may
-  each-ends o (find_channel n answer) acts run legal names at may = ends l past now me fit by between none o (find_channel n answer) acts refl run legal names at may
-  each-ends o (find s i serial answer) acts run legal names at may = ends l past now me fit by between none o (find s i serial answer) acts refl run legal names at may
-  each-ends o (is_valid k answer) acts run legal names at may = ends l past now me fit by between none o (is_valid k answer) acts refl run legal names at may
-  each-ends o (interest k answer) acts run legal names at may = ends l past now me fit by between none o (interest k answer) acts refl run legal names at may
-  each-ends o (set_interest k ops answer) acts run legal names at may = ends l past now me fit by between none o (set_interest k ops answer) acts refl run legal names at may
-  each-ends o (interest_or k ops answer) acts run legal names at may = ends l past now me fit by between none o (interest_or k ops answer) acts refl run legal names at may
-  each-ends o (interest_and k ops answer) acts run legal names at may = ends l past now me fit by between none o (interest_and k ops answer) acts refl run legal names at may
-  each-ends o (ready k answer) acts run legal names at may = ends l past now me fit by between none o (ready k answer) acts refl run legal names at may
-  each-ends o (cancel k) acts run legal names at may = ends l past now me fit by between none o (cancel k) acts refl run legal names at may
-  each-ends o (unselect k answer) acts run legal names at may = ends l past now me fit by between none o (unselect k answer) acts refl run legal names at may
-  each-ends o (attach k att answer) acts run legal names at may = ends l past now me fit by between none o (attach k att answer) acts refl run legal names at may
-  each-ends o (attachment k answer) acts run legal names at may = ends l past now me fit by between none o (attachment k answer) acts refl run legal names at may
-  each-ends o (open_channel kind answer) acts run legal names at may = ends l past now me fit by between none o (open_channel kind answer) acts refl run legal names at may
-  each-ends o (is_open c answer) acts run legal names at may = ends l past now me fit by between none o (is_open c answer) acts refl run legal names at may
-  each-ends o (is_blocking c answer) acts run legal names at may = ends l past now me fit by between none o (is_blocking c answer) acts refl run legal names at may
-  each-ends o (is_registered c answer) acts run legal names at may = ends l past now me fit by between none o (is_registered c answer) acts refl run legal names at may
-  each-ends o (key_for c s answer) acts run legal names at may = ends l past now me fit by between none o (key_for c s answer) acts refl run legal names at may
-  each-ends o (try_set_blocking c on answer) acts run legal names at may = ends l past now me fit by between none o (try_set_blocking c on answer) acts refl run legal names at may
-  each-ends o (try_register s c ops att answer) acts run legal names at may = ends l past now me fit by between none o (try_register s c ops att answer) acts refl run legal names at may
-  each-ends o (close_channel c answer) acts run legal names at may = ends l past now me fit by between none o (close_channel c answer) acts refl run legal names at may
-  each-ends o (open_selector answer) acts run legal names at may = ends l past now me fit by between none o (open_selector answer) acts refl run legal names at may
-  each-ends o (try_begin s mode answer) acts run legal names at may = ends l past now me fit by between none o (try_begin s mode answer) acts refl run legal names at may
-  each-ends o (told x poll answer) acts run legal names at may = ends l past now me fit by between none o (told x poll answer) acts refl run legal names at may
-  each-ends o (leave x) acts run legal names at may = ends l past now me fit by between none o (leave x) acts refl run legal names at may
-  each-ends o (shut s answer) acts run legal names at may = ends l past now me fit by between none o (shut s answer) acts refl run legal names at may
-  each-ends o (try_finish s answer) acts run legal names at may = ends l past now me fit by between none o (try_finish s answer) acts refl run legal names at may
-  each-ends o (keys s answer) acts run legal names at may = ends l past now me fit by between none o (keys s answer) acts refl run legal names at may
-  each-ends o (selected_keys s answer) acts run legal names at may = ends l past now me fit by between none o (selected_keys s answer) acts refl run legal names at may
-  each-ends o (wakeup s) acts run legal names at may = ends l past now me fit by between none o (wakeup s) acts refl run legal names at may
-  each-ends o (interrupt n) acts run legal names at may = ends l past now me fit by between none o (interrupt n) acts refl run legal names at may
-  each-ends o (interrupted answer) acts run legal names at may = ends l past now me fit by between none o (interrupted answer) acts refl run legal names at may
-  each-ends o (pipe answer) acts run legal names at may = pipe-ends l me fit by past now o between none at answer acts run legal
-  each-ends o (try_read source answer) acts run legal names at may = try_read-ends l me fit by past now o between none at source answer acts run legal names
-  each-ends o (try_write source sink answer) acts run legal names at may = try_write-ends l me fit by past now o between none at source sink answer acts run legal names.1
-  each-ends o (set_blocking c on answer) acts run legal names at may = blocking-ends l me fit by past now o between none at c on answer acts run legal names
-  each-ends o (register s c ops att answer) acts run legal names at may = register-ends l me fit by past now o between none at s c ops att answer acts run legal names.0 names.1
-  each-ends o (select s mode polls answer) acts run legal names at may = select-ends l me fit by past now o between none at s names.0 mode names.1 polls answer acts run legal
-  each-ends o (close s answer) acts run legal names at may = close-ends l me fit by past now o between none at s names answer acts run legal
-  each-ends o (read source none answer) acts run legal names at may = read-ends l me fit by past now o between none at source none answer acts run legal names
-  each-ends o (write source sink none answer) acts run legal names at may = write-ends l me fit by past now o between none at source sink none answer acts run legal names.1
+  each-ends o (draw n) acts run legal names at may = ends l past now me fit by between no_pipes o (draw n) acts refl run legal names at may
+  each-ends o (find_selector n answer) acts run legal names at may = ends l past now me fit by between no_pipes o (find_selector n answer) acts refl run legal names at may
+  each-ends o (find_channel n answer) acts run legal names at may = ends l past now me fit by between no_pipes o (find_channel n answer) acts refl run legal names at may
+  each-ends o (find s i serial answer) acts run legal names at may = ends l past now me fit by between no_pipes o (find s i serial answer) acts refl run legal names at may
+  each-ends o (is_valid k answer) acts run legal names at may = ends l past now me fit by between no_pipes o (is_valid k answer) acts refl run legal names at may
+  each-ends o (interest k answer) acts run legal names at may = ends l past now me fit by between no_pipes o (interest k answer) acts refl run legal names at may
+  each-ends o (set_interest k ops answer) acts run legal names at may = ends l past now me fit by between no_pipes o (set_interest k ops answer) acts refl run legal names at may
+  each-ends o (interest_or k ops answer) acts run legal names at may = ends l past now me fit by between no_pipes o (interest_or k ops answer) acts refl run legal names at may
+  each-ends o (interest_and k ops answer) acts run legal names at may = ends l past now me fit by between no_pipes o (interest_and k ops answer) acts refl run legal names at may
+  each-ends o (ready k answer) acts run legal names at may = ends l past now me fit by between no_pipes o (ready k answer) acts refl run legal names at may
+  each-ends o (cancel k) acts run legal names at may = ends l past now me fit by between no_pipes o (cancel k) acts refl run legal names at may
+  each-ends o (unselect k answer) acts run legal names at may = ends l past now me fit by between no_pipes o (unselect k answer) acts refl run legal names at may
+  each-ends o (attach k att answer) acts run legal names at may = ends l past now me fit by between no_pipes o (attach k att answer) acts refl run legal names at may
+  each-ends o (attachment k answer) acts run legal names at may = ends l past now me fit by between no_pipes o (attachment k answer) acts refl run legal names at may
+  each-ends o (open_channel kind answer) acts run legal names at may = ends l past now me fit by between no_pipes o (open_channel kind answer) acts refl run legal names at may
+  each-ends o (is_open c answer) acts run legal names at may = ends l past now me fit by between no_pipes o (is_open c answer) acts refl run legal names at may
+  each-ends o (is_blocking c answer) acts run legal names at may = ends l past now me fit by between no_pipes o (is_blocking c answer) acts refl run legal names at may
+  each-ends o (is_registered c answer) acts run legal names at may = ends l past now me fit by between no_pipes o (is_registered c answer) acts refl run legal names at may
+  each-ends o (key_for c s answer) acts run legal names at may = ends l past now me fit by between no_pipes o (key_for c s answer) acts refl run legal names at may
+  each-ends o (try_set_blocking c on answer) acts run legal names at may = ends l past now me fit by between no_pipes o (try_set_blocking c on answer) acts refl run legal names at may
+  each-ends o (try_register s c ops att answer) acts run legal names at may = ends l past now me fit by between no_pipes o (try_register s c ops att answer) acts refl run legal names at may
+  each-ends o (close_channel c answer) acts run legal names at may = ends l past now me fit by between no_pipes o (close_channel c answer) acts refl run legal names at may
+  each-ends o (open_selector answer) acts run legal names at may = ends l past now me fit by between no_pipes o (open_selector answer) acts refl run legal names at may
+  each-ends o (try_begin s mode answer) acts run legal names at may = ends l past now me fit by between no_pipes o (try_begin s mode answer) acts refl run legal names at may
+  each-ends o (told x poll answer) acts run legal names at may = ends l past now me fit by between no_pipes o (told x poll answer) acts refl run legal names at may
+  each-ends o (leave x) acts run legal names at may = ends l past now me fit by between no_pipes o (leave x) acts refl run legal names at may
+  each-ends o (shut s answer) acts run legal names at may = ends l past now me fit by between no_pipes o (shut s answer) acts refl run legal names at may
+  each-ends o (try_finish s answer) acts run legal names at may = ends l past now me fit by between no_pipes o (try_finish s answer) acts refl run legal names at may
+  each-ends o (keys s answer) acts run legal names at may = ends l past now me fit by between no_pipes o (keys s answer) acts refl run legal names at may
+  each-ends o (selected_keys s answer) acts run legal names at may = ends l past now me fit by between no_pipes o (selected_keys s answer) acts refl run legal names at may
+  each-ends o (wakeup s) acts run legal names at may = ends l past now me fit by between no_pipes o (wakeup s) acts refl run legal names at may
+  each-ends o (interrupt n) acts run legal names at may = ends l past now me fit by between no_pipes o (interrupt n) acts refl run legal names at may
+  each-ends o (interrupted answer) acts run legal names at may = ends l past now me fit by between no_pipes o (interrupted answer) acts refl run legal names at may
+  each-ends o (pipe answer) acts run legal names at may = pipe-ends l me fit by past now o between no_pipes at answer acts run legal
+  each-ends o (try_read source answer) acts run legal names at may = try_read-ends l me fit by past now o between no_pipes at source answer acts run legal names
+  each-ends o (try_write source sink answer) acts run legal names at may = try_write-ends l me fit by past now o between no_pipes at source sink answer acts run legal names.1
+  each-ends o (set_blocking c on answer) acts run legal names at may = blocking-ends l me fit by past now o between no_pipes at c on answer acts run legal names
+  each-ends o (register s c ops att answer) acts run legal names at may = register-ends l me fit by past now o between no_pipes at s c ops att answer acts run legal names.0 names.1
+  each-ends o (select s mode polls answer) acts run legal names at may = select-ends l me fit by past now o between no_pipes at s names.0 mode names.1 polls answer acts run legal
+  each-ends o (close s answer) acts run legal names at may = close-ends l me fit by past now o between no_pipes at s names answer acts run legal
+  each-ends o (read source none answer) acts run legal names at may = read-ends l me fit by past now o between no_pipes at source none answer acts run legal names
+  each-ends o (write source sink none answer) acts run legal names at may = write-ends l me fit by past now o between no_pipes at source sink none answer acts run legal names.1
 
 -- ---- what a script has of a call
 
@@ -212,7 +153,7 @@ record StandsFrom (l : Limits) (past : List Event) (now : Progress) (o : CallerN
 module _ (l : Limits) (fit : IsFit l) where
   stand_from : (made : List MadeBy) (past : List Event) (now : Progress) (o : CallerNo → Ongoing) (events : List Event) (runs : AreRunsBy l made events) → IsLegal l (past ++ events) → AreNamed l past made events runs
       → IsBetween l (state_after past) now → now.pipes ≡ [] → ((n : CallerNo) → IsOngoing n now (o n)) → ((n : CallerNo) → AreInOrder (o n) (calls_of n made)) → StandsFrom l past now o made events
-  stand_from [] past now o events runs legal named between none at order =
+  stand_from [] past now o events runs legal named between no_pipes at order =
       let same : past ++ events ≡ past = ap (λ es. past ++ es) runs ∙ append-nil past in
       record {
         between = subst (λ es. IsBetween l (state_after es) now) (sym same) between;
@@ -220,16 +161,16 @@ module _ (l : Limits) (fit : IsFit l) where
         replies = λ _. refl;
         left = λ _. ap (λ es. documented (state_after es) now) same;
       }
-  stand_from (one ∷ later) past now o events runs legal named between none at order =
+  stand_from (one ∷ later) past now o events runs legal named between no_pipes at order =
       let acts = runs.is_first.acts in
       let here : after past one.caller acts ≡ past ++ runs.first = ap (λ es. past ++ es) (sym runs.is_first.events_are) in
       let joined : (past ++ runs.first) ++ runs.second ≡ past ++ events = append_assoc past runs.first runs.second ∙ ap (λ es. past ++ es) (sym runs.parts) in
       let whole = subst (IsLegal l) (sym joined) legal in
       let legal_here = subst (IsLegal l) (sym here) (legal_beginning l (past ++ runs.first) runs.second whole) in
-      let done = each-ends l past now one.caller fit named.0.by between none (o one.caller) one.call acts runs.is_first.runs legal_here named.0.names (at one.caller) (may-come o one later order) in
+      let done = each-ends l past now one.caller fit named.0.by between no_pipes (o one.caller) one.call acts runs.is_first.runs legal_here named.0.names (at one.caller) (may-come o one later order) in
       let now' = after_made now one.caller one.call in
       let rest = stand_from later (past ++ runs.first) now' (next_ongoing o one) runs.second runs.is_second whole named.1
-      (subst (λ es. IsBetween l (state_after es) now') here done.between) (pipes-after now one.caller one.call ∙ none) (each-ongoing l past now o one acts done at) (each-order o one later order) in
+      (subst (λ es. IsBetween l (state_after es) now') here done.between) (pipes-after now one.caller one.call ∙ no_pipes) (each-ongoing l past now o one acts done at) (each-order o one later order) in
       let script = λ (of : AreOfScript (one ∷ later)). All-tail (λ (m : MadeBy). IsTrue (is_of_script (script_call m.call) && not (lacks_memory m.call))) one later of in
       let plain = λ (of : AreOfScript (one ∷ later)). All-head (λ (m : MadeBy). IsTrue (is_of_script (script_call m.call) && not (lacks_memory m.call))) one later of in
       record {
@@ -280,8 +221,8 @@ next_call_is_documented l past made now me acts call word said fit next =
     let o = λ (m : CallerNo). after_calls nothing_ongoing (calls_of m made) in
     let stands = subst (IsLeftBy l past made) (sym next.progress) (sequences_stand l past made fit next.sequence) in
     let one : MadeBy = record { caller = me; call = call } in
-    let none : now.pipes ≡ [] = ap (λ (x : Progress). x.pipes) next.progress ∙ pipes-in_progress nothing_yet made in
-    let done = each-ends l past now me fit next.by stands.between none (o me) call acts next.runs next.legal next.names (stands.ongoing me) next.may_come in
+    let no_pipes : now.pipes ≡ [] = ap (λ (x : Progress). x.pipes) next.progress ∙ pipes-in_progress nothing_yet made in
+    let done = each-ends l past now me fit next.by stands.between no_pipes (o me) call acts next.runs next.legal next.names (stands.ongoing me) next.may_come in
     let is = subst (IsScripted l past now me acts (after_made now me call) false) next.is_scripted (subst (λ b. IsScripted l past now me acts (after_made now me call) b (script_call call)) next.has_memory done.is) in
     record {
       replies = sym (ap (λ (a : Answered). a.reply) is);
