@@ -39,6 +39,7 @@ use Rattle.nio_serial.specs.Between.{IsBetween}
 use Rattle.nio_serial.specs.Documented.{Progress, Selecting, documented, shown}
 use Rattle.nio_serial.specs.Laws.{IsMadeSelector, IsNamed, Amounts, by_key}
 use Rattle.nio_serial.specs.Lines.{Said, makes, asks, refused, begin_line, failed_line, close_end_line, call_plan, own_selection, after_begin, after_told, after_shut, after_finish, with_selection}
+use Rattle.nio_serial.specs.PipeLines.{own_sink, with_mark}
 use Rattle.nio_serial.specs.Replies.{key_id, find_reply, set_reply, put_reply, channel_reply, mode_reply, register_reply, closed_reply, selector_reply, begin_reply, told_reply, shut_reply, finish_reply, list_reply}
 use Rattle.nio_steps.proofs.EachLaws.{each_run, split}
 use Rattle.nio_steps.proofs.PerformLaws.{perform_ran}
@@ -53,6 +54,7 @@ use Rattle.nio_steps.specs.SelectCalls.{Selection, open_selector_plan, wakeup_pl
 use Rattle.nio_steps.specs.Sweeps.{sweep_over}
 use Rattle.nio_steps.specs.declared.refusal.BeginError.{BeginError}
 use Rattle.nio_steps.specs.declared.refusal.ListError.{ListError}
+use Rattle.nio_sequence.proofs.Pipes.{unmarked}
 use Rattle.nio_sequence.proofs.Progress.{put_selection, put_closing, put_same, own-is, own_of_caller, closing_of_caller, others_begun, others_ended, others_shut, others_closed}
 use Rattle.nio_sequence.specs.Called.{Scripted, as_call, unseen, unscripted, waiting_of, script_call, lacks_memory, HasTime, HasNames}
 use Rattle.nio_sequence.specs.Laws.{is_of_script}
@@ -129,7 +131,8 @@ not_some (Some x) b so is = absurd (both_ways b is (so refl))
 abbrev no_one : Option CallerNo
 no_one = None
 
-module _ (l : Limits) (past : List Event) (now : Progress) (me : CallerNo) (fit : IsFit l) (by : IsCaller l me) (between : IsBetween l (state_after past) now) where
+module _ (l : Limits) (past : List Event) (now : Progress) (me : CallerNo) (fit : IsFit l) (by : IsCaller l me)
+    (between : IsBetween l (state_after past) now) (no_pipes : now.pipes ≡ []) where
   abbrev st : State
   st = state_after past
 
@@ -388,7 +391,11 @@ module _ (l : Limits) (past : List Event) (now : Progress) (me : CallerNo) (fit 
   ends o (key_for c s answer) acts plain run legal names at may = quiet-line o (call.KeyFor c s) (find_reply answer) acts names legal (made-run (key_for_plan c s) find_reply (λ _. now) acts answer run) at
   ends o (try_set_blocking c on answer) acts plain run legal names at may = quiet-line o (call.Blocking c on) (mode_reply answer) acts names legal (made-run (try_set_blocking_plan l c on) mode_reply (λ _. now) acts answer run) at
   ends o (try_register s c ops att answer) acts plain run legal names at may = quiet-line o (call.Register s c ops (Some att)) (register_reply answer) acts names legal (made-run (try_register_plan l s c ops att) register_reply (λ _. now) acts answer run) at
-  ends o (close_channel c answer) acts plain run legal names at may = quiet-line o (call.Closec c) (closed_reply answer) acts names legal (made-run (close_channel_plan l c) closed_reply (λ _. now) acts answer run) at
+  ends o (close_channel c answer) acts plain run legal names at may =
+      quiet-line o (call.Closec c) (closed_reply answer) acts names legal
+      (subst (λ (x : Progress). Completes (call_plan l now me (call.Closec c)) acts (record { reply = closed_reply answer; left = x }))
+      (unmarked now me c no_pipes)
+      (made-run (close_channel_plan l c) closed_reply (λ _. with_mark now (own_sink now me c)) acts answer run)) at
   ends o (open_selector answer) acts plain run legal names at may = quiet-line o call.Selector (selector_reply answer) acts names legal (made-run (open_selector_plan l) selector_reply (λ _. now) acts answer run) at
   ends o (try_begin s mode answer) acts plain run legal names at may = begin-ends o s mode answer acts run legal names.0 names.1 at
   ends o (told x poll answer) acts plain run legal names at may = told-ends o x poll answer acts run legal names at may

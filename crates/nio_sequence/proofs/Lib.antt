@@ -1,5 +1,5 @@
 pub mod Progress
-pub mod Calls
 pub mod Pipes
+pub mod Calls
 pub mod Waiting
 pub mod Sequences

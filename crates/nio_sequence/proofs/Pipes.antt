@@ -1,5 +1,5 @@
 -- Calls on pipes, made between two calls: what they leave.
-use Rattle.std.proofs.Common.{◌≡◌, ℕ, Bool, true, false, Option, Some, None, Result, Ok, Err, refl, ap, sym, ◌∙◌, subst}
+use Rattle.std.proofs.Common.{◌≡◌, ℕ, Bool, true, false, Option, Some, None, Result, Ok, Err, List, [], position, refl, ap, sym, ◌∙◌, subst}
 use Rattle.nio_base.specs.Limits.{IsFit}
 use Rattle.nio_base.specs.declared.kind.Kind.{Kind}
 use Rattle.nio_base.specs.declared.kind.Kind.TheVariants.{Source, Sink}
@@ -13,16 +13,18 @@ use Rattle.nio_event.specs.declared.call.Call.TheVariants as call
 use Rattle.nio_event.specs.declared.found.Chan.{Chan}
 use Rattle.nio_event.specs.declared.reply.Reply.{Reply}
 use Rattle.nio_event.specs.declared.reply.Reply.TheVariants as reply
-use Rattle.nio_plain.specs.ScriptState.{ScriptState}
+use Rattle.nio_plain.specs.ScriptState.{Pipe, ScriptState}
 use Rattle.nio_plain.specs.Seq.{call_of}
 use Rattle.nio_plain.specs.Seq.Answers.{Answered}
 use Rattle.nio_plain.specs.Seq.Opening.{channel_made, channel_call}
+use Rattle.nio_plain.specs.Seq.Pipes.{owns_sink, marked_pipes}
 use Rattle.nio_serial.proofs.Calls.{made-is}
 use Rattle.nio_serial.proofs.Histories.{calls-stay, calls-amount}
 use Rattle.nio_serial.specs.Between.{IsBetween}
 use Rattle.nio_serial.specs.Documented.{Progress, documented, amounts}
 use Rattle.nio_serial.specs.Laws.{IsMadeChannel}
-use Rattle.nio_serial.specs.Lines.{Said, asks, call_plan}
+use Rattle.nio_serial.specs.Lines.{Said, makes, asks, call_plan}
+use Rattle.nio_serial.specs.PipeLines.{own_sink, with_mark}
 use Rattle.nio_serial.specs.Replies.{channel_reply, closed_reply}
 use Rattle.nio_steps.proofs.PerformLaws.{perform-bind}
 use Rattle.nio_steps.specs.ChannelCalls.{open_channel_plan, close_channel_plan}
@@ -32,6 +34,12 @@ use Rattle.nio_steps.specs.Plan.{Plan}
 use Rattle.nio_steps.specs.declared.refusal.ChannelError.{ChannelError}
 use Rattle.nio_steps.specs.declared.refusal.PipeError.{PipeError}
 use Rattle.nio_steps.specs.declared.refusal.PipeMakeError.{PipeMakeError}
+
+-- where there are no pipes of a script, a closed channel leaves what is in progress
+pub unmarked : (now : Progress) (me : CallerNo) (c : ChanNo) → now.pipes ≡ [] → with_mark now (own_sink now me c) ≡ now
+unmarked now me c no_pipes =
+    ap (λ (pipes : List Pipe). record now { pipes = marked_pipes (position (owns_sink me c) pipes) pipes }) no_pipes
+    ∙ ap (λ (pipes : List Pipe). record now { pipes = pipes }) (sym no_pipes)
 
 -- a channel that is put is made, and the others stay so
 module _ (l : Limits) (ds : ScriptState) (kind : Kind) where
@@ -48,7 +56,8 @@ module _ (l : Limits) (ds : ScriptState) (kind : Kind) where
       put-there : (m : ℕ) → (put ds.shared.chan m (record { made = true; kind = kind; closed = false; blocking = true }) m).made ≡ true
       put-there m = ap (λ (x : Chan). x.made) (put-same ds.shared.chan m (record { made = true; kind = kind; closed = false; blocking = true }))
 
-module _ (l : Limits) (st : State) (now : Progress) (me : CallerNo) (fit : IsFit l) (by : IsCaller l me) (between : IsBetween l st now) where
+module _ (l : Limits) (st : State) (now : Progress) (me : CallerNo) (fit : IsFit l) (by : IsCaller l me)
+    (between : IsBetween l st now) (no_pipes : now.pipes ≡ []) where
   abbrev ds : ScriptState
   ds = documented st now
 
@@ -59,7 +68,11 @@ module _ (l : Limits) (st : State) (now : Progress) (me : CallerNo) (fit : IsFit
 
   pub closes-leave : (c : ChanNo) → IsMadeChannel st c → IsBetween l (perform me (close_channel_plan l c) st).state now
   unfolding call_plan
-  closes-leave c made = line-leaves (close_channel_plan l c) closed_reply (calls-stay l st now me (call.Closec c) fit by between made)
+  closes-leave c made =
+      line-leaves (close_channel_plan l c) closed_reply
+      (subst (λ (x : Progress). IsBetween l (perform me (makes (close_channel_plan l c) closed_reply (λ _. x)) st).state
+      (perform me (makes (close_channel_plan l c) closed_reply (λ _. x)) st).answer.left)
+      (unmarked now me c no_pipes) (calls-stay l st now me (call.Closec c) fit by between made))
 
   pub opens-leave : (kind : Kind) → IsBetween l (perform me (open_channel_plan l kind) st).state now
   unfolding call_plan
@@ -110,11 +123,11 @@ module _ (l : Limits) (st : State) (now : Progress) (me : CallerNo) (fit : IsFit
 
 -- ---- making a pipe
 
-module _ (l : Limits) (now : Progress) (me : CallerNo) (fit : IsFit l) (by : IsCaller l me) where
+module _ (l : Limits) (now : Progress) (me : CallerNo) (fit : IsFit l) (by : IsCaller l me) (no_pipes : now.pipes ≡ []) where
   without-leaves : (st : State) (source : ChanNo) → IsBetween l st now → IsMadeChannel st source → IsBetween l (perform me (without_sink l source) st).state now
   without-leaves st source between made =
       subst (λ (p : Performed (Result PipeEnds PipeMakeError)). IsBetween l p.state now) (sym (perform-bind me (close_channel_plan l source) (λ _. Plan.reply (Err PipeMakeError.ChannelsSpent)) st))
-      (closes-leave l st now me fit by between source made)
+      (closes-leave l st now me fit by between no_pipes source made)
 
   sink-leaves : (st : State) (source : ChanNo) (a : Result ChanNo ChannelError) → IsBetween l st now → IsMadeChannel st source → IsBetween l (perform me (with_sink l source a) st).state now
   sink-leaves st source (Ok sink) between made = between
@@ -131,7 +144,7 @@ module _ (l : Limits) (now : Progress) (me : CallerNo) (fit : IsFit l) (by : IsC
   source-leaves st (Ok source) between made =
       let done = perform me (open_channel_plan l Sink) st in
       subst (λ (p : Performed (Result PipeEnds PipeMakeError)). IsBetween l p.state now) (sym (perform-bind me (open_channel_plan l Sink) (with_sink l source) st))
-      (sink-leaves done.state source done.answer (opens-leave l st now me fit by between Sink) (opens-keep l st now me fit by between Sink source (made source refl)))
+      (sink-leaves done.state source done.answer (opens-leave l st now me fit by between no_pipes Sink) (opens-keep l st now me fit by between no_pipes Sink source (made source refl)))
   source-leaves st (Err ChannelError.ChannelsSpent) between made = between
   source-leaves st (Err ChannelError.IllegalOps) between made = between
   source-leaves st (Err ChannelError.ClosedChannel) between made = between
@@ -147,4 +160,4 @@ module _ (l : Limits) (now : Progress) (me : CallerNo) (fit : IsFit l) (by : IsC
   pipe-leaves st false between =
       let done = perform me (open_channel_plan l Source) st in
       subst (λ (p : Performed (Result PipeEnds PipeMakeError)). IsBetween l p.state now) (sym (perform-bind me (open_channel_plan l Source) (with_source l) st))
-      (source-leaves done.state done.answer (opens-leave l st now me fit by between Source) (opens-make l st now me fit by between Source))
+      (source-leaves done.state done.answer (opens-leave l st now me fit by between no_pipes Source) (opens-make l st now me fit by between no_pipes Source))

@@ -1,15 +1,75 @@
 -- What callers have in progress, where a progress shows it: what a call puts in progress, for its caller and for others.
-use Rattle.std.proofs.Common.{◌≡◌, ℕ, ◌==◌, Bool, true, false, if◌then◌else◌, Option, Some, None, refl, ap, sym, ◌∙◌, eqb-true, eq-eqb}
+use Rattle.std.proofs.Common.{◌≡◌, ℕ, ◌==◌, Bool, true, false, if◌then◌else◌, Option, Some, None, Result, Ok, Err, List, [], ◌∷◌, refl, ap, sym, ◌∙◌, eqb-true, eq-eqb}
 use Rattle.nio_base.specs.declared.numbers.CallerNo.{CallerNo}
 use Rattle.nio_event.proofs.Put.{put_keeps, put_both}
 use Rattle.nio_event.specs.State.{put}
-use Rattle.nio_orderly.specs.Made.{Ongoing}
+use Rattle.nio_orderly.specs.Made.{Made, Ongoing, draw, find_selector, find_channel, find, is_valid, interest, set_interest, interest_or, interest_and, ready, cancel, unselect, attach, attachment, open_channel, is_open, is_blocking, is_registered, key_for, try_set_blocking, try_register, close_channel, open_selector, try_begin, told, leave, shut, try_finish, keys, selected_keys, wakeup, interrupt, interrupted, pipe, try_read, try_write, set_blocking, register, select, close, read, write}
+use Rattle.nio_orderly.specs.Orderly.{MadeBy}
 use Rattle.nio_plain.specs.Seq.Selections.{is_caller}
 use Rattle.nio_serial.specs.Documented.{Progress, Selecting}
 use Rattle.nio_serial.specs.Lines.{if_own, own_selection}
 use Rattle.nio_steps.specs.Names.{selector}
-use Rattle.nio_steps.specs.SelectCalls.{Selection}
-use Rattle.nio_sequence.specs.Left.{IsOngoing}
+use Rattle.nio_steps.specs.SelectCalls.{Selection, done, again, closing, already_closed, closed, busy, selected, not_begun, left}
+use Rattle.nio_sequence.specs.Left.{after_made, in_progress, IsOngoing}
+
+-- ---- pipes of a script
+
+-- The calls of a history make no pipe of a script: its pipes are made by lines.
+pub pipes-after : (now : Progress) (me : CallerNo) (made : Made) → (after_made now me made).pipes ≡ now.pipes
+pipes-after now me (draw n) = refl
+pipes-after now me (find_selector n answer) = refl
+pipes-after now me (find_channel n answer) = refl
+pipes-after now me (find s i serial answer) = refl
+pipes-after now me (is_valid k answer) = refl
+pipes-after now me (interest k answer) = refl
+pipes-after now me (set_interest k ops answer) = refl
+pipes-after now me (interest_or k ops answer) = refl
+pipes-after now me (interest_and k ops answer) = refl
+pipes-after now me (ready k answer) = refl
+pipes-after now me (cancel k) = refl
+pipes-after now me (unselect k answer) = refl
+pipes-after now me (attach k att answer) = refl
+pipes-after now me (attachment k answer) = refl
+pipes-after now me (open_channel kind answer) = refl
+pipes-after now me (is_open c answer) = refl
+pipes-after now me (is_blocking c answer) = refl
+pipes-after now me (is_registered c answer) = refl
+pipes-after now me (key_for c s answer) = refl
+pipes-after now me (try_set_blocking c on answer) = refl
+pipes-after now me (try_register s c ops att answer) = refl
+pipes-after now me (close_channel c answer) = refl
+pipes-after now me (open_selector answer) = refl
+pipes-after now me (try_begin s mode (Ok x)) = refl
+pipes-after now me (try_begin s mode (Err refusal)) = refl
+pipes-after now me (told selection poll (done answer)) = refl
+pipes-after now me (told selection poll (again x)) = refl
+pipes-after now me (leave selection) = refl
+pipes-after now me (shut s closing) = refl
+pipes-after now me (shut s already_closed) = refl
+pipes-after now me (try_finish s closed) = refl
+pipes-after now me (try_finish s busy) = refl
+pipes-after now me (keys s answer) = refl
+pipes-after now me (selected_keys s answer) = refl
+pipes-after now me (wakeup s) = refl
+pipes-after now me (interrupt n) = refl
+pipes-after now me (interrupted answer) = refl
+pipes-after now me (pipe answer) = refl
+pipes-after now me (try_read source answer) = refl
+pipes-after now me (try_write source sink answer) = refl
+pipes-after now me (set_blocking c on answer) = refl
+pipes-after now me (register s c ops att answer) = refl
+pipes-after now me (select s mode polls (selected answer)) = refl
+pipes-after now me (select s mode polls (not_begun refusal)) = refl
+pipes-after now me (select s mode polls left) = refl
+pipes-after now me (close s true) = refl
+pipes-after now me (close s false) = refl
+pipes-after now me (read source none answer) = refl
+pipes-after now me (write source sink none answer) = refl
+
+pub pipes-in_progress : (now : Progress) (made : List MadeBy) → (in_progress now made).pipes ≡ now.pipes
+pipes-in_progress now [] = refl
+pipes-in_progress now (one ∷ later) =
+    pipes-in_progress (after_made now one.caller one.call) later ∙ pipes-after now one.caller one.call
 
 -- ---- of the caller itself
 

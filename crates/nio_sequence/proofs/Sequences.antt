@@ -26,6 +26,7 @@ use Rattle.nio_serial.specs.Between.{IsBetween}
 use Rattle.nio_serial.specs.Documented.{Progress, nothing_yet, documented}
 use Rattle.nio_serial.specs.Serial.{replies_from}
 use Rattle.nio_sequence.proofs.Calls.{after, IsScripted, Ends, ends}
+use Rattle.nio_sequence.proofs.Progress.{pipes-after, pipes-in_progress}
 use Rattle.nio_sequence.proofs.Waiting.{blocking-ends, register-ends, select-ends, close-ends, read-ends, write-ends, pipe-ends, try_read-ends, try_write-ends}
 use Rattle.nio_sequence.specs.Called.{Scripted, as_call, unseen, unscripted, script_call, lacks_memory, HasNames, IsNamedCall}
 use Rattle.nio_sequence.specs.Laws.{is_of_script, AreOfScript, line_of, reply_of, script_of, replies_of, SequencesStand, NextCallIsDocumented, SequencesGrow, NothingIsSequence, SequencesAreScripts}
@@ -33,50 +34,51 @@ use Rattle.nio_sequence.specs.Left.{after_made, in_progress, IsOngoing, AreNamed
 
 -- ---- every call
 
-module _ (l : Limits) (past : List Event) (now : Progress) (me : CallerNo) (fit : IsFit l) (by : IsCaller l me) (between : IsBetween l (state_after past) now) where
+module _ (l : Limits) (past : List Event) (now : Progress) (me : CallerNo) (fit : IsFit l) (by : IsCaller l me)
+    (between : IsBetween l (state_after past) now) (no_pipes : now.pipes ≡ []) where
   pub each-ends : (o : Ongoing) (made : Made) (acts : List Act) → IsRun l made acts → IsLegal l (after past me acts) → HasNames (state_after past) made → IsOngoing me now o → MayCome o made → Ends l past now me o acts made
-  each-ends o (draw n) acts run legal names at may = ends l past now me fit by between o (draw n) acts refl run legal names at may
-  each-ends o (find_selector n answer) acts run legal names at may = ends l past now me fit by between o (find_selector n answer) acts refl run legal names at may
-  each-ends o (find_channel n answer) acts run legal names at may = ends l past now me fit by between o (find_channel n answer) acts refl run legal names at may
-  each-ends o (find s i serial answer) acts run legal names at may = ends l past now me fit by between o (find s i serial answer) acts refl run legal names at may
-  each-ends o (is_valid k answer) acts run legal names at may = ends l past now me fit by between o (is_valid k answer) acts refl run legal names at may
-  each-ends o (interest k answer) acts run legal names at may = ends l past now me fit by between o (interest k answer) acts refl run legal names at may
-  each-ends o (set_interest k ops answer) acts run legal names at may = ends l past now me fit by between o (set_interest k ops answer) acts refl run legal names at may
-  each-ends o (interest_or k ops answer) acts run legal names at may = ends l past now me fit by between o (interest_or k ops answer) acts refl run legal names at may
-  each-ends o (interest_and k ops answer) acts run legal names at may = ends l past now me fit by between o (interest_and k ops answer) acts refl run legal names at may
-  each-ends o (ready k answer) acts run legal names at may = ends l past now me fit by between o (ready k answer) acts refl run legal names at may
-  each-ends o (cancel k) acts run legal names at may = ends l past now me fit by between o (cancel k) acts refl run legal names at may
-  each-ends o (unselect k answer) acts run legal names at may = ends l past now me fit by between o (unselect k answer) acts refl run legal names at may
-  each-ends o (attach k att answer) acts run legal names at may = ends l past now me fit by between o (attach k att answer) acts refl run legal names at may
-  each-ends o (attachment k answer) acts run legal names at may = ends l past now me fit by between o (attachment k answer) acts refl run legal names at may
-  each-ends o (open_channel kind answer) acts run legal names at may = ends l past now me fit by between o (open_channel kind answer) acts refl run legal names at may
-  each-ends o (is_open c answer) acts run legal names at may = ends l past now me fit by between o (is_open c answer) acts refl run legal names at may
-  each-ends o (is_blocking c answer) acts run legal names at may = ends l past now me fit by between o (is_blocking c answer) acts refl run legal names at may
-  each-ends o (is_registered c answer) acts run legal names at may = ends l past now me fit by between o (is_registered c answer) acts refl run legal names at may
-  each-ends o (key_for c s answer) acts run legal names at may = ends l past now me fit by between o (key_for c s answer) acts refl run legal names at may
-  each-ends o (try_set_blocking c on answer) acts run legal names at may = ends l past now me fit by between o (try_set_blocking c on answer) acts refl run legal names at may
-  each-ends o (try_register s c ops att answer) acts run legal names at may = ends l past now me fit by between o (try_register s c ops att answer) acts refl run legal names at may
-  each-ends o (close_channel c answer) acts run legal names at may = ends l past now me fit by between o (close_channel c answer) acts refl run legal names at may
-  each-ends o (open_selector answer) acts run legal names at may = ends l past now me fit by between o (open_selector answer) acts refl run legal names at may
-  each-ends o (try_begin s mode answer) acts run legal names at may = ends l past now me fit by between o (try_begin s mode answer) acts refl run legal names at may
-  each-ends o (told x poll answer) acts run legal names at may = ends l past now me fit by between o (told x poll answer) acts refl run legal names at may
-  each-ends o (leave x) acts run legal names at may = ends l past now me fit by between o (leave x) acts refl run legal names at may
-  each-ends o (shut s answer) acts run legal names at may = ends l past now me fit by between o (shut s answer) acts refl run legal names at may
-  each-ends o (try_finish s answer) acts run legal names at may = ends l past now me fit by between o (try_finish s answer) acts refl run legal names at may
-  each-ends o (keys s answer) acts run legal names at may = ends l past now me fit by between o (keys s answer) acts refl run legal names at may
-  each-ends o (selected_keys s answer) acts run legal names at may = ends l past now me fit by between o (selected_keys s answer) acts refl run legal names at may
-  each-ends o (wakeup s) acts run legal names at may = ends l past now me fit by between o (wakeup s) acts refl run legal names at may
-  each-ends o (interrupt n) acts run legal names at may = ends l past now me fit by between o (interrupt n) acts refl run legal names at may
-  each-ends o (interrupted answer) acts run legal names at may = ends l past now me fit by between o (interrupted answer) acts refl run legal names at may
-  each-ends o (pipe answer) acts run legal names at may = pipe-ends l me fit by past now o between at answer acts run legal
-  each-ends o (try_read source answer) acts run legal names at may = try_read-ends l me fit by past now o between at source answer acts run legal names
-  each-ends o (try_write source sink answer) acts run legal names at may = try_write-ends l me fit by past now o between at source sink answer acts run legal names.1
-  each-ends o (set_blocking c on answer) acts run legal names at may = blocking-ends l me fit by past now o between at c on answer acts run legal names
-  each-ends o (register s c ops att answer) acts run legal names at may = register-ends l me fit by past now o between at s c ops att answer acts run legal names.0 names.1
-  each-ends o (select s mode polls answer) acts run legal names at may = select-ends l me fit by past now o between at s names.0 mode names.1 polls answer acts run legal
-  each-ends o (close s answer) acts run legal names at may = close-ends l me fit by past now o between at s names answer acts run legal
-  each-ends o (read source none answer) acts run legal names at may = read-ends l me fit by past now o between at source none answer acts run legal names
-  each-ends o (write source sink none answer) acts run legal names at may = write-ends l me fit by past now o between at source sink none answer acts run legal names.1
+  each-ends o (draw n) acts run legal names at may = ends l past now me fit by between no_pipes o (draw n) acts refl run legal names at may
+  each-ends o (find_selector n answer) acts run legal names at may = ends l past now me fit by between no_pipes o (find_selector n answer) acts refl run legal names at may
+  each-ends o (find_channel n answer) acts run legal names at may = ends l past now me fit by between no_pipes o (find_channel n answer) acts refl run legal names at may
+  each-ends o (find s i serial answer) acts run legal names at may = ends l past now me fit by between no_pipes o (find s i serial answer) acts refl run legal names at may
+  each-ends o (is_valid k answer) acts run legal names at may = ends l past now me fit by between no_pipes o (is_valid k answer) acts refl run legal names at may
+  each-ends o (interest k answer) acts run legal names at may = ends l past now me fit by between no_pipes o (interest k answer) acts refl run legal names at may
+  each-ends o (set_interest k ops answer) acts run legal names at may = ends l past now me fit by between no_pipes o (set_interest k ops answer) acts refl run legal names at may
+  each-ends o (interest_or k ops answer) acts run legal names at may = ends l past now me fit by between no_pipes o (interest_or k ops answer) acts refl run legal names at may
+  each-ends o (interest_and k ops answer) acts run legal names at may = ends l past now me fit by between no_pipes o (interest_and k ops answer) acts refl run legal names at may
+  each-ends o (ready k answer) acts run legal names at may = ends l past now me fit by between no_pipes o (ready k answer) acts refl run legal names at may
+  each-ends o (cancel k) acts run legal names at may = ends l past now me fit by between no_pipes o (cancel k) acts refl run legal names at may
+  each-ends o (unselect k answer) acts run legal names at may = ends l past now me fit by between no_pipes o (unselect k answer) acts refl run legal names at may
+  each-ends o (attach k att answer) acts run legal names at may = ends l past now me fit by between no_pipes o (attach k att answer) acts refl run legal names at may
+  each-ends o (attachment k answer) acts run legal names at may = ends l past now me fit by between no_pipes o (attachment k answer) acts refl run legal names at may
+  each-ends o (open_channel kind answer) acts run legal names at may = ends l past now me fit by between no_pipes o (open_channel kind answer) acts refl run legal names at may
+  each-ends o (is_open c answer) acts run legal names at may = ends l past now me fit by between no_pipes o (is_open c answer) acts refl run legal names at may
+  each-ends o (is_blocking c answer) acts run legal names at may = ends l past now me fit by between no_pipes o (is_blocking c answer) acts refl run legal names at may
+  each-ends o (is_registered c answer) acts run legal names at may = ends l past now me fit by between no_pipes o (is_registered c answer) acts refl run legal names at may
+  each-ends o (key_for c s answer) acts run legal names at may = ends l past now me fit by between no_pipes o (key_for c s answer) acts refl run legal names at may
+  each-ends o (try_set_blocking c on answer) acts run legal names at may = ends l past now me fit by between no_pipes o (try_set_blocking c on answer) acts refl run legal names at may
+  each-ends o (try_register s c ops att answer) acts run legal names at may = ends l past now me fit by between no_pipes o (try_register s c ops att answer) acts refl run legal names at may
+  each-ends o (close_channel c answer) acts run legal names at may = ends l past now me fit by between no_pipes o (close_channel c answer) acts refl run legal names at may
+  each-ends o (open_selector answer) acts run legal names at may = ends l past now me fit by between no_pipes o (open_selector answer) acts refl run legal names at may
+  each-ends o (try_begin s mode answer) acts run legal names at may = ends l past now me fit by between no_pipes o (try_begin s mode answer) acts refl run legal names at may
+  each-ends o (told x poll answer) acts run legal names at may = ends l past now me fit by between no_pipes o (told x poll answer) acts refl run legal names at may
+  each-ends o (leave x) acts run legal names at may = ends l past now me fit by between no_pipes o (leave x) acts refl run legal names at may
+  each-ends o (shut s answer) acts run legal names at may = ends l past now me fit by between no_pipes o (shut s answer) acts refl run legal names at may
+  each-ends o (try_finish s answer) acts run legal names at may = ends l past now me fit by between no_pipes o (try_finish s answer) acts refl run legal names at may
+  each-ends o (keys s answer) acts run legal names at may = ends l past now me fit by between no_pipes o (keys s answer) acts refl run legal names at may
+  each-ends o (selected_keys s answer) acts run legal names at may = ends l past now me fit by between no_pipes o (selected_keys s answer) acts refl run legal names at may
+  each-ends o (wakeup s) acts run legal names at may = ends l past now me fit by between no_pipes o (wakeup s) acts refl run legal names at may
+  each-ends o (interrupt n) acts run legal names at may = ends l past now me fit by between no_pipes o (interrupt n) acts refl run legal names at may
+  each-ends o (interrupted answer) acts run legal names at may = ends l past now me fit by between no_pipes o (interrupted answer) acts refl run legal names at may
+  each-ends o (pipe answer) acts run legal names at may = pipe-ends l me fit by past now o between no_pipes at answer acts run legal
+  each-ends o (try_read source answer) acts run legal names at may = try_read-ends l me fit by past now o between no_pipes at source answer acts run legal names
+  each-ends o (try_write source sink answer) acts run legal names at may = try_write-ends l me fit by past now o between no_pipes at source sink answer acts run legal names.1
+  each-ends o (set_blocking c on answer) acts run legal names at may = blocking-ends l me fit by past now o between no_pipes at c on answer acts run legal names
+  each-ends o (register s c ops att answer) acts run legal names at may = register-ends l me fit by past now o between no_pipes at s c ops att answer acts run legal names.0 names.1
+  each-ends o (select s mode polls answer) acts run legal names at may = select-ends l me fit by past now o between no_pipes at s names.0 mode names.1 polls answer acts run legal
+  each-ends o (close s answer) acts run legal names at may = close-ends l me fit by past now o between no_pipes at s names answer acts run legal
+  each-ends o (read source none answer) acts run legal names at may = read-ends l me fit by past now o between no_pipes at source none answer acts run legal names
+  each-ends o (write source sink none answer) acts run legal names at may = write-ends l me fit by past now o between no_pipes at source sink none answer acts run legal names.1
 
 -- ---- what a script has of a call
 
@@ -150,8 +152,8 @@ record StandsFrom (l : Limits) (past : List Event) (now : Progress) (o : CallerN
 
 module _ (l : Limits) (fit : IsFit l) where
   stand_from : (made : List MadeBy) (past : List Event) (now : Progress) (o : CallerNo → Ongoing) (events : List Event) (runs : AreRunsBy l made events) → IsLegal l (past ++ events) → AreNamed l past made events runs
-      → IsBetween l (state_after past) now → ((n : CallerNo) → IsOngoing n now (o n)) → ((n : CallerNo) → AreInOrder (o n) (calls_of n made)) → StandsFrom l past now o made events
-  stand_from [] past now o events runs legal named between at order =
+      → IsBetween l (state_after past) now → now.pipes ≡ [] → ((n : CallerNo) → IsOngoing n now (o n)) → ((n : CallerNo) → AreInOrder (o n) (calls_of n made)) → StandsFrom l past now o made events
+  stand_from [] past now o events runs legal named between no_pipes at order =
       let same : past ++ events ≡ past = ap (λ es. past ++ es) runs ∙ append-nil past in
       record {
         between = subst (λ es. IsBetween l (state_after es) now) (sym same) between;
@@ -159,16 +161,16 @@ module _ (l : Limits) (fit : IsFit l) where
         replies = λ _. refl;
         left = λ _. ap (λ es. documented (state_after es) now) same;
       }
-  stand_from (one ∷ later) past now o events runs legal named between at order =
+  stand_from (one ∷ later) past now o events runs legal named between no_pipes at order =
       let acts = runs.is_first.acts in
       let here : after past one.caller acts ≡ past ++ runs.first = ap (λ es. past ++ es) (sym runs.is_first.events_are) in
       let joined : (past ++ runs.first) ++ runs.second ≡ past ++ events = append_assoc past runs.first runs.second ∙ ap (λ es. past ++ es) (sym runs.parts) in
       let whole = subst (IsLegal l) (sym joined) legal in
       let legal_here = subst (IsLegal l) (sym here) (legal_beginning l (past ++ runs.first) runs.second whole) in
-      let done = each-ends l past now one.caller fit named.0.by between (o one.caller) one.call acts runs.is_first.runs legal_here named.0.names (at one.caller) (may-come o one later order) in
+      let done = each-ends l past now one.caller fit named.0.by between no_pipes (o one.caller) one.call acts runs.is_first.runs legal_here named.0.names (at one.caller) (may-come o one later order) in
       let now' = after_made now one.caller one.call in
       let rest = stand_from later (past ++ runs.first) now' (next_ongoing o one) runs.second runs.is_second whole named.1
-      (subst (λ es. IsBetween l (state_after es) now') here done.between) (each-ongoing l past now o one acts done at) (each-order o one later order) in
+      (subst (λ es. IsBetween l (state_after es) now') here done.between) (pipes-after now one.caller one.call ∙ no_pipes) (each-ongoing l past now o one acts done at) (each-order o one later order) in
       let script = λ (of : AreOfScript (one ∷ later)). All-tail (λ (m : MadeBy). IsTrue (is_of_script (script_call m.call) && not (lacks_memory m.call))) one later of in
       let plain = λ (of : AreOfScript (one ∷ later)). All-head (λ (m : MadeBy). IsTrue (is_of_script (script_call m.call) && not (lacks_memory m.call))) one later of in
       record {
@@ -183,7 +185,7 @@ module _ (l : Limits) (fit : IsFit l) where
 
   stand : (events : List Event) (made : List MadeBy) → IsSequence l events made → StandsFrom l [] nothing_yet (λ _. nothing_ongoing) made events
   stand events made sequence =
-      stand_from made [] nothing_yet (λ _. nothing_ongoing) events sequence.serial.runs sequence.legal sequence.named (begins-between l) (λ n. record { selection = λ s. refl; closes = λ s. refl }) sequence.serial.in_order
+      stand_from made [] nothing_yet (λ _. nothing_ongoing) events sequence.serial.runs sequence.legal sequence.named (begins-between l) refl (λ n. record { selection = λ s. refl; closes = λ s. refl }) sequence.serial.in_order
 
 are-noted : (l : Limits) (st : State) (now : Progress) → IsBetween l st now → AreNoted st
 are-noted l st now between s i in_set = (sound l st now between).keys.notes.in_set s i in_set
@@ -219,7 +221,8 @@ next_call_is_documented l past made now me acts call word said fit next =
     let o = λ (m : CallerNo). after_calls nothing_ongoing (calls_of m made) in
     let stands = subst (IsLeftBy l past made) (sym next.progress) (sequences_stand l past made fit next.sequence) in
     let one : MadeBy = record { caller = me; call = call } in
-    let done = each-ends l past now me fit next.by stands.between (o me) call acts next.runs next.legal next.names (stands.ongoing me) next.may_come in
+    let no_pipes : now.pipes ≡ [] = ap (λ (x : Progress). x.pipes) next.progress ∙ pipes-in_progress nothing_yet made in
+    let done = each-ends l past now me fit next.by stands.between no_pipes (o me) call acts next.runs next.legal next.names (stands.ongoing me) next.may_come in
     let is = subst (IsScripted l past now me acts (after_made now me call) false) next.is_scripted (subst (λ b. IsScripted l past now me acts (after_made now me call) b (script_call call)) next.has_memory done.is) in
     record {
       replies = sym (ap (λ (a : Answered). a.reply) is);

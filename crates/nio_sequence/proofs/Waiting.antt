@@ -41,7 +41,7 @@ use Rattle.nio_event.specs.declared.call.Call.TheVariants as call
 use Rattle.nio_event.specs.declared.reply.Reply.{Reply}
 use Rattle.nio_event.specs.declared.reply.Reply.TheVariants as reply
 use Rattle.nio_plain.proofs.CallLawsRefusals.{refusals_change_nothing}
-use Rattle.nio_plain.specs.CallLaws.{is_without_effect}
+use Rattle.nio_plain.specs.CallLaws.{changes_pipe, is_without_effect}
 use Rattle.nio_plain.specs.Seq.{seq}
 use Rattle.nio_plain.specs.Seq.Answers.{Answered}
 use Rattle.nio_plain.specs.declared.rules.Rules.TheVariants.{Now}
@@ -124,7 +124,8 @@ module _ (l : Limits) (me : CallerNo) (fit : IsFit l) (by : IsCaller l me) where
 
   -- ---- the hold of a channel
 
-  module _ (past : List Event) (now : Progress) (o : Ongoing) (between : IsBetween l (state_after past) now) (at : IsOngoing me now o) where
+  module _ (past : List Event) (now : Progress) (o : Ongoing) (between : IsBetween l (state_after past) now)
+      (no_pipes : now.pipes ≡ []) (at : IsOngoing me now o) where
     abbrev WithChannel : ChanNo → List Event → Type 0
     WithChannel c p = IsBetween l (state_after p) now × IsMadeChannel (state_after p) c
 
@@ -137,10 +138,13 @@ module _ (l : Limits) (me : CallerNo) (fit : IsFit l) (by : IsCaller l me) where
 
     -- a try that finds the hold taken is refused, and a refusal changes nothing
     busy-same : (p : List Event) (xs : List Act) (word : Call) → is_without_effect word reply.Busy ≡ true
+        → changes_pipe (documented (state_after p) now) me word reply.Busy ≡ false
         → seq Now l (documented (state_after p) now) me word ≡ record { reply = reply.Busy; left = documented (state_after (after p me xs)) now } → SeenSame p → SeenSame (after p me xs)
-    busy-same p xs word refuses is same =
+    busy-same p xs word refuses keeps is same =
         sym (ap (λ (a : Answered). a.left) is)
-        ∙ (refusals_change_nothing Now l (documented (state_after p) now) me word (ap (λ (a : Answered). is_without_effect word a.reply) is ∙ refuses) ∙ same)
+        ∙ (refusals_change_nothing Now l (documented (state_after p) now) me word
+        (ap (λ (a : Answered). is_without_effect word a.reply) is ∙ refuses)
+        (ap (λ (a : Answered). changes_pipe (documented (state_after p) now) me word a.reply) is ∙ keeps) ∙ same)
 
     -- the last try, with the answer of the call
     last-ends : (p : List Event) (xs acts : List Act) (word : Call) (r : Reply) → EndsAs l p now me xs now o false (as_call word r) → SeenSame p → after p me xs ≡ after past me acts → EndsAs l past now me acts now o false (as_call word r)
@@ -158,13 +162,13 @@ module _ (l : Limits) (me : CallerNo) (fit : IsFit l) (by : IsCaller l me) where
         last-ends it.before it.last acts (call.Blocking c on) (mode_reply answer) (one it.before it.last answer it.here.0 it.legal it.made) it.here.1 it.same
       where
         one : (p : List Event) (xs : List Act) (r : Result (Unit {0}) ChannelError) → WithChannel c p → IsLegal l (after p me xs) → Completes (try_set_blocking_plan l c on) xs r → Ends l p now me o xs (try_set_blocking c on r)
-        one p xs r here legal' run' = ends l p now me fit by here.0 o (try_set_blocking c on r) xs refl run' legal' here.1 at tt
+        one p xs r here legal' run' = ends l p now me fit by here.0 no_pipes o (try_set_blocking c on r) xs refl run' legal' here.1 at tt
 
         once_more : (p : List Event) (xs : List Act) (r : Result (Unit {0}) ChannelError) → WithChannel c p × SeenSame p → IsLegal l (after p me xs) → Completes (try_set_blocking_plan l c on) xs r → finds_held r ≡ true
             → WithChannel c (after p me xs) × SeenSame (after p me xs)
         once_more p xs (Err Busy) here legal' run' goes =
             let done = one p xs (Err Busy) here.0 legal' run' in
-            ((done.between, channel-stays p xs c legal' here.0.1), busy-same p xs (call.Blocking c on) refl done.is here.1)
+            ((done.between, channel-stays p xs c legal' here.0.1), busy-same p xs (call.Blocking c on) refl refl done.is here.1)
         once_more p xs _ here legal' run' goes = absurd (cc goes)
 
     pub register-ends : (s : SelNo) (c : ChanNo) (ops att : ℕ) (answer : Result KeyNo ChannelError) (acts : List Act) → IsRun l (register s c ops att answer) acts → IsLegal l (after past me acts)
@@ -174,13 +178,13 @@ module _ (l : Limits) (me : CallerNo) (fit : IsFit l) (by : IsCaller l me) where
         last-ends it.before it.last acts (call.Register s c ops (Some att)) (register_reply answer) (one it.before it.last answer it.here.0 it.legal it.made) it.here.1 it.same
       where
         one : (p : List Event) (xs : List Act) (r : Result KeyNo ChannelError) → WithBoth s c p → IsLegal l (after p me xs) → Completes (try_register_plan l s c ops att) xs r → Ends l p now me o xs (try_register s c ops att r)
-        one p xs r here legal' run' = ends l p now me fit by here.0 o (try_register s c ops att r) xs refl run' legal' here.1 at tt
+        one p xs r here legal' run' = ends l p now me fit by here.0 no_pipes o (try_register s c ops att r) xs refl run' legal' here.1 at tt
 
         once_more : (p : List Event) (xs : List Act) (r : Result KeyNo ChannelError) → WithBoth s c p × SeenSame p → IsLegal l (after p me xs) → Completes (try_register_plan l s c ops att) xs r → finds_held r ≡ true
             → WithBoth s c (after p me xs) × SeenSame (after p me xs)
         once_more p xs (Err Busy) here legal' run' goes =
             let done = one p xs (Err Busy) here.0 legal' run' in
-            ((done.between, (selector-stays p xs s legal' here.0.1.0, channel-stays p xs c legal' here.0.1.1)), busy-same p xs (call.Register s c ops (Some att)) refl done.is here.1)
+            ((done.between, (selector-stays p xs s legal' here.0.1.0, channel-stays p xs c legal' here.0.1.1)), busy-same p xs (call.Register s c ops (Some att)) refl refl done.is here.1)
         once_more p xs _ here legal' run' goes = absurd (cc goes)
 
     -- ---- pipes
@@ -191,16 +195,16 @@ module _ (l : Limits) (me : CallerNo) (fit : IsFit l) (by : IsCaller l me) where
     pub pipe-ends : (answer : Result PipeEnds PipeMakeError) (acts : List Act) → IsRun l (pipe answer) acts → IsLegal l (after past me acts) → Ends l past now me o acts (pipe answer)
     pipe-ends answer acts run legal =
         leaves-now past now o acts (pipe_lacks_memory answer)
-        (ran-between past (pipe_plan l (pipe_lacks_memory answer)) acts answer (pipe-leaves l now me fit by (state_after past) (pipe_lacks_memory answer) between) legal run) at
+        (ran-between past (pipe_plan l (pipe_lacks_memory answer)) acts answer (pipe-leaves l now me fit by no_pipes (state_after past) (pipe_lacks_memory answer) between) legal run) at
 
     pub try_read-ends : (c : ChanNo) (answer : Result Bool PipeError) (acts : List Act) → IsRun l (try_read c answer) acts → IsLegal l (after past me acts) → IsMadeChannel (state_after past) c → Ends l past now me o acts (try_read c answer)
     try_read-ends c answer acts run legal made =
-        leaves-now past now o acts false (ran-between past (try_read_plan l c) acts answer (read-leaves l (state_after past) now me fit by between c made) legal run) at
+        leaves-now past now o acts false (ran-between past (try_read_plan l c) acts answer (read-leaves l (state_after past) now me fit by between no_pipes c made) legal run) at
 
     pub try_write-ends : (source c : ChanNo) (answer : Result Bool PipeError) (acts : List Act) → IsRun l (try_write source c answer) acts → IsLegal l (after past me acts) → IsMadeChannel (state_after past) c
         → Ends l past now me o acts (try_write source c answer)
     try_write-ends source c answer acts run legal made =
-        leaves-now past now o acts false (ran-between past (try_write_plan l source c) acts answer (write-leaves l (state_after past) now me fit by between source c made) legal run) at
+        leaves-now past now o acts false (ran-between past (try_write_plan l source c) acts answer (write-leaves l (state_after past) now me fit by between no_pipes source c made) legal run) at
 
     pub read-ends : (c : ChanNo) (none : Bool) (answer : Result Bool PipeError) (acts : List Act) → IsRun l (read c none answer) acts → IsLegal l (after past me acts) → IsMadeChannel (state_after past) c → Ends l past now me o acts (read c none answer)
     read-ends c none answer acts run legal made =
@@ -209,7 +213,7 @@ module _ (l : Limits) (me : CallerNo) (fit : IsFit l) (by : IsCaller l me) where
         leaves-now past now o acts false (subst (λ es. IsBetween l (state_after es) now) it.same (one it.before it.last run.found it.here it.legal it.made)) at
       where
         one : (p : List Event) (xs : List Act) (r : Result Bool PipeError) → WithChannel c p → IsLegal l (after p me xs) → Completes (try_read_plan l c) xs r → IsBetween l (state_after (after p me xs)) now
-        one p xs r here legal' run' = ran-between p (try_read_plan l c) xs r (read-leaves l (state_after p) now me fit by here.0 c here.1) legal' run'
+        one p xs r here legal' run' = ran-between p (try_read_plan l c) xs r (read-leaves l (state_after p) now me fit by here.0 no_pipes c here.1) legal' run'
 
     pub write-ends : (source c : ChanNo) (none : Bool) (answer : Result Bool PipeError) (acts : List Act) → IsRun l (write source c none answer) acts → IsLegal l (after past me acts) → IsMadeChannel (state_after past) c
         → Ends l past now me o acts (write source c none answer)
@@ -219,7 +223,7 @@ module _ (l : Limits) (me : CallerNo) (fit : IsFit l) (by : IsCaller l me) where
         leaves-now past now o acts false (subst (λ es. IsBetween l (state_after es) now) it.same (one it.before it.last run.found it.here it.legal it.made)) at
       where
         one : (p : List Event) (xs : List Act) (r : Result Bool PipeError) → WithChannel c p → IsLegal l (after p me xs) → Completes (try_write_plan l source c) xs r → IsBetween l (state_after (after p me xs)) now
-        one p xs r here legal' run' = ran-between p (try_write_plan l source c) xs r (write-leaves l (state_after p) now me fit by here.0 source c here.1) legal' run'
+        one p xs r here legal' run' = ran-between p (try_write_plan l source c) xs r (write-leaves l (state_after p) now me fit by here.0 no_pipes source c here.1) legal' run'
 
   -- ---- one call and then another
 
@@ -249,28 +253,29 @@ module _ (l : Limits) (me : CallerNo) (fit : IsFit l) (by : IsCaller l me) where
 
   -- ---- closing
 
-  module _ (past : List Event) (now : Progress) (o : Ongoing) (between : IsBetween l (state_after past) now) (at : IsOngoing me now o) (s : SelNo) (made : IsMadeSelector (state_after past) s) where
-    finish-again : (w : Progress) (k : Ongoing) (p : List Event) (xs : List Act) (r : FinishReply) → IsOngoing me w k → k.closes s.0 ≡ true → WithSelector w s p → IsLegal l (after p me xs) → Completes (try_finish_plan s) xs r → finish_finds_busy r ≡ true → WithSelector w s (after p me xs)
-    finish-again w k p xs closed at' may here legal run goes = absurd (cc goes)
-    finish-again w k p xs busy at' may here legal run goes = ((ends l p w me fit by here.0 k (try_finish s busy) xs refl run legal here.1 at' may).between, selector-stays p xs s legal here.1)
+  module _ (past : List Event) (now : Progress) (o : Ongoing) (between : IsBetween l (state_after past) now)
+      (no_pipes : now.pipes ≡ []) (at : IsOngoing me now o) (s : SelNo) (made : IsMadeSelector (state_after past) s) where
+    finish-again : (w : Progress) → w.pipes ≡ [] → (k : Ongoing) (p : List Event) (xs : List Act) (r : FinishReply) → IsOngoing me w k → k.closes s.0 ≡ true → WithSelector w s p → IsLegal l (after p me xs) → Completes (try_finish_plan s) xs r → finish_finds_busy r ≡ true → WithSelector w s (after p me xs)
+    finish-again w without k p xs closed at' may here legal run goes = absurd (cc goes)
+    finish-again w without k p xs busy at' may here legal run goes = ((ends l p w me fit by here.0 without k (try_finish s busy) xs refl run legal here.1 at' may).between, selector-stays p xs s legal here.1)
 
     close-rest : (first second acts : List Act) (middle : ShutReply) (answer : Bool) → acts ≡ first ++ second → IsLegal l (after past me acts) → Completes (shut_plan s) first middle → ClosesRest s middle second answer
         → Ends l past now me o acts (close s answer)
     close-rest first second acts already_closed answer parts legal run rest =
         let legal' = begins-legal l me past first second (subst (λ xs. IsLegal l (after past me xs)) parts legal) in
-        let one = ends l past now me fit by between o (shut s already_closed) first refl run legal' made at tt in
+        let one = ends l past now me fit by between no_pipes o (shut s already_closed) first refl run legal' made at tt in
         subst (λ (b : Bool). Ends l past now me o acts (close s b)) (sym rest.0)
         (moved past past now first acts now o false false _ one (ap (λ xs. after past me xs) (sym (append-nil first) ∙ (ap (λ xs. first ++ xs) (sym rest.1) ∙ sym parts))))
     close-rest first second acts closing answer parts legal run rest =
         let whole = subst (λ xs. IsLegal l (after past me xs)) parts legal in
         let legal' = begins-legal l me past first second whole in
-        let one = ends l past now me fit by between o (shut s closing) first refl run legal' made at tt in
+        let one = ends l past now me fit by between no_pipes o (shut s closing) first refl run legal' made at tt in
         let w = after_shut now me s closing in
         let k = closes_on o s true in
         let may : k.closes s.0 ≡ true = put-same o.closes s.0 true in
-        let it = last_run l me _ _ (WithSelector w s) (λ p x xs r here legal'' run' goes. finish-again w k p xs r one.own may here legal'' run' goes)
+        let it = last_run l me _ _ (WithSelector w s) (λ p x xs r here legal'' run' goes. finish-again w no_pipes k p xs r one.own may here legal'' run' goes)
         (after past me first) second closed (one.between, selector-stays past first s legal' made) (then-legal l me past first second whole) rest.1 in
-        let two = ends l it.before w me fit by it.here.0 k (try_finish s closed) it.last refl it.made it.legal it.here.1 one.own may in
+        let two = ends l it.before w me fit by it.here.0 no_pipes k (try_finish s closed) it.last refl it.made it.legal it.here.1 one.own may in
         subst (λ (b : Bool). Ends l past now me o acts (close s b)) (sym rest.0)
         (two-end past now w (after_finish w s closed) k (closes_on k s false) first it.last acts false false _ _ it.before (with_closing now s None) (closes_on o s false) false one two
         (it.same ∙ (joined past me first second ∙ ap (λ xs. after past me xs) (sym parts)))
@@ -283,13 +288,14 @@ module _ (l : Limits) (me : CallerNo) (fit : IsFit l) (by : IsCaller l me) where
   -- ---- selecting
 
   -- a selection in progress of this caller, and what is over or left then
-  module _ (past : List Event) (now : Progress) (o : Ongoing) (between : IsBetween l (state_after past) now) (at : IsOngoing me now o) (s : SelNo) (made : IsMadeSelector (state_after past) s) (mode : Mode) (time : HasTime mode) where
+  module _ (past : List Event) (now : Progress) (o : Ongoing) (between : IsBetween l (state_after past) now)
+      (no_pipes : now.pipes ≡ []) (at : IsOngoing me now o) (s : SelNo) (made : IsMadeSelector (state_after past) s) (mode : Mode) (time : HasTime mode) where
     begin-again : (p : List Event) (xs : List Act) (r : Result Selection BeginError) → WithSelector now s p → IsLegal l (after p me xs) → Begins s mode xs r → begin_finds_busy r ≡ true → WithSelector now s (after p me xs)
     begin-again p xs (Ok x) here legal run goes = absurd (cc goes)
     begin-again p xs (Err BeginError.ClosedSelector) here legal run goes = absurd (cc goes)
     begin-again p xs (Err BeginError.Memory) here legal run goes = absurd (cc goes)
     begin-again p xs (Err BeginError.Busy) here legal run goes =
-        ((ends l p now me fit by here.0 o (try_begin s mode (Err BeginError.Busy)) xs refl run legal (here.1, time) at tt).between, selector-stays p xs s legal here.1)
+        ((ends l p now me fit by here.0 no_pipes o (try_begin s mode (Err BeginError.Busy)) xs refl run legal (here.1, time) at tt).between, selector-stays p xs s legal here.1)
 
     module _ (x : Selection) where
       -- with the selection in progress
@@ -322,7 +328,7 @@ module _ (l : Limits) (me : CallerNo) (fit : IsFit l) (by : IsCaller l me) where
           → WithSelector now_on s (after p me xs)
       tell-again same at' p poll xs (done a) here legal run goes = absurd (cc goes)
       tell-again same at' p poll xs (again next) here legal run goes =
-          ((ends l p now_on me fit by here.0 o_on (told x poll (again next)) xs refl run legal (its-selector same p here.1) at' (may-tell same)).between, selector-stays p xs s legal here.1)
+          ((ends l p now_on me fit by here.0 no_pipes o_on (told x poll (again next)) xs refl run legal (its-selector same p here.1) at' (may-tell same)).between, selector-stays p xs s legal here.1)
 
       abbrev Begun : List Event → List Act → Type 0
       Begun p xs = EndsAs l p now me xs now_on o_on false unscripted
@@ -333,7 +339,7 @@ module _ (l : Limits) (me : CallerNo) (fit : IsFit l) (by : IsCaller l me) where
           let whole = subst (λ xs. IsLegal l (after past me xs)) parts legal in
           let same = on-selector (after past me first) one.between in
           let it = last_run l me _ _ (WithSelector now_on s) (tell-again same one.own) (after past me first) second (done answer) (one.between, there) (then-legal l me past first second whole) rest.tells in
-          let two = ends l it.before now_on me fit by it.here.0 o_on (told x it.given (done answer)) it.last refl it.made it.legal (its-selector same it.before it.here.1) one.own (may-tell same) in
+          let two = ends l it.before now_on me fit by it.here.0 no_pipes o_on (told x it.given (done answer)) it.last refl it.made it.legal (its-selector same it.before it.here.1) one.own (may-tell same) in
           two-end past now now_on (with_selection now_on x.selector None) o_on (selecting o_on x.selector None) first it.last acts false false _ _ it.before (with_selection now s None) (selecting o s None) false one two
           (it.same ∙ (joined past me first second ∙ ap (λ xs. after past me xs) (sym parts))) (over-now same) (over-ongoing same)
 
@@ -346,7 +352,7 @@ module _ (l : Limits) (me : CallerNo) (fit : IsFit l) (by : IsCaller l me) where
           let legal_rest = subst (λ xs. IsLegal l (after p me xs)) rest.parts (then-legal l me past first second whole) in
           let here = tries_keep l me _ _ (WithSelector now_on s) (tell-again same one.own) p rest.told (one.between, there) (begins-legal l me p rest.told rest.leaves legal_rest) rest.tells in
           let before = after p me rest.told in
-          let two = ends l before now_on me fit by here.0 o_on (leave x) rest.leaves refl rest.left (then-legal l me p rest.told rest.leaves legal_rest) (its-selector same before here.1) one.own (may-tell same) in
+          let two = ends l before now_on me fit by here.0 no_pipes o_on (leave x) rest.leaves refl rest.left (then-legal l me p rest.told rest.leaves legal_rest) (its-selector same before here.1) one.own (may-tell same) in
           two-end past now now_on (with_selection now_on x.selector None) o_on (selecting o_on x.selector None) first rest.leaves acts false false _ _ before (with_selection now s None) (selecting o s None) false one two
           (joined p me rest.told rest.leaves ∙ (ap (λ xs. after p me xs) (sym rest.parts) ∙ (joined past me first second ∙ ap (λ xs. after past me xs) (sym parts)))) (over-now same) (over-ongoing same)
 
@@ -361,7 +367,7 @@ module _ (l : Limits) (me : CallerNo) (fit : IsFit l) (by : IsCaller l me) where
         it = last_run l me _ _ (WithSelector now s) (λ p _ xs r here legal' run' goes. begin-again p xs r here legal' run' goes) past first middle (between, made) first_legal runs
 
         one : Ends l it.before now me o it.last (try_begin s mode middle)
-        one = ends l it.before now me fit by it.here.0 o (try_begin s mode middle) it.last refl it.made it.legal (it.here.1, time) at tt
+        one = ends l it.before now me fit by it.here.0 no_pipes o (try_begin s mode middle) it.last refl it.made it.legal (it.here.1, time) at tt
 
         there : IsMadeSelector (state_after (after past me first)) s
         there = selector-stays past first s first_legal made

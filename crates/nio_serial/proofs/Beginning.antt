@@ -223,6 +223,8 @@ module _ (st : State) (now : Progress) (me : CallerNo) (s : SelNo)
       shared = sym state-is j;
       selection = (ap (λ looked. put ds.selection s.0 (Some (record { mode = mode; bound = mark; looked = looked }))) (sym looked-is)
           ∙ sym (put-under (λ _ o. option_map (λ x. shown x.selection) o) now.selection s.0 (Some (record { caller = me; selection = begun mode })))) j;
+      group = now.group;
+      pipes = now.pipes;
     };
   }
 

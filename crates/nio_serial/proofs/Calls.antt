@@ -1,8 +1,9 @@
 -- Each call, made on the table with its names found, amounts to the documented one.
-use Rattle.std.proofs.Common.{◌≡◌, ℕ, ◌==◌, nat_lt, Bool, true, false, cond, not, ◌||◌, if◌then◌else◌, Option, Some, None, option_map, List, map, refl, ap, sym, ◌∙◌, subst, arith}
-use Rattle.std.proofs.lemmas.Bool.{le-ltb, or_left, or_right, cond-true}
+use Rattle.std.proofs.Common.{◌≡◌, ℕ, ◌<◌, ◌==◌, nat_lt, Bool, true, false, cond, not, ◌||◌, if◌then◌else◌, Option, Some, None, option_map, List, map, refl, ap, sym, ◌∙◌, subst, arith}
+use Rattle.std.proofs.lemmas.Bool.{lt-ltb, le-ltb, or_left, or_right, cond-true}
 use Rattle.nio_base.specs.declared.limits.Limits.{Limits}
 use Rattle.nio_base.specs.declared.numbers.CallerNo.{CallerNo}
+use Rattle.nio_base.specs.declared.numbers.ChanNo.{ChanNo}
 use Rattle.nio_base.specs.declared.numbers.KeyId.{KeyId}
 use Rattle.nio_base.specs.declared.numbers.SelNo.{SelNo}
 use Rattle.nio_event.specs.State.{State}
@@ -13,12 +14,13 @@ use Rattle.nio_event.specs.declared.call.Waiting.{Waiting}
 use Rattle.nio_event.specs.declared.found.Mode.{Mode}
 use Rattle.nio_event.specs.declared.reply.Reply.{Reply}
 use Rattle.nio_event.specs.declared.reply.Reply.TheVariants as reply
-use Rattle.nio_plain.proofs.Naming.{selector-through}
+use Rattle.nio_plain.proofs.Naming.{channel-through, selector-through}
 use Rattle.nio_plain.proofs.ReachedSound.{some_same}
 use Rattle.nio_plain.specs.ScriptState.{ScriptState}
 use Rattle.nio_plain.specs.Seq.{call_of}
 use Rattle.nio_plain.specs.Seq.Answers.{unchanged, yes_or_no}
 use Rattle.nio_plain.specs.Seq.Closing.{close_end_call}
+use Rattle.nio_plain.specs.Seq.Piping.{pipe_call, read_from, pread_call, write_to, pwrite_call}
 use Rattle.nio_plain.specs.Seq.Registering.{given_or_none}
 use Rattle.nio_plain.specs.Seq.Selections.{mode_of, begun_with, begin_call, is_looked, is_caller, told_selection, told_call, left_selection, failed_call}
 use Rattle.nio_plain.specs.declared.rules.Rules.TheVariants.{Now}
@@ -27,6 +29,7 @@ use Rattle.nio_steps.specs.ChannelCalls.{open_channel_plan, is_open_plan, is_blo
 use Rattle.nio_steps.specs.KeyCalls.{is_valid_plan, interest_plan, set_interest_plan, interest_or_plan, interest_and_plan, ready_plan, cancel_plan, unselect_plan, attach_plan, attachment_plan}
 use Rattle.nio_steps.specs.Names.{key}
 use Rattle.nio_steps.specs.Perform.{perform}
+use Rattle.nio_steps.specs.PipeCalls.{pipe_plan, try_read_plan, try_write_plan}
 use Rattle.nio_steps.specs.Plan.{Plan}
 use Rattle.nio_steps.specs.SelectCalls.{Selection, open_selector_plan, try_begin_plan, told_plan, leave_plan, shut_plan, try_finish_plan, keys_plan, selected_keys_plan, wakeup_plan, interrupt_plan, interrupted_plan}
 use Rattle.nio_serial.proofs.Beginning.{begin-amounts}
@@ -36,6 +39,8 @@ use Rattle.nio_serial.proofs.ClosingSelectors.{close_end-amounts}
 use Rattle.nio_serial.proofs.Facts.{unpinned, untaken, unheld, none_due, channels, claimed, published, whole, free, fresh_mark, fresh_free, within, begun, looked_in_set, own-is}
 use Rattle.nio_serial.proofs.KeyCalls.{valid-amounts, interest-amounts, ready-amounts, iset-amounts, ior-amounts, iand-amounts, cancel-amounts, unselect-amounts, attach-amounts, attachment-amounts}
 use Rattle.nio_serial.proofs.Listing.{keys-amounts, selected-amounts}
+use Rattle.nio_serial.proofs.PipeLines.{read-amounts, write-amounts}
+use Rattle.nio_serial.proofs.PipeMaking.{ends-amount}
 use Rattle.nio_serial.proofs.Registering.{register-amounts}
 use Rattle.nio_serial.proofs.Simple.{is_blocking-amounts, is_open-amounts, is_registered-amounts, key_for-amounts, wakeup-amounts, close-amounts, interrupt-amounts, interrupted-amounts, selector-amounts, channel-amounts}
 use Rattle.nio_serial.proofs.Marking.{by_index-tells, by_key-tells}
@@ -43,8 +48,9 @@ use Rattle.nio_serial.proofs.Telling.{told-amounts, failed-amounts}
 use Rattle.nio_serial.specs.Between.{IsOn, IsBetween}
 use Rattle.nio_serial.specs.Documented.{Progress, Selecting, looked_pair, shown, documented, amounts}
 use Rattle.nio_serial.specs.Laws.{IsNamed, by_key}
-use Rattle.nio_serial.specs.Lines.{Said, comes_to, makes, asks, refused, with_selection, if_own, own_selection, after_begin, after_told, after_shut, after_finish, begin_line, by_index, told_line, failed_line, close_end_line, call_plan}
-use Rattle.nio_serial.specs.Replies.{find_reply, set_reply, put_reply, channel_reply, mode_reply, register_reply, closed_reply, selector_reply, begin_reply, told_reply, shut_reply, finish_reply, list_reply}
+use Rattle.nio_serial.specs.PipeLines.{own_source, own_sink, pipe_at, with_mark, after_pipe}
+use Rattle.nio_serial.specs.Lines.{Said, comes_to, makes, asks, refused, with_selection, if_own, own_selection, after_begin, after_told, after_shut, after_finish, begin_line, by_index, told_line, failed_line, close_end_line, read_line, write_line, call_plan}
+use Rattle.nio_serial.specs.Replies.{find_reply, set_reply, put_reply, channel_reply, mode_reply, register_reply, closed_reply, ends_reply, selector_reply, begin_reply, told_reply, shut_reply, finish_reply, list_reply}
 
 -- a line that makes a call comes to what the call amounts to
 pub made-is : {R : Type 0} (me : CallerNo) (plan : Plan R) (said : R → Reply) (left : R → Progress) (st : State)
@@ -164,6 +170,42 @@ module _ (l : Limits) (st : State) (now : Progress) (me : CallerNo) (between : I
   abbrev above : (s : SelNo) → nat_lt (st.keys_high s.0) (st.keys_high s.0) ≡ false
   above s = le-ltb (st.keys_high s.0) (st.keys_high s.0) (omega arith)
 
+  -- ---- pipes
+
+  read-line : (c : ChanNo) (n : ℕ) (place : Option ℕ)
+      → read_from ds me c n place ≡ comes_to (perform me (read_line l now c n place) st)
+  read-line c n None = refl
+  read-line c n (Some i) =
+      read-amounts l st now me c (λ s k. unpinned l st now between s k me.0) (whole l st now between) (within l st now between) i n
+      ∙ made-is me (try_read_plan l c) _ _ st
+
+  write-line : (c : ChanNo) (bytes : List ℕ) (place : Option ℕ)
+      → write_to ds me c bytes place ≡ comes_to (perform me (write_line l now c bytes place) st)
+  write-line c bytes None = refl
+  write-line c bytes (Some i) =
+      write-amounts l st now me c (λ s k. unpinned l st now between s k me.0) (whole l st now between) (within l st now between) i bytes
+      ∙ made-is me (try_write_plan l (pipe_at now i).source c) _ _ st
+
+  pread-is : (c : ChanNo) (n : ℕ) → (st.chan c.0).made ≡ true
+      → pread_call ds me c n ≡ comes_to (perform me (read_line l now c n (own_source now me c)) st)
+  unfolding pread_call
+  pread-is c n made = channel-through ds c made _ ∙ read-line c n (own_source now me c)
+
+  pwrite-is : (c : ChanNo) (bytes : List ℕ) → (st.chan c.0).made ≡ true
+      → pwrite_call ds me c bytes ≡ comes_to (perform me (write_line l now c bytes (own_sink now me c)) st)
+  unfolding pwrite_call
+  pwrite-is c bytes made = channel-through ds c made _ ∙ write-line c bytes (own_sink now me c)
+
+  pipe-is : (target : CallerNo) → target.0 < l.callers
+      → pipe_call l ds me target
+      ≡ comes_to (perform me (makes (pipe_plan l false) ends_reply (after_pipe now me target)) st)
+  unfolding pipe_call
+  pipe-is target below =
+      cond-true (nat_lt target.0 l.callers) _ _ (lt-ltb target.0 l.callers below)
+      ∙ (ends-amount l st now me target (channels l st now between) (λ s k. unpinned l st now between s k me.0)
+      (whole l st now between) (within l st now between)
+      ∙ made-is me (pipe_plan l false) ends_reply (after_pipe now me target) st)
+
   pub call-amounts : (word : Call) → IsNamed l st word → call_of Now l ds me word ≡ comes_to (perform me (call_plan l now me word) st)
   unfolding call_of call_plan
   call-amounts call.Selector named = selector-amounts st now me l ∙ asked-is (open_selector_plan l) selector_reply
@@ -178,7 +220,8 @@ module _ (l : Limits) (st : State) (now : Progress) (me : CallerNo) (between : I
       (fresh_mark l st now between s.0 (st.keys_high s.0) (above s)) (fresh_free l st now between s.0 (st.keys_high s.0) (above s)) named.0 named.1
       ∙ asked-is (try_register_plan l s c ops (given_or_none att)) register_reply
   call-amounts (call.Closec c) named =
-      closec-amounts l st now me c (λ s i. unpinned l st now between s i me.0) (whole l st now between) (within l st now between) named ∙ asked-is (close_channel_plan l c) closed_reply
+      closec-amounts l st now me c (λ s i. unpinned l st now between s i me.0) (whole l st now between) (within l st now between) named
+      ∙ made-is me (close_channel_plan l c) closed_reply (λ _. with_mark now (own_sink now me c)) st
   call-amounts (call.Valid s k) named = valid-amounts st now me s k (pin_free s k.index) named.0 named.1 ∙ asked-is (is_valid_plan (key s k)) yes_or_no
   call-amounts (call.Interest s k) named = interest-amounts st now me s k (pin_free s k.index) named.0 named.1 ∙ asked-is (interest_plan (key s k)) set_reply
   call-amounts (call.Ready s k) named = ready-amounts st now me s k (pin_free s k.index) named.0 named.1 ∙ asked-is (ready_plan (key s k)) set_reply
@@ -200,6 +243,10 @@ module _ (l : Limits) (st : State) (now : Progress) (me : CallerNo) (between : I
   call-amounts (call.Selected s) named = selected-amounts st now me s named (λ i. unpinned l st now between s.0 i me.0) ∙ asked-is (selected_keys_plan s false) list_reply
   call-amounts (call.Interrupt target) named = interrupt-amounts st now me l target named ∙ asked-is (interrupt_plan target) (λ _. reply.«Ok»)
   call-amounts call.Interrupted named = interrupted-amounts st now me ∙ asked-is interrupted_plan yes_or_no
+  call-amounts (call.Pipe target) named = pipe-is target named
+  call-amounts (call.Pwrite c bytes) named = pwrite-is c bytes named
+  call-amounts (call.Pread c n) named = pread-is c n named
+  call-amounts (call.Group g) named = refl
 
   -- a `told` with what the poller told by index
   pub told-by-index : (s : SelNo) (x : Selection) (told : List (ℕ × ℕ)) (elapsed : Bool) → st.selector s.0 ≡ true → own_selection now me s ≡ Some x

@@ -181,6 +181,12 @@ marked_where : (b : Bool) (k : Stage) (m : Mark) → settled_mark (cond b (cance
 marked_where true k m = refl
 marked_where false k m = refl
 
+-- the channel is closed, and its keys in the table's selectors are cancelled
+abbrev pub closed_left : Limits → State → ChanNo → State
+closed_left l st c =
+    let closed = with_chan st c.0 (record (st.chan c.0) { closed = true }) in
+    record closed { key = keys_after closed c.0 l.selectors }
+
 -- a close of the channel on the table
 module _ (l : Limits) (st : State) (now : Progress) (me : CallerNo) (c : ChanNo)
     (free : (s i : ℕ) → st.pinned s i me.0 ≡ false) (whole : (s i : ℕ) → (st.key s i).claimed ≡ (st.key s i).published)
@@ -194,10 +200,6 @@ module _ (l : Limits) (st : State) (now : Progress) (me : CallerNo) (c : ChanNo)
   abbrev closed_st : State
   closed_st = with_chan st c.0 closed_chan
 
-  -- the channel is closed, and its keys in the table's selectors are cancelled
-  abbrev pub closed_left : State
-  closed_left = record closed_st { key = keys_after closed_st c.0 l.selectors }
-
   keys : (s i : ℕ) → cond (has_index (key_of st c.0 s) i) (cancelled_key (settled (st.key s i))) (settled (st.key s i))
       ≡ settled (keys_after closed_st c.0 l.selectors s i)
   keys s i = sym (settled_where (nat_lt s l.selectors) (has_index (key_of st c.0 s) i) (st.key s i)
@@ -209,12 +211,12 @@ module _ (l : Limits) (st : State) (now : Progress) (me : CallerNo) (c : ChanNo)
   marks s i = sym (marked_where (nat_lt s l.selectors && has_index (key_of st c.0 s) i) (st.key s i) (st.mark s i))
 
   pub closed-documented : (r : Reply) → answered ds r (channel_closed ds.shared c.0)
-      ≡ record { reply = r; left = documented closed_left now }
+      ≡ record { reply = r; left = documented (closed_left l st c) now }
   closed-documented r =
       λ j. answered ds r (record (settled_state closed_st) { key = λ s i. keys s i j; mark = λ s i. marks s i j })
 
   pub close-open : (st.chan c.0).closed ≡ false
-      → perform me (close_channel_plan l c) st ≡ record { answer = true; state = closed_left }
+      → perform me (close_channel_plan l c) st ≡ record { answer = true; state = closed_left l st c }
   unfolding close_channel_plan
   close-open is =
       ap (λ (b : Bool). perform me (if b then Plan.reply false else cancel_keys l c) closed_st) is

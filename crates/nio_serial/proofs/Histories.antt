@@ -91,6 +91,11 @@ module _ (l : Limits) (st : State) (now : Progress) (me : CallerNo) (fit : IsFit
   named-through (call.Selected s) plan named = selector-through s plan named
   named-through (call.Interrupt target) plan named = ap (λ (b : Bool). perform me (if b then plan else refused now reply.NoCaller) st) (lt-ltb target.0 l.callers named)
   named-through call.Interrupted plan named = refl
+  named-through (call.Pipe target) plan named =
+      ap (λ (b : Bool). perform me (if b then plan else refused now reply.NoCaller) st) (lt-ltb target.0 l.callers named)
+  named-through (call.Pwrite c bytes) plan named = channel-through c plan named
+  named-through (call.Pread c n) plan named = channel-through c plan named
+  named-through (call.Group g) plan named = refl
 
   line-through : (word : Call) → IsCaller l me → IsNamed l st word → perform me (line_plan l now me word) st ≡ perform me (call_plan l now me word) st
   unfolding line_plan

@@ -17,9 +17,11 @@ pub mod Claiming
 pub mod Making
 pub mod Registering
 pub mod Facts
+pub mod Resting
+pub mod PipeLines
+pub mod PipeMaking
 pub mod Calls
 pub mod Lines
-pub mod Resting
 pub mod RestingCalls
 pub mod Showing
 pub mod Steady

@@ -27,6 +27,7 @@ use Rattle.nio_plain.specs.Seq.Keys.{valid_call, interest_call, ready_call, iset
 use Rattle.nio_plain.specs.Seq.Listing.{keys_call, selected_call}
 use Rattle.nio_plain.specs.Seq.Modes.{blocking_call, is_blocking_call, is_open_call, is_registered_call, key_for_call}
 use Rattle.nio_plain.specs.Seq.Names.{with_named_channel, with_named_selector, with_named_key}
+use Rattle.nio_plain.specs.Seq.Piping.{pipe_call, pread_call, pwrite_call}
 use Rattle.nio_plain.specs.Seq.Registering.{register_call}
 use Rattle.nio_plain.specs.Seq.Selections.{begin_call, told_call, failed_call}
 use Rattle.nio_plain.specs.Seq.Wakeups.{wakeup_call, interrupt_call}
@@ -167,7 +168,7 @@ module _ (l : Limits) (st : State) (now : Progress) (me : CallerNo) (fit : IsFit
   made word = call_plan l now me word
 
   pub named-amounts : (word : Call) → call_of Now l ds me word ≡ comes_to (perform me (if_named l now word (call_plan l now me word)) st)
-  unfolding call_of if_named blocking_call is_blocking_call is_open_call is_registered_call key_for_call register_call closec_call valid_call interest_call ready_call iset_call ior_call iand_call cancel_call unselect_call attach_call attachment_call begin_call told_call failed_call wakeup_call close_call close_end_call keys_call selected_call interrupt_call
+  unfolding call_of if_named blocking_call is_blocking_call is_open_call is_registered_call key_for_call register_call closec_call valid_call interest_call ready_call iset_call ior_call iand_call cancel_call unselect_call attach_call attachment_call begin_call told_call failed_call wakeup_call close_call close_end_call keys_call selected_call interrupt_call pipe_call pwrite_call pread_call
   named-amounts call.Selector = call-amounts l st now me between call.Selector tt
   named-amounts (call.Channel kind) = call-amounts l st now me between (call.Channel kind) tt
   named-amounts (call.Blocking c on) = channel-line c _ _ (made (call.Blocking c on)) refl (call-amounts l st now me between (call.Blocking c on))
@@ -206,6 +207,18 @@ module _ (l : Limits) (st : State) (now : Progress) (me : CallerNo) (fit : IsFit
       by_target true e = call-amounts l st now me between (call.Interrupt target) (ltb-true target.0 l.callers e)
       by_target false e = cond-false (nat_lt target.0 l.callers) _ _ e
   named-amounts call.Interrupted = call-amounts l st now me between call.Interrupted tt
+  named-amounts (call.Pipe target) = by_target (nat_lt target.0 l.callers) refl
+    where
+      by_target : (b : Bool) → nat_lt target.0 l.callers ≡ b
+          → pipe_call l ds me target
+          ≡ comes_to (perform me (if b then call_plan l now me (call.Pipe target) else refused now reply.NoCaller) st)
+      by_target true e = call-amounts l st now me between (call.Pipe target) (ltb-true target.0 l.callers e)
+      by_target false e = cond-false (nat_lt target.0 l.callers) _ _ e
+  named-amounts (call.Pwrite c bytes) =
+      channel-line c _ _ (made (call.Pwrite c bytes)) refl (call-amounts l st now me between (call.Pwrite c bytes))
+  named-amounts (call.Pread c n) =
+      channel-line c _ _ (made (call.Pread c n)) refl (call-amounts l st now me between (call.Pread c n))
+  named-amounts (call.Group g) = call-amounts l st now me between (call.Group g) tt
 
   pub line-amounts : (word : Call) → seq Now l ds me word ≡ comes_to (perform me (line_plan l now me word) st)
   unfolding seq line_plan

@@ -15,7 +15,7 @@ use Rattle.nio_event.specs.declared.found.Stage.{Stage}
 use Rattle.nio_event.specs.declared.reply.Reply.{Reply}
 use Rattle.nio_event.specs.declared.reply.Reply.TheVariants as reply
 use Rattle.nio_plain.proofs.Naming.{channel-through, selector-through}
-use Rattle.nio_plain.specs.ScriptState.{ScriptState}
+use Rattle.nio_plain.specs.ScriptState.{ScriptState, with_shared}
 use Rattle.nio_plain.specs.Seq.Answers.{Answered, unchanged, answered}
 use Rattle.nio_plain.specs.Seq.Modes.{if_in_key_set}
 use Rattle.nio_plain.specs.Seq.Registering.{given_or_none, given_or_kept, next_key, new_stage, with_new_key, registered_new, registered, register_call}
@@ -164,7 +164,7 @@ module _ (l : Limits) (st : State) (now : Progress) (me : CallerNo) (s : SelNo) 
         by_next : (o : Option KeyId) → registered_new ds s.0 c.0 ops att o ≡ F (made l holding me s c ops att free untaken exact fresh_mark fresh_free not_shut is_open o)
         by_next None = refused ChannelError.Full reply.Full refl
         by_next (Some k) =
-            (λ j. record { reply = reply.Key k; left = record { shared = sym (settled-new st s.0 c.0 k ops att) j; selection = ds.selection } })
+            (λ j. record { reply = reply.Key k; left = with_shared ds (sym (settled-new st s.0 c.0 k ops att) j) })
             ∙ freed (λ h. record { reply = reply.Key k; left = documented (record (with_new_key st s.0 c.0 k ops att) { hold = h }) now })
 
     unregistered : (b : Bool) → (st.gate s.0).shut ≡ b

@@ -1,15 +1,16 @@
 -- Each documented call keeps that nothing is at work.
-use Rattle.std.proofs.Common.{◌≡◌, ℕ, ◌<◌, ◌≤◌, ◌==◌, nat_lt, Bool, true, false, cond, not, ◌&&◌, ◌||◌, Option, Some, None, is_some, find, List, [], ◌∷◌, bit_and, bit_or, ⊎_elim, refl, ap, sym, ◌∙◌, subst, arith, eqb-true}
+use Rattle.std.proofs.Common.{◌≡◌, ℕ, ◌<◌, ◌≤◌, ◌==◌, nat_lt, Bool, true, false, cond, not, ◌&&◌, ◌||◌, Option, Some, None, is_some, find, List, [], ◌∷◌, length, bit_and, bit_or, ⊎_elim, refl, ap, sym, ◌∙◌, subst, arith, eqb-true}
 use Rattle.std.proofs.lemmas.Bool.{both_ways, and_parts, or_parts, false_from_ne_true, lt-ltb, le-ltb, ltb-true, cases_lt}
 use lib.Bits.{and_zero_r}
 use Rattle.nio_base.specs.declared.kind.Kind.{Kind}
+use Rattle.nio_base.specs.declared.kind.Kind.TheVariants.{Source, Sink}
 use Rattle.nio_base.specs.declared.limits.Limits.{Limits}
 use Rattle.nio_base.specs.declared.numbers.CallerNo.{CallerNo}
 use Rattle.nio_base.specs.declared.numbers.ChanNo.{ChanNo}
 use Rattle.nio_base.specs.declared.numbers.KeyId.{KeyId}
 use Rattle.nio_base.specs.declared.numbers.SelNo.{SelNo}
 use Rattle.nio_event.specs.Sets.{fits, in_key_set, in_cancelled_set, was_published, is_in_key_set, is_valid_key}
-use Rattle.nio_event.specs.State.{last_serial, put, put_at}
+use Rattle.nio_event.specs.State.{State, last_serial, put, put_at}
 use Rattle.nio_event.specs.declared.call.Call.{Call}
 use Rattle.nio_event.specs.declared.call.Call.TheVariants as call
 use Rattle.nio_event.specs.declared.call.Waiting.{Waiting}
@@ -19,17 +20,19 @@ use Rattle.nio_event.specs.declared.found.Stage.{Stage}
 use Rattle.nio_event.specs.declared.reply.Reply.{Reply}
 use Rattle.nio_event.specs.declared.reply.Reply.TheVariants as reply
 use Rattle.nio_plain.proofs.Found.{find_unmade, find_spent, found_below}
-use Rattle.nio_plain.proofs.ReachedSound.{Sound, by_test}
+use Rattle.nio_plain.proofs.ReachedSound.{Sound, by_test, some_same}
 use Rattle.nio_plain.specs.ScriptState.{ScriptState, Selection}
 use Rattle.nio_plain.specs.Seq.{call_of, seq}
 use Rattle.nio_plain.specs.Seq.Answers.{Answered, unchanged}
-use Rattle.nio_plain.specs.Seq.Cancelling.{cancelled_key, cancelled_in_set, has_index, closec_call, cancel_call}
+use Rattle.nio_plain.specs.Seq.Cancelling.{cancelled_key, cancelled_in_set, channel_closed, has_index, closec_call, cancel_call}
 use Rattle.nio_plain.specs.Seq.Closing.{close_call, close_end_call}
 use Rattle.nio_plain.specs.Seq.Keys.{with_valid_key, are_legal_at, is_in_selected_set, valid_call, interest_call, ready_call, iset_call, ior_call, iand_call, unselect_call, attach_call, attachment_call}
 use Rattle.nio_plain.specs.Seq.Listing.{listed, keys_call, selected_call}
 use Rattle.nio_plain.specs.Seq.Modes.{is_registered, blocking_call, is_blocking_call, is_open_call, is_registered_call, key_of, key_for_call}
 use Rattle.nio_plain.specs.Seq.Names.{below, key_at, is_same_key, with_named_channel, with_named_selector, with_named_key}
-use Rattle.nio_plain.specs.Seq.Opening.{selector_made, selector_call, channel_made, channel_call}
+use Rattle.nio_plain.specs.Seq.Opening.{selector_made, selector_call, next_channel, channel_made, channel_call}
+use Rattle.nio_plain.specs.Seq.Pipes.{own_source, own_sink, pipe_at}
+use Rattle.nio_plain.specs.Seq.Piping.{with_sink, with_source, pipe_call, finds_interrupt, read_first, read_from, pread_call, room_for, write_to, pwrite_call}
 use Rattle.nio_plain.specs.Seq.Registering.{are_legal, given_or_none, given_or_kept, free_index, next_by, next_key, registered, registered_new, register_call}
 use Rattle.nio_plain.specs.Seq.Removing.{removed_key, unselected, comes_back}
 use Rattle.nio_plain.specs.Seq.Selections.{all_told, looked_interest, told_bits, marked, is_looked, mode_of, begun_with, begin_call, updated_count, is_again, told_selection, is_caller, own_selection, told_call, left_selection, failed_call}
@@ -37,6 +40,71 @@ use Rattle.nio_plain.specs.Seq.Wakeups.{wakeup_call, interrupt_call, interrupted
 use Rattle.nio_plain.specs.declared.rules.Rules.TheVariants.{Now}
 use Rattle.nio_serial.proofs.ClosingChannels.{index_in_set}
 use Rattle.nio_serial.proofs.Resting.{KeysRest, FreesRest, Rests, channels-changed, channels-more, above-out, keys-cancelled, frees-cancelled, keys-removed, frees-removed, keys-new, frees-new, keys-unselected, one_cancelled}
+
+-- ---- channels
+
+-- the least number that isn't made is the one at the mark
+next-at : (l : Limits) (st : ScriptState) → Rests l st.shared → (c : ℕ) → next_channel l st ≡ Some c
+    → (c ≡ st.shared.channels_high) × (c < l.channels)
+next-at l st rest c e = ⊎_elim here spent (cases_lt m l.channels)
+  where
+    m : ℕ
+    m = st.shared.channels_high
+
+    made : ℕ → Bool
+    made n = (st.shared.chan n).made
+
+    below_made : (n : ℕ) → n < m → made n ≡ true
+    below_made n low = rest.channels.made n ∙ lt-ltb n m low
+
+    above_unmade : (n : ℕ) → m ≤ n → made n ≡ false
+    above_unmade n high = rest.channels.made n ∙ le-ltb n m high
+
+    here : m < l.channels → (c ≡ m) × (c < l.channels)
+    here room =
+        let same : m ≡ c = some_same m c (sym (find_unmade made l.channels m below_made above_unmade room) ∙ e) in
+        (sym same, omega arith)
+
+    spent : l.channels ≤ m → (c ≡ m) × (c < l.channels)
+    spent full =
+        let none : None ≡ Some c = sym (find_spent made l.channels m below_made above_unmade full) ∙ e in
+        absurd cc
+
+-- it is made
+rests-made : (l : Limits) (st : ScriptState) → Rests l st.shared → (kind : Kind) (c : ℕ) → next_channel l st ≡ Some c
+    → Rests l (channel_made st kind (Some c)).left.shared
+rests-made l st rest kind c e =
+    let at = next-at l st rest c e in
+    let same : c ≡ st.shared.channels_high = at.0 in
+    let within : c < l.channels = at.1 in
+    subst (λ (n : ℕ). Rests l (channel_made st kind (Some n)).left.shared) (sym same)
+    (record {
+      unused = rest.unused;
+      channels = channels-more l st.shared.channels_high st.shared.chan rest.channels (omega arith)
+          (record { made = true; kind = kind; closed = false; blocking = true }) refl;
+      keys = rest.keys;
+      frees = rest.frees;
+    })
+
+-- a channel is closed
+rests-closed : (l : Limits) (st : State) → Rests l st → (c : ℕ) → Rests l (channel_closed st c)
+rests-closed l st rest c =
+    let test : ℕ → ℕ → Bool = λ s i. has_index (key_of st c s) i in
+    let within = λ (s i : ℕ). index_in_set st s i (st.noted c s) in
+    record {
+      unused = rest.unused;
+      channels = channels-changed l st.channels_high st.chan rest.channels c (record (st.chan c) { closed = true }) refl;
+      keys = keys-cancelled l st rest test within;
+      frees = frees-cancelled l st rest test within;
+    }
+
+-- a sink is made for the source, or the source is closed
+rests-sink : (l : Limits) (st : ScriptState) → Rests l st.shared → (me target : CallerNo) (source : ℕ) (o : Option ℕ)
+    → next_channel l st ≡ o → Rests l (with_sink st me target source o).left.shared
+rests-sink l st rest me target source None e = rests-closed l st.shared rest source
+rests-sink l st rest me target source (Some sink) e = rests-made l st rest Sink sink e
+
+-- ---- calls
 
 module _ (l : Limits) (st : ScriptState) (sound : Sound Now l st) (rest : Rests l st.shared) where
   abbrev Keeps : Answered → Type 0
@@ -80,31 +148,11 @@ module _ (l : Limits) (st : ScriptState) (sound : Sound Now l st) (rest : Rests 
 
   rests-channel_call : (kind : Kind) → Keeps (channel_call l st kind)
   unfolding channel_call
-  rests-channel_call kind = ⊎_elim here spent (cases_lt m l.channels)
+  rests-channel_call kind = by_next (next_channel l st) refl
     where
-      m : ℕ
-      m = st.shared.channels_high
-
-      unmade : ℕ → Bool
-      unmade c = not (st.shared.chan c).made
-
-      below_made : (c : ℕ) → c < m → (st.shared.chan c).made ≡ true
-      below_made c low = rest.channels.made c ∙ lt-ltb c m low
-
-      above_unmade : (c : ℕ) → m ≤ c → (st.shared.chan c).made ≡ false
-      above_unmade c high = rest.channels.made c ∙ le-ltb c m high
-
-      here : m < l.channels → Keeps (channel_made st kind (find unmade (below l.channels)))
-      here room = subst (λ o. Keeps (channel_made st kind o)) (sym (find_unmade (λ c. (st.shared.chan c).made) l.channels m below_made above_unmade room))
-          (record {
-            unused = rest.unused;
-            channels = channels-more l m st.shared.chan rest.channels room (record { made = true; kind = kind; closed = false; blocking = true }) refl;
-            keys = rest.keys;
-            frees = rest.frees;
-          })
-
-      spent : l.channels ≤ m → Keeps (channel_made st kind (find unmade (below l.channels)))
-      spent full = subst (λ o. Keeps (channel_made st kind o)) (sym (find_spent (λ c. (st.shared.chan c).made) l.channels m below_made above_unmade full)) rest
+      by_next : (o : Option ℕ) → next_channel l st ≡ o → Keeps (channel_made st kind o)
+      by_next None e = rest
+      by_next (Some c) e = rests-made l st rest kind c e
 
   rests-blocking_call : (c : ChanNo) (on : Bool) → Keeps (blocking_call l st c on)
   unfolding blocking_call
@@ -171,15 +219,7 @@ module _ (l : Limits) (st : ScriptState) (sound : Sound Now l st) (rest : Rests 
   rests-closec_call : (me : CallerNo) (c : ChanNo) → Keeps (closec_call st me c)
   unfolding closec_call
   rests-closec_call me c =
-      let test : ℕ → ℕ → Bool = λ s i. has_index (key_of st.shared c.0 s) i in
-      let within = λ (s i : ℕ). index_in_set st.shared s i (st.shared.noted c.0 s) in
-      named_channel c _ (denied (st.shared.chan c.0).closed reply.Already _
-      (λ _. record {
-        unused = rest.unused;
-        channels = channels-changed l st.shared.channels_high st.shared.chan rest.channels c.0 (record (st.shared.chan c.0) { closed = true }) refl;
-        keys = keys-cancelled l st.shared rest test within;
-        frees = frees-cancelled l st.shared rest test within;
-      }))
+      named_channel c _ (denied (st.shared.chan c.0).closed reply.Already _ (λ _. rests-closed l st.shared rest c.0))
 
   rests-is_blocking_call : (c : ChanNo) → Keeps (is_blocking_call st c)
   unfolding is_blocking_call
@@ -436,6 +476,52 @@ module _ (l : Limits) (st : ScriptState) (sound : Sound Now l st) (rest : Rests 
   unfolding selected_call
   rests-selected_call s = rests_listed s _
 
+  -- ---- pipes
+
+  both : (test : Bool) (a b : Answered) → Keeps a → Keeps b → Keeps (cond test a b)
+  both test a b h k = by_test Keeps test a b (λ _. h) (λ _. k)
+
+  rests-pipe_call : (me target : CallerNo) → Keeps (pipe_call l st me target)
+  unfolding pipe_call
+  rests-pipe_call me target = allowed (nat_lt target.0 l.callers) reply.NoCaller _ (λ _. by_next (next_channel l st) refl)
+    where
+      by_next : (o : Option ℕ) → next_channel l st ≡ o → Keeps (with_source l st me target o)
+      by_next None e = rest
+      by_next (Some source) e =
+          let made = (channel_made st Source (Some source)).left in
+          rests-sink l made (rests-made l st rest Source source e) me target source (next_channel l made) refl
+
+  rests_first : (blocking : Bool) (n i : ℕ) (waiting : List ℕ) (marked : Bool)
+      → Keeps (read_first st blocking n i waiting marked)
+  rests_first blocking n i [] false = rest
+  rests_first blocking n i [] true = rest
+  rests_first blocking n i (b ∷ bytes) marked = rest
+
+  rests_read : (me : CallerNo) (c : ChanNo) (n : ℕ) (place : Option ℕ) → Keeps (read_from st me c n place)
+  rests_read me c n None = rest
+  rests_read me c n (Some i) =
+      both (st.shared.chan c.0).closed _ _ rest
+      (both (finds_interrupt st me c) _ _ (rests-closed l st.shared rest c.0)
+      (both (n == 0) _ _ rest
+      (rests_first (st.shared.chan c.0).blocking n i (pipe_at st i).waiting (pipe_at st i).marked)))
+
+  rests-pread_call : (me : CallerNo) (c : ChanNo) (n : ℕ) → Keeps (pread_call st me c n)
+  unfolding pread_call
+  rests-pread_call me c n = named_channel c _ (rests_read me c n (own_source st me c))
+
+  rests_write : (me : CallerNo) (c : ChanNo) (bytes : List ℕ) (place : Option ℕ) → Keeps (write_to st me c bytes place)
+  rests_write me c bytes None = rest
+  rests_write me c bytes (Some i) =
+      both (st.shared.chan c.0).closed _ _ rest
+      (both (finds_interrupt st me c) _ _ (rests-closed l st.shared rest c.0)
+      (both (st.shared.chan (pipe_at st i).source.0).closed _ _ rest
+      (both (length bytes == 0) _ _ rest
+      (both (room_for bytes (pipe_at st i) == 0) _ _ rest rest))))
+
+  rests-pwrite_call : (me : CallerNo) (c : ChanNo) (bytes : List ℕ) → Keeps (pwrite_call st me c bytes)
+  unfolding pwrite_call
+  rests-pwrite_call me c bytes = named_channel c _ (rests_write me c bytes (own_sink st me c))
+
   rests-call_of : (me : CallerNo) (word : Call) → Keeps (call_of Now l st me word)
   unfolding call_of
   rests-call_of me call.Selector = rests-selector_call
@@ -467,6 +553,10 @@ module _ (l : Limits) (st : ScriptState) (sound : Sound Now l st) (rest : Rests 
   rests-call_of me (call.Selected s) = rests-selected_call s
   rests-call_of me (call.Interrupt target) = rests-interrupt_call target
   rests-call_of me call.Interrupted = rests-interrupted_call me
+  rests-call_of me (call.Pipe target) = rests-pipe_call me target
+  rests-call_of me (call.Pwrite c bytes) = rests-pwrite_call me c bytes
+  rests-call_of me (call.Pread c n) = rests-pread_call me c n
+  rests-call_of me (call.Group g) = rest
 
   pub rests-seq : (me : CallerNo) (word : Call) → Keeps (seq Now l st me word)
   unfolding seq

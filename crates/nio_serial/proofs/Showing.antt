@@ -41,6 +41,20 @@ ShowsBy left done = (t : ℕ) → IsShownBy done.state (left done.answer) t
 made-shows : {R : Type 0} (me : CallerNo) (plan : Plan R) (said : R → Reply) (left : R → Progress) (st : State) → ShowsBy left (perform me plan st) → Shows (perform me (makes plan said left) st)
 made-shows me plan said left st shows = subst Shows (sym (perform-bind me plan (λ answer. Plan.reply (record { reply = said answer; left = left answer })) st)) shows
 
+-- the selections and the closings in progress are as before
+pub record ShowsAsBefore (before after : Progress) : Type 0 where
+  pub selection : after.selection ≡ before.selection
+  pub closing : after.closing ≡ before.closing
+
+pub shows-on : (st : State) (before after : Progress) (t : ℕ) → ShowsAsBefore before after
+    → IsShownBy st before t → IsShownBy st after t
+shows-on st before after t same was = record {
+  turn = was.turn ∙ ap (λ f. option_map (λ (x : Selecting). x.caller) (f t)) (sym same.selection);
+  begun = was.begun ∙ ap (λ f. is_some (f t)) (sym same.selection);
+  on = subst (λ (f : ℕ → Option Selecting). (x : Selecting) → f t ≡ Some x → IsOn t x.selection) (sym same.selection) was.on;
+  closing = ap (λ f. f t) same.closing ∙ was.closing;
+}
+
 module _ (l : Limits) (st : State) (now : Progress) (me : CallerNo) (between : IsBetween l st now) where
   -- a state with the same turns and closings
   pub shows-same : (st' : State) → st'.turn ≡ st.turn → st'.begun ≡ st.begun → st'.closer ≡ st.closer → st'.entered ≡ st.entered → (t : ℕ) → IsShownBy st' now t

@@ -35,6 +35,11 @@ use Rattle.nio_serial.specs.Documented.{Progress, documented, amounts}
 use Rattle.nio_serial.specs.Lines.{after_shut}
 use Rattle.nio_serial.specs.Replies.{find_reply, channel_reply, selector_reply, shut_reply}
 
+-- the state with one channel more, which is the one at the mark
+abbrev pub with_channel : State → Kind → State
+with_channel st kind =
+    with_channels_high (with_chan st st.channels_high (new_channel kind)) (st.channels_high + 1)
+
 module _ (st : State) (now : Progress) (me : CallerNo) where
   abbrev ds : ScriptState
   ds = documented st now
@@ -122,15 +127,11 @@ module _ (st : State) (now : Progress) (me : CallerNo) where
       by_found None = refl
       by_found (Some n) = refl
 
-  -- the state with one channel more, which is the one at the mark
-  abbrev pub with_channel : Kind → State
-  with_channel kind = with_channels_high (with_chan st st.channels_high (new_channel kind)) (st.channels_high + 1)
-
   module _ (exact : (c : ℕ) → (st.chan c).made ≡ nat_lt c st.channels_high) (l : Limits) where
     abbrev m : ℕ
     m = st.channels_high
 
-    unmade : ℕ → Bool
+    abbrev unmade : ℕ → Bool
     unmade c = not (st.chan c).made
 
     below_made : (c : ℕ) → c < m → unmade c ≡ false
@@ -146,7 +147,7 @@ module _ (st : State) (now : Progress) (me : CallerNo) where
     next-spent full = find_none unmade l.channels (λ n below_limit. below_made n (omega arith))
 
     module _ (kind : Kind) where
-      makes : ℕ → Plan (Option ChanNo)
+      abbrev makes : ℕ → Plan (Option ChanNo)
       makes n = makes_channel kind (channel n)
 
       first : m < l.channels → find unmade (indexes m (l.channels - m)) ≡ Some m
@@ -156,10 +157,10 @@ module _ (st : State) (now : Progress) (me : CallerNo) where
           ap (λ n. find unmade (indexes m n)) more
           ∙ cond-true (unmade m) (Some m) (find unmade (indexes (m + 1) (l.channels - (m + 1)))) (ap not mark_unmade)
 
-      left : ℕ → State
+      abbrev left : ℕ → State
       left n = with_chan st n (new_channel kind)
 
-      turn : ℕ → Bool → Performed (Option ChanNo)
+      abbrev turn : ℕ → Bool → Performed (Option ChanNo)
       turn n b = record {
         answer = cond b None (Some (channel n));
         state = with_chan st n (cond b (st.chan n) (new_channel kind));
@@ -174,7 +175,7 @@ module _ (st : State) (now : Progress) (me : CallerNo) where
           ∙ ap (found_at st channel left) (first room)
 
       pub open-performed : m < l.channels
-          → perform me (open_channel_plan l kind) st ≡ record { answer = Ok (channel m); state = with_channel kind }
+          → perform me (open_channel_plan l kind) st ≡ record { answer = Ok (channel m); state = with_channel st kind }
       unfolding open_channel_plan
       open-performed room =
           let raised : max m (m + 1) ≡ m + 1 = omega arith in

@@ -1,5 +1,5 @@
 -- What holds between two calls holds at the beginning and after each line.
-use Rattle.std.proofs.Common.{◌≡◌, nat_lt, Bool, true, false, if◌then◌else◌, Option, is_some, List, [], ◌∷◌, ◌++◌, refl, ap, sym, ◌∙◌, subst, arith}
+use Rattle.std.proofs.Common.{◌≡◌, ℕ, nat_lt, Bool, true, false, if◌then◌else◌, Option, Some, None, is_some, Result, Ok, Err, List, [], ◌∷◌, ◌++◌, refl, ap, sym, ◌∙◌, subst, arith}
 use Rattle.std.specs.Prelude.{⊤}
 use Rattle.std.proofs.lemmas.Bool.{both_ways, le-ltb}
 use Rattle.nio_base.specs.Limits.{IsFit}
@@ -26,22 +26,26 @@ use Rattle.nio_plain.specs.declared.rules.Rules.TheVariants.{Now}
 use Rattle.nio_steps.proofs.Each.{Each}
 use Rattle.nio_steps.proofs.EachLaws.{each_bind, each_if}
 use Rattle.nio_steps.proofs.PerformLaws.{perform_then_on}
+use Rattle.nio_steps.specs.ChannelCalls.{close_channel_plan}
 use Rattle.nio_steps.specs.KeyCalls.{find_selector_plan, find_channel_plan, find_plan}
 use Rattle.nio_steps.specs.Names.{selector}
 use Rattle.nio_steps.specs.Perform.{perform}
+use Rattle.nio_steps.specs.PipeCalls.{PipeEnds, pipe_plan, try_read_plan, try_write_plan}
 use Rattle.nio_steps.specs.Plan.{Plan, ask, ◌>>=◌}
+use Rattle.nio_steps.specs.declared.refusal.PipeMakeError.{PipeMakeError}
 use Rattle.nio_serial.proofs.Facts.{sound}
 use Rattle.nio_serial.proofs.Lines.{selector-found, found-is, named-amounts, line-amounts}
 use Rattle.nio_serial.proofs.Resting.{rests-from, rests-is}
 use Rattle.nio_serial.proofs.RestingCalls.{rests-seq}
-use Rattle.nio_serial.proofs.Showing.{Shows, shows-same, begin-shows, told-shows, failed-shows, close-shows, close_end-shows}
-use Rattle.nio_serial.proofs.Steady.{IsSteady, steady-selector, steady-channel, steady-blocking, steady-is_blocking, steady-is_open, steady-is_registered, steady-key_for, steady-register, steady-closec, steady-valid, steady-interest, steady-ready, steady-iset, steady-ior, steady-iand, steady-cancel, steady-unselect, steady-attach, steady-attachment, steady-wakeup, steady-keys, steady-selected, steady-interrupt, steady-interrupted}
+use Rattle.nio_serial.proofs.Showing.{Shows, ShowsAsBefore, shows-on, shows-same, begin-shows, told-shows, failed-shows, close-shows, close_end-shows}
+use Rattle.nio_serial.proofs.Steady.{IsSteady, steady-selector, steady-channel, steady-blocking, steady-is_blocking, steady-is_open, steady-is_registered, steady-key_for, steady-register, steady-closec, steady-valid, steady-interest, steady-ready, steady-iset, steady-ior, steady-iand, steady-cancel, steady-unselect, steady-attach, steady-attachment, steady-wakeup, steady-keys, steady-selected, steady-interrupt, steady-interrupted, steady-pipe, steady-pread, steady-pwrite, steady-group}
 use Rattle.nio_serial.specs.Between.{IsLeft, IsAtRest, IsShownBy, IsBetween}
 use Rattle.nio_serial.specs.Documented.{Progress, documented}
 use Rattle.nio_serial.specs.Laws.{BeginsBetween, LinesStayBetween}
-use Rattle.nio_serial.specs.Lines.{Said, comes_to, asks, refused, if_found, if_selector, if_channel, if_key, if_named, call_plan, line_plan}
+use Rattle.nio_serial.specs.Lines.{Said, comes_to, makes, asks, refused, if_caller, if_found, if_selector, if_channel, if_key, if_named, read_line, write_line, call_plan, line_plan}
+use Rattle.nio_serial.specs.PipeLines.{own_source, own_sink, pipe_at, after_pipe}
 
--- ---- a line that begins and ends nothing leaves the progress
+-- ---- a line that begins and ends nothing leaves the selections and closings in progress
 
 each_any : {R : Type 0} (plan : Plan R) → Each (λ _. ⊤) (λ _. ⊤) plan
 each_any (Plan.reply r) = tt
@@ -51,29 +55,63 @@ each-performed : {R : Type 0} (P : R → Type 0) (me : CallerNo) (plan : Plan R)
 each-performed P me (Plan.reply r) st each = each
 each-performed P me (ask q next) st each = let act = act_from st me q in each-performed P me (next (answer_of act)) (effect st me act) (each.1 (answer_of act))
 
--- each reply of the plan leaves this in progress
+-- what is left in progress shows the same selections and closings
+abbrev Kept : Progress → Said → Type 0
+Kept now said = ShowsAsBefore now said.left
+
+-- each reply of the plan leaves them
 abbrev Leaves : Progress → Plan Said → Type 0
-Leaves now plan = Each (λ _. ⊤) (λ said. said.left ≡ now) plan
+Leaves now plan = Each (λ _. ⊤) (Kept now) plan
 
+makes-leaves : {R : Type 0} (now : Progress) (plan : Plan R) (said : R → Reply) (left : R → Progress)
+    → ((r : R) → ShowsAsBefore now (left r)) → Leaves now (makes plan said left)
+makes-leaves now plan said left same = each_bind (λ _. ⊤) (λ _. ⊤) (Kept now) plan _ (each_any plan) (λ r _. same r)
+
+-- a line that leaves all that is in progress
 asks-leaves : {R : Type 0} (now : Progress) (plan : Plan R) (said : R → Reply) → Leaves now (asks now plan said)
-asks-leaves now plan said = each_bind (λ _. ⊤) (λ _. ⊤) (λ s. s.left ≡ now) plan _ (each_any plan) (λ _ _. refl)
+asks-leaves now plan said = makes-leaves now plan said (λ _. now) (λ _. record { selection = refl; closing = refl })
 
-found-leaves : {A : Type 0} (now : Progress) (r : Reply) (plan : Plan Said) (found : Option A) → Leaves now plan → Leaves now (if_found now r plan found)
-found-leaves now r plan found leaves = each_if (λ _. ⊤) (λ s. s.left ≡ now) (is_some found) plan (refused now r) (λ _. leaves) (λ _. refl)
+found-leaves : {A : Type 0} (now : Progress) (r : Reply) (plan : Plan Said) (found : Option A)
+    → Leaves now plan → Leaves now (if_found now r plan found)
+found-leaves now r plan found leaves =
+    each_if (λ _. ⊤) (Kept now) (is_some found) plan (refused now r) (λ _. leaves)
+    (λ _. record { selection = refl; closing = refl })
+
+-- lines on pipes
+read-leaves : (l : Limits) (now : Progress) (c : ChanNo) (n : ℕ) (place : Option ℕ) → Leaves now (read_line l now c n place)
+read-leaves l now c n None = record { selection = refl; closing = refl }
+read-leaves l now c n (Some i) =
+    makes-leaves now (try_read_plan l c) _ _ (λ _. record { selection = refl; closing = refl })
+
+write-leaves : (l : Limits) (now : Progress) (c : ChanNo) (bytes : List ℕ) (place : Option ℕ)
+    → Leaves now (write_line l now c bytes place)
+write-leaves l now c bytes None = record { selection = refl; closing = refl }
+write-leaves l now c bytes (Some i) =
+    makes-leaves now (try_write_plan l (pipe_at now i).source c) _ _ (λ _. record { selection = refl; closing = refl })
+
+pipe-leaves : (now : Progress) (me target : CallerNo) (answer : Result PipeEnds PipeMakeError)
+    → ShowsAsBefore now (after_pipe now me target answer)
+pipe-leaves now me target (Ok ends) = record { selection = refl; closing = refl }
+pipe-leaves now me target (Err refusal) = record { selection = refl; closing = refl }
 
 module _ (l : Limits) (now : Progress) where
+  caller-leaves : (n : CallerNo) (plan : Plan Said) → Leaves now plan → Leaves now (if_caller l now n plan)
+  caller-leaves n plan leaves =
+      each_if (λ _. ⊤) (Kept now) (nat_lt n.0 l.callers) plan (refused now reply.NoCaller) (λ _. leaves)
+      (λ _. record { selection = refl; closing = refl })
+
   selector-leaves : (s : SelNo) (plan : Plan Said) → Leaves now plan → Leaves now (if_selector l now s plan)
   selector-leaves s plan leaves =
-      each_bind (λ _. ⊤) (λ _. ⊤) (λ x. x.left ≡ now) (find_selector_plan l s.0) (if_found now reply.NoSelector plan) (each_any (find_selector_plan l s.0)) (λ found _. found-leaves now reply.NoSelector plan found leaves)
+      each_bind (λ _. ⊤) (λ _. ⊤) (Kept now) (find_selector_plan l s.0) (if_found now reply.NoSelector plan) (each_any (find_selector_plan l s.0)) (λ found _. found-leaves now reply.NoSelector plan found leaves)
 
   channel-leaves : (c : ChanNo) (plan : Plan Said) → Leaves now plan → Leaves now (if_channel l now c plan)
   channel-leaves c plan leaves =
-      each_bind (λ _. ⊤) (λ _. ⊤) (λ x. x.left ≡ now) (find_channel_plan l c.0) (if_found now reply.NoChannel plan) (each_any (find_channel_plan l c.0)) (λ found _. found-leaves now reply.NoChannel plan found leaves)
+      each_bind (λ _. ⊤) (λ _. ⊤) (Kept now) (find_channel_plan l c.0) (if_found now reply.NoChannel plan) (each_any (find_channel_plan l c.0)) (λ found _. found-leaves now reply.NoChannel plan found leaves)
 
   key-leaves : (s : SelNo) (k : KeyId) (plan : Plan Said) → Leaves now plan → Leaves now (if_key l now s k plan)
   key-leaves s k plan leaves =
       selector-leaves s (find_plan l s k.index k.serial >>= if_found now reply.NoKey plan)
-      (each_bind (λ _. ⊤) (λ _. ⊤) (λ x. x.left ≡ now) (find_plan l s k.index k.serial) (if_found now reply.NoKey plan) (each_any (find_plan l s k.index k.serial)) (λ found _. found-leaves now reply.NoKey plan found leaves))
+      (each_bind (λ _. ⊤) (λ _. ⊤) (Kept now) (find_plan l s k.index k.serial) (if_found now reply.NoKey plan) (each_any (find_plan l s k.index k.serial)) (λ found _. found-leaves now reply.NoKey plan found leaves))
 
 -- ---- scripts with one line more
 
@@ -102,7 +140,7 @@ module _ (l : Limits) (st : State) (now : Progress) (me : CallerNo) (fit : IsFit
   steady-shows word leaves steady t =
       let done = perform me (named word) st in
       let same = named-amounts l st now me fit between word in
-      subst (λ (p : Progress). IsShownBy done.state p t) (sym (each-performed (λ said. said.left ≡ now) me (named word) st leaves))
+      shows-on done.state now done.answer.left t (each-performed (Kept now) me (named word) st leaves)
       (shows-same l st now me between done.state
       (sym (ap (λ (a : Answered). a.left.shared.turn) same) ∙ steady.turn)
       (sym (ap (λ (a : Answered). a.left.shared.begun) same) ∙ steady.begun)
@@ -129,7 +167,10 @@ module _ (l : Limits) (st : State) (now : Progress) (me : CallerNo) (fit : IsFit
   named-shows (call.IsRegistered c) = steady-shows (call.IsRegistered c) (channel-leaves l now c _ (asks-leaves now _ _)) (steady-is_registered l ds c)
   named-shows (call.KeyFor c s) = steady-shows (call.KeyFor c s) (channel-leaves l now c _ (selector-leaves l now s _ (asks-leaves now _ _))) (steady-key_for l ds c s)
   named-shows (call.Register s c ops att) = steady-shows (call.Register s c ops att) (selector-leaves l now s _ (channel-leaves l now c _ (asks-leaves now _ _))) (steady-register l ds s c ops att)
-  named-shows (call.Closec c) = steady-shows (call.Closec c) (channel-leaves l now c _ (asks-leaves now _ _)) (steady-closec l ds me c)
+  named-shows (call.Closec c) =
+      steady-shows (call.Closec c)
+      (channel-leaves l now c _ (makes-leaves now (close_channel_plan l c) _ _ (λ _. record { selection = refl; closing = refl })))
+      (steady-closec l ds me c)
   named-shows (call.Valid s k) = steady-shows (call.Valid s k) (key-leaves l now s k _ (asks-leaves now _ _)) (steady-valid l ds s k)
   named-shows (call.Interest s k) = steady-shows (call.Interest s k) (key-leaves l now s k _ (asks-leaves now _ _)) (steady-interest l ds s k)
   named-shows (call.Ready s k) = steady-shows (call.Ready s k) (key-leaves l now s k _ (asks-leaves now _ _)) (steady-ready l ds s k)
@@ -149,8 +190,20 @@ module _ (l : Limits) (st : State) (now : Progress) (me : CallerNo) (fit : IsFit
   named-shows (call.Keys s) = steady-shows (call.Keys s) (selector-leaves l now s _ (asks-leaves now _ _)) (steady-keys l ds s)
   named-shows (call.Selected s) = steady-shows (call.Selected s) (selector-leaves l now s _ (asks-leaves now _ _)) (steady-selected l ds s)
   named-shows (call.Interrupt target) =
-      steady-shows (call.Interrupt target) (each_if (λ _. ⊤) (λ s. s.left ≡ now) (nat_lt target.0 l.callers) _ (refused now reply.NoCaller) (λ _. asks-leaves now _ _) (λ _. refl)) (steady-interrupt l ds target)
+      steady-shows (call.Interrupt target) (caller-leaves l now target _ (asks-leaves now _ _)) (steady-interrupt l ds target)
   named-shows call.Interrupted = steady-shows call.Interrupted (asks-leaves now _ _) (steady-interrupted l ds me)
+  named-shows (call.Pipe target) =
+      steady-shows (call.Pipe target)
+      (caller-leaves l now target _ (makes-leaves now (pipe_plan l false) _ _ (pipe-leaves now me target)))
+      (steady-pipe l ds me target)
+  named-shows (call.Pwrite c bytes) =
+      steady-shows (call.Pwrite c bytes)
+      (channel-leaves l now c _ (write-leaves l now c bytes (own_sink now me c))) (steady-pwrite l ds me c bytes)
+  named-shows (call.Pread c n) =
+      steady-shows (call.Pread c n)
+      (channel-leaves l now c _ (read-leaves l now c n (own_source now me c))) (steady-pread l ds me c n)
+  named-shows (call.Group g) =
+      steady-shows (call.Group g) (record { selection = refl; closing = refl }) (steady-group l ds g)
 
   line-shows : (word : Call) → Shows (perform me (line_plan l now me word) st)
   unfolding line_plan

@@ -1,23 +1,28 @@
 -- The documented calls that begin and end nothing: they leave turns and closings as they are.
-use Rattle.std.proofs.Common.{◌≡◌, ℕ, nat_lt, Bool, cond, not, ◌&&◌, Option, Some, None, find, refl}
+use Rattle.std.proofs.Common.{◌≡◌, ℕ, ◌==◌, nat_lt, Bool, true, false, cond, not, ◌&&◌, Option, Some, None, List, [], ◌∷◌, length, find, refl}
 use Rattle.nio_base.specs.declared.kind.Kind.{Kind}
+use Rattle.nio_base.specs.declared.kind.Kind.TheVariants.{Source}
 use Rattle.nio_base.specs.declared.limits.Limits.{Limits}
 use Rattle.nio_base.specs.declared.numbers.CallerNo.{CallerNo}
 use Rattle.nio_base.specs.declared.numbers.ChanNo.{ChanNo}
 use Rattle.nio_base.specs.declared.numbers.KeyId.{KeyId}
 use Rattle.nio_base.specs.declared.numbers.SelNo.{SelNo}
 use Rattle.nio_event.specs.Sets.{fits, was_published, is_valid_key}
+use Rattle.nio_event.specs.declared.group_call.GroupCall.{GroupCall}
 use Rattle.nio_event.specs.declared.reply.Reply.{Reply}
 use Rattle.nio_event.specs.declared.reply.Reply.TheVariants as reply
 use Rattle.nio_plain.proofs.ReachedSound.{by_test}
-use Rattle.nio_plain.specs.ScriptState.{ScriptState}
-use Rattle.nio_plain.specs.Seq.Answers.{Answered, unchanged}
-use Rattle.nio_plain.specs.Seq.Cancelling.{closec_call, cancel_call}
+use Rattle.nio_plain.specs.ScriptState.{Pipe, ScriptState, with_pipes}
+use Rattle.nio_plain.specs.Seq.Answers.{Answered, unchanged, answered}
+use Rattle.nio_plain.specs.Seq.Cancelling.{channel_closed, closec_call, cancel_call}
+use Rattle.nio_plain.specs.Seq.Grouping.{group_call}
 use Rattle.nio_plain.specs.Seq.Keys.{with_valid_key, are_legal_at, is_in_selected_set, valid_call, interest_call, ready_call, iset_call, ior_call, iand_call, unselect_call, attach_call, attachment_call}
 use Rattle.nio_plain.specs.Seq.Listing.{keys_call, selected_call}
 use Rattle.nio_plain.specs.Seq.Modes.{is_registered, blocking_call, is_blocking_call, is_open_call, is_registered_call, key_of, key_for_call}
 use Rattle.nio_plain.specs.Seq.Names.{below, with_named_channel, with_named_selector, with_named_key}
-use Rattle.nio_plain.specs.Seq.Opening.{selector_made, selector_call, channel_made, channel_call}
+use Rattle.nio_plain.specs.Seq.Opening.{selector_made, selector_call, next_channel, channel_made, channel_call}
+use Rattle.nio_plain.specs.Seq.Pipes.{own_source, own_sink, pipe_at, marked_pipes, marking}
+use Rattle.nio_plain.specs.Seq.Piping.{with_sink, with_source, pipe_call, finds_interrupt, not_now, read_first, read_from, pread_call, room_for, write_first, write_to, pwrite_call}
 use Rattle.nio_plain.specs.Seq.Registering.{are_legal, given_or_none, next_key, registered, registered_new, register_call}
 use Rattle.nio_plain.specs.Seq.Wakeups.{wakeup_call, interrupt_call, interrupted_call}
 
@@ -53,6 +58,21 @@ module _ (l : Limits) (st : ScriptState) where
   valid_key s k a h =
       let valid = is_valid_key (st.shared.key s.0 k.index) k.serial in
       named_key s k (cond valid a (unchanged st reply.CancelledKey)) (allowed valid reply.CancelledKey a h)
+
+  -- a change of the pipes alone
+  piped : (a : Answered) (r : Reply) (pipes : List Pipe) → IsSteady st a
+      → IsSteady st (record { reply = r; left = with_pipes a.left pipes })
+  piped a r pipes h = record { turn = h.turn; begun = h.begun; closer = h.closer; entered = h.entered }
+
+  marks : (place : Option ℕ) (a : Answered) → IsSteady st a → IsSteady st (marking place a)
+  marks place a h = piped a a.reply (marked_pipes place a.left.pipes) h
+
+  -- a channel is closed
+  closes : (c : ℕ) (r : Reply) → IsSteady st (answered st r (channel_closed st.shared c))
+  closes c r = record { turn = refl; begun = refl; closer = refl; entered = refl }
+
+  both : (test : Bool) (a b : Answered) → IsSteady st a → IsSteady st b → IsSteady st (cond test a b)
+  both test a b h k = by_test (IsSteady st) test a b (λ _. h) (λ _. k)
 
   pub steady-selector : IsSteady st (selector_call l st)
   unfolding selector_call
@@ -110,7 +130,9 @@ module _ (l : Limits) (st : ScriptState) where
 
   pub steady-closec : (me : CallerNo) (c : ChanNo) → IsSteady st (closec_call st me c)
   unfolding closec_call
-  steady-closec me c = named_channel c _ (denied (st.shared.chan c.0).closed reply.Already _ (record { turn = refl; begun = refl; closer = refl; entered = refl }))
+  steady-closec me c =
+      named_channel c _ (marks (own_sink st me c) _
+      (denied (st.shared.chan c.0).closed reply.Already _ (closes c.0 reply.«Ok»)))
 
   pub steady-valid : (s : SelNo) (k : KeyId) → IsSteady st (valid_call st s k)
   unfolding valid_call
@@ -171,3 +193,56 @@ module _ (l : Limits) (st : ScriptState) where
   pub steady-interrupted : (me : CallerNo) → IsSteady st (interrupted_call st me)
   unfolding interrupted_call
   steady-interrupted me = record { turn = refl; begun = refl; closer = refl; entered = refl }
+
+  -- ---- pipes
+
+  steady_sink : (me target : CallerNo) (source : ℕ) (o : Option ℕ)
+      → IsSteady st (with_sink (channel_made st Source (Some source)).left me target source o)
+  steady_sink me target source None = record { turn = refl; begun = refl; closer = refl; entered = refl }
+  steady_sink me target source (Some sink) = record { turn = refl; begun = refl; closer = refl; entered = refl }
+
+  steady_source : (me target : CallerNo) (o : Option ℕ) → IsSteady st (with_source l st me target o)
+  steady_source me target None = same reply.ChannelsSpent
+  steady_source me target (Some source) =
+      steady_sink me target source (next_channel l (channel_made st Source (Some source)).left)
+
+  pub steady-pipe : (me target : CallerNo) → IsSteady st (pipe_call l st me target)
+  unfolding pipe_call
+  steady-pipe me target = allowed (nat_lt target.0 l.callers) reply.NoCaller _ (steady_source me target (next_channel l st))
+
+  steady_first : (blocking : Bool) (n i : ℕ) (waiting : List ℕ) (marked : Bool)
+      → IsSteady st (read_first st blocking n i waiting marked)
+  steady_first blocking n i [] false = same (not_now blocking)
+  steady_first blocking n i [] true = same reply.End
+  steady_first blocking n i (b ∷ bytes) marked = piped (unchanged st reply.End) _ _ (same reply.End)
+
+  steady_read : (me : CallerNo) (c : ChanNo) (n : ℕ) (place : Option ℕ) → IsSteady st (read_from st me c n place)
+  steady_read me c n None = same reply.NotOwner
+  steady_read me c n (Some i) =
+      both (st.shared.chan c.0).closed _ _ (same _)
+      (both (finds_interrupt st me c) _ _ (closes c.0 _)
+      (both (n == 0) _ _ (same _)
+      (steady_first (st.shared.chan c.0).blocking n i (pipe_at st i).waiting (pipe_at st i).marked)))
+
+  pub steady-pread : (me : CallerNo) (c : ChanNo) (n : ℕ) → IsSteady st (pread_call st me c n)
+  unfolding pread_call
+  steady-pread me c n = named_channel c _ (steady_read me c n (own_source st me c))
+
+  steady_room : (blocking : Bool) (bytes : List ℕ) (i n : ℕ) → IsSteady st (write_first st blocking bytes i n)
+  steady_room blocking bytes i n = both (n == 0) _ _ (same _) (piped (unchanged st reply.End) _ _ (same reply.End))
+
+  steady_write : (me : CallerNo) (c : ChanNo) (bytes : List ℕ) (place : Option ℕ) → IsSteady st (write_to st me c bytes place)
+  steady_write me c bytes None = same reply.NotOwner
+  steady_write me c bytes (Some i) =
+      both (st.shared.chan c.0).closed _ _ (marks (Some i) _ (same reply.ClosedChannel))
+      (both (finds_interrupt st me c) _ _ (marks (Some i) _ (closes c.0 reply.ClosedByInterrupt))
+      (both (st.shared.chan (pipe_at st i).source.0).closed _ _ (same _)
+      (both (length bytes == 0) _ _ (same _)
+      (steady_room (st.shared.chan c.0).blocking bytes i (room_for bytes (pipe_at st i))))))
+
+  pub steady-pwrite : (me : CallerNo) (c : ChanNo) (bytes : List ℕ) → IsSteady st (pwrite_call st me c bytes)
+  unfolding pwrite_call
+  steady-pwrite me c bytes = named_channel c _ (steady_write me c bytes (own_sink st me c))
+
+  pub steady-group : (g : GroupCall) → IsSteady st (group_call st g)
+  steady-group g = record { turn = refl; begun = refl; closer = refl; entered = refl }

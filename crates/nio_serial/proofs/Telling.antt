@@ -89,6 +89,8 @@ failed-amounts st now me x none_due = λ j. record {
   left = record {
     shared = settled_state (record (with_begun (with_turn st x.selector.0 None) x.selector.0 false) { put_due = λ t i. sym (no_longer (t == x.selector.0) (st.put_due t i) (none_due t i)) j });
     selection = sym (put-under (λ _ o. option_map (λ y. shown y.selection) o) now.selection x.selector.0 None) j;
+    group = now.group;
+    pipes = now.pipes;
   };
 }
 
@@ -260,6 +262,8 @@ module _ (st : State) (now : Progress) (me : CallerNo) (x : Selection) (pairs : 
         left = record {
           shared = sym ended-is j;
           selection = sym (put-under (λ _ o. option_map (λ y. shown y.selection) o) now.selection s None) j;
+          group = now.group;
+          pipes = now.pipes;
         };
       })
       ∙ sym (ap F (ending-performed (record { count = count; why = why_over x.mode count gate interrupted }))))
