@@ -31,7 +31,7 @@ use Rattle.nio_sole.proofs.Memory.{stays_along, begin_memory_stays, keys_memory_
 use Rattle.nio_sole.proofs.Others.{call_made}
 use Rattle.nio_sole.proofs.ValueSets.{reply_set, script_set}
 use Rattle.nio_sole.specs.Made.{HasMade}
-use Rattle.nio_sole.specs.Makes.{Makes, MakesCall, Lacks, Want, begin_unmade, begin_refused, told_unmade, keys_refused, keys_unsaid, selected_refused, selected_unsaid, pipe_unmade, read_unmade, word_of, want_plan}
+use Rattle.nio_sole.specs.Makes.{Makes, MakesCall, Lacks, Want, begin_unmade, begin_refused, told_unmade, keys_refused, keys_unsaid, selected_refused, selected_unsaid, pipe_unmade, read_unmade, group_unmade, word_of, want_plan}
 use Rattle.nio_sole.specs.Said.{state_at, SaysLine}
 use Rattle.nio_sole.specs.Stands.{progress_of, Stands}
 use Rattle.nio_sole.specs.declared.desk.Desk.{Desk}
@@ -91,7 +91,6 @@ stands_after w d d' me plan r stands made after = record {
   fit = stands.fit;
   ready = λ n below. ready_after w d.pass d'.pass me n _ made.call.acts made.ready.pass (stands.ready n below);
   places = made.places;
-  group = made.group stands.group;
   between = ∥∥₁_map after (λ are. are.between);
   made = ∥∥₁_map after (λ are. are.made);
 }
@@ -165,6 +164,7 @@ module _ (me : CallerNo) (now : Progress) (v0 v1 : PassView) (fit : IsFit v0.lim
   wanted (selected_unsaid s) run = unsaid (call.Selected s) (selected-same v0.limits (documented (known v0) now) me s) run
   wanted (pipe_unmade target) run = unmade (call.Pipe target) reply.ChannelsSpent run
   wanted (read_unmade c n) run = unmade (call.Pread c n) reply.Busy run
+  wanted (group_unmade g) run = unmade (call.Group g) reply.Busy run
 
 lacks_said : (w : Words) (d d' : Desk) (me : CallerNo) (word : Call) (e : AllocError) → Stands w d → nat_lt me.0 (limits_of w).callers ≡ true
     → Lacks (if_named (limits_of w) (progress_of d) word) w d d' me word → SaysLine w d d' me word (Err e)

@@ -1,12 +1,9 @@
 -- From the look-ups of a line and its call to the line.
-use Rattle.std.proofs.Common.{◌≡◌, Option, None, Some, Result, Ok, Err, List, sym, subst}
+use Rattle.std.proofs.Common.{Option, None, Some, Result, Ok, Err, List, sym, subst}
 use Rattle.std.proofs.Math.Logic.{∥∥₁_map}
-use Rattle.std.specs.Prelude.{IsSome}
 use Rattle.std.specs.declared.alloc.AllocError.{AllocError}
 use Rattle.nio_base.specs.declared.numbers.CallerNo.{CallerNo}
 use Rattle.nio_event.specs.declared.call.Call.{Call}
-use Rattle.nio_event.specs.declared.call.Call.TheVariants as call
-use Rattle.nio_event.specs.declared.group_call.GroupCall.{GroupCall}
 use Rattle.nio_event.specs.declared.reply.Reply.{Reply}
 use Rattle.nio_event.specs.declared.reply.Reply.TheVariants as reply
 use Rattle.nio_serial.specs.Documented.{Progress}
@@ -44,12 +41,11 @@ made_after w p q me word now finds made =
     (made_along (limits_of w) me now _ (acts_seen p me) _ (record { reply = reply.Busy; left = now }) (leads_named (limits_of w) me now word (refused now reply.Busy) (leads_refused (limits_of w) me now reply.Busy)) made call.shape)
 
 pub may_make_named : (w : Words) (d : Desk) (q : Pass) (me : CallerNo) (word : Call) → FindsNames w d.pass q me word None → HasPlaces w d
-    → ((g : GroupCall) → word ≡ call.Group g → IsSome d.group) → ∥ HasMade (limits_of w) (acts_seen d.pass me) me (progress_of d) ∥₁
+    → ∥ HasMade (limits_of w) (acts_seen d.pass me) me (progress_of d) ∥₁
     → MayMake w (record d { pass = q }) me word
-may_make_named w d q me word finds places group made = record {
+may_make_named w d q me word finds places made = record {
   ask = record { ready = finds.ready; unpinned = finds.unpinned; named = finds.named };
   places = places_same (looked_up w d.pass q me word (progress_of d) finds) places;
-  group = group;
   made = ∥∥₁_map made (made_after w d.pass q me word (progress_of d) finds);
 }
 
@@ -59,7 +55,7 @@ missing_made w d q me word missing finds places =
     let call : CallClause me (Completes (if_named (limits_of w) (progress_of d) word (call_plan (limits_of w) (progress_of d) me word)))
     (view w d.pass) (view w q) (record { reply = missing; left = progress_of d })
     = returned (finds.call (progress_of d) (call_plan (limits_of w) (progress_of d) me word)) in
-    record { call = call; ready = finds.ready; places = places_same call places; group = λ some. some }
+    record { call = call; ready = finds.ready; places = places_same call places }
 
 named_made : (w : Words) (d d' : Desk) (q : Pass) (me : CallerNo) (word : Call) (plan : Plan Said) (r : Reply) → FindsNames w d.pass q me word None → Makes w (record d { pass = q }) d' me plan r
     → Makes w d d' me (if_named (limits_of w) (progress_of d) word plan) r
@@ -67,7 +63,6 @@ named_made w d d' q me word plan r finds made = record {
   call = returned (left_more (finds.call (progress_of d) plan) (left_of_call made.call));
   ready = made.ready;
   places = made.places;
-  group = made.group;
 }
 
 pub line_made_of : (w : Words) (d d' : Desk) (q : Pass) (me : CallerNo) (word : Call) (result : Result Reply AllocError) → FindsNames w d.pass q me word None

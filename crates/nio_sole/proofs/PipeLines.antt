@@ -4,7 +4,8 @@ use Rattle.std.proofs.lemmas.Bool.{and_parts, eqb-true}
 use Rattle.std.proofs.lemmas.List.{map-append}
 use Rattle.std.proofs.lemmas.List.Elements.{All-append, All-cons, All-get_or, All-nil, All-set}
 use Rattle.std.proofs.lemmas.List.Quantifiers.{position-Some}
-use Rattle.std.specs.Prelude.{IsSome, Vec}
+use Rattle.std.specs.Prelude.{IfOk, OnErr, Vec}
+use Rattle.std.specs.declared.alloc.AllocError.{AllocError}
 use Rattle.std.specs.declared.alloc.Global.{Global}
 use Rattle.nio_base.specs.declared.limits.Limits.{Limits}
 use Rattle.nio_base.specs.declared.numbers.CallerNo.{CallerNo}
@@ -29,7 +30,7 @@ use Rattle.nio_serial.specs.Replies.{closed_reply, ends_reply}
 use Rattle.nio_sole.proofs.Asking.{makes_ran, refused_at, replied_as}
 use Rattle.nio_sole.proofs.Desks.{left_as, places_same, still_made}
 use Rattle.nio_sole.proofs.Piping.{shown_at, shown_set, with_held}
-use Rattle.nio_sole.specs.Makes.{Lacks, Makes, MayMake, Want, want_plan, word_of}
+use Rattle.nio_sole.specs.Makes.{Lacks, Makes, MakesCall, MayMake, Want}
 use Rattle.nio_sole.specs.Stands.{AreMade, HasPlaces, group_of, pipe_of, pipes_of, progress_of}
 use Rattle.nio_sole.specs.declared.desk.Desk.{Desk}
 use Rattle.nio_sole.specs.declared.desk.OwnedPipe.{OwnedPipe}
@@ -47,25 +48,43 @@ use Rattle.nio_words.specs.declared.words.Words.{Words}
 
 -- ---- the group
 
-pub group_made : (w : Words) (d : Desk) (me : CallerNo) (g : GroupCall) (group : Option Group) (r : Reply) → MayMake w d me (call.Group g)
-    → r ≡ group_reply (group_of d.group) g → group_of group ≡ group_left (group_of d.group) g → IsSome group
-    → Makes w d (record d { group = group }) me (call_plan (limits_of w) (progress_of d) me (call.Group g)) r
+places_group : {w : Words} {d : Desk} {group : Option Group} → HasPlaces w d → HasPlaces w (record d { group = group })
+places_group places = record {
+  selections = places.selections;
+  closings = places.closings;
+  selects = places.selects;
+  closes = places.closes;
+  pipes = places.pipes;
+}
+
+pub group_called : (w : Words) (d : Desk) (me : CallerNo) (g : GroupCall) (group : Option Group) (result : Result Reply AllocError)
+    → MayMake w d me (call.Group g)
+    → IfOk result (λ r. r ≡ group_reply (group_of d.group) g) → IfOk result (λ _. group_of group ≡ group_left (group_of d.group) g)
+    → OnErr result (group ≡ d.group)
+    → MakesCall (λ plan. plan) w d (record d { group = group }) me (call.Group g) result
 unfolding call_plan
-group_made w d me g group r may says leaves some =
+group_called w d me g group (Ok r) may says leaves memory =
     let now = progress_of d in
     let left : Progress = record now { group = group_left now.group g } in
     let said = refused_at left (group_reply now.group g) (view w d.pass) may.ask.ready.pass.legal in
     record {
       call = replied_as (left_as said (ap (λ (x : Group). record now { group = x }) (sym leaves))) says;
       ready = may.ask.ready;
-      places = record {
-        selections = may.places.selections;
-        closings = may.places.closings;
-        selects = may.places.selects;
-        closes = may.places.closes;
-        pipes = may.places.pipes;
+      places = places_group may.places;
+    }
+group_called w d me g group (Err e) may says leaves memory =
+    let now = progress_of d in
+    let same = ap (λ (x : Option Group). record now { group = group_of x }) (sym memory) in
+    record {
+      want = Want.group_unmade g;
+      is = refl;
+      r = reply.Busy;
+      makes = record {
+        call = left_as (refused_at now reply.Busy (view w d.pass) may.ask.ready.pass.legal) same;
+        ready = may.ask.ready;
+        places = places_group may.places;
       };
-      group = λ _. some;
+      same = sym same;
     }
 
 -- ---- a desk's pipes
@@ -163,7 +182,6 @@ read_none w d me c n may none = record {
   call = read_by (limits_of w) (progress_of d) c n (own_source_is d me c None none) (refused_at (progress_of d) reply.NotOwner (view w d.pass) may.ask.ready.pass.legal);
   ready = may.ask.ready;
   places = may.places;
-  group = λ some. some;
 }
 
 pub read_made : (w : Words) (d : Desk) (q : Pass) (me : CallerNo) (c : ChanNo) (n i : ℕ) (x x' : OwnedPipe) (pipes : Vec OwnedPipe Global) (found : Result Bool PipeError) (r : Reply)
@@ -187,7 +205,6 @@ read_made w d q me c n i x x' pipes found r may at is ran ready items source sin
       ready = ready;
       places = places_pipes may.places (subst (AreMade (view w q)) (sym items)
           (made_set (view w q) d.pipes.items i x x' (still_made may.places call) here.0 is source sink));
-      group = λ some. some;
     }
 
 pub write_none : (w : Words) (d : Desk) (me : CallerNo) (c : ChanNo) (bytes : List ℕ) → MayMake w d me (call.Pwrite c bytes) → IsSinkAt d me c None
@@ -197,7 +214,6 @@ write_none w d me c bytes may none = record {
   call = write_by (limits_of w) (progress_of d) c bytes (own_sink_is d me c None none) (refused_at (progress_of d) reply.NotOwner (view w d.pass) may.ask.ready.pass.legal);
   ready = may.ask.ready;
   places = may.places;
-  group = λ some. some;
 }
 
 pub write_made : (w : Words) (d : Desk) (q : Pass) (me : CallerNo) (c : ChanNo) (bytes : List ℕ) (i : ℕ) (x x' : OwnedPipe) (pipes : Vec OwnedPipe Global) (found : Result Bool PipeError) (r : Reply)
@@ -223,7 +239,6 @@ write_made w d q me c bytes i x x' pipes found r may at is ran ready items sourc
       ready = ready;
       places = places_pipes may.places (subst (AreMade (view w q)) (sym items)
           (made_set (view w q) d.pipes.items i x x' (still_made may.places call) here.0 is source sink));
-      group = λ some. some;
     }
 
 -- ---- closing
@@ -238,7 +253,6 @@ close_none w d q me c closes may none ran ready =
       call = left_as (makes_ran closed_reply (λ _. with_mark now (own_sink now me c)) ran) (ap (with_mark now) (own_sink_is d me c None none));
       ready = ready;
       places = places_same ran may.places;
-      group = λ some. some;
     }
 
 pub close_made : (w : Words) (d : Desk) (q : Pass) (me : CallerNo) (c : ChanNo) (i : ℕ) (x : OwnedPipe) (pipes : Vec OwnedPipe Global) (closes : Bool) → MayMake w d me (call.Closec c)
@@ -263,7 +277,6 @@ close_made w d q me c i x pipes closes may at is ran ready items =
       ready = ready;
       places = places_pipes may.places (subst (AreMade (view w q)) (sym items)
           (made_set (view w q) d.pipes.items i x x' (still_made may.places call) here.0 is refl refl));
-      group = λ some. some;
     }
 
 -- ---- making
@@ -291,7 +304,6 @@ pipe_made w d q me target pipe pipes may ran ready ends empty items =
       ready = ready;
       places = places_pipes may.places (subst (AreMade (view w q)) (sym items)
           (All-append (AreEnds (view w q)) d.pipes.items (x ∷ []) (still_made may.places ran) (All-cons (AreEnds (view w q)) x [] ends (All-nil (AreEnds (view w q))))));
-      group = λ some. some;
     }
 
 -- the room was taken, and no pipe was made
@@ -306,7 +318,6 @@ pipe_refused w d q me target pipes may ran ready items =
       call = left_as (makes_ran ends_reply (after_pipe now me target) call) (ap (λ (xs : List OwnedPipe). record now { pipes = pipes_of xs }) (sym items));
       ready = ready;
       places = places_pipes may.places (subst (AreMade (view w q)) (sym items) (still_made may.places ran));
-      group = λ some. some;
     }
 
 -- the room was taken, and there was no memory for the pipe
@@ -326,7 +337,6 @@ pipe_lacks w d q me target pipes may ran ready items =
         call = left_as (makes_ran ends_reply (after_pipe now me target) call) same;
         ready = ready;
         places = places_pipes may.places (subst (AreMade (view w q)) (sym items) (still_made may.places ran));
-        group = λ some. some;
       };
       same = sym same;
     }
@@ -345,7 +355,6 @@ pipe_unplaced w d me target pipes may items =
         call = left_as (refused_at now reply.ChannelsSpent (view w d.pass) may.ask.ready.pass.legal) same;
         ready = may.ask.ready;
         places = places_pipes may.places (subst (AreMade (view w d.pass)) (sym items) may.places.pipes);
-        group = λ some. some;
       };
       same = sym same;
     }
@@ -359,7 +368,6 @@ read_lacks w d me c n may = record {
     call = refused_at (progress_of d) reply.Busy (view w d.pass) may.ask.ready.pass.legal;
     ready = may.ask.ready;
     places = may.places;
-    group = λ some. some;
   };
   same = refl;
 }

@@ -32,5 +32,4 @@ asked_by {w = w} {d = d} {q = q} {me = me} {r = r} is places asked =
       call = asked.call (progress_of d);
       ready = asked.ready;
       places = places_same (asked.call (progress_of d)) places;
-      group = λ some. some;
     })

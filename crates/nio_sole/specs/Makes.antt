@@ -1,5 +1,5 @@
 -- The calls of lines on a desk.
-use Rattle.std.specs.Prelude.{◌≡◌, ℕ, Bool, true, false, IsSome, List, Result, Ok, Err}
+use Rattle.std.specs.Prelude.{◌≡◌, ℕ, Bool, true, false, List, Result, Ok, Err}
 use Rattle.std.specs.declared.alloc.AllocError.{AllocError}
 use Rattle.nio_base.specs.declared.numbers.CallerNo.{CallerNo}
 use Rattle.nio_base.specs.declared.numbers.ChanNo.{ChanNo}
@@ -27,19 +27,17 @@ use Rattle.nio_words.specs.Passes.{IsReady, limits_of, acts_seen}
 use Rattle.nio_words.specs.Views.{view}
 use Rattle.nio_words.specs.declared.words.Words.{Words}
 
--- the caller may make this call with the desk, once its names are found; a call on the group needs that there is one
+-- the caller may make this call with the desk, once its names are found
 pub record MayMake (w : Words) (d : Desk) (me : CallerNo) (word : Call) : Type 0 where
   pub ask : MayAsk w d.pass me word
   pub places : HasPlaces w d
-  pub group : (g : GroupCall) → word ≡ call.Group g → IsSome d.group
   pub made : ∥ HasMade (limits_of w) (acts_seen d.pass me) me (progress_of d) ∥₁
 
--- it made a whole run of the plan, to this reply; a desk that has a group keeps it
+-- it made a whole run of the plan, to this reply
 pub record Makes (w : Words) (old new : Desk) (me : CallerNo) (plan : Plan Said) (r : Reply) : Type 0 where
   pub call : CallClause me (Completes plan) (view w old.pass) (view w new.pass) (record { reply = r; left = progress_of new })
   pub ready : IsReady w new.pass me
   pub places : HasPlaces w new
-  pub group : IsSome old.group → IsSome new.group
 
 -- ---- want of memory
 
@@ -55,6 +53,7 @@ pub data Want : Type 0 where
   selected_unsaid : SelNo → Want
   pipe_unmade : CallerNo → Want
   read_unmade : ChanNo → ℕ → Want
+  group_unmade : GroupCall → Want
 
 abbrev pub word_of : Want → Call
 word_of (begin_unmade s waiting) = call.Begin s waiting
@@ -66,6 +65,7 @@ word_of (selected_refused s) = call.Selected s
 word_of (selected_unsaid s) = call.Selected s
 word_of (pipe_unmade target) = call.Pipe target
 word_of (read_unmade c n) = call.Pread c n
+word_of (group_unmade g) = call.Group g
 
 abbrev pub want_plan : Progress → Want → Plan Said
 want_plan now (begin_unmade s waiting) = refused now reply.Busy
@@ -77,6 +77,7 @@ want_plan now (selected_refused s) = asks now (selected_keys_plan s true) list_r
 want_plan now (selected_unsaid s) = asks now (selected_keys_plan s false) list_reply
 want_plan now (pipe_unmade target) = refused now reply.ChannelsSpent
 want_plan now (read_unmade c n) = refused now reply.Busy
+want_plan now (group_unmade g) = refused now reply.Busy
 
 -- the line lacks memory, and leaves what is in progress as it was
 pub record Lacks (around : Plan Said → Plan Said) (w : Words) (old new : Desk) (me : CallerNo) (word : Call) : Type 0 where

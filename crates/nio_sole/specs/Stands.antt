@@ -1,5 +1,5 @@
 -- What a desk has in progress, and what holds of a desk between two lines.
-use Rattle.std.specs.Prelude.{◌≡◌, ℕ, ◌<◌, Option, Some, None, IsSome, option_map, All, List, map, vec_len}
+use Rattle.std.specs.Prelude.{◌≡◌, ℕ, ◌<◌, Option, Some, None, option_map, All, List, map, vec_len}
 use Rattle.std.specs.List.{slice_index_or}
 use Rattle.nio_base.specs.Limits.{IsFit}
 use Rattle.nio_base.specs.declared.numbers.CallerNo.{CallerNo}
@@ -32,7 +32,7 @@ selections_of selections s = option_map selecting_of (slot selections s)
 abbrev pub closings_of : List (Option Shut) → ℕ → Option CallerNo
 closings_of closings s = option_map (λ x. x.caller) (slot closings s)
 
--- a desk without a group shows one on which nothing was done
+-- the group is made at the first call on it: before, it shows as one on which nothing was done
 abbrev pub group_of : Option Group → Group
 group_of None = empty_group group_limits
 group_of (Some group) = group
@@ -73,12 +73,11 @@ pub record HasPlaces (w : Words) (d : Desk) : Type 0 where
   pub closes : (s : ℕ) (x : Shut) → slot d.closings.items s ≡ Some x → x.closing.0 ≡ s
   pub pipes : AreMade (view w d.pass) d.pipes.items
 
--- Between two lines. The desk has a group. Its pass acts for each caller, so that nothing happens but by it; no call is
--- at work; each caller made whole calls, and has in progress what the desk shows.
+-- Between two lines. The desk's pass acts for each caller, so that nothing happens but by it; no call is at work; each
+-- caller made whole calls, and has in progress what the desk shows.
 pub record Stands (w : Words) (d : Desk) : Type 0 where
   pub fit : IsFit (limits_of w)
   pub ready : (n : CallerNo) → n.0 < (limits_of w).callers → IsReady w d.pass n
   pub places : HasPlaces w d
-  pub group : IsSome d.group
   pub between : ∥ IsBetween (limits_of w) (state_seen d.pass) (progress_of d) ∥₁
   pub made : ∥ ((n : CallerNo) → HasMade (limits_of w) (acts_seen d.pass n) n (progress_of d)) ∥₁

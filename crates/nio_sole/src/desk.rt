@@ -32,8 +32,8 @@ pub struct OwnedPipe {
 }
 
 /// A pass, which acts for one or more callers; what they have in progress, by the selector's number: there is a
-/// place for each selector; their group, and their pipes in the order in which they were made. A desk on which no
-/// call is made on the group needs none.
+/// place for each selector; their group, once a call was made on it; and their pipes, in the order in which they were
+/// made.
 pub struct Desk {
     pub pass: Pass,
     pub selections: Vec<Option<Begun>>,

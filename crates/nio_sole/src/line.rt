@@ -1,7 +1,6 @@
 //! A line of a script: its look-ups, and its call by its word.
-ghost use Rattle.std.specs.Prelude.{◌≡◌, ◌<◌, IsSome};
+ghost use Rattle.std.specs.Prelude.{◌<◌};
 ghost use Rattle.nio_event.specs.PassViews.{HasNoPin};
-ghost use Rattle.nio_event.specs.declared.group_call.GroupCall.{GroupCall};
 ghost use Rattle.nio_serial.specs.Lines.{if_named};
 ghost use Rattle.nio_sole.specs.Made.{HasMade};
 ghost use Rattle.nio_sole.specs.Makes.{MayMake, MakesCall};
@@ -48,7 +47,7 @@ pub fn say_line(
 }
 
 /// A line of a caller below the limit, on a desk whose pass acts for it. Other callers may make steps between its
-/// own. A line on the group needs a desk that has one.
+/// own.
 pub fn make_line(
     alloc: Global,
     w: &Words,
@@ -59,7 +58,6 @@ pub fn make_line(
     requires ready { IsReady w.now d.old.pass me }
     requires unpinned { HasNoPin (view w.now d.old.pass) me }
     requires places { HasPlaces w.now d.old }
-    requires group { (g : GroupCall) → call.now ≡ Call.Group g → IsSome d.old.group }
     requires made { ∥ HasMade (limits_of w.now) (acts_seen d.old.pass me) me (progress_of d.old) ∥₁ }
     ensures { MakesCall (if_named (limits_of w.now) (progress_of d.old) call.now) w.now d.old d.new me call.now result }
 {
@@ -115,6 +113,6 @@ fn call_of(
         Call::Pipe(target) => pipe(alloc, w, d, me, *target),
         Call::Pwrite(chan, bytes) => pwrite(w, d, me, *chan, bytes),
         Call::Pread(chan, most) => pread(alloc, w, d, me, *chan, *most),
-        Call::Group(call) => Ok(call_group(&mut d.group, *call)),
+        Call::Group(call) => call_group(alloc, &mut d.group, *call),
     }
 }

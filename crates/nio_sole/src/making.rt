@@ -1,8 +1,7 @@
 //! The beginning of a `Sole`: all numbers are drawn, and nothing is in progress.
 ghost use Rattle.std.specs.Prelude.{◌≡◌, ◌+◌, ◌<◌, ◌≤◌, ◌++◌, [], ◌∷◌, None, IfOk, OnErr, vec_len};
 ghost use Rattle.std.specs.Vec.{vec_capacity};
-ghost use Rattle.nio_group.specs.Group.{empty_group};
-ghost use Rattle.nio_plain.specs.ScriptState.{group_limits, script_opening};
+ghost use Rattle.nio_plain.specs.ScriptState.{script_opening};
 ghost use Rattle.nio_serial.specs.Documented.{nothing_yet};
 ghost use Rattle.nio_serial.specs.Serial.{history_of};
 ghost use Rattle.nio_sole.specs.Drawn.{AreAllDrawn, AreEmpty, HasDrawn, draws};
@@ -14,8 +13,6 @@ use crate::desk::{
     Begun, Desk, Shut, forget_closing, forget_closings, forget_selection, forget_selections,
 };
 use nio_base::CallerNo;
-use nio_group::GroupCore;
-use nio_plain::GROUP_LIMITS;
 use nio_words::{Pass, Words};
 use std::alloc::{AllocError, Global};
 use std::mem;
@@ -32,9 +29,8 @@ pub fn open_desk(alloc: Global, w: &Words, p: &mut Pass) -> Result<Desk, AllocEr
     ensures idle { IfOk result (λ d. progress_of d ≡ nothing_yet) }
     ensures memory { OnErr result (p.new ≡ p.old) }
 {
-    let group = GroupCore::make(alloc, GROUP_LIMITS)?;
     let (selections, closings) = no_progress(alloc, w.limits().selectors)?;
-    open_with(alloc, w, p, selections, closings, group)
+    open_with(alloc, w, p, selections, closings)
 }
 
 /// Places for so many selectors, with nothing in progress.
@@ -60,12 +56,10 @@ fn open_with(
     p: &mut Pass,
     selections: Vec<Option<Begun>>,
     closings: Vec<Option<Shut>>,
-    group: GroupCore,
 ) -> Result<Desk, AllocError>
     requires first { IsFirstPass w.now p.old }
     requires selections { AreEmpty selections (limits_of w.now).selectors }
     requires closings { AreEmpty closings (limits_of w.now).selectors }
-    requires group { group ≡ empty_group group_limits }
     ensures stands { IfOk result (Stands w.now) }
     ensures opening { IfOk result (λ d. state_at d ≡ script_opening) }
     ensures drawn { IfOk result (λ d. AreAllDrawn (limits_of w.now) (state_seen d.pass)) }
@@ -88,7 +82,7 @@ fn open_with(
                 pass,
                 selections,
                 closings,
-                group: Some(group),
+                group: None,
                 pipes: Vec::new(alloc),
             })
         }

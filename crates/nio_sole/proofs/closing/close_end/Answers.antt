@@ -28,7 +28,6 @@ returns-in-None c =
     record {
       call = left_as (returned (left_else (is_caller c.args.me (now.closing c.args.sel.0)) _ (refused now reply.NotClosing) c.in-None.ensures.taken.1 (left_start c.args.me (refused now reply.NotClosing) (view c.args.w.now c.args.d.now.pass) c.requires.ask.ready.pass.legal))) same;
       ready = c.requires.ask.ready;
-      group = λ some. some;
       places = places_taken c.requires.places c.in-None.ensures.taken.0 c.in-None.ensures.len;
     }
 
@@ -58,7 +57,6 @@ returns-in-Closed c =
       call = left_as (returned (left_then (is_caller c.args.me (now.closing s.0)) _ (refused now reply.NotClosing) (own_closing c.args.me _ c.in-Some.ensures.taken.was) (left_of_call (makes_ran finish_reply (after_finish now s) ran))))
           (sym (progress_closing w d c.try_finish.new.p s c.take_closing.new.closings None c.requires.places c.requires.ask.named.inside c.in-Some.ensures.taken.taken));
       ready = c.in-Closed.ensures.ready;
-      group = λ some. some;
       places = places_closing w d c.try_finish.new.p s c.take_closing.new.closings None c.requires.places c.requires.ask.named.inside c.in-Some.ensures.taken.taken c.in-Some.ensures.len (λ x is. nothing_there is)
           (still_made c.requires.places ran);
     }
@@ -77,7 +75,6 @@ returns-in-Busy c =
       call = left_as (returned (left_then (is_caller c.args.me (now.closing s.0)) _ (refused now reply.NotClosing) (own_closing c.args.me _ c.in-Some.ensures.taken.was) (left_of_call (makes_ran finish_reply (after_finish now s) ran))))
           (sym (progress_put_back w d c.try_finish.new.p s c.take_closing.new.closings c.put_closing.new.closings _ _ c.requires.places c.requires.ask.named.inside c.in-Some.ensures.taken.taken c.in-Some.ensures.len c.put_closing.ensures.items c.in-Some.ensures.taken.was refl));
       ready = c.in-Busy.ensures.ready;
-      group = λ some. some;
       places = places_put_back w d c.try_finish.new.p s c.take_closing.new.closings c.put_closing.new.closings _ c.requires.places c.requires.ask.named.inside c.in-Some.ensures.taken.taken c.in-Some.ensures.len c.put_closing.ensures.items c.put_closing.ensures.len
           (ap (λ (x : SelNo). x.0) (c.in-Busy.ensures.still.0 ∙ same))
           (still_made c.requires.places ran);

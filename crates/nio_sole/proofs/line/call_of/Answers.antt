@@ -1,5 +1,4 @@
-use Rattle.std.proofs.Common.{Ok}
-use Rattle.nio_sole.proofs.PipeLines.{group_made}
+use Rattle.nio_sole.proofs.PipeLines.{group_called}
 use Rattle.nio_sole.proofs.Words.{may_make, may_ask, makes_by, asked_by}
 use Rattle.nio_sole.proofs.line.call_of.Goals as goal
 
@@ -195,11 +194,9 @@ pread-requires c = may_make c.in-Pread.is c.requires
 pub returns-in-Pread : goal.returns-in-Pread
 returns-in-Pread c = makes_by c.args.w.now c.args.d.now c.pread.new.d c.args.me c.pread.result c.in-Pread.is c.pread.ensures
 
-pub call_group-requires : goal.call_group-requires
-call_group-requires c = c.requires.group _ c.in-Group.is
-
 pub returns-in-Group : goal.returns-in-Group
 returns-in-Group c =
     let d = c.args.d.now in
-    makes_by c.args.w.now d (record d { group = c.call_group.new.group }) c.args.me (Ok c.call_group.result) c.in-Group.is
-    (group_made c.args.w.now d c.args.me c.in-Group.call c.call_group.new.group c.call_group.result (may_make c.in-Group.is c.requires) c.call_group.ensures.reply c.call_group.ensures.left c.call_group.ensures.some)
+    makes_by c.args.w.now d (record d { group = c.call_group.new.group }) c.args.me c.call_group.result c.in-Group.is
+    (group_called c.args.w.now d c.args.me c.in-Group.call c.call_group.new.group c.call_group.result (may_make c.in-Group.is c.requires)
+    c.call_group.ensures.reply c.call_group.ensures.left c.call_group.ensures.memory)

@@ -2,7 +2,7 @@ use Rattle.nio_sole.proofs.Named.{may_make_named, missing_made, line_made_of}
 use Rattle.nio_sole.proofs.line.make_line.Goals as goal
 
 pub call_of-requires : goal.call_of-requires
-call_of-requires c = may_make_named c.args.w.now c.args.d.now c.find_names.new.p c.args.me c.args.call.now c.in-None.ensures c.requires.places c.requires.group c.requires.made
+call_of-requires c = may_make_named c.args.w.now c.args.d.now c.find_names.new.p c.args.me c.args.call.now c.in-None.ensures c.requires.places c.requires.made
 
 pub returns-in-Some : goal.returns-in-Some
 returns-in-Some c = missing_made c.args.w.now c.args.d.now c.find_names.new.p c.args.me c.args.call.now c.in-Some.missing c.in-Some.ensures c.requires.places

@@ -11,9 +11,6 @@ make_line-requires-clause-ready c = c.requires.ready c.args.me (search rules)
 pub make_line-requires-clause-unpinned : goal.make_line-requires-clause-unpinned
 make_line-requires-clause-unpinned c = has_no_pin c.args.w.now c.args.d.now c.args.me c.requires
 
-pub make_line-requires-clause-group : goal.make_line-requires-clause-group
-make_line-requires-clause-group c = λ g is. c.requires.group
-
 pub make_line-requires-clause-made : goal.make_line-requires-clause-made
 make_line-requires-clause-made c = has_made c.args.w.now c.args.d.now c.args.me c.requires
 

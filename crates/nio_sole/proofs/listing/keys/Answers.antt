@@ -17,7 +17,6 @@ unfolding call_plan
 returns-in-Ok-ids c = record {
   call = asks_ran list_reply (progress_of c.args.d.now) (lists_ran c.args.sel c.in-Ok.ensures.call) (c.names_or_none.ensures ∙ ap names_or_none (c.in-Ok-ids.ensures ∙ ap (map key_id) c.as_slice.ensures.value));
   ready = c.in-Ok.ensures.ready;
-  group = λ some. some;
   places = places_same c.in-Ok.ensures.call c.requires.places;
 }
 
@@ -29,7 +28,6 @@ returns-in-Ok c = record {
   makes = record {
     call = asks_ran list_reply (progress_of c.args.d.now) (lists_ran c.args.sel c.in-Ok.ensures.call) refl;
     ready = c.in-Ok.ensures.ready;
-    group = λ some. some;
     places = places_same c.in-Ok.ensures.call c.requires.places;
   };
   same = refl;
@@ -43,7 +41,6 @@ returns-in-Err-ClosedSelector c =
     record {
       call = asks_ran list_reply (progress_of c.args.d.now) (lists_ran c.args.sel call) refl;
       ready = c.in-Err-ClosedSelector.ensures.ready;
-      group = λ some. some;
       places = places_same call c.requires.places;
     }
 
@@ -58,7 +55,6 @@ returns c =
       makes = record {
         call = asks_ran list_reply (progress_of c.args.d.now) (lists_ran c.args.sel call) refl;
         ready = c.in-Err-Memory.ensures.ready;
-        group = λ some. some;
         places = places_same call c.requires.places;
       };
       same = refl;

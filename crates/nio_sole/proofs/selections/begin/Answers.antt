@@ -13,6 +13,5 @@ returns-in-None c =
     record {
       call = begin_by now c.args.sel (sym c.in-None.ensures) (refused_at now reply.NegativeTimeout (view c.args.w.now c.args.d.now.pass) c.requires.ask.ready.pass.legal);
       ready = c.requires.ask.ready;
-      group = λ some. some;
       places = c.requires.places;
     }

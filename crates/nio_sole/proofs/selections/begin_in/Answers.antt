@@ -37,7 +37,6 @@ returns-in-Ok c =
           (sym (progress_selection w d c.try_begin.new.p s c.put_selection.new.selections (Some _) c.requires.may.places c.requires.may.ask.named.inside c.put_selection.ensures.items)))
           (ap reply.Looked (c.from_vec.ensures ∙ (c.list_pairs.ensures ∙ ap (map looked_pair) c.asked.ensures)));
       ready = c.in-Ok.ensures.ready;
-      group = λ some. some;
       places = places_selection w d c.try_begin.new.p s c.put_selection.new.selections (Some _) c.requires.may.places c.requires.may.ask.named.inside c.put_selection.ensures.items c.put_selection.ensures.len
           (λ x is. ap (λ (y : Begun). y.selection.selector.0) (some_is is) ∙ ap (λ (x : SelNo). x.0) (begin-parts s c.args.mode _ c.in-Ok.selection begins.shape).selector)
           (still_made c.requires.may.places begins);
@@ -53,7 +52,6 @@ returns-in-Err-ClosedSelector c =
     record {
       call = begin_by now s c.requires.mode (makes_ran begin_reply (after_begin now c.args.me s) (begins_ran s c.args.mode call));
       ready = c.in-Err-ClosedSelector.ensures.ready;
-      group = λ some. some;
       places = places_same call c.requires.may.places;
     }
 
@@ -67,7 +65,6 @@ returns-in-Err-Busy c =
     record {
       call = begin_by now s c.requires.mode (makes_ran begin_reply (after_begin now c.args.me s) (begins_ran s c.args.mode call));
       ready = c.in-Err-Busy.ensures.ready;
-      group = λ some. some;
       places = places_same call c.requires.may.places;
     }
 
@@ -83,7 +80,6 @@ returns c =
       makes = record {
         call = asks_ran begin_reply (progress_of c.args.d.now) (begins_ran s c.args.mode call) refl;
         ready = c.in-Err-Memory.ensures.ready;
-        group = λ some. some;
         places = places_same call c.requires.may.places;
       };
       same = refl;

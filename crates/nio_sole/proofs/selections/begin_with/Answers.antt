@@ -14,7 +14,6 @@ returns-in-Err c = record {
   makes = record {
     call = refused_at (progress_of c.args.d.now) reply.Busy (view c.args.w.now c.args.d.now.pass) c.requires.may.ask.ready.pass.legal;
     ready = c.requires.may.ask.ready;
-    group = λ some. some;
     places = c.requires.may.places;
   };
   same = refl;

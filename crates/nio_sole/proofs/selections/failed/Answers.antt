@@ -20,7 +20,6 @@ returns-in-None c =
       call = left_as (failed_by now c.args.sel c.in-None.ensures.taken.1 (refused_at now reply.NotSelecting (view c.args.w.now c.args.d.now.pass) c.requires.ask.ready.pass.legal))
           (sym (with_selections now (ap selections_of c.in-None.ensures.taken.0)));
       ready = c.requires.ask.ready;
-      group = λ some. some;
       places = places_selection_taken c.requires.places c.in-None.ensures.taken.0 c.in-None.ensures.len;
     }
 
@@ -35,7 +34,6 @@ returns-in-Some c =
       call = left_as (failed_by now s c.in-Some.ensures.taken.1 (makes_ran (λ _. reply.Left) (λ _. with_selection now s None) c.leave.ensures.call))
           (sym (progress_selection w d c.leave.new.p s c.take_selection.new.selections None c.requires.places c.requires.ask.named.inside c.in-Some.ensures.taken.0));
       ready = c.leave.ensures.ready;
-      group = λ some. some;
       places = places_selection w d c.leave.new.p s c.take_selection.new.selections None c.requires.places c.requires.ask.named.inside c.in-Some.ensures.taken.0 c.in-Some.ensures.len (λ x is. nothing_there is)
           (still_made c.requires.places c.leave.ensures.call);
     }

@@ -22,7 +22,6 @@ returns-in-None c =
       call = left_as (told_by now c.args.sel c.args.elapsed c.args.pairs.now c.in-None.ensures.taken.1 (refused_at now reply.NotSelecting (view c.args.w.now c.args.d.now.pass) c.requires.ask.ready.pass.legal))
           (sym (with_selections now (ap selections_of c.in-None.ensures.taken.0)));
       ready = c.requires.ask.ready;
-      group = λ some. some;
       places = places_selection_taken c.requires.places c.in-None.ensures.taken.0 c.in-None.ensures.len;
     }
 
@@ -48,7 +47,6 @@ returns-in-Err c =
       makes = record {
         call = left_as (refused_at (progress_of d) reply.Busy (view w d.pass) c.requires.ask.ready.pass.legal) (sym back);
         ready = c.requires.ask.ready;
-        group = λ some. some;
         places = places_selection_back w d d.pass s c.take_selection.new.selections c.put_selection.new.selections _ c.requires.places c.requires.ask.named.inside c.in-Some.ensures.taken.0 c.in-Some.ensures.len c.put_selection.ensures.items c.put_selection.ensures.len
             (ap (λ (y : SelNo). y.0) (own_on w d c.args.me s x c.requires.places c.in-Some.ensures.taken.1))
             c.requires.places.pipes;
@@ -69,7 +67,6 @@ returns-in-Done c =
       call = left_as (told_by now s c.args.elapsed c.args.pairs.now c.in-Some.ensures.taken.1 (makes_ran told_reply (after_told now s) (tells_ran x _ (by_index x c.args.pairs.now) c.in-Done.ensures.call pairs)))
           (sym (progress_selection w d c.told.new.p s c.take_selection.new.selections None c.requires.places c.requires.ask.named.inside c.in-Some.ensures.taken.0));
       ready = c.in-Done.ensures.ready;
-      group = λ some. some;
       places = places_selection w d c.told.new.p s c.take_selection.new.selections None c.requires.places c.requires.ask.named.inside c.in-Some.ensures.taken.0 c.in-Some.ensures.len (λ y is. nothing_there is)
           (still_made c.requires.places c.in-Done.ensures.call);
     }
@@ -91,7 +88,6 @@ returns c =
           (sym (progress_selection_back w d c.told.new.p c.args.me s c.take_selection.new.selections c.put_selection-in-Again.new.selections _ c.requires.places c.requires.ask.named.inside c.in-Some.ensures.taken.0 c.in-Some.ensures.len c.put_selection-in-Again.ensures.items refl
           (c.in-Some.ensures.taken.1 ∙ ap Some (sym same))));
       ready = c.in-Again.ensures.ready;
-      group = λ some. some;
       places = places_selection_back w d c.told.new.p s c.take_selection.new.selections c.put_selection-in-Again.new.selections _ c.requires.places c.requires.ask.named.inside c.in-Some.ensures.taken.0 c.in-Some.ensures.len c.put_selection-in-Again.ensures.items c.put_selection-in-Again.ensures.len
           (ap (λ (y : Selection). y.selector.0) same ∙ ap (λ (y : SelNo). y.0) (own_on w d c.args.me s x c.requires.places c.in-Some.ensures.taken.1))
           (still_made c.requires.places c.in-Again.ensures.call);
