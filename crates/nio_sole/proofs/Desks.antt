@@ -2,9 +2,10 @@
 use Rattle.std.proofs.Common.{◌≡◌, ℕ, zero, suc, ◌+◌, ◌<◌, [], ◌∷◌, ◌++◌, Option, Some, None, List, length, set, refl, sym, ap, ◌∙◌, subst, ⊎_elim, arith, vec_len, true, false, Bool, ◌==◌, if◌then◌else◌, eq-eqb, eqb-true}
 use Rattle.std.proofs.lemmas.Bool.{cases_eq}
 use Rattle.std.proofs.lemmas.List.{get_or-set_same, get_or-set_other, length-set}
-use Rattle.std.proofs.lemmas.List.Elements.{All-weaker}
+use Rattle.std.proofs.lemmas.List.Elements.{All-nil, All-weaker}
 use Rattle.std.specs.Prelude.{option_map, Vec}
 use Rattle.std.specs.declared.alloc.Global.{Global}
+use Rattle.nio_channel.proofs.Idle.{channel_same}
 use Rattle.nio_event.proofs.PassViews.{channel_after}
 use Rattle.nio_event.specs.PassViews.{PassView}
 use Rattle.nio_event.specs.State.{put}
@@ -27,7 +28,7 @@ use Rattle.nio_steps.specs.Calls.{CallClause}
 use Rattle.nio_steps.specs.Plan.{Plan}
 use Rattle.nio_steps.specs.Runs.{Completes}
 use Rattle.nio_steps.specs.SelectCalls.{Selection}
-use Rattle.nio_words.specs.Passes.{limits_of}
+use Rattle.nio_words.specs.Passes.{limits_of, seen}
 use Rattle.nio_words.specs.Views.{view}
 use Rattle.nio_words.specs.declared.words.Pass.{Pass}
 use Rattle.nio_words.specs.declared.words.Words.{Words}
@@ -65,6 +66,17 @@ still_made {w = w} {d = d} {q = q} places call =
     (λ (x : OwnedPipe). HasEnds (view w q) x.pipe.source x.pipe.sink)
     (λ x ends. record { source = channel_after call.acts ends.source; sink = channel_after call.acts ends.sink })
     d.pipes.items places.pipes
+
+-- and for another pass that has seen the same
+pub made_for : (w : Words) (p q : Pass) (pipes : List OwnedPipe) → seen q ≡ seen p → AreMade (view w p) pipes → AreMade (view w q) pipes
+made_for w p q pipes same made =
+    All-weaker (λ (x : OwnedPipe). HasEnds (view w p) x.pipe.source x.pipe.sink)
+    (λ (x : OwnedPipe). HasEnds (view w q) x.pipe.source x.pipe.sink)
+    (λ x ends. record { source = channel_same w p q same ends.source; sink = channel_same w p q same ends.sink })
+    pipes made
+
+pub none_made : {pass : PassView} {pipes : List OwnedPipe} → pipes ≡ [] → AreMade pass pipes
+none_made {pass = pass} none = subst (AreMade pass) (sym none) (All-nil (λ (x : OwnedPipe). HasEnds pass x.pipe.source x.pipe.sink))
 
 -- after a call the places are the same
 pub places_same : {R : Type 0} {Shape : List Act → R → Type 0} {w : Words} {d : Desk} {q : Pass} {me : CallerNo} {answer : R}
