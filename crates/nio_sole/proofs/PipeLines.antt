@@ -1,5 +1,5 @@
 -- From the calls on a desk's group and pipes to the lines.
-use Rattle.std.proofs.Common.{◌≡◌, ℕ, ◌<◌, ◌==◌, ◌&&◌, true, false, Option, Some, None, Result, Ok, Err, List, [], ◌∷◌, ◌++◌, length, get_or, map, set, position, refl, sym, ap, ◌∙◌, subst, All}
+use Rattle.std.proofs.Common.{◌≡◌, ℕ, ◌<◌, ◌==◌, ◌&&◌, true, false, Bool, Option, Some, None, Result, Ok, Err, List, [], ◌∷◌, ◌++◌, ◌-◌, length, get_or, map, min, set, take, position, refl, sym, ap, ◌∙◌, subst, All}
 use Rattle.std.proofs.lemmas.Bool.{and_parts, eqb-true}
 use Rattle.std.proofs.lemmas.List.{map-append}
 use Rattle.std.proofs.lemmas.List.Elements.{All-append, All-cons, All-get_or, All-nil, All-set}
@@ -18,7 +18,10 @@ use Rattle.nio_event.specs.declared.reply.Reply.{Reply}
 use Rattle.nio_event.specs.declared.reply.Reply.TheVariants as reply
 use Rattle.nio_group.specs.Group.{Group}
 use Rattle.nio_pipe.specs.Calls.{HasEnds}
-use Rattle.nio_pipe.specs.Pipe.{Pipe as Held, after_end, new_pipe as new_held, waiting}
+use Rattle.nio_pipe.specs.Answers.{bytes_read, mode_found, read_answer, without_mode, write_answer}
+use Rattle.nio_pipe.specs.Pipe.{Pipe as Held, IsLawful, after_end, after_read, after_write, new_pipe as new_held, waiting}
+use Rattle.nio_pipe.specs.declared.answers.PipeRead.{PipeRead}
+use Rattle.nio_pipe.specs.declared.answers.PipeWrite.{PipeWrite}
 use Rattle.nio_plain.proofs.Piping.{position-map}
 use Rattle.nio_plain.specs.ScriptState.{Pipe}
 use Rattle.nio_plain.specs.Seq.Grouping.{group_left, group_reply}
@@ -29,8 +32,9 @@ use Rattle.nio_serial.specs.PipeLines.{Piped, after_pipe, own_sink, own_source, 
 use Rattle.nio_serial.specs.Replies.{closed_reply, ends_reply}
 use Rattle.nio_sole.proofs.Asking.{makes_ran, refused_at, replied_as}
 use Rattle.nio_sole.proofs.Desks.{left_as, places_same, still_made}
-use Rattle.nio_sole.proofs.Piping.{shown_at, shown_set, with_held}
+use Rattle.nio_sole.proofs.Piping.{read_gave, read_refused, shown_at, shown_set, slice_says, with_held, write_gave, write_refused}
 use Rattle.nio_sole.specs.Makes.{Lacks, Makes, MakesCall, MayMake, Want}
+use Rattle.nio_sole.specs.PipeReplies.{read_reply, write_reply}
 use Rattle.nio_sole.specs.Stands.{AreMade, HasPlaces, group_of, pipe_of, pipes_of, progress_of}
 use Rattle.nio_sole.specs.declared.desk.Desk.{Desk}
 use Rattle.nio_sole.specs.declared.desk.OwnedPipe.{OwnedPipe}
@@ -68,13 +72,13 @@ group_called w d me g group (Ok r) may says leaves memory =
     let left : Progress = record now { group = group_left now.group g } in
     let said = refused_at left (group_reply now.group g) (view w d.pass) may.ask.ready.pass.legal in
     record {
-      call = replied_as (left_as said (ap (λ (x : Group). record now { group = x }) (sym leaves))) says;
+      call = replied_as (left_as said (ap {B = Progress} (λ (x : Group). record now { group = x }) (sym leaves))) says;
       ready = may.ask.ready;
       places = places_group may.places;
     }
 group_called w d me g group (Err e) may says leaves memory =
     let now = progress_of d in
-    let same = ap (λ (x : Option Group). record now { group = group_of x }) (sym memory) in
+    let same = ap {B = Progress} (λ (x : Option Group). record now { group = group_of x }) (sym memory) in
     record {
       want = Want.group_unmade g;
       is = refl;
@@ -130,7 +134,7 @@ own_sink_is : (d : Desk) (me : CallerNo) (c : ChanNo) (place : Option ℕ) → I
 own_sink_is d me c place is = position-map (owns_sink me c) pipe_of d.pipes.items ∙ sym is
 
 channel_is : (a b : ChanNo) → (a.0 == b.0) ≡ true → a ≡ b
-channel_is a b same = ap (λ (n : ℕ). record { 0 = n }) (eqb-true a.0 b.0 same)
+channel_is a b same = ap {B = ChanNo} (λ (n : ℕ). record { 0 = n }) (eqb-true a.0 b.0 same)
 
 -- it stands within the list, and its source is the channel
 pub source_at : (d : Desk) (me : CallerNo) (c : ChanNo) (i : ℕ) (x : OwnedPipe) → IsSourceAt d me c (Some i) → x ≡ get_or d.pipes.items i x
@@ -172,7 +176,7 @@ module _ (d : Desk) (i : ℕ) (x x' : OwnedPipe) (gives : Pipe → Piped) (r : R
       → with_pipe (progress_of d) i (gives (pipe_at (progress_of d) i)).left ≡ progress_of (with_pipes_in d q pipes)
   gives_leaves q pipes items =
       let now = progress_of d in
-      ap (λ (ps : List Pipe). record now { pipes = ps })
+      ap {B = Progress} (λ (ps : List Pipe). record now { pipes = ps })
       (ap (λ (g : Piped). set (pipes_of d.pipes.items) i g.left) gives_at ∙ (sym (shown_set d.pipes.items i x') ∙ ap pipes_of (sym items)))
 
 pub read_none : (w : Words) (d : Desk) (me : CallerNo) (c : ChanNo) (n : ℕ) → MayMake w d me (call.Pread c n) → IsSourceAt d me c None
@@ -241,6 +245,38 @@ write_made w d q me c bytes i x x' pipes found r may at is ran ready items sourc
           (made_set (view w q) d.pipes.items i x x' (still_made may.places call) here.0 is source sink));
     }
 
+-- with what the call answers, and what its slice then has
+pub read_said : (w : Words) (d : Desk) (q : Pass) (me : CallerNo) (c : ChanNo) (n room i : ℕ) (x : OwnedPipe) (pipes : Vec OwnedPipe Global)
+    (into rest : List ℕ) (result : Result (PipeRead × Bool) PipeError)
+    → MayMake w d me (call.Pread c n) → IsSourceAt d me c (Some i) → x ≡ get_or d.pipes.items i x → IsLawful x.pipe → room ≡ min 65536 n
+    → CallClause me (Completes (try_read_plan (limits_of w) x.pipe.source)) (view w d.pass) (view w q) (mode_found result) → IsReady w q me
+    → IfOk result (λ found. found.0 ≡ read_answer room (min room (length (waiting x.pipe))) x.pipe.marked)
+    → into ≡ take (bytes_read (without_mode result)) (waiting x.pipe) ++ rest
+    → pipes.items ≡ set d.pipes.items i (with_held x (after_read x.pipe (without_mode result)))
+    → Makes w d (with_pipes_in d q pipes) me (call_plan (limits_of w) (progress_of d) me (call.Pread c n)) (read_reply result into)
+read_said w d q me c n room i x pipes into rest (Ok found) may at is lawful room_is ran ready answer front items =
+    subst (λ (r : Reply). Makes w d (with_pipes_in d q pipes) me (call_plan (limits_of w) (progress_of d) me (call.Pread c n)) r)
+    (sym (slice_says x lawful room found.1 found.0 into rest answer front))
+    (read_made w d q me c n i x (with_held x (after_read x.pipe (Ok found.0))) pipes (Ok found.1) _ may at is ran ready items refl refl
+    (read_gave x lawful n room found.1 found.0 room_is answer))
+read_said w d q me c n room i x pipes into rest (Err refusal) may at is lawful room_is ran ready answer front items =
+    read_made w d q me c n i x (with_held x (after_read x.pipe (Err refusal))) pipes (Err refusal) _ may at is ran ready items refl refl
+    (read_refused x lawful n refusal)
+
+pub write_said : (w : Words) (d : Desk) (q : Pass) (me : CallerNo) (c : ChanNo) (bytes : List ℕ) (i : ℕ) (x : OwnedPipe) (pipes : Vec OwnedPipe Global)
+    (result : Result (PipeWrite × Bool) PipeError)
+    → MayMake w d me (call.Pwrite c bytes) → IsSinkAt d me c (Some i) → x ≡ get_or d.pipes.items i x → IsLawful x.pipe
+    → CallClause me (Completes (try_write_plan (limits_of w) x.pipe.source x.pipe.sink)) (view w d.pass) (view w q) (mode_found result) → IsReady w q me
+    → IfOk result (λ found. found.0 ≡ write_answer (length bytes) (min (length bytes) (65536 - length (waiting x.pipe))))
+    → pipes.items ≡ set d.pipes.items i (with_held x (after_write x.pipe bytes (without_mode result)))
+    → Makes w d (with_pipes_in d q pipes) me (call_plan (limits_of w) (progress_of d) me (call.Pwrite c bytes)) (write_reply result)
+write_said w d q me c bytes i x pipes (Ok found) may at is lawful ran ready answer items =
+    write_made w d q me c bytes i x (with_held x (after_write x.pipe bytes (Ok found.0))) pipes (Ok found.1) _ may at is ran ready items refl refl
+    (write_gave x lawful bytes found.1 found.0 answer)
+write_said w d q me c bytes i x pipes (Err refusal) may at is lawful ran ready answer items =
+    write_made w d q me c bytes i x (with_held x (after_write x.pipe bytes (Err refusal))) pipes (Err refusal) _ may at is ran ready items refl refl
+    (write_refused x lawful bytes refusal)
+
 -- ---- closing
 
 pub close_none : (w : Words) (d : Desk) (q : Pass) (me : CallerNo) (c : ChanNo) (closes : Bool) → MayMake w d me (call.Closec c) → IsSinkAt d me c None
@@ -271,8 +307,8 @@ close_made w d q me c i x pipes closes may at is ran ready items =
     record {
       call = left_as (makes_ran closed_reply (λ _. with_mark now (own_sink now me c)) call)
           (ap (with_mark now) (own_sink_is d me c (Some i) at)
-          ∙ ap (λ (ps : List Pipe). record now { pipes = ps })
-          (ap (λ (p : Pipe). set (pipes_of d.pipes.items) i (record p { marked = true })) (shown_at d.pipes.items i x here.0 is)
+          ∙ ap {B = Progress} (λ (ps : List Pipe). record now { pipes = ps })
+          (ap {B = List Pipe} (λ (p : Pipe). set (pipes_of d.pipes.items) i (record p { marked = true })) (shown_at d.pipes.items i x here.0 is)
           ∙ (sym (shown_set d.pipes.items i x') ∙ ap pipes_of (sym items))));
       ready = ready;
       places = places_pipes may.places (subst (AreMade (view w q)) (sym items)
@@ -298,7 +334,7 @@ pipe_made w d q me target pipe pipes may ran ready ends empty items =
     let call = pipe_ran (limits_of w) ran in
     record {
       call = left_as (makes_ran ends_reply (after_pipe now me target) call)
-          (ap (λ (ps : List Pipe). record now { pipes = ps })
+          (ap {B = Progress} (λ (ps : List Pipe). record now { pipes = ps })
           (ap (λ (h : Held). pipes_of d.pipes.items ++ pipe_of (record { reader = me; writer = target; pipe = h }) ∷ []) (sym empty)
           ∙ (sym (map-append pipe_of d.pipes.items (x ∷ [])) ∙ ap pipes_of (sym items))));
       ready = ready;
@@ -315,7 +351,7 @@ pipe_refused w d q me target pipes may ran ready items =
     let now = progress_of d in
     let call = pipe_ran (limits_of w) ran in
     record {
-      call = left_as (makes_ran ends_reply (after_pipe now me target) call) (ap (λ (xs : List OwnedPipe). record now { pipes = pipes_of xs }) (sym items));
+      call = left_as (makes_ran ends_reply (after_pipe now me target) call) (ap {B = Progress} (λ (xs : List OwnedPipe). record now { pipes = pipes_of xs }) (sym items));
       ready = ready;
       places = places_pipes may.places (subst (AreMade (view w q)) (sym items) (still_made may.places ran));
     }
@@ -327,7 +363,7 @@ pub pipe_lacks : (w : Words) (d : Desk) (q : Pass) (me target : CallerNo) (pipes
 unfolding pipe_plan
 pipe_lacks w d q me target pipes may ran ready items =
     let now = progress_of d in
-    let same = ap (λ (xs : List OwnedPipe). record now { pipes = pipes_of xs }) (sym items) in
+    let same = ap {B = Progress} (λ (xs : List OwnedPipe). record now { pipes = pipes_of xs }) (sym items) in
     let call = pipe_ran (limits_of w) ran in
     record {
       want = Want.pipe_unmade target;
@@ -346,7 +382,7 @@ pub pipe_unplaced : (w : Words) (d : Desk) (me target : CallerNo) (pipes : Vec O
     → Lacks (λ plan. plan) w d (with_pipes_in d d.pass pipes) me (call.Pipe target)
 pipe_unplaced w d me target pipes may items =
     let now = progress_of d in
-    let same = ap (λ (xs : List OwnedPipe). record now { pipes = pipes_of xs }) (sym items) in
+    let same = ap {B = Progress} (λ (xs : List OwnedPipe). record now { pipes = pipes_of xs }) (sym items) in
     record {
       want = Want.pipe_unmade target;
       is = refl;

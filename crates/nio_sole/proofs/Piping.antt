@@ -1,8 +1,8 @@
 -- The pipes that a desk shows, and what a read or a write leaves of them.
-use Rattle.std.proofs.Common.{◌≡◌, ℕ, zero, suc, ◌+◌, ◌-◌, ◌<◌, ◌≤◌, ◌==◌, nat_lt, Bool, true, false, ◌||◌, cond, min, List, [], ◌∷◌, ◌++◌, length, get_or, map, set, take, drop, Result, Ok, Err, refl, sym, ap, ◌∙◌, arith}
+use Rattle.std.proofs.Common.{◌≡◌, ℕ, zero, suc, ◌+◌, ◌-◌, ◌<◌, ◌≤◌, ◌==◌, nat_lt, Bool, true, false, ◌||◌, cond, min, List, [], ◌∷◌, ◌++◌, length, get_or, map, set, take, drop, Result, Ok, Err, refl, sym, ap, ◌∙◌, subst, arith}
 use Rattle.std.proofs.lemmas.Bool.{cond-false, cond-true, eq-eqb, eqb-true, le-ltb, lt-ltb}
-use Rattle.std.proofs.lemmas.List.{append-nil, drop-append-le, drop_min, get_or-map, length-append, length-take, map-set, take_min}
-use Rattle.std.proofs.Math.Seq.{drop-append-add, drop-append_seam}
+use Rattle.std.proofs.lemmas.List.{append-nil, drop-append-le, drop_min, get_or-map, length-append, length-take, length-take-le, map-set, take_min}
+use Rattle.std.proofs.Math.Seq.{drop-append-add, drop-append_seam, take-append_seam}
 use Rattle.nio_event.specs.declared.reply.Reply.{Reply}
 use Rattle.nio_event.specs.declared.reply.Reply.TheVariants as reply
 use Rattle.nio_pipe.specs.Answers.{bytes_read, bytes_written, read_answer, write_answer}
@@ -14,6 +14,7 @@ use Rattle.nio_plain.specs.Seq.Pipes.{no_pipe}
 use Rattle.nio_plain.specs.Seq.Piping.{not_now, room_for}
 use Rattle.nio_serial.specs.PipeLines.{Piped, only_says, puts, read_gives, takes, write_gives}
 use Rattle.nio_serial.specs.Replies.{pipe_refusal}
+use Rattle.nio_sole.specs.PipeReplies.{read_says, write_says}
 use Rattle.nio_sole.specs.Stands.{pipe_of, pipes_of}
 use Rattle.nio_sole.specs.declared.desk.OwnedPipe.{OwnedPipe}
 use Rattle.nio_steps.specs.declared.refusal.PipeError.{PipeError}
@@ -56,22 +57,45 @@ more_waiting p more lawful =
 
 -- ---- reading
 
--- what a read says, by what it answers
-pub read_says : PipeRead → List ℕ → Bool → Reply
-read_says (PipeRead.Bytes zero) bytes blocking = reply.Number 0
-read_says (PipeRead.Bytes (suc k)) bytes blocking = reply.Bytes (take (suc k) bytes)
-read_says PipeRead.End bytes blocking = reply.End
-read_says PipeRead.NotYet bytes blocking = not_now blocking
+-- a read gives no more than there is to give
+few_read : (room given : ℕ) (marked : Bool) → bytes_read (Ok (read_answer room given marked)) ≤ given
+few_read room given marked = by_tests (room == 0) (nat_lt 0 given) marked
+  where
+    by_tests : (a b c : Bool)
+        → bytes_read (Ok (cond a (PipeRead.Bytes 0) (cond b (PipeRead.Bytes given) (cond c PipeRead.End PipeRead.NotYet)))) ≤ given
+    by_tests true b c = omega arith
+    by_tests false true c = omega arith
+    by_tests false false true = omega arith
+    by_tests false false false = omega arith
+
+-- what was read stands at the front of the slice
+pub front_says : (answer : PipeRead) (blocking : Bool) (bytes into rest : List ℕ) → bytes_read (Ok answer) ≤ length bytes
+    → into ≡ take (bytes_read (Ok answer)) bytes ++ rest → read_says answer into blocking ≡ read_says answer bytes blocking
+front_says (PipeRead.Bytes n) blocking bytes into rest few is =
+    ap (λ (xs : List ℕ). cond (n == 0) (reply.Number 0) (reply.Bytes xs))
+    (ap (take n) is
+    ∙ (ap (λ (m : ℕ). take m (take n bytes ++ rest)) (sym (length-take-le n bytes few))
+    ∙ take-append_seam (take n bytes) rest))
+front_says PipeRead.End blocking bytes into rest few is = refl
+front_says PipeRead.NotYet blocking bytes into rest few is = refl
 
 module _ (x : OwnedPipe) (lawful : IsLawful x.pipe) where
-  abbrev shown : Pipe
+  abbrev pub shown : Pipe
   shown = pipe_of x
+
+  -- how many bytes a read of so many places gives
+  abbrev pub given_of : ℕ → ℕ
+  given_of room = min room (length (waiting x.pipe))
+
+  -- how many of the bytes a write takes
+  abbrev pub taken_of : List ℕ → ℕ
+  taken_of bytes = min (length bytes) (65536 - length (waiting x.pipe))
 
   read_leaves : (answer : Result PipeRead PipeError)
       → pipe_of (with_held x (after_read x.pipe answer)) ≡ record shown { waiting = drop (bytes_read answer) (waiting x.pipe) }
-  read_leaves answer = ap (λ ws. record shown { waiting = ws }) (left_waiting x.pipe (bytes_read answer) lawful)
+  read_leaves answer = ap {B = Pipe} (λ (ws : List ℕ). record shown { waiting = ws }) (left_waiting x.pipe (bytes_read answer) lawful)
 
-  abbrev read_comes_to : PipeRead → Bool → Piped
+  abbrev pub read_comes_to : PipeRead → Bool → Piped
   read_comes_to answer blocking = record {
     reply = read_says answer (waiting x.pipe) blocking;
     left = pipe_of (with_held x (after_read x.pipe (Ok answer)));
@@ -81,8 +105,8 @@ module _ (x : OwnedPipe) (lawful : IsLawful x.pipe) where
   reads_none : (answer : PipeRead) (blocking : Bool) → bytes_read (Ok answer) ≡ 0
       → only_says shown (read_says answer (waiting x.pipe) blocking) ≡ read_comes_to answer blocking
   reads_none answer blocking none =
-      ap (λ p. record { reply = read_says answer (waiting x.pipe) blocking; left = p })
-      (sym (read_leaves (Ok answer) ∙ ap (λ k. record shown { waiting = drop k (waiting x.pipe) }) none))
+      ap {B = Piped} (λ (p : Pipe). record { reply = read_says answer (waiting x.pipe) blocking; left = p })
+      (sym (read_leaves (Ok answer) ∙ ap {B = Pipe} (λ (k : ℕ). record shown { waiting = drop k (waiting x.pipe) }) none))
 
   -- the read of a slice of so many places, of up to n bytes
   pub read_gave : (n room : ℕ) (blocking : Bool) (answer : PipeRead) → room ≡ min 65536 n
@@ -90,20 +114,17 @@ module _ (x : OwnedPipe) (lawful : IsLawful x.pipe) where
       → read_gives n shown (Ok blocking) ≡ read_comes_to answer blocking
   read_gave n room blocking answer room_is is = by_number (n == 0) refl
     where
-      given : ℕ
-      given = min room (length (waiting x.pipe))
-
       by_marked : (b : Bool) → x.pipe.marked ≡ b → waiting x.pipe ≡ [] → (room == 0) ≡ false
           → takes shown blocking n (waiting x.pipe) x.pipe.marked ≡ read_comes_to answer blocking
       by_marked b marked none some =
           ap (λ ws. takes shown blocking n ws x.pipe.marked) none
           ∙ (ap (takes shown blocking n []) marked ∙ (by_mark b marked))
         where
-          nothing : nat_lt 0 given ≡ false
-          nothing = le-ltb 0 given (let size = ap length none in omega (arith, size))
+          nothing : nat_lt 0 (given_of room) ≡ false
+          nothing = le-ltb 0 (given_of room) (let size = ap length none in omega (arith, size))
 
           told : answer ≡ cond x.pipe.marked PipeRead.End PipeRead.NotYet
-          told = is ∙ (cond-false (room == 0) (PipeRead.Bytes 0) _ some ∙ cond-false (nat_lt 0 given) (PipeRead.Bytes given) _ nothing)
+          told = is ∙ (cond-false (room == 0) (PipeRead.Bytes 0) _ some ∙ cond-false (nat_lt 0 (given_of room)) (PipeRead.Bytes (given_of room)) _ nothing)
 
           by_mark : (c : Bool) → x.pipe.marked ≡ c → takes shown blocking n [] c ≡ read_comes_to answer blocking
           by_mark true at =
@@ -113,7 +134,7 @@ module _ (x : OwnedPipe) (lawful : IsLawful x.pipe) where
               let not_yet : answer ≡ PipeRead.NotYet = told ∙ cond-false x.pipe.marked PipeRead.End PipeRead.NotYet at in
               reads_none PipeRead.NotYet blocking refl ∙ ap (λ a. read_comes_to a blocking) (sym not_yet)
 
-      by_given : (g : ℕ) → given ≡ g → (y : ℕ) (ys : List ℕ) → waiting x.pipe ≡ y ∷ ys → (room == 0) ≡ false → (n == 0) ≡ false
+      by_given : (g : ℕ) → given_of room ≡ g → (y : ℕ) (ys : List ℕ) → waiting x.pipe ≡ y ∷ ys → (room == 0) ≡ false → (n == 0) ≡ false
           → takes shown blocking n (waiting x.pipe) x.pipe.marked ≡ read_comes_to answer blocking
       by_given zero given_is y ys some places number =
           let size = ap length some in
@@ -126,16 +147,16 @@ module _ (x : OwnedPipe) (lawful : IsLawful x.pipe) where
           let count : min n (length w) ≡ suc k = omega (arith, room_is, given_is, few) in
           let told : answer ≡ PipeRead.Bytes (suc k) =
           is ∙ (cond-false (room == 0) (PipeRead.Bytes 0) _ places
-          ∙ (cond-true (nat_lt 0 given) (PipeRead.Bytes given) _ (lt-ltb 0 given (omega (arith, given_is)))
+          ∙ (cond-true (nat_lt 0 (given_of room)) (PipeRead.Bytes (given_of room)) _ (lt-ltb 0 (given_of room) (omega (arith, given_is)))
           ∙ ap PipeRead.Bytes given_is)) in
           ap (λ ws. takes shown blocking n ws x.pipe.marked) some
-          ∙ (ap (λ ws. record { reply = reply.Bytes (take n ws); left = record shown { waiting = drop n ws } }) (sym some)
-          ∙ (ap (λ (p : List ℕ × List ℕ). record { reply = reply.Bytes p.0; left = record shown { waiting = p.1 } })
+          ∙ (ap {B = Piped} (λ (ws : List ℕ). record { reply = reply.Bytes (take n ws); left = record shown { waiting = drop n ws } }) (sym some)
+          ∙ (ap {B = Piped} (λ (p : List ℕ × List ℕ). record { reply = reply.Bytes p.0; left = record shown { waiting = p.1 } })
           (λ j. (
             (sym (take_min n w) ∙ ap (λ m. take m w) count) j,
             (sym (drop_min n w) ∙ ap (λ m. drop m w) count) j,
           ))
-          ∙ (ap (λ p. record { reply = reply.Bytes (take (suc k) w); left = p }) (sym (read_leaves (Ok (PipeRead.Bytes (suc k)))))
+          ∙ (ap {B = Piped} (λ (p : Pipe). record { reply = reply.Bytes (take (suc k) w); left = p }) (sym (read_leaves (Ok (PipeRead.Bytes (suc k)))))
           ∙ ap (λ a. read_comes_to a blocking) (sym told))))
 
       by_waiting : (ws : List ℕ) → waiting x.pipe ≡ ws → (n == 0) ≡ false
@@ -154,7 +175,7 @@ module _ (x : OwnedPipe) (lawful : IsLawful x.pipe) where
 
           by_list : (us : List ℕ) → waiting x.pipe ≡ us → takes shown blocking n (waiting x.pipe) x.pipe.marked ≡ read_comes_to answer blocking
           by_list [] none = by_marked x.pipe.marked refl none places
-          by_list (y ∷ ys) some = by_given given refl y ys some places number
+          by_list (y ∷ ys) some = by_given (given_of room) refl y ys some places number
 
       by_number : (b : Bool) → (n == 0) ≡ b → read_gives n shown (Ok blocking) ≡ read_comes_to answer blocking
       by_number true none =
@@ -166,17 +187,23 @@ module _ (x : OwnedPipe) (lawful : IsLawful x.pipe) where
       by_number false some =
           cond-false (n == 0) (only_says shown (reply.Number 0)) _ some ∙ by_waiting (waiting x.pipe) refl some
 
+  -- what a slice with so many places has after the read
+  pub slice_says : (room : ℕ) (blocking : Bool) (answer : PipeRead) (into rest : List ℕ)
+      → answer ≡ read_answer room (min room (length (waiting x.pipe))) x.pipe.marked
+      → into ≡ take (bytes_read (Ok answer)) (waiting x.pipe) ++ rest
+      → read_says answer into blocking ≡ read_says answer (waiting x.pipe) blocking
+  slice_says room blocking answer into rest is front =
+      let few : bytes_read (Ok answer) ≤ min room (length (waiting x.pipe)) =
+      subst (λ (a : PipeRead). bytes_read (Ok a) ≤ min room (length (waiting x.pipe))) (sym is)
+      (few_read room (min room (length (waiting x.pipe))) x.pipe.marked) in
+      front_says answer blocking (waiting x.pipe) into rest (omega (arith, few)) front
+
   -- a read that is refused
   pub read_refused : (n : ℕ) (refusal : PipeError)
       → read_gives n shown (Err refusal) ≡ record { reply = pipe_refusal refusal; left = pipe_of (with_held x (after_read x.pipe (Err refusal))) }
-  read_refused n refusal = ap (λ p. record { reply = pipe_refusal refusal; left = p }) (sym (read_leaves (Err refusal)))
+  read_refused n refusal = ap {B = Piped} (λ (p : Pipe). record { reply = pipe_refusal refusal; left = p }) (sym (read_leaves (Err refusal)))
 
   -- ---- writing
-
-  -- what a write says, by what it answers
-  pub write_says : PipeWrite → Bool → Reply
-  write_says (PipeWrite.Bytes n) blocking = reply.Number n
-  write_says PipeWrite.NotYet blocking = not_now blocking
 
   not_marked : (b : Bool) → b || false ≡ b
   not_marked true = refl
@@ -193,7 +220,7 @@ module _ (x : OwnedPipe) (lawful : IsLawful x.pipe) where
   write_leaves bytes PipeWrite.NotYet =
       λ j. record shown { waiting = more_waiting x.pipe [] lawful j; marked = not_marked x.pipe.marked j }
 
-  abbrev write_comes_to : List ℕ → PipeWrite → Bool → Piped
+  abbrev pub write_comes_to : List ℕ → PipeWrite → Bool → Piped
   write_comes_to bytes answer blocking = record {
     reply = write_says answer blocking;
     left = pipe_of (with_held x (after_write x.pipe bytes (Ok answer)));
@@ -203,33 +230,30 @@ module _ (x : OwnedPipe) (lawful : IsLawful x.pipe) where
   writes_none : (bytes : List ℕ) (answer : PipeWrite) (blocking : Bool) → bytes_written (Ok answer) ≡ 0
       → only_says shown (write_says answer blocking) ≡ write_comes_to bytes answer blocking
   writes_none bytes answer blocking none =
-      ap (λ p. record { reply = write_says answer blocking; left = p })
-      (sym (write_leaves bytes answer ∙ (ap (λ k. record shown { waiting = waiting x.pipe ++ take k bytes }) none
-      ∙ ap (λ ws. record shown { waiting = ws }) (append-nil (waiting x.pipe)))))
+      ap {B = Piped} (λ (p : Pipe). record { reply = write_says answer blocking; left = p })
+      (sym (write_leaves bytes answer ∙ (ap {B = Pipe} (λ (k : ℕ). record shown { waiting = waiting x.pipe ++ take k bytes }) none
+      ∙ ap {B = Pipe} (λ (ws : List ℕ). record shown { waiting = ws }) (append-nil (waiting x.pipe)))))
 
   pub write_gave : (bytes : List ℕ) (blocking : Bool) (answer : PipeWrite)
       → answer ≡ write_answer (length bytes) (min (length bytes) (65536 - length (waiting x.pipe)))
       → write_gives bytes shown (Ok blocking) ≡ write_comes_to bytes answer blocking
   write_gave bytes blocking answer is = by_length (length bytes == 0) refl
     where
-      taken : ℕ
-      taken = room_for bytes shown
-
-      by_room : (b : Bool) → (taken == 0) ≡ b → (length bytes == 0) ≡ false → puts shown blocking bytes taken ≡ write_comes_to bytes answer blocking
+      by_room : (b : Bool) → ((taken_of bytes) == 0) ≡ b → (length bytes == 0) ≡ false → puts shown blocking bytes (taken_of bytes) ≡ write_comes_to bytes answer blocking
       by_room true none some =
-          let none_taken = eqb-true taken 0 none in
+          let none_taken = eqb-true (taken_of bytes) 0 none in
           let told : answer ≡ PipeWrite.NotYet =
           is ∙ (cond-false (length bytes == 0) (PipeWrite.Bytes 0) _ some
-          ∙ cond-false (nat_lt 0 taken) (PipeWrite.Bytes taken) PipeWrite.NotYet (le-ltb 0 taken (omega (arith, none_taken)))) in
-          cond-true (taken == 0) (only_says shown (not_now blocking)) _ none
+          ∙ cond-false (nat_lt 0 (taken_of bytes)) (PipeWrite.Bytes (taken_of bytes)) PipeWrite.NotYet (le-ltb 0 (taken_of bytes) (omega (arith, none_taken)))) in
+          cond-true ((taken_of bytes) == 0) (only_says shown (not_now blocking)) _ none
           ∙ (writes_none bytes PipeWrite.NotYet blocking refl ∙ ap (λ a. write_comes_to bytes a blocking) (sym told))
       by_room false more some =
-          let some_taken : taken ≡ 0 → ⊥ = λ none. let clash : true ≡ false = sym (eq-eqb taken 0 none) ∙ more in absurd cc in
-          let told : answer ≡ PipeWrite.Bytes taken =
+          let some_taken : (taken_of bytes) ≡ 0 → ⊥ = λ none. let clash : true ≡ false = sym (eq-eqb (taken_of bytes) 0 none) ∙ more in absurd cc in
+          let told : answer ≡ PipeWrite.Bytes (taken_of bytes) =
           is ∙ (cond-false (length bytes == 0) (PipeWrite.Bytes 0) _ some
-          ∙ cond-true (nat_lt 0 taken) (PipeWrite.Bytes taken) PipeWrite.NotYet (lt-ltb 0 taken (omega (arith, some_taken)))) in
-          cond-false (taken == 0) (only_says shown (not_now blocking)) _ more
-          ∙ (ap (λ p. record { reply = reply.Number taken; left = p }) (sym (write_leaves bytes (PipeWrite.Bytes taken)))
+          ∙ cond-true (nat_lt 0 (taken_of bytes)) (PipeWrite.Bytes (taken_of bytes)) PipeWrite.NotYet (lt-ltb 0 (taken_of bytes) (omega (arith, some_taken)))) in
+          cond-false ((taken_of bytes) == 0) (only_says shown (not_now blocking)) _ more
+          ∙ (ap {B = Piped} (λ (p : Pipe). record { reply = reply.Number (taken_of bytes); left = p }) (sym (write_leaves bytes (PipeWrite.Bytes (taken_of bytes))))
           ∙ ap (λ a. write_comes_to bytes a blocking) (sym told))
 
       by_length : (b : Bool) → (length bytes == 0) ≡ b → write_gives bytes shown (Ok blocking) ≡ write_comes_to bytes answer blocking
@@ -237,7 +261,7 @@ module _ (x : OwnedPipe) (lawful : IsLawful x.pipe) where
           let told : answer ≡ PipeWrite.Bytes 0 = is ∙ cond-true (length bytes == 0) (PipeWrite.Bytes 0) _ none in
           cond-true (length bytes == 0) (only_says shown (reply.Number 0)) _ none
           ∙ (writes_none bytes (PipeWrite.Bytes 0) blocking refl ∙ ap (λ a. write_comes_to bytes a blocking) (sym told))
-      by_length false some = cond-false (length bytes == 0) (only_says shown (reply.Number 0)) _ some ∙ by_room (taken == 0) refl some
+      by_length false some = cond-false (length bytes == 0) (only_says shown (reply.Number 0)) _ some ∙ by_room ((taken_of bytes) == 0) refl some
 
   marks : (r : Reply) → ◌≡◌ {A = Piped} (record { reply = r; left = record shown { marked = true } }) (record {
     reply = r;

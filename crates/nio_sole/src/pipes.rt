@@ -1,14 +1,12 @@
 //! The calls of lines on pipes, and the end mark that a close of an own sink leaves.
-ghost use Rattle.std.specs.Prelude.{◌≡◌, ◌==◌, ◌&&◌, Err, position};
-ghost use Rattle.nio_plain.specs.Seq.Piping.{not_now};
-ghost use Rattle.nio_serial.specs.Replies.{pipe_refusal};
+ghost use Rattle.std.specs.Prelude.{◌≡◌, ◌==◌, ◌&&◌, position};
 ghost use Rattle.nio_sole.specs.Makes.{MayMake, MakesCall};
 
 use crate::desk::{Desk, OwnedPipe};
-use crate::replies::closed_reply;
+use crate::replies::{closed_reply, read_reply, write_reply};
 use nio_base::{CallerNo, ChanNo};
 use nio_event::{Bytes, Call, Reply};
-use nio_pipe::{CAPACITY, PipeError, PipeMakeError, PipeRead, PipeWrite, held_pipe};
+use nio_pipe::{CAPACITY, PipeMakeError, held_pipe};
 use nio_words::Words;
 use std::alloc::{AllocError, Global};
 
@@ -57,16 +55,8 @@ pub(crate) fn pread(
     let mut bytes = Vec::from_elem(alloc, 0u8, CAPACITY.min(most as usize))?;
     let pipe = &mut d.pipes[place].pipe;
     pipe.law();
-    match pipe.try_read_in_mode(w, &mut d.pass, me, &mut bytes) {
-        Ok((PipeRead::Bytes(0), _)) => Ok(Reply::Number(0)),
-        Ok((PipeRead::Bytes(count), _)) => {
-            bytes.truncate(count);
-            Ok(Reply::Bytes(Bytes::from_vec(bytes)))
-        }
-        Ok((PipeRead::End, _)) => Ok(Reply::End),
-        Ok((PipeRead::NotYet, blocking)) => Ok(not_now(blocking)),
-        Err(refusal) => Ok(pipe_refusal(refusal)),
-    }
+    let answer = pipe.try_read_in_mode(w, &mut d.pass, me, &mut bytes);
+    Ok(read_reply(answer, bytes))
 }
 
 // Writes as many of the bytes as have room into the caller's own pipe.
@@ -85,11 +75,8 @@ pub(crate) fn pwrite(
     };
     let pipe = &mut d.pipes[place].pipe;
     pipe.law();
-    match pipe.try_write_in_mode(w, &mut d.pass, me, bytes.as_slice()) {
-        Ok((PipeWrite::Bytes(count), _)) => Ok(Reply::Number(count as u64)),
-        Ok((PipeWrite::NotYet, blocking)) => Ok(not_now(blocking)),
-        Err(refusal) => Ok(pipe_refusal(refusal)),
-    }
+    let answer = pipe.try_write_in_mode(w, &mut d.pass, me, bytes.as_slice());
+    Ok(write_reply(answer))
 }
 
 // Closes the channel. The caller's own sink leaves its end mark.
@@ -121,26 +108,4 @@ fn sink_place(pipes: &[OwnedPipe], me: CallerNo, chan: ChanNo) -> Option<usize>
     ensures { result ≡ position (λ x. (x.pipe.sink.0 == chan.0) && (x.writer.0 == me.0)) pipes.now }
 {
     pipes.iter().position(|owned| owned.pipe.sink().0 == chan.0 && owned.writer.0 == me.0)
-}
-
-// The reply where nothing can be read or written now, of a channel in this mode.
-fn not_now(blocking: bool) -> Reply
-    ensures { result ≡ not_now blocking }
-{
-    if blocking {
-        Reply::Again
-    } else {
-        Reply::Number(0)
-    }
-}
-
-fn pipe_refusal(refusal: PipeError) -> Reply
-    ensures { result ≡ pipe_refusal refusal }
-{
-    match refusal {
-        PipeError::ClosedChannel => Reply::ClosedChannel,
-        PipeError::ClosedByInterrupt => Reply::ClosedByInterrupt,
-        PipeError::AsynchronousClose => Reply::AsyncClose,
-        PipeError::BrokenPipe => Reply::BrokenPipe,
-    }
 }
