@@ -21,19 +21,21 @@ pub(crate) fn pipe(
     requires { MayMake w.now d.old me (Call.Pipe target) }
     ensures { MakesCall (λ plan. plan) w.now d.old d.new me (Call.Pipe target) result }
 {
-    d.pipes.reserve(1)?;
-    match held_pipe(alloc, w, &mut d.pass, me) {
-        Ok(pipe) => {
-            let ends = Reply::Ends(pipe.source(), pipe.sink());
-            d.pipes.push_reserved(OwnedPipe {
-                reader: me,
-                writer: target,
-                pipe,
-            });
-            Ok(ends)
-        }
-        Err(PipeMakeError::ChannelsSpent) => Ok(Reply::ChannelsSpent),
-        Err(PipeMakeError::Memory) => Err(AllocError),
+    match d.pipes.reserve(1) {
+        Err(error) => Err(error),
+        Ok(()) => match held_pipe(alloc, w, &mut d.pass, me) {
+            Ok(pipe) => {
+                let ends = Reply::Ends(pipe.source(), pipe.sink());
+                d.pipes.push_reserved(OwnedPipe {
+                    reader: me,
+                    writer: target,
+                    pipe,
+                });
+                Ok(ends)
+            }
+            Err(PipeMakeError::ChannelsSpent) => Ok(Reply::ChannelsSpent),
+            Err(PipeMakeError::Memory) => Err(AllocError),
+        },
     }
 }
 
@@ -52,11 +54,15 @@ pub(crate) fn pread(
     let Some(place) = source_place(&d.pipes, me, chan) else {
         return Ok(Reply::NotOwner);
     };
-    let mut bytes = Vec::from_elem(alloc, 0u8, CAPACITY.min(most as usize))?;
-    let pipe = &mut d.pipes[place].pipe;
-    pipe.law();
-    let answer = pipe.try_read_in_mode(w, &mut d.pass, me, &mut bytes);
-    Ok(read_reply(answer, bytes))
+    match Vec::from_elem(alloc, 0u8, CAPACITY.min(most as usize)) {
+        Err(error) => Err(error),
+        Ok(mut bytes) => {
+            let pipe = &mut d.pipes[place].pipe;
+            pipe.law();
+            let answer = pipe.try_read_in_mode(w, &mut d.pass, me, &mut bytes);
+            Ok(read_reply(answer, bytes))
+        }
+    }
 }
 
 // Writes as many of the bytes as have room into the caller's own pipe.
