@@ -10,4 +10,5 @@ flag_iff false true x e = (λ h. cc, λ h. let same : false ≡ x = cc in cc)
 flag_iff false false x e = (λ h. ap flag e, λ h. refl)
 
 pub word_iff : (found r x : ℕ) → r ≡ x → IsTrue (found == r) ↔ (word found ≡ word x)
-word_iff found r x e = (λ h. ap word (eqb-true found r h ∙ e), λ h. let same : found ≡ x = cc in eq-eqb found r (same ∙ sym e))
+word_iff found r x e =
+    (λ h. ap word (eqb-true found r h ∙ e), λ h. let same : found ≡ x = cc in eq-eqb found r (same ∙ sym e))

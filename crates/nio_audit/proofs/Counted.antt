@@ -1,5 +1,6 @@
 -- The channels that are made, and the indexes of a selector that are claimed, are those below a number.
-use Rattle.std.proofs.Common.{◌≡◌, ℕ, suc, ◌+◌, ◌==◌, ◌≤◌, max, nat_lt, Bool, true, false, ◌&&◌, ◌↔◌, IsTrue, if◌then◌else◌, refl, ap, sym, ◌∙◌, arith, eqb-true, eq-eqb}
+use Rattle.std.proofs.Common.{◌≡◌, ℕ, suc, ◌+◌, ◌==◌, ◌≤◌, max, nat_lt, Bool, true, false, ◌&&◌, ◌↔◌, IsTrue}
+use Rattle.std.proofs.Common.{if◌then◌else◌, refl, ap, sym, ◌∙◌, arith, eqb-true, eq-eqb}
 use Rattle.std.proofs.lemmas.Bool.{ltb-true, ltb-false, lt-ltb, le-ltb, and_parts}
 use Rattle.nio_audit.specs.Counting.{IsCounted, channels_after, keys_after}
 use Rattle.nio_base.specs.declared.limits.Limits.{Limits}
@@ -13,25 +14,33 @@ use Rattle.nio_event.specs.Questions.{flag}
 use Rattle.nio_event.specs.Sound.{IsSound}
 use Rattle.nio_event.specs.State.{State, put}
 use Rattle.nio_event.specs.declared.act.Act.{Act}
-use Rattle.nio_event.specs.declared.act.Act.TheVariants.{CancelKey, MakeChannel, Claim, Publish, Remove, SetMode, CloseBit, ClaimAgain}
+use Rattle.nio_event.specs.declared.act.Act.TheVariants.{CancelKey, MakeChannel, Claim, Publish, Remove, SetMode}
+use Rattle.nio_event.specs.declared.act.Act.TheVariants.{CloseBit, ClaimAgain}
 use Rattle.std.specs.Prelude.{List, Option, Some, None, is_some}
 
 module _ {st : State} {channels : ℕ} {keys : ℕ → ℕ} where
   pub all_made : IsCounted st channels keys → (n : ℕ) → (n ≤ channels) ↔ AllMade st n
-  all_made h n = (λ le c below. h.made c ∙ lt-ltb c channels (omega arith), λ all. by_order (nat_lt channels n) refl all)
+  all_made h n =
+      (λ le c below. h.made c ∙ lt-ltb c channels (omega arith), λ all. by_order (nat_lt channels n) refl all)
     where
       by_order : (b : Bool) → nat_lt channels n ≡ b → AllMade st n → n ≤ channels
       by_order true e all =
-          let clash : true ≡ false = sym (all channels (ltb-true channels n e)) ∙ (h.made channels ∙ le-ltb channels channels (omega arith)) in
+          let clash : true ≡ false = sym (all channels (ltb-true channels n e))
+          ∙ (h.made channels ∙ le-ltb channels channels (omega arith)) in
           absurd cc
       by_order false e all = ltb-false channels n e
 
   pub all_claimed : IsCounted st channels keys → (s : SelNo) (n : ℕ) → (n ≤ keys s.0) ↔ AllClaimed st s n
-  all_claimed h s n = (λ le i below. h.claimed s.0 i ∙ lt-ltb i (keys s.0) (omega arith), λ all. by_order (nat_lt (keys s.0) n) refl all)
+  all_claimed h s n = (
+    λ le i below. h.claimed s.0 i
+        ∙ lt-ltb i (keys s.0) (omega arith),
+    λ all. by_order (nat_lt (keys s.0) n) refl all,
+  )
     where
       by_order : (b : Bool) → nat_lt (keys s.0) n ≡ b → AllClaimed st s n → n ≤ keys s.0
       by_order true e all =
-          let clash : true ≡ false = sym (all (keys s.0) (ltb-true (keys s.0) n e)) ∙ (h.claimed s.0 (keys s.0) ∙ le-ltb (keys s.0) (keys s.0) (omega arith)) in
+          let clash : true ≡ false = sym (all (keys s.0) (ltb-true (keys s.0) n e))
+          ∙ (h.claimed s.0 (keys s.0) ∙ le-ltb (keys s.0) (keys s.0) (omega arith)) in
           absurd cc
       by_order false e all = ltb-false (keys s.0) n e
 
@@ -43,7 +52,8 @@ same_below n c count le ne = by_order (nat_lt n count) refl
     by_order true e = sym (lt-ltb n (max count (c + 1)) (omega (arith, ltb-true n count e)))
     by_order false e = let above : count ≤ n = ltb-false n count e in sym (le-ltb n (max count (c + 1)) (omega arith))
 
-counted_more : {A : Type 0} (test : A → Bool) (f : ℕ → A) (c count : ℕ) (x : A) → c ≤ count → test x ≡ true → ((n : ℕ) → test (f n) ≡ nat_lt n count)
+counted_more : {A : Type 0} (test : A → Bool) (f : ℕ → A) (c count : ℕ) (x : A) → c ≤ count → test x ≡ true
+    → ((n : ℕ) → test (f n) ≡ nat_lt n count)
     → (n : ℕ) → test (put f c x n) ≡ nat_lt n (max count (c + 1))
 counted_more {A = A} test f c count x le is h n = by_test (n == c) refl
   where
@@ -54,7 +64,8 @@ counted_more {A = A} test f c count x le is h n = by_test (n == c) refl
         h n ∙ same_below n c count le ne
 
 -- what is made or claimed after the step is
-made_after : {A : Type 0} (test : A → Bool) (found : Bool) (was new : A) → found ≡ test was → test new ≡ true → test (if found then was else new) ≡ true
+made_after : {A : Type 0} (test : A → Bool) (found : Bool) (was new : A) → found ≡ test was → test new ≡ true
+    → test (if found then was else new) ≡ true
 made_after test true was new e is = sym e
 made_after test false was new e is = is
 
@@ -65,7 +76,8 @@ taken_some : (me : CallerNo) (o : Option CallerNo) → IsTrue (is_held_by me o) 
 taken_some me None h = cc
 taken_some me (Some n) h = refl
 
-pub counted-step : (l : Limits) (own : List Act) (st : State) (me : CallerNo) (act : Act) (channels : ℕ) (keys : ℕ → ℕ) → IsSound st
+pub counted-step : (l : Limits) (own : List Act) (st : State) (me : CallerNo) (act : Act) (channels : ℕ) (keys : ℕ → ℕ)
+    → IsSound st
     → Condition l own st me act → Answers st me act → IsCounted st channels keys
     → IsCounted (effect st me act) (channels_after channels act) (keys_after keys act)
 counted-step l own st me (MakeChannel c kind found) channels keys sound may answers h = record {
@@ -83,19 +95,23 @@ counted-step l own st me (CloseBit c found) channels keys sound may answers h = 
 }
 counted-step l own st me (CancelKey s i found) channels keys sound may answers h = record {
   made = h.made;
-  claimed = λ t j. put_at_keeps (λ t' j' x. x.claimed ≡ nat_lt j' (keys t')) st.key s.0 i _ (λ e. e) t j (h.claimed t j);
+  claimed = λ t j. put_at_keeps (λ t' j' x. x.claimed ≡ nat_lt j' (keys t')) st.key s.0 i _ (λ e. e) t j
+      (h.claimed t j);
 }
 counted-step l own st me (Publish s i found) channels keys sound may answers h = record {
   made = h.made;
-  claimed = λ t j. put_at_keeps (λ t' j' x. x.claimed ≡ nat_lt j' (keys t')) st.key s.0 i _ (λ e. e) t j (h.claimed t j);
+  claimed = λ t j. put_at_keeps (λ t' j' x. x.claimed ≡ nat_lt j' (keys t')) st.key s.0 i _ (λ e. e) t j
+      (h.claimed t j);
 }
 counted-step l own st me (Remove s i found) channels keys sound may answers h = record {
   made = h.made;
-  claimed = λ t j. put_at_keeps (λ t' j' x. x.claimed ≡ nat_lt j' (keys t')) st.key s.0 i _ (λ e. e) t j (h.claimed t j);
+  claimed = λ t j. put_at_keeps (λ t' j' x. x.claimed ≡ nat_lt j' (keys t')) st.key s.0 i _ (λ e. e) t j
+      (h.claimed t j);
 }
 counted-step l own st me (ClaimAgain s i c from found) channels keys sound may answers h = record {
   made = h.made;
-  claimed = λ t j. put_at_keeps (λ t' j' x. x.claimed ≡ nat_lt j' (keys t')) st.key s.0 i _ (λ e. by_found found e) t j (h.claimed t j);
+  claimed = λ t j. put_at_keeps (λ t' j' x. x.claimed ≡ nat_lt j' (keys t')) st.key s.0 i _ (λ e. by_found found e) t j
+      (h.claimed t j);
 }
   where
     was_claimed : (st.key s.0 i).claimed ≡ true
@@ -113,11 +129,14 @@ counted-step l own st me (Claim s i c found) channels keys sound may answers h =
 }
   where
     by_test : (t : ℕ) (b : Bool) → (t == s.0) ≡ b → (j : ℕ)
-        → (if b && (j == i) then (if found then st.key s.0 i else new_key c 0) else st.key t j).claimed ≡ nat_lt j (if b then max (keys s.0) (i + 1) else keys t)
+        → (if b && (j == i) then (if found then st.key s.0 i else new_key c 0) else st.key t j).claimed
+        ≡ nat_lt j (if b then max (keys s.0) (i + 1) else keys t)
     by_test t true e j =
         let same : t ≡ s.0 = eqb-true t s.0 e in
         ap (λ (k : ℕ). (if j == i then (if found then st.key s.0 i else new_key c 0) else st.key k j).claimed) same
-        ∙ counted_more (λ x. x.claimed) (st.key s.0) i (keys s.0) (if found then st.key s.0 i else new_key c 0) ((all_claimed h s i).1 may.3)
-        (made_after (λ x. x.claimed) found (st.key s.0 i) (new_key c 0) (found_is found (st.key s.0 i).claimed answers) refl) (h.claimed s.0) j
+        ∙ counted_more (λ x. x.claimed) (st.key s.0) i (keys s.0) (if found then st.key s.0 i else new_key c 0)
+        ((all_claimed h s i).1 may.3)
+        (made_after (λ x. x.claimed) found (st.key s.0 i) (new_key c 0) (found_is found (st.key s.0 i).claimed answers)
+        refl) (h.claimed s.0) j
     by_test t false e j = h.claimed t j
 counted-step l own st me _ channels keys sound may answers h = record { made = h.made; claimed = h.claimed }

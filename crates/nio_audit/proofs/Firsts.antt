@@ -1,5 +1,6 @@
 -- The first event that isn't a step: there is at most one, and none in a legal history.
-use Rattle.std.proofs.Common.{◌≡◌, ℕ, suc, ◌+◌, ◌<◌, nat_lt, Bool, true, false, List, [], ◌∷◌, ◌++◌, length, take, drop, get_or, drop-cons, refl, ap, sym, ◌∙◌, subst, arith}
+use Rattle.std.proofs.Common.{◌≡◌, ℕ, suc, ◌+◌, ◌<◌, nat_lt, Bool, true, false, List, [], ◌∷◌, ◌++◌, length, take, drop}
+use Rattle.std.proofs.Common.{get_or, drop-cons, refl, ap, sym, ◌∙◌, subst, arith}
 use Rattle.std.proofs.lemmas.Bool.{ltb-true, ltb-false}
 use Rattle.std.proofs.lemmas.List.{take-append-drop, length-take-le, take_more}
 use Rattle.nio_audit.specs.Following.{Follows, HasJudged}
@@ -13,7 +14,8 @@ use Rattle.nio_event.specs.declared.event.Event.{Event}
 pub judged-none : {j : Judge} {l : Limits} → j.limits ≡ l → Follows j [] → HasJudged j l []
 judged-none {l = l} limits follows = record { limits = limits; legal = legal_empty l; follows = follows }
 
-pub judged-more : {j j' : Judge} {l : Limits} {past : List Event} (e : Event) → HasJudged j l past → j'.limits ≡ j.limits → IsStep j.limits past e
+pub judged-more : {j j' : Judge} {l : Limits} {past : List Event} (e : Event) → HasJudged j l past
+    → j'.limits ≡ j.limits → IsStep j.limits past e
     → Follows j' (past ++ e ∷ []) → HasJudged j' l (past ++ e ∷ [])
 judged-more {l = l} {past = past} e judged limits step follows = record {
   limits = limits ∙ judged.limits;
@@ -25,7 +27,8 @@ pub first-illegal : (l : Limits) (events : List Event) (place : ℕ) → IsLegal
 first-illegal l events place legal first = first.no_step (legal.steps first.before first.event first.later first.split)
 
 -- of two beginnings of a list, the longer has the item after the shorter
-longer : {A : Type 0} (xs : List A) (x : A) (zs : List A) (ys ws : List A) → xs ++ x ∷ zs ≡ ys ++ ws → length xs < length ys
+longer : {A : Type 0} (xs : List A) (x : A) (zs : List A) (ys ws : List A) → xs ++ x ∷ zs ≡ ys ++ ws
+    → length xs < length ys
     → (rest : List A) × (ys ≡ xs ++ x ∷ rest)
 longer [] x zs [] ws e h = absurd (omega arith)
 longer [] x zs (y ∷ ys) ws e h = let same : x ≡ y = cc in (ys, ap (λ v. v ∷ ys) (sym same))
@@ -36,13 +39,16 @@ longer (v ∷ xs) x zs (y ∷ ys) ws e h =
     let more = longer xs x zs ys ws shorter (omega arith) in
     (more.0, ap (λ u. u ∷ ys) (sym same) ∙ ap (λ us. v ∷ us) more.1)
 
-not_before : (l : Limits) (events : List Event) (a b : ℕ) → IsFirstNoStep l events a → IsFirstNoStep l events b → a < b → ⊥
+not_before : (l : Limits) (events : List Event) (a b : ℕ) → IsFirstNoStep l events a → IsFirstNoStep l events b → a < b
+    → ⊥
 not_before l events a b first second h =
     let shorter : length first.before < length second.before = omega (arith, first.place_is, second.place_is) in
-    let more = longer first.before first.event first.later second.before (second.event ∷ second.later) (sym first.split ∙ second.split) shorter in
+    let more = longer first.before first.event first.later second.before (second.event ∷ second.later)
+    (sym first.split ∙ second.split) shorter in
     first.no_step (second.legal.steps first.before first.event more.0 more.1)
 
-pub first-one : (l : Limits) (events : List Event) (a b : ℕ) → IsFirstNoStep l events a → IsFirstNoStep l events b → a ≡ b
+pub first-one : (l : Limits) (events : List Event) (a b : ℕ) → IsFirstNoStep l events a → IsFirstNoStep l events b
+    → a ≡ b
 first-one l events a b first second = by_order (nat_lt a b) (nat_lt b a) refl refl
   where
     by_order : (x y : Bool) → nat_lt a b ≡ x → nat_lt b a ≡ y → a ≡ b
@@ -51,13 +57,16 @@ first-one l events a b first second = by_order (nat_lt a b) (nat_lt b a) refl re
     by_order false false e f = omega (arith, ltb-false a b e, ltb-false b a f)
 
 -- an event at a place that isn't a step after those before it, which are steps
-pub first-here : {l : Limits} {events : List Event} {place : ℕ} (e : Event) → place < length events → e ≡ get_or events place e → IsLegal l (take place events)
+pub first-here : {l : Limits} {events : List Event} {place : ℕ} (e : Event) → place < length events
+    → e ≡ get_or events place e → IsLegal l (take place events)
     → ¬ IsStep l (take place events) e → IsFirstNoStep l events place
 first-here {events = events} {place = place} e below is legal no_step = record {
   before = take place events;
   event = e;
   later = drop (suc place) events;
-  split = sym (take-append-drop place events) ∙ ap (λ rest. take place events ++ rest) (drop-cons events place e below ∙ ap (λ x. x ∷ drop (suc place) events) (sym is));
+  split = sym (take-append-drop place events)
+      ∙ ap (λ rest. take place events ++ rest)
+      (drop-cons events place e below ∙ ap (λ x. x ∷ drop (suc place) events) (sym is));
   place_is = length-take-le place events (omega arith);
   legal = legal;
   no_step = no_step;

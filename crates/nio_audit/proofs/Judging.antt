@@ -43,26 +43,33 @@ module _ {j : Judge} {past : List Event} (e : Event) (f : Follows j past) where
   step_iff = (
     λ passed. record {
       by_caller = passed.0;
-      condition = subst (λ (st : State). Condition j.limits (mine e.caller past) st e.caller e.act) f.state (condition_iff.0 passed.1);
+      condition = subst (λ (st : State). Condition j.limits (mine e.caller past) st e.caller e.act) f.state
+          (condition_iff.0 passed.1);
       answers = subst (λ (st : State). Answers st e.caller e.act) f.state passed.2;
     },
     λ step. (
       step.by_caller,
-      condition_iff.1 (subst (λ (st : State). Condition j.limits (mine e.caller past) st e.caller e.act) (sym f.state) step.condition),
+      condition_iff.1
+          (subst (λ (st : State). Condition j.limits (mine e.caller past) st e.caller e.act)
+          (sym f.state) step.condition),
       subst (λ (st : State). Answers st e.caller e.act) (sym f.state) step.answers,
     ),
   )
 
-bounded_act : (l : _) (past : List Event) (me : _) (act : Act) → IsLegal l past → IsStep l past (record { caller = me; act = act }) → IsBounded (state_after past) act
+bounded_act : (l : _) (past : List Event) (me : _) (act : Act) → IsLegal l past
+    → IsStep l past (record { caller = me; act = act }) → IsBounded (state_after past) act
 bounded_act l past me (ClaimAgain s i c from found) legal step =
-    let law = claims_again_the_removed l me s i c from found past [] (legal_more l past (event_of me (ClaimAgain s i c from found)) legal step) in
+    let law = claims_again_the_removed l me s i c from found past []
+    (legal_more l past (event_of me (ClaimAgain s i c from found)) legal step) in
     subst (λ (k : Stage). k.serial < last_serial) (sym law.0) step.condition.5
 bounded_act l past me _ legal step = tt
 
 -- the serial of an index that is claimed again has a next
-pub step-bounded : {j : Judge} {past : List Event} (e : Event) → Follows j past → IsLegal j.limits past → IsPassed j e → IsBounded (state_of j) e.act
+pub step-bounded : {j : Judge} {past : List Event} (e : Event) → Follows j past → IsLegal j.limits past → IsPassed j e
+    → IsBounded (state_of j) e.act
 step-bounded {j = j} {past = past} e f legal passed =
-    subst (λ (st : State). IsBounded st e.act) (sym f.state) (bounded_act j.limits past e.caller e.act legal ((step_iff e f).0 passed))
+    subst (λ (st : State). IsBounded st e.act) (sym f.state)
+    (bounded_act j.limits past e.caller e.act legal ((step_iff e f).0 passed))
 
 -- what going on by an event leaves
 pub record GoesOn (j j' : Judge) (now : ℕ) (e : Event) : Type 0 where
@@ -72,32 +79,40 @@ pub record GoesOn (j j' : Judge) (now : ℕ) (e : Event) : Type 0 where
   pub before : IsBefore j'.dues (now + 1)
   pub knowledge : knowledge_of j'.memory ≡ learned now e.caller e.act (knowledge_of j.memory)
 
-pub follows-more : {j j' : Judge} {past : List Event} (e : Event) → Follows j past → IsLegal j.limits past → IsPassed j e → GoesOn j j' (length past + 1) e
+pub follows-more : {j j' : Judge} {past : List Event} (e : Event) → Follows j past → IsLegal j.limits past
+    → IsPassed j e → GoesOn j j' (length past + 1) e
     → Follows j' (past ++ e ∷ [])
 follows-more {j = j} {j' = j'} {past = past} e f legal passed on = record {
   state = on.state ∙ (ap (λ st. effect st e.caller e.act) f.state ∙ sym (state_after-more past e));
   counted = subst (λ (st : State). IsCounted st j'.counts.channels (row j'.counts.keys)) (sym on.state)
       (subst (λ (n : ℕ). IsCounted (effect (state_of j) e.caller e.act) n (row j'.counts.keys)) (sym on.channels)
-      (subst (λ (g : ℕ → ℕ). IsCounted (effect (state_of j) e.caller e.act) (channels_after j.counts.channels e.act) g) (sym on.keys)
+      (subst (λ (g : ℕ → ℕ). IsCounted (effect (state_of j) e.caller e.act) (channels_after j.counts.channels e.act) g)
+      (sym on.keys)
       (counted-step j.limits (mine e.caller past) (state_of j) e.caller e.act j.counts.channels (row j.counts.keys)
-      (subst IsSound (sym f.state) (legal-sound j.limits past legal)) ((condition_iff e f).0 passed.1) passed.2 f.counted)));
+      (subst IsSound (sym f.state) (legal-sound j.limits past legal)) ((condition_iff e f).0 passed.1) passed.2
+      f.counted)));
   before =
       let longer : (length past + 1) + 1 ≡ length (past ++ e ∷ []) + 1 = omega (arith, length-append past (e ∷ [])) in
       subst (IsBefore j'.dues) longer on.before;
-  remembers = subst (λ (k : Knowledge). Remembers k (past ++ e ∷ [])) (sym on.knowledge) (remembers-more (knowledge_of j.memory) past e f.remembers);
+  remembers = subst (λ (k : Knowledge). Remembers k (past ++ e ∷ [])) (sym on.knowledge)
+      (remembers-more (knowledge_of j.memory) past e f.remembers);
 }
 
 -- the same whatever the step finds
-pub may_step_iff : {j : Judge} {l : Limits} {past : List Event} (me : CallerNo) (act : Act) → HasJudged j l past → (IsCaller j.limits me × IsAllowed j me act) ↔ MayStep l past me act
+pub may_step_iff : {j : Judge} {l : Limits} {past : List Event} (me : CallerNo) (act : Act) → HasJudged j l past
+    → (IsCaller j.limits me × IsAllowed j me act) ↔ MayStep l past me act
 may_step_iff {j = j} {l = l} {past = past} me act judged = (
   λ may. record {
     by_caller = subst (λ (l' : Limits). IsCaller l' me) judged.limits may.0;
     condition = subst (λ (l' : Limits). Condition l' (mine me past) (state_after past) me act) judged.limits
-        (subst (λ (st : State). Condition j.limits (mine me past) st me act) judged.follows.state ((condition_iff (event_of me act) judged.follows).0 may.1));
+        (subst (λ (st : State). Condition j.limits (mine me past) st me act) judged.follows.state
+        ((condition_iff (event_of me act) judged.follows).0 may.1));
   },
   λ may. (
     subst (λ (l' : Limits). IsCaller l' me) (sym judged.limits) may.by_caller,
-    (condition_iff (event_of me act) judged.follows).1 (subst (λ (st : State). Condition j.limits (mine me past) st me act) (sym judged.follows.state)
-        (subst (λ (l' : Limits). Condition l' (mine me past) (state_after past) me act) (sym judged.limits) may.condition)),
+    (condition_iff (event_of me act) judged.follows).1
+        (subst (λ (st : State). Condition j.limits (mine me past) st me act) (sym judged.follows.state)
+        (subst (λ (l' : Limits). Condition l' (mine me past) (state_after past) me act)
+        (sym judged.limits) may.condition)),
   ),
 )

@@ -36,39 +36,42 @@ pub same_state : (t : StateTables)
     → row t.entered ≡ opening.entered
     → grid t.taker ≡ opening.taker
     → t.channels_high ≡ opening.channels_high → state_with t (λ _ _. false) ≡ opening
-same_state t drawn interrupted selector chan hold noted gate turn keys_high key interest mark note pinned free begun closer entered taker channels_high = λ i. record {
-  drawn = drawn i;
-  interrupted = interrupted i;
-  selector = selector i;
-  chan = chan i;
-  hold = hold i;
-  noted = noted i;
-  gate = gate i;
-  turn = turn i;
-  keys_high = keys_high i;
-  key = key i;
-  interest = interest i;
-  mark = mark i;
-  note = note i;
-  pinned = pinned i;
-  free = free i;
-  begun = begun i;
-  closer = closer i;
-  entered = entered i;
-  taker = taker i;
-  channels_high = channels_high i;
-  put_due = λ _ _. false;
-}
+same_state t drawn interrupted selector chan hold noted gate turn keys_high key interest mark note pinned free begun
+    closer entered taker channels_high = λ i. record {
+      drawn = drawn i;
+      interrupted = interrupted i;
+      selector = selector i;
+      chan = chan i;
+      hold = hold i;
+      noted = noted i;
+      gate = gate i;
+      turn = turn i;
+      keys_high = keys_high i;
+      key = key i;
+      interest = interest i;
+      mark = mark i;
+      note = note i;
+      pinned = pinned i;
+      free = free i;
+      begun = begun i;
+      closer = closer i;
+      entered = entered i;
+      taker = taker i;
+      channels_high = channels_high i;
+      put_due = λ _ _. false;
+    }
 
 counted-opening : IsCounted opening 0 (λ _. 0)
 counted-opening = record { made = λ c. sym (le-ltb c 0 (omega arith)); claimed = λ s i. sym (le-ltb i 0 (omega arith)) }
 
-pub follows-none : {j : Judge} → state_with j.state (λ _ _. false) ≡ opening → due_of j.dues ≡ (λ _ _. false) → IsBefore j.dues 1 → j.counts.channels ≡ 0
+pub follows-none : {j : Judge} → state_with j.state (λ _ _. false) ≡ opening → due_of j.dues ≡ (λ _ _. false)
+    → IsBefore j.dues 1 → j.counts.channels ≡ 0
     → row j.counts.keys ≡ (λ _. 0) → knowledge_of j.memory ≡ nothing_known → Follows j []
 follows-none {j = j} opens due before channels keys knowledge = record {
   state = is_opening;
   counted = subst (λ (st : State). IsCounted st j.counts.channels (row j.counts.keys)) (sym is_opening)
-      (subst (λ (n : ℕ). IsCounted opening n (row j.counts.keys)) (sym channels) (subst (λ (f : ℕ → ℕ). IsCounted opening 0 f) (sym keys) counted-opening));
+      (subst (λ (n : ℕ). IsCounted opening n (row j.counts.keys)) (sym channels)
+      (subst (λ (f : ℕ → ℕ). IsCounted opening 0 f) (sym keys) counted-opening));
   before = before;
   remembers = subst (λ (k : Knowledge). Remembers k []) (sym knowledge) remembers-none;
 }

@@ -10,10 +10,12 @@ use Rattle.nio_audit.specs.declared.memory.Claim.{Claim}
 use Rattle.nio_base.specs.declared.limits.Limits.{Limits}
 use Rattle.nio_base.specs.declared.numbers.CallerNo.{CallerNo}
 use Rattle.nio_base.specs.declared.numbers.SelNo.{SelNo}
-use Rattle.nio_event.specs.Conditions.{Condition, IsChannel, IsKey, IsSelector, holds, has_entered, has_taken, may_remove_cancelled}
+use Rattle.nio_event.specs.Conditions.{Condition, IsChannel, IsKey, IsSelector, holds, has_entered, has_taken}
+use Rattle.nio_event.specs.Conditions.{may_remove_cancelled}
 use Rattle.nio_event.specs.State.{State, last_serial}
 use Rattle.nio_event.specs.declared.act.Act.{Act}
-use Rattle.nio_event.specs.declared.act.Act.TheVariants.{MakeChannel, Claim as ClaimAct, RaiseKeys, RaiseChannels, Publish, Enrol, Remove, SetMode, ClearMark, ClaimAgain}
+use Rattle.nio_event.specs.declared.act.Act.TheVariants.{MakeChannel, Claim as ClaimAct, RaiseKeys, RaiseChannels}
+use Rattle.nio_event.specs.declared.act.Act.TheVariants.{Publish, Enrol, Remove, SetMode, ClearMark, ClaimAgain}
 
 -- the state that a judge has
 abbrev pub state_of : Judge → State
@@ -30,19 +32,25 @@ may_clear_out_by st k me s i = has_entered st me s && nat_lt i (k.closings me.0 
 
 abbrev pub Allowed : Limits → Knowledge → ℕ → (ℕ → ℕ) → State → CallerNo → Act → Type 0
 Allowed l k channels keys st me (MakeChannel c kind found) = IsChannel l c × (c.0 ≤ channels)
-Allowed l k channels keys st me (ClaimAct s i c found) = IsKey l s i × IsChannel l c × IsTrue (holds st me c) × (i ≤ keys s.0)
+Allowed l k channels keys st me (ClaimAct s i c found) =
+    IsKey l s i × IsChannel l c × IsTrue (holds st me c) × (i ≤ keys s.0)
 Allowed l k channels keys st me (RaiseKeys s n found) = IsSelector l s × (n ≤ l.keys) × (n ≤ keys s.0)
 Allowed l k channels keys st me (RaiseChannels n found) = (n ≤ l.channels) × (n ≤ channels)
-Allowed l k channels keys st me (Publish s i found) = IsKey l s i × IsTrue (may_publish_by st k me (k.indexes me.0 s.0 i).claim)
+Allowed l k channels keys st me (Publish s i found) =
+    IsKey l s i × IsTrue (may_publish_by st k me (k.indexes me.0 s.0 i).claim)
 Allowed l k channels keys st me (Enrol c s i serial found) =
-    IsChannel l c × IsKey l s i × ((k.indexes me.0 s.0 i).claim ≡ Some (record { channel = c; serial = serial })) × IsTrue (holds st me c)
+    IsChannel l c × IsKey l s i × ((k.indexes me.0 s.0 i).claim ≡ Some (record { channel = c; serial = serial }))
+    × IsTrue (holds st me c)
     × IsTrue (is_clear_for k me c.0 s.0)
-Allowed l k channels keys st me (Remove s i found) = IsKey l s i × IsTrue (may_remove_cancelled st me s i || may_clear_out_by st k me s i)
+Allowed l k channels keys st me (Remove s i found) =
+    IsKey l s i × IsTrue (may_remove_cancelled st me s i || may_clear_out_by st k me s i)
 Allowed l k channels keys st me (SetMode c blocking found) =
-    IsChannel l c × IsTrue (holds st me c) × (IsTrue blocking → (s : ℕ) → s < l.selectors → IsTrue (is_clear_for k me c.0 s))
+    IsChannel l c × IsTrue (holds st me c)
+    × (IsTrue blocking → (s : ℕ) → s < l.selectors → IsTrue (is_clear_for k me c.0 s))
 Allowed l k channels keys st me (ClearMark s i found) = IsKey l s i × IsTrue (k.indexes me.0 s.0 i).unpublished
 Allowed l k channels keys st me (ClaimAgain s i c from found) =
-    IsKey l s i × IsChannel l c × IsTrue (holds st me c) × IsTrue (has_taken st me s i) × (found_by (k.indexes me.0 s.0 i) ≡ Some from)
+    IsKey l s i × IsChannel l c × IsTrue (holds st me c) × IsTrue (has_taken st me s i)
+    × (found_by (k.indexes me.0 s.0 i) ≡ Some from)
     × (from.serial < last_serial)
 Allowed l k channels keys st me act = Condition l [] st me act
 

@@ -11,7 +11,9 @@ use Rattle.nio_base.specs.declared.numbers.CallerNo.{CallerNo}
 use Rattle.nio_event.specs.Sets.{is_in_key_set}
 use Rattle.nio_event.specs.State.{put_at, unclaimed}
 use Rattle.nio_event.specs.declared.act.Act.{Act}
-use Rattle.nio_event.specs.declared.act.Act.TheVariants.{LookKey, LookChannel, Claim as ClaimAct, LookKeys, LookReg, Enrol, TryHoldBit, Enter, Publish, Pin, Unpin, ClaimAgain, TakeFree}
+use Rattle.nio_event.specs.declared.act.Act.TheVariants.{LookKey, LookChannel, Claim as ClaimAct, LookKeys, LookReg}
+use Rattle.nio_event.specs.declared.act.Act.TheVariants.{Enrol, TryHoldBit, Enter, Publish, Pin, Unpin, ClaimAgain}
+use Rattle.nio_event.specs.declared.act.Act.TheVariants.{TakeFree}
 use Rattle.nio_event.specs.declared.found.Stage.{Stage}
 
 -- by the caller, and then by the channel; the channel and the selector; the selector and the index; the selector
@@ -22,7 +24,8 @@ pub record Knowledge : Type 0 where
   pub closings : ℕ → ℕ → ClosingMemory
 
 abbrev pub knowledge_of : Memory → Knowledge
-knowledge_of m = record { holds = grid m.holds; notes = cube m.notes; indexes = cube m.indexes; closings = grid m.closings }
+knowledge_of m =
+    record { holds = grid m.holds; notes = cube m.notes; indexes = cube m.indexes; closings = grid m.closings }
 
 abbrev pub nothing_known : Knowledge
 nothing_known = record {
@@ -77,7 +80,8 @@ learned_hold now _ m = m
 
 abbrev pub learned_note : ℕ → Act → NoteMemory → NoteMemory
 learned_note now (LookReg c s found) m = record m { found_at = now; key = found }
-learned_note now (Enrol c s i serial found) m = record { found_at = now; key = Some (record { index = i; serial = serial }); noted = now }
+learned_note now (Enrol c s i serial found) m =
+    record { found_at = now; key = Some (record { index = i; serial = serial }); noted = now }
 learned_note now _ m = m
 
 abbrev pub learned_index : ℕ → Act → IndexMemory → IndexMemory
@@ -86,7 +90,8 @@ learned_index now (Pin s i found) m = looked_again now found m
 learned_index now (Publish s i found) m = record m { published = now; unpublished = false }
 learned_index now (TakeFree s i found) m = record m { taken = if found then now else m.taken }
 learned_index now (ClaimAct s i c found) m = with_claim (record { channel = c; serial = 0 }) found m
-learned_index now (ClaimAgain s i c from found) m = with_claim (record { channel = c; serial = suc from.serial }) found m
+learned_index now (ClaimAgain s i c from found) m =
+    with_claim (record { channel = c; serial = suc from.serial }) found m
 learned_index now (Unpin s i) m = record m { claim = None }
 learned_index now _ m = m
 
@@ -98,16 +103,25 @@ learned_closing now _ m = m
 -- what the caller knows after its act
 abbrev pub learned : ℕ → CallerNo → Act → Knowledge → Knowledge
 learned now me (TryHoldBit c found) k = with_hold me.0 c.0 (learned_hold now (TryHoldBit c found) (k.holds me.0 c.0)) k
-learned now me (LookChannel c found) k = with_hold me.0 c.0 (learned_hold now (LookChannel c found) (k.holds me.0 c.0)) k
-learned now me (LookReg c s found) k = with_note me.0 c.0 s.0 (learned_note now (LookReg c s found) (k.notes me.0 c.0 s.0)) k
-learned now me (Enrol c s i serial found) k = with_note me.0 c.0 s.0 (learned_note now (Enrol c s i serial found) (k.notes me.0 c.0 s.0)) k
-learned now me (LookKey s i found) k = with_index me.0 s.0 i (learned_index now (LookKey s i found) (k.indexes me.0 s.0 i)) k
+learned now me (LookChannel c found) k =
+    with_hold me.0 c.0 (learned_hold now (LookChannel c found) (k.holds me.0 c.0)) k
+learned now me (LookReg c s found) k =
+    with_note me.0 c.0 s.0 (learned_note now (LookReg c s found) (k.notes me.0 c.0 s.0)) k
+learned now me (Enrol c s i serial found) k =
+    with_note me.0 c.0 s.0 (learned_note now (Enrol c s i serial found) (k.notes me.0 c.0 s.0)) k
+learned now me (LookKey s i found) k =
+    with_index me.0 s.0 i (learned_index now (LookKey s i found) (k.indexes me.0 s.0 i)) k
 learned now me (Pin s i found) k = with_index me.0 s.0 i (learned_index now (Pin s i found) (k.indexes me.0 s.0 i)) k
-learned now me (Publish s i found) k = with_index me.0 s.0 i (learned_index now (Publish s i found) (k.indexes me.0 s.0 i)) k
-learned now me (TakeFree s i found) k = with_index me.0 s.0 i (learned_index now (TakeFree s i found) (k.indexes me.0 s.0 i)) k
-learned now me (ClaimAct s i c found) k = with_index me.0 s.0 i (learned_index now (ClaimAct s i c found) (k.indexes me.0 s.0 i)) k
-learned now me (ClaimAgain s i c from found) k = with_index me.0 s.0 i (learned_index now (ClaimAgain s i c from found) (k.indexes me.0 s.0 i)) k
+learned now me (Publish s i found) k =
+    with_index me.0 s.0 i (learned_index now (Publish s i found) (k.indexes me.0 s.0 i)) k
+learned now me (TakeFree s i found) k =
+    with_index me.0 s.0 i (learned_index now (TakeFree s i found) (k.indexes me.0 s.0 i)) k
+learned now me (ClaimAct s i c found) k =
+    with_index me.0 s.0 i (learned_index now (ClaimAct s i c found) (k.indexes me.0 s.0 i)) k
+learned now me (ClaimAgain s i c from found) k =
+    with_index me.0 s.0 i (learned_index now (ClaimAgain s i c from found) (k.indexes me.0 s.0 i)) k
 learned now me (Unpin s i) k = with_index me.0 s.0 i (learned_index now (Unpin s i) (k.indexes me.0 s.0 i)) k
 learned now me (Enter s found) k = with_closing me.0 s.0 (learned_closing now (Enter s found) (k.closings me.0 s.0)) k
-learned now me (LookKeys s found) k = with_closing me.0 s.0 (learned_closing now (LookKeys s found) (k.closings me.0 s.0)) k
+learned now me (LookKeys s found) k =
+    with_closing me.0 s.0 (learned_closing now (LookKeys s found) (k.closings me.0 s.0)) k
 learned now me _ k = k

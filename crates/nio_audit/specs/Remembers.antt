@@ -9,7 +9,9 @@ use Rattle.nio_audit.specs.declared.memory.IndexMemory.{IndexMemory}
 use Rattle.nio_audit.specs.declared.memory.NoteMemory.{NoteMemory}
 use Rattle.nio_base.specs.declared.numbers.CallerNo.{CallerNo}
 use Rattle.nio_event.specs.Histories.{mine}
-use Rattle.nio_event.specs.OwnEvents.{OwnClaim, has, last, since_entered, takes_hold, finds_unblocked, noted_found, notes_key, publishes, stage_found, is_outside, takes_free, own_claim, is_unpublished, enters, finds_below}
+use Rattle.nio_event.specs.OwnEvents.{OwnClaim, has, last, since_entered, takes_hold, finds_unblocked, noted_found}
+use Rattle.nio_event.specs.OwnEvents.{notes_key, publishes, stage_found, is_outside, takes_free, own_claim}
+use Rattle.nio_event.specs.OwnEvents.{is_unpublished, enters, finds_below}
 use Rattle.nio_event.specs.declared.event.Event.{Event}
 
 pub record RemembersHold (m : HoldMemory) (n : CallerNo) (c : ℕ) (past : List Event) : Type 0 where

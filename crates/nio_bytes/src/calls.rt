@@ -25,6 +25,7 @@ impl Model for Calls {
 impl Calls {
     ghost use Rattle.nio_bytes.specs.Calls.{no_calls, after_success, after_failure, FailsNext};
 
+    /// No call was made yet. Those with these numbers, counted from 0, are to fail.
     pub fn new(fail_at: Vec<u64>) -> Calls
         ensures { result ≡ no_calls fail_at.items }
     {

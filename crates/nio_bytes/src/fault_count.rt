@@ -20,6 +20,7 @@ impl Model for FaultCount {
 }
 
 impl FaultCount {
+    /// No fault yet.
     pub fn new() -> FaultCount
         ensures { result ≡ 0 }
     {

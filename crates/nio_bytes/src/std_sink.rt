@@ -20,6 +20,7 @@ pub struct StdSink<T> {
 impl<T: Write> StdSink<T> {
     ghost use Rattle.nio_bytes.specs.StdSink.{writer, faults_of};
 
+    /// A sink over this writer.
     pub fn over(inner: T) -> StdSink<T>
         ensures writer { writer result ≡ inner }
         ensures faults { faults_of result ≡ 0 }

@@ -19,6 +19,7 @@ pub struct StdSource<R> {
 impl<R: Read> StdSource<R> {
     ghost use Rattle.nio_bytes.specs.StdSource.{reader, faults_of};
 
+    /// A source over this reader.
     pub fn over(inner: R) -> StdSource<R>
         ensures reader { reader result ≡ inner }
         ensures faults { faults_of result ≡ 0 }

@@ -25,6 +25,7 @@ impl Model for SteadySource {
 }
 
 impl SteadySource {
+    /// A source of these bytes, and then the end.
     pub fn make(bytes: Vec<u8>) -> SteadySource
         ensures { result ≡ bytes.items }
     {

@@ -1,5 +1,6 @@
 -- What stands under the hold of a channel after one step more.
-use Rattle.std.proofs.Common.{◌≡◌, ℕ, ◌==◌, Bool, true, false, ◌&&◌, ◌||◌, Option, Some, None, [], ◌∷◌, ◌++◌, refl, ap, sym, ◌∙◌, subst, below_more, arith, ◌+◌, not, eq-eqb, if◌then◌else◌}
+use Rattle.std.proofs.Common.{◌≡◌, ℕ, ◌==◌, Bool, true, false, ◌&&◌, ◌||◌, Option, Some, None, [], ◌∷◌, ◌++◌, refl, ap}
+use Rattle.std.proofs.Common.{sym, ◌∙◌, subst, below_more, arith, ◌+◌, not, eq-eqb, if◌then◌else◌}
 use Rattle.std.specs.Prelude.{nat_lt, IfSome, IsTrue}
 use Rattle.std.proofs.lemmas.Bool.{and_parts, and_from, or_right, ne_eqb}
 use Rattle.nio_base.specs.declared.numbers.CallerNo.{CallerNo}
@@ -34,29 +35,36 @@ use Rattle.nio_words.specs.Steps.{Steps}
 use Rattle.nio_words.specs.Views.{view}
 use Rattle.nio_words.specs.declared.words.Pass.{Pass}
 use Rattle.nio_words.specs.declared.words.Words.{Words}
-use Rattle.nio_channel.proofs.Own.{is_quiet, quiet_holds, quiet_keeps, quiet_unclosed, under_longer, under_found, under_never, told_look, clear_quiet, clear_look_else, clear_none, clear_looked}
+use Rattle.nio_channel.proofs.Own.{is_quiet, quiet_holds, quiet_keeps, quiet_unclosed, under_longer, under_found}
+use Rattle.nio_channel.proofs.Own.{under_never, told_look, clear_quiet, clear_look_else, clear_none, clear_looked}
 use Rattle.nio_channel.specs.Held.{HoldsChannel, HoldsUnblocked, MayNote, IsClearBelow}
 use Rattle.nio_channel.specs.Registered.{found_closed}
 
 -- the caller's acts grow by the step
-pub own_more : {w : Words} {p q : Pass} {me : CallerNo} {act : Act} → Steps w p q me act → finds_drawn act ≡ false → acts_seen q me ≡ acts_seen p me ++ act ∷ []
+pub own_more : {w : Words} {p q : Pass} {me : CallerNo} {act : Act} → Steps w p q me act → finds_drawn act ≡ false
+    → acts_seen q me ≡ acts_seen p me ++ act ∷ []
 own_more steps new = (step_acts steps new).history.own
 
 -- a caller has what it had, where the step doesn't give it back
-pub had_stays : {w : Words} {p q : Pass} {me : CallerNo} {act : Act} (f : OwnFact) → Steps w p q me act → finds_drawn act ≡ false → gives_back f act ≡ false → IsPassOf w p
+pub had_stays : {w : Words} {p q : Pass} {me : CallerNo} {act : Act} (f : OwnFact) → Steps w p q me act
+    → finds_drawn act ≡ false → gives_back f act ≡ false → IsPassOf w p
     → is_had_by me f (state_seen p) ≡ true → is_had_by me f (state_seen q) ≡ true
 had_stays {w = w} {p = p} {q = q} {me = me} {act = act} f steps new keeps pass had =
     let clause = (step_acts steps new).history in
     own_stands w me f (act ∷ []) p q
     (record {
-      goes_on = record { later = record { earlier_pass = pass; later_pass = steps.pass; begins = clause.goes_on }; own = clause.own };
+      goes_on = record {
+        later = record { earlier_pass = pass; later_pass = steps.pass; begins = clause.goes_on };
+        own = clause.own;
+      };
       has_it = had;
       kept = ap (λ b. b || false) keeps;
     })
 
 -- ---- the hold
 
-pub hold_stays : {w : Words} {p q : Pass} {me : CallerNo} {act : Act} {c : ChanNo} → Steps w p q me act → finds_drawn act ≡ false → releases c.0 act ≡ false
+pub hold_stays : {w : Words} {p q : Pass} {me : CallerNo} {act : Act} {c : ChanNo} → Steps w p q me act
+    → finds_drawn act ≡ false → releases c.0 act ≡ false
     → HoldsChannel w p me c → HoldsChannel w q me c
 hold_stays {w = w} {p = p} {q = q} {me = me} {act = act} {c = c} steps new keeps held = record {
   ready = still_ready w p q me me act steps held.ready;
@@ -65,37 +73,46 @@ hold_stays {w = w} {p = p} {q = q} {me = me} {act = act} {c = c} steps new keeps
 }
 
 -- who just took the hold of a channel has it
-held_now : {me : CallerNo} {c : ChanNo} {v0 v1 : PassView} → ActsClause me (TryHoldBit c None ∷ []) v0 v1 → holds (known v1) me c ≡ true
+held_now : {me : CallerNo} {c : ChanNo} {v0 v1 : PassView} → ActsClause me (TryHoldBit c None ∷ []) v0 v1
+    → holds (known v1) me c ≡ true
 held_now {me = me} {c = c} {v0 = v0} {v1 = v1} clause =
     let leaves = step_leaves v0.limits (HoldsNumber v0) me (TryHoldBit c None) v0.seen v1.seen clause.history in
     let before : State = state_after (v0.seen ++ leaves.between) in
-    ap (λ st. holds st me c) leaves.state ∙ (ap (is_held_by me) (put-same before.hold c.0 (Some me)) ∙ eq-eqb me.0 me.0 refl)
+    ap (λ st. holds st me c) leaves.state
+    ∙ (ap (is_held_by me) (put-same before.hold c.0 (Some me)) ∙ eq-eqb me.0 me.0 refl)
 
-pub takes_the_hold : {w : Words} {p q : Pass} {me : CallerNo} {c : ChanNo} {found : Option CallerNo} → Steps w p q me (TryHoldBit c found) → found ≡ None → IsReady w p me
+pub takes_the_hold : {w : Words} {p q : Pass} {me : CallerNo} {c : ChanNo} {found : Option CallerNo}
+    → Steps w p q me (TryHoldBit c found) → found ≡ None → IsReady w p me
     → IsChannel (limits_of w) c → HoldsChannel w q me c
 takes_the_hold {w = w} {p = p} {q = q} {me = me} {c = c} {found = found} steps free ready inside = record {
   ready = still_ready w p q me me (TryHoldBit c found) steps ready;
   channel = inside;
-  holding = held_now (subst (λ holder. ActsClause me (TryHoldBit c holder ∷ []) (view w p) (view w q)) free (step_acts steps refl));
+  holding = held_now
+      (subst (λ holder. ActsClause me (TryHoldBit c holder ∷ []) (view w p) (view w q)) free (step_acts steps refl));
 }
 
 -- a step that neither takes nor gives back a hold, and doesn't find the channel closed
-pub unblocked_over : {w : Words} {p q : Pass} {me : CallerNo} {act : Act} {c : ChanNo} → Steps w p q me act → finds_drawn act ≡ false
-    → takes_hold c.0 act ≡ false → releases c.0 act ≡ false → finds act (channel_closed c.0) ≡ false → HoldsUnblocked w p me c → HoldsUnblocked w q me c
+pub unblocked_over : {w : Words} {p q : Pass} {me : CallerNo} {act : Act} {c : ChanNo} → Steps w p q me act
+    → finds_drawn act ≡ false
+    → takes_hold c.0 act ≡ false → releases c.0 act ≡ false → finds act (channel_closed c.0) ≡ false
+    → HoldsUnblocked w p me c → HoldsUnblocked w q me c
 unblocked_over {p = p} {me = me} {act = act} {c = c} steps new takes keeps unclosed here = record {
   held = hold_stays steps new keeps here.held;
-  unblocked = ap (λ own. has (finds_unblocked c.0) (under c.0 own)) (own_more steps new) ∙ under_longer (finds_unblocked c.0) c.0 (acts_seen p me) act takes here.unblocked;
+  unblocked = ap (λ own. has (finds_unblocked c.0) (under c.0 own)) (own_more steps new)
+      ∙ under_longer (finds_unblocked c.0) c.0 (acts_seen p me) act takes here.unblocked;
   unclosed =
       ap (λ own. has (λ a. finds a (channel_closed c.0)) (under c.0 own)) (own_more steps new)
       ∙ under_never (λ a. finds a (channel_closed c.0)) c.0 (acts_seen p me) act takes unclosed here.unclosed;
 }
 
-pub unblocked_stays : {w : Words} {p q : Pass} {me : CallerNo} {act : Act} {c : ChanNo} → Steps w p q me act → finds_drawn act ≡ false → is_quiet act ≡ true
+pub unblocked_stays : {w : Words} {p q : Pass} {me : CallerNo} {act : Act} {c : ChanNo} → Steps w p q me act
+    → finds_drawn act ≡ false → is_quiet act ≡ true
     → HoldsUnblocked w p me c → HoldsUnblocked w q me c
 unblocked_stays {act = act} {c = c} steps new quiet here =
     unblocked_over steps new (quiet_holds c.0 act quiet) (quiet_keeps c.0 act quiet) (quiet_unclosed c.0 act quiet) here
 
-pub may_note_stays : {w : Words} {p q : Pass} {me : CallerNo} {act : Act} {c : ChanNo} {s : SelNo} → Steps w p q me act → finds_drawn act ≡ false → is_quiet act ≡ true
+pub may_note_stays : {w : Words} {p q : Pass} {me : CallerNo} {act : Act} {c : ChanNo} {s : SelNo} → Steps w p q me act
+    → finds_drawn act ≡ false → is_quiet act ≡ true
     → MayNote w p me c s → MayNote w q me c s
 may_note_stays {p = p} {me = me} {act = act} {c = c} {s = s} steps new quiet here = record {
   unblocked = unblocked_stays steps new quiet here.unblocked;
@@ -105,37 +122,45 @@ may_note_stays {p = p} {me = me} {act = act} {c = c} {s = s} steps new quiet her
 -- ---- no key in the key set is noted in the first selectors
 
 -- a step that is of no consequence leaves it so
-pub clear_below_stays : {w : Words} {p q : Pass} {me : CallerNo} {act : Act} (c : ChanNo) (n : ℕ) → Steps w p q me act → finds_drawn act ≡ false → is_quiet act ≡ true
+pub clear_below_stays : {w : Words} {p q : Pass} {me : CallerNo} {act : Act} (c : ChanNo) (n : ℕ) → Steps w p q me act
+    → finds_drawn act ≡ false → is_quiet act ≡ true
     → IsClearBelow p me c n → IsClearBelow q me c n
 clear_below_stays {p = p} {me = me} {act = act} c n steps new quiet clear s below =
     ap (is_clear c.0 s) (own_more steps new) ∙ clear_quiet c.0 s (acts_seen p me) act quiet (clear s below)
 
 -- so does a look in the next selector
-pub clear_below_look : {w : Words} {p q : Pass} {me : CallerNo} {c : ChanNo} {s : SelNo} {noted : Option KeyId} → Steps w p q me (LookReg c s noted)
+pub clear_below_look : {w : Words} {p q : Pass} {me : CallerNo} {c : ChanNo} {s : SelNo} {noted : Option KeyId}
+    → Steps w p q me (LookReg c s noted)
     → IsClearBelow p me c s.0 → IsClearBelow q me c s.0
 clear_below_look {p = p} {me = me} {c = c} {s = s} {noted = noted} steps clear s' below =
     let other : (s.0 == s') ≡ false = ne_eqb s.0 s' (λ is. omega arith) in
     ap (is_clear c.0 s') (own_more steps refl) ∙ clear_look_else c s' s noted (acts_seen p me) other (clear s' below)
 
 -- none was found noted in the next
-pub clear_below_none : {w : Words} {p q : Pass} {me : CallerNo} {c : ChanNo} {s : SelNo} → Steps w p q me (LookReg c s None)
+pub clear_below_none : {w : Words} {p q : Pass} {me : CallerNo} {c : ChanNo} {s : SelNo}
+    → Steps w p q me (LookReg c s None)
     → IsClearBelow p me c s.0 → IsClearBelow q me c (s.0 + 1)
 clear_below_none {p = p} {me = me} {c = c} {s = s} steps clear =
-    below_more _ _ (clear_below_look steps clear) (ap (is_clear c.0 s.0) (own_more steps refl) ∙ clear_none c s (acts_seen p me))
+    below_more _ _ (clear_below_look steps clear)
+    (ap (is_clear c.0 s.0) (own_more steps refl) ∙ clear_none c s (acts_seen p me))
 
 -- the one that was found noted in the next was found outside the key set
-pub clear_below_outside : {w : Words} {p q r : Pass} {me : CallerNo} {c : ChanNo} {s : SelNo} {k : KeyId} {stage : Stage} → Steps w p q me (LookReg c s (Some k))
-    → Steps w q r me (LookKey s k.index stage) → is_in_key_set stage k.serial ≡ false → IsClearBelow p me c s.0 → IsClearBelow r me c (s.0 + 1)
+pub clear_below_outside : {w : Words} {p q r : Pass} {me : CallerNo} {c : ChanNo} {s : SelNo} {k : KeyId}
+    {stage : Stage} → Steps w p q me (LookReg c s (Some k))
+    → Steps w q r me (LookKey s k.index stage) → is_in_key_set stage k.serial ≡ false → IsClearBelow p me c s.0
+    → IsClearBelow r me c (s.0 + 1)
 clear_below_outside {p = p} {q = q} {me = me} {c = c} {s = s} {k = k} {stage = stage} look there out clear =
     below_more _ _ (clear_below_stays c s.0 there refl refl (clear_below_look look clear))
     (ap (is_clear c.0 s.0) (own_more there refl)
     ∙ clear_looked c.0 s k stage (acts_seen q me) out
-    (ap (λ own. last (noted_found c.0 s.0) (under c.0 own)) (own_more look refl) ∙ told_look c s (Some k) (acts_seen p me)))
+    (ap (λ own. last (noted_found c.0 s.0) (under c.0 own)) (own_more look refl)
+    ∙ told_look c s (Some k) (acts_seen p me)))
 
 -- ---- the noted key
 
 -- a key that was found noted has an index of the selector
-pub noted_inside : {w : Words} {p q : Pass} {me : CallerNo} {c : ChanNo} {s : SelNo} (noted : Option KeyId) → Steps w p q me (LookReg c s noted) → IsSelector (limits_of w) s
+pub noted_inside : {w : Words} {p q : Pass} {me : CallerNo} {c : ChanNo} {s : SelNo} (noted : Option KeyId)
+    → Steps w p q me (LookReg c s noted) → IsSelector (limits_of w) s
     → IfSome noted (λ k. IsKey (limits_of w) s k.index)
 noted_inside None steps inside = tt
 noted_inside {w = w} {q = q} {c = c} {s = s} (Some k) steps inside = (inside, (within.noted c.0 s.0 k (sym told)).0)
@@ -147,7 +172,8 @@ noted_inside {w = w} {q = q} {c = c} {s = s} (Some k) steps inside = (inside, (w
     within = legal-within (limits_of w) (seen q) steps.pass.legal
 
 -- and it is claimed
-pub noted_claimed : {w : Words} {p q : Pass} {me : CallerNo} {c : ChanNo} {s : SelNo} (noted : Option KeyId) → Steps w p q me (LookReg c s noted)
+pub noted_claimed : {w : Words} {p q : Pass} {me : CallerNo} {c : ChanNo} {s : SelNo} (noted : Option KeyId)
+    → Steps w p q me (LookReg c s noted)
     → IfSome noted (λ k. IsTrue (is_claimed (state_seen q) s k.index))
 noted_claimed None steps = tt
 noted_claimed {w = w} {q = q} {c = c} {s = s} (Some k) steps =
@@ -159,13 +185,16 @@ noted_claimed {w = w} {q = q} {c = c} {s = s} (Some k) steps =
 -- ---- keys
 
 -- a stage that shows a key in the key set shows that it was published
-pub in_set_published : (stage : Stage) (serial : ℕ) → is_in_key_set stage serial ≡ true → was_published stage serial ≡ true
+pub in_set_published : (stage : Stage) (serial : ℕ) → is_in_key_set stage serial ≡ true
+    → was_published stage serial ≡ true
 in_set_published stage serial inside =
     let parts = and_parts (fits stage serial) (in_key_set stage) inside in
-    or_right (nat_lt serial stage.serial) (fits stage serial && stage.published) (and_from (fits stage serial) stage.published parts.0 (and_parts stage.published (not stage.removed) parts.1).0)
+    or_right (nat_lt serial stage.serial) (fits stage serial && stage.published)
+    (and_from (fits stage serial) stage.published parts.0 (and_parts stage.published (not stage.removed) parts.1).0)
 
 -- a key that a look just found in the key set
-pub looked_key : {w : Words} {p q : Pass} {me : CallerNo} {s : SelNo} {k : KeyId} {stage : Stage} → Steps w p q me (LookKey s k.index stage) → IsKey (limits_of w) s k.index
+pub looked_key : {w : Words} {p q : Pass} {me : CallerNo} {s : SelNo} {k : KeyId} {stage : Stage}
+    → Steps w p q me (LookKey s k.index stage) → IsKey (limits_of w) s k.index
     → is_in_key_set stage k.serial ≡ true → HasKey (view w q) (key s k)
 looked_key {s = s} {k = k} {stage = stage} steps inside found = record {
   inside = inside;
@@ -177,10 +206,12 @@ looked_key {s = s} {k = k} {stage = stage} steps inside found = record {
 pub valid_in_set : (stage : Stage) (serial : ℕ) → is_valid_key stage serial ≡ true → is_in_key_set stage serial ≡ true
 valid_in_set stage serial valid =
     let parts = and_parts (fits stage serial) (is_valid stage) valid in
-    and_from (fits stage serial) (in_key_set stage) parts.0 (and_parts (in_key_set stage) (not stage.cancelled) parts.1).0
+    and_from (fits stage serial) (in_key_set stage) parts.0
+    (and_parts (in_key_set stage) (not stage.cancelled) parts.1).0
 
 -- a key of the key set that isn't cancelled is valid
-pub invalid_outside : (stage : Stage) (serial : ℕ) → (is_in_key_set stage serial && stage.cancelled) ≡ false → is_valid_key stage serial ≡ false → is_in_key_set stage serial ≡ false
+pub invalid_outside : (stage : Stage) (serial : ℕ) → (is_in_key_set stage serial && stage.cancelled) ≡ false
+    → is_valid_key stage serial ≡ false → is_in_key_set stage serial ≡ false
 invalid_outside stage serial = by_parts (fits stage serial) (in_key_set stage) stage.cancelled
   where
     by_parts : (f i c : Bool) → ((f && i) && c) ≡ false → (f && (i && not c)) ≡ false → (f && i) ≡ false
@@ -190,16 +221,19 @@ invalid_outside stage serial = by_parts (fits stage serial) (in_key_set stage) s
     by_parts true true false spared invalid = invalid
 
 -- the channel was just found open and non-blocking
-pub found_unblocked : {w : Words} {p q : Pass} {me : CallerNo} {c : ChanNo} {found : Chan} → Steps w p q me (LookChannel c found) → found.closed ≡ false → found.blocking ≡ false
+pub found_unblocked : {w : Words} {p q : Pass} {me : CallerNo} {c : ChanNo} {found : Chan}
+    → Steps w p q me (LookChannel c found) → found.closed ≡ false → found.blocking ≡ false
     → HoldsChannel w p me c → found_closed (view w p) me c ≡ false → HoldsUnblocked w q me c
 found_unblocked {p = p} {me = me} {c = c} {found = found} steps unclosed unblocked held before = record {
   held = hold_stays steps refl refl held;
   unblocked =
       ap (λ own. has (finds_unblocked c.0) (under c.0 own)) (own_more steps refl)
-      ∙ under_found (finds_unblocked c.0) c.0 (acts_seen p me) (LookChannel c found) refl (and_from (c.0 == c.0) (not found.blocking) (eq-eqb c.0 c.0 refl) (ap not unblocked));
+      ∙ under_found (finds_unblocked c.0) c.0 (acts_seen p me) (LookChannel c found) refl
+      (and_from (c.0 == c.0) (not found.blocking) (eq-eqb c.0 c.0 refl) (ap not unblocked));
   unclosed =
       ap (λ own. has (λ a. finds a (channel_closed c.0)) (under c.0 own)) (own_more steps refl)
-      ∙ under_never (λ a. finds a (channel_closed c.0)) c.0 (acts_seen p me) (LookChannel c found) refl (ap (λ b. (c.0 == c.0) && b) unclosed ∙ and_false (c.0 == c.0)) before;
+      ∙ under_never (λ a. finds a (channel_closed c.0)) c.0 (acts_seen p me) (LookChannel c found) refl
+      (ap (λ b. (c.0 == c.0) && b) unclosed ∙ and_false (c.0 == c.0)) before;
 }
   where
     and_false : (b : Bool) → (b && false) ≡ false
@@ -207,9 +241,13 @@ found_unblocked {p = p} {me = me} {c = c} {found = found} steps unclosed unblock
     and_false false = refl
 
 -- under a hold that was just taken it hasn't
-pub unclosed_yet : {w : Words} {p q : Pass} {me : CallerNo} {c : ChanNo} {found : Option CallerNo} → Steps w p q me (TryHoldBit c found) → found ≡ None → found_closed (view w q) me c ≡ false
+pub unclosed_yet : {w : Words} {p q : Pass} {me : CallerNo} {c : ChanNo} {found : Option CallerNo}
+    → Steps w p q me (TryHoldBit c found) → found ≡ None → found_closed (view w q) me c ≡ false
 unclosed_yet {w = w} {p = p} {q = q} {me = me} {c = c} {found = found} steps free =
     ap (λ own. has (λ a. finds a (channel_closed c.0)) (under c.0 own)) (own_more steps refl)
-    ∙ (ap (λ holder. has (λ a. finds a (channel_closed c.0)) (under c.0 (acts_seen p me ++ TryHoldBit c holder ∷ []))) free
-    ∙ (ap (has (λ a. finds a (channel_closed c.0))) (since_from-more (takes_hold c.0) (acts_seen p me) (TryHoldBit c None))
-    ∙ ap (λ b. has (λ a. finds a (channel_closed c.0)) (if b then [] else under c.0 (acts_seen p me) ++ TryHoldBit c None ∷ [])) (eq-eqb c.0 c.0 refl)))
+    ∙ (ap (λ holder. has (λ a. finds a (channel_closed c.0)) (under c.0 (acts_seen p me ++ TryHoldBit c holder ∷ [])))
+    free
+    ∙ (ap (has (λ a. finds a (channel_closed c.0)))
+    (since_from-more (takes_hold c.0) (acts_seen p me) (TryHoldBit c None))
+    ∙ ap (λ b. has (λ a. finds a (channel_closed c.0))
+    (if b then [] else under c.0 (acts_seen p me) ++ TryHoldBit c None ∷ [])) (eq-eqb c.0 c.0 refl)))

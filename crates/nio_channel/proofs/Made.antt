@@ -1,5 +1,6 @@
 -- Channels that are made.
-use Rattle.std.proofs.Common.{◌≡◌, ℕ, ◌+◌, ◌<◌, Bool, true, false, if◌then◌else◌, List, [], ◌∷◌, ◌++◌, refl, ap, subst, sym, ◌∙◌, below_more}
+use Rattle.std.proofs.Common.{◌≡◌, ℕ, ◌+◌, ◌<◌, Bool, true, false, if◌then◌else◌, List, [], ◌∷◌, ◌++◌, refl, ap, subst}
+use Rattle.std.proofs.Common.{sym, ◌∙◌, below_more}
 use Rattle.nio_base.specs.declared.kind.Kind.{Kind}
 use Rattle.nio_base.specs.declared.numbers.CallerNo.{CallerNo}
 use Rattle.nio_base.specs.declared.numbers.ChanNo.{ChanNo}
@@ -19,39 +20,48 @@ use Rattle.nio_event.specs.declared.found.Chan.{Chan}
 use Rattle.nio_words.proofs.Views.{look_tells}
 
 -- what is permanent stands after the acts of a call
-pub lasts_over : {me : CallerNo} {acts : List Act} {v0 v1 : PassView} (f : PermanentFact) → ActsClause me acts v0 v1 → stands f (known v0) ≡ true → stands f (known v1) ≡ true
-lasts_over {v0 = v0} {v1 = v1} f clause here = facts_are_permanent v0.limits v0.seen v1.seen clause.history.goes_on clause.history.legal f here
+pub lasts_over : {me : CallerNo} {acts : List Act} {v0 v1 : PassView} (f : PermanentFact) → ActsClause me acts v0 v1
+    → stands f (known v0) ≡ true → stands f (known v1) ≡ true
+lasts_over {v0 = v0} {v1 = v1} f clause here =
+    facts_are_permanent v0.limits v0.seen v1.seen clause.history.goes_on clause.history.legal f here
 
-all_made_after : {me : CallerNo} {acts : List Act} {v0 v1 : PassView} {n : ℕ} → ActsClause me acts v0 v1 → AllMade (known v0) n → AllMade (known v1) n
+all_made_after : {me : CallerNo} {acts : List Act} {v0 v1 : PassView} {n : ℕ} → ActsClause me acts v0 v1
+    → AllMade (known v0) n → AllMade (known v1) n
 all_made_after clause here c below = lasts_over (channel_made c) clause (here c below)
 
 -- a channel that was just made is made
-made_now : {me : CallerNo} {c : ChanNo} {kind : Kind} {found : Bool} {v0 v1 : PassView} → ActsClause me (MakeChannel c kind found ∷ []) v0 v1 → ((known v1).chan c.0).made ≡ true
+made_now : {me : CallerNo} {c : ChanNo} {kind : Kind} {found : Bool} {v0 v1 : PassView}
+    → ActsClause me (MakeChannel c kind found ∷ []) v0 v1 → ((known v1).chan c.0).made ≡ true
 made_now {me = me} {c = c} {kind = kind} {found = found} {v0 = v0} {v1 = v1} clause =
     let leaves = step_leaves v0.limits (Holds v0) me (MakeChannel c kind found) v0.seen v1.seen clause.history in
     let before : State = state_after (v0.seen ++ leaves.between) in
     let told : found ≡ (before.chan c.0).made = cc leaves.step.answers in
     ap (λ st. (st.chan c.0).made) leaves.state
-    ∙ (ap (λ x. x.made) (put-same before.chan c.0 (if found then before.chan c.0 else new_channel kind)) ∙ by_found found (before.chan c.0) told)
+    ∙ (ap (λ x. x.made) (put-same before.chan c.0 (if found then before.chan c.0 else new_channel kind))
+    ∙ by_found found (before.chan c.0) told)
   where
     by_found : (b : Bool) (was : Chan) → b ≡ was.made → (if b then was else new_channel kind).made ≡ true
     by_found true was told = sym told
     by_found false was told = refl
 
 -- with it, every channel below the next is
-pub all_made_more : {me : CallerNo} {c : ChanNo} {kind : Kind} {found : Bool} {v0 v1 : PassView} → ActsClause me (MakeChannel c kind found ∷ []) v0 v1
+pub all_made_more : {me : CallerNo} {c : ChanNo} {kind : Kind} {found : Bool} {v0 v1 : PassView}
+    → ActsClause me (MakeChannel c kind found ∷ []) v0 v1
     → AllMade (known v0) c.0 → AllMade (known v1) (c.0 + 1)
 all_made_more clause here = below_more _ _ (all_made_after clause here) (made_now clause)
 
 -- every channel below the mark that was found is made
-pub all_made_below : {me : CallerNo} {mark : ℕ} {v0 v1 : PassView} → ActsClause me (LookChannels mark ∷ []) v0 v1 → AllMade (known v1) mark
+pub all_made_below : {me : CallerNo} {mark : ℕ} {v0 v1 : PassView} → ActsClause me (LookChannels mark ∷ []) v0 v1
+    → AllMade (known v1) mark
 all_made_below {mark = mark} {v0 = v0} {v1 = v1} clause c below =
     let told : mark ≡ (known v1).channels_high = cc (look_tells clause refl) in
     (legal-sound v0.limits v1.seen clause.history.legal).channels_below c (subst (λ n. c < n) told below)
 
 -- a channel that was just closed is closed
-pub closed_now : {me : CallerNo} {c : ChanNo} {found : Bool} {v0 v1 : PassView} → ActsClause me (CloseBit c found ∷ []) v0 v1 → ((known v1).chan c.0).closed ≡ true
+pub closed_now : {me : CallerNo} {c : ChanNo} {found : Bool} {v0 v1 : PassView}
+    → ActsClause me (CloseBit c found ∷ []) v0 v1 → ((known v1).chan c.0).closed ≡ true
 closed_now {me = me} {c = c} {found = found} {v0 = v0} {v1 = v1} clause =
     let leaves = step_leaves v0.limits (Holds v0) me (CloseBit c found) v0.seen v1.seen clause.history in
     let before : State = state_after (v0.seen ++ leaves.between) in
-    ap (λ st. (st.chan c.0).closed) leaves.state ∙ ap (λ x. x.closed) (put-same before.chan c.0 (record (before.chan c.0) { closed = true }))
+    ap (λ st. (st.chan c.0).closed) leaves.state
+    ∙ ap (λ x. x.closed) (put-same before.chan c.0 (record (before.chan c.0) { closed = true }))

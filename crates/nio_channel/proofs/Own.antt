@@ -1,5 +1,6 @@
 -- What the caller's own acts under a hold tell after one act more.
-use Rattle.std.proofs.Common.{◌≡◌, ℕ, ◌==◌, Bool, true, false, not, ◌&&◌, ◌||◌, if◌then◌else◌, Option, Some, None, List, [], ◌∷◌, ◌++◌, refl, ap, ◌∙◌}
+use Rattle.std.proofs.Common.{◌≡◌, ℕ, ◌==◌, Bool, true, false, not, ◌&&◌, ◌||◌, if◌then◌else◌, Option, Some, None, List}
+use Rattle.std.proofs.Common.{[], ◌∷◌, ◌++◌, refl, ap, ◌∙◌}
 use Rattle.std.specs.Option.{option_or}
 use Rattle.std.proofs.lemmas.Bool.{or_left, or_right, or_from}
 use Rattle.nio_base.specs.declared.numbers.ChanNo.{ChanNo}
@@ -10,10 +11,13 @@ use Rattle.nio_event.proofs.LastsAlone.{same_two}
 use Rattle.nio_event.proofs.OneMore.{has-more, last-more, since_from-more}
 use Rattle.nio_event.specs.Found.{finds}
 use Rattle.nio_event.specs.Permanent.{channel_closed}
-use Rattle.nio_event.specs.OwnEvents.{OwnClaim, is_yes, has, last, under, takes_hold, releases, finds_outside, is_outside, noted_found, notes_key, publishes, since_key_noted, claim_changed, own_claim, leaves_unpublished, is_unpublished, is_clear, is_clear_by}
+use Rattle.nio_event.specs.OwnEvents.{OwnClaim, is_yes, has, last, under, takes_hold, releases, finds_outside}
+use Rattle.nio_event.specs.OwnEvents.{is_outside, noted_found, notes_key, publishes, since_key_noted, claim_changed}
+use Rattle.nio_event.specs.OwnEvents.{own_claim, leaves_unpublished, is_unpublished, is_clear, is_clear_by}
 use Rattle.nio_event.specs.Sets.{is_in_key_set}
 use Rattle.nio_event.specs.declared.act.Act.{Act}
-use Rattle.nio_event.specs.declared.act.Act.TheVariants.{LookChannel, Claim, Publish, LookReg, Enrol, TryHoldBit, Release, SetMode, Pin, Unpin, ClaimAgain, LookKey}
+use Rattle.nio_event.specs.declared.act.Act.TheVariants.{LookChannel, Claim, Publish, LookReg, Enrol, TryHoldBit}
+use Rattle.nio_event.specs.declared.act.Act.TheVariants.{Release, SetMode, Pin, Unpin, ClaimAgain, LookKey}
 use Rattle.nio_event.specs.declared.found.Stage.{Stage}
 
 -- ---- acts of no consequence to a hold and its channel, to noted keys and to publishing
@@ -53,33 +57,45 @@ quiet_opens c s i act quiet = refl
 
 -- ---- under the hold
 
-pub under-more : (c : ℕ) (own : List Act) (act : Act) → takes_hold c act ≡ false → under c (own ++ act ∷ []) ≡ under c own ++ act ∷ []
-under-more c own act keeps = since_from-more (takes_hold c) own act ∙ ap (λ b. if b then [] else under c own ++ act ∷ []) keeps
+pub under-more : (c : ℕ) (own : List Act) (act : Act) → takes_hold c act ≡ false
+    → under c (own ++ act ∷ []) ≡ under c own ++ act ∷ []
+under-more c own act keeps =
+    since_from-more (takes_hold c) own act ∙ ap (λ b. if b then [] else under c own ++ act ∷ []) keeps
 
 has_longer : (p : Act → Bool) (own : List Act) (act : Act) → has p own ≡ true → has p (own ++ act ∷ []) ≡ true
 has_longer p own act here = has-more p own act ∙ or_left (has p own) (p act) here
 
 -- what it found under its hold it has found
-pub under_longer : (p : Act → Bool) (c : ℕ) (own : List Act) (act : Act) → takes_hold c act ≡ false → has p (under c own) ≡ true → has p (under c (own ++ act ∷ [])) ≡ true
+pub under_longer : (p : Act → Bool) (c : ℕ) (own : List Act) (act : Act) → takes_hold c act ≡ false
+    → has p (under c own) ≡ true → has p (under c (own ++ act ∷ [])) ≡ true
 under_longer p c own act keeps here = ap (has p) (under-more c own act keeps) ∙ has_longer p (under c own) act here
 
 -- what it found at no time under its hold, and not now
-pub under_never : (p : Act → Bool) (c : ℕ) (own : List Act) (act : Act) → takes_hold c act ≡ false → p act ≡ false → has p (under c own) ≡ false → has p (under c (own ++ act ∷ [])) ≡ false
-under_never p c own act keeps now before = ap (has p) (under-more c own act keeps) ∙ (has-more p (under c own) act ∙ or_from (has p (under c own)) (p act) before now)
+pub under_never : (p : Act → Bool) (c : ℕ) (own : List Act) (act : Act) → takes_hold c act ≡ false → p act ≡ false
+    → has p (under c own) ≡ false → has p (under c (own ++ act ∷ [])) ≡ false
+under_never p c own act keeps now before =
+    ap (has p) (under-more c own act keeps)
+    ∙ (has-more p (under c own) act ∙ or_from (has p (under c own)) (p act) before now)
 
 -- what it just found under its hold
-pub under_found : (p : Act → Bool) (c : ℕ) (own : List Act) (act : Act) → takes_hold c act ≡ false → p act ≡ true → has p (under c (own ++ act ∷ [])) ≡ true
-under_found p c own act keeps found = ap (has p) (under-more c own act keeps) ∙ (has-more p (under c own) act ∙ or_right (has p (under c own)) (p act) found)
+pub under_found : (p : Act → Bool) (c : ℕ) (own : List Act) (act : Act) → takes_hold c act ≡ false → p act ≡ true
+    → has p (under c (own ++ act ∷ [])) ≡ true
+under_found p c own act keeps found =
+    ap (has p) (under-more c own act keeps)
+    ∙ (has-more p (under c own) act ∙ or_right (has p (under c own)) (p act) found)
 
 -- ---- the noted key
 
 told-more : (c s : ℕ) (own : List Act) (act : Act) → takes_hold c act ≡ false
-    → last (noted_found c s) (under c (own ++ act ∷ [])) ≡ option_or (noted_found c s act) (last (noted_found c s) (under c own))
-told-more c s own act keeps = ap (last (noted_found c s)) (under-more c own act keeps) ∙ last-more (noted_found c s) (under c own) act
+    → last (noted_found c s) (under c (own ++ act ∷ [])) ≡ option_or (noted_found c s act)
+    (last (noted_found c s) (under c own))
+told-more c s own act keeps =
+    ap (last (noted_found c s)) (under-more c own act keeps) ∙ last-more (noted_found c s) (under c own) act
 
 pub told_over : (c s : ℕ) (own : List Act) (act : Act) → takes_hold c act ≡ false → noted_found c s act ≡ None
     → last (noted_found c s) (under c (own ++ act ∷ [])) ≡ last (noted_found c s) (under c own)
-told_over c s own act takes silent = told-more c s own act takes ∙ ap (λ told. option_or told (last (noted_found c s) (under c own))) silent
+told_over c s own act takes silent =
+    told-more c s own act takes ∙ ap (λ told. option_or told (last (noted_found c s) (under c own))) silent
 
 pub told_quiet : (c s : ℕ) (own : List Act) (act : Act) → is_quiet act ≡ true
     → last (noted_found c s) (under c (own ++ act ∷ [])) ≡ last (noted_found c s) (under c own)
@@ -89,26 +105,30 @@ pub told_look : (c : ChanNo) (s : SelNo) (noted : Option KeyId) (own : List Act)
     → last (noted_found c.0 s.0) (under c.0 (own ++ LookReg c s noted ∷ [])) ≡ Some noted
 told_look c s noted own =
     told-more c.0 s.0 own (LookReg c s noted) refl
-    ∙ ap (λ b. option_or (if b then Some noted else None) (last (noted_found c.0 s.0) (under c.0 own))) (same_two c.0 s.0)
+    ∙ ap (λ b. option_or (if b then Some noted else None) (last (noted_found c.0 s.0) (under c.0 own)))
+    (same_two c.0 s.0)
 
 pub told_enrol : (c : ChanNo) (s : SelNo) (k : KeyId) (before : Option KeyId) (own : List Act)
     → last (noted_found c.0 s.0) (under c.0 (own ++ Enrol c s k.index k.serial before ∷ [])) ≡ Some (Some k)
 told_enrol c s k before own =
     told-more c.0 s.0 own (Enrol c s k.index k.serial before) refl
-    ∙ ap (λ b. option_or (if b then Some (Some k) else None) (last (noted_found c.0 s.0) (under c.0 own))) (same_two c.0 s.0)
+    ∙ ap (λ b. option_or (if b then Some (Some k) else None) (last (noted_found c.0 s.0) (under c.0 own)))
+    (same_two c.0 s.0)
 
 -- ---- no key in the key set is noted
 
 -- an act that takes no hold, tells nothing of the key that is noted there, and neither notes nor publishes
 clear_longer : (c s : ℕ) (own : List Act) (act : Act) → takes_hold c act ≡ false → noted_found c s act ≡ None
-    → ((i : ℕ) → (notes_key c s act || publishes s i act) ≡ false) → is_clear c s own ≡ true → is_clear c s (own ++ act ∷ []) ≡ true
+    → ((i : ℕ) → (notes_key c s act || publishes s i act) ≡ false) → is_clear c s own ≡ true
+    → is_clear c s (own ++ act ∷ []) ≡ true
 clear_longer c s own act keeps silent spares clear =
     ap (λ held. is_clear_by c s held (last (noted_found c s) held)) (under-more c own act keeps)
     ∙ (ap (is_clear_by c s (under c own ++ act ∷ [])) (last-more (noted_found c s) (under c own) act
     ∙ ap (λ told. option_or told (last (noted_found c s) (under c own))) silent)
     ∙ by_told (last (noted_found c s) (under c own)) clear)
   where
-    by_told : (told : Option (Option KeyId)) → is_clear_by c s (under c own) told ≡ true → is_clear_by c s (under c own ++ act ∷ []) told ≡ true
+    by_told : (told : Option (Option KeyId)) → is_clear_by c s (under c own) told ≡ true
+        → is_clear_by c s (under c own ++ act ∷ []) told ≡ true
     by_told None clear' = absurd cc
     by_told (Some None) clear' = refl
     by_told (Some (Some k)) clear' =
@@ -116,14 +136,18 @@ clear_longer c s own act keeps silent spares clear =
         ∙ ap (λ b. if b then [] else since_key_noted c s k.index (under c own) ++ act ∷ []) (spares k.index))
         ∙ has_longer (finds_outside s k) (since_key_noted c s k.index (under c own)) act clear'
 
-pub clear_quiet : (c s : ℕ) (own : List Act) (act : Act) → is_quiet act ≡ true → is_clear c s own ≡ true → is_clear c s (own ++ act ∷ []) ≡ true
-clear_quiet c s own act quiet = clear_longer c s own act (quiet_holds c act quiet) (quiet_tells c s act quiet) (λ i. quiet_opens c s i act quiet)
+pub clear_quiet : (c s : ℕ) (own : List Act) (act : Act) → is_quiet act ≡ true → is_clear c s own ≡ true
+    → is_clear c s (own ++ act ∷ []) ≡ true
+clear_quiet c s own act quiet =
+    clear_longer c s own act (quiet_holds c act quiet) (quiet_tells c s act quiet) (λ i. quiet_opens c s i act quiet)
 
 -- a look at which key is noted in another selector
 pub clear_look_else : (c : ChanNo) (s : ℕ) (s' : SelNo) (noted : Option KeyId) (own : List Act) → (s'.0 == s) ≡ false
     → is_clear c.0 s own ≡ true → is_clear c.0 s (own ++ LookReg c s' noted ∷ []) ≡ true
 clear_look_else c s s' noted own other =
-    clear_longer c.0 s own (LookReg c s' noted) refl (ap (λ b. if b then Some noted else None) (ap (λ b. (c.0 == c.0) && b) other ∙ and_false (c.0 == c.0))) (λ i. refl)
+    clear_longer c.0 s own (LookReg c s' noted) refl
+    (ap (λ b. if b then Some noted else None) (ap (λ b. (c.0 == c.0) && b) other ∙ and_false (c.0 == c.0)))
+    (λ i. refl)
   where
     and_false : (b : Bool) → (b && false) ≡ false
     and_false true = refl
@@ -138,19 +162,24 @@ clear_found : (c s : ℕ) (k : KeyId) (act : Act) (own : List Act) → is_quiet 
     → last (noted_found c s) (under c own) ≡ Some (Some k) → is_clear c s (own ++ act ∷ []) ≡ true
 clear_found c s k act own quiet found told =
     ap (is_clear_by c s (under c (own ++ act ∷ []))) (told_quiet c s own act quiet ∙ told)
-    ∙ (ap (λ held. has (finds_outside s k) (since_key_noted c s k.index held)) (under-more c own act (quiet_holds c act quiet))
+    ∙ (ap (λ held. has (finds_outside s k) (since_key_noted c s k.index held))
+    (under-more c own act (quiet_holds c act quiet))
     ∙ (ap (has (finds_outside s k)) (since_from-more (λ a. notes_key c s a || publishes s k.index a) (under c own) act
-    ∙ ap (λ b. if b then [] else since_key_noted c s k.index (under c own) ++ act ∷ []) (quiet_opens c s k.index act quiet))
+    ∙ ap (λ b. if b then [] else since_key_noted c s k.index (under c own) ++ act ∷ [])
+    (quiet_opens c s k.index act quiet))
     ∙ (has-more (finds_outside s k) (since_key_noted c s k.index (under c own)) act
     ∙ or_right (has (finds_outside s k) (since_key_noted c s k.index (under c own))) (finds_outside s k act) found)))
 
-pub clear_looked : (c : ℕ) (s : SelNo) (k : KeyId) (stage : Stage) (own : List Act) → is_in_key_set stage k.serial ≡ false
-    → last (noted_found c s.0) (under c own) ≡ Some (Some k) → is_clear c s.0 (own ++ LookKey s k.index stage ∷ []) ≡ true
+pub clear_looked : (c : ℕ) (s : SelNo) (k : KeyId) (stage : Stage) (own : List Act)
+    → is_in_key_set stage k.serial ≡ false
+    → last (noted_found c s.0) (under c own) ≡ Some (Some k)
+    → is_clear c s.0 (own ++ LookKey s k.index stage ∷ []) ≡ true
 clear_looked c s k stage own out told =
     clear_found c s.0 k (LookKey s k.index stage) own refl
     (ap (λ b. is_outside k.serial (if b then Some stage else None)) (same_two s.0 k.index) ∙ ap not out) told
 
-pub clear_pinned : (c : ℕ) (s : SelNo) (k : KeyId) (stage : Stage) (own : List Act) → is_in_key_set stage k.serial ≡ false
+pub clear_pinned : (c : ℕ) (s : SelNo) (k : KeyId) (stage : Stage) (own : List Act)
+    → is_in_key_set stage k.serial ≡ false
     → last (noted_found c s.0) (under c own) ≡ Some (Some k) → is_clear c s.0 (own ++ Pin s k.index stage ∷ []) ≡ true
 clear_pinned c s k stage own out told =
     clear_found c s.0 k (Pin s k.index stage) own refl
@@ -178,28 +207,39 @@ unpublished_silent s i (ClaimAgain s' i' c from found) keeps = absurd cc
 unpublished_silent s i (Publish s' i' found) keeps = absurd cc
 unpublished_silent s i act keeps = refl
 
-pub claim_stays : (s i : ℕ) (own : List Act) (act : Act) → keeps_claims act ≡ true → own_claim s i (own ++ act ∷ []) ≡ own_claim s i own
-claim_stays s i own act keeps = own_claim-more s i own act ∙ ap (λ x. claim_after x (own_claim s i own)) (claim_silent s i act keeps)
+pub claim_stays : (s i : ℕ) (own : List Act) (act : Act) → keeps_claims act ≡ true
+    → own_claim s i (own ++ act ∷ []) ≡ own_claim s i own
+claim_stays s i own act keeps =
+    own_claim-more s i own act ∙ ap (λ x. claim_after x (own_claim s i own)) (claim_silent s i act keeps)
 
-unpublished-more : (s i : ℕ) (own : List Act) (act : Act) → is_unpublished s i (own ++ act ∷ []) ≡ is_yes (option_or (leaves_unpublished s i act) (last (leaves_unpublished s i) own))
+unpublished-more : (s i : ℕ) (own : List Act) (act : Act)
+    → is_unpublished s i (own ++ act ∷ [])
+    ≡ is_yes (option_or (leaves_unpublished s i act) (last (leaves_unpublished s i) own))
 unpublished-more s i own act = ap is_yes (last-more (leaves_unpublished s i) own act)
 
-pub unpublished_stays : (s i : ℕ) (own : List Act) (act : Act) → keeps_claims act ≡ true → is_unpublished s i (own ++ act ∷ []) ≡ is_unpublished s i own
+pub unpublished_stays : (s i : ℕ) (own : List Act) (act : Act) → keeps_claims act ≡ true
+    → is_unpublished s i (own ++ act ∷ []) ≡ is_unpublished s i own
 unpublished_stays s i own act keeps =
-    unpublished-more s i own act ∙ ap (λ x. is_yes (option_or x (last (leaves_unpublished s i) own))) (unpublished_silent s i act keeps)
+    unpublished-more s i own act
+    ∙ ap (λ x. is_yes (option_or x (last (leaves_unpublished s i) own))) (unpublished_silent s i act keeps)
 
-pub claim_published : (s i : ℕ) (s' : SelNo) (i' : ℕ) (stage : Stage) (own : List Act) → own_claim s i (own ++ Publish s' i' stage ∷ []) ≡ own_claim s i own
+pub claim_published : (s i : ℕ) (s' : SelNo) (i' : ℕ) (stage : Stage) (own : List Act)
+    → own_claim s i (own ++ Publish s' i' stage ∷ []) ≡ own_claim s i own
 claim_published s i s' i' stage own = own_claim-more s i own (Publish s' i' stage)
 
 -- the index was just claimed
-pub claim_now : (s : SelNo) (i : ℕ) (act : Act) (claim : OwnClaim) (own : List Act) → claim_changed s.0 i act ≡ (if (s.0 == s.0) && (i == i) then Some (Some claim) else None)
+pub claim_now : (s : SelNo) (i : ℕ) (act : Act) (claim : OwnClaim) (own : List Act)
+    → claim_changed s.0 i act ≡ (if (s.0 == s.0) && (i == i) then Some (Some claim) else None)
     → own_claim s.0 i (own ++ act ∷ []) ≡ Some claim
 claim_now s i act claim own tells =
     own_claim-more s.0 i own act
-    ∙ ap (λ x. claim_after x (own_claim s.0 i own)) (tells ∙ ap (λ b. if b then Some (Some claim) else None) (same_two s.0 i))
+    ∙ ap (λ x. claim_after x (own_claim s.0 i own))
+    (tells ∙ ap (λ b. if b then Some (Some claim) else None) (same_two s.0 i))
 
-pub unpublished_now : (s : SelNo) (i : ℕ) (act : Act) (own : List Act) → leaves_unpublished s.0 i act ≡ (if (s.0 == s.0) && (i == i) then Some true else None)
+pub unpublished_now : (s : SelNo) (i : ℕ) (act : Act) (own : List Act)
+    → leaves_unpublished s.0 i act ≡ (if (s.0 == s.0) && (i == i) then Some true else None)
     → is_unpublished s.0 i (own ++ act ∷ []) ≡ true
 unpublished_now s i act own tells =
     unpublished-more s.0 i own act
-    ∙ ap (λ x. is_yes (option_or x (last (leaves_unpublished s.0 i) own))) (tells ∙ ap (λ b. if b then Some true else None) (same_two s.0 i))
+    ∙ ap (λ x. is_yes (option_or x (last (leaves_unpublished s.0 i) own)))
+    (tells ∙ ap (λ b. if b then Some true else None) (same_two s.0 i))

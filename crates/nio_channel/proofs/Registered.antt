@@ -1,5 +1,6 @@
 -- What stands of the key that a registration answers.
-use Rattle.std.proofs.Common.{◌≡◌, ℕ, ◌==◌, Bool, true, false, ◌&&◌, ◌||◌, Option, Some, None, List, [], ◌∷◌, ◌++◌, refl, ap, sym, ◌∙◌, subst, append_assoc, eq-eqb}
+use Rattle.std.proofs.Common.{◌≡◌, ℕ, ◌==◌, Bool, true, false, ◌&&◌, ◌||◌, Option, Some, None, List, [], ◌∷◌, ◌++◌}
+use Rattle.std.proofs.Common.{refl, ap, sym, ◌∙◌, subst, append_assoc, eq-eqb}
 use Rattle.std.specs.Prelude.{nat_lt}
 use Rattle.std.proofs.lemmas.Bool.{and_from, or_right}
 use Rattle.std.proofs.lemmas.List.{append-nil}
@@ -42,26 +43,32 @@ use Rattle.nio_words.specs.declared.words.Pass.{Pass}
 use Rattle.nio_words.specs.declared.words.Words.{Words}
 use Rattle.nio_channel.proofs.Held.{own_more, unblocked_over, unblocked_stays, in_set_published}
 use Rattle.nio_channel.proofs.Made.{lasts_over}
-use Rattle.nio_channel.proofs.Own.{is_quiet, under-more, told_quiet, told_enrol, told_over, clear_pinned, claim_published, claim_stays}
-use Rattle.nio_channel.specs.Held.{HoldsUnblocked, MayNote, KnowsNoted, KnowsKey, HasClaimed, HasPublished, HasRegistered}
+use Rattle.nio_channel.proofs.Own.{is_quiet, under-more, told_quiet, told_enrol, told_over, clear_pinned}
+use Rattle.nio_channel.proofs.Own.{claim_published, claim_stays}
+use Rattle.nio_channel.specs.Held.{HoldsUnblocked, MayNote, KnowsNoted, KnowsKey, HasClaimed, HasPublished}
+use Rattle.nio_channel.specs.Held.{HasRegistered}
 use Rattle.nio_channel.specs.Registered.{found_closed, IsKeyOf, IsCancelledWhereClosed}
 
 -- ---- the noted key
 
-pub noted_stays : {w : Words} {p q : Pass} {me : CallerNo} {act : Act} (c : ChanNo) (s : SelNo) (k : KeyId) → Steps w p q me act → finds_drawn act ≡ false → takes_hold c.0 act ≡ false
+pub noted_stays : {w : Words} {p q : Pass} {me : CallerNo} {act : Act} (c : ChanNo) (s : SelNo) (k : KeyId)
+    → Steps w p q me act → finds_drawn act ≡ false → takes_hold c.0 act ≡ false
     → noted_found c.0 s.0 act ≡ None → KnowsNoted p me c s k → KnowsNoted q me c s k
 noted_stays {p = p} {me = me} {act = act} c s k steps new takes silent noted =
-    ap (λ own. last (noted_found c.0 s.0) (under c.0 own)) (own_more steps new) ∙ (told_over c.0 s.0 (acts_seen p me) act takes silent ∙ noted)
+    ap (λ own. last (noted_found c.0 s.0) (under c.0 own)) (own_more steps new)
+    ∙ (told_over c.0 s.0 (acts_seen p me) act takes silent ∙ noted)
 
 -- ---- the channel was found closed
 
-found_closed-same : {w : Words} {p q : Pass} {me : CallerNo} {act : Act} (c : ChanNo) → Steps w p q me act → finds_drawn act ≡ false → takes_hold c.0 act ≡ false
+found_closed-same : {w : Words} {p q : Pass} {me : CallerNo} {act : Act} (c : ChanNo) → Steps w p q me act
+    → finds_drawn act ≡ false → takes_hold c.0 act ≡ false
     → finds act (channel_closed c.0) ≡ false → found_closed (view w q) me c ≡ found_closed (view w p) me c
 found_closed-same {p = p} {me = me} {act = act} c steps new takes silent =
     ap (λ own. has (λ a. finds a (channel_closed c.0)) (under c.0 own)) (own_more steps new)
     ∙ (ap (has (λ a. finds a (channel_closed c.0))) (under-more c.0 (acts_seen p me) act takes)
     ∙ (has-more (λ a. finds a (channel_closed c.0)) (under c.0 (acts_seen p me)) act
-    ∙ (ap (λ b. has (λ a. finds a (channel_closed c.0)) (under c.0 (acts_seen p me)) || b) silent ∙ or_false (has (λ a. finds a (channel_closed c.0)) (under c.0 (acts_seen p me))))))
+    ∙ (ap (λ b. has (λ a. finds a (channel_closed c.0)) (under c.0 (acts_seen p me)) || b) silent
+    ∙ or_false (has (λ a. finds a (channel_closed c.0)) (under c.0 (acts_seen p me))))))
   where
     or_false : (b : Bool) → (b || false) ≡ b
     or_false true = refl
@@ -69,17 +76,20 @@ found_closed-same {p = p} {me = me} {act = act} c steps new takes silent =
 
 -- ---- a key that the channel has
 
-pub knows_key_stays : {w : Words} {p q : Pass} {me : CallerNo} {act : Act} {c : ChanNo} {s : SelNo} {k : KeyId} → Steps w p q me act → finds_drawn act ≡ false → is_quiet act ≡ true
+pub knows_key_stays : {w : Words} {p q : Pass} {me : CallerNo} {act : Act} {c : ChanNo} {s : SelNo} {k : KeyId}
+    → Steps w p q me act → finds_drawn act ≡ false → is_quiet act ≡ true
     → changes_pins act ≡ false → KnowsKey w p me c s k → KnowsKey w q me c s k
 knows_key_stays {p = p} {me = me} {act = act} {c = c} {s = s} {k = k} steps new quiet pins here = record {
   unblocked = unblocked_stays steps new quiet here.unblocked;
   pinned = stays_pinned steps new pins here.pinned;
-  noted = ap (λ own. last (noted_found c.0 s.0) (under c.0 own)) (own_more steps new) ∙ (told_quiet c.0 s.0 (acts_seen p me) act quiet ∙ here.noted);
+  noted = ap (λ own. last (noted_found c.0 s.0) (under c.0 own)) (own_more steps new)
+      ∙ (told_quiet c.0 s.0 (acts_seen p me) act quiet ∙ here.noted);
   has = key_after (step_acts steps new) here.has;
 }
 
 -- it is the answer of a registration
-pub knows_registered : {w : Words} {p : Pass} {me : CallerNo} {c : ChanNo} {s : SelNo} {k : KeyId} → KnowsKey w p me c s k → HasRegistered w p me c s (key s k)
+pub knows_registered : {w : Words} {p : Pass} {me : CallerNo} {c : ChanNo} {s : SelNo} {k : KeyId}
+    → KnowsKey w p me c s k → HasRegistered w p me c s (key s k)
 knows_registered {w = w} {p = p} {me = me} {c = c} here = record {
   in_selector = refl;
   has = here.has;
@@ -88,7 +98,8 @@ knows_registered {w = w} {p = p} {me = me} {c = c} here = record {
 }
 
 -- the index of the noted key is pinned, and its stage shows the key in the key set
-pub pinned_key : {w : Words} {p q : Pass} {me : CallerNo} {s : SelNo} {k : KeyId} {stage : Stage} → Steps w p q me (Pin s k.index stage) → IsKey (limits_of w) s k.index
+pub pinned_key : {w : Words} {p q : Pass} {me : CallerNo} {s : SelNo} {k : KeyId} {stage : Stage}
+    → Steps w p q me (Pin s k.index stage) → IsKey (limits_of w) s k.index
     → is_in_key_set stage k.serial ≡ true → HasKey (view w q) (key s k)
 pinned_key {s = s} {k = k} {stage = stage} steps inside found = record {
   inside = inside;
@@ -97,7 +108,8 @@ pinned_key {s = s} {k = k} {stage = stage} steps inside found = record {
 }
 
 -- or it doesn't
-pub pinned_outside : {w : Words} {p q : Pass} {me : CallerNo} {c : ChanNo} {s : SelNo} {k : KeyId} {stage : Stage} → Steps w p q me (Pin s k.index stage) → HoldsUnblocked w p me c
+pub pinned_outside : {w : Words} {p q : Pass} {me : CallerNo} {c : ChanNo} {s : SelNo} {k : KeyId} {stage : Stage}
+    → Steps w p q me (Pin s k.index stage) → HoldsUnblocked w p me c
     → KnowsNoted p me c s k → is_in_key_set stage k.serial ≡ false → MayNote w q me c s
 pinned_outside {p = p} {me = me} {c = c} {s = s} {k = k} {stage = stage} steps here noted out = record {
   unblocked = unblocked_stays steps refl refl here;
@@ -106,66 +118,88 @@ pinned_outside {p = p} {me = me} {c = c} {s = s} {k = k} {stage = stage} steps h
 
 -- ---- a key that is made
 
-pub enrolled_unblocked : {w : Words} {p q : Pass} {me : CallerNo} {c : ChanNo} {s : SelNo} {i serial : ℕ} {before : Option KeyId} → Steps w p q me (Enrol c s i serial before)
+pub enrolled_unblocked : {w : Words} {p q : Pass} {me : CallerNo} {c : ChanNo} {s : SelNo} {i serial : ℕ}
+    {before : Option KeyId} → Steps w p q me (Enrol c s i serial before)
     → HoldsUnblocked w p me c → HoldsUnblocked w q me c
 enrolled_unblocked steps here = unblocked_over steps refl refl refl refl here
 
-pub enrolled_noted : {w : Words} {p q : Pass} {me : CallerNo} {c : ChanNo} {s : SelNo} {k : KeyId} {before : Option KeyId} → Steps w p q me (Enrol c s k.index k.serial before)
+pub enrolled_noted : {w : Words} {p q : Pass} {me : CallerNo} {c : ChanNo} {s : SelNo} {k : KeyId}
+    {before : Option KeyId} → Steps w p q me (Enrol c s k.index k.serial before)
     → KnowsNoted q me c s k
 enrolled_noted {p = p} {me = me} {c = c} {s = s} {k = k} {before = before} steps =
-    ap (λ own. last (noted_found c.0 s.0) (under c.0 own)) (own_more steps refl) ∙ told_enrol c s k before (acts_seen p me)
+    ap (λ own. last (noted_found c.0 s.0) (under c.0 own)) (own_more steps refl)
+    ∙ told_enrol c s k before (acts_seen p me)
 
 -- a caller that claimed the index for the channel may publish its key
-pub may_publish_claimed : {w : Words} {p : Pass} {me : CallerNo} {c : ChanNo} {s : SelNo} {k : KeyId} → HoldsUnblocked w p me c → HasClaimed w p me c s k
+pub may_publish_claimed : {w : Words} {p : Pass} {me : CallerNo} {c : ChanNo} {s : SelNo} {k : KeyId}
+    → HoldsUnblocked w p me c → HasClaimed w p me c s k
     → may_publish (state_seen p) (acts_seen p me) me (own_claim s.0 k.index (acts_seen p me)) ≡ true
 may_publish_claimed {w = w} {p = p} {me = me} {c = c} here claimed =
-    ap (may_publish (state_seen p) (acts_seen p me) me) claimed.claim ∙ and_from (holds (state_seen p) me c) (has (finds_unblocked c.0) (under c.0 (acts_seen p me))) here.held.holding here.unblocked
+    ap (may_publish (state_seen p) (acts_seen p me) me) claimed.claim
+    ∙ and_from (holds (state_seen p) me c) (has (finds_unblocked c.0) (under c.0 (acts_seen p me)))
+    here.held.holding here.unblocked
 
 -- the index has the key that its caller claimed
 of_claim : (w : Words) (p : Pass) (me : CallerNo) (c : ChanNo) (s : SelNo) (k : KeyId) → IsLegal (limits_of w) (seen p)
-    → own_claim s.0 k.index (acts_seen p me) ≡ Some (record { channel = c; serial = k.serial }) → IsOfClaim (record { channel = c; serial = k.serial }) ((state_seen p).key s.0 k.index)
-of_claim w p me c s k legal claim = (own_claims_stand (limits_of w) me s k.index (record { channel = c; serial = k.serial }) (seen p) w.fit legal claim).1
+    → own_claim s.0 k.index (acts_seen p me) ≡ Some (record { channel = c; serial = k.serial })
+    → IsOfClaim (record { channel = c; serial = k.serial }) ((state_seen p).key s.0 k.index)
+of_claim w p me c s k legal claim =
+    (own_claims_stand (limits_of w) me s k.index (record { channel = c; serial = k.serial })
+    (seen p) w.fit legal claim).1
 
-fits_claim : (stage : Stage) (c : ChanNo) (serial : ℕ) → IsOfClaim (record { channel = c; serial = serial }) stage → fits stage serial ≡ true
-fits_claim stage c serial its = and_from stage.claimed (stage.serial == serial) its.claimed (eq-eqb stage.serial serial its.serial)
+fits_claim : (stage : Stage) (c : ChanNo) (serial : ℕ) → IsOfClaim (record { channel = c; serial = serial }) stage
+    → fits stage serial ≡ true
+fits_claim stage c serial its =
+    and_from stage.claimed (stage.serial == serial) its.claimed (eq-eqb stage.serial serial its.serial)
 
 -- its key was just published
-pub has_published : {w : Words} {p q : Pass} {me : CallerNo} {c : ChanNo} {s : SelNo} {k : KeyId} {stage : Stage} → Steps w p q me (Publish s k.index stage) → HoldsUnblocked w p me c
+pub has_published : {w : Words} {p q : Pass} {me : CallerNo} {c : ChanNo} {s : SelNo} {k : KeyId} {stage : Stage}
+    → Steps w p q me (Publish s k.index stage) → HoldsUnblocked w p me c
     → KnowsNoted p me c s k → HasClaimed w p me c s k → HasPublished w q me c s k
-has_published {w = w} {p = p} {q = q} {me = me} {c = c} {s = s} {k = k} {stage = stage} steps here noted claimed = record {
-  known = record {
-    unblocked = unblocked_over steps refl refl refl refl here;
-    pinned = stays_pinned steps refl refl claimed.pinned;
-    noted = noted_stays c s k steps refl refl refl noted;
-    has = record {
-      inside = claimed.pinned.inside;
-      published = or_right (nat_lt k.serial now.serial) (fits now k.serial && now.published) (and_from (fits now k.serial) now.published (fits_claim now c k.serial (of_claim w q me c s k steps.pass.legal claim)) published);
-    };
-  };
-  claim = claim;
-}
+has_published {w = w} {p = p} {q = q} {me = me} {c = c} {s = s} {k = k} {stage = stage} steps here noted claimed =
+    record {
+      known = record {
+        unblocked = unblocked_over steps refl refl refl refl here;
+        pinned = stays_pinned steps refl refl claimed.pinned;
+        noted = noted_stays c s k steps refl refl refl noted;
+        has = record {
+          inside = claimed.pinned.inside;
+          published = or_right (nat_lt k.serial now.serial) (fits now k.serial && now.published)
+              (and_from (fits now k.serial) now.published
+              (fits_claim now c k.serial (of_claim w q me c s k steps.pass.legal claim)) published);
+        };
+      };
+      claim = claim;
+    }
   where
     now : Stage
     now = (state_seen q).key s.0 k.index
 
     claim : own_claim s.0 k.index (acts_seen q me) ≡ Some (record { channel = c; serial = k.serial })
-    claim = ap (own_claim s.0 k.index) (own_more steps refl) ∙ (claim_published s.0 k.index s k.index stage (acts_seen p me) ∙ claimed.claim)
+    claim = ap (own_claim s.0 k.index) (own_more steps refl)
+        ∙ (claim_published s.0 k.index s k.index stage (acts_seen p me) ∙ claimed.claim)
 
     published : now.published ≡ true
     published =
-        let leaves = step_leaves (limits_of w) (HoldsNumber (view w p)) me (Publish s k.index stage) (seen p) (seen q) (step_acts steps refl).history in
+        let leaves = step_leaves (limits_of w) (HoldsNumber (view w p)) me (Publish s k.index stage) (seen p) (seen q)
+        (step_acts steps refl).history in
         let before : State = state_after (seen p ++ leaves.between) in
-        ap (λ st. (st.key s.0 k.index).published) leaves.state ∙ ap (λ x. x.published) (put_at-same before.key s.0 k.index (record (before.key s.0 k.index) { published = true }))
+        ap (λ st. (st.key s.0 k.index).published) leaves.state
+        ∙ ap (λ x. x.published)
+        (put_at-same before.key s.0 k.index (record (before.key s.0 k.index) { published = true }))
 
 -- the channel was found open after that
-pub settled_open : {w : Words} {p q : Pass} {me : CallerNo} {c : ChanNo} {s : SelNo} {k : KeyId} {found : Chan} → Steps w p q me (LookChannel c found) → found.closed ≡ false
+pub settled_open : {w : Words} {p q : Pass} {me : CallerNo} {c : ChanNo} {s : SelNo} {k : KeyId} {found : Chan}
+    → Steps w p q me (LookChannel c found) → found.closed ≡ false
     → HasPublished w p me c s k → HasRegistered w q me c s (key s k)
 settled_open {w = w} {p = p} {q = q} {me = me} {c = c} {s = s} {k = k} {found = found} steps unclosed here = record {
   in_selector = refl;
   has = key_after (step_acts steps refl) here.known.has;
   noted = noted_stays c s k steps refl refl refl here.known.noted;
   cancelled = λ closed.
-      let clash : true ≡ false = sym closed ∙ (found_closed-same {w = w} c steps refl refl (ap (λ b. (c.0 == c.0) && b) unclosed ∙ and_false (c.0 == c.0)) ∙ here.known.unblocked.unclosed) in
+      let clash : true ≡ false = sym closed
+      ∙ (found_closed-same {w = w} c steps refl refl (ap (λ b. (c.0 == c.0) && b) unclosed ∙ and_false (c.0 == c.0))
+      ∙ here.known.unblocked.unclosed) in
       absurd cc;
 }
   where
@@ -174,73 +208,99 @@ settled_open {w = w} {p = p} {q = q} {me = me} {c = c} {s = s} {k = k} {found = 
     and_false false = refl
 
 -- or it was found closed, and the key was cancelled
-pub settled_cancelled : {w : Words} {p q r : Pass} {me : CallerNo} {c : ChanNo} {s : SelNo} {k : KeyId} {found : Chan} {stage : Stage} → Steps w p q me (LookChannel c found)
+pub settled_cancelled : {w : Words} {p q r : Pass} {me : CallerNo} {c : ChanNo} {s : SelNo} {k : KeyId} {found : Chan}
+    {stage : Stage} → Steps w p q me (LookChannel c found)
     → Steps w q r me (CancelKey s k.index stage) → HasPublished w p me c s k → HasRegistered w r me c s (key s k)
-settled_cancelled {w = w} {p = p} {q = q} {r = r} {me = me} {c = c} {s = s} {k = k} {found = found} {stage = stage} look cancel here = record {
-  in_selector = refl;
-  has = key_after (step_acts cancel refl) (key_after (step_acts look refl) here.known.has);
-  noted = noted_stays c s k cancel refl refl refl (noted_stays c s k look refl refl refl here.known.noted);
-  cancelled = λ closed. or_right (nat_lt k.serial now.serial) (fits now k.serial && now.cancelled) (and_from (fits now k.serial) now.cancelled (fits_claim now c k.serial (of_claim w r me c s k cancel.pass.legal claim)) cancelled);
-}
+settled_cancelled {w = w} {p = p} {q = q} {r = r} {me = me} {c = c} {s = s} {k = k} {found = found} {stage = stage} look
+    cancel here = record {
+      in_selector = refl;
+      has = key_after (step_acts cancel refl) (key_after (step_acts look refl) here.known.has);
+      noted = noted_stays c s k cancel refl refl refl (noted_stays c s k look refl refl refl here.known.noted);
+      cancelled = λ closed. or_right (nat_lt k.serial now.serial) (fits now k.serial && now.cancelled)
+          (and_from (fits now k.serial) now.cancelled
+          (fits_claim now c k.serial (of_claim w r me c s k cancel.pass.legal claim)) cancelled);
+    }
   where
     now : Stage
     now = (state_seen r).key s.0 k.index
 
     claim : own_claim s.0 k.index (acts_seen r me) ≡ Some (record { channel = c; serial = k.serial })
     claim =
-        ap (own_claim s.0 k.index) (own_more cancel refl) ∙ (claim_stays s.0 k.index (acts_seen q me) (CancelKey s k.index stage) refl
-        ∙ (ap (own_claim s.0 k.index) (own_more look refl) ∙ (claim_stays s.0 k.index (acts_seen p me) (LookChannel c found) refl ∙ here.claim)))
+        ap (own_claim s.0 k.index) (own_more cancel refl)
+        ∙ (claim_stays s.0 k.index (acts_seen q me) (CancelKey s k.index stage) refl
+        ∙ (ap (own_claim s.0 k.index) (own_more look refl)
+        ∙ (claim_stays s.0 k.index (acts_seen p me) (LookChannel c found) refl ∙ here.claim)))
 
     cancelled : now.cancelled ≡ true
     cancelled =
-        let leaves = step_leaves (limits_of w) (HoldsNumber (view w q)) me (CancelKey s k.index stage) (seen q) (seen r) (step_acts cancel refl).history in
+        let leaves = step_leaves (limits_of w) (HoldsNumber (view w q)) me (CancelKey s k.index stage) (seen q) (seen r)
+        (step_acts cancel refl).history in
         let before : State = state_after (seen q ++ leaves.between) in
-        ap (λ st. (st.key s.0 k.index).cancelled) leaves.state ∙ ap (λ x. x.cancelled) (put_at-same before.key s.0 k.index (record (before.key s.0 k.index) { cancelled = true }))
+        ap (λ st. (st.key s.0 k.index).cancelled) leaves.state
+        ∙ ap (λ x. x.cancelled)
+        (put_at-same before.key s.0 k.index (record (before.key s.0 k.index) { cancelled = true }))
 
 -- ---- after the registration
 
 -- where the channel was found closed the key stays cancelled
-pub cancelled_after : {w : Words} {p q : Pass} {me : CallerNo} {act : Act} (c : ChanNo) (k : KeyNo) → Steps w p q me act → finds_drawn act ≡ false → takes_hold c.0 act ≡ false
-    → finds act (channel_closed c.0) ≡ false → IsCancelledWhereClosed (view w p) me c k → IsCancelledWhereClosed (view w q) me c k
+pub cancelled_after : {w : Words} {p q : Pass} {me : CallerNo} {act : Act} (c : ChanNo) (k : KeyNo) → Steps w p q me act
+    → finds_drawn act ≡ false → takes_hold c.0 act ≡ false
+    → finds act (channel_closed c.0) ≡ false → IsCancelledWhereClosed (view w p) me c k
+    → IsCancelledWhereClosed (view w q) me c k
 cancelled_after {w = w} c k steps new takes unclosed here closed =
-    lasts_over (key_cancelled k.sel.0 k.index k.serial) (step_acts steps new) (here (sym (found_closed-same {w = w} c steps new takes unclosed) ∙ closed))
+    lasts_over (key_cancelled k.sel.0 k.index k.serial) (step_acts steps new)
+    (here (sym (found_closed-same {w = w} c steps new takes unclosed) ∙ closed))
 
 -- a step that doesn't take a hold, note a key or look at the channel
-pub registered_stays : {w : Words} {p q : Pass} {me : CallerNo} {act : Act} {c : ChanNo} {s : SelNo} {k : KeyNo} → Steps w p q me act → finds_drawn act ≡ false → takes_hold c.0 act ≡ false
-    → noted_found c.0 s.0 act ≡ None → finds act (channel_closed c.0) ≡ false → HasRegistered w p me c s k → HasRegistered w q me c s k
-registered_stays {w = w} {p = p} {q = q} {me = me} {act = act} {c = c} {s = s} {k = k} steps new takes silent unclosed here = record {
-  in_selector = here.in_selector;
-  has = key_after (step_acts steps new) here.has;
-  noted = noted_stays c s (record { index = k.index; serial = k.serial }) steps new takes silent here.noted;
-  cancelled = cancelled_after {w = w} c k steps new takes unclosed here.cancelled;
-}
+pub registered_stays : {w : Words} {p q : Pass} {me : CallerNo} {act : Act} {c : ChanNo} {s : SelNo} {k : KeyNo}
+    → Steps w p q me act → finds_drawn act ≡ false → takes_hold c.0 act ≡ false
+    → noted_found c.0 s.0 act ≡ None → finds act (channel_closed c.0) ≡ false → HasRegistered w p me c s k
+    → HasRegistered w q me c s k
+registered_stays {w = w} {p = p} {q = q} {me = me} {act = act} {c = c} {s = s} {k = k} steps new takes silent unclosed
+    here = record {
+      in_selector = here.in_selector;
+      has = key_after (step_acts steps new) here.has;
+      noted = noted_stays c s (record { index = k.index; serial = k.serial }) steps new takes silent here.noted;
+      cancelled = cancelled_after {w = w} c k steps new takes unclosed here.cancelled;
+    }
 
 -- when the hold is given back the noted key is the channel's
-pub its_key : {w : Words} {p q : Pass} {me : CallerNo} (c : ChanNo) (s : SelNo) (k : KeyId) → Steps w p q me (Release c) → KnowsNoted p me c s k → IsKeyOf (view w q) c (key s k)
+pub its_key : {w : Words} {p q : Pass} {me : CallerNo} (c : ChanNo) (s : SelNo) (k : KeyId) → Steps w p q me (Release c)
+    → KnowsNoted p me c s k → IsKeyOf (view w q) c (key s k)
 its_key {w = w} {p = p} {q = q} {me = me} c s k steps noted =
-    subst (λ (st : State). (st.key s.0 k.index).serial ≡ k.serial → (st.key s.0 k.index).chan ≡ c) (sym leaves.state) (noted_keys_are_claimed (limits_of w) c s k mid w.fit legal there).1
+    subst (λ (st : State). (st.key s.0 k.index).serial ≡ k.serial → (st.key s.0 k.index).chan ≡ c) (sym leaves.state)
+    (noted_keys_are_claimed (limits_of w) c s k mid w.fit legal there).1
   where
     leaves : Leaves (limits_of w) (HoldsNumber (view w p)) me (Release c) (seen p) (seen q)
-    leaves = step_leaves (limits_of w) (HoldsNumber (view w p)) me (Release c) (seen p) (seen q) (step_acts steps refl).history
+    leaves = step_leaves (limits_of w) (HoldsNumber (view w p)) me (Release c) (seen p) (seen q)
+        (step_acts steps refl).history
 
     mid : List Event
     mid = seen p ++ leaves.between
 
     legal : IsLegal (limits_of w) mid
-    legal = beginnings_are_legal (limits_of w) mid (seen q) (event_of me (Release c) ∷ [], append_assoc (seen p) leaves.between (event_of me (Release c) ∷ []) ∙ sym leaves.parts) steps.pass.legal
+    legal = beginnings_are_legal (limits_of w) mid (seen q) (
+      event_of me (Release c) ∷ [],
+      append_assoc (seen p) leaves.between (event_of me (Release c) ∷ [])
+          ∙ sym leaves.parts,
+    ) steps.pass.legal
 
     same : mine me mid ≡ mine me (seen p)
-    same = mine-append me (seen p) leaves.between ∙ (ap (λ acts. mine me (seen p) ++ acts) leaves.own ∙ append-nil (mine me (seen p)))
+    same = mine-append me (seen p) leaves.between
+        ∙ (ap (λ acts. mine me (seen p) ++ acts) leaves.own ∙ append-nil (mine me (seen p)))
 
     there : (state_after mid).noted c.0 s.0 ≡ Some k
     there =
         let since = held_since (limits_of w) me c mid legal leaves.step.condition.1 in
         ap (λ evs. (state_after evs).noted c.0 s.0) since.whole
         ∙ found_noted_stays (limits_of w) me c since.before since.later since.keeps s (Some k)
-        (ap (last (noted_found c.0 s.0)) (sym since.own) ∙ (ap (λ own. last (noted_found c.0 s.0) (under c.0 own)) same ∙ noted))
+        (ap (last (noted_found c.0 s.0)) (sym since.own)
+        ∙ (ap (λ own. last (noted_found c.0 s.0) (under c.0 own)) same ∙ noted))
 
 -- so is the answer of a registration
-pub its_answer : {w : Words} {p q : Pass} {me : CallerNo} {c : ChanNo} {s : SelNo} {k : KeyNo} → Steps w p q me (Release c) → HasRegistered w p me c s k → IsKeyOf (view w q) c k
+pub its_answer : {w : Words} {p q : Pass} {me : CallerNo} {c : ChanNo} {s : SelNo} {k : KeyNo}
+    → Steps w p q me (Release c) → HasRegistered w p me c s k → IsKeyOf (view w q) c k
 its_answer {w = w} {p = p} {q = q} {me = me} {c = c} {s = s} {k = k} steps here =
-    subst (λ (x : SelNo). ((state_seen q).key x.0 k.index).serial ≡ k.serial → ((state_seen q).key x.0 k.index).chan ≡ c) (sym here.in_selector)
+    subst (λ (x : SelNo). ((state_seen q).key x.0 k.index).serial ≡ k.serial
+    → ((state_seen q).key x.0 k.index).chan ≡ c) (sym here.in_selector)
     (its_key {w = w} c s (record { index = k.index; serial = k.serial }) steps here.noted)

@@ -6,7 +6,8 @@ use Rattle.nio_base.specs.declared.numbers.KeyId.{KeyId}
 use Rattle.nio_base.specs.declared.numbers.KeyNo.{KeyNo}
 use Rattle.nio_base.specs.declared.numbers.SelNo.{SelNo}
 use Rattle.nio_event.specs.Conditions.{IsChannel, holds}
-use Rattle.nio_event.specs.OwnEvents.{has, last, under, finds_unblocked, noted_found, own_claim, is_unpublished, is_clear}
+use Rattle.nio_event.specs.OwnEvents.{has, last, under, finds_unblocked, noted_found, own_claim, is_unpublished}
+use Rattle.nio_event.specs.OwnEvents.{is_clear}
 use Rattle.nio_event.specs.PassViews.{HasKey}
 use Rattle.nio_steps.specs.Names.{key}
 use Rattle.nio_words.specs.Passes.{IsReady, acts_seen, limits_of, state_seen}

@@ -20,4 +20,5 @@ IsKeyOf pass c k = ((known pass).key k.sel.0 k.index).serial ≡ k.serial → ((
 
 -- where the caller found the channel closed under its hold, the key has been cancelled
 abbrev pub IsCancelledWhereClosed : PassView → CallerNo → ChanNo → KeyNo → Type 0
-IsCancelledWhereClosed pass me c k = IsTrue (found_closed pass me c) → IsTrue (was_cancelled ((known pass).key k.sel.0 k.index) k.serial)
+IsCancelledWhereClosed pass me c k =
+    IsTrue (found_closed pass me c) → IsTrue (was_cancelled ((known pass).key k.sel.0 k.index) k.serial)

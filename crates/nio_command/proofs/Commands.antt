@@ -1,5 +1,6 @@
 -- Which command words are.
-use Rattle.std.proofs.Common.{◌≡◌, ◌≢◌, ◌↔◌, ◌∙◌, ◌<◌, ◌≤◌, ℕ, List, [], ◌∷◌, Result, Ok, Err, Option, Some, None, codes}
+use Rattle.std.proofs.Common.{◌≡◌, ◌≢◌, ◌↔◌, ◌∙◌, ◌<◌, ◌≤◌, ℕ, List, [], ◌∷◌, Result, Ok, Err, Option, Some, None}
+use Rattle.std.proofs.Common.{codes}
 use Rattle.std.proofs.Common.{length, map, arith, refl, sym, ap, subst, true, get_or, Global, String, take, drop, ◌-◌}
 use Rattle.std.specs.Prelude.{IfSome, IsSomeAnd}
 use Rattle.std.specs.Fmt.{decimal}
@@ -44,7 +45,8 @@ not_named word Script s k f r h = s (cc)
 not_named word Check s k f r h = k (cc)
 not_named word CheckFirst s k f r h = f (cc)
 not_named word Race s k f r h = r (cc)
-not_named word (Load rounds) s k f r h = let two : word ∷ [] ≡ codes "load" ∷ decimal rounds ∷ [] = h.says in absurd (cc)
+not_named word (Load rounds) s k f r h = let two : word ∷ [] ≡ codes "load" ∷ decimal rounds ∷ [] =
+    h.says in absurd (cc)
 not_named word (Proxy plan) s k f r h =
     let begins : word ∷ [] ≡ codes "proxy" ∷ h.rest = h.begins in
     let none : h.rest ≡ [] = cc in
@@ -118,14 +120,16 @@ behind_proxy words w text is some same e =
     (sym same ∙ (bytes_eq-Decides text (codes "proxy")).0 e)
 
 -- two words whose first is `load`
-pub behind_load : (words : List (String Global)) (w r : String Global) (first second : Text) → w ≡ slice_index_or words 0 w
+pub behind_load : (words : List (String Global)) (w r : String Global) (first second : Text)
+    → w ≡ slice_index_or words 0 w
     → r ≡ slice_index_or words 1 r → 2 ≤ length words → length words < 3
     → first ≡ string_bytes w → bytes_eq first (codes "load") ≡ true → second ≡ string_bytes r
     → map string_bytes words ≡ codes "load" ∷ second ∷ []
 behind_load [] w r first second one two some few same e also = absurd (omega arith)
 behind_load (x ∷ []) w r first second one two some few same e also = absurd (omega arith)
 behind_load (x ∷ y ∷ []) w r first second one two some few same e also =
-    ap (λ (t : Text). t ∷ string_bytes y ∷ []) (ap string_bytes (sym one) ∙ sym same ∙ (bytes_eq-Decides first (codes "load")).0 e)
+    ap (λ (t : Text). t ∷ string_bytes y ∷ [])
+    (ap string_bytes (sym one) ∙ sym same ∙ (bytes_eq-Decides first (codes "load")).0 e)
     ∙ ap (λ (t : Text). codes "load" ∷ t ∷ []) (ap string_bytes (sym two) ∙ sym also)
 behind_load (x ∷ y ∷ z ∷ words) w r first second one two some few same e also = absurd (omega arith)
 

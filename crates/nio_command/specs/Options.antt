@@ -10,11 +10,12 @@ pub data Written : Type 0 where
   joined : Text → Text → Written
   apart : Text → Text → Written
 
--- its name and its value
+-- the name and the value of an option
 abbrev pub given : Written → Text × Text
 given (joined name value) = (name, value)
 given (apart name value) = (name, value)
 
+-- its words on the command line: one where it is joined, two where it is apart
 abbrev pub option_words : Written → List Text
 option_words (joined name value) = (codes "--" ++ name ++ codes "=" ++ value) ∷ []
 option_words (apart name value) = (codes "--" ++ name) ∷ value ∷ []

@@ -1,15 +1,17 @@
--- The command that reads the options of `proxy`, as `clap` sees it. No public contract cites it.
+-- The options of `proxy`, as they are described to `clap`. No public contract cites this file.
 use Rattle.std.specs.Prelude.{true, Some, codes}
 use Rattle.clap.specs.Walk.{Rule, Text}
 use Rattle.clap.specs.Simple.{App, Shape, new_app, new_rule, on_top, with_rule}
 
--- an option that is required, by its name
+-- a required option with this name
 abbrev pub added_rule : Text → Rule
 added_rule name = record (new_rule name) { long = Some name; required = true }
 
+-- the words don't begin with a program's name, and there is no option for help
 abbrev pub settings : Shape → Shape
 settings s = record s { no_binary_name = true; disable_help_flag = true }
 
+-- the four options
 abbrev pub proxy_app : App
 proxy_app = with_rule
     (with_rule

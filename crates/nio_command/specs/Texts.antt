@@ -1,4 +1,4 @@
--- The values of options that a parse finds. No public contract cites this file.
+-- The values of the options that `clap` finds. No public contract cites this file.
 use Rattle.std.specs.Prelude.{◌≡◌, ◌≢◌, Some, codes, slice_index}
 use Rattle.clap.specs.Words.{first_value}
 use Rattle.clap.specs.declared.parser.matches.Found.{Found}
@@ -6,6 +6,7 @@ use Rattle.nio_command.specs.Options.{Text}
 use Rattle.nio_command.specs.Values.{ProxyValues}
 use Rattle.nio_command.specs.declared.options.ProxyTexts.{ProxyTexts}
 
+-- the values as the definitions have them
 abbrev pub texts_of : ProxyTexts → ProxyValues
 texts_of t = record { way = t.way.now; listen = t.listen.now; target = t.target.now; conns = t.conns.now }
 
@@ -13,13 +14,14 @@ texts_of t = record { way = t.way.now; listen = t.listen.now; target = t.target.
 abbrev pub IsNoOption : Text → Type 0
 IsNoOption text = slice_index text 0 ≢ 45
 
+-- no value begins with a hyphen
 pub record AreNoOptions (v : ProxyValues) : Type 0 where
   pub way : IsNoOption v.way
   pub listen : IsNoOption v.listen
   pub target : IsNoOption v.target
   pub conns : IsNoOption v.conns
 
--- the parse found the four values
+-- `clap` found these four values
 pub record FindsValues (found : Found) (v : ProxyValues) : Type 0 where
   pub way : first_value found (codes "way") ≡ Some v.way
   pub listen : first_value found (codes "listen") ≡ Some v.listen

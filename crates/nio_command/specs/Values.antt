@@ -5,14 +5,14 @@ use Rattle.std.specs.Net.Text.{ipv4_text}
 use Rattle.nio_command.specs.Options.{Text}
 use Rattle.nio_base.specs.declared.numbers.Addr.{Addr}
 
--- four numbers of 0 to 255, and a port of 1 to 65,535
+-- four numbers from 0 to 255, and a port from 1 to 65,535
 pub record IsAddress (a : Addr) : Type 0 where
   pub four : length a.ip ≡ 4
   pub parts : All (λ part. part ≤ 255) a.ip
   pub some_port : 1 ≤ a.port
   pub port : a.port ≤ 65535
 
--- four numbers joined by dots, a colon, and the port
+-- an address as text: its four numbers joined by dots, a colon, and the port
 abbrev pub address_text : Addr → Text
 address_text a = ipv4_text a.ip ++ codes ":" ++ decimal a.port
 
@@ -23,6 +23,7 @@ pub record ProxyValues : Type 0 where
   pub target : Text
   pub conns : Text
 
+-- the four options, each a name and its value
 abbrev pub proxy_options : ProxyValues → List (Text × Text)
 proxy_options v =
     (codes "way", v.way)

@@ -1,4 +1,4 @@
--- The words of the command line, without the program's name.
+-- The commands, by the words of the command line. The program's name isn't one of these words.
 use Rattle.std.specs.Prelude.{◌≡◌, ℕ, ◌≤◌, List, [], ◌∷◌, codes}
 use Rattle.std.specs.Fmt.{decimal}
 use Rattle.nio_relay.specs.Plan.{IsServable}
@@ -24,19 +24,19 @@ IsCheckFirstCommand words = words ≡ codes "check-1" ∷ []
 abbrev pub IsRaceCommand : List Text → Type 0
 IsRaceCommand words = words ≡ codes "race" ∷ []
 
--- the word `load`, and the number of rounds, from 1 to 100,000
+-- the word `load`, then the number of rounds, from 1 to 100,000
 pub record IsLoadCommand (words : List Text) (rounds : ℕ) : Type 0 where
   pub some : 1 ≤ rounds
   pub few : rounds ≤ 100000
   pub says : words ≡ codes "load" ∷ decimal rounds ∷ []
 
--- the addresses, and 1 to 16,000 connections
+-- both addresses are valid, and there are from 1 to 16,000 connections
 pub record IsInRange (plan : ProxyPlan) : Type 0 where
   pub listen : IsAddress plan.listen
   pub target : IsAddress plan.target
   pub connections : IsServable plan
 
--- the values of a plan's options
+-- the values of the options that ask for this plan
 abbrev pub values_of : ProxyPlan → ProxyValues
 values_of plan = record {
   way = codes "select";
@@ -45,7 +45,7 @@ values_of plan = record {
   conns = decimal plan.conns;
 }
 
--- the word `proxy`, and the options of this plan
+-- the word `proxy`, then the options that ask for this plan
 pub record IsProxyCommand (words : List Text) (plan : ProxyPlan) : Type 0 where
   pub in_range : IsInRange plan
   pub rest : List Text
@@ -61,6 +61,6 @@ IsCommand words Race = IsRaceCommand words
 IsCommand words (Load rounds) = IsLoadCommand words rounds
 IsCommand words (Proxy plan) = IsProxyCommand words plan
 
--- the words are no command
+-- the words aren't a command
 abbrev pub SaysNothing : List Text → Type 0
 SaysNothing words = (command : Command) → ¬ (IsCommand words command)

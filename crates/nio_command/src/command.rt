@@ -1,4 +1,4 @@
-//! A command, and the words that it is.
+//! The commands of the program, and how they are read from the words of the command line.
 ghost use Rattle.std.specs.Prelude.{◌≡◌, ◌≢◌, ◌↔◌, List, ℕ, ◌∷◌, [], map, codes, Ok, Err, Some, IfSome};
 ghost use Rattle.std.specs.String.{string_bytes};
 ghost use Rattle.nio_command.specs.Words.{IsCommand, IsProxyCommand, SaysNothing};
@@ -14,24 +14,24 @@ use std::alloc::{AllocError, Global};
 pub enum Command {
     /// `script`: reads a script and writes its history.
     Script,
-    /// `check`: reads a history and says whether it is legal by the rules of now.
+    /// `check`: reads a history text and says whether it is legal by the rules of now.
     Check,
-    /// `check-1`: reads a history and says whether it is legal by the first rules.
+    /// `check-1`: reads a history text and says whether it is legal by the first rules.
     CheckFirst,
-    /// `race`: reads a race, runs its callers on threads, and writes their histories.
+    /// `race`: reads a race, runs each of its callers in a thread, and writes their lines with the replies.
     Race,
-    /// `load N`: runs the generated script of so many rounds, and sums up its replies.
+    /// `load N`: runs a generated script of N rounds, and writes a summary of the replies.
     Load(u32),
-    /// `proxy` and its options: relays connections by this plan.
+    /// `proxy` and its options: relays TCP connections as this plan says.
     Proxy(ProxyPlan),
 }
 
-/// Why words are no command.
+/// Why the words of a command line aren't a command.
 #[derive(Clone, Copy, Debug, PartialEq, Eq)]
 pub enum WordsError {
-    /// They say nothing that is known.
+    /// The program has no such command.
     Usage,
-    /// There was no memory to read the options.
+    /// There was no memory to read the options of `proxy`.
     Memory,
 }
 
@@ -45,8 +45,8 @@ impl From<AllocError> for WordsError {
     }
 }
 
-/// The command that the words are, where `words` leaves out the program's name. Only words that begin
-/// with `proxy` take memory.
+/// Reads the words of a command line, without the program's name, as a command. Memory is taken only where the first
+/// word is `proxy`.
 pub fn command_of(alloc: Global, words: &[String]) -> Result<Command, WordsError>
     ensures found { (command : Command) → result ≡ Ok command
         → IsCommand (map string_bytes words.now) command }
@@ -69,7 +69,7 @@ pub fn command_of(alloc: Global, words: &[String]) -> Result<Command, WordsError
     }
 }
 
-// The command that is this one word.
+// Reads a command that has one word only.
 fn command_named(word: &str) -> Option<Command>
     ensures found { IfSome result (λ command. IsCommand (word.now ∷ []) command) }
     ensures only { (command : Command) → IsCommand (word.now ∷ []) command
@@ -84,7 +84,7 @@ fn command_named(word: &str) -> Option<Command>
     }
 }
 
-// The load of as many rounds as this word behind `load` says.
+// Reads the word after `load` as a number of rounds.
 fn read_load(word: &str) -> Option<Command>
     ensures found { IfSome result (λ command. IsCommand (codes "load" ∷ word.now ∷ []) command) }
     ensures only { (command : Command) → IsCommand (codes "load" ∷ word.now ∷ []) command
@@ -94,7 +94,7 @@ fn read_load(word: &str) -> Option<Command>
     Some(Command::Load(rounds))
 }
 
-// The plan that these words behind `proxy` are.
+// Reads the words after `proxy` as a plan.
 fn read_proxy(alloc: Global, words: &[String]) -> Result<ProxyPlan, WordsError>
     ensures found { (plan : ProxyPlan) → result ≡ Ok plan
         → IsProxyCommand (codes "proxy" ∷ map string_bytes words.now) plan }

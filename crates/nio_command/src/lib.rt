@@ -1,4 +1,4 @@
-//! The words of the program's command line. The options of `proxy` are read with `clap`.
+//! Reads the program's command line. The options of `proxy` are read with `clap`.
 #![tactic(auto)]
 
 pub use command::{Command, WordsError, command_of};

@@ -1,8 +1,8 @@
-//! Decimal numbers, without a sign and without needless leading zeros.
+//! Decimal numbers, without a sign and without leading zeros.
 ghost use Rattle.std.specs.Prelude.{◌≡◌, ◌≢◌, ◌≤◌, ◌↔◌, ℕ, IfSome, IsTrue, Some, length, slice_index};
 ghost use Rattle.std.specs.Fmt.{decimal};
 
-/// The number that a text is in decimal, where it is from `least` to `most`.
+/// Reads a decimal number from `least` to `most`. None where the text isn't one, or has a sign or a leading zero.
 pub fn read_number(text: &str, least: u32, most: u32) -> Option<u32>
     ensures found { IfSome result (λ n. (least ≤ n) × (n ≤ most) × (text.now ≡ decimal n)) }
     ensures only { (n : ℕ) → least ≤ n → n ≤ most → text.now ≡ decimal n → result ≡ Some n }
@@ -20,7 +20,7 @@ pub fn read_number(text: &str, least: u32, most: u32) -> Option<u32>
     }
 }
 
-// Whether no sign and no needless zero stands before the other digits.
+// Whether the text begins neither with a plus sign nor with a zero that other characters follow.
 fn begins_as_number(text: &str) -> bool
     ensures { IsTrue result
         ↔ ((slice_index text.now 0 ≢ 43) × (slice_index text.now 0 ≡ 48 → length text.now ≡ 1)) }

@@ -13,16 +13,20 @@ use clap::error::ErrorKind;
 use clap::{Arg, ArgMatches, Command};
 use std::alloc::{AllocError, Global};
 
-/// The values of the options of `proxy`, as they are written.
+/// The values of the options of `proxy`, as they are written on the command line.
 #[derive(Clone, Copy, Debug, PartialEq, Eq)]
 pub struct ProxyTexts<'a> {
+    /// `--way`: how the proxy waits for its connections.
     pub way: &'a str,
+    /// `--listen`: the address at which it accepts connections.
     pub listen: &'a str,
+    /// `--target`: the address to which it connects for each of them.
     pub target: &'a str,
+    /// `--conns`: how many connections it relays before it ends.
     pub conns: &'a str,
 }
 
-/// The texts of the options that the words behind `proxy` are.
+/// Reads the words after `proxy` as its options. `Ok(None)` where they aren't the four options, each given once.
 pub fn read_options<'a>(
     alloc: Global,
     words: &'a [String],
@@ -43,7 +47,7 @@ pub fn read_options<'a>(
     }
 }
 
-// Whether one of the words is `--`, behind which `clap` takes no word for an option.
+// Whether one of the words is `--`. `clap` reads no word after it as an option.
 fn has_dashes(words: &[String]) -> bool
     ensures { result ≡ list_any (λ w. bytes_eq (string_bytes w) (codes "--")) words.now }
 {
@@ -55,8 +59,7 @@ fn has_dashes(words: &[String]) -> bool
     false
 }
 
-// The command whose options are those of `proxy`. It reads the words behind `proxy` alone, and has
-// no option for help.
+// Describes the options of `proxy` to `clap`, which is given only the words after `proxy`. There is no option for help.
 fn proxy_command<'a>(alloc: Global) -> Result<Command<'a>, AllocError>
     ensures { IfOk result (λ c. app_of c ≡ proxy_app) }
 {
@@ -69,7 +72,7 @@ fn proxy_command<'a>(alloc: Global) -> Result<Command<'a>, AllocError>
         .arg(required_option(alloc, "conns"))
 }
 
-// The option `--name`, which takes one value.
+// The required option `--name`, which takes one value.
 fn required_option<'a>(alloc: Global, name: &'a str) -> Arg<'a>
     ensures rule { rule_of result ≡ added_rule name.entry.now }
     ensures local { result.global ≡ false }
@@ -77,7 +80,7 @@ fn required_option<'a>(alloc: Global, name: &'a str) -> Arg<'a>
     Arg::new(alloc, name).long(name).required(true)
 }
 
-// The four texts, where each was found.
+// The values of the four options, if `clap` found them all.
 fn texts_found<'a>(matches: &ArgMatches<'a>) -> Option<ProxyTexts<'a>>
     ensures found { IfSome result (λ t. FindsValues (found_of matches.now) (texts_of t)) }
     ensures only { (v : ProxyValues) → FindsValues (found_of matches.now) v

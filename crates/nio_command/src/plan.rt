@@ -1,4 +1,4 @@
-//! The plan that the options of `proxy` are.
+//! Reads the values of the options of `proxy` as a plan.
 ghost use Rattle.std.specs.Prelude.{◌≡◌, IfSome, Some};
 ghost use Rattle.nio_command.specs.Words.{IsInRange, values_of};
 ghost use Rattle.nio_command.specs.Texts.{texts_of};
@@ -8,7 +8,7 @@ use crate::number::read_number;
 use crate::options::ProxyTexts;
 use nio_relay::ProxyPlan;
 
-/// The plan that these values are.
+/// Reads the values of the options as a plan. None where one of them isn't valid.
 pub fn read_plan(texts: ProxyTexts<'_>) -> Option<ProxyPlan>
     ensures found { IfSome result (λ plan. IsInRange plan × (texts_of texts.entry ≡ values_of plan)) }
     ensures only { (plan : ProxyPlan) → IsInRange plan → texts_of texts.entry ≡ values_of plan

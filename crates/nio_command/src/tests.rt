@@ -1,11 +1,11 @@
-//! Words and the commands that they are, as tables.
+//! Command lines, and the commands that are read from them, as tables.
 use crate::*;
 use nio_base::Addr;
 use nio_relay::ProxyPlan;
 use std::alloc::{AllocError, Global};
 use std::test::Fail;
 
-/// The words of a line, which stand one space apart; two spaces make an empty word.
+/// Splits a line at each space. Two spaces in a row make an empty word.
 fn words_of(alloc: Global, line: &str) -> Result<Vec<String>, AllocError> {
     let mut words = Vec::new(alloc);
     for word in line.split(' ') {
@@ -14,7 +14,7 @@ fn words_of(alloc: Global, line: &str) -> Result<Vec<String>, AllocError> {
     Ok(words)
 }
 
-/// What the words of a line are.
+/// Reads a command line.
 fn command_in(alloc: Global, line: &str) -> Result<Command, WordsError> {
     let words = words_of(alloc, line)?;
     command_of(alloc, words.as_slice())

@@ -7,6 +7,7 @@ use Rattle.nio_event.specs.State.{State}
 use Rattle.nio_event.specs.declared.act.Act.{Act}
 use Rattle.nio_event.specs.declared.act.Act.TheVariants.{DrawBit}
 
-pub act_from-question_of : (st : State) (me : CallerNo) (act : Act) → Answers st me act → act ≡ act_from st me (question_of act)
+pub act_from-question_of : (st : State) (me : CallerNo) (act : Act) → Answers st me act
+    → act ≡ act_from st me (question_of act)
 act_from-question_of st me (DrawBit n found) answers = cc
 act_from-question_of st me act answers = cc

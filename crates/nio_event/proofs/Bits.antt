@@ -1,5 +1,6 @@
 -- The number of a set of bits: which bits it has.
-use Rattle.std.proofs.Common.{◌≡◌, ◌≢◌, ℕ, zero, suc, ◌<◌, ◌≤◌, ◌^◌, max, Bool, true, false, cond, if◌then◌else◌, refl, ap, ◌∙◌, subst, arith}
+use Rattle.std.proofs.Common.{◌≡◌, ◌≢◌, ℕ, zero, suc, ◌<◌, ◌≤◌, ◌^◌, max, Bool, true, false, cond, if◌then◌else◌, refl}
+use Rattle.std.proofs.Common.{ap, ◌∙◌, subst, arith}
 use Rattle.std.specs.Prelude.{nat_lt}
 use Rattle.std.specs.Int.{bit_at}
 use Rattle.std.proofs.lemmas.Bool.{ltb-true, ltb-false}
@@ -28,7 +29,8 @@ bits_below-above (suc n) test i above =
 pub bits_below-at : (n : ℕ) (test : ℕ → Bool) (i : ℕ) → i < n → bit_at (bits_below n test) i ≡ (if test i then 1 else 0)
 unfolding bits_below
 bits_below-at zero test i below = absurd (omega arith)
-bits_below-at (suc n) test i below = bit_at_or (bits_below n test) (cond (test n) (2 ^ n) 0) i ∙ by_test (nat_lt i n) refl (bits_below-at n test i)
+bits_below-at (suc n) test i below =
+    bit_at_or (bits_below n test) (cond (test n) (2 ^ n) 0) i ∙ by_test (nat_lt i n) refl (bits_below-at n test i)
   where
     by_test : (b : Bool) → nat_lt i n ≡ b → (i < n → bit_at (bits_below n test) i ≡ (if test i then 1 else 0))
         → max (bit_at (bits_below n test) i) (bit_at (cond (test n) (2 ^ n) 0) i) ≡ (if test i then 1 else 0)
@@ -42,7 +44,9 @@ bits_below-at (suc n) test i below = bit_at_or (bits_below n test) (cond (test n
         let not_lower : n ≤ i = ltb-false i n e in
         let same : n ≡ i = omega arith in
         let rest : bit_at (bits_below n test) i ≡ 0 = bits_below-above n test i not_lower in
-        let last : bit_at (cond (test n) (2 ^ n) 0) i ≡ (if test n then 1 else 0) = subst (λ (k : ℕ). bit_at (cond (test n) (2 ^ n) 0) k ≡ (if test n then 1 else 0)) same (one_bit-same (test n) n) in
+        let last : bit_at (cond (test n) (2 ^ n) 0) i ≡ (if test n then 1 else 0) = subst
+        (λ (k : ℕ). bit_at (cond (test n) (2 ^ n) 0) k ≡ (if test n then 1 else 0)) same
+        (one_bit-same (test n) n) in
         let bit : ℕ → ℕ = λ k. if test k then 1 else 0 in
         let tests = ap bit same in
         omega (arith, rest, last, tests)

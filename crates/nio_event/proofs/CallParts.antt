@@ -1,12 +1,16 @@
 -- A call is put together from its word and its arguments, in one way.
-use Rattle.std.proofs.Common.{◌≡◌, ℕ, List, ◌∷◌, Bool, Option, Some, None, IfSome, IsSomeAnd, MatchOption, Result, Ok, Err, IfOk, refl, sym, ap, subst, ◌∙◌}
+use Rattle.std.proofs.Common.{◌≡◌, ℕ, List, ◌∷◌, Bool, Option, Some, None, IfSome, IsSomeAnd, MatchOption, Result, Ok}
+use Rattle.std.proofs.Common.{Err, IfOk, refl, sym, ap, subst, ◌∙◌}
 use Rattle.std.specs.Prelude.{⊤}
 use Rattle.std.proofs.lemmas.Option.{same_Some, none-some}
 use Rattle.nio_base.specs.declared.numbers.CallerNo.{CallerNo}
 use Rattle.nio_base.specs.declared.numbers.ChanNo.{ChanNo}
 use Rattle.nio_base.specs.declared.numbers.KeyId.{KeyId}
 use Rattle.nio_base.specs.declared.numbers.SelNo.{SelNo}
-use Rattle.nio_event.specs.Arguments.{Arguments, nothing, one_caller, one_selector, one_channel, one_kind, channel_mode, channel_selector, channel_bytes, channel_count, registration, selector_key, key_ops, key_number, selector_wait, selector_told, on_group, ArgumentsFit, ReadsArguments, argument_words}
+use Rattle.nio_event.specs.Arguments.{Arguments, nothing, one_caller, one_selector, one_channel, one_kind, channel_mode}
+use Rattle.nio_event.specs.Arguments.{channel_selector, channel_bytes, channel_count, registration, selector_key}
+use Rattle.nio_event.specs.Arguments.{key_ops, key_number, selector_wait, selector_told, on_group, ArgumentsFit}
+use Rattle.nio_event.specs.Arguments.{ReadsArguments, argument_words}
 use Rattle.nio_event.specs.Calls.{IsCall, call_words}
 use Rattle.nio_event.specs.CallWords.{arguments, call_word, call_word_text}
 use Rattle.nio_event.specs.GroupCalls.{ReadsGroupCall, group_word}
@@ -97,7 +101,8 @@ call_from-parts _ = refl
 pub parts_one : (c d : Call) → call_word c ≡ call_word d → arguments c ≡ arguments d → c ≡ d
 parts_one c d words args =
     same_Some c d
-    (sym (call_from-parts c) ∙ (ap (λ w. call_from w (arguments c)) words ∙ (ap (call_from (call_word d)) args ∙ call_from-parts d)))
+    (sym (call_from-parts c)
+    ∙ (ap (λ w. call_from w (arguments c)) words ∙ (ap (call_from (call_word d)) args ∙ call_from-parts d)))
 
 -- ---- the shape that the arguments behind a word have
 
@@ -142,7 +147,9 @@ from_shape (word.OnGroup w) (on_group g) h = (g, refl, (cc h))
 from_shape _ _ h = absurd h
 
 pub have_shape : (c : Call) → AreOf (call_word c) (arguments c)
-have_shape c = from_shape (call_word c) (arguments c) (subst (λ o. IsSomeAnd o (λ d. call_word d ≡ call_word c)) (sym (call_from-parts c)) refl)
+have_shape c =
+    from_shape (call_word c) (arguments c)
+    (subst (λ o. IsSomeAnd o (λ d. call_word d ≡ call_word c)) (sym (call_from-parts c)) refl)
 
 -- ---- reading
 
@@ -169,7 +176,8 @@ made_call w shape of_word words (Some x) (Some c) read cases says =
       );
       only = λ d fits e.
           let own = of_word (arguments d) (subst (λ v. AreOf v (arguments d)) fits.1 (have_shape d)) in
-          let same = same_Some x own.0 (read.only own.0 (subst ArgumentsFit own.1 fits.0) (e ∙ ap argument_words own.1)) in
+          let same = same_Some x own.0
+          (read.only own.0 (subst ArgumentsFit own.1 fits.0) (e ∙ ap argument_words own.1)) in
           ap Some (parts_one c d (parts.0 ∙ sym fits.1) (parts.1 ∙ (ap shape same ∙ sym own.1)));
     }
 
@@ -194,8 +202,11 @@ made_on_group w words (Some g) (Some c) read cases says =
       );
       only = λ d fits e.
           let own = subst (λ v. AreOf v (arguments d)) fits.1 (have_shape d) in
-          let same = same_Some g own.0 (read.only own.0 (subst ArgumentsFit own.1 fits.0, own.2) (e ∙ ap argument_words own.1)) in
-          ap Some (is ∙ (ap call.Group same ∙ sym (parts_one d (call.Group own.0) (fits.1 ∙ ap word.OnGroup (sym own.2)) own.1)));
+          let same = same_Some g own.0
+          (read.only own.0 (subst ArgumentsFit own.1 fits.0, own.2) (e ∙ ap argument_words own.1)) in
+          ap Some (is
+          ∙ (ap call.Group same
+          ∙ sym (parts_one d (call.Group own.0) (fits.1 ∙ ap word.OnGroup (sym own.2)) own.1)));
     }
 
 reads_call : (word : List ℕ) (w : CallWord) (args words : List (List ℕ)) (r : Option Call)
@@ -209,11 +220,16 @@ reads_call word w args words r read is h = record {
       h.only c (fits, sym same) (cc all);
 }
   where
-    found_call : (r' : Option Call) → IfSome r' (λ c. (IsCall c × (call_word c ≡ w)) × (args ≡ argument_words (arguments c)))
+    found_call : (r' : Option Call)
+        → IfSome r' (λ c. (IsCall c × (call_word c ≡ w)) × (args ≡ argument_words (arguments c)))
         → IfSome r' (λ c. IsCall c × (words ≡ call_words c))
     found_call None found = tt
-    found_call (Some c) found =
-        (found.0.0, is ∙ (ap (λ v. v ∷ args) (read.found.1 ∙ ap call_word_text (sym found.0.1)) ∙ ap (λ ws. call_word_text (call_word c) ∷ ws) found.1))
+    found_call (Some c) found = (
+      found.0.0,
+      is
+          ∙ (ap (λ v. v ∷ args) (read.found.1 ∙ ap call_word_text (sym found.0.1))
+          ∙ ap (λ ws. call_word_text (call_word c) ∷ ws) found.1),
+    )
 
 pub no_word : (word : List ℕ) (args words : List (List ℕ)) → Reads (λ _. ⊤) call_word_text word None
     → words ≡ word ∷ args → Reads IsCall call_words words None

@@ -1,5 +1,6 @@
 -- The table of call words has each word, under its own text alone.
-use Rattle.std.proofs.Common.{◌≡◌, ℕ, List, [], ◌∷◌, Bool, true, false, cond, Option, Some, None, IfSome, refl, sym, subst, ◌∙◌, find}
+use Rattle.std.proofs.Common.{◌≡◌, ℕ, List, [], ◌∷◌, Bool, true, false, cond, Option, Some, None, IfSome, refl, sym}
+use Rattle.std.proofs.Common.{subst, ◌∙◌, find}
 use Rattle.std.specs.Prelude.{⊤}
 use Rattle.std.specs.List.{list_all}
 use Rattle.std.specs.Str.{bytes_eq}
@@ -47,7 +48,8 @@ found_passes p [] x e = absurd (none-some x e)
 found_passes p (y ∷ ys) x e = found_at p y x (find p ys) (p y) (λ is. is) (found_passes p ys x) e
 
 -- what holds of each word of the table holds of one that is found
-pub found_has : {X : Type 0} (q p : X → Bool) (xs : List X) (x : X) → list_all q xs ≡ true → find p xs ≡ Some x → q x ≡ true
+pub found_has : {X : Type 0} (q p : X → Bool) (xs : List X) (x : X) → list_all q xs ≡ true → find p xs ≡ Some x
+    → q x ≡ true
 found_has q p [] x all e = absurd (none-some x e)
 found_has q p (y ∷ ys) x all e =
     let parts = and_parts (q y) (list_all q ys) all in
@@ -57,8 +59,11 @@ found_text : (text : List ℕ) (r : Option CallWord)
     → find (λ w. bytes_eq (call_word_text w) text) CALL_WORDS ≡ r
     → IfSome r (λ w. ⊤ × (text ≡ call_word_text w))
 found_text text None e = tt
-found_text text (Some w) e =
-    (tt, sym ((bytes_eq-Decides (call_word_text w) text).0 (found_passes (λ v. bytes_eq (call_word_text v) text) CALL_WORDS w e)))
+found_text text (Some w) e = (
+  tt,
+  sym ((bytes_eq-Decides (call_word_text w) text).0
+      (found_passes (λ v. bytes_eq (call_word_text v) text) CALL_WORDS w e)),
+)
 
 pub reads_call_word : (text : List ℕ) (r : Option CallWord)
     → r ≡ find (λ w. bytes_eq (call_word_text w) text) CALL_WORDS

@@ -1,5 +1,6 @@
 -- How many pins are on an index: none exactly where nobody has one.
-use Rattle.std.proofs.Common.{◌≡◌, ℕ, zero, suc, ◌+◌, ◌==◌, ◌<◌, ◌≤◌, Bool, true, false, not, if◌then◌else◌, refl, ap, sym, ◌∙◌, subst, eqb-true, eq-eqb, arith}
+use Rattle.std.proofs.Common.{◌≡◌, ℕ, zero, suc, ◌+◌, ◌==◌, ◌<◌, ◌≤◌, Bool, true, false, not, if◌then◌else◌, refl, ap}
+use Rattle.std.proofs.Common.{sym, ◌∙◌, subst, eqb-true, eq-eqb, arith}
 use Rattle.std.specs.Prelude.{nat_lt}
 use Rattle.std.proofs.lemmas.Bool.{ltb-true, ltb-false}
 use Rattle.nio_event.specs.Answers.{count_below, pins, is_pinned}
@@ -11,9 +12,11 @@ unfolding count_below
 count_some zero test i below passes = absurd (omega arith)
 count_some (suc n) test i below passes = by_test (i == n) refl (λ lower. count_some n test i lower passes)
   where
-    by_test : (b : Bool) → (i == n) ≡ b → (i < n → 1 ≤ count_below n test) → 1 ≤ count_below n test + (if test n then 1 else 0)
+    by_test : (b : Bool) → (i == n) ≡ b → (i < n → 1 ≤ count_below n test)
+        → 1 ≤ count_below n test + (if test n then 1 else 0)
     by_test true e rest =
-        let one : ◌≡◌ {A = ℕ} (if test n then 1 else 0) 1 = ap (λ b. if b then 1 else 0) (subst (λ (k : ℕ). test k ≡ true) (eqb-true i n e) passes) in
+        let one : ◌≡◌ {A = ℕ} (if test n then 1 else 0) 1 = ap (λ b. if b then 1 else 0)
+        (subst (λ (k : ℕ). test k ≡ true) (eqb-true i n e) passes) in
         omega (arith, one)
     by_test false e rest = by_order (nat_lt i n) refl
       where

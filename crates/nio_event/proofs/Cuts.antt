@@ -1,5 +1,6 @@
 -- Where a text is cut at its first byte of a value.
-use Rattle.std.proofs.Common.{◌≡◌, ◌≢◌, ℕ, suc, ◌<◌, ◌+◌, ◌-◌, ◌==◌, List, ◌∷◌, ◌++◌, length, get_or, take, drop, Some, arith, sym, ap, refl, position, All, add-one, length-append}
+use Rattle.std.proofs.Common.{◌≡◌, ◌≢◌, ℕ, suc, ◌<◌, ◌+◌, ◌-◌, ◌==◌, List, ◌∷◌, ◌++◌, length, get_or, take, drop, Some}
+use Rattle.std.proofs.Common.{arith, sym, ap, refl, position, All, add-one, length-append}
 use Rattle.std.specs.List.{position_or_len}
 use Rattle.std.proofs.Math.Seq.{take-append_seam, drop-append-add, get_or-append_seam, drop-cons}
 use Rattle.std.proofs.lemmas.List.{get_or_append_left, take-append-drop}
@@ -13,7 +14,8 @@ use Rattle.std.proofs.lemmas.Grind.{common_steps}
 position_or_len-cut : (byte : ℕ) (before after : List ℕ) → All (λ b. b ≢ byte) before
     → position_or_len (λ b. b == byte) (before ++ byte ∷ after) ≡ length before
 position_or_len-cut byte before after others =
-    position_or_len_is (λ b. b == byte) (before ++ byte ∷ after) (length before) 0 (omega (arith, length-append {A = ℕ}))
+    position_or_len_is (λ b. b == byte) (before ++ byte ∷ after) (length before) 0
+    (omega (arith, length-append {A = ℕ}))
     (λ k lt. rw (get_or_append_left before (byte ∷ after) 0 k lt) (ne_eqb (get_or before k 0) byte (others k 0 lt)))
     (λ _. rw (get_or-append_seam before byte after 0) (eq-eqb byte byte refl))
 
@@ -21,7 +23,8 @@ position_or_len-cut byte before after others =
 pub position-cut : (byte : ℕ) (text before after : List ℕ) → All (λ b. b ≢ byte) before
     → text ≡ before ++ byte ∷ after → position (λ b. b == byte) text ≡ Some (length before)
 position-cut byte text before after others e =
-    let at : position_or_len (λ b. b == byte) text ≡ length before = rw e (position_or_len-cut byte before after others) in
+    let at : position_or_len (λ b. b == byte) text ≡ length before = rw e
+    (position_or_len-cut byte before after others) in
     let size : length before < length text = omega (arith, ap length e, length-append {A = ℕ}) in
     grind (arith, nat_tests, at, size)
 

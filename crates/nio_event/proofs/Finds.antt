@@ -1,5 +1,6 @@
 -- What a step leaves, and what it finds.
-use Rattle.std.proofs.Common.{◌≡◌, ℕ, ◌==◌, Bool, true, false, ◌&&◌, ◌||◌, inl, inr, if◌then◌else◌, Some, List, [], ◌∷◌, ◌++◌, map, append_assoc, refl, ap, sym, ◌∙◌, subst, eqb-true, eq-eqb, arith}
+use Rattle.std.proofs.Common.{◌≡◌, ℕ, ◌==◌, Bool, true, false, ◌&&◌, ◌||◌, inl, inr, if◌then◌else◌, Some, List, [], ◌∷◌}
+use Rattle.std.proofs.Common.{◌++◌, map, append_assoc, refl, ap, sym, ◌∙◌, subst, eqb-true, eq-eqb, arith}
 use Rattle.std.specs.Prelude.{nat_lt, fold, IsTrue}
 use Rattle.std.specs.Int.{bit_at}
 use Rattle.std.specs.List.{filter}
@@ -17,14 +18,20 @@ use Rattle.nio_event.proofs.OneMore.{state_after-more, mine-own, mine-other, has
 use Rattle.nio_event.proofs.Told.{either}
 use Rattle.nio_event.specs.Acts.{effect}
 use Rattle.nio_event.specs.Answers.{Answers, bits_below}
-use Rattle.nio_event.specs.Found.{Leaves, StepsLeave, is_look, LooksTell, gate_tells, channel_tells, stage_tells, selectors_tell, keys_high_tells, channels_high_tells, finds, FoundStands}
+use Rattle.nio_event.specs.Found.{Leaves, StepsLeave, is_look, LooksTell, gate_tells, channel_tells, stage_tells}
+use Rattle.nio_event.specs.Found.{selectors_tell, keys_high_tells, channels_high_tells, finds, FoundStands}
 use Rattle.nio_event.specs.Histories.{state_after, event_of, last_of, is_by, mine, IsStep, IsLegal, HistoryClause}
-use Rattle.nio_event.specs.Permanent.{PermanentFact, selector_made, selector_shut, channel_made, channel_closed, index_claimed, key_claimed, key_published, key_cancelled, key_removed, below_keys_high, below_channels_high, stands}
+use Rattle.nio_event.specs.Permanent.{PermanentFact, selector_made, selector_shut, channel_made, channel_closed}
+use Rattle.nio_event.specs.Permanent.{index_claimed, key_claimed, key_published, key_cancelled, key_removed}
+use Rattle.nio_event.specs.Permanent.{below_keys_high, below_channels_high, stands}
 use Rattle.nio_event.specs.OwnEvents.{has}
 use Rattle.nio_event.specs.Sets.{was_claimed, was_published, was_cancelled, was_removed}
 use Rattle.nio_event.specs.State.{State}
 use Rattle.nio_event.specs.declared.act.Act.{Act}
-use Rattle.nio_event.specs.declared.act.Act.TheVariants.{LookSelectors, LookGate, LookInterrupt, LookKey, CancelKey, LookInterest, LookNote, LookChannel, RaiseKeys, LookKeys, Publish, LookReg, BeginLook, Remove, LookMark, EndWake, LookChannels, RaiseChannels, SetMode, Enter, Pin, LookFree}
+use Rattle.nio_event.specs.declared.act.Act.TheVariants.{LookSelectors, LookGate, LookInterrupt, LookKey, CancelKey}
+use Rattle.nio_event.specs.declared.act.Act.TheVariants.{LookInterest, LookNote, LookChannel, RaiseKeys, LookKeys}
+use Rattle.nio_event.specs.declared.act.Act.TheVariants.{Publish, LookReg, BeginLook, Remove, LookMark, EndWake}
+use Rattle.nio_event.specs.declared.act.Act.TheVariants.{LookChannels, RaiseChannels, SetMode, Enter, Pin, LookFree}
 use Rattle.nio_event.specs.declared.event.Event.{Event}
 use Rattle.nio_event.specs.declared.found.Chan.{Chan}
 use Rattle.nio_event.specs.declared.found.GateWord.{GateWord}
@@ -32,7 +39,8 @@ use Rattle.nio_event.specs.declared.found.Stage.{Stage}
 
 -- ---- what a step leaves
 
-last_from : (x : Event) (xs : List Event) (e : Event) → fold (λ _ y. Some y) (Some x) xs ≡ Some e → (init : List Event) × (x ∷ xs ≡ init ++ e ∷ [])
+last_from : (x : Event) (xs : List Event) (e : Event) → fold (λ _ y. Some y) (Some x) xs ≡ Some e
+    → (init : List Event) × (x ∷ xs ≡ init ++ e ∷ [])
 last_from x [] e is = ([], ap (λ y. y ∷ []) cc)
 last_from x (y ∷ ys) e is = let rest = last_from y ys e is in (x ∷ rest.0, ap (λ es. x ∷ es) rest.1)
 
@@ -42,7 +50,9 @@ last_event [] e is = absurd cc
 last_event (x ∷ xs) e is = last_from x xs e is
 
 mine-append : (n : CallerNo) (xs ys : List Event) → mine n (xs ++ ys) ≡ mine n xs ++ mine n ys
-mine-append n xs ys = ap (map (λ x. x.act)) (filter-append (is_by n) xs ys) ∙ map-append (λ x. x.act) (filter (is_by n) xs) (filter (is_by n) ys)
+mine-append n xs ys =
+    ap (map (λ x. x.act)) (filter-append (is_by n) xs ys)
+    ∙ map-append (λ x. x.act) (filter (is_by n) xs) (filter (is_by n) ys)
 
 nothing_before : (acts : List Act) (act : Act) → acts ++ act ∷ [] ≡ act ∷ [] → acts ≡ []
 nothing_before [] act same = refl
@@ -58,7 +68,8 @@ step_leaves l Holds me act before after clause = by_rest clause.goes_on.0 clause
     by_rest : (rest : List Event) → before ++ rest ≡ after → Leaves l Holds me act before after
     by_rest [] joined =
         let same : after ≡ before = sym joined ∙ append-nil before in
-        let acts : mine me before ++ act ∷ [] ≡ mine me before ++ [] = sym clause.own ∙ (ap (mine me) same ∙ sym (append-nil (mine me before))) in
+        let acts : mine me before ++ act ∷ [] ≡ mine me before ++ [] = sym clause.own
+        ∙ (ap (mine me) same ∙ sym (append-nil (mine me before))) in
         absurd (not_empty [] act [] (sym (append_cancel_left (mine me before) (act ∷ []) [] acts)))
     by_rest (x ∷ xs) joined =
         let ends : last_of (x ∷ xs) ≡ Some e = sym (last_of-later before x xs) ∙ (ap last_of joined ∙ clause.ends) in
@@ -72,13 +83,17 @@ step_leaves l Holds me act before after clause = by_rest clause.goes_on.0 clause
               between = between;
               parts = parts;
               own = nothing_before (mine me between) act (sym (mine-own me between e (eq-eqb me.0 me.0 refl))
-                  ∙ append_cancel_left (mine me before) (mine me (between ++ e ∷ [])) (act ∷ []) (sym (mine-append me before (between ++ e ∷ [])) ∙ (ap (mine me) (sym parts) ∙ clause.own)));
-              others = λ n held other. none_by n (none_further n before (between ++ e ∷ []) (ap (mine n) (sym parts) ∙ clause.others n held other)) (is_by n e) refl;
+                  ∙ append_cancel_left (mine me before) (mine me (between ++ e ∷ [])) (act ∷ [])
+                  (sym (mine-append me before (between ++ e ∷ [])) ∙ (ap (mine me) (sym parts) ∙ clause.own)));
+              others = λ n held other. none_by n
+                  (none_further n before (between ++ e ∷ []) (ap (mine n) (sym parts) ∙ clause.others n held other))
+                  (is_by n e) refl;
               step = clause.legal.steps (before ++ between) e [] whole;
               state = ap state_after whole ∙ state_after-more (before ++ between) e;
             }
           where
-            none_by : (n : CallerNo) → mine n (between ++ e ∷ []) ≡ [] → (b : Bool) → is_by n e ≡ b → mine n between ≡ []
+            none_by : (n : CallerNo) → mine n (between ++ e ∷ []) ≡ [] → (b : Bool) → is_by n e ≡ b
+                → mine n between ≡ []
             none_by n none true by = absurd (not_empty (mine n between) act [] (sym none ∙ mine-own n between e by))
             none_by n none false by = sym (mine-other n between e by) ∙ none
 
@@ -88,7 +103,8 @@ steps_leave l held me act before after clause = step_leaves l (λ n. IsTrue (hel
 -- ---- what a look finds
 
 -- where a look doesn't change what it looks at, what it found stands after it
-look_keeps : (st : State) (me : CallerNo) (act : Act) → is_look act ≡ true → Answers st me act → Answers (effect st me act) me act
+look_keeps : (st : State) (me : CallerNo) (act : Act) → is_look act ≡ true → Answers st me act
+    → Answers (effect st me act) me act
 look_keeps st me (LookSelectors found) looks answers = answers
 look_keeps st me (LookGate s found) looks answers = answers
 look_keeps st me (LookInterrupt found) looks answers = answers
@@ -108,40 +124,51 @@ look_keeps st me act looks answers = absurd (cc looks)
 
 pub looks_tell : LooksTell
 looks_tell l me act past later legal looks =
-    subst (λ st. Answers st me act) (sym (state_after-more past (event_of me act))) (look_keeps (state_after past) me act looks (legal_next l past (event_of me act) later legal).answers)
+    subst (λ st. Answers st me act) (sym (state_after-more past (event_of me act)))
+    (look_keeps (state_after past) me act looks (legal_next l past (event_of me act) later legal).answers)
 
 -- ---- what a step finds stands in the state that it finds
 
 -- what is found of a part is found of the part that is named
-found_at : {A : Type 0} (f : ℕ → A) (P : A → Bool) (k n : ℕ) (found : A) → ((k == n) && P found) ≡ true → found ≡ f k → P (f n) ≡ true
+found_at : {A : Type 0} (f : ℕ → A) (P : A → Bool) (k n : ℕ) (found : A) → ((k == n) && P found) ≡ true → found ≡ f k
+    → P (f n) ≡ true
 found_at f P k n found told is =
     let both = and_parts (k == n) (P found) told in
     let same : k ≡ n = eqb-true k n both.0 in
     subst (λ (m : ℕ). P (f m) ≡ true) same (subst (λ x. P x ≡ true) is both.1)
 
-found_at_two : (f : ℕ → ℕ → Stage) (P : Stage → Bool) (k j s i : ℕ) (found : Stage) → ((k == s) && (j == i) && P found) ≡ true → found ≡ f k j → P (f s i) ≡ true
+found_at_two : (f : ℕ → ℕ → Stage) (P : Stage → Bool) (k j s i : ℕ) (found : Stage)
+    → ((k == s) && (j == i) && P found) ≡ true → found ≡ f k j → P (f s i) ≡ true
 found_at_two f P k j s i found told is =
     let parts = and_parts ((k == s) && (j == i)) (P found) told in
     let both = and_parts (k == s) (j == i) parts.0 in
     let first : k ≡ s = eqb-true k s both.0 in
     let second : j ≡ i = eqb-true j i both.1 in
-    subst (λ (m : ℕ). P (f m i) ≡ true) first (subst (λ (m : ℕ). P (f k m) ≡ true) second (subst (λ x. P x ≡ true) is parts.1))
+    subst (λ (m : ℕ). P (f m i) ≡ true) first
+    (subst (λ (m : ℕ). P (f k m) ≡ true) second (subst (λ x. P x ≡ true) is parts.1))
 
-gate_stands : (st : State) (s : ℕ) (found : GateWord) (f : PermanentFact) → found ≡ st.gate s → gate_tells s found f ≡ true → stands f st ≡ true
+gate_stands : (st : State) (s : ℕ) (found : GateWord) (f : PermanentFact) → found ≡ st.gate s
+    → gate_tells s found f ≡ true → stands f st ≡ true
 gate_stands st s found (selector_shut s') is told = found_at st.gate (λ g. g.shut) s s' found told is
 gate_stands st s found f is told = absurd (cc told)
 
-channel_stands : (st : State) (c : ℕ) (found : Chan) (f : PermanentFact) → found ≡ st.chan c → channel_tells c found f ≡ true → stands f st ≡ true
+channel_stands : (st : State) (c : ℕ) (found : Chan) (f : PermanentFact) → found ≡ st.chan c
+    → channel_tells c found f ≡ true → stands f st ≡ true
 channel_stands st c found (channel_made c') is told = found_at st.chan (λ x. x.made) c c' found told is
 channel_stands st c found (channel_closed c') is told = found_at st.chan (λ x. x.closed) c c' found told is
 channel_stands st c found f is told = absurd (cc told)
 
-stage_stands : (st : State) (s i : ℕ) (found : Stage) (f : PermanentFact) → found ≡ st.key s i → stage_tells s i found f ≡ true → stands f st ≡ true
+stage_stands : (st : State) (s i : ℕ) (found : Stage) (f : PermanentFact) → found ≡ st.key s i
+    → stage_tells s i found f ≡ true → stands f st ≡ true
 stage_stands st s i found (index_claimed s' i') is told = found_at_two st.key (λ k. k.claimed) s i s' i' found told is
-stage_stands st s i found (key_claimed s' i' serial) is told = found_at_two st.key (λ k. was_claimed k serial) s i s' i' found told is
-stage_stands st s i found (key_published s' i' serial) is told = found_at_two st.key (λ k. was_published k serial) s i s' i' found told is
-stage_stands st s i found (key_cancelled s' i' serial) is told = found_at_two st.key (λ k. was_cancelled k serial) s i s' i' found told is
-stage_stands st s i found (key_removed s' i' serial) is told = found_at_two st.key (λ k. was_removed k serial) s i s' i' found told is
+stage_stands st s i found (key_claimed s' i' serial) is told =
+    found_at_two st.key (λ k. was_claimed k serial) s i s' i' found told is
+stage_stands st s i found (key_published s' i' serial) is told =
+    found_at_two st.key (λ k. was_published k serial) s i s' i' found told is
+stage_stands st s i found (key_cancelled s' i' serial) is told =
+    found_at_two st.key (λ k. was_cancelled k serial) s i s' i' found told is
+stage_stands st s i found (key_removed s' i' serial) is told =
+    found_at_two st.key (λ k. was_removed k serial) s i s' i' found told is
 stage_stands st s i found f is told = absurd (cc told)
 
 bit_found : (f : ℕ → Bool) (s : ℕ) → (bit_at (bits_below 64 f) s == 1) ≡ true → f s ≡ true
@@ -160,19 +187,24 @@ bit_found f s told = by_limit (nat_lt s 64) refl
         let clash : ◌≡◌ {A = ℕ} 0 1 = sym (bits_below-above 64 f s (ltb-false s 64 above)) ∙ one in
         absurd cc
 
-selectors_stand : (st : State) (found : ℕ) (f : PermanentFact) → found ≡ bits_below 64 st.selector → selectors_tell found f ≡ true → stands f st ≡ true
-selectors_stand st found (selector_made s) is told = bit_found st.selector s (subst (λ (n : ℕ). (bit_at n s == 1) ≡ true) is told)
+selectors_stand : (st : State) (found : ℕ) (f : PermanentFact) → found ≡ bits_below 64 st.selector
+    → selectors_tell found f ≡ true → stands f st ≡ true
+selectors_stand st found (selector_made s) is told =
+    bit_found st.selector s (subst (λ (n : ℕ). (bit_at n s == 1) ≡ true) is told)
 selectors_stand st found f is told = absurd (cc told)
 
-keys_high_stands : (st : State) (s found : ℕ) (f : PermanentFact) → found ≡ st.keys_high s → keys_high_tells s found f ≡ true → stands f st ≡ true
+keys_high_stands : (st : State) (s found : ℕ) (f : PermanentFact) → found ≡ st.keys_high s
+    → keys_high_tells s found f ≡ true → stands f st ≡ true
 keys_high_stands st s found (below_keys_high s' i) is told = found_at st.keys_high (λ n. nat_lt i n) s s' found told is
 keys_high_stands st s found f is told = absurd (cc told)
 
-channels_high_stands : (st : State) (found : ℕ) (f : PermanentFact) → found ≡ st.channels_high → channels_high_tells found f ≡ true → stands f st ≡ true
+channels_high_stands : (st : State) (found : ℕ) (f : PermanentFact) → found ≡ st.channels_high
+    → channels_high_tells found f ≡ true → stands f st ≡ true
 channels_high_stands st found (below_channels_high c) is told = subst (λ (n : ℕ). nat_lt c n ≡ true) is told
 channels_high_stands st found f is told = absurd (cc told)
 
-step_finds : (st : State) (me : CallerNo) (act : Act) (f : PermanentFact) → Answers st me act → finds act f ≡ true → stands f st ≡ true
+step_finds : (st : State) (me : CallerNo) (act : Act) (f : PermanentFact) → Answers st me act → finds act f ≡ true
+    → stands f st ≡ true
 step_finds st me (LookSelectors found) f answers told = selectors_stand st found f (cc) told
 step_finds st me (LookGate s found) f answers told = gate_stands st s.0 found f (cc) told
 step_finds st me (BeginLook s found) f answers told = gate_stands st s.0 found f (cc) told
@@ -191,16 +223,21 @@ step_finds st me (RaiseChannels n found) f answers told = channels_high_stands s
 step_finds st me act f answers told = absurd (cc told)
 
 pub found_stands : FoundStands
-found_stands l n events legal f = legal_induction l (λ evs. has (λ act. finds act f) (mine n evs) ≡ true → stands f (state_after evs) ≡ true) (λ e. absurd cc) each events legal
+found_stands l n events legal f =
+    legal_induction l (λ evs. has (λ act. finds act f) (mine n evs) ≡ true → stands f (state_after evs) ≡ true)
+    (λ e. absurd cc) each events legal
   where
-    each : (past : List Event) (e : Event) → IsLegal l past → IsStep l past e → (has (λ act. finds act f) (mine n past) ≡ true → stands f (state_after past) ≡ true)
+    each : (past : List Event) (e : Event) → IsLegal l past → IsStep l past e
+        → (has (λ act. finds act f) (mine n past) ≡ true → stands f (state_after past) ≡ true)
         → has (λ act. finds act f) (mine n (past ++ e ∷ [])) ≡ true → stands f (state_after (past ++ e ∷ [])) ≡ true
-    each past e legal' step before now = permanent_stands l past (e ∷ []) (legal_more l past e legal' step) f (by_test (is_by n e) refl)
+    each past e legal' step before now =
+        permanent_stands l past (e ∷ []) (legal_more l past e legal' step) f (by_test (is_by n e) refl)
       where
         by_test : (b : Bool) → is_by n e ≡ b → stands f (state_after past) ≡ true
         by_test true by =
             let more : (has (λ act. finds act f) (mine n past) || finds e.act f) ≡ true =
-            sym (has-more (λ act. finds act f) (mine n past) e.act) ∙ (sym (ap (has (λ act. finds act f)) (mine-own n past e by)) ∙ now) in
+            sym (has-more (λ act. finds act f) (mine n past) e.act)
+            ∙ (sym (ap (has (λ act. finds act f)) (mine-own n past e by)) ∙ now) in
             elim (either (has (λ act. finds act f) (mine n past)) (finds e.act f) more) [
               | inl had ↦ before had
               | inr told ↦ step_finds (state_after past) e.caller e.act f step.answers told

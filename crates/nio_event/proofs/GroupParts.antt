@@ -82,6 +82,7 @@ made_group w form formed named words (Some x) (Some g) read cases says =
       );
       only = λ h fits e.
           let own = formed h (of_word w h fits.1) in
-          let same = same_Some x own.0 (read.only own.0 (subst IsGroupCall own.1 fits.0) (e ∙ ap group_argument_words own.1)) in
+          let same = same_Some x own.0
+          (read.only own.0 (subst IsGroupCall own.1 fits.0) (e ∙ ap group_argument_words own.1)) in
           ap Some (is ∙ (ap form same ∙ sym own.1));
     }

@@ -1,5 +1,7 @@
 -- Bytes as hexadecimal digits: what they are printed as decodes to them, and to no others.
-use Rattle.std.proofs.Common.{◌≡◌, ◌↔◌, IsTrue, Fits, w8, ℕ, zero, suc, ◌+◌, ◌/◌, ◌%◌, ◌<◌, ◌≤◌, length, ◌==◌, nat_lt, Bool, true, false, ◌&&◌, List, [], ◌∷◌, get_or, Option, Some, None, Result, Ok, Err, refl, sym, ap, subst, ◌∙◌, ⊎_elim, arith, All}
+use Rattle.std.proofs.Common.{◌≡◌, ◌↔◌, IsTrue, Fits, w8, ℕ, zero, suc, ◌+◌, ◌/◌, ◌%◌, ◌<◌, ◌≤◌, length, ◌==◌, nat_lt}
+use Rattle.std.proofs.Common.{Bool, true, false, ◌&&◌, List, [], ◌∷◌, get_or, Option, Some, None, Result, Ok, Err, refl}
+use Rattle.std.proofs.Common.{sym, ap, subst, ◌∙◌, ⊎_elim, arith, All}
 use Rattle.std.proofs.lemmas.Bool.{and_parts, cases_eq, cond_both, eqb-true, false≢true}
 use Rattle.std.proofs.lemmas.List.Elements.{All-head, All-tail, All-from_get_or}
 use Rattle.std.proofs.lemmas.Slice.Eq.{bytes_eq-Decides}

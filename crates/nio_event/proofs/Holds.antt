@@ -1,5 +1,6 @@
 -- What stands while a caller holds a channel.
-use Rattle.std.proofs.Common.{◌≡◌, ℕ, ◌==◌, Bool, true, false, not, ◌&&◌, ◌||◌, inl, inr, suc, Option, Some, None, if◌then◌else◌, List, [], ◌∷◌, ◌++◌, refl, ap, sym, ◌∙◌, subst, eqb-true}
+use Rattle.std.proofs.Common.{◌≡◌, ℕ, ◌==◌, Bool, true, false, not, ◌&&◌, ◌||◌, inl, inr, suc, Option, Some, None}
+use Rattle.std.proofs.Common.{if◌then◌else◌, List, [], ◌∷◌, ◌++◌, refl, ap, sym, ◌∙◌, subst, eqb-true}
 use Rattle.std.proofs.lemmas.Bool.{and_parts, or_parts}
 use Rattle.std.specs.Option.{option_or, ForSome}
 use Rattle.nio_base.specs.Limits.{IsFit}
@@ -22,11 +23,14 @@ use Rattle.nio_event.specs.Conditions.{Condition, is_held_by, holds, may_publish
 use Rattle.nio_event.specs.Histories.{state_after, mine, IsStep, IsLegal}
 use Rattle.nio_event.specs.Holders.{ModeStays, NotedStays, FoundNotedStays, OutsideStays, FoundClearStays, ClearIsTrue}
 use Rattle.nio_event.specs.Permanent.{the_hold}
-use Rattle.nio_event.specs.OwnEvents.{OwnClaim, has, last, under, own_claim, sets_mode, notes_key, publishes, stage_found, is_outside, finds_outside, finds_unblocked, noted_found, since_key_noted, is_clear_by}
+use Rattle.nio_event.specs.OwnEvents.{OwnClaim, has, last, under, own_claim, sets_mode, notes_key, publishes}
+use Rattle.nio_event.specs.OwnEvents.{stage_found, is_outside, finds_outside, finds_unblocked, noted_found}
+use Rattle.nio_event.specs.OwnEvents.{since_key_noted, is_clear_by}
 use Rattle.nio_event.specs.Sets.{is_in_key_set}
 use Rattle.nio_event.specs.State.{State}
 use Rattle.nio_event.specs.declared.act.Act.{Act}
-use Rattle.nio_event.specs.declared.act.Act.TheVariants.{CancelKey, LookKey, Claim, Publish, LookReg, Enrol, Remove, Pin, ClaimAgain}
+use Rattle.nio_event.specs.declared.act.Act.TheVariants.{CancelKey, LookKey, Claim, Publish, LookReg, Enrol, Remove}
+use Rattle.nio_event.specs.declared.act.Act.TheVariants.{Pin, ClaimAgain}
 use Rattle.nio_event.specs.declared.event.Event.{Event}
 use Rattle.nio_event.specs.declared.found.Stage.{Stage}
 
@@ -34,24 +38,32 @@ use Rattle.nio_event.specs.declared.found.Stage.{Stage}
 
 pub mode_stays : ModeStays
 mode_stays l n c before later keeps spared =
-    stands_while l n (the_hold c) (sets_mode c.0) (λ st. (st.chan c.0).blocking ≡ ((state_after before).chan c.0).blocking)
-    (λ past e legal step had spared'. mode_kept l (mine e.caller past) (state_after past) e.caller n e.act c.0 _ (legal-sound l past legal) step.condition step.answers had spared')
+    stands_while l n (the_hold c) (sets_mode c.0)
+    (λ st. (st.chan c.0).blocking ≡ ((state_after before).chan c.0).blocking)
+    (λ past e legal step had spared'. mode_kept l (mine e.caller past) (state_after past) e.caller n e.act c.0 _
+    (legal-sound l past legal) step.condition step.answers had spared')
     before later keeps spared refl
 
 -- ---- which key is noted
 
-noted_kept : (l : Limits) (own : List Act) (st : State) (me n : CallerNo) (act : Act) (c s : ℕ) (o : Option KeyId) → Condition l own st me act
-    → is_held_by n (st.hold c) ≡ true → ((me.0 == n.0) && notes_key c s act) ≡ false → st.noted c s ≡ o → (effect st me act).noted c s ≡ o
+noted_kept : (l : Limits) (own : List Act) (st : State) (me n : CallerNo) (act : Act) (c s : ℕ) (o : Option KeyId)
+    → Condition l own st me act
+    → is_held_by n (st.hold c) ≡ true → ((me.0 == n.0) && notes_key c s act) ≡ false → st.noted c s ≡ o
+    → (effect st me act).noted c s ≡ o
 noted_kept l own st me n (Enrol k s' i serial found) c s o may held spared = λ now.
-    put_at_keeps (λ m t x. is_held_by n (st.hold m) ≡ true → ((me.0 == n.0) && ((k.0 == m) && (s'.0 == t))) ≡ false → x ≡ o) st.noted k.0 s'.0 _
-    (λ _ held' spared'. absurd (spares_not me n ((k.0 == k.0) && (s'.0 == s'.0)) (one_holder me n (st.hold k.0) may.3 held') (same_two k.0 s'.0) spared'))
+    put_at_keeps (λ m t x. is_held_by n (st.hold m) ≡ true → ((me.0 == n.0) && ((k.0 == m) && (s'.0 == t))) ≡ false
+    → x ≡ o) st.noted k.0 s'.0 _
+    (λ _ held' spared'. absurd
+    (spares_not me n ((k.0 == k.0) && (s'.0 == s'.0)) (one_holder me n (st.hold k.0) may.3 held')
+    (same_two k.0 s'.0) spared'))
     c s (λ _ _. now) held spared
 noted_kept l own st me n act c s o may held spared = λ now. now
 
 pub noted_stays : NotedStays
 noted_stays l n c before later keeps s spared =
     stands_while l n (the_hold c) (notes_key c.0 s.0) (λ st. st.noted c.0 s.0 ≡ (state_after before).noted c.0 s.0)
-    (λ past e legal step had spared'. noted_kept l (mine e.caller past) (state_after past) e.caller n e.act c.0 s.0 _ step.condition had spared')
+    (λ past e legal step had spared'. noted_kept l (mine e.caller past) (state_after past) e.caller n e.act c.0 s.0 _
+    step.condition had spared')
     before later keeps spared refl
 
 none_if : {A : Type 0} (b : Bool) (x : A) → (if b then Some x else None) ≡ None → b ≡ false
@@ -60,10 +72,12 @@ none_if false x e = refl
 
 -- what tells nothing of the noted key notes none
 not_noted : (c s : ℕ) (act : Act) → noted_found c s act ≡ None → notes_key c s act ≡ false
-not_noted c s (Enrol c' s' i serial found) untold = none_if ((c'.0 == c) && (s'.0 == s)) (Some (record { index = i; serial = serial })) untold
+not_noted c s (Enrol c' s' i serial found) untold =
+    none_if ((c'.0 == c) && (s'.0 == s)) (Some (record { index = i; serial = serial })) untold
 not_noted c s act untold = refl
 
-noted_told : (st : State) (me : CallerNo) (act : Act) (c s : ℕ) (o : Option KeyId) → Answers st me act → noted_found c s act ≡ Some o → (effect st me act).noted c s ≡ o
+noted_told : (st : State) (me : CallerNo) (act : Act) (c s : ℕ) (o : Option KeyId) → Answers st me act
+    → noted_found c s act ≡ Some o → (effect st me act).noted c s ≡ o
 noted_told st me (LookReg c' s' found) c s o answers told =
     let parts = if_some ((c'.0 == c) && (s'.0 == s)) found o told in
     let both = and_parts (c'.0 == c) (s'.0 == s) parts.0 in
@@ -85,18 +99,26 @@ none_such (act ∷ own) = none_such own
 
 pub found_noted_stays : FoundNotedStays
 found_noted_stays l n c before later keeps s =
-    knows_while l n (the_hold c) (λ _. false) (λ did st. (o : Option KeyId) → last (noted_found c.0 s.0) did ≡ Some o → st.noted c.0 s.0 ≡ o)
+    knows_while l n (the_hold c) (λ _. false) (λ did st. (o : Option KeyId) → last (noted_found c.0 s.0) did ≡ Some o
+    → st.noted c.0 s.0 ≡ o)
     (λ past e legal step had by _ did knew o told.
-    own_step l (mine e.caller past) (state_after past) e.caller e.act step.condition step.answers had did knew o (noted_found c.0 s.0 e.act) refl (sym (last-more (noted_found c.0 s.0) did e.act) ∙ told))
-    (λ past e legal step had by did knew o told. noted_kept l (mine e.caller past) (state_after past) e.caller n e.act c.0 s.0 o step.condition had (ap (λ b. b && notes_key c.0 s.0 e.act) by) (knew o told))
+    own_step l (mine e.caller past) (state_after past) e.caller e.act step.condition step.answers had did knew o
+    (noted_found c.0 s.0 e.act) refl (sym (last-more (noted_found c.0 s.0) did e.act) ∙ told))
+    (λ past e legal step had by did knew o told. noted_kept l (mine e.caller past)
+    (state_after past) e.caller n e.act c.0 s.0 o step.condition had (ap (λ b. b && notes_key c.0 s.0 e.act) by)
+    (knew o told))
     before later keeps (none_such (mine n later)) (λ o told. absurd cc)
   where
-    own_step : (l : Limits) (own : List Act) (st : State) (me : CallerNo) (act : Act) → Condition l own st me act → Answers st me act → is_held_by n (st.hold c.0) ≡ true
+    own_step : (l : Limits) (own : List Act) (st : State) (me : CallerNo) (act : Act) → Condition l own st me act
+        → Answers st me act → is_held_by n (st.hold c.0) ≡ true
         → (did : List Act) → ((o : Option KeyId) → last (noted_found c.0 s.0) did ≡ Some o → st.noted c.0 s.0 ≡ o)
-        → (o : Option KeyId) (tells : Option (Option KeyId)) → noted_found c.0 s.0 act ≡ tells → option_or tells (last (noted_found c.0 s.0) did) ≡ Some o → (effect st me act).noted c.0 s.0 ≡ o
+        → (o : Option KeyId) (tells : Option (Option KeyId)) → noted_found c.0 s.0 act ≡ tells
+        → option_or tells (last (noted_found c.0 s.0) did) ≡ Some o → (effect st me act).noted c.0 s.0 ≡ o
     own_step l own st me act may answers held did knew o None tells told =
-        noted_kept l own st me n act c.0 s.0 o may held (ap (λ b. (me.0 == n.0) && b) (not_noted c.0 s.0 act tells) ∙ and_not (me.0 == n.0)) (knew o told)
-    own_step l own st me act may answers held did knew o (Some x) tells told = noted_told st me act c.0 s.0 o answers (tells ∙ told)
+        noted_kept l own st me n act c.0 s.0 o may held
+        (ap (λ b. (me.0 == n.0) && b) (not_noted c.0 s.0 act tells) ∙ and_not (me.0 == n.0)) (knew o told)
+    own_step l own st me act may answers held did knew o (Some x) tells told =
+        noted_told st me act c.0 s.0 o answers (tells ∙ told)
 
 -- ---- keys outside the key set
 
@@ -105,15 +127,22 @@ abbrev IsOutsideFor : ChanNo → ℕ → Stage → Type 0
 IsOutsideFor c serial k = k.chan ≡ c → is_in_key_set k serial ≡ false
 
 -- whoever may publish holds the channel of the key
-publisher_holds : (st : State) (own : List Act) (me : CallerNo) (claim : Option OwnClaim) → may_publish st own me claim ≡ true
+publisher_holds : (st : State) (own : List Act) (me : CallerNo) (claim : Option OwnClaim)
+    → may_publish st own me claim ≡ true
     → (its : OwnClaim) × (claim ≡ Some its) × (holds st me its.channel ≡ true)
 publisher_holds st own me None may = absurd cc
-publisher_holds st own me (Some claim) may =
-    (claim, refl, (and_parts (holds st me claim.channel) (has (finds_unblocked claim.channel.0) (under claim.channel.0 own)) may).0)
+publisher_holds st own me (Some claim) may = (
+  claim,
+  refl,
+  (and_parts (holds st me claim.channel) (has (finds_unblocked claim.channel.0) (under claim.channel.0 own))
+      may).0,
+)
 
-outside_kept : (l : Limits) (past : List Event) (e : Event) (n : CallerNo) (c : ChanNo) (s : ℕ) (k : KeyId) → IsFit l → IsLegal l past → IsStep l past e
+outside_kept : (l : Limits) (past : List Event) (e : Event) (n : CallerNo) (c : ChanNo) (s : ℕ) (k : KeyId) → IsFit l
+    → IsLegal l past → IsStep l past e
     → is_held_by n ((state_after past).hold c.0) ≡ true → ((e.caller.0 == n.0) && publishes s k.index e.act) ≡ false
-    → IsOutsideFor c k.serial ((state_after past).key s k.index) → IsOutsideFor c k.serial ((effect (state_after past) e.caller e.act).key s k.index)
+    → IsOutsideFor c k.serial ((state_after past).key s k.index)
+    → IsOutsideFor c k.serial ((effect (state_after past) e.caller e.act).key s k.index)
 outside_kept l past e n c s k fit legal step held = by_act e.act step.condition step.answers
   where
     st : State
@@ -122,28 +151,41 @@ outside_kept l past e n c s k fit legal step held = by_act e.act step.condition 
     me : CallerNo
     me = e.caller
 
-    by_act : (act : Act) → Condition l (mine me past) st me act → Answers st me act → ((me.0 == n.0) && publishes s k.index act) ≡ false
+    by_act : (act : Act) → Condition l (mine me past) st me act → Answers st me act
+        → ((me.0 == n.0) && publishes s k.index act) ≡ false
         → IsOutsideFor c k.serial (st.key s k.index) → IsOutsideFor c k.serial ((effect st me act).key s k.index)
-    by_act (CancelKey s' i' found) may answers spared = put_at_keeps (λ _ _ x. IsOutsideFor c k.serial x) st.key s'.0 i' _ (λ old. old) s k.index
-    by_act (Claim s' i' c' true) may answers spared = put_at_keeps (λ _ _ x. IsOutsideFor c k.serial x) st.key s'.0 i' _ (λ old. old) s k.index
-    by_act (Claim s' i' c' false) may answers spared = put_at_keeps (λ _ _ x. IsOutsideFor c k.serial x) st.key s'.0 i' (new_key c' 0) (λ _ _. and_not (0 == k.serial)) s k.index
-    by_act (ClaimAgain s' i' c' from true) may answers spared = put_at_keeps (λ _ _ x. IsOutsideFor c k.serial x) st.key s'.0 i' _ (λ old. old) s k.index
+    by_act (CancelKey s' i' found) may answers spared =
+        put_at_keeps (λ _ _ x. IsOutsideFor c k.serial x) st.key s'.0 i' _ (λ old. old) s k.index
+    by_act (Claim s' i' c' true) may answers spared =
+        put_at_keeps (λ _ _ x. IsOutsideFor c k.serial x) st.key s'.0 i' _ (λ old. old) s k.index
+    by_act (Claim s' i' c' false) may answers spared =
+        put_at_keeps (λ _ _ x. IsOutsideFor c k.serial x) st.key s'.0 i' (new_key c' 0)
+        (λ _ _. and_not (0 == k.serial)) s k.index
+    by_act (ClaimAgain s' i' c' from true) may answers spared =
+        put_at_keeps (λ _ _ x. IsOutsideFor c k.serial x) st.key s'.0 i' _ (λ old. old) s k.index
     by_act (ClaimAgain s' i' c' from false) may answers spared =
-        put_at_keeps (λ _ _ x. IsOutsideFor c k.serial x) st.key s'.0 i' (new_key c' (suc (st.key s'.0 i').serial)) (λ _ _. and_not (suc (st.key s'.0 i').serial == k.serial)) s k.index
+        put_at_keeps (λ _ _ x. IsOutsideFor c k.serial x) st.key s'.0 i' (new_key c' (suc (st.key s'.0 i').serial))
+        (λ _ _. and_not (suc (st.key s'.0 i').serial == k.serial)) s k.index
     by_act (Remove s' i' found) may answers spared =
         put_at_keeps (λ _ _ x. IsOutsideFor c k.serial x) st.key s'.0 i' _
-        (λ _ _. ap (λ b. ((st.key s'.0 i').claimed && ((st.key s'.0 i').serial == k.serial)) && b) (and_not (st.key s'.0 i').published) ∙ and_not ((st.key s'.0 i').claimed && ((st.key s'.0 i').serial == k.serial))) s k.index
+        (λ _ _. ap (λ b. ((st.key s'.0 i').claimed && ((st.key s'.0 i').serial == k.serial)) && b)
+        (and_not (st.key s'.0 i').published)
+        ∙ and_not ((st.key s'.0 i').claimed && ((st.key s'.0 i').serial == k.serial))) s k.index
     by_act (Publish s' i' found) may answers spared = λ now.
-        put_at_keeps (λ m t x. ((me.0 == n.0) && ((s'.0 == m) && (i' == t))) ≡ false → IsOutsideFor c k.serial x) st.key s'.0 i'
+        put_at_keeps (λ m t x. ((me.0 == n.0) && ((s'.0 == m) && (i' == t))) ≡ false → IsOutsideFor c k.serial x) st.key
+        s'.0 i'
         (record (st.key s'.0 i') { published = true })
-        (λ old spared' its. absurd (spares_not me n ((s'.0 == s'.0) && (i' == i')) (holds_too its) (same_two s'.0 i') spared')) s k.index (λ _. now) spared
+        (λ old spared' its. absurd
+        (spares_not me n ((s'.0 == s'.0) && (i' == i')) (holds_too its) (same_two s'.0 i') spared')) s k.index
+        (λ _. now) spared
       where
         holds_too : (st.key s'.0 i').chan ≡ c → me.0 ≡ n.0
         holds_too its =
             let claim = publisher_holds st (mine me past) me (own_claim s'.0 i' (mine me past)) may.1 in
             let its_key = (own_claims_stand l me s' i' claim.0 past fit legal claim.1).1 in
             let of_channel : claim.0.channel ≡ c = sym its_key.channel ∙ its in
-            one_holder me n (st.hold c.0) (subst (λ (x : ChanNo). is_held_by me (st.hold x.0) ≡ true) of_channel claim.2) held
+            one_holder me n (st.hold c.0)
+            (subst (λ (x : ChanNo). is_held_by me (st.hold x.0) ≡ true) of_channel claim.2) held
     by_act act may answers spared = λ now. now
 
 pub outside_stays : OutsideStays
@@ -155,7 +197,8 @@ outside_stays l n c before later fit keeps s k spared outside its =
 -- ---- what a caller found
 
 -- a stage that was found stands there
-stage_is : (st : State) (s' i' s i : ℕ) (there found : Stage) → (if (s' == s) && (i' == i) then Some there else None) ≡ Some found → there ≡ st.key s' i' → st.key s i ≡ found
+stage_is : (st : State) (s' i' s i : ℕ) (there found : Stage)
+    → (if (s' == s) && (i' == i) then Some there else None) ≡ Some found → there ≡ st.key s' i' → st.key s i ≡ found
 stage_is st s' i' s i there found told is =
     let parts = if_some ((s' == s) && (i' == i)) there found told in
     let both = and_parts (s' == s) (i' == i) parts.0 in
@@ -163,21 +206,26 @@ stage_is st s' i' s i there found told is =
     let second : i' ≡ i = eqb-true i' i both.1 in
     subst (λ (m : ℕ). st.key m i ≡ found) first (subst (λ (m : ℕ). st.key s' m ≡ found) second (sym is ∙ parts.1))
 
-stage_told : (st : State) (me : CallerNo) (act : Act) (s i : ℕ) (found : Stage) → Answers st me act → stage_found s i act ≡ Some found → (effect st me act).key s i ≡ found
+stage_told : (st : State) (me : CallerNo) (act : Act) (s i : ℕ) (found : Stage) → Answers st me act
+    → stage_found s i act ≡ Some found → (effect st me act).key s i ≡ found
 stage_told st me (LookKey s' i' there) s i found answers told = stage_is st s'.0 i' s i there found told cc
 stage_told st me (Pin s' i' there) s i found answers told = stage_is st s'.0 i' s i there found told cc
 stage_told st me act s i found answers told = absurd (cc told)
 
-outside_told : (st : State) (me : CallerNo) (act : Act) (s : ℕ) (k : KeyId) → Answers st me act → finds_outside s k act ≡ true → is_in_key_set ((effect st me act).key s k.index) k.serial ≡ false
+outside_told : (st : State) (me : CallerNo) (act : Act) (s : ℕ) (k : KeyId) → Answers st me act
+    → finds_outside s k act ≡ true → is_in_key_set ((effect st me act).key s k.index) k.serial ≡ false
 outside_told st me act s k answers told = by_found (stage_found s k.index act) refl told
   where
     is_not : (b : Bool) → not b ≡ true → b ≡ false
     is_not true e = absurd cc
     is_not false e = refl
 
-    by_found : (o : Option Stage) → stage_found s k.index act ≡ o → is_outside k.serial o ≡ true → is_in_key_set ((effect st me act).key s k.index) k.serial ≡ false
+    by_found : (o : Option Stage) → stage_found s k.index act ≡ o → is_outside k.serial o ≡ true
+        → is_in_key_set ((effect st me act).key s k.index) k.serial ≡ false
     by_found None found outside = absurd cc
-    by_found (Some stage) found outside = ap (λ x. is_in_key_set x k.serial) (stage_told st me act s k.index stage answers found) ∙ is_not (is_in_key_set stage k.serial) outside
+    by_found (Some stage) found outside =
+        ap (λ x. is_in_key_set x k.serial) (stage_told st me act s k.index stage answers found)
+        ∙ is_not (is_in_key_set stage k.serial) outside
 
 pub found_clear_stays : FoundClearStays
 found_clear_stays l n c before later fit keeps s clear = by_noted (last (noted_found c.0 s.0) (mine n later)) refl clear
@@ -192,34 +240,51 @@ found_clear_stays l n c before later fit keeps s clear = by_noted (last (noted_f
     opens : KeyId → Act → Bool
     opens k act = notes_key c.0 s.0 act || publishes s.0 k.index act
 
-    outside : (k : KeyId) → has (finds_outside s.0 k) (span k (mine n later)) ≡ true → IsOutsideFor c k.serial (after.key s.0 k.index)
-    outside k = knows_while l n (the_hold c) (λ _. false) (λ did st. has (finds_outside s.0 k) (span k did) ≡ true → IsOutsideFor c k.serial (st.key s.0 k.index))
+    outside : (k : KeyId) → has (finds_outside s.0 k) (span k (mine n later)) ≡ true
+        → IsOutsideFor c k.serial (after.key s.0 k.index)
+    outside k =
+        knows_while l n (the_hold c) (λ _. false) (λ did st. has (finds_outside s.0 k) (span k did) ≡ true
+        → IsOutsideFor c k.serial (st.key s.0 k.index))
         (λ past e legal step had by _ did knew found.
-        own_step past e legal step had did knew (opens k e.act) refl (sym (ap (has (finds_outside s.0 k)) (since_from-more (opens k) did e.act)) ∙ found))
-        (λ past e legal step had by did knew found. outside_kept l past e n c s.0 k fit legal step had (ap (λ b. b && publishes s.0 k.index e.act) by) (knew found))
+        own_step past e legal step had did knew (opens k e.act) refl
+        (sym (ap (has (finds_outside s.0 k)) (since_from-more (opens k) did e.act)) ∙ found))
+        (λ past e legal step had by did knew found. outside_kept l past e n c s.0 k fit legal step had
+        (ap (λ b. b && publishes s.0 k.index e.act) by) (knew found))
         before later keeps (none_such (mine n later)) (λ found. absurd cc)
       where
-        own_step : (past : List Event) (e : Event) → IsLegal l past → IsStep l past e → is_held_by n ((state_after past).hold c.0) ≡ true
-            → (did : List Act) → (has (finds_outside s.0 k) (span k did) ≡ true → IsOutsideFor c k.serial ((state_after past).key s.0 k.index))
-            → (b : Bool) → opens k e.act ≡ b → has (finds_outside s.0 k) (if b then [] else span k did ++ e.act ∷ []) ≡ true
+        own_step : (past : List Event) (e : Event) → IsLegal l past → IsStep l past e
+            → is_held_by n ((state_after past).hold c.0) ≡ true
+            → (did : List Act)
+            → (has (finds_outside s.0 k) (span k did) ≡ true
+            → IsOutsideFor c k.serial ((state_after past).key s.0 k.index))
+            → (b : Bool) → opens k e.act ≡ b
+            → has (finds_outside s.0 k) (if b then [] else span k did ++ e.act ∷ []) ≡ true
             → IsOutsideFor c k.serial ((effect (state_after past) e.caller e.act).key s.0 k.index)
         own_step past e legal step had did knew true opened found = absurd cc
         own_step past e legal step had did knew false opened found =
             let unpublished = (or_parts (notes_key c.0 s.0 e.act) (publishes s.0 k.index e.act) opened).1 in
-            elim (either (has (finds_outside s.0 k) (span k did)) (finds_outside s.0 k e.act) (sym (has-more (finds_outside s.0 k) (span k did) e.act) ∙ found)) [
-              | inl earlier ↦ outside_kept l past e n c s.0 k fit legal step had (ap (λ b. (e.caller.0 == n.0) && b) unpublished ∙ and_not (e.caller.0 == n.0)) (knew earlier)
+            elim (either (has (finds_outside s.0 k) (span k did)) (finds_outside s.0 k e.act)
+            (sym (has-more (finds_outside s.0 k) (span k did) e.act) ∙ found)) [
+              | inl earlier ↦ outside_kept l past e n c s.0 k fit legal step had
+                  (ap (λ b. (e.caller.0 == n.0) && b) unpublished ∙ and_not (e.caller.0 == n.0)) (knew earlier)
               | inr now ↦ λ _. outside_told (state_after past) e.caller e.act s.0 k step.answers now
             ]
 
     -- a noted key that the index doesn't have any more is outside the key set too
-    by_serial : (k : KeyId) → after.noted c.0 s.0 ≡ Some k → IsOutsideFor c k.serial (after.key s.0 k.index) → (b : Bool) → ((after.key s.0 k.index).serial == k.serial) ≡ b
+    by_serial : (k : KeyId) → after.noted c.0 s.0 ≡ Some k → IsOutsideFor c k.serial (after.key s.0 k.index)
+        → (b : Bool) → ((after.key s.0 k.index).serial == k.serial) ≡ b
         → is_in_key_set (after.key s.0 k.index) k.serial ≡ false
-    by_serial k noted its true same = its ((noted_keys_are_claimed l c s k (before ++ later) fit keeps.legal noted).1 (eqb-true (after.key s.0 k.index).serial k.serial same))
+    by_serial k noted its true same =
+        its ((noted_keys_are_claimed l c s k (before ++ later) fit keeps.legal noted).1
+        (eqb-true (after.key s.0 k.index).serial k.serial same))
     by_serial k noted its false same =
-        ap (λ b. ((after.key s.0 k.index).claimed && b) && ((after.key s.0 k.index).published && not (after.key s.0 k.index).removed)) same
-        ∙ ap (λ b. b && ((after.key s.0 k.index).published && not (after.key s.0 k.index).removed)) (and_not (after.key s.0 k.index).claimed)
+        ap (λ b. ((after.key s.0 k.index).claimed && b)
+        && ((after.key s.0 k.index).published && not (after.key s.0 k.index).removed)) same
+        ∙ ap (λ b. b && ((after.key s.0 k.index).published && not (after.key s.0 k.index).removed))
+        (and_not (after.key s.0 k.index).claimed)
 
-    by_noted : (told : Option (Option KeyId)) → last (noted_found c.0 s.0) (mine n later) ≡ told → is_clear_by c.0 s.0 (mine n later) told ≡ true
+    by_noted : (told : Option (Option KeyId)) → last (noted_found c.0 s.0) (mine n later) ≡ told
+        → is_clear_by c.0 s.0 (mine n later) told ≡ true
         → (k : KeyId) → after.noted c.0 s.0 ≡ Some k → is_in_key_set (after.key s.0 k.index) k.serial ≡ false
     by_noted None told clear' k noted = absurd cc
     by_noted (Some None) told clear' k noted =
@@ -228,11 +293,14 @@ found_clear_stays l n c before later fit keeps s clear = by_noted (last (noted_f
     by_noted (Some (Some j)) told clear' k noted =
         let its : after.noted c.0 s.0 ≡ Some j = found_noted_stays l n c before later keeps s (Some j) told in
         let same : j ≡ k = cc in
-        by_serial k noted (outside k (subst (λ (x : KeyId). has (finds_outside s.0 x) (span x (mine n later)) ≡ true) same clear')) ((after.key s.0 k.index).serial == k.serial) refl
+        by_serial k noted
+        (outside k (subst (λ (x : KeyId). has (finds_outside s.0 x) (span x (mine n later)) ≡ true) same clear'))
+        ((after.key s.0 k.index).serial == k.serial) refl
 
 pub clear_is_true : ClearIsTrue
 clear_is_true l n c events fit legal held s clear =
     let since = held_since l n c events legal held in
     let there = found_clear_stays l n c since.before since.later fit since.keeps s
     (subst (λ acts. is_clear_by c.0 s.0 acts (last (noted_found c.0 s.0) acts) ≡ true) since.own clear) in
-    subst (λ evs. ForSome ((state_after evs).noted c.0 s.0) (λ k. is_in_key_set ((state_after evs).key s.0 k.index) k.serial ≡ false)) (sym since.whole) there
+    subst (λ evs. ForSome ((state_after evs).noted c.0 s.0)
+    (λ k. is_in_key_set ((state_after evs).key s.0 k.index) k.serial ≡ false)) (sym since.whole) there

@@ -17,18 +17,24 @@ use Rattle.nio_event.specs.declared.found.Stage.{Stage}
 
 -- what stands of the stage of each index, `R`, stays at the steps that `May` allows and that change a stage
 pub record KeepsStages (May : Act → Type 0) (st : State) (R : ℕ → ℕ → Stage → Type 0) : Type 0 where
-  pub claimed : (s : SelNo) (i : ℕ) (c : ChanNo) → (st.key s.0 i).claimed ≡ false → R s.0 i (st.key s.0 i) → R s.0 i (new_key c 0)
-  pub published : (s : SelNo) (i : ℕ) (found : Stage) → May (Publish s i found) → R s.0 i (st.key s.0 i) → R s.0 i (record (st.key s.0 i) { published = true })
-  pub cancelled : (s : SelNo) (i : ℕ) (found : Stage) → May (CancelKey s i found) → R s.0 i (st.key s.0 i) → R s.0 i (record (st.key s.0 i) { cancelled = true })
-  pub removed : (s : SelNo) (i : ℕ) (found : Stage) → May (Remove s i found) → R s.0 i (st.key s.0 i) → R s.0 i (record (st.key s.0 i) { removed = true })
-  pub again : (s : SelNo) (i : ℕ) (c : ChanNo) (from : Stage) → May (ClaimAgain s i c from false) → is_pinned st s.0 i ≡ false
+  pub claimed : (s : SelNo) (i : ℕ) (c : ChanNo) → (st.key s.0 i).claimed ≡ false → R s.0 i (st.key s.0 i)
+      → R s.0 i (new_key c 0)
+  pub published : (s : SelNo) (i : ℕ) (found : Stage) → May (Publish s i found) → R s.0 i (st.key s.0 i)
+      → R s.0 i (record (st.key s.0 i) { published = true })
+  pub cancelled : (s : SelNo) (i : ℕ) (found : Stage) → May (CancelKey s i found) → R s.0 i (st.key s.0 i)
+      → R s.0 i (record (st.key s.0 i) { cancelled = true })
+  pub removed : (s : SelNo) (i : ℕ) (found : Stage) → May (Remove s i found) → R s.0 i (st.key s.0 i)
+      → R s.0 i (record (st.key s.0 i) { removed = true })
+  pub again : (s : SelNo) (i : ℕ) (c : ChanNo) (from : Stage) → May (ClaimAgain s i c from false)
+      → is_pinned st s.0 i ≡ false
       → R s.0 i (st.key s.0 i) → R s.0 i (new_key c (suc (st.key s.0 i).serial))
 
 pub stages_keep : (May : Act → Type 0) (st : State) (me : CallerNo) (R : ℕ → ℕ → Stage → Type 0) → KeepsStages May st R
     → (act : Act) → May act → Answers st me act → (s i : ℕ) → R s i (st.key s i) → R s i ((effect st me act).key s i)
 stages_keep May st me R keeps (CancelKey s' i' found) may answers s i =
     put_at_keeps R st.key s'.0 i' (record (st.key s'.0 i') { cancelled = true }) (keeps.cancelled s' i' found may) s i
-stages_keep May st me R keeps (Claim s' i' c true) may answers s i = put_at_keeps R st.key s'.0 i' (st.key s'.0 i') (λ old. old) s i
+stages_keep May st me R keeps (Claim s' i' c true) may answers s i =
+    put_at_keeps R st.key s'.0 i' (st.key s'.0 i') (λ old. old) s i
 stages_keep May st me R keeps (Claim s' i' c false) may answers s i =
     let unclaimed_yet : (st.key s'.0 i').claimed ≡ false = cc in
     put_at_keeps R st.key s'.0 i' (new_key c 0) (keeps.claimed s' i' c unclaimed_yet) s i
@@ -36,7 +42,8 @@ stages_keep May st me R keeps (Publish s' i' found) may answers s i =
     put_at_keeps R st.key s'.0 i' (record (st.key s'.0 i') { published = true }) (keeps.published s' i' found may) s i
 stages_keep May st me R keeps (Remove s' i' found) may answers s i =
     put_at_keeps R st.key s'.0 i' (record (st.key s'.0 i') { removed = true }) (keeps.removed s' i' found may) s i
-stages_keep May st me R keeps (ClaimAgain s' i' c from true) may answers s i = put_at_keeps R st.key s'.0 i' (st.key s'.0 i') (λ old. old) s i
+stages_keep May st me R keeps (ClaimAgain s' i' c from true) may answers s i =
+    put_at_keeps R st.key s'.0 i' (st.key s'.0 i') (λ old. old) s i
 stages_keep May st me R keeps (ClaimAgain s' i' c from false) may answers s i =
     let unpinned : is_pinned st s'.0 i' ≡ false = cc in
     put_at_keeps R st.key s'.0 i' (new_key c (suc (st.key s'.0 i').serial)) (keeps.again s' i' c from may unpinned) s i

@@ -1,12 +1,14 @@
 -- What lasts from a sound state: how far a key came, that a channel is closed, and who closes a selector. With
 -- what lasts from every state, all that stands in `PermanentFact`.
-use Rattle.std.proofs.Common.{◌≡◌, ℕ, ◌==◌, ◌<◌, Bool, true, false, not, ◌&&◌, ◌||◌, inl, inr, suc, List, ◌++◌, refl, ap, sym, ◌∙◌, subst, eqb-true, arith}
+use Rattle.std.proofs.Common.{◌≡◌, ℕ, ◌==◌, ◌<◌, Bool, true, false, not, ◌&&◌, ◌||◌, inl, inr, suc, List, ◌++◌, refl}
+use Rattle.std.proofs.Common.{ap, sym, ◌∙◌, subst, eqb-true, arith}
 use Rattle.std.specs.Prelude.{nat_lt}
 use Rattle.std.proofs.lemmas.Bool.{and_parts, and_from, ltb-true, lt-ltb}
 use Rattle.nio_base.specs.declared.limits.Limits.{Limits}
 use Rattle.nio_base.specs.declared.numbers.CallerNo.{CallerNo}
 use Rattle.nio_event.proofs.KeyChanges.{KeepsStages, stages_keep}
-use Rattle.nio_event.proofs.Lasts.{drawn_lasts, selector_lasts, shut_lasts, entered_lasts, made_lasts, claimed_lasts, keys_high_lasts, channels_high_lasts}
+use Rattle.nio_event.proofs.Lasts.{drawn_lasts, selector_lasts, shut_lasts, entered_lasts, made_lasts, claimed_lasts}
+use Rattle.nio_event.proofs.Lasts.{keys_high_lasts, channels_high_lasts}
 use Rattle.nio_event.proofs.Legal.{legal_from}
 use Rattle.nio_event.proofs.OneMore.{state_after-more}
 use Rattle.nio_event.proofs.Put.{put_keeps}
@@ -16,7 +18,10 @@ use Rattle.nio_event.specs.Acts.{effect, new_key}
 use Rattle.nio_event.specs.Answers.{Answers}
 use Rattle.nio_event.specs.Conditions.{Condition, is_held_by}
 use Rattle.nio_event.specs.Histories.{state_after, mine, IsLegal}
-use Rattle.nio_event.specs.Permanent.{PermanentFact, caller_drawn, selector_made, selector_shut, selector_closed_by, selector_entered, channel_made, channel_closed, index_claimed, key_claimed, key_published, key_cancelled, key_removed, below_keys_high, below_channels_high, stands}
+use Rattle.nio_event.specs.Permanent.{PermanentFact, caller_drawn, selector_made, selector_shut, selector_closed_by}
+use Rattle.nio_event.specs.Permanent.{selector_entered, channel_made, channel_closed, index_claimed, key_claimed}
+use Rattle.nio_event.specs.Permanent.{key_published, key_cancelled, key_removed, below_keys_high, below_channels_high}
+use Rattle.nio_event.specs.Permanent.{stands}
 use Rattle.nio_event.specs.Sets.{fits, was_claimed, was_published, was_cancelled, was_removed}
 use Rattle.nio_event.specs.Sound.{IsSound}
 use Rattle.nio_event.specs.State.{State, unclaimed}
@@ -45,25 +50,29 @@ unclaimed_reached bit k serial is_unclaimed reached =
     ]
 
 -- a key that was reached in a stage is so in one with the same serial that has the bit too
-reached_still : (bit : Stage → Bool) (k k' : Stage) (serial : ℕ) → nat_lt serial k'.serial ≡ nat_lt serial k.serial → fits k' serial ≡ fits k serial
+reached_still : (bit : Stage → Bool) (k k' : Stage) (serial : ℕ) → nat_lt serial k'.serial ≡ nat_lt serial k.serial
+    → fits k' serial ≡ fits k serial
     → (bit k ≡ true → bit k' ≡ true) → is_reached bit k serial ≡ true → is_reached bit k' serial ≡ true
 reached_still bit k k' serial lower same still reached =
     elim (either (nat_lt serial k.serial) (fits k serial && bit k) reached) [
       | inl below ↦ ap (λ b. b || (fits k' serial && bit k')) (lower ∙ below)
       | inr now ↦
           let both = and_parts (fits k serial) (bit k) now in
-          or_right (nat_lt serial k'.serial) (fits k' serial && bit k') (and_from (fits k' serial) (bit k') (same ∙ both.0) (still both.1))
+          or_right (nat_lt serial k'.serial) (fits k' serial && bit k')
+          (and_from (fits k' serial) (bit k') (same ∙ both.0) (still both.1))
     ]
 
 -- the next serial is above that of each key that was reached
-reached_before : (bit : Stage → Bool) (k : Stage) (serial : ℕ) → is_reached bit k serial ≡ true → nat_lt serial (suc k.serial) ≡ true
+reached_before : (bit : Stage → Bool) (k : Stage) (serial : ℕ) → is_reached bit k serial ≡ true
+    → nat_lt serial (suc k.serial) ≡ true
 reached_before bit k serial reached =
     elim (either (nat_lt serial k.serial) (fits k serial && bit k) reached) [
       | inl below ↦
           let lower : serial < k.serial = ltb-true serial k.serial below in
           lt-ltb serial (suc k.serial) (omega arith)
       | inr now ↦
-          let same : k.serial ≡ serial = eqb-true k.serial serial (and_parts k.claimed (k.serial == serial) (and_parts (fits k serial) (bit k) now).0).1 in
+          let same : k.serial ≡ serial = eqb-true k.serial serial
+          (and_parts k.claimed (k.serial == serial) (and_parts (fits k serial) (bit k) now).0).1 in
           lt-ltb serial (suc k.serial) (omega arith)
     ]
 
@@ -71,14 +80,21 @@ reached_before bit k serial reached =
 reached_keeps : (bit : Stage → Bool) → ((k : Stage) → bit k ≡ true → bit (record k { published = true }) ≡ true)
     → ((k : Stage) → bit k ≡ true → bit (record k { cancelled = true }) ≡ true)
     → ((k : Stage) → bit k ≡ true → bit (record k { removed = true }) ≡ true)
-    → (l : Limits) (own : List Act) (st : State) (me : CallerNo) (serial : ℕ) → IsSound st → KeepsStages (Condition l own st me) st (λ _ _ k. is_reached bit k serial ≡ true)
+    → (l : Limits) (own : List Act) (st : State) (me : CallerNo) (serial : ℕ) → IsSound st
+    → KeepsStages (Condition l own st me) st (λ _ _ k. is_reached bit k serial ≡ true)
 reached_keeps bit published cancelled removed l own st me serial sound = record {
-  claimed = λ s i c unclaimed_yet old. absurd (unclaimed_reached bit (st.key s.0 i) serial (sound.unclaimed_bare s.0 i unclaimed_yet) old);
-  published = λ s i found may old. reached_still bit (st.key s.0 i) (record (st.key s.0 i) { published = true }) serial refl refl (published (st.key s.0 i)) old;
-  cancelled = λ s i found may old. reached_still bit (st.key s.0 i) (record (st.key s.0 i) { cancelled = true }) serial refl refl (cancelled (st.key s.0 i)) old;
-  removed = λ s i found may old. reached_still bit (st.key s.0 i) (record (st.key s.0 i) { removed = true }) serial refl refl (removed (st.key s.0 i)) old;
+  claimed = λ s i c unclaimed_yet old. absurd
+      (unclaimed_reached bit (st.key s.0 i) serial (sound.unclaimed_bare s.0 i unclaimed_yet) old);
+  published = λ s i found may old. reached_still bit (st.key s.0 i) (record (st.key s.0 i) { published = true }) serial
+      refl refl (published (st.key s.0 i)) old;
+  cancelled = λ s i found may old. reached_still bit (st.key s.0 i) (record (st.key s.0 i) { cancelled = true }) serial
+      refl refl (cancelled (st.key s.0 i)) old;
+  removed = λ s i found may old. reached_still bit (st.key s.0 i) (record (st.key s.0 i) { removed = true }) serial refl
+      refl (removed (st.key s.0 i)) old;
   again = λ s i c from may unpinned old.
-      ap (λ b. b || (fits (new_key c (suc (st.key s.0 i).serial)) serial && bit (new_key c (suc (st.key s.0 i).serial)))) (reached_before bit (st.key s.0 i) serial old);
+      ap (λ b. b
+      || (fits (new_key c (suc (st.key s.0 i).serial)) serial && bit (new_key c (suc (st.key s.0 i).serial))))
+      (reached_before bit (st.key s.0 i) serial old);
 }
 
 pub not_below_next : (a q : ℕ) → not (nat_lt a q) ≡ true → not (nat_lt (suc a) q) ≡ true
@@ -95,34 +111,45 @@ not_below_next a q e = by_test (nat_lt (suc a) q) refl
     by_test false below = refl
 
 -- an index that was claimed for a key was so ever after
-was_claimed_keeps : (l : Limits) (own : List Act) (st : State) (me : CallerNo) (serial : ℕ) → KeepsStages (Condition l own st me) st (λ _ _ k. was_claimed k serial ≡ true)
+was_claimed_keeps : (l : Limits) (own : List Act) (st : State) (me : CallerNo) (serial : ℕ)
+    → KeepsStages (Condition l own st me) st (λ _ _ k. was_claimed k serial ≡ true)
 was_claimed_keeps l own st me serial = record {
   claimed = λ s i c unclaimed_yet old.
-      absurd (both_ways (st.key s.0 i).claimed (and_parts (st.key s.0 i).claimed (not (nat_lt (st.key s.0 i).serial serial)) old).0 unclaimed_yet);
+      absurd (both_ways (st.key s.0 i).claimed
+      (and_parts (st.key s.0 i).claimed (not (nat_lt (st.key s.0 i).serial serial)) old).0 unclaimed_yet);
   published = λ s i found may old. old;
   cancelled = λ s i found may old. old;
   removed = λ s i found may old. old;
   again = λ s i c from may unpinned old.
-      not_below_next (st.key s.0 i).serial serial (and_parts (st.key s.0 i).claimed (not (nat_lt (st.key s.0 i).serial serial)) old).1;
+      not_below_next (st.key s.0 i).serial serial
+      (and_parts (st.key s.0 i).claimed (not (nat_lt (st.key s.0 i).serial serial)) old).1;
 }
 
 -- ---- channels and selectors
 
-closed_lasts : (st : State) (me : CallerNo) (act : Act) → Answers st me act → IsSound st → (c : ℕ) → (st.chan c).closed ≡ true → ((effect st me act).chan c).closed ≡ true
-closed_lasts st me (MakeChannel k kind true) answers sound c = put_keeps (λ _ x. x.closed ≡ true) st.chan k.0 _ (λ e. e) c
-closed_lasts st me (MakeChannel k kind false) answers sound c = put_keeps (λ _ x. x.closed ≡ true) st.chan k.0 _ (λ e. absurd (not_closed (closed-made st sound k.0 e))) c
+closed_lasts : (st : State) (me : CallerNo) (act : Act) → Answers st me act → IsSound st → (c : ℕ)
+    → (st.chan c).closed ≡ true → ((effect st me act).chan c).closed ≡ true
+closed_lasts st me (MakeChannel k kind true) answers sound c =
+    put_keeps (λ _ x. x.closed ≡ true) st.chan k.0 _ (λ e. e) c
+closed_lasts st me (MakeChannel k kind false) answers sound c =
+    put_keeps (λ _ x. x.closed ≡ true) st.chan k.0 _ (λ e. absurd (not_closed (closed-made st sound k.0 e))) c
   where
     not_closed : (st.chan k.0).made ≡ true → ⊥
     not_closed made =
         let unmade : (st.chan k.0).made ≡ false = cc in
         both_ways (st.chan k.0).made made unmade
-closed_lasts st me (SetMode k blocking found) answers sound c = put_keeps (λ _ x. x.closed ≡ true) st.chan k.0 _ (λ e. e) c
+closed_lasts st me (SetMode k blocking found) answers sound c =
+    put_keeps (λ _ x. x.closed ≡ true) st.chan k.0 _ (λ e. e) c
 closed_lasts st me (CloseBit k found) answers sound c = put_keeps (λ _ x. x.closed ≡ true) st.chan k.0 _ (λ _. refl) c
 closed_lasts st me act answers sound c = λ h. h
 
-closer_lasts : (st : State) (me : CallerNo) (act : Act) → Answers st me act → IsSound st → (s : ℕ) (n : CallerNo) → is_held_by n (st.closer s) ≡ true → is_held_by n ((effect st me act).closer s) ≡ true
-closer_lasts st me (ShutBit k true) answers sound s n = put_keeps (λ _ o. is_held_by n o ≡ true) st.closer k.0 _ (λ e. e) s
-closer_lasts st me (ShutBit k false) answers sound s n = put_keeps (λ _ o. is_held_by n o ≡ true) st.closer k.0 _ (λ e. absurd (not_shut (sound.closer_shut k.0 (held_some n (st.closer k.0) e)))) s
+closer_lasts : (st : State) (me : CallerNo) (act : Act) → Answers st me act → IsSound st → (s : ℕ) (n : CallerNo)
+    → is_held_by n (st.closer s) ≡ true → is_held_by n ((effect st me act).closer s) ≡ true
+closer_lasts st me (ShutBit k true) answers sound s n =
+    put_keeps (λ _ o. is_held_by n o ≡ true) st.closer k.0 _ (λ e. e) s
+closer_lasts st me (ShutBit k false) answers sound s n =
+    put_keeps (λ _ o. is_held_by n o ≡ true) st.closer k.0 _
+    (λ e. absurd (not_shut (sound.closer_shut k.0 (held_some n (st.closer k.0) e)))) s
   where
     not_shut : (st.gate k.0).shut ≡ true → ⊥
     not_shut is_shut =
@@ -131,7 +158,8 @@ closer_lasts st me (ShutBit k false) answers sound s n = put_keeps (λ _ o. is_h
 closer_lasts st me act answers sound s n = λ h. h
 
 -- no step ends what is permanent
-pub lasts : (l : Limits) (own : List Act) (st : State) (me : CallerNo) (act : Act) → Condition l own st me act → Answers st me act → IsSound st
+pub lasts : (l : Limits) (own : List Act) (st : State) (me : CallerNo) (act : Act) → Condition l own st me act
+    → Answers st me act → IsSound st
     → (f : PermanentFact) → stands f st ≡ true → stands f (effect st me act) ≡ true
 lasts l own st me act may answers sound (caller_drawn n) h = drawn_lasts st me act n h
 lasts l own st me act may answers sound (selector_made s) h = selector_lasts st me act s h
@@ -142,24 +170,31 @@ lasts l own st me act may answers sound (channel_made c) h = made_lasts st me ac
 lasts l own st me act may answers sound (channel_closed c) h = closed_lasts st me act answers sound c h
 lasts l own st me act may answers sound (index_claimed s i) h = claimed_lasts st me act s i h
 lasts l own st me act may answers sound (key_claimed s i serial) h =
-    stages_keep (Condition l own st me) st me (λ _ _ k. was_claimed k serial ≡ true) (was_claimed_keeps l own st me serial) act may answers s i h
+    stages_keep (Condition l own st me) st me (λ _ _ k. was_claimed k serial ≡ true)
+    (was_claimed_keeps l own st me serial) act may answers s i h
 lasts l own st me act may answers sound (key_published s i serial) h =
     stages_keep (Condition l own st me) st me (λ _ _ k. was_published k serial ≡ true)
-    (reached_keeps (λ k. k.published) (λ k e. refl) (λ k e. e) (λ k e. e) l own st me serial sound) act may answers s i h
+    (reached_keeps (λ k. k.published) (λ k e. refl) (λ k e. e) (λ k e. e) l own st me serial sound) act may answers s i
+    h
 lasts l own st me act may answers sound (key_cancelled s i serial) h =
     stages_keep (Condition l own st me) st me (λ _ _ k. was_cancelled k serial ≡ true)
-    (reached_keeps (λ k. k.cancelled) (λ k e. e) (λ k e. refl) (λ k e. e) l own st me serial sound) act may answers s i h
+    (reached_keeps (λ k. k.cancelled) (λ k e. e) (λ k e. refl) (λ k e. e) l own st me serial sound) act may answers s i
+    h
 lasts l own st me act may answers sound (key_removed s i serial) h =
     stages_keep (Condition l own st me) st me (λ _ _ k. was_removed k serial ≡ true)
     (reached_keeps (λ k. k.removed) (λ k e. e) (λ k e. e) (λ k e. refl) l own st me serial sound) act may answers s i h
-lasts l own st me act may answers sound (below_keys_high s i) h = lt-ltb i _ (keys_high_lasts st me act s i (ltb-true i _ h))
-lasts l own st me act may answers sound (below_channels_high c) h = lt-ltb c _ (channels_high_lasts st me act c (ltb-true c _ h))
+lasts l own st me act may answers sound (below_keys_high s i) h =
+    lt-ltb i _ (keys_high_lasts st me act s i (ltb-true i _ h))
+lasts l own st me act may answers sound (below_channels_high c) h =
+    lt-ltb c _ (channels_high_lasts st me act c (ltb-true c _ h))
 
 -- ---- over histories
 
 -- what is permanent stands in every legal longer history
-pub permanent_stands : (l : Limits) (past later : List Event) → IsLegal l (past ++ later) → (f : PermanentFact) → stands f (state_after past) ≡ true → stands f (state_after (past ++ later)) ≡ true
+pub permanent_stands : (l : Limits) (past later : List Event) → IsLegal l (past ++ later) → (f : PermanentFact)
+    → stands f (state_after past) ≡ true → stands f (state_after (past ++ later)) ≡ true
 permanent_stands l past later legal f = legal_from l (λ events. stands f (state_after events) ≡ true)
     (λ before e legal' step here. subst (λ st. stands f st ≡ true) (sym (state_after-more before e))
-    (lasts l (mine e.caller before) (state_after before) e.caller e.act step.condition step.answers (legal-sound l before legal') f here))
+    (lasts l (mine e.caller before) (state_after before) e.caller e.act step.condition step.answers
+    (legal-sound l before legal') f here))
     past later legal

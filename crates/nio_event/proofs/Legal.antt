@@ -15,10 +15,12 @@ legal_empty l = record { steps = λ past e later eq. absurd (not_empty past e la
 -- each beginning of a legal history is legal
 pub legal_beginning : (l : Limits) (past later : List Event) → IsLegal l (past ++ later) → IsLegal l past
 legal_beginning l past later legal = record {
-  steps = λ before e after eq. legal.steps before e (after ++ later) (ap (λ events. events ++ later) eq ∙ append_assoc before (e ∷ after) later);
+  steps = λ before e after eq. legal.steps before e (after ++ later)
+      (ap (λ events. events ++ later) eq ∙ append_assoc before (e ∷ after) later);
 }
 
-pub legal_next : (l : Limits) (past : List Event) (e : Event) (later : List Event) → IsLegal l (past ++ e ∷ later) → IsStep l past e
+pub legal_next : (l : Limits) (past : List Event) (e : Event) (later : List Event) → IsLegal l (past ++ e ∷ later)
+    → IsStep l past e
 legal_next l past e later legal = legal.steps past e later refl
 
 -- an event of a list with one more at its end is that one, or one of the list
@@ -35,7 +37,8 @@ split_more (v ∷ xs) x (w ∷ ys) y zs eq =
     ]
 
 -- a step after a legal history makes it longer
-pub legal_more : (l : Limits) (past : List Event) (e : Event) → IsLegal l past → IsStep l past e → IsLegal l (past ++ e ∷ [])
+pub legal_more : (l : Limits) (past : List Event) (e : Event) → IsLegal l past → IsStep l past e
+    → IsLegal l (past ++ e ∷ [])
 legal_more l past e legal step = record {
   steps = λ before e' after eq.
       elim (split_more past e before e' after eq) [

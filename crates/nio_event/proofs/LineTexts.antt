@@ -14,7 +14,8 @@ only_line : (line : List ℕ) (r : Option (CallerNo × Call))
     → Reads FitsLine line_words (slice_split (λ b. b == 32) line) r
     → (caller : CallerNo) (call : Call) → IsLine caller call line → r ≡ Some (caller, call)
 only_line line r read caller call h =
-    let apart = split_join (caller_word caller) (call_words call) (caller_spaceless caller.0 h.caller_fits) (call_spaceless call h.call_fits) in
+    let apart = split_join (caller_word caller) (call_words call) (caller_spaceless caller.0 h.caller_fits)
+    (call_spaceless call h.call_fits) in
     read.only (caller, call) (record { caller = h.caller_fits; call = h.call_fits })
     (ap (slice_split (λ b. b == 32)) h.text ∙ apart)
 

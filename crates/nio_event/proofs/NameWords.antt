@@ -1,5 +1,6 @@
 -- The words that name something.
-use Rattle.std.proofs.Common.{◌≡◌, ◌≢◌, ℕ, zero, suc, ◌<◌, ◌^◌, List, [], ◌∷◌, ◌++◌, if◌then◌else◌, Some, None, sym, ap, subst, ◌∙◌, arith, All, append_assoc, refl}
+use Rattle.std.proofs.Common.{◌≡◌, ◌≢◌, ℕ, zero, suc, ◌<◌, ◌^◌, List, [], ◌∷◌, ◌++◌, if◌then◌else◌, Some, None, sym, ap}
+use Rattle.std.proofs.Common.{subst, ◌∙◌, arith, All, append_assoc, refl}
 use Rattle.std.specs.Fmt.{decimal}
 use Rattle.std.specs.Int.{IsInRange}
 use Rattle.std.proofs.lemmas.Bool.{ne_eqb}
@@ -75,10 +76,13 @@ first_key word k none fits e = by_form (key_form k)
   where
     by_form : KeyForm k → (k.serial ≡ 0) × (word ≡ index_word k.index)
     by_form (first zeroth is) = (zeroth, e ∙ is)
-    by_form (later some is) = absurd (none (index_word k.index) (decimal k.serial) (index_word_lacks k.index 46 fits.index_fits (λ q. omega (arith, q)) (λ r. omega (arith, r))) (e ∙ is))
+    by_form (later some is) =
+        absurd (none (index_word k.index) (decimal k.serial)
+        (index_word_lacks k.index 46 fits.index_fits (λ q. omega (arith, q)) (λ r. omega (arith, r))) (e ∙ is))
 
 -- where the text is cut at a point, the parts are the index and the serial
-later_key : (word front back : List ℕ) (k : KeyId) → word ≡ front ++ 46 ∷ back → OnlyCut 46 word front back → IsKeyName k → word ≡ key_word k
+later_key : (word front back : List ℕ) (k : KeyId) → word ≡ front ++ 46 ∷ back → OnlyCut 46 word front back
+    → IsKeyName k → word ≡ key_word k
     → (front ≡ index_word k.index) × (back ≡ decimal k.serial) × IsSerial k.serial
 later_key word front back k cut only fits e = by_form (key_form k)
   where
@@ -92,7 +96,8 @@ later_key word front back k cut only fits e = by_form (key_form k)
         let parts = only (index_word k.index) (decimal k.serial) lacks (e ∙ is) in
         (parts.0, parts.1, record { some = some; fits = fits.serial_fits })
 
-pub no_index : (word : List ℕ) → NoCut 46 word → Reads IsNumber index_word word None → Reads IsKeyName key_word word None
+pub no_index : (word : List ℕ) → NoCut 46 word → Reads IsNumber index_word word None
+    → Reads IsKeyName key_word word None
 no_index word none read =
     reads_none IsKeyName key_word word
     (λ k fits e. cc (read.only k.index fits.index_fits (first_key word k none fits e).1))
@@ -106,7 +111,8 @@ key_at_first word i none read = record {
   );
   only = λ k fits e.
       let parts = first_key word k none fits e in
-      ap Some (key_same (record { index = i; serial = 0 }) k (same_Some i k.index (read.only k.index fits.index_fits parts.1)) (sym parts.0));
+      ap Some (key_same (record { index = i; serial = 0 }) k
+      (same_Some i k.index (read.only k.index fits.index_fits parts.1)) (sym parts.0));
 }
 
 pub no_later_index : (word front back : List ℕ) → word ≡ front ++ 46 ∷ back → OnlyCut 46 word front back
@@ -133,10 +139,13 @@ key_at_serial word front back i m cut only index serial = record {
   );
   only = λ k fits e.
       let parts = later_key word front back k cut only fits e in
-      ap Some (key_same (record { index = i; serial = m }) k (same_Some i k.index (index.only k.index fits.index_fits parts.0)) (same_Some m k.serial (serial.only k.serial parts.2 parts.1)));
+      ap Some (key_same (record { index = i; serial = m }) k
+      (same_Some i k.index (index.only k.index fits.index_fits parts.0))
+      (same_Some m k.serial (serial.only k.serial parts.2 parts.1)));
 }
   where
-    whole : KeyForm (record { index = i; serial = m }) → front ++ 46 ∷ back ≡ key_word (record { index = i; serial = m })
+    whole : KeyForm (record { index = i; serial = m })
+        → front ++ 46 ∷ back ≡ key_word (record { index = i; serial = m })
     whole (first zeroth is) = absurd (serial.found.0.some zeroth)
     whole (later some is) = rw (index.found.1, serial.found.1) (sym is)
 
@@ -153,7 +162,8 @@ key_word_lacks_colon k fits = by_form (key_form k)
     by_form (later some is) =
         subst (All (λ b. b ≢ 58)) (sym is)
         (All-append (λ b. b ≢ 58) (index_word k.index) (46 ∷ decimal k.serial) lacks
-        (All-cons (λ b. b ≢ 58) 46 (decimal k.serial) (omega arith) (decimal_lacks k.serial 58 (omega (arith, fits.serial_fits)) (λ r. omega (arith, r)))))
+        (All-cons (λ b. b ≢ 58) 46 (decimal k.serial) (omega arith)
+        (decimal_lacks k.serial 58 (omega (arith, fits.serial_fits)) (λ r. omega (arith, r)))))
 
 pub pair_word_cut : (p : KeyId × ℕ) → pair_word p ≡ key_word p.0 ++ 58 ∷ decimal p.1
 pair_word_cut p = append_assoc (key_word p.0) (58 ∷ []) (decimal p.1)
@@ -189,6 +199,7 @@ some_pair word key ops k o only cut key_read ops_read = record {
   );
   only = λ p fits e.
       let parts = only (key_word p.0) (decimal p.1) (key_word_lacks_colon p.0 fits.key_fits) (e ∙ pair_word_cut p) in
-      let same : Some (k, o) ≡ Some (p.0, p.1) = cc (key_read.only p.0 fits.key_fits parts.0, ops_read.only p.1 fits.ops_fit parts.1) in
+      let same : Some (k, o) ≡ Some (p.0, p.1) = cc
+      (key_read.only p.0 fits.key_fits parts.0, ops_read.only p.1 fits.ops_fit parts.1) in
       same;
 }

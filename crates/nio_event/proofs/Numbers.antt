@@ -1,10 +1,12 @@
 -- Decimal numbers.
-use Rattle.std.proofs.Common.{◌≡◌, ◌≢◌, ℕ, zero, suc, ◌<◌, ◌≤◌, ◌^◌, ◌+◌, List, [], ◌∷◌, length, get_or, Result, Ok, arith, sym, subst, ap, ◌∙◌, lit<, refl}
+use Rattle.std.proofs.Common.{◌≡◌, ◌≢◌, ℕ, zero, suc, ◌<◌, ◌≤◌, ◌^◌, ◌+◌, List, [], ◌∷◌, length, get_or, Result, Ok}
+use Rattle.std.proofs.Common.{arith, sym, subst, ap, ◌∙◌, lit<, refl}
 use Rattle.std.specs.Fmt.{decimal}
 use Rattle.std.specs.Str.{IsUtf8}
 use Rattle.std.specs.Str.Parse.{AllDigits, digits_value, ParsesUnsigned}
 use Rattle.std.proofs.lemmas.Str.{IsUtf8-from_ascii}
-use Rattle.std.proofs.lemmas.Fmt.{digits_decimal, first_decimal, decimal_digit, decimal-digits_value, decimal_nonempty, IsAscii-decimal, parse-decimal, decimal_injective}
+use Rattle.std.proofs.lemmas.Fmt.{digits_decimal, first_decimal, decimal_digit, decimal-digits_value, decimal_nonempty}
+use Rattle.std.proofs.lemmas.Fmt.{IsAscii-decimal, parse-decimal, decimal_injective}
 use Rattle.std.proofs.lemmas.Str.Parse.{IsNumeralModel, numerals_by_value, tells_digits, not_in_digits, parse_plain}
 use Rattle.nio_event.specs.Reading.{Reads}
 use Rattle.nio_event.proofs.Readers.{reads_none, reads_some}
@@ -29,7 +31,8 @@ not_begun text max h bad =
     (λ n fits e.
     let small : n < 2 ^ 64 = omega arith in
     bad
-    (subst (λ (t : List ℕ). (get_or t 0 0 ≢ 43) × (get_or t 0 0 ≡ 48 → length t ≡ 1)) (sym e) (no_plus n small, lone_zero n small)))
+    (subst (λ (t : List ℕ). (get_or t 0 0 ≢ 43) × (get_or t 0 0 ≡ 48 → length t ≡ 1)) (sym e)
+    (no_plus n small, lone_zero n small)))
 
 -- a text that is no UTF-8 is no number
 pub not_text : (text : List ℕ) (max : ℕ) → max < 2 ^ 64 → (IsUtf8 text → ⊥)

@@ -9,7 +9,8 @@ use Rattle.nio_base.specs.declared.group.Outcome.TheVariants as outcome
 use Rattle.nio_base.specs.declared.numbers.GChan.{GChan}
 use Rattle.nio_base.specs.declared.numbers.OpNo.{OpNo}
 use Rattle.nio_event.specs.GroupCalls.{IsGroupCall, IsOutcome, group_argument_words}
-use Rattle.nio_event.specs.GroupWords.{group_channel_word, group_kind_word, operation_kind_word, operation_word, outcome_words}
+use Rattle.nio_event.specs.GroupWords.{group_channel_word, group_kind_word, operation_kind_word, operation_word}
+use Rattle.nio_event.specs.GroupWords.{outcome_words}
 use Rattle.nio_event.specs.Words.{IsNumber}
 use Rattle.nio_event.specs.declared.group_call.GroupCall.{GroupCall}
 use Rattle.nio_event.specs.declared.group_call.GroupCall.TheVariants as group
@@ -86,7 +87,8 @@ lone_one g x y f k e = refl
 formed_one : {A : Type 0} (form : A → GroupCall) → IsOneForm form → (g h : GroupCall) → HasForm form g → HasForm form h
     → IsGroupCall g → IsGroupCall h → group_argument_words g ≡ group_argument_words h → g ≡ h
 formed_one form one g h x y f k e =
-    let same = one x.0 y.0 (subst IsGroupCall x.1 f) (subst IsGroupCall y.1 k) (ap group_argument_words (sym x.1) ∙ (e ∙ ap group_argument_words y.1)) in
+    let same = one x.0 y.0 (subst IsGroupCall x.1 f) (subst IsGroupCall y.1 k)
+    (ap group_argument_words (sym x.1) ∙ (e ∙ ap group_argument_words y.1)) in
     x.1 ∙ (ap form same ∙ sym y.1)
 
 pub group_call_one : (w : GroupWord) (g h : GroupCall) → IsOf w g → IsOf w h → IsGroupCall g → IsGroupCall h

@@ -1,6 +1,7 @@
 -- What one event more does to a history's state, to a caller's own events, and to each general word
 -- over them.
-use Rattle.std.proofs.Common.{◌≡◌, Bool, true, false, cond, ◌||◌, if◌then◌else◌, Option, None, List, [], ◌∷◌, ◌++◌, map, refl, ap, ◌∙◌}
+use Rattle.std.proofs.Common.{◌≡◌, Bool, true, false, cond, ◌||◌, if◌then◌else◌, Option, None, List, [], ◌∷◌, ◌++◌, map}
+use Rattle.std.proofs.Common.{refl, ap, ◌∙◌}
 use Rattle.std.specs.List.{filter}
 use Rattle.std.specs.Option.{option_or}
 use Rattle.std.proofs.lemmas.List.{map-append, append-nil}
@@ -15,17 +16,22 @@ use Rattle.nio_event.specs.State.{opening}
 use Rattle.nio_event.specs.declared.act.Act.{Act}
 use Rattle.nio_event.specs.declared.event.Event.{Event}
 
-pub state_after-more : (past : List Event) (e : Event) → state_after (past ++ e ∷ []) ≡ effect (state_after past) e.caller e.act
+pub state_after-more : (past : List Event) (e : Event)
+    → state_after (past ++ e ∷ []) ≡ effect (state_after past) e.caller e.act
 state_after-more past e = fold-append (λ st e'. effect st e'.caller e'.act) opening past (e ∷ [])
 
-pub mine-own : (n : CallerNo) (past : List Event) (e : Event) → is_by n e ≡ true → mine n (past ++ e ∷ []) ≡ mine n past ++ e.act ∷ []
+pub mine-own : (n : CallerNo) (past : List Event) (e : Event) → is_by n e ≡ true
+    → mine n (past ++ e ∷ []) ≡ mine n past ++ e.act ∷ []
 mine-own n past e by =
-    ap (map (λ x. x.act)) (filter-append (is_by n) past (e ∷ [])) ∙ (map-append (λ x. x.act) (filter (is_by n) past) (filter (is_by n) (e ∷ []))
+    ap (map (λ x. x.act)) (filter-append (is_by n) past (e ∷ []))
+    ∙ (map-append (λ x. x.act) (filter (is_by n) past) (filter (is_by n) (e ∷ []))
     ∙ ap (λ b. mine n past ++ map (λ x. x.act) (cond b (e ∷ []) [])) by)
 
-pub mine-other : (n : CallerNo) (past : List Event) (e : Event) → is_by n e ≡ false → mine n (past ++ e ∷ []) ≡ mine n past
+pub mine-other : (n : CallerNo) (past : List Event) (e : Event) → is_by n e ≡ false
+    → mine n (past ++ e ∷ []) ≡ mine n past
 mine-other n past e by =
-    ap (map (λ x. x.act)) (filter-append (is_by n) past (e ∷ [])) ∙ (map-append (λ x. x.act) (filter (is_by n) past) (filter (is_by n) (e ∷ []))
+    ap (map (λ x. x.act)) (filter-append (is_by n) past (e ∷ []))
+    ∙ (map-append (λ x. x.act) (filter (is_by n) past) (filter (is_by n) (e ∷ []))
     ∙ (ap (λ b. mine n past ++ map (λ x. x.act) (cond b (e ∷ []) [])) by ∙ append-nil (mine n past)))
 
 pub has-more : (p : Act → Bool) (own : List Act) (act : Act) → has p (own ++ act ∷ []) ≡ (has p own || p act)
@@ -35,12 +41,14 @@ has-more p own act = list_any-append p own (act ∷ []) ∙ ap (λ b. has p own 
     or-false true = refl
     or-false false = refl
 
-pub last-more : {A : Type 0} (tells : Act → Option A) (own : List Act) (act : Act) → last tells (own ++ act ∷ []) ≡ option_or (tells act) (last tells own)
+pub last-more : {A : Type 0} (tells : Act → Option A) (own : List Act) (act : Act)
+    → last tells (own ++ act ∷ []) ≡ option_or (tells act) (last tells own)
 last-more tells own act = fold-append (λ told act'. option_or (tells act') told) None own (act ∷ [])
 
 pub since_from-more : (opens : Act → Bool) (own : List Act) (act : Act)
     → since_from opens (own ++ act ∷ []) ≡ (if opens act then [] else since_from opens own ++ act ∷ [])
-since_from-more opens own act = fold-append (λ since act'. if opens act' then [] else since ++ act' ∷ []) [] own (act ∷ [])
+since_from-more opens own act =
+    fold-append (λ since act'. if opens act' then [] else since ++ act' ∷ []) [] own (act ∷ [])
 
 -- an act of a span is one of all acts
 pub has-since_first : (p opens : Act → Bool) (own : List Act) → has p (since_first opens own) ≡ true → has p own ≡ true
@@ -51,6 +59,7 @@ has-since_first p opens (x ∷ own) h = or_right (p x) (has p own) (by_test (ope
     or_right true b e = refl
     or_right false b e = e
 
-    by_test : (b : Bool) → has p (if b then own else since_first opens own) ≡ true → (has p (since_first opens own) ≡ true → has p own ≡ true) → has p own ≡ true
+    by_test : (b : Bool) → has p (if b then own else since_first opens own) ≡ true
+        → (has p (since_first opens own) ≡ true → has p own ≡ true) → has p own ≡ true
     by_test true there shorter = there
     by_test false there shorter = shorter there

@@ -1,5 +1,7 @@
 -- A line is a call of one caller, and of no other: what has the same text is the same.
-use Rattle.std.proofs.Common.{◌≡◌, ◌≢◌, ℕ, suc, ◌<◌, ◌^◌, pos, negsuc, Bool, true, false, Option, Some, None, List, [], ◌∷◌, ◌++◌, length, drop, map, inl, inr, refl, sym, ap, ◌∙◌, subst, arith, All, nat_eq, find}
+use Rattle.std.proofs.Common.{◌≡◌, ◌≢◌, ℕ, suc, ◌<◌, ◌^◌, pos, negsuc, Bool, true, false, Option, Some, None, List, []}
+use Rattle.std.proofs.Common.{◌∷◌, ◌++◌, length, drop, map, inl, inr, refl, sym, ap, ◌∙◌, subst, arith, All, nat_eq}
+use Rattle.std.proofs.Common.{find}
 use Rattle.std.specs.Prelude.{⊤}
 use Rattle.std.specs.Fmt.{decimal, signed_decimal}
 use Rattle.std.specs.List.{slice_split}
@@ -13,7 +15,11 @@ use Rattle.nio_base.specs.declared.numbers.CallerNo.{CallerNo}
 use Rattle.nio_base.specs.declared.numbers.ChanNo.{ChanNo}
 use Rattle.nio_base.specs.declared.numbers.KeyId.{KeyId}
 use Rattle.nio_base.specs.declared.numbers.SelNo.{SelNo}
-use Rattle.nio_event.specs.Arguments.{Arguments, nothing, one_caller, one_selector, one_channel, one_kind, channel_mode, channel_selector, channel_bytes, channel_count, registration, selector_key, key_ops, key_number, selector_wait, selector_told, on_group, ArgumentsFit, IsAttachment, IsKeyName, IsMilliseconds, IsPair, IsTime, argument_words, attachment_words, elapsed_words, mode_word, waiting_words}
+use Rattle.nio_event.specs.Arguments.{Arguments, nothing, one_caller, one_selector, one_channel, one_kind, channel_mode}
+use Rattle.nio_event.specs.Arguments.{channel_selector, channel_bytes, channel_count, registration, selector_key}
+use Rattle.nio_event.specs.Arguments.{key_ops, key_number, selector_wait, selector_told, on_group, ArgumentsFit}
+use Rattle.nio_event.specs.Arguments.{IsAttachment, IsKeyName, IsMilliseconds, IsPair, IsTime, argument_words}
+use Rattle.nio_event.specs.Arguments.{attachment_words, elapsed_words, mode_word, waiting_words}
 use Rattle.nio_event.specs.Calls.{IsBlank, IsCall, IsLine, call_words}
 use Rattle.nio_event.specs.CallWords.{arguments, call_word, call_word_text}
 use Rattle.nio_event.specs.Printing.{spaced}
@@ -31,7 +37,8 @@ use Rattle.nio_event.proofs.CallWordTable.{reads_call_word}
 use Rattle.nio_event.proofs.Cuts.{position-cut, parts-cut}
 use Rattle.nio_event.proofs.HexWords.{bytes_one}
 use Rattle.nio_event.proofs.JoinedWords.{join_spaced}
-use Rattle.nio_event.proofs.NameWords.{KeyForm, first, later, decimal_lacks, index_word, index_word_lacks, key_form, key_same, key_word_lacks_colon, lacks_none, pair_word_cut}
+use Rattle.nio_event.proofs.NameWords.{KeyForm, first, later, decimal_lacks, index_word, index_word_lacks, key_form}
+use Rattle.nio_event.proofs.NameWords.{key_same, key_word_lacks_colon, lacks_none, pair_word_cut}
 use Rattle.nio_event.proofs.OneGroupCall.{group_call_one}
 use Rattle.nio_event.proofs.Ones.{IsOne, all_three, both, byte_at, numbered_one, word_at}
 use Rattle.nio_event.proofs.GroupParts.{of_word}
@@ -76,14 +83,20 @@ key_one x y f g e = by_forms (key_form x) (key_form y)
 
     by_forms : KeyForm x → KeyForm y → x ≡ y
     by_forms (first zeroth is) (first also that) =
-        key_same x y (numbered_one 107 x.index y.index (omega (arith, f.index_fits)) (omega (arith, g.index_fits)) (sym is ∙ (e ∙ that))) (zeroth ∙ sym also)
+        key_same x y
+        (numbered_one 107 x.index y.index (omega (arith, f.index_fits)) (omega (arith, g.index_fits))
+        (sym is ∙ (e ∙ that))) (zeroth ∙ sym also)
     by_forms (first zeroth is) (later some that) =
-        absurd (lacks_none 46 (index_word y.index) (decimal y.serial) (subst (All (λ b. b ≢ 46)) (sym is ∙ (e ∙ that)) (lacks x f)))
+        absurd (lacks_none 46 (index_word y.index) (decimal y.serial)
+        (subst (All (λ b. b ≢ 46)) (sym is ∙ (e ∙ that)) (lacks x f)))
     by_forms (later some is) (first zeroth that) =
-        absurd (lacks_none 46 (index_word x.index) (decimal x.serial) (subst (All (λ b. b ≢ 46)) (sym that ∙ (sym e ∙ is)) (lacks y g)))
+        absurd (lacks_none 46 (index_word x.index) (decimal x.serial)
+        (subst (All (λ b. b ≢ 46)) (sym that ∙ (sym e ∙ is)) (lacks y g)))
     by_forms (later some is) (later more that) =
-        let parts = cut_one 46 (index_word x.index) (decimal x.serial) (index_word y.index) (decimal y.serial) (lacks x f) (lacks y g) (sym is ∙ (e ∙ that)) in
-        key_same x y (numbered_one 107 x.index y.index (omega (arith, f.index_fits)) (omega (arith, g.index_fits)) parts.0)
+        let parts = cut_one 46 (index_word x.index) (decimal x.serial) (index_word y.index) (decimal y.serial)
+        (lacks x f) (lacks y g) (sym is ∙ (e ∙ that)) in
+        key_same x y
+        (numbered_one 107 x.index y.index (omega (arith, f.index_fits)) (omega (arith, g.index_fits)) parts.0)
         (decimal_injective x.serial y.serial (omega (arith, f.serial_fits)) (omega (arith, g.serial_fits)) parts.1)
 
 kind_one : (x y : Kind) → kind_word x ≡ kind_word y → x ≡ y
@@ -142,7 +155,9 @@ waiting_one (For x) Wait f g e = absurd (omega (arith, byte_at 0 (word_at 0 e)))
 
 pair_one : IsOne IsPair pair_word
 pair_one x y f g e =
-    let parts = cut_one 58 (key_word x.0) (decimal x.1) (key_word y.0) (decimal y.1) (key_word_lacks_colon x.0 f.key_fits) (key_word_lacks_colon y.0 g.key_fits) (sym (pair_word_cut x) ∙ e ∙ pair_word_cut y) in
+    let parts = cut_one 58 (key_word x.0) (decimal x.1) (key_word y.0) (decimal y.1)
+    (key_word_lacks_colon x.0 f.key_fits) (key_word_lacks_colon y.0 g.key_fits)
+    (sym (pair_word_cut x) ∙ e ∙ pair_word_cut y) in
     ap (λ (k : KeyId). (k, x.1)) (key_one x.0 y.0 f.key_fits g.key_fits parts.0)
     ∙ ap (λ (o : ℕ). (y.0, o)) (decimal_injective x.1 y.1 (omega (arith, f.ops_fit)) (omega (arith, g.ops_fit)) parts.1)
 
@@ -169,7 +184,8 @@ told_one false true xs ys f g e = absurd (not_elapsed ys xs (sym e))
 -- arguments
 
 all_four : {A B C D : Type 0} (x y : A × B × C × D) → x.0 ≡ y.0 → x.1 ≡ y.1 → x.2 ≡ y.2 → x.3 ≡ y.3 → x ≡ y
-all_four x y p q r s = ap (λ a. (a, x.1, x.2, x.3)) p ∙ ap (λ b. (y.0, b, x.2, x.3)) q ∙ ap (λ c. (y.0, y.1, c, x.3)) r ∙ ap (λ d. (y.0, y.1, y.2, d)) s
+all_four x y p q r s = ap (λ a. (a, x.1, x.2, x.3)) p ∙ ap (λ b. (y.0, b, x.2, x.3)) q ∙ ap (λ c. (y.0, y.1, c, x.3)) r
+    ∙ ap (λ d. (y.0, y.1, y.2, d)) s
 
 -- arguments of one shape with the same words are the same
 abbrev IsOneShape : {A : Type 0} → (A → Arguments) → Type 0
@@ -209,7 +225,8 @@ channel_count_one x y f g e =
 registration_one : IsOneShape (λ (p : SelNo × ChanNo × ℕ × Option ℕ). registration p.0 p.1 p.2 p.3)
 registration_one x y f g e =
     all_four x y (selector_one x.0 y.0 f.0 g.0 (word_at 0 e)) (channel_one x.1 y.1 f.1 g.1 (word_at 1 e))
-    (decimal_injective x.2 y.2 (omega (arith, f.2)) (omega (arith, g.2)) (word_at 2 e)) (attachment_one x.3 y.3 f.3 g.3 (ap (drop 3) e))
+    (decimal_injective x.2 y.2 (omega (arith, f.2)) (omega (arith, g.2)) (word_at 2 e))
+    (attachment_one x.3 y.3 f.3 g.3 (ap (drop 3) e))
 
 selector_key_one : IsOneShape (λ (p : SelNo × KeyId). selector_key p.0 p.1)
 selector_key_one x y f g e =
@@ -232,10 +249,12 @@ selector_told_one x y f g e =
     let rest = told_one x.1 y.1 x.2 y.2 f.1.0 g.1.0 (ap (drop 1) e) in
     all_three x y (selector_one x.0 y.0 f.0 g.0 (word_at 0 e)) rest.0 rest.1
 
-shaped_one : {A : Type 0} (shape : A → Arguments) → IsOneShape shape → (a b : Arguments) → HaveShape shape a → HaveShape shape b
+shaped_one : {A : Type 0} (shape : A → Arguments) → IsOneShape shape → (a b : Arguments) → HaveShape shape a
+    → HaveShape shape b
     → ArgumentsFit a → ArgumentsFit b → argument_words a ≡ argument_words b → a ≡ b
 shaped_one shape one a b x y f g e =
-    let same = one x.0 y.0 (subst ArgumentsFit x.1 f) (subst ArgumentsFit y.1 g) (ap argument_words (sym x.1) ∙ (e ∙ ap argument_words y.1)) in
+    let same = one x.0 y.0 (subst ArgumentsFit x.1 f) (subst ArgumentsFit y.1 g)
+    (ap argument_words (sym x.1) ∙ (e ∙ ap argument_words y.1)) in
     x.1 ∙ (ap shape same ∙ sym y.1)
 
 -- the arguments behind one word have one shape
@@ -250,14 +269,17 @@ arguments_one (word.OnKeyOps w) a b = shaped_one (λ (p : SelNo × KeyId × ℕ)
 arguments_one word.Channel a b = shaped_one one_kind one_kind_one a b
 arguments_one word.Blocking a b = shaped_one (λ (p : ChanNo × Bool). channel_mode p.0 p.1) channel_mode_one a b
 arguments_one word.KeyFor a b = shaped_one (λ (p : ChanNo × SelNo). channel_selector p.0 p.1) channel_selector_one a b
-arguments_one word.Register a b = shaped_one (λ (p : SelNo × ChanNo × ℕ × Option ℕ). registration p.0 p.1 p.2 p.3) registration_one a b
+arguments_one word.Register a b =
+    shaped_one (λ (p : SelNo × ChanNo × ℕ × Option ℕ). registration p.0 p.1 p.2 p.3) registration_one a b
 arguments_one word.Attach a b = shaped_one (λ (p : SelNo × KeyId × ℕ). key_number p.0 p.1 p.2) key_number_one a b
 arguments_one word.Begin a b = shaped_one (λ (p : SelNo × Waiting). selector_wait p.0 p.1) selector_wait_one a b
-arguments_one word.Told a b = shaped_one (λ (p : SelNo × Bool × List (KeyId × ℕ)). selector_told p.0 p.1 p.2) selector_told_one a b
+arguments_one word.Told a b =
+    shaped_one (λ (p : SelNo × Bool × List (KeyId × ℕ)). selector_told p.0 p.1 p.2) selector_told_one a b
 arguments_one word.Pwrite a b = shaped_one (λ (p : ChanNo × List ℕ). channel_bytes p.0 p.1) channel_bytes_one a b
 arguments_one word.Pread a b = shaped_one (λ (p : ChanNo × ℕ). channel_count p.0 p.1) channel_count_one a b
 arguments_one (word.OnGroup w) a b = λ x y f g e.
-    let same = group_call_one w x.0 y.0 (of_word w x.0 x.2) (of_word w y.0 y.2) (subst ArgumentsFit x.1 f) (subst ArgumentsFit y.1 g) (ap argument_words (sym x.1) ∙ (e ∙ ap argument_words y.1)) in
+    let same = group_call_one w x.0 y.0 (of_word w x.0 x.2) (of_word w y.0 y.2) (subst ArgumentsFit x.1 f)
+    (subst ArgumentsFit y.1 g) (ap argument_words (sym x.1) ∙ (e ∙ ap argument_words y.1)) in
     x.1 ∙ (ap on_group same ∙ sym y.1)
 
 -- calls
@@ -267,9 +289,11 @@ call_one x y f g e =
     let text = call_word_text (call_word x) in
     let found = find (λ w. bytes_eq (call_word_text w) text) CALL_WORDS in
     let read = reads_call_word text found refl in
-    let same : call_word x ≡ call_word y = same_Some (call_word x) (call_word y) (sym (read.only (call_word x) tt refl) ∙ read.only (call_word y) tt (word_at 0 e)) in
+    let same : call_word x ≡ call_word y = same_Some (call_word x) (call_word y)
+    (sym (read.only (call_word x) tt refl) ∙ read.only (call_word y) tt (word_at 0 e)) in
     parts_one x y same
-    (arguments_one (call_word y) (arguments x) (arguments y) (subst (λ w. AreOf w (arguments x)) same (have_shape x)) (have_shape y) f g (ap (drop 1) e))
+    (arguments_one (call_word y) (arguments x) (arguments y) (subst (λ w. AreOf w (arguments x)) same (have_shape x))
+    (have_shape y) f g (ap (drop 1) e))
 
 -- lines
 
@@ -277,19 +301,23 @@ line_words_of : {caller : CallerNo} {c : Call} {line : List ℕ} → IsLine call
     → slice_split (λ b. nat_eq b 32) line ≡ caller_word caller ∷ call_words c
 line_words_of {caller = caller} {c = c} is =
     ap (slice_split (λ b. nat_eq b 32)) is.text
-    ∙ split_join (caller_word caller) (call_words c) (caller_spaceless caller.0 is.caller_fits) (call_spaceless c is.call_fits)
+    ∙ split_join (caller_word caller) (call_words c) (caller_spaceless caller.0 is.caller_fits)
+    (call_spaceless c is.call_fits)
 
 -- a line is a call of one caller alone
 pub line_one : {caller other : CallerNo} {c d : Call} {line : List ℕ} → IsLine caller c line → IsLine other d line
     → (caller ≡ other) × (c ≡ d)
 line_one {caller = caller} {other = other} {c = c} {d = d} x y =
-    let words = sym (line_words_of x) ∙ line_words_of y in
-    (caller_one caller other x.caller_fits y.caller_fits (word_at 0 words), call_one c d x.call_fits y.call_fits (ap (drop 1) words))
+    let words = sym (line_words_of x) ∙ line_words_of y in (
+      caller_one caller other x.caller_fits y.caller_fits (word_at 0 words),
+      call_one c d x.call_fits y.call_fits (ap (drop 1) words),
+    )
 
 -- a call of a caller isn't blank
 line_full : {caller : CallerNo} {c : Call} {line : List ℕ} → IsLine caller c line → IsBlank line → ⊥
 line_full {caller = caller} {c = c} is blank =
-    named_full (decimal caller.0 ++ spaced (call_words c)) (subst IsBlank (is.text ∙ join_spaced (caller_word caller) (call_words c)) blank)
+    named_full (decimal caller.0 ++ spaced (call_words c))
+    (subst IsBlank (is.text ∙ join_spaced (caller_word caller) (call_words c)) blank)
   where
     named_full : (bytes : List ℕ) → IsBlank (116 ∷ bytes) → ⊥
     named_full bytes (inl e) = cc e

@@ -1,5 +1,6 @@
 -- Lists of pairs, read word by word.
-use Rattle.std.proofs.Common.{◌≡◌, ◌≢◌, ℕ, ◌<◌, ◌≤◌, ◌+◌, List, [], ◌∷◌, ◌++◌, length, get_or, take, map, Option, Some, None, sym, ap, ◌∙◌, refl, arith, Any}
+use Rattle.std.proofs.Common.{◌≡◌, ◌≢◌, ℕ, ◌<◌, ◌≤◌, ◌+◌, List, [], ◌∷◌, ◌++◌, length, get_or, take, map, Option, Some}
+use Rattle.std.proofs.Common.{None, sym, ap, ◌∙◌, refl, arith, Any}
 use denote.Ref.{Bor}
 use Rattle.std.proofs.lemmas.List.{get_or-map, get_or-take, length-map, length-take-le, map-append, take_more, take_all}
 use Rattle.std.proofs.lemmas.List.Elements.{All-push, All-get_or, All-nil, Contains-get_or}
@@ -80,10 +81,12 @@ pub one_more : (words : List (List ℕ)) (i : ℕ) (w : List ℕ) (p : KeyId × 
 one_more words i w p pairs at read new so_far = record {
   fits = fits_push pairs p so_far.fits read.found.0 new;
   texts =
-      rw (take_more words i w at.within, map-append pair_word pairs (p ∷ []), so_far.texts, ← at.is, ← read.found.1) refl;
+      rw (take_more words i w at.within, map-append pair_word pairs (p ∷ []), so_far.texts, ← at.is, ← read.found.1)
+      refl;
   only = λ ps fits e.
       let there = word_at words ps i w e at in
-      let same : p ≡ get_or ps i origin = same_Some p (get_or ps i origin) (pair_at words ps i w (Some p) e fits at read) in
+      let same : p ≡ get_or ps i origin = same_Some p (get_or ps i origin)
+      (pair_at words ps i w (Some p) e fits at read) in
       rw (take_more ps i origin there.0, so_far.only ps fits e, ← same) refl;
 }
 
@@ -94,15 +97,18 @@ key_again words i w p pairs at read twice so_far =
     let key = λ (q : KeyId × ℕ). q.0 in
     reads_none ArePairs (map pair_word) words
     (λ ps fits e.
-    let same : p ≡ get_or ps i origin = same_Some p (get_or ps i origin) (pair_at words ps i w (Some p) e fits at read) in
+    let same : p ≡ get_or ps i origin = same_Some p (get_or ps i origin)
+    (pair_at words ps i w (Some p) e fits at read) in
     let there = word_at words ps i w e at in
     let front : take i ps ≡ pairs = so_far.only ps fits e in
     let k : ℕ = twice.0 in
     let q : KeyId × ℕ = twice.1 in
     let before : k < i = omega (arith, twice.2, ap length front, length-take-le i ps (omega (arith, there.0))) in
-    let early : get_or ps k q ≡ q = sym (get_or-take i ps k q before) ∙ (ap (λ (l : List (KeyId × ℕ)). get_or l k q) front ∙ twice.3) in
+    let early : get_or ps k q ≡ q = sym (get_or-take i ps k q before)
+    ∙ (ap (λ (l : List (KeyId × ℕ)). get_or l k q) front ∙ twice.3) in
     fits.1 k i origin.0 before (omega (arith, there.0, length-map ps key))
-    (get_or-map key ps k q origin.0 (omega (arith, there.0)) ∙ (ap key early ∙ (twice.4 ∙ (ap key same ∙ sym (get_or-map key ps i origin origin.0 there.0))))))
+    (get_or-map key ps k q origin.0 (omega (arith, there.0))
+    ∙ (ap key early ∙ (twice.4 ∙ (ap key same ∙ sym (get_or-map key ps i origin origin.0 there.0))))))
 
 pub all_read : (words : List (List ℕ)) (i : ℕ) (pairs : List (KeyId × ℕ)) → length words ≤ i
     → AreRead words i pairs → Reads ArePairs (map pair_word) words (Some pairs)

@@ -1,5 +1,6 @@
 -- What one call did with a pass, and then another; and what a pass has after a call, as before it.
-use Rattle.std.proofs.Common.{◌≡◌, true, IsTrue, List, [], ◌++◌, map, length, drop, refl, ap, sym, ◌∙◌, subst, append_assoc}
+use Rattle.std.proofs.Common.{◌≡◌, true, IsTrue, List, [], ◌++◌, map, length, drop, refl, ap, sym, ◌∙◌, subst}
+use Rattle.std.proofs.Common.{append_assoc}
 use Rattle.std.proofs.lemmas.List.{append-nil, map-append, drop_at}
 use Rattle.nio_base.specs.declared.limits.Limits.{Limits}
 use Rattle.nio_base.specs.declared.numbers.CallerNo.{CallerNo}
@@ -15,9 +16,11 @@ use Rattle.nio_event.specs.PassViews.{PassView, Holds, known, done_between, Acts
 use Rattle.nio_event.specs.declared.act.Act.{Act}
 
 -- these acts are what was done
-pub done-is : (me : CallerNo) (acts : List Act) (old new : PassView) → ActsClause me acts old new → done_between me old new ≡ acts
+pub done-is : (me : CallerNo) (acts : List Act) (old new : PassView) → ActsClause me acts old new
+    → done_between me old new ≡ acts
 done-is me acts old new clause =
-    ap (drop (length (mine me old.seen))) clause.history.own ∙ drop_at (mine me old.seen) acts (length (mine me old.seen)) refl
+    ap (drop (length (mine me old.seen))) clause.history.own
+    ∙ drop_at (mine me old.seen) acts (length (mine me old.seen)) refl
 
 -- nothing was done
 pub acts_nothing : (me : CallerNo) (pass : PassView) → IsLegal pass.limits pass.seen → ActsClause me [] pass pass
@@ -28,7 +31,8 @@ acts_nothing me pass legal = record {
   only = λ alone. (alone, sym (append-nil pass.seen));
 }
 
-pub acts_then : (me : CallerNo) (first second : List Act) (v0 v1 v2 : PassView) → ActsClause me first v0 v1 → ActsClause me second v1 v2 → ActsClause me (first ++ second) v0 v2
+pub acts_then : (me : CallerNo) (first second : List Act) (v0 v1 v2 : PassView) → ActsClause me first v0 v1
+    → ActsClause me second v1 v2 → ActsClause me (first ++ second) v0 v2
 acts_then me first second v0 v1 v2 p q = record {
   history = clause_then v0.limits (Holds v0) me first second v0.seen v1.seen v2.seen p.history
       (subst (λ held. HistoryClause v0.limits (λ n. IsTrue (held n)) me second v1.seen v2.seen) p.held
@@ -47,22 +51,27 @@ acts_then me first second v0 v1 v2 p q = record {
 
 -- ---- what is passed to a call may be passed to a later one
 
-permanent_after : (me : CallerNo) (acts : List Act) (old new : PassView) → ActsClause me acts old new → (f : PermanentFact) → stands f (known old) ≡ true → stands f (known new) ≡ true
-permanent_after me acts old new clause f here = facts_are_permanent old.limits old.seen new.seen clause.history.goes_on clause.history.legal f here
+permanent_after : (me : CallerNo) (acts : List Act) (old new : PassView) → ActsClause me acts old new
+    → (f : PermanentFact) → stands f (known old) ≡ true → stands f (known new) ≡ true
+permanent_after me acts old new clause f here =
+    facts_are_permanent old.limits old.seen new.seen clause.history.goes_on clause.history.legal f here
 
-pub selector_after : {me : CallerNo} {acts : List Act} {old new : PassView} {s : SelNo} → ActsClause me acts old new → HasSelector old s → HasSelector new s
+pub selector_after : {me : CallerNo} {acts : List Act} {old new : PassView} {s : SelNo} → ActsClause me acts old new
+    → HasSelector old s → HasSelector new s
 selector_after {me = me} {acts = acts} {old = old} {new = new} {s = s} clause has = record {
   inside = subst (λ (l : Limits). IsSelector l s) (sym clause.limits) has.inside;
   made = permanent_after me acts old new clause (selector_made s.0) has.made;
 }
 
-pub channel_after : {me : CallerNo} {acts : List Act} {old new : PassView} {c : ChanNo} → ActsClause me acts old new → HasChannel old c → HasChannel new c
+pub channel_after : {me : CallerNo} {acts : List Act} {old new : PassView} {c : ChanNo} → ActsClause me acts old new
+    → HasChannel old c → HasChannel new c
 channel_after {me = me} {acts = acts} {old = old} {new = new} {c = c} clause has = record {
   inside = subst (λ (l : Limits). IsChannel l c) (sym clause.limits) has.inside;
   made = permanent_after me acts old new clause (channel_made c.0) has.made;
 }
 
-pub key_after : {me : CallerNo} {acts : List Act} {old new : PassView} {k : KeyNo} → ActsClause me acts old new → HasKey old k → HasKey new k
+pub key_after : {me : CallerNo} {acts : List Act} {old new : PassView} {k : KeyNo} → ActsClause me acts old new
+    → HasKey old k → HasKey new k
 key_after {me = me} {acts = acts} {old = old} {new = new} {k = k} clause has = record {
   inside = subst (λ (l : Limits). IsKey l k.sel k.index) (sym clause.limits) has.inside;
   published = permanent_after me acts old new clause (key_published k.sel.0 k.index k.serial) has.published;

@@ -1,11 +1,14 @@
 -- Plain words, of which lines and replies are made: no byte below `-`, so no space and no newline, and no `>`.
-use Rattle.std.proofs.Common.{◌≡◌, ◌≢◌, ℕ, zero, suc, ◌+◌, ℤ, pos, negsuc, Bool, true, false, not, ◌&&◌, if◌then◌else◌, Option, None, Some, List, [], ◌∷◌, ◌++◌, ◌<◌, ◌≤◌, ◌/◌, ◌%◌, ◌==◌, nat_le, nat_lt, map, codes, refl, sym, subst, ap, ◌∙◌, arith, All}
+use Rattle.std.proofs.Common.{◌≡◌, ◌≢◌, ℕ, zero, suc, ◌+◌, ℤ, pos, negsuc, Bool, true, false, not, ◌&&◌, if◌then◌else◌}
+use Rattle.std.proofs.Common.{Option, None, Some, List, [], ◌∷◌, ◌++◌, ◌<◌, ◌≤◌, ◌/◌, ◌%◌, ◌==◌, nat_le, nat_lt, map}
+use Rattle.std.proofs.Common.{codes, refl, sym, subst, ap, ◌∙◌, arith, All}
 use Rattle.std.specs.Fmt.{decimal, signed_decimal, digits, digits_onto, digit_glyph}
 use Rattle.std.specs.Int.{IsInRange}
 use Rattle.std.specs.List.{AllByRecursion, list_all}
 use Rattle.std.specs.Str.{bytes_eq}
 use Rattle.std.proofs.lemmas.Bool.{and_parts, cond_both, eq-eqb, false≢true, leb-true, lt-ltb, ltb-true}
-use Rattle.std.proofs.lemmas.List.Elements.{All-append, All-cons, All-from_recursion, All-nil, All-weaker, recursion_from_All}
+use Rattle.std.proofs.lemmas.List.Elements.{All-append, All-cons, All-from_recursion, All-nil, All-weaker}
+use Rattle.std.proofs.lemmas.List.Elements.{recursion_from_All}
 use Rattle.std.proofs.lemmas.List.Sums.{AllPass-from_list_all}
 use Rattle.nio_base.specs.declared.group.Finished.{Finished}
 use Rattle.nio_base.specs.declared.group.Finished.TheVariants as finished
@@ -23,14 +26,19 @@ use Rattle.nio_base.specs.declared.numbers.ChanNo.{ChanNo}
 use Rattle.nio_base.specs.declared.numbers.GChan.{GChan}
 use Rattle.nio_base.specs.declared.numbers.KeyId.{KeyId}
 use Rattle.nio_base.specs.declared.numbers.SelNo.{SelNo}
-use Rattle.nio_event.specs.Arguments.{Arguments, nothing, one_caller, one_selector, one_channel, one_kind, channel_mode, channel_selector, channel_bytes, channel_count, registration, selector_key, key_ops, key_number, selector_wait, selector_told, on_group, argument_words, attachment_words, elapsed_words, mode_word, waiting_words}
+use Rattle.nio_event.specs.Arguments.{Arguments, nothing, one_caller, one_selector, one_channel, one_kind, channel_mode}
+use Rattle.nio_event.specs.Arguments.{channel_selector, channel_bytes, channel_count, registration, selector_key}
+use Rattle.nio_event.specs.Arguments.{key_ops, key_number, selector_wait, selector_told, on_group, argument_words}
+use Rattle.nio_event.specs.Arguments.{attachment_words, elapsed_words, mode_word, waiting_words}
 use Rattle.nio_event.specs.Calls.{call_words}
 use Rattle.nio_event.specs.CallWords.{arguments, call_word, call_word_text}
 use Rattle.nio_event.specs.GroupCalls.{group_argument_words}
 use Rattle.nio_event.specs.GroupReplies.{group_reply_words}
-use Rattle.nio_event.specs.GroupWords.{finished_words, group_channel_word, group_kind_word, operation_kind_word, outcome_words}
+use Rattle.nio_event.specs.GroupWords.{finished_words, group_channel_word, group_kind_word, operation_kind_word}
+use Rattle.nio_event.specs.GroupWords.{outcome_words}
 use Rattle.nio_event.specs.Replies.{pairs_words, reply_words, why_word}
-use Rattle.nio_event.specs.Words.{bytes_word, caller_word, channel_word, hex_digit, hex_digits, key_word, kind_word, pair_word, selector_word}
+use Rattle.nio_event.specs.Words.{bytes_word, caller_word, channel_word, hex_digit, hex_digits, key_word, kind_word}
+use Rattle.nio_event.specs.Words.{pair_word, selector_word}
 use Rattle.nio_event.specs.declared.call.Call.{Call}
 use Rattle.nio_event.specs.declared.call.Waiting.{Waiting}
 use Rattle.nio_event.specs.declared.call.Waiting.TheVariants.{Now, Wait, For}
@@ -55,11 +63,13 @@ abbrev pub IsPlain : List ℕ → Type 0
 IsPlain word = All IsPlainByte word
 
 -- what holds of each plain byte holds of each byte of plain words
-pub words_weaker : (P : ℕ → Type 0) → ((b : ℕ) → IsPlainByte b → P b) → (words : List (List ℕ)) → AllByRecursion IsPlain words
+pub words_weaker : (P : ℕ → Type 0) → ((b : ℕ) → IsPlainByte b → P b) → (words : List (List ℕ))
+    → AllByRecursion IsPlain words
     → AllByRecursion (All P) words
 words_weaker P weaker words plain =
     recursion_from_All (All P) words
-    (All-weaker IsPlain (All P) (λ word. All-weaker IsPlainByte P weaker word) words (All-from_recursion IsPlain words plain))
+    (All-weaker IsPlain (All P) (λ word. All-weaker IsPlainByte P weaker word) words
+    (All-from_recursion IsPlain words plain))
 
 -- a word that computes
 
@@ -73,19 +83,24 @@ plain_where_so b e =
 
 literal : (word : List ℕ) → list_all is_plain_byte word ≡ true → IsPlain word
 literal word e =
-    All-weaker (λ b. is_plain_byte b ≡ true) IsPlainByte plain_where_so word (AllPass-from_list_all is_plain_byte word e)
+    All-weaker (λ b. is_plain_byte b ≡ true) IsPlainByte plain_where_so word
+    (AllPass-from_list_all is_plain_byte word e)
 
 -- numbers, and letters with a number
 
 digit : (d : ℕ) → d < 10 → IsInRange 48 57 (digit_glyph false d)
-digit d h = subst (λ (b : Bool). IsInRange 48 57 (if b then 48 + d else 87 + d)) (sym (lt-ltb d 10 h)) (omega arith, omega arith)
+digit d h =
+    subst (λ (b : Bool). IsInRange 48 57 (if b then 48 + d else 87 + d)) (sym (lt-ltb d 10 h))
+    (omega arith, omega arith)
 
-digits_before : (k n : ℕ) (after : List ℕ) → All (IsInRange 48 57) after → All (IsInRange 48 57) (digits_onto k 10 false n after)
+digits_before : (k n : ℕ) (after : List ℕ) → All (IsInRange 48 57) after
+    → All (IsInRange 48 57) (digits_onto k 10 false n after)
 digits_before zero n after h = h
 digits_before (suc k) n after h =
     let last = digit_glyph false (n % 10) in
     let more = All-cons (IsInRange 48 57) last after (digit (n % 10) (omega arith)) h in
-    cond_both (n / 10 == 0) (last ∷ after) (digits_onto k 10 false (n / 10) (last ∷ after)) (All (IsInRange 48 57)) (λ _. more) (λ _. digits_before k (n / 10) (last ∷ after) more)
+    cond_both (n / 10 == 0) (last ∷ after) (digits_onto k 10 false (n / 10) (last ∷ after)) (All (IsInRange 48 57))
+    (λ _. more) (λ _. digits_before k (n / 10) (last ∷ after) more)
 
 -- the bytes of a decimal number are digits, however large it is
 pub decimal_digits : (n : ℕ) → All (IsInRange 48 57) (decimal n)
@@ -94,7 +109,8 @@ decimal_digits n = digits_before 64 n [] (All-nil (IsInRange 48 57))
 
 decimal_plain : (n : ℕ) → IsPlain (decimal n)
 decimal_plain n =
-    All-weaker (IsInRange 48 57) IsPlainByte (λ b r. (omega (arith, r), omega (arith, r))) (decimal n) (decimal_digits n)
+    All-weaker (IsInRange 48 57) IsPlainByte (λ b r. (omega (arith, r), omega (arith, r))) (decimal n)
+    (decimal_digits n)
 
 pub numbered_plain : (letter n : ℕ) → IsPlainByte letter → IsPlain (letter ∷ decimal n)
 numbered_plain letter n plain = All-cons IsPlainByte letter (decimal n) plain (decimal_plain n)
@@ -121,12 +137,14 @@ key_plain k = by_form (key_form k)
     by_form (first zeroth is) = subst IsPlain (sym is) index
     by_form (later some is) =
         subst IsPlain (sym is)
-        (All-append IsPlainByte (index_word k.index) (46 ∷ decimal k.serial) index (numbered_plain 46 k.serial (omega arith, omega arith)))
+        (All-append IsPlainByte (index_word k.index) (46 ∷ decimal k.serial) index
+        (numbered_plain 46 k.serial (omega arith, omega arith)))
 
 pair_plain : (p : KeyId × ℕ) → IsPlain (pair_word p)
 pair_plain p =
     subst IsPlain (sym (pair_word_cut p))
-    (All-append IsPlainByte (key_word p.0) (58 ∷ decimal p.1) (key_plain p.0) (numbered_plain 58 p.1 (omega arith, omega arith)))
+    (All-append IsPlainByte (key_word p.0) (58 ∷ decimal p.1) (key_plain p.0)
+    (numbered_plain 58 p.1 (omega arith, omega arith)))
 
 time_plain : (ms : ℤ) → IsPlain (signed_decimal ms)
 time_plain (pos n) = decimal_plain n
@@ -136,7 +154,8 @@ time_plain (negsuc n) = numbered_plain 45 (suc n) (omega arith, omega arith)
 
 hex_digit_plain : (d : ℕ) → IsPlainByte (hex_digit d)
 hex_digit_plain d =
-    cond_both (nat_lt d 10) (48 + d) (87 + d) IsPlainByte (λ e. let small = ltb-true d 10 e in (omega arith, omega arith)) (λ _. (omega arith, omega arith))
+    cond_both (nat_lt d 10) (48 + d) (87 + d) IsPlainByte
+    (λ e. let small = ltb-true d 10 e in (omega arith, omega arith)) (λ _. (omega arith, omega arith))
 
 hex_digits_plain : (bytes : List ℕ) → IsPlain (hex_digits bytes)
 hex_digits_plain [] = All-nil IsPlainByte
@@ -173,7 +192,8 @@ pairs_plain : (pairs : List (KeyId × ℕ)) → AllByRecursion IsPlain (map pair
 pairs_plain [] = tt
 pairs_plain (p ∷ pairs) = (pair_plain p, pairs_plain pairs)
 
-told_plain : (elapsed : Bool) (pairs : List (KeyId × ℕ)) → AllByRecursion IsPlain (elapsed_words elapsed ++ map pair_word pairs)
+told_plain : (elapsed : Bool) (pairs : List (KeyId × ℕ))
+    → AllByRecursion IsPlain (elapsed_words elapsed ++ map pair_word pairs)
 told_plain true pairs = (literal (codes "elapsed") refl, pairs_plain pairs)
 told_plain false pairs = pairs_plain pairs
 
@@ -235,7 +255,8 @@ arguments_plain (on_group g) = group_arguments_plain g
 word_plain : (w : CallWord) → IsPlain (call_word_text w)
 word_plain w =
     literal (call_word_text w)
-    (found_has (λ v. list_all is_plain_byte (call_word_text v)) (λ v. bytes_eq (call_word_text v) (call_word_text w)) CALL_WORDS w refl (in_table w))
+    (found_has (λ v. list_all is_plain_byte (call_word_text v)) (λ v. bytes_eq (call_word_text v) (call_word_text w))
+    CALL_WORDS w refl (in_table w))
 
 pub call_plain : (call : Call) → AllByRecursion IsPlain (call_words call)
 call_plain call = (word_plain (call_word call), arguments_plain (arguments call))

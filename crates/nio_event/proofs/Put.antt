@@ -23,7 +23,8 @@ put_at_keeps {A = A} R f i j x new m n here = by_test ((m == i) && (n == j)) ref
         let both = and_parts (m == i) (n == j) e in
         let first : m ≡ i = eqb-true m i both.0 in
         let second : n ≡ j = eqb-true n j both.1 in
-        let there : R i j (f i j) = subst (λ (k : ℕ). R i k (f i k)) second (subst (λ (k : ℕ). R k n (f k n)) first here) in
+        let there : R i j (f i j) = subst (λ (k : ℕ). R i k (f i k)) second
+        (subst (λ (k : ℕ). R k n (f k n)) first here) in
         subst (λ (k : ℕ). R k n x) (sym first) (subst (λ (k : ℕ). R i k x) (sym second) (new there))
     by_test false e = here
 
@@ -45,12 +46,14 @@ pub put_at-same : {A : Type 0} (f : ℕ → ℕ → A) (i j : ℕ) (x : A) → p
 put_at-same f i j x = ap (λ b. cond b x (f i j)) (and_from (i == i) (j == j) (eq-eqb i i refl) (eq-eqb j j refl))
 
 -- what is put at a pair of numbers stands there
-pub put_at-there : {A : Type 0} (f : ℕ → ℕ → A) (i j : ℕ) (x : A) (m n : ℕ) → ((i == m) && (j == n)) ≡ true → put_at f i j x m n ≡ x
+pub put_at-there : {A : Type 0} (f : ℕ → ℕ → A) (i j : ℕ) (x : A) (m n : ℕ) → ((i == m) && (j == n)) ≡ true
+    → put_at f i j x m n ≡ x
 put_at-there f i j x m n here =
     let both = and_parts (i == m) (j == n) here in
     let first : i ≡ m = eqb-true i m both.0 in
     let second : j ≡ n = eqb-true j n both.1 in
-    subst (λ (k : ℕ). put_at f i j x k n ≡ x) first (subst (λ (k : ℕ). put_at f i j x i k ≡ x) second (put_at-same f i j x))
+    subst (λ (k : ℕ). put_at f i j x k n ≡ x) first
+    (subst (λ (k : ℕ). put_at f i j x i k ≡ x) second (put_at-same f i j x))
 
 -- a fact of what stands at a number in two functions stays where both new values have it
 pub put_both : {A B : Type 0} (R : ℕ → A → B → Type 0) (f : ℕ → A) (g : ℕ → B) (i : ℕ) (x : A) (y : B) → R i x y
@@ -62,7 +65,8 @@ put_both {A = A} {B = B} R f g i x y new n here = by_test (n == i) refl
     by_test false e = here
 
 -- the same at a pair of numbers; the two facts of old values may be used
-pub put_at_both : {A B : Type 0} (R : ℕ → ℕ → A → B → Type 0) (f : ℕ → ℕ → A) (g : ℕ → ℕ → B) (i j : ℕ) (x : A) (y : B) → (R i j (f i j) (g i j) → R i j x y)
+pub put_at_both : {A B : Type 0} (R : ℕ → ℕ → A → B → Type 0) (f : ℕ → ℕ → A) (g : ℕ → ℕ → B) (i j : ℕ) (x : A) (y : B)
+    → (R i j (f i j) (g i j) → R i j x y)
     → (m n : ℕ) → R m n (f m n) (g m n) → R m n (put_at f i j x m n) (put_at g i j y m n)
 put_at_both {A = A} {B = B} R f g i j x y new m n here = by_test ((m == i) && (n == j)) refl
   where
@@ -71,12 +75,14 @@ put_at_both {A = A} {B = B} R f g i j x y new m n here = by_test ((m == i) && (n
         let both = and_parts (m == i) (n == j) e in
         let first : m ≡ i = eqb-true m i both.0 in
         let second : n ≡ j = eqb-true n j both.1 in
-        let there : R i j (f i j) (g i j) = subst (λ (k : ℕ). R i k (f i k) (g i k)) second (subst (λ (k : ℕ). R k n (f k n) (g k n)) first here) in
+        let there : R i j (f i j) (g i j) = subst (λ (k : ℕ). R i k (f i k) (g i k)) second
+        (subst (λ (k : ℕ). R k n (f k n) (g k n)) first here) in
         subst (λ (k : ℕ). R k n x y) (sym first) (subst (λ (k : ℕ). R i k x y) (sym second) (new there))
     by_test false e = here
 
 -- a fact of what stands at three numbers, of which the last is changed alone
-pub put_pin_keeps : {A : Type 0} (R : ℕ → ℕ → ℕ → A → Type 0) (f : ℕ → ℕ → ℕ → A) (i j k : ℕ) (x : A) → (R i j k (f i j k) → R i j k x)
+pub put_pin_keeps : {A : Type 0} (R : ℕ → ℕ → ℕ → A → Type 0) (f : ℕ → ℕ → ℕ → A) (i j k : ℕ) (x : A)
+    → (R i j k (f i j k) → R i j k x)
     → (m n o : ℕ) → R m n o (f m n o) → R m n o (put_at f i j (put (f i j) k x) m n o)
 put_pin_keeps {A = A} R f i j k x new m n o = put_at_keeps (λ m' n' g. R m' n' o (g o)) f i j (put (f i j) k x)
     (put_keeps (R i j) (f i j) k x new o) m n

@@ -16,7 +16,8 @@ Spaceless word = All (λ b. b ≢ 32) word
 pub split_join : (word : List ℕ) (words : List (List ℕ)) → Spaceless word → AllByRecursion Spaceless words
     → slice_split (λ b. b == 32) (join_with_byte 32 (word ∷ words)) ≡ word ∷ words
 split_join word [] s all =
-    slice_split_none (λ b. b == 32) word (All-weaker (λ b. b ≢ 32) (λ b. (b == 32) ≡ false) (λ b n. ne_eqb b 32 n) word s)
+    slice_split_none (λ b. b == 32) word
+    (All-weaker (λ b. b ≢ 32) (λ b. (b == 32) ≡ false) (λ b n. ne_eqb b 32 n) word s)
 split_join word (next ∷ words) s all =
     slice_split_at (λ b. b == 32) word 32 (join_with_byte 32 (next ∷ words))
     (All-weaker (λ b. b ≢ 32) (λ b. (b == 32) ≡ false) (λ b n. ne_eqb b 32 n) word s)

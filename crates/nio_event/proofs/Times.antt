@@ -1,5 +1,6 @@
 -- Numbers of milliseconds: a minus stands before those below zero alone.
-use Rattle.std.proofs.Common.{◌≡◌, ℕ, zero, suc, ℤ, pos, negsuc, neg_ℤ, ◌≤◌, List, ◌∷◌, drop, get_or, Option, Some, None, refl, sym, ap, ◌∙◌, arith}
+use Rattle.std.proofs.Common.{◌≡◌, ℕ, zero, suc, ℤ, pos, negsuc, neg_ℤ, ◌≤◌, List, ◌∷◌, drop, get_or, Option, Some}
+use Rattle.std.proofs.Common.{None, refl, sym, ap, ◌∙◌, arith}
 use Rattle.std.specs.Fmt.{decimal, signed_decimal}
 use Rattle.std.proofs.lemmas.Fmt.{decimal_nonempty}
 use Rattle.std.proofs.lemmas.Option.{none-some, same_Some}
@@ -13,7 +14,8 @@ behind_minus : (digits : List ℕ) (r : Option ℕ) → Reads (λ n. n ≤ 92233
     → (ms : ℤ) → IsMilliseconds ms → 45 ∷ digits ≡ signed_decimal ms
     → (n : ℕ) × (ms ≡ negsuc n) × (r ≡ Some (suc n))
 behind_minus digits r read (pos m) fits e =
-    absurd (decimal_lacks m 45 (omega arith) (λ k. omega (arith, k)) 0 0 (decimal_nonempty m (omega arith)) (sym (ap (λ (t : List ℕ). get_or t 0 0) e)))
+    absurd (decimal_lacks m 45 (omega arith) (λ k. omega (arith, k)) 0 0 (decimal_nonempty m (omega arith))
+    (sym (ap (λ (t : List ℕ). get_or t 0 0) e)))
 behind_minus digits r read (negsuc m) fits e =
     (m, refl, read.only (suc m) (omega arith) (ap (drop 1) e))
 

@@ -1,5 +1,6 @@
 -- What a caller once found or did, and no step ends, stands in every later state.
-use Rattle.std.proofs.Common.{◌≡◌, ℕ, ◌==◌, ◌<◌, Bool, true, false, ◌||◌, ◌⊎◌, inl, inr, List, [], ◌∷◌, ◌++◌, refl, ap, sym, ◌∙◌, subst, eqb-true}
+use Rattle.std.proofs.Common.{◌≡◌, ℕ, ◌==◌, ◌<◌, Bool, true, false, ◌||◌, ◌⊎◌, inl, inr, List, [], ◌∷◌, ◌++◌, refl, ap}
+use Rattle.std.proofs.Common.{sym, ◌∙◌, subst, eqb-true}
 use Rattle.std.specs.Prelude.{nat_lt}
 use Rattle.std.proofs.lemmas.Bool.{and_parts, ltb-true, lt-ltb}
 use Rattle.nio_base.specs.declared.limits.Limits.{Limits}
@@ -27,17 +28,26 @@ or_right false b e = e
 -- A fact that each step keeps, and that stands after each step at which an act passes the test,
 -- stands once a caller did such an act.
 pub has_told : (l : Limits) (p : Act → Bool) (fact : State → Bool)
-    → ((past : List Event) (e : Event) → IsStep l past e → fact (state_after past) ≡ true → fact (effect (state_after past) e.caller e.act) ≡ true)
-    → ((past : List Event) (e : Event) → IsStep l past e → p e.act ≡ true → fact (effect (state_after past) e.caller e.act) ≡ true)
-    → (n : CallerNo) (events : List Event) → IsLegal l events → has p (mine n events) ≡ true → fact (state_after events) ≡ true
-has_told l p fact lasts tells n events legal = legal_induction l (λ evs. has p (mine n evs) ≡ true → fact (state_after evs) ≡ true) (λ e. absurd cc) each events legal
+    → ((past : List Event) (e : Event) → IsStep l past e → fact (state_after past) ≡ true
+    → fact (effect (state_after past) e.caller e.act) ≡ true)
+    → ((past : List Event) (e : Event) → IsStep l past e → p e.act ≡ true
+    → fact (effect (state_after past) e.caller e.act) ≡ true)
+    → (n : CallerNo) (events : List Event) → IsLegal l events → has p (mine n events) ≡ true
+    → fact (state_after events) ≡ true
+has_told l p fact lasts tells n events legal =
+    legal_induction l (λ evs. has p (mine n evs) ≡ true → fact (state_after evs) ≡ true)
+    (λ e. absurd cc) each events legal
   where
-    each : (past : List Event) (e : Event) → IsLegal l past → IsStep l past e → (has p (mine n past) ≡ true → fact (state_after past) ≡ true) → has p (mine n (past ++ e ∷ [])) ≡ true → fact (state_after (past ++ e ∷ [])) ≡ true
-    each past e legal' step before now = subst (λ st. fact st ≡ true) (sym (state_after-more past e)) (by_test (is_by n e) refl)
+    each : (past : List Event) (e : Event) → IsLegal l past → IsStep l past e
+        → (has p (mine n past) ≡ true → fact (state_after past) ≡ true) → has p (mine n (past ++ e ∷ [])) ≡ true
+        → fact (state_after (past ++ e ∷ [])) ≡ true
+    each past e legal' step before now =
+        subst (λ st. fact st ≡ true) (sym (state_after-more past e)) (by_test (is_by n e) refl)
       where
         by_test : (b : Bool) → is_by n e ≡ b → fact (effect (state_after past) e.caller e.act) ≡ true
         by_test true by =
-            let more : (has p (mine n past) || p e.act) ≡ true = sym (has-more p (mine n past) e.act) ∙ (sym (ap (has p) (mine-own n past e by)) ∙ now) in
+            let more : (has p (mine n past) || p e.act) ≡ true = sym (has-more p (mine n past) e.act)
+            ∙ (sym (ap (has p) (mine-own n past e by)) ∙ now) in
             elim (either (has p (mine n past)) (p e.act) more) [
               | inl had ↦ lasts past e step (before had)
               | inr tells' ↦ tells past e step tells'
@@ -46,7 +56,8 @@ has_told l p fact lasts tells n events legal = legal_induction l (λ evs. has p 
 
 -- ---- below the keys' mark
 
-below_tells : (st : State) (me : CallerNo) (act : Act) (s i : ℕ) → Answers st me act → finds_below s i act ≡ true → nat_lt i ((effect st me act).keys_high s) ≡ true
+below_tells : (st : State) (me : CallerNo) (act : Act) (s i : ℕ) → Answers st me act → finds_below s i act ≡ true
+    → nat_lt i ((effect st me act).keys_high s) ≡ true
 below_tells st me (LookKeys s' found) s i found_is h =
     let both = and_parts (s'.0 == s) (nat_lt i found) h in
     let same : s'.0 ≡ s = eqb-true s'.0 s both.0 in
@@ -55,7 +66,8 @@ below_tells st me (LookKeys s' found) s i found_is h =
 below_tells st me act s i found_is h = absurd (cc h)
 
 -- an index that a caller found below the mark is below it
-pub below_told : (l : Limits) (n : CallerNo) (events : List Event) (s i : ℕ) → IsLegal l events → has (finds_below s i) (mine n events) ≡ true → i < (state_after events).keys_high s
+pub below_told : (l : Limits) (n : CallerNo) (events : List Event) (s i : ℕ) → IsLegal l events
+    → has (finds_below s i) (mine n events) ≡ true → i < (state_after events).keys_high s
 below_told l n events s i legal h =
     ltb-true _ _ (has_told l (finds_below s i) (λ st. nat_lt i (st.keys_high s))
     (λ past e step before. lt-ltb _ _ (keys_high_lasts (state_after past) e.caller e.act s i (ltb-true _ _ before)))

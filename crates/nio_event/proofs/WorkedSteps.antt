@@ -1,5 +1,6 @@
 -- Each event of the worked history is a step.
-use Rattle.std.proofs.Common.{◌≡◌, ℕ, ◌<◌, true, false, Option, Some, None, List, [], ◌∷◌, ◌++◌, take, drop, append_assoc, ap, refl, sym, subst, arith, lit<, lit≤}
+use Rattle.std.proofs.Common.{◌≡◌, ℕ, ◌<◌, true, false, Option, Some, None, List, [], ◌∷◌, ◌++◌, take, drop}
+use Rattle.std.proofs.Common.{append_assoc, ap, refl, sym, subst, arith, lit<, lit≤}
 use Rattle.std.proofs.lemmas.List.{append-nil}
 use Rattle.nio_base.specs.declared.limits.Limits.{Limits}
 use Rattle.nio_event.proofs.Legal.{legal_empty, legal_more}
@@ -14,10 +15,12 @@ abbrev AreSteps : Limits → List Event → List Event → Type 0
 AreSteps l past [] = Unit {0}
 AreSteps l past (e ∷ later) = IsStep l past e × AreSteps l (past ++ e ∷ []) later
 
-legal_by_steps : (l : Limits) (past later : List Event) → IsLegal l past → AreSteps l past later → IsLegal l (past ++ later)
+legal_by_steps : (l : Limits) (past later : List Event) → IsLegal l past → AreSteps l past later
+    → IsLegal l (past ++ later)
 legal_by_steps l past [] legal steps = subst (IsLegal l) (sym (append-nil past)) legal
 legal_by_steps l past (e ∷ later) legal steps =
-    subst (IsLegal l) (append_assoc past (e ∷ []) later) (legal_by_steps l (past ++ e ∷ []) later (legal_more l past e legal steps.0) steps.1)
+    subst (IsLegal l) (append_assoc past (e ∷ []) later)
+    (legal_by_steps l (past ++ e ∷ []) later (legal_more l past e legal steps.0) steps.1)
 
 -- there is one number below 1
 below_one : (P : ℕ → Type 0) → P 0 → (n : ℕ) → n < 1 → P n
@@ -45,7 +48,13 @@ opening =
     record { by_caller = lit< tt; condition = tt; answers = refl } ▸
     record { by_caller = lit< tt; condition = tt; answers = refl } ▸
     record { by_caller = lit< tt; condition = (lit< tt, λ n below. absurd (omega arith)); answers = refl } ▸
-    record { by_caller = lit< tt; condition = (lit≤ tt, below_one (λ k. ((state_after (take 6 worked_history)).chan k).made ≡ true) refl); answers = refl } ▸
+    record {
+      by_caller = lit< tt;
+      condition =
+          (lit≤ tt, below_one (λ k. ((state_after (take 6 worked_history)).chan k).made ≡ true) refl);
+      answers =
+          refl;
+    } ▸
     record { by_caller = lit< tt; condition = tt; answers = refl } ▸
     -- it sets non-blocking mode; caller 1 finds the hold taken
     record { by_caller = lit< tt; condition = lit< tt; answers = refl } ▸
@@ -65,8 +74,17 @@ registering =
     record { by_caller = lit< tt; condition = (lit< tt, lit< tt); answers = refl } ▸
     record { by_caller = lit< tt; condition = lit< tt; answers = refl } ▸
     record { by_caller = lit< tt; condition = lit< tt; answers = refl } ▸
-    record { by_caller = lit< tt; condition = ((lit< tt, lit< tt), lit< tt, refl, λ n below. absurd (omega arith)); answers = refl } ▸
-    record { by_caller = lit< tt; condition = (lit< tt, lit≤ tt, below_one (λ k. ((state_after (take 20 worked_history)).key 0 k).claimed ≡ true) refl); answers = refl } ▸
+    record {
+      by_caller = lit< tt;
+      condition = ((lit< tt, lit< tt), lit< tt, refl, λ n below. absurd (omega arith));
+      answers = refl;
+    } ▸
+    record {
+      by_caller = lit< tt;
+      condition =
+          (lit< tt, lit≤ tt, below_one (λ k. ((state_after (take 20 worked_history)).key 0 k).claimed ≡ true) refl);
+      answers = refl;
+    } ▸
     record { by_caller = lit< tt; condition = lit< tt; answers = refl } ▸
     record { by_caller = lit< tt; condition = ((lit< tt, lit< tt), refl); answers = refl } ▸
     record { by_caller = lit< tt; condition = ((lit< tt, lit< tt), refl); answers = refl } ▸
@@ -129,7 +147,8 @@ claiming_again =
     record { by_caller = lit< tt; condition = (lit< tt, lit< tt); answers = refl } ▸
     record { by_caller = lit< tt; condition = (lit< tt, lit< tt); answers = refl } ▸
     record { by_caller = lit< tt; condition = (lit< tt, lit< tt); answers = refl } ▸
-    record { by_caller = lit< tt; condition = ((lit< tt, lit< tt), lit< tt, refl, refl, refl, lit< tt); answers = refl } ▸
+    record { by_caller = lit< tt; condition = ((lit< tt, lit< tt), lit< tt, refl, refl, refl, lit< tt); answers = refl }
+    ▸
     record { by_caller = lit< tt; condition = ((lit< tt, lit< tt), refl); answers = refl } ▸
     -- caller 1 takes its pin off: now the index is given again, to a key with serial 1
     record { by_caller = lit< tt; condition = ((lit< tt, lit< tt), refl); answers = refl } ▸
@@ -137,7 +156,8 @@ claiming_again =
     record { by_caller = lit< tt; condition = (lit< tt, lit< tt); answers = refl } ▸
     record { by_caller = lit< tt; condition = (lit< tt, lit< tt); answers = refl } ▸
     record { by_caller = lit< tt; condition = (lit< tt, lit< tt); answers = refl } ▸
-    record { by_caller = lit< tt; condition = ((lit< tt, lit< tt), lit< tt, refl, refl, refl, lit< tt); answers = refl } ▸
+    record { by_caller = lit< tt; condition = ((lit< tt, lit< tt), lit< tt, refl, refl, refl, lit< tt); answers = refl }
+    ▸
     record { by_caller = lit< tt; condition = ((lit< tt, lit< tt), refl); answers = refl } ▸
     record { by_caller = lit< tt; condition = lit< tt; answers = refl } ▸
     record { by_caller = lit< tt; condition = ((lit< tt, lit< tt), refl); answers = refl } ▸
@@ -175,7 +195,12 @@ closing =
     record { by_caller = lit< tt; condition = (lit< tt, refl); answers = refl } ▸
     record { by_caller = lit< tt; condition = (lit< tt, lit< tt); answers = refl } ▸
     record { by_caller = lit< tt; condition = (lit< tt, lit< tt); answers = refl } ▸
-    record { by_caller = lit< tt; condition = (lit< tt, refl, λ e. below_one (λ k. is_clear 0 k (mine v (take 101 worked_history)) ≡ true) refl); answers = refl } ▸
+    record {
+      by_caller = lit< tt;
+      condition =
+          (lit< tt, refl, λ e. below_one (λ k. is_clear 0 k (mine v (take 101 worked_history)) ≡ true) refl);
+      answers = refl;
+    } ▸
     record { by_caller = lit< tt; condition = (lit< tt, refl); answers = refl } ▸
     -- it closes the channel and the selector, and interrupts caller 0
     record { by_caller = lit< tt; condition = (lit< tt, refl); answers = refl } ▸
@@ -192,16 +217,21 @@ closing =
     tt
 
 -- a longer beginning is legal
-longer : (k n : ℕ) → IsLegal small_limits (take k worked_history) → NextSteps k n → IsLegal small_limits (take k worked_history ++ take n (drop k worked_history))
-longer k n legal steps = legal_by_steps small_limits (take k worked_history) (take n (drop k worked_history)) legal steps
+longer : (k n : ℕ) → IsLegal small_limits (take k worked_history) → NextSteps k n
+    → IsLegal small_limits (take k worked_history ++ take n (drop k worked_history))
+longer k n legal steps =
+    legal_by_steps small_limits (take k worked_history) (take n (drop k worked_history)) legal steps
 
 pub worked_history_is_legal : WorkedHistoryIsLegal
 worked_history_is_legal =
-    let legal_opening : IsLegal small_limits (take 14 worked_history) = longer 0 14 (legal_empty small_limits) opening in
+    let legal_opening : IsLegal small_limits (take 14 worked_history) = longer 0 14
+    (legal_empty small_limits) opening in
     let legal_registering : IsLegal small_limits (take 34 worked_history) = longer 14 20 legal_opening registering in
     let legal_selecting : IsLegal small_limits (take 56 worked_history) = longer 34 22 legal_registering selecting in
-    let legal_claiming_again : IsLegal small_limits (take 85 worked_history) = longer 56 29 legal_selecting claiming_again in
-    let legal_removing_again : IsLegal small_limits (take 98 worked_history) = longer 85 13 legal_claiming_again removing_again in
+    let legal_claiming_again : IsLegal small_limits (take 85 worked_history) =
+    longer 56 29 legal_selecting claiming_again in
+    let legal_removing_again : IsLegal small_limits (take 98 worked_history) =
+    longer 85 13 legal_claiming_again removing_again in
     longer 98 16 legal_removing_again closing
 
 not_so : false ≡ true → ⊥

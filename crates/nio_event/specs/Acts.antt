@@ -3,13 +3,25 @@
 -- has entered; taking an index, putting it, claiming it again, removing its key and giving the turn also keep
 -- who took it, and whether the selection in progress has still to put it. Nothing else is changed. The lines
 -- stand in the order in which `Act` lists the kinds.
-use Rattle.std.specs.Prelude.{ℕ, suc, max, nat_lt, Bool, true, false, not, ◌&&◌, ◌||◌, if◌then◌else◌, Option, Some, None, is_some, is_none, Result, Ok, Err, bit_and, bit_or}
+use Rattle.std.specs.Prelude.{ℕ, suc, max, nat_lt, Bool, true, false, not, ◌&&◌, ◌||◌, if◌then◌else◌, Option, Some}
+use Rattle.std.specs.Prelude.{None, is_some, is_none, Result, Ok, Err, bit_and, bit_or}
 use Rattle.nio_base.specs.declared.kind.Kind.{Kind}
 use Rattle.nio_base.specs.declared.numbers.CallerNo.{CallerNo}
 use Rattle.nio_base.specs.declared.numbers.ChanNo.{ChanNo}
-use Rattle.nio_event.specs.State.{State, with_drawn, with_interrupted, with_selector, with_channels_high, with_chan, with_hold, with_noted, with_gate, with_turn, with_keys_high, with_key, with_interest, with_mark, with_note, with_pin, with_free, with_begun, with_closer, with_entered, with_taker, with_put_due, with_no_put_due, unmarked, last_serial}
+use Rattle.nio_event.specs.State.{State, with_drawn, with_interrupted, with_selector, with_channels_high, with_chan}
+use Rattle.nio_event.specs.State.{with_hold, with_noted, with_gate, with_turn, with_keys_high, with_key, with_interest}
+use Rattle.nio_event.specs.State.{with_mark, with_note, with_pin, with_free, with_begun, with_closer, with_entered}
+use Rattle.nio_event.specs.State.{with_taker, with_put_due, with_no_put_due, unmarked, last_serial}
 use Rattle.nio_event.specs.declared.act.Act.{Act}
-use Rattle.nio_event.specs.declared.act.Act.TheVariants.{DrawBit, MakeSelector, LookSelectors, Wake, LookGate, SetInterrupt, TakeInterrupt, LookInterrupt, LookKey, CancelKey, LookInterest, SwapInterest, OrInterest, AndInterest, SwapNote, LookNote, MakeChannel, LookChannel, Claim, RaiseKeys, LookKeys, Publish, LookReg, Enrol, TakeTurn, BeginLook, GiveTurn, Remove, LookMark, Mark, UnselectBit, EndWake, LookChannels, RaiseChannels, TryHoldBit, Release, SetMode, CloseBit, ShutBit, Enter, Pin, Unpin, ClearMark, ClaimAgain, LookFree, PutFree, TakeFree}
+use Rattle.nio_event.specs.declared.act.Act.TheVariants.{DrawBit, MakeSelector, LookSelectors, Wake, LookGate}
+use Rattle.nio_event.specs.declared.act.Act.TheVariants.{SetInterrupt, TakeInterrupt, LookInterrupt, LookKey, CancelKey}
+use Rattle.nio_event.specs.declared.act.Act.TheVariants.{LookInterest, SwapInterest, OrInterest, AndInterest, SwapNote}
+use Rattle.nio_event.specs.declared.act.Act.TheVariants.{LookNote, MakeChannel, LookChannel, Claim, RaiseKeys, LookKeys}
+use Rattle.nio_event.specs.declared.act.Act.TheVariants.{Publish, LookReg, Enrol, TakeTurn, BeginLook, GiveTurn, Remove}
+use Rattle.nio_event.specs.declared.act.Act.TheVariants.{LookMark, Mark, UnselectBit, EndWake, LookChannels}
+use Rattle.nio_event.specs.declared.act.Act.TheVariants.{RaiseChannels, TryHoldBit, Release, SetMode, CloseBit, ShutBit}
+use Rattle.nio_event.specs.declared.act.Act.TheVariants.{Enter, Pin, Unpin, ClearMark, ClaimAgain, LookFree, PutFree}
+use Rattle.nio_event.specs.declared.act.Act.TheVariants.{TakeFree}
 use Rattle.nio_event.specs.declared.found.Chan.{Chan}
 use Rattle.nio_event.specs.declared.found.Mark.{Mark as KeyMark}
 use Rattle.nio_event.specs.declared.found.Stage.{Stage}

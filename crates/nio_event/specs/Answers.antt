@@ -1,13 +1,29 @@
 -- What each kind of step finds in the state. The lines stand in the order in which `Act` lists the
 -- kinds.
-use Rattle.std.specs.Prelude.{◌≡◌, ℕ, zero, suc, ◌+◌, ◌*◌, ◌^◌, not, bit_or, ◌==◌, Bool, ◌&&◌, if◌then◌else◌, Result, Ok, Err}
+use Rattle.std.specs.Prelude.{◌≡◌, ℕ, zero, suc, ◌+◌, ◌*◌, ◌^◌, not, bit_or, ◌==◌, Bool, ◌&&◌, if◌then◌else◌, Result}
+use Rattle.std.specs.Prelude.{Ok, Err}
 use Rattle.std.specs.Bool.{beq}
 use Rattle.nio_base.specs.declared.numbers.CallerNo.{CallerNo}
 use Rattle.nio_event.specs.State.{State}
-use Rattle.nio_event.specs.Questions.{Question, draw_bit, make_selector, look_selectors, wake, look_gate, set_interrupt, take_interrupt, look_interrupt, look_key, cancel_key, look_interest, swap_interest, or_interest, and_interest, swap_note, look_note, make_channel, look_channel, claim, raise_keys, look_keys, publish, look_reg, enrol, take_turn, begin_look, give_turn, remove, look_mark, mark, unselect_bit, end_wake, look_channels, raise_channels, try_hold_bit, release, set_mode, close_bit, shut_bit, enter, pin, unpin, clear_mark, claim_again, look_free, put_free, take_free}
+use Rattle.nio_event.specs.Questions.{Question, draw_bit, make_selector, look_selectors, wake, look_gate, set_interrupt}
+use Rattle.nio_event.specs.Questions.{take_interrupt, look_interrupt, look_key, cancel_key, look_interest}
+use Rattle.nio_event.specs.Questions.{swap_interest, or_interest, and_interest, swap_note, look_note, make_channel}
+use Rattle.nio_event.specs.Questions.{look_channel, claim, raise_keys, look_keys, publish, look_reg, enrol, take_turn}
+use Rattle.nio_event.specs.Questions.{begin_look, give_turn, remove, look_mark, mark, unselect_bit, end_wake}
+use Rattle.nio_event.specs.Questions.{look_channels, raise_channels, try_hold_bit, release, set_mode, close_bit}
+use Rattle.nio_event.specs.Questions.{shut_bit, enter, pin, unpin, clear_mark, claim_again, look_free, put_free}
+use Rattle.nio_event.specs.Questions.{take_free}
 use Rattle.nio_event.specs.Questions.{Answer, question_of, answer_of}
 use Rattle.nio_event.specs.declared.act.Act.{Act}
-use Rattle.nio_event.specs.declared.act.Act.TheVariants.{DrawBit, MakeSelector, LookSelectors, Wake, LookGate, SetInterrupt, TakeInterrupt, LookInterrupt, LookKey, CancelKey, LookInterest, SwapInterest, OrInterest, AndInterest, SwapNote, LookNote, MakeChannel, LookChannel, Claim, RaiseKeys, LookKeys, Publish, LookReg, Enrol, TakeTurn, BeginLook, GiveTurn, Remove, LookMark, Mark, UnselectBit, EndWake, LookChannels, RaiseChannels, TryHoldBit, Release, SetMode, CloseBit, ShutBit, Enter, Pin, Unpin, ClearMark, ClaimAgain, LookFree, PutFree, TakeFree}
+use Rattle.nio_event.specs.declared.act.Act.TheVariants.{DrawBit, MakeSelector, LookSelectors, Wake, LookGate}
+use Rattle.nio_event.specs.declared.act.Act.TheVariants.{SetInterrupt, TakeInterrupt, LookInterrupt, LookKey, CancelKey}
+use Rattle.nio_event.specs.declared.act.Act.TheVariants.{LookInterest, SwapInterest, OrInterest, AndInterest, SwapNote}
+use Rattle.nio_event.specs.declared.act.Act.TheVariants.{LookNote, MakeChannel, LookChannel, Claim, RaiseKeys, LookKeys}
+use Rattle.nio_event.specs.declared.act.Act.TheVariants.{Publish, LookReg, Enrol, TakeTurn, BeginLook, GiveTurn, Remove}
+use Rattle.nio_event.specs.declared.act.Act.TheVariants.{LookMark, Mark, UnselectBit, EndWake, LookChannels}
+use Rattle.nio_event.specs.declared.act.Act.TheVariants.{RaiseChannels, TryHoldBit, Release, SetMode, CloseBit, ShutBit}
+use Rattle.nio_event.specs.declared.act.Act.TheVariants.{Enter, Pin, Unpin, ClearMark, ClaimAgain, LookFree, PutFree}
+use Rattle.nio_event.specs.declared.act.Act.TheVariants.{TakeFree}
 use Rattle.nio_event.specs.declared.found.Mark.{Mark as KeyMark}
 
 -- the number whose bit k is set where `test` passes at k, for each k below n

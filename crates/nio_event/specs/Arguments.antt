@@ -1,5 +1,6 @@
 -- The arguments of calls: the shapes that they may have, and for each its words and its ranges.
-use Rattle.std.specs.Prelude.{◌≢◌, ℕ, ◌<◌, ◌≤◌, ℤ, nat_abs, ◌^◌, ⊤, Bool, true, false, Option, None, Some, List, [], ◌∷◌, ◌++◌, length, map, codes, All, Any}
+use Rattle.std.specs.Prelude.{◌≢◌, ℕ, ◌<◌, ◌≤◌, ℤ, nat_abs, ◌^◌, ⊤, Bool, true, false, Option, None, Some, List, []}
+use Rattle.std.specs.Prelude.{◌∷◌, ◌++◌, length, map, codes, All, Any}
 use Rattle.std.specs.Fmt.{decimal, signed_decimal}
 use Rattle.std.specs.List.{AllPairs}
 use Rattle.nio_base.specs.declared.kind.Kind.{Kind}
@@ -9,7 +10,8 @@ use Rattle.nio_base.specs.declared.numbers.KeyId.{KeyId}
 use Rattle.nio_base.specs.declared.numbers.SelNo.{SelNo}
 use Rattle.nio_event.specs.GroupCalls.{IsGroupCall, group_argument_words}
 use Rattle.nio_event.specs.Reading.{Reads}
-use Rattle.nio_event.specs.Words.{IsNumber, caller_word, selector_word, bytes_word, channel_word, key_word, kind_word, pair_word}
+use Rattle.nio_event.specs.Words.{IsNumber, caller_word, selector_word, bytes_word, channel_word, key_word, kind_word}
+use Rattle.nio_event.specs.Words.{pair_word}
 use Rattle.nio_event.specs.declared.call.Waiting.{Waiting}
 use Rattle.nio_event.specs.declared.call.Waiting.TheVariants.{Now, Wait, For}
 use Rattle.nio_event.specs.declared.group_call.GroupCall.{GroupCall}

@@ -1,6 +1,8 @@
 -- A call is a word and its arguments.
 use Rattle.std.specs.Prelude.{ℕ, List, codes}
-use Rattle.nio_event.specs.Arguments.{Arguments, nothing, one_caller, one_selector, one_channel, one_kind, channel_mode, channel_selector, channel_bytes, channel_count, registration, selector_key, key_ops, key_number, selector_wait, selector_told, on_group}
+use Rattle.nio_event.specs.Arguments.{Arguments, nothing, one_caller, one_selector, one_channel, one_kind, channel_mode}
+use Rattle.nio_event.specs.Arguments.{channel_selector, channel_bytes, channel_count, registration, selector_key}
+use Rattle.nio_event.specs.Arguments.{key_ops, key_number, selector_wait, selector_told, on_group}
 use Rattle.nio_event.specs.GroupCalls.{group_word, group_word_text}
 use Rattle.nio_event.specs.declared.call.Call.{Call}
 use Rattle.nio_event.specs.declared.call.Call.TheVariants as call

@@ -10,16 +10,26 @@
 -- Read in the caller's own acts: its claim of an index, while it has the pin of that claim, and whether it
 -- published the key since; what it found under its present hold, among it that a noted key is outside the
 -- key set; what it found of an index since it took it; what a closer found since it entered.
-use Rattle.std.specs.Prelude.{◌≡◌, ℕ, ◌==◌, ◌<◌, ◌≤◌, ◌*◌, Bool, false, not, ◌&&◌, ◌||◌, Option, Some, None, List, IsTrue, ⊤}
+use Rattle.std.specs.Prelude.{◌≡◌, ℕ, ◌==◌, ◌<◌, ◌≤◌, ◌*◌, Bool, false, not, ◌&&◌, ◌||◌, Option, Some, None, List}
+use Rattle.std.specs.Prelude.{IsTrue, ⊤}
 use Rattle.nio_base.specs.declared.limits.Limits.{Limits}
 use Rattle.nio_base.specs.declared.numbers.CallerNo.{CallerNo}
 use Rattle.nio_base.specs.declared.numbers.ChanNo.{ChanNo}
 use Rattle.nio_base.specs.declared.numbers.SelNo.{SelNo}
-use Rattle.nio_event.specs.OwnEvents.{OwnClaim, has, last, under, since_entered, since_taken, stage_found, finds_unblocked, finds_below, own_claim, is_unpublished, is_clear}
+use Rattle.nio_event.specs.OwnEvents.{OwnClaim, has, last, under, since_entered, since_taken, stage_found}
+use Rattle.nio_event.specs.OwnEvents.{finds_unblocked, finds_below, own_claim, is_unpublished, is_clear}
 use Rattle.nio_event.specs.Sets.{in_cancelled_set}
 use Rattle.nio_event.specs.State.{State, last_serial}
 use Rattle.nio_event.specs.declared.act.Act.{Act}
-use Rattle.nio_event.specs.declared.act.Act.TheVariants.{DrawBit, MakeSelector, LookSelectors, Wake, LookGate, SetInterrupt, TakeInterrupt, LookInterrupt, LookKey, CancelKey, LookInterest, SwapInterest, OrInterest, AndInterest, SwapNote, LookNote, MakeChannel, LookChannel, Claim, RaiseKeys, LookKeys, Publish, LookReg, Enrol, TakeTurn, BeginLook, GiveTurn, Remove, LookMark, Mark, UnselectBit, EndWake, LookChannels, RaiseChannels, TryHoldBit, Release, SetMode, CloseBit, ShutBit, Enter, Pin, Unpin, ClearMark, ClaimAgain, LookFree, PutFree, TakeFree}
+use Rattle.nio_event.specs.declared.act.Act.TheVariants.{DrawBit, MakeSelector, LookSelectors, Wake, LookGate}
+use Rattle.nio_event.specs.declared.act.Act.TheVariants.{SetInterrupt, TakeInterrupt, LookInterrupt, LookKey, CancelKey}
+use Rattle.nio_event.specs.declared.act.Act.TheVariants.{LookInterest, SwapInterest, OrInterest, AndInterest, SwapNote}
+use Rattle.nio_event.specs.declared.act.Act.TheVariants.{LookNote, MakeChannel, LookChannel, Claim, RaiseKeys, LookKeys}
+use Rattle.nio_event.specs.declared.act.Act.TheVariants.{Publish, LookReg, Enrol, TakeTurn, BeginLook, GiveTurn, Remove}
+use Rattle.nio_event.specs.declared.act.Act.TheVariants.{LookMark, Mark, UnselectBit, EndWake, LookChannels}
+use Rattle.nio_event.specs.declared.act.Act.TheVariants.{RaiseChannels, TryHoldBit, Release, SetMode, CloseBit, ShutBit}
+use Rattle.nio_event.specs.declared.act.Act.TheVariants.{Enter, Pin, Unpin, ClearMark, ClaimAgain, LookFree, PutFree}
+use Rattle.nio_event.specs.declared.act.Act.TheVariants.{TakeFree}
 
 -- ---- the numbers: below the limit, whether there is such a thing or not
 
@@ -146,7 +156,8 @@ Condition l own st me (LookReg c s found) = IsChannel l c × IsSelector l s
 -- the caller claimed i for c with this serial, still has the pin of that claim, and holds c; the key that was
 -- noted till now, if any, it found outside the key set
 Condition l own st me (Enrol c s i serial found) =
-    IsChannel l c × IsKey l s i × (own_claim s.0 i own ≡ Some (record { channel = c; serial = serial })) × IsTrue (holds st me c)
+    IsChannel l c × IsKey l s i × (own_claim s.0 i own ≡ Some (record { channel = c; serial = serial }))
+    × IsTrue (holds st me c)
     × IsTrue (is_clear c.0 s.0 own)
 Condition l own st me (TakeTurn s found) = IsSelector l s
 -- the caller has the turn
@@ -155,7 +166,8 @@ Condition l own st me (BeginLook s found) = IsSelector l s × IsTrue (has_turn s
 Condition l own st me (GiveTurn s) = IsSelector l s × IsTrue (has_turn st me s)
 -- either the caller has begun on s and the key is in the cancelled set, or it has entered s and found i below
 -- its mark
-Condition l own st me (Remove s i found) = IsKey l s i × IsTrue (may_remove_cancelled st me s i || may_clear_out st own me s i)
+Condition l own st me (Remove s i found) =
+    IsKey l s i × IsTrue (may_remove_cancelled st me s i || may_clear_out st own me s i)
 -- the caller has a pin on i, or has begun on s
 Condition l own st me (LookMark s i found) = IsKey l s i × IsTrue (has_pin st me s i || has_begun st me s)
 -- the caller has begun on s; what is told isn't empty
@@ -189,7 +201,8 @@ Condition l own st me (ClearMark s i found) = IsKey l s i × IsTrue (is_unpublis
 -- the caller holds c and has taken i; `from` is what it found of i since it took it, with a serial below the
 -- last
 Condition l own st me (ClaimAgain s i c from found) =
-    IsKey l s i × IsChannel l c × IsTrue (holds st me c) × IsTrue (has_taken st me s i) × (last (stage_found s.0 i) (since_taken s.0 i own) ≡ Some from)
+    IsKey l s i × IsChannel l c × IsTrue (holds st me c) × IsTrue (has_taken st me s i)
+    × (last (stage_found s.0 i) (since_taken s.0 i own) ≡ Some from)
     × (from.serial < last_serial)
 -- there are indexes in these 64
 Condition l own st me (LookFree s j found) = IsSelector l s × (64 * j < l.keys)

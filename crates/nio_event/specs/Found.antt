@@ -6,11 +6,21 @@ use Rattle.nio_base.specs.declared.numbers.CallerNo.{CallerNo}
 use Rattle.nio_event.specs.Acts.{effect}
 use Rattle.nio_event.specs.Answers.{Answers}
 use Rattle.nio_event.specs.Histories.{state_after, event_of, mine, IsStep, IsLegal, HistoryClause}
-use Rattle.nio_event.specs.Permanent.{PermanentFact, selector_made, selector_shut, channel_made, channel_closed, index_claimed, key_claimed, key_published, key_cancelled, key_removed, below_keys_high, below_channels_high, stands}
+use Rattle.nio_event.specs.Permanent.{PermanentFact, selector_made, selector_shut, channel_made, channel_closed}
+use Rattle.nio_event.specs.Permanent.{index_claimed, key_claimed, key_published, key_cancelled, key_removed}
+use Rattle.nio_event.specs.Permanent.{below_keys_high, below_channels_high, stands}
 use Rattle.nio_event.specs.OwnEvents.{has}
 use Rattle.nio_event.specs.Sets.{was_claimed, was_published, was_cancelled, was_removed}
 use Rattle.nio_event.specs.declared.act.Act.{Act}
-use Rattle.nio_event.specs.declared.act.Act.TheVariants.{DrawBit, MakeSelector, LookSelectors, Wake, LookGate, SetInterrupt, TakeInterrupt, LookInterrupt, LookKey, CancelKey, LookInterest, SwapInterest, OrInterest, AndInterest, SwapNote, LookNote, MakeChannel, LookChannel, Claim, RaiseKeys, LookKeys, Publish, LookReg, Enrol, TakeTurn, BeginLook, GiveTurn, Remove, LookMark, Mark, UnselectBit, EndWake, LookChannels, RaiseChannels, TryHoldBit, Release, SetMode, CloseBit, ShutBit, Enter, Pin, Unpin, ClearMark, ClaimAgain, LookFree, PutFree, TakeFree}
+use Rattle.nio_event.specs.declared.act.Act.TheVariants.{DrawBit, MakeSelector, LookSelectors, Wake, LookGate}
+use Rattle.nio_event.specs.declared.act.Act.TheVariants.{SetInterrupt, TakeInterrupt, LookInterrupt, LookKey, CancelKey}
+use Rattle.nio_event.specs.declared.act.Act.TheVariants.{LookInterest, SwapInterest, OrInterest, AndInterest, SwapNote}
+use Rattle.nio_event.specs.declared.act.Act.TheVariants.{LookNote, MakeChannel, LookChannel, Claim, RaiseKeys, LookKeys}
+use Rattle.nio_event.specs.declared.act.Act.TheVariants.{Publish, LookReg, Enrol, TakeTurn, BeginLook, GiveTurn, Remove}
+use Rattle.nio_event.specs.declared.act.Act.TheVariants.{LookMark, Mark, UnselectBit, EndWake, LookChannels}
+use Rattle.nio_event.specs.declared.act.Act.TheVariants.{RaiseChannels, TryHoldBit, Release, SetMode, CloseBit, ShutBit}
+use Rattle.nio_event.specs.declared.act.Act.TheVariants.{Enter, Pin, Unpin, ClearMark, ClaimAgain, LookFree, PutFree}
+use Rattle.nio_event.specs.declared.act.Act.TheVariants.{TakeFree}
 use Rattle.nio_event.specs.declared.event.Event.{Event}
 use Rattle.nio_event.specs.declared.found.Chan.{Chan}
 use Rattle.nio_event.specs.declared.found.GateWord.{GateWord}
@@ -20,7 +30,8 @@ use Rattle.nio_event.specs.declared.found.Stage.{Stage}
 
 -- one step of `me`, on a pass that holds the numbers `Holds`: between what the pass had seen and the step
 -- there are only events of callers that the pass doesn't hold
-pub record Leaves (l : Limits) (Holds : CallerNo → Type 0) (me : CallerNo) (act : Act) (before after : List Event) : Type 0 where
+pub record Leaves (l : Limits) (Holds : CallerNo → Type 0) (me : CallerNo) (act : Act)
+    (before after : List Event) : Type 0 where
   pub between : List Event
   pub parts : after ≡ before ++ (between ++ event_of me act ∷ [])
   pub own : mine me between ≡ []
@@ -33,7 +44,8 @@ pub record Leaves (l : Limits) (Holds : CallerNo → Type 0) (me : CallerNo) (ac
 -- on a pass that holds the numbers that pass the test `held`
 abbrev pub StepsLeave : Type 0
 StepsLeave = (l : Limits) (held : CallerNo → Bool) (me : CallerNo) (act : Act) (before after : List Event)
-    → HistoryClause l (λ n. IsTrue (held n)) me (act ∷ []) before after → Leaves l (λ n. IsTrue (held n)) me act before after
+    → HistoryClause l (λ n. IsTrue (held n)) me (act ∷ []) before after
+    → Leaves l (λ n. IsTrue (held n)) me act before after
 
 -- ---- what a look finds
 
@@ -89,7 +101,8 @@ is_look (TakeFree s i found) = false
 
 -- just after a look what it found is what the state gives
 abbrev pub LooksTell : Type 0
-LooksTell = (l : Limits) (me : CallerNo) (act : Act) (past later : List Event) → IsLegal l (past ++ event_of me act ∷ later)
+LooksTell = (l : Limits) (me : CallerNo) (act : Act) (past later : List Event)
+    → IsLegal l (past ++ event_of me act ∷ later)
     → IsTrue (is_look act) → Answers (state_after (past ++ event_of me act ∷ [])) me act
 
 -- ---- what is permanent, by what a step finds

@@ -3,7 +3,8 @@ use Rattle.std.specs.Prelude.{◌≡◌, ℕ, ⊤, List, [], ◌∷◌, Option, 
 use Rattle.std.specs.Fmt.{decimal}
 use Rattle.nio_base.specs.declared.group.Outcome.{Outcome}
 use Rattle.nio_base.specs.declared.group.Outcome.TheVariants as outcome
-use Rattle.nio_event.specs.GroupWords.{group_channel_word, operation_word, group_kind_word, operation_kind_word, outcome_words}
+use Rattle.nio_event.specs.GroupWords.{group_channel_word, operation_word, group_kind_word, operation_kind_word}
+use Rattle.nio_event.specs.GroupWords.{outcome_words}
 use Rattle.nio_event.specs.Reading.{Reads}
 use Rattle.nio_event.specs.Words.{IsNumber}
 use Rattle.nio_event.specs.declared.group_call.GroupCall.{GroupCall}

@@ -1,6 +1,7 @@
 -- Histories: lists of events, oldest first. The state that a history leaves, which event is a step
 -- from it, which histories are legal, and what a caller's pass sees grow.
-use Rattle.std.specs.Prelude.{◌≡◌, ◌≢◌, ◌==◌, Bool, true, IsTrue, Option, Some, None, option_map, List, [], ◌∷◌, ◌++◌, map, filter, fold}
+use Rattle.std.specs.Prelude.{◌≡◌, ◌≢◌, ◌==◌, Bool, true, IsTrue, Option, Some, None, option_map, List, [], ◌∷◌, ◌++◌}
+use Rattle.std.specs.Prelude.{map, filter, fold}
 use mathlib.Core.List.{IsPrefix}
 use Rattle.nio_base.specs.declared.limits.Limits.{Limits}
 use Rattle.nio_base.specs.declared.numbers.CallerNo.{CallerNo}
@@ -51,7 +52,8 @@ EndsWith me before (act ∷ acts) after = last_of after ≡ option_map (event_of
 -- The history clause of a call of `me` that did these acts, on a pass that holds the numbers
 -- `Holds`: what the pass has seen went on, `me` has these acts more, and no other number that the
 -- pass holds has any.
-pub record HistoryClause (l : Limits) (Holds : CallerNo → Type 0) (me : CallerNo) (acts : List Act) (before after : List Event) : Type 0 where
+pub record HistoryClause (l : Limits) (Holds : CallerNo → Type 0) (me : CallerNo) (acts : List Act)
+    (before after : List Event) : Type 0 where
   pub legal : IsLegal l after
   pub goes_on : IsPrefix before after
   pub own : mine me after ≡ mine me before ++ acts
@@ -60,7 +62,8 @@ pub record HistoryClause (l : Limits) (Holds : CallerNo → Type 0) (me : Caller
 
 -- A draw that found its number drawn makes no event: what the pass has seen went on, and no number
 -- that it holds has any act more.
-pub record FindsDrawn (l : Limits) (Holds : CallerNo → Type 0) (number : CallerNo) (before after : List Event) : Type 0 where
+pub record FindsDrawn (l : Limits) (Holds : CallerNo → Type 0) (number : CallerNo)
+    (before after : List Event) : Type 0 where
   pub legal : IsLegal l after
   pub goes_on : IsPrefix before after
   pub drawn : IsTrue ((state_after after).drawn number.0)

@@ -42,7 +42,8 @@ NotedStays = (l : Limits) (n : CallerNo) (c : ChanNo) (before later : List Event
 
 -- the key that the caller last found noted for the channel, or noted itself, is noted there
 abbrev pub FoundNotedStays : Type 0
-FoundNotedStays = (l : Limits) (n : CallerNo) (c : ChanNo) (before later : List Event) → Keeps l n (the_hold c) before later
+FoundNotedStays = (l : Limits) (n : CallerNo) (c : ChanNo) (before later : List Event)
+    → Keeps l n (the_hold c) before later
     → (s : SelNo) (noted : Option KeyId) → last (noted_found c.0 s.0) (mine n later) ≡ Some noted
     → (state_after (before ++ later)).noted c.0 s.0 ≡ noted
 
@@ -50,7 +51,8 @@ FoundNotedStays = (l : Limits) (n : CallerNo) (c : ChanNo) (before later : List 
 -- unless it is by then a key of another channel: an index is claimed for a channel, and its key published,
 -- only by a caller that holds the channel.
 abbrev pub OutsideStays : Type 0
-OutsideStays = (l : Limits) (n : CallerNo) (c : ChanNo) (before later : List Event) → IsFit l → Keeps l n (the_hold c) before later
+OutsideStays = (l : Limits) (n : CallerNo) (c : ChanNo) (before later : List Event) → IsFit l
+    → Keeps l n (the_hold c) before later
     → (s : SelNo) (k : KeyId) → IsFalse (has (publishes s.0 k.index) (mine n later))
     → IsFalse (is_in_key_set ((state_after before).key s.0 k.index) k.serial)
     → ((state_after (before ++ later)).key s.0 k.index).chan ≡ c
@@ -59,16 +61,20 @@ OutsideStays = (l : Limits) (n : CallerNo) (c : ChanNo) (before later : List Eve
 -- where the caller knows from its own acts meanwhile that no key of the key set is noted for the channel in a
 -- selector, none is
 abbrev pub FoundClearStays : Type 0
-FoundClearStays = (l : Limits) (n : CallerNo) (c : ChanNo) (before later : List Event) → IsFit l → Keeps l n (the_hold c) before later
+FoundClearStays = (l : Limits) (n : CallerNo) (c : ChanNo) (before later : List Event) → IsFit l
+    → Keeps l n (the_hold c) before later
     → (s : SelNo) → IsTrue (is_clear_by c.0 s.0 (mine n later) (last (noted_found c.0 s.0) (mine n later)))
-    → ForSome ((state_after (before ++ later)).noted c.0 s.0) (λ k. IsFalse (is_in_key_set ((state_after (before ++ later)).key s.0 k.index) k.serial))
+    → ForSome ((state_after (before ++ later)).noted c.0 s.0)
+    (λ k. IsFalse (is_in_key_set ((state_after (before ++ later)).key s.0 k.index) k.serial))
 
 -- Where `is_clear` is true of the caller's acts under its present hold, no key of the key set is noted.
 -- `is_clear` is the condition of noting a key, and of blocking mode
 abbrev pub ClearIsTrue : Type 0
-ClearIsTrue = (l : Limits) (n : CallerNo) (c : ChanNo) (events : List Event) → IsFit l → IsLegal l events → IsTrue (holds (state_after events) n c)
+ClearIsTrue = (l : Limits) (n : CallerNo) (c : ChanNo) (events : List Event) → IsFit l → IsLegal l events
+    → IsTrue (holds (state_after events) n c)
     → (s : SelNo) → IsTrue (is_clear c.0 s.0 (mine n events))
-    → ForSome ((state_after events).noted c.0 s.0) (λ k. IsFalse (is_in_key_set ((state_after events).key s.0 k.index) k.serial))
+    → ForSome ((state_after events).noted c.0 s.0)
+    (λ k. IsFalse (is_in_key_set ((state_after events).key s.0 k.index) k.serial))
 
 -- ---- while a caller selects
 
@@ -84,12 +90,14 @@ ends_wakeup s _ = false
 
 -- all marks and removals of keys of the selector, and all ends of its wakeup, are the caller's own
 abbrev pub SelectsAlone : Type 0
-SelectsAlone = (l : Limits) (n : CallerNo) (s : SelNo) (before between : List Event) (e : Event) → Keeps l n (a_selection s) before (between ++ e ∷ [])
+SelectsAlone = (l : Limits) (n : CallerNo) (s : SelNo) (before between : List Event) (e : Event)
+    → Keeps l n (a_selection s) before (between ++ e ∷ [])
     → IsTrue (selects_on s.0 e.act) → e.caller ≡ n
 
 -- a key stays in the key set where the caller doesn't remove it
 abbrev pub KeySetStays : Type 0
-KeySetStays = (l : Limits) (n : CallerNo) (s : SelNo) (before later : List Event) → Keeps l n (a_selection s) before later
+KeySetStays = (l : Limits) (n : CallerNo) (s : SelNo) (before later : List Event)
+    → Keeps l n (a_selection s) before later
     → (k : KeyId) → IsFalse (has (removes s.0 k.index) (mine n later))
     → IsTrue (is_in_key_set ((state_after before).key s.0 k.index) k.serial)
     → IsTrue (is_in_key_set ((state_after (before ++ later)).key s.0 k.index) k.serial)
@@ -101,13 +109,16 @@ pub record IsAtMostUnselected (was now : KeyMark) : Type 0 where
 
 -- no more than that happens to the mark of a key of the key set where the caller neither marks nor removes it
 abbrev pub MarksStay : Type 0
-MarksStay = (l : Limits) (n : CallerNo) (s : SelNo) (before later : List Event) → IsFit l → Keeps l n (a_selection s) before later
-    → (k : KeyId) → IsFalse (has (removes s.0 k.index) (mine n later)) → IsFalse (has (marks s.0 k.index) (mine n later))
+MarksStay = (l : Limits) (n : CallerNo) (s : SelNo) (before later : List Event) → IsFit l
+    → Keeps l n (a_selection s) before later
+    → (k : KeyId) → IsFalse (has (removes s.0 k.index) (mine n later))
+    → IsFalse (has (marks s.0 k.index) (mine n later))
     → IsTrue (is_in_key_set ((state_after before).key s.0 k.index) k.serial)
     → IsAtMostUnselected ((state_after before).mark s.0 k.index) ((state_after (before ++ later)).mark s.0 k.index)
 
 -- a pending wakeup stays pending where the caller doesn't end it
 abbrev pub WakeupStays : Type 0
-WakeupStays = (l : Limits) (n : CallerNo) (s : SelNo) (before later : List Event) → Keeps l n (a_selection s) before later
+WakeupStays = (l : Limits) (n : CallerNo) (s : SelNo) (before later : List Event)
+    → Keeps l n (a_selection s) before later
     → IsFalse (has (ends_wakeup s.0) (mine n later))
     → IsTrue ((state_after before).gate s.0).woken → IsTrue ((state_after (before ++ later)).gate s.0).woken

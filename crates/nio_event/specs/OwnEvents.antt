@@ -1,14 +1,17 @@
 -- What a caller knows from its own acts: general words over the list of its acts, oldest first, and
 -- small tests of one act. What is "found" is what a look found, of a key also what pinning its index found;
 -- of the key that is noted for a channel a caller knows too what it noted itself.
-use Rattle.std.specs.Prelude.{ℕ, suc, ◌==◌, nat_lt, Bool, true, false, not, ◌&&◌, ◌||◌, if◌then◌else◌, Option, Some, None, List, [], ◌∷◌, ◌++◌, fold, count_by}
+use Rattle.std.specs.Prelude.{ℕ, suc, ◌==◌, nat_lt, Bool, true, false, not, ◌&&◌, ◌||◌, if◌then◌else◌, Option, Some}
+use Rattle.std.specs.Prelude.{None, List, [], ◌∷◌, ◌++◌, fold, count_by}
 use Rattle.std.specs.List.{list_any}
 use Rattle.std.specs.Option.{option_or}
 use Rattle.nio_base.specs.declared.numbers.ChanNo.{ChanNo}
 use Rattle.nio_base.specs.declared.numbers.KeyId.{KeyId}
 use Rattle.nio_event.specs.Sets.{is_in_key_set}
 use Rattle.nio_event.specs.declared.act.Act.{Act}
-use Rattle.nio_event.specs.declared.act.Act.TheVariants.{LookKey, LookChannel, Claim, LookKeys, LookReg, Enrol, GiveTurn, TryHoldBit, Release, SetMode, Enter, Publish, Pin, Unpin, ClaimAgain, PutFree, TakeFree}
+use Rattle.nio_event.specs.declared.act.Act.TheVariants.{LookKey, LookChannel, Claim, LookKeys, LookReg, Enrol}
+use Rattle.nio_event.specs.declared.act.Act.TheVariants.{GiveTurn, TryHoldBit, Release, SetMode, Enter, Publish, Pin}
+use Rattle.nio_event.specs.declared.act.Act.TheVariants.{Unpin, ClaimAgain, PutFree, TakeFree}
 use Rattle.nio_event.specs.declared.found.Stage.{Stage}
 
 -- ---- general words

@@ -10,7 +10,8 @@ use Rattle.nio_base.specs.declared.numbers.KeyId.{KeyId}
 use Rattle.nio_base.specs.declared.numbers.SelNo.{SelNo}
 use Rattle.nio_event.specs.Conditions.{has_pin, has_taken, has_begun}
 use Rattle.nio_event.specs.Histories.{state_after, event_of, mine, IsLegal}
-use Rattle.nio_event.specs.OwnEvents.{OwnClaim, has, own_claim, is_unpublished, keeps_pin, keeps_taken, unpins, gives_turn}
+use Rattle.nio_event.specs.OwnEvents.{OwnClaim, has, own_claim, is_unpublished, keeps_pin, keeps_taken, unpins}
+use Rattle.nio_event.specs.OwnEvents.{gives_turn}
 use Rattle.nio_event.specs.Sets.{was_claimed, can_come_back}
 use Rattle.nio_event.specs.declared.act.Act.{Act}
 use Rattle.nio_event.specs.declared.act.Act.TheVariants.{ClaimAgain, Remove}
@@ -35,19 +36,24 @@ TakenIsOwn = (l : Limits) (n : CallerNo) (s : SelNo) (i : ℕ) (events : List Ev
 
 -- from a pin until the same caller takes it off the index keeps its key, whatever others do
 abbrev pub PinnedKeysStay : Type 0
-PinnedKeysStay = (l : Limits) (n : CallerNo) (s : SelNo) (i : ℕ) (before later : List Event) → IsFit l → IsLegal l (before ++ later)
+PinnedKeysStay = (l : Limits) (n : CallerNo) (s : SelNo) (i : ℕ) (before later : List Event) → IsFit l
+    → IsLegal l (before ++ later)
     → IsTrue (has_pin (state_after before) n s i) → IsFalse (has (unpins s.0 i) (mine n later))
     → IsSameKey ((state_after before).key s.0 i) ((state_after (before ++ later)).key s.0 i)
 
 -- an index is claimed again exactly where nobody has a pin on it
 abbrev pub ClaimsAgainWhereUnpinned : Type 0
-ClaimsAgainWhereUnpinned = (l : Limits) (me : CallerNo) (s : SelNo) (i : ℕ) (c : ChanNo) (from : Stage) (found : Bool) (past later : List Event) → IsFit l
+ClaimsAgainWhereUnpinned =
+    (l : Limits) (me : CallerNo) (s : SelNo) (i : ℕ) (c : ChanNo) (from : Stage) (found : Bool)
+    (past later : List Event) → IsFit l
     → IsLegal l (past ++ event_of me (ClaimAgain s i c from found) ∷ later)
     → found ≡ false ↔ ((n : CallerNo) → IsFalse (has_pin (state_after past) n s i))
 
 -- the stage from which it is claimed again is the one that it has; its key was published, cancelled and removed
 abbrev pub ClaimsAgainTheRemoved : Type 0
-ClaimsAgainTheRemoved = (l : Limits) (me : CallerNo) (s : SelNo) (i : ℕ) (c : ChanNo) (from : Stage) (found : Bool) (past later : List Event)
+ClaimsAgainTheRemoved =
+    (l : Limits) (me : CallerNo) (s : SelNo) (i : ℕ) (c : ChanNo) (from : Stage) (found : Bool)
+    (past later : List Event)
     → IsLegal l (past ++ event_of me (ClaimAgain s i c from found) ∷ later)
     → ((state_after past).key s.0 i ≡ from) × IsTrue (can_come_back from)
 
@@ -59,7 +65,8 @@ pub record IsOfClaim (claim : OwnClaim) (k : Stage) : Type 0 where
 
 -- while a caller has the pin of its claim, the index has the key that it claimed
 abbrev pub OwnClaimsStand : Type 0
-OwnClaimsStand = (l : Limits) (n : CallerNo) (s : SelNo) (i : ℕ) (claim : OwnClaim) (events : List Event) → IsFit l → IsLegal l events
+OwnClaimsStand = (l : Limits) (n : CallerNo) (s : SelNo) (i : ℕ) (claim : OwnClaim) (events : List Event) → IsFit l
+    → IsLegal l events
     → own_claim s.0 i (mine n events) ≡ Some claim
     → IsTrue (has_pin (state_after events) n s i) × IsOfClaim claim ((state_after events).key s.0 i)
 
@@ -70,7 +77,8 @@ UnpublishedKeysStay = (l : Limits) (n : CallerNo) (s : SelNo) (i : ℕ) (events 
 
 -- a key that is noted for a channel was claimed for it; while the index has this key, it is of this channel
 abbrev pub NotedKeysAreClaimed : Type 0
-NotedKeysAreClaimed = (l : Limits) (c : ChanNo) (s : SelNo) (k : KeyId) (events : List Event) → IsFit l → IsLegal l events
+NotedKeysAreClaimed = (l : Limits) (c : ChanNo) (s : SelNo) (k : KeyId) (events : List Event) → IsFit l
+    → IsLegal l events
     → (state_after events).noted c.0 s.0 ≡ Some k
     → IsTrue (was_claimed ((state_after events).key s.0 k.index) k.serial)
     × (((state_after events).key s.0 k.index).serial ≡ k.serial → ((state_after events).key s.0 k.index).chan ≡ c)
@@ -89,7 +97,10 @@ pub record IsKeptInSelection (was now : Stage) : Type 0 where
 -- a key that isn't removed stays and keeps its index while a caller selects and doesn't remove it itself; nor
 -- does its index become free
 abbrev pub SelectionsKeepKeys : Type 0
-SelectionsKeepKeys = (l : Limits) (n : CallerNo) (s : SelNo) (i : ℕ) (before later : List Event) → IsLegal l (before ++ later)
-    → IsTrue (has_begun (state_after before) n s) → IsFalse (has (gives_turn s.0) (mine n later)) → IsFalse (has (removes s.0 i) (mine n later))
+SelectionsKeepKeys = (l : Limits) (n : CallerNo) (s : SelNo) (i : ℕ) (before later : List Event)
+    → IsLegal l (before ++ later)
+    → IsTrue (has_begun (state_after before) n s) → IsFalse (has (gives_turn s.0) (mine n later))
+    → IsFalse (has (removes s.0 i) (mine n later))
     → IsFalse ((state_after before).key s.0 i).removed
-    → IsKeptInSelection ((state_after before).key s.0 i) ((state_after (before ++ later)).key s.0 i) × IsFalse ((state_after (before ++ later)).free s.0 i)
+    → IsKeptInSelection ((state_after before).key s.0 i) ((state_after (before ++ later)).key s.0 i)
+    × IsFalse ((state_after (before ++ later)).free s.0 i)

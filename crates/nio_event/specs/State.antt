@@ -63,7 +63,16 @@ open_gate = record { woken = false; shut = false }
 
 abbrev pub unclaimed : Stage
 unclaimed =
-    record { claimed = false; published = false; cancelled = false; removed = false; chan = record { 0 = 0 }; serial = 0 }
+    record {
+      claimed = false;
+      published = false;
+      cancelled = false;
+      removed = false;
+      chan = record {
+        0 = 0;
+      };
+      serial = 0;
+    }
 
 abbrev pub unmarked : Mark
 unmarked = record { selected = false; ready = 0 }

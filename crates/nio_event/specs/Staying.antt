@@ -15,7 +15,8 @@ use Rattle.nio_event.specs.declared.event.Event.{Event}
 
 -- each beginning of a legal history is legal
 abbrev pub BeginningsAreLegal : Type 0
-BeginningsAreLegal = (l : Limits) (before after : List Event) → IsPrefix before after → IsLegal l after → IsLegal l before
+BeginningsAreLegal = (l : Limits) (before after : List Event) → IsPrefix before after → IsLegal l after
+    → IsLegal l before
 
 -- what is permanent stands after every legal longer history
 abbrev pub FactsArePermanent : Type 0
@@ -26,7 +27,8 @@ FactsArePermanent = (l : Limits) (before after : List Event) → IsPrefix before
 abbrev pub InvalidKeysStayInvalid : Type 0
 InvalidKeysStayInvalid = (l : Limits) (before after : List Event) → IsPrefix before after → IsLegal l after
     → (s i serial : ℕ) → IsTrue (was_published ((state_after before).key s i) serial)
-    → IsFalse (is_valid_key ((state_after before).key s i) serial) → IsFalse (is_valid_key ((state_after after).key s i) serial)
+    → IsFalse (is_valid_key ((state_after before).key s i) serial)
+    → IsFalse (is_valid_key ((state_after after).key s i) serial)
 
 -- what a caller has it has after every legal longer history in which it doesn't give it back itself,
 -- whatever others do
@@ -40,7 +42,8 @@ OnlyItselfGivesBack = (l : Limits) (n : CallerNo) (before later : List Event) �
 abbrev pub ConditionsStay : Type 0
 ConditionsStay = (l : Limits) (n : CallerNo) (before after : List Event) → IsPrefix before after → IsLegal l after
     → mine n after ≡ mine n before
-    → (act : Act) → Condition l (mine n before) (state_after before) n act → Condition l (mine n after) (state_after after) n act
+    → (act : Act) → Condition l (mine n before) (state_after before) n act
+    → Condition l (mine n after) (state_after after) n act
 
 -- the state after a legal history is sound; among other things, every index below a selector's keys'
 -- mark is claimed

@@ -8,7 +8,15 @@ use Rattle.nio_event.specs.Conditions.{holds, has_begun, has_entered}
 use Rattle.nio_event.specs.Histories.{state_after, event_of, mine, IsLegal}
 use Rattle.nio_event.specs.OwnEvents.{has, under, finds_unblocked, sets_mode, gives_turn, releases}
 use Rattle.nio_event.specs.declared.act.Act.{Act}
-use Rattle.nio_event.specs.declared.act.Act.TheVariants.{DrawBit, MakeSelector, LookSelectors, Wake, LookGate, SetInterrupt, TakeInterrupt, LookInterrupt, LookKey, CancelKey, LookInterest, SwapInterest, OrInterest, AndInterest, SwapNote, LookNote, MakeChannel, LookChannel, Claim, RaiseKeys, LookKeys, Publish, LookReg, Enrol, TakeTurn, BeginLook, GiveTurn, Remove, LookMark, Mark, UnselectBit, EndWake, LookChannels, RaiseChannels, TryHoldBit, Release, SetMode, CloseBit, ShutBit, Enter, Pin, Unpin, ClearMark, ClaimAgain, LookFree, PutFree, TakeFree}
+use Rattle.nio_event.specs.declared.act.Act.TheVariants.{DrawBit, MakeSelector, LookSelectors, Wake, LookGate}
+use Rattle.nio_event.specs.declared.act.Act.TheVariants.{SetInterrupt, TakeInterrupt, LookInterrupt, LookKey, CancelKey}
+use Rattle.nio_event.specs.declared.act.Act.TheVariants.{LookInterest, SwapInterest, OrInterest, AndInterest, SwapNote}
+use Rattle.nio_event.specs.declared.act.Act.TheVariants.{LookNote, MakeChannel, LookChannel, Claim, RaiseKeys, LookKeys}
+use Rattle.nio_event.specs.declared.act.Act.TheVariants.{Publish, LookReg, Enrol, TakeTurn, BeginLook, GiveTurn, Remove}
+use Rattle.nio_event.specs.declared.act.Act.TheVariants.{LookMark, Mark, UnselectBit, EndWake, LookChannels}
+use Rattle.nio_event.specs.declared.act.Act.TheVariants.{RaiseChannels, TryHoldBit, Release, SetMode, CloseBit, ShutBit}
+use Rattle.nio_event.specs.declared.act.Act.TheVariants.{Enter, Pin, Unpin, ClearMark, ClaimAgain, LookFree, PutFree}
+use Rattle.nio_event.specs.declared.act.Act.TheVariants.{TakeFree}
 use Rattle.nio_event.specs.declared.event.Event.{Event}
 use Rattle.nio_event.specs.declared.found.GateWord.{GateWord}
 
@@ -84,7 +92,8 @@ HoldHasOneHolder = (l : Limits) (c : ChanNo) (m n : CallerNo) (past between : Li
 abbrev pub HolderKnowsMode : Type 0
 HolderKnowsMode = (l : Limits) (n : CallerNo) (c : ChanNo) (events : List Event) → IsLegal l events
     → IsTrue (holds (state_after events) n c)
-    → IsTrue (has (finds_unblocked c.0) (under c.0 (mine n events))) → IsFalse (has (sets_mode c.0) (under c.0 (mine n events)))
+    → IsTrue (has (finds_unblocked c.0) (under c.0 (mine n events)))
+    → IsFalse (has (sets_mode c.0) (under c.0 (mine n events)))
     → IsFalse ((state_after events).chan c.0).blocking
 
 -- from a caller's look that found the gate not shut until it gives its turn back, nobody else marks
@@ -98,6 +107,8 @@ OneSelectionAtATime = (l : Limits) (s : SelNo) (n : CallerNo) (found : GateWord)
 -- only a caller that has begun marks a key or ends the wakeup, and only such a caller, or the
 -- selector's closer once it has entered, removes a key
 abbrev pub OnlyWhoMaySelects : Type 0
-OnlyWhoMaySelects = (l : Limits) (s : SelNo) (past : List Event) (e : Event) (later : List Event) → IsLegal l (past ++ e ∷ later)
+OnlyWhoMaySelects = (l : Limits) (s : SelNo) (past : List Event) (e : Event) (later : List Event)
+    → IsLegal l (past ++ e ∷ later)
     → IsTrue (selects_on s.0 e.act)
-    → IsTrue (has_begun (state_after past) e.caller s || (removes_on s.0 e.act && has_entered (state_after past) e.caller s))
+    → IsTrue (has_begun (state_after past) e.caller s
+    || (removes_on s.0 e.act && has_entered (state_after past) e.caller s))

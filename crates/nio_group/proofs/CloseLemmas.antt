@@ -1,5 +1,7 @@
 -- The completions of a channel that is closed, one after another.
-use Rattle.std.proofs.Common.{◌≡◌, ◌≢◌, ℕ, ◌+◌, ◌<◌, ◌≤◌, zero, suc, true, false, eqb, List, [], ◌∷◌, ◌++◌, Option, Some, None, get_or, set, map, length, refl, sym, ap, ◌∙◌, subst, arith, inl, inr, append_assoc, get_or-set_same, get_or-set_other}
+use Rattle.std.proofs.Common.{◌≡◌, ◌≢◌, ℕ, ◌+◌, ◌<◌, ◌≤◌, zero, suc, true, false, eqb, List, [], ◌∷◌, ◌++◌, Option}
+use Rattle.std.proofs.Common.{Some, None, get_or, set, map, length, refl, sym, ap, ◌∙◌, subst, arith, inl, inr}
+use Rattle.std.proofs.Common.{append_assoc, get_or-set_same, get_or-set_other}
 use Rattle.std.proofs.lemmas.Bool.{false≢true}
 use Rattle.std.proofs.lemmas.List.{append-nil}
 use Rattle.nio_base.specs.declared.group.OpKind.{OpKind}
@@ -8,13 +10,16 @@ use Rattle.nio_base.specs.declared.group.Why.TheVariants.{AsynchronousClose}
 use Rattle.nio_group.specs.declared.operation.Stage.TheVariants.{Queued}
 use Rattle.nio_group.specs.declared.operation.Operation.{Operation}
 use Rattle.nio_group.specs.Stages.{is_pending, is_pending_on, is_pending_as, at_stage}
-use Rattle.nio_group.specs.Flight.{Flight, op_at, closed_on, pending_from, with_channel_closed, with_completed, IsPendingAs}
+use Rattle.nio_group.specs.Flight.{Flight, op_at, closed_on, pending_from, with_channel_closed, with_completed}
+use Rattle.nio_group.specs.Flight.{IsPendingAs}
 use Rattle.nio_group.proofs.TableLemmas.{by_test, same_number, other_number}
 use Rattle.std.specs.Option.{option_map}
 use Rattle.nio_group.specs.declared.pending.Pending as slots
 use Rattle.nio_group.specs.Pending.{slot_of, with_slot}
 use Rattle.nio_group.proofs.FlightLemmas.{some-within}
-use Rattle.nio_group.proofs.PendingLemmas.{kinds, pending_on-as, pending_as-on, pending-parts, pending-as-pending, not_pending-as, filled_slots, filled_slots-less, slot_of-with_same, slot_of-with_other}
+use Rattle.nio_group.proofs.PendingLemmas.{kinds, pending_on-as, pending_as-on, pending-parts, pending-as-pending}
+use Rattle.nio_group.proofs.PendingLemmas.{not_pending-as, filled_slots, filled_slots-less, slot_of-with_same}
+use Rattle.nio_group.proofs.PendingLemmas.{slot_of-with_other}
 
 -- where nothing is pending, nothing completes
 pub pending_from-none : (c k : ℕ) (xs : List (Option Operation))
@@ -110,12 +115,18 @@ pub record IsClosingStep (f : Flight) (c : ℕ) (p : slots.Pending) (n : ℕ) (o
 pub some-same : {m n : ℕ} → Some m ≡ Some n → m ≡ n
 some-same e = cc
 
-listed-step : (f : Flight) (c : ℕ) (p : slots.Pending) (n : ℕ) (op : Operation) (slot : Option Operation) (queue : List ℕ) → IsListedOn f c p → op_at f n ≡ Some op → n < length f.operations → slot_of p op.kind ≡ Some n → is_pending slot ≡ false → IsListedOn (record f { operations = set f.operations n slot; queue = queue }) c (with_slot p op.kind None)
+listed-step : (f : Flight) (c : ℕ) (p : slots.Pending) (n : ℕ) (op : Operation) (slot : Option Operation)
+    (queue : List ℕ) → IsListedOn f c p → op_at f n ≡ Some op → n < length f.operations → slot_of p op.kind ≡ Some n
+    → is_pending slot ≡ false
+    → IsListedOn (record f { operations = set f.operations n slot; queue = queue }) c (with_slot p op.kind None)
 listed-step f c p n op slot queue on is l own not_pending =
     record {
       listed = λ k m h.
           elim (kinds k op.kind) [
-            | inl same ↦ absurd (none_some m (sym (slot_of-with_same p op.kind None) ∙ subst (λ (j : OpKind). slot_of (with_slot p op.kind None) j ≡ Some m) same h))
+            | inl same ↦ absurd
+                (none_some m
+                (sym (slot_of-with_same p op.kind None)
+                ∙ subst (λ (j : OpKind). slot_of (with_slot p op.kind None) j ≡ Some m) same h))
             | inr differ ↦
                 let old = on.listed k m (sym (slot_of-with_other p op.kind k None differ) ∙ h) in
                 pending-before f.operations n slot c k m (not_n k m old differ) old
@@ -124,7 +135,8 @@ listed-step f c p n op slot queue on is l own not_pending =
           let old = pending-after f.operations n slot c k m l not_pending h in
           let has = on.all k m old.1 in
           elim (kinds k op.kind) [
-            | inl same ↦ absurd (old.0 (some-same (sym has ∙ subst (λ (j : OpKind). slot_of p j ≡ Some n) (sym same) own)))
+            | inl same ↦ absurd
+                (old.0 (some-same (sym has ∙ subst (λ (j : OpKind). slot_of p j ≡ Some n) (sym same) own)))
             | inr differ ↦ slot_of-with_other p op.kind k None differ ∙ has
           ];
     }

@@ -1,5 +1,7 @@
 -- What takes, ends of operations and closings keep.
-use Rattle.std.proofs.Common.{◌≡◌, ◌≢◌, ℕ, ◌+◌, ◌-◌, ◌<◌, ◌≤◌, zero, suc, Bool, true, false, cond, eqb, not, ◌&&◌, List, [], ◌∷◌, ◌++◌, Option, Some, None, is_some, count_by, get_or, set, map, length, refl, sym, ap, ◌∙◌, subst, arith, get_or-set_same, get_or-set_other}
+use Rattle.std.proofs.Common.{◌≡◌, ◌≢◌, ℕ, ◌+◌, ◌-◌, ◌<◌, ◌≤◌, zero, suc, Bool, true, false, cond, eqb, not, ◌&&◌, List}
+use Rattle.std.proofs.Common.{[], ◌∷◌, ◌++◌, Option, Some, None, is_some, count_by, get_or, set, map, length, refl, sym}
+use Rattle.std.proofs.Common.{ap, ◌∙◌, subst, arith, get_or-set_same, get_or-set_other}
 use Rattle.std.proofs.lemmas.Bool.{false≢true}
 use Rattle.std.proofs.lemmas.List.{length-set, length-map, get_or_read}
 use Rattle.std.proofs.lemmas.List.Sums.{sum_by-append}
@@ -11,8 +13,10 @@ use Rattle.nio_group.specs.declared.operation.Stage.TheVariants.{Pending, Queued
 use Rattle.nio_group.specs.declared.operation.Operation.{Operation}
 use Rattle.nio_group.specs.declared.limits.GroupLimits.{GroupLimits}
 use Rattle.nio_group.specs.declared.pending.Pending as slots
-use Rattle.nio_group.specs.Stages.{is_pending, is_pending_on, is_pending_as, is_queued, is_running, stage_is_pending, stage_is_queued, stage_is_running, at_stage}
-use Rattle.nio_group.specs.Flight.{Flight, op_at, IsPendingAs, flight_after_take, with_taken, with_ended, closed_on, pending_from, with_channel_closed}
+use Rattle.nio_group.specs.Stages.{is_pending, is_pending_on, is_pending_as, is_queued, is_running, stage_is_pending}
+use Rattle.nio_group.specs.Stages.{stage_is_queued, stage_is_running, at_stage}
+use Rattle.nio_group.specs.Flight.{Flight, op_at, IsPendingAs, flight_after_take, with_taken, with_ended, closed_on}
+use Rattle.nio_group.specs.Flight.{pending_from, with_channel_closed}
 use Rattle.nio_group.specs.Pending.{slot_of, nothing_pending}
 use Rattle.nio_group.specs.Group.{Group, IsLawful, channel_at, no_channel}
 use Rattle.nio_group.specs.GroupKept.{IsGroupKept, IsListed, group_of, is_open}
@@ -20,7 +24,8 @@ use Rattle.nio_group.proofs.TableLemmas.{by_test, same_number, other_number, cou
 use Rattle.nio_group.proofs.IndexLemmas.{count_by-cons}
 use Rattle.nio_group.proofs.ListLemmas.{eqb-same, eqb-other}
 use Rattle.nio_group.proofs.QueueLemmas.{QueueHolds, once_if, queue-set, queue-taken, front-queued}
-use Rattle.nio_group.proofs.PendingLemmas.{IsPendingOf, pending-parts, pending-as-pending, pending_as-on, slot_of-nothing, and-left}
+use Rattle.nio_group.proofs.PendingLemmas.{IsPendingOf, pending-parts, pending-as-pending, pending_as-on}
+use Rattle.nio_group.proofs.PendingLemmas.{slot_of-nothing, and-left}
 use Rattle.nio_group.proofs.LawfulLemmas.{IsFlightLawful, lawful-channel, lawful-operations}
 use Rattle.nio_group.proofs.GroupLemmas.{kept-channel, kept-operations}
 use Rattle.nio_group.proofs.CloseLemmas.{none_some, pending-after, pending-before}
@@ -28,7 +33,11 @@ use Rattle.nio_group.proofs.FlightLemmas.{some-within, not_queued-running}
 use Rattle.nio_group.proofs.ReportLemmas.{flight-changes}
 
 -- an operation changes from one stage to another, neither of them pending
-pub lawful-unpending : (g : Group) (n : ℕ) (slot : Option Operation) (queue : List ℕ) → IsLawful g → n < length g.flight.operations → is_pending (op_at g.flight n) ≡ false → is_pending slot ≡ false → IsFlightLawful (record g.flight { operations = set g.flight.operations n slot; queue = queue }) g.op_limit → IsLawful (record g { flight = record g.flight { operations = set g.flight.operations n slot; queue = queue } })
+pub lawful-unpending : (g : Group) (n : ℕ) (slot : Option Operation) (queue : List ℕ) → IsLawful g
+    → n < length g.flight.operations → is_pending (op_at g.flight n) ≡ false → is_pending slot ≡ false
+    → IsFlightLawful (record g.flight { operations = set g.flight.operations n slot; queue = queue }) g.op_limit
+    → IsLawful
+    (record g { flight = record g.flight { operations = set g.flight.operations n slot; queue = queue } })
 lawful-unpending g n slot queue lawful l was will flight =
     let xs = g.flight.operations in
     lawful-operations g (record g.flight { operations = set xs n slot; queue = queue }) lawful flight
@@ -41,7 +50,9 @@ lawful-unpending g n slot queue lawful l was will flight =
         (λ (i : ℕ). is_pending_as c kind (op_at g.flight i) ≡ true) same h in
         false≢true (sym was ∙ pending-as-pending c kind (op_at g.flight n) at)
 
-pub listed-unpending : (f : Flight) (ps : List slots.Pending) (n : ℕ) (slot : Option Operation) (queue : List ℕ) → IsListed f ps → n < length f.operations → is_pending (op_at f n) ≡ false → is_pending slot ≡ false → IsListed (record f { operations = set f.operations n slot; queue = queue }) ps
+pub listed-unpending : (f : Flight) (ps : List slots.Pending) (n : ℕ) (slot : Option Operation) (queue : List ℕ)
+    → IsListed f ps → n < length f.operations → is_pending (op_at f n) ≡ false → is_pending slot ≡ false
+    → IsListed (record f { operations = set f.operations n slot; queue = queue }) ps
 listed-unpending f ps n slot queue is_listed l was will =
     record {
       listed = λ c kind m h.
@@ -75,7 +86,8 @@ running-some None h = absurd (false≢true h)
 running-some (Some op) h = (op, refl)
 
 -- a completion is taken
-kept-taken_front : {f : Flight} {cs : List Channel} {ps : List slots.Pending} {o r r' : ℕ} {sh : Bool} {l : GroupLimits} (n : ℕ) (rest : List ℕ) (op : Operation)
+kept-taken_front : {f : Flight} {cs : List Channel} {ps : List slots.Pending} {o r r' : ℕ} {sh : Bool} {l : GroupLimits}
+    (n : ℕ) (rest : List ℕ) (op : Operation)
     → IsGroupKept f cs ps o sh l r r' → f.queue ≡ n ∷ rest → QueueHolds f.operations (n ∷ rest) → op_at f n ≡ Some op
     → is_queued (Some op) ≡ true → IsGroupKept (with_taken f n) cs ps o sh l r r'
 kept-taken_front {f} {cs} {ps} {o} {r} {r'} {sh} {l} n rest op kept is holds is_op of =
@@ -101,10 +113,12 @@ kept-taken {f} {cs} {ps} {o} {r} {r'} {sh} {l} kept = by_queue f.queue refl
         let holds : QueueHolds f.operations (n ∷ rest) = rw is at kept.lawful.queued_once in
         let queued = front-queued f.operations n rest holds in
         let some = queued-some (op_at f n) queued in
-        kept-taken_front n rest some.0 kept is holds some.1 (subst (λ (slot : Option Operation). is_queued slot ≡ true) some.1 queued)
+        kept-taken_front n rest some.0 kept is holds some.1
+        (subst (λ (slot : Option Operation). is_queued slot ≡ true) some.1 queued)
 
 -- an operation ends
-pub kept-ended : {f : Flight} {cs : List Channel} {ps : List slots.Pending} {o r r' : ℕ} {sh : Bool} {l : GroupLimits} (n : ℕ)
+pub kept-ended : {f : Flight} {cs : List Channel} {ps : List slots.Pending} {o r r' : ℕ} {sh : Bool} {l : GroupLimits}
+    (n : ℕ)
     → IsGroupKept f cs ps o sh l r r' → is_running (op_at f n) ≡ true → IsGroupKept (with_ended f n) cs ps o sh l r r'
 kept-ended {f} {cs} {ps} {o} {r} {r'} {sh} {l} n kept running =
     let some = running-some (op_at f n) running in
@@ -153,7 +167,8 @@ count-pending_from c k zero (x ∷ xs) =
 count-pending_from c k (suc n) (x ∷ xs) =
     let rest : count_by (λ j. eqb j (k + suc n)) (pending_from c (k + 1) xs) ≡ once_if
     (is_pending_on c (get_or xs n None)) =
-    subst (λ (i : ℕ). count_by (λ j. eqb j i) (pending_from c (k + 1) xs) ≡ once_if (is_pending_on c (get_or xs n None))) (omega arith) (count-pending_from c (k + 1) n xs) in
+    subst (λ (i : ℕ). count_by (λ j. eqb j i) (pending_from c (k + 1) xs)
+    ≡ once_if (is_pending_on c (get_or xs n None))) (omega arith) (count-pending_from c (k + 1) n xs) in
     by_test (is_pending_on c x)
     (λ t.
     let differ : eqb k (k + suc n) ≡ false = eqb-other k (k + suc n) (omega arith) in
@@ -186,7 +201,8 @@ queue-closed c xs queue holds n =
     let slot = get_or xs n None in
     let had = holds n in
     let also : count_by (λ j. eqb j n) (pending_from c 0 xs) ≡ once_if (is_pending_on c slot) =
-    subst (λ (i : ℕ). count_by (λ j. eqb j i) (pending_from c 0 xs) ≡ once_if (is_pending_on c slot)) (omega arith) (count-pending_from c 0 n xs) in
+    subst (λ (i : ℕ). count_by (λ j. eqb j i) (pending_from c 0 xs) ≡ once_if (is_pending_on c slot)) (omega arith)
+    (count-pending_from c 0 n xs) in
     let both = sum_by-append (λ j. cond (eqb j n) 1 0) queue (pending_from c 0 xs) in
     rw get_or-map_closed
     (by_test (is_pending_on c slot)
@@ -239,7 +255,13 @@ count-closed c (x ∷ xs) =
     let same : is_some (closed_on c x) ≡ is_some x = some-closed c x in
     let bits : cond {A = ℕ} (is_some (closed_on c x)) 1 0 ≡ cond {A = ℕ} (is_some x) 1 0 = ap {B = ℕ}
     (λ (b : Bool). cond b 1 0) same in
-    omega (arith, count_by-cons is_some (closed_on c x) (map (closed_on c) xs), count_by-cons is_some x xs, bits, count-closed c xs)
+    omega (
+      arith,
+      count_by-cons is_some (closed_on c x) (map (closed_on c) xs),
+      count_by-cons is_some x xs,
+      bits,
+      count-closed c xs,
+    )
   where
     some-closed : (d : ℕ) (slot : Option Operation) → is_some (closed_on d slot) ≡ is_some slot
     some-closed d None = refl
@@ -254,7 +276,13 @@ closed-at_stays : (f : Flight) (c d : ℕ) (kind : OpKind) (n : ℕ) → d ≢ c
 closed-at_stays f c d kind n differ h =
     rw (get_or-map_closed c n f.operations) (pending-stays c d kind (op_at f n) differ h)
 
-pub lawful-closed : (g : Group) (c : ℕ) → IsLawful g → c < length g.channels → IsLawful (record g { flight = with_channel_closed g.flight c; channels = set g.channels c (record (channel_at g c) { is_open = false }) })
+pub lawful-closed : (g : Group) (c : ℕ) → IsLawful g → c < length g.channels
+    → IsLawful
+    (record g {
+      flight = with_channel_closed g.flight c;
+      channels =
+          set g.channels c (record (channel_at g c) { is_open = false });
+    })
 lawful-closed g c lawful within =
     let xs = g.flight.operations in
     let few = lawful.few_in_flight in
@@ -274,7 +302,10 @@ lawful-closed g c lawful within =
     (λ d kind n differ h. (closed-at_is g.flight c d kind n h).1)
     (λ d n differ h. closed-at_stays g.flight c d Connect n differ h)
 
-pub kept-closed : {f : Flight} {cs : List Channel} {ps : List slots.Pending} {o r r' : ℕ} {sh : Bool} {l : GroupLimits} (c : ℕ) (x : Channel) → IsGroupKept f cs ps o sh l r r' → c < length cs → x ≡ get_or cs c x → x.is_open ≡ true → IsGroupKept (with_channel_closed f c) (set cs c (record x { is_open = false })) (set ps c nothing_pending) (o - 1) sh l r r'
+pub kept-closed : {f : Flight} {cs : List Channel} {ps : List slots.Pending} {o r r' : ℕ} {sh : Bool} {l : GroupLimits}
+    (c : ℕ) (x : Channel) → IsGroupKept f cs ps o sh l r r' → c < length cs → x ≡ get_or cs c x → x.is_open ≡ true
+    → IsGroupKept (with_channel_closed f c) (set cs c (record x { is_open = false })) (set ps c nothing_pending)
+    (o - 1) sh l r r'
 kept-closed {f} {cs} {ps} {o} {r} {r'} {sh} {l} c x kept within read was_open =
     let slots_are = kept.slots in
     let is : x ≡ get_or cs c no_channel = get_or_read cs c x within read no_channel in
@@ -288,14 +319,19 @@ kept-closed {f} {cs} {ps} {o} {r} {r'} {sh} {l} c x kept within read was_open =
     let here : get_or (set ps c nothing_pending) c nothing_pending
     ≡ nothing_pending = get_or-set_same ps c nothing_pending nothing_pending (omega arith) in
     rw is
-    (kept-channel (with_channel_closed f c) c (record (get_or cs c no_channel) { is_open = false }) nothing_pending (o - 1) kept within
+    (kept-channel (with_channel_closed f c) c (record (get_or cs c no_channel) { is_open = false }) nothing_pending
+    (o - 1) kept within
     (lawful-closed (group_of f cs sh l) c kept.lawful within) refl
     fewer
     (record {
       listed = λ d kind n h.
           by_test (eqb d c)
           (λ t. let same = same_number d c t in
-          absurd (none_some n (sym (slot_of-nothing kind) ∙ subst (λ (p : slots.Pending). slot_of p kind ≡ Some n) here (subst (λ (e : ℕ). slot_of (get_or (set ps c nothing_pending) e nothing_pending) kind ≡ Some n) same h))))
+          absurd (none_some n
+          (sym (slot_of-nothing kind)
+          ∙ subst (λ (p : slots.Pending). slot_of p kind ≡ Some n) here
+          (subst (λ (e : ℕ). slot_of (get_or (set ps c nothing_pending) e nothing_pending) kind ≡ Some n)
+          same h))))
           (λ e. let differ = other_number d c e in
           closed-at_stays f c d kind n differ
           (kept.is_listed.listed d kind n (rw (get_or-set_other ps c d nothing_pending nothing_pending differ) at h)));
@@ -309,7 +345,8 @@ not-false true h = refl
 not-false false h = sym h
 
 -- what the slots of a channel lead to
-pub job-pending : {f : Flight} {cs : List Channel} {ps : List slots.Pending} {o r r' : ℕ} {sh : Bool} {l : GroupLimits} (c : ℕ) (kind : OpKind) (p : slots.Pending) (n : ℕ) (op : Operation)
+pub job-pending : {f : Flight} {cs : List Channel} {ps : List slots.Pending} {o r r' : ℕ} {sh : Bool} {l : GroupLimits}
+    (c : ℕ) (kind : OpKind) (p : slots.Pending) (n : ℕ) (op : Operation)
     → IsGroupKept f cs ps o sh l r r' → c < length cs → p ≡ get_or ps c p → slot_of p kind ≡ Some n
     → op_at f n ≡ Some op → IsPendingOf c kind op
 job-pending {f} {cs} {ps} c kind p n op kept within read slot is =

@@ -1,12 +1,14 @@
 -- What a group's calls keep of the operations in flight and their queue.
-use Rattle.std.proofs.Common.{◌≡◌, ℕ, ◌+◌, ◌<◌, ◌≤◌, zero, suc, Bool, true, false, cond, List, [], ◌∷◌, ◌++◌, Option, Some, None, is_some, count_by, get_or, set, length, refl, sym, ap, ◌∙◌, arith}
+use Rattle.std.proofs.Common.{◌≡◌, ℕ, ◌+◌, ◌<◌, ◌≤◌, zero, suc, Bool, true, false, cond, List, [], ◌∷◌, ◌++◌, Option}
+use Rattle.std.proofs.Common.{Some, None, is_some, count_by, get_or, set, length, refl, sym, ap, ◌∙◌, arith}
 use Rattle.std.proofs.lemmas.List.Sums.{sum_by-le-sum_by}
 use Rattle.nio_group.specs.declared.operation.Operation.{Operation}
 use Rattle.std.proofs.lemmas.Bool.{false≢true}
 use Rattle.nio_base.specs.declared.group.Finished.{Finished}
 use Rattle.nio_group.specs.declared.operation.Stage.{Stage}
 use Rattle.nio_group.specs.declared.operation.Stage.TheVariants.{Pending, Queued, Running}
-use Rattle.nio_group.specs.Stages.{is_queued, is_pending, is_running, stage_is_queued, stage_is_pending, stage_is_running}
+use Rattle.nio_group.specs.Stages.{is_queued, is_pending, is_running, stage_is_queued, stage_is_pending}
+use Rattle.nio_group.specs.Stages.{stage_is_running}
 use Rattle.nio_group.specs.Operations.{Accepted, with_operation}
 use Rattle.nio_group.specs.FlightKept.{IsFlightKept}
 use Rattle.nio_group.proofs.TableLemmas.{count_by-set}
@@ -42,13 +44,18 @@ queued-below xs i op is not_queued =
     let le = queued-in_flight (set xs i None) in
     omega (arith, some, queued, le)
 
-pub kept-push : (a : Accepted) (queue : List ℕ) (len capacity : ℕ) (op : Operation) → IsFlightKept a queue len capacity → count_by is_some a.operations < a.limit → IsFlightKept (record a { operations = a.operations ++ Some op ∷ [] }) (queued_after (is_queued (Some op)) queue (length a.operations)) (len + cond (is_queued (Some op)) 1 0) capacity
+pub kept-push : (a : Accepted) (queue : List ℕ) (len capacity : ℕ) (op : Operation) → IsFlightKept a queue len capacity
+    → count_by is_some a.operations < a.limit
+    → IsFlightKept (record a { operations = a.operations ++ Some op ∷ [] })
+    (queued_after (is_queued (Some op)) queue (length a.operations))
+    (len + cond (is_queued (Some op)) 1 0) capacity
 kept-push a queue len capacity op kept room =
     let was = kept.queue_length in
     let has_room = kept.room in
     record {
       queued_once = queue-push a.operations queue (Some op) kept.queued_once;
-      queue_length = ap (λ n. n + cond (is_queued (Some op)) 1 0) was ∙ sym (count_by-push is_queued a.operations (Some op));
+      queue_length = ap (λ n. n + cond (is_queued (Some op)) 1 0) was
+          ∙ sym (count_by-push is_queued a.operations (Some op));
       within = omega (arith, count_by-push is_some a.operations (Some op));
       room = has_room;
     }

@@ -1,5 +1,7 @@
 -- What a group's calls keep of its channels and of the slots of what is pending on them.
-use Rattle.std.proofs.Common.{◌≡◌, ◌≢◌, ℕ, ◌+◌, ◌<◌, Bool, true, cond, eqb, List, [], ◌∷◌, ◌++◌, Option, Some, None, get_or, set, length, refl, sym, ap, ◌∙◌, subst, arith, ◌⊎◌, inl, inr, get_or-set_same, get_or-set_other}
+use Rattle.std.proofs.Common.{◌≡◌, ◌≢◌, ℕ, ◌+◌, ◌<◌, Bool, true, cond, eqb, List, [], ◌∷◌, ◌++◌, Option, Some, None}
+use Rattle.std.proofs.Common.{get_or, set, length, refl, sym, ap, ◌∙◌, subst, arith, ◌⊎◌, inl, inr, get_or-set_same}
+use Rattle.std.proofs.Common.{get_or-set_other}
 use Rattle.std.proofs.lemmas.Bool.{false≢true, cases_lt}
 use Rattle.std.proofs.lemmas.List.{get_or_past, get_or_append_left, get_or_push, length-set, length_push}
 use Rattle.nio_base.specs.declared.group.GKind.{GKind}
@@ -31,7 +33,8 @@ slots-push ps c =
     rw t at (get_or-push ps nothing_pending nothing_pending c) ∙ sym (get_or_past ps c nothing_pending (omega arith)))
     (λ f. rw f at (get_or-push ps nothing_pending nothing_pending c))
 
-pub kept-channel_made : {f : Flight} {cs : List Channel} {ps : List slots.Pending} {o r r' : ℕ} {sh : Bool} {l : GroupLimits} (ch : Channel)
+pub kept-channel_made : {f : Flight} {cs : List Channel} {ps : List slots.Pending} {o r r' : ℕ} {sh : Bool}
+    {l : GroupLimits} (ch : Channel)
     → IsGroupKept f cs ps o sh l r r' → ch.is_open ≡ true → (ch.endpoint ≡ Stream Connecting → ⊥)
     → length cs < l.channels → IsGroupKept f (cs ++ ch ∷ []) (ps ++ nothing_pending ∷ []) (o + 1) sh l r r'
 kept-channel_made {f} {cs} {ps} {o} {r} {r'} {sh} {l} ch kept opened not_connecting room =
@@ -41,7 +44,8 @@ kept-channel_made {f} {cs} {ps} {o} {r} {r'} {sh} {l} ch kept opened not_connect
       lawful = lawful-channel_made (group_of f cs sh l) ch kept.lawful room not_connecting;
       fit = kept.fit;
       same_limit = kept.same_limit;
-      opened_is = let one : cond (is_open ch) 1 0 ≡ 1 = ap {B = ℕ} (λ (b : Bool). cond b 1 0) opened in omega (arith, count_by-push is_open cs ch, one, opened_were);
+      opened_is = let one : cond (is_open ch) 1 0 ≡ 1 = ap {B = ℕ} (λ (b : Bool). cond b 1 0) opened in
+          omega (arith, count_by-push is_open cs ch, one, opened_were);
       slots = omega (arith, length_push cs ch, length_push ps nothing_pending, slots_are);
       is_listed = record {
         listed = λ c kind n h. kept.is_listed.listed c kind n (rw (slots-push ps c) at h);
@@ -52,7 +56,8 @@ kept-channel_made {f} {cs} {ps} {o} {r} {r'} {sh} {l} ch kept opened not_connect
     }
 
 -- one channel changes, and what is pending on it
-pub kept-channel : {f : Flight} {cs : List Channel} {ps : List slots.Pending} {o r r' : ℕ} {sh : Bool} {l : GroupLimits} (f' : Flight) (c : ℕ) (ch : Channel) (p : slots.Pending) (o' : ℕ)
+pub kept-channel : {f : Flight} {cs : List Channel} {ps : List slots.Pending} {o r r' : ℕ} {sh : Bool} {l : GroupLimits}
+    (f' : Flight) (c : ℕ) (ch : Channel) (p : slots.Pending) (o' : ℕ)
     → IsGroupKept f cs ps o sh l r r' → c < length cs → IsLawful (group_of f' (set cs c ch) sh l) → f'.limit ≡ f.limit
     → o' + cond (is_open (get_or cs c no_channel)) 1 0 ≡ o + cond (is_open ch) 1 0 → IsListed f' (set ps c p)
     → IsGroupKept f' (set cs c ch) (set ps c p) o' sh l r r'
@@ -72,7 +77,8 @@ kept-channel {f} {cs} {ps} {o} f' c ch p o' kept within lawful limit opened is_l
     }
 
 -- the operations change, and no channel
-pub kept-operations : {f : Flight} {cs : List Channel} {ps : List slots.Pending} {o r r' : ℕ} {sh : Bool} {l : GroupLimits} (f' : Flight)
+pub kept-operations : {f : Flight} {cs : List Channel} {ps : List slots.Pending} {o r r' : ℕ} {sh : Bool}
+    {l : GroupLimits} (f' : Flight)
     → IsGroupKept f cs ps o sh l r r' → IsLawful (group_of f' cs sh l) → f'.limit ≡ f.limit → IsListed f' ps
     → IsGroupKept f' cs ps o sh l r r'
 kept-operations f' kept lawful limit is_listed =
@@ -90,7 +96,8 @@ kept-operations f' kept lawful limit is_listed =
 -- what is pending once an operation is put after the others
 pub pending-pushed : (xs : List (Option Operation)) (slot : Option Operation) (c : ℕ) (kind : OpKind) (m : ℕ)
     → is_pending_as c kind (get_or (xs ++ slot ∷ []) m None) ≡ true
-    → ((m ≡ length xs) × (is_pending_as c kind slot ≡ true)) ⊎ ((m ≢ length xs) × (is_pending_as c kind (get_or xs m None) ≡ true))
+    → ((m ≡ length xs) × (is_pending_as c kind slot ≡ true))
+    ⊎ ((m ≢ length xs) × (is_pending_as c kind (get_or xs m None) ≡ true))
 pending-pushed xs slot c kind m h =
     by_test (eqb m (length xs))
     (λ t. let has = rw t at (get_or-push xs slot None m) in
@@ -103,7 +110,8 @@ pub pending-within : (xs : List (Option Operation)) (c : ℕ) (kind : OpKind) (m
 pending-within xs c kind m h =
     elim (cases_lt m (length xs)) [
       | inl l ↦ l
-      | inr past ↦ absurd (let none : is_pending_as c kind None ≡ true = rw (get_or_past xs m None past) at h in false≢true none)
+      | inr past ↦ absurd (let none : is_pending_as c kind None ≡ true = rw (get_or_past xs m None past) at h in
+          false≢true none)
     ]
 
 pub pending-still : (xs : List (Option Operation)) (slot : Option Operation) (c : ℕ) (kind : OpKind) (m : ℕ)
@@ -131,7 +139,9 @@ listed-started f f' ps op c is_listed pushed within is_pending_op free =
                 let at_end : is_pending_as d kind (get_or (f.operations ++ Some op ∷ []) (length f.operations) None)
                 ≡ true =
                 rw (new_at_end, same, own) is_pending_op in
-                rw pushed (subst (λ (i : ℕ). is_pending_as d kind (get_or (f.operations ++ Some op ∷ []) i None) ≡ true) number at_end)
+                rw pushed
+                (subst (λ (i : ℕ). is_pending_as d kind (get_or (f.operations ++ Some op ∷ []) i None) ≡ true)
+                number at_end)
             | inr other ↦
                 let old = is_listed.listed c kind m
                 (sym (slot_of-with_other p op.kind kind (Some (length f.operations)) other) ∙ slot) in
@@ -153,8 +163,11 @@ listed-started f f' ps op c is_listed pushed within is_pending_op free =
                 by_test (eqb d c)
                 (λ t. let same = same_number d c t in
                 elim (kinds kind op.kind) [
-                  | inl own ↦ absurd (free m (subst (λ (k : OpKind). IsPendingAs f c k m) own (subst (λ (e : ℕ). IsPendingAs f e kind m) same old.1)))
-                  | inr other ↦ rw (here d same) (slot_of-with_other p op.kind kind (Some (length f.operations)) other ∙ rw same at has)
+                  | inl own ↦ absurd
+                      (free m (subst (λ (k : OpKind). IsPendingAs f c k m) own
+                      (subst (λ (e : ℕ). IsPendingAs f e kind m) same old.1)))
+                  | inr other ↦ rw (here d same)
+                      (slot_of-with_other p op.kind kind (Some (length f.operations)) other ∙ rw same at has)
                 ])
                 (λ e. rw (there d (other_number d c e)) has)
           ];
@@ -164,11 +177,18 @@ listed-started f f' ps op c is_listed pushed within is_pending_op free =
     p = get_or ps c nothing_pending
 
     here : (d : ℕ) → d ≡ c
-        → get_or (set ps c (with_slot (get_or ps c nothing_pending) op.kind (Some (length f.operations)))) d nothing_pending ≡ with_slot (get_or ps c nothing_pending) op.kind (Some (length f.operations))
-    here d same = subst (λ (e : ℕ). get_or (set ps c (with_slot (get_or ps c nothing_pending) op.kind (Some (length f.operations)))) e nothing_pending ≡ with_slot (get_or ps c nothing_pending) op.kind (Some (length f.operations))) (sym same) (get_or-set_same ps c (with_slot (get_or ps c nothing_pending) op.kind (Some (length f.operations))) nothing_pending within)
+        → get_or (set ps c (with_slot (get_or ps c nothing_pending) op.kind (Some (length f.operations)))) d
+        nothing_pending ≡ with_slot (get_or ps c nothing_pending) op.kind (Some (length f.operations))
+    here d same =
+        subst (λ (e : ℕ). get_or
+        (set ps c (with_slot (get_or ps c nothing_pending) op.kind (Some (length f.operations)))) e nothing_pending
+        ≡ with_slot (get_or ps c nothing_pending) op.kind (Some (length f.operations))) (sym same)
+        (get_or-set_same ps c (with_slot (get_or ps c nothing_pending) op.kind (Some (length f.operations)))
+        nothing_pending within)
 
     there : (d : ℕ) → d ≢ c
-        → get_or (set ps c (with_slot (get_or ps c nothing_pending) op.kind (Some (length f.operations)))) d nothing_pending ≡ get_or ps d nothing_pending
+        → get_or (set ps c (with_slot (get_or ps c nothing_pending) op.kind (Some (length f.operations)))) d
+        nothing_pending ≡ get_or ps d nothing_pending
     there d differ = get_or-set_other ps c d _ nothing_pending differ
 
     new_at_end : get_or (f.operations ++ Some op ∷ []) (length f.operations) None ≡ Some op

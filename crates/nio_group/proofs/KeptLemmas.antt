@@ -1,5 +1,7 @@
 -- The operations that a group keeps, when one is accepted, replaced or ended.
-use Rattle.std.proofs.Common.{◌≡◌, ◌≢◌, ℕ, ◌+◌, ◌^◌, ◌<◌, ◌≤◌, true, cond, eqb, List, [], ◌∷◌, ◌++◌, Option, Some, None, inl, inr, is_some, IsSome, IsSomeAnd, count_by, get_or, set, length, map, refl, sym, ap, ◌∙◌, subst, arith, rules, get_or-set_same, get_or-set_other}
+use Rattle.std.proofs.Common.{◌≡◌, ◌≢◌, ℕ, ◌+◌, ◌^◌, ◌<◌, ◌≤◌, true, cond, eqb, List, [], ◌∷◌, ◌++◌, Option, Some, None}
+use Rattle.std.proofs.Common.{inl, inr, is_some, IsSome, IsSomeAnd, count_by, get_or, set, length, map, refl, sym, ap}
+use Rattle.std.proofs.Common.{◌∙◌, subst, arith, rules, get_or-set_same, get_or-set_other}
 use Rattle.std.specs.List.{range_with_len}
 use Rattle.std.specs.Option.{option_map}
 use Rattle.std.proofs.lemmas.List.{get_or_past, length-set, same_lists}
@@ -31,7 +33,8 @@ not_some T h = grind arith
 some_within : (xs : List (Option Numbered)) (i : ℕ) → IsSome (get_or xs i None) → i < length xs
 some_within xs i has =
     by_lt i (length xs) (λ l. l)
-    (λ g. absurd (let gone = get_or_past xs i None g in not_some Numbered (subst (λ (o : Option Numbered). IsSome o) gone has)))
+    (λ g. absurd (let gone = get_or_past xs i None g in
+    not_some Numbered (subst (λ (o : Option Numbered). IsSome o) gone has)))
 
 is_some-true : {T : Type 0} (o : Option T) → IsSome o → is_some o ≡ true
 is_some-true None h = grind arith
@@ -47,7 +50,8 @@ pub kept-at : {slab : Slab Numbered} {index : Index} {accepted limit : ℕ} (n :
 kept-at {slab} {index} {accepted} n kept =
     by_lt n accepted
     (λ l. get_or-map-range_with_len (operation_of slab index) 0 accepted n n None l (omega arith))
-    (λ g. get_or_past (kept_operations slab index accepted) n None (omega (arith, length-kept slab index accepted)) ∙ sym (ap (operation_in slab) (kept.below n g)))
+    (λ g. get_or_past (kept_operations slab index accepted) n None (omega (arith, length-kept slab index accepted))
+    ∙ sym (ap (operation_in slab) (kept.below n g)))
 
 -- the kept operations after a change of one
 kept-set : (slab slab' : Slab Numbered) (index index' : Index) (accepted n : ℕ) (slot : Option Operation)
@@ -67,7 +71,8 @@ kept-set slab slab' index index' accepted n slot here others =
     by_test (eqb k n)
     (λ t. let same = same_number k n t in
     let put : get_or (set had n slot) k d ≡ slot =
-    subst (λ (i : ℕ). get_or (set had n slot) i d ≡ slot) (sym same) (get_or-set_same had n slot d (omega (arith, length-kept slab index accepted))) in
+    subst (λ (i : ℕ). get_or (set had n slot) i d ≡ slot) (sym same)
+    (get_or-set_same had n slot d (omega (arith, length-kept slab index accepted))) in
     new ∙ subst (λ (i : ℕ). f' i ≡ slot) (sym same) here ∙ sym put)
     (λ e. let differ = other_number k n e in
     new ∙ others k differ ∙ sym old ∙ sym (get_or-set_other had n k slot d differ)))
@@ -135,7 +140,10 @@ module _ {slab slab' : Slab Numbered} {index index' : Index} {accepted limit : �
       rw (change.others m differ)
       (other-stays slab slab' key (key_of index m) updates.others (λ k at. not_vacant kept key vacant m k at))
 
-  pub kept-accepts : (key : ℕ) (operation : Operation) → IsKept slab index accepted limit → get slab key ≡ None → Updates slab slab' key (Some (record { number = accepted; operation = operation })) → ChangesKey index index' accepted (Some key) → kept_operations slab' index' (accepted + 1) ≡ kept_operations slab index accepted ++ Some operation ∷ []
+  pub kept-accepts : (key : ℕ) (operation : Operation) → IsKept slab index accepted limit → get slab key ≡ None
+      → Updates slab slab' key (Some (record { number = accepted; operation = operation }))
+      → ChangesKey index index' accepted (Some key)
+      → kept_operations slab' index' (accepted + 1) ≡ kept_operations slab index accepted ++ Some operation ∷ []
   kept-accepts key operation kept vacant updates change =
       let f = operation_of slab index in
       let f' = operation_of slab' index' in
@@ -145,7 +153,11 @@ module _ {slab slab' : Slab Numbered} {index index' : Index} {accepted limit : �
       ∙ ap (λ (x : Option Operation). kept_operations slab index accepted ++ x ∷ [])
       (ap (operation_in slab') change.changed ∙ ap (option_map (λ (y : Numbered). y.operation)) updates.changed)
 
-  pub is_kept-accepts : (key : ℕ) (operation : Operation) → IsKept slab index accepted limit → get slab key ≡ None → Updates slab slab' key (Some (record { number = accepted; operation = operation })) → ChangesKey index index' accepted (Some key) → slab_len slab' ≡ slab_len slab + 1 → entries index' ≡ entries index + 1 → slab'.capacity ≡ slab.capacity → index'.limit ≡ index.limit → slab_len slab < limit → accepted < 2 ^ 62 → IsKept slab' index' (accepted + 1) limit
+  pub is_kept-accepts : (key : ℕ) (operation : Operation) → IsKept slab index accepted limit → get slab key ≡ None
+      → Updates slab slab' key (Some (record { number = accepted; operation = operation }))
+      → ChangesKey index index' accepted (Some key) → slab_len slab' ≡ slab_len slab + 1
+      → entries index' ≡ entries index + 1 → slab'.capacity ≡ slab.capacity → index'.limit ≡ index.limit
+      → slab_len slab < limit → accepted < 2 ^ 62 → IsKept slab' index' (accepted + 1) limit
   is_kept-accepts key operation kept vacant updates change len indexed capacity same_limit room few =
       let was_counted = kept.counted in
       let was_indexed = kept.indexed in
@@ -156,7 +168,8 @@ module _ {slab slab' : Slab Numbered} {index index' : Index} {accepted limit : �
             (λ t. let same = same_number n accepted t in
             let is_key : Some key ≡ Some k = sym change.changed ∙ ap (key_of index') (sym same) ∙ at in
             let same_key : key ≡ k = cc in
-            is_some_and (get slab' k) (λ x. x.number ≡ n) (record { number = accepted; operation = operation }) (ap (get slab') (sym same_key) ∙ updates.changed) (sym same))
+            is_some_and (get slab' k) (λ x. x.number ≡ n) (record { number = accepted; operation = operation })
+            (ap (get slab') (sym same_key) ∙ updates.changed) (sym same))
             (λ e. let differ = other_number n accepted e in
             let was : key_of index n ≡ Some k = sym (change.others n differ) ∙ at in
             let there = some_and (get slab k) (λ x. x.number ≡ n) (kept.leads n k was) in
@@ -177,13 +190,18 @@ module _ {slab slab' : Slab Numbered} {index index' : Index} {accepted limit : �
 
 -- an operation in flight is put in another's place
 module _ {slab slab' : Slab Numbered} {index : Index} {accepted limit : ℕ} where
-  pub kept-replaces : (n key : ℕ) (operation : Operation) → IsKept slab index accepted limit → key_of index n ≡ Some key → Updates slab slab' key (Some (record { number = n; operation = operation })) → kept_operations slab' index accepted ≡ set (kept_operations slab index accepted) n (Some operation)
+  pub kept-replaces : (n key : ℕ) (operation : Operation) → IsKept slab index accepted limit → key_of index n ≡ Some key
+      → Updates slab slab' key (Some (record { number = n; operation = operation }))
+      → kept_operations slab' index accepted ≡ set (kept_operations slab index accepted) n (Some operation)
   kept-replaces n key operation kept at updates =
       kept-set slab slab' index index accepted n (Some operation)
       (rw at (rw updates.changed refl))
-      (λ m differ. other-stays slab slab' key (key_of index m) updates.others (λ k at'. apart n m key kept at differ k at'))
+      (λ m differ. other-stays slab slab' key (key_of index m) updates.others
+      (λ k at'. apart n m key kept at differ k at'))
 
-  pub is_kept-replaces : (n key : ℕ) (operation : Operation) → IsKept slab index accepted limit → key_of index n ≡ Some key → Updates slab slab' key (Some (record { number = n; operation = operation })) → slab_len slab' ≡ slab_len slab → slab'.capacity ≡ slab.capacity → IsKept slab' index accepted limit
+  pub is_kept-replaces : (n key : ℕ) (operation : Operation) → IsKept slab index accepted limit
+      → key_of index n ≡ Some key → Updates slab slab' key (Some (record { number = n; operation = operation }))
+      → slab_len slab' ≡ slab_len slab → slab'.capacity ≡ slab.capacity → IsKept slab' index accepted limit
   is_kept-replaces n key operation kept at updates len capacity =
       let was_counted = kept.counted in
       let was_indexed = kept.indexed in
@@ -195,7 +213,8 @@ module _ {slab slab' : Slab Numbered} {index : Index} {accepted limit : ℕ} whe
             (λ t. let same = same_number m n t in
             let is_key : Some key ≡ Some k = sym at ∙ ap (key_of index) (sym same) ∙ at' in
             let same_key : key ≡ k = cc in
-            is_some_and (get slab' k) (λ x. x.number ≡ m) (record { number = n; operation = operation }) (ap (get slab') (sym same_key) ∙ updates.changed) (sym same))
+            is_some_and (get slab' k) (λ x. x.number ≡ m) (record { number = n; operation = operation })
+            (ap (get slab') (sym same_key) ∙ updates.changed) (sym same))
             (λ e. let differ = other_number m n e in
             let there = some_and (get slab k) (λ x. x.number ≡ m) (kept.leads m k at') in
             is_some_and (get slab' k) (λ x. x.number ≡ m) there.0
@@ -205,7 +224,9 @@ module _ {slab slab' : Slab Numbered} {index : Index} {accepted limit : ℕ} whe
             let there = some_and (get slab key) (λ x. x.number ≡ n) (kept.leads n key at) in
             let had = had_by n key there.0 kept at there.1 in
             let l = had.0 in
-            let counts = rw had.1 at (count_by-set is_some (kept_operations slab index accepted) n (Some operation) None (omega (arith, length-kept slab index accepted))) in
+            let counts = rw had.1 at
+            (count_by-set is_some (kept_operations slab index accepted) n (Some operation) None
+            (omega (arith, length-kept slab index accepted))) in
             ap (count_by is_some) (kept-replaces n key operation kept at updates) ∙ omega
             (arith, counts, was_counted, len);
         indexed = omega arith;
@@ -224,7 +245,8 @@ module _ {slab slab' : Slab Numbered} {index index' : Index} {accepted limit : �
   kept-ends n key kept at updates change =
       kept-set slab slab' index index' accepted n None
       (rw change.changed refl)
-      (λ m differ. rw (change.others m differ) (other-stays slab slab' key (key_of index m) updates.others (λ k at'. apart n m key kept at differ k at')))
+      (λ m differ. rw (change.others m differ)
+      (other-stays slab slab' key (key_of index m) updates.others (λ k at'. apart n m key kept at differ k at')))
 
   pub is_kept-ends : (n key : ℕ) → IsKept slab index accepted limit → key_of index n ≡ Some key
       → Updates slab slab' key None → ChangesKey index index' n None → slab_len slab' + 1 ≡ slab_len slab
@@ -254,7 +276,9 @@ module _ {slab slab' : Slab Numbered} {index index' : Index} {accepted limit : �
             let there = some_and (get slab key) (λ x. x.number ≡ n) (kept.leads n key at) in
             let had = had_by n key there.0 kept at there.1 in
             let l = had.0 in
-            let counts = rw had.1 at (count_by-set is_some (kept_operations slab index accepted) n None None (omega (arith, length-kept slab index accepted))) in
+            let counts = rw had.1 at
+            (count_by-set is_some (kept_operations slab index accepted) n None None
+            (omega (arith, length-kept slab index accepted))) in
             ap (count_by is_some) (kept-ends n key kept at updates change) ∙ omega (arith, counts, was_counted, len);
         indexed = omega arith;
         within = omega arith;

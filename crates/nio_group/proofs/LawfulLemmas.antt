@@ -1,5 +1,6 @@
 -- What keeps a group lawful.
-use Rattle.std.proofs.Common.{◌≡◌, ◌≢◌, ℕ, ◌<◌, ◌≤◌, true, eqb, List, [], ◌∷◌, ◌++◌, get_or, set, length, sym, ap, ◌∙◌, subst, arith, inl, inr, get_or-set_same, get_or-set_other}
+use Rattle.std.proofs.Common.{◌≡◌, ◌≢◌, ℕ, ◌<◌, ◌≤◌, true, eqb, List, [], ◌∷◌, ◌++◌, get_or, set, length, sym, ap, ◌∙◌}
+use Rattle.std.proofs.Common.{subst, arith, inl, inr, get_or-set_same, get_or-set_other}
 use Rattle.std.proofs.lemmas.Bool.{false≢true, cases_lt}
 use Rattle.std.proofs.lemmas.List.{get_or_past, get_or_append_left, length-set, length_push}
 use Rattle.nio_group.specs.declared.channel.Channel.{Channel}
@@ -20,7 +21,10 @@ pub record IsFlightLawful (f : Flight) (op_limit : ℕ) : Type 0 where
   pub few_accepted : accepted f ≤ op_limit
 
 -- only operations change: no more are pending, and those that connect stay
-pub lawful-operations : (g : Group) (f : Flight) → IsLawful g → IsFlightLawful f g.op_limit → ((c : ℕ) (kind : OpKind) (n : ℕ) → IsPendingAs f c kind n → IsPendingAs g.flight c kind n) → ((c n : ℕ) → IsPendingAs g.flight c Connect n → IsPendingAs f c Connect n) → IsLawful (record g { flight = f })
+pub lawful-operations : (g : Group) (f : Flight) → IsLawful g → IsFlightLawful f g.op_limit
+    → ((c : ℕ) (kind : OpKind) (n : ℕ) → IsPendingAs f c kind n → IsPendingAs g.flight c kind n)
+    → ((c n : ℕ) → IsPendingAs g.flight c Connect n → IsPendingAs f c Connect n)
+    → IsLawful (record g { flight = f })
 lawful-operations g f lawful flight less stay =
     record {
       queued_once = flight.queued_once;
@@ -38,23 +42,27 @@ pub open-within : (cs : List Channel) (c : ℕ) → (get_or cs c no_channel).is_
 open-within cs c is_open =
     elim (cases_lt c (length cs)) [
       | inl l ↦ l
-      | inr past ↦ absurd (false≢true (sym (ap (λ (ch : Channel). ch.is_open) (get_or_past cs c no_channel past)) ∙ is_open))
+      | inr past ↦ absurd
+          (false≢true (sym (ap (λ (ch : Channel). ch.is_open) (get_or_past cs c no_channel past)) ∙ is_open))
     ]
 
 -- one more channel is made, which isn't connecting
-pub lawful-channel_made : (g : Group) (ch : Channel) → IsLawful g → length g.channels < g.channel_limit → (ch.endpoint ≡ Stream Connecting → ⊥) → IsLawful (record g { channels = g.channels ++ ch ∷ [] })
+pub lawful-channel_made : (g : Group) (ch : Channel) → IsLawful g → length g.channels < g.channel_limit
+    → (ch.endpoint ≡ Stream Connecting → ⊥) → IsLawful (record g { channels = g.channels ++ ch ∷ [] })
 lawful-channel_made g ch lawful room not_connecting =
     record {
       queued_once = lawful.queued_once;
       pending_open = λ n c kind h. let was = lawful.pending_open n c kind h in rw (stays c was) was;
-      pending_ready = λ n c kind h. let was = lawful.pending_open n c kind h in rw (stays c was) (lawful.pending_ready n c kind h);
+      pending_ready = λ n c kind h. let was = lawful.pending_open n c kind h in
+          rw (stays c was) (lawful.pending_ready n c kind h);
       one_each = lawful.one_each;
       connecting = λ c is_open is.
           by_test (eqb c (length g.channels))
           (λ t. let has = rw t at (get_or-push g.channels ch no_channel c) in
           absurd (not_connecting (sym (ap (λ (x : Channel). x.endpoint) has) ∙ is)))
           (λ f. let has = rw f at (get_or-push g.channels ch no_channel c) in
-          lawful.connecting c (sym (ap (λ (x : Channel). x.is_open) has) ∙ is_open) (sym (ap (λ (x : Channel). x.endpoint) has) ∙ is));
+          lawful.connecting c (sym (ap (λ (x : Channel). x.is_open) has) ∙ is_open)
+          (sym (ap (λ (x : Channel). x.endpoint) has) ∙ is));
       few_in_flight = lawful.few_in_flight;
       few_channels = omega (arith, length_push g.channels ch);
       few_accepted = lawful.few_accepted;
@@ -72,7 +80,11 @@ pub record IsFitFor (f : Flight) (c : ℕ) (ch : Channel) : Type 0 where
   pub connects : ch.is_open ≡ true → ch.endpoint ≡ Stream Connecting → (n : ℕ) × IsPendingAs f c Connect n
 
 -- one channel changes, and what is pending on it
-pub lawful-channel : (g : Group) (f : Flight) (c : ℕ) (ch : Channel) → IsLawful g → c < length g.channels → IsFlightLawful f g.op_limit → IsFitFor f c ch → ((d : ℕ) (kind : OpKind) (n : ℕ) → d ≢ c → IsPendingAs f d kind n → IsPendingAs g.flight d kind n) → ((d n : ℕ) → d ≢ c → IsPendingAs g.flight d Connect n → IsPendingAs f d Connect n) → IsLawful (record g { flight = f; channels = set g.channels c ch })
+pub lawful-channel : (g : Group) (f : Flight) (c : ℕ) (ch : Channel) → IsLawful g → c < length g.channels
+    → IsFlightLawful f g.op_limit → IsFitFor f c ch
+    → ((d : ℕ) (kind : OpKind) (n : ℕ) → d ≢ c → IsPendingAs f d kind n → IsPendingAs g.flight d kind n)
+    → ((d n : ℕ) → d ≢ c → IsPendingAs g.flight d Connect n → IsPendingAs f d Connect n)
+    → IsLawful (record g { flight = f; channels = set g.channels c ch })
 lawful-channel g f c ch lawful l flight own less stay =
     record {
       queued_once = flight.queued_once;
@@ -91,7 +103,8 @@ lawful-channel g f c ch lawful l flight own less stay =
       one_each = λ m n d kind a b.
           by_test (eqb d c)
           (λ t. let same = same_number d c t in
-          own.once_for kind m n (subst (λ (e : ℕ). IsPendingAs f e kind m) same a) (subst (λ (e : ℕ). IsPendingAs f e kind n) same b))
+          own.once_for kind m n (subst (λ (e : ℕ). IsPendingAs f e kind m) same a)
+          (subst (λ (e : ℕ). IsPendingAs f e kind n) same b))
           (λ e. let differ = other_number d c e in
           lawful.one_each m n d kind (less d kind m differ a) (less d kind n differ b));
       connecting = λ d is_open is.

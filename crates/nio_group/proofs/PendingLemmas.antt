@@ -1,5 +1,6 @@
 -- Pending operations, by their channels and kinds.
-use Rattle.std.proofs.Common.{◌≡◌, ◌≢◌, ℕ, ◌+◌, Bool, true, false, eqb, ◌&&◌, Option, Some, None, refl, arith, ◌⊎◌, inl, inr}
+use Rattle.std.proofs.Common.{◌≡◌, ◌≢◌, ℕ, ◌+◌, Bool, true, false, eqb, ◌&&◌, Option, Some, None, refl, arith, ◌⊎◌, inl}
+use Rattle.std.proofs.Common.{inr}
 use Rattle.std.proofs.lemmas.Bool.{false≢true}
 use Rattle.nio_base.specs.declared.group.OpKind.{OpKind}
 use Rattle.nio_base.specs.declared.group.OpKind.TheVariants.{Accept, Connect, Read, Write}
@@ -79,7 +80,8 @@ pending-parts c kind op h =
     record {
       stage = stage-pending op.stage (and-left (stage_is_pending op.stage) (eqb op.chan.0 c) on);
       chan = same_number op.chan.0 c (and-right (stage_is_pending op.stage) (eqb op.chan.0 c) on);
-      same = same_kind-true op.kind kind (and-right (stage_is_pending op.stage && eqb op.chan.0 c) (same_kind op.kind kind) h);
+      same = same_kind-true op.kind kind
+          (and-right (stage_is_pending op.stage && eqb op.chan.0 c) (same_kind op.kind kind) h);
     }
 
 pub not_pending-as : (c : ℕ) (kind : OpKind) (slot : Option Operation) → is_pending slot ≡ false

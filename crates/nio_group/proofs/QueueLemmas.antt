@@ -1,5 +1,6 @@
 -- The queue lists each queued operation once: what the changes of an operation keep of that.
-use Rattle.std.proofs.Common.{◌≡◌, ℕ, ◌+◌, ◌<◌, Bool, true, false, cond, eqb, List, [], ◌∷◌, ◌++◌, Option, None, count_by, get_or, set, length, sym, ap, ◌∙◌, subst, arith}
+use Rattle.std.proofs.Common.{◌≡◌, ℕ, ◌+◌, ◌<◌, Bool, true, false, cond, eqb, List, [], ◌∷◌, ◌++◌, Option, None}
+use Rattle.std.proofs.Common.{count_by, get_or, set, length, sym, ap, ◌∙◌, subst, arith}
 use Rattle.std.proofs.lemmas.List.{get_or_past}
 use Rattle.nio_group.specs.declared.operation.Operation.{Operation}
 use Rattle.nio_group.specs.Stages.{is_queued}
@@ -19,7 +20,8 @@ abbrev pub queued_after : Bool → List ℕ → ℕ → List ℕ
 queued_after queued queue n = cond queued (queue ++ n ∷ []) queue
 
 count_by-queued_after : (queued : Bool) (queue : List ℕ) (n m : ℕ)
-    → count_by (λ k. eqb k m) (queued_after queued queue n) ≡ count_by (λ k. eqb k m) queue + cond queued (cond (eqb n m) 1 0) 0
+    → count_by (λ k. eqb k m) (queued_after queued queue n) ≡ count_by (λ k. eqb k m) queue
+    + cond queued (cond (eqb n m) 1 0) 0
 count_by-queued_after true queue n m = count_by-push (λ k. eqb k m) queue n
 count_by-queued_after false queue n m = omega arith
 

@@ -1,5 +1,7 @@
 -- What reports, takes and ends of operations keep.
-use Rattle.std.proofs.Common.{◌≡◌, ◌≢◌, ℕ, ◌+◌, ◌<◌, ◌≤◌, Bool, true, false, cond, eqb, List, [], ◌∷◌, ◌++◌, Option, Some, None, is_some, get_or, set, length, refl, sym, ap, ◌∙◌, subst, arith, inl, inr, get_or-set_same, get_or-set_other}
+use Rattle.std.proofs.Common.{◌≡◌, ◌≢◌, ℕ, ◌+◌, ◌<◌, ◌≤◌, Bool, true, false, cond, eqb, List, [], ◌∷◌, ◌++◌, Option}
+use Rattle.std.proofs.Common.{Some, None, is_some, get_or, set, length, refl, sym, ap, ◌∙◌, subst, arith, inl, inr}
+use Rattle.std.proofs.Common.{get_or-set_same, get_or-set_other}
 use Rattle.std.proofs.lemmas.Bool.{false≢true}
 use Rattle.std.proofs.lemmas.List.{length-set, get_or_read}
 use Rattle.nio_group.specs.declared.channel.Channel.{Channel}
@@ -29,14 +31,17 @@ use Rattle.nio_group.specs.GroupKept.{IsGroupKept, IsListed, group_of, is_open}
 use Rattle.nio_group.proofs.TableLemmas.{by_test, same_number, other_number, count_by-set}
 use Rattle.nio_group.proofs.ListLemmas.{eqb-same}
 use Rattle.nio_group.proofs.QueueLemmas.{QueueHolds, queue-set}
-use Rattle.nio_group.proofs.PendingLemmas.{IsPendingOf, kinds, pending-parts, same_kind-refl, slot_of-with_same, slot_of-with_other}
+use Rattle.nio_group.proofs.PendingLemmas.{IsPendingOf, kinds, pending-parts, same_kind-refl, slot_of-with_same}
+use Rattle.nio_group.proofs.PendingLemmas.{slot_of-with_other}
 use Rattle.nio_group.proofs.LawfulLemmas.{IsFlightLawful, lawful-channel, lawful-operations, open-within}
 use Rattle.nio_group.proofs.GroupLemmas.{kept-channel}
 use Rattle.nio_group.proofs.CloseLemmas.{some-same, none_some, pending-after, pending-before}
 use Rattle.nio_group.proofs.FlightLemmas.{some-within, not_queued-pending}
 
 -- an operation in flight is put in another's place, which keeps the queue
-pub flight-changes : (f : Flight) (n : ℕ) (op op' : Operation) (queue : List ℕ) (op_limit : ℕ) → op_at f n ≡ Some op → QueueHolds (set f.operations n (Some op')) queue → in_flight f ≤ f.limit → accepted f ≤ op_limit → IsFlightLawful (record f { operations = set f.operations n (Some op'); queue = queue }) op_limit
+pub flight-changes : (f : Flight) (n : ℕ) (op op' : Operation) (queue : List ℕ) (op_limit : ℕ) → op_at f n ≡ Some op
+    → QueueHolds (set f.operations n (Some op')) queue → in_flight f ≤ f.limit → accepted f ≤ op_limit
+    → IsFlightLawful (record f { operations = set f.operations n (Some op'); queue = queue }) op_limit
 flight-changes f n op op' queue op_limit is holds few numbers =
     let l = some-within f.operations n op is in
     let counts = rw is at (count_by-set is_some f.operations n (Some op') None l) in
@@ -64,17 +69,21 @@ pub flight-completes : (f : Flight) (n : ℕ) (op : Operation) (finished : Finis
 flight-completes f n op finished op_limit is is_pending_op holds few numbers =
     let not_queued : is_queued (get_or f.operations n None) ≡ false = rw is (not_queued-pending op is_pending_op) in
     flight-changes f n op (at_stage (Queued finished) op) (f.queue ++ n ∷ []) op_limit is
-    (queue-set f.operations f.queue n (Some (at_stage (Queued finished) op)) (some-within f.operations n op is) not_queued holds)
+    (queue-set f.operations f.queue n (Some (at_stage (Queued finished) op))
+    (some-within f.operations n op is) not_queued holds)
     few numbers
 
 -- an operation that isn't a connect completes
-pub lawful-completed : (g : Group) (n : ℕ) (op : Operation) (finished : Finished) → IsLawful g → op_at g.flight n ≡ Some op → is_pending (Some op) ≡ true → (op.kind ≡ Connect → ⊥) → IsLawful (record g { flight = completed_flight g.flight n op finished })
+pub lawful-completed : (g : Group) (n : ℕ) (op : Operation) (finished : Finished) → IsLawful g
+    → op_at g.flight n ≡ Some op → is_pending (Some op) ≡ true → (op.kind ≡ Connect → ⊥)
+    → IsLawful (record g { flight = completed_flight g.flight n op finished })
 lawful-completed g n op finished lawful is is_pending_op other =
     let xs = g.flight.operations in
     let slot : Option Operation = Some (at_stage (Queued finished) op) in
     let l = some-within xs n op is in
     lawful-operations g (completed_flight g.flight n op finished) lawful
-    (flight-completes g.flight n op finished g.op_limit is is_pending_op lawful.queued_once lawful.few_in_flight lawful.few_accepted)
+    (flight-completes g.flight n op finished g.op_limit is is_pending_op lawful.queued_once lawful.few_in_flight
+    lawful.few_accepted)
     (λ c kind m h. (pending-after xs n slot c kind m l refl h).1)
     (λ c m h. pending-before xs n slot c Connect m
     (λ same.
@@ -98,7 +107,11 @@ connecting-ready Read h = absurd (false≢true h)
 connecting-ready Write h = absurd (false≢true h)
 
 -- a connect completes, and its channel isn't open and connecting from then on
-pub lawful-connected : (g : Group) (n : ℕ) (op : Operation) (finished : Finished) (ch : Channel) → IsLawful g → op_at g.flight n ≡ Some op → is_pending (Some op) ≡ true → op.kind ≡ Connect → (ch.is_open ≡ true → ch.endpoint ≡ Stream Connecting → ⊥) → IsLawful (record g { flight = completed_flight g.flight n op finished; channels = set g.channels op.chan.0 ch })
+pub lawful-connected : (g : Group) (n : ℕ) (op : Operation) (finished : Finished) (ch : Channel) → IsLawful g
+    → op_at g.flight n ≡ Some op → is_pending (Some op) ≡ true → op.kind ≡ Connect
+    → (ch.is_open ≡ true → ch.endpoint ≡ Stream Connecting → ⊥)
+    → IsLawful
+    (record g { flight = completed_flight g.flight n op finished; channels = set g.channels op.chan.0 ch })
 lawful-connected g n op finished ch lawful is is_pending_op connect not_connecting =
     let xs = g.flight.operations in
     let c = op.chan.0 in
@@ -113,10 +126,12 @@ lawful-connected g n op finished ch lawful is is_pending_op connect not_connecti
     let old = pending-after xs n slot c kind m l refl h in
     let is_connect : kind ≡ Connect = connecting-ready kind
     (subst (λ (e : Endpoint). is_ready_for e kind ≡ true) endpoint (lawful.pending_ready m c kind old.1)) in
-    old.0 (lawful.one_each m n c Connect (subst (λ (k : OpKind). IsPendingAs g.flight c k m) is_connect old.1) own_connect) in
+    old.0 (lawful.one_each m n c Connect (subst (λ (k : OpKind). IsPendingAs g.flight c k m) is_connect old.1)
+    own_connect) in
     lawful-channel g (completed_flight g.flight n op finished) c ch lawful
     (open-within g.channels c (lawful.pending_open n c Connect own_connect))
-    (flight-completes g.flight n op finished g.op_limit is is_pending_op lawful.queued_once lawful.few_in_flight lawful.few_accepted)
+    (flight-completes g.flight n op finished g.op_limit is is_pending_op lawful.queued_once lawful.few_in_flight
+    lawful.few_accepted)
     (record {
       open_for = λ kind m h. absurd (none kind m h);
       ready_for = λ kind m h. absurd (none kind m h);
@@ -136,7 +151,8 @@ lawful-connected g n op finished ch lawful is is_pending_op connect not_connecti
 -- the slots after a pending operation was completed
 pub listed-completed : (f : Flight) (ps : List slots.Pending) (n : ℕ) (op : Operation) (finished : Finished)
     → IsListed f ps → op_at f n ≡ Some op → is_pending (Some op) ≡ true → op.chan.0 < length ps
-    → IsListed (completed_flight f n op finished) (set ps op.chan.0 (with_slot (get_or ps op.chan.0 nothing_pending) op.kind None))
+    → IsListed (completed_flight f n op finished)
+    (set ps op.chan.0 (with_slot (get_or ps op.chan.0 nothing_pending) op.kind None))
 listed-completed f ps n op finished is_listed is is_pending_op within =
     let c = op.chan.0 in
     let xs = f.operations in
@@ -147,7 +163,8 @@ listed-completed f ps n op finished is_listed is is_pending_op within =
     let own : IsPendingAs f c op.kind n = rw is (pending-new_as op is_pending_op) in
     let own_slot = is_listed.all c op.kind n own in
     let here : (d : ℕ) → d ≡ c → get_or (set ps c p') d nothing_pending ≡ p' =
-    λ d same. subst (λ (e : ℕ). get_or (set ps c p') e nothing_pending ≡ p') (sym same) (get_or-set_same ps c p' nothing_pending within) in
+    λ d same. subst (λ (e : ℕ). get_or (set ps c p') e nothing_pending ≡ p') (sym same)
+    (get_or-set_same ps c p' nothing_pending within) in
     let there : (d : ℕ) → d ≢ c → get_or (set ps c p') d nothing_pending ≡ get_or ps d nothing_pending =
     λ d differ. get_or-set_other ps c d p' nothing_pending differ in
     record {
@@ -156,7 +173,10 @@ listed-completed f ps n op finished is_listed is is_pending_op within =
           (λ t. let same = same_number d c t in
           let slot_is = rw (here d same) at h in
           elim (kinds kind op.kind) [
-            | inl own_kind ↦ absurd (none_some m (sym (slot_of-with_same p op.kind None) ∙ subst (λ (k : OpKind). slot_of p' k ≡ Some m) own_kind slot_is))
+            | inl own_kind ↦ absurd
+                (none_some m
+                (sym (slot_of-with_same p op.kind None)
+                ∙ subst (λ (k : OpKind). slot_of p' k ≡ Some m) own_kind slot_is))
             | inr other ↦
                 let old = is_listed.listed c kind m (sym (slot_of-with_other p op.kind kind None other) ∙ slot_is) in
                 rw same (pending-before xs n slot c kind m (not_n c kind m old (λ k. other (sym k.same))) old)
@@ -171,7 +191,9 @@ listed-completed f ps n op finished is_listed is is_pending_op within =
           (λ t. let same = same_number d c t in
           let has_here : slot_of p kind ≡ Some m = rw same at has in
           elim (kinds kind op.kind) [
-            | inl own_kind ↦ absurd (old.0 (some-same (sym has_here ∙ subst (λ (k : OpKind). slot_of p k ≡ Some n) (sym own_kind) own_slot)))
+            | inl own_kind ↦ absurd
+                (old.0 (some-same
+                (sym has_here ∙ subst (λ (k : OpKind). slot_of p k ≡ Some n) (sym own_kind) own_slot)))
             | inr other ↦ rw (here d same) (slot_of-with_other p op.kind kind None other ∙ has_here)
           ])
           (λ e. rw (there d (other_number d c e)) has);
@@ -221,7 +243,8 @@ other-outcome kind len outcome.Accepted h a b = accepted-accept kind len h
 other-outcome kind len outcome.Fault h a b = absurd (b refl)
 
 -- the channel of a pending operation is one of the group's
-pub pending-made : {f : Flight} {cs : List Channel} {ps : List slots.Pending} {o r r' : ℕ} {sh : Bool} {l : GroupLimits} (n : ℕ) (op : Operation)
+pub pending-made : {f : Flight} {cs : List Channel} {ps : List slots.Pending} {o r r' : ℕ} {sh : Bool} {l : GroupLimits}
+    (n : ℕ) (op : Operation)
     → IsGroupKept f cs ps o sh l r r' → op_at f n ≡ Some op → is_pending (Some op) ≡ true
     → (op.chan.0 < length cs) × (op.chan.0 < length ps) × ((get_or cs op.chan.0 no_channel).is_open ≡ true)
 pending-made {f} {cs} n op kept is is_pending_op =
@@ -231,7 +254,8 @@ pending-made {f} {cs} n op kept is is_pending_op =
     let slots_are = kept.slots in
     (within, omega arith, opened)
 
-pub kept-completed : {f : Flight} {cs : List Channel} {ps : List slots.Pending} {o r r' : ℕ} {sh : Bool} {l : GroupLimits} (n : ℕ) (op : Operation) (finished : Finished) (p : slots.Pending)
+pub kept-completed : {f : Flight} {cs : List Channel} {ps : List slots.Pending} {o r r' : ℕ} {sh : Bool}
+    {l : GroupLimits} (n : ℕ) (op : Operation) (finished : Finished) (p : slots.Pending)
     → IsGroupKept f cs ps o sh l r r' → op_at f n ≡ Some op → is_pending (Some op) ≡ true → p ≡ get_or ps op.chan.0 p
     → (op.kind ≡ Connect → ⊥)
     → IsGroupKept (with_completed f n finished) cs (set ps op.chan.0 (with_slot p op.kind None)) o sh l r r'
@@ -252,11 +276,14 @@ kept-completed {f} {cs} {ps} {o} {r} {r'} {sh} {l} n op finished p kept is is_pe
       has_slots_room = kept.has_slots_room;
     })
 
-pub kept-connected : {f : Flight} {cs : List Channel} {ps : List slots.Pending} {o r r' : ℕ} {sh : Bool} {l : GroupLimits} (n : ℕ) (op : Operation) (finished : Finished) (p : slots.Pending) (ch : Channel) (o' : ℕ)
+pub kept-connected : {f : Flight} {cs : List Channel} {ps : List slots.Pending} {o r r' : ℕ} {sh : Bool}
+    {l : GroupLimits} (n : ℕ) (op : Operation) (finished : Finished) (p : slots.Pending) (ch : Channel) (o' : ℕ)
     → IsGroupKept f cs ps o sh l r r' → op_at f n ≡ Some op → is_pending (Some op) ≡ true → p ≡ get_or ps op.chan.0 p
     → op.kind ≡ Connect → (ch.is_open ≡ true → ch.endpoint ≡ Stream Connecting → ⊥) → o' + 1 ≡ o + cond (is_open ch) 1 0
-    → IsGroupKept (with_completed f n finished) (set cs op.chan.0 ch) (set ps op.chan.0 (with_slot p op.kind None)) o' sh l r r'
-kept-connected {f} {cs} {ps} {o} {r} {r'} {sh} {l} n op finished p ch o' kept is is_pending_op read connect not_connecting counted =
+    → IsGroupKept (with_completed f n finished) (set cs op.chan.0 ch) (set ps op.chan.0 (with_slot p op.kind None)) o'
+    sh l r r'
+kept-connected {f} {cs} {ps} {o} {r} {r'} {sh} {l} n op finished p ch o' kept is is_pending_op read connect
+    not_connecting counted =
     let made = pending-made n op kept is is_pending_op in
     let is_slot : p ≡ get_or ps op.chan.0 nothing_pending = get_or_read ps op.chan.0 p made.1 read nothing_pending in
     let lawful = lawful-connected
@@ -264,12 +291,14 @@ kept-connected {f} {cs} {ps} {o} {r} {r'} {sh} {l} n op finished p ch o' kept is
     let was_one : cond (is_open (get_or cs op.chan.0 no_channel)) 1 0 ≡ 1 = ap {B = ℕ}
     (λ (b : Bool). cond b 1 0) made.2 in
     rw (completed-is f n op finished is, is_slot)
-    (kept-channel (completed_flight f n op finished) op.chan.0 ch (with_slot (get_or ps op.chan.0 nothing_pending) op.kind None) o' kept made.0 lawful refl
+    (kept-channel (completed_flight f n op finished) op.chan.0 ch
+    (with_slot (get_or ps op.chan.0 nothing_pending) op.kind None) o' kept made.0 lawful refl
     (ap (λ (k : ℕ). o' + k) was_one ∙ counted)
     (listed-completed f ps n op finished kept.is_listed is is_pending_op made.1))
 
 -- some channel is open where an operation is pending
-pub some-open : {f : Flight} {cs : List Channel} {ps : List slots.Pending} {o r r' : ℕ} {sh : Bool} {l : GroupLimits} (n : ℕ) (op : Operation)
+pub some-open : {f : Flight} {cs : List Channel} {ps : List slots.Pending} {o r r' : ℕ} {sh : Bool} {l : GroupLimits}
+    (n : ℕ) (op : Operation)
     → IsGroupKept f cs ps o sh l r r' → op_at f n ≡ Some op → is_pending (Some op) ≡ true → 1 ≤ o
 some-open {f} {cs} n op kept is is_pending_op =
     let made = pending-made n op kept is is_pending_op in

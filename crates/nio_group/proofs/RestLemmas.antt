@@ -1,5 +1,6 @@
 -- A terminated group is at rest, and each operation completes once.
-use Rattle.std.proofs.Common.{◌≡◌, ℕ, ◌+◌, ◌<◌, zero, suc, Bool, true, false, ltb, not, ◌&&◌, ◌||◌, List, [], ◌∷◌, Option, Some, None, length, refl, sym, ap, ◌∙◌, subst, arith}
+use Rattle.std.proofs.Common.{◌≡◌, ℕ, ◌+◌, ◌<◌, zero, suc, Bool, true, false, ltb, not, ◌&&◌, ◌||◌, List, [], ◌∷◌}
+use Rattle.std.proofs.Common.{Option, Some, None, length, refl, sym, ap, ◌∙◌, subst, arith}
 use Rattle.std.specs.List.{list_any}
 use Rattle.std.proofs.lemmas.Bool.{false≢true}
 use Rattle.std.proofs.lemmas.List.Folds.{list_any_at, list_all_at}
@@ -11,10 +12,14 @@ use Rattle.nio_group.specs.declared.operation.Operation.{Operation}
 use Rattle.nio_group.specs.declared.limits.GroupLimits.{GroupLimits}
 use Rattle.nio_group.specs.Stages.{is_pending, is_pending_as, is_queued, is_running}
 use Rattle.nio_group.specs.Flight.{Flight, op_at, accepted, flight_after_take}
-use Rattle.nio_group.specs.Group.{Group, IsLawful, channel_at, no_channel, is_terminated, all_closed, none_to_handle, empty_group}
+use Rattle.nio_group.specs.Group.{Group, IsLawful, channel_at, no_channel, is_terminated, all_closed, none_to_handle}
+use Rattle.nio_group.specs.Group.{empty_group}
 use Rattle.nio_group.specs.Refusals.{open_refusal, bind_refusal, start_refusal, report_refusal}
-use Rattle.nio_group.specs.Steps.{kept_if_refused, started, reported, finish_refusal, after_close, after_shutdown, closed_below}
-use Rattle.nio_group.specs.Run.{Call, open_channel, bind, start, report, take, finish, close_channel, shutdown, shutdown_now, after, has_completed, was_taken, TerminatedStays, IsRunOf, left_by, completions, once_where, CompletesOnce, TerminatedIsAtRest}
+use Rattle.nio_group.specs.Steps.{kept_if_refused, started, reported, finish_refusal, after_close, after_shutdown}
+use Rattle.nio_group.specs.Steps.{closed_below}
+use Rattle.nio_group.specs.Run.{Call, open_channel, bind, start, report, take, finish, close_channel, shutdown}
+use Rattle.nio_group.specs.Run.{shutdown_now, after, has_completed, was_taken, TerminatedStays, IsRunOf, left_by}
+use Rattle.nio_group.specs.Run.{completions, once_where, CompletesOnce, TerminatedIsAtRest}
 use Rattle.nio_group.proofs.TableLemmas.{by_test}
 use Rattle.nio_group.proofs.ListLemmas.{eqb-same}
 use Rattle.nio_group.proofs.QueueLemmas.{QueueHolds, front-queued}
@@ -42,10 +47,16 @@ none-left g n lawful closed idle = by_slot (op_at g.flight n) refl
         false≢true (sym (closed op.chan.0) ∙ lawful.pending_open n op.chan.0 op.kind pending)
     by_stage op is (Queued r) e =
         let busy : (is_queued (op_at g.flight n) || is_running (op_at g.flight n)) ≡ true = rw (is, e) refl in
-        false≢true (sym idle ∙ list_any_at (λ slot. is_queued slot || is_running slot) g.flight.operations n None (some-within g.flight.operations n op is) busy)
+        false≢true
+        (sym idle
+        ∙ list_any_at (λ slot. is_queued slot || is_running slot) g.flight.operations n None
+        (some-within g.flight.operations n op is) busy)
     by_stage op is Running e =
         let busy : (is_queued (op_at g.flight n) || is_running (op_at g.flight n)) ≡ true = rw (is, e) refl in
-        false≢true (sym idle ∙ list_any_at (λ slot. is_queued slot || is_running slot) g.flight.operations n None (some-within g.flight.operations n op is) busy)
+        false≢true
+        (sym idle
+        ∙ list_any_at (λ slot. is_queued slot || is_running slot) g.flight.operations n None
+        (some-within g.flight.operations n op is) busy)
 
     by_slot : (slot : Option Operation) → op_at g.flight n ≡ slot → slot ≡ None
     by_slot None is = refl
@@ -62,7 +73,9 @@ resting g lawful terminated =
     by_test (channel_at g c).is_open
     (λ t.
     let fails : not (channel_at g c).is_open ≡ false = rw t refl in
-    absurd (false≢true (sym (list_all_at (λ channel. not channel.is_open) g.channels c no_channel (open-within g.channels c t) fails) ∙ all)))
+    absurd (false≢true
+    (sym (list_all_at (λ channel. not channel.is_open) g.channels c no_channel (open-within g.channels c t) fails)
+    ∙ all)))
     (λ f. f) in
     record {
       shut = and-left g.is_shut (all_closed g && none_to_handle g) terminated;
@@ -104,14 +117,17 @@ after-resting P g (open_channel kind) lawful rest terminated same shut =
     unless-refused P (open_refusal g) g _ same (λ free. absurd (open-refused g rest.shut free))
 after-resting P g (bind chan) lawful rest terminated same shut =
     unless-refused P (bind_refusal (channel_at g chan.0).is_open (channel_at g chan.0).endpoint) g _ same
-    (λ free. absurd (bind-refused (channel_at g chan.0).is_open (channel_at g chan.0).endpoint (rest.closed chan.0) free))
+    (λ free. absurd
+    (bind-refused (channel_at g chan.0).is_open (channel_at g chan.0).endpoint (rest.closed chan.0) free))
 after-resting P g (start chan kind len) lawful rest terminated same shut =
     unless-refused P (start_refusal g chan.0 kind) g (started g chan kind len) same
     (λ free. absurd (some_none _ (rw terminated at free)))
 after-resting P g (report op o) lawful rest terminated same shut =
-    subst (λ (slot : Option Operation). P (kept_if_refused (report_refusal slot o) g (reported g op.0 o slot))) (sym (rest.none op.0)) same
+    subst (λ (slot : Option Operation). P (kept_if_refused (report_refusal slot o) g (reported g op.0 o slot)))
+    (sym (rest.none op.0)) same
 after-resting P g take lawful rest terminated same shut =
-    subst (λ (queue : List ℕ). P (record g { flight = flight_after_take g.flight queue })) (sym (queue-empty g.flight lawful.queued_once rest.none)) same
+    subst (λ (queue : List ℕ). P (record g { flight = flight_after_take g.flight queue }))
+    (sym (queue-empty g.flight lawful.queued_once rest.none)) same
 after-resting P g (finish op) lawful rest terminated same shut =
     let idle : is_running (op_at g.flight op.0) ≡ false = rw (rest.none op.0) refl in
     unless-refused P (finish_refusal (is_running (op_at g.flight op.0))) g _ same
@@ -124,7 +140,8 @@ after-resting P g shutdown_now lawful rest terminated same shut =
 
 pub terminated-stays : TerminatedStays
 terminated-stays g call lawful made terminated =
-    after-resting (λ (h : Group). is_terminated h ≡ true) g call lawful (resting g lawful terminated) terminated terminated
+    after-resting (λ (h : Group). is_terminated h ≡ true) g call lawful (resting g lawful terminated) terminated
+    terminated
     (and-right g.is_shut (all_closed g && none_to_handle g) terminated)
 
 flight-rests : (g : Group) (call : Call) → IsLawful g → is_terminated g ≡ true → (after g call).flight ≡ g.flight
@@ -159,7 +176,8 @@ at-rest g lawful terminated =
           let running : is_running (op_at g.flight n) ≡ false = rw none refl in
           both (was_taken g n) (not (is_running (op_at g.flight n)))
           (both (has_completed g n) (not (is_queued (op_at g.flight n)))
-          (both (ltb n (accepted g.flight)) (not (is_pending (op_at g.flight n))) (lt-true n (accepted g.flight) l) (true-not (is_pending (op_at g.flight n)) pending))
+          (both (ltb n (accepted g.flight)) (not (is_pending (op_at g.flight n))) (lt-true n (accepted g.flight) l)
+          (true-not (is_pending (op_at g.flight n)) pending))
           (true-not (is_queued (op_at g.flight n)) queued))
           (true-not (is_running (op_at g.flight n)) running);
       completes_none = λ n calls run. none-completes n g calls lawful terminated run;
@@ -181,7 +199,8 @@ completed-stays g call n lawful is =
     (and-right (ltb n (accepted g.flight)) (not (is_pending (op_at g.flight n))) is) in
     both (ltb n (accepted (after g call).flight)) (not (is_pending (op_at (after g call).flight n)))
     (lt-true n (accepted (after g call).flight) (omega arith))
-    (true-not (is_pending (op_at (after g call).flight n)) (next-not_pending (op_at g.flight n) (op_at (after g call).flight n) (step.next n within) past))
+    (true-not (is_pending (op_at (after g call).flight n))
+    (next-not_pending (op_at g.flight n) (op_at (after g call).flight n) (step.next n within) past))
 
 counted : (n : ℕ) (g : Group) (calls : List Call) → IsLawful g → IsRunOf g calls
     → completions n g calls + once_where (has_completed g n) ≡ once_where (has_completed (left_by g calls) n)

@@ -1,5 +1,6 @@
 -- Each call keeps a group lawful.
-use Rattle.std.proofs.Common.{◌≡◌, ◌≢◌, ℕ, ◌<◌, ◌≤◌, zero, suc, Bool, true, false, cond, eqb, List, [], ◌∷◌, ◌++◌, Option, Some, None, is_some, length, get_or, set, refl, sym, ap, ◌∙◌, subst, arith}
+use Rattle.std.proofs.Common.{◌≡◌, ◌≢◌, ℕ, ◌<◌, ◌≤◌, zero, suc, Bool, true, false, cond, eqb, List, [], ◌∷◌, ◌++◌}
+use Rattle.std.proofs.Common.{Option, Some, None, is_some, length, get_or, set, refl, sym, ap, ◌∙◌, subst, arith}
 use Rattle.std.proofs.lemmas.Bool.{false≢true}
 use Rattle.std.proofs.lemmas.List.{set-get_or, length-set}
 use Rattle.nio_base.specs.declared.numbers.GChan.{GChan}
@@ -16,18 +17,26 @@ use Rattle.nio_group.specs.declared.operation.Stage.{Stage}
 use Rattle.nio_group.specs.declared.operation.Stage.TheVariants.{Pending, Queued, Running}
 use Rattle.nio_group.specs.declared.operation.Operation.{Operation}
 use Rattle.nio_group.specs.Stages.{is_pending, is_queued, is_running, at_stage}
-use Rattle.nio_group.specs.Flight.{Flight, op_at, IsPendingAs, with_accepted, with_ended, with_taken, flight_after_take, with_channel_closed}
+use Rattle.nio_group.specs.Flight.{Flight, op_at, IsPendingAs, with_accepted, with_ended, with_taken, flight_after_take}
+use Rattle.nio_group.specs.Flight.{with_channel_closed}
 use Rattle.nio_group.specs.Group.{Group, IsLawful, channel_at, no_channel, is_ready_for, new_channel}
 use Rattle.nio_group.specs.Refusals.{open_refusal, bind_refusal, start_refusal, report_refusal, has_pending, is_allowed}
-use Rattle.nio_group.specs.Steps.{kept_if_refused, after_open, after_bind, after_start, channels_after_start, started, first_stage, after_report, reported, channels_after_report, result_of, no_number_left, after_take, after_finish, finish_refusal, after_close, after_shutdown, closed_below, with_endpoint, with_closed, connected_stream}
-use Rattle.nio_group.specs.Run.{Call, open_channel, bind, start, report, take, finish, close_channel, shutdown, shutdown_now, IsCallOf, after, reply_to, StepsAreLawful}
+use Rattle.nio_group.specs.Steps.{kept_if_refused, after_open, after_bind, after_start, channels_after_start, started}
+use Rattle.nio_group.specs.Steps.{first_stage, after_report, reported, channels_after_report, result_of, no_number_left}
+use Rattle.nio_group.specs.Steps.{after_take, after_finish, finish_refusal, after_close, after_shutdown, closed_below}
+use Rattle.nio_group.specs.Steps.{with_endpoint, with_closed, connected_stream}
+use Rattle.nio_group.specs.Run.{Call, open_channel, bind, start, report, take, finish, close_channel, shutdown}
+use Rattle.nio_group.specs.Run.{shutdown_now, IsCallOf, after, reply_to, StepsAreLawful}
 use Rattle.nio_group.proofs.TableLemmas.{other_number, count_by-set}
 use Rattle.nio_group.proofs.QueueLemmas.{QueueHolds, queue-set, queue-taken, front-queued}
 use Rattle.nio_group.proofs.FlightLemmas.{some-within, not_queued-running}
 use Rattle.nio_group.proofs.LawfulLemmas.{IsFlightLawful, lawful-channel, lawful-channel_made, open-within}
 use Rattle.nio_group.proofs.GroupLemmas.{new-not_connecting}
-use Rattle.nio_group.proofs.StartLemmas.{startable, allowed, lawful-started, lawful-queued, endpoint_after, cond-none, IsStartable}
-use Rattle.nio_group.proofs.ReportLemmas.{flight-changes, completed_flight, completed-is, lawful-completed, lawful-connected, report-allowed, connected-connect, other-outcome, accepted-accept}
+use Rattle.nio_group.proofs.StartLemmas.{startable, allowed, lawful-started, lawful-queued, endpoint_after, cond-none}
+use Rattle.nio_group.proofs.StartLemmas.{IsStartable}
+use Rattle.nio_group.proofs.ReportLemmas.{flight-changes, completed_flight, completed-is, lawful-completed}
+use Rattle.nio_group.proofs.ReportLemmas.{lawful-connected, report-allowed, connected-connect, other-outcome}
+use Rattle.nio_group.proofs.ReportLemmas.{accepted-accept}
 use Rattle.nio_group.proofs.EndLemmas.{queued-not_pending, running-not_pending, lawful-closed, lawful-unpending}
 
 -- a refused call keeps what holds, and one that isn't leads to it
@@ -73,8 +82,10 @@ lawful-after_bind g c lawful within =
     (λ free.
     let unbound = bindable (channel_at g c).is_open (channel_at g c).endpoint free in
     let none : (kind : OpKind) (n : ℕ) → IsPendingAs g.flight c kind n → ⊥ =
-    λ kind n h. unbound-ready kind (subst (λ (e : Endpoint). is_ready_for e kind ≡ true) unbound (lawful.pending_ready n c kind h)) in
-    lawful-channel g g.flight c (record (channel_at g c) { endpoint = Listener true }) lawful within (flight-lawful g lawful)
+    λ kind n h. unbound-ready kind
+    (subst (λ (e : Endpoint). is_ready_for e kind ≡ true) unbound (lawful.pending_ready n c kind h)) in
+    lawful-channel g g.flight c (record (channel_at g c) { endpoint = Listener true }) lawful within
+    (flight-lawful g lawful)
     (record {
       open_for = λ kind n h. absurd (none kind n h);
       ready_for = λ kind n h. absurd (none kind n h);
@@ -94,7 +105,8 @@ lt_of_ne le ne = omega arith
 abbrev pub started_as : Group → GChan → OpKind → ℕ → Bool → Group
 started_as g chan kind len is_open =
     record (channels_after_start g chan.0 kind is_open) {
-      flight = with_accepted g.flight (record { chan = chan; kind = kind; len = len; stage = first_stage is_open kind len });
+      flight = with_accepted g.flight
+          (record { chan = chan; kind = kind; len = len; stage = first_stage is_open kind len });
     }
 
 closed-same : (g : Group) (c : ℕ) (kind : OpKind) → channels_after_start g c kind false ≡ g
@@ -104,7 +116,10 @@ closed-same g c Read = refl
 closed-same g c Write = refl
 
 -- an operation that is pending, and isn't a connect, was started
-lawful-pending : (g : Group) (op : Operation) → IsLawful g → op.chan.0 < length g.channels → op.stage ≡ Pending → (channel_at g op.chan.0).is_open ≡ true → IsStartable g op.chan.0 op.kind → endpoint_after (channel_at g op.chan.0).endpoint op.kind ≡ (channel_at g op.chan.0).endpoint → IsLawful (record g { flight = with_accepted g.flight op })
+lawful-pending : (g : Group) (op : Operation) → IsLawful g → op.chan.0 < length g.channels → op.stage ≡ Pending
+    → (channel_at g op.chan.0).is_open ≡ true → IsStartable g op.chan.0 op.kind
+    → endpoint_after (channel_at g op.chan.0).endpoint op.kind ≡ (channel_at g op.chan.0).endpoint
+    → IsLawful (record g { flight = with_accepted g.flight op })
 lawful-pending g op lawful within pending is facts same =
     let few = lawful.few_in_flight in
     let few_numbers = lawful.few_accepted in
@@ -117,9 +132,14 @@ lawful-pending g op lawful within pending is facts same =
     ≡ g.channels =
     ap (λ (e : Endpoint). set g.channels op.chan.0 (record (channel_at g op.chan.0) { endpoint = e })) same
     ∙ set-get_or g.channels op.chan.0 no_channel in
-    subst (λ (cs : List Channel). IsLawful (record g { flight = with_accepted g.flight op; channels = cs })) unchanged made
+    subst (λ (cs : List Channel). IsLawful (record g { flight = with_accepted g.flight op; channels = cs })) unchanged
+    made
 
-lawful-transfer : (g : Group) (op : Operation) → IsLawful g → op.chan.0 < length g.channels → op.stage ≡ first_stage true op.kind op.len → (channel_at g op.chan.0).is_open ≡ true → IsStartable g op.chan.0 op.kind → endpoint_after (channel_at g op.chan.0).endpoint op.kind ≡ (channel_at g op.chan.0).endpoint → IsLawful (record g { flight = with_accepted g.flight op })
+lawful-transfer : (g : Group) (op : Operation) → IsLawful g → op.chan.0 < length g.channels
+    → op.stage ≡ first_stage true op.kind op.len → (channel_at g op.chan.0).is_open ≡ true
+    → IsStartable g op.chan.0 op.kind
+    → endpoint_after (channel_at g op.chan.0).endpoint op.kind ≡ (channel_at g op.chan.0).endpoint
+    → IsLawful (record g { flight = with_accepted g.flight op })
 lawful-transfer g op lawful within stage is facts same =
     by_stage op.stage refl
   where
@@ -143,25 +163,31 @@ lawful-started_now g chan kind len false lawful within facts is =
     let few = lawful.few_in_flight in
     let few_numbers = lawful.few_accepted in
     let made = lawful-queued g op lawful refl (lt_of_ne few facts.room) (lt_of_ne few_numbers facts.numbers) in
-    subst (λ (h : Group). IsLawful (record h { flight = with_accepted g.flight op })) (sym (closed-same g chan.0 kind)) made
+    subst (λ (h : Group). IsLawful (record h { flight = with_accepted g.flight op }))
+    (sym (closed-same g chan.0 kind)) made
 lawful-started_now g chan Accept len true lawful within facts is =
-    lawful-transfer g (record { chan = chan; kind = Accept; len = len; stage = first_stage true Accept len }) lawful within refl is facts refl
+    lawful-transfer g (record { chan = chan; kind = Accept; len = len; stage = first_stage true Accept len }) lawful
+    within refl is facts refl
 lawful-started_now g chan Connect len true lawful within facts is =
     let few = lawful.few_in_flight in
     let few_numbers = lawful.few_accepted in
     let allow = allowed (channel_at g chan.0).endpoint (has_pending g.flight chan.0 Connect) Connect
     (rw is at facts.channel) in
-    lawful-started g (record { chan = chan; kind = Connect; len = len; stage = Pending }) lawful within refl is allow (lt_of_ne few facts.room) (lt_of_ne few_numbers facts.numbers)
+    lawful-started g (record { chan = chan; kind = Connect; len = len; stage = Pending }) lawful within refl is allow
+    (lt_of_ne few facts.room) (lt_of_ne few_numbers facts.numbers)
 lawful-started_now g chan Read len true lawful within facts is =
-    lawful-transfer g (record { chan = chan; kind = Read; len = len; stage = first_stage true Read len }) lawful within refl is facts refl
+    lawful-transfer g (record { chan = chan; kind = Read; len = len; stage = first_stage true Read len }) lawful within
+    refl is facts refl
 lawful-started_now g chan Write len true lawful within facts is =
-    lawful-transfer g (record { chan = chan; kind = Write; len = len; stage = first_stage true Write len }) lawful within refl is facts refl
+    lawful-transfer g (record { chan = chan; kind = Write; len = len; stage = first_stage true Write len }) lawful
+    within refl is facts refl
 
 pub lawful-after_start : (g : Group) (chan : GChan) (kind : OpKind) (len : ℕ) → IsLawful g → chan.0 < length g.channels
     → IsLawful (after_start g chan kind len)
 lawful-after_start g chan kind len lawful within =
     unless-refused IsLawful (start_refusal g chan.0 kind) g (started g chan kind len) lawful
-    (λ free. lawful-started_now g chan kind len (channel_at g chan.0).is_open lawful within (startable g chan.0 kind free) refl)
+    (λ free. lawful-started_now g chan kind len (channel_at g chan.0).is_open lawful within
+    (startable g chan.0 kind free) refl)
 
 pub cond-holds : {X : Type 0} (P : X → Type 0) (b : Bool) (x y : X) → (b ≡ true → P x) → (b ≡ false → P y)
     → P (cond b x y)
@@ -169,7 +195,11 @@ cond-holds P true x y chosen other = chosen refl
 cond-holds P false x y chosen other = other refl
 
 -- a report that isn't refused, of each outcome
-lawful-reported_now : (g : Group) (n : ℕ) (o : Outcome) (op : Operation) → IsLawful g → op_at g.flight n ≡ Some op → is_pending (Some op) ≡ true → is_allowed op.kind op.len o ≡ true → IsLawful (record (channels_after_report g op.chan.0 op.kind o) { flight = completed_flight g.flight n op (result_of g o) })
+lawful-reported_now : (g : Group) (n : ℕ) (o : Outcome) (op : Operation) → IsLawful g → op_at g.flight n ≡ Some op
+    → is_pending (Some op) ≡ true → is_allowed op.kind op.len o ≡ true
+    → IsLawful
+    (record (channels_after_report g op.chan.0 op.kind
+    o) { flight = completed_flight g.flight n op (result_of g o) })
 lawful-reported_now g n (outcome.Count k) op lawful is pending allow =
     lawful-completed g n op (result_of g (outcome.Count k)) lawful is pending
     (other-outcome op.kind op.len (outcome.Count k) allow (λ e. cc) (λ e. cc))
@@ -177,7 +207,9 @@ lawful-reported_now g n outcome.End op lawful is pending allow =
     lawful-completed g n op (result_of g outcome.End) lawful is pending
     (other-outcome op.kind op.len outcome.End allow (λ e. cc) (λ e. cc))
 lawful-reported_now g n outcome.Connected op lawful is pending allow =
-    lawful-connected g n op (result_of g outcome.Connected) (record (channel_at g op.chan.0) { endpoint = Stream Connected }) lawful is pending (connected-connect op.kind op.len allow) (λ o e. cc)
+    lawful-connected g n op (result_of g outcome.Connected)
+    (record (channel_at g op.chan.0) { endpoint = Stream Connected }) lawful is pending
+    (connected-connect op.kind op.len allow) (λ o e. cc)
 lawful-reported_now g n outcome.Accepted op lawful is pending allow =
     let f = completed_flight g.flight n op (result_of g outcome.Accepted) in
     let kept = lawful-completed g n op (result_of g outcome.Accepted) lawful is pending
@@ -194,7 +226,10 @@ lawful-reported_now g n outcome.Accepted op lawful is pending allow =
     lawful-channel_made (record g { flight = f }) connected_stream kept (omega arith) (λ c. cc)))
 lawful-reported_now g n outcome.Fault op lawful is pending allow = by_kind op.kind refl
   where
-    by_kind : (kind : OpKind) → op.kind ≡ kind → IsLawful (record (channels_after_report g op.chan.0 kind outcome.Fault) { flight = completed_flight g.flight n op (result_of g outcome.Fault) })
+    by_kind : (kind : OpKind) → op.kind ≡ kind
+        → IsLawful
+        (record (channels_after_report g op.chan.0 kind
+        outcome.Fault) { flight = completed_flight g.flight n op (result_of g outcome.Fault) })
     by_kind Accept e =
         lawful-completed g n op (result_of g outcome.Fault) lawful is pending
         (λ c. let no : Accept ≡ Connect = sym e ∙ c in cc)
@@ -219,7 +254,8 @@ lawful-after_report g n o lawful = by_slot (op_at g.flight n) refl
         (λ free.
         let facts = report-allowed op o free in
         let made = lawful-reported_now g n o op lawful is facts.0 facts.1 in
-        subst (λ (f : Flight). IsLawful (record (channels_after_report g op.chan.0 op.kind o) { flight = f })) (sym (completed-is g.flight n op (result_of g o) is)) made)
+        subst (λ (f : Flight). IsLawful (record (channels_after_report g op.chan.0 op.kind o) { flight = f }))
+        (sym (completed-is g.flight n op (result_of g o) is)) made)
 
 queued-there : (slot : Option Operation) → is_queued slot ≡ true → (op : Operation) × (slot ≡ Some op)
 queued-there None h = absurd (false≢true h)
@@ -229,7 +265,9 @@ running-there : (slot : Option Operation) → is_running slot ≡ true → (op :
 running-there None h = absurd (false≢true h)
 running-there (Some op) h = (op, refl)
 
-lawful-taken_front : (g : Group) (n : ℕ) (rest : List ℕ) (op : Operation) → IsLawful g → g.flight.queue ≡ n ∷ rest → QueueHolds g.flight.operations (n ∷ rest) → op_at g.flight n ≡ Some op → is_queued (Some op) ≡ true → IsLawful (record g { flight = with_taken g.flight n })
+lawful-taken_front : (g : Group) (n : ℕ) (rest : List ℕ) (op : Operation) → IsLawful g → g.flight.queue ≡ n ∷ rest
+    → QueueHolds g.flight.operations (n ∷ rest) → op_at g.flight n ≡ Some op → is_queued (Some op) ≡ true
+    → IsLawful (record g { flight = with_taken g.flight n })
 lawful-taken_front g n rest op lawful is holds is_op of =
     let within = some-within g.flight.operations n op is_op in
     let was : is_pending (op_at g.flight n) ≡ false = rw is_op (queued-not_pending op.stage of) in
@@ -243,15 +281,18 @@ lawful-taken_front g n rest op lawful is holds is_op of =
 pub lawful-after_take : (g : Group) → IsLawful g → IsLawful (after_take g)
 lawful-after_take g lawful = by_queue g.flight.queue refl
   where
-    by_queue : (queue : List ℕ) → g.flight.queue ≡ queue → IsLawful (record g { flight = flight_after_take g.flight queue })
+    by_queue : (queue : List ℕ) → g.flight.queue ≡ queue
+        → IsLawful (record g { flight = flight_after_take g.flight queue })
     by_queue [] is = lawful
     by_queue (n ∷ rest) is =
         let holds : QueueHolds g.flight.operations (n ∷ rest) = rw is at lawful.queued_once in
         let queued = front-queued g.flight.operations n rest holds in
         let some = queued-there (op_at g.flight n) queued in
-        lawful-taken_front g n rest some.0 lawful is holds some.1 (subst (λ (slot : Option Operation). is_queued slot ≡ true) some.1 queued)
+        lawful-taken_front g n rest some.0 lawful is holds some.1
+        (subst (λ (slot : Option Operation). is_queued slot ≡ true) some.1 queued)
 
-lawful-ended : (g : Group) (n : ℕ) (op : Operation) → IsLawful g → op_at g.flight n ≡ Some op → is_running (Some op) ≡ true → IsLawful (record g { flight = with_ended g.flight n })
+lawful-ended : (g : Group) (n : ℕ) (op : Operation) → IsLawful g → op_at g.flight n ≡ Some op
+    → is_running (Some op) ≡ true → IsLawful (record g { flight = with_ended g.flight n })
 lawful-ended g n op lawful is of =
     let within = some-within g.flight.operations n op is in
     let was : is_pending (op_at g.flight n) ≡ false = rw is (running-not_pending op.stage of) in
@@ -270,7 +311,8 @@ lawful-ended g n op lawful is of =
 pub lawful-after_finish : (g : Group) (n : ℕ) → IsLawful g → IsLawful (after_finish g n)
 lawful-after_finish g n lawful = by_running (is_running (op_at g.flight n)) refl
   where
-    by_running : (b : Bool) → is_running (op_at g.flight n) ≡ b → IsLawful (kept_if_refused (finish_refusal b) g (record g { flight = with_ended g.flight n }))
+    by_running : (b : Bool) → is_running (op_at g.flight n) ≡ b
+        → IsLawful (kept_if_refused (finish_refusal b) g (record g { flight = with_ended g.flight n }))
     by_running false is = lawful
     by_running true is =
         let some = running-there (op_at g.flight n) is in
@@ -278,7 +320,8 @@ lawful-after_finish g n lawful = by_running (is_running (op_at g.flight n)) refl
 
 pub lawful-after_close : (g : Group) (c : ℕ) → IsLawful g → IsLawful (after_close g c)
 lawful-after_close g c lawful =
-    cond-holds IsLawful (channel_at g c).is_open (record (with_closed g c) { flight = with_channel_closed g.flight c }) g
+    cond-holds IsLawful (channel_at g c).is_open (record (with_closed g c) { flight = with_channel_closed g.flight c })
+    g
     (λ t. lawful-closed g c lawful (open-within g.channels c t))
     (λ f. lawful)
 

@@ -1,5 +1,7 @@
 -- Each call leaves an operation as it is, or takes it to its next stage.
-use Rattle.std.proofs.Common.{◌≡◌, ◌⊎◌, inl, inr, ℕ, ◌<◌, ◌≤◌, zero, suc, Bool, true, false, eqb, ltb, not, ◌&&◌, ◌||◌, List, [], ◌∷◌, ◌++◌, Option, Some, None, length, get_or, set, map, refl, sym, ap, ◌∙◌, subst, arith, get_or-set_same, get_or-set_other}
+use Rattle.std.proofs.Common.{◌≡◌, ◌⊎◌, inl, inr, ℕ, ◌<◌, ◌≤◌, zero, suc, Bool, true, false, eqb, ltb, not, ◌&&◌, ◌||◌}
+use Rattle.std.proofs.Common.{List, [], ◌∷◌, ◌++◌, Option, Some, None, length, get_or, set, map, refl, sym, ap, ◌∙◌}
+use Rattle.std.proofs.Common.{subst, arith, get_or-set_same, get_or-set_other}
 use Rattle.std.specs.Option.{option_map}
 use Rattle.std.proofs.lemmas.Bool.{false≢true}
 use Rattle.std.proofs.lemmas.Bool.Decides.{nat_tests}
@@ -13,12 +15,16 @@ use Rattle.nio_base.specs.declared.group.Why.TheVariants.{AsynchronousClose}
 use Rattle.nio_group.specs.declared.operation.Stage.{Stage}
 use Rattle.nio_group.specs.declared.operation.Stage.TheVariants.{Pending, Queued, Running}
 use Rattle.nio_group.specs.declared.operation.Operation.{Operation}
-use Rattle.nio_group.specs.Stages.{is_pending, is_pending_on, is_queued, is_running, stage_is_pending, stage_is_queued, stage_is_running, at_stage}
-use Rattle.nio_group.specs.Flight.{Flight, op_at, accepted, with_accepted, flight_after_take, with_channel_closed, closed_on}
+use Rattle.nio_group.specs.Stages.{is_pending, is_pending_on, is_queued, is_running, stage_is_pending, stage_is_queued}
+use Rattle.nio_group.specs.Stages.{stage_is_running, at_stage}
+use Rattle.nio_group.specs.Flight.{Flight, op_at, accepted, with_accepted, flight_after_take, with_channel_closed}
+use Rattle.nio_group.specs.Flight.{closed_on}
 use Rattle.nio_group.specs.Group.{Group, IsLawful, channel_at}
 use Rattle.nio_group.specs.Refusals.{open_refusal, bind_refusal, start_refusal, report_refusal}
-use Rattle.nio_group.specs.Steps.{kept_if_refused, started, first_stage, after_report, reported, result_of, after_take, finish_refusal, after_close, after_shutdown, closed_below, with_closed}
-use Rattle.nio_group.specs.Run.{Call, open_channel, bind, start, report, take, finish, close_channel, shutdown, shutdown_now, after, GoesOn, IsNext, StagesGoForward}
+use Rattle.nio_group.specs.Steps.{kept_if_refused, started, first_stage, after_report, reported, result_of, after_take}
+use Rattle.nio_group.specs.Steps.{finish_refusal, after_close, after_shutdown, closed_below, with_closed}
+use Rattle.nio_group.specs.Run.{Call, open_channel, bind, start, report, take, finish, close_channel, shutdown}
+use Rattle.nio_group.specs.Run.{shutdown_now, after, GoesOn, IsNext, StagesGoForward}
 use Rattle.nio_group.proofs.TableLemmas.{by_test, same_number, other_number}
 use Rattle.nio_group.proofs.QueueLemmas.{QueueHolds, front-queued}
 use Rattle.nio_group.proofs.PendingLemmas.{and-left}
@@ -71,7 +77,13 @@ none-between : {P : Type 0} (a b n : ℕ) → a ≡ b → a ≤ n → n < b → 
 none-between a b n same from below = absurd (let never : ⊥ = omega arith in never)
 
 stepped-same : (f : Flight) → IsStepped f f
-stepped-same f = record { accepts = omega arith; next = λ n l. next-same (op_at f n); begun = λ n from l. none-between (accepted f) (accepted f) n refl from l }
+stepped-same f =
+    record {
+      accepts = omega arith;
+      next = λ n l. next-same (op_at f n);
+      begun = λ n from l. none-between (accepted f)
+          (accepted f) n refl from l;
+    }
 
 stepped-accepted : (f : Flight) (op : Operation) → (stage_is_pending op.stage || stage_is_queued op.stage) ≡ true
     → IsStepped f (with_accepted f op)
@@ -84,7 +96,8 @@ stepped-accepted f op begins =
           rw (get_or_push f.operations (Some op) None n (sym last)) begins;
     }
 
-stepped-set : (f : Flight) (i : ℕ) (slot : Option Operation) (queue : List ℕ) → IsNext (op_at f i) slot → IsStepped f (record f { operations = set f.operations i slot; queue = queue })
+stepped-set : (f : Flight) (i : ℕ) (slot : Option Operation) (queue : List ℕ) → IsNext (op_at f i) slot
+    → IsStepped f (record f { operations = set f.operations i slot; queue = queue })
 stepped-set f i slot queue moves =
     record {
       accepts = omega (arith, length-set f.operations i slot);
@@ -92,10 +105,12 @@ stepped-set f i slot queue moves =
           by_test (eqb n i)
           (λ t. let same = same_number n i t in
           let put : get_or (set f.operations i slot) n None ≡ slot =
-          subst (λ (k : ℕ). get_or (set f.operations i slot) k None ≡ slot) (sym same) (get_or-set_same f.operations i slot None (subst (λ (k : ℕ). k < length f.operations) same l)) in
+          subst (λ (k : ℕ). get_or (set f.operations i slot) k None ≡ slot) (sym same)
+          (get_or-set_same f.operations i slot None (subst (λ (k : ℕ). k < length f.operations) same l)) in
           rw put (subst (λ (k : ℕ). IsNext (op_at f k) slot) (sym same) moves))
           (λ e. rw (get_or-set_other f.operations i n slot None (other_number n i e)) (next-same (op_at f n)));
-      begun = λ n from l. none-between (length f.operations) (length (set f.operations i slot)) n (sym (length-set f.operations i slot)) from l;
+      begun = λ n from l. none-between (length f.operations) (length (set f.operations i slot)) n
+          (sym (length-set f.operations i slot)) from l;
     }
 
 -- the slot as it was, or completed since its channel was closed
@@ -142,7 +157,8 @@ closing-same f = record { accepts = refl; slots = λ n. inl refl }
 
 closing-after_close : (g : Group) (c : ℕ) → IsClosing g.flight (after_close g c).flight
 closing-after_close g c =
-    cond-holds (λ (h : Group). IsClosing g.flight h.flight) (channel_at g c).is_open (record (with_closed g c) { flight = with_channel_closed g.flight c }) g
+    cond-holds (λ (h : Group). IsClosing g.flight h.flight) (channel_at g c).is_open
+    (record (with_closed g c) { flight = with_channel_closed g.flight c }) g
     (λ t. record {
       accepts = length-map g.flight.operations (closed_on c);
       slots = λ n. rw (get_or-map_closed c n g.flight.operations) (closed_on-closed c (op_at g.flight n));
@@ -156,7 +172,8 @@ closing-closed_below (suc c) g =
     let here = closing-after_close (closed_below c g) c in
     record {
       accepts = here.accepts ∙ before.accepts;
-      slots = λ n. closed-trans (op_at g.flight n) (op_at (closed_below c g).flight n) (op_at (after_close (closed_below c g) c).flight n) (before.slots n) (here.slots n);
+      slots = λ n. closed-trans (op_at g.flight n) (op_at (closed_below c g).flight n)
+          (op_at (after_close (closed_below c g) c).flight n) (before.slots n) (here.slots n);
     }
 
 stepped-closing : (f f' : Flight) → IsClosing f f' → IsStepped f f'
@@ -179,7 +196,8 @@ stepped-report g n o = by_slot (op_at g.flight n) refl
         → IsStepped g.flight (kept_if_refused (report_refusal slot o) g (reported g n o slot)).flight
     by_slot None is = stepped-same g.flight
     by_slot (Some op) is =
-        unless-refused (λ (h : Group). IsStepped g.flight h.flight) (report_refusal (Some op) o) g (reported g n o (Some op)) (stepped-same g.flight)
+        unless-refused (λ (h : Group). IsStepped g.flight h.flight) (report_refusal (Some op) o) g
+        (reported g n o (Some op)) (stepped-same g.flight)
         (λ free.
         let pending : is_pending (op_at g.flight n) ≡ true = rw is (reportable (Some op) o free) in
         stepped-set g.flight n (option_map (at_stage (Queued (result_of g o))) (op_at g.flight n))
@@ -209,17 +227,23 @@ finishable false free = cc
 
 pub stepped-after : (g : Group) (call : Call) → IsLawful g → IsStepped g.flight (after g call).flight
 stepped-after g (open_channel kind) lawful =
-    unless-refused (λ (h : Group). IsStepped g.flight h.flight) (open_refusal g) g _ (stepped-same g.flight) (λ free. stepped-same g.flight)
+    unless-refused (λ (h : Group). IsStepped g.flight h.flight) (open_refusal g) g _ (stepped-same g.flight)
+    (λ free. stepped-same g.flight)
 stepped-after g (bind chan) lawful =
-    unless-refused (λ (h : Group). IsStepped g.flight h.flight) (bind_refusal (channel_at g chan.0).is_open (channel_at g chan.0).endpoint) g _ (stepped-same g.flight) (λ free. stepped-same g.flight)
+    unless-refused (λ (h : Group). IsStepped g.flight h.flight)
+    (bind_refusal (channel_at g chan.0).is_open (channel_at g chan.0).endpoint) g _ (stepped-same g.flight)
+    (λ free. stepped-same g.flight)
 stepped-after g (start chan kind len) lawful =
-    unless-refused (λ (h : Group). IsStepped g.flight h.flight) (start_refusal g chan.0 kind) g (started g chan kind len) (stepped-same g.flight)
+    unless-refused (λ (h : Group). IsStepped g.flight h.flight) (start_refusal g chan.0 kind) g
+    (started g chan kind len) (stepped-same g.flight)
     (λ free. stepped-accepted g.flight _ (first_stage-begins (channel_at g chan.0).is_open kind len))
 stepped-after g (report op o) lawful = stepped-report g op.0 o
 stepped-after g take lawful = stepped-take g lawful
 stepped-after g (finish op) lawful =
-    unless-refused (λ (h : Group). IsStepped g.flight h.flight) (finish_refusal (is_running (op_at g.flight op.0))) g _ (stepped-same g.flight)
-    (λ free. stepped-set g.flight op.0 None g.flight.queue (next-ended (op_at g.flight op.0) (finishable (is_running (op_at g.flight op.0)) free)))
+    unless-refused (λ (h : Group). IsStepped g.flight h.flight) (finish_refusal (is_running (op_at g.flight op.0))) g _
+    (stepped-same g.flight)
+    (λ free. stepped-set g.flight op.0 None g.flight.queue
+    (next-ended (op_at g.flight op.0) (finishable (is_running (op_at g.flight op.0)) free)))
 stepped-after g (close_channel chan) lawful =
     stepped-closing g.flight (after_close g chan.0).flight (closing-after_close g chan.0)
 stepped-after g shutdown lawful = stepped-same g.flight
@@ -229,7 +253,8 @@ stepped-after g shutdown_now lawful =
 
 pub stages-forward : StagesGoForward
 stages-forward g call n lawful made =
-    let step = stepped-after g call lawful in record { accepts = step.accepts; goes_on = step.next n; begins = step.begun n }
+    let step =
+    stepped-after g call lawful in record { accepts = step.accepts; goes_on = step.next n; begins = step.begun n }
 
 pub not-true : (b : Bool) → not b ≡ true → b ≡ false
 not-true true h = absurd (false≢true h)

@@ -1,5 +1,6 @@
 -- What a start that isn't refused keeps.
-use Rattle.std.proofs.Common.{◌≡◌, ◌≢◌, ℕ, ◌^◌, ◌<◌, ◌≤◌, Bool, true, false, cond, eqb, List, [], ◌∷◌, ◌++◌, Option, Some, None, is_some, get_or, set, length, refl, sym, ap, ◌∙◌, subst, arith, inl, inr}
+use Rattle.std.proofs.Common.{◌≡◌, ◌≢◌, ℕ, ◌^◌, ◌<◌, ◌≤◌, Bool, true, false, cond, eqb, List, [], ◌∷◌, ◌++◌, Option}
+use Rattle.std.proofs.Common.{Some, None, is_some, get_or, set, length, refl, sym, ap, ◌∙◌, subst, arith, inl, inr}
 use Rattle.std.specs.Option.{option_or}
 use Rattle.std.proofs.lemmas.Bool.{false≢true}
 use Rattle.std.proofs.lemmas.List.{length_push, set-get_or, get_or_push, get_or_read}
@@ -27,7 +28,8 @@ use Rattle.nio_group.proofs.ListLemmas.{count_by-push, eqb-same}
 use Rattle.nio_group.proofs.QueueLemmas.{QueueHolds, queue-push}
 use Rattle.nio_group.proofs.PendingLemmas.{pending-parts, same_kind-refl, not_pending-as}
 use Rattle.nio_group.proofs.LawfulLemmas.{IsFlightLawful, lawful-channel, lawful-operations}
-use Rattle.nio_group.proofs.GroupLemmas.{pending-pushed, pending-still, pending-within, kept-channel, kept-operations, listed-started}
+use Rattle.nio_group.proofs.GroupLemmas.{pending-pushed, pending-still, pending-within, kept-channel, kept-operations}
+use Rattle.nio_group.proofs.GroupLemmas.{listed-started}
 
 pub some_none : {T : Type 0} (x : T) → Some x ≡ None → ⊥
 some_none x e = cc
@@ -62,7 +64,13 @@ allowed (Listener bound) pending Connect h = absurd (some_none _ h)
 allowed (Listener bound) pending Read h = absurd (some_none _ h)
 allowed (Listener bound) pending Write h = absurd (some_none _ h)
 allowed (Stream link) pending Accept h = absurd (some_none _ h)
-allowed (Stream Unconnected) pending Connect h = record { ready = refl; others = λ k r. absurd (unconnected k r); free = λ r. absurd (false≢true r); connects = λ c. refl }
+allowed (Stream Unconnected) pending Connect h =
+    record {
+      ready = refl;
+      others = λ k r. absurd (unconnected k r);
+      free = λ r. absurd (false≢true r);
+      connects = λ c. refl;
+    }
 allowed (Stream Connecting) pending Connect h = absurd (some_none _ h)
 allowed (Stream Connected) pending Connect h = absurd (some_none _ h)
 allowed (Stream Unconnected) pending Read h = absurd (some_none _ h)
@@ -87,7 +95,8 @@ cond-none false x y h = (refl, h)
 -- what is known where a start isn't refused
 pub record IsStartable (g : Group) (c : ℕ) (kind : OpKind) : Type 0 where
   pub not_terminated : is_terminated g ≡ false
-  pub channel : channel_refusal (channel_at g c).is_open (channel_at g c).endpoint (has_pending g.flight c kind) kind ≡ None
+  pub channel : channel_refusal (channel_at g c).is_open (channel_at g c).endpoint (has_pending g.flight c kind) kind
+      ≡ None
   pub room : in_flight g.flight ≢ g.flight.limit
   pub numbers : accepted g.flight ≢ g.op_limit
 
@@ -110,7 +119,8 @@ startable g c kind h =
 pub none-pending : (f : Flight) (c : ℕ) (kind : OpKind) → has_pending f c kind ≡ false → (n : ℕ)
     → IsPendingAs f c kind n → ⊥
 none-pending f c kind none n h =
-    false≢true (sym none ∙ list_any_at (is_pending_as c kind) f.operations n None (pending-within f.operations c kind n h) h)
+    false≢true
+    (sym none ∙ list_any_at (is_pending_as c kind) f.operations n None (pending-within f.operations c kind n h) h)
 
 pub pending-open : (is_open : Bool) (kind : OpKind) (len : ℕ) → first_stage is_open kind len ≡ Pending → is_open ≡ true
 pending-open true kind len h = refl
@@ -136,19 +146,34 @@ start-free g c kind lawful allow n h =
     none-pending g.flight c kind (allow.free (lawful.pending_ready n c kind h)) n h
 
 -- the group after an operation that is pending was started
-pub lawful-started : (g : Group) (op : Operation) → IsLawful g → op.chan.0 < length g.channels → op.stage ≡ Pending → (channel_at g op.chan.0).is_open ≡ true → IsAllowed (channel_at g op.chan.0).endpoint (has_pending g.flight op.chan.0 op.kind) op.kind → in_flight g.flight < g.flight.limit → accepted g.flight < g.op_limit → IsLawful (record g { flight = with_accepted g.flight op; channels = set g.channels op.chan.0 (record (channel_at g op.chan.0) { endpoint = endpoint_after (channel_at g op.chan.0).endpoint op.kind }) })
+pub lawful-started : (g : Group) (op : Operation) → IsLawful g → op.chan.0 < length g.channels → op.stage ≡ Pending
+    → (channel_at g op.chan.0).is_open ≡ true
+    → IsAllowed (channel_at g op.chan.0).endpoint (has_pending g.flight op.chan.0 op.kind) op.kind
+    → in_flight g.flight < g.flight.limit → accepted g.flight < g.op_limit
+    → IsLawful
+    (record g {
+      flight = with_accepted g.flight op;
+      channels =
+          set g.channels op.chan.0
+          (record (channel_at g
+          op.chan.0) { endpoint = endpoint_after (channel_at g op.chan.0).endpoint op.kind });
+    })
 lawful-started g op lawful within is_pending_op is_open allow room numbers =
     let c = op.chan.0 in
     let xs = g.flight.operations in
     let new = pending-new op is_pending_op in
     let free = start-free g c op.kind lawful allow in
-    lawful-channel g (with_accepted g.flight op) c (record (channel_at g c) { endpoint = endpoint_after (channel_at g c).endpoint op.kind }) lawful within
+    lawful-channel g (with_accepted g.flight op) c
+    (record (channel_at g c) { endpoint = endpoint_after (channel_at g c).endpoint op.kind }) lawful within
     (flight-accepts g.flight op g.op_limit lawful.queued_once room numbers)
     (record {
       open_for = λ kind n h. is_open;
       ready_for = λ kind n h.
           elim (pending-pushed xs (Some op) c kind n h) [
-            | inl own ↦ let parts = pending-parts c kind op own.1 in subst (λ (k : OpKind). is_ready_for (endpoint_after (channel_at g c).endpoint op.kind) k ≡ true) parts.same allow.ready
+            | inl own ↦ let parts =
+                pending-parts c kind op own.1 in
+                subst (λ (k : OpKind). is_ready_for (endpoint_after (channel_at g c).endpoint op.kind) k ≡ true)
+                parts.same allow.ready
             | inr old ↦ allow.others kind (lawful.pending_ready n c kind old.1)
           ];
       once_for = λ kind m n a b.
@@ -156,11 +181,15 @@ lawful-started g op lawful within is_pending_op is_open allow room numbers =
             | inl own ↦
                 elim (pending-pushed xs (Some op) c kind n b) [
                   | inl own' ↦ own.0 ∙ sym own'.0
-                  | inr old ↦ let parts = pending-parts c kind op own.1 in absurd (free n (subst (λ (k : OpKind). IsPendingAs g.flight c k n) (sym parts.same) old.1))
+                  | inr old ↦ let parts =
+                      pending-parts c kind op own.1 in
+                      absurd (free n (subst (λ (k : OpKind). IsPendingAs g.flight c k n) (sym parts.same) old.1))
                 ]
             | inr old ↦
                 elim (pending-pushed xs (Some op) c kind n b) [
-                  | inl own ↦ let parts = pending-parts c kind op own.1 in absurd (free m (subst (λ (k : OpKind). IsPendingAs g.flight c k m) (sym parts.same) old.1))
+                  | inl own ↦ let parts =
+                      pending-parts c kind op own.1 in
+                      absurd (free m (subst (λ (k : OpKind). IsPendingAs g.flight c k m) (sym parts.same) old.1))
                   | inr old' ↦ lawful.one_each m n c kind old.1 old'.1
                 ]
           ];
@@ -179,7 +208,9 @@ lawful-started g op lawful within is_pending_op is_open allow room numbers =
     get_or_push_here = get_or_push g.flight.operations (Some op) None (length g.flight.operations) refl
 
 -- the group after an operation that is queued at once was started
-pub lawful-queued : (g : Group) (op : Operation) → IsLawful g → is_pending (Some op) ≡ false → in_flight g.flight < g.flight.limit → accepted g.flight < g.op_limit → IsLawful (record g { flight = with_accepted g.flight op })
+pub lawful-queued : (g : Group) (op : Operation) → IsLawful g → is_pending (Some op) ≡ false
+    → in_flight g.flight < g.flight.limit → accepted g.flight < g.op_limit
+    → IsLawful (record g { flight = with_accepted g.flight op })
 lawful-queued g op lawful not_pending room numbers =
     let xs = g.flight.operations in
     lawful-operations g (with_accepted g.flight op) lawful
@@ -192,8 +223,16 @@ lawful-queued g op lawful not_pending room numbers =
     (λ c n h. pending-still xs (Some op) c Connect n h)
 
 -- the group as it is kept, after an operation that is pending was started
-pub kept-started : {f : Flight} {cs : List Channel} {ps : List slots.Pending} {o r r' : ℕ} {sh : Bool} {l : GroupLimits} (op : Operation) (x : Channel) (p : slots.Pending) (n : ℕ) → IsGroupKept f cs ps o sh l r r' → op.chan.0 < length cs → x ≡ get_or cs op.chan.0 x → p ≡ get_or ps op.chan.0 p → n ≡ length f.operations → start_refusal (group_of f cs sh l) op.chan.0 op.kind ≡ None → op.stage ≡ Pending → op.stage ≡ first_stage x.is_open op.kind op.len → IsGroupKept (with_accepted f op) (set cs op.chan.0 (record x { endpoint = endpoint_after x.endpoint op.kind })) (set ps op.chan.0 (with_slot p op.kind (Some n))) o sh l r r'
-kept-started {f} {cs} {ps} {o} {r} {r'} {sh} {l} op x p n kept within read read_slot number allowed_start is_pending_op stage =
+pub kept-started : {f : Flight} {cs : List Channel} {ps : List slots.Pending} {o r r' : ℕ} {sh : Bool} {l : GroupLimits}
+    (op : Operation) (x : Channel) (p : slots.Pending) (n : ℕ) → IsGroupKept f cs ps o sh l r r' → op.chan.0 < length cs
+    → x ≡ get_or cs op.chan.0 x → p ≡ get_or ps op.chan.0 p → n ≡ length f.operations
+    → start_refusal (group_of f cs sh l) op.chan.0 op.kind ≡ None → op.stage ≡ Pending
+    → op.stage ≡ first_stage x.is_open op.kind op.len
+    → IsGroupKept (with_accepted f op)
+    (set cs op.chan.0 (record x { endpoint = endpoint_after x.endpoint op.kind }))
+    (set ps op.chan.0 (with_slot p op.kind (Some n))) o sh l r r'
+kept-started {f} {cs} {ps} {o} {r} {r'} {sh} {l} op x p n kept within read read_slot number allowed_start is_pending_op
+    stage =
     let c = op.chan.0 in
     let g : Group = group_of f cs sh l in
     let facts = startable g c op.kind allowed_start in
@@ -212,25 +251,29 @@ kept-started {f} {cs} {ps} {o} {r} {r'} {sh} {l} op x p n kept within read read_
     let made = kept-channel (with_accepted f op) c
     (record (get_or cs c no_channel) { endpoint = endpoint_after (get_or cs c no_channel).endpoint op.kind })
     (with_slot (get_or ps c nothing_pending) op.kind (Some (length f.operations))) o kept within lawful refl refl
-    (listed-started f (with_accepted f op) ps op c kept.is_listed refl (omega arith) (pending-new op is_pending_op) free) in
+    (listed-started f (with_accepted f op) ps op c kept.is_listed refl (omega arith)
+    (pending-new op is_pending_op) free) in
     rw (is, is_slot, number) made
   where
     lt_of_ne : {a b : ℕ} → a ≤ b → a ≢ b → a < b
     lt_of_ne le ne = omega arith
 
 -- the same where no channel changes
-pub kept-started-same : {f : Flight} {cs : List Channel} {ps : List slots.Pending} {o r r' : ℕ} {sh : Bool} {l : GroupLimits} (op : Operation) (x : Channel) (p : slots.Pending) (n : ℕ)
+pub kept-started-same : {f : Flight} {cs : List Channel} {ps : List slots.Pending} {o r r' : ℕ} {sh : Bool}
+    {l : GroupLimits} (op : Operation) (x : Channel) (p : slots.Pending) (n : ℕ)
     → IsGroupKept f cs ps o sh l r r' → op.chan.0 < length cs → x ≡ get_or cs op.chan.0 x → p ≡ get_or ps op.chan.0 p
     → n ≡ length f.operations → start_refusal (group_of f cs sh l) op.chan.0 op.kind ≡ None → op.stage ≡ Pending
     → op.stage ≡ first_stage x.is_open op.kind op.len → (op.kind ≡ Connect → ⊥)
     → IsGroupKept (with_accepted f op) cs (set ps op.chan.0 (with_slot p op.kind (Some n))) o sh l r r'
-kept-started-same {f} {cs} {ps} {o} {r} {r'} {sh} {l} op x p n kept within read read_slot number allowed_start is_pending_op stage other =
+kept-started-same {f} {cs} {ps} {o} {r} {r'} {sh} {l} op x p n kept within read read_slot number allowed_start
+    is_pending_op stage other =
     let made = kept-started op x p n kept within read read_slot number allowed_start is_pending_op stage in
     let same : set cs op.chan.0 (record x { endpoint = endpoint_after x.endpoint op.kind }) ≡ cs =
     ap (λ (e : Endpoint). set cs op.chan.0 (record x { endpoint = e })) (endpoint_same x.endpoint op.kind other)
     ∙ ap (set cs op.chan.0) read
     ∙ set-get_or cs op.chan.0 x in
-    subst (λ (xs : List Channel). IsGroupKept (with_accepted f op) xs (set ps op.chan.0 (with_slot p op.kind (Some n))) o sh l r r') same made
+    subst (λ (xs : List Channel). IsGroupKept (with_accepted f op) xs (set ps op.chan.0 (with_slot p op.kind (Some n)))
+    o sh l r r') same made
   where
     endpoint_same : (e : Endpoint) (kind : OpKind) → (kind ≡ Connect → ⊥) → endpoint_after e kind ≡ e
     endpoint_same e Accept h = refl
@@ -260,7 +303,8 @@ not_pending-stage op h = by_stage op.stage h
     by_stage Running not = refl
 
 -- after an operation that is queued at once was started
-pub kept-queued : {f : Flight} {cs : List Channel} {ps : List slots.Pending} {o r r' : ℕ} {sh : Bool} {l : GroupLimits} (op : Operation) (c : ℕ)
+pub kept-queued : {f : Flight} {cs : List Channel} {ps : List slots.Pending} {o r r' : ℕ} {sh : Bool} {l : GroupLimits}
+    (op : Operation) (c : ℕ)
     → IsGroupKept f cs ps o sh l r r' → start_refusal (group_of f cs sh l) c op.kind ≡ None → (op.stage ≡ Pending → ⊥)
     → IsGroupKept (with_accepted f op) cs ps o sh l r r'
 kept-queued {f} {cs} {ps} {o} {r} {r'} {sh} {l} op c kept allowed_start not =
@@ -277,7 +321,8 @@ kept-queued {f} {cs} {ps} {o} {r} {r'} {sh} {l} op c kept allowed_start not =
     lt_of_ne le ne = omega arith
 
 -- there is room where a start isn't refused
-pub start-room : {f : Flight} {cs : List Channel} {ps : List slots.Pending} {o r r' : ℕ} {sh : Bool} {l : GroupLimits} (c : ℕ) (kind : OpKind)
+pub start-room : {f : Flight} {cs : List Channel} {ps : List slots.Pending} {o r r' : ℕ} {sh : Bool} {l : GroupLimits}
+    (c : ℕ) (kind : OpKind)
     → IsGroupKept f cs ps o sh l r r' → start_refusal (group_of f cs sh l) c kind ≡ None
     → (in_flight f < f.limit) × (accepted f < 2 ^ 62)
 start-room {f} {cs} {ps} {o} {r} {r'} {sh} {l} c kind kept allowed_start =
@@ -290,8 +335,16 @@ start-room {f} {cs} {ps} {o} {r} {r'} {sh} {l} c kind kept allowed_start =
     (omega arith, omega arith)
 
 -- the same where the operation is a connect
-pub kept-started-connect : {f : Flight} {cs : List Channel} {ps : List slots.Pending} {o r r' : ℕ} {sh : Bool} {l : GroupLimits} (op : Operation) (x : Channel) (p : slots.Pending) (n : ℕ) → IsGroupKept f cs ps o sh l r r' → op.chan.0 < length cs → x ≡ get_or cs op.chan.0 x → p ≡ get_or ps op.chan.0 p → n ≡ length f.operations → start_refusal (group_of f cs sh l) op.chan.0 op.kind ≡ None → op.stage ≡ Pending → op.stage ≡ first_stage x.is_open op.kind op.len → op.kind ≡ Connect → IsGroupKept (with_accepted f op) (set cs op.chan.0 (record x { endpoint = Stream Connecting })) (set ps op.chan.0 (with_slot p op.kind (Some n))) o sh l r r'
-kept-started-connect {f} {cs} {ps} {o} {r} {r'} {sh} {l} op x p n kept within read read_slot number allowed_start is_pending_op stage connect =
-    subst (λ (e : Endpoint). IsGroupKept (with_accepted f op) (set cs op.chan.0 (record x { endpoint = e })) (set ps op.chan.0 (with_slot p op.kind (Some n))) o sh l r r')
+pub kept-started-connect : {f : Flight} {cs : List Channel} {ps : List slots.Pending} {o r r' : ℕ} {sh : Bool}
+    {l : GroupLimits} (op : Operation) (x : Channel) (p : slots.Pending) (n : ℕ) → IsGroupKept f cs ps o sh l r r'
+    → op.chan.0 < length cs → x ≡ get_or cs op.chan.0 x → p ≡ get_or ps op.chan.0 p → n ≡ length f.operations
+    → start_refusal (group_of f cs sh l) op.chan.0 op.kind ≡ None → op.stage ≡ Pending
+    → op.stage ≡ first_stage x.is_open op.kind op.len → op.kind ≡ Connect
+    → IsGroupKept (with_accepted f op) (set cs op.chan.0 (record x { endpoint = Stream Connecting }))
+    (set ps op.chan.0 (with_slot p op.kind (Some n))) o sh l r r'
+kept-started-connect {f} {cs} {ps} {o} {r} {r'} {sh} {l} op x p n kept within read read_slot number allowed_start
+    is_pending_op stage connect =
+    subst (λ (e : Endpoint). IsGroupKept (with_accepted f op) (set cs op.chan.0 (record x { endpoint = e }))
+    (set ps op.chan.0 (with_slot p op.kind (Some n))) o sh l r r')
     (ap (endpoint_after x.endpoint) connect)
     (kept-started op x p n kept within read read_slot number allowed_start is_pending_op stage)

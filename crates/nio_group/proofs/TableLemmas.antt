@@ -1,11 +1,14 @@
 -- A table of entries under look-ups, insertions and removals.
-use Rattle.std.proofs.Common.{◌≡◌, ◌≢◌, ℕ, ◌+◌, ◌-◌, ◌*◌, ◌<◌, ◌≤◌, max, Bool, true, false, cond, eqb, List, Option, Some, None, count_by, get_or, set, length, refl, sym, ◌∙◌, subst, arith, get_or-set_same, get_or-set_other}
+use Rattle.std.proofs.Common.{◌≡◌, ◌≢◌, ℕ, ◌+◌, ◌-◌, ◌*◌, ◌<◌, ◌≤◌, max, Bool, true, false, cond, eqb, List, Option}
+use Rattle.std.proofs.Common.{Some, None, count_by, get_or, set, length, refl, sym, ◌∙◌, subst, arith, get_or-set_same}
+use Rattle.std.proofs.Common.{get_or-set_other}
 use Rattle.std.proofs.lemmas.Bool.Decides.{nat_tests}
 use Rattle.std.proofs.lemmas.List.{get_or_read, length-set}
 use Rattle.std.proofs.lemmas.List.Sums.{sum_by-set}
 use Rattle.nio_group.specs.declared.index.Entry.{Entry}
 use Rattle.nio_group.specs.Index.{has_number, key_in, home_of, IsNear, IsTable, ChangesKey}
-use Rattle.nio_group.proofs.IndexLemmas.{none_has_number, key_in_found, absent-key_in, key_in-absent, key_in-set_none, key_in-set_other, key_in-set_same}
+use Rattle.nio_group.proofs.IndexLemmas.{none_has_number, key_in_found, absent-key_in, key_in-absent, key_in-set_none}
+use Rattle.nio_group.proofs.IndexLemmas.{key_in-set_other, key_in-set_same}
 
 pub by_test : (b : Bool) {P : Type 0} → (b ≡ true → P) → (b ≡ false → P) → P
 by_test true f g = f refl
@@ -27,7 +30,8 @@ outside slots limit reach n near h i (Some e) at =
     (λ t. let same = same_number e.number n t in
     let place = near i e at in
     let there : has_number n (get_or slots i None) ≡ false =
-    h i (subst (λ (m : ℕ). home_of m limit ≤ i) same place.0) (subst (λ (m : ℕ). i ≤ home_of m limit + reach) same place.1) in
+    h i (subst (λ (m : ℕ). home_of m limit ≤ i) same place.0)
+    (subst (λ (m : ℕ). i ≤ home_of m limit + reach) same place.1) in
     rw at at there)
     (λ f. f)
 
@@ -68,7 +72,8 @@ table-inserted {slots} {limit} {reach} e i table l vacant above below new =
     }
   where
     once_more : (n : ℕ) → count_by (has_number n) slots ≤ 1
-        → count_by (has_number n) (set slots i (Some e)) + cond (has_number n (get_or slots i None)) 1 0 ≡ count_by (has_number n) slots + cond (eqb e.number n) 1 0
+        → count_by (has_number n) (set slots i (Some e)) + cond (has_number n (get_or slots i None)) 1 0
+        ≡ count_by (has_number n) slots + cond (eqb e.number n) 1 0
         → has_number n (get_or slots i None) ≡ false → count_by (has_number e.number) slots ≡ 0
         → count_by (has_number n) (set slots i (Some e)) ≤ 1
     once_more n had counts empty none =
@@ -87,7 +92,8 @@ table-inserted {slots} {limit} {reach} e i table l vacant above below new =
         let here : Some e ≡ Some o = sym (get_or-set_same slots i (Some e) None l) ∙ subst
         (λ (k : ℕ). get_or (set slots i (Some e)) k None ≡ Some o) same at in
         let is_e : e ≡ o = cc in
-        subst (λ (x : Entry). (home_of x.number limit ≤ j) × (j ≤ home_of x.number limit + max reach (i - home_of e.number limit))) is_e (omega arith, omega arith))
+        subst (λ (x : Entry). (home_of x.number limit ≤ j)
+        × (j ≤ home_of x.number limit + max reach (i - home_of e.number limit))) is_e (omega arith, omega arith))
         (λ f. let differ = other_number j i f in
         let near = table.near j o (sym (get_or-set_other slots i j (Some e) None differ) ∙ at) in
         (near.0, omega (arith, near.1)))
@@ -145,7 +151,11 @@ table-inserts {slots} {limit} {reach} e home i is table below vacant from before
     subst (λ (h : ℕ). IsTable (set slots i (Some e)) limit (max reach (i - h))) (sym is)
     (table-inserted e i table (omega arith) vacant (omega arith) (omega arith) new)
 
-pub changes-inserted : {slots : List (Option Entry)} {limit reach : ℕ} (e : Entry) (home i : ℕ) → IsTable slots limit reach → home < 2 * limit → get_or slots i None ≡ None → i < home + limit → key_in e.number slots ≡ None → ChangesKey (record { slots = slots; limit = limit }) (record { slots = set slots i (Some e); limit = limit }) e.number (Some e.key)
+pub changes-inserted : {slots : List (Option Entry)} {limit reach : ℕ} (e : Entry) (home i : ℕ)
+    → IsTable slots limit reach → home < 2 * limit → get_or slots i None ≡ None → i < home + limit
+    → key_in e.number slots ≡ None
+    → ChangesKey (record { slots = slots; limit = limit })
+    (record { slots = set slots i (Some e); limit = limit }) e.number (Some e.key)
 changes-inserted {slots} {limit} e home i table below vacant before new =
     let size = table.size in
     record {
@@ -153,7 +163,10 @@ changes-inserted {slots} {limit} e home i table below vacant before new =
       others = λ m ne. key_in-set_other m e slots i vacant ne;
     }
 
-pub changes-removed : {slots : List (Option Entry)} {limit reach : ℕ} (n i : ℕ) → IsTable slots limit reach → i < length slots → has_number n (get_or slots i None) ≡ true → ChangesKey (record { slots = slots; limit = limit }) (record { slots = set slots i None; limit = limit }) n None
+pub changes-removed : {slots : List (Option Entry)} {limit reach : ℕ} (n i : ℕ) → IsTable slots limit reach
+    → i < length slots → has_number n (get_or slots i None) ≡ true
+    → ChangesKey (record { slots = slots; limit = limit }) (record { slots = set slots i None; limit = limit }) n
+    None
 changes-removed {slots} {limit} n i table l has =
     record {
       changed = key-removed n i table l has;

@@ -1,5 +1,6 @@
 -- A run hands out each completion at most once.
-use Rattle.std.proofs.Common.{◌≡◌, ℕ, ◌<◌, true, false, eqb, ltb, not, List, [], ◌∷◌, Option, Some, None, length, get_or, set, refl, sym, ap, ◌∙◌, subst, arith, get_or-set_same}
+use Rattle.std.proofs.Common.{◌≡◌, ℕ, ◌<◌, true, false, eqb, ltb, not, List, [], ◌∷◌, Option, Some, None, length}
+use Rattle.std.proofs.Common.{get_or, set, refl, sym, ap, ◌∙◌, subst, arith, get_or-set_same}
 use Rattle.std.specs.Option.{option_map}
 use Rattle.std.proofs.lemmas.Bool.{false≢true}
 use Rattle.std.proofs.lemmas.List.{length-set}
@@ -12,12 +13,15 @@ use Rattle.nio_group.specs.Stages.{is_pending, is_queued, stage_is_queued, at_st
 use Rattle.nio_group.specs.Flight.{Flight, op_at, accepted, flight_after_take}
 use Rattle.nio_group.specs.Group.{Group, IsLawful}
 use Rattle.nio_group.specs.Steps.{completion_of, completion_at, taken_from}
-use Rattle.nio_group.specs.Run.{Call, open_channel, bind, start, report, take, finish, close_channel, shutdown, shutdown_now, taken, reply_to, after, has_completed, was_taken, IsRunOf, once_where, hands_out, times_taken, TakesOnce}
+use Rattle.nio_group.specs.Run.{Call, open_channel, bind, start, report, take, finish, close_channel, shutdown}
+use Rattle.nio_group.specs.Run.{shutdown_now, taken, reply_to, after, has_completed, was_taken, IsRunOf, once_where}
+use Rattle.nio_group.specs.Run.{hands_out, times_taken, TakesOnce}
 use Rattle.nio_group.proofs.TableLemmas.{by_test, same_number}
 use Rattle.nio_group.proofs.FlightLemmas.{some-within}
 use Rattle.nio_group.proofs.PendingLemmas.{and-left, and-right}
 use Rattle.nio_group.proofs.RunLemmas.{lawful-after}
-use Rattle.nio_group.proofs.StageLemmas.{stepped-after, next-not_pending, next-not_queued, not-true, true-not, both, lt-true, true-lt}
+use Rattle.nio_group.proofs.StageLemmas.{stepped-after, next-not_pending, next-not_queued, not-true, true-not, both}
+use Rattle.nio_group.proofs.StageLemmas.{lt-true, true-lt}
 
 -- only a queued operation's completion is handed out
 handed-stage : (n m : ℕ) (chan : GChan) (kind : OpKind) (stage : Stage)
@@ -70,7 +74,8 @@ taken-by : (g : Group) (n : ℕ) → n < accepted g.flight → is_pending (op_at
     → is_queued (op_at g.flight n) ≡ false → was_taken g n ≡ true
 taken-by g n within past not_queued =
     both (has_completed g n) (not (is_queued (op_at g.flight n)))
-    (both (ltb n (accepted g.flight)) (not (is_pending (op_at g.flight n))) (lt-true n (accepted g.flight) within) (true-not (is_pending (op_at g.flight n)) past))
+    (both (ltb n (accepted g.flight)) (not (is_pending (op_at g.flight n))) (lt-true n (accepted g.flight) within)
+    (true-not (is_pending (op_at g.flight n)) past))
     (true-not (is_queued (op_at g.flight n)) not_queued)
 
 -- the operation whose completion a call hands out was queued, and was taken from then on
@@ -97,7 +102,8 @@ handed-out g take n handed =
     (ap is_queued put ∙ running-not_queued (op_at f n)) in
     record {
       queued = front.queued;
-      is_taken = subst (λ (queue : List ℕ). was_taken (record g { flight = flight_after_take f queue }) n ≡ true) (sym front.is) is_taken;
+      is_taken = subst (λ (queue : List ℕ). was_taken (record g { flight = flight_after_take f queue }) n ≡ true)
+          (sym front.is) is_taken;
     }
 handed-out g (finish op) n handed = absurd (false≢true handed)
 handed-out g (close_channel chan) n handed = absurd (false≢true handed)
@@ -114,9 +120,12 @@ taken-parts : (g : Group) (n : ℕ) → was_taken g n ≡ true → IsTaken g n
 taken-parts g n is =
     let completed = and-left (has_completed g n) (not (is_queued (op_at g.flight n))) is in
     record {
-      within = true-lt n (accepted g.flight) (and-left (ltb n (accepted g.flight)) (not (is_pending (op_at g.flight n))) completed);
-      past = not-true (is_pending (op_at g.flight n)) (and-right (ltb n (accepted g.flight)) (not (is_pending (op_at g.flight n))) completed);
-      not_queued = not-true (is_queued (op_at g.flight n)) (and-right (has_completed g n) (not (is_queued (op_at g.flight n))) is);
+      within = true-lt n (accepted g.flight)
+          (and-left (ltb n (accepted g.flight)) (not (is_pending (op_at g.flight n))) completed);
+      past = not-true (is_pending (op_at g.flight n))
+          (and-right (ltb n (accepted g.flight)) (not (is_pending (op_at g.flight n))) completed);
+      not_queued = not-true (is_queued (op_at g.flight n))
+          (and-right (has_completed g n) (not (is_queued (op_at g.flight n))) is);
     }
 
 taken-stays : (g : Group) (call : Call) (n : ℕ) → IsLawful g → was_taken g n ≡ true → was_taken (after g call) n ≡ true

@@ -1,5 +1,6 @@
 -- When a group has terminated, and what is pending, as the code finds them.
-use Rattle.std.proofs.Common.{◌≡◌, ◌≢◌, ℕ, ◌<◌, zero, suc, Bool, true, false, cond, eqb, not, ◌||◌, List, [], ◌∷◌, Option, Some, None, is_some, count_by, get_or, length, refl, sym, ap, ◌∙◌, subst, arith}
+use Rattle.std.proofs.Common.{◌≡◌, ◌≢◌, ℕ, ◌<◌, zero, suc, Bool, true, false, cond, eqb, not, ◌||◌, List, [], ◌∷◌}
+use Rattle.std.proofs.Common.{Option, Some, None, is_some, count_by, get_or, length, refl, sym, ap, ◌∙◌, subst, arith}
 use Rattle.std.specs.Option.{option_or}
 use Rattle.std.specs.List.{list_any, list_all}
 use Rattle.std.proofs.lemmas.Bool.{false≢true}
@@ -14,7 +15,8 @@ use Rattle.nio_group.specs.declared.refusal.StartError.{StartError}
 use Rattle.nio_group.specs.declared.refusal.StartError.TheVariants as refused
 use Rattle.nio_group.specs.declared.limits.GroupLimits.{GroupLimits}
 use Rattle.nio_group.specs.declared.pending.Pending as slots
-use Rattle.nio_group.specs.Stages.{is_pending, is_pending_as, is_queued, is_running, stage_is_pending, stage_is_queued, stage_is_running}
+use Rattle.nio_group.specs.Stages.{is_pending, is_pending_as, is_queued, is_running, stage_is_pending, stage_is_queued}
+use Rattle.nio_group.specs.Stages.{stage_is_running}
 use Rattle.nio_group.specs.Flight.{Flight, op_at, in_flight, accepted}
 use Rattle.nio_group.specs.Pending.{slot_of, nothing_pending}
 use Rattle.nio_group.specs.Group.{Group, no_channel, is_terminated}
@@ -33,7 +35,8 @@ all-closed [] h = refl
 all-closed (x ∷ xs) h =
     let counts = sym (count_by-cons is_open x xs) ∙ h in
     by_test x.is_open
-    (λ t. let one : cond (is_open x) 1 0 ≡ 1 = ap {B = ℕ} (λ (b : Bool). cond b 1 0) t in absurd (omega (arith, counts, one)))
+    (λ t. let one : cond (is_open x) 1 0 ≡ 1 = ap {B = ℕ} (λ (b : Bool). cond b 1 0) t in
+    absurd (omega (arith, counts, one)))
     (λ f. rw f (all-closed xs (omega (arith, counts))))
 
 pub closed-at : (cs : List Channel) → count_by is_open cs ≡ 0 → (c : ℕ) → (get_or cs c no_channel).is_open ≡ false
@@ -41,7 +44,8 @@ closed-at [] h c = refl
 closed-at (x ∷ xs) h zero =
     let counts = sym (count_by-cons is_open x xs) ∙ h in
     by_test x.is_open
-    (λ t. let one : cond (is_open x) 1 0 ≡ 1 = ap {B = ℕ} (λ (b : Bool). cond b 1 0) t in absurd (omega (arith, counts, one)))
+    (λ t. let one : cond (is_open x) 1 0 ≡ 1 = ap {B = ℕ} (λ (b : Bool). cond b 1 0) t in
+    absurd (omega (arith, counts, one)))
     (λ f. f)
 closed-at (x ∷ xs) h (suc c) = closed-at xs (omega (arith, count_by-cons is_open x xs, h)) c
 
@@ -57,7 +61,8 @@ none-in_flight (None ∷ xs) h =
     ap (λ (n : ℕ). eqb n 0) (omega (arith, count_by-cons is_some None xs)) ∙ none-in_flight xs (λ i. h (suc i))
 none-in_flight (Some op ∷ xs) h =
     let busy = handled op.stage (h 0) in
-    rw busy (eqb-other (count_by is_some (Some op ∷ xs)) 0 (λ e. let counts = count_by-cons is_some (Some op) xs in absurd (omega (arith, counts, e))))
+    rw busy (eqb-other (count_by is_some (Some op ∷ xs)) 0
+    (λ e. let counts = count_by-cons is_some (Some op) xs in absurd (omega (arith, counts, e))))
 
 -- where every channel is closed nothing is pending
 nothing-pending : {f : Flight} {cs : List Channel} {ps : List slots.Pending} {o r r' : ℕ} {sh : Bool} {l : GroupLimits}
@@ -68,7 +73,8 @@ nothing-pending {f} {cs} kept closed i = by_slot (op_at f i) refl
     by_slot None is = rw is refl
     by_slot (Some op) is =
         by_test (stage_is_pending op.stage)
-        (λ t. let pending : is_pending_as op.chan.0 op.kind (op_at f i) ≡ true = rw (is, t, eqb-same op.chan.0, same_kind-refl op.kind) refl in
+        (λ t. let pending : is_pending_as op.chan.0 op.kind (op_at f i)
+        ≡ true = rw (is, t, eqb-same op.chan.0, same_kind-refl op.kind) refl in
         absurd
         (false≢true (sym (closed-at cs closed op.chan.0) ∙ kept.lawful.pending_open i op.chan.0 op.kind pending)))
         (λ e. rw is e)
@@ -105,20 +111,25 @@ has_pending-slot f ps c kind is_listed = by_slot (slot_of (get_or ps c nothing_p
         (λ e. e)
 
 -- a start's refusal, from what is read of the channel and its slots
-pub start_refusal-read : {f : Flight} {cs : List Channel} {ps : List slots.Pending} {o r r' : ℕ} {sh : Bool} {l : GroupLimits} (c : ℕ) (kind : OpKind) (x : Channel) (p : slots.Pending) (pending : Bool) (refusal : Option StartError)
+pub start_refusal-read : {f : Flight} {cs : List Channel} {ps : List slots.Pending} {o r r' : ℕ} {sh : Bool}
+    {l : GroupLimits} (c : ℕ) (kind : OpKind) (x : Channel) (p : slots.Pending) (pending : Bool)
+    (refusal : Option StartError)
     → IsGroupKept f cs ps o sh l r r' → c < length cs → is_terminated (group_of f cs sh l) ≡ false → x ≡ get_or cs c x
     → p ≡ get_or ps c p → pending ≡ is_some (slot_of p kind)
     → refusal ≡ channel_refusal x.is_open x.endpoint pending kind
     → start_refusal (group_of f cs sh l) c kind ≡ option_or refusal (limit_refusal (group_of f cs sh l))
-start_refusal-read {f} {cs} {ps} {o} {r} {r'} {sh} {l} c kind x p pending refusal kept within going read read_slot is_pending_op is_refusal =
+start_refusal-read {f} {cs} {ps} {o} {r} {r'} {sh} {l} c kind x p pending refusal kept within going read read_slot
+    is_pending_op is_refusal =
     let slots_are = kept.slots in
     let is : x ≡ get_or cs c no_channel = get_or_read cs c x within read no_channel in
     let is_slot : p ≡ get_or ps c nothing_pending = get_or_read ps c p (omega arith) read_slot nothing_pending in
     let found : has_pending f c kind ≡ pending = has_pending-slot f ps c kind kept.is_listed ∙ ap
     (λ (q : slots.Pending). is_some (slot_of q kind)) (sym is_slot) ∙ sym is_pending_op in
-    rw (going, found, ← is) (ap (λ (e : Option StartError). option_or e (limit_refusal (group_of f cs sh l))) (sym is_refusal))
+    rw (going, found, ← is)
+    (ap (λ (e : Option StartError). option_or e (limit_refusal (group_of f cs sh l))) (sym is_refusal))
 
-pub terminated-when : {f : Flight} {cs : List Channel} {ps : List slots.Pending} {o r r' : ℕ} {sh : Bool} {l : GroupLimits}
+pub terminated-when : {f : Flight} {cs : List Channel} {ps : List slots.Pending} {o r r' : ℕ} {sh : Bool}
+    {l : GroupLimits}
     → IsGroupKept f cs ps o sh l r r' → sh ≡ true → o ≡ 0 → eqb (in_flight f) 0 ≡ is_terminated (group_of f cs sh l)
 terminated-when {f} {cs} {ps} {o} {r} {r'} {sh} {l} kept shut zero_open =
     let kept_shut : IsGroupKept f cs ps o true l r r' = rw shut at kept in

@@ -1,6 +1,7 @@
 -- The operations that a group has accepted, the queue of its completions, and what its calls make
 -- of them.
-use Rattle.std.specs.Prelude.{ℕ, ◌+◌, if◌then◌else◌, ◌==◌, List, [], ◌∷◌, ◌++◌, length, Option, Some, None, is_some, count_by, map, drop, slice_index_or, slice_set, IsTrue}
+use Rattle.std.specs.Prelude.{ℕ, ◌+◌, if◌then◌else◌, ◌==◌, List, [], ◌∷◌, ◌++◌, length, Option, Some, None, is_some}
+use Rattle.std.specs.Prelude.{count_by, map, drop, slice_index_or, slice_set, IsTrue}
 use Rattle.std.specs.Option.{option_map}
 use Rattle.nio_base.specs.declared.group.OpKind.{OpKind}
 use Rattle.nio_base.specs.declared.group.Finished.{Finished}

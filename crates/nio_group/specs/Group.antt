@@ -1,5 +1,6 @@
 -- The state of an asynchronous channel group.
-use Rattle.std.specs.Prelude.{◌≡◌, ℕ, ◌≤◌, Bool, true, false, if◌then◌else◌, not, ◌&&◌, ◌||◌, List, [], length, slice_index_or, IsTrue}
+use Rattle.std.specs.Prelude.{◌≡◌, ℕ, ◌≤◌, Bool, true, false, if◌then◌else◌, not, ◌&&◌, ◌||◌, List, [], length}
+use Rattle.std.specs.Prelude.{slice_index_or, IsTrue}
 use Rattle.std.specs.List.{list_any, list_all}
 use Rattle.nio_base.specs.declared.group.GKind.{GKind}
 use Rattle.nio_base.specs.declared.group.GKind.TheVariants as kind
@@ -75,11 +76,13 @@ pub record IsLawful (g : Group) : Type 0 where
   pub queued_once : (n : ℕ) → times_queued g.flight n ≡ (if is_queued (op_at g.flight n) then 1 else 0)
   -- each pending operation's channel is open and in the state for it
   pub pending_open : (n c : ℕ) (kind : OpKind) → IsPendingAs g.flight c kind n → IsTrue (channel_at g c).is_open
-  pub pending_ready : (n c : ℕ) (kind : OpKind) → IsPendingAs g.flight c kind n → IsTrue (is_ready_for (channel_at g c).endpoint kind)
+  pub pending_ready : (n c : ℕ) (kind : OpKind) → IsPendingAs g.flight c kind n
+      → IsTrue (is_ready_for (channel_at g c).endpoint kind)
   -- a channel has at most one pending operation of each kind
   pub one_each : (m n c : ℕ) (kind : OpKind) → IsPendingAs g.flight c kind m → IsPendingAs g.flight c kind n → m ≡ n
   -- an open connecting stream has a pending connect
-  pub connecting : (c : ℕ) → IsTrue (channel_at g c).is_open → (channel_at g c).endpoint ≡ Stream Connecting → (n : ℕ) × IsPendingAs g.flight c Connect n
+  pub connecting : (c : ℕ) → IsTrue (channel_at g c).is_open → (channel_at g c).endpoint ≡ Stream Connecting
+      → (n : ℕ) × IsPendingAs g.flight c Connect n
   pub few_in_flight : in_flight g.flight ≤ g.flight.limit
   pub few_channels : length g.channels ≤ g.channel_limit
   pub few_accepted : accepted g.flight ≤ g.op_limit

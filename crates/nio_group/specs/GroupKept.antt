@@ -21,13 +21,16 @@ group_of flight channels shut limits =
 
 -- the pending operations by their channels and kinds
 pub record IsListed (flight : Flight) (pending : List Pending) : Type 0 where
-  pub listed : (c : ℕ) (kind : OpKind) (n : ℕ) → slot_of (slice_index_or pending c nothing_pending) kind ≡ Some n → IsPendingAs flight c kind n
-  pub all : (c : ℕ) (kind : OpKind) (n : ℕ) → IsPendingAs flight c kind n → slot_of (slice_index_or pending c nothing_pending) kind ≡ Some n
+  pub listed : (c : ℕ) (kind : OpKind) (n : ℕ) → slot_of (slice_index_or pending c nothing_pending) kind ≡ Some n
+      → IsPendingAs flight c kind n
+  pub all : (c : ℕ) (kind : OpKind) (n : ℕ) → IsPendingAs flight c kind n
+      → slot_of (slice_index_or pending c nothing_pending) kind ≡ Some n
 
 abbrev pub is_open : Channel → Bool
 is_open channel = channel.is_open
 
-pub record IsGroupKept (flight : Flight) (channels : List Channel) (pending : List Pending) (opened : ℕ) (shut : Bool) (limits : GroupLimits) (room slots_room : ℕ) : Type 0 where
+pub record IsGroupKept (flight : Flight) (channels : List Channel) (pending : List Pending) (opened : ℕ) (shut : Bool)
+    (limits : GroupLimits) (room slots_room : ℕ) : Type 0 where
   pub lawful : IsLawful (group_of flight channels shut limits)
   pub fit : IsFit limits
   pub same_limit : flight.limit ≡ limits.flight

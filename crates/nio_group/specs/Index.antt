@@ -1,5 +1,6 @@
 -- What the index from operation numbers to keys holds.
-use Rattle.std.specs.Prelude.{◌≡◌, ◌≢◌, ℕ, ◌+◌, ◌*◌, ◌/◌, ◌%◌, ◌^◌, ◌<◌, ◌≤◌, Bool, false, if◌then◌else◌, ◌==◌, List, [], ◌∷◌, Option, Some, None, is_some, count_by, slice_index_or, length}
+use Rattle.std.specs.Prelude.{◌≡◌, ◌≢◌, ℕ, ◌+◌, ◌*◌, ◌/◌, ◌%◌, ◌^◌, ◌<◌, ◌≤◌, Bool, false, if◌then◌else◌, ◌==◌, List}
+use Rattle.std.specs.Prelude.{[], ◌∷◌, Option, Some, None, is_some, count_by, slice_index_or, length}
 use Rattle.nio_group.specs.declared.index.Entry.{Entry}
 
 -- a table of entries, and how many it may have
@@ -40,7 +41,8 @@ IsOnce slots = (n : ℕ) → count_by (has_number n) slots ≤ 1
 -- each entry is at most `reach` slots past its number's home
 abbrev pub IsNear : List (Option Entry) → ℕ → ℕ → Type 0
 IsNear slots limit reach =
-    (i : ℕ) (e : Entry) → slice_index_or slots i None ≡ Some e → (home_of e.number limit ≤ i) × (i ≤ home_of e.number limit + reach)
+    (i : ℕ) (e : Entry) → slice_index_or slots i None ≡ Some e
+    → (home_of e.number limit ≤ i) × (i ≤ home_of e.number limit + reach)
 
 pub record IsTable (slots : List (Option Entry)) (limit reach : ℕ) : Type 0 where
   pub some_limit : 1 ≤ limit

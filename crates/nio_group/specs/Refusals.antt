@@ -87,7 +87,8 @@ abbrev pub start_refusal : Group → ℕ → OpKind → Option StartError
 start_refusal g c kind =
     let channel = channel_at g c in
     if is_terminated g then Some refused.ShutdownGroup
-    else option_or (channel_refusal channel.is_open channel.endpoint (has_pending g.flight c kind) kind) (limit_refusal g)
+    else option_or (channel_refusal channel.is_open channel.endpoint (has_pending g.flight c kind) kind)
+    (limit_refusal g)
 
 -- which outcomes an operation of this kind and length may have
 abbrev pub is_allowed : OpKind → ℕ → Outcome → Bool

@@ -1,5 +1,6 @@
 -- The calls that change a group, one group step for each, runs of them, and their laws.
-use Rattle.std.specs.Prelude.{◌≡◌, ℕ, ◌+◌, ◌<◌, ◌≤◌, ◌⊎◌, ◌==◌, Bool, false, if◌then◌else◌, not, ◌&&◌, ◌||◌, List, [], ◌∷◌, length, Option, Some, None, Result, IsTrue, nat_lt}
+use Rattle.std.specs.Prelude.{◌≡◌, ℕ, ◌+◌, ◌<◌, ◌≤◌, ◌⊎◌, ◌==◌, Bool, false, if◌then◌else◌, not, ◌&&◌, ◌||◌, List, []}
+use Rattle.std.specs.Prelude.{◌∷◌, length, Option, Some, None, Result, IsTrue, nat_lt}
 use Rattle.nio_base.specs.declared.numbers.OpNo.{OpNo}
 use Rattle.nio_base.specs.declared.numbers.GChan.{GChan}
 use Rattle.nio_base.specs.declared.group.GKind.{GKind}
@@ -17,7 +18,9 @@ use Rattle.nio_group.specs.Completion.{CompletionFields}
 use Rattle.nio_group.specs.Stages.{is_pending, is_queued, is_running, at_stage}
 use Rattle.nio_group.specs.Flight.{op_at, accepted}
 use Rattle.nio_group.specs.Group.{Group, IsLawful, is_terminated, channel_at, empty_group}
-use Rattle.nio_group.specs.Steps.{answer_to_open, after_open, answer_to_bind, after_bind, answer_to_start, after_start, answer_to_report, after_report, answer_to_take, after_take, answer_to_finish, after_finish, after_close, after_shutdown, after_shutdown_now}
+use Rattle.nio_group.specs.Steps.{answer_to_open, after_open, answer_to_bind, after_bind, answer_to_start, after_start}
+use Rattle.nio_group.specs.Steps.{answer_to_report, after_report, answer_to_take, after_take, answer_to_finish}
+use Rattle.nio_group.specs.Steps.{after_finish, after_close, after_shutdown, after_shutdown_now}
 
 pub data Call : Type 0 where
   open_channel : GKind → Call
@@ -93,7 +96,8 @@ StepsAreLawful = (g : Group) (call : Call) → IsLawful g → IsCallOf g call �
 -- a terminated group stays so
 abbrev pub TerminatedStays : Type 0
 TerminatedStays =
-    (g : Group) (call : Call) → IsLawful g → IsCallOf g call → IsTrue (is_terminated g) → IsTrue (is_terminated (after g call))
+    (g : Group) (call : Call) → IsLawful g → IsCallOf g call → IsTrue (is_terminated g)
+    → IsTrue (is_terminated (after g call))
 
 -- an operation that has completed: it was accepted and isn't pending any more
 abbrev pub has_completed : Group → ℕ → Bool
@@ -124,7 +128,8 @@ IsNext (Some op) next = (next ≡ Some op) ⊎ GoesOn op.stage op next
 pub record IsForward (g left : Group) (n : ℕ) : Type 0 where
   pub accepts : accepted g.flight ≤ accepted left.flight
   pub goes_on : n < accepted g.flight → IsNext (op_at g.flight n) (op_at left.flight n)
-  pub begins : accepted g.flight ≤ n → n < accepted left.flight → IsTrue (is_pending (op_at left.flight n) || is_queued (op_at left.flight n))
+  pub begins : accepted g.flight ≤ n → n < accepted left.flight
+      → IsTrue (is_pending (op_at left.flight n) || is_queued (op_at left.flight n))
 
 abbrev pub StagesGoForward : Type 0
 StagesGoForward = (g : Group) (call : Call) (n : ℕ) → IsLawful g → IsCallOf g call → IsForward g (after g call) n
@@ -152,7 +157,8 @@ completions n g (call ∷ calls) =
 -- once, and no other has completed at all
 abbrev pub CompletesOnce : Type 0
 CompletesOnce =
-    (limits : GroupLimits) (calls : List Call) (n : ℕ) → IsRunOf (empty_group limits) calls → completions n (empty_group limits) calls ≡ once_where (has_completed (left_by (empty_group limits) calls) n)
+    (limits : GroupLimits) (calls : List Call) (n : ℕ) → IsRunOf (empty_group limits) calls
+    → completions n (empty_group limits) calls ≡ once_where (has_completed (left_by (empty_group limits) calls) n)
 
 -- the reply is the completion of this operation
 abbrev pub hands_out : ℕ → Reply → Bool

@@ -1,6 +1,7 @@
 -- What each call of a group answers, and the state that it leaves. A refused call leaves the group
 -- as it was.
-use Rattle.std.specs.Prelude.{◌≡◌, ℕ, Bool, true, false, if◌then◌else◌, ◌==◌, List, [], ◌∷◌, ◌++◌, length, Option, Some, None, Result, Ok, Err, slice_set, suc, zero}
+use Rattle.std.specs.Prelude.{◌≡◌, ℕ, Bool, true, false, if◌then◌else◌, ◌==◌, List, [], ◌∷◌, ◌++◌, length, Option, Some}
+use Rattle.std.specs.Prelude.{None, Result, Ok, Err, slice_set, suc, zero}
 use Rattle.nio_base.specs.declared.numbers.OpNo.{OpNo}
 use Rattle.nio_base.specs.declared.numbers.GChan.{GChan}
 use Rattle.nio_base.specs.declared.group.GKind.{GKind}
@@ -23,7 +24,8 @@ use Rattle.nio_group.specs.declared.refusal.ReportError.{ReportError}
 use Rattle.nio_group.specs.declared.refusal.NotRunning.{NotRunning}
 use Rattle.nio_group.specs.Completion.{CompletionFields, JobFields}
 use Rattle.nio_group.specs.Stages.{is_running}
-use Rattle.nio_group.specs.Flight.{Flight, op_at, accepted, with_accepted, with_completed, flight_after_take, with_ended, with_channel_closed}
+use Rattle.nio_group.specs.Flight.{Flight, op_at, accepted, with_accepted, with_completed, flight_after_take}
+use Rattle.nio_group.specs.Flight.{with_ended, with_channel_closed}
 use Rattle.nio_group.specs.Group.{Group, new_channel, channel_at}
 use Rattle.nio_group.specs.Refusals.{open_refusal, bind_refusal, start_refusal, report_refusal}
 
@@ -55,7 +57,9 @@ abbrev pub answer_to_bind : Group → ℕ → Result Unit StartError
 answer_to_bind g c = unless_refused (bind_refusal (channel_at g c).is_open (channel_at g c).endpoint) tt
 
 abbrev pub after_bind : Group → ℕ → Group
-after_bind g c = kept_if_refused (bind_refusal (channel_at g c).is_open (channel_at g c).endpoint) g (with_endpoint g c (Listener true))
+after_bind g c =
+    kept_if_refused (bind_refusal (channel_at g c).is_open (channel_at g c).endpoint) g
+    (with_endpoint g c (Listener true))
 
 -- `start`: on a closed channel the operation is queued at once as failed, a read or a write of no
 -- bytes with its count of 0; else it is pending, and a connect makes its stream connecting
@@ -77,7 +81,8 @@ abbrev pub started : Group → GChan → OpKind → ℕ → Group
 started g chan kind len =
     let is_open = (channel_at g chan.0).is_open in
     record (channels_after_start g chan.0 kind is_open) {
-      flight = with_accepted g.flight (record { chan = chan; kind = kind; len = len; stage = first_stage is_open kind len });
+      flight = with_accepted g.flight
+          (record { chan = chan; kind = kind; len = len; stage = first_stage is_open kind len });
     }
 
 abbrev pub answer_to_start : Group → GChan → OpKind → Result OpNo StartError
@@ -190,4 +195,5 @@ after_shutdown_now g = closed_below (length g.channels) (after_shutdown g)
 pub record IsJobOf (g : Group) (c : ℕ) (kind : OpKind) (job : JobFields) : Type 0 where
   pub chan : job.chan.0 ≡ c
   pub same_kind : job.kind ≡ kind
-  pub pending : op_at g.flight job.op.0 ≡ Some (record { chan = job.chan; kind = job.kind; len = job.len; stage = Pending })
+  pub pending : op_at g.flight job.op.0
+      ≡ Some (record { chan = job.chan; kind = job.kind; len = job.len; stage = Pending })

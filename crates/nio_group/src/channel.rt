@@ -6,8 +6,11 @@ use nio_base::GKind;
 /// How far a stream's connection has come.
 #[derive(Clone, Copy, Debug, PartialEq, Eq, Hash)]
 pub enum Link {
+    /// No connect is in progress or done.
     Unconnected,
+    /// A connect is in progress.
     Connecting,
+    /// It is connected.
     Connected,
 }
 
@@ -15,14 +18,18 @@ pub enum Link {
 /// it is bound.
 #[derive(Clone, Copy, Debug, PartialEq, Eq, Hash)]
 pub enum Endpoint {
+    /// A stream, and how far it is connected.
     Stream(Link),
+    /// A listener, and whether it is bound.
     Listener(bool),
 }
 
 /// A channel of a group.
 #[derive(Clone, Copy, Debug, PartialEq, Eq, Hash)]
 pub struct Channel {
+    /// Whether it isn't closed yet.
     pub is_open: bool,
+    /// A stream or a listener, and its state.
     pub endpoint: Endpoint,
 }
 

@@ -1,10 +1,12 @@
 //! How much a group can hold.
 
-/// How many channels a group makes at most, how many operations it has in flight at most, and how
-/// many it accepts in all: 1 to 65,536 channels, 1 to 65,536 operations in flight, 1 to 2^62 in all.
+/// How much a group can hold.
 #[derive(Clone, Copy, Debug, PartialEq, Eq, Hash)]
 pub struct GroupLimits {
+    /// How many channels it makes at most: from 1 to 65,536.
     pub channels: u32,
+    /// How many operations it has in flight at most: from 1 to 65,536.
     pub flight: u32,
+    /// How many operations it accepts in all: from 1 to 2^62.
     pub ops: u64,
 }

@@ -15,9 +15,12 @@ pub enum Stage {
 /// An operation in flight.
 #[derive(Clone, Copy, Debug, PartialEq, Eq, Hash)]
 pub struct Operation {
+    /// The channel that it was asked of.
     pub chan: GChan,
+    /// An accept, a connect, a read or a write.
     pub kind: OpKind,
     /// How many bytes it reads or writes at most.
     pub len: u64,
+    /// How far it has come.
     pub stage: Stage,
 }

@@ -23,8 +23,10 @@ on_ok steps (Ok _) = steps
 on_ok steps (Err refusal) = reply (Err refusal)
 
 -- a check at the beginning, and how the call goes on
-one_check : {A : Type 0} (fails : Bool) (refusal : KeyError) (checks : Plan (Result (Unit {0}) KeyError)) (steps : Plan (Result A KeyError))
-    → ((if fails then reply (Err refusal) else checks) >>= on_ok steps) ≡ (if fails then reply (Err refusal) else (checks >>= on_ok steps))
+one_check : {A : Type 0} (fails : Bool) (refusal : KeyError) (checks : Plan (Result (Unit {0}) KeyError))
+    (steps : Plan (Result A KeyError))
+    → ((if fails then reply (Err refusal) else checks) >>= on_ok steps)
+    ≡ (if fails then reply (Err refusal) else (checks >>= on_ok steps))
 one_check true refusal checks steps = refl
 one_check false refusal checks steps = refl
 
@@ -36,14 +38,19 @@ checks-then : {A : Type 0} (k : KeyNo) (stage : Stage) (ops : ℕ) (steps : Plan
     → (checks k stage ops >>= on_ok steps) ≡ if_valid k (on_supported ops steps) stage
 checks-then {A = A} k stage ops steps =
     one_check (not (is_valid_key stage k.serial)) CancelledKey (on_supported ops (reply (Ok tt)) stage) steps
-    ∙ ap (λ (rest : Plan (Result A KeyError)). if not (is_valid_key stage k.serial) then reply (Err CancelledKey) else rest)
+    ∙ ap (λ (rest : Plan (Result A KeyError)). if not (is_valid_key stage k.serial) then reply (Err CancelledKey)
+    else rest)
     (λ j. ask (Question.look_channel stage.chan)
-    (λ answer. one_check (not (is_within ops (valid_operations (channel_in answer).kind))) IllegalOps (reply (Ok tt)) steps j))
+    (λ answer. one_check (not (is_within ops (valid_operations (channel_in answer).kind))) IllegalOps
+    (reply (Ok tt)) steps j))
 
-module _ {A : Type 0} {me : CallerNo} {v0 v1 : PassView} (k : KeyNo) (stage : Stage) (ops : ℕ) (steps : Plan (Result A KeyError)) where
+module _ {A : Type 0} {me : CallerNo} {v0 v1 : PassView} (k : KeyNo) (stage : Stage) (ops : ℕ)
+    (steps : Plan (Result A KeyError)) where
   -- the checks let it go on
-  pub ran_checked : {answer : Result A KeyError} {v2 : PassView} → CallClause me (Completes (checks k stage ops)) v0 v1 (Ok tt)
-      → CallClause me (Completes steps) v1 v2 answer → CallClause me (Completes (if_valid k (on_supported ops steps) stage)) v0 v2 answer
+  pub ran_checked : {answer : Result A KeyError} {v2 : PassView}
+      → CallClause me (Completes (checks k stage ops)) v0 v1 (Ok tt)
+      → CallClause me (Completes steps) v1 v2 answer
+      → CallClause me (Completes (if_valid k (on_supported ops steps) stage)) v0 v2 answer
   ran_checked {answer = answer} {v2 = v2} checked call =
       subst (λ plan. CallClause me (Completes plan) v0 v2 answer) (checks-then k stage ops steps)
       (returned (ran_then (on_ok steps) checked (left_of_call call)))

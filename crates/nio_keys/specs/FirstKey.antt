@@ -6,7 +6,9 @@ use Rattle.nio_base.specs.declared.numbers.ChanNo.{ChanNo}
 use Rattle.nio_base.specs.declared.numbers.KeyNo.{KeyNo}
 use Rattle.nio_base.specs.declared.numbers.SelNo.{SelNo}
 use Rattle.nio_event.specs.Histories.{event_of}
-use Rattle.nio_event.specs.declared.act.Act.TheVariants.{DrawBit, MakeSelector, MakeChannel, TryHoldBit, SetMode, LookChannel, Claim, Publish, Pin, CancelKey, Unpin, TakeTurn, BeginLook, Remove, PutFree, GiveTurn}
+use Rattle.nio_event.specs.declared.act.Act.TheVariants.{DrawBit, MakeSelector, MakeChannel, TryHoldBit, SetMode}
+use Rattle.nio_event.specs.declared.act.Act.TheVariants.{LookChannel, Claim, Publish, Pin, CancelKey, Unpin, TakeTurn}
+use Rattle.nio_event.specs.declared.act.Act.TheVariants.{BeginLook, Remove, PutFree, GiveTurn}
 use Rattle.nio_event.specs.declared.event.Event.{Event}
 use Rattle.nio_event.specs.declared.found.Chan.{Chan}
 use Rattle.nio_event.specs.declared.found.Stage.{Stage}
@@ -27,7 +29,8 @@ abbrev pub channel : Bool → Chan
 channel blocking = record { made = true; kind = Source; closed = false; blocking = blocking }
 
 abbrev pub stage : Bool → Bool → Bool → Stage
-stage published cancelled removed = record { claimed = true; published = published; cancelled = cancelled; removed = removed; chan = c; serial = 0 }
+stage published cancelled removed =
+    record { claimed = true; published = published; cancelled = cancelled; removed = removed; chan = c; serial = 0 }
 
 -- the caller that makes the key still holds the channel
 abbrev pub first_key : List Event

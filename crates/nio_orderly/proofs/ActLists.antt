@@ -1,5 +1,6 @@
 -- Lists of acts: what one act more does to the words of careful histories and of debts.
-use Rattle.std.proofs.Common.{◌≡◌, ℕ, ◌+◌, ◌≤◌, Bool, true, false, cond, ◌&&◌, ◌||◌, not, ◌⊎◌, inl, inr, if◌then◌else◌, List, [], ◌∷◌, ◌++◌, refl, ap, sym, ◌∙◌, arith}
+use Rattle.std.proofs.Common.{◌≡◌, ℕ, ◌+◌, ◌≤◌, Bool, true, false, cond, ◌&&◌, ◌||◌, not, ◌⊎◌, inl, inr, if◌then◌else◌}
+use Rattle.std.proofs.Common.{List, [], ◌∷◌, ◌++◌, refl, ap, sym, ◌∙◌, arith}
 use Rattle.std.proofs.lemmas.Bool.{or_parts}
 use Rattle.std.proofs.lemmas.List.Folds.{list_any-append}
 use Rattle.std.proofs.lemmas.List.Sums.{sum_by-append, sum_by-cons, sum_by_push}
@@ -16,20 +17,23 @@ pub has-append : (p : Act → Bool) (xs ys : List Act) → has p (xs ++ ys) ≡ 
 has-append p xs ys = list_any-append p xs ys
 
 -- what isn't among all of them isn't among the first
-pub has_no_first : (p : Act → Bool) (xs ys : List Act) → has p (xs ++ ys) ≡ false → (has p xs ≡ false) × (has p ys ≡ false)
+pub has_no_first : (p : Act → Bool) (xs ys : List Act) → has p (xs ++ ys) ≡ false
+    → (has p xs ≡ false) × (has p ys ≡ false)
 has_no_first p xs ys none_such = or_parts (has p xs) (has p ys) (sym (has-append p xs ys) ∙ none_such)
 
 pub count-append : (p : Act → Bool) (xs ys : List Act) → count p (xs ++ ys) ≡ count p xs + count p ys
 count-append p xs ys = sum_by-append (λ x. cond (p x) 1 0) xs ys
 
-pub count-more : (p : Act → Bool) (own : List Act) (act : Act) → count p (own ++ act ∷ []) ≡ count p own + cond (p act) 1 0
+pub count-more : (p : Act → Bool) (own : List Act) (act : Act)
+    → count p (own ++ act ∷ []) ≡ count p own + cond (p act) 1 0
 count-more p own act = sum_by_push (λ x. cond (p x) 1 0) own act
 
 count-cons : (p : Act → Bool) (act : Act) (own : List Act) → count p (act ∷ own) ≡ cond (p act) 1 0 + count p own
 count-cons p act own = sum_by-cons (λ x. cond (p x) 1 0) act own
 
 -- where an act of a narrower sort was done, one at least was
-pub has_counts : (p q : Act → Bool) → ((act : Act) → q act ≡ true → p act ≡ true) → (own : List Act) → has q own ≡ true → 1 ≤ count p own
+pub has_counts : (p q : Act → Bool) → ((act : Act) → q act ≡ true → p act ≡ true) → (own : List Act) → has q own ≡ true
+    → 1 ≤ count p own
 has_counts p q wider [] had = absurd cc
 has_counts p q wider (act ∷ own) had = by_first (q act) refl (has_counts p q wider own)
   where
@@ -52,12 +56,15 @@ since_first-more opens [] act = by_test (opens act)
     by_test false = refl
 since_first-more opens (x ∷ own) act = by_test (opens x) (since_first-more opens own act)
   where
-    by_test : (b : Bool) → since_first opens (own ++ act ∷ []) ≡ (if has opens own then since_first opens own ++ act ∷ [] else [])
-        → (if b then own ++ act ∷ [] else since_first opens (own ++ act ∷ [])) ≡ (if b || has opens own then (if b then own else since_first opens own) ++ act ∷ [] else [])
+    by_test : (b : Bool)
+        → since_first opens (own ++ act ∷ []) ≡ (if has opens own then since_first opens own ++ act ∷ [] else [])
+        → (if b then own ++ act ∷ [] else since_first opens (own ++ act ∷ []))
+        ≡ (if b || has opens own then (if b then own else since_first opens own) ++ act ∷ [] else [])
     by_test true rest = refl
     by_test false rest = rest
 
-pub until_released-append : (c : ℕ) (xs ys : List Act) → (zs : List Act) × (until_released c (xs ++ ys) ≡ until_released c xs ++ zs)
+pub until_released-append : (c : ℕ) (xs ys : List Act)
+    → (zs : List Act) × (until_released c (xs ++ ys) ≡ until_released c xs ++ zs)
 until_released-append c [] ys = (until_released c ys, refl)
 until_released-append c (x ∷ xs) ys = by_test (releases c x) (until_released-append c xs ys)
   where
@@ -65,24 +72,28 @@ until_released-append c (x ∷ xs) ys = by_test (releases c x) (until_released-a
     open_list b rest = if b then [] else x ∷ rest
 
     by_test : (b : Bool) → (zs : List Act) × (until_released c (xs ++ ys) ≡ until_released c xs ++ zs)
-        → (zs : List Act) × ((if b then [] else x ∷ until_released c (xs ++ ys)) ≡ (if b then [] else x ∷ until_released c xs) ++ zs)
+        → (zs : List Act)
+        × ((if b then [] else x ∷ until_released c (xs ++ ys)) ≡ (if b then [] else x ∷ until_released c xs) ++ zs)
     by_test true rest = ([], refl)
     by_test false rest = (rest.0, ap (λ acts. x ∷ acts) rest.1)
 
 -- ---- debts
 
 -- a debt goes on where a look finds that it stands, and where nothing settles it
-pub owes-more : (duty : Duty) (since : List Act) (act : Act) → (duty.looks act ≡ true → duty.finds act ≡ true) → duty.settles act ≡ false
+pub owes-more : (duty : Duty) (since : List Act) (act : Act) → (duty.looks act ≡ true → duty.finds act ≡ true)
+    → duty.settles act ≡ false
     → owes duty since ≡ true → owes duty (since ++ act ∷ []) ≡ true
 owes-more duty [] act finds unsettled owing = by_look (duty.looks act) refl
   where
     by_look : (b : Bool) → duty.looks act ≡ b → (if b then duty.finds act && not (has duty.settles []) else true) ≡ true
     by_look true looks = ap (λ b. b && true) (finds looks)
     by_look false looks = refl
-owes-more duty (x ∷ since) act finds unsettled owing = by_look (duty.looks x) owing (owes-more duty since act finds unsettled)
+owes-more duty (x ∷ since) act finds unsettled owing =
+    by_look (duty.looks x) owing (owes-more duty since act finds unsettled)
   where
     still : (has duty.settles (since ++ act ∷ [])) ≡ has duty.settles since
-    still = has-append duty.settles since (act ∷ []) ∙ (ap (λ b. has duty.settles since || (b || false)) unsettled ∙ or_false (has duty.settles since))
+    still = has-append duty.settles since (act ∷ [])
+        ∙ (ap (λ b. has duty.settles since || (b || false)) unsettled ∙ or_false (has duty.settles since))
       where
         or_false : (b : Bool) → (b || false) ≡ b
         or_false true = refl
@@ -90,7 +101,8 @@ owes-more duty (x ∷ since) act finds unsettled owing = by_look (duty.looks x) 
 
     by_look : (b : Bool) → (if b then duty.finds x && not (has duty.settles since) else owes duty since) ≡ true
         → (owes duty since ≡ true → owes duty (since ++ act ∷ []) ≡ true)
-        → (if b then duty.finds x && not (has duty.settles (since ++ act ∷ [])) else owes duty (since ++ act ∷ [])) ≡ true
+        → (if b then duty.finds x && not (has duty.settles (since ++ act ∷ [])) else owes duty (since ++ act ∷ []))
+        ≡ true
     by_look true stands later = ap (λ b. duty.finds x && not b) still ∙ stands
     by_look false stands later = later stands
 
@@ -107,7 +119,9 @@ owes-settled duty (x ∷ since) later settled = by_look (duty.looks x) settled (
     by_look : (b : Bool) → (if b then duty.finds x && not (has duty.settles since) else owes duty since) ≡ false
         → (owes duty since ≡ false → owes duty (since ++ later) ≡ false)
         → (if b then duty.finds x && not (has duty.settles (since ++ later)) else owes duty (since ++ later)) ≡ false
-    by_look true done rest = ap (λ b. duty.finds x && not b) (has-append duty.settles since later) ∙ by_parts (duty.finds x) (has duty.settles since) (has duty.settles later) done
+    by_look true done rest =
+        ap (λ b. duty.finds x && not b) (has-append duty.settles since later)
+        ∙ by_parts (duty.finds x) (has duty.settles since) (has duty.settles later) done
     by_look false done rest = rest done
 
 -- ---- preparing
@@ -118,8 +132,10 @@ since_first_none opens (x ∷ own) none_such =
     let both = or_parts (opens x) (has opens own) none_such in
     ap (λ b. if b then own else since_first opens own) both.0 ∙ since_first_none opens own both.1
 
-prepared_in : (s i : ℕ) (own since : List Act) → since_first (leaves_below s i) own ≡ since → is_prepared s i own ≡ true → has (finds_open s) (since_from (claims s i) since) ≡ true
-prepared_in s i own since is prepared = sym (ap (λ acts. has (finds_open s) (since_from (claims s i) acts)) is) ∙ prepared
+prepared_in : (s i : ℕ) (own since : List Act) → since_first (leaves_below s i) own ≡ since → is_prepared s i own ≡ true
+    → has (finds_open s) (since_from (claims s i) since) ≡ true
+prepared_in s i own since is prepared =
+    sym (ap (λ acts. has (finds_open s) (since_from (claims s i) acts)) is) ∙ prepared
 
 -- who prepared a key found the mark above it, or raised it above
 pub prepared_left : (s i : ℕ) (own : List Act) → is_prepared s i own ≡ true → has (leaves_below s i) own ≡ true
@@ -127,10 +143,11 @@ prepared_left s i own prepared = by_left (has (leaves_below s i) own) refl
   where
     by_left : (b : Bool) → has (leaves_below s i) own ≡ b → b ≡ true
     by_left true had = refl
-    by_left false none_such = absurd (cc (prepared_in s i own [] (since_first_none (leaves_below s i) own none_such) prepared))
+    by_left false none_such =
+        absurd (cc (prepared_in s i own [] (since_first_none (leaves_below s i) own none_such) prepared))
 
--- an act after which a key is prepared doesn't claim its index, and the key was prepared before or the act finds the gate
--- not shut
+-- an act after which a key is prepared doesn't claim its index, and the key was prepared before or the act finds the
+-- gate not shut
 pub prepared-more : (s i : ℕ) (own : List Act) (act : Act) → is_prepared s i (own ++ act ∷ []) ≡ true
     → (claims s i act ≡ false) × ((is_prepared s i own ≡ true) ⊎ (finds_open s act ≡ true))
 prepared-more s i own act prepared = by_left (has (leaves_below s i) own) refl
@@ -138,19 +155,29 @@ prepared-more s i own act prepared = by_left (has (leaves_below s i) own) refl
     since : List Act
     since = since_first (leaves_below s i) own
 
-    by_claim : (b : Bool) → claims s i act ≡ b → has (finds_open s) (if b then [] else since_from (claims s i) since ++ act ∷ []) ≡ true
+    by_claim : (b : Bool) → claims s i act ≡ b
+        → has (finds_open s) (if b then [] else since_from (claims s i) since ++ act ∷ []) ≡ true
         → (claims s i act ≡ false) × ((is_prepared s i own ≡ true) ⊎ (finds_open s act ≡ true))
     by_claim true claimed found = absurd cc
-    by_claim false claimed found =
-        (claimed, either (is_prepared s i own) (finds_open s act) (sym (has-more (finds_open s) (since_from (claims s i) since) act) ∙ found))
+    by_claim false claimed found = (
+      claimed,
+      either (is_prepared s i own) (finds_open s act)
+          (sym (has-more (finds_open s) (since_from (claims s i) since) act) ∙ found),
+    )
 
-    by_left : (b : Bool) → has (leaves_below s i) own ≡ b → (claims s i act ≡ false) × ((is_prepared s i own ≡ true) ⊎ (finds_open s act ≡ true))
+    by_left : (b : Bool) → has (leaves_below s i) own ≡ b
+        → (claims s i act ≡ false) × ((is_prepared s i own ≡ true) ⊎ (finds_open s act ≡ true))
     by_left true had =
         by_claim (claims s i act) refl
         (sym (ap (has (finds_open s)) (since_from-more (claims s i) since act))
-        ∙ prepared_in s i (own ++ act ∷ []) (since ++ act ∷ []) (since_first-more (leaves_below s i) own act ∙ ap (λ b. cond {A = List Act} b (since ++ act ∷ []) []) had) prepared)
+        ∙ prepared_in s i (own ++ act ∷ []) (since ++ act ∷ [])
+        (since_first-more (leaves_below s i) own act ∙ ap (λ b. cond {A = List Act} b (since ++ act ∷ []) []) had)
+        prepared)
     by_left false none_such =
-        absurd (cc (prepared_in s i (own ++ act ∷ []) [] (since_first-more (leaves_below s i) own act ∙ ap (λ b. cond {A = List Act} b (since ++ act ∷ []) []) none_such) prepared))
+        absurd (cc
+        (prepared_in s i (own ++ act ∷ []) []
+        (since_first-more (leaves_below s i) own act
+        ∙ ap (λ b. cond {A = List Act} b (since ++ act ∷ []) []) none_such) prepared))
 
 -- ---- where an act stands
 
@@ -169,7 +196,8 @@ pub record Within (xs : List Act) (x : Act) (ys : List Act) (y : Act) (zs : List
   pub before : xs ≡ ys ++ y ∷ rest
   pub later : zs ≡ rest ++ x ∷ []
 
-pub split_last : (xs : List Act) (x : Act) (ys : List Act) (y : Act) (zs : List Act) → xs ++ x ∷ [] ≡ ys ++ y ∷ zs → AtEnd xs x ys y zs ⊎ Within xs x ys y zs
+pub split_last : (xs : List Act) (x : Act) (ys : List Act) (y : Act) (zs : List Act) → xs ++ x ∷ [] ≡ ys ++ y ∷ zs
+    → AtEnd xs x ys y zs ⊎ Within xs x ys y zs
 split_last [] x [] y zs eq = inl (record { before = refl; act = cc eq; later = cc eq })
 split_last [] x (w ∷ ys) y zs eq = absurd (not_empty ys y zs (cc eq))
 split_last (v ∷ xs) x [] y zs eq = inr (record { rest = xs; before = cc eq; later = cc eq })
@@ -180,11 +208,13 @@ split_last (v ∷ xs) x (w ∷ ys) y zs eq =
       | inr it ↦ inr (record { rest = it.rest; before = cc (heads, it.before); later = it.later })
     ]
 
-pub since_first-append : (opens : Act → Bool) (xs ys : List Act) → has opens xs ≡ true → since_first opens (xs ++ ys) ≡ since_first opens xs ++ ys
+pub since_first-append : (opens : Act → Bool) (xs ys : List Act) → has opens xs ≡ true
+    → since_first opens (xs ++ ys) ≡ since_first opens xs ++ ys
 since_first-append opens [] ys had = absurd cc
 since_first-append opens (x ∷ xs) ys had = by_test (opens x) had (since_first-append opens xs ys)
   where
-    by_test : (b : Bool) → (b || has opens xs) ≡ true → (has opens xs ≡ true → since_first opens (xs ++ ys) ≡ since_first opens xs ++ ys)
+    by_test : (b : Bool) → (b || has opens xs) ≡ true
+        → (has opens xs ≡ true → since_first opens (xs ++ ys) ≡ since_first opens xs ++ ys)
         → (if b then xs ++ ys else since_first opens (xs ++ ys)) ≡ (if b then xs else since_first opens xs) ++ ys
     by_test true had' rest = refl
     by_test false had' rest = rest had'

@@ -1,5 +1,6 @@
 -- What is left once a closing has done all its steps, and where nobody owes anything.
-use Rattle.std.proofs.Common.{◌≡◌, ℕ, ◌<◌, Bool, true, false, not, ◌||◌, ◌⊎◌, inl, inr, Option, Some, None, List, [], ◌∷◌, ◌++◌, append_assoc, refl, ap, sym, ◌∙◌, subst, eqb-true, eq-eqb}
+use Rattle.std.proofs.Common.{◌≡◌, ℕ, ◌<◌, Bool, true, false, not, ◌||◌, ◌⊎◌, inl, inr, Option, Some, None, List, []}
+use Rattle.std.proofs.Common.{◌∷◌, ◌++◌, append_assoc, refl, ap, sym, ◌∙◌, subst, eqb-true, eq-eqb}
 use Rattle.std.proofs.lemmas.Bool.{and_parts}
 use Rattle.nio_base.specs.Limits.{IsFit}
 use Rattle.nio_base.specs.declared.limits.Limits.{Limits}
@@ -41,18 +42,24 @@ use Rattle.nio_orderly.specs.Settled.{IsSettled, SettledLosesNoKey}
 use Rattle.nio_steps.proofs.OwnActs.{Cut, cut_at, mine-append}
 
 -- the selector of an index that has a key is below the limit
-valid_within : (l : Limits) (events : List Event) (s i : ℕ) → IsLegal l events → is_valid ((state_after events).key s i) ≡ true → s < l.selectors
+valid_within : (l : Limits) (events : List Event) (s i : ℕ) → IsLegal l events
+    → is_valid ((state_after events).key s i) ≡ true → s < l.selectors
 valid_within l events s i legal valid =
     let k : Stage = (state_after events).key s i in
-    ((legal-within l events legal).keys s i (set_claimed (state_after events) (legal-sound l events legal) s i (and_parts (in_key_set k) (not k.cancelled) valid).0)).0
+    ((legal-within l events legal).keys s i
+    (set_claimed (state_after events) (legal-sound l events legal) s i
+    (and_parts (in_key_set k) (not k.cancelled) valid).0)).0
 
 -- ---- a closed channel
 
 -- where who closed the channel has settled, the publisher of a valid key owes
-publisher_left : (l : Limits) (n : CallerNo) (c : ChanNo) (events : List Event) (before since : List Act) → IsFit l → IsLegal l events → IsCareful events
-    → mine n events ≡ before ++ CloseBit c false ∷ since → ((s : ℕ) → s < l.selectors → (k : KeyId) → owes (closing_duty c.0 s k) since ≡ false)
+publisher_left : (l : Limits) (n : CallerNo) (c : ChanNo) (events : List Event) (before since : List Act) → IsFit l
+    → IsLegal l events → IsCareful events
+    → mine n events ≡ before ++ CloseBit c false ∷ since
+    → ((s : ℕ) → s < l.selectors → (k : KeyId) → owes (closing_duty c.0 s k) since ≡ false)
     → (s i : ℕ) → is_valid ((state_after events).key s i) ≡ true → ((state_after events).key s i).chan ≡ c
-    → OwesSince events (publishes_key c.0 s (key_of (state_after events) s i)) (publisher_duty c.0 s (key_of (state_after events) s i))
+    → OwesSince events (publishes_key c.0 s (key_of (state_after events) s i))
+    (publisher_duty c.0 s (key_of (state_after events) s i))
 publisher_left l n c events before since fit legal careful did settled s i valid of_channel =
     elim (owed_by l fit events legal careful s i valid n before c since did of_channel) [
       | inl debt ↦ debt
@@ -64,7 +71,10 @@ publisher_left l n c events before since fit legal careful did settled s i valid
 pub only_publishers_owe : OnlyPublishersOwe
 only_publishers_owe l n c before after fit goes_on legal careful closed =
     publisher_left l n c after closed.before (closed.since ++ mine n goes_on.0) fit legal careful
-    (ap (mine n) (sym goes_on.1) ∙ (mine-append n before goes_on.0 ∙ (ap (λ acts. acts ++ mine n goes_on.0) closed.did ∙ append_assoc closed.before (CloseBit c false ∷ closed.since) (mine n goes_on.0))))
+    (ap (mine n) (sym goes_on.1)
+    ∙ (mine-append n before goes_on.0
+    ∙ (ap (λ acts. acts ++ mine n goes_on.0) closed.did
+    ∙ append_assoc closed.before (CloseBit c false ∷ closed.since) (mine n goes_on.0))))
     (λ s below k. owes-settled (closing_duty c.0 s k) closed.since (mine n goes_on.0) (closed.settled s below k))
 
 -- ---- a closed selector
@@ -78,7 +88,8 @@ closer_is n (Some x) held = ap (λ (m : ℕ). Some (caller m)) (eqb-true x.0 n.0
     caller m = record { 0 = m }
 
 pub closed_selectors_have_no_key : ClosedSelectorsHaveNoKey
-closed_selectors_have_no_key l n s before after fit goes_on legal careful closed i = not_true (is_valid ((state_after after).key s.0 i)) (λ valid.
+closed_selectors_have_no_key l n s before after fit goes_on legal careful closed i =
+    not_true (is_valid ((state_after after).key s.0 i)) (λ valid.
     both_ways (owes (clearing_duty s.0 i) (since_entered s.0 (mine n after)))
     (clearing_owed l fit after legal careful s.0 i n closer_now (valid_coming after s.0 i valid)) settled_now)
   where
@@ -88,30 +99,37 @@ closed_selectors_have_no_key l n s before after fit goes_on legal careful closed
     closer_now : (state_after after).closer s.0 ≡ Some n
     closer_now = closer_is n ((state_after after).closer s.0)
         (subst (λ evs. is_held_by n ((state_after evs).closer s.0) ≡ true) goes_on.1
-        (permanent_stands l before goes_on.0 (subst (IsLegal l) (sym goes_on.1) legal) (selector_closed_by s n) closed.closer))
+        (permanent_stands l before goes_on.0 (subst (IsLegal l) (sym goes_on.1) legal)
+        (selector_closed_by s n) closed.closer))
 
     settled_now : owes (clearing_duty s.0 i) (since_entered s.0 (mine n after)) ≡ false
     settled_now =
         ap (λ own. owes (clearing_duty s.0 i) (since_entered s.0 own)) whole
-        ∙ (ap (owes (clearing_duty s.0 i)) (since_first-append (enters s.0) (mine n before) (mine n goes_on.0) closed.entered)
+        ∙ (ap (owes (clearing_duty s.0 i))
+        (since_first-append (enters s.0) (mine n before) (mine n goes_on.0) closed.entered)
         ∙ owes-settled (clearing_duty s.0 i) (since_entered s.0 (mine n before)) (mine n goes_on.0) (closed.settled i))
 
 -- ---- where nobody owes anything
 
 -- a selector that was entered was entered by its closer
-came_entered : (st : State) (me : CallerNo) (act : Act) (s : ℕ) → (effect st me act).entered s ≡ true → (st.entered s ≡ true) ⊎ (enters s act ≡ true)
+came_entered : (st : State) (me : CallerNo) (act : Act) (s : ℕ) → (effect st me act).entered s ≡ true
+    → (st.entered s ≡ true) ⊎ (enters s act ≡ true)
 came_entered st me (Enter k None) s =
-    put_keeps (λ m b. b ≡ true → (st.entered m ≡ true) ⊎ (enters m (Enter k None) ≡ true)) st.entered k.0 _ (λ old e. inr (eq-eqb k.0 k.0 refl)) s (λ e. inl e)
+    put_keeps (λ m b. b ≡ true → (st.entered m ≡ true) ⊎ (enters m (Enter k None) ≡ true)) st.entered k.0 _
+    (λ old e. inr (eq-eqb k.0 k.0 refl)) s (λ e. inl e)
 came_entered st me (Enter k (Some n)) s =
-    put_keeps (λ m b. b ≡ true → (st.entered m ≡ true) ⊎ (enters m (Enter k (Some n)) ≡ true)) st.entered k.0 _ (λ old e. inl (either_left (st.entered k.0) e)) s (λ e. inl e)
+    put_keeps (λ m b. b ≡ true → (st.entered m ≡ true) ⊎ (enters m (Enter k (Some n)) ≡ true)) st.entered k.0 _
+    (λ old e. inl (either_left (st.entered k.0) e)) s (λ e. inl e)
   where
     either_left : (b : Bool) → (b || false) ≡ true → b ≡ true
     either_left true e = refl
     either_left false e = e
 came_entered st me act s = λ e. inl e
 
-entering_closer : (l : Limits) (own : List Act) (st : State) (me : CallerNo) (act : Act) (s : ℕ) → Condition l own st me act → enters s act ≡ true → is_held_by me (st.closer s) ≡ true
-entering_closer l own st me (Enter k None) s may told = subst (λ (m : ℕ). is_held_by me (st.closer m) ≡ true) (eqb-true k.0 s told) may.1
+entering_closer : (l : Limits) (own : List Act) (st : State) (me : CallerNo) (act : Act) (s : ℕ)
+    → Condition l own st me act → enters s act ≡ true → is_held_by me (st.closer s) ≡ true
+entering_closer l own st me (Enter k None) s may told =
+    subst (λ (m : ℕ). is_held_by me (st.closer m) ≡ true) (eqb-true k.0 s told) may.1
 entering_closer l own st me act s may told = absurd (cc told)
 
 -- who entered a selector, which its closer did
@@ -120,35 +138,50 @@ record EnteredBy (events : List Event) (s : ℕ) : Type 0 where
   closer : is_held_by caller ((state_after events).closer s) ≡ true
   had : has (enters s) (mine caller events) ≡ true
 
-entered_by : (l : Limits) (s : SelNo) (events : List Event) → IsLegal l events → (state_after events).entered s.0 ≡ true → EnteredBy events s.0
-entered_by l s = legal_induction l (λ evs. (state_after evs).entered s.0 ≡ true → EnteredBy evs s.0) (λ entered. absurd cc) each
+entered_by : (l : Limits) (s : SelNo) (events : List Event) → IsLegal l events → (state_after events).entered s.0 ≡ true
+    → EnteredBy events s.0
+entered_by l s =
+    legal_induction l (λ evs. (state_after evs).entered s.0 ≡ true → EnteredBy evs s.0) (λ entered. absurd cc) each
   where
-    each : (past : List Event) (e : Event) → IsLegal l past → IsStep l past e → ((state_after past).entered s.0 ≡ true → EnteredBy past s.0)
+    each : (past : List Event) (e : Event) → IsLegal l past → IsStep l past e
+        → ((state_after past).entered s.0 ≡ true → EnteredBy past s.0)
         → (state_after (past ++ e ∷ [])).entered s.0 ≡ true → EnteredBy (past ++ e ∷ []) s.0
     each past e legal step before entered =
-        elim (came_entered (state_after past) e.caller e.act s.0 (subst (λ st. st.entered s.0 ≡ true) (state_after-more past e) entered)) [
+        elim (came_entered (state_after past) e.caller e.act s.0
+        (subst (λ st. st.entered s.0 ≡ true) (state_after-more past e) entered)) [
           | inl entered_before ↦ on (before entered_before)
           | inr told ↦
               record {
                 caller = e.caller;
-                closer = still e.caller (entering_closer l (mine e.caller past) (state_after past) e.caller e.act s.0 step.condition told);
+                closer = still e.caller
+                    (entering_closer l (mine e.caller past) (state_after past) e.caller e.act s.0 step.condition told);
                 had = ap (has (enters s.0)) (mine-own e.caller past e (eq-eqb e.caller.0 e.caller.0 refl))
-                    ∙ (has-more (enters s.0) (mine e.caller past) e.act ∙ or_right (has (enters s.0) (mine e.caller past)) (enters s.0 e.act) told);
+                    ∙ (has-more (enters s.0) (mine e.caller past) e.act
+                    ∙ or_right (has (enters s.0) (mine e.caller past)) (enters s.0 e.act) told);
               }
         ]
       where
-        still : (n : CallerNo) → is_held_by n ((state_after past).closer s.0) ≡ true → is_held_by n ((state_after (past ++ e ∷ [])).closer s.0) ≡ true
-        still n closer = permanent_stands l past (e ∷ []) (legal_more l past e legal step) (selector_closed_by s n) closer
+        still : (n : CallerNo) → is_held_by n ((state_after past).closer s.0) ≡ true
+            → is_held_by n ((state_after (past ++ e ∷ [])).closer s.0) ≡ true
+        still n closer =
+            permanent_stands l past (e ∷ []) (legal_more l past e legal step) (selector_closed_by s n) closer
 
         on : EnteredBy past s.0 → EnteredBy (past ++ e ∷ []) s.0
-        on by = record { caller = by.caller; closer = still by.caller by.closer; had = by_test (is_by by.caller e) refl }
+        on by = record {
+          caller = by.caller;
+          closer = still by.caller by.closer;
+          had = by_test (is_by by.caller e) refl;
+        }
           where
             by_test : (b : Bool) → is_by by.caller e ≡ b → has (enters s.0) (mine by.caller (past ++ e ∷ [])) ≡ true
-            by_test true its = ap (has (enters s.0)) (mine-own by.caller past e its) ∙ (has-more (enters s.0) (mine by.caller past) e.act ∙ ap (λ b. b || enters s.0 e.act) by.had)
+            by_test true its =
+                ap (has (enters s.0)) (mine-own by.caller past e its)
+                ∙ (has-more (enters s.0) (mine by.caller past) e.act ∙ ap (λ b. b || enters s.0 e.act) by.had)
             by_test false its = ap (has (enters s.0)) (mine-other by.caller past e its) ∙ by.had
 
 -- a publisher that has settled owes nothing
-pub publisher_settled : (l : Limits) (events : List Event) (c s : ℕ) (k : KeyId) → IsFit l → IsLegal l events → ((n : CallerNo) → IsSettled l (mine n events))
+pub publisher_settled : (l : Limits) (events : List Event) (c s : ℕ) (k : KeyId) → IsFit l → IsLegal l events
+    → ((n : CallerNo) → IsSettled l (mine n events))
     → OwesSince events (publishes_key c s k) (publisher_duty c s k) → ⊥
 publisher_settled l events c s k fit legal settled debt =
     both_ways (owes (publisher_duty c s k) debt.since) debt.owing
@@ -208,8 +241,10 @@ publisher_settled l events c s k fit legal settled debt =
 
 pub settled_loses_no_key : SettledLosesNoKey
 settled_loses_no_key l events fit legal careful settled = record {
-  channels = λ s i valid. not_true (st.chan (st.key s i).chan.0).closed (λ closed. by_publisher s i valid (closed_by l (st.key s i).chan events legal closed));
-  selectors = λ s i valid. not_true (st.entered s) (λ entered. by_closer s i valid (entered_by l (selector s) events legal entered));
+  channels = λ s i valid. not_true (st.chan (st.key s i).chan.0).closed
+      (λ closed. by_publisher s i valid (closed_by l (st.key s i).chan events legal closed));
+  selectors = λ s i valid. not_true (st.entered s)
+      (λ entered. by_closer s i valid (entered_by l (selector s) events legal entered));
 }
   where
     st : State
@@ -220,10 +255,12 @@ settled_loses_no_key l events fit legal careful settled = record {
 
     by_publisher : (s i : ℕ) → is_valid (st.key s i) ≡ true → ClosedBy events (st.key s i).chan → ⊥
     by_publisher s i valid by = publisher_settled l events (st.key s i).chan.0 s (key_of st s i) fit legal settled
-        (publisher_left l by.caller (st.key s i).chan events by.before by.since fit legal careful by.did ((settled by.caller).closed by.before (st.key s i).chan by.since by.did) s i valid refl)
+        (publisher_left l by.caller (st.key s i).chan events by.before by.since fit legal careful by.did
+        ((settled by.caller).closed by.before (st.key s i).chan by.since by.did) s i valid refl)
 
     by_closer : (s i : ℕ) → is_valid (st.key s i) ≡ true → EnteredBy events s → ⊥
     by_closer s i valid by =
         both_ways (owes (clearing_duty s i) (since_entered s (mine by.caller events)))
-        (clearing_owed l fit events legal careful s i by.caller (closer_is by.caller (st.closer s) by.closer) (valid_coming events s i valid))
+        (clearing_owed l fit events legal careful s i by.caller (closer_is by.caller (st.closer s) by.closer)
+        (valid_coming events s i valid))
         ((settled by.caller).entered s i by.had)

@@ -13,12 +13,23 @@ use Rattle.nio_event.specs.declared.found.Mark.{Mark as KeyMark}
 use Rattle.nio_event.specs.declared.found.Mode.{Mode}
 use Rattle.nio_event.specs.declared.found.Stage.{Stage}
 use Rattle.nio_orderly.proofs.ClosingsKept.{close_channel-keeps}
-use Rattle.nio_orderly.proofs.Kept.{Keeps, keeps_reply, keeps_ask, keeps_bind, keeps_if, keeps_sweep, keeps_over, keeps_seek}
-use Rattle.nio_steps.specs.ChannelCalls.{open_channel_plan, opened_channel, is_open_plan, is_blocking_plan, is_registered_plan, noted_in_set, key_for_plan, under_hold, set_mode_held, try_set_blocking_plan, register_noted, register_over, close_channel_plan}
-use Rattle.nio_steps.specs.KeyCalls.{under_pin, find_selector_plan, find_channel_plan, find_plan, is_valid_plan, on_valid, if_valid, on_supported, look_set, put_set, add_set, keep_set, look_ready, interest_plan, set_interest_plan, interest_or_plan, interest_and_plan, ready_plan, cancel_plan, cancel_present, unselect_plan, unselect_present, attach_plan, attach_present, attachment_plan, attachment_present}
-use Rattle.nio_steps.specs.PipeCalls.{pipe_plan, without_sink, with_sink, with_source, if_interrupted, if_open, if_unbroken, try_read_plan, try_write_plan}
+use Rattle.nio_orderly.proofs.Kept.{Keeps, keeps_reply, keeps_ask, keeps_bind, keeps_if, keeps_sweep, keeps_over}
+use Rattle.nio_orderly.proofs.Kept.{keeps_seek}
+use Rattle.nio_steps.specs.ChannelCalls.{open_channel_plan, opened_channel, is_open_plan, is_blocking_plan}
+use Rattle.nio_steps.specs.ChannelCalls.{is_registered_plan, noted_in_set, key_for_plan, under_hold, set_mode_held}
+use Rattle.nio_steps.specs.ChannelCalls.{try_set_blocking_plan, register_noted, register_over, close_channel_plan}
+use Rattle.nio_steps.specs.KeyCalls.{under_pin, find_selector_plan, find_channel_plan, find_plan, is_valid_plan}
+use Rattle.nio_steps.specs.KeyCalls.{on_valid, if_valid, on_supported, look_set, put_set, add_set, keep_set, look_ready}
+use Rattle.nio_steps.specs.KeyCalls.{interest_plan, set_interest_plan, interest_or_plan, interest_and_plan, ready_plan}
+use Rattle.nio_steps.specs.KeyCalls.{cancel_plan, cancel_present, unselect_plan, unselect_present, attach_plan}
+use Rattle.nio_steps.specs.KeyCalls.{attach_present, attachment_plan, attachment_present}
+use Rattle.nio_steps.specs.PipeCalls.{pipe_plan, without_sink, with_sink, with_source, if_interrupted, if_open}
+use Rattle.nio_steps.specs.PipeCalls.{if_unbroken, try_read_plan, try_write_plan}
 use Rattle.nio_steps.specs.Plan.{Plan}
-use Rattle.nio_steps.specs.SelectCalls.{Selection, LookedOver, open_selector_plan, try_begin_plan, begin_below, look_over, told_plan, mark_entry, mark_again, after_marks, leave_plan, shut_plan, keys_plan, list_selected, list_present, selected_keys_plan, wakeup_plan, interrupt_plan, interrupted_plan}
+use Rattle.nio_steps.specs.SelectCalls.{Selection, LookedOver, open_selector_plan, try_begin_plan, begin_below}
+use Rattle.nio_steps.specs.SelectCalls.{look_over, told_plan, mark_entry, mark_again, after_marks, leave_plan}
+use Rattle.nio_steps.specs.SelectCalls.{shut_plan, keys_plan, list_selected, list_present, selected_keys_plan}
+use Rattle.nio_steps.specs.SelectCalls.{wakeup_plan, interrupt_plan, interrupted_plan}
 use Rattle.nio_steps.specs.Steps.{flag_in, stage_in, channel_in, number_in}
 use Rattle.nio_steps.specs.declared.looked.LookedKey.{LookedKey}
 use Rattle.nio_steps.specs.declared.refusal.ChannelError.{ChannelError}
@@ -30,8 +41,11 @@ ruleset still = (keeps_reply, keeps_ask, keeps_bind, keeps_if, keeps_sweep, keep
 -- ---- keys
 
 -- what is done under a pin
-pub keeps_under_pin : {A : Type 0} {l : Limits} (s : SelNo) (i : ℕ) (steps : Stage → Plan A) → ((stage : Stage) → Keeps l (steps stage)) → Keeps l (under_pin s i steps)
-keeps_under_pin s i steps each = keeps_ask _ _ refl (λ answer. keeps_bind _ _ (each (stage_in answer)) (λ a. keeps_ask _ _ refl (λ _. keeps_reply a)))
+pub keeps_under_pin : {A : Type 0} {l : Limits} (s : SelNo) (i : ℕ) (steps : Stage → Plan A)
+    → ((stage : Stage) → Keeps l (steps stage)) → Keeps l (under_pin s i steps)
+keeps_under_pin s i steps each =
+    keeps_ask _ _ refl
+    (λ answer. keeps_bind _ _ (each (stage_in answer)) (λ a. keeps_ask _ _ refl (λ _. keeps_reply a)))
 
 pub find_selector-keeps : (l : Limits) (n : ℕ) → Keeps l (find_selector_plan l n)
 unfolding find_selector_plan
@@ -49,8 +63,10 @@ pub is_valid-keeps : {l : Limits} (k : KeyNo) → Keeps l (is_valid_plan k)
 unfolding is_valid_plan
 is_valid-keeps k = search still depth 12
 
-pub on_valid-keeps : {A : Type 0} {l : Limits} (k : KeyNo) (steps : Stage → Plan (Result A KeyError)) → ((stage : Stage) → Keeps l (steps stage)) → Keeps l (on_valid k steps)
-on_valid-keeps k steps each = keeps_under_pin k.sel k.index (if_valid k steps) (λ stage. keeps_if _ _ (steps stage) (keeps_reply _) (each stage))
+pub on_valid-keeps : {A : Type 0} {l : Limits} (k : KeyNo) (steps : Stage → Plan (Result A KeyError))
+    → ((stage : Stage) → Keeps l (steps stage)) → Keeps l (on_valid k steps)
+on_valid-keeps k steps each =
+    keeps_under_pin k.sel k.index (if_valid k steps) (λ stage. keeps_if _ _ (steps stage) (keeps_reply _) (each stage))
 
 pub interest-keeps : {l : Limits} (k : KeyNo) → Keeps l (interest_plan k)
 unfolding interest_plan
@@ -118,15 +134,21 @@ pub is_registered-keeps : (l : Limits) (c : ChanNo) → Keeps l (is_registered_p
 unfolding is_registered_plan
 is_registered-keeps l c = search (still, key_for-keeps) depth 12
 
-pub under_hold-keeps : {A : Type 0} {l : Limits} (c : ChanNo) (steps : Plan (Result A ChannelError)) → Keeps l steps → Keeps l (under_hold c steps)
-under_hold-keeps c steps here = keeps_ask _ _ refl (λ answer. keeps_if _ _ _ (keeps_reply _) (keeps_bind steps _ here (λ a. keeps_ask _ _ refl (λ _. keeps_reply a))))
+pub under_hold-keeps : {A : Type 0} {l : Limits} (c : ChanNo) (steps : Plan (Result A ChannelError)) → Keeps l steps
+    → Keeps l (under_hold c steps)
+under_hold-keeps c steps here =
+    keeps_ask _ _ refl
+    (λ answer. keeps_if _ _ _ (keeps_reply _)
+    (keeps_bind steps _ here (λ a. keeps_ask _ _ refl (λ _. keeps_reply a))))
 
 pub mode_held-keeps : (l : Limits) (c : ChanNo) (on : Bool) → Keeps l (set_mode_held l c on)
 mode_held-keeps l c on = search (still, key_for-keeps) depth 12
 
 pub set_blocking-keeps : (l : Limits) (c : ChanNo) (on : Bool) → Keeps l (try_set_blocking_plan l c on)
 unfolding try_set_blocking_plan
-set_blocking-keeps l c on = keeps_ask _ _ refl (λ answer. keeps_if _ _ _ (keeps_reply _) (under_hold-keeps c (set_mode_held l c on) (mode_held-keeps l c on)))
+set_blocking-keeps l c on =
+    keeps_ask _ _ refl
+    (λ answer. keeps_if _ _ _ (keeps_reply _) (under_hold-keeps c (set_mode_held l c on) (mode_held-keeps l c on)))
 
 pub over-keeps : {l : Limits} (s : SelNo) (ops att : ℕ) (noted : Option KeyId) → Keeps l (register_over s ops att noted)
 over-keeps s ops att None = search still depth 12
@@ -141,24 +163,29 @@ open_selector-keeps l = search still depth 12
 pub look_over-keeps : {l : Limits} (s : SelNo) (i : ℕ) (found : LookedOver) → Keeps l (look_over s i found)
 look_over-keeps s i found = search still depth 16
 
-pub below-keeps : {l : Limits} (s : SelNo) (mode : Mode) (bound : ℕ) (lacks : Bool) → Keeps l (begin_below s mode bound lacks)
+pub below-keeps : {l : Limits} (s : SelNo) (mode : Mode) (bound : ℕ) (lacks : Bool)
+    → Keeps l (begin_below s mode bound lacks)
 below-keeps s mode bound lacks = search (still, look_over-keeps) depth 12
 
 pub begin-keeps : {l : Limits} (s : SelNo) (mode : Mode) (lacks : Bool) → Keeps l (try_begin_plan s mode lacks)
 unfolding try_begin_plan
 begin-keeps s mode lacks = search (still, below-keeps) depth 16
 
-pub again-keeps : {l : Limits} (s : SelNo) (i told : ℕ) (found : Result (Unit {0}) KeyMark) → Keeps l (mark_again s i told found)
+pub again-keeps : {l : Limits} (s : SelNo) (i told : ℕ) (found : Result (Unit {0}) KeyMark)
+    → Keeps l (mark_again s i told found)
 again-keeps s i told (Ok u) = search still
 again-keeps s i told (Err stands) = search still
 
-pub entry-keeps : {l : Limits} (s : SelNo) (pairs : List (ℕ × ℕ)) (entry : LookedKey) (count : ℕ) → Keeps l (mark_entry s pairs entry count)
+pub entry-keeps : {l : Limits} (s : SelNo) (pairs : List (ℕ × ℕ)) (entry : LookedKey) (count : ℕ)
+    → Keeps l (mark_entry s pairs entry count)
 entry-keeps s pairs entry count = search (still, again-keeps) depth 16
 
-pub marked-keeps : {l : Limits} (selection : Selection) (elapsed : Bool) (count : ℕ) → Keeps l (after_marks selection elapsed count)
+pub marked-keeps : {l : Limits} (selection : Selection) (elapsed : Bool) (count : ℕ)
+    → Keeps l (after_marks selection elapsed count)
 marked-keeps selection elapsed count = search still depth 20
 
-pub told-keeps : {l : Limits} (selection : Selection) (pairs : List (ℕ × ℕ)) (elapsed : Bool) → Keeps l (told_plan selection pairs elapsed)
+pub told-keeps : {l : Limits} (selection : Selection) (pairs : List (ℕ × ℕ)) (elapsed : Bool)
+    → Keeps l (told_plan selection pairs elapsed)
 unfolding told_plan
 told-keeps selection pairs elapsed = search (still, entry-keeps, marked-keeps) depth 12
 
@@ -180,8 +207,10 @@ list_selected-keeps s i listed = keeps_under_pin s i (list_present s i listed) (
 pub selected_keys-keeps : {l : Limits} (s : SelNo) (lacks : Bool) → Keeps l (selected_keys_plan s lacks)
 unfolding selected_keys_plan
 selected_keys-keeps s lacks =
-    keeps_ask _ _ refl (λ gate. keeps_if _ _ _ (keeps_reply _) (keeps_ask _ _ refl (λ bound. keeps_if _ _ _ (keeps_reply _)
-    (keeps_bind _ _ (keeps_sweep (number_in bound) 0 (list_selected s) [] (λ i listed. list_selected-keeps s i listed)) (λ listed. keeps_reply _)))))
+    keeps_ask _ _ refl
+    (λ gate. keeps_if _ _ _ (keeps_reply _) (keeps_ask _ _ refl (λ bound. keeps_if _ _ _ (keeps_reply _)
+    (keeps_bind _ _ (keeps_sweep (number_in bound) 0 (list_selected s) [] (λ i listed. list_selected-keeps s i listed))
+    (λ listed. keeps_reply _)))))
 
 pub wakeup-keeps : {l : Limits} (s : SelNo) → Keeps l (wakeup_plan s)
 unfolding wakeup_plan
@@ -198,7 +227,8 @@ interrupted-keeps = search still
 -- ---- pipes
 
 pub without_sink-keeps : (l : Limits) (source : ChanNo) → Keeps l (without_sink l source)
-without_sink-keeps l source = keeps_bind (close_channel_plan l source) _ (close_channel-keeps l source) (λ _. keeps_reply _)
+without_sink-keeps l source =
+    keeps_bind (close_channel_plan l source) _ (close_channel-keeps l source) (λ _. keeps_reply _)
 
 pub sink-keeps : (l : Limits) (source : ChanNo) (made : Result ChanNo ChannelError) → Keeps l (with_sink l source made)
 sink-keeps l source (Ok sink) = keeps_reply _
@@ -212,7 +242,8 @@ sink-keeps l source (Err ChannelError.ClosedSelector) = without_sink-keeps l sou
 sink-keeps l source (Err ChannelError.Full) = without_sink-keeps l source
 
 pub source-keeps : (l : Limits) (made : Result ChanNo ChannelError) → Keeps l (with_source l made)
-source-keeps l (Ok source) = keeps_bind (open_channel_plan l Sink) (with_sink l source) (open_channel-keeps l Sink) (sink-keeps l source)
+source-keeps l (Ok source) =
+    keeps_bind (open_channel_plan l Sink) (with_sink l source) (open_channel-keeps l Sink) (sink-keeps l source)
 source-keeps l (Err ChannelError.ChannelsSpent) = keeps_reply _
 source-keeps l (Err ChannelError.IllegalOps) = keeps_reply _
 source-keeps l (Err ChannelError.ClosedChannel) = keeps_reply _
@@ -224,16 +255,20 @@ source-keeps l (Err ChannelError.Full) = keeps_reply _
 
 pub pipe-keeps : (l : Limits) (lacks : Bool) → Keeps l (pipe_plan l lacks)
 unfolding pipe_plan
-pipe-keeps l lacks = keeps_if lacks _ _ (keeps_reply _) (keeps_bind (open_channel_plan l Source) (with_source l) (open_channel-keeps l Source) (source-keeps l))
+pipe-keeps l lacks =
+    keeps_if lacks _ _ (keeps_reply _)
+    (keeps_bind (open_channel_plan l Source) (with_source l) (open_channel-keeps l Source) (source-keeps l))
 
 pub interrupted_there-keeps : (l : Limits) (c : ChanNo) (interrupted : Bool) → Keeps l (if_interrupted l c interrupted)
 interrupted_there-keeps l c interrupted =
-    keeps_if interrupted _ _ (keeps_bind (close_channel_plan l c) _ (close_channel-keeps l c) (λ _. keeps_reply _)) (keeps_reply _)
+    keeps_if interrupted _ _ (keeps_bind (close_channel_plan l c) _ (close_channel-keeps l c) (λ _. keeps_reply _))
+    (keeps_reply _)
 
 pub open-keeps : (l : Limits) (c : ChanNo) (found : Chan) → Keeps l (if_open l c found)
 open-keeps l c found =
     keeps_if found.closed _ _ (keeps_reply _)
-    (keeps_if found.blocking _ _ (keeps_ask _ _ refl (λ answer. interrupted_there-keeps l c (flag_in answer))) (keeps_reply _))
+    (keeps_if found.blocking _ _ (keeps_ask _ _ refl (λ answer. interrupted_there-keeps l c (flag_in answer)))
+    (keeps_reply _))
 
 pub unbroken-keeps : {l : Limits} (source : ChanNo) (found : Result Bool PipeError) → Keeps l (if_unbroken source found)
 unbroken-keeps source (Ok blocking) = keeps_ask _ _ refl (λ answer. keeps_reply _)
@@ -245,4 +280,7 @@ try_read-keeps l source = keeps_ask _ _ refl (λ answer. open-keeps l source (ch
 
 pub try_write-keeps : (l : Limits) (source sink : ChanNo) → Keeps l (try_write_plan l source sink)
 unfolding try_write_plan
-try_write-keeps l source sink = keeps_ask _ _ refl (λ answer. keeps_bind (if_open l sink (channel_in answer)) (if_unbroken source) (open-keeps l sink (channel_in answer)) (unbroken-keeps source))
+try_write-keeps l source sink =
+    keeps_ask _ _ refl
+    (λ answer. keeps_bind (if_open l sink (channel_in answer)) (if_unbroken source)
+    (open-keeps l sink (channel_in answer)) (unbroken-keeps source))

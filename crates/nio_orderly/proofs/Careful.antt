@@ -1,5 +1,6 @@
 -- Careful histories: their beginnings, and what a publish at their end keeps.
-use Rattle.std.proofs.Common.{◌≡◌, ℕ, ◌==◌, ◌+◌, ◌≤◌, true, ◌&&◌, Some, List, [], ◌∷◌, ◌++◌, append_assoc, refl, ap, sym, ◌∙◌, arith, eq-eqb}
+use Rattle.std.proofs.Common.{◌≡◌, ℕ, ◌==◌, ◌+◌, ◌≤◌, true, ◌&&◌, Some, List, [], ◌∷◌, ◌++◌, append_assoc, refl, ap}
+use Rattle.std.proofs.Common.{sym, ◌∙◌, arith, eq-eqb}
 use Rattle.std.proofs.lemmas.Bool.{and_parts}
 use Rattle.nio_base.specs.declared.numbers.SelNo.{SelNo}
 use Rattle.nio_steps.proofs.OwnActs.{mine-append}
@@ -12,7 +13,8 @@ use Rattle.nio_event.specs.declared.event.Event.{Event}
 use Rattle.nio_event.specs.declared.found.Stage.{Stage}
 use Rattle.nio_orderly.proofs.ActLists.{has_no_first, count-append, has_counts, until_released-append}
 use Rattle.nio_orderly.proofs.LookingBack.{MayPublish}
-use Rattle.nio_orderly.specs.Careful.{notes_for, notes_this_key, until_released, its_hold, KeepsRules, IsCareful, BeginningsAreCareful}
+use Rattle.nio_orderly.specs.Careful.{notes_for, notes_this_key, until_released, its_hold, KeepsRules, IsCareful}
+use Rattle.nio_orderly.specs.Careful.{BeginningsAreCareful}
 
 -- who notes a key for a channel notes one for it
 pub key_noted_for : (c s i q : ℕ) (act : Act) → notes_this_key c s i q act ≡ true → notes_for c act ≡ true
@@ -27,12 +29,15 @@ one_among : (a b : ℕ) → 1 ≤ a → a + b ≡ 1 → a ≡ 1
 one_among a b some one = omega arith
 
 -- a publish that keeps the rules in a longer history keeps them in a beginning
-pub rules_before : (s i : ℕ) (claim : OwnClaim) (before later more : List Act) → KeepsRules s i claim before (later ++ more) → KeepsRules s i claim before later
+pub rules_before : (s i : ℕ) (claim : OwnClaim) (before later more : List Act)
+    → KeepsRules s i claim before (later ++ more) → KeepsRules s i claim before later
 rules_before s i claim before later more rules = record {
   noted = rules.noted;
   noted_alone = one_among (count (notes_for c) (its_hold c before later)) (count (notes_for c) rest.0) some
-      (sym (count-append (notes_for c) (its_hold c before later) rest.0) ∙ (ap (count (notes_for c)) (sym whole) ∙ rules.noted_alone));
-  mode = (has_no_first (sets_mode c) (its_hold c before later) rest.0 (ap (has (sets_mode c)) (sym whole) ∙ rules.mode)).0;
+      (sym (count-append (notes_for c) (its_hold c before later) rest.0)
+      ∙ (ap (count (notes_for c)) (sym whole) ∙ rules.noted_alone));
+  mode = (has_no_first (sets_mode c) (its_hold c before later) rest.0
+      (ap (has (sets_mode c)) (sym whole) ∙ rules.mode)).0;
   prepared = rules.prepared;
 }
   where
@@ -43,26 +48,33 @@ rules_before s i claim before later more rules = record {
     rest = until_released-append c later more
 
     whole : its_hold c before (later ++ more) ≡ its_hold c before later ++ rest.0
-    whole = ap (λ acts. under c before ++ acts) rest.1 ∙ sym (append_assoc (under c before) (until_released c later) rest.0)
+    whole = ap (λ acts. under c before ++ acts) rest.1
+        ∙ sym (append_assoc (under c before) (until_released c later) rest.0)
 
     some : 1 ≤ count (notes_for c) (its_hold c before later)
     some =
-        let first = has_counts (notes_for c) (notes_this_key c s i claim.serial) (key_noted_for c s i claim.serial) (under c before) rules.noted in
+        let first = has_counts (notes_for c) (notes_this_key c s i claim.serial) (key_noted_for c s i claim.serial)
+        (under c before) rules.noted in
         omega (arith, count-append (notes_for c) (under c before) (until_released c later))
 
 pub beginnings_are_careful : BeginningsAreCareful
 beginnings_are_careful before after goes_on careful n b s i found later parts claim its =
     rules_before s.0 i claim b later (mine n goes_on.0)
     (careful n b s i found (later ++ mine n goes_on.0)
-    (ap (mine n) (sym goes_on.1) ∙ (mine-append n before goes_on.0 ∙ (ap (λ acts. acts ++ mine n goes_on.0) parts ∙ append_assoc b (Publish s i found ∷ later) (mine n goes_on.0))))
+    (ap (mine n) (sym goes_on.1)
+    ∙ (mine-append n before goes_on.0
+    ∙ (ap (λ acts. acts ++ mine n goes_on.0) parts
+    ∙ append_assoc b (Publish s i found ∷ later) (mine n goes_on.0))))
     claim its)
 
 -- what a publish that keeps the rules keeps looking back
-pub rules_back : (s i : ℕ) (claim : OwnClaim) (before later : List Act) → KeepsRules s i claim before later → MayPublish s i claim before
+pub rules_back : (s i : ℕ) (claim : OwnClaim) (before later : List Act) → KeepsRules s i claim before later
+    → MayPublish s i claim before
 rules_back s i claim before later rules = record {
   noted = rules.noted;
   noted_alone = one_among (count (notes_for c) (under c before)) (count (notes_for c) (until_released c later))
-      (has_counts (notes_for c) (notes_this_key c s i claim.serial) (key_noted_for c s i claim.serial) (under c before) rules.noted)
+      (has_counts (notes_for c) (notes_this_key c s i claim.serial) (key_noted_for c s i claim.serial)
+      (under c before) rules.noted)
       (sym (count-append (notes_for c) (under c before) (until_released c later)) ∙ rules.noted_alone);
   mode = (has_no_first (sets_mode c) (under c before) (until_released c later) rules.mode).0;
   prepared = rules.prepared;
@@ -72,9 +84,12 @@ rules_back s i claim before later rules = record {
     c = claim.channel.0
 
 -- the last event of a careful history keeps the rules looking back, where it publishes a key
-pub careful_last : (past : List Event) (e : Event) → IsCareful (past ++ e ∷ []) → (s : SelNo) (i : ℕ) (found : Stage) → e.act ≡ Publish s i found
-    → (claim : OwnClaim) → own_claim s.0 i (mine e.caller past) ≡ Some claim → MayPublish s.0 i claim (mine e.caller past)
+pub careful_last : (past : List Event) (e : Event) → IsCareful (past ++ e ∷ []) → (s : SelNo) (i : ℕ) (found : Stage)
+    → e.act ≡ Publish s i found
+    → (claim : OwnClaim) → own_claim s.0 i (mine e.caller past) ≡ Some claim
+    → MayPublish s.0 i claim (mine e.caller past)
 careful_last past e careful s i found publishes claim its =
     rules_back s.0 i claim (mine e.caller past) []
     (careful e.caller (mine e.caller past) s i found []
-    (mine-own e.caller past e (eq-eqb e.caller.0 e.caller.0 refl) ∙ ap (λ act. mine e.caller past ++ act ∷ []) publishes) claim its)
+    (mine-own e.caller past e (eq-eqb e.caller.0 e.caller.0 refl)
+    ∙ ap (λ act. mine e.caller past ++ act ∷ []) publishes) claim its)

@@ -1,5 +1,7 @@
 -- The two histories in which a channel is closed while another caller registers it, by computing.
-use Rattle.std.proofs.Common.{◌≡◌, ℕ, ◌==◌, ◌<◌, ◌≤◌, Bool, true, false, ◌&&◌, ◌||◌, inl, inr, Some, None, List, [], ◌∷◌, ◌++◌, take, drop, append_assoc, refl, ap, sym, ◌∙◌, subst, eqb-true, arith, lit<, lit≤}
+use Rattle.std.proofs.Common.{◌≡◌, ℕ, ◌==◌, ◌<◌, ◌≤◌, Bool, true, false, ◌&&◌, ◌||◌, inl, inr, Some, None, List, []}
+use Rattle.std.proofs.Common.{◌∷◌, ◌++◌, take, drop, append_assoc, refl, ap, sym, ◌∙◌, subst, eqb-true, arith, lit<}
+use Rattle.std.proofs.Common.{lit≤}
 use Rattle.std.specs.Prelude.{nat_lt}
 use Rattle.std.specs.List.{list_all}
 use Rattle.std.proofs.lemmas.Bool.{and_parts, and_from, ltb-true, eqb-false, ne_eqb}
@@ -32,12 +34,15 @@ abbrev caller : ℕ → CallerNo
 caller n = record { 0 = n }
 
 -- a caller of whom there is no event did nothing
-does_nothing : (n : CallerNo) (events : List Event) → list_all (λ e. nat_lt e.caller.0 2) events ≡ true → 2 ≤ n.0 → mine n events ≡ []
+does_nothing : (n : CallerNo) (events : List Event) → list_all (λ e. nat_lt e.caller.0 2) events ≡ true → 2 ≤ n.0
+    → mine n events ≡ []
 does_nothing n [] few other = refl
 does_nothing n (e ∷ events) few other =
     let both = and_parts (nat_lt e.caller.0 2) (list_all (λ x. nat_lt x.caller.0 2) events) few in
     let lower : e.caller.0 < 2 = ltb-true e.caller.0 2 both.0 in
-    mine-append n (e ∷ []) events ∙ (ap (λ acts. acts ++ mine n events) (mine-other n [] e (ne_eqb e.caller.0 n.0 (λ same. omega arith))) ∙ does_nothing n events both.1 other)
+    mine-append n (e ∷ []) events
+    ∙ (ap (λ acts. acts ++ mine n events) (mine-other n [] e (ne_eqb e.caller.0 n.0 (λ same. omega arith)))
+    ∙ does_nothing n events both.1 other)
 
 -- what holds of what u did, of what v did, and of nothing, holds of what each caller did where all events are theirs
 pub for_each_caller : (events : List Event) → list_all (λ e. nat_lt e.caller.0 2) events ≡ true
@@ -63,7 +68,8 @@ EachCareful own (act ∷ later) = CarefulAct own act × EachCareful (own ++ act 
 
 each_careful : (own later : List Act) → EachCareful own later → AreCarefulActs own → AreCarefulActs (own ++ later)
 each_careful own [] each before = subst AreCarefulActs (sym (append-nil own)) before
-each_careful own (x ∷ later) each before = subst AreCarefulActs (append_assoc own (x ∷ []) later) (each_careful (own ++ x ∷ []) later each.1 one_more)
+each_careful own (x ∷ later) each before =
+    subst AreCarefulActs (append_assoc own (x ∷ []) later) (each_careful (own ++ x ∷ []) later each.1 one_more)
   where
     one_more : AreCarefulActs (own ++ x ∷ [])
     one_more b act rest eq = elim (split_last own x b act rest eq) [
@@ -81,16 +87,22 @@ first ▸ later = (first, later)
 
 -- ---- a debt that stands
 
-legal_take : (k : ℕ) → take k worked_history ++ drop k worked_history ≡ worked_history → IsLegal small_limits (take k worked_history)
-legal_take k whole = legal_beginning small_limits (take k worked_history) (drop k worked_history) (subst (IsLegal small_limits) (sym whole) worked_history_is_legal)
+legal_take : (k : ℕ) → take k worked_history ++ drop k worked_history ≡ worked_history
+    → IsLegal small_limits (take k worked_history)
+legal_take k whole =
+    legal_beginning small_limits (take k worked_history) (drop k worked_history)
+    (subst (IsLegal small_limits) (sym whole) worked_history_is_legal)
 
 meanwhile_legal : IsLegal small_limits closed_meanwhile
 meanwhile_legal =
     legal_more small_limits (take 26 worked_history) (event_of v (CloseBit c false)) (legal_take 26 refl)
     (record { by_caller = lit< tt; condition = (lit< tt, refl); answers = refl })
 
-publishes_carefully : (claim : OwnClaim) → own_claim 0 0 (take 23 (mine u closed_meanwhile)) ≡ Some claim → MayPublish 0 0 claim (take 23 (mine u closed_meanwhile))
-publishes_carefully claim its = subst (λ cl. MayPublish 0 0 cl (take 23 (mine u closed_meanwhile))) (claim_is (record { channel = c; serial = 0 }) claim its)
+publishes_carefully : (claim : OwnClaim) → own_claim 0 0 (take 23 (mine u closed_meanwhile)) ≡ Some claim
+    → MayPublish 0 0 claim (take 23 (mine u closed_meanwhile))
+publishes_carefully claim its =
+    subst (λ cl. MayPublish 0 0 cl (take 23 (mine u closed_meanwhile)))
+    (claim_is (record { channel = c; serial = 0 }) claim its)
     (record { noted = refl; noted_alone = refl; mode = refl; prepared = refl })
   where
     claim_is : (x y : OwnClaim) → Some x ≡ Some y → x ≡ y
@@ -139,49 +151,71 @@ abbrev any_owed : (Act → Bool) → Duty → List Act → Bool
 any_owed makes duty [] = false
 any_owed makes duty (act ∷ later) = (makes act && owes duty later) || any_owed makes duty later
 
-owed_in : (makes : Act → Bool) (duty : Duty) (own before : List Act) (act : Act) (since : List Act) → own ≡ before ++ act ∷ since → makes act ≡ true → owes duty since ≡ true
+owed_in : (makes : Act → Bool) (duty : Duty) (own before : List Act) (act : Act) (since : List Act)
+    → own ≡ before ++ act ∷ since → makes act ≡ true → owes duty since ≡ true
     → any_owed makes duty own ≡ true
 owed_in makes duty [] before act since eq made owing = absurd (not_empty before act since eq)
 owed_in makes duty (x ∷ own) [] act since eq made owing =
     let first : x ≡ act = cc eq in
     let rest : own ≡ since = cc eq in
-    ap (λ b. b || any_owed makes duty own) (and_from (makes x) (owes duty own) (ap makes first ∙ made) (ap (owes duty) rest ∙ owing))
+    ap (λ b. b || any_owed makes duty own)
+    (and_from (makes x) (owes duty own) (ap makes first ∙ made) (ap (owes duty) rest ∙ owing))
 owed_in makes duty (x ∷ own) (y ∷ before) act since eq made owing =
-    or_right (makes x && owes duty own) (any_owed makes duty own) (owed_in makes duty own before act since (cc eq) made owing)
+    or_right (makes x && owes duty own) (any_owed makes duty own)
+    (owed_in makes duty own before act since (cc eq) made owing)
 
-nobody_owes : (events : List Event) (makes : Act → Bool) (duty : Duty) → ((n : CallerNo) → any_owed makes duty (mine n events) ≡ false) → OwesSince events makes duty → ⊥
+nobody_owes : (events : List Event) (makes : Act → Bool) (duty : Duty)
+    → ((n : CallerNo) → any_owed makes duty (mine n events) ≡ false) → OwesSince events makes duty → ⊥
 nobody_owes events makes duty none debt =
     both_ways (any_owed makes duty (mine debt.caller events))
-    (owed_in makes duty (mine debt.caller events) debt.before debt.act debt.since debt.did debt.made debt.owing) (none debt.caller)
+    (owed_in makes duty (mine debt.caller events) debt.before debt.act debt.since debt.did debt.made debt.owing)
+    (none debt.caller)
 
 unnoted_legal : IsLegal small_limits unnoted_key
 unnoted_legal = looked_for
   where
-    published : IsLegal small_limits (take 24 worked_history ++ event_of u (Publish s 0 (stage 0 false false false)) ∷ [])
-    published = legal_more small_limits (take 24 worked_history) (event_of u (Publish s 0 (stage 0 false false false))) (legal_take 24 refl)
+    published : IsLegal small_limits
+        (take 24 worked_history ++ event_of u (Publish s 0 (stage 0 false false false)) ∷ [])
+    published =
+        legal_more small_limits (take 24 worked_history) (event_of u (Publish s 0 (stage 0 false false false)))
+        (legal_take 24 refl)
         (record { by_caller = lit< tt; condition = ((lit< tt, lit< tt), refl); answers = refl })
 
-    looked : IsLegal small_limits (take 24 worked_history ++ event_of u (Publish s 0 (stage 0 false false false)) ∷ event_of u (LookChannel c (chan false false)) ∷ [])
-    looked = legal_more small_limits (take 24 worked_history ++ event_of u (Publish s 0 (stage 0 false false false)) ∷ [])
-        (event_of u (LookChannel c (chan false false))) published (record { by_caller = lit< tt; condition = lit< tt; answers = refl })
+    looked : IsLegal small_limits
+        (take 24 worked_history ++ event_of u (Publish s 0 (stage 0 false false false))
+        ∷ event_of u (LookChannel c (chan false false)) ∷ [])
+    looked = legal_more small_limits
+        (take 24 worked_history ++ event_of u (Publish s 0 (stage 0 false false false)) ∷ [])
+        (event_of u (LookChannel c (chan false false))) published
+        (record { by_caller = lit< tt; condition = lit< tt; answers = refl })
 
-    closed : IsLegal small_limits (take 24 worked_history ++ event_of u (Publish s 0 (stage 0 false false false)) ∷ event_of u (LookChannel c (chan false false)) ∷ event_of v (CloseBit c false) ∷ [])
-    closed = legal_more small_limits (take 24 worked_history ++ event_of u (Publish s 0 (stage 0 false false false)) ∷ event_of u (LookChannel c (chan false false)) ∷ [])
-        (event_of v (CloseBit c false)) looked (record { by_caller = lit< tt; condition = (lit< tt, refl); answers = refl })
+    closed : IsLegal small_limits
+        (take 24 worked_history ++ event_of u (Publish s 0 (stage 0 false false false))
+        ∷ event_of u (LookChannel c (chan false false)) ∷ event_of v (CloseBit c false) ∷ [])
+    closed = legal_more small_limits
+        (take 24 worked_history ++ event_of u (Publish s 0 (stage 0 false false false))
+        ∷ event_of u (LookChannel c (chan false false)) ∷ [])
+        (event_of v (CloseBit c false)) looked
+        (record { by_caller = lit< tt; condition = (lit< tt, refl); answers = refl })
 
     looked_for : IsLegal small_limits unnoted_key
     looked_for = legal_more small_limits
-        (take 24 worked_history ++ event_of u (Publish s 0 (stage 0 false false false)) ∷ event_of u (LookChannel c (chan false false)) ∷ event_of v (CloseBit c false) ∷ [])
-        (event_of v (LookReg c s None)) closed (record { by_caller = lit< tt; condition = (lit< tt, lit< tt); answers = refl })
+        (take 24 worked_history ++ event_of u (Publish s 0 (stage 0 false false false))
+        ∷ event_of u (LookChannel c (chan false false)) ∷ event_of v (CloseBit c false) ∷ [])
+        (event_of v (LookReg c s None)) closed
+        (record { by_caller = lit< tt; condition = (lit< tt, lit< tt); answers = refl })
 
 unnoted_lost : Owed unnoted_key → ⊥
 unnoted_lost owed = elim (owed.channels 0 0 refl refl) [
   | inl debt ↦
       nobody_owes unnoted_key (publishes_key 0 0 (noted 0 0)) (publisher_duty 0 0 (noted 0 0))
-      (for_each_caller unnoted_key refl (λ own. any_owed (publishes_key 0 0 (noted 0 0)) (publisher_duty 0 0 (noted 0 0)) own ≡ false) refl refl refl) debt
+      (for_each_caller unnoted_key refl
+      (λ own. any_owed (publishes_key 0 0 (noted 0 0)) (publisher_duty 0 0 (noted 0 0)) own ≡ false) refl refl refl)
+      debt
   | inr debt ↦
       nobody_owes unnoted_key (closes 0) (closing_duty 0 0 (noted 0 0))
-      (for_each_caller unnoted_key refl (λ own. any_owed (closes 0) (closing_duty 0 0 (noted 0 0)) own ≡ false) refl refl refl) debt
+      (for_each_caller unnoted_key refl (λ own. any_owed (closes 0) (closing_duty 0 0 (noted 0 0)) own ≡ false) refl
+      refl refl) debt
 ]
 
 small_limits_fit : IsFit small_limits

@@ -1,6 +1,7 @@
 -- What whole calls keep, whatever their caller did before and does after them: each publish keeps the rules of
 -- careful histories, and of what a publish, a closing of a channel or an entering leaves to do, nothing is owed.
-use Rattle.std.proofs.Common.{◌≡◌, ℕ, zero, suc, ◌+◌, ◌-◌, ◌<◌, Bool, true, false, ◌||◌, if◌then◌else◌, Option, Some, None, List, [], ◌∷◌, ◌++◌, refl, ap, sym, ◌∙◌, subst, append_assoc, ◌⊎◌, inl, inr}
+use Rattle.std.proofs.Common.{◌≡◌, ℕ, zero, suc, ◌+◌, ◌-◌, ◌<◌, Bool, true, false, ◌||◌, if◌then◌else◌, Option, Some}
+use Rattle.std.proofs.Common.{None, List, [], ◌∷◌, ◌++◌, refl, ap, sym, ◌∙◌, subst, append_assoc, ◌⊎◌, inl, inr}
 use Rattle.std.proofs.lemmas.List.{append-nil}
 use Rattle.nio_base.specs.declared.limits.Limits.{Limits}
 use Rattle.nio_base.specs.declared.numbers.ChanNo.{ChanNo}
@@ -12,7 +13,8 @@ use Rattle.nio_event.specs.declared.act.Act.{Act}
 use Rattle.nio_event.specs.declared.act.Act.TheVariants.{Publish, CloseBit, Enter}
 use Rattle.nio_event.specs.declared.found.Stage.{Stage}
 use Rattle.nio_orderly.proofs.ActLists.{owes-settled}
-use Rattle.nio_orderly.proofs.ListWords.{InFirst, InSecond, split_at, has-first, has-second, no_such_act, since_from-opened, until_released-append, is_prepared-grows, own_claim-later}
+use Rattle.nio_orderly.proofs.ListWords.{InFirst, InSecond, split_at, has-first, has-second, no_such_act}
+use Rattle.nio_orderly.proofs.ListWords.{since_from-opened, until_released-append, is_prepared-grows, own_claim-later}
 use Rattle.nio_orderly.specs.Careful.{until_released, its_hold, notes_for, notes_this_key, is_prepared}
 use Rattle.nio_orderly.specs.Owed.{owes, publisher_duty, closing_duty, clearing_duty}
 use Rattle.nio_steps.proofs.Walks.{Always, always_weaker, always_bind, always_if, always_run}
@@ -33,7 +35,8 @@ pub record PublishKept (before : List Act) (s : SelNo) (i : ℕ) (found : Stage)
   pub noted_alone : count (notes_for claim.channel.0) (its_hold claim.channel.0 before later) ≡ 1
   pub mode : has (sets_mode claim.channel.0) (its_hold claim.channel.0 before later) ≡ false
   pub prepared : is_prepared s.0 i before ≡ true
-  pub settled : found.removed ≡ false → (serial : ℕ) → owes (publisher_duty claim.channel.0 s.0 (record { index = i; serial = serial })) later ≡ false
+  pub settled : found.removed ≡ false → (serial : ℕ)
+      → owes (publisher_duty claim.channel.0 s.0 (record { index = i; serial = serial })) later ≡ false
 
 -- What a caller did after it entered selector s: it cleared the selector out before it entered it again.
 pub record EnterKept (s : SelNo) (later : List Act) : Type 0 where
@@ -44,19 +47,25 @@ pub record EnterKept (s : SelNo) (later : List Act) : Type 0 where
   pub settled : (i : ℕ) → owes (clearing_duty s.0 i) clearing ≡ false
 
 pub record Kept (l : Limits) (acts : List Act) : Type 0 where
-  pub publishes : (before : List Act) (s : SelNo) (i : ℕ) (found : Stage) (later : List Act) → acts ≡ before ++ Publish s i found ∷ later → PublishKept before s i found later
+  pub publishes : (before : List Act) (s : SelNo) (i : ℕ) (found : Stage) (later : List Act)
+      → acts ≡ before ++ Publish s i found ∷ later → PublishKept before s i found later
   pub closes : (before : List Act) (c : ChanNo) (later : List Act) → acts ≡ before ++ CloseBit c false ∷ later
       → (s : ℕ) (k : KeyId) → s < l.selectors → owes (closing_duty c.0 s k) later ≡ false
-  pub enters : (before : List Act) (s : SelNo) (later : List Act) → acts ≡ before ++ Enter s None ∷ later → EnterKept s later
+  pub enters : (before : List Act) (s : SelNo) (later : List Act) → acts ≡ before ++ Enter s None ∷ later
+      → EnterKept s later
 
 -- ---- of acts before and after
 
-hold_is : (c : ℕ) (past before later future : List Act) → has (takes_hold c) before ≡ true → has (releases c) later ≡ true → its_hold c (past ++ before) (later ++ future) ≡ its_hold c before later
+hold_is : (c : ℕ) (past before later future : List Act) → has (takes_hold c) before ≡ true
+    → has (releases c) later ≡ true → its_hold c (past ++ before) (later ++ future) ≡ its_hold c before later
 hold_is c past before later future held given_back =
     ap (λ xs. xs ++ until_released c (later ++ future)) (since_from-opened (takes_hold c) past before held)
-    ∙ ap (λ xs. under c before ++ xs) (until_released-append c later future ∙ ap (λ b. if b then until_released c later else later ++ until_released c future) given_back)
+    ∙ ap (λ xs. under c before ++ xs)
+    (until_released-append c later future
+    ∙ ap (λ b. if b then until_released c later else later ++ until_released c future) given_back)
 
-publish_amid : (past before : List Act) (s : SelNo) (i : ℕ) (found : Stage) (later future : List Act) → PublishKept before s i found later
+publish_amid : (past before : List Act) (s : SelNo) (i : ℕ) (found : Stage) (later future : List Act)
+    → PublishKept before s i found later
     → PublishKept (past ++ before) s i found (later ++ future)
 publish_amid past before s i found later future kept =
     let c = kept.claim.channel.0 in
@@ -66,36 +75,45 @@ publish_amid past before s i found later future kept =
       claimed = own_claim-later s.0 i past before kept.claim kept.claimed;
       held = has-second (takes_hold c) past before kept.held;
       given_back = has-first (releases c) later future kept.given_back;
-      noted = ap (has (notes_this_key c s.0 i kept.claim.serial)) (since_from-opened (takes_hold c) past before kept.held) ∙ kept.noted;
+      noted = ap (has (notes_this_key c s.0 i kept.claim.serial))
+          (since_from-opened (takes_hold c) past before kept.held) ∙ kept.noted;
       noted_alone = ap (count (notes_for c)) same ∙ kept.noted_alone;
       mode = ap (has (sets_mode c)) same ∙ kept.mode;
       prepared = is_prepared-grows s.0 i past before kept.prepared;
-      settled = λ in_set serial. owes-settled (publisher_duty c s.0 (record { index = i; serial = serial })) later future (kept.settled in_set serial);
+      settled = λ in_set serial. owes-settled (publisher_duty c s.0 (record { index = i; serial = serial })) later
+          future (kept.settled in_set serial);
     }
 
 pub kept-append : (l : Limits) (xs ys : List Act) → Kept l xs → Kept l ys → Kept l (xs ++ ys)
 kept-append l xs ys first second = record {
-  publishes = λ before s i found later parts. publishes_in before s i found later (split_at xs ys before (Publish s i found) later parts);
-  closes = λ before c later parts s k below. closes_in before c later s k below (split_at xs ys before (CloseBit c false) later parts);
+  publishes = λ before s i found later parts. publishes_in before s i found later
+      (split_at xs ys before (Publish s i found) later parts);
+  closes = λ before c later parts s k below. closes_in before c later s k below
+      (split_at xs ys before (CloseBit c false) later parts);
   enters = λ before s later parts. enters_in before s later (split_at xs ys before (Enter s None) later parts);
 }
   where
     publishes_in : (before : List Act) (s : SelNo) (i : ℕ) (found : Stage) (later : List Act)
-        → InFirst xs ys before (Publish s i found) later ⊎ InSecond xs ys before (Publish s i found) later → PublishKept before s i found later
+        → InFirst xs ys before (Publish s i found) later ⊎ InSecond xs ys before (Publish s i found) later
+        → PublishKept before s i found later
     publishes_in before s i found later (inl there) =
-        subst (PublishKept before s i found) (sym there.later_is) (publish_amid [] before s i found there.rest ys (first.publishes before s i found there.rest there.parts))
+        subst (PublishKept before s i found) (sym there.later_is)
+        (publish_amid [] before s i found there.rest ys (first.publishes before s i found there.rest there.parts))
     publishes_in before s i found later (inr there) =
         subst (λ done. PublishKept done s i found later) (sym there.before_is)
-        (subst (PublishKept (xs ++ there.start) s i found) (append-nil later) (publish_amid xs there.start s i found later [] (second.publishes there.start s i found later there.parts)))
+        (subst (PublishKept (xs ++ there.start) s i found) (append-nil later)
+        (publish_amid xs there.start s i found later [] (second.publishes there.start s i found later there.parts)))
 
     closes_in : (before : List Act) (c : ChanNo) (later : List Act) (s : ℕ) (k : KeyId) → s < l.selectors
-        → InFirst xs ys before (CloseBit c false) later ⊎ InSecond xs ys before (CloseBit c false) later → owes (closing_duty c.0 s k) later ≡ false
+        → InFirst xs ys before (CloseBit c false) later ⊎ InSecond xs ys before (CloseBit c false) later
+        → owes (closing_duty c.0 s k) later ≡ false
     closes_in before c later s k below (inl there) =
         subst (λ acts. owes (closing_duty c.0 s k) acts ≡ false) (sym there.later_is)
         (owes-settled (closing_duty c.0 s k) there.rest ys (first.closes before c there.rest there.parts s k below))
     closes_in before c later s k below (inr there) = second.closes there.start c later there.parts s k below
 
-    enters_in : (before : List Act) (s : SelNo) (later : List Act) → InFirst xs ys before (Enter s None) later ⊎ InSecond xs ys before (Enter s None) later → EnterKept s later
+    enters_in : (before : List Act) (s : SelNo) (later : List Act) → InFirst xs ys before (Enter s None) later
+        ⊎ InSecond xs ys before (Enter s None) later → EnterKept s later
     enters_in before s later (inl there) =
         let kept = first.enters before s there.rest there.parts in
         record {
@@ -118,9 +136,12 @@ is_loud _ = false
 
 pub kept-calm : (l : Limits) (acts : List Act) → has is_loud acts ≡ false → Kept l acts
 kept-calm l acts none = record {
-  publishes = λ before s i found later parts. absurd (no_such_act is_loud before (Publish s i found) later (ap (has is_loud) (sym parts) ∙ none) refl);
-  closes = λ before c later parts s k below. absurd (no_such_act is_loud before (CloseBit c false) later (ap (has is_loud) (sym parts) ∙ none) refl);
-  enters = λ before s later parts. absurd (no_such_act is_loud before (Enter s None) later (ap (has is_loud) (sym parts) ∙ none) refl);
+  publishes = λ before s i found later parts. absurd
+      (no_such_act is_loud before (Publish s i found) later (ap (has is_loud) (sym parts) ∙ none) refl);
+  closes = λ before c later parts s k below. absurd
+      (no_such_act is_loud before (CloseBit c false) later (ap (has is_loud) (sym parts) ∙ none) refl);
+  enters = λ before s later parts. absurd
+      (no_such_act is_loud before (Enter s None) later (ap (has is_loud) (sym parts) ∙ none) refl);
 }
 
 pub kept-none : (l : Limits) → Kept l []
@@ -151,64 +172,99 @@ kept-one l act is = kept-calm l (act ∷ []) (calm-one act is)
 pub first_or_later : {X : Type 0} (x : X) (xs before : List X) (e : X) (later : List X) → x ∷ xs ≡ before ++ e ∷ later
     → ((x ≡ e) × (xs ≡ later)) ⊎ ((further : List X) × (before ≡ x ∷ further) × (xs ≡ further ++ e ∷ later))
 first_or_later x xs [] e later same = inl (cc same, cc same)
-first_or_later {X = X} x xs (y ∷ before) e later same = let head : x ≡ y = cc same in inr (before, ap (λ (z : X). z ∷ before) (sym head), cc same)
+first_or_later {X = X} x xs (y ∷ before) e later same = let head : x ≡ y =
+    cc same in inr (before, ap (λ (z : X). z ∷ before) (sym head), cc same)
 
-further_kept : (act : Act) (before further : List Act) (s : SelNo) (i : ℕ) (found : Stage) (later : List Act) → before ≡ act ∷ further → PublishKept further s i found later
+further_kept : (act : Act) (before further : List Act) (s : SelNo) (i : ℕ) (found : Stage) (later : List Act)
+    → before ≡ act ∷ further → PublishKept further s i found later
     → PublishKept before s i found later
 further_kept act before further s i found later is kept =
-    subst (λ done. PublishKept done s i found later) (sym is) (subst (PublishKept (act ∷ further) s i found) (append-nil later) (publish_amid (act ∷ []) further s i found later [] kept))
+    subst (λ done. PublishKept done s i found later) (sym is)
+    (subst (PublishKept (act ∷ further) s i found) (append-nil later)
+    (publish_amid (act ∷ []) further s i found later [] kept))
 
-pub kept-closing : (l : Limits) (c : ChanNo) (acts : List Act) → Kept l acts → ((s : ℕ) (k : KeyId) → s < l.selectors → owes (closing_duty c.0 s k) acts ≡ false) → Kept l (CloseBit c false ∷ acts)
+pub kept-closing : (l : Limits) (c : ChanNo) (acts : List Act) → Kept l acts
+    → ((s : ℕ) (k : KeyId) → s < l.selectors → owes (closing_duty c.0 s k) acts ≡ false)
+    → Kept l (CloseBit c false ∷ acts)
 kept-closing l c acts kept settled = record {
-  publishes = λ before s i found later parts. publishes_in before s i found later (first_or_later (CloseBit c false) acts before (Publish s i found) later parts);
-  closes = λ before c' later parts s k below. closes_in before c' later s k below (first_or_later (CloseBit c false) acts before (CloseBit c' false) later parts);
-  enters = λ before s later parts. enters_in before s later (first_or_later (CloseBit c false) acts before (Enter s None) later parts);
+  publishes = λ before s i found later parts. publishes_in before s i found later
+      (first_or_later (CloseBit c false) acts before (Publish s i found) later parts);
+  closes = λ before c' later parts s k below. closes_in before c' later s k below
+      (first_or_later (CloseBit c false) acts before (CloseBit c' false) later parts);
+  enters = λ before s later parts. enters_in before s later
+      (first_or_later (CloseBit c false) acts before (Enter s None) later parts);
 }
   where
     publishes_in : (before : List Act) (s : SelNo) (i : ℕ) (found : Stage) (later : List Act)
-        → ((CloseBit c false ≡ Publish s i found) × (acts ≡ later)) ⊎ ((further : List Act) × (before ≡ CloseBit c false ∷ further) × (acts ≡ further ++ Publish s i found ∷ later))
+        → ((CloseBit c false ≡ Publish s i found) × (acts ≡ later))
+        ⊎ ((further : List Act) × (before ≡ CloseBit c false ∷ further)
+        × (acts ≡ further ++ Publish s i found ∷ later))
         → PublishKept before s i found later
     publishes_in before s i found later (inl first) = absurd (cc first.0)
-    publishes_in before s i found later (inr there) = further_kept (CloseBit c false) before there.0 s i found later there.1 (kept.publishes there.0 s i found later there.2)
+    publishes_in before s i found later (inr there) =
+        further_kept (CloseBit c false) before there.0 s i found later there.1
+        (kept.publishes there.0 s i found later there.2)
 
     closes_in : (before : List Act) (c' : ChanNo) (later : List Act) (s : ℕ) (k : KeyId) → s < l.selectors
-        → ((CloseBit c false ≡ CloseBit c' false) × (acts ≡ later)) ⊎ ((further : List Act) × (before ≡ CloseBit c false ∷ further) × (acts ≡ further ++ CloseBit c' false ∷ later))
+        → ((CloseBit c false ≡ CloseBit c' false) × (acts ≡ later))
+        ⊎ ((further : List Act) × (before ≡ CloseBit c false ∷ further)
+        × (acts ≡ further ++ CloseBit c' false ∷ later))
         → owes (closing_duty c'.0 s k) later ≡ false
     closes_in before c' later s k below (inl first) =
         let same : c ≡ c' = cc first.0 in
-        ap (λ (d : ChanNo). owes (closing_duty d.0 s k) later) (sym same) ∙ (ap (owes (closing_duty c.0 s k)) (sym first.1) ∙ settled s k below)
+        ap (λ (d : ChanNo). owes (closing_duty d.0 s k) later) (sym same)
+        ∙ (ap (owes (closing_duty c.0 s k)) (sym first.1) ∙ settled s k below)
     closes_in before c' later s k below (inr there) = kept.closes there.0 c' later there.2 s k below
 
     enters_in : (before : List Act) (s : SelNo) (later : List Act)
-        → ((CloseBit c false ≡ Enter s None) × (acts ≡ later)) ⊎ ((further : List Act) × (before ≡ CloseBit c false ∷ further) × (acts ≡ further ++ Enter s None ∷ later)) → EnterKept s later
+        → ((CloseBit c false ≡ Enter s None) × (acts ≡ later))
+        ⊎ ((further : List Act) × (before ≡ CloseBit c false ∷ further) × (acts ≡ further ++ Enter s None ∷ later))
+        → EnterKept s later
     enters_in before s later (inl first) = absurd (cc first.0)
     enters_in before s later (inr there) = kept.enters there.0 s later there.2
 
-pub kept-entering : (l : Limits) (s : SelNo) (acts : List Act) → Kept l acts → has (enters s.0) acts ≡ false → ((i : ℕ) → owes (clearing_duty s.0 i) acts ≡ false) → Kept l (Enter s None ∷ acts)
+pub kept-entering : (l : Limits) (s : SelNo) (acts : List Act) → Kept l acts → has (enters s.0) acts ≡ false
+    → ((i : ℕ) → owes (clearing_duty s.0 i) acts ≡ false) → Kept l (Enter s None ∷ acts)
 kept-entering l s acts kept once settled = record {
-  publishes = λ before s' i found later parts. publishes_in before s' i found later (first_or_later (Enter s None) acts before (Publish s' i found) later parts);
-  closes = λ before c later parts s' k below. closes_in before c later s' k below (first_or_later (Enter s None) acts before (CloseBit c false) later parts);
-  enters = λ before s' later parts. enters_in before s' later (first_or_later (Enter s None) acts before (Enter s' None) later parts);
+  publishes = λ before s' i found later parts. publishes_in before s' i found later
+      (first_or_later (Enter s None) acts before (Publish s' i found) later parts);
+  closes = λ before c later parts s' k below. closes_in before c later s' k below
+      (first_or_later (Enter s None) acts before (CloseBit c false) later parts);
+  enters = λ before s' later parts. enters_in before s' later
+      (first_or_later (Enter s None) acts before (Enter s' None) later parts);
 }
   where
     publishes_in : (before : List Act) (s' : SelNo) (i : ℕ) (found : Stage) (later : List Act)
-        → ((Enter s None ≡ Publish s' i found) × (acts ≡ later)) ⊎ ((further : List Act) × (before ≡ Enter s None ∷ further) × (acts ≡ further ++ Publish s' i found ∷ later))
+        → ((Enter s None ≡ Publish s' i found) × (acts ≡ later))
+        ⊎ ((further : List Act) × (before ≡ Enter s None ∷ further)
+        × (acts ≡ further ++ Publish s' i found ∷ later))
         → PublishKept before s' i found later
     publishes_in before s' i found later (inl first) = absurd (cc first.0)
-    publishes_in before s' i found later (inr there) = further_kept (Enter s None) before there.0 s' i found later there.1 (kept.publishes there.0 s' i found later there.2)
+    publishes_in before s' i found later (inr there) =
+        further_kept (Enter s None) before there.0 s' i found later there.1
+        (kept.publishes there.0 s' i found later there.2)
 
     closes_in : (before : List Act) (c : ChanNo) (later : List Act) (s' : ℕ) (k : KeyId) → s' < l.selectors
-        → ((Enter s None ≡ CloseBit c false) × (acts ≡ later)) ⊎ ((further : List Act) × (before ≡ Enter s None ∷ further) × (acts ≡ further ++ CloseBit c false ∷ later))
+        → ((Enter s None ≡ CloseBit c false) × (acts ≡ later))
+        ⊎ ((further : List Act) × (before ≡ Enter s None ∷ further) × (acts ≡ further ++ CloseBit c false ∷ later))
         → owes (closing_duty c.0 s' k) later ≡ false
     closes_in before c later s' k below (inl first) = absurd (cc first.0)
     closes_in before c later s' k below (inr there) = kept.closes there.0 c later there.2 s' k below
 
     enters_in : (before : List Act) (s' : SelNo) (later : List Act)
-        → ((Enter s None ≡ Enter s' None) × (acts ≡ later)) ⊎ ((further : List Act) × (before ≡ Enter s None ∷ further) × (acts ≡ further ++ Enter s' None ∷ later)) → EnterKept s' later
+        → ((Enter s None ≡ Enter s' None) × (acts ≡ later))
+        ⊎ ((further : List Act) × (before ≡ Enter s None ∷ further) × (acts ≡ further ++ Enter s' None ∷ later))
+        → EnterKept s' later
     enters_in before s' later (inl first) =
         let same : s ≡ s' = cc first.0 in
         subst (λ (t : SelNo). EnterKept t later) same
-        (record { clearing = acts; rest = []; parts = sym first.1 ∙ sym (append-nil acts); once = once; settled = settled })
+        (record {
+          clearing = acts;
+          rest = [];
+          parts = sym first.1 ∙ sym (append-nil acts);
+          once = once;
+          settled = settled;
+        })
     enters_in before s' later (inr there) = kept.enters there.0 s' later there.2
 
 -- ---- of plans
@@ -220,46 +276,61 @@ pub record Keeps (l : Limits) {R : Type 0} (plan : Plan R) : Type 0 where
 pub keeps_reply : {R : Type 0} {l : Limits} (r : R) → Keeps l (reply r)
 keeps_reply {l = l} r = record { always = kept-none l }
 
-pub keeps_ask : {R : Type 0} {l : Limits} (question : Question) (next : Answer → Plan R) → calm question ≡ true → ((answer : Answer) → Keeps l (next answer)) → Keeps l (ask question next)
+pub keeps_ask : {R : Type 0} {l : Limits} (question : Question) (next : Answer → Plan R) → calm question ≡ true
+    → ((answer : Answer) → Keeps l (next answer)) → Keeps l (ask question next)
 keeps_ask {l = l} question next quiet later = record {
   always = λ act asks.
       always_weaker (λ acts _. Kept l acts) (λ acts _. Kept l (act ∷ acts)) (next (answer_of act))
-      (λ acts _ kept. kept-append l (act ∷ []) acts (kept-one l act (ap calm asks ∙ quiet)) kept) (later (answer_of act)).always;
+      (λ acts _ kept. kept-append l (act ∷ []) acts (kept-one l act (ap calm asks ∙ quiet)) kept)
+      (later (answer_of act)).always;
 }
 
-pub keeps_bind : {A B : Type 0} {l : Limits} (plan : Plan A) (f : A → Plan B) → Keeps l plan → ((a : A) → Keeps l (f a)) → Keeps l (plan >>= f)
+pub keeps_bind : {A B : Type 0} {l : Limits} (plan : Plan A) (f : A → Plan B) → Keeps l plan → ((a : A) → Keeps l (f a))
+    → Keeps l (plan >>= f)
 keeps_bind {l = l} plan f here later = record {
   always = always_bind (λ acts _. Kept l acts) (λ acts _. Kept l acts) plan f here.always
-      (λ xs a kept. always_weaker (λ acts _. Kept l acts) (λ acts _. Kept l (xs ++ acts)) (f a) (λ acts _ more. kept-append l xs acts kept more) (later a).always);
+      (λ xs a kept. always_weaker (λ acts _. Kept l acts) (λ acts _. Kept l (xs ++ acts)) (f a)
+      (λ acts _ more. kept-append l xs acts kept more) (later a).always);
 }
 
-pub keeps_if : {R : Type 0} {l : Limits} (b : Bool) (x y : Plan R) → Keeps l x → Keeps l y → Keeps l (if b then x else y)
-keeps_if {l = l} b x y this that = record { always = always_if (λ acts _. Kept l acts) b x y (λ _. this.always) (λ _. that.always) }
+pub keeps_if : {R : Type 0} {l : Limits} (b : Bool) (x y : Plan R) → Keeps l x → Keeps l y
+    → Keeps l (if b then x else y)
+keeps_if {l = l} b x y this that =
+    record { always = always_if (λ acts _. Kept l acts) b x y (λ _. this.always) (λ _. that.always) }
 
-keeps_turns : {A : Type 0} {l : Limits} (n i : ℕ) (f : ℕ → A → Plan A) (x : A) → ((k : ℕ) (y : A) → Keeps l (f k y)) → Keeps l (sweep n i f x)
+keeps_turns : {A : Type 0} {l : Limits} (n i : ℕ) (f : ℕ → A → Plan A) (x : A) → ((k : ℕ) (y : A) → Keeps l (f k y))
+    → Keeps l (sweep n i f x)
 unfolding sweep
 keeps_turns zero i f x each = keeps_reply x
-keeps_turns (suc n) i f x each = keeps_bind (f i x) (λ y. sweep n (i + 1) f y) (each i x) (λ y. keeps_turns n (i + 1) f y each)
+keeps_turns (suc n) i f x each =
+    keeps_bind (f i x) (λ y. sweep n (i + 1) f y) (each i x) (λ y. keeps_turns n (i + 1) f y each)
 
-pub keeps_sweep : {A : Type 0} {l : Limits} (b i : ℕ) (f : ℕ → A → Plan A) (x : A) → ((k : ℕ) (y : A) → Keeps l (f k y)) → Keeps l (sweep_to b i f x)
+pub keeps_sweep : {A : Type 0} {l : Limits} (b i : ℕ) (f : ℕ → A → Plan A) (x : A) → ((k : ℕ) (y : A) → Keeps l (f k y))
+    → Keeps l (sweep_to b i f x)
 keeps_sweep b i f x each = keeps_turns (b - i) i f x each
 
-pub keeps_over : {X A : Type 0} {l : Limits} (xs : List X) (f : X → A → Plan A) (x : A) → ((e : X) (y : A) → Keeps l (f e y)) → Keeps l (sweep_over xs f x)
+pub keeps_over : {X A : Type 0} {l : Limits} (xs : List X) (f : X → A → Plan A) (x : A)
+    → ((e : X) (y : A) → Keeps l (f e y)) → Keeps l (sweep_over xs f x)
 unfolding sweep_over
 keeps_over [] f x each = keeps_reply x
-keeps_over (e ∷ later) f x each = keeps_bind (f e x) (λ y. sweep_over later f y) (each e x) (λ y. keeps_over later f y each)
+keeps_over (e ∷ later) f x each =
+    keeps_bind (f e x) (λ y. sweep_over later f y) (each e x) (λ y. keeps_over later f y each)
 
-keeps_tries : {A : Type 0} {l : Limits} (n i : ℕ) (f : ℕ → Plan (Option A)) → ((k : ℕ) → Keeps l (f k)) → Keeps l (seek n i f)
+keeps_tries : {A : Type 0} {l : Limits} (n i : ℕ) (f : ℕ → Plan (Option A)) → ((k : ℕ) → Keeps l (f k))
+    → Keeps l (seek n i f)
 unfolding seek
 keeps_tries zero i f each = keeps_reply None
-keeps_tries {A = A} {l = l} (suc n) i f each = keeps_bind (f i) (found_or (seek n (i + 1) f)) (each i) (by_found (keeps_tries n (i + 1) f each))
+keeps_tries {A = A} {l = l} (suc n) i f each =
+    keeps_bind (f i) (found_or (seek n (i + 1) f)) (each i) (by_found (keeps_tries n (i + 1) f each))
   where
     by_found : Keeps l (seek n (i + 1) f) → (here : Option A) → Keeps l (found_or (seek n (i + 1) f) here)
     by_found later (Some x) = keeps_reply (Some x)
     by_found later None = later
 
-pub keeps_seek : {A : Type 0} {l : Limits} (b i : ℕ) (f : ℕ → Plan (Option A)) → ((k : ℕ) → Keeps l (f k)) → Keeps l (seek_to b i f)
+pub keeps_seek : {A : Type 0} {l : Limits} (b i : ℕ) (f : ℕ → Plan (Option A)) → ((k : ℕ) → Keeps l (f k))
+    → Keeps l (seek_to b i f)
 keeps_seek b i f each = keeps_tries (b - i) i f each
 
-pub kept_run : {R : Type 0} (l : Limits) (plan : Plan R) (acts : List Act) (answer : R) → Keeps l plan → Completes plan acts answer → Kept l acts
+pub kept_run : {R : Type 0} (l : Limits) (plan : Plan R) (acts : List Act) (answer : R) → Keeps l plan
+    → Completes plan acts answer → Kept l acts
 kept_run l plan acts answer here run = always_run (λ xs _. Kept l xs) plan acts answer here.always run

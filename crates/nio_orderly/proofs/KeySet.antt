@@ -1,5 +1,6 @@
 -- How a key comes into the key set, and what stays of it: at each step, from any state.
-use Rattle.std.proofs.Common.{◌≡◌, ℕ, ◌==◌, suc, Bool, true, false, not, ◌⊎◌, inl, inr, refl, ap, sym, ◌∙◌, subst, eq-eqb}
+use Rattle.std.proofs.Common.{◌≡◌, ℕ, ◌==◌, suc, Bool, true, false, not, ◌⊎◌, inl, inr, refl, ap, sym, ◌∙◌, subst}
+use Rattle.std.proofs.Common.{eq-eqb}
 use Rattle.std.proofs.lemmas.Bool.{and_parts, and_from}
 use Rattle.nio_base.specs.declared.numbers.CallerNo.{CallerNo}
 use Rattle.nio_event.proofs.Put.{put_keeps, put_at_keeps}
@@ -8,7 +9,8 @@ use Rattle.nio_event.specs.Answers.{Answers}
 use Rattle.nio_event.specs.Sets.{in_key_set, is_valid}
 use Rattle.nio_event.specs.State.{State}
 use Rattle.nio_event.specs.declared.act.Act.{Act}
-use Rattle.nio_event.specs.declared.act.Act.TheVariants.{CancelKey, MakeChannel, Claim, Publish, Remove, SetMode, CloseBit, ClaimAgain}
+use Rattle.nio_event.specs.declared.act.Act.TheVariants.{CancelKey, MakeChannel, Claim, Publish, Remove, SetMode}
+use Rattle.nio_event.specs.declared.act.Act.TheVariants.{CloseBit, ClaimAgain}
 use Rattle.nio_event.specs.declared.found.Stage.{Stage}
 use Rattle.nio_orderly.specs.Owed.{publishes_key, closes}
 
@@ -33,39 +35,49 @@ was_valid was now there valid = by_cancelled was.cancelled refl
   where
     by_cancelled : (b : Bool) → was.cancelled ≡ b → is_valid was ≡ true
     by_cancelled true is_so =
-        let clash : not true ≡ true = ap not (sym (there.cancelled is_so)) ∙ (and_parts (in_key_set now) (not now.cancelled) valid).1 in
+        let clash : not true ≡ true = ap not (sym (there.cancelled is_so))
+        ∙ (and_parts (in_key_set now) (not now.cancelled) valid).1 in
         absurd cc
     by_cancelled false is_so = and_from (in_key_set was) (not was.cancelled) there.in_set (ap not is_so)
 
 -- a key of the key set was there before the step, or the step published it
 abbrev Came : State → Act → ℕ → ℕ → Stage → Type 0
 Came st act s i now =
-    in_key_set now ≡ true → WasThere (st.key s i) now ⊎ (publishes_key now.chan.0 s (record { index = i; serial = now.serial }) act ≡ true)
+    in_key_set now ≡ true
+    → WasThere (st.key s i) now
+    ⊎ (publishes_key now.chan.0 s (record { index = i; serial = now.serial }) act ≡ true)
 
 was_there : (st : State) (act : Act) (s i : ℕ) → Came st act s i (st.key s i)
 was_there st act s i in_set = inl (record { in_set = in_set; serial = refl; channel = refl; cancelled = λ e. e })
 
-pub came : (st : State) (me : CallerNo) (act : Act) → Answers st me act → (s i : ℕ) → in_key_set ((effect st me act).key s i) ≡ true
+pub came : (st : State) (me : CallerNo) (act : Act) → Answers st me act → (s i : ℕ)
+    → in_key_set ((effect st me act).key s i) ≡ true
     → WasThere (st.key s i) ((effect st me act).key s i)
-    ⊎ (publishes_key ((effect st me act).key s i).chan.0 s (record { index = i; serial = ((effect st me act).key s i).serial }) act ≡ true)
+    ⊎ (publishes_key ((effect st me act).key s i).chan.0 s
+    (record { index = i; serial = ((effect st me act).key s i).serial }) act ≡ true)
 came st me (CancelKey s' i' found) answers s i =
     put_at_keeps (Came st (CancelKey s' i' found)) st.key s'.0 i' (record (st.key s'.0 i') { cancelled = true })
     (λ old in_set. inl (record { in_set = in_set; serial = refl; channel = refl; cancelled = λ e. refl }))
     s i (was_there st (CancelKey s' i' found) s i)
 came st me (Claim s' i' c true) answers s i =
-    put_at_keeps (Came st (Claim s' i' c true)) st.key s'.0 i' (st.key s'.0 i') (λ old. old) s i (was_there st (Claim s' i' c true) s i)
+    put_at_keeps (Came st (Claim s' i' c true)) st.key s'.0 i' (st.key s'.0 i') (λ old. old) s i
+    (was_there st (Claim s' i' c true) s i)
 came st me (Claim s' i' c false) answers s i =
-    put_at_keeps (Came st (Claim s' i' c false)) st.key s'.0 i' (new_key c 0) (λ old in_set. absurd cc) s i (was_there st (Claim s' i' c false) s i)
+    put_at_keeps (Came st (Claim s' i' c false)) st.key s'.0 i' (new_key c 0) (λ old in_set. absurd cc) s i
+    (was_there st (Claim s' i' c false) s i)
 came st me (ClaimAgain s' i' c from true) answers s i =
-    put_at_keeps (Came st (ClaimAgain s' i' c from true)) st.key s'.0 i' (st.key s'.0 i') (λ old. old) s i (was_there st (ClaimAgain s' i' c from true) s i)
+    put_at_keeps (Came st (ClaimAgain s' i' c from true)) st.key s'.0 i' (st.key s'.0 i') (λ old. old) s i
+    (was_there st (ClaimAgain s' i' c from true) s i)
 came st me (ClaimAgain s' i' c from false) answers s i =
-    put_at_keeps (Came st (ClaimAgain s' i' c from false)) st.key s'.0 i' (new_key c (suc (st.key s'.0 i').serial)) (λ old in_set. absurd cc) s i (was_there st (ClaimAgain s' i' c from false) s i)
+    put_at_keeps (Came st (ClaimAgain s' i' c from false)) st.key s'.0 i' (new_key c (suc (st.key s'.0 i').serial))
+    (λ old in_set. absurd cc) s i (was_there st (ClaimAgain s' i' c from false) s i)
 came st me (Remove s' i' found) answers s i =
     put_at_keeps (Came st (Remove s' i' found)) st.key s'.0 i' (record (st.key s'.0 i') { removed = true })
     (λ old in_set. let clash = and_parts (st.key s'.0 i').published (not true) in_set in absurd (cc (clash.1)))
     s i (was_there st (Remove s' i' found) s i)
 came st me (Publish s' i' found) answers s i =
-    put_at_keeps (Came st (Publish s' i' found)) st.key s'.0 i' (record (st.key s'.0 i') { published = true }) new s i (was_there st (Publish s' i' found) s i)
+    put_at_keeps (Came st (Publish s' i' found)) st.key s'.0 i' (record (st.key s'.0 i') { published = true }) new s i
+    (was_there st (Publish s' i' found) s i)
   where
     was : Stage
     was = st.key s'.0 i'
@@ -73,7 +85,8 @@ came st me (Publish s' i' found) answers s i =
     found_is : found ≡ st.key s'.0 i'
     found_is = cc
 
-    new : Came st (Publish s' i' found) s'.0 i' (st.key s'.0 i') → Came st (Publish s' i' found) s'.0 i' (record (st.key s'.0 i') { published = true })
+    new : Came st (Publish s' i' found) s'.0 i' (st.key s'.0 i')
+        → Came st (Publish s' i' found) s'.0 i' (record (st.key s'.0 i') { published = true })
     new old in_set = by_published (st.key s'.0 i').published refl
       where
         unremoved : not was.removed ≡ true
@@ -82,9 +95,18 @@ came st me (Publish s' i' found) answers s i =
         by_published : (b : Bool) → was.published ≡ b
             → WasThere was (record was { published = true })
             ⊎ (publishes_key was.chan.0 s'.0 (record { index = i'; serial = was.serial }) (Publish s' i' found) ≡ true)
-        by_published true is_so = inl (record { in_set = and_from was.published (not was.removed) is_so unremoved; serial = refl; channel = refl; cancelled = λ e. e })
+        by_published true is_so =
+            inl (record {
+              in_set = and_from was.published (not was.removed) is_so unremoved;
+              serial = refl;
+              channel =
+                  refl;
+              cancelled = λ e. e;
+            })
         by_published false is_so =
-            inr (subst (λ (f : Stage). publishes_key was.chan.0 s'.0 (record { index = i'; serial = was.serial }) (Publish s' i' f) ≡ true) (sym found_is)
+            inr (subst
+            (λ (f : Stage). publishes_key was.chan.0 s'.0 (record { index = i'; serial = was.serial })
+            (Publish s' i' f) ≡ true) (sym found_is)
             (and_from _ (not was.removed)
             (and_from _ (not was.published)
             (and_from _ (was.serial == was.serial)
@@ -97,17 +119,23 @@ came st me (Publish s' i' found) answers s i =
 came st me act answers s i = was_there st act s i
 
 -- a channel that is closed was so before, or the step closed it
-pub came_closed : (st : State) (me : CallerNo) (act : Act) → Answers st me act → (c : ℕ) → ((effect st me act).chan c).closed ≡ true
+pub came_closed : (st : State) (me : CallerNo) (act : Act) → Answers st me act → (c : ℕ)
+    → ((effect st me act).chan c).closed ≡ true
     → ((st.chan c).closed ≡ true) ⊎ (closes c act ≡ true)
 came_closed st me (MakeChannel k kind true) answers c =
-    put_keeps (λ m x. x.closed ≡ true → ((st.chan m).closed ≡ true) ⊎ (closes m (MakeChannel k kind true) ≡ true)) st.chan k.0 (st.chan k.0) (λ old. old) c (λ e. inl e)
+    put_keeps (λ m x. x.closed ≡ true → ((st.chan m).closed ≡ true) ⊎ (closes m (MakeChannel k kind true) ≡ true))
+    st.chan k.0 (st.chan k.0) (λ old. old) c (λ e. inl e)
 came_closed st me (MakeChannel k kind false) answers c =
-    put_keeps (λ m x. x.closed ≡ true → ((st.chan m).closed ≡ true) ⊎ (closes m (MakeChannel k kind false) ≡ true)) st.chan k.0 _ (λ old e. absurd cc) c (λ e. inl e)
+    put_keeps (λ m x. x.closed ≡ true → ((st.chan m).closed ≡ true) ⊎ (closes m (MakeChannel k kind false) ≡ true))
+    st.chan k.0 _ (λ old e. absurd cc) c (λ e. inl e)
 came_closed st me (SetMode k blocking found) answers c =
-    put_keeps (λ m x. x.closed ≡ true → ((st.chan m).closed ≡ true) ⊎ (closes m (SetMode k blocking found) ≡ true)) st.chan k.0 _ (λ old e. old e) c (λ e. inl e)
+    put_keeps (λ m x. x.closed ≡ true → ((st.chan m).closed ≡ true) ⊎ (closes m (SetMode k blocking found) ≡ true))
+    st.chan k.0 _ (λ old e. old e) c (λ e. inl e)
 came_closed st me (CloseBit k true) answers c =
     let closed_before : (st.chan k.0).closed ≡ true = cc in
-    put_keeps (λ m x. x.closed ≡ true → ((st.chan m).closed ≡ true) ⊎ (closes m (CloseBit k true) ≡ true)) st.chan k.0 _ (λ old e. inl closed_before) c (λ e. inl e)
+    put_keeps (λ m x. x.closed ≡ true → ((st.chan m).closed ≡ true) ⊎ (closes m (CloseBit k true) ≡ true)) st.chan k.0 _
+    (λ old e. inl closed_before) c (λ e. inl e)
 came_closed st me (CloseBit k false) answers c =
-    put_keeps (λ m x. x.closed ≡ true → ((st.chan m).closed ≡ true) ⊎ (closes m (CloseBit k false) ≡ true)) st.chan k.0 _ (λ old e. inr (eq-eqb k.0 k.0 refl)) c (λ e. inl e)
+    put_keeps (λ m x. x.closed ≡ true → ((st.chan m).closed ≡ true) ⊎ (closes m (CloseBit k false) ≡ true)) st.chan k.0
+    _ (λ old e. inr (eq-eqb k.0 k.0 refl)) c (λ e. inl e)
 came_closed st me act answers c = λ e. inl e

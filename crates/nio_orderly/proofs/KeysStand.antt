@@ -1,6 +1,7 @@
 -- What stands of the keys of the key set in a legal and careful history: each is the one that is noted for its
 -- channel, its channel is non-blocking, and its index is below the keys' mark.
-use Rattle.std.proofs.Common.{◌≡◌, ℕ, ◌==◌, Bool, true, false, not, ◌&&◌, ◌||◌, inl, inr, Some, List, [], ◌∷◌, ◌++◌, refl, ap, sym, ◌∙◌, subst, eqb-true, eq-eqb}
+use Rattle.std.proofs.Common.{◌≡◌, ℕ, ◌==◌, Bool, true, false, not, ◌&&◌, ◌||◌, inl, inr, Some, List, [], ◌∷◌, ◌++◌}
+use Rattle.std.proofs.Common.{refl, ap, sym, ◌∙◌, subst, eqb-true, eq-eqb}
 use Rattle.std.specs.Prelude.{nat_lt}
 use Rattle.std.proofs.lemmas.Bool.{and_parts, and_from, ltb-true, lt-ltb}
 use Rattle.nio_base.specs.Limits.{IsFit}
@@ -47,18 +48,23 @@ set_claimed st sound s i in_set =
     let published = (and_parts (st.key s i).published (not (st.key s i).removed) in_set).0 in
     beyond-claimed st sound s i (ap (λ b. (b || (st.key s i).cancelled) || (st.key s i).removed) published)
 
-pub set_fits : (st : State) → IsSound st → (s i : ℕ) → in_key_set (st.key s i) ≡ true → is_in_key_set (st.key s i) (st.key s i).serial ≡ true
+pub set_fits : (st : State) → IsSound st → (s i : ℕ) → in_key_set (st.key s i) ≡ true
+    → is_in_key_set (st.key s i) (st.key s i).serial ≡ true
 set_fits st sound s i in_set =
     let k : Stage = st.key s i in
-    and_from (k.claimed && (k.serial == k.serial)) (in_key_set k) (and_from k.claimed (k.serial == k.serial) (set_claimed st sound s i in_set) (eq-eqb k.serial k.serial refl)) in_set
+    and_from (k.claimed && (k.serial == k.serial)) (in_key_set k)
+    (and_from k.claimed (k.serial == k.serial) (set_claimed st sound s i in_set) (eq-eqb k.serial k.serial refl))
+    in_set
 
 -- a channel that a holder knows to be clear in a selector has no key of the key set there
-not_clear : (l : Limits) (past : List Event) (me : CallerNo) (c : ChanNo) (s i : ℕ) → IsFit l → IsLegal l past → KeysStand (state_after past)
+not_clear : (l : Limits) (past : List Event) (me : CallerNo) (c : ChanNo) (s i : ℕ) → IsFit l → IsLegal l past
+    → KeysStand (state_after past)
     → holds (state_after past) me c ≡ true → is_clear c.0 s (mine me past) ≡ true
     → in_key_set ((state_after past).key s i) ≡ true → ((state_after past).key s i).chan.0 ≡ c.0 → ⊥
 not_clear l past me c s i fit legal stand held clear in_set of_channel =
     both_ways (is_in_key_set (st.key s i) (st.key s i).serial) (set_fits st (legal-sound l past legal) s i in_set)
-    (clear_is_true l me c past fit legal held (record { 0 = s }) clear (key_of st s i) (subst (λ (m : ℕ). st.noted m s ≡ Some (key_of st s i)) of_channel (stand.noted s i in_set)))
+    (clear_is_true l me c past fit legal held (record { 0 = s }) clear (key_of st s i)
+    (subst (λ (m : ℕ). st.noted m s ≡ Some (key_of st s i)) of_channel (stand.noted s i in_set)))
   where
     st : State
     st = state_after past
@@ -76,14 +82,18 @@ pub record Published (past : List Event) (me : CallerNo) (c s : ℕ) (k : KeyId)
   pub unremoved : ((state_after past).key s k.index).removed ≡ false
 
 -- what is prepared is below the mark
-pub prepared_below : (l : Limits) (n : CallerNo) (events : List Event) (s i : ℕ) → IsLegal l events → is_prepared s i (mine n events) ≡ true
+pub prepared_below : (l : Limits) (n : CallerNo) (events : List Event) (s i : ℕ) → IsLegal l events
+    → is_prepared s i (mine n events) ≡ true
     → nat_lt i ((state_after events).keys_high s) ≡ true
-prepared_below l n events s i legal prepared = below_left l n events s i legal (prepared_left s i (mine n events) prepared)
+prepared_below l n events s i legal prepared =
+    below_left l n events s i legal (prepared_left s i (mine n events) prepared)
 
-pub published : (l : Limits) (past : List Event) (e : Event) → IsFit l → IsLegal l past → IsStep l past e → IsCareful (past ++ e ∷ [])
+pub published : (l : Limits) (past : List Event) (e : Event) → IsFit l → IsLegal l past → IsStep l past e
+    → IsCareful (past ++ e ∷ [])
     → (c s : ℕ) (k : KeyId) → publishes_key c s k e.act ≡ true → Published past e.caller c s k
 published l past e fit legal step careful c s k told = record {
-  noted = subst (λ (m : ℕ). st.noted m s ≡ Some k) (sym channel) (at.noted ∙ ap (λ (q : ℕ). Some (key k.index q)) (sym serial));
+  noted = subst (λ (m : ℕ). st.noted m s ≡ Some k) (sym channel)
+      (at.noted ∙ ap (λ (q : ℕ). Some (key k.index q)) (sym serial));
   unblocked = subst (λ (m : ℕ). (st.chan m).blocking ≡ false) (sym channel) at.unblocked;
   below = prepared_below l e.caller past s k.index legal at.prepared;
   claim = at.claim;
@@ -106,7 +116,8 @@ published l past e fit legal step careful c s k told = record {
 
     found_is : publish.found ≡ st.key s k.index
     found_is =
-        let answers : Answers st e.caller (Publish (record { 0 = s }) k.index publish.found) = subst (Answers st e.caller) publish.is step.answers in
+        let answers : Answers st e.caller (Publish (record { 0 = s }) k.index publish.found) = subst
+        (Answers st e.caller) publish.is step.answers in
         cc answers
 
     channel : c ≡ at.claim.channel.0
@@ -117,34 +128,41 @@ published l past e fit legal step careful c s k told = record {
 
 -- a publish changes neither the noted keys, nor the channels, nor the marks
 publish_spares : (st : State) (me : CallerNo) (c s : ℕ) (k : KeyId) (act : Act) → IsPublish c s k act
-    → (P : State → Type 0) → ((found : Stage) → P (effect st me (Publish (record { 0 = s }) k.index found))) → P (effect st me act)
+    → (P : State → Type 0) → ((found : Stage) → P (effect st me (Publish (record { 0 = s }) k.index found)))
+    → P (effect st me act)
 publish_spares st me c s k act publish P here = subst (λ a. P (effect st me a)) (sym publish.is) (here publish.found)
 
 -- ---- one step
 
 -- the noted key of a channel with a key of the key set isn't changed
-noted_step : (l : Limits) (past : List Event) (e : Event) → IsFit l → IsLegal l past → IsStep l past e → KeysStand (state_after past)
-    → (s i : ℕ) → in_key_set ((state_after past).key s i) ≡ true → notes_key ((state_after past).key s i).chan.0 s e.act ≡ false
+noted_step : (l : Limits) (past : List Event) (e : Event) → IsFit l → IsLegal l past → IsStep l past e
+    → KeysStand (state_after past)
+    → (s i : ℕ) → in_key_set ((state_after past).key s i) ≡ true
+    → notes_key ((state_after past).key s i).chan.0 s e.act ≡ false
 noted_step l past e fit legal step stand s i in_set = by_act e.act step.condition
   where
     st : State
     st = state_after past
 
-    by_act : (act : Act) → Condition l (mine e.caller past) st e.caller act → notes_key (st.key s i).chan.0 s act ≡ false
+    by_act : (act : Act) → Condition l (mine e.caller past) st e.caller act
+        → notes_key (st.key s i).chan.0 s act ≡ false
     by_act (Enrol c' s' j q found) may = by_same ((c'.0 == (st.key s i).chan.0) && (s'.0 == s)) refl
       where
         by_same : (b : Bool) → ((c'.0 == (st.key s i).chan.0) && (s'.0 == s)) ≡ b → b ≡ false
         by_same true same =
             let both = and_parts (c'.0 == (st.key s i).chan.0) (s'.0 == s) same in
             let same_selector : s'.0 ≡ s = eqb-true s'.0 s both.1 in
-            absurd (not_clear l past e.caller c' s i fit legal stand may.3 (subst (λ (m : ℕ). is_clear c'.0 m (mine e.caller past) ≡ true) same_selector may.4) in_set
+            absurd (not_clear l past e.caller c' s i fit legal stand may.3
+            (subst (λ (m : ℕ). is_clear c'.0 m (mine e.caller past) ≡ true) same_selector may.4) in_set
             (sym (eqb-true c'.0 (st.key s i).chan.0 both.0)))
         by_same false other = refl
     by_act act may = refl
 
 -- its mode isn't set to blocking
-unblocked_step : (l : Limits) (past : List Event) (e : Event) → IsFit l → IsLegal l past → IsStep l past e → KeysStand (state_after past)
-    → (s i : ℕ) → in_key_set ((state_after past).key s i) ≡ true → ((effect (state_after past) e.caller e.act).chan ((state_after past).key s i).chan.0).blocking ≡ false
+unblocked_step : (l : Limits) (past : List Event) (e : Event) → IsFit l → IsLegal l past → IsStep l past e
+    → KeysStand (state_after past)
+    → (s i : ℕ) → in_key_set ((state_after past).key s i) ≡ true
+    → ((effect (state_after past) e.caller e.act).chan ((state_after past).key s i).chan.0).blocking ≡ false
 unblocked_step l past e fit legal step stand s i in_set = by_act e.act step.condition step.answers
   where
     st : State
@@ -156,36 +174,49 @@ unblocked_step l past e fit legal step stand s i in_set = by_act e.act step.cond
     claimed : (st.key s i).claimed ≡ true
     claimed = set_claimed st (legal-sound l past legal) s i in_set
 
-    by_act : (act : Act) → Condition l (mine e.caller past) st e.caller act → Answers st e.caller act → ((effect st e.caller act).chan c).blocking ≡ false
-    by_act (MakeChannel k kind true) may answers = put_keeps (λ _ x. x.blocking ≡ false) st.chan k.0 (st.chan k.0) (λ old. old) c (stand.unblocked s i in_set)
+    by_act : (act : Act) → Condition l (mine e.caller past) st e.caller act → Answers st e.caller act
+        → ((effect st e.caller act).chan c).blocking ≡ false
+    by_act (MakeChannel k kind true) may answers =
+        put_keeps (λ _ x. x.blocking ≡ false) st.chan k.0 (st.chan k.0) (λ old. old) c (stand.unblocked s i in_set)
     by_act (MakeChannel k kind false) may answers =
         let unmade : (st.chan k.0).made ≡ false = cc in
-        put_keeps (λ m x. (st.chan m).made ≡ true → x.blocking ≡ false) st.chan k.0 _ (λ _ made. absurd (both_ways (st.chan k.0).made made unmade)) c
+        put_keeps (λ m x. (st.chan m).made ≡ true → x.blocking ≡ false) st.chan k.0 _
+        (λ _ made. absurd (both_ways (st.chan k.0).made made unmade)) c
         (λ _. stand.unblocked s i in_set) (claimed_made l past legal s i claimed)
     by_act (SetMode k true found) may answers =
         put_keeps (λ m x. m ≡ c → x.blocking ≡ false) st.chan k.0 _
-        (λ _ same. absurd (not_clear l past e.caller k s i fit legal stand may.1 (may.2 refl s ((legal-within l past legal).keys s i claimed).0) in_set (sym same)))
+        (λ _ same. absurd
+        (not_clear l past e.caller k s i fit legal stand may.1
+        (may.2 refl s ((legal-within l past legal).keys s i claimed).0) in_set (sym same)))
         c (λ _. stand.unblocked s i in_set) refl
-    by_act (SetMode k false found) may answers = put_keeps (λ _ x. x.blocking ≡ false) st.chan k.0 _ (λ _. refl) c (stand.unblocked s i in_set)
-    by_act (CloseBit k found) may answers = put_keeps (λ _ x. x.blocking ≡ false) st.chan k.0 _ (λ old. old) c (stand.unblocked s i in_set)
+    by_act (SetMode k false found) may answers =
+        put_keeps (λ _ x. x.blocking ≡ false) st.chan k.0 _ (λ _. refl) c (stand.unblocked s i in_set)
+    by_act (CloseBit k found) may answers =
+        put_keeps (λ _ x. x.blocking ≡ false) st.chan k.0 _ (λ old. old) c (stand.unblocked s i in_set)
     by_act act may answers = stand.unblocked s i in_set
 
-keys_stand_step : (l : Limits) (past : List Event) (e : Event) → IsFit l → IsLegal l past → IsStep l past e → IsCareful (past ++ e ∷ []) → KeysStand (state_after past)
+keys_stand_step : (l : Limits) (past : List Event) (e : Event) → IsFit l → IsLegal l past → IsStep l past e
+    → IsCareful (past ++ e ∷ []) → KeysStand (state_after past)
     → KeysStand (effect (state_after past) e.caller e.act)
 keys_stand_step l past e fit legal step careful stand = record {
   noted = λ s i in_set. elim (came st me e.act step.answers s i in_set) [
     | inl was ↦
         noted_other st me e.act (st'.key s i).chan.0 s (Some (key_of st' s i))
-        (subst (λ (c : ChanNo). notes_key c.0 s e.act ≡ false) (sym was.channel) (noted_step l past e fit legal step stand s i was.in_set))
-        (subst (λ (c : ChanNo). st.noted c.0 s ≡ Some (key_of st' s i)) (sym was.channel) (stand.noted s i was.in_set ∙ ap (λ (q : ℕ). Some (key i q)) (sym was.serial)))
+        (subst (λ (c : ChanNo). notes_key c.0 s e.act ≡ false) (sym was.channel)
+        (noted_step l past e fit legal step stand s i was.in_set))
+        (subst (λ (c : ChanNo). st.noted c.0 s ≡ Some (key_of st' s i)) (sym was.channel)
+        (stand.noted s i was.in_set ∙ ap (λ (q : ℕ). Some (key i q)) (sym was.serial)))
     | inr new ↦
-        publish_spares st me (st'.key s i).chan.0 s (key_of st' s i) e.act (is_publish (st'.key s i).chan.0 s (key_of st' s i) e.act new)
+        publish_spares st me (st'.key s i).chan.0 s (key_of st' s i) e.act
+        (is_publish (st'.key s i).chan.0 s (key_of st' s i) e.act new)
         (λ x. x.noted (st'.key s i).chan.0 s ≡ Some (key_of st' s i)) (λ found. (made s i new).noted)
   ];
   unblocked = λ s i in_set. elim (came st me e.act step.answers s i in_set) [
-    | inl was ↦ subst (λ (c : ChanNo). (st'.chan c.0).blocking ≡ false) (sym was.channel) (unblocked_step l past e fit legal step stand s i was.in_set)
+    | inl was ↦ subst (λ (c : ChanNo). (st'.chan c.0).blocking ≡ false) (sym was.channel)
+        (unblocked_step l past e fit legal step stand s i was.in_set)
     | inr new ↦
-        publish_spares st me (st'.key s i).chan.0 s (key_of st' s i) e.act (is_publish (st'.key s i).chan.0 s (key_of st' s i) e.act new)
+        publish_spares st me (st'.key s i).chan.0 s (key_of st' s i) e.act
+        (is_publish (st'.key s i).chan.0 s (key_of st' s i) e.act new)
         (λ x. (x.chan (st'.key s i).chan.0).blocking ≡ false) (λ found. (made s i new).unblocked)
   ];
   below = λ s i in_set. elim (came st me e.act step.answers s i in_set) [
@@ -206,15 +237,22 @@ keys_stand_step l past e fit legal step careful stand = record {
     key : ℕ → ℕ → KeyId
     key j q = record { index = j; serial = q }
 
-    made : (s i : ℕ) → publishes_key (st'.key s i).chan.0 s (key_of st' s i) e.act ≡ true → Published past me (st'.key s i).chan.0 s (key_of st' s i)
+    made : (s i : ℕ) → publishes_key (st'.key s i).chan.0 s (key_of st' s i) e.act ≡ true
+        → Published past me (st'.key s i).chan.0 s (key_of st' s i)
     made s i new = published l past e fit legal step careful (st'.key s i).chan.0 s (key_of st' s i) new
 
     still : (s i : ℕ) → nat_lt i (st.keys_high s) ≡ true → nat_lt i (st'.keys_high s) ≡ true
     still s i below = lt-ltb i (st'.keys_high s) (keys_high_lasts st me e.act s i (ltb-true i (st.keys_high s) below))
 
 -- in every legal and careful history the keys stand so
-pub keys_stand : (l : Limits) → IsFit l → (events : List Event) → IsLegal l events → IsCareful events → KeysStand (state_after events)
+pub keys_stand : (l : Limits) → IsFit l → (events : List Event) → IsLegal l events → IsCareful events
+    → KeysStand (state_after events)
 keys_stand l fit = legal_induction l (λ evs. IsCareful evs → KeysStand (state_after evs))
-    (λ careful. record { noted = λ s i in_set. absurd cc; unblocked = λ s i in_set. absurd cc; below = λ s i in_set. absurd cc })
+    (λ careful. record {
+      noted = λ s i in_set. absurd cc;
+      unblocked = λ s i in_set. absurd cc;
+      below = λ s i in_set. absurd cc;
+    })
     (λ past e legal step before careful. subst KeysStand (sym (state_after-more past e))
-    (keys_stand_step l past e fit legal step careful (before (beginnings_are_careful past (past ++ e ∷ []) (e ∷ [], refl) careful))))
+    (keys_stand_step l past e fit legal step careful
+    (before (beginnings_are_careful past (past ++ e ∷ []) (e ∷ [], refl) careful))))

@@ -27,4 +27,5 @@ CarefulAct own act = Unit {0}
 
 -- each of the acts is done with care
 abbrev pub AreCarefulActs : List Act → Type 0
-AreCarefulActs own = (before : List Act) (act : Act) (later : List Act) → own ≡ before ++ act ∷ later → CarefulAct before act
+AreCarefulActs own = (before : List Act) (act : Act) (later : List Act) → own ≡ before ++ act ∷ later
+    → CarefulAct before act

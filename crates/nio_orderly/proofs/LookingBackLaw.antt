@@ -1,5 +1,6 @@
 -- A legal history whose acts keep the rules looking back is careful.
-use Rattle.std.proofs.Common.{◌≡◌, ℕ, ◌==◌, ◌+◌, Bool, true, false, cond, ◌||◌, Some, None, if◌then◌else◌, List, [], ◌∷◌, ◌++◌, append_assoc, refl, ap, sym, ◌∙◌, subst, eqb-true, eq-eqb, arith}
+use Rattle.std.proofs.Common.{◌≡◌, ℕ, ◌==◌, ◌+◌, Bool, true, false, cond, ◌||◌, Some, None, if◌then◌else◌, List, []}
+use Rattle.std.proofs.Common.{◌∷◌, ◌++◌, append_assoc, refl, ap, sym, ◌∙◌, subst, eqb-true, eq-eqb, arith}
 use Rattle.std.proofs.lemmas.Bool.{or_parts}
 use Rattle.std.proofs.lemmas.List.{append-nil}
 use Rattle.std.proofs.lemmas.List.Sums.{sum_by-cons}
@@ -29,7 +30,8 @@ use Rattle.nio_steps.proofs.OwnActs.{Cut, cut_at, mine-own_first}
 
 -- ---- a caller that has a hold doesn't take it
 
-taken_free : (st : State) (n : CallerNo) (act : Act) (c : ℕ) → Answers st n act → takes_hold c act ≡ true → is_held_by n (st.hold c) ≡ true → ⊥
+taken_free : (st : State) (n : CallerNo) (act : Act) (c : ℕ) → Answers st n act → takes_hold c act ≡ true
+    → is_held_by n (st.hold c) ≡ true → ⊥
 taken_free st n (TryHoldBit k None) c answers takes held =
     let found_is : None ≡ st.hold k.0 = cc in
     let free : None ≡ st.hold c = subst (λ (m : ℕ). None ≡ st.hold m) (eqb-true k.0 c takes) found_is in
@@ -37,7 +39,8 @@ taken_free st n (TryHoldBit k None) c answers takes held =
 taken_free st n act c answers takes held = cc takes
 
 -- what a caller does under the hold under which it publishes takes no hold of the channel
-no_take : (l : Limits) (n : CallerNo) (events : List Event) (b : List Act) (s : SelNo) (i : ℕ) (found : Stage) (done : List Act) (x : Act) (later : List Act) → IsLegal l events
+no_take : (l : Limits) (n : CallerNo) (events : List Event) (b : List Act) (s : SelNo) (i : ℕ) (found : Stage)
+    (done : List Act) (x : Act) (later : List Act) → IsLegal l events
     → mine n events ≡ b ++ Publish s i found ∷ (done ++ x ∷ later) → (claim : OwnClaim) → own_claim s.0 i b ≡ Some claim
     → has (releases claim.channel.0) done ≡ false → takes_hold claim.channel.0 x ≡ false
 no_take l n events b s i found done x later legal own claim its kept = by_test (takes_hold claim.channel.0 x) refl
@@ -58,7 +61,8 @@ no_take l n events b s i found done x later legal own claim its kept = by_test (
     legal_first = subst (IsLegal l) first.parts legal
 
     parts : first.past ++ publish ∷ first.later ≡ (first.past ++ publish ∷ second.past) ++ event_of n x ∷ second.later
-    parts = ap (λ evs. first.past ++ publish ∷ evs) second.parts ∙ sym (append_assoc first.past (publish ∷ second.past) (event_of n x ∷ second.later))
+    parts = ap (λ evs. first.past ++ publish ∷ evs) second.parts
+        ∙ sym (append_assoc first.past (publish ∷ second.past) (event_of n x ∷ second.later))
 
     legal_second : IsLegal l ((first.past ++ publish ∷ second.past) ++ event_of n x ∷ second.later)
     legal_second = subst (IsLegal l) parts legal_first
@@ -79,26 +83,33 @@ no_take l n events b s i found done x later legal own claim its kept = by_test (
 
     held_then : is_held_by n ((state_after (first.past ++ publish ∷ second.past)).hold claim.channel.0) ≡ true
     held_then =
-        had_stands l n first.past (publish ∷ second.past) (legal_beginning l (first.past ++ publish ∷ second.past) (event_of n x ∷ second.later) legal_second) (the_hold claim.channel)
-        (ap (has (releases claim.channel.0)) (mine-own_first n publish second.past (eq-eqb n.0 n.0 refl) ∙ ap (λ acts. Publish s i found ∷ acts) second.mine_past) ∙ kept)
+        had_stands l n first.past (publish ∷ second.past)
+        (legal_beginning l (first.past ++ publish ∷ second.past) (event_of n x ∷ second.later) legal_second)
+        (the_hold claim.channel)
+        (ap (has (releases claim.channel.0))
+        (mine-own_first n publish second.past (eq-eqb n.0 n.0 refl)
+        ∙ ap (λ acts. Publish s i found ∷ acts) second.mine_past) ∙ kept)
         held
 
     by_test : (t : Bool) → takes_hold claim.channel.0 x ≡ t → t ≡ false
     by_test true takes =
         absurd (taken_free (state_after (first.past ++ publish ∷ second.past)) n x claim.channel.0
-        (legal_next l (first.past ++ publish ∷ second.past) (event_of n x) second.later legal_second).answers takes held_then)
+        (legal_next l (first.past ++ publish ∷ second.past) (event_of n x) second.later legal_second).answers takes
+        held_then)
     by_test false takes = refl
 
 -- ---- what is done under the hold
 
 -- what it did since it took the hold goes on where it takes none
-under-append : (c : ℕ) (own done : List Act) → has (takes_hold c) done ≡ false → under c (own ++ done) ≡ under c own ++ done
+under-append : (c : ℕ) (own done : List Act) → has (takes_hold c) done ≡ false
+    → under c (own ++ done) ≡ under c own ++ done
 under-append c own [] none = ap (under c) (append-nil own) ∙ sym (append-nil (under c own))
 under-append c own (x ∷ done) none =
     let both = or_parts (takes_hold c x) (has (takes_hold c) done) none in
     ap (under c) (sym (append_assoc own (x ∷ []) done))
     ∙ (under-append c (own ++ x ∷ []) done both.1
-    ∙ (ap (λ acts. acts ++ done) (since_from-more (takes_hold c) own x ∙ ap (λ b. cond {A = List Act} b [] (under c own ++ x ∷ [])) both.0)
+    ∙ (ap (λ acts. acts ++ done)
+    (since_from-more (takes_hold c) own x ∙ ap (λ b. cond {A = List Act} b [] (under c own ++ x ∷ [])) both.0)
     ∙ append_assoc (under c own) (x ∷ []) done))
 
 count-none : (p : Act → Bool) (own : List Act) → has p own ≡ false → count p own ≡ 0
@@ -113,19 +124,23 @@ abbrev spoils : ℕ → Act → Bool
 spoils c act = notes_for c act || sets_mode c act
 
 -- such an act is done with care only where nothing was published under the hold
-spoils_careful : (c : ℕ) (own : List Act) (act : Act) → CarefulAct own act → spoils c act ≡ true → has publishes_any (under c own) ≡ false
+spoils_careful : (c : ℕ) (own : List Act) (act : Act) → CarefulAct own act → spoils c act ≡ true
+    → has publishes_any (under c own) ≡ false
 spoils_careful c own (Enrol c' s i serial found) careful spoilt =
     subst (λ (m : ℕ). has publishes_any (under m own) ≡ false) (eqb-true c'.0 c (first (c'.0 == c) spoilt)) careful
   where
     first : (b : Bool) → (b || false) ≡ true → b ≡ true
     first true e = refl
     first false e = e
-spoils_careful c own (SetMode c' blocking found) careful spoilt = subst (λ (m : ℕ). has publishes_any (under m own) ≡ false) (eqb-true c'.0 c spoilt) careful
+spoils_careful c own (SetMode c' blocking found) careful spoilt =
+    subst (λ (m : ℕ). has publishes_any (under m own) ≡ false) (eqb-true c'.0 c spoilt) careful
 spoils_careful c own act careful spoilt = absurd (cc spoilt)
 
 -- after a publish no such act is done until the hold is given back
-none_spoils : (l : Limits) (n : CallerNo) (events : List Event) (b : List Act) (s : SelNo) (i : ℕ) (found : Stage) → IsLegal l events → AreCarefulActs (mine n events)
-    → (claim : OwnClaim) → own_claim s.0 i b ≡ Some claim → (done later : List Act) → mine n events ≡ b ++ Publish s i found ∷ (done ++ later)
+none_spoils : (l : Limits) (n : CallerNo) (events : List Event) (b : List Act) (s : SelNo) (i : ℕ) (found : Stage)
+    → IsLegal l events → AreCarefulActs (mine n events)
+    → (claim : OwnClaim) → own_claim s.0 i b ≡ Some claim → (done later : List Act)
+    → mine n events ≡ b ++ Publish s i found ∷ (done ++ later)
     → has (releases claim.channel.0) done ≡ false → has (takes_hold claim.channel.0) done ≡ false
     → has (spoils claim.channel.0) (until_released claim.channel.0 later) ≡ false
 none_spoils l n events b s i found legal careful claim its done [] own kept none = refl
@@ -133,13 +148,15 @@ none_spoils l n events b s i found legal careful claim its done (x ∷ later) ow
     by_release (releases c x) refl
     (λ not_released. none_spoils l n events b s i found legal careful claim its (done ++ x ∷ []) later
     (own ∙ ap (λ acts. b ++ Publish s i found ∷ acts) (sym (append_assoc done (x ∷ []) later)))
-    (neither (releases c) kept not_released) (neither (takes_hold c) none (no_take l n events b s i found done x later legal own claim its kept)))
+    (neither (releases c) kept not_released)
+    (neither (takes_hold c) none (no_take l n events b s i found done x later legal own claim its kept)))
   where
     c : ℕ
     c = claim.channel.0
 
     neither : (p : Act → Bool) → has p done ≡ false → p x ≡ false → has p (done ++ x ∷ []) ≡ false
-    neither p before now = has-append p done (x ∷ []) ∙ (ap (λ t. has p done || (t || false)) now ∙ ap (λ t. t || false) before)
+    neither p before now =
+        has-append p done (x ∷ []) ∙ (ap (λ t. has p done || (t || false)) now ∙ ap (λ t. t || false) before)
 
     before_x : List Act
     before_x = b ++ Publish s i found ∷ done
@@ -149,21 +166,26 @@ none_spoils l n events b s i found legal careful claim its done (x ∷ later) ow
 
     has_published : has publishes_any (under c before_x) ≡ true
     has_published = ap (has publishes_any) (under-append c b (Publish s i found ∷ done) none)
-        ∙ (has-append publishes_any (under c b) (Publish s i found ∷ done) ∙ or_right (has publishes_any (under c b)) true refl)
+        ∙ (has-append publishes_any (under c b) (Publish s i found ∷ done)
+        ∙ or_right (has publishes_any (under c b)) true refl)
 
     not_spoilt : spoils c x ≡ false
     not_spoilt = by_test (spoils c x) refl
       where
         by_test : (t : Bool) → spoils c x ≡ t → t ≡ false
-        by_test true spoilt = absurd (both_ways (has publishes_any (under c before_x)) has_published (spoils_careful c before_x x careful_x spoilt))
+        by_test true spoilt =
+            absurd (both_ways (has publishes_any (under c before_x)) has_published
+            (spoils_careful c before_x x careful_x spoilt))
         by_test false spoilt = refl
 
-    by_release : (t : Bool) → releases c x ≡ t → (releases c x ≡ false → has (spoils c) (until_released c later) ≡ false)
+    by_release : (t : Bool) → releases c x ≡ t
+        → (releases c x ≡ false → has (spoils c) (until_released c later) ≡ false)
         → has (spoils c) (if t then [] else x ∷ until_released c later) ≡ false
     by_release true released rest = refl
     by_release false released rest = ap (λ t. t || has (spoils c) (until_released c later)) not_spoilt ∙ rest released
 
-none_of_either : (p q : Act → Bool) (own : List Act) → has (λ act. p act || q act) own ≡ false → (has p own ≡ false) × (has q own ≡ false)
+none_of_either : (p q : Act → Bool) (own : List Act) → has (λ act. p act || q act) own ≡ false
+    → (has p own ≡ false) × (has q own ≡ false)
 none_of_either p q [] none = (refl, refl)
 none_of_either p q (x ∷ own) none =
     let both = or_parts (p x || q x) (has (λ act. p act || q act) own) none in
@@ -171,12 +193,15 @@ none_of_either p q (x ∷ own) none =
     let rest = none_of_either p q own both.1 in
     (ap (λ t. t || has p own) first.0 ∙ rest.0, ap (λ t. t || has q own) first.1 ∙ rest.1)
 
-pub careful_from_acts : (l : Limits) (events : List Event) → IsLegal l events → ((n : CallerNo) → AreCarefulActs (mine n events)) → IsCareful events
+pub careful_from_acts : (l : Limits) (events : List Event) → IsLegal l events
+    → ((n : CallerNo) → AreCarefulActs (mine n events)) → IsCareful events
 careful_from_acts l events legal careful n before s i found later own claim its = record {
   noted = rules.noted;
   noted_alone = count-append (notes_for c) (under c before) (until_released c later)
-      ∙ (ap (λ (m : ℕ). m + count (notes_for c) (until_released c later)) rules.noted_alone ∙ ap (λ (m : ℕ). 1 + m) (count-none (notes_for c) (until_released c later) later_none.0));
-  mode = has-append (sets_mode c) (under c before) (until_released c later) ∙ (ap (λ t. t || has (sets_mode c) (until_released c later)) rules.mode ∙ later_none.1);
+      ∙ (ap (λ (m : ℕ). m + count (notes_for c) (until_released c later)) rules.noted_alone
+      ∙ ap (λ (m : ℕ). 1 + m) (count-none (notes_for c) (until_released c later) later_none.0));
+  mode = has-append (sets_mode c) (under c before) (until_released c later)
+      ∙ (ap (λ t. t || has (sets_mode c) (until_released c later)) rules.mode ∙ later_none.1);
   prepared = rules.prepared;
 }
   where
@@ -186,7 +211,8 @@ careful_from_acts l events legal careful n before s i found later own claim its 
     rules : MayPublish s.0 i claim before
     rules = careful n before (Publish s i found) later own claim its
 
-    later_none : (has (notes_for c) (until_released c later) ≡ false) × (has (sets_mode c) (until_released c later) ≡ false)
+    later_none : (has (notes_for c) (until_released c later) ≡ false)
+        × (has (sets_mode c) (until_released c later) ≡ false)
     later_none =
         none_of_either (notes_for c) (sets_mode c) (until_released c later)
         (none_spoils l n events before s i found legal (careful n) claim its [] later own refl refl)

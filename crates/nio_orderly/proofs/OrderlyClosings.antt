@@ -1,5 +1,6 @@
 -- What is left in orderly histories: what is owed, and what is left once a closing has answered.
-use Rattle.std.proofs.Common.{◌≡◌, ℕ, Bool, true, false, ◌||◌, if◌then◌else◌, Some, None, List, [], ◌∷◌, ◌++◌, refl, ap, sym, ◌∙◌, subst, append_assoc, eq-eqb, ◌⊎◌, inl, inr}
+use Rattle.std.proofs.Common.{◌≡◌, ℕ, Bool, true, false, ◌||◌, if◌then◌else◌, Some, None, List, [], ◌∷◌, ◌++◌, refl, ap}
+use Rattle.std.proofs.Common.{sym, ◌∙◌, subst, append_assoc, eq-eqb, ◌⊎◌, inl, inr}
 use Rattle.nio_base.specs.declared.limits.Limits.{Limits}
 use Rattle.nio_base.specs.declared.numbers.ChanNo.{ChanNo}
 use Rattle.nio_base.specs.declared.numbers.SelNo.{SelNo}
@@ -14,14 +15,17 @@ use Rattle.nio_event.specs.Sets.{is_valid}
 use Rattle.nio_event.specs.declared.act.Act.{Act}
 use Rattle.nio_event.specs.declared.act.Act.TheVariants.{CloseBit, Enter}
 use Rattle.nio_orderly.proofs.ActLists.{owes-settled}
-use Rattle.nio_orderly.proofs.AfterClosing.{only_publishers_owe, closed_selectors_have_no_key, publisher_settled, settled_loses_no_key}
+use Rattle.nio_orderly.proofs.AfterClosing.{only_publishers_owe, closed_selectors_have_no_key, publisher_settled}
+use Rattle.nio_orderly.proofs.AfterClosing.{settled_loses_no_key}
 use Rattle.nio_orderly.proofs.CallLists.{whole_is_orderly, beginnings_are_orderly}
 use Rattle.nio_orderly.proofs.Kept.{EnterKept}
 use Rattle.nio_orderly.proofs.ListWords.{InFirst, InSecond, split_at, no_such_act, has-second, since_first-append}
-use Rattle.nio_orderly.proofs.OrderlyCare.{run_is_kept, made_is_kept, orderly_is_careful, whole_is_settled, Opened, first_opened, IsEnter, is_enter, enter_settled}
+use Rattle.nio_orderly.proofs.OrderlyCare.{run_is_kept, made_is_kept, orderly_is_careful, whole_is_settled, Opened}
+use Rattle.nio_orderly.proofs.OrderlyCare.{first_opened, IsEnter, is_enter, enter_settled}
 use Rattle.nio_orderly.proofs.Owed.{nothing_is_lost}
 use Rattle.nio_orderly.specs.Made.{close_channel, try_finish}
-use Rattle.nio_orderly.specs.OrderlyCare.{OrderlyOwes, WholeLosesNoKey, CloseChannelCloses, FinishCloses, AfterCloseChannel, NoKeyAfterCloseChannel, NoKeyAfterFinish, NoKeyAfterClose}
+use Rattle.nio_orderly.specs.OrderlyCare.{OrderlyOwes, WholeLosesNoKey, CloseChannelCloses, FinishCloses}
+use Rattle.nio_orderly.specs.OrderlyCare.{AfterCloseChannel, NoKeyAfterCloseChannel, NoKeyAfterFinish, NoKeyAfterClose}
 use Rattle.nio_orderly.specs.Orderly.{IsOrderly}
 use Rattle.nio_orderly.specs.Owed.{owes, clearing_duty, key_of}
 use Rattle.nio_steps.proofs.OwnActs.{Cut, cut_at}
@@ -34,7 +38,8 @@ orderly_owes l events fit legal orderly = nothing_is_lost l events fit legal (or
 
 pub whole_loses_no_key : WholeLosesNoKey
 whole_loses_no_key l events fit legal whole =
-    settled_loses_no_key l events fit legal (orderly_is_careful l events (whole_is_orderly l events whole)) (λ n. whole_is_settled l events n whole)
+    settled_loses_no_key l events fit legal (orderly_is_careful l events (whole_is_orderly l events whole))
+    (λ n. whole_is_settled l events n whole)
 
 -- ---- closing a channel
 
@@ -43,7 +48,8 @@ record BeginsClosing (c : ChanNo) (acts : List Act) : Type 0 where
   later : List Act
   parts : acts ≡ CloseBit c false ∷ later
 
-begins_closing : (l : Limits) (c : ChanNo) (acts : List Act) → Completes (close_channel_plan l c) acts true → BeginsClosing c acts
+begins_closing : (l : Limits) (c : ChanNo) (acts : List Act) → Completes (close_channel_plan l c) acts true
+    → BeginsClosing c acts
 unfolding close_channel_plan
 begins_closing l c [] run = absurd (cc run)
 begins_closing l c (CloseBit c' false ∷ acts) run =
@@ -58,7 +64,8 @@ close_channel_closes l n c events own acts did run = record {
   before = own;
   since = begins.later;
   did = did ∙ ap (λ xs. own ++ xs) begins.parts;
-  settled = λ s below k. (run_is_kept l (close_channel c true) acts run).closes [] c begins.later begins.parts s k below;
+  settled = λ s below k. (run_is_kept l (close_channel c true) acts run).closes [] c begins.later begins.parts s k
+      below;
 }
   where
     begins : BeginsClosing c acts
@@ -66,13 +73,15 @@ close_channel_closes l n c events own acts did run = record {
 
 pub after_close_channel : AfterCloseChannel
 after_close_channel l n c before after own acts fit goes_on legal orderly did run =
-    only_publishers_owe l n c before after fit goes_on legal (orderly_is_careful l after orderly) (close_channel_closes l n c before own acts did run)
+    only_publishers_owe l n c before after fit goes_on legal (orderly_is_careful l after orderly)
+    (close_channel_closes l n c before own acts did run)
 
 pub no_key_after_close_channel : NoKeyAfterCloseChannel
 no_key_after_close_channel l n c before after own acts fit goes_on legal whole did run s i of_channel =
     not_true (is_valid ((state_after after).key s i)) (λ valid.
     publisher_settled l after c.0 s (key_of (state_after after) s i) fit legal (λ m. whole_is_settled l after m whole)
-    (after_close_channel l n c before after own acts fit goes_on legal (whole_is_orderly l after whole) did run s i valid of_channel))
+    (after_close_channel l n c before after own acts fit goes_on legal (whole_is_orderly l after whole) did run s i
+    valid of_channel))
 
 -- ---- finishing the closing of a selector
 
@@ -91,18 +100,29 @@ begins_clearing s (Enter s' (Some n) ∷ act ∷ acts) run = absurd run.1
 begins_clearing s (_ ∷ acts) run = absurd (cc run.0)
 
 -- a clearing out that was begun before the selector is entered again is settled
-settled_before : (s : SelNo) (since acts later : List Act) → EnterKept s (since ++ Enter s None ∷ later) → (i : ℕ) → owes (clearing_duty s.0 i) since ≡ false
-settled_before s since acts later kept i = by_part (split_at kept.clearing kept.rest since (Enter s None) later (sym kept.parts))
+settled_before : (s : SelNo) (since acts later : List Act) → EnterKept s (since ++ Enter s None ∷ later) → (i : ℕ)
+    → owes (clearing_duty s.0 i) since ≡ false
+settled_before s since acts later kept i =
+    by_part (split_at kept.clearing kept.rest since (Enter s None) later (sym kept.parts))
   where
-    by_part : InFirst kept.clearing kept.rest since (Enter s None) later ⊎ InSecond kept.clearing kept.rest since (Enter s None) later → owes (clearing_duty s.0 i) since ≡ false
-    by_part (inl there) = absurd (no_such_act (enters s.0) since (Enter s None) there.rest (ap (has (enters s.0)) (sym there.parts) ∙ kept.once) (eq-eqb s.0 s.0 refl))
-    by_part (inr there) = ap (owes (clearing_duty s.0 i)) there.before_is ∙ owes-settled (clearing_duty s.0 i) kept.clearing there.start (kept.settled i)
+    by_part : InFirst kept.clearing kept.rest since (Enter s None) later
+        ⊎ InSecond kept.clearing kept.rest since (Enter s None) later → owes (clearing_duty s.0 i) since ≡ false
+    by_part (inl there) =
+        absurd (no_such_act (enters s.0) since (Enter s None) there.rest
+        (ap (has (enters s.0)) (sym there.parts) ∙ kept.once) (eq-eqb s.0 s.0 refl))
+    by_part (inr there) =
+        ap (owes (clearing_duty s.0 i)) there.before_is
+        ∙ owes-settled (clearing_duty s.0 i) kept.clearing there.start (kept.settled i)
 
 pub finish_closes : FinishCloses
 finish_closes l n s events own acts legal orderly did run = record {
   closer = closer_now;
-  entered = ap (has (enters s.0)) did_so ∙ has-second (enters s.0) own (Enter s None ∷ begins.later) (ap (λ b. b || has (enters s.0) begins.later) (eq-eqb s.0 s.0 refl));
-  settled = λ i. ap (λ acts'. owes (clearing_duty s.0 i) (since_entered s.0 acts')) did_so ∙ (ap (owes (clearing_duty s.0 i)) (since_first-append (enters s.0) own (Enter s None ∷ begins.later)) ∙ by_test i (has (enters s.0) own) refl);
+  entered = ap (has (enters s.0)) did_so
+      ∙ has-second (enters s.0) own (Enter s None ∷ begins.later)
+      (ap (λ b. b || has (enters s.0) begins.later) (eq-eqb s.0 s.0 refl));
+  settled = λ i. ap (λ acts'. owes (clearing_duty s.0 i) (since_entered s.0 acts')) did_so
+      ∙ (ap (owes (clearing_duty s.0 i)) (since_first-append (enters s.0) own (Enter s None ∷ begins.later))
+      ∙ by_test i (has (enters s.0) own) refl);
 }
   where
     begins : BeginsClearing s acts
@@ -116,15 +136,22 @@ finish_closes l n s events own acts legal orderly did run = record {
 
     closer_now : is_closer (state_after events) n s ≡ true
     closer_now = subst (λ evs. is_held_by n ((state_after evs).closer s.0) ≡ true) (sym cut.parts)
-        (permanent_stands l cut.past (event_of n (Enter s None) ∷ cut.later) (subst (IsLegal l) cut.parts legal) (selector_closed_by s n)
+        (permanent_stands l cut.past (event_of n (Enter s None) ∷ cut.later) (subst (IsLegal l) cut.parts legal)
+        (selector_closed_by s n)
         (legal.steps cut.past (event_of n (Enter s None)) cut.later cut.parts).condition.1)
 
     by_test : (i : ℕ) (b : Bool) → has (enters s.0) own ≡ b
-        → owes (clearing_duty s.0 i) (if b then since_first (enters s.0) own ++ Enter s None ∷ begins.later else since_first (enters s.0) (Enter s None ∷ begins.later)) ≡ false
+        → owes (clearing_duty s.0 i)
+        (if b then since_first (enters s.0) own ++ Enter s None ∷ begins.later
+        else since_first (enters s.0) (Enter s None ∷ begins.later)) ≡ false
     by_test i false none =
-        ap (λ b. owes (clearing_duty s.0 i) (if b then begins.later else since_first (enters s.0) begins.later)) (eq-eqb s.0 s.0 refl)
-        ∙ enter_settled s begins.later ((run_is_kept l (try_finish s closed) acts run).enters [] s begins.later begins.parts) i
-    by_test i true entered = owes-settled (clearing_duty s.0 i) since (Enter s None ∷ begins.later) (settled_before s since acts (begins.later ++ more) kept i)
+        ap (λ b. owes (clearing_duty s.0 i) (if b then begins.later else since_first (enters s.0) begins.later))
+        (eq-eqb s.0 s.0 refl)
+        ∙ enter_settled s begins.later
+        ((run_is_kept l (try_finish s closed) acts run).enters [] s begins.later begins.parts) i
+    by_test i true entered =
+        owes-settled (clearing_duty s.0 i) since (Enter s None ∷ begins.later)
+        (settled_before s since acts (begins.later ++ more) kept i)
       where
         since : List Act
         since = since_first (enters s.0) own
@@ -148,11 +175,13 @@ finish_closes l n s events own acts legal orderly did run = record {
         parts =
             ap (λ xs. xs ++ more) did_so
             ∙ (append_assoc own (Enter s None ∷ begins.later) more
-            ∙ (ap (λ xs. xs ++ Enter s None ∷ (begins.later ++ more)) (first.parts ∙ ap (λ act. first.before ++ act ∷ since) entered_it)
+            ∙ (ap (λ xs. xs ++ Enter s None ∷ (begins.later ++ more))
+            (first.parts ∙ ap (λ act. first.before ++ act ∷ since) entered_it)
             ∙ append_assoc first.before (Enter s None ∷ since) (Enter s None ∷ (begins.later ++ more))))
 
         kept : EnterKept s (since ++ Enter s None ∷ (begins.later ++ more))
-        kept = (made_is_kept l (mine n events ++ more) (orderly n).whole).enters first.before s (since ++ Enter s None ∷ (begins.later ++ more)) parts
+        kept = (made_is_kept l (mine n events ++ more) (orderly n).whole).enters first.before s
+            (since ++ Enter s None ∷ (begins.later ++ more)) parts
 
 pub no_key_after_finish : NoKeyAfterFinish
 no_key_after_finish l n s before after own acts fit goes_on legal orderly did run =
@@ -161,13 +190,17 @@ no_key_after_finish l n s before after own acts fit goes_on legal orderly did ru
     (beginnings_are_orderly l before goes_on.0 (subst (IsOrderly l) (sym goes_on.1) orderly)) did run)
 
 pub no_key_after_close : NoKeyAfterClose
-no_key_after_close l n s before after own acts fit goes_on legal orderly did both = by_reply both.middle both.runs_second
+no_key_after_close l n s before after own acts fit goes_on legal orderly did both =
+    by_reply both.middle both.runs_second
   where
-    by_reply : (middle : ShutReply) → ClosesRest s middle both.second true → (i : ℕ) → is_valid ((state_after after).key s.0 i) ≡ false
+    by_reply : (middle : ShutReply) → ClosesRest s middle both.second true → (i : ℕ)
+        → is_valid ((state_after after).key s.0 i) ≡ false
     by_reply already_closed second = absurd (cc second.0)
     by_reply closing second =
         let last = second.1.last in
         let parts = did ∙ (ap (λ xs. own ++ xs) both.parts ∙ (ap (λ xs. own ++ (both.first ++ xs)) second.1.parts
-        ∙ (ap (λ xs. own ++ xs) (sym (append_assoc both.first second.1.before last.acts)) ∙ sym (append_assoc own (both.first ++ second.1.before) last.acts)))) in
-        no_key_after_finish l n s before after (own ++ (both.first ++ second.1.before)) last.acts fit goes_on legal orderly parts
+        ∙ (ap (λ xs. own ++ xs) (sym (append_assoc both.first second.1.before last.acts))
+        ∙ sym (append_assoc own (both.first ++ second.1.before) last.acts)))) in
+        no_key_after_finish l n s before after (own ++ (both.first ++ second.1.before)) last.acts fit goes_on legal
+        orderly parts
         (subst (Completes (try_finish_plan s) last.acts) second.1.answers second.1.made)

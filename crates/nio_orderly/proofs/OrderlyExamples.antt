@@ -1,5 +1,6 @@
 -- The histories of whole calls, and of steps that no calls make, by computing.
-use Rattle.std.proofs.Common.{◌≡◌, ℕ, ◌<◌, true, false, Ok, List, [], ◌∷◌, ◌++◌, take, drop, append_assoc, refl, sym, subst, arith, lit<, lit≤}
+use Rattle.std.proofs.Common.{◌≡◌, ℕ, ◌<◌, true, false, Ok, List, [], ◌∷◌, ◌++◌, take, drop, append_assoc, refl, sym}
+use Rattle.std.proofs.Common.{subst, arith, lit<, lit≤}
 use Rattle.std.proofs.lemmas.List.{append-nil}
 use Rattle.nio_base.specs.declared.kind.Kind.TheVariants.{Source}
 use Rattle.nio_base.specs.declared.limits.Limits.{Limits}
@@ -13,10 +14,13 @@ use Rattle.nio_orderly.proofs.CallLists.{run_one}
 use Rattle.nio_orderly.proofs.Examples.{for_each_caller, cancellation_is_lost}
 use Rattle.nio_orderly.proofs.OrderlyCare.{orderly_is_careful}
 use Rattle.nio_orderly.specs.Examples.{unnoted_key}
-use Rattle.nio_orderly.specs.Made.{Made, IsRun, draw, open_selector, open_channel, try_set_blocking, try_register, close_channel}
-use Rattle.nio_orderly.specs.OrderlyExamples.{closed_in_registration, its_key, calls_of_u, calls_of_v, ClosedInRegistration, StepsOfNoCalls}
+use Rattle.nio_orderly.specs.Made.{Made, IsRun, draw, open_selector, open_channel, try_set_blocking, try_register}
+use Rattle.nio_orderly.specs.Made.{close_channel}
+use Rattle.nio_orderly.specs.OrderlyExamples.{closed_in_registration, its_key, calls_of_u, calls_of_v}
+use Rattle.nio_orderly.specs.OrderlyExamples.{ClosedInRegistration, StepsOfNoCalls}
 use Rattle.nio_orderly.specs.Orderly.{AreRuns, AreCallsOf, HasMadeCalls}
-use Rattle.nio_steps.specs.ChannelCalls.{open_channel_plan, try_set_blocking_plan, try_register_plan, close_channel_plan}
+use Rattle.nio_steps.specs.ChannelCalls.{open_channel_plan, try_set_blocking_plan, try_register_plan}
+use Rattle.nio_steps.specs.ChannelCalls.{close_channel_plan}
 use Rattle.nio_steps.specs.KeyCalls.{cancel_plan}
 use Rattle.nio_steps.specs.SelectCalls.{open_selector_plan}
 use Rattle.nio_steps.specs.Sweeps.{sweep, seek}
@@ -26,10 +30,12 @@ abbrev AreSteps : Limits → List Event → List Event → Type 0
 AreSteps l past [] = Unit {0}
 AreSteps l past (e ∷ later) = IsStep l past e × AreSteps l (past ++ e ∷ []) later
 
-legal_by_steps : (l : Limits) (past later : List Event) → IsLegal l past → AreSteps l past later → IsLegal l (past ++ later)
+legal_by_steps : (l : Limits) (past later : List Event) → IsLegal l past → AreSteps l past later
+    → IsLegal l (past ++ later)
 legal_by_steps l past [] legal steps = subst (IsLegal l) (sym (append-nil past)) legal
 legal_by_steps l past (e ∷ later) legal steps =
-    subst (IsLegal l) (append_assoc past (e ∷ []) later) (legal_by_steps l (past ++ e ∷ []) later (legal_more l past e legal steps.0) steps.1)
+    subst (IsLegal l) (append_assoc past (e ∷ []) later)
+    (legal_by_steps l (past ++ e ∷ []) later (legal_more l past e legal steps.0) steps.1)
 
 below_one : (P : ℕ → Type 0) → P 0 → (n : ℕ) → n < 1 → P n
 below_one P first n below =
@@ -50,7 +56,12 @@ its_steps =
     record { by_caller = lit< tt; condition = lit< tt; answers = refl } ▸
     record { by_caller = lit< tt; condition = tt; answers = refl } ▸
     record { by_caller = lit< tt; condition = (lit< tt, λ n below. absurd (omega arith)); answers = refl } ▸
-    record { by_caller = lit< tt; condition = (lit≤ tt, below_one (λ k. ((state_after (take 5 closed_in_registration)).chan k).made ≡ true) refl); answers = refl } ▸
+    record {
+      by_caller = lit< tt;
+      condition =
+          (lit≤ tt, below_one (λ k. ((state_after (take 5 closed_in_registration)).chan k).made ≡ true) refl);
+      answers = refl;
+    } ▸
     -- it sets non-blocking mode
     record { by_caller = lit< tt; condition = lit< tt; answers = refl } ▸
     record { by_caller = lit< tt; condition = (lit< tt, refl); answers = refl } ▸
@@ -64,8 +75,21 @@ its_steps =
     record { by_caller = lit< tt; condition = (lit< tt, lit< tt); answers = refl } ▸
     record { by_caller = lit< tt; condition = lit< tt; answers = refl } ▸
     record { by_caller = lit< tt; condition = lit< tt; answers = refl } ▸
-    record { by_caller = lit< tt; condition = ((lit< tt, lit< tt), lit< tt, refl, λ n below. absurd (omega arith)); answers = refl } ▸
-    record { by_caller = lit< tt; condition = (lit< tt, lit≤ tt, below_one (λ k. ((state_after (take 18 closed_in_registration)).key 0 k).claimed ≡ true) refl); answers = refl } ▸
+    record {
+      by_caller = lit< tt;
+      condition = ((lit< tt, lit< tt), lit< tt, refl, λ n below. absurd (omega arith));
+      answers = refl;
+    } ▸
+    record {
+      by_caller = lit< tt;
+      condition = (
+        lit< tt,
+        lit≤ tt,
+        below_one (λ k. ((state_after (take 18 closed_in_registration)).key 0 k).claimed ≡ true)
+            refl,
+      );
+      answers = refl;
+    } ▸
     record { by_caller = lit< tt; condition = lit< tt; answers = refl } ▸
     record { by_caller = lit< tt; condition = ((lit< tt, lit< tt), refl); answers = refl } ▸
     record { by_caller = lit< tt; condition = ((lit< tt, lit< tt), refl); answers = refl } ▸
@@ -86,8 +110,10 @@ its_steps =
 
 -- ---- the calls
 
-next_call : (l : Limits) (call : Made) (calls : List Made) (xs ys : List Act) → IsRun l call xs → AreRuns l calls ys → AreRuns l (call ∷ calls) (xs ++ ys)
-next_call l call calls xs ys run later = record { first = xs; second = ys; parts = refl; is_first = run; is_second = later }
+next_call : (l : Limits) (call : Made) (calls : List Made) (xs ys : List Act) → IsRun l call xs → AreRuns l calls ys
+    → AreRuns l (call ∷ calls) (xs ++ ys)
+next_call l call calls xs ys run later =
+    record { first = xs; second = ys; parts = refl; is_first = run; is_second = later }
 
 abbrev own_u : List Act
 own_u = mine u closed_in_registration
@@ -109,7 +135,9 @@ sets_blocking = refl ▸ refl ▸ refl ▸ refl ▸ refl ▸ refl
 
 registers : IsRun small_limits (try_register s c 1 7 (Ok its_key)) (drop 10 own_u)
 unfolding try_register_plan seek
-registers = refl ▸ refl ▸ refl ▸ refl ▸ refl ▸ refl ▸ refl ▸ refl ▸ refl ▸ refl ▸ refl ▸ refl ▸ refl ▸ refl ▸ refl ▸ refl ▸ refl ▸ refl
+registers =
+    refl ▸ refl ▸ refl ▸ refl ▸ refl ▸ refl ▸ refl ▸ refl ▸ refl ▸ refl ▸ refl ▸ refl ▸ refl ▸ refl ▸ refl ▸ refl ▸ refl
+    ▸ refl
 
 closes_channel : IsRun small_limits (close_channel c true) (drop 1 own_v)
 unfolding close_channel_plan cancel_plan sweep
@@ -118,13 +146,17 @@ closes_channel = refl ▸ refl ▸ refl ▸ refl ▸ refl ▸ refl
 runs_u : AreRuns small_limits calls_of_u own_u
 runs_u =
     next_call small_limits (draw u) (drop 1 calls_of_u) (take 1 own_u) (drop 1 own_u) refl
-    (next_call small_limits (open_selector (Ok s)) (drop 2 calls_of_u) (take 1 (drop 1 own_u)) (drop 2 own_u) opens_selector
-    (next_call small_limits (open_channel Source (Ok c)) (drop 3 calls_of_u) (take 3 (drop 2 own_u)) (drop 5 own_u) opens_channel
-    (next_call small_limits (try_set_blocking c false (Ok tt)) (drop 4 calls_of_u) (take 5 (drop 5 own_u)) (drop 10 own_u) sets_blocking
+    (next_call small_limits (open_selector (Ok s)) (drop 2 calls_of_u) (take 1 (drop 1 own_u))
+    (drop 2 own_u) opens_selector
+    (next_call small_limits (open_channel Source (Ok c)) (drop 3 calls_of_u) (take 3 (drop 2 own_u))
+    (drop 5 own_u) opens_channel
+    (next_call small_limits (try_set_blocking c false (Ok tt)) (drop 4 calls_of_u) (take 5 (drop 5 own_u))
+    (drop 10 own_u) sets_blocking
     (run_one small_limits (try_register s c 1 7 (Ok its_key)) (drop 10 own_u) registers))))
 
 runs_v : AreRuns small_limits calls_of_v own_v
-runs_v = next_call small_limits (draw v) (drop 1 calls_of_v) (take 1 own_v) (drop 1 own_v) refl (run_one small_limits (close_channel c true) (drop 1 own_v) closes_channel)
+runs_v = next_call small_limits (draw v) (drop 1 calls_of_v) (take 1 own_v) (drop 1 own_v) refl
+    (run_one small_limits (close_channel c true) (drop 1 own_v) closes_channel)
 
 calls_u : AreCallsOf small_limits own_u calls_of_u
 calls_u = record { runs = runs_u; in_order = tt ▸ tt ▸ tt ▸ tt ▸ tt ▸ tt }

@@ -1,5 +1,6 @@
 -- Nothing is lost: the debts stand in every legal and careful history.
-use Rattle.std.proofs.Common.{◌≡◌, ℕ, true, false, not, inl, Option, Some, None, is_some, List, refl, ap, sym, ◌∙◌, subst}
+use Rattle.std.proofs.Common.{◌≡◌, ℕ, true, false, not, inl, Option, Some, None, is_some, List, refl, ap, sym, ◌∙◌}
+use Rattle.std.proofs.Common.{subst}
 use Rattle.std.proofs.lemmas.Bool.{and_parts}
 use Rattle.nio_base.specs.declared.numbers.CallerNo.{CallerNo}
 use Rattle.nio_event.proofs.Soundness.{legal-sound}
@@ -17,7 +18,8 @@ use Rattle.nio_orderly.proofs.Standing.{shut_closer}
 use Rattle.nio_orderly.specs.Owed.{owes, clearing_duty, OwesClearing, NothingIsLost}
 
 -- a valid key is published and isn't removed
-pub valid_coming : (events : List Event) (s i : ℕ) → is_valid ((state_after events).key s i) ≡ true → IsComing events s i
+pub valid_coming : (events : List Event) (s i : ℕ) → is_valid ((state_after events).key s i) ≡ true
+    → IsComing events s i
 valid_coming events s i valid =
     let k : Stage = (state_after events).key s i in
     let set = (and_parts (in_key_set k) (not k.cancelled) valid).0 in
@@ -27,14 +29,16 @@ valid_coming events s i valid =
 pub nothing_is_lost : NothingIsLost
 nothing_is_lost l events fit legal careful = record {
   channels = cancelling_owed l fit events legal careful;
-  selectors = λ s i valid shut. by_closer s i valid ((state_after events).closer s) refl (shut_closer l events legal s shut);
+  selectors = λ s i valid shut. by_closer s i valid ((state_after events).closer s) refl
+      (shut_closer l events legal s shut);
   turns = (legal-sound l events legal).begun_turn;
   not_entered = (legal-sound l events legal).begun_open;
   modes = λ c registered. subst (λ (m : ℕ). ((state_after events).chan m).blocking ≡ false) registered.of_channel
       ((keys_stand l fit events legal careful).unblocked registered.selector registered.index registered.in_set);
 }
   where
-    by_closer : (s i : ℕ) → is_valid ((state_after events).key s i) ≡ true → (o : Option CallerNo) → (state_after events).closer s ≡ o → is_some ((state_after events).closer s) ≡ true
+    by_closer : (s i : ℕ) → is_valid ((state_after events).key s i) ≡ true → (o : Option CallerNo)
+        → (state_after events).closer s ≡ o → is_some ((state_after events).closer s) ≡ true
         → OwesClearing events s i
     by_closer s i valid None none some =
         let clash : false ≡ true = sym (ap is_some none) ∙ some in
@@ -42,6 +46,7 @@ nothing_is_lost l events fit legal careful = record {
     by_closer s i valid (Some n) closer some = record {
       closer = n;
       is_closer = closer;
-      owing = or_right (not ((state_after events).entered s)) (owes (clearing_duty s i) (since_entered s (mine n events)))
+      owing = or_right (not ((state_after events).entered s))
+          (owes (clearing_duty s i) (since_entered s (mine n events)))
           (clearing_owed l fit events legal careful s i n closer (valid_coming events s i valid));
     }

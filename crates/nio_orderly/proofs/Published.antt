@@ -1,6 +1,7 @@
 -- A publish in a legal and careful history: its key is the one that is noted for its channel, its channel is
 -- non-blocking, and it is prepared.
-use Rattle.std.proofs.Common.{◌≡◌, ℕ, ◌==◌, ◌+◌, Bool, true, false, cond, not, ◌&&◌, ◌⊎◌, inl, inr, Option, Some, None, List, [], ◌∷◌, ◌++◌, refl, ap, sym, ◌∙◌, subst, eqb-true, arith}
+use Rattle.std.proofs.Common.{◌≡◌, ℕ, ◌==◌, ◌+◌, Bool, true, false, cond, not, ◌&&◌, ◌⊎◌, inl, inr, Option, Some, None}
+use Rattle.std.proofs.Common.{List, [], ◌∷◌, ◌++◌, refl, ap, sym, ◌∙◌, subst, eqb-true, arith}
 use Rattle.std.proofs.lemmas.Bool.{and_parts}
 use Rattle.nio_base.specs.Limits.{IsFit}
 use Rattle.nio_base.specs.declared.limits.Limits.{Limits}
@@ -46,14 +47,17 @@ pub record IsPublish (c s : ℕ) (k : KeyId) (act : Act) : Type 0 where
 
 pub is_publish : (c s : ℕ) (k : KeyId) (act : Act) → publishes_key c s k act ≡ true → IsPublish c s k act
 is_publish c s k (Publish s' i' found) told =
-    let six = and_parts ((s'.0 == s) && (i' == k.index) && (found.chan.0 == c) && (found.serial == k.serial) && not found.published) (not found.removed) told in
-    let five = and_parts ((s'.0 == s) && (i' == k.index) && (found.chan.0 == c) && (found.serial == k.serial)) (not found.published) six.0 in
+    let six = and_parts ((s'.0 == s) && (i' == k.index) && (found.chan.0 == c) && (found.serial == k.serial)
+    && not found.published) (not found.removed) told in
+    let five = and_parts ((s'.0 == s) && (i' == k.index) && (found.chan.0 == c) && (found.serial == k.serial))
+    (not found.published) six.0 in
     let four = and_parts ((s'.0 == s) && (i' == k.index) && (found.chan.0 == c)) (found.serial == k.serial) five.0 in
     let three = and_parts ((s'.0 == s) && (i' == k.index)) (found.chan.0 == c) four.0 in
     let two = and_parts (s'.0 == s) (i' == k.index) three.0 in
     record {
       found = found;
-      is = ap (λ (m : ℕ). Publish (record { 0 = m }) i' found) (eqb-true s'.0 s two.0) ∙ ap (λ (j : ℕ). Publish (record { 0 = s }) j found) (eqb-true i' k.index two.1);
+      is = ap (λ (m : ℕ). Publish (record { 0 = m }) i' found) (eqb-true s'.0 s two.0)
+          ∙ ap (λ (j : ℕ). Publish (record { 0 = s }) j found) (eqb-true i' k.index two.1);
       channel = eqb-true found.chan.0 c three.1;
       serial = eqb-true found.serial k.serial four.1;
       unpublished = is_false found.published five.1;
@@ -63,29 +67,36 @@ is_publish c s k act told = absurd (cc told)
 
 -- ---- the noted key
 
-pub noted_other : (st : State) (me : CallerNo) (act : Act) (c s : ℕ) (o : Option KeyId) → notes_key c s act ≡ false → st.noted c s ≡ o → (effect st me act).noted c s ≡ o
+pub noted_other : (st : State) (me : CallerNo) (act : Act) (c s : ℕ) (o : Option KeyId) → notes_key c s act ≡ false
+    → st.noted c s ≡ o → (effect st me act).noted c s ≡ o
 noted_other st me (Enrol c' s' i serial found) c s o spared = λ now.
     put_at_keeps (λ m t x. ((c'.0 == m) && (s'.0 == t)) ≡ false → x ≡ o) st.noted c'.0 s'.0 _
-    (λ _ spared'. absurd (both_ways ((c'.0 == c'.0) && (s'.0 == s'.0)) (same_two c'.0 s'.0) spared')) c s (λ _. now) spared
+    (λ _ spared'. absurd (both_ways ((c'.0 == c'.0) && (s'.0 == s'.0)) (same_two c'.0 s'.0) spared')) c s
+    (λ _. now) spared
 noted_other st me act c s o spared = λ now. now
 
-noted_by_holder : (l : Limits) (own : List Act) (st : State) (me n : CallerNo) (act : Act) (c s : ℕ) (o : Option KeyId) → Condition l own st me act
+noted_by_holder : (l : Limits) (own : List Act) (st : State) (me n : CallerNo) (act : Act) (c s : ℕ) (o : Option KeyId)
+    → Condition l own st me act
     → is_held_by n (st.hold c) ≡ true → (me.0 == n.0) ≡ false → st.noted c s ≡ o → (effect st me act).noted c s ≡ o
 noted_by_holder l own st me n (Enrol k s' i serial found) c s o may held other = λ now.
     put_at_keeps (λ m t x. is_held_by n (st.hold m) ≡ true → x ≡ o) st.noted k.0 s'.0 _
-    (λ _ held'. absurd (spares_not me n true (one_holder me n (st.hold k.0) may.3 held') refl (ap (λ b. b && true) other))) c s (λ _. now) held
+    (λ _ held'. absurd
+    (spares_not me n true (one_holder me n (st.hold k.0) may.3 held') refl (ap (λ b. b && true) other))) c s
+    (λ _. now) held
 noted_by_holder l own st me n act c s o may held other = λ now. now
 
 not_for_not_there : (c s : ℕ) (act : Act) → notes_for c act ≡ false → notes_key c s act ≡ false
 not_for_not_there c s (Enrol c' s' i serial found) none = ap (λ b. b && (s'.0 == s)) none
 not_for_not_there c s act none = refl
 
-key_noted : (st : State) (me : CallerNo) (act : Act) (c s i q : ℕ) → notes_this_key c s i q act ≡ true → (effect st me act).noted c s ≡ Some (record { index = i; serial = q })
+key_noted : (st : State) (me : CallerNo) (act : Act) (c s i q : ℕ) → notes_this_key c s i q act ≡ true
+    → (effect st me act).noted c s ≡ Some (record { index = i; serial = q })
 key_noted st me (Enrol c' s' i' serial found) c s i q told =
     let four = and_parts ((c'.0 == c) && (s'.0 == s) && (i' == i)) (serial == q) told in
     let three = and_parts ((c'.0 == c) && (s'.0 == s)) (i' == i) four.0 in
     put_at-there st.noted c'.0 s'.0 (Some (key i' serial)) c s three.0
-    ∙ (ap (λ (j : ℕ). Some (key j serial)) (eqb-true i' i three.1) ∙ ap (λ (r : ℕ). Some (key i r)) (eqb-true serial q four.1))
+    ∙ (ap (λ (j : ℕ). Some (key j serial)) (eqb-true i' i three.1)
+    ∙ ap (λ (r : ℕ). Some (key i r)) (eqb-true serial q four.1))
   where
     key : ℕ → ℕ → KeyId
     key j r = record { index = j; serial = r }
@@ -96,12 +107,16 @@ no_such [] = refl
 no_such (act ∷ own) = no_such own
 
 -- under its hold a caller noted this key and no other for the channel: so it is noted
-pub noted_under : (l : Limits) (n : CallerNo) (c : ChanNo) (s i q : ℕ) (events : List Event) → IsLegal l events → is_held_by n ((state_after events).hold c.0) ≡ true
-    → count (notes_for c.0) (under c.0 (mine n events)) ≡ 1 → has (notes_this_key c.0 s i q) (under c.0 (mine n events)) ≡ true
+pub noted_under : (l : Limits) (n : CallerNo) (c : ChanNo) (s i q : ℕ) (events : List Event) → IsLegal l events
+    → is_held_by n ((state_after events).hold c.0) ≡ true
+    → count (notes_for c.0) (under c.0 (mine n events)) ≡ 1
+    → has (notes_this_key c.0 s i q) (under c.0 (mine n events)) ≡ true
     → (state_after events).noted c.0 s ≡ Some (record { index = i; serial = q })
 noted_under l n c s i q events legal held once had =
     let since = held_since l n c events legal held in
-    let known = knows_while l n (the_hold c) (λ _. false) Knows own_step other_step since.before since.later since.keeps (no_such (mine n since.later)) (λ one. absurd cc)
+    let known =
+    knows_while l n (the_hold c) (λ _. false) Knows own_step other_step since.before since.later since.keeps
+    (no_such (mine n since.later)) (λ one. absurd cc)
     (sym (ap (count (notes_for c.0)) since.own) ∙ once) (sym (ap (has (notes_this_key c.0 s i q)) since.own) ∙ had) in
     subst (λ evs. (state_after evs).noted c.0 s ≡ key) (sym since.whole) known
   where
@@ -111,20 +126,25 @@ noted_under l n c s i q events legal held once had =
     Knows : List Act → State → Type 0
     Knows did st = count (notes_for c.0) did ≡ 1 → has (notes_this_key c.0 s i q) did ≡ true → st.noted c.0 s ≡ key
 
-    other_step : (past : List Event) (e : Event) → IsLegal l past → IsStep l past e → is_held_by n ((state_after past).hold c.0) ≡ true → (e.caller.0 == n.0) ≡ false
+    other_step : (past : List Event) (e : Event) → IsLegal l past → IsStep l past e
+        → is_held_by n ((state_after past).hold c.0) ≡ true → (e.caller.0 == n.0) ≡ false
         → (did : List Act) → Knows did (state_after past) → Knows did (effect (state_after past) e.caller e.act)
     other_step past e legal' step had' by did knew one some =
-        noted_by_holder l (mine e.caller past) (state_after past) e.caller n e.act c.0 s key step.condition had' by (knew one some)
+        noted_by_holder l (mine e.caller past) (state_after past) e.caller n e.act c.0 s key step.condition had' by
+        (knew one some)
 
-    own_step : (past : List Event) (e : Event) → IsLegal l past → IsStep l past e → is_held_by n ((state_after past).hold c.0) ≡ true → (e.caller.0 == n.0) ≡ true → false ≡ false
-        → (did : List Act) → Knows did (state_after past) → Knows (did ++ e.act ∷ []) (effect (state_after past) e.caller e.act)
+    own_step : (past : List Event) (e : Event) → IsLegal l past → IsStep l past e
+        → is_held_by n ((state_after past).hold c.0) ≡ true → (e.caller.0 == n.0) ≡ true → false ≡ false
+        → (did : List Act) → Knows did (state_after past)
+        → Knows (did ++ e.act ∷ []) (effect (state_after past) e.caller e.act)
     own_step past e legal' step had' by spared did knew one some = by_note (notes_for c.0 e.act) refl
       where
         more : count (notes_for c.0) did + cond (notes_for c.0 e.act) 1 0 ≡ 1
         more = sym (count-more (notes_for c.0) did e.act) ∙ one
 
         had_or : (has (notes_this_key c.0 s i q) did ≡ true) ⊎ (notes_this_key c.0 s i q e.act ≡ true)
-        had_or = either (has (notes_this_key c.0 s i q) did) (notes_this_key c.0 s i q e.act) (sym (has-more (notes_this_key c.0 s i q) did e.act) ∙ some)
+        had_or = either (has (notes_this_key c.0 s i q) did) (notes_this_key c.0 s i q e.act)
+            (sym (has-more (notes_this_key c.0 s i q) did e.act) ∙ some)
 
         by_note : (b : Bool) → notes_for c.0 e.act ≡ b → (effect (state_after past) e.caller e.act).noted c.0 s ≡ key
         by_note true noted = elim had_or [
@@ -137,7 +157,8 @@ noted_under l n c s i q events legal held once had =
         by_note false noted = elim had_or [
           | inl before ↦
               let now : ◌≡◌ {A = ℕ} (cond (notes_for c.0 e.act) 1 0) 0 = ap (λ b. cond b 1 0) noted in
-              noted_other (state_after past) e.caller e.act c.0 s key (not_for_not_there c.0 s e.act noted) (knew (omega (arith, more, now)) before)
+              noted_other (state_after past) e.caller e.act c.0 s key (not_for_not_there c.0 s e.act noted)
+              (knew (omega (arith, more, now)) before)
           | inr told ↦ absurd (both_ways (notes_for c.0 e.act) (key_noted_for c.0 s i q e.act told) noted)
         ]
 
@@ -158,19 +179,23 @@ pub record MayClaim (st : State) (own : List Act) (me : CallerNo) (claim : Optio
   pub held : holds st me its_claim.channel ≡ true
   pub found : has (finds_unblocked its_claim.channel.0) (under its_claim.channel.0 own) ≡ true
 
-pub may_claim : (st : State) (own : List Act) (me : CallerNo) (claim : Option OwnClaim) → may_publish st own me claim ≡ true → MayClaim st own me claim
+pub may_claim : (st : State) (own : List Act) (me : CallerNo) (claim : Option OwnClaim)
+    → may_publish st own me claim ≡ true → MayClaim st own me claim
 may_claim st own me None may = absurd cc
 may_claim st own me (Some claim) may =
-    let both = and_parts (holds st me claim.channel) (has (finds_unblocked claim.channel.0) (under claim.channel.0 own)) may in
+    let both = and_parts (holds st me claim.channel) (has (finds_unblocked claim.channel.0) (under claim.channel.0 own))
+    may in
     record { its_claim = claim; is = refl; held = both.0; found = both.1 }
 
-pub at_publish : (l : Limits) (past : List Event) (e : Event) → IsFit l → IsLegal l past → IsStep l past e → IsCareful (past ++ e ∷ [])
+pub at_publish : (l : Limits) (past : List Event) (e : Event) → IsFit l → IsLegal l past → IsStep l past e
+    → IsCareful (past ++ e ∷ [])
     → (s i : ℕ) (found : Stage) → e.act ≡ Publish (record { 0 = s }) i found → AtPublish past e.caller s i
 at_publish l past e fit legal step careful s i found publishes = record {
   claim = may.its_claim;
   its = may.is;
   of_claim = (own_claims_stand l e.caller sel i may.its_claim past fit legal may.is).1;
-  noted = noted_under l e.caller may.its_claim.channel s i may.its_claim.serial past legal may.held rules.noted_alone rules.noted;
+  noted = noted_under l e.caller may.its_claim.channel s i may.its_claim.serial past legal may.held rules.noted_alone
+      rules.noted;
   unblocked = holder_knows_mode l e.caller may.its_claim.channel past legal may.held may.found rules.mode;
   prepared = rules.prepared;
 }

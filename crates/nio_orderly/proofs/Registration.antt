@@ -1,5 +1,7 @@
 -- A registration that publishes a key keeps the rules of careful histories, and leaves no key to cancel.
-use Rattle.std.proofs.Common.{◌≡◌, ℕ, zero, suc, ◌+◌, ◌-◌, ◌*◌, ◌==◌, nat_lt, Bool, true, false, not, ◌&&◌, ◌||◌, if◌then◌else◌, Option, Some, None, is_some, Result, Ok, Err, List, [], ◌∷◌, ◌++◌, refl, ap, sym, ◌∙◌, subst, append_assoc, eq-eqb, arith, ◌⊎◌, inl, inr}
+use Rattle.std.proofs.Common.{◌≡◌, ℕ, zero, suc, ◌+◌, ◌-◌, ◌*◌, ◌==◌, nat_lt, Bool, true, false, not, ◌&&◌, ◌||◌}
+use Rattle.std.proofs.Common.{if◌then◌else◌, Option, Some, None, is_some, Result, Ok, Err, List, [], ◌∷◌, ◌++◌, refl}
+use Rattle.std.proofs.Common.{ap, sym, ◌∙◌, subst, append_assoc, eq-eqb, arith, ◌⊎◌, inl, inr}
 use Rattle.std.proofs.lemmas.Bool.{and_parts, lt-ltb}
 use Rattle.std.proofs.lemmas.List.{append-nil}
 use Rattle.nio_base.specs.Kind.{valid_operations}
@@ -10,22 +12,32 @@ use Rattle.nio_base.specs.declared.numbers.KeyNo.{KeyNo}
 use Rattle.nio_base.specs.declared.numbers.SelNo.{SelNo}
 use Rattle.nio_event.proofs.Claims.{claim_after, own_claim-more}
 use Rattle.nio_event.proofs.OneMore.{since_from-more}
-use Rattle.nio_event.specs.OwnEvents.{OwnClaim, has, count, under, since_from, since_first, takes_hold, releases, sets_mode, claim_changed, own_claim}
+use Rattle.nio_event.specs.OwnEvents.{OwnClaim, has, count, under, since_from, since_first, takes_hold, releases}
+use Rattle.nio_event.specs.OwnEvents.{sets_mode, claim_changed, own_claim}
 use Rattle.nio_event.specs.Questions.{Question, Answer, question_of, answer_of}
 use Rattle.nio_event.specs.declared.act.Act.{Act}
-use Rattle.nio_event.specs.declared.act.Act.TheVariants.{LookGate, CancelKey, LookChannel, Claim, RaiseKeys, LookKeys, Publish, Enrol, TryHoldBit, Release, SetMode, CloseBit, Enter, Unpin, ClaimAgain}
+use Rattle.nio_event.specs.declared.act.Act.TheVariants.{LookGate, CancelKey, LookChannel, Claim, RaiseKeys, LookKeys}
+use Rattle.nio_event.specs.declared.act.Act.TheVariants.{Publish, Enrol, TryHoldBit, Release, SetMode, CloseBit, Enter}
+use Rattle.nio_event.specs.declared.act.Act.TheVariants.{Unpin, ClaimAgain}
 use Rattle.nio_event.specs.declared.found.Stage.{Stage}
 use Rattle.nio_orderly.proofs.ActLists.{count-append, owes-settled, since_first_none}
 use Rattle.nio_orderly.proofs.Kept.{PublishKept, Kept, kept-calm, is_loud, first_or_later}
-use Rattle.nio_orderly.proofs.ListWords.{InFirst, InSecond, split_at, has-first, has-second, has-neither, no_such_act, count-none, count-one, since_from-none, since_first-append, until_released-done}
-use Rattle.nio_orderly.specs.Careful.{notes_for, notes_this_key, claims, leaves_below, finds_open, until_released, is_prepared}
+use Rattle.nio_orderly.proofs.ListWords.{InFirst, InSecond, split_at, has-first, has-second, has-neither, no_such_act}
+use Rattle.nio_orderly.proofs.ListWords.{count-none, count-one, since_from-none, since_first-append}
+use Rattle.nio_orderly.proofs.ListWords.{until_released-done}
+use Rattle.nio_orderly.specs.Careful.{notes_for, notes_this_key, claims, leaves_below, finds_open, until_released}
+use Rattle.nio_orderly.specs.Careful.{is_prepared}
 use Rattle.nio_orderly.specs.Owed.{owes, publisher_duty, settles_key}
-use Rattle.nio_steps.specs.ChannelCalls.{under_hold, register_noted, register_over, claim_taken, claim_free, claim_at_bit, claim_in_word, search_free, words_below, claim_new, settle_key, publish_key, make_key, make_claimed, register_first, register_next, register_rest, register_unblocked, register_held, try_register_plan}
+use Rattle.nio_steps.specs.ChannelCalls.{under_hold, register_noted, register_over, claim_taken, claim_free}
+use Rattle.nio_steps.specs.ChannelCalls.{claim_at_bit, claim_in_word, search_free, words_below, claim_new, settle_key}
+use Rattle.nio_steps.specs.ChannelCalls.{publish_key, make_key, make_claimed, register_first, register_next}
+use Rattle.nio_steps.specs.ChannelCalls.{register_rest, register_unblocked, register_held, try_register_plan}
 use Rattle.nio_steps.specs.KeyCalls.{has_bit, is_within}
 use Rattle.nio_steps.specs.Names.{key}
 use Rattle.nio_steps.specs.Plan.{Plan, reply, ask, ◌>>=◌, ◌>>◌, when}
 use Rattle.nio_steps.specs.Runs.{Completes}
-use Rattle.nio_steps.specs.Steps.{flag_in, word_in, gate_in, stage_in, channel_in, number_in, noted_in, holder_in, put_free, cancel_key, unpin, release}
+use Rattle.nio_steps.specs.Steps.{flag_in, word_in, gate_in, stage_in, channel_in, number_in, noted_in, holder_in}
+use Rattle.nio_steps.specs.Steps.{put_free, cancel_key, unpin, release}
 use Rattle.nio_steps.specs.Sweeps.{found_or, seek, seek_to}
 use Rattle.nio_steps.specs.declared.refusal.ChannelError.{ChannelError}
 
@@ -34,21 +46,28 @@ use Rattle.nio_steps.specs.declared.refusal.ChannelError.{ChannelError}
 -- after whatever acts along the plan, `End` holds of what the caller has done by then and of the reply
 abbrev pub Leads : {R : Type 0} → (List Act → R → Type 0) → List Act → Plan R → Type 0
 Leads End own (reply r) = End own r
-Leads End own (ask question next) = (act : Act) → question_of act ≡ question → Leads End (own ++ act ∷ []) (next (answer_of act))
+Leads End own (ask question next) = (act : Act) → question_of act ≡ question
+    → Leads End (own ++ act ∷ []) (next (answer_of act))
 
-pub leads_run : {R : Type 0} (End : List Act → R → Type 0) (own : List Act) (plan : Plan R) (acts : List Act) (r : R) → Leads End own plan → Completes plan acts r → End (own ++ acts) r
-leads_run End own (reply a) [] r here run = let same : a ≡ r = cc run in subst (λ xs. End xs r) (sym (append-nil own)) (subst (End own) same here)
+pub leads_run : {R : Type 0} (End : List Act → R → Type 0) (own : List Act) (plan : Plan R) (acts : List Act) (r : R)
+    → Leads End own plan → Completes plan acts r → End (own ++ acts) r
+leads_run End own (reply a) [] r here run = let same : a ≡ r =
+    cc run in subst (λ xs. End xs r) (sym (append-nil own)) (subst (End own) same here)
 leads_run End own (reply a) (act ∷ acts) r here run = absurd run
 leads_run End own (ask q next) [] r here run = absurd (cc run)
 leads_run End own (ask q next) (act ∷ acts) r here run =
-    subst (λ xs. End xs r) (append_assoc own (act ∷ []) acts) (leads_run End (own ++ act ∷ []) (next (answer_of act)) acts r (here act run.0) run.1)
+    subst (λ xs. End xs r) (append_assoc own (act ∷ []) acts)
+    (leads_run End (own ++ act ∷ []) (next (answer_of act)) acts r (here act run.0) run.1)
 
-pub leads_bind : {A B : Type 0} (Mid : List Act → A → Type 0) (End : List Act → B → Type 0) (own : List Act) (plan : Plan A) (f : A → Plan B)
+pub leads_bind : {A B : Type 0} (Mid : List Act → A → Type 0) (End : List Act → B → Type 0) (own : List Act)
+    (plan : Plan A) (f : A → Plan B)
     → Leads Mid own plan → ((own' : List Act) (a : A) → Mid own' a → Leads End own' (f a)) → Leads End own (plan >>= f)
 leads_bind Mid End own (reply a) f here later = later own a here
-leads_bind Mid End own (ask q next) f here later = λ act asks. leads_bind Mid End (own ++ act ∷ []) (next (answer_of act)) f (here act asks) later
+leads_bind Mid End own (ask q next) f here later =
+    λ act asks. leads_bind Mid End (own ++ act ∷ []) (next (answer_of act)) f (here act asks) later
 
-pub leads_if : {R : Type 0} (End : List Act → R → Type 0) (own : List Act) (b : Bool) (x y : Plan R) → (b ≡ true → Leads End own x) → (b ≡ false → Leads End own y) → Leads End own (if b then x else y)
+pub leads_if : {R : Type 0} (End : List Act → R → Type 0) (own : List Act) (b : Bool) (x y : Plan R)
+    → (b ≡ true → Leads End own x) → (b ≡ false → Leads End own y) → Leads End own (if b then x else y)
 leads_if End own true x y this that = this refl
 leads_if End own false x y this that = that refl
 
@@ -57,8 +76,10 @@ abbrev pub Here : {A : Type 0} → (List Act → Type 0) → (List Act → A →
 Here Before Found own None = Before own
 Here Before Found own (Some x) = Found own x
 
-leads_tries : {A : Type 0} (Before : List Act → Type 0) (Found : List Act → A → Type 0) (n i : ℕ) (own : List Act) (f : ℕ → Plan (Option A))
-    → ((k : ℕ) (own' : List Act) → Before own' → Leads (Here Before Found) own' (f k)) → Before own → Leads (Here Before Found) own (seek n i f)
+leads_tries : {A : Type 0} (Before : List Act → Type 0) (Found : List Act → A → Type 0) (n i : ℕ) (own : List Act)
+    (f : ℕ → Plan (Option A))
+    → ((k : ℕ) (own' : List Act) → Before own' → Leads (Here Before Found) own' (f k)) → Before own
+    → Leads (Here Before Found) own (seek n i f)
 unfolding seek
 leads_tries Before Found zero i own f each here = here
 leads_tries {A = A} Before Found (suc n) i own f each here =
@@ -66,12 +87,15 @@ leads_tries {A = A} Before Found (suc n) i own f each here =
     (by_found (λ own' before. leads_tries Before Found n (i + 1) own' f each before))
   where
     by_found : ((own' : List Act) → Before own' → Leads (Here Before Found) own' (seek n (i + 1) f))
-        → (own' : List Act) (x : Option A) → Here Before Found own' x → Leads (Here Before Found) own' (found_or (seek n (i + 1) f) x)
+        → (own' : List Act) (x : Option A) → Here Before Found own' x
+        → Leads (Here Before Found) own' (found_or (seek n (i + 1) f) x)
     by_found later own' (Some x) found = found
     by_found later own' None before = later own' before
 
-pub leads_seek : {A : Type 0} (Before : List Act → Type 0) (Found : List Act → A → Type 0) (b i : ℕ) (own : List Act) (f : ℕ → Plan (Option A))
-    → ((k : ℕ) (own' : List Act) → Before own' → Leads (Here Before Found) own' (f k)) → Before own → Leads (Here Before Found) own (seek_to b i f)
+pub leads_seek : {A : Type 0} (Before : List Act → Type 0) (Found : List Act → A → Type 0) (b i : ℕ) (own : List Act)
+    (f : ℕ → Plan (Option A))
+    → ((k : ℕ) (own' : List Act) → Before own' → Leads (Here Before Found) own' (f k)) → Before own
+    → Leads (Here Before Found) own (seek_to b i f)
 leads_seek Before Found b i own f each here = leads_tries Before Found (b - i) i own f each here
 
 -- ---- before a key is noted
@@ -114,11 +138,17 @@ quiet-append c xs ys first second = record {
   calm = has-neither is_loud xs ys first.calm second.calm;
 }
 
-quiet-more : (c : ChanNo) (own : List Act) (act : Act) → still (question_of act) ≡ true → Quiet c own → Quiet c (own ++ act ∷ [])
+quiet-more : (c : ChanNo) (own : List Act) (act : Act) → still (question_of act) ≡ true → Quiet c own
+    → Quiet c (own ++ act ∷ [])
 quiet-more c own act is before = quiet-append c own (act ∷ []) before (quiet-one c act is)
 
-holding-more : (c : ChanNo) (own : List Act) (act : Act) → still (question_of act) ≡ true → Holding c own → Holding c (own ++ act ∷ [])
-holding-more c own act is before = record { held = has-first (takes_hold c.0) own (act ∷ []) before.held; quiet = quiet-more c own act is before.quiet }
+holding-more : (c : ChanNo) (own : List Act) (act : Act) → still (question_of act) ≡ true → Holding c own
+    → Holding c (own ++ act ∷ [])
+holding-more c own act is before =
+    record {
+      held = has-first (takes_hold c.0) own (act ∷ []) before.held;
+      quiet = quiet-more c own act is before.quiet;
+    }
 
 -- ---- plans that leave it so
 
@@ -128,19 +158,24 @@ record Stays (c : ChanNo) {R : Type 0} (plan : Plan R) : Type 0 where
 stays_reply : {R : Type 0} {c : ChanNo} (r : R) → Stays c (reply r)
 stays_reply r = record { leads = λ own here. here }
 
-stays_ask : {R : Type 0} {c : ChanNo} (question : Question) (next : Answer → Plan R) → still question ≡ true → ((answer : Answer) → Stays c (next answer)) → Stays c (ask question next)
+stays_ask : {R : Type 0} {c : ChanNo} (question : Question) (next : Answer → Plan R) → still question ≡ true
+    → ((answer : Answer) → Stays c (next answer)) → Stays c (ask question next)
 stays_ask {c = c} question next is later = record {
-  leads = λ own here act asks. (later (answer_of act)).leads (own ++ act ∷ []) (holding-more c own act (ap still asks ∙ is) here);
+  leads = λ own here act asks. (later (answer_of act)).leads (own ++ act ∷ [])
+      (holding-more c own act (ap still asks ∙ is) here);
 }
 
-stays_bind : {A B : Type 0} {c : ChanNo} (plan : Plan A) (f : A → Plan B) → Stays c plan → ((a : A) → Stays c (f a)) → Stays c (plan >>= f)
+stays_bind : {A B : Type 0} {c : ChanNo} (plan : Plan A) (f : A → Plan B) → Stays c plan → ((a : A) → Stays c (f a))
+    → Stays c (plan >>= f)
 stays_bind {c = c} plan f here later = record {
-  leads = λ own holding. leads_bind (λ own' _. Holding c own') (λ own' _. Holding c own') own plan f (here.leads own holding) (λ own' a holding'. (later a).leads own' holding');
+  leads = λ own holding. leads_bind (λ own' _. Holding c own') (λ own' _. Holding c own') own plan f
+      (here.leads own holding) (λ own' a holding'. (later a).leads own' holding');
 }
 
 stays_if : {R : Type 0} {c : ChanNo} (b : Bool) (x y : Plan R) → Stays c x → Stays c y → Stays c (if b then x else y)
 stays_if {c = c} b x y this that = record {
-  leads = λ own holding. leads_if (λ own' _. Holding c own') own b x y (λ _. this.leads own holding) (λ _. that.leads own holding);
+  leads = λ own holding. leads_if (λ own' _. Holding c own') own b x y (λ _. this.leads own holding)
+      (λ _. that.leads own holding);
 }
 
 ruleset staying = (stays_reply, stays_ask, stays_bind, stays_if)
@@ -148,7 +183,9 @@ ruleset staying = (stays_reply, stays_ask, stays_bind, stays_if)
 over-stays : {c : ChanNo} (s : SelNo) (ops att : ℕ) (noted : Option KeyId) → Stays c (register_over s ops att noted)
 over-stays s ops att None = search staying depth 12
 over-stays s ops att (Some k) =
-    stays_ask _ _ refl (λ answer. stays_bind (register_noted s ops att k (stage_in answer)) _ (search staying depth 16) (λ over. stays_ask _ _ refl (λ _. stays_reply over)))
+    stays_ask _ _ refl
+    (λ answer. stays_bind (register_noted s ops att k (stage_in answer)) _ (search staying depth 16)
+    (λ over. stays_ask _ _ refl (λ _. stays_reply over)))
 
 -- ---- an index for the key
 
@@ -167,7 +204,8 @@ record Marked (s : SelNo) (c : ChanNo) (mark : ℕ) (own : List Act) : Type 0 wh
   holding : Holding c own
   below : (i : ℕ) → nat_lt i mark ≡ true → has (leaves_below s.0 i) own ≡ true
 
-marked-more : (s : SelNo) (c : ChanNo) (mark : ℕ) (own : List Act) (act : Act) → still (question_of act) ≡ true → Marked s c mark own → Marked s c mark (own ++ act ∷ [])
+marked-more : (s : SelNo) (c : ChanNo) (mark : ℕ) (own : List Act) (act : Act) → still (question_of act) ≡ true
+    → Marked s c mark own → Marked s c mark (own ++ act ∷ [])
 marked-more s c mark own act is before = record {
   holding = holding-more c own act is before.holding;
   below = λ i low. has-first (leaves_below s.0 i) own (act ∷ []) (before.below i low);
@@ -179,24 +217,33 @@ same_place s i s' i' first second =
     ∙ (ap (λ b. b && (i == i)) (eq-eqb s.0 s.0 refl) ∙ eq-eqb i i refl))
 
 -- a claim that succeeded is the caller's claim of the index
-claims-new : (s : SelNo) (i : ℕ) (c : ChanNo) (own : List Act) (act : Act) → question_of act ≡ Question.claim s i c → flag_in (answer_of act) ≡ false
+claims-new : (s : SelNo) (i : ℕ) (c : ChanNo) (own : List Act) (act : Act) → question_of act ≡ Question.claim s i c
+    → flag_in (answer_of act) ≡ false
     → own_claim s.0 i (own ++ act ∷ []) ≡ Some (record { channel = c; serial = 0 })
 claims-new s i c own (Claim s' i' c' false) asks free =
     let channel' : c' ≡ c = cc asks in
     own_claim-more s.0 i own (Claim s' i' c' false)
-    ∙ (ap (λ b. claim_after (if b then Some (Some (record { channel = c'; serial = 0 })) else None) (own_claim s.0 i own)) (same_place s i s' i' (cc asks) (cc asks))
+    ∙ (ap (λ b. claim_after (if b then Some (Some (record { channel = c'; serial = 0 })) else None)
+    (own_claim s.0 i own)) (same_place s i s' i' (cc asks) (cc asks))
     ∙ ap (λ (d : ChanNo). Some (record { channel = d; serial = 0 })) channel')
 claims-new s i c own (Claim s' i' c' true) asks free = absurd (cc free)
 claims-new s i c own _ asks free = absurd (cc asks)
 
-claims-again : (s : SelNo) (i : ℕ) (c : ChanNo) (from : Stage) (own : List Act) (act : Act) → question_of act ≡ Question.claim_again s i c from → flag_in (answer_of act) ≡ false
+claims-again : (s : SelNo) (i : ℕ) (c : ChanNo) (from : Stage) (own : List Act) (act : Act)
+    → question_of act ≡ Question.claim_again s i c from → flag_in (answer_of act) ≡ false
     → own_claim s.0 i (own ++ act ∷ []) ≡ Some (record { channel = c; serial = suc from.serial })
-claims-again s i c from own (ClaimAgain s' i' c' from' false) asks free = own_claim-more s.0 i own (ClaimAgain s' i' c' from' false) ∙ (its_place ∙ its_claim (cc asks) (cc asks))
+claims-again s i c from own (ClaimAgain s' i' c' from' false) asks free =
+    own_claim-more s.0 i own (ClaimAgain s' i' c' from' false) ∙ (its_place ∙ its_claim (cc asks) (cc asks))
   where
-    its_place : claim_after (claim_changed s.0 i (ClaimAgain s' i' c' from' false)) (own_claim s.0 i own) ≡ Some (record { channel = c'; serial = suc from'.serial })
-    its_place = ap (λ b. claim_after (if b then Some (Some (record { channel = c'; serial = suc from'.serial })) else None) (own_claim s.0 i own)) (same_place s i s' i' (cc asks) (cc asks))
+    its_place : claim_after (claim_changed s.0 i (ClaimAgain s' i' c' from' false)) (own_claim s.0 i own)
+        ≡ Some (record { channel = c'; serial = suc from'.serial })
+    its_place =
+        ap (λ b. claim_after (if b then Some (Some (record { channel = c'; serial = suc from'.serial })) else None)
+        (own_claim s.0 i own)) (same_place s i s' i' (cc asks) (cc asks))
 
-    its_claim : c' ≡ c → from' ≡ from → ◌≡◌ {A = Option OwnClaim} (Some (record { channel = c'; serial = suc from'.serial })) (Some (record { channel = c; serial = suc from.serial }))
+    its_claim : c' ≡ c → from' ≡ from
+        → ◌≡◌ {A = Option OwnClaim} (Some (record { channel = c'; serial = suc from'.serial }))
+        (Some (record { channel = c; serial = suc from.serial }))
     its_claim channel' stage' = λ j. Some (record { channel = channel' j; serial = suc (stage' j).serial })
 claims-again s i c from own (ClaimAgain s' i' c' from' true) asks free = absurd (cc free)
 claims-again s i c from own _ asks free = absurd (cc asks)
@@ -205,12 +252,17 @@ claim_taken-leads : (s : SelNo) (c : ChanNo) (mark i : ℕ) (own : List Act) →
     → Leads (Here (Marked s c mark) (λ own' k. Below s c k own')) own (claim_taken s c i)
 claim_taken-leads s c mark i own low marked = λ look asks claim asks'.
     let looked = own ++ look ∷ [] in
-    let after = marked-more s c mark looked claim (ap still asks') (marked-more s c mark own look (ap still asks) marked) in
-    leads_if (Here (Marked s c mark) (λ own' k. Below s c k own')) (looked ++ claim ∷ []) (flag_in (answer_of claim)) (put_free s i >> reply None)
+    let after = marked-more s c mark looked claim (ap still asks')
+    (marked-more s c mark own look (ap still asks) marked) in
+    leads_if (Here (Marked s c mark) (λ own' k. Below s c k own')) (looked ++ claim ∷ []) (flag_in (answer_of claim))
+    (put_free s i >> reply None)
     (reply (Some (record { index = i; serial = suc (stage_in (answer_of look)).serial })))
     (λ pinned put asks''. marked-more s c mark (looked ++ claim ∷ []) put (ap still asks'') after)
     (λ free. record {
-      claimed = record { holding = after.holding; claim = claims-again s i c (stage_in (answer_of look)) looked claim asks' free };
+      claimed = record {
+        holding = after.holding;
+        claim = claims-again s i c (stage_in (answer_of look)) looked claim asks' free;
+      };
       below = after.below i low;
     })
 
@@ -218,24 +270,39 @@ claim_free-leads : (s : SelNo) (c : ChanNo) (mark i : ℕ) (own : List Act) → 
     → Leads (Here (Marked s c mark) (λ own' k. Below s c k own')) own (claim_free s c i)
 claim_free-leads s c mark i own low marked = λ take asks.
     let after = marked-more s c mark own take (ap still asks) marked in
-    leads_if (Here (Marked s c mark) (λ own' k. Below s c k own')) (own ++ take ∷ []) (flag_in (answer_of take)) (claim_taken s c i) (reply None)
+    leads_if (Here (Marked s c mark) (λ own' k. Below s c k own')) (own ++ take ∷ []) (flag_in (answer_of take))
+    (claim_taken s c i) (reply None)
     (λ _. claim_taken-leads s c mark i (own ++ take ∷ []) low after) (λ _. after)
 
-search-leads : (s : SelNo) (c : ChanNo) (mark : ℕ) (own : List Act) → Marked s c mark own → Leads (Here (Marked s c mark) (λ own' k. Below s c k own')) own (search_free s c mark)
+search-leads : (s : SelNo) (c : ChanNo) (mark : ℕ) (own : List Act) → Marked s c mark own
+    → Leads (Here (Marked s c mark) (λ own' k. Below s c k own')) own (search_free s c mark)
 search-leads s c mark own marked =
-    leads_seek (Marked s c mark) (λ own' k. Below s c k own') (words_below mark) 0 own (claim_in_word s c mark) (λ j own' here look asks.
-    leads_seek (Marked s c mark) (λ own' k. Below s c k own') 64 0 (own' ++ look ∷ []) (claim_at_bit s c mark j (word_in (answer_of look)))
-    (λ b before here'. leads_if (Here (Marked s c mark) (λ own' k. Below s c k own')) before (has_bit (word_in (answer_of look)) b && nat_lt (64 * j + b) mark) (claim_free s c (64 * j + b)) (reply None)
-    (λ both. claim_free-leads s c mark (64 * j + b) before (and_parts (has_bit (word_in (answer_of look)) b) (nat_lt (64 * j + b) mark) both).1 here') (λ _. here'))
+    leads_seek (Marked s c mark) (λ own' k. Below s c k own') (words_below mark) 0 own (claim_in_word s c mark)
+    (λ j own' here look asks.
+    leads_seek (Marked s c mark) (λ own' k. Below s c k own') 64 0 (own' ++ look ∷ [])
+    (claim_at_bit s c mark j (word_in (answer_of look)))
+    (λ b before here'. leads_if (Here (Marked s c mark) (λ own' k. Below s c k own')) before
+    (has_bit (word_in (answer_of look)) b && nat_lt (64 * j + b) mark) (claim_free s c (64 * j + b)) (reply None)
+    (λ both. claim_free-leads s c mark (64 * j + b) before
+    (and_parts (has_bit (word_in (answer_of look)) b) (nat_lt (64 * j + b) mark) both).1 here') (λ _. here'))
     (marked-more s c mark own' look (ap still asks) here)) marked
 
-new-leads : (s : SelNo) (c : ChanNo) (b i : ℕ) (own : List Act) → Holding c own → Leads (Here (Holding c) (λ own' k. Claimed s c k own')) own (seek_to b i (claim_new s c))
-new-leads s c b i own holding = leads_seek (Holding c) (λ own' k. Claimed s c k own') b i own (claim_new s c) (λ j before here claim asks. by_test j before here claim asks (flag_in (answer_of claim)) refl) holding
+new-leads : (s : SelNo) (c : ChanNo) (b i : ℕ) (own : List Act) → Holding c own
+    → Leads (Here (Holding c) (λ own' k. Claimed s c k own')) own (seek_to b i (claim_new s c))
+new-leads s c b i own holding =
+    leads_seek (Holding c) (λ own' k. Claimed s c k own') b i own (claim_new s c)
+    (λ j before here claim asks. by_test j before here claim asks (flag_in (answer_of claim)) refl) holding
   where
-    by_test : (j : ℕ) (before : List Act) → Holding c before → (claim : Act) → question_of claim ≡ Question.claim s j c → (was : Bool) → flag_in (answer_of claim) ≡ was
-        → Here (Holding c) (λ own' k. Claimed s c k own') (before ++ claim ∷ []) (if was then None else Some (record { index = j; serial = 0 }))
+    by_test : (j : ℕ) (before : List Act) → Holding c before → (claim : Act) → question_of claim ≡ Question.claim s j c
+        → (was : Bool) → flag_in (answer_of claim) ≡ was
+        → Here (Holding c) (λ own' k. Claimed s c k own') (before ++ claim ∷ [])
+        (if was then None else Some (record { index = j; serial = 0 }))
     by_test j before here claim asks true was = holding-more c before claim (ap still asks) here
-    by_test j before here claim asks false was = record { holding = holding-more c before claim (ap still asks) here; claim = claims-new s j c before claim asks was }
+    by_test j before here claim asks false was =
+        record {
+          holding = holding-more c before claim (ap still asks) here;
+          claim = claims-new s j c before claim asks was;
+        }
 
 -- ---- its claim stays
 
@@ -246,8 +313,10 @@ leaves_claims (Question.claim_again s i c from) = false
 leaves_claims (Question.unpin s i) = false
 leaves_claims _ = true
 
-claim-stays : (s i : ℕ) (own : List Act) (act : Act) (claim : Option OwnClaim) → leaves_claims (question_of act) ≡ true → own_claim s i own ≡ claim → own_claim s i (own ++ act ∷ []) ≡ claim
-claim-stays s i own act claim is has_it = own_claim-more s i own act ∙ (ap (λ x. claim_after x (own_claim s i own)) (unchanged act is) ∙ has_it)
+claim-stays : (s i : ℕ) (own : List Act) (act : Act) (claim : Option OwnClaim) → leaves_claims (question_of act) ≡ true
+    → own_claim s i own ≡ claim → own_claim s i (own ++ act ∷ []) ≡ claim
+claim-stays s i own act claim is has_it =
+    own_claim-more s i own act ∙ (ap (λ x. claim_after x (own_claim s i own)) (unchanged act is) ∙ has_it)
   where
     unchanged : (act' : Act) → leaves_claims (question_of act') ≡ true → claim_changed s i act' ≡ None
     unchanged (Claim s' i' c found) is' = absurd (cc is')
@@ -260,7 +329,8 @@ not_claims s i (Claim s' i' c found) is = absurd (cc is)
 not_claims s i (ClaimAgain s' i' c from found) is = absurd (cc is)
 not_claims s i _ is = refl
 
-claimed-more : (s : SelNo) (c : ChanNo) (k : KeyId) (own : List Act) (act : Act) → still (question_of act) ≡ true → leaves_claims (question_of act) ≡ true → Claimed s c k own → Claimed s c k (own ++ act ∷ [])
+claimed-more : (s : SelNo) (c : ChanNo) (k : KeyId) (own : List Act) (act : Act) → still (question_of act) ≡ true
+    → leaves_claims (question_of act) ≡ true → Claimed s c k own → Claimed s c k (own ++ act ∷ [])
 claimed-more s c k own act is leaves before = record {
   holding = holding-more c own act is before.holding;
   claim = claim-stays s.0 k.index own act (Some (record { channel = c; serial = k.serial })) leaves before.claim;
@@ -269,7 +339,8 @@ claimed-more s c k own act is leaves before = record {
 -- ---- the gate is found open
 
 -- what is prepared stays so, where the index isn't claimed
-prepared-more : (s i : ℕ) (own : List Act) (act : Act) → claims s i act ≡ false → is_prepared s i own ≡ true → is_prepared s i (own ++ act ∷ []) ≡ true
+prepared-more : (s i : ℕ) (own : List Act) (act : Act) → claims s i act ≡ false → is_prepared s i own ≡ true
+    → is_prepared s i (own ++ act ∷ []) ≡ true
 prepared-more s i own act unclaimed before = by_test (has (leaves_below s i) own) refl
   where
     early : List Act
@@ -277,33 +348,48 @@ prepared-more s i own act unclaimed before = by_test (has (leaves_below s i) own
 
     by_test : (b : Bool) → has (leaves_below s i) own ≡ b → is_prepared s i (own ++ act ∷ []) ≡ true
     by_test true is =
-        ap (λ xs. has (finds_open s) (since_from (claims s i) xs)) (since_first-append (leaves_below s i) own (act ∷ []) ∙ ap (λ b. if b then early ++ act ∷ [] else since_first (leaves_below s i) (act ∷ [])) is)
-        ∙ (ap (has (finds_open s)) (since_from-more (claims s i) early act ∙ ap (λ b. if b then [] else since_from (claims s i) early ++ act ∷ []) unclaimed)
+        ap (λ xs. has (finds_open s) (since_from (claims s i) xs))
+        (since_first-append (leaves_below s i) own (act ∷ [])
+        ∙ ap (λ b. if b then early ++ act ∷ [] else since_first (leaves_below s i) (act ∷ [])) is)
+        ∙ (ap (has (finds_open s))
+        (since_from-more (claims s i) early act
+        ∙ ap (λ b. if b then [] else since_from (claims s i) early ++ act ∷ []) unclaimed)
         ∙ has-first (finds_open s) (since_from (claims s i) early) (act ∷ []) before)
     by_test false is =
-        let clash : false ≡ true = sym (ap (λ xs. has (finds_open s) (since_from (claims s i) xs)) (since_first_none (leaves_below s i) own is)) ∙ before in
+        let clash : false
+        ≡ true = sym
+        (ap (λ xs. has (finds_open s) (since_from (claims s i) xs))
+        (since_first_none (leaves_below s i) own is)) ∙ before in
         absurd (cc clash)
 
-prepared-now : (s i : ℕ) (own : List Act) (act : Act) → claims s i act ≡ false → finds_open s act ≡ true → has (leaves_below s i) own ≡ true → is_prepared s i (own ++ act ∷ []) ≡ true
+prepared-now : (s i : ℕ) (own : List Act) (act : Act) → claims s i act ≡ false → finds_open s act ≡ true
+    → has (leaves_below s i) own ≡ true → is_prepared s i (own ++ act ∷ []) ≡ true
 prepared-now s i own act unclaimed open' below =
-    ap (λ xs. has (finds_open s) (since_from (claims s i) xs)) (since_first-append (leaves_below s i) own (act ∷ []) ∙ ap (λ b. if b then early ++ act ∷ [] else since_first (leaves_below s i) (act ∷ [])) below)
-    ∙ (ap (has (finds_open s)) (since_from-more (claims s i) early act ∙ ap (λ b. if b then [] else since_from (claims s i) early ++ act ∷ []) unclaimed)
+    ap (λ xs. has (finds_open s) (since_from (claims s i) xs))
+    (since_first-append (leaves_below s i) own (act ∷ [])
+    ∙ ap (λ b. if b then early ++ act ∷ [] else since_first (leaves_below s i) (act ∷ [])) below)
+    ∙ (ap (has (finds_open s))
+    (since_from-more (claims s i) early act
+    ∙ ap (λ b. if b then [] else since_from (claims s i) early ++ act ∷ []) unclaimed)
     ∙ has-second (finds_open s) (since_from (claims s i) early) (act ∷ []) (ap (λ b. b || false) open'))
   where
     early : List Act
     early = since_first (leaves_below s i) own
 
-gate-open : (s : SelNo) (act : Act) → question_of act ≡ Question.look_gate s → (gate_in (answer_of act)).shut ≡ false → finds_open s.0 act ≡ true
+gate-open : (s : SelNo) (act : Act) → question_of act ≡ Question.look_gate s → (gate_in (answer_of act)).shut ≡ false
+    → finds_open s.0 act ≡ true
 gate-open s (LookGate s' found) asks unshut =
     let same : s' ≡ s = cc asks in
-    ap (λ (x : SelNo). (x.0 == s.0) && not found.shut) same ∙ (ap (λ b. b && not found.shut) (eq-eqb s.0 s.0 refl) ∙ ap not unshut)
+    ap (λ (x : SelNo). (x.0 == s.0) && not found.shut) same
+    ∙ (ap (λ b. b && not found.shut) (eq-eqb s.0 s.0 refl) ∙ ap not unshut)
 gate-open s _ asks unshut = absurd (cc asks)
 
 record Prepared (s : SelNo) (c : ChanNo) (k : KeyId) (own : List Act) : Type 0 where
   claimed : Claimed s c k own
   prepared : is_prepared s.0 k.index own ≡ true
 
-prepared-still : (s : SelNo) (c : ChanNo) (k : KeyId) (own : List Act) (act : Act) → still (question_of act) ≡ true → leaves_claims (question_of act) ≡ true → Prepared s c k own → Prepared s c k (own ++ act ∷ [])
+prepared-still : (s : SelNo) (c : ChanNo) (k : KeyId) (own : List Act) (act : Act) → still (question_of act) ≡ true
+    → leaves_claims (question_of act) ≡ true → Prepared s c k own → Prepared s c k (own ++ act ∷ [])
 prepared-still s c k own act is leaves before = record {
   claimed = claimed-more s c k own act is leaves before.claimed;
   prepared = prepared-more s.0 k.index own act (not_claims s.0 k.index act leaves) before.prepared;
@@ -320,18 +406,22 @@ record Noted (s : SelNo) (c : ChanNo) (k : KeyId) (own : List Act) : Type 0 wher
   noted : has (notes_this_key c.0 s.0 k.index k.serial) (under c.0 own) ≡ true
   alone : count (notes_for c.0) (under c.0 own) ≡ 1
 
-noted-now : (s : SelNo) (c : ChanNo) (k : KeyId) (own : List Act) (act : Act) → question_of act ≡ Question.enrol c s k.index k.serial → Prepared s c k own → Noted s c k (own ++ act ∷ [])
+noted-now : (s : SelNo) (c : ChanNo) (k : KeyId) (own : List Act) (act : Act)
+    → question_of act ≡ Question.enrol c s k.index k.serial → Prepared s c k own → Noted s c k (own ++ act ∷ [])
 noted-now s c k own (Enrol c' s' i serial found) asks before = record {
   held = has-first (takes_hold c.0) own (enrolled ∷ []) before.claimed.holding.held;
   unset = has-neither (sets_mode c.0) own (enrolled ∷ []) quiet.unset refl;
   calm = has-neither is_loud own (enrolled ∷ []) quiet.calm refl;
-  claim = claim-stays s.0 k.index own enrolled (Some (record { channel = c; serial = k.serial })) refl before.claimed.claim;
+  claim = claim-stays s.0 k.index own enrolled (Some (record { channel = c; serial = k.serial })) refl
+      before.claimed.claim;
   prepared = prepared-more s.0 k.index own enrolled refl before.prepared;
   noted = ap (has (notes_this_key c.0 s.0 k.index k.serial)) (since_from-more (takes_hold c.0) own enrolled)
-      ∙ has-second (notes_this_key c.0 s.0 k.index k.serial) (under c.0 own) (enrolled ∷ []) (ap (λ b. b || false) its_key);
+      ∙ has-second (notes_this_key c.0 s.0 k.index k.serial) (under c.0 own) (enrolled ∷ [])
+      (ap (λ b. b || false) its_key);
   alone = ap (count (notes_for c.0)) (since_from-more (takes_hold c.0) own enrolled)
       ∙ one_in_all (count-append (notes_for c.0) (under c.0 own) (enrolled ∷ []))
-      (count-none (notes_for c.0) (under c.0 own) (since_from-none (notes_for c.0) (takes_hold c.0) own quiet.unnoted)) (count-one (notes_for c.0) enrolled its_channel);
+      (count-none (notes_for c.0) (under c.0 own) (since_from-none (notes_for c.0) (takes_hold c.0) own quiet.unnoted))
+      (count-one (notes_for c.0) enrolled its_channel);
 }
   where
     enrolled : Act
@@ -350,7 +440,9 @@ noted-now s c k own (Enrol c' s' i serial found) asks before = record {
     its_selector = let same : s' ≡ s = cc asks in ap (λ (t : SelNo). t.0 == s.0) same ∙ eq-eqb s.0 s.0 refl
 
     its_key : ((c'.0 == c.0) && (s'.0 == s.0) && (i == k.index) && (serial == k.serial)) ≡ true
-    its_key = all_four (c'.0 == c.0) (s'.0 == s.0) (i == k.index) (serial == k.serial) its_channel its_selector (eq-eqb i k.index (cc asks)) (eq-eqb serial k.serial (cc asks))
+    its_key =
+        all_four (c'.0 == c.0) (s'.0 == s.0) (i == k.index) (serial == k.serial) its_channel its_selector
+        (eq-eqb i k.index (cc asks)) (eq-eqb serial k.serial (cc asks))
       where
         all_four : (p q r t : Bool) → p ≡ true → q ≡ true → r ≡ true → t ≡ true → (p && q && r && t) ≡ true
         all_four true true true t a b d e = e
@@ -368,45 +460,55 @@ record Published (s : SelNo) (c : ChanNo) (k : KeyId) (own : List Act) : Type 0 
   parts : own ≡ before ++ Publish s k.index found ∷ later
   noted : Noted s c k before
   quiet : Quiet c later
-  settled : found.removed ≡ false → (serial : ℕ) → owes (publisher_duty c.0 s.0 (record { index = k.index; serial = serial })) later ≡ false
+  settled : found.removed ≡ false → (serial : ℕ)
+      → owes (publisher_duty c.0 s.0 (record { index = k.index; serial = serial })) later ≡ false
 
-published-more : (s : SelNo) (c : ChanNo) (k : KeyId) (own : List Act) (act : Act) → still (question_of act) ≡ true → Published s c k own → Published s c k (own ++ act ∷ [])
+published-more : (s : SelNo) (c : ChanNo) (k : KeyId) (own : List Act) (act : Act) → still (question_of act) ≡ true
+    → Published s c k own → Published s c k (own ++ act ∷ [])
 published-more s c k own act is there = record {
   before = there.before;
   found = there.found;
   later = there.later ++ act ∷ [];
-  parts = ap (λ xs. xs ++ act ∷ []) there.parts ∙ append_assoc there.before (Publish s k.index there.found ∷ there.later) (act ∷ []);
+  parts = ap (λ xs. xs ++ act ∷ []) there.parts
+      ∙ append_assoc there.before (Publish s k.index there.found ∷ there.later) (act ∷ []);
   noted = there.noted;
   quiet = quiet-more c there.later act is there.quiet;
-  settled = λ in_set serial. owes-settled (publisher_duty c.0 s.0 (record { index = k.index; serial = serial })) there.later (act ∷ []) (there.settled in_set serial);
+  settled = λ in_set serial. owes-settled (publisher_duty c.0 s.0 (record { index = k.index; serial = serial }))
+      there.later (act ∷ []) (there.settled in_set serial);
 }
 
 -- what a registration leaves: nothing is published, or a key is
 abbrev Registers : SelNo → ChanNo → List Act → Type 0
 Registers s c own = (has is_loud own ≡ false) ⊎ ((k : KeyId) × Published s c k own)
 
-registers-more : (s : SelNo) (c : ChanNo) (own : List Act) (act : Act) → still (question_of act) ≡ true → Registers s c own → Registers s c (own ++ act ∷ [])
+registers-more : (s : SelNo) (c : ChanNo) (own : List Act) (act : Act) → still (question_of act) ≡ true
+    → Registers s c own → Registers s c (own ++ act ∷ [])
 registers-more s c own act is (inl calm) = inl (has-neither is_loud own (act ∷ []) calm (quiet-one c act is).calm)
 registers-more s c own act is (inr there) = inr (there.0, published-more s c there.0 own act is there.1)
 
 -- what the publisher does then settles the key: it looks at the channel, and cancels the key where it is closed
-cancels-it : (s : SelNo) (i serial : ℕ) (act : Act) → question_of act ≡ Question.cancel_key s i → settles_key s.0 (record { index = i; serial = serial }) act ≡ true
+cancels-it : (s : SelNo) (i serial : ℕ) (act : Act) → question_of act ≡ Question.cancel_key s i
+    → settles_key s.0 (record { index = i; serial = serial }) act ≡ true
 cancels-it s i serial (CancelKey s' i' found) asks = ap (λ b. b || false) (same_place s i s' i' (cc asks) (cc asks))
 cancels-it s i serial _ asks = absurd (cc asks)
 
-looked-open : (c : ChanNo) (s i serial : ℕ) (act : Act) → question_of act ≡ Question.look_channel c → (channel_in (answer_of act)).closed ≡ false
+looked-open : (c : ChanNo) (s i serial : ℕ) (act : Act) → question_of act ≡ Question.look_channel c
+    → (channel_in (answer_of act)).closed ≡ false
     → owes (publisher_duty c.0 s (record { index = i; serial = serial })) (act ∷ []) ≡ false
 looked-open c s i serial (LookChannel c' found) asks open' =
     let same : c' ≡ c = cc asks in
-    ap (λ b. if b then (b && found.closed) && true else true) (ap (λ (d : ChanNo). d.0 == c.0) same ∙ eq-eqb c.0 c.0 refl) ∙ ap (λ b. b && true) open'
+    ap (λ b. if b then (b && found.closed) && true else true)
+    (ap (λ (d : ChanNo). d.0 == c.0) same ∙ eq-eqb c.0 c.0 refl) ∙ ap (λ b. b && true) open'
 looked-open c s i serial _ asks open' = absurd (cc asks)
 
-looked-closed : (c : ChanNo) (s : SelNo) (i serial : ℕ) (act later : Act) → question_of act ≡ Question.look_channel c → question_of later ≡ Question.cancel_key s i
+looked-closed : (c : ChanNo) (s : SelNo) (i serial : ℕ) (act later : Act) → question_of act ≡ Question.look_channel c
+    → question_of later ≡ Question.cancel_key s i
     → owes (publisher_duty c.0 s.0 (record { index = i; serial = serial })) (act ∷ later ∷ []) ≡ false
 looked-closed c s i serial (LookChannel c' found) later asks asks' =
     let same : c' ≡ c = cc asks in
     let k : KeyId = record { index = i; serial = serial } in
-    ap (λ b. if b then (b && found.closed) && not (has (settles_key s.0 k) (later ∷ [])) else owes (publisher_duty c.0 s.0 k) (later ∷ [])) (ap (λ (d : ChanNo). d.0 == c.0) same ∙ eq-eqb c.0 c.0 refl)
+    ap (λ b. if b then (b && found.closed) && not (has (settles_key s.0 k) (later ∷ []))
+    else owes (publisher_duty c.0 s.0 k) (later ∷ [])) (ap (λ (d : ChanNo). d.0 == c.0) same ∙ eq-eqb c.0 c.0 refl)
     ∙ (ap (λ b. found.closed && not (b || false)) (cancels-it s i serial later asks') ∙ by_either found.closed)
   where
     by_either : (b : Bool) → (b && false) ≡ false
@@ -414,20 +516,25 @@ looked-closed c s i serial (LookChannel c' found) later asks asks' =
     by_either false = refl
 looked-closed c s i serial _ later asks asks' = absurd (cc asks)
 
-settle-leads : (s : SelNo) (c : ChanNo) (k : KeyId) (before : List Act) (found : Stage) → Noted s c k before → Leads (λ own _. Registers s c own) (before ++ Publish s k.index found ∷ []) (settle_key s c k)
+settle-leads : (s : SelNo) (c : ChanNo) (k : KeyId) (before : List Act) (found : Stage) → Noted s c k before
+    → Leads (λ own _. Registers s c own) (before ++ Publish s k.index found ∷ []) (settle_key s c k)
 settle-leads s c k before found noted = λ look asks.
     let published = before ++ Publish s k.index found ∷ [] in
-    leads_bind (λ own _. Registers s c own) (λ own _. Registers s c own) (published ++ look ∷ []) (when (channel_in (answer_of look)).closed (cancel_key s k.index)) (λ _. reply (Ok (key s k)))
-    (leads_if (λ own _. Registers s c own) (published ++ look ∷ []) (channel_in (answer_of look)).closed (cancel_key s k.index >> reply tt) (reply tt)
+    leads_bind (λ own _. Registers s c own) (λ own _. Registers s c own) (published ++ look ∷ [])
+    (when (channel_in (answer_of look)).closed (cancel_key s k.index)) (λ _. reply (Ok (key s k)))
+    (leads_if (λ own _. Registers s c own) (published ++ look ∷ []) (channel_in (answer_of look)).closed
+    (cancel_key s k.index >> reply tt) (reply tt)
     (λ closed cancelled asks'. inr (
       k,
       record {
         before = before;
         found = found;
         later = look ∷ cancelled ∷ [];
-        parts = append_assoc published (look ∷ []) (cancelled ∷ []) ∙ append_assoc before (Publish s k.index found ∷ []) (look ∷ cancelled ∷ []);
+        parts = append_assoc published (look ∷ []) (cancelled ∷ [])
+            ∙ append_assoc before (Publish s k.index found ∷ []) (look ∷ cancelled ∷ []);
         noted = noted;
-        quiet = quiet-append c (look ∷ []) (cancelled ∷ []) (quiet-one c look (ap still asks)) (quiet-one c cancelled (ap still asks'));
+        quiet = quiet-append c (look ∷ []) (cancelled ∷ []) (quiet-one c look (ap still asks))
+            (quiet-one c cancelled (ap still asks'));
         settled = λ in_set serial. looked-closed c s k.index serial look cancelled asks asks';
       },
     ))
@@ -445,15 +552,19 @@ settle-leads s c k before found noted = λ look asks.
     )))
     (λ own _ here. here)
 
-published-leads : (s : SelNo) (c : ChanNo) (k : KeyId) (own : List Act) (published : Act) → question_of published ≡ Question.publish s k.index → Noted s c k own
-    → Leads (λ xs _. Registers s c xs) (own ++ published ∷ []) (if (stage_in (answer_of published)).removed then reply (Err ChannelError.ClosedSelector) else settle_key s c k)
+published-leads : (s : SelNo) (c : ChanNo) (k : KeyId) (own : List Act) (published : Act)
+    → question_of published ≡ Question.publish s k.index → Noted s c k own
+    → Leads (λ xs _. Registers s c xs) (own ++ published ∷ [])
+    (if (stage_in (answer_of published)).removed then reply (Err ChannelError.ClosedSelector) else settle_key s c k)
 published-leads s c k own (Publish s' i found) asks noted =
     let first : s' ≡ s = cc asks in
     let second : i ≡ k.index = cc asks in
     let now : own ++ Publish s' i found ∷ [] ≡ own ++ Publish s k.index found ∷ [] =
     ap (λ (t : SelNo). own ++ Publish t i found ∷ []) first ∙ ap (λ (j : ℕ). own ++ Publish s j found ∷ []) second in
-    subst (λ xs. Leads (λ ys _. Registers s c ys) xs (if found.removed then reply (Err ChannelError.ClosedSelector) else settle_key s c k)) (sym now)
-    (leads_if (λ ys _. Registers s c ys) (own ++ Publish s k.index found ∷ []) found.removed (reply (Err ChannelError.ClosedSelector)) (settle_key s c k)
+    subst (λ xs. Leads (λ ys _. Registers s c ys) xs
+    (if found.removed then reply (Err ChannelError.ClosedSelector) else settle_key s c k)) (sym now)
+    (leads_if (λ ys _. Registers s c ys) (own ++ Publish s k.index found ∷ []) found.removed
+    (reply (Err ChannelError.ClosedSelector)) (settle_key s c k)
     (λ removed. inr (
       k,
       record {
@@ -469,51 +580,64 @@ published-leads s c k own (Publish s' i found) asks noted =
     (λ _. settle-leads s c k own found noted))
 published-leads s c k own _ asks noted = absurd (cc asks)
 
-publish-leads : (s : SelNo) (c : ChanNo) (ops att : ℕ) (k : KeyId) (own : List Act) → Prepared s c k own → Leads (λ own' _. Registers s c own') own (publish_key s c ops att k)
+publish-leads : (s : SelNo) (c : ChanNo) (ops att : ℕ) (k : KeyId) (own : List Act) → Prepared s c k own
+    → Leads (λ own' _. Registers s c own') own (publish_key s c ops att k)
 publish-leads s c ops att k own prepared = λ swapped its_ops attached its_note enrolled its_key published asks.
     let own1 = own ++ swapped ∷ [] in
     let own2 = own1 ++ attached ∷ [] in
     published-leads s c k (own2 ++ enrolled ∷ []) published asks
     (noted-now s c k own2 enrolled its_key
-    (prepared-still s c k own1 attached (ap still its_note) (ap leaves_claims its_note) (prepared-still s c k own swapped (ap still its_ops) (ap leaves_claims its_ops) prepared)))
+    (prepared-still s c k own1 attached (ap still its_note) (ap leaves_claims its_note)
+    (prepared-still s c k own swapped (ap still its_ops) (ap leaves_claims its_ops) prepared)))
 
-make-leads : (s : SelNo) (c : ChanNo) (ops att : ℕ) (k : KeyId) (own : List Act) → Below s c k own → Leads (λ own' _. Registers s c own') own (make_key s c ops att k)
+make-leads : (s : SelNo) (c : ChanNo) (ops att : ℕ) (k : KeyId) (own : List Act) → Below s c k own
+    → Leads (λ own' _. Registers s c own') own (make_key s c ops att k)
 make-leads s c ops att k own below = λ looked asks.
     let claimed = claimed-more s c k own looked (ap still asks) (ap leaves_claims asks) below.claimed in
-    leads_if (λ own' _. Registers s c own') (own ++ looked ∷ []) (gate_in (answer_of looked)).shut (reply (Err ChannelError.ClosedSelector)) (publish_key s c ops att k)
+    leads_if (λ own' _. Registers s c own') (own ++ looked ∷ []) (gate_in (answer_of looked)).shut
+    (reply (Err ChannelError.ClosedSelector)) (publish_key s c ops att k)
     (λ shut. inl claimed.holding.quiet.calm)
     (λ unshut. publish-leads s c ops att k (own ++ looked ∷ []) (record {
       claimed = claimed;
-      prepared = prepared-now s.0 k.index own looked (not_claims s.0 k.index looked (ap leaves_claims asks)) (gate-open s looked asks unshut) below.below;
+      prepared = prepared-now s.0 k.index own looked (not_claims s.0 k.index looked (ap leaves_claims asks))
+          (gate-open s looked asks unshut) below.below;
     }))
 
-make_claimed-leads : (s : SelNo) (c : ChanNo) (ops att : ℕ) (k : KeyId) (own : List Act) → Below s c k own → Leads (λ own' _. Registers s c own') own (make_claimed s c ops att k)
+make_claimed-leads : (s : SelNo) (c : ChanNo) (ops att : ℕ) (k : KeyId) (own : List Act) → Below s c k own
+    → Leads (λ own' _. Registers s c own') own (make_claimed s c ops att k)
 make_claimed-leads s c ops att k own below =
-    leads_bind (λ own' _. Registers s c own') (λ own' _. Registers s c own') own (make_key s c ops att k) (λ answer. (unpin s k.index >> reply answer)) (make-leads s c ops att k own below)
+    leads_bind (λ own' _. Registers s c own') (λ own' _. Registers s c own') own (make_key s c ops att k)
+    (λ answer. (unpin s k.index >> reply answer)) (make-leads s c ops att k own below)
     (λ own' answer here unpinned asks. registers-more s c own' unpinned (ap still asks) here)
 
 -- ---- an index is claimed, or none
 
-raised : (s : SelNo) (i : ℕ) (act : Act) → question_of act ≡ Question.raise_keys s (i + 1) → leaves_below s.0 i act ≡ true
+raised : (s : SelNo) (i : ℕ) (act : Act) → question_of act ≡ Question.raise_keys s (i + 1)
+    → leaves_below s.0 i act ≡ true
 raised s i (RaiseKeys s' n found) asks =
     let first : s' ≡ s = cc asks in
     let second : n ≡ i + 1 = cc asks in
-    ap (λ (t : SelNo). (t.0 == s.0) && nat_lt i n) first ∙ (ap (λ b. b && nat_lt i n) (eq-eqb s.0 s.0 refl) ∙ lt-ltb i n (omega (arith, second)))
+    ap (λ (t : SelNo). (t.0 == s.0) && nat_lt i n) first
+    ∙ (ap (λ b. b && nat_lt i n) (eq-eqb s.0 s.0 refl) ∙ lt-ltb i n (omega (arith, second)))
 raised s i _ asks = absurd (cc asks)
 
-first-leads : (s : SelNo) (c : ChanNo) (ops att : ℕ) (found : Option KeyId) (own : List Act) → Here (Holding c) (λ own' k. Claimed s c k own') own found
+first-leads : (s : SelNo) (c : ChanNo) (ops att : ℕ) (found : Option KeyId) (own : List Act)
+    → Here (Holding c) (λ own' k. Claimed s c k own') own found
     → Leads (λ own' _. Registers s c own') own (register_first s c ops att found)
 first-leads s c ops att None own holding = inl holding.quiet.calm
 first-leads s c ops att (Some k) own claimed = λ raise asks.
     make_claimed-leads s c ops att k (own ++ raise ∷ []) (record {
       claimed = claimed-more s c k own raise (ap still asks) (ap leaves_claims asks) claimed;
-      below = has-second (leaves_below s.0 k.index) own (raise ∷ []) (ap (λ b. b || false) (raised s k.index raise asks));
+      below = has-second (leaves_below s.0 k.index) own (raise ∷ [])
+          (ap (λ b. b || false) (raised s k.index raise asks));
     })
 
-next-leads : (l : Limits) (s : SelNo) (c : ChanNo) (ops att mark : ℕ) (found : Option KeyId) (own : List Act) → Here (Marked s c mark) (λ own' k. Below s c k own') own found
+next-leads : (l : Limits) (s : SelNo) (c : ChanNo) (ops att mark : ℕ) (found : Option KeyId) (own : List Act)
+    → Here (Marked s c mark) (λ own' k. Below s c k own') own found
     → Leads (λ own' _. Registers s c own') own (register_next l s c ops att mark found)
 next-leads l s c ops att mark None own marked =
-    leads_bind (Here (Holding c) (λ own' k. Claimed s c k own')) (λ own' _. Registers s c own') own (seek_to l.keys mark (claim_new s c)) (register_first s c ops att)
+    leads_bind (Here (Holding c) (λ own' k. Claimed s c k own')) (λ own' _. Registers s c own') own
+    (seek_to l.keys mark (claim_new s c)) (register_first s c ops att)
     (new-leads s c l.keys mark own marked.holding) (λ own' found here. first-leads s c ops att found own' here)
 next-leads l s c ops att mark (Some k) own there = λ cleared asks.
     make_claimed-leads s c ops att k (own ++ cleared ∷ []) (record {
@@ -521,65 +645,87 @@ next-leads l s c ops att mark (Some k) own there = λ cleared asks.
       below = has-first (leaves_below s.0 k.index) own (cleared ∷ []) there.below;
     })
 
-marked-now : (s : SelNo) (c : ChanNo) (own : List Act) (act : Act) → question_of act ≡ Question.look_keys s → Holding c own → Marked s c (number_in (answer_of act)) (own ++ act ∷ [])
+marked-now : (s : SelNo) (c : ChanNo) (own : List Act) (act : Act) → question_of act ≡ Question.look_keys s
+    → Holding c own → Marked s c (number_in (answer_of act)) (own ++ act ∷ [])
 marked-now s c own (LookKeys s' found) asks before = record {
   holding = holding-more c own (LookKeys s' found) refl before;
   below = λ i low. has-second (leaves_below s.0 i) own (LookKeys s' found ∷ [])
-      (ap (λ b. (b && nat_lt i found) || false) (let first : s' ≡ s = cc asks in ap (λ (t : SelNo). t.0 == s.0) first ∙ eq-eqb s.0 s.0 refl) ∙ ap (λ b. b || false) low);
+      (ap (λ b. (b && nat_lt i found) || false)
+      (let first : s' ≡ s = cc asks in ap (λ (t : SelNo). t.0 == s.0) first ∙ eq-eqb s.0 s.0 refl)
+      ∙ ap (λ b. b || false) low);
 }
 marked-now s c own _ asks before = absurd (cc asks)
 
-rest-leads : (l : Limits) (s : SelNo) (c : ChanNo) (ops att : ℕ) (over : Option (Result KeyNo ChannelError)) (own : List Act) → Holding c own
+rest-leads : (l : Limits) (s : SelNo) (c : ChanNo) (ops att : ℕ) (over : Option (Result KeyNo ChannelError))
+    (own : List Act) → Holding c own
     → Leads (λ own' _. Registers s c own') own (register_rest l s c ops att over)
 rest-leads l s c ops att (Some answer) own holding = inl holding.quiet.calm
 rest-leads l s c ops att None own holding = λ look asks.
     let mark = number_in (answer_of look) in
-    leads_bind (Here (Marked s c mark) (λ own' k. Below s c k own')) (λ own' _. Registers s c own') (own ++ look ∷ []) (search_free s c mark) (register_next l s c ops att mark)
-    (search-leads s c mark (own ++ look ∷ []) (marked-now s c own look asks holding)) (λ own' found here. next-leads l s c ops att mark found own' here)
+    leads_bind (Here (Marked s c mark) (λ own' k. Below s c k own')) (λ own' _. Registers s c own') (own ++ look ∷ [])
+    (search_free s c mark) (register_next l s c ops att mark)
+    (search-leads s c mark (own ++ look ∷ []) (marked-now s c own look asks holding))
+    (λ own' found here. next-leads l s c ops att mark found own' here)
 
-held-leads : (l : Limits) (s : SelNo) (c : ChanNo) (ops att : ℕ) (own : List Act) → Holding c own → Leads (λ own' _. Registers s c own') own (register_held l s c ops att)
+held-leads : (l : Limits) (s : SelNo) (c : ChanNo) (ops att : ℕ) (own : List Act) → Holding c own
+    → Leads (λ own' _. Registers s c own') own (register_held l s c ops att)
 held-leads l s c ops att own holding = λ look asks.
     let looked = holding-more c own look (ap still asks) holding in
-    leads_if (λ own' _. Registers s c own') (own ++ look ∷ []) (channel_in (answer_of look)).closed (reply (Err ChannelError.ClosedChannel)) _ (λ _. inl looked.quiet.calm)
-    (λ _. leads_if (λ own' _. Registers s c own') (own ++ look ∷ []) (channel_in (answer_of look)).blocking (reply (Err ChannelError.IllegalBlockingMode)) (register_unblocked l s c ops att) (λ _. inl looked.quiet.calm)
+    leads_if (λ own' _. Registers s c own') (own ++ look ∷ []) (channel_in (answer_of look)).closed
+    (reply (Err ChannelError.ClosedChannel)) _ (λ _. inl looked.quiet.calm)
+    (λ _. leads_if (λ own' _. Registers s c own') (own ++ look ∷ []) (channel_in (answer_of look)).blocking
+    (reply (Err ChannelError.IllegalBlockingMode)) (register_unblocked l s c ops att) (λ _. inl looked.quiet.calm)
     (λ _ noted asks'.
-    leads_bind (λ own' _. Holding c own') (λ own' _. Registers s c own') ((own ++ look ∷ []) ++ noted ∷ []) (register_over s ops att (noted_in (answer_of noted))) (register_rest l s c ops att)
-    ((over-stays s ops att (noted_in (answer_of noted))).leads ((own ++ look ∷ []) ++ noted ∷ []) (holding-more c (own ++ look ∷ []) noted (ap still asks') looked))
+    leads_bind (λ own' _. Holding c own') (λ own' _. Registers s c own') ((own ++ look ∷ []) ++ noted ∷ [])
+    (register_over s ops att (noted_in (answer_of noted))) (register_rest l s c ops att)
+    ((over-stays s ops att (noted_in (answer_of noted))).leads ((own ++ look ∷ []) ++ noted ∷ [])
+    (holding-more c (own ++ look ∷ []) noted (ap still asks') looked))
     (λ own' over here. rest-leads l s c ops att over own' here)))
 
 -- ---- the whole registration
 
 -- there is one such act
-one_loud : (before later xs ys : List Act) (p e : Act) → has is_loud before ≡ false → has is_loud later ≡ false → is_loud e ≡ true → before ++ p ∷ later ≡ xs ++ e ∷ ys
+one_loud : (before later xs ys : List Act) (p e : Act) → has is_loud before ≡ false → has is_loud later ≡ false
+    → is_loud e ≡ true → before ++ p ∷ later ≡ xs ++ e ∷ ys
     → (before ≡ xs) × (p ≡ e) × (later ≡ ys)
 one_loud before later xs ys p e none none' loud same = by_part (split_at before (p ∷ later) xs e ys same)
   where
-    by_place : (start : List Act) → xs ≡ before ++ start → ((p ≡ e) × (later ≡ ys)) ⊎ ((further : List Act) × (start ≡ p ∷ further) × (later ≡ further ++ e ∷ ys)) → start ++ e ∷ ys ≡ p ∷ later
+    by_place : (start : List Act) → xs ≡ before ++ start
+        → ((p ≡ e) × (later ≡ ys)) ⊎ ((further : List Act) × (start ≡ p ∷ further) × (later ≡ further ++ e ∷ ys))
+        → start ++ e ∷ ys ≡ p ∷ later
         → (before ≡ xs) × (p ≡ e) × (later ≡ ys)
     by_place [] is (inl here) parts = (sym (append-nil before) ∙ sym is, here.0, here.1)
     by_place (x ∷ start) is (inl here) parts =
         let rest : start ++ e ∷ ys ≡ later = cc parts in
         absurd (no_such_act is_loud start e ys (ap (has is_loud) rest ∙ none') loud)
-    by_place start is (inr there) parts = absurd (no_such_act is_loud there.0 e ys (ap (has is_loud) (sym there.2) ∙ none') loud)
+    by_place start is (inr there) parts =
+        absurd (no_such_act is_loud there.0 e ys (ap (has is_loud) (sym there.2) ∙ none') loud)
 
-    by_part : InFirst before (p ∷ later) xs e ys ⊎ InSecond before (p ∷ later) xs e ys → (before ≡ xs) × (p ≡ e) × (later ≡ ys)
+    by_part : InFirst before (p ∷ later) xs e ys ⊎ InSecond before (p ∷ later) xs e ys
+        → (before ≡ xs) × (p ≡ e) × (later ≡ ys)
     by_part (inl there) = absurd (no_such_act is_loud xs e there.rest (ap (has is_loud) (sym there.parts) ∙ none) loud)
-    by_part (inr there) = by_place there.start there.before_is (first_or_later p later there.start e ys there.parts) (sym there.parts)
+    by_part (inr there) =
+        by_place there.start there.before_is (first_or_later p later there.start e ys there.parts) (sym there.parts)
 
 releases-it : (c : ChanNo) (act : Act) → question_of act ≡ Question.release c → releases c.0 act ≡ true
-releases-it c (Release c') asks = let same : c' ≡ c = cc asks in ap (λ (d : ChanNo). d.0 == c.0) same ∙ eq-eqb c.0 c.0 refl
+releases-it c (Release c') asks = let same : c' ≡ c =
+    cc asks in ap (λ (d : ChanNo). d.0 == c.0) same ∙ eq-eqb c.0 c.0 refl
 releases-it c _ asks = absurd (cc asks)
 
-publish-kept : (s : SelNo) (c : ChanNo) (k : KeyId) (own : List Act) (there : Published s c k own) → has (releases c.0) there.later ≡ true → PublishKept there.before s k.index there.found there.later
+publish-kept : (s : SelNo) (c : ChanNo) (k : KeyId) (own : List Act) (there : Published s c k own)
+    → has (releases c.0) there.later ≡ true → PublishKept there.before s k.index there.found there.later
 publish-kept s c k own there given_back = record {
   claim = record { channel = c; serial = k.serial };
   claimed = noted.claim;
   held = noted.held;
   given_back = given_back;
   noted = noted.noted;
-  noted_alone = all_one (count-append (notes_for c.0) (under c.0 there.before) (until_released c.0 there.later)) noted.alone
-      (count-none (notes_for c.0) (until_released c.0 there.later) (until_released-done (notes_for c.0) c.0 there.later there.quiet.unnoted));
-  mode = has-neither (sets_mode c.0) (under c.0 there.before) (until_released c.0 there.later) (since_from-none (sets_mode c.0) (takes_hold c.0) there.before noted.unset)
+  noted_alone =
+      all_one (count-append (notes_for c.0) (under c.0 there.before) (until_released c.0 there.later)) noted.alone
+      (count-none (notes_for c.0) (until_released c.0 there.later)
+      (until_released-done (notes_for c.0) c.0 there.later there.quiet.unnoted));
+  mode = has-neither (sets_mode c.0) (under c.0 there.before) (until_released c.0 there.later)
+      (since_from-none (sets_mode c.0) (takes_hold c.0) there.before noted.unset)
       (until_released-done (sets_mode c.0) c.0 there.later there.quiet.unset);
   prepared = noted.prepared;
   settled = there.settled;
@@ -591,13 +737,21 @@ publish-kept s c k own there given_back = record {
     all_one : {all first second : ℕ} → all ≡ first + second → first ≡ 1 → second ≡ 0 → all ≡ 1
     all_one sum one none = omega arith
 
-registers-kept : (l : Limits) (s : SelNo) (c : ChanNo) (own : List Act) (act : Act) → question_of act ≡ Question.release c → Registers s c own → Kept l (own ++ act ∷ [])
+registers-kept : (l : Limits) (s : SelNo) (c : ChanNo) (own : List Act) (act : Act)
+    → question_of act ≡ Question.release c → Registers s c own → Kept l (own ++ act ∷ [])
 unfolding published-more
-registers-kept l s c own act asks (inl calm) = kept-calm l (own ++ act ∷ []) (has-neither is_loud own (act ∷ []) calm (quiet-one c act (ap still asks)).calm)
+registers-kept l s c own act asks (inl calm) =
+    kept-calm l (own ++ act ∷ []) (has-neither is_loud own (act ∷ []) calm (quiet-one c act (ap still asks)).calm)
 registers-kept l s c own act asks (inr registered) = record {
-  publishes = λ xs s' i found ys parts. its_publish xs s' i found ys (one_loud there.before there.later xs ys (Publish s k.index there.found) (Publish s' i found) there.noted.calm there.quiet.calm refl (sym there.parts ∙ parts));
-  closes = λ xs c' ys parts t k' below. absurd (cc (one_loud there.before there.later xs ys (Publish s k.index there.found) (CloseBit c' false) there.noted.calm there.quiet.calm refl (sym there.parts ∙ parts)).1);
-  enters = λ xs s' ys parts. absurd (cc (one_loud there.before there.later xs ys (Publish s k.index there.found) (Enter s' None) there.noted.calm there.quiet.calm refl (sym there.parts ∙ parts)).1);
+  publishes = λ xs s' i found ys parts. its_publish xs s' i found ys
+      (one_loud there.before there.later xs ys (Publish s k.index there.found)
+      (Publish s' i found) there.noted.calm there.quiet.calm refl (sym there.parts ∙ parts));
+  closes = λ xs c' ys parts t k' below. absurd
+      (cc (one_loud there.before there.later xs ys (Publish s k.index there.found)
+      (CloseBit c' false) there.noted.calm there.quiet.calm refl (sym there.parts ∙ parts)).1);
+  enters = λ xs s' ys parts. absurd
+      (cc (one_loud there.before there.later xs ys (Publish s k.index there.found)
+      (Enter s' None) there.noted.calm there.quiet.calm refl (sym there.parts ∙ parts)).1);
 }
   where
     k : KeyId
@@ -609,7 +763,8 @@ registers-kept l s c own act asks (inr registered) = record {
     given_back : has (releases c.0) there.later ≡ true
     given_back = has-second (releases c.0) registered.1.later (act ∷ []) (ap (λ b. b || false) (releases-it c act asks))
 
-    its_publish : (xs : List Act) (s' : SelNo) (i : ℕ) (found : Stage) (ys : List Act) → (there.before ≡ xs) × (Publish s k.index there.found ≡ Publish s' i found) × (there.later ≡ ys)
+    its_publish : (xs : List Act) (s' : SelNo) (i : ℕ) (found : Stage) (ys : List Act)
+        → (there.before ≡ xs) × (Publish s k.index there.found ≡ Publish s' i found) × (there.later ≡ ys)
         → PublishKept xs s' i found ys
     its_publish xs s' i found ys same =
         let first : s ≡ s' = cc same.1 in
@@ -619,31 +774,48 @@ registers-kept l s c own act asks (inr registered) = record {
         (subst (λ zs. PublishKept zs s' i found there.later) same.0
         (subst (λ (t : SelNo). PublishKept there.before t i found there.later) first
         (subst (λ (j : ℕ). PublishKept there.before s j found there.later) second
-        (subst (λ (f : Stage). PublishKept there.before s k.index f there.later) third (publish-kept s c k (own ++ act ∷ []) there given_back)))))
+        (subst (λ (f : Stage). PublishKept there.before s k.index f there.later) third
+        (publish-kept s c k (own ++ act ∷ []) there given_back)))))
 
-takes-it : (c : ChanNo) (act : Act) → question_of act ≡ Question.try_hold_bit c → is_some (holder_in (answer_of act)) ≡ false → takes_hold c.0 act ≡ true
-takes-it c (TryHoldBit c' None) asks free = let same : c' ≡ c = cc asks in ap (λ (d : ChanNo). d.0 == c.0) same ∙ eq-eqb c.0 c.0 refl
+takes-it : (c : ChanNo) (act : Act) → question_of act ≡ Question.try_hold_bit c
+    → is_some (holder_in (answer_of act)) ≡ false → takes_hold c.0 act ≡ true
+takes-it c (TryHoldBit c' None) asks free = let same : c' ≡ c =
+    cc asks in ap (λ (d : ChanNo). d.0 == c.0) same ∙ eq-eqb c.0 c.0 refl
 takes-it c (TryHoldBit c' (Some n)) asks free = absurd (cc free)
 takes-it c _ asks free = absurd (cc asks)
 
-under_hold-leads : (l : Limits) (s : SelNo) (c : ChanNo) (own : List Act) (steps : Plan (Result KeyNo ChannelError)) → Quiet c own
-    → ((own' : List Act) → Holding c own' → Leads (λ xs _. Registers s c xs) own' steps) → Leads (λ xs _. Kept l xs) own (under_hold c steps)
+under_hold-leads : (l : Limits) (s : SelNo) (c : ChanNo) (own : List Act) (steps : Plan (Result KeyNo ChannelError))
+    → Quiet c own
+    → ((own' : List Act) → Holding c own' → Leads (λ xs _. Registers s c xs) own' steps)
+    → Leads (λ xs _. Kept l xs) own (under_hold c steps)
 under_hold-leads l s c own steps quiet leads = λ held asks.
     let more = quiet-more c own held (ap still asks) quiet in
-    leads_if (λ xs _. Kept l xs) (own ++ held ∷ []) (is_some (holder_in (answer_of held))) (reply (Err ChannelError.Busy)) (steps >>= λ answer. (release c >> reply answer))
+    leads_if (λ xs _. Kept l xs) (own ++ held ∷ []) (is_some (holder_in (answer_of held)))
+    (reply (Err ChannelError.Busy)) (steps >>= λ answer. (release c >> reply answer))
     (λ _. kept-calm l (own ++ held ∷ []) more.calm)
-    (λ free. leads_bind (λ xs _. Registers s c xs) (λ xs _. Kept l xs) (own ++ held ∷ []) steps (λ answer. (release c >> reply answer))
-    (leads (own ++ held ∷ []) (record { held = has-second (takes_hold c.0) own (held ∷ []) (ap (λ b. b || false) (takes-it c held asks free)); quiet = more }))
+    (λ free. leads_bind (λ xs _. Registers s c xs) (λ xs _. Kept l xs) (own ++ held ∷ []) steps
+    (λ answer. (release c >> reply answer))
+    (leads (own ++ held ∷ [])
+    (record {
+      held = has-second (takes_hold c.0) own (held ∷ []) (ap (λ b. b || false) (takes-it c held asks free));
+      quiet = more;
+    }))
     (λ xs answer here released asks'. registers-kept l s c xs released asks' here))
 
-register-leads : (l : Limits) (s : SelNo) (c : ChanNo) (ops att : ℕ) → Leads (λ own _. Kept l own) [] (try_register_plan l s c ops att)
+register-leads : (l : Limits) (s : SelNo) (c : ChanNo) (ops att : ℕ)
+    → Leads (λ own _. Kept l own) [] (try_register_plan l s c ops att)
 unfolding try_register_plan
 register-leads l s c ops att = λ look asks.
     let quiet = quiet-one c look (ap still asks) in
     let found = channel_in (answer_of look) in
-    leads_if (λ own _. Kept l own) (look ∷ []) (not (is_within ops (valid_operations found.kind))) (reply (Err ChannelError.IllegalOps)) _ (λ _. kept-calm l (look ∷ []) quiet.calm)
-    (λ _. leads_if (λ own _. Kept l own) (look ∷ []) found.closed (reply (Err ChannelError.ClosedChannel)) (under_hold c (register_held l s c ops att)) (λ _. kept-calm l (look ∷ []) quiet.calm)
-    (λ _. under_hold-leads l s c (look ∷ []) (register_held l s c ops att) quiet (λ own holding. held-leads l s c ops att own holding)))
+    leads_if (λ own _. Kept l own) (look ∷ []) (not (is_within ops (valid_operations found.kind)))
+    (reply (Err ChannelError.IllegalOps)) _ (λ _. kept-calm l (look ∷ []) quiet.calm)
+    (λ _. leads_if (λ own _. Kept l own) (look ∷ []) found.closed (reply (Err ChannelError.ClosedChannel))
+    (under_hold c (register_held l s c ops att)) (λ _. kept-calm l (look ∷ []) quiet.calm)
+    (λ _. under_hold-leads l s c (look ∷ []) (register_held l s c ops att) quiet
+    (λ own holding. held-leads l s c ops att own holding)))
 
-pub register-kept : (l : Limits) (s : SelNo) (c : ChanNo) (ops att : ℕ) (acts : List Act) (answer : Result KeyNo ChannelError) → Completes (try_register_plan l s c ops att) acts answer → Kept l acts
-register-kept l s c ops att acts answer run = leads_run (λ own _. Kept l own) [] (try_register_plan l s c ops att) acts answer (register-leads l s c ops att) run
+pub register-kept : (l : Limits) (s : SelNo) (c : ChanNo) (ops att : ℕ) (acts : List Act)
+    (answer : Result KeyNo ChannelError) → Completes (try_register_plan l s c ops att) acts answer → Kept l acts
+register-kept l s c ops att acts answer run =
+    leads_run (λ own _. Kept l own) [] (try_register_plan l s c ops att) acts answer (register-leads l s c ops att) run

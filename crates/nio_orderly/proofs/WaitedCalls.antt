@@ -1,5 +1,6 @@
 -- A call that waits is a list of whole calls: the tries, and the one that says that it is over.
-use Rattle.std.proofs.Common.{◌≡◌, ℕ, ◌==◌, Bool, true, false, if◌then◌else◌, Option, Some, None, Result, Ok, Err, List, [], ◌∷◌, ◌++◌, refl, ap, sym, ◌∙◌, subst, eq-eqb}
+use Rattle.std.proofs.Common.{◌≡◌, ℕ, ◌==◌, Bool, true, false, if◌then◌else◌, Option, Some, None, Result, Ok, Err, List}
+use Rattle.std.proofs.Common.{[], ◌∷◌, ◌++◌, refl, ap, sym, ◌∙◌, subst, eq-eqb}
 use Rattle.std.specs.List.{All}
 use Rattle.std.proofs.lemmas.List.Elements.{All-nil, All-append, All-head, All-tail}
 use Rattle.nio_base.specs.declared.limits.Limits.{Limits}
@@ -10,7 +11,9 @@ use Rattle.nio_event.specs.State.{put}
 use Rattle.nio_event.specs.declared.act.Act.{Act}
 use Rattle.nio_event.specs.declared.found.Mode.{Mode}
 use Rattle.nio_orderly.proofs.CallLists.{runs_append, order_append, run_one}
-use Rattle.nio_orderly.specs.Made.{Made, IsRun, Ongoing, nothing_ongoing, selecting, closes_on, after_call, after_calls, MayCome, AreInOrder, try_set_blocking, try_register, try_begin, told, leave, shut, try_finish, try_read, try_write, set_blocking, register, select, close, read, write}
+use Rattle.nio_orderly.specs.Made.{Made, IsRun, Ongoing, nothing_ongoing, selecting, closes_on, after_call, after_calls}
+use Rattle.nio_orderly.specs.Made.{MayCome, AreInOrder, try_set_blocking, try_register, try_begin, told, leave, shut}
+use Rattle.nio_orderly.specs.Made.{try_finish, try_read, try_write, set_blocking, register, select, close, read, write}
 use Rattle.nio_orderly.specs.Orderly.{AreRuns}
 use Rattle.nio_orderly.specs.Waited.{waits, AreCallsFrom, WaitingCallsAreCalls, CallsWithoutWaiting}
 use Rattle.nio_steps.proofs.BeginLaws.{begin-parts}
@@ -20,7 +23,11 @@ use Rattle.nio_steps.specs.ChannelCalls.{try_set_blocking_plan, try_register_pla
 use Rattle.nio_steps.specs.PipeCalls.{Waits, waits_for_bytes, try_read_plan, try_write_plan}
 use Rattle.nio_steps.specs.Plan.{reply, ◌>>◌}
 use Rattle.nio_steps.specs.Runs.{Completes}
-use Rattle.nio_steps.specs.SelectCalls.{Selection, Begins, begin_finds_busy, Poll, Tells, goes_on_after, ToldReply, done, again, told_plan, mark_entry, after_marks, is_again, why_ended, remove_if_cancelled, end_selection, SelectReply, selected, not_begun, left, SelectsRest, ShutReply, closing, already_closed, FinishReply, closed, busy, finish_finds_busy, ClosesRest, shut_plan, try_finish_plan}
+use Rattle.nio_steps.specs.SelectCalls.{Selection, Begins, begin_finds_busy, Poll, Tells, goes_on_after, ToldReply}
+use Rattle.nio_steps.specs.SelectCalls.{done, again, told_plan, mark_entry, after_marks, is_again, why_ended}
+use Rattle.nio_steps.specs.SelectCalls.{remove_if_cancelled, end_selection, SelectReply, selected, not_begun, left}
+use Rattle.nio_steps.specs.SelectCalls.{SelectsRest, ShutReply, closing, already_closed, FinishReply, closed, busy}
+use Rattle.nio_steps.specs.SelectCalls.{finish_finds_busy, ClosesRest, shut_plan, try_finish_plan}
 use Rattle.nio_steps.specs.Steps.{flag_in, gate_in, end_wake, give_turn}
 use Rattle.nio_steps.specs.Sweeps.{sweep_over}
 use Rattle.nio_steps.specs.Waiting.{Then, Run, acts_of, Tries, Repeats, Retries}
@@ -37,18 +44,29 @@ record CallsTo (l : Limits) (now : Ongoing) (acts : List Act) (Then' : Ongoing �
   in_order : AreInOrder now calls
   after : Then' (after_calls now calls)
 
-after_calls-append : (now : Ongoing) (calls later : List Made) → after_calls now (calls ++ later) ≡ after_calls (after_calls now calls) later
+after_calls-append : (now : Ongoing) (calls later : List Made)
+    → after_calls now (calls ++ later) ≡ after_calls (after_calls now calls) later
 after_calls-append now [] later = refl
 after_calls-append now (call ∷ calls) later = after_calls-append (after_call now call) calls later
 
 no_calls : (l : Limits) (now : Ongoing) (Then' : Ongoing → Type 0) → Then' now → CallsTo l now [] Then'
-no_calls l now Then' here = record { calls = []; unwaiting = All-nil (λ call. waits call ≡ false); runs = refl; in_order = tt; after = here }
+no_calls l now Then' here =
+    record { calls = []; unwaiting = All-nil (λ call. waits call ≡ false); runs = refl; in_order = tt; after = here }
 
-one_call : (l : Limits) (now : Ongoing) (acts : List Act) (Then' : Ongoing → Type 0) (call : Made) → waits call ≡ false → IsRun l call acts → MayCome now call → Then' (after_call now call)
+one_call : (l : Limits) (now : Ongoing) (acts : List Act) (Then' : Ongoing → Type 0) (call : Made) → waits call ≡ false
+    → IsRun l call acts → MayCome now call → Then' (after_call now call)
     → CallsTo l now acts Then'
-one_call l now acts Then' call is run may here = record { calls = call ∷ []; unwaiting = all-one (λ x. waits x ≡ false) call is; runs = run_one l call acts run; in_order = (may, tt); after = here }
+one_call l now acts Then' call is run may here =
+    record {
+      calls = call ∷ [];
+      unwaiting = all-one (λ x. waits x ≡ false) call is;
+      runs = run_one l call acts run;
+      in_order = (may, tt);
+      after = here;
+    }
 
-then_calls : (l : Limits) (now : Ongoing) (xs ys : List Act) (Mid Then' : Ongoing → Type 0) → CallsTo l now xs Mid → ((now' : Ongoing) → Mid now' → CallsTo l now' ys Then') → CallsTo l now (xs ++ ys) Then'
+then_calls : (l : Limits) (now : Ongoing) (xs ys : List Act) (Mid Then' : Ongoing → Type 0) → CallsTo l now xs Mid
+    → ((now' : Ongoing) → Mid now' → CallsTo l now' ys Then') → CallsTo l now (xs ++ ys) Then'
 then_calls l now xs ys Mid Then' first later =
     let second = later (after_calls now first.calls) first.after in
     record {
@@ -63,65 +81,105 @@ then_calls l now xs ys Mid Then' first later =
 abbrev Now : Ongoing → Ongoing → Type 0
 Now after now = now ≡ after
 
-calls_from : (l : Limits) (now : Ongoing) (acts : List Act) (after : Ongoing) → CallsTo l now acts (Now after) → AreCallsFrom l now acts after
-calls_from l now acts after made = record { calls = made.calls; unwaiting = made.unwaiting; runs = made.runs; in_order = made.in_order; leaves = made.after }
+calls_from : (l : Limits) (now : Ongoing) (acts : List Act) (after : Ongoing) → CallsTo l now acts (Now after)
+    → AreCallsFrom l now acts after
+calls_from l now acts after made =
+    record {
+      calls = made.calls;
+      unwaiting = made.unwaiting;
+      runs = made.runs;
+      in_order = made.in_order;
+      leaves = made.after;
+    }
 
 -- ---- the same call again and again
 
 -- each run of the shape is such a call, which may come, and leaves it so that it may come again
-abbrev MayRepeat : {X R : Type 0} → Limits → (X → List Act → R → Type 0) → (X → R → Bool) → (Ongoing → Type 0) → (X → R → Made) → Type 0
+abbrev MayRepeat : {X R : Type 0} → Limits → (X → List Act → R → Type 0) → (X → R → Bool) → (Ongoing → Type 0)
+    → (X → R → Made) → Type 0
 MayRepeat {X} {R} l Shape goes_on Stays call =
     (now : Ongoing) (x : X) (acts : List Act) (r : R) → Stays now → Shape x acts r → goes_on x r ≡ true
     → (waits (call x r) ≡ false) × IsRun l (call x r) acts × MayCome now (call x r) × Stays (after_call now (call x r))
 
-runs_calls : {X R : Type 0} (l : Limits) (Shape : X → List Act → R → Type 0) (goes_on : X → R → Bool) (Stays : Ongoing → Type 0) (call : X → R → Made) → MayRepeat l Shape goes_on Stays call
-    → (runs : List (Run X R)) → All (λ run. Shape run.given run.acts run.answer) runs → All (λ run. goes_on run.given run.answer ≡ true) runs
+runs_calls : {X R : Type 0} (l : Limits) (Shape : X → List Act → R → Type 0) (goes_on : X → R → Bool)
+    (Stays : Ongoing → Type 0) (call : X → R → Made) → MayRepeat l Shape goes_on Stays call
+    → (runs : List (Run X R)) → All (λ run. Shape run.given run.acts run.answer) runs
+    → All (λ run. goes_on run.given run.answer ≡ true) runs
     → (now : Ongoing) → Stays now → CallsTo l now (acts_of runs) Stays
 runs_calls l Shape goes_on Stays call repeats [] made goes now here = no_calls l now Stays here
 runs_calls l Shape goes_on Stays call repeats (run ∷ later) made goes now here =
-    let its = repeats now run.given run.acts run.answer here (All-head (λ r. Shape r.given r.acts r.answer) run later made) (All-head (λ r. goes_on r.given r.answer ≡ true) run later goes) in
-    then_calls l now run.acts (acts_of later) Stays Stays (one_call l now run.acts Stays (call run.given run.answer) its.0 its.1 its.2 its.3)
-    (λ now' here'. runs_calls l Shape goes_on Stays call repeats later (All-tail (λ r. Shape r.given r.acts r.answer) run later made) (All-tail (λ r. goes_on r.given r.answer ≡ true) run later goes) now' here')
+    let its = repeats now run.given run.acts run.answer here
+    (All-head (λ r. Shape r.given r.acts r.answer) run later made)
+    (All-head (λ r. goes_on r.given r.answer ≡ true) run later goes) in
+    then_calls l now run.acts (acts_of later) Stays Stays
+    (one_call l now run.acts Stays (call run.given run.answer) its.0 its.1 its.2 its.3)
+    (λ now' here'. runs_calls l Shape goes_on Stays call repeats later
+    (All-tail (λ r. Shape r.given r.acts r.answer) run later made)
+    (All-tail (λ r. goes_on r.given r.answer ≡ true) run later goes) now' here')
 
-tries_calls : {X R : Type 0} (l : Limits) (Shape : X → List Act → R → Type 0) (goes_on : X → R → Bool) (Stays : Ongoing → Type 0) (call : X → R → Made) → MayRepeat l Shape goes_on Stays call
+tries_calls : {X R : Type 0} (l : Limits) (Shape : X → List Act → R → Type 0) (goes_on : X → R → Bool)
+    (Stays : Ongoing → Type 0) (call : X → R → Made) → MayRepeat l Shape goes_on Stays call
     → (acts : List Act) → Tries Shape goes_on acts → (now : Ongoing) → Stays now → CallsTo l now acts Stays
 tries_calls l Shape goes_on Stays call repeats acts tries now here =
-    subst (λ xs. CallsTo l now xs Stays) (sym tries.parts) (runs_calls l Shape goes_on Stays call repeats tries.runs tries.made tries.again now here)
+    subst (λ xs. CallsTo l now xs Stays) (sym tries.parts)
+    (runs_calls l Shape goes_on Stays call repeats tries.runs tries.made tries.again now here)
 
 -- and then one that says that it is over
-repeats_calls : {X R : Type 0} (l : Limits) (Shape : X → List Act → R → Type 0) (goes_on : X → R → Bool) (Stays Over : Ongoing → Type 0) (call : X → R → Made) → MayRepeat l Shape goes_on Stays call
+repeats_calls : {X R : Type 0} (l : Limits) (Shape : X → List Act → R → Type 0) (goes_on : X → R → Bool)
+    (Stays Over : Ongoing → Type 0) (call : X → R → Made) → MayRepeat l Shape goes_on Stays call
     → (acts : List Act) (answer : R) → Repeats Shape goes_on acts answer
     → ((now : Ongoing) (x : X) (xs : List Act) → Stays now → Shape x xs answer → CallsTo l now xs Over)
     → (now : Ongoing) → Stays now → CallsTo l now acts Over
 repeats_calls l Shape goes_on Stays Over call repeats acts answer done' last now here =
     subst (λ xs. CallsTo l now xs Over) (sym done'.parts)
-    (then_calls l now done'.before done'.last.acts Stays Over (tries_calls l Shape goes_on Stays call repeats done'.before done'.tries now here)
-    (λ now' here'. last now' done'.last.given done'.last.acts here' (subst (Shape done'.last.given done'.last.acts) done'.answers done'.made)))
+    (then_calls l now done'.before done'.last.acts Stays Over
+    (tries_calls l Shape goes_on Stays call repeats done'.before done'.tries now here)
+    (λ now' here'. last now' done'.last.given done'.last.acts here'
+    (subst (Shape done'.last.given done'.last.acts) done'.answers done'.made)))
 
 -- ---- calls that leave what is in progress
 
 abbrev IsMadeOfCalls : {R : Type 0} → Limits → (List Act → R → Type 0) → (Ongoing → R → Ongoing) → Type 0
-IsMadeOfCalls {R} l Shape leaves = (now : Ongoing) (acts : List Act) (answer : R) → Shape acts answer → AreCallsFrom l now acts (leaves now answer)
+IsMadeOfCalls {R} l Shape leaves = (now : Ongoing) (acts : List Act) (answer : R) → Shape acts answer
+    → AreCallsFrom l now acts (leaves now answer)
 
-set_blocking-calls : (l : Limits) (c : ChanNo) (on : Bool) → IsMadeOfCalls l (Retries (Completes (try_set_blocking_plan l c on)) finds_held) (λ now _. now)
+set_blocking-calls : (l : Limits) (c : ChanNo) (on : Bool)
+    → IsMadeOfCalls l (Retries (Completes (try_set_blocking_plan l c on)) finds_held) (λ now _. now)
 set_blocking-calls l c on now acts answer retries =
-    calls_from l now acts now (repeats_calls l (λ (_ : Unit {0}). Completes (try_set_blocking_plan l c on)) (λ _. finds_held) (Now now) (Now now) (λ _ r. try_set_blocking c on r)
-    (λ now' _ xs r here run _. (refl, run, tt, here)) acts answer retries (λ now' _ xs here run. one_call l now' xs (Now now) (try_set_blocking c on answer) refl run tt here) now refl)
+    calls_from l now acts now
+    (repeats_calls l (λ (_ : Unit {0}). Completes (try_set_blocking_plan l c on)) (λ _. finds_held) (Now now)
+    (Now now) (λ _ r. try_set_blocking c on r)
+    (λ now' _ xs r here run _. (refl, run, tt, here)) acts answer retries
+    (λ now' _ xs here run. one_call l now' xs (Now now) (try_set_blocking c on answer) refl run tt here) now refl)
 
-register-calls : (l : Limits) (s : SelNo) (c : ChanNo) (ops att : ℕ) → IsMadeOfCalls l (Retries (Completes (try_register_plan l s c ops att)) finds_held) (λ now _. now)
+register-calls : (l : Limits) (s : SelNo) (c : ChanNo) (ops att : ℕ)
+    → IsMadeOfCalls l (Retries (Completes (try_register_plan l s c ops att)) finds_held) (λ now _. now)
 register-calls l s c ops att now acts answer retries =
-    calls_from l now acts now (repeats_calls l (λ (_ : Unit {0}). Completes (try_register_plan l s c ops att)) (λ _. finds_held) (Now now) (Now now) (λ _ r. try_register s c ops att r)
-    (λ now' _ xs r here run _. (refl, run, tt, here)) acts answer retries (λ now' _ xs here run. one_call l now' xs (Now now) (try_register s c ops att answer) refl run tt here) now refl)
+    calls_from l now acts now
+    (repeats_calls l (λ (_ : Unit {0}). Completes (try_register_plan l s c ops att)) (λ _. finds_held) (Now now)
+    (Now now) (λ _ r. try_register s c ops att r)
+    (λ now' _ xs r here run _. (refl, run, tt, here)) acts answer retries
+    (λ now' _ xs here run. one_call l now' xs (Now now) (try_register s c ops att answer) refl run tt here) now
+    refl)
 
-read-calls : (l : Limits) (source : ChanNo) (none : Bool) → IsMadeOfCalls l (Waits (try_read_plan l source) none) (λ now _. now)
+read-calls : (l : Limits) (source : ChanNo) (none : Bool)
+    → IsMadeOfCalls l (Waits (try_read_plan l source) none) (λ now _. now)
 read-calls l source none now acts answer reads =
-    calls_from l now acts now (repeats_calls l (λ (_ : Bool). Completes (try_read_plan l source)) waits_for_bytes (Now now) (Now now) (λ _ r. try_read source r)
-    (λ now' _ xs r here run _. (refl, run, tt, here)) acts reads.found reads.runs (λ now' _ xs here run. one_call l now' xs (Now now) (try_read source reads.found) refl run tt here) now refl)
+    calls_from l now acts now
+    (repeats_calls l (λ (_ : Bool). Completes (try_read_plan l source)) waits_for_bytes (Now now) (Now now)
+    (λ _ r. try_read source r)
+    (λ now' _ xs r here run _. (refl, run, tt, here)) acts reads.found reads.runs
+    (λ now' _ xs here run. one_call l now' xs (Now now) (try_read source reads.found) refl run tt here) now refl)
 
-write-calls : (l : Limits) (source sink : ChanNo) (none : Bool) → IsMadeOfCalls l (Waits (try_write_plan l source sink) none) (λ now _. now)
+write-calls : (l : Limits) (source sink : ChanNo) (none : Bool)
+    → IsMadeOfCalls l (Waits (try_write_plan l source sink) none) (λ now _. now)
 write-calls l source sink none now acts answer writes =
-    calls_from l now acts now (repeats_calls l (λ (_ : Bool). Completes (try_write_plan l source sink)) waits_for_bytes (Now now) (Now now) (λ _ r. try_write source sink r)
-    (λ now' _ xs r here run _. (refl, run, tt, here)) acts writes.found writes.runs (λ now' _ xs here run. one_call l now' xs (Now now) (try_write source sink writes.found) refl run tt here) now refl)
+    calls_from l now acts now
+    (repeats_calls l (λ (_ : Bool). Completes (try_write_plan l source sink)) waits_for_bytes (Now now) (Now now)
+    (λ _ r. try_write source sink r)
+    (λ now' _ xs r here run _. (refl, run, tt, here)) acts writes.found writes.runs
+    (λ now' _ xs here run. one_call l now' xs (Now now) (try_write source sink writes.found) refl run tt here) now
+    refl)
 
 -- ---- closing a selector
 
@@ -135,18 +193,27 @@ put-twice f i x y = λ j n. once n (n == i) j
     once n true = refl
     once n false = refl
 
-close-calls : (l : Limits) (s : SelNo) → IsMadeOfCalls l (Then (Completes (shut_plan s)) (ClosesRest s)) (λ now answer. after_call now (close s answer))
-close-calls l s now acts answer both = subst (λ xs. AreCallsFrom l now xs (after_call now (close s answer))) (sym both.parts) (by_reply both.middle both.runs_first both.runs_second)
+close-calls : (l : Limits) (s : SelNo)
+    → IsMadeOfCalls l (Then (Completes (shut_plan s)) (ClosesRest s)) (λ now answer. after_call now (close s answer))
+close-calls l s now acts answer both =
+    subst (λ xs. AreCallsFrom l now xs (after_call now (close s answer))) (sym both.parts)
+    (by_reply both.middle both.runs_first both.runs_second)
   where
-    by_reply : (middle : ShutReply) → Completes (shut_plan s) both.first middle → ClosesRest s middle both.second answer → AreCallsFrom l now (both.first ++ both.second) (after_call now (close s answer))
+    by_reply : (middle : ShutReply) → Completes (shut_plan s) both.first middle → ClosesRest s middle both.second answer
+        → AreCallsFrom l now (both.first ++ both.second) (after_call now (close s answer))
     by_reply closing first second =
         calls_from l now (both.first ++ both.second) (after_call now (close s answer))
         (subst (λ b. CallsTo l now (both.first ++ both.second) (Now (after_call now (close s b)))) (sym second.0)
-        (then_calls l now both.first both.second (Now shut_now) (Now (closes_on now s false)) (one_call l now both.first (Now shut_now) (shut s closing) refl first tt refl)
-        (λ now' here. repeats_calls l (λ (_ : Unit {0}). Completes (try_finish_plan s)) (λ _. finish_finds_busy) (Now shut_now) (Now (closes_on now s false)) (λ _ r. try_finish s r)
-        (λ now'' _ xs r here' run goes. (refl, run, may now'' here', still now'' r here' goes)) both.second closed second.1
-        (λ now'' _ xs here' run. one_call l now'' xs (Now (closes_on now s false)) (try_finish s closed) refl run (may now'' here')
-        (ap (λ n. closes_on n s false) here' ∙ ap (λ f. record now { closes = f }) (put-twice now.closes s.0 true false))) now' here)))
+        (then_calls l now both.first both.second (Now shut_now) (Now (closes_on now s false))
+        (one_call l now both.first (Now shut_now) (shut s closing) refl first tt refl)
+        (λ now' here. repeats_calls l (λ (_ : Unit {0}). Completes (try_finish_plan s)) (λ _. finish_finds_busy)
+        (Now shut_now) (Now (closes_on now s false)) (λ _ r. try_finish s r)
+        (λ now'' _ xs r here' run goes. (refl, run, may now'' here', still now'' r here' goes)) both.second closed
+        second.1
+        (λ now'' _ xs here' run. one_call l now'' xs (Now (closes_on now s false)) (try_finish s closed) refl run
+        (may now'' here')
+        (ap (λ n. closes_on n s false) here'
+        ∙ ap (λ f. record now { closes = f }) (put-twice now.closes s.0 true false))) now' here)))
       where
         shut_now : Ongoing
         shut_now = closes_on now s true
@@ -154,13 +221,15 @@ close-calls l s now acts answer both = subst (λ xs. AreCallsFrom l now xs (afte
         may : (now'' : Ongoing) → now'' ≡ shut_now → now''.closes s.0 ≡ true
         may now'' here' = ap (λ n. n.closes s.0) here' ∙ put-there now.closes s.0 true
 
-        still : (now'' : Ongoing) (r : FinishReply) → now'' ≡ shut_now → finish_finds_busy r ≡ true → after_call now'' (try_finish s r) ≡ shut_now
+        still : (now'' : Ongoing) (r : FinishReply) → now'' ≡ shut_now → finish_finds_busy r ≡ true
+            → after_call now'' (try_finish s r) ≡ shut_now
         still now'' busy here' is = here'
         still now'' closed here' is = absurd (cc is)
     by_reply already_closed first second =
         calls_from l now (both.first ++ both.second) (after_call now (close s answer))
         (subst (λ b. CallsTo l now (both.first ++ both.second) (Now (after_call now (close s b)))) (sym second.0)
-        (then_calls l now both.first both.second (Now now) (Now now) (one_call l now both.first (Now now) (shut s already_closed) refl first tt refl)
+        (then_calls l now both.first both.second (Now now) (Now now)
+        (one_call l now both.first (Now now) (shut s already_closed) refl first tt refl)
         (λ now' here. subst (λ xs. CallsTo l now' xs (Now now)) (sym second.1) (no_calls l now' (Now now) here))))
 
 -- ---- selecting
@@ -170,115 +239,166 @@ abbrev GoesOn : Selection → ToldReply → Type 0
 GoesOn selection (done answer) = Unit {0}
 GoesOn selection (again next) = next ≡ selection
 
-ends-over : (selection : Selection) (answer : Selected) → Always (λ _ r. GoesOn selection r) (end_selection selection answer)
+ends-over : (selection : Selection) (answer : Selected)
+    → Always (λ _ r. GoesOn selection r) (end_selection selection answer)
 ends-over selection answer =
-    always_bind (λ _ _. Unit {0}) (λ _ r. GoesOn selection r) (sweep_over selection.kept (λ i _. remove_if_cancelled selection.selector i) tt)
-    (λ _. (end_wake selection.selector >> give_turn selection.selector >> reply (done answer))) (always_any _) (λ _ _ _ woken asks given asks'. tt)
+    always_bind (λ _ _. Unit {0}) (λ _ r. GoesOn selection r)
+    (sweep_over selection.kept (λ i _. remove_if_cancelled selection.selector i) tt)
+    (λ _. (end_wake selection.selector >> give_turn selection.selector >> reply (done answer))) (always_any _)
+    (λ _ _ _ woken asks given asks'. tt)
 
-told-goes_on : (selection : Selection) (pairs : List (ℕ × ℕ)) (elapsed : Bool) → Always (λ _ r. GoesOn selection r) (told_plan selection pairs elapsed)
+told-goes_on : (selection : Selection) (pairs : List (ℕ × ℕ)) (elapsed : Bool)
+    → Always (λ _ r. GoesOn selection r) (told_plan selection pairs elapsed)
 unfolding told_plan
 told-goes_on selection pairs elapsed =
-    always_bind (λ _ _. Unit {0}) (λ _ r. GoesOn selection r) (sweep_over selection.looked (mark_entry selection.selector pairs) 0) (after_marks selection elapsed) (always_any _)
+    always_bind (λ _ _. Unit {0}) (λ _ r. GoesOn selection r)
+    (sweep_over selection.looked (mark_entry selection.selector pairs) 0) (after_marks selection elapsed)
+    (always_any _)
     (λ xs count _ look asks look' asks'.
     let gate = gate_in (answer_of look) in
     let is_interrupted = flag_in (answer_of look') in
     let answer : Selected = record { count = count; why = why_ended selection.mode count gate is_interrupted } in
-    always_if (λ _ r. GoesOn selection r) (is_again selection.mode count gate is_interrupted elapsed) (reply (again selection)) (end_selection selection answer) (λ _. refl)
+    always_if (λ _ r. GoesOn selection r) (is_again selection.mode count gate is_interrupted elapsed)
+    (reply (again selection)) (end_selection selection answer) (λ _. refl)
     (λ _. ends-over selection answer))
 
 -- the caller has this selection in progress, and else what it had before
 abbrev Selecting : Ongoing → Selection → Ongoing → Type 0
 Selecting now selection = Now (selecting now selection.selector (Some selection))
 
-may_tell : (now : Ongoing) (selection : Selection) (now' : Ongoing) → Selecting now selection now' → now'.selection selection.selector.0 ≡ Some selection
-may_tell now selection now' here = ap (λ n. n.selection selection.selector.0) here ∙ put-there now.selection selection.selector.0 (Some selection)
+may_tell : (now : Ongoing) (selection : Selection) (now' : Ongoing) → Selecting now selection now'
+    → now'.selection selection.selector.0 ≡ Some selection
+may_tell now selection now' here =
+    ap (λ n. n.selection selection.selector.0) here ∙ put-there now.selection selection.selector.0 (Some selection)
 
-then_selecting : (now : Ongoing) (selection : Selection) (now' : Ongoing) (x : Option Selection) → Selecting now selection now' → selecting now' selection.selector x ≡ selecting now selection.selector x
+then_selecting : (now : Ongoing) (selection : Selection) (now' : Ongoing) (x : Option Selection)
+    → Selecting now selection now' → selecting now' selection.selector x ≡ selecting now selection.selector x
 then_selecting now selection now' x here =
-    ap (λ n. selecting n selection.selector x) here ∙ ap (λ f. record now { selection = f }) (put-twice now.selection selection.selector.0 (Some selection) x)
+    ap (λ n. selecting n selection.selector x) here
+    ∙ ap (λ f. record now { selection = f }) (put-twice now.selection selection.selector.0 (Some selection) x)
 
-told-repeats : (l : Limits) (now : Ongoing) (selection : Selection) → MayRepeat l (Tells selection) goes_on_after (Selecting now selection) (λ poll r. told selection poll r)
+told-repeats : (l : Limits) (now : Ongoing) (selection : Selection)
+    → MayRepeat l (Tells selection) goes_on_after (Selecting now selection) (λ poll r. told selection poll r)
 told-repeats l now selection now' poll acts (done answer) here run goes = absurd (cc goes)
 told-repeats l now selection now' poll acts (again next) here run goes =
-    let same : next ≡ selection = always_run (λ _ r. GoesOn selection r) (told_plan selection poll.pairs poll.elapsed) acts (again next) (told-goes_on selection poll.pairs poll.elapsed) run in
-    (refl, run, may_tell now selection now' here, ap (λ (x : Selection). selecting now' selection.selector (Some x)) same ∙ then_selecting now selection now' (Some selection) here)
+    let same : next ≡ selection = always_run (λ _ r. GoesOn selection r) (told_plan selection poll.pairs poll.elapsed)
+    acts (again next) (told-goes_on selection poll.pairs poll.elapsed) run in (
+      refl,
+      run,
+      may_tell now selection now' here,
+      ap (λ (x : Selection). selecting now' selection.selector (Some x)) same
+          ∙ then_selecting now selection now' (Some selection) here,
+    )
 
-selection-calls : (l : Limits) (now : Ongoing) (polls : List Poll) (selection : Selection) (acts : List Act) (answer : SelectReply) → SelectsRest polls (Ok selection) acts answer
-    → (mode : Mode) (now' : Ongoing) → Selecting now selection now' → CallsTo l now' acts (Now (after_call now (select selection.selector mode polls answer)))
+selection-calls : (l : Limits) (now : Ongoing) (polls : List Poll) (selection : Selection) (acts : List Act)
+    (answer : SelectReply) → SelectsRest polls (Ok selection) acts answer
+    → (mode : Mode) (now' : Ongoing) → Selecting now selection now'
+    → CallsTo l now' acts (Now (after_call now (select selection.selector mode polls answer)))
 selection-calls l now polls selection acts (selected answer) rest mode now' here =
-    repeats_calls l (Tells selection) goes_on_after (Selecting now selection) (Now (selecting now selection.selector None)) (λ poll r. told selection poll r) (told-repeats l now selection) acts (done answer) rest.tells
-    (λ now'' poll xs here' run. one_call l now'' xs (Now (selecting now selection.selector None)) (told selection poll (done answer)) refl run (may_tell now selection now'' here')
+    repeats_calls l (Tells selection) goes_on_after (Selecting now selection)
+    (Now (selecting now selection.selector None)) (λ poll r. told selection poll r)
+    (told-repeats l now selection) acts (done answer) rest.tells
+    (λ now'' poll xs here' run. one_call l now'' xs (Now (selecting now selection.selector None))
+    (told selection poll (done answer)) refl run (may_tell now selection now'' here')
     (then_selecting now selection now'' None here')) now' here
 selection-calls l now polls selection acts (not_begun refusal) rest mode now' here = absurd rest
 selection-calls l now polls selection acts left rest mode now' here =
     subst (λ xs. CallsTo l now' xs (Now (selecting now selection.selector None))) (sym rest.parts)
     (then_calls l now' rest.told rest.leaves (Selecting now selection) (Now (selecting now selection.selector None))
-    (tries_calls l (Tells selection) goes_on_after (Selecting now selection) (λ poll r. told selection poll r) (told-repeats l now selection) rest.told rest.tells now' here)
-    (λ now'' here'. one_call l now'' rest.leaves (Now (selecting now selection.selector None)) (leave selection) refl rest.left (may_tell now selection now'' here') (then_selecting now selection now'' None here')))
+    (tries_calls l (Tells selection) goes_on_after (Selecting now selection) (λ poll r. told selection poll r)
+    (told-repeats l now selection) rest.told rest.tells now' here)
+    (λ now'' here'. one_call l now'' rest.leaves (Now (selecting now selection.selector None))
+    (leave selection) refl rest.left (may_tell now selection now'' here')
+    (then_selecting now selection now'' None here')))
 
 -- what is in progress after a beginning
 abbrev AfterBegin : Ongoing → SelNo → Result Selection BeginError → Ongoing → Type 0
 AfterBegin now s (Ok selection) now' = (selection.selector ≡ s) × Selecting now selection now'
 AfterBegin now s (Err refusal) now' = now' ≡ now
 
-begins-calls : (l : Limits) (s : SelNo) (mode : Mode) (now : Ongoing) (answer : Result Selection BeginError) (acts : List Act) → Begins s mode acts answer → (now' : Ongoing) → now' ≡ now
+begins-calls : (l : Limits) (s : SelNo) (mode : Mode) (now : Ongoing) (answer : Result Selection BeginError)
+    (acts : List Act) → Begins s mode acts answer → (now' : Ongoing) → now' ≡ now
     → CallsTo l now' acts (AfterBegin now s answer)
 begins-calls l s mode now (Ok selection) acts begins now' here =
     let same : selection.selector ≡ s = (begin-parts s mode acts selection begins).selector in
-    one_call l now' acts (AfterBegin now s (Ok selection)) (try_begin s mode (Ok selection)) refl begins tt
-    (same, ap (λ n. selecting n s (Some selection)) here ∙ ap (λ (t : SelNo). selecting now t (Some selection)) (sym same))
-begins-calls l s mode now (Err refusal) acts begins now' here = one_call l now' acts (AfterBegin now s (Err refusal)) (try_begin s mode (Err refusal)) refl begins tt here
+    one_call l now' acts (AfterBegin now s (Ok selection)) (try_begin s mode (Ok selection)) refl begins tt (
+      same,
+      ap (λ n. selecting n s (Some selection)) here
+          ∙ ap (λ (t : SelNo). selecting now t (Some selection)) (sym same),
+    )
+begins-calls l s mode now (Err refusal) acts begins now' here =
+    one_call l now' acts (AfterBegin now s (Err refusal)) (try_begin s mode (Err refusal)) refl begins tt here
 
-begins-repeat : (l : Limits) (s : SelNo) (mode : Mode) (now : Ongoing) → MayRepeat l (λ (_ : Unit {0}). Begins s mode) (λ _. begin_finds_busy) (Now now) (λ _ r. try_begin s mode r)
+begins-repeat : (l : Limits) (s : SelNo) (mode : Mode) (now : Ongoing)
+    → MayRepeat l (λ (_ : Unit {0}). Begins s mode) (λ _. begin_finds_busy) (Now now) (λ _ r. try_begin s mode r)
 begins-repeat l s mode now now' _ acts (Ok selection) here run goes = absurd (cc goes)
 begins-repeat l s mode now now' _ acts (Err refusal) here run goes = (refl, run, tt, here)
 
 select-calls : (l : Limits) (s : SelNo) (mode : Mode) (polls : List Poll)
-    → IsMadeOfCalls l (Then (Retries (Begins s mode) begin_finds_busy) (SelectsRest polls)) (λ now answer. after_call now (select s mode polls answer))
+    → IsMadeOfCalls l (Then (Retries (Begins s mode) begin_finds_busy) (SelectsRest polls))
+    (λ now answer. after_call now (select s mode polls answer))
 select-calls l s mode polls now acts answer both =
     subst (λ xs. AreCallsFrom l now xs (after_call now (select s mode polls answer))) (sym both.parts)
     (calls_from l now (both.first ++ both.second) (after_call now (select s mode polls answer))
-    (then_calls l now both.first both.second (AfterBegin now s both.middle) (Now (after_call now (select s mode polls answer)))
-    (repeats_calls l (λ (_ : Unit {0}). Begins s mode) (λ _. begin_finds_busy) (Now now) (AfterBegin now s both.middle) (λ _ r. try_begin s mode r) (begins-repeat l s mode now) both.first both.middle both.runs_first
+    (then_calls l now both.first both.second (AfterBegin now s both.middle)
+    (Now (after_call now (select s mode polls answer)))
+    (repeats_calls l (λ (_ : Unit {0}). Begins s mode) (λ _. begin_finds_busy) (Now now) (AfterBegin now s both.middle)
+    (λ _ r. try_begin s mode r) (begins-repeat l s mode now) both.first both.middle both.runs_first
     (λ now' _ xs here begins. begins-calls l s mode now both.middle xs begins now' here) now refl)
     (by_beginning both.middle both.runs_second)))
   where
-    by_beginning : (middle : Result Selection BeginError) → SelectsRest polls middle both.second answer → (now' : Ongoing) → AfterBegin now s middle now'
+    by_beginning : (middle : Result Selection BeginError) → SelectsRest polls middle both.second answer
+        → (now' : Ongoing) → AfterBegin now s middle now'
         → CallsTo l now' both.second (Now (after_call now (select s mode polls answer)))
     by_beginning (Ok selection) rest now' here =
-        subst (λ (t : SelNo). CallsTo l now' both.second (Now (after_call now (select t mode polls answer)))) here.0 (selection-calls l now polls selection both.second answer rest mode now' here.1)
+        subst (λ (t : SelNo). CallsTo l now' both.second (Now (after_call now (select t mode polls answer)))) here.0
+        (selection-calls l now polls selection both.second answer rest mode now' here.1)
     by_beginning (Err refusal) rest now' here =
-        subst (λ (r : SelectReply). CallsTo l now' both.second (Now (after_call now (select s mode polls r)))) (sym rest.2)
+        subst (λ (r : SelectReply). CallsTo l now' both.second (Now (after_call now (select s mode polls r))))
+        (sym rest.2)
         (subst (λ xs. CallsTo l now' xs (Now now)) (sym rest.0) (no_calls l now' (Now now) here))
 
 pub waiting_calls_are_calls : WaitingCallsAreCalls
 waiting_calls_are_calls l (set_blocking c on answer) acts now is run = set_blocking-calls l c on now acts answer run
-waiting_calls_are_calls l (register s c ops att answer) acts now is run = register-calls l s c ops att now acts answer run
+waiting_calls_are_calls l (register s c ops att answer) acts now is run =
+    register-calls l s c ops att now acts answer run
 waiting_calls_are_calls l (select s mode polls answer) acts now is run = select-calls l s mode polls now acts answer run
 waiting_calls_are_calls l (close s answer) acts now is run = close-calls l s now acts answer run
 waiting_calls_are_calls l (read source none answer) acts now is run = read-calls l source none now acts answer run
-waiting_calls_are_calls l (write source sink none answer) acts now is run = write-calls l source sink none now acts answer run
+waiting_calls_are_calls l (write source sink none answer) acts now is run =
+    write-calls l source sink none now acts answer run
 waiting_calls_are_calls l _ acts now is run = absurd (cc is)
 
 -- ---- lists of calls
 
-call_unwaiting : (l : Limits) (call : Made) (acts : List Act) (now : Ongoing) → IsRun l call acts → MayCome now call → CallsTo l now acts (Now (after_call now call))
+call_unwaiting : (l : Limits) (call : Made) (acts : List Act) (now : Ongoing) → IsRun l call acts → MayCome now call
+    → CallsTo l now acts (Now (after_call now call))
 call_unwaiting l call acts now run may = by_test (waits call) refl
   where
     by_test : (b : Bool) → waits call ≡ b → CallsTo l now acts (Now (after_call now call))
     by_test true is =
         let its = waiting_calls_are_calls l call acts now is run in
-        record { calls = its.calls; unwaiting = its.unwaiting; runs = its.runs; in_order = its.in_order; after = its.leaves }
+        record {
+          calls = its.calls;
+          unwaiting = its.unwaiting;
+          runs = its.runs;
+          in_order = its.in_order;
+          after = its.leaves;
+        }
     by_test false is = one_call l now acts (Now (after_call now call)) call is run may refl
 
-calls_unwaiting : (l : Limits) (calls : List Made) (acts : List Act) (now now' : Ongoing) → now' ≡ now → AreRuns l calls acts → AreInOrder now calls → CallsTo l now' acts (Now (after_calls now calls))
-calls_unwaiting l [] acts now now' here none order = subst (λ xs. CallsTo l now' xs (Now now)) (sym none) (no_calls l now' (Now now) here)
+calls_unwaiting : (l : Limits) (calls : List Made) (acts : List Act) (now now' : Ongoing) → now' ≡ now
+    → AreRuns l calls acts → AreInOrder now calls → CallsTo l now' acts (Now (after_calls now calls))
+calls_unwaiting l [] acts now now' here none order =
+    subst (λ xs. CallsTo l now' xs (Now now)) (sym none) (no_calls l now' (Now now) here)
 calls_unwaiting l (call ∷ calls) acts now now' here runs order =
     subst (λ xs. CallsTo l now' xs (Now (after_calls (after_call now call) calls))) (sym runs.parts)
     (subst (λ n. CallsTo l n (runs.first ++ runs.second) (Now (after_calls (after_call now call) calls))) (sym here)
-    (then_calls l now runs.first runs.second (Now (after_call now call)) (Now (after_calls (after_call now call) calls)) (call_unwaiting l call runs.first now runs.is_first order.0)
+    (then_calls l now runs.first runs.second (Now (after_call now call)) (Now (after_calls (after_call now call) calls))
+    (call_unwaiting l call runs.first now runs.is_first order.0)
     (λ now'' here'. calls_unwaiting l calls runs.second (after_call now call) now'' here' runs.is_second order.1)))
 
 pub calls_without_waiting : CallsWithoutWaiting
 calls_without_waiting l acts calls are =
-    calls_from l nothing_ongoing acts (after_calls nothing_ongoing calls) (calls_unwaiting l calls acts nothing_ongoing nothing_ongoing refl are.runs are.in_order)
+    calls_from l nothing_ongoing acts (after_calls nothing_ongoing calls)
+    (calls_unwaiting l calls acts nothing_ongoing nothing_ongoing refl are.runs are.in_order)

@@ -26,10 +26,12 @@ pub record HasClosedChannel (l : Limits) (n : CallerNo) (c : ChanNo) (events : L
 
 -- of each valid key of the channel, ever after, the publisher owes the cancelling
 abbrev pub OnlyPublishersOwe : Type 0
-OnlyPublishersOwe = (l : Limits) (n : CallerNo) (c : ChanNo) (before after : List Event) → IsFit l → IsPrefix before after → IsLegal l after → IsCareful after
+OnlyPublishersOwe = (l : Limits) (n : CallerNo) (c : ChanNo) (before after : List Event) → IsFit l
+    → IsPrefix before after → IsLegal l after → IsCareful after
     → HasClosedChannel l n c before
     → (s i : ℕ) → IsTrue (is_valid ((state_after after).key s i)) → ((state_after after).key s i).chan ≡ c
-    → OwesSince after (publishes_key c.0 s (key_of (state_after after) s i)) (publisher_duty c.0 s (key_of (state_after after) s i))
+    → OwesSince after (publishes_key c.0 s (key_of (state_after after) s i))
+    (publisher_duty c.0 s (key_of (state_after after) s i))
 
 -- the caller is the closer of the selector, has entered it, and owes the clearing out of no index
 pub record HasClosedSelector (n : CallerNo) (s : SelNo) (events : List Event) : Type 0 where
@@ -39,6 +41,7 @@ pub record HasClosedSelector (n : CallerNo) (s : SelNo) (events : List Event) : 
 
 -- no key of the selector is valid, ever after
 abbrev pub ClosedSelectorsHaveNoKey : Type 0
-ClosedSelectorsHaveNoKey = (l : Limits) (n : CallerNo) (s : SelNo) (before after : List Event) → IsFit l → IsPrefix before after → IsLegal l after → IsCareful after
+ClosedSelectorsHaveNoKey = (l : Limits) (n : CallerNo) (s : SelNo) (before after : List Event) → IsFit l
+    → IsPrefix before after → IsLegal l after → IsCareful after
     → HasClosedSelector n s before
     → (i : ℕ) → IsFalse (is_valid ((state_after after).key s.0 i))

@@ -3,14 +3,17 @@
 -- Each publish keeps three rules. Under its hold of the key's channel the caller notes this key, and no other
 -- for the channel. Under this hold it doesn't set the channel's mode. And after its claim of the index it looks
 -- at the gate, and finds it not shut, once it has found the keys' mark above the index or raised it above.
-use Rattle.std.specs.Prelude.{◌≡◌, ℕ, ◌==◌, nat_lt, Bool, false, not, ◌&&◌, if◌then◌else◌, Some, IsTrue, IsFalse, List, [], ◌∷◌, ◌++◌}
+use Rattle.std.specs.Prelude.{◌≡◌, ℕ, ◌==◌, nat_lt, Bool, false, not, ◌&&◌, if◌then◌else◌, Some, IsTrue, IsFalse, List}
+use Rattle.std.specs.Prelude.{[], ◌∷◌, ◌++◌}
 use mathlib.Core.List.{IsPrefix}
 use Rattle.nio_base.specs.declared.numbers.CallerNo.{CallerNo}
 use Rattle.nio_base.specs.declared.numbers.SelNo.{SelNo}
 use Rattle.nio_event.specs.Histories.{mine}
-use Rattle.nio_event.specs.OwnEvents.{OwnClaim, has, count, since_from, since_first, under, sets_mode, releases, own_claim}
+use Rattle.nio_event.specs.OwnEvents.{OwnClaim, has, count, since_from, since_first, under, sets_mode, releases}
+use Rattle.nio_event.specs.OwnEvents.{own_claim}
 use Rattle.nio_event.specs.declared.act.Act.{Act}
-use Rattle.nio_event.specs.declared.act.Act.TheVariants.{LookGate, Claim, RaiseKeys, LookKeys, Publish, Enrol, ClaimAgain}
+use Rattle.nio_event.specs.declared.act.Act.TheVariants.{LookGate, Claim, RaiseKeys, LookKeys, Publish, Enrol}
+use Rattle.nio_event.specs.declared.act.Act.TheVariants.{ClaimAgain}
 use Rattle.nio_event.specs.declared.event.Event.{Event}
 use Rattle.nio_event.specs.declared.found.Stage.{Stage}
 

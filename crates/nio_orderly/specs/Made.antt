@@ -11,11 +11,19 @@ use Rattle.nio_event.specs.State.{put}
 use Rattle.nio_event.specs.declared.act.Act.{Act}
 use Rattle.nio_event.specs.declared.act.Act.TheVariants.{DrawBit}
 use Rattle.nio_event.specs.declared.found.Mode.{Mode}
-use Rattle.nio_steps.specs.ChannelCalls.{open_channel_plan, is_open_plan, is_blocking_plan, is_registered_plan, key_for_plan, try_set_blocking_plan, try_register_plan, close_channel_plan, SetsBlocking, Registers}
-use Rattle.nio_steps.specs.KeyCalls.{find_selector_plan, find_channel_plan, find_plan, is_valid_plan, interest_plan, set_interest_plan, interest_or_plan, interest_and_plan, ready_plan, cancel_plan, unselect_plan, attach_plan, attachment_plan}
+use Rattle.nio_steps.specs.ChannelCalls.{open_channel_plan, is_open_plan, is_blocking_plan, is_registered_plan}
+use Rattle.nio_steps.specs.ChannelCalls.{key_for_plan, try_set_blocking_plan, try_register_plan, close_channel_plan}
+use Rattle.nio_steps.specs.ChannelCalls.{SetsBlocking, Registers}
+use Rattle.nio_steps.specs.KeyCalls.{find_selector_plan, find_channel_plan, find_plan, is_valid_plan, interest_plan}
+use Rattle.nio_steps.specs.KeyCalls.{set_interest_plan, interest_or_plan, interest_and_plan, ready_plan, cancel_plan}
+use Rattle.nio_steps.specs.KeyCalls.{unselect_plan, attach_plan, attachment_plan}
 use Rattle.nio_steps.specs.PipeCalls.{PipeEnds, MakesPipe, try_read_plan, try_write_plan, Reads, Writes}
 use Rattle.nio_steps.specs.Runs.{Completes}
-use Rattle.nio_steps.specs.SelectCalls.{Selection, Begins, Poll, Tells, ToldReply, done, again, ShutReply, closing, already_closed, FinishReply, closed, busy, ListsKeys, ListsSelected, open_selector_plan, leave_plan, shut_plan, try_finish_plan, wakeup_plan, interrupt_plan, interrupted_plan, SelectReply, selected, not_begun, left, Selects, Closes}
+use Rattle.nio_steps.specs.SelectCalls.{Selection, Begins, Poll, Tells, ToldReply, done, again, ShutReply, closing}
+use Rattle.nio_steps.specs.SelectCalls.{already_closed, FinishReply, closed, busy, ListsKeys, ListsSelected}
+use Rattle.nio_steps.specs.SelectCalls.{open_selector_plan, leave_plan, shut_plan, try_finish_plan, wakeup_plan}
+use Rattle.nio_steps.specs.SelectCalls.{interrupt_plan, interrupted_plan, SelectReply, selected, not_begun, left}
+use Rattle.nio_steps.specs.SelectCalls.{Selects, Closes}
 use Rattle.nio_steps.specs.declared.refusal.BeginError.{BeginError}
 use Rattle.nio_steps.specs.declared.refusal.ChannelError.{ChannelError}
 use Rattle.nio_steps.specs.declared.refusal.KeyError.{KeyError}

@@ -33,7 +33,8 @@ abbrev pub OrderlyOwes : Type 0
 OrderlyOwes = (l : Limits) (events : List Event) → IsFit l → IsLegal l events → IsOrderly l events → Owed events
 
 abbrev pub WholeLosesNoKey : Type 0
-WholeLosesNoKey = (l : Limits) (events : List Event) → IsFit l → IsLegal l events → IsWhole l events → HasNoLostKey events
+WholeLosesNoKey = (l : Limits) (events : List Event) → IsFit l → IsLegal l events → IsWhole l events
+    → HasNoLostKey events
 
 -- ---- what is left once a closing has answered
 --
@@ -48,35 +49,41 @@ CloseChannelCloses =
 -- a `try_finish` that answers Closed has closed the selector, and owes the clearing out of no index
 abbrev pub FinishCloses : Type 0
 FinishCloses =
-    (l : Limits) (n : CallerNo) (s : SelNo) (events : List Event) (own acts : List Act) → IsLegal l events → IsOrderly l events
+    (l : Limits) (n : CallerNo) (s : SelNo) (events : List Event) (own acts : List Act) → IsLegal l events
+    → IsOrderly l events
     → mine n events ≡ own ++ acts → IsRun l (try_finish s closed) acts → HasClosedSelector n s events
 
 -- After a `close_channel` that answers true, of each valid key of the channel its publisher owes the cancelling,
 -- ever after.
 abbrev pub AfterCloseChannel : Type 0
 AfterCloseChannel =
-    (l : Limits) (n : CallerNo) (c : ChanNo) (before after : List Event) (own acts : List Act) → IsFit l → IsPrefix before after → IsLegal l after → IsOrderly l after
+    (l : Limits) (n : CallerNo) (c : ChanNo) (before after : List Event) (own acts : List Act) → IsFit l
+    → IsPrefix before after → IsLegal l after → IsOrderly l after
     → mine n before ≡ own ++ acts → IsRun l (close_channel c true) acts
     → (s i : ℕ) → IsTrue (is_valid ((state_after after).key s i)) → ((state_after after).key s i).chan ≡ c
-    → OwesSince after (publishes_key c.0 s (key_of (state_after after) s i)) (publisher_duty c.0 s (key_of (state_after after) s i))
+    → OwesSince after (publishes_key c.0 s (key_of (state_after after) s i))
+    (publisher_duty c.0 s (key_of (state_after after) s i))
 
 -- so none is valid once each call is finished
 abbrev pub NoKeyAfterCloseChannel : Type 0
 NoKeyAfterCloseChannel =
-    (l : Limits) (n : CallerNo) (c : ChanNo) (before after : List Event) (own acts : List Act) → IsFit l → IsPrefix before after → IsLegal l after → IsWhole l after
+    (l : Limits) (n : CallerNo) (c : ChanNo) (before after : List Event) (own acts : List Act) → IsFit l
+    → IsPrefix before after → IsLegal l after → IsWhole l after
     → mine n before ≡ own ++ acts → IsRun l (close_channel c true) acts
     → (s i : ℕ) → ((state_after after).key s i).chan ≡ c → IsFalse (is_valid ((state_after after).key s i))
 
 -- after a `try_finish` that answers Closed no key of the selector is valid, ever after
 abbrev pub NoKeyAfterFinish : Type 0
 NoKeyAfterFinish =
-    (l : Limits) (n : CallerNo) (s : SelNo) (before after : List Event) (own acts : List Act) → IsFit l → IsPrefix before after → IsLegal l after → IsOrderly l after
+    (l : Limits) (n : CallerNo) (s : SelNo) (before after : List Event) (own acts : List Act) → IsFit l
+    → IsPrefix before after → IsLegal l after → IsOrderly l after
     → mine n before ≡ own ++ acts → IsRun l (try_finish s closed) acts
     → (i : ℕ) → IsFalse (is_valid ((state_after after).key s.0 i))
 
 -- so it is after a `close` that answers true
 abbrev pub NoKeyAfterClose : Type 0
 NoKeyAfterClose =
-    (l : Limits) (n : CallerNo) (s : SelNo) (before after : List Event) (own acts : List Act) → IsFit l → IsPrefix before after → IsLegal l after → IsOrderly l after
+    (l : Limits) (n : CallerNo) (s : SelNo) (before after : List Event) (own acts : List Act) → IsFit l
+    → IsPrefix before after → IsLegal l after → IsOrderly l after
     → mine n before ≡ own ++ acts → IsRun l (close s true) acts
     → (i : ℕ) → IsFalse (is_valid ((state_after after).key s.0 i))

@@ -5,10 +5,14 @@ use Rattle.nio_base.specs.declared.limits.Limits.{Limits}
 use Rattle.nio_base.specs.declared.numbers.KeyNo.{KeyNo}
 use Rattle.nio_event.specs.Histories.{state_after, mine, event_of, IsLegal}
 use Rattle.nio_event.specs.Worked.{u, v, s, c, chan, gate, stage, noted, small_limits}
-use Rattle.nio_event.specs.declared.act.Act.TheVariants.{DrawBit, MakeSelector, LookGate, CancelKey, SwapInterest, SwapNote, MakeChannel, LookChannel, Claim, RaiseKeys, LookKeys, Publish, LookReg, Enrol, LookChannels, RaiseChannels, TryHoldBit, Release, SetMode, CloseBit, Pin, Unpin}
+use Rattle.nio_event.specs.declared.act.Act.TheVariants.{DrawBit, MakeSelector, LookGate, CancelKey, SwapInterest}
+use Rattle.nio_event.specs.declared.act.Act.TheVariants.{SwapNote, MakeChannel, LookChannel, Claim, RaiseKeys, LookKeys}
+use Rattle.nio_event.specs.declared.act.Act.TheVariants.{Publish, LookReg, Enrol, LookChannels, RaiseChannels}
+use Rattle.nio_event.specs.declared.act.Act.TheVariants.{TryHoldBit, Release, SetMode, CloseBit, Pin, Unpin}
 use Rattle.nio_event.specs.declared.event.Event.{Event}
 use Rattle.nio_orderly.specs.Examples.{unnoted_key}
-use Rattle.nio_orderly.specs.Made.{Made, draw, open_selector, open_channel, try_set_blocking, try_register, close_channel}
+use Rattle.nio_orderly.specs.Made.{Made, draw, open_selector, open_channel, try_set_blocking, try_register}
+use Rattle.nio_orderly.specs.Made.{close_channel}
 use Rattle.nio_orderly.specs.Orderly.{AreCallsOf, IsWhole, IsOrderly}
 
 -- caller u opens a selector and a channel and registers the channel; caller v closes the channel when u has published
@@ -58,7 +62,9 @@ abbrev pub its_key : KeyNo
 its_key = record { sel = s; index = 0; serial = 0 }
 
 abbrev pub calls_of_u : List Made
-calls_of_u = draw u ∷ open_selector (Ok s) ∷ open_channel Source (Ok c) ∷ try_set_blocking c false (Ok tt) ∷ try_register s c 1 7 (Ok its_key) ∷ []
+calls_of_u =
+    draw u ∷ open_selector (Ok s) ∷ open_channel Source (Ok c) ∷ try_set_blocking c false (Ok tt) ∷ try_register s c 1 7
+    (Ok its_key) ∷ []
 
 abbrev pub calls_of_v : List Made
 calls_of_v = draw v ∷ close_channel c true ∷ []

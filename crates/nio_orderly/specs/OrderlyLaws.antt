@@ -21,7 +21,8 @@ WholeIsOrderly = (l : Limits) (events : List Event) → IsWhole l events → IsO
 abbrev pub OneCallMore : Type 0
 OneCallMore =
     (l : Limits) (own acts : List Act) (calls : List Made) (call : Made)
-    → AreCallsOf l own calls → MayCome (after_calls nothing_ongoing calls) call → IsRun l call acts → AreCallsOf l (own ++ acts) (calls ++ call ∷ [])
+    → AreCallsOf l own calls → MayCome (after_calls nothing_ongoing calls) call → IsRun l call acts
+    → AreCallsOf l (own ++ acts) (calls ++ call ∷ [])
 
 -- The acts are whole calls, and then a beginning of one that may come after them.
 pub record EndsInCall (l : Limits) (acts : List Act) : Type 0 where
@@ -42,7 +43,8 @@ OrderlyEndsInCall = (l : Limits) (acts : List Act) → MakesCalls l acts → End
 -- a serial history is whole: each caller made its calls of those in it
 abbrev pub SerialIsWhole : Type 0
 SerialIsWhole =
-    (l : Limits) (events : List Event) (made : List MadeBy) (n : CallerNo) → IsSerial l events made → AreCallsOf l (mine n events) (calls_of n made)
+    (l : Limits) (events : List Event) (made : List MadeBy) (n : CallerNo) → IsSerial l events made
+    → AreCallsOf l (mine n events) (calls_of n made)
 
 -- a call after a serial history, with no event of another caller between, leaves a serial history
 abbrev pub SerialCallMore : Type 0

@@ -2,7 +2,8 @@
 -- the channel closed. Whoever closes a channel then looks for its key in each selector, and cancels it. Whoever
 -- closes a selector looks at the keys' mark once it has entered, and removes each key below. So where a key is valid
 -- though its channel is closed or its selector is shut, one of them has still to do that.
-use Rattle.std.specs.Prelude.{◌≡◌, ℕ, ◌==◌, Bool, true, false, not, ◌&&◌, ◌||◌, if◌then◌else◌, Option, Some, None, is_some, IsTrue, IsFalse, List, [], ◌∷◌, ◌++◌, ◌⊎◌}
+use Rattle.std.specs.Prelude.{◌≡◌, ℕ, ◌==◌, Bool, true, false, not, ◌&&◌, ◌||◌, if◌then◌else◌, Option, Some, None}
+use Rattle.std.specs.Prelude.{is_some, IsTrue, IsFalse, List, [], ◌∷◌, ◌++◌, ◌⊎◌}
 use Rattle.nio_base.specs.Limits.{IsFit}
 use Rattle.nio_base.specs.declared.limits.Limits.{Limits}
 use Rattle.nio_base.specs.declared.numbers.CallerNo.{CallerNo}
@@ -22,7 +23,8 @@ use Rattle.nio_orderly.specs.Careful.{IsCareful}
 -- it published the key of index k of selector s, a key of channel c, which so came into the key set
 abbrev pub publishes_key : ℕ → ℕ → KeyId → Act → Bool
 publishes_key c s k (Publish s' i found) =
-    (s'.0 == s) && (i == k.index) && (found.chan.0 == c) && (found.serial == k.serial) && not found.published && not found.removed
+    (s'.0 == s) && (i == k.index) && (found.chan.0 == c) && (found.serial == k.serial) && not found.published
+    && not found.removed
 publishes_key c s k _ = false
 
 -- it closed channel c, which was open
@@ -104,13 +106,15 @@ pub record OwesSince (events : List Event) (makes : Act → Bool) (duty : Duty) 
 
 -- a key of a channel is owed its cancelling, by who published it or by who closed the channel
 abbrev pub OwesCancelling : List Event → ℕ → ℕ → KeyId → Type 0
-OwesCancelling events c s k = OwesSince events (publishes_key c s k) (publisher_duty c s k) ⊎ OwesSince events (closes c) (closing_duty c s k)
+OwesCancelling events c s k =
+    OwesSince events (publishes_key c s k) (publisher_duty c s k) ⊎ OwesSince events (closes c) (closing_duty c s k)
 
 -- an index of a selector is owed its clearing out by the closer, who hasn't entered or owes since then
 pub record OwesClearing (events : List Event) (s i : ℕ) : Type 0 where
   pub closer : CallerNo
   pub is_closer : (state_after events).closer s ≡ Some closer
-  pub owing : IsTrue (not ((state_after events).entered s) || owes (clearing_duty s i) (since_entered s (mine closer events)))
+  pub owing : IsTrue
+      (not ((state_after events).entered s) || owes (clearing_duty s i) (since_entered s (mine closer events)))
 
 -- the key that index i of selector s has
 abbrev pub key_of : State → ℕ → ℕ → KeyId
@@ -118,10 +122,12 @@ key_of st s i = record { index = i; serial = (st.key s i).serial }
 
 pub record Owed (events : List Event) : Type 0 where
   -- of a valid key of a closed channel somebody owes the cancelling
-  pub channels : (s i : ℕ) → IsTrue (is_valid ((state_after events).key s i)) → IsTrue ((state_after events).chan ((state_after events).key s i).chan.0).closed
+  pub channels : (s i : ℕ) → IsTrue (is_valid ((state_after events).key s i))
+      → IsTrue ((state_after events).chan ((state_after events).key s i).chan.0).closed
       → OwesCancelling events ((state_after events).key s i).chan.0 s (key_of (state_after events) s i)
   -- of a valid key of a shut selector the closer owes the clearing out
-  pub selectors : (s i : ℕ) → IsTrue (is_valid ((state_after events).key s i)) → IsTrue ((state_after events).gate s).shut → OwesClearing events s i
+  pub selectors : (s i : ℕ) → IsTrue (is_valid ((state_after events).key s i))
+      → IsTrue ((state_after events).gate s).shut → OwesClearing events s i
   -- where a selection has begun, somebody has the turn, and no closer has entered
   pub turns : (s : ℕ) → IsTrue ((state_after events).begun s) → IsTrue (is_some ((state_after events).turn s))
   pub not_entered : (s : ℕ) → IsTrue ((state_after events).begun s) → IsFalse ((state_after events).entered s)

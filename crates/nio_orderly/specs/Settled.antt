@@ -23,8 +23,10 @@ claimed_key i claim = record { index = i; serial = claim.serial }
 -- by what it did, a caller owes nothing
 pub record IsSettled (l : Limits) (own : List Act) : Type 0 where
   -- of no key that it published, unless the key was removed before
-  pub published : (before : List Act) (s : SelNo) (i : ℕ) (found : Stage) (later : List Act) → own ≡ before ++ Publish s i found ∷ later → IsFalse found.removed
-      → (claim : OwnClaim) → own_claim s.0 i before ≡ Some claim → IsFalse (owes (publisher_duty claim.channel.0 s.0 (claimed_key i claim)) later)
+  pub published : (before : List Act) (s : SelNo) (i : ℕ) (found : Stage) (later : List Act)
+      → own ≡ before ++ Publish s i found ∷ later → IsFalse found.removed
+      → (claim : OwnClaim) → own_claim s.0 i before ≡ Some claim
+      → IsFalse (owes (publisher_duty claim.channel.0 s.0 (claimed_key i claim)) later)
   -- of no channel that it closed, in no selector
   pub closed : (before : List Act) (c : ChanNo) (later : List Act) → own ≡ before ++ CloseBit c false ∷ later
       → (s : ℕ) → s < l.selectors → (k : KeyId) → IsFalse (owes (closing_duty c.0 s k) later)
@@ -33,8 +35,10 @@ pub record IsSettled (l : Limits) (own : List Act) : Type 0 where
 
 -- where nobody owes anything, no closed channel and no selector whose closer has entered has a valid key
 pub record HasNoLostKey (events : List Event) : Type 0 where
-  pub channels : (s i : ℕ) → IsTrue (is_valid ((state_after events).key s i)) → IsFalse ((state_after events).chan ((state_after events).key s i).chan.0).closed
-  pub selectors : (s i : ℕ) → IsTrue (is_valid ((state_after events).key s i)) → IsFalse ((state_after events).entered s)
+  pub channels : (s i : ℕ) → IsTrue (is_valid ((state_after events).key s i))
+      → IsFalse ((state_after events).chan ((state_after events).key s i).chan.0).closed
+  pub selectors : (s i : ℕ) → IsTrue (is_valid ((state_after events).key s i))
+      → IsFalse ((state_after events).entered s)
 
 abbrev pub SettledLosesNoKey : Type 0
 SettledLosesNoKey = (l : Limits) (events : List Event) → IsFit l → IsLegal l events → IsCareful events

@@ -3,7 +3,13 @@ use Rattle.std.specs.Prelude.{◌≡◌, Bool, true, false, IsTrue, IsFalse, Lis
 use Rattle.std.specs.List.{All}
 use Rattle.nio_base.specs.declared.limits.Limits.{Limits}
 use Rattle.nio_event.specs.declared.act.Act.{Act}
-use Rattle.nio_orderly.specs.Made.{Made, IsRun, Ongoing, nothing_ongoing, after_call, after_calls, AreInOrder, draw, find_selector, find_channel, find, is_valid, interest, set_interest, interest_or, interest_and, ready, cancel, unselect, attach, attachment, open_channel, is_open, is_blocking, is_registered, key_for, try_set_blocking, try_register, close_channel, open_selector, try_begin, told, leave, shut, try_finish, keys, selected_keys, wakeup, interrupt, interrupted, pipe, try_read, try_write, set_blocking, register, select, close, read, write}
+use Rattle.nio_orderly.specs.Made.{Made, IsRun, Ongoing, nothing_ongoing, after_call, after_calls, AreInOrder, draw}
+use Rattle.nio_orderly.specs.Made.{find_selector, find_channel, find, is_valid, interest, set_interest, interest_or}
+use Rattle.nio_orderly.specs.Made.{interest_and, ready, cancel, unselect, attach, attachment, open_channel, is_open}
+use Rattle.nio_orderly.specs.Made.{is_blocking, is_registered, key_for, try_set_blocking, try_register, close_channel}
+use Rattle.nio_orderly.specs.Made.{open_selector, try_begin, told, leave, shut, try_finish, keys, selected_keys, wakeup}
+use Rattle.nio_orderly.specs.Made.{interrupt, interrupted, pipe, try_read, try_write, set_blocking, register, select}
+use Rattle.nio_orderly.specs.Made.{close, read, write}
 use Rattle.nio_orderly.specs.Orderly.{AreRuns, AreCallsOf}
 
 -- it is a call that waits
@@ -63,9 +69,11 @@ pub record AreCallsFrom (l : Limits) (now : Ongoing) (acts : List Act) (after : 
 -- What a caller does in a call that waits is what it does in such calls, whatever it has in progress before.
 abbrev pub WaitingCallsAreCalls : Type 0
 WaitingCallsAreCalls =
-    (l : Limits) (call : Made) (acts : List Act) (now : Ongoing) → IsTrue (waits call) → IsRun l call acts → AreCallsFrom l now acts (after_call now call)
+    (l : Limits) (call : Made) (acts : List Act) (now : Ongoing) → IsTrue (waits call) → IsRun l call acts
+    → AreCallsFrom l now acts (after_call now call)
 
 -- So whoever makes whole calls makes whole calls that don't wait.
 abbrev pub CallsWithoutWaiting : Type 0
 CallsWithoutWaiting =
-    (l : Limits) (acts : List Act) (calls : List Made) → AreCallsOf l acts calls → AreCallsFrom l nothing_ongoing acts (after_calls nothing_ongoing calls)
+    (l : Limits) (acts : List Act) (calls : List Made) → AreCallsOf l acts calls
+    → AreCallsFrom l nothing_ongoing acts (after_calls nothing_ongoing calls)

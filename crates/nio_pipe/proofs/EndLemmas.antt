@@ -1,5 +1,7 @@
 -- What the two ends of a pipe know, when they read, write and look.
-use Rattle.std.proofs.Common.{◌≡◌, ℕ, ◌+◌, ◌-◌, ◌%◌, ◌^◌, ◌<◌, ◌≤◌, Bool, true, false, if◌then◌else◌, IsTrue, List, [], ◌∷◌, ◌++◌, length, min, take, drop, Option, Some, None, refl, ap, sym, ◌∙◌, subst, arith, length-append}
+use Rattle.std.proofs.Common.{◌≡◌, ℕ, ◌+◌, ◌-◌, ◌%◌, ◌^◌, ◌<◌, ◌≤◌, Bool, true, false, if◌then◌else◌, IsTrue, List, []}
+use Rattle.std.proofs.Common.{◌∷◌, ◌++◌, length, min, take, drop, Option, Some, None, refl, ap, sym, ◌∙◌, subst, arith}
+use Rattle.std.proofs.Common.{length-append}
 use Rattle.std.specs.Prelude.{is_some, IfSome, IfNone}
 use Rattle.std.proofs.lemmas.List.{append-nil, length-take-le, length-take, take-append-le, take-append-drop}
 use Rattle.std.proofs.lemmas.Slice.{drop-append-drop}
@@ -8,7 +10,8 @@ use mathlib.Core.List.{IsPrefix}
 use Rattle.nio_words.proofs.Beginnings.{prefix_self, prefix_length, prefix_trans, prefix_whole}
 use Rattle.nio_pipe.specs.Counts.{count_of, marks_left, marks_taken, left_to, known_of, IsReached}
 use Rattle.nio_pipe.specs.Answers.{read_answer}
-use Rattle.nio_pipe.specs.Ends.{GivesBytes, IsAtEnd, IsSameSource, KnowsNothing, SourceLooks, known, knows_end, received, IsSameSink, SinkLooks, TakesBytes, sent, free, is_marked}
+use Rattle.nio_pipe.specs.Ends.{GivesBytes, IsAtEnd, IsSameSource, KnowsNothing, SourceLooks, known, knows_end}
+use Rattle.nio_pipe.specs.Ends.{received, IsSameSink, SinkLooks, TakesBytes, sent, free, is_marked}
 use Rattle.nio_pipe.specs.declared.sink.PipeSink.{PipeSink}
 use Rattle.nio_pipe.specs.declared.source.PipeSource.{PipeSource}
 
@@ -24,7 +27,8 @@ gives_nothing s into = record {
 
 -- ---- looking for the end, where no byte waits
 
-pub known_nothing : (to_end : Option ℕ) (items more : List ℕ) → to_end ≡ None → items ≡ [] → IsPrefix (known_of to_end items) more
+pub known_nothing : (to_end : Option ℕ) (items more : List ℕ) → to_end ≡ None → items ≡ []
+    → IsPrefix (known_of to_end items) more
 known_nothing to_end items more none empty =
     let nothing : known_of to_end items ≡ [] = ap (λ t. known_of t items) none ∙ empty in
     subst (λ xs. IsPrefix xs more) (sym nothing) (more, refl)
@@ -43,7 +47,8 @@ looks_none s = record {
   no_more = λ _. refl;
 }
 
-pub gives_after : {a b c : PipeSource} {before after : List ℕ} {n : ℕ} → SourceLooks a b → GivesBytes b c before after n → GivesBytes a c before after n
+pub gives_after : {a b c : PipeSource} {before after : List ℕ} {n : ℕ} → SourceLooks a b → GivesBytes b c before after n
+    → GivesBytes a c before after n
 gives_after {a = a} {b = b} {c = c} {after = after} {n = n} looks gives = record {
   fit = gives.fit;
   received = gives.received ∙ ap (λ xs. xs ++ take n after) looks.received;
@@ -55,13 +60,32 @@ gives_after {a = a} {b = b} {c = c} {after = after} {n = n} looks gives = record
 
 same_source : {a b c : PipeSource} → IsSameSource a b → IsSameSource b c → IsSameSource a c
 same_source first second = record {
-  bytes = ((second.bytes.0.0 ∙ first.bytes.0.0, second.bytes.0.1 ∙ first.bytes.0.1, second.bytes.0.2 ∙ first.bytes.0.2, second.bytes.0.3 ∙ first.bytes.0.3), second.bytes.1 ∙ first.bytes.1);
-  marks = ((second.marks.0.0 ∙ first.marks.0.0, second.marks.0.1 ∙ first.marks.0.1, second.marks.0.2 ∙ first.marks.0.2, second.marks.0.3 ∙ first.marks.0.3), second.marks.1 ∙ first.marks.1);
+  bytes = (
+    (
+      second.bytes.0.0 ∙ first.bytes.0.0,
+      second.bytes.0.1 ∙ first.bytes.0.1,
+      second.bytes.0.2
+          ∙ first.bytes.0.2,
+      second.bytes.0.3 ∙ first.bytes.0.3,
+    ),
+    second.bytes.1 ∙ first.bytes.1,
+  );
+  marks = (
+    (
+      second.marks.0.0 ∙ first.marks.0.0,
+      second.marks.0.1 ∙ first.marks.0.1,
+      second.marks.0.2
+          ∙ first.marks.0.2,
+      second.marks.0.3 ∙ first.marks.0.3,
+    ),
+    second.marks.1 ∙ first.marks.1,
+  );
   channel = second.channel ∙ first.channel;
 }
 
 -- a read that gave nothing is a look
-pub looks_more : {a b c : PipeSource} {before after : List ℕ} → SourceLooks a b → IsSameSource b c → GivesBytes b c before after 0 → SourceLooks a c
+pub looks_more : {a b c : PipeSource} {before after : List ℕ} → SourceLooks a b → IsSameSource b c
+    → GivesBytes b c before after 0 → SourceLooks a c
 looks_more {a = a} {b = b} {c = c} looks same gives = record {
   same = same_source looks.same same;
   received = gives.received ∙ (append-nil (received b) ∙ looks.received);
@@ -89,15 +113,19 @@ knew_nothing {a = a} {b = b} looks none = record {
 
 -- looking changes nothing there
 pub end_looked : {a b : PipeSource} → SourceLooks a b → IsAtEnd a → IsAtEnd b
-end_looked looks at_end = record { marked = looks.end_stays at_end.marked; no_byte = looks.no_more at_end.marked ∙ at_end.no_byte }
+end_looked looks at_end =
+    record { marked = looks.end_stays at_end.marked; no_byte = looks.no_more at_end.marked ∙ at_end.no_byte }
 
 -- reading gives nothing there, and tells the end
-pub end_told : {a b : PipeSource} (before after : List ℕ) (n : ℕ) → GivesBytes a b before after n → length after ≡ length before → IsAtEnd a
+pub end_told : {a b : PipeSource} (before after : List ℕ) (n : ℕ) → GivesBytes a b before after n
+    → length after ≡ length before → IsAtEnd a
     → read_answer (length before) n (knows_end b) ≡ read_answer (length before) 0 true
 end_told {a = a} {b = b} before after n gives same at_end =
-    let none : take n after ≡ [] = no_front (take n after) (known b) (sym (gives.no_more at_end.marked) ∙ at_end.no_byte) in
+    let none : take n after ≡ [] = no_front (take n after) (known b)
+    (sym (gives.no_more at_end.marked) ∙ at_end.no_byte) in
     let no_byte : n ≡ 0 = sym (length-take-le n after (omega (arith, gives.fit, same))) ∙ ap length none in
-    ap (λ (k : ℕ). read_answer (length before) k (knows_end b)) no_byte ∙ ap (read_answer (length before) 0) (gives.end_stays at_end.marked)
+    ap (λ (k : ℕ). read_answer (length before) k (knows_end b)) no_byte
+    ∙ ap (read_answer (length before) 0) (gives.end_stays at_end.marked)
 
 -- ---- reading up to the end
 
@@ -112,7 +140,8 @@ pub record PopsToEnd (items items' popped popped' into there : List ℕ) (left r
   pub most : given < length (take room into) → items' ≡ []
   pub part : length there ≡ length (take room into)
 
-module _ (items items' popped popped' into there : List ℕ) (left room given : ℕ) (pops : PopsToEnd items items' popped popped' into there left room given) where
+module _ (items items' popped popped' into there : List ℕ) (left room given : ℕ)
+    (pops : PopsToEnd items items' popped popped' into there left room given) where
   lent : length (take room into) ≡ room
   lent = omega (arith, length-take room into, pops.room_is)
 
@@ -126,7 +155,13 @@ module _ (items items' popped popped' into there : List ℕ) (left room given : 
   length-given = length-take-le given there (omega (arith, fits_in, part_is))
 
   next_length : length items ≤ given + length items'
-  next_length = omega (arith, prefix_length items (take given there ++ items') pops.next, length-append (take given there) items', length-given)
+  next_length =
+      omega (
+        arith,
+        prefix_length items (take given there ++ items') pops.next,
+        length-append (take given there) items',
+        length-given,
+      )
 
   all_given : given ≡ room
   all_given =
@@ -134,12 +169,21 @@ module _ (items items' popped popped' into there : List ℕ) (left room given : 
       let none : given < room → length items' ≡ 0 = λ less. ap length (pops.most (omega (arith, less, lent))) in
       grind (arith, fits_in, pops.seen, pops.room_is)
 
-  pub reached_after : (mark : Option ℕ) → mark ≡ Some ((length popped + left) % 2 ^ 64) → IsReached popped' items' mark (Some (left - given))
+  pub reached_after : (mark : Option ℕ) → mark ≡ Some ((length popped + left) % 2 ^ 64)
+      → IsReached popped' items' mark (Some (left - given))
   reached_after mark told = record {
     seen = λ n is. let same : left - given ≡ n = cc is in omega (arith, next_length);
     told = λ n is.
         let same : left - given ≡ n = cc is in
-        let total : length popped + left ≡ length popped' + n = omega (arith, ap length pops.popped_is, length-append popped (take given there), length-given, all_given, pops.room_is) in
+        let total : length popped + left ≡ length popped'
+        + n = omega (
+          arith,
+          ap length pops.popped_is,
+          length-append popped (take given there),
+          length-given,
+          all_given,
+          pops.room_is,
+        ) in
         told ∙ ap (λ (k : ℕ). Some (k % 2 ^ 64)) total;
   }
 
@@ -155,15 +199,23 @@ module _ (items items' popped popped' into there : List ℕ) (left room given : 
   pub given-rest : drop given (there ++ drop room into) ≡ drop given into
   given-rest = drop-append-drop room into there given (omega (arith, all_given)) part_is
 
-  pub given-known : (to_end : Option ℕ) → to_end ≡ Some left → known_of to_end items ≡ take given (there ++ drop room into) ++ take (left - given) items'
-  given-known to_end is = subst (λ t. known_of t items ≡ take given (there ++ drop room into) ++ take (left - given) items') (sym is) up_to_left
+  pub given-known : (to_end : Option ℕ) → to_end ≡ Some left
+      → known_of to_end items ≡ take given (there ++ drop room into) ++ take (left - given) items'
+  given-known to_end is =
+      subst (λ t. known_of t items ≡ take given (there ++ drop room into) ++ take (left - given) items')
+      (sym is) up_to_left
     where
       up_to_left : take left items ≡ take given (there ++ drop room into) ++ take (left - given) items'
       up_to_left =
-          let there_left : take left (items ++ pops.next.0) ≡ take left items = take-append-le left items pops.next.0 pops.seen in
-          let whole : left ≡ length (take given there) + (left - given) = omega (arith, length-given, all_given, pops.room_is) in
-          let parts : take left (take given there ++ items') ≡ take given there ++ take (left - given) items' = ap (λ (n : ℕ). take n (take given there ++ items')) whole ∙ take-append-add (take given there) items' (left - given) in
-          sym there_left ∙ (ap (take left) pops.next.1 ∙ (parts ∙ ap (λ xs. xs ++ take (left - given) items') (sym front)))
+          let there_left : take left (items ++ pops.next.0) ≡ take left items =
+          take-append-le left items pops.next.0 pops.seen in
+          let whole : left ≡ length (take given there) + (left - given) = omega
+          (arith, length-given, all_given, pops.room_is) in
+          let parts : take left (take given there ++ items') ≡ take given there ++ take (left - given) items' = ap
+          (λ (n : ℕ). take n (take given there ++ items')) whole
+          ∙ take-append-add (take given there) items' (left - given) in
+          sym there_left
+          ∙ (ap (take left) pops.next.1 ∙ (parts ∙ ap (λ xs. xs ++ take (left - given) items') (sym front)))
 
 -- ---- both ends in one hand
 
@@ -191,13 +243,18 @@ no_mark_left None written is = refl
 no_mark_left (Some m) written is = absurd (cc is)
 
 -- the end is known exactly where the mark was left, and is as far as all that wait
-to_end_is : (R K S : List ℕ) (marked : Bool) (read written : ℕ) (mark to_end to_end' : Option ℕ) → Beside R K S marked read written mark to_end to_end'
+to_end_is : (R K S : List ℕ) (marked : Bool) (read written : ℕ) (mark to_end to_end' : Option ℕ)
+    → Beside R K S marked read written mark to_end to_end'
     → to_end' ≡ (if marked then Some (length K) else None)
 to_end_is R K S true read written mark to_end to_end' beside =
     let is : mark ≡ Some written = mark_left mark written beside.marks in
-    let count : left_to written read ≡ length K = ap (λ n. left_to n read) beside.written_is ∙ (ap (left_to (count_of S)) beside.read_is
-    ∙ (ap (λ (n : ℕ). left_to (n % 2 ^ 64) (count_of R)) (sym (ap length beside.whole) ∙ length-append R K) ∙ left_is (length R) (length K) beside.few)) in
-    let reached : left_to written read ≤ length K → to_end' ≡ Some (left_to written read) = subst (λ m. IfSome m (λ m. left_to m read ≤ length K → to_end' ≡ Some (left_to m read))) is beside.reached in
+    let count : left_to written read ≡ length K =
+    ap (λ n. left_to n read) beside.written_is ∙ (ap (left_to (count_of S)) beside.read_is
+    ∙ (ap (λ (n : ℕ). left_to (n % 2 ^ 64) (count_of R)) (sym (ap length beside.whole) ∙ length-append R K)
+    ∙ left_is (length R) (length K) beside.few)) in
+    let reached : left_to written read ≤ length K
+    → to_end' ≡ Some (left_to written read) = subst
+    (λ m. IfSome m (λ m. left_to m read ≤ length K → to_end' ≡ Some (left_to m read))) is beside.reached in
     reached (omega arith) ∙ ap Some count
 to_end_is R K S false read written mark to_end to_end' beside = by_end to_end refl
   where
@@ -209,13 +266,15 @@ to_end_is R K S false read written mark to_end to_end' beside = by_end to_end re
 
     by_end : (t : Option ℕ) → to_end ≡ t → to_end' ≡ None
     by_end None is = kept ∙ is
-    by_end (Some n) is = let clash : None ≡ Some ((length R + n) % 2 ^ 64) = sym none ∙ beside.told n is in absurd (cc clash)
+    by_end (Some n) is = let clash : None ≡ Some ((length R + n) % 2 ^ 64) =
+        sym none ∙ beside.told n is in absurd (cc clash)
 
 no_items : (xs : List ℕ) → length xs ≡ 0 → xs ≡ []
 no_items [] is = refl
 no_items (x ∷ xs) is = absurd (omega (arith, is))
 
-module _ (R K S : List ℕ) (marked : Bool) (read written : ℕ) (mark to_end to_end' : Option ℕ) (beside : Beside R K S marked read written mark to_end to_end') where
+module _ (R K S : List ℕ) (marked : Bool) (read written : ℕ) (mark to_end to_end' : Option ℕ)
+    (beside : Beside R K S marked read written mark to_end to_end') where
   pub end_known : is_some to_end' ≡ marked
   end_known = ap is_some (to_end_is R K S marked read written mark to_end to_end' beside) ∙ by_mark marked
     where
@@ -231,7 +290,8 @@ module _ (R K S : List ℕ) (marked : Bool) (read written : ℕ) (mark to_end to
       by_mark false = refl
 
   -- what was known is what is known now, and more
-  pub known_grows : (items : List ℕ) → ((n : ℕ) → to_end ≡ Some n → n ≤ length items) → IsPrefix items K → IsPrefix (known_of to_end items) (known_of to_end' K)
+  pub known_grows : (items : List ℕ) → ((n : ℕ) → to_end ≡ Some n → n ≤ length items) → IsPrefix items K
+      → IsPrefix (known_of to_end items) (known_of to_end' K)
   known_grows items seen grows = subst (IsPrefix (known_of to_end items)) (sym all_known) (by_end to_end)
     where
       by_end : (t : Option ℕ) → IsPrefix (known_of t items) K
@@ -251,13 +311,15 @@ module _ (R K S : List ℕ) (marked : Bool) (read written : ℕ) (mark to_end to
   -- an end that was known is as far as all that wait
   counted : (n : ℕ) → to_end ≡ Some n → n ≤ length K → n ≡ length K
   counted n is few =
-      let marks : mark ≡ Some written = mark_left mark written (beside.marks ∙ ap (λ b. marks_left b written) (marked_then n is)) in
+      let marks : mark ≡ Some written = mark_left mark written
+      (beside.marks ∙ ap (λ b. marks_left b written) (marked_then n is)) in
       let same : written ≡ (length R + n) % 2 ^ 64 = cc (sym marks ∙ beside.told n is) in
       let total : length S ≡ length R + length K = sym (ap length beside.whole) ∙ length-append R K in
       omega (arith, few, beside.few, beside.written_is)
 
   -- who knew of the end knew all that wait
-  pub known_then : (items : List ℕ) → ((n : ℕ) → to_end ≡ Some n → n ≤ length items) → IsPrefix items K → is_some to_end ≡ true → known_of to_end' K ≡ known_of to_end items
+  pub known_then : (items : List ℕ) → ((n : ℕ) → to_end ≡ Some n → n ≤ length items) → IsPrefix items K
+      → is_some to_end ≡ true → known_of to_end' K ≡ known_of to_end items
   known_then items seen grows knew = all_known ∙ by_end to_end refl knew
     where
       by_end : (t : Option ℕ) → to_end ≡ t → is_some t ≡ true → K ≡ known_of t items
@@ -277,7 +339,8 @@ module _ (R K S : List ℕ) (marked : Bool) (read written : ℕ) (mark to_end to
       by_end (Some n) is knows = marked_then n is
 
   -- a source that had told the end has received every byte
-  pub was_whole : (items : List ℕ) → ((n : ℕ) → to_end ≡ Some n → n ≤ length items) → is_some to_end ≡ true → known_of to_end items ≡ [] → (marked ≡ true) × (R ≡ S)
+  pub was_whole : (items : List ℕ) → ((n : ℕ) → to_end ≡ Some n → n ≤ length items) → is_some to_end ≡ true
+      → known_of to_end items ≡ [] → (marked ≡ true) × (R ≡ S)
   was_whole items seen knew nothing = by_end to_end refl knew nothing
     where
       by_end : (t : Option ℕ) → to_end ≡ t → is_some t ≡ true → known_of t items ≡ [] → (marked ≡ true) × (R ≡ S)
@@ -292,18 +355,42 @@ module _ (R K S : List ℕ) (marked : Bool) (read written : ℕ) (mark to_end to
 
 pub sink_looks_none : (s : PipeSink) → SinkLooks s s
 sink_looks_none s = record {
-  same = record { bytes = ((refl, refl, refl, refl), refl); marks = ((refl, refl, refl, refl), refl); channel = refl; other = refl };
+  same = record {
+    bytes = ((refl, refl, refl, refl), refl);
+    marks = ((refl, refl, refl, refl), refl);
+    channel = refl;
+    other = refl;
+  };
   sent = refl;
   free = omega arith;
   mark = refl;
 }
 
 -- a write that took nothing is a look
-pub sink_looks_more : {a b c : PipeSink} {slice : List ℕ} → SinkLooks a b → IsSameSink b c → TakesBytes b c slice 0 → is_marked c ≡ is_marked b → free b ≤ free c + 0 → SinkLooks a c
+pub sink_looks_more : {a b c : PipeSink} {slice : List ℕ} → SinkLooks a b → IsSameSink b c → TakesBytes b c slice 0
+    → is_marked c ≡ is_marked b → free b ≤ free c + 0 → SinkLooks a c
 sink_looks_more {a = a} {b = b} {c = c} looks same takes mark places = record {
   same = record {
-    bytes = ((same.bytes.0.0 ∙ looks.same.bytes.0.0, same.bytes.0.1 ∙ looks.same.bytes.0.1, same.bytes.0.2 ∙ looks.same.bytes.0.2, same.bytes.0.3 ∙ looks.same.bytes.0.3), same.bytes.1 ∙ looks.same.bytes.1);
-    marks = ((same.marks.0.0 ∙ looks.same.marks.0.0, same.marks.0.1 ∙ looks.same.marks.0.1, same.marks.0.2 ∙ looks.same.marks.0.2, same.marks.0.3 ∙ looks.same.marks.0.3), same.marks.1 ∙ looks.same.marks.1);
+    bytes = (
+      (
+        same.bytes.0.0 ∙ looks.same.bytes.0.0,
+        same.bytes.0.1 ∙ looks.same.bytes.0.1,
+        same.bytes.0.2
+            ∙ looks.same.bytes.0.2,
+        same.bytes.0.3 ∙ looks.same.bytes.0.3,
+      ),
+      same.bytes.1 ∙ looks.same.bytes.1,
+    );
+    marks = (
+      (
+        same.marks.0.0 ∙ looks.same.marks.0.0,
+        same.marks.0.1 ∙ looks.same.marks.0.1,
+        same.marks.0.2
+            ∙ looks.same.marks.0.2,
+        same.marks.0.3 ∙ looks.same.marks.0.3,
+      ),
+      same.marks.1 ∙ looks.same.marks.1,
+    );
     channel = same.channel ∙ looks.same.channel;
     other = same.other ∙ looks.same.other;
   };

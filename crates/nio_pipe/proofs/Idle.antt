@@ -19,7 +19,8 @@ use Rattle.nio_pipe.specs.declared.sink.PipeSink.{PipeSink}
 use Rattle.nio_pipe.specs.declared.source.PipeSource.{PipeSource}
 
 -- after a call of the caller
-pub may_after : {w : Words} {p q : Pass} {me : CallerNo} {acts : List Act} {a b : ChanNo} → ActsClause me acts (view w p) (view w q) → IsReady w q me → HasNoPin (view w q) me
+pub may_after : {w : Words} {p q : Pass} {me : CallerNo} {acts : List Act} {a b : ChanNo}
+    → ActsClause me acts (view w p) (view w q) → IsReady w q me → HasNoPin (view w q) me
     → MayUse w p me a b → MayUse w q me a b
 may_after clause ready unpinned may = record {
   ready = ready;
@@ -28,25 +29,30 @@ may_after clause ready unpinned may = record {
 }
 
 -- the ends are those of the same pipe
-pub may_same : {w : Words} {p : Pass} {me : CallerNo} {a b c d : ChanNo} → c ≡ a → d ≡ b → MayUse w p me a b → MayUse w p me c d
-may_same {w = w} {p = p} {me = me} {b = b} {c = c} first second may = subst (MayUse w p me c) (sym second) (subst (λ x. MayUse w p me x b) (sym first) may)
+pub may_same : {w : Words} {p : Pass} {me : CallerNo} {a b c d : ChanNo} → c ≡ a → d ≡ b → MayUse w p me a b
+    → MayUse w p me c d
+may_same {w = w} {p = p} {me = me} {b = b} {c = c} first second may =
+    subst (MayUse w p me c) (sym second) (subst (λ x. MayUse w p me x b) (sym first) may)
 
 -- the first of two idle callers
 pub may_idle : {w : Words} {p : Pass} {a b : ChanNo} → AreIdle w p → HasEnds (view w p) a b → MayUse w p zero a b
 may_idle idle ends = record { ready = idle.zero_ready; unpinned = idle.zero_unpinned; ends = ends }
 
 ends_same : (w : Words) (p q : Pass) {a b : ChanNo} → seen q ≡ seen p → HasEnds (view w p) a b → HasEnds (view w q) a b
-ends_same w p q same ends = record { source = channel_same w p q same ends.source; sink = channel_same w p q same ends.sink }
+ends_same w p q same ends =
+    record { source = channel_same w p q same ends.source; sink = channel_same w p q same ends.sink }
 
 -- the other caller's number was handed over: the first may use the pipe still, and so may the other
-pub may_stay : {w : Words} {before after given : Pass} {a b : ChanNo} → HandsOver w one before after given → MayUse w before zero a b → MayUse w after zero a b
+pub may_stay : {w : Words} {before after given : Pass} {a b : ChanNo} → HandsOver w one before after given
+    → MayUse w before zero a b → MayUse w after zero a b
 may_stay {w = w} {before = before} {after = after} over may = record {
   ready = record { pass = over.sees.pass; number = (over.numbers zero).1 (may.ready.number, zero_other) };
   unpinned = unpinned_same w before after zero over.sees.sight may.unpinned;
   ends = ends_same w before after over.sees.sight may.ends;
 }
 
-pub may_go : {w : Words} {before after given : Pass} {a b : ChanNo} → HandsOver w one before after given → AreIdle w before → HasEnds (view w before) a b → MayUse w given one a b
+pub may_go : {w : Words} {before after given : Pass} {a b : ChanNo} → HandsOver w one before after given
+    → AreIdle w before → HasEnds (view w before) a b → MayUse w given one a b
 may_go {w = w} {before = before} {given = given} over idle ends = record {
   ready = record { pass = over.sees.given_pass; number = (over.given_number one).1 refl };
   unpinned = unpinned_same w before given one over.sees.given_sight idle.one_unpinned;
@@ -57,24 +63,52 @@ may_go {w = w} {before = before} {given = given} over idle ends = record {
 
 pub pair_read : {a b : PipeSource} {sink : PipeSink} → IsSameSource a b → AreEnds a sink → AreEnds b sink
 pair_read same pair = record {
-  bytes = (same.bytes.0.0 ∙ pair.bytes.0, same.bytes.0.1 ∙ pair.bytes.1, same.bytes.0.2 ∙ pair.bytes.2, same.bytes.0.3 ∙ pair.bytes.3);
-  marks = (same.marks.0.0 ∙ pair.marks.0, same.marks.0.1 ∙ pair.marks.1, same.marks.0.2 ∙ pair.marks.2, same.marks.0.3 ∙ pair.marks.3);
+  bytes = (
+    same.bytes.0.0 ∙ pair.bytes.0,
+    same.bytes.0.1 ∙ pair.bytes.1,
+    same.bytes.0.2 ∙ pair.bytes.2,
+    same.bytes.0.3
+        ∙ pair.bytes.3,
+  );
+  marks = (
+    same.marks.0.0 ∙ pair.marks.0,
+    same.marks.0.1 ∙ pair.marks.1,
+    same.marks.0.2 ∙ pair.marks.2,
+    same.marks.0.3
+        ∙ pair.marks.3,
+  );
   channel = pair.channel ∙ sym same.channel;
 }
 
 pub pair_written : {source : PipeSource} {a b : PipeSink} → IsSameSink a b → AreEnds source a → AreEnds source b
 pair_written same pair = record {
-  bytes = (pair.bytes.0 ∙ sym same.bytes.0.0, pair.bytes.1 ∙ sym same.bytes.0.1, pair.bytes.2 ∙ sym same.bytes.0.2, pair.bytes.3 ∙ sym same.bytes.0.3);
-  marks = (pair.marks.0 ∙ sym same.marks.0.0, pair.marks.1 ∙ sym same.marks.0.1, pair.marks.2 ∙ sym same.marks.0.2, pair.marks.3 ∙ sym same.marks.0.3);
+  bytes = (
+    pair.bytes.0 ∙ sym same.bytes.0.0,
+    pair.bytes.1 ∙ sym same.bytes.0.1,
+    pair.bytes.2
+        ∙ sym same.bytes.0.2,
+    pair.bytes.3 ∙ sym same.bytes.0.3,
+  );
+  marks = (
+    pair.marks.0 ∙ sym same.marks.0.0,
+    pair.marks.1 ∙ sym same.marks.0.1,
+    pair.marks.2
+        ∙ sym same.marks.0.2,
+    pair.marks.3 ∙ sym same.marks.0.3,
+  );
   channel = same.other ∙ pair.channel;
 }
 
 -- the sink's own call is one of the pipe
-pub may_write : {w : Words} {p : Pass} {source : PipeSource} {sink : PipeSink} → HasBoth w p source sink → MayUse w p zero sink.source sink.chan
+pub may_write : {w : Words} {p : Pass} {source : PipeSource} {sink : PipeSink} → HasBoth w p source sink
+    → MayUse w p zero sink.source sink.chan
 may_write both = may_same both.pair.channel refl both.may
 
-pub both_read : {w : Words} {p q : Pass} {a b : PipeSource} {sink : PipeSink} → IsSameSource a b → MayUse w q zero b.chan sink.chan → HasBoth w p a sink → HasBoth w q b sink
+pub both_read : {w : Words} {p q : Pass} {a b : PipeSource} {sink : PipeSink} → IsSameSource a b
+    → MayUse w q zero b.chan sink.chan → HasBoth w p a sink → HasBoth w q b sink
 both_read same may both = record { may = may; pair = pair_read same both.pair }
 
-pub both_written : {w : Words} {p q : Pass} {source : PipeSource} {a b : PipeSink} → IsSameSink a b → MayUse w q zero b.source b.chan → HasBoth w p source a → HasBoth w q source b
-both_written same may both = let pair = pair_written same both.pair in record { may = may_same (sym pair.channel) refl may; pair = pair }
+pub both_written : {w : Words} {p q : Pass} {source : PipeSource} {a b : PipeSink} → IsSameSink a b
+    → MayUse w q zero b.source b.chan → HasBoth w p source a → HasBoth w q source b
+both_written same may both = let pair =
+    pair_written same both.pair in record { may = may_same (sym pair.channel) refl may; pair = pair }

@@ -7,10 +7,13 @@ use Rattle.nio_pipe.specs.Kept.{IsKept}
 use Rattle.nio_pipe.specs.Pipe.{IsLawful}
 
 -- what waits is what the ring has
-pub waiting-items : (sent received : List ℕ) (buffer : Buffer ℕ) → IsKept sent received buffer → drop (length received) sent ≡ buffer.items
-waiting-items sent received buffer kept = ap (drop (length received)) kept.whole ∙ drop-append_seam received buffer.items
+pub waiting-items : (sent received : List ℕ) (buffer : Buffer ℕ) → IsKept sent received buffer
+    → drop (length received) sent ≡ buffer.items
+waiting-items sent received buffer kept =
+    ap (drop (length received)) kept.whole ∙ drop-append_seam received buffer.items
 
-pub kept-IsLawful : (source sink : ChanNo) (sent received : List ℕ) (buffer : Buffer ℕ) (marked : Bool) → IsKept sent received buffer
+pub kept-IsLawful : (source sink : ChanNo) (sent received : List ℕ) (buffer : Buffer ℕ) (marked : Bool)
+    → IsKept sent received buffer
     → IsLawful (record { source = source; sink = sink; sent = sent; received = received; marked = marked })
 kept-IsLawful source sink sent received buffer marked kept = record {
   in_order = (buffer.items, sym kept.whole);

@@ -32,9 +32,12 @@ no_sink l source ChannelError.ClosedSelector = refl
 no_sink l source ChannelError.Full = refl
 
 -- a plan that is another
-pub left_as : {R : Type 0} {me : CallerNo} {plan other rest : Plan R} {v0 v1 : PassView} → plan ≡ other → PartClause me other v0 v1 rest → PartClause me plan v0 v1 rest
-left_as {me = me} {rest = rest} {v0 = v0} {v1 = v1} same part = subst (λ plan. PartClause me plan v0 v1 rest) (sym same) part
+pub left_as : {R : Type 0} {me : CallerNo} {plan other rest : Plan R} {v0 v1 : PassView} → plan ≡ other
+    → PartClause me other v0 v1 rest → PartClause me plan v0 v1 rest
+left_as {me = me} {rest = rest} {v0 = v0} {v1 = v1} same part =
+    subst (λ plan. PartClause me plan v0 v1 rest) (sym same) part
 
-pub unbroken_reply : (b blocking : Bool) (x : Bool) → b ≡ x → reply (if b then Err BrokenPipe else Ok blocking) ≡ (if x then reply (Err BrokenPipe) else reply (Ok blocking))
+pub unbroken_reply : (b blocking : Bool) (x : Bool) → b ≡ x
+    → reply (if b then Err BrokenPipe else Ok blocking) ≡ (if x then reply (Err BrokenPipe) else reply (Ok blocking))
 unbroken_reply b blocking true is = ap (λ x. reply (if x then Err BrokenPipe else Ok blocking)) is
 unbroken_reply b blocking false is = ap (λ x. reply (if x then Err BrokenPipe else Ok blocking)) is

@@ -25,7 +25,8 @@ abbrev pub TriesWrite : Limits → ChanNo → ChanNo → List Act → Result Pip
 TriesWrite l source sink = RefusesBy (try_write_plan l source sink)
 
 -- The same of a call that waits: `none` says whether its last run found no bytes, or no room.
-abbrev pub WaitsBy : {A : Type 0} → (Bool → List Act → Result Bool PipeError → Type 0) → Bool → List Act → Result A PipeError → Type 0
+abbrev pub WaitsBy : {A : Type 0} → (Bool → List Act → Result Bool PipeError → Type 0) → Bool → List Act
+    → Result A PipeError → Type 0
 WaitsBy Shape none acts (Ok answer) = (blocking : Bool) × Shape none acts (Ok blocking)
 WaitsBy Shape none acts (Err refusal) = Shape none acts (Err refusal)
 

@@ -1,6 +1,7 @@
 -- How the two ends of a pipe agree on its end. The sink's end mark is the number of all bytes that it sent. Both
 -- ends count modulo 2 ^ 64, which tells as much, since at most 65,536 bytes are on their way.
-use Rattle.std.specs.Prelude.{◌≡◌, ℕ, ◌+◌, ◌-◌, ◌%◌, ◌^◌, ◌≤◌, List, [], ◌∷◌, length, take, Bool, true, false, Option, Some, None}
+use Rattle.std.specs.Prelude.{◌≡◌, ℕ, ◌+◌, ◌-◌, ◌%◌, ◌^◌, ◌≤◌, List, [], ◌∷◌, length, take, Bool, true, false, Option}
+use Rattle.std.specs.Prelude.{Some, None}
 
 -- how many bytes these are, modulo 2 ^ 64
 abbrev pub count_of : List ℕ → ℕ

@@ -1,5 +1,6 @@
 -- What contracts see of the two ends of a pipe.
-use Rattle.std.specs.Prelude.{◌≡◌, ℕ, ◌≤◌, List, [], ◌++◌, length, take, drop, Bool, if◌then◌else◌, is_some, IsTrue, IsFalse}
+use Rattle.std.specs.Prelude.{◌≡◌, ℕ, ◌≤◌, List, [], ◌++◌, length, take, drop, Bool, if◌then◌else◌, is_some, IsTrue}
+use Rattle.std.specs.Prelude.{IsFalse}
 use mathlib.Core.List.{IsPrefix}
 use Rattle.rtrb.specs.Ring.{known_free, known_items, IsPair, SameConsumer, SameProducer}
 use Rattle.rtrb.specs.Ring.{sent as pushed, received as popped}
@@ -112,4 +113,11 @@ pub record AreEnds (source : PipeSource) (sink : PipeSink) : Type 0 where
 
 -- the pipe, for a hand that has both ends
 abbrev pub pipe_of : PipeSource → PipeSink → Pipe
-pipe_of source sink = record { source = source.chan; sink = sink.chan; sent = sent sink; received = received source; marked = is_marked sink }
+pipe_of source sink =
+    record {
+      source = source.chan;
+      sink = sink.chan;
+      sent = sent sink;
+      received = received source;
+      marked = is_marked sink;
+    }

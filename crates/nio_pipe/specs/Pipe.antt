@@ -1,5 +1,6 @@
 -- What contracts see of a pipe, and what each call makes of it.
-use Rattle.std.specs.Prelude.{◌≡◌, ℕ, ◌-◌, ◌≤◌, List, [], ◌++◌, length, take, drop, Bool, true, false, ◌||◌, IsTrue, Result}
+use Rattle.std.specs.Prelude.{◌≡◌, ℕ, ◌-◌, ◌≤◌, List, [], ◌++◌, length, take, drop, Bool, true, false, ◌||◌, IsTrue}
+use Rattle.std.specs.Prelude.{Result}
 use mathlib.Core.List.{IsPrefix}
 use Rattle.nio_base.specs.declared.numbers.ChanNo.{ChanNo}
 use Rattle.nio_steps.specs.declared.refusal.PipeError.{PipeError}
@@ -44,7 +45,8 @@ after_read pipe answer = record pipe { received = pipe.received ++ take (bytes_r
 
 -- after a write of a slice
 abbrev pub after_write : Pipe → List ℕ → Result PipeWrite PipeError → Pipe
-after_write pipe slice answer = record pipe { sent = pipe.sent ++ take (bytes_written answer) slice; marked = pipe.marked || leaves_mark answer }
+after_write pipe slice answer =
+    record pipe { sent = pipe.sent ++ take (bytes_written answer) slice; marked = pipe.marked || leaves_mark answer }
 
 -- after its sink was closed
 abbrev pub after_end : Pipe → Pipe

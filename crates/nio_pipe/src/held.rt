@@ -83,12 +83,14 @@ pub fn held_pipe(
 }
 
 impl HeldPipe {
+    /// The channel of the end that is read.
     pub fn source(&self) -> ChanNo
         ensures { result ≡ self.now.source }
     {
         self.source
     }
 
+    /// The channel of the end that is written.
     pub fn sink(&self) -> ChanNo
         ensures { result ≡ self.now.sink }
     {

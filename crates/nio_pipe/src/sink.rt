@@ -71,6 +71,7 @@ impl PipeSink {
         }
     }
 
+    /// The channel of this end.
     pub fn chan(&self) -> ChanNo
         ensures { result ≡ sink_chan self.now }
     {

@@ -70,6 +70,7 @@ impl PipeSource {
         }
     }
 
+    /// The channel of this end.
     pub fn chan(&self) -> ChanNo
         ensures { result ≡ source_chan self.now }
     {

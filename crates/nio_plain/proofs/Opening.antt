@@ -1,6 +1,5 @@
--- Opening a selector and a channel, over the parts of a state.
-use Rattle.std.proofs.Common.{◌≡◌, ℕ, ◌<◌, ◌≤◌, Bool, true, false, None, Some, sym, ap, ◌∙◌, List}
-use Rattle.nio_base.specs.declared.kind.Kind.{Kind}
+-- Opening a selector, over the parts of a state.
+use Rattle.std.proofs.Common.{◌≡◌, ℕ, ◌<◌, ◌≤◌, Bool, true, false, sym, ap, ◌∙◌, List}
 use Rattle.nio_base.specs.declared.limits.Limits.{Limits}
 use Rattle.nio_event.specs.State.{put, with_selector}
 use Rattle.nio_event.specs.declared.found.Chan.{Chan}
@@ -11,7 +10,7 @@ use Rattle.nio_plain.proofs.Parts.{makes-made}
 use Rattle.nio_plain.specs.PlainState.{SelectorRow, no_selector, new_selector, state_from}
 use Rattle.nio_plain.specs.ScriptState.{ScriptState, with_shared, Pipe}
 use Rattle.nio_plain.specs.Seq.Answers.{unchanged, answered}
-use Rattle.nio_plain.specs.Seq.Opening.{next_channel, selector_call, selector_made, channel_call, channel_made}
+use Rattle.nio_plain.specs.Seq.Opening.{selector_call, selector_made}
 
 module _ (l : Limits) (group : Group) (pipes : List Pipe) (interrupted : ℕ → Bool) (mark : ℕ) (chan : ℕ → Chan) (row : ℕ → SelectorRow) where
   abbrev st : ScriptState
@@ -27,21 +26,6 @@ module _ (l : Limits) (group : Group) (pipes : List Pipe) (interrupted : ℕ →
     unfolding selector_call
     selector_call-found h =
         ap (selector_made st) (find_unmade (λ s. (row s).made) l.selectors n is_made is_unmade h)
-
-  module _ (kind : Kind) (n : ℕ) (is_made : (k : ℕ) → k < n → (chan k).made ≡ true) (is_unmade : (k : ℕ) → n ≤ k → (chan k).made ≡ false) where
-    pub next_channel-spent : l.channels ≤ n → next_channel l st ≡ None
-    next_channel-spent h = find_spent (λ c. (chan c).made) l.channels n is_made is_unmade h
-
-    pub next_channel-found : n < l.channels → next_channel l st ≡ Some n
-    next_channel-found h = find_unmade (λ c. (chan c).made) l.channels n is_made is_unmade h
-
-    pub channel_call-spent : l.channels ≤ n → channel_call l st kind ≡ unchanged st reply.ChannelsSpent
-    unfolding channel_call
-    channel_call-spent h = ap (channel_made st kind) (next_channel-spent h)
-
-    pub channel_call-found : n < l.channels → channel_call l st kind ≡ channel_made st kind (Some n)
-    unfolding channel_call
-    channel_call-found h = ap (channel_made st kind) (next_channel-found h)
 
   -- the state with a selector more
   pub state-new_selector : (n : ℕ) → row n ≡ no_selector → state_from group pipes interrupted mark chan (put row n new_selector) ≡ with_shared st (with_selector st.shared n true)

@@ -6,13 +6,15 @@ use Rattle.std.proofs.Math.Seq.{drop-length, take-append_seam}
 use Rattle.std.proofs.lemmas.Bool.{cases_lt, cond-true, lt-ltb}
 use Rattle.std.proofs.lemmas.List.{get_or-map, length-drop, length-map, map-append, map-set}
 use Rattle.std.proofs.lemmas.List.Quantifiers.{position-Some}
+use Rattle.nio_base.specs.declared.kind.Kind.{Kind}
 use Rattle.nio_base.specs.declared.kind.Kind.TheVariants.{Source, Sink}
 use Rattle.nio_base.specs.declared.limits.Limits.{Limits}
 use Rattle.nio_base.specs.declared.numbers.CallerNo.{CallerNo}
 use Rattle.nio_event.specs.State.{put, unmade_channel}
 use Rattle.nio_event.specs.declared.found.Chan.{Chan}
 use Rattle.nio_event.specs.declared.reply.Reply.TheVariants as reply
-use Rattle.nio_plain.proofs.Answering.{rows_of, state-push_channel}
+use Rattle.nio_plain.proofs.Answering.{channel_made-below, channel_made-past, rows_of, state-push_channel}
+use Rattle.nio_plain.proofs.Found.{find_spent, find_unmade}
 use Rattle.nio_plain.specs.PlainState.{channel_row, pipe_of, places, state_from, state_of}
 use Rattle.nio_plain.specs.ScriptState.{Pipe, ScriptState, with_pipes}
 use Rattle.nio_plain.specs.Seq.Answers.{Answered, unchanged}
@@ -112,14 +114,14 @@ with_ends p pipes channels =
     (places channel_row unmade_channel channels)
     (rows_of p)
 
--- a system whose source is made
-pub source_made : (p : Plain) (pipes : List PlainPipe) (channels : List Channel) (source : Channel)
-    → pipes ≡ p.pipes.items → channels ≡ p.channels.items ++ source ∷ []
-    → channel_row source ≡ record { made = true; kind = Source; closed = false; blocking = true }
-    → with_ends p pipes channels ≡ (channel_made (state_of p) Source (Some (length p.channels.items))).left
-source_made p pipes channels source same more new =
+-- a system with a channel more
+pub channel_added : (p : Plain) (kind : Kind) (pipes : List PlainPipe) (channels : List Channel) (new : Channel)
+    → pipes ≡ p.pipes.items → channels ≡ p.channels.items ++ new ∷ []
+    → channel_row new ≡ record { made = true; kind = kind; closed = false; blocking = true }
+    → with_ends p pipes channels ≡ (channel_made (state_of p) kind (Some (length p.channels.items))).left
+channel_added p kind pipes channels new same more is =
     ap (λ (ps : List PlainPipe). with_ends p ps channels) same
-    ∙ (state-push_channel _ _ _ (rows_of p) p.channels.items channels source more
+    ∙ (state-push_channel _ _ _ (rows_of p) p.channels.items channels new more
     ∙ ap
     (λ (row : Chan).
     state_from
@@ -129,9 +131,9 @@ source_made p pipes channels source same more new =
     (length p.channels.items + 1)
     (put (places channel_row unmade_channel p.channels.items) (length p.channels.items) row)
     (rows_of p))
-    new)
+    is)
 
--- and whose sink is made too
+-- a system with a sink and a pipe more
 pub sink_made : (p : Plain) (before pipes : List PlainPipe) (ones channels : List Channel) (sink : Channel) (pipe : PlainPipe) (new : Pipe)
     → pipes ≡ before ++ pipe ∷ [] → channels ≡ ones ++ sink ∷ []
     → channel_row sink ≡ record { made = true; kind = Sink; closed = false; blocking = true }
@@ -149,3 +151,17 @@ sink_made p before pipes ones channels sink pipe new more longer row is =
     (length ones + 1)
     (put (places channel_row unmade_channel ones) (length ones) (row i))
     (rows_of p))
+
+-- the number of the channel that comes next
+
+pub next_end : (p : Plain) (pipes : List PlainPipe) (channels : List Channel) → length channels < p.limits.channels
+    → next_channel p.limits (with_ends p pipes channels) ≡ Some (length channels)
+next_end p pipes channels room =
+    find_unmade (λ c. (places channel_row unmade_channel channels c).made) p.limits.channels (length channels)
+    (channel_made-below channels) (channel_made-past channels) room
+
+pub no_next_end : (p : Plain) (pipes : List PlainPipe) (channels : List Channel) → p.limits.channels ≤ length channels
+    → next_channel p.limits (with_ends p pipes channels) ≡ None
+no_next_end p pipes channels full =
+    find_spent (λ c. (places channel_row unmade_channel channels c).made) p.limits.channels (length channels)
+    (channel_made-below channels) (channel_made-past channels) full

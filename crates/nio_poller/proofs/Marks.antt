@@ -1,5 +1,7 @@
 -- What is marked is what a poll told of the key's channel.
-use Rattle.std.proofs.Common.{◌≡◌, ℕ, ◌==◌, Bool, true, false, if◌then◌else◌, ◌⊎◌, inl, inr, Result, Ok, Err, List, [], ◌∷◌, ◌++◌, fold, bit_and, bit_or, refl, ap, sym, ◌∙◌, subst, arith, eq-eqb, IsTrue, IsFalse}
+use Rattle.std.proofs.Common.{◌≡◌, ℕ, ◌==◌, Bool, true, false, if◌then◌else◌, ◌⊎◌, inl, inr, Result, Ok, Err, List, []}
+use Rattle.std.proofs.Common.{◌∷◌, ◌++◌, fold, bit_and, bit_or, refl, ap, sym, ◌∙◌, subst, arith, eq-eqb, IsTrue}
+use Rattle.std.proofs.Common.{IsFalse}
 use Rattle.std.specs.List.{All, Contains, list_any}
 use Rattle.std.proofs.lemmas.List.Elements.{All-contains, All-head, All-tail, Contains-append_cases}
 use Rattle.std.proofs.lemmas.List.Folds.{list_any-append}
@@ -17,7 +19,8 @@ use Rattle.nio_steps.proofs.Lists.{parted, contains-none, contains-middle}
 use Rattle.nio_steps.proofs.ToldLaws.{marks_only_as_told}
 use Rattle.nio_steps.proofs.UnmarkedLaws.{begin_unmarked, again_unmarked}
 use Rattle.nio_steps.specs.KeyCalls.{is_within}
-use Rattle.nio_steps.specs.SelectCalls.{Selection, Begins, Poll, Tells, ToldReply, again, told_of, told_bits, begin_finds_busy}
+use Rattle.nio_steps.specs.SelectCalls.{Selection, Begins, Poll, Tells, ToldReply, again, told_of, told_bits}
+use Rattle.nio_steps.specs.SelectCalls.{begin_finds_busy}
 use Rattle.nio_steps.specs.Selections.{marks_on}
 use Rattle.nio_steps.specs.Waiting.{Run, acts_of, Tries, Repeats, Retries}
 use Rattle.nio_steps.specs.declared.looked.LookedKey.{LookedKey}
@@ -34,7 +37,8 @@ IsPart a b = bit_and a b ≡ a
 part_left : (a b c : ℕ) → IsPart a b → IsPart a (bit_or b c)
 part_left a b c part =
     ap (λ n. bit_and n (bit_or b c)) (sym part)
-    ∙ (same_from_bits (bit_and (bit_and a b) (bit_or b c)) (bit_and a b) (λ i. simp (bit_at_or, bit_at_and) (omega arith)) ∙ part)
+    ∙ (same_from_bits (bit_and (bit_and a b) (bit_or b c)) (bit_and a b)
+    (λ i. simp (bit_at_or, bit_at_and) (omega arith)) ∙ part)
 
 part_right : (b c : ℕ) → IsPart c (bit_or b c)
 part_right b c = same_from_bits (bit_and c (bit_or b c)) c (λ i. simp (bit_at_or, bit_at_and) (omega arith))
@@ -42,7 +46,8 @@ part_right b c = same_from_bits (bit_and c (bit_or b c)) c (λ i. simp (bit_at_o
 part_met : (a b c : ℕ) → IsPart a c → IsPart (bit_and a b) c
 part_met a b c part =
     ap (λ n. bit_and (bit_and n b) c) (sym part)
-    ∙ (same_from_bits (bit_and (bit_and (bit_and a c) b) c) (bit_and (bit_and a c) b) (λ i. simp bit_at_and (omega arith))
+    ∙ (same_from_bits (bit_and (bit_and (bit_and a c) b) c) (bit_and (bit_and a c) b)
+    (λ i. simp bit_at_and (omega arith))
     ∙ ap (λ n. bit_and n b) part)
 
 -- ---- what was told of a channel
@@ -60,30 +65,39 @@ module _ (pairs : List (ℕ × ℕ)) (c : ChanNo) where
       by_test false = part
 
 -- what was told of a key that was asked for was told of its channel
-told_in_channel : (asked : List LookedKey) (pairs : List (ℕ × ℕ)) (entry : LookedKey) → Contains asked entry → IsPart (told_of pairs entry.index) (told_of_channel asked pairs entry.channel)
+told_in_channel : (asked : List LookedKey) (pairs : List (ℕ × ℕ)) (entry : LookedKey) → Contains asked entry
+    → IsPart (told_of pairs entry.index) (told_of_channel asked pairs entry.channel)
 told_in_channel asked pairs entry there =
     let f = with_entry pairs entry.channel in
     let cut = parted asked entry there in
     let before : ℕ = fold f 0 cut.past in
     let here : f before entry ≡ bit_or before (told_of pairs entry.index) =
-    ap (λ (b : Bool). if b then bit_or before (told_of pairs entry.index) else before) (eq-eqb entry.channel.0 entry.channel.0 refl) in
-    let part : IsPart (told_of pairs entry.index) (f before entry) = subst (IsPart (told_of pairs entry.index)) (sym here) (part_right before (told_of pairs entry.index)) in
-    let whole : fold f 0 asked ≡ fold f (f before entry) cut.later = ap (fold f 0) cut.parts ∙ fold-append f 0 cut.past (entry ∷ cut.later) in
-    subst (IsPart (told_of pairs entry.index)) (sym whole) (stays pairs entry.channel (told_of pairs entry.index) (f before entry) cut.later part)
+    ap (λ (b : Bool). if b then bit_or before (told_of pairs entry.index) else before)
+    (eq-eqb entry.channel.0 entry.channel.0 refl) in
+    let part : IsPart (told_of pairs entry.index) (f before entry) = subst (IsPart (told_of pairs entry.index))
+    (sym here) (part_right before (told_of pairs entry.index)) in
+    let whole : fold f 0 asked ≡ fold f (f before entry) cut.later = ap (fold f 0) cut.parts
+    ∙ fold-append f 0 cut.past (entry ∷ cut.later) in
+    subst (IsPart (told_of pairs entry.index)) (sym whole)
+    (stays pairs entry.channel (told_of pairs entry.index) (f before entry) cut.later part)
 
 -- a `told` marks keys only with operations that their channels are ready for
-pub marks_ready : (ready : ChanNo → ℕ) (selection : Selection) (poll : Poll) (acts : List Act) (answer : ToldReply) → ((c : ChanNo) → ready c ≡ told_of_channel selection.looked poll.pairs c)
-    → Tells selection poll acts answer → (s : SelNo) (i told : ℕ) (from : KeyMark) → Contains acts (Mark s i from told (Ok tt)) → MarksReady ready selection.looked i told
+pub marks_ready : (ready : ChanNo → ℕ) (selection : Selection) (poll : Poll) (acts : List Act) (answer : ToldReply)
+    → ((c : ChanNo) → ready c ≡ told_of_channel selection.looked poll.pairs c)
+    → Tells selection poll acts answer → (s : SelNo) (i told : ℕ) (from : KeyMark)
+    → Contains acts (Mark s i from told (Ok tt)) → MarksReady ready selection.looked i told
 marks_ready ready selection poll acts answer is run s i told from there =
     let fits = marks_only_as_told selection poll acts answer run s i told from (Ok tt) there in
     let entry = fits.entry in
     let part = part_met (told_of poll.pairs entry.index) entry.interest (ready entry.channel)
-    (subst (IsPart (told_of poll.pairs entry.index)) (sym (is entry.channel)) (told_in_channel selection.looked poll.pairs entry fits.looked)) in
+    (subst (IsPart (told_of poll.pairs entry.index)) (sym (is entry.channel))
+    (told_in_channel selection.looked poll.pairs entry fits.looked)) in
     record {
       entry = entry;
       is_looked = fits.looked;
       at_index = fits.at_index;
-      bits = subst (λ n. IsTrue (is_within n (ready entry.channel))) (sym fits.bits) (eq-eqb (bit_and (told_bits poll.pairs entry) (ready entry.channel)) (told_bits poll.pairs entry) part);
+      bits = subst (λ n. IsTrue (is_within n (ready entry.channel))) (sym fits.bits)
+          (eq-eqb (bit_and (told_bits poll.pairs entry) (ready entry.channel)) (told_bits poll.pairs entry) part);
       some = fits.some;
     }
 
@@ -96,36 +110,48 @@ Unmarked acts = (s : SelNo) (i told : ℕ) (from : KeyMark) → Contains acts (M
 any_there : (p : Act → Bool) (acts : List Act) (act : Act) → Contains acts act → p act ≡ true → has p acts ≡ true
 any_there p acts act there is =
     let cut = parted acts act there in
-    ap (has p) cut.parts ∙ (list_any-append p cut.past (act ∷ cut.later) ∙ or_right (has p cut.past) (has p (act ∷ cut.later)) (or_left (p act) (has p cut.later) is))
+    ap (has p) cut.parts
+    ∙ (list_any-append p cut.past (act ∷ cut.later)
+    ∙ or_right (has p cut.past) (has p (act ∷ cut.later)) (or_left (p act) (has p cut.later) is))
 
 both_ways : (b : Bool) → b ≡ true → b ≡ false → ⊥
 both_ways true is is_not = cc is_not
 both_ways false is is_not = cc is
 
-pub unmarked_on : (acts : List Act) (s : SelNo) (i told : ℕ) (from : KeyMark) → has (marks_on s.0) acts ≡ false → Contains acts (Mark s i from told (Ok tt)) → ⊥
+pub unmarked_on : (acts : List Act) (s : SelNo) (i told : ℕ) (from : KeyMark) → has (marks_on s.0) acts ≡ false
+    → Contains acts (Mark s i from told (Ok tt)) → ⊥
 unmarked_on acts s i told from none there =
-    both_ways (has (marks_on s.0) acts) (any_there (marks_on s.0) acts (Mark s i from told (Ok tt)) there (eq-eqb s.0 s.0 refl)) none
+    both_ways (has (marks_on s.0) acts)
+    (any_there (marks_on s.0) acts (Mark s i from told (Ok tt)) there (eq-eqb s.0 s.0 refl)) none
 
 pub unmarked_none : Unmarked []
 unmarked_none s i told from there = contains-none _ there
 
 pub unmarked_append : (xs ys : List Act) → Unmarked xs → Unmarked ys → Unmarked (xs ++ ys)
-unmarked_append xs ys first second s i told from there = by_place (Contains-append_cases xs ys (Mark s i from told (Ok tt)) there)
+unmarked_append xs ys first second s i told from there =
+    by_place (Contains-append_cases xs ys (Mark s i from told (Ok tt)) there)
   where
     by_place : Contains xs (Mark s i from told (Ok tt)) ⊎ Contains ys (Mark s i from told (Ok tt)) → ⊥
     by_place (inl here) = first s i told from here
     by_place (inr here) = second s i told from here
 
-pub again-unmarked : (selection next : Selection) (poll : Poll) (acts : List Act) → Tells selection poll acts (again next) → Unmarked acts
+pub again-unmarked : (selection next : Selection) (poll : Poll) (acts : List Act)
+    → Tells selection poll acts (again next) → Unmarked acts
 again-unmarked selection next poll acts run s i told from there =
-    let on : s ≡ selection.selector = (marks_only_as_told selection poll acts (again next) run s i told from (Ok tt) there).on_selector in
-    unmarked_on acts s i told from (subst (λ (x : SelNo). has (marks_on x.0) acts ≡ false) (sym on) (again_unmarked selection next poll acts run).1) there
+    let on : s ≡ selection.selector =
+    (marks_only_as_told selection poll acts (again next) run s i told from (Ok tt) there).on_selector in
+    unmarked_on acts s i told from
+    (subst (λ (x : SelNo). has (marks_on x.0) acts ≡ false) (sym on)
+    (again_unmarked selection next poll acts run).1) there
 
-begin-unmarked : (s : SelNo) (mode : Mode) (acts : List Act) (answer : Result Selection BeginError) → Begins s mode acts answer → Unmarked acts
-begin-unmarked s mode acts answer run on i told from there = unmarked_on acts on i told from (begin_unmarked on.0 s mode acts answer run) there
+begin-unmarked : (s : SelNo) (mode : Mode) (acts : List Act) (answer : Result Selection BeginError)
+    → Begins s mode acts answer → Unmarked acts
+begin-unmarked s mode acts answer run on i told from there =
+    unmarked_on acts on i told from (begin_unmarked on.0 s mode acts answer run) there
 
 -- beginning again and again marks no key
-pub begins-unmarked : (s : SelNo) (mode : Mode) (acts : List Act) (answer : Result Selection BeginError) → Retries (Begins s mode) begin_finds_busy acts answer → Unmarked acts
+pub begins-unmarked : (s : SelNo) (mode : Mode) (acts : List Act) (answer : Result Selection BeginError)
+    → Retries (Begins s mode) begin_finds_busy acts answer → Unmarked acts
 begins-unmarked s mode acts answer repeats =
     subst Unmarked (sym repeats.parts)
     (unmarked_append repeats.before repeats.last.acts
@@ -138,4 +164,6 @@ begins-unmarked s mode acts answer repeats =
     each : (runs : List (Run (Unit {0}) (Result Selection BeginError))) → All Made runs → Unmarked (acts_of runs)
     each [] made = unmarked_none
     each (run ∷ later) made =
-        unmarked_append run.acts (acts_of later) (begin-unmarked s mode run.acts run.answer (All-head Made run later made)) (each later (All-tail Made run later made))
+        unmarked_append run.acts (acts_of later)
+        (begin-unmarked s mode run.acts run.answer (All-head Made run later made))
+        (each later (All-tail Made run later made))

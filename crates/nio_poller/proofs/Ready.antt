@@ -1,5 +1,6 @@
 -- What a caller's pass has after a call, and what the passes have that a pass is parted into.
-use Rattle.std.proofs.Common.{◌≡◌, ℕ, ℤ, Bool, Option, Result, Ok, Err, List, refl, ap, sym, ◌∙◌, subst, eqb-true, eq-eqb}
+use Rattle.std.proofs.Common.{◌≡◌, ℕ, ℤ, Bool, Option, Result, Ok, Err, List, refl, ap, sym, ◌∙◌, subst, eqb-true}
+use Rattle.std.proofs.Common.{eq-eqb}
 use Rattle.std.specs.Int.{bit_at}
 use Rattle.nio_base.specs.declared.numbers.CallerNo.{CallerNo}
 use Rattle.nio_base.specs.declared.numbers.ChanNo.{ChanNo}
@@ -22,21 +23,29 @@ use Rattle.nio_poller.specs.Selecting.{TimedBy, TimedClause}
 use Rattle.nio_poller.specs.declared.selecting.SelectError.{SelectError}
 
 -- a pass holds the same numbers after the acts of a call
-pub ready_after : {w : Words} {p q : Pass} {me : CallerNo} {acts : List Act} (n : CallerNo) → ActsClause me acts (view w p) (view w q) → IsPassOf w q → IsReady w p n → IsReady w q n
+pub ready_after : {w : Words} {p q : Pass} {me : CallerNo} {acts : List Act} (n : CallerNo)
+    → ActsClause me acts (view w p) (view w q) → IsPassOf w q → IsReady w p n → IsReady w q n
 ready_after {w = w} {p = p} {q = q} n clause pass ready = record {
   pass = pass;
-  number = eqb-true (bit_at (numbers_of q) n.0) 1 (ap {B = Bool} (λ (held : CallerNo → Bool). held n) clause.held ∙ eq-eqb (bit_at (numbers_of p) n.0) 1 ready.number);
+  number = eqb-true (bit_at (numbers_of q) n.0) 1
+      (ap {B = Bool} (λ (held : CallerNo → Bool). held n) clause.held
+      ∙ eq-eqb (bit_at (numbers_of p) n.0) 1 ready.number);
 }
 
 -- a pass that has seen the same has the same selectors
-pub selector_same : (w : Words) (p q : Pass) (s : SelNo) → seen q ≡ seen p → HasSelector (view w p) s → HasSelector (view w q) s
-selector_same w p q s same has = record { inside = has.inside; made = ap (λ events. (state_after events).selector s.0) same ∙ has.made }
+pub selector_same : (w : Words) (p q : Pass) (s : SelNo) → seen q ≡ seen p → HasSelector (view w p) s
+    → HasSelector (view w q) s
+selector_same w p q s same has =
+    record { inside = has.inside; made = ap (λ events. (state_after events).selector s.0) same ∙ has.made }
 
-module _ (me : CallerNo) (s : SelNo) (old new : PassView) (p0 p1 : Option (List Polled)) (ready : ChanNo → ℕ) (result : Result Selected SelectError) (sel : SelNo) where
-  timed_by : (r : Result Mode NegativeTimeout) → TimedBy r me s old new p0 p1 ready result → HasSelector old sel → HasSelector new sel
+module _ (me : CallerNo) (s : SelNo) (old new : PassView) (p0 p1 : Option (List Polled)) (ready : ChanNo → ℕ)
+    (result : Result Selected SelectError) (sel : SelNo) where
+  timed_by : (r : Result Mode NegativeTimeout) → TimedBy r me s old new p0 p1 ready result → HasSelector old sel
+      → HasSelector new sel
   timed_by (Ok mode) clause has = selector_after clause.call.acts has
   timed_by (Err too_low) clause has = subst (λ (v : PassView). HasSelector v sel) (sym clause.same) has
 
   -- the selectors stay made in a selection for a time
-  pub selector_timed : (ms : ℤ) → TimedClause me s ms old new p0 p1 ready result → HasSelector old sel → HasSelector new sel
+  pub selector_timed : (ms : ℤ) → TimedClause me s ms old new p0 p1 ready result → HasSelector old sel
+      → HasSelector new sel
   selector_timed ms clause has = timed_by (mode_for ms) clause has

@@ -1,5 +1,6 @@
 -- What a selection was told so far.
-use Rattle.std.proofs.Common.{◌≡◌, ℕ, Bool, true, false, ◌⊎◌, inl, inr, Option, Some, None, Result, Ok, Err, List, [], ◌∷◌, ◌++◌, map, refl, ap, sym, ◌∙◌, subst, append_assoc}
+use Rattle.std.proofs.Common.{◌≡◌, ℕ, Bool, true, false, ◌⊎◌, inl, inr, Option, Some, None, Result, Ok, Err, List, []}
+use Rattle.std.proofs.Common.{◌∷◌, ◌++◌, map, refl, ap, sym, ◌∙◌, subst, append_assoc}
 use Rattle.std.specs.List.{All, Contains}
 use Rattle.std.proofs.lemmas.List.{append-nil, map-append}
 use Rattle.std.proofs.lemmas.List.Elements.{Contains-append_cases}
@@ -13,6 +14,7 @@ use Rattle.nio_event.specs.declared.act.Act.{Act}
 use Rattle.nio_event.specs.declared.act.Act.TheVariants.{Mark}
 use Rattle.nio_event.specs.declared.found.Mark.{Mark as KeyMark}
 use Rattle.nio_event.specs.declared.found.Mode.{Mode}
+use Rattle.nio_event.specs.declared.found.Mode.TheVariants.{Now as WithoutWaiting}
 use Rattle.nio_select.specs.InProgress.{IfAgain}
 use Rattle.nio_select.specs.declared.selecting.After.{After}
 use Rattle.nio_select.specs.declared.selecting.After.TheVariants as after
@@ -23,33 +25,53 @@ use Rattle.nio_steps.proofs.UnmarkedLaws.{again_unmarked}
 use Rattle.nio_steps.proofs.WaitingLaws.{tries_none, tries_more, repeats_last}
 use Rattle.nio_steps.specs.Calls.{CallClause}
 use Rattle.nio_steps.specs.Runs.{Completes}
-use Rattle.nio_steps.specs.SelectCalls.{Selection, Poll, Tells, TellsAll, TellsAndLeaves, goes_on_after, ToldReply, done, again, leave_plan, SelectsRest, SelectReply, selected, left}
+use Rattle.nio_steps.specs.SelectCalls.{Selection, Poll, Tells, TellsAll, TellsAndLeaves, goes_on_after, ToldReply}
+use Rattle.nio_steps.specs.SelectCalls.{done, again, leave_plan, SelectsRest, SelectReply, selected, left}
 use Rattle.nio_steps.specs.Waiting.{Run, Tries, Repeats}
 use Rattle.nio_steps.specs.declared.looked.LookedKey.{LookedKey}
 use Rattle.nio_steps.specs.declared.selected.Selected.{Selected}
 use Rattle.nio_poller.specs.Polled.{Polled}
+use Rattle.nio_poller.specs.Polls.{told_of_channel}
 use Rattle.nio_poller.proofs.Marks.{Unmarked, unmarked_none, unmarked_append, unmarked_on, again-unmarked, marks_ready}
-use Rattle.nio_poller.specs.Selecting.{AddsPolls, MarksReady, MarksAllReady}
-use Rattle.nio_poller.specs.Telling.{TellsOne, LeavesIt, PollsClause}
+use Rattle.nio_poller.specs.Selecting.{AddsPolls, MarksReady, MarksAllReady, polls_of, told_from}
+use Rattle.nio_poller.specs.Telling.{TellsOne, LeavesIt, PollsClause, poll_mode, told_poll}
 use Rattle.nio_poller.specs.declared.selecting.SelectError.{SelectError}
 use Rattle.nio_poller.specs.declared.selecting.SelectError.TheVariants.{PollFault, Memory}
 
 -- ---- the polls that a poller tells
 
-polled : List LookedKey → Mode → Poll → Polled
-polled asked mode poll = record { asked = asked; mode = mode; answer = poll }
+pub adds_none : (polls : Option (List Polled)) → AddsPolls polls polls []
+adds_none None = refl
+adds_none (Some before) = ap Some (sym (append-nil before))
 
-pub adds_none : (polls : Option (List Polled)) (asked : List LookedKey) (mode : Mode) → AddsPolls polls polls asked mode []
-adds_none None asked mode = refl
-adds_none (Some before) asked mode = ap Some (sym (append-nil before))
+adds_more : (p0 p1 p2 : Option (List Polled)) (xs ys : List Polled)
+    → AddsPolls p0 p1 xs → AddsPolls p1 p2 ys → AddsPolls p0 p2 (xs ++ ys)
+adds_more None p1 p2 xs ys first second = subst (λ p. AddsPolls p p2 ys) first second
+adds_more (Some before) p1 p2 xs ys first second =
+    subst (λ p. AddsPolls p p2 ys) first second ∙ ap Some (append_assoc before xs ys)
 
-pub adds_more : (p0 p1 p2 : Option (List Polled)) (asked : List LookedKey) (mode : Mode) (xs ys : List Poll)
-    → AddsPolls p0 p1 asked mode xs → AddsPolls p1 p2 asked mode ys → AddsPolls p0 p2 asked mode (xs ++ ys)
-adds_more None p1 p2 asked mode xs ys first second = subst (λ p. AddsPolls p p2 asked mode ys) first second
-adds_more (Some before) p1 p2 asked mode xs ys first second =
-    subst (λ p. AddsPolls p p2 asked mode ys) first second
-    ∙ ap Some (append_assoc before (map (λ (poll : Poll). record { asked = asked; mode = mode; answer = poll }) xs) (map (λ (poll : Poll). record { asked = asked; mode = mode; answer = poll }) ys)
-    ∙ ap (λ zs. before ++ zs) (sym (map-append (λ (poll : Poll). record { asked = asked; mode = mode; answer = poll }) xs ys)))
+-- whether no poll answered yet
+pub is_first_after : List Poll → Bool
+is_first_after [] = true
+is_first_after (poll ∷ later) = false
+
+pub first_once : (polls : List Poll) (poll : Poll) → false ≡ is_first_after (polls ++ poll ∷ [])
+first_once [] poll = refl
+first_once (x ∷ later) poll = refl
+
+polls_of-more : (asked : List LookedKey) (mode : Mode) (polls : List Poll) (poll : Poll)
+    → polls_of asked mode polls ++ record { asked = asked; mode = poll_mode (is_first_after polls) mode; answer = poll }
+    ∷ []
+    ≡ polls_of asked mode (polls ++ poll ∷ [])
+polls_of-more asked mode [] poll = refl
+polls_of-more asked mode (first ∷ later) poll =
+    ap (λ xs. record { asked = asked; mode = WithoutWaiting; answer = first } ∷ xs)
+    (sym (map-append (λ (answer : Poll). record { asked = asked; mode = mode; answer = answer }) later (poll ∷ [])))
+
+told_from-more : (polls : List Poll) (poll : Poll)
+    → told_from polls ++ told_poll (is_first_after polls) poll ∷ [] ≡ told_from (polls ++ poll ∷ [])
+told_from-more [] poll = refl
+told_from-more (first ∷ later) poll = refl
 
 -- ---- the runs so far
 
@@ -61,32 +83,41 @@ pub record TellsSoFar (selection : Selection) (polls : List Poll) (acts : List A
 
 tells_none : (selection : Selection) → TellsSoFar selection [] []
 unfolding tries_none
-tells_none selection = record { tells = tries_none (Tells selection) goes_on_after; polls_are = refl; unmarked = unmarked_none }
+tells_none selection =
+    record { tells = tries_none (Tells selection) goes_on_after; polls_are = refl; unmarked = unmarked_none }
 
-given-more : (runs : List (Run Poll ToldReply)) (run : Run Poll ToldReply) (polls : List Poll) → polls ≡ map (λ (r : Run Poll ToldReply). r.given) runs
+given-more : (runs : List (Run Poll ToldReply)) (run : Run Poll ToldReply) (polls : List Poll)
+    → polls ≡ map (λ (r : Run Poll ToldReply). r.given) runs
     → polls ++ run.given ∷ [] ≡ map (λ (r : Run Poll ToldReply). r.given) (runs ++ run ∷ [])
-given-more runs run polls are = ap (λ xs. xs ++ run.given ∷ []) are ∙ sym (map-append (λ (r : Run Poll ToldReply). r.given) runs (run ∷ []))
+given-more runs run polls are =
+    ap (λ xs. xs ++ run.given ∷ []) are ∙ sym (map-append (λ (r : Run Poll ToldReply). r.given) runs (run ∷ []))
 
-tells_more : (selection : Selection) (polls : List Poll) (poll : Poll) (next : Selection) (xs ys : List Act) → TellsSoFar selection polls xs → Tells selection poll ys (again next)
+tells_more : (selection : Selection) (polls : List Poll) (poll : Poll) (next : Selection) (xs ys : List Act)
+    → TellsSoFar selection polls xs → Tells selection poll ys (again next)
     → TellsSoFar selection (polls ++ poll ∷ []) (xs ++ ys)
 unfolding tries_more
 tells_more selection polls poll next xs ys so_far run = record {
   tells = tries_more poll ys (again next) so_far.tells run refl;
-  polls_are = given-more so_far.tells.runs (record { given = poll; acts = ys; answer = again next }) polls so_far.polls_are;
+  polls_are = given-more so_far.tells.runs (record { given = poll; acts = ys; answer = again next }) polls
+      so_far.polls_are;
   unmarked = unmarked_append xs ys so_far.unmarked (again-unmarked selection next poll ys run);
 }
 
-tells_last : (selection : Selection) (polls : List Poll) (poll : Poll) (answer : Selected) (xs ys : List Act) → TellsSoFar selection polls xs → Tells selection poll ys (done answer)
+tells_last : (selection : Selection) (polls : List Poll) (poll : Poll) (answer : Selected) (xs ys : List Act)
+    → TellsSoFar selection polls xs → Tells selection poll ys (done answer)
     → TellsAll selection (polls ++ poll ∷ []) (xs ++ ys) answer
 unfolding repeats_last
 tells_last selection polls poll answer xs ys so_far run = record {
   tells = repeats_last poll ys (done answer) so_far.tells run refl;
-  polls_are = given-more so_far.tells.runs (record { given = poll; acts = ys; answer = done answer }) polls so_far.polls_are;
+  polls_are = given-more so_far.tells.runs (record { given = poll; acts = ys; answer = done answer }) polls
+      so_far.polls_are;
 }
 
-tells_and_leaves : (selection : Selection) (polls : List Poll) (xs ys : List Act) → TellsSoFar selection polls xs → Completes (leave_plan selection) ys tt
+tells_and_leaves : (selection : Selection) (polls : List Poll) (xs ys : List Act) → TellsSoFar selection polls xs
+    → Completes (leave_plan selection) ys tt
     → TellsAndLeaves selection polls (xs ++ ys)
-tells_and_leaves selection polls xs ys so_far run = record { told = xs; leaves = ys; parts = refl; tells = so_far.tells; polls_are = so_far.polls_are; left = run }
+tells_and_leaves selection polls xs ys so_far run =
+    record { told = xs; leaves = ys; parts = refl; tells = so_far.tells; polls_are = so_far.polls_are; left = run }
 
 -- leaving a selection marks no key
 leave-unmarked : (selection : Selection) (acts : List Act) → Completes (leave_plan selection) acts tt → Unmarked acts
@@ -97,77 +128,131 @@ leave-unmarked selection acts run s i told from there =
 
 -- ---- the call so far
 
-pub record SoFar (me : CallerNo) (selection : Selection) (v0 v1 : PassView) (p0 p1 : Option (List Polled)) : Type 0 where
+pub record SoFar (me : CallerNo) (selection : Selection) (is_first : Bool) (v0 v1 : PassView)
+    (p0 p1 : Option (List Polled)) : Type 0 where
   pub polls : List Poll
-  pub call : CallClause me (λ acts (_ : Unit {0}). TellsSoFar selection polls acts) v0 v1 tt
-  pub adds : AddsPolls p0 p1 selection.looked selection.mode polls
+  pub first_is : is_first ≡ is_first_after polls
+  pub call : CallClause me (λ acts (_ : Unit {0}). TellsSoFar selection (told_from polls) acts) v0 v1 tt
+  pub adds : AddsPolls p0 p1 (polls_of selection.looked selection.mode polls)
 
-pub so_far_none : (me : CallerNo) (selection : Selection) (v : PassView) (p : Option (List Polled)) → IsLegal v.limits v.seen → SoFar me selection v v p p
+pub so_far_none : (me : CallerNo) (selection : Selection) (v : PassView) (p : Option (List Polled))
+    → IsLegal v.limits v.seen → SoFar me selection true v v p p
 so_far_none me selection v p legal = record {
   polls = [];
-  call = call_of_acts (λ acts (_ : Unit {0}). TellsSoFar selection [] acts) [] tt (acts_nothing me v legal) (tells_none selection);
-  adds = adds_none p selection.looked selection.mode;
+  first_is = refl;
+  call = call_of_acts (λ acts (_ : Unit {0}). TellsSoFar selection [] acts) [] tt (acts_nothing me v legal)
+      (tells_none selection);
+  adds = adds_none p;
 }
 
-module _ {me : CallerNo} {selection : Selection} {v0 v1 v2 : PassView} {p0 p1 p2 : Option (List Polled)} {ready : ChanNo → ℕ} (so_far : SoFar me selection v0 v1 p0 p1) where
-  pub goes_on : (next : Selection) → TellsOne me selection v1 v2 p1 p2 ready (after.Again next) → (next ≡ selection) × SoFar me selection v0 v2 p0 p2
-  goes_on next one = (
-    (again_unmarked selection next one.poll _ one.call.shape).0,
-    record {
-      polls = so_far.polls ++ one.poll ∷ [];
-      call = calls_then (λ acts (_ : Unit {0}). TellsSoFar selection (so_far.polls ++ one.poll ∷ []) acts) tt
-          (λ xs ys here run. tells_more selection so_far.polls one.poll next xs ys here run) so_far.call one.call;
-      adds = adds_more p0 p1 p2 selection.looked selection.mode so_far.polls (one.poll ∷ []) so_far.adds one.adds;
-    },
-  )
+module _ {me : CallerNo} {selection : Selection} {is_first : Bool} {v0 v1 v2 : PassView}
+    {p0 p1 p2 : Option (List Polled)} {ready : ChanNo → ℕ}
+    (so_far : SoFar me selection is_first v0 v1 p0 p1) where
+  -- the poll is the next after those
+  next_one : (a : After) → TellsOne me selection is_first v1 v2 p1 p2 ready a
+      → TellsOne me selection (is_first_after so_far.polls) v1 v2 p1 p2 ready a
+  next_one a one = subst (λ (first : Bool). TellsOne me selection first v1 v2 p1 p2 ready a) so_far.first_is one
 
-  pub is_over : (answer : Selected) → TellsOne me selection v1 v2 p1 p2 ready (after.Done answer) → PollsClause me selection v0 v2 p0 p2 ready (Ok answer)
-  is_over answer one =
+  adds_next : (poll : Poll)
+      → AddsPolls p1 p2
+      (record { asked = selection.looked; mode = poll_mode (is_first_after so_far.polls) selection.mode; answer = poll }
+      ∷ [])
+      → AddsPolls p0 p2 (polls_of selection.looked selection.mode (so_far.polls ++ poll ∷ []))
+  adds_next poll added =
+      subst (AddsPolls p0 p2) (polls_of-more selection.looked selection.mode so_far.polls poll)
+      (adds_more p0 p1 p2 (polls_of selection.looked selection.mode so_far.polls) _ so_far.adds added)
+
+  pub goes_on : (next : Selection) → TellsOne me selection is_first v1 v2 p1 p2 ready (after.Again next)
+      → (next ≡ selection) × SoFar me selection false v0 v2 p0 p2
+  goes_on next found =
+      let one = next_one (after.Again next) found in (
+        (again_unmarked selection next (told_poll (is_first_after so_far.polls) one.poll) _ one.call.shape).0,
+        record {
+          polls = so_far.polls ++ one.poll ∷ [];
+          first_is = first_once so_far.polls one.poll;
+          call = calls_then
+              (λ acts (_ : Unit {0}). TellsSoFar selection (told_from (so_far.polls ++ one.poll ∷ [])) acts) tt
+              (λ xs ys here run.
+              subst (λ (polls : List Poll). TellsSoFar selection polls (xs ++ ys))
+              (told_from-more so_far.polls one.poll)
+              (tells_more selection (told_from so_far.polls) (told_poll (is_first_after so_far.polls) one.poll) next xs
+              ys here run))
+              so_far.call one.call;
+          adds = adds_next one.poll one.adds;
+        },
+      )
+
+  pub is_over : (answer : Selected) → TellsOne me selection is_first v1 v2 p1 p2 ready (after.Done answer)
+      → PollsClause me selection v0 v2 p0 p2 ready (Ok answer)
+  is_over answer found =
+      let one = next_one (after.Done answer) found in
+      let told = told_poll (is_first_after so_far.polls) one.poll in
       let polls = so_far.polls ++ one.poll ∷ [] in
-      let both : CallClause me (λ acts (r : SelectReply). SelectsRest polls (Ok selection) acts r × MarksAllReady ready selection.looked acts) v0 v2 (selected answer) =
+      let both : CallClause me (λ acts (r : SelectReply).
+      SelectsRest (told_from polls) (Ok selection) acts r × MarksAllReady ready selection.looked acts) v0 v2
+      (selected answer) =
       calls_then _ (selected answer)
       (λ xs ys here run. (
-        tells_last selection so_far.polls one.poll answer xs ys here run,
-        λ s i told from there. by_place xs ys here run s i told from (Contains-append_cases xs ys (Mark s i from told (Ok tt)) there),
+        subst (λ (ps : List Poll). TellsAll selection ps (xs ++ ys) answer) (told_from-more so_far.polls one.poll)
+            (tells_last selection (told_from so_far.polls) told answer xs ys here run),
+        λ s i bits from there.
+            by_place told one.ready_is xs ys here run s i bits from
+            (Contains-append_cases xs ys (Mark s i from bits (Ok tt)) there),
       )) so_far.call one.call in
       record {
         polls = polls;
         reply = selected answer;
         call = record { acts = both.acts; shape = both.shape.0 };
         answers = refl;
-        adds = adds_more p0 p1 p2 selection.looked selection.mode so_far.polls (one.poll ∷ []) so_far.adds one.adds;
+        adds = adds_next one.poll one.adds;
         marks = both.shape.1;
       }
     where
-      by_place : (xs ys : List Act) → TellsSoFar selection so_far.polls xs → Tells selection one.poll ys (done answer) → (s : SelNo) (i told : ℕ) (from : KeyMark)
-          → Contains xs (Mark s i from told (Ok tt)) ⊎ Contains ys (Mark s i from told (Ok tt)) → MarksReady ready selection.looked i told
-      by_place xs ys here run s i told from (inl before) = absurd (here.unmarked s i told from before)
-      by_place xs ys here run s i told from (inr last) = marks_ready ready selection one.poll ys (done answer) one.ready_is run s i told from last
+      by_place : (poll : Poll) → ((c : ChanNo) → ready c ≡ told_of_channel selection.looked poll.pairs c)
+          → (xs ys : List Act)
+          → TellsSoFar selection (told_from so_far.polls) xs → Tells selection poll ys (done answer)
+          → (s : SelNo) (i told : ℕ) (from : KeyMark)
+          → Contains xs (Mark s i from told (Ok tt)) ⊎ Contains ys (Mark s i from told (Ok tt))
+          → MarksReady ready selection.looked i told
+      by_place poll is xs ys here run s i told from (inl before) = absurd (here.unmarked s i told from before)
+      by_place poll is xs ys here run s i told from (inr last) =
+          marks_ready ready selection poll ys (done answer) is run s i told from last
 
-  pub is_left : (result : Result Selected SelectError) → (result ≡ Err PollFault) ⊎ (result ≡ Err Memory) → LeavesIt me selection v1 v2 p1 p2 → PollsClause me selection v0 v2 p0 p2 ready result
+  pub is_left : (result : Result Selected SelectError) → (result ≡ Err PollFault) ⊎ (result ≡ Err Memory)
+      → LeavesIt me selection v1 v2 p1 p2 → PollsClause me selection v0 v2 p0 p2 ready result
   is_left result answers leaves =
-      let both : CallClause me (λ acts (r : SelectReply). SelectsRest so_far.polls (Ok selection) acts r × Unmarked acts) v0 v2 left =
-      calls_then _ left (λ xs ys here run. (tells_and_leaves selection so_far.polls xs ys here run, unmarked_append xs ys here.unmarked (leave-unmarked selection ys run))) so_far.call leaves.call in
+      let both : CallClause me (λ acts (r : SelectReply).
+      SelectsRest (told_from so_far.polls) (Ok selection) acts r × Unmarked acts) v0 v2 left =
+      calls_then _ left
+      (λ xs ys here run. (
+        tells_and_leaves selection (told_from so_far.polls) xs ys here run,
+        unmarked_append xs ys here.unmarked (leave-unmarked selection ys run),
+      )) so_far.call leaves.call in
       record {
         polls = so_far.polls;
         reply = left;
         call = record { acts = both.acts; shape = both.shape.0 };
         answers = answers;
-        adds = subst (λ polls. AddsPolls p0 p2 selection.looked selection.mode polls) (append-nil so_far.polls)
-            (adds_more p0 p1 p2 selection.looked selection.mode so_far.polls [] so_far.adds leaves.adds);
+        adds = subst (AddsPolls p0 p2) (append-nil (polls_of selection.looked selection.mode so_far.polls))
+            (adds_more p0 p1 p2 (polls_of selection.looked selection.mode so_far.polls) [] so_far.adds leaves.adds);
         marks = λ s i told from there. absurd (both.shape.1 s i told from there);
       }
 
 -- ---- in a loop's words
 
-pub one_as : {me : CallerNo} {v1 v2 : PassView} {p1 p2 : Option (List Polled)} {ready : ChanNo → ℕ} (selection now : Selection) (a b : After) → now ≡ selection → a ≡ b
-    → TellsOne me now v1 v2 p1 p2 ready a → TellsOne me selection v1 v2 p1 p2 ready b
-one_as {me = me} {v1 = v1} {v2 = v2} {p1 = p1} {p2 = p2} {ready = ready} selection now a b same is one =
-    subst (λ (x : Selection). TellsOne me x v1 v2 p1 p2 ready b) same (subst (λ (x : After). TellsOne me now v1 v2 p1 p2 ready x) is one)
+pub one_as : {me : CallerNo} {is_first : Bool} {v1 v2 : PassView} {p1 p2 : Option (List Polled)} {ready : ChanNo → ℕ}
+    (selection now : Selection) (a b : After) → now ≡ selection → a ≡ b
+    → TellsOne me now is_first v1 v2 p1 p2 ready a → TellsOne me selection is_first v1 v2 p1 p2 ready b
+one_as {me = me} {is_first = is_first} {v1 = v1} {v2 = v2} {p1 = p1} {p2 = p2} {ready = ready} selection now a b same is
+    one =
+    subst (λ (x : Selection). TellsOne me x is_first v1 v2 p1 p2 ready b) same
+    (subst (λ (x : After). TellsOne me now is_first v1 v2 p1 p2 ready x) is one)
 
-pub leaves_as : {me : CallerNo} {v1 v2 : PassView} {p1 p2 : Option (List Polled)} (selection now : Selection) → now ≡ selection
+pub leaves_as : {me : CallerNo} {v1 v2 : PassView} {p1 p2 : Option (List Polled)} (selection now : Selection)
+    → now ≡ selection
     → LeavesIt me now v1 v2 p1 p2 → LeavesIt me selection v1 v2 p1 p2
-leaves_as {me = me} {v1 = v1} {v2 = v2} {p1 = p1} {p2 = p2} selection now same leaves = subst (λ (x : Selection). LeavesIt me x v1 v2 p1 p2) same leaves
+leaves_as {me = me} {v1 = v1} {v2 = v2} {p1 = p1} {p2 = p2} selection now same leaves =
+    subst (λ (x : Selection). LeavesIt me x v1 v2 p1 p2) same leaves
 
 pub if_again : (P : Selection → Type 0) (a : After) (next : Selection) → a ≡ after.Again next → IfAgain a P → P next
 if_again P a next is here = subst (λ (x : After). IfAgain x P) is here

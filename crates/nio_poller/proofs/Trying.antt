@@ -12,20 +12,29 @@ use Rattle.nio_steps.proofs.CallLaws.{call_of_acts, call_as}
 use Rattle.nio_steps.proofs.WaitingLaws.{TryingClause, tries_none, try_more, try_last, then_call}
 use Rattle.nio_steps.specs.Calls.{CallClause}
 use Rattle.nio_steps.specs.Runs.{Completes}
-use Rattle.nio_steps.specs.SelectCalls.{Selection, Begins, begin_finds_busy, FinishReply, closed, ShutReply, closing, already_closed, shut_plan, try_finish_plan, finish_finds_busy, Closes, ClosesRest}
+use Rattle.nio_steps.specs.SelectCalls.{Selection, Begins, begin_finds_busy, FinishReply, closed, ShutReply, closing}
+use Rattle.nio_steps.specs.SelectCalls.{already_closed, shut_plan, try_finish_plan, finish_finds_busy, Closes}
+use Rattle.nio_steps.specs.SelectCalls.{ClosesRest}
 use Rattle.nio_steps.specs.Waiting.{Tries, Retries}
 use Rattle.nio_steps.specs.declared.refusal.BeginError.{BeginError}
 
 -- no run was made yet
-pub trying_none : {X R : Type 0} (me : CallerNo) (Shape : X → List Act → R → Type 0) (goes_on : X → R → Bool) (pass : PassView) → IsLegal pass.limits pass.seen → TryingClause me Shape goes_on pass pass
-trying_none me Shape goes_on pass legal = call_of_acts (λ acts (_ : Unit {0}). Tries Shape goes_on acts) [] tt (acts_nothing me pass legal) (tries_none Shape goes_on)
+pub trying_none : {X R : Type 0} (me : CallerNo) (Shape : X → List Act → R → Type 0) (goes_on : X → R → Bool)
+    (pass : PassView) → IsLegal pass.limits pass.seen → TryingClause me Shape goes_on pass pass
+trying_none me Shape goes_on pass legal =
+    call_of_acts (λ acts (_ : Unit {0}). Tries Shape goes_on acts) [] tt (acts_nothing me pass legal)
+    (tries_none Shape goes_on)
 
 -- ---- beginning a selection
 
-pub begin_last : {me : CallerNo} {v0 v1 v2 : PassView} (s : SelNo) (mode : Mode) (found answer : Result Selection BeginError) → found ≡ answer → begin_finds_busy answer ≡ false
-    → TryingClause me (λ (_ : Unit {0}). Begins s mode) (λ _. begin_finds_busy) v0 v1 → CallClause me (Begins s mode) v1 v2 found → CallClause me (Retries (Begins s mode) begin_finds_busy) v0 v2 answer
+pub begin_last : {me : CallerNo} {v0 v1 v2 : PassView} (s : SelNo) (mode : Mode)
+    (found answer : Result Selection BeginError) → found ≡ answer → begin_finds_busy answer ≡ false
+    → TryingClause me (λ (_ : Unit {0}). Begins s mode) (λ _. begin_finds_busy) v0 v1
+    → CallClause me (Begins s mode) v1 v2 found
+    → CallClause me (Retries (Begins s mode) begin_finds_busy) v0 v2 answer
 begin_last {me = me} {v1 = v1} {v2 = v2} s mode found answer is over trying run =
-    try_last tt answer trying (subst (λ (r : Result Selection BeginError). CallClause me (Begins s mode) v1 v2 r) is run) over
+    try_last tt answer trying
+    (subst (λ (r : Result Selection BeginError). CallClause me (Begins s mode) v1 v2 r) is run) over
 
 -- ---- finishing a closing
 
@@ -35,21 +44,35 @@ module _ {me : CallerNo} {v0 v1 v2 : PassView} (s s' : SelNo) (answer : FinishRe
   its_run : CallClause me (Completes (try_finish_plan s)) v1 v2 answer
   its_run = subst (λ (x : SelNo). CallClause me (Completes (try_finish_plan x)) v1 v2 answer) same run
 
-  pub finish_more : finish_finds_busy answer ≡ true → TryingClause me (λ (_ : Unit {0}). Completes (try_finish_plan s)) (λ _. finish_finds_busy) v0 v2
+  pub finish_more : finish_finds_busy answer ≡ true
+      → TryingClause me (λ (_ : Unit {0}). Completes (try_finish_plan s)) (λ _. finish_finds_busy) v0 v2
   finish_more again = try_more tt answer trying its_run again
 
-  pub finish_last : finish_finds_busy answer ≡ false → CallClause me (Retries (Completes (try_finish_plan s)) finish_finds_busy) v0 v2 answer
+  pub finish_last : finish_finds_busy answer ≡ false
+      → CallClause me (Retries (Completes (try_finish_plan s)) finish_finds_busy) v0 v2 answer
   finish_last over = try_last tt answer trying its_run over
 
 -- ---- closing
 
-pub closes_finished : {me : CallerNo} {v0 v1 v2 : PassView} (s s' : SelNo) → s' ≡ s → CallClause me (Completes (shut_plan s)) v0 v1 closing
-    → CallClause me (Retries (Completes (try_finish_plan s')) finish_finds_busy) v1 v2 closed → CallClause me (Closes s) v0 v2 true
+pub closes_finished : {me : CallerNo} {v0 v1 v2 : PassView} (s s' : SelNo) → s' ≡ s
+    → CallClause me (Completes (shut_plan s)) v0 v1 closing
+    → CallClause me (Retries (Completes (try_finish_plan s')) finish_finds_busy) v1 v2 closed
+    → CallClause me (Closes s) v0 v2 true
 closes_finished {me = me} {v1 = v1} {v2 = v2} s s' same shuts finishes =
     then_call shuts (call_as (ClosesRest s closing) true (λ xs run. (refl, run))
-    (subst (λ (x : SelNo). CallClause me (Retries (Completes (try_finish_plan x)) finish_finds_busy) v1 v2 closed) same finishes))
+    (subst (λ (x : SelNo). CallClause me (Retries (Completes (try_finish_plan x)) finish_finds_busy) v1 v2 closed) same
+    finishes))
 
-pub closes_found : {me : CallerNo} {v0 v1 : PassView} (s : SelNo) → CallClause me (Completes (shut_plan s)) v0 v1 already_closed → CallClause me (Closes s) v0 v1 false
+pub closes_found : {me : CallerNo} {v0 v1 : PassView} (s : SelNo)
+    → CallClause me (Completes (shut_plan s)) v0 v1 already_closed → CallClause me (Closes s) v0 v1 false
 closes_found s shuts =
     call_as (Closes s) false
-    (λ xs run. record { first = xs; middle = already_closed; second = []; parts = sym (append-nil xs); runs_first = run; runs_second = (refl, refl) }) shuts
+    (λ xs run. record {
+      first = xs;
+      middle = already_closed;
+      second = [];
+      parts = sym (append-nil xs);
+      runs_first = run;
+      runs_second =
+          (refl, refl);
+    }) shuts

@@ -1,5 +1,6 @@
 -- Whole selections, from their beginning on.
-use Rattle.std.proofs.Common.{◌≡◌, ℕ, Option, Some, None, Result, Ok, Err, List, [], ◌++◌, inl, inr, ◌⊎◌, refl, ap, sym, subst}
+use Rattle.std.proofs.Common.{◌≡◌, ℕ, Option, Some, None, Result, Ok, Err, List, [], ◌++◌, inl, inr, ◌⊎◌, refl, ap, sym}
+use Rattle.std.proofs.Common.{subst}
 use Rattle.std.specs.List.{Contains}
 use Rattle.std.proofs.lemmas.List.{append-nil}
 use Rattle.std.proofs.lemmas.List.Elements.{Contains-append_cases}
@@ -21,19 +22,23 @@ use Rattle.nio_steps.specs.declared.selected.Selected.{Selected}
 use Rattle.nio_poller.proofs.Marks.{begins-unmarked}
 use Rattle.nio_poller.proofs.Telling.{adds_none}
 use Rattle.nio_poller.specs.Polled.{Polled}
-use Rattle.nio_poller.specs.Selecting.{Answers, AddsPolls, MarksReady, MarksAllReady, SelectClause, looked_by}
+use Rattle.nio_poller.specs.Selecting.{Answers, AddsPolls, MarksReady, MarksAllReady, SelectClause, looked_by, polls_of}
 use Rattle.nio_poller.specs.Telling.{PollsClause}
 use Rattle.nio_poller.specs.declared.selecting.SelectError.{SelectError}
 
 -- the selection that was begun has this mode
-begun-mode : (s : SelNo) (mode : Mode) (acts : List Act) (selection : Selection) → Retries (Begins s mode) begin_finds_busy acts (Ok selection) → selection.mode ≡ mode
+begun-mode : (s : SelNo) (mode : Mode) (acts : List Act) (selection : Selection)
+    → Retries (Begins s mode) begin_finds_busy acts (Ok selection) → selection.mode ≡ mode
 begun-mode s mode acts selection repeats =
-    (begin-parts s mode repeats.last.acts selection (subst (Begins s mode repeats.last.acts) repeats.answers repeats.made)).mode_is
+    (begin-parts s mode repeats.last.acts selection
+    (subst (Begins s mode repeats.last.acts) repeats.answers repeats.made)).mode_is
 
 module _ {me : CallerNo} {v0 v1 : PassView} (s : SelNo) (mode : Mode) where
   -- a selection that doesn't begin
-  pub select_refused : {p : Option (List Polled)} {ready : ChanNo → ℕ} {result : Result Selected SelectError} (refusal found : BeginError) → found ≡ refusal
-      → CallClause me (Retries (Begins s mode) begin_finds_busy) v0 v1 (Err found) → Answers (not_begun refusal) result → SelectClause me s mode v0 v1 p p ready result
+  pub select_refused : {p : Option (List Polled)} {ready : ChanNo → ℕ} {result : Result Selected SelectError}
+      (refusal found : BeginError) → found ≡ refusal
+      → CallClause me (Retries (Begins s mode) begin_finds_busy) v0 v1 (Err found) → Answers (not_begun refusal) result
+      → SelectClause me s mode v0 v1 p p ready result
   select_refused {p = p} {result = result} refusal found is begins answers =
       let acts = done_between me v0 v1 in
       record {
@@ -41,27 +46,47 @@ module _ {me : CallerNo} {v0 v1 : PassView} (s : SelNo) (mode : Mode) where
         reply = not_begun found;
         call = record {
           acts = begins.acts;
-          shape = record { first = acts; middle = Err found; second = []; parts = sym (append-nil acts); runs_first = begins.shape; runs_second = (refl, refl, refl) };
+          shape = record {
+            first = acts;
+            middle = Err found;
+            second = [];
+            parts = sym (append-nil acts);
+            runs_first = begins.shape;
+            runs_second = (refl, refl, refl);
+          };
         };
         answers = subst (λ (e : BeginError). Answers (not_begun e) result) (sym is) answers;
-        adds = adds_none p [] mode;
-        marks = λ on i told from there. absurd (begins-unmarked s mode acts (Err found) begins.shape on i told from there);
+        adds = adds_none p;
+        marks = λ on i told from there. absurd
+            (begins-unmarked s mode acts (Err found) begins.shape on i told from there);
       }
 
   -- a selection that begins, and then polls and is told
-  pub select_begun : {v2 : PassView} {p0 p1 : Option (List Polled)} {ready : ChanNo → ℕ} {result : Result Selected SelectError} (selection : Selection)
-      → CallClause me (Retries (Begins s mode) begin_finds_busy) v0 v1 (Ok selection) → PollsClause me selection v1 v2 p0 p1 ready result → SelectClause me s mode v0 v2 p0 p1 ready result
+  pub select_begun : {v2 : PassView} {p0 p1 : Option (List Polled)} {ready : ChanNo → ℕ}
+      {result : Result Selected SelectError} (selection : Selection)
+      → CallClause me (Retries (Begins s mode) begin_finds_busy) v0 v1 (Ok selection)
+      → PollsClause me selection v1 v2 p0 p1 ready result → SelectClause me s mode v0 v2 p0 p1 ready result
   select_begun {v2 = v2} {p0 = p0} {p1 = p1} {ready = ready} selection begins rest =
       record {
         polls = rest.polls;
         reply = rest.reply;
         call = record {
           acts = subst (λ acts. ActsClause me acts v0 v2) (sym same) both;
-          shape = record { first = xs; middle = Ok selection; second = ys; parts = same; runs_first = begins.shape; runs_second = rest.call.shape };
+          shape = record {
+            first = xs;
+            middle = Ok selection;
+            second = ys;
+            parts = same;
+            runs_first = begins.shape;
+            runs_second = rest.call.shape;
+          };
         };
         answers = rest.answers;
-        adds = subst (λ (m : Mode). AddsPolls p0 p1 selection.looked m rest.polls) (begun-mode s mode xs selection begins.shape) rest.adds;
-        marks = λ on i told from there. by_place on i told from (Contains-append_cases xs ys (Mark on i from told (Ok tt)) (subst (λ acts. Contains acts (Mark on i from told (Ok tt))) same there));
+        adds = subst (λ (m : Mode). AddsPolls p0 p1 (polls_of selection.looked m rest.polls))
+            (begun-mode s mode xs selection begins.shape) rest.adds;
+        marks = λ on i told from there. by_place on i told from
+            (Contains-append_cases xs ys (Mark on i from told (Ok tt))
+            (subst (λ acts. Contains acts (Mark on i from told (Ok tt))) same there));
       }
     where
       xs : List Act
@@ -76,6 +101,8 @@ module _ {me : CallerNo} {v0 v1 : PassView} (s : SelNo) (mode : Mode) where
       same : done_between me v0 v2 ≡ xs ++ ys
       same = done-is me (xs ++ ys) v0 v2 both
 
-      by_place : (on : SelNo) (i told : ℕ) (from : KeyMark) → Contains xs (Mark on i from told (Ok tt)) ⊎ Contains ys (Mark on i from told (Ok tt)) → MarksReady ready selection.looked i told
-      by_place on i told from (inl before) = absurd (begins-unmarked s mode xs (Ok selection) begins.shape on i told from before)
+      by_place : (on : SelNo) (i told : ℕ) (from : KeyMark) → Contains xs (Mark on i from told (Ok tt))
+          ⊎ Contains ys (Mark on i from told (Ok tt)) → MarksReady ready selection.looked i told
+      by_place on i told from (inl before) =
+          absurd (begins-unmarked s mode xs (Ok selection) begins.shape on i told from before)
       by_place on i told from (inr later) = rest.marks on i told from later

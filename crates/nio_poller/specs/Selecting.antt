@@ -1,5 +1,6 @@
 -- What a whole selection promises: its steps, its polls, what it marks, and its answer.
-use Rattle.std.specs.Prelude.{◌≡◌, ℕ, ◌==◌, not, ℤ, IsTrue, ◌⊎◌, Option, Some, None, Result, Ok, Err, List, [], ◌++◌, map}
+use Rattle.std.specs.Prelude.{◌≡◌, ℕ, ◌==◌, false, not, ℤ, IsTrue, ◌⊎◌, Option, Some, None, Result, Ok, Err, List, []}
+use Rattle.std.specs.Prelude.{◌∷◌, ◌++◌, map}
 use Rattle.std.specs.List.{Contains}
 use Rattle.nio_base.specs.declared.numbers.CallerNo.{CallerNo}
 use Rattle.nio_base.specs.declared.numbers.ChanNo.{ChanNo}
@@ -10,6 +11,7 @@ use Rattle.nio_event.specs.declared.act.Act.{Act}
 use Rattle.nio_event.specs.declared.act.Act.TheVariants.{Mark as MarkKey}
 use Rattle.nio_event.specs.declared.found.Mark.{Mark as KeyMark}
 use Rattle.nio_event.specs.declared.found.Mode.{Mode}
+use Rattle.nio_event.specs.declared.found.Mode.TheVariants.{Now as WithoutWaiting}
 use Rattle.nio_event.specs.declared.timeout.NegativeTimeout.{NegativeTimeout as TooLow}
 use Rattle.nio_steps.specs.Calls.{CallClause}
 use Rattle.nio_steps.specs.KeyCalls.{is_within}
@@ -20,7 +22,8 @@ use Rattle.nio_steps.specs.declared.refusal.BeginError.TheVariants as begin_erro
 use Rattle.nio_steps.specs.declared.selected.Selected.{Selected}
 use Rattle.nio_poller.specs.Polled.{Polled}
 use Rattle.nio_poller.specs.declared.selecting.SelectError.{SelectError}
-use Rattle.nio_poller.specs.declared.selecting.SelectError.TheVariants.{NegativeTimeout, ClosedSelector, PollFault, Memory}
+use Rattle.nio_poller.specs.declared.selecting.SelectError.TheVariants.{NegativeTimeout, ClosedSelector, PollFault}
+use Rattle.nio_poller.specs.declared.selecting.SelectError.TheVariants.{Memory}
 
 -- what the call answers where its steps reply this; a selection that begins again on Busy never ends with it
 abbrev pub Answers : SelectReply → Result Selected SelectError → Type 0
@@ -35,10 +38,25 @@ abbrev pub looked_by : Result Selection BeginError → List LookedKey
 looked_by (Ok selection) = selection.looked
 looked_by (Err refusal) = []
 
--- Where the poller tells its polls, the call added these, in order, each asked for this list with this mode.
-abbrev pub AddsPolls : Option (List Polled) → Option (List Polled) → List LookedKey → Mode → List Poll → Type 0
-AddsPolls None now asked mode polls = now ≡ None
-AddsPolls (Some before) now asked mode polls = now ≡ Some (before ++ map (λ (poll : Poll). record { asked = asked; mode = mode; answer = poll }) polls)
+-- where the poller tells its polls, the call added these, in order
+abbrev pub AddsPolls : Option (List Polled) → Option (List Polled) → List Polled → Type 0
+AddsPolls None now polls = now ≡ None
+AddsPolls (Some before) now polls = now ≡ Some (before ++ polls)
+
+-- The polls of a selection, by their answers. Each is asked for the keys that the selection looked at. The first
+-- doesn't
+-- wait, so that the selection looks at the table before it waits; each further one may wait as the mode says.
+abbrev pub polls_of : List LookedKey → Mode → List Poll → List Polled
+polls_of looked mode [] = []
+polls_of looked mode (first ∷ later) =
+    record { asked = looked; mode = WithoutWaiting; answer = first }
+    ∷ map (λ (answer : Poll). record { asked = looked; mode = mode; answer = answer }) later
+
+-- What the selection is told of these answers. The first poll used up none of the selection's time: that this is over
+-- isn't told of it.
+abbrev pub told_from : List Poll → List Poll
+told_from [] = []
+told_from (first ∷ later) = record first { elapsed = false } ∷ later
 
 -- a mark is of a looked key, with operations, at least one, that its channel is ready for
 pub record MarksReady (ready : ChanNo → ℕ) (looked : List LookedKey) (i told : ℕ) : Type 0 where
@@ -50,31 +68,38 @@ pub record MarksReady (ready : ChanNo → ℕ) (looked : List LookedKey) (i told
 
 -- each mark among these acts that succeeded is such a one
 abbrev pub MarksAllReady : (ChanNo → ℕ) → List LookedKey → List Act → Type 0
-MarksAllReady ready looked acts = (s : SelNo) (i told : ℕ) (from : KeyMark) → Contains acts (MarkKey s i from told (Ok tt)) → MarksReady ready looked i told
+MarksAllReady ready looked acts = (s : SelNo) (i told : ℕ) (from : KeyMark)
+    → Contains acts (MarkKey s i from told (Ok tt)) → MarksReady ready looked i told
 
 -- A whole selection of a caller on a pass, before and after, with a poller that tells these polls before and after,
 -- and after it that the channels are ready so.
-pub record SelectClause (me : CallerNo) (s : SelNo) (mode : Mode) (old new : PassView) (polls_old polls_new : Option (List Polled)) (ready : ChanNo → ℕ) (result : Result Selected SelectError) : Type 0 where
-  -- the polls whose answers the selection was told
+pub record SelectClause (me : CallerNo) (s : SelNo) (mode : Mode) (old new : PassView)
+    (polls_old polls_new : Option (List Polled)) (ready : ChanNo → ℕ) (result : Result Selected SelectError) : Type
+    0 where
+  -- the answers of its polls
   pub polls : List Poll
   -- what the steps reply
   pub reply : SelectReply
-  pub call : CallClause me (Selects s mode polls) old new reply
+  pub call : CallClause me (Selects s mode (told_from polls)) old new reply
   pub answers : Answers reply result
-  pub adds : AddsPolls polls_old polls_new (looked_by call.shape.middle) mode polls
+  pub adds : AddsPolls polls_old polls_new (polls_of (looked_by call.shape.middle) mode polls)
   pub marks : MarksAllReady ready (looked_by call.shape.middle) (done_between me old new)
 
 -- nothing was done, and no poll was asked
-pub record IsRefused (old new : PassView) (polls_old polls_new : Option (List Polled)) (result : Result Selected SelectError) : Type 0 where
+pub record IsRefused (old new : PassView) (polls_old polls_new : Option (List Polled))
+    (result : Result Selected SelectError) : Type 0 where
   pub same : new ≡ old
   pub unasked : polls_new ≡ polls_old
   pub answer : result ≡ Err NegativeTimeout
 
 -- with this mode, or refused
-abbrev pub TimedBy : Result Mode TooLow → CallerNo → SelNo → PassView → PassView → Option (List Polled) → Option (List Polled) → (ChanNo → ℕ) → Result Selected SelectError → Type 0
-TimedBy (Ok mode) me s old new polls_old polls_new ready result = SelectClause me s mode old new polls_old polls_new ready result
+abbrev pub TimedBy : Result Mode TooLow → CallerNo → SelNo → PassView → PassView → Option (List Polled)
+    → Option (List Polled) → (ChanNo → ℕ) → Result Selected SelectError → Type 0
+TimedBy (Ok mode) me s old new polls_old polls_new ready result =
+    SelectClause me s mode old new polls_old polls_new ready result
 TimedBy (Err too_low) me s old new polls_old polls_new ready result = IsRefused old new polls_old polls_new result
 
 -- a whole selection for so many milliseconds
-abbrev pub TimedClause : CallerNo → SelNo → ℤ → PassView → PassView → Option (List Polled) → Option (List Polled) → (ChanNo → ℕ) → Result Selected SelectError → Type 0
+abbrev pub TimedClause : CallerNo → SelNo → ℤ → PassView → PassView → Option (List Polled) → Option (List Polled)
+    → (ChanNo → ℕ) → Result Selected SelectError → Type 0
 TimedClause me s ms = TimedBy (mode_for ms) me s

@@ -1,8 +1,10 @@
 -- The parts of a whole selection after its beginning.
-use Rattle.std.specs.Prelude.{◌≡◌, ℕ, Option, Result, Ok, Err, List, [], ◌∷◌}
+use Rattle.std.specs.Prelude.{◌≡◌, ℕ, Bool, true, false, not, ◌&&◌, Option, Result, Ok, Err, List, [], ◌∷◌}
 use Rattle.nio_base.specs.declared.numbers.CallerNo.{CallerNo}
 use Rattle.nio_base.specs.declared.numbers.ChanNo.{ChanNo}
 use Rattle.nio_event.specs.PassViews.{PassView, done_between}
+use Rattle.nio_event.specs.declared.found.Mode.{Mode}
+use Rattle.nio_event.specs.declared.found.Mode.TheVariants.{Now as WithoutWaiting}
 use Rattle.nio_select.specs.InProgress.{told_reply}
 use Rattle.nio_select.specs.declared.selecting.After.{After}
 use Rattle.nio_steps.specs.Calls.{CallClause}
@@ -11,31 +13,48 @@ use Rattle.nio_steps.specs.SelectCalls.{Selection, Poll, Tells, SelectsRest, Sel
 use Rattle.nio_steps.specs.declared.selected.Selected.{Selected}
 use Rattle.nio_poller.specs.Polled.{Polled}
 use Rattle.nio_poller.specs.Polls.{told_of_channel}
-use Rattle.nio_poller.specs.Selecting.{Answers, AddsPolls, MarksAllReady}
+use Rattle.nio_poller.specs.Selecting.{Answers, AddsPolls, MarksAllReady, polls_of, told_from}
 use Rattle.nio_poller.specs.declared.poller.PollError.{PollError}
 use Rattle.nio_poller.specs.declared.selecting.SelectError.{SelectError}
 
+-- how long a poll may wait
+abbrev pub poll_mode : (is_first : Bool) → Mode → Mode
+poll_mode true mode = WithoutWaiting
+poll_mode false mode = mode
+
+-- what the selection is told of a poll's answer
+abbrev pub told_poll : (is_first : Bool) → Poll → Poll
+told_poll is_first answer = record answer { elapsed = not is_first && answer.elapsed }
+
 -- a poll answered, and the selection was told it
-pub record TellsOne (me : CallerNo) (selection : Selection) (old new : PassView) (polls_old polls_new : Option (List Polled)) (ready : ChanNo → ℕ) (after : After) : Type 0 where
+pub record TellsOne (me : CallerNo) (selection : Selection) (is_first : Bool) (old new : PassView)
+    (polls_old polls_new : Option (List Polled)) (ready : ChanNo → ℕ) (after : After) : Type 0 where
   pub poll : Poll
-  pub call : CallClause me (Tells selection poll) old new (told_reply after)
-  pub adds : AddsPolls polls_old polls_new selection.looked selection.mode (poll ∷ [])
+  pub call : CallClause me (Tells selection (told_poll is_first poll)) old new (told_reply after)
+  pub adds : AddsPolls polls_old polls_new
+      (record { asked = selection.looked; mode = poll_mode is_first selection.mode; answer = poll } ∷ [])
   pub ready_is : (c : ChanNo) → ready c ≡ told_of_channel selection.looked poll.pairs c
 
 -- a poll failed, and the selection was left
-pub record LeavesIt (me : CallerNo) (selection : Selection) (old new : PassView) (polls_old polls_new : Option (List Polled)) : Type 0 where
+pub record LeavesIt (me : CallerNo) (selection : Selection) (old new : PassView)
+    (polls_old polls_new : Option (List Polled)) : Type 0 where
   pub call : CallClause me (Completes (leave_plan selection)) old new tt
-  pub adds : AddsPolls polls_old polls_new selection.looked selection.mode []
+  pub adds : AddsPolls polls_old polls_new []
 
-abbrev pub PollsOnce : CallerNo → Selection → PassView → PassView → Option (List Polled) → Option (List Polled) → (ChanNo → ℕ) → Result After PollError → Type 0
-PollsOnce me selection old new polls_old polls_new ready (Ok after) = TellsOne me selection old new polls_old polls_new ready after
-PollsOnce me selection old new polls_old polls_new ready (Err error) = LeavesIt me selection old new polls_old polls_new
+abbrev pub PollsOnce : CallerNo → Selection → (is_first : Bool) → PassView → PassView → Option (List Polled)
+    → Option (List Polled) → (ChanNo → ℕ) → Result After PollError → Type 0
+PollsOnce me selection is_first old new polls_old polls_new ready (Ok after) =
+    TellsOne me selection is_first old new polls_old polls_new ready after
+PollsOnce me selection is_first old new polls_old polls_new ready (Err error) =
+    LeavesIt me selection old new polls_old polls_new
 
--- the selection was told the answers of these polls, and is over or was left
-pub record PollsClause (me : CallerNo) (selection : Selection) (old new : PassView) (polls_old polls_new : Option (List Polled)) (ready : ChanNo → ℕ) (result : Result Selected SelectError) : Type 0 where
+-- the selection was told of these answers of its polls, and is over or was left
+pub record PollsClause (me : CallerNo) (selection : Selection) (old new : PassView)
+    (polls_old polls_new : Option (List Polled)) (ready : ChanNo → ℕ) (result : Result Selected SelectError) : Type
+    0 where
   pub polls : List Poll
   pub reply : SelectReply
-  pub call : CallClause me (SelectsRest polls (Ok selection)) old new reply
+  pub call : CallClause me (SelectsRest (told_from polls) (Ok selection)) old new reply
   pub answers : Answers reply result
-  pub adds : AddsPolls polls_old polls_new selection.looked selection.mode polls
+  pub adds : AddsPolls polls_old polls_new (polls_of selection.looked selection.mode polls)
   pub marks : MarksAllReady ready selection.looked (done_between me old new)

@@ -18,7 +18,7 @@ ghost use Rattle.nio_poller.specs.declared.selecting.SelectError.TheVariants.{Po
 use crate::poller::{PollError, Poller};
 use nio_base::{CallerNo, SelNo};
 use nio_event::{Mode, NegativeTimeout};
-use nio_select::{After, Selecting, try_begin};
+use nio_select::{After, Selecting, Told, try_begin};
 use nio_steps::{BeginError, Selected};
 use nio_words::{Pass, Words};
 use std::alloc::Global;
@@ -87,8 +87,9 @@ pub fn select_now<R: Wait, P: Poller>(
 }
 
 /// The same as `select`, for at most `ms` milliseconds; 0 waits without limit: Java's `select(long)`. Each poll of the
-/// selection is asked to wait for the whole time, and the selection is over where a poll says that it has passed. So a
-/// selection that goes on after a poll that returned early can wait for longer than `ms` in all.
+/// selection but the first, which doesn't wait, is asked to wait for the whole time, and the selection is over where
+/// such a poll says that it has passed. So a selection that goes on after a poll that returned early can wait for longer
+/// than `ms` in all.
 pub fn select_for<R: Wait, P: Poller>(
     rt: &R,
     alloc: Global,
@@ -165,8 +166,9 @@ fn begin<R: Wait>(
     unreachable!()
 }
 
-// Polls, and tells the selection what the poller answered, until it is over. Where a poll has no answer the
-// selection is left.
+// Polls, and tells the selection what the poller answered, until it is over. The first poll doesn't wait: a wakeup or
+// an interrupt may be pending whose ring ended an earlier poll, and the selection finds it before a poll waits. Where a
+// poll has no answer the selection is left.
 fn poll_until_over<R: Wait, P: Poller>(
     rt: &R,
     alloc: Global,
@@ -184,9 +186,13 @@ fn poll_until_over<R: Wait, P: Poller>(
     ensures ready { IsReady w.now p.new me }
 {
     let mut selection = selection;
+    let mut is_first = true;
     for _ in rt.forever() {
-        match poll_once(rt, alloc, w, p, me, selection, poller) {
-            Ok(After::Again(next)) => selection = next,
+        match poll_once(rt, alloc, w, p, me, selection, poller, is_first) {
+            Ok(After::Again(next)) => {
+                selection = next;
+                is_first = false;
+            }
             Ok(After::Done(answer)) => return Ok(answer),
             Err(PollError::Fault) => return Err(SelectError::PollFault),
             Err(PollError::Memory) => return Err(SelectError::Memory),
@@ -203,17 +209,29 @@ fn poll_once<R: Wait, P: Poller>(
     me: CallerNo,
     selection: Selecting,
     poller: &mut P,
+    is_first: bool,
 ) -> Result<After, PollError>
     requires ready { IsReady w.now p.old me }
     requires begun { Selects (view w.now p.old) me selection }
-    ensures call { PollsOnce me selection (view w.now p.old) (view w.now p.new) (P.polls poller.old) (P.polls poller.new) (P.ready poller.new) result }
+    ensures call { PollsOnce me selection is_first (view w.now p.old) (view w.now p.new) (P.polls poller.old) (P.polls poller.new) (P.ready poller.new) result }
     ensures cause { CountsFaults Fault (P.poll_faults poller.old) (P.poll_faults poller.new) result }
     ensures kept { P.kept poller.old poller.new }
     ensures ready { IsReady w.now p.new me }
     ensures goes_on { IfOk result (λ after. IfAgain after (Selects (view w.now p.new) me)) }
 {
-    match poller.poll(rt, alloc, selection.asked(), selection.mode()) {
-        Ok(told) => Ok(selection.told(w, p, me, &told)),
+    let mode = if is_first {
+        Mode::Now
+    } else {
+        selection.mode()
+    };
+    match poller.poll(rt, alloc, selection.asked(), mode) {
+        Ok(told) => {
+            let told = Told {
+                pairs: told.pairs,
+                elapsed: !is_first && told.elapsed,
+            };
+            Ok(selection.told(w, p, me, &told))
+        }
         Err(error) => {
             selection.leave(w, p, me);
             Err(error)

@@ -207,7 +207,7 @@ fn how_long_polls_may_wait(rt: HostRuntime) -> Result<(), Fail> {
         rings: AtomicU64::new(0),
     };
     let negative = Reply::Selected(Err(SelectError::NegativeTimeout));
-    // The mode of the poll that the call makes, if any.
+    // The mode of the last poll that the call makes, if any.
     let rows = [
         (OnSelector::SelectNow, nothing(Why::Now), Some(Mode::Now)),
         (
@@ -216,14 +216,25 @@ fn how_long_polls_may_wait(rt: HostRuntime) -> Result<(), Fail> {
             Some(Mode::For(5)),
         ),
         (OnSelector::SelectFor(-1), negative, None),
+        // No ring is left: what is pending stands in the table alone, and no poll waits.
         (OnSelector::Wakeup, Reply::Done, None),
         (
             OnSelector::SelectFor(0),
             nothing(Why::Woken),
-            Some(Mode::Wait),
+            Some(Mode::Now),
         ),
         (OnSelector::Wakeup, Reply::Done, None),
-        (OnSelector::Select, nothing(Why::Woken), Some(Mode::Wait)),
+        (
+            OnSelector::SelectFor(5),
+            nothing(Why::Woken),
+            Some(Mode::Now),
+        ),
+        (OnSelector::Interrupt, Reply::Done, None),
+        (
+            OnSelector::Select,
+            nothing(Why::Interrupted),
+            Some(Mode::Now),
+        ),
     ];
     for (call, reply, mode) in rows {
         poller.last = None;

@@ -12,12 +12,12 @@ use Rattle.nio_event.specs.PassViews.{PassView, done_between}
 use Rattle.nio_event.specs.declared.act.Act.{Act}
 use Rattle.nio_event.specs.declared.act.Act.TheVariants.{Mark}
 use Rattle.nio_event.specs.declared.found.Mark.{Mark as KeyMark}
-use Rattle.nio_event.specs.declared.found.Mode.TheVariants.{Wait}
+use Rattle.nio_event.specs.declared.found.Mode.TheVariants.{Now as WithoutWaiting, Wait}
 use Rattle.nio_event.specs.declared.reply.Reply.{Reply}
 use Rattle.nio_event.specs.declared.reply.Reply.TheVariants as reply
 use Rattle.nio_orderly.specs.Made.{find_selector, select, nothing_ongoing, after_calls, selecting}
 use Rattle.nio_poller.specs.Polled.{Polled}
-use Rattle.nio_poller.specs.Selecting.{Answers, SelectClause, looked_by}
+use Rattle.nio_poller.specs.Selecting.{Answers, SelectClause, looked_by, polls_of, told_from}
 use Rattle.nio_poller.specs.declared.selecting.SelectError.{SelectError}
 use Rattle.nio_poller.specs.declared.selecting.SelectError.TheVariants as select_error
 use Rattle.nio_race_text.specs.declared.call.RaceCall.TheVariants.{Block}
@@ -69,13 +69,23 @@ same_item e = cc
 abbrev polled : List LookedKey → Poll → Polled
 polled asked poll = record { asked = asked; mode = Wait; answer = poll }
 
--- where no poll told anything, none of those did whose answers the selection was told
+-- where no poll of a selection told anything, the selection was told nothing
+untold_from : (looked : List LookedKey) (answers : List Poll) → AreUntold (polls_of looked Wait answers)
+    → All TellsNothing (told_from answers)
+untold_from looked [] each = All-nil TellsNothing
+untold_from looked (first ∷ later) each =
+    let P : Polled → Type 0 = λ poll. TellsNothing poll.answer in
+    let at_once : Polled = record { asked = looked; mode = WithoutWaiting; answer = first } in
+    All-cons TellsNothing (record first { elapsed = false }) later (All-head P at_once (map (polled looked) later) each)
+    (all_back P (polled looked) later (All-tail P at_once (map (polled looked) later) each))
+
+-- the same of a poller that told nothing before the selection
 untold : {before after : List Polled} {me : CallerNo} {s : SelNo} {v0 v1 : PassView} {result : Result Selected SelectError} (clause : SelectClause me s Wait v0 v1 (Some before) (Some after) (λ _. 0) result)
-    → before ≡ [] → AreStillUntold before after → All TellsNothing clause.polls
+    → before ≡ [] → AreStillUntold before after → All TellsNothing (told_from clause.polls)
 untold {before} {after} clause none still =
-    let polls = map (polled (looked_by clause.call.shape.middle)) clause.polls in
+    let polls = polls_of (looked_by clause.call.shape.middle) Wait clause.polls in
     let added : after ≡ polls = same_item clause.adds ∙ ap (λ (earlier : List Polled). earlier ++ polls) none in
-    all_back (λ (poll : Polled). TellsNothing poll.answer) (polled (looked_by clause.call.shape.middle)) clause.polls
+    untold_from (looked_by clause.call.shape.middle) clause.polls
     (subst AreUntold added (still (subst AreUntold (sym none) (All-nil (λ (poll : Polled). TellsNothing poll.answer)))))
 
 -- ---- its reply
@@ -101,7 +111,7 @@ module _ (w : Words) (d d' : Desk) (me : CallerNo) (s : SelNo) {before after : L
   blocks_selected x clause leaves =
       call_as (Blocks (progress_of d) s) (record { reply = reply.Selected x.count x.why; left = progress_of d' })
       (λ xs run. record {
-        polls = clause.polls;
+        polls = told_from clause.polls;
         answer = selected x;
         selects = run.0;
         untold = untold clause none still;
@@ -109,8 +119,8 @@ module _ (w : Words) (d d' : Desk) (me : CallerNo) (s : SelNo) {before after : L
         says = ap (λ (p : Progress). record { reply = reply.Selected x.count x.why; left = p }) leaves;
       }) its
     where
-      its : CallClause me (λ xs (r : SelectReply). Selects s Wait clause.polls xs r × ((y : SelNo) (i told : ℕ) (from : KeyMark) → Contains xs (Mark y i from told (Ok tt)) → ⊥)) (view w d.pass) (view w d'.pass) (selected x)
-      its = record { acts = clause.call.acts; shape = (subst (λ (r : SelectReply). Selects s Wait clause.polls (done_between me (view w d.pass) (view w d'.pass)) r) (said_selected clause.reply x clause.answers) clause.call.shape, unmarked clause) }
+      its : CallClause me (λ xs (r : SelectReply). Selects s Wait (told_from clause.polls) xs r × ((y : SelNo) (i told : ℕ) (from : KeyMark) → Contains xs (Mark y i from told (Ok tt)) → ⊥)) (view w d.pass) (view w d'.pass) (selected x)
+      its = record { acts = clause.call.acts; shape = (subst (λ (r : SelectReply). Selects s Wait (told_from clause.polls) (done_between me (view w d.pass) (view w d'.pass)) r) (said_selected clause.reply x clause.answers) clause.call.shape, unmarked clause) }
 
   -- the selector is closed
   pub blocks_closed : SelectClause me s Wait (view w d.pass) (view w d'.pass) (Some before) (Some after) (λ _. 0) (Err select_error.ClosedSelector) → progress_of d' ≡ progress_of d
@@ -118,7 +128,7 @@ module _ (w : Words) (d d' : Desk) (me : CallerNo) (s : SelNo) {before after : L
   blocks_closed clause leaves =
       call_as (Blocks (progress_of d) s) (record { reply = reply.ClosedSelector; left = progress_of d' })
       (λ xs run. record {
-        polls = clause.polls;
+        polls = told_from clause.polls;
         answer = not_begun begin_error.ClosedSelector;
         selects = run.0;
         untold = untold clause none still;
@@ -126,8 +136,8 @@ module _ (w : Words) (d d' : Desk) (me : CallerNo) (s : SelNo) {before after : L
         says = ap (λ (p : Progress). record { reply = reply.ClosedSelector; left = p }) leaves;
       }) its
     where
-      its : CallClause me (λ xs (r : SelectReply). Selects s Wait clause.polls xs r × ((y : SelNo) (i told : ℕ) (from : KeyMark) → Contains xs (Mark y i from told (Ok tt)) → ⊥)) (view w d.pass) (view w d'.pass) (not_begun begin_error.ClosedSelector)
-      its = record { acts = clause.call.acts; shape = (subst (λ (r : SelectReply). Selects s Wait clause.polls (done_between me (view w d.pass) (view w d'.pass)) r) (said_closed clause.reply clause.answers) clause.call.shape, unmarked clause) }
+      its : CallClause me (λ xs (r : SelectReply). Selects s Wait (told_from clause.polls) xs r × ((y : SelNo) (i told : ℕ) (from : KeyMark) → Contains xs (Mark y i from told (Ok tt)) → ⊥)) (view w d.pass) (view w d'.pass) (not_begun begin_error.ClosedSelector)
+      its = record { acts = clause.call.acts; shape = (subst (λ (r : SelectReply). Selects s Wait (told_from clause.polls) (done_between me (view w d.pass) (view w d'.pass)) r) (said_closed clause.reply clause.answers) clause.call.shape, unmarked clause) }
 
 module _ (w : Words) (d d' : Desk) (me : CallerNo) (s : SelNo) where
   -- ---- the whole line
@@ -187,8 +197,8 @@ module _ (w : Words) (d d' : Desk) (me : CallerNo) (stands : StandsFor w d me) w
       stands_made w d' me stands.caller ready places
       (∥∥₁_map stands.made (λ m. subst (λ (acts : List Act). HasMade (limits_of w) acts me (progress_of d')) (sym clause.call.acts.history.own)
       (subst (λ (p : Progress). HasMade (limits_of w) (acts_seen d.pass me ++ done_between me (view w d.pass) (view w d'.pass)) me p) (sym leaves)
-      (made_more (limits_of w) (acts_seen d.pass me) (done_between me (view w d.pass) (view w d'.pass)) me (progress_of d) (with_selection (progress_of d) s None) (select s Wait clause.polls (selected x)) m
-      (subst (λ (r : SelectReply). Selects s Wait clause.polls (done_between me (view w d.pass) (view w d'.pass)) r) (said_selected clause.reply x clause.answers) clause.call.shape) tt (put_own s s m)))))
+      (made_more (limits_of w) (acts_seen d.pass me) (done_between me (view w d.pass) (view w d'.pass)) me (progress_of d) (with_selection (progress_of d) s None) (select s Wait (told_from clause.polls) (selected x)) m
+      (subst (λ (r : SelectReply). Selects s Wait (told_from clause.polls) (done_between me (view w d.pass) (view w d'.pass)) r) (said_selected clause.reply x clause.answers) clause.call.shape) tt (put_own s s m)))))
 
   -- after one that found the selector closed
   pub stands_closed : {before after : List Polled} (s : SelNo) → IsReady w d'.pass me → HasPlaces w d' → progress_of d' ≡ progress_of d
@@ -197,5 +207,5 @@ module _ (w : Words) (d d' : Desk) (me : CallerNo) (stands : StandsFor w d me) w
       stands_made w d' me stands.caller ready places
       (∥∥₁_map stands.made (λ m. subst (λ (acts : List Act). HasMade (limits_of w) acts me (progress_of d')) (sym clause.call.acts.history.own)
       (subst (λ (p : Progress). HasMade (limits_of w) (acts_seen d.pass me ++ done_between me (view w d.pass) (view w d'.pass)) me p) (sym same)
-      (made_more (limits_of w) (acts_seen d.pass me) (done_between me (view w d.pass) (view w d'.pass)) me (progress_of d) (progress_of d) (select s Wait clause.polls (not_begun begin_error.ClosedSelector)) m
-      (subst (λ (r : SelectReply). Selects s Wait clause.polls (done_between me (view w d.pass) (view w d'.pass)) r) (said_closed clause.reply clause.answers) clause.call.shape) tt m.ongoing))))
+      (made_more (limits_of w) (acts_seen d.pass me) (done_between me (view w d.pass) (view w d'.pass)) me (progress_of d) (progress_of d) (select s Wait (told_from clause.polls) (not_begun begin_error.ClosedSelector)) m
+      (subst (λ (r : SelectReply). Selects s Wait (told_from clause.polls) (done_between me (view w d.pass) (view w d'.pass)) r) (said_closed clause.reply clause.answers) clause.call.shape) tt m.ongoing))))

@@ -11,12 +11,10 @@ use nio_trace::{Reading, Trace};
 use std::alloc::Global;
 use std::sync::Wait;
 
-/// A poller that tells nothing and sleeps. Only its first poll answers at once: what ends the wait may have come before,
-/// with a ring that ended another sleep, or before `go`, where none rang. So the selection looks before it waits.
+/// A poller that tells nothing, sleeps, and keeps its polls for contracts.
 #[derive(Drop)]
 pub(crate) struct Quiet<'a> {
     sleeper: &'a mut Sleeper,
-    is_first: bool,
     polls: Trace<ToldPoll>,
 }
 
@@ -29,7 +27,6 @@ impl<'a> Quiet<'a> {
     {
         Quiet {
             sleeper,
-            is_first: true,
             polls: Trace::new(),
         }
     }
@@ -59,9 +56,7 @@ impl<'a> Poller for Quiet<'a> {
         ensures polls { AddsPoll (Some self.old.polls) (Some self.new.polls) asked.now mode result }
         ensures kept { AreStillUntold self.old.polls self.new.polls }
     {
-        let waiting = if self.is_first { Mode::Now } else { mode };
-        self.is_first = false;
-        let told = self.sleeper.poll(rt, alloc, asked, waiting)?;
+        let told = self.sleeper.poll(rt, alloc, asked, mode)?;
         self.polls.extend_from::<Answer, OnePoll>(&Answer {
             asked,
             mode,

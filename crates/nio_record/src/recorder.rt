@@ -18,8 +18,10 @@ use thiserror::Error;
 /// Why a step wasn't made.
 #[derive(Clone, Copy, Debug, PartialEq, Eq, Error)]
 pub enum RecordError {
+    /// The caller may not make this step now, or the step draws a number.
     #[error("the caller may not make the step")]
     NoStep,
+    /// There is no memory for the list of events.
     #[error("there is no memory for the events")]
     Memory,
 }

@@ -20,38 +20,54 @@ use Rattle.nio_select.specs.declared.selecting.After.{After}
 use Rattle.nio_select.specs.declared.selecting.After.TheVariants as after
 
 -- the marks, and what follows them
-pub tells : {me : CallerNo} {s : SelNo} {asked : List LookedKey} {pairs : List (ℕ × ℕ)} {next : Selection} {count : ℕ} {answer : ToldReply} {v0 v1 v2 : PassView}
-    (selection : Selection) (poll : Poll) → s ≡ selection.selector → asked ≡ selection.looked → pairs ≡ poll.pairs → next ≡ selection
-    → CallClause me (Completes (sweep_over asked (mark_entry s pairs) 0)) v0 v1 count → CallClause me (Completes (after_marks next poll.elapsed count)) v1 v2 answer
+pub tells : {me : CallerNo} {s : SelNo} {asked : List LookedKey} {pairs : List (ℕ × ℕ)} {next : Selection} {count : ℕ}
+    {answer : ToldReply} {v0 v1 v2 : PassView}
+    (selection : Selection) (poll : Poll) → s ≡ selection.selector → asked ≡ selection.looked → pairs ≡ poll.pairs
+    → next ≡ selection
+    → CallClause me (Completes (sweep_over asked (mark_entry s pairs) 0)) v0 v1 count
+    → CallClause me (Completes (after_marks next poll.elapsed count)) v1 v2 answer
     → CallClause me (Tells selection poll) v0 v2 answer
 unfolding told_plan
-tells {me = me} {s = s} {asked = asked} {pairs = pairs} {count = count} {answer = answer} {v0 = v0} {v1 = v1} {v2 = v2} selection poll on looked told same marks after =
+tells {me = me} {s = s} {asked = asked} {pairs = pairs} {count = count} {answer = answer} {v0 = v0} {v1 = v1} {v2 = v2}
+    selection poll on looked told same marks after =
     call_as (Tells selection poll) answer (λ acts here. here)
-    (returned {plan = told_plan selection poll.pairs poll.elapsed} (ran_then (after_marks selection poll.elapsed) marks' (left_of_call after')))
+    (returned {plan = told_plan selection poll.pairs poll.elapsed}
+    (ran_then (after_marks selection poll.elapsed) marks' (left_of_call after')))
   where
-    marks' : CallClause me (Completes (sweep_over selection.looked (mark_entry selection.selector poll.pairs) 0)) v0 v1 count
+    marks' : CallClause me (Completes (sweep_over selection.looked (mark_entry selection.selector poll.pairs) 0)) v0 v1
+        count
     marks' =
-        subst (λ (s' : SelNo). CallClause me (Completes (sweep_over selection.looked (mark_entry s' poll.pairs) 0)) v0 v1 count) on
-        (subst (λ (xs : List LookedKey). CallClause me (Completes (sweep_over xs (mark_entry s poll.pairs) 0)) v0 v1 count) looked
-        (subst (λ (ps : List (ℕ × ℕ)). CallClause me (Completes (sweep_over asked (mark_entry s ps) 0)) v0 v1 count) told marks))
+        subst (λ (s' : SelNo). CallClause me (Completes (sweep_over selection.looked (mark_entry s' poll.pairs) 0)) v0
+        v1 count) on
+        (subst (λ (xs : List LookedKey). CallClause me (Completes (sweep_over xs (mark_entry s poll.pairs) 0)) v0 v1
+        count) looked
+        (subst (λ (ps : List (ℕ × ℕ)). CallClause me (Completes (sweep_over asked (mark_entry s ps) 0)) v0 v1 count)
+        told marks))
 
     after' : CallClause me (Completes (after_marks selection poll.elapsed count)) v1 v2 answer
-    after' = subst (λ (x : Selection). CallClause me (Completes (after_marks x poll.elapsed count)) v1 v2 answer) same after
+    after' = subst (λ (x : Selection). CallClause me (Completes (after_marks x poll.elapsed count)) v1 v2 answer) same
+        after
 
 -- it is the same selection that goes on
-again_same : (selection next : Selection) (poll : Poll) (acts : List Act) → Tells selection poll acts (again next) → next ≡ selection
+again_same : (selection next : Selection) (poll : Poll) (acts : List Act) → Tells selection poll acts (again next)
+    → next ≡ selection
 unfolding told_plan
 again_same selection next poll acts run =
-    let parts = split (sweep_over selection.looked (mark_entry selection.selector poll.pairs) 0) (after_marks selection poll.elapsed) acts (again next) run in
-    (each_run (NoMark selection.selector.0) (Replies selection parts.middle) (after_marks selection poll.elapsed parts.middle) parts.second (again next)
+    let parts = split (sweep_over selection.looked (mark_entry selection.selector poll.pairs) 0)
+    (after_marks selection poll.elapsed) acts (again next) run in
+    (each_run (NoMark selection.selector.0) (Replies selection parts.middle)
+    (after_marks selection poll.elapsed parts.middle) parts.second (again next)
     (after-replies selection poll.elapsed parts.middle) parts.runs_second).1.0
 
-pub goes_on : {me : CallerNo} {v0 v1 : PassView} (selection : Selection) (poll : Poll) (result : After) → Selects v0 me selection
+pub goes_on : {me : CallerNo} {v0 v1 : PassView} (selection : Selection) (poll : Poll) (result : After)
+    → Selects v0 me selection
     → CallClause me (Tells selection poll) v0 v1 (told_reply result) → IfAgain result (Selects v1 me)
 goes_on selection poll (after.Done answer) selects call = tt
 goes_on {me = me} {v0 = v0} {v1 = v1} selection poll (after.Again next) selects call = record {
-  inside = subst (λ l. IsSelector l next.selector) (sym call.acts.limits) (subst (λ (s : SelNo). IsSelector v0.limits s) (ap (λ x. x.selector) (sym same)) selects.inside);
-  begun = subst (λ own. IsBegun own next) (sym call.acts.history.own) (again_goes_on (mine me v0.seen) selection next poll (done_between me v0 v1) selects.begun call.shape);
+  inside = subst (λ l. IsSelector l next.selector) (sym call.acts.limits)
+      (subst (λ (s : SelNo). IsSelector v0.limits s) (ap (λ x. x.selector) (sym same)) selects.inside);
+  begun = subst (λ own. IsBegun own next) (sym call.acts.history.own)
+      (again_goes_on (mine me v0.seen) selection next poll (done_between me v0 v1) selects.begun call.shape);
 }
   where
     same : next ≡ selection

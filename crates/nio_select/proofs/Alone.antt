@@ -1,5 +1,6 @@
 -- Only the selecting caller does what only it does.
-use Rattle.std.proofs.Common.{◌≡◌, ◌||◌, Bool, true, false, List, [], ◌∷◌, ◌++◌, refl, ap, sym, ◌∙◌, subst, append_assoc}
+use Rattle.std.proofs.Common.{◌≡◌, ◌||◌, Bool, true, false, List, [], ◌∷◌, ◌++◌, refl, ap, sym, ◌∙◌, subst}
+use Rattle.std.proofs.Common.{append_assoc}
 use Rattle.std.proofs.lemmas.List.Folds.{list_any-append}
 use Rattle.nio_event.proofs.Legal.{legal_beginning}
 use Rattle.nio_event.proofs.Selections.{selects_alone}
@@ -24,10 +25,13 @@ selections_are_alone old new me selection between e later selects legal parts ke
     let s = selection.selector in
     let until = between ++ e ∷ [] in
     let cut : between ++ e ∷ later ≡ until ++ later = sym (append_assoc between (e ∷ []) later) in
-    let whole : new.seen ≡ (old.seen ++ until) ++ later = parts ∙ (ap (λ events. old.seen ++ events) cut ∙ sym (append_assoc old.seen until later)) in
-    let legal_until : IsLegal old.limits (old.seen ++ until) = legal_beginning old.limits (old.seen ++ until) later (subst (IsLegal old.limits) whole legal) in
+    let whole : new.seen ≡ (old.seen ++ until) ++ later = parts
+    ∙ (ap (λ events. old.seen ++ events) cut ∙ sym (append_assoc old.seen until later)) in
+    let legal_until : IsLegal old.limits (old.seen ++ until) = legal_beginning old.limits (old.seen ++ until) later
+    (subst (IsLegal old.limits) whole legal) in
     let legal_old : IsLegal old.limits old.seen = legal_beginning old.limits old.seen until legal_until in
-    let own : done_between me old new ≡ mine me until ++ mine me later = done_in me old new (until ++ later) (sym (append_assoc old.seen until later) ∙ sym whole) ∙ mine-append me until later in
+    let own : done_between me old new ≡ mine me until ++ mine me later = done_in me old new (until ++ later)
+    (sym (append_assoc old.seen until later) ∙ sym whole) ∙ mine-append me until later in
     selects_alone old.limits me s old.seen between e
     (record {
       legal = legal_until;

@@ -1,5 +1,6 @@
 -- What stands within a selection after one step more.
-use Rattle.std.proofs.Common.{◌≡◌, ℕ, ◌≤◌, Bool, true, false, ◌&&◌, ◌||◌, not, [], ◌∷◌, ◌++◌, refl, ap, sym, ◌∙◌, subst, append_assoc, Option, None, eq-eqb}
+use Rattle.std.proofs.Common.{◌≡◌, ℕ, ◌≤◌, Bool, true, false, ◌&&◌, ◌||◌, not, [], ◌∷◌, ◌++◌, refl, ap, sym, ◌∙◌, subst}
+use Rattle.std.proofs.Common.{append_assoc, Option, None, eq-eqb}
 use Rattle.std.specs.Prelude.{nat_lt}
 use Rattle.std.proofs.lemmas.Bool.{and_parts, and_from, or_right}
 use Rattle.nio_base.specs.declared.numbers.CallerNo.{CallerNo}
@@ -34,19 +35,24 @@ use Rattle.nio_words.specs.declared.words.Words.{Words}
 use Rattle.nio_select.specs.Begun.{HasBegun}
 
 -- a caller has what it had, where the step doesn't give it back
-pub had_stays : {w : Words} {p q : Pass} {me : CallerNo} {act : Act} (f : OwnFact) → Steps w p q me act → finds_drawn act ≡ false → gives_back f act ≡ false → IsPassOf w p
+pub had_stays : {w : Words} {p q : Pass} {me : CallerNo} {act : Act} (f : OwnFact) → Steps w p q me act
+    → finds_drawn act ≡ false → gives_back f act ≡ false → IsPassOf w p
     → is_had_by me f (state_seen p) ≡ true → is_had_by me f (state_seen q) ≡ true
 had_stays {w = w} {p = p} {q = q} {me = me} {act = act} f steps new keeps pass had =
     let clause = (step_acts steps new).history in
     stands_in_pass w me f (act ∷ []) p q
     (record {
-      goes_on = record { later = record { earlier_pass = pass; later_pass = steps.pass; begins = clause.goes_on }; own = clause.own };
+      goes_on = record {
+        later = record { earlier_pass = pass; later_pass = steps.pass; begins = clause.goes_on };
+        own = clause.own;
+      };
       has_it = had;
       kept = ap (λ b. b || false) keeps;
     })
 
 -- a step that doesn't give the turn back leaves the selection begun
-pub begun_stays : {w : Words} {p q : Pass} {me : CallerNo} {act : Act} {s : SelNo} → Steps w p q me act → finds_drawn act ≡ false → gives_turn s.0 act ≡ false
+pub begun_stays : {w : Words} {p q : Pass} {me : CallerNo} {act : Act} {s : SelNo} → Steps w p q me act
+    → finds_drawn act ≡ false → gives_turn s.0 act ≡ false
     → HasBegun w p me s → HasBegun w q me s
 begun_stays {w = w} {p = p} {q = q} {me = me} {act = act} {s = s} steps new keeps here = record {
   ready = still_ready w p q me me act steps here.ready;
@@ -55,45 +61,59 @@ begun_stays {w = w} {p = p} {q = q} {me = me} {act = act} {s = s} steps new keep
 }
 
 -- what a look at a key found is what the key is
-pub stage_now : {me : CallerNo} {s : SelNo} {i : ℕ} {stage : Stage} {v0 v1 : PassView} → ActsClause me (LookKey s i stage ∷ []) v0 v1 → (known v1).key s.0 i ≡ stage
-stage_now {s = s} {i = i} {stage = stage} {v1 = v1} clause = let told : stage ≡ (known v1).key s.0 i = cc (look_tells clause refl) in sym told
+pub stage_now : {me : CallerNo} {s : SelNo} {i : ℕ} {stage : Stage} {v0 v1 : PassView}
+    → ActsClause me (LookKey s i stage ∷ []) v0 v1 → (known v1).key s.0 i ≡ stage
+stage_now {s = s} {i = i} {stage = stage} {v1 = v1} clause = let told : stage ≡ (known v1).key s.0 i =
+    cc (look_tells clause refl) in sym told
 
 -- a key that was found in the cancelled set may be removed
-pub may_remove_now : {w : Words} {p : Pass} {me : CallerNo} {s : SelNo} {stage : Stage} (i : ℕ) → HasBegun w p me s → (state_seen p).key s.0 i ≡ stage → in_cancelled_set stage ≡ true
+pub may_remove_now : {w : Words} {p : Pass} {me : CallerNo} {s : SelNo} {stage : Stage} (i : ℕ) → HasBegun w p me s
+    → (state_seen p).key s.0 i ≡ stage → in_cancelled_set stage ≡ true
     → may_remove_cancelled (state_seen p) me s i ≡ true
 may_remove_now {p = p} {me = me} {s = s} i here is cancelled =
-    and_from (has_begun (state_seen p) me s) (in_cancelled_set ((state_seen p).key s.0 i)) here.begun (ap in_cancelled_set is ∙ cancelled)
+    and_from (has_begun (state_seen p) me s) (in_cancelled_set ((state_seen p).key s.0 i)) here.begun
+    (ap in_cancelled_set is ∙ cancelled)
 
 -- the index of a cancelled key that the caller just removed is still to be put, where there is a next serial
-pub due_now : {me : CallerNo} {s : SelNo} {i : ℕ} {stage found : Stage} {v0 v1 : PassView} → ActsClause me (Remove s i found ∷ []) v0 v1 → may_remove_cancelled (known v0) me s i ≡ true
+pub due_now : {me : CallerNo} {s : SelNo} {i : ℕ} {stage found : Stage} {v0 v1 : PassView}
+    → ActsClause me (Remove s i found ∷ []) v0 v1 → may_remove_cancelled (known v0) me s i ≡ true
     → (known v0).key s.0 i ≡ stage → nat_lt stage.serial last_serial ≡ true
     → has_begun (known v1) me s ≡ true → may_put_due (known v1) me s i ≡ true
 due_now {me = me} {s = s} {i = i} {stage = stage} {found = found} {v0 = v0} {v1 = v1} clause may is below begun =
     let leaves = step_leaves v0.limits (Holds v0) me (Remove s i found) v0.seen v1.seen clause.history in
     let before : State = state_after (v0.seen ++ leaves.between) in
     let e = event_of me (Remove s i found) in
-    let whole : v1.seen ≡ (v0.seen ++ leaves.between) ++ e ∷ [] = leaves.parts ∙ sym (append_assoc v0.seen leaves.between (e ∷ [])) in
-    let legal : IsLegal v0.limits (v0.seen ++ leaves.between) = legal_beginning v0.limits (v0.seen ++ leaves.between) (e ∷ []) (subst (IsLegal v0.limits) whole clause.history.legal) in
+    let whole : v1.seen ≡ (v0.seen ++ leaves.between) ++ e ∷ [] = leaves.parts
+    ∙ sym (append_assoc v0.seen leaves.between (e ∷ [])) in
+    let legal : IsLegal v0.limits (v0.seen ++ leaves.between) = legal_beginning v0.limits (v0.seen ++ leaves.between)
+    (e ∷ []) (subst (IsLegal v0.limits) whole clause.history.legal) in
     let was = and_parts (has_begun (known v0) me s) (in_cancelled_set ((known v0).key s.0 i)) may in
-    let unremoved : ((known v0).key s.0 i).removed ≡ false = (cancelled_parts ((known v0).key s.0 i) was.1).not_removed in
+    let unremoved : ((known v0).key s.0 i).removed
+    ≡ false = (cancelled_parts ((known v0).key s.0 i) was.1).not_removed in
     let kept : IsKeptInSelection ((known v0).key s.0 i) (before.key s.0 i) =
-    (selections_keep_keys v0.limits me s i v0.seen leaves.between legal was.0 (ap (has (gives_turn s.0)) leaves.own) (ap (has (removes s.0 i)) leaves.own) unremoved).0 in
-    let begun_before : has_begun before me s ≡ true = own_stands v0.limits me v0.seen leaves.between legal leaves.own (a_selection s) was.0 in
+    (selections_keep_keys v0.limits me s i v0.seen leaves.between legal was.0 (ap (has (gives_turn s.0)) leaves.own)
+    (ap (has (removes s.0 i)) leaves.own) unremoved).0 in
+    let begun_before : has_begun before me s ≡ true = own_stands v0.limits me v0.seen leaves.between legal leaves.own
+    (a_selection s) was.0 in
     let told : found ≡ before.key s.0 i = cc leaves.step.answers in
     let frees : frees_index found ≡ true =
-    and_from (not found.removed) (nat_lt found.serial last_serial) (ap (λ (k : Stage). not k.removed) told ∙ ap not kept.removed)
-    (ap (λ (k : Stage). nat_lt k.serial last_serial) told ∙ (ap (λ (n : ℕ). nat_lt n last_serial) (kept.serial ∙ ap (λ (k : Stage). k.serial) is) ∙ below)) in
+    and_from (not found.removed) (nat_lt found.serial last_serial)
+    (ap (λ (k : Stage). not k.removed) told ∙ ap not kept.removed)
+    (ap (λ (k : Stage). nat_lt k.serial last_serial) told
+    ∙ (ap (λ (n : ℕ). nat_lt n last_serial) (kept.serial ∙ ap (λ (k : Stage). k.serial) is) ∙ below)) in
     let due : (known v1).put_due s.0 i ≡ true =
     ap (λ st. st.put_due s.0 i) leaves.state
     ∙ (put_at-same before.put_due s.0 i (before.put_due s.0 i || (before.begun s.0 && frees_index found))
     ∙ or_right (before.put_due s.0 i) (before.begun s.0 && frees_index found)
-    (and_from (before.begun s.0) (frees_index found) (and_parts (has_turn before me s) (before.begun s.0) begun_before).1 frees)) in
+    (and_from (before.begun s.0) (frees_index found)
+    (and_parts (has_turn before me s) (before.begun s.0) begun_before).1 frees)) in
     and_from (has_begun (known v1) me s) ((known v1).put_due s.0 i) begun due
 
 -- ---- the beginning
 
 -- who just took the turn when it was free has it
-pub turn_now : {me : CallerNo} {s : SelNo} {found : Option CallerNo} {v0 v1 : PassView} → ActsClause me (TakeTurn s found ∷ []) v0 v1 → found ≡ None → has_turn (known v1) me s ≡ true
+pub turn_now : {me : CallerNo} {s : SelNo} {found : Option CallerNo} {v0 v1 : PassView}
+    → ActsClause me (TakeTurn s found ∷ []) v0 v1 → found ≡ None → has_turn (known v1) me s ≡ true
 turn_now {me = me} {s = s} {found = found} {v0 = v0} {v1 = v1} clause free =
     let leaves = step_leaves v0.limits (Holds v0) me (TakeTurn s found) v0.seen v1.seen clause.history in
     let before : State = state_after (v0.seen ++ leaves.between) in
@@ -102,7 +122,8 @@ turn_now {me = me} {s = s} {found = found} {v0 = v0} {v1 = v1} clause free =
     ∙ (ap (λ (o : Option CallerNo). is_held_by me (taken_by me o)) free ∙ eq-eqb me.0 me.0 refl))
 
 -- who has the turn and found the gate not shut has begun
-pub begun_now : {me : CallerNo} {s : SelNo} {found : GateWord} {v0 v1 : PassView} → ActsClause me (BeginLook s found ∷ []) v0 v1 → found.shut ≡ false → has_begun (known v1) me s ≡ true
+pub begun_now : {me : CallerNo} {s : SelNo} {found : GateWord} {v0 v1 : PassView}
+    → ActsClause me (BeginLook s found ∷ []) v0 v1 → found.shut ≡ false → has_begun (known v1) me s ≡ true
 begun_now {me = me} {s = s} {found = found} {v0 = v0} {v1 = v1} clause unshut =
     let leaves = step_leaves v0.limits (Holds v0) me (BeginLook s found) v0.seen v1.seen clause.history in
     let before : State = state_after (v0.seen ++ leaves.between) in
@@ -111,7 +132,8 @@ begun_now {me = me} {s = s} {found = found} {v0 = v0} {v1 = v1} clause unshut =
     ∙ and_from (has_turn before me s) (put before.begun s.0 here s.0) leaves.step.condition.1
     (put-same before.begun s.0 here ∙ or_right (before.begun s.0) (not found.shut) (ap not unshut))
 
-pub begins : {w : Words} {p q : Pass} {me : CallerNo} {s : SelNo} {found : GateWord} → Steps w p q me (BeginLook s found) → found.shut ≡ false → IsReady w p me → IsSelector (limits_of w) s
+pub begins : {w : Words} {p q : Pass} {me : CallerNo} {s : SelNo} {found : GateWord}
+    → Steps w p q me (BeginLook s found) → found.shut ≡ false → IsReady w p me → IsSelector (limits_of w) s
     → HasBegun w q me s
 begins {w = w} {p = p} {q = q} {me = me} {s = s} {found = found} steps unshut ready inside = record {
   ready = still_ready w p q me me (BeginLook s found) steps ready;
@@ -120,7 +142,9 @@ begins {w = w} {p = p} {q = q} {me = me} {s = s} {found = found} steps unshut re
 }
 
 -- the mark that was found is within the limits
-pub mark_inside : {me : CallerNo} {s : SelNo} {mark : ℕ} {v0 v1 : PassView} → ActsClause me (LookKeys s mark ∷ []) v0 v1 → mark ≤ v0.limits.keys
+pub mark_inside : {me : CallerNo} {s : SelNo} {mark : ℕ} {v0 v1 : PassView} → ActsClause me (LookKeys s mark ∷ []) v0 v1
+    → mark ≤ v0.limits.keys
 mark_inside {s = s} {mark = mark} {v0 = v0} {v1 = v1} clause =
     let told : mark ≡ (known v1).keys_high s.0 = cc (look_tells clause refl) in
-    subst (λ (n : ℕ). n ≤ v0.limits.keys) (sym told) ((legal-within v0.limits v1.seen clause.history.legal).keys_high s.0)
+    subst (λ (n : ℕ). n ≤ v0.limits.keys) (sym told)
+    ((legal-within v0.limits v1.seen clause.history.legal).keys_high s.0)

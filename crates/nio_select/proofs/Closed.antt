@@ -26,11 +26,15 @@ closings_remove_keys law old new me s mark i serial past call finds claimed belo
     let e = event_of me (LookKeys s mark) in
     let in_call = looked ++ e ∷ finds.later in
     let whole : old.seen ++ in_call ≡ new.seen
-    = sym (append_assoc old.seen looked (e ∷ finds.later)) ∙ (ap (λ events. events ++ e ∷ finds.later) finds.after.1 ∙ sym finds.parts) in
-    let legal : IsLegal old.limits (old.seen ++ in_call) = subst (IsLegal old.limits) (sym whole) call.acts.history.legal in
+    = sym (append_assoc old.seen looked (e ∷ finds.later))
+    ∙ (ap (λ events. events ++ e ∷ finds.later) finds.after.1 ∙ sym finds.parts) in
+    let legal : IsLegal old.limits (old.seen ++ in_call) = subst (IsLegal old.limits)
+    (sym whole) call.acts.history.legal in
     let run = subst (λ acts. Completes (try_finish_plan s) acts closed) (done_in me old new in_call whole) call.shape in
     subst (λ events. was_removed ((state_after events).key s.0 i) serial ≡ true) whole
-    (law old.limits me old.seen looked finds.later s mark i serial legal run (subst (λ events. was_claimed ((state_after events).key s.0 i) serial ≡ true) (sym finds.after.1) claimed) below)
+    (law old.limits me old.seen looked finds.later s mark i serial legal run
+    (subst (λ events. was_claimed ((state_after events).key s.0 i) serial ≡ true) (sym finds.after.1) claimed)
+    below)
 
 -- ---- the look at the mark
 
@@ -46,23 +50,35 @@ LooksWhereClosed s acts busy = ⊤
 
 finish-looks : (s : SelNo) → Always (LooksWhereClosed s) (try_finish_plan s)
 unfolding try_finish_plan
-finish-looks s = λ enters asks. always_if (λ xs r. LooksWhereClosed s (enters ∷ xs) r) (is_some (holder_in (answer_of enters))) (reply busy) _ (λ _. tt)
+finish-looks s =
+    λ enters asks. always_if (λ xs r. LooksWhereClosed s (enters ∷ xs) r) (is_some (holder_in (answer_of enters)))
+    (reply busy) _ (λ _. tt)
     (λ _ look asks'. let sweep = sweep_to (number_in (answer_of look)) 0 (λ i _. remove_key s i) tt in
-    always_bind (λ _ _. ⊤) (λ xs r. LooksWhereClosed s (enters ∷ look ∷ xs) r) sweep (λ _. reply closed) (always_any sweep)
-    (λ xs _ _. record { enters = enters; mark = number_in (answer_of look); rest = xs ++ []; parts = ap (λ act. enters ∷ act ∷ (xs ++ [])) (keys-act s look asks') }))
+    always_bind (λ _ _. ⊤) (λ xs r. LooksWhereClosed s (enters ∷ look ∷ xs) r) sweep (λ _. reply closed)
+    (always_any sweep)
+    (λ xs _ _. record {
+      enters = enters;
+      mark = number_in (answer_of look);
+      rest = xs ++ [];
+      parts =
+          ap (λ act. enters ∷ act ∷ (xs ++ [])) (keys-act s look asks');
+    }))
 
 pub closings_find_marks : ClosingsFindMarks
 closings_find_marks old new me s call =
     let more = call.acts.history.goes_on in
-    let look = always_run (LooksWhereClosed s) (try_finish_plan s) (done_between me old new) closed (finish-looks s) call.shape in
-    let own : mine me more.0 ≡ (look.enters ∷ []) ++ LookKeys s look.mark ∷ look.rest = sym (done_in me old new more.0 more.1) ∙ look.parts in
+    let look = always_run (LooksWhereClosed s) (try_finish_plan s) (done_between me old new) closed
+    (finish-looks s) call.shape in
+    let own : mine me more.0 ≡ (look.enters ∷ []) ++ LookKeys s look.mark
+    ∷ look.rest = sym (done_in me old new more.0 more.1) ∙ look.parts in
     let cut = cut_at me more.0 (look.enters ∷ []) (LookKeys s look.mark) look.rest own in
     let e = event_of me (LookKeys s look.mark) in (
       look.mark,
       old.seen ++ cut.past,
       record {
         later = cut.later;
-        parts = sym more.1 ∙ (ap (λ events. old.seen ++ events) cut.parts ∙ sym (append_assoc old.seen cut.past (e ∷ cut.later)));
+        parts = sym more.1
+            ∙ (ap (λ events. old.seen ++ events) cut.parts ∙ sym (append_assoc old.seen cut.past (e ∷ cut.later)));
         after = (cut.past, refl);
       },
     )

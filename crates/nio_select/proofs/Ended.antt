@@ -28,7 +28,8 @@ use Rattle.nio_select.specs.Kept.{remove_kept}
 -- ---- who selects
 
 -- who began a selection and hasn't left it has begun
-pub selecting_begun : {w : Words} {p : Pass} {me : CallerNo} {selection : Selection} → IsReady w p me → Selects (view w p) me selection → HasBegun w p me selection.selector
+pub selecting_begun : {w : Words} {p : Pass} {me : CallerNo} {selection : Selection} → IsReady w p me
+    → Selects (view w p) me selection → HasBegun w p me selection.selector
 selecting_begun {w = w} {p = p} {me = me} {selection = selection} ready selects = record {
   ready = ready;
   inside = selects.inside;
@@ -36,29 +37,45 @@ selecting_begun {w = w} {p = p} {me = me} {selection = selection} ready selects 
 }
 
 -- who has begun has the turn
-pub begun_turn : {w : Words} {p : Pass} {me : CallerNo} {s : SelNo} → HasBegun w p me s → has_turn (state_seen p) me s ≡ true
-begun_turn {p = p} {me = me} {s = s} here = (and_parts (has_turn (state_seen p) me s) ((state_seen p).begun s.0) here.begun).0
+pub begun_turn : {w : Words} {p : Pass} {me : CallerNo} {s : SelNo} → HasBegun w p me s
+    → has_turn (state_seen p) me s ≡ true
+begun_turn {p = p} {me = me} {s = s} here =
+    (and_parts (has_turn (state_seen p) me s) ((state_seen p).begun s.0) here.begun).0
 
 -- ---- the end of a selection
 
-pub ended : {me : CallerNo} {s : SelNo} {kept : List ℕ} {found : GateWord} {v0 v1 v2 v3 : PassView} (selection : Selection) (answer : Selected) → s ≡ selection.selector
-    → kept ≡ selection.kept → CallClause me (Completes (remove_kept s kept)) v0 v1 tt → ActsClause me (EndWake s found ∷ []) v1 v2 → ActsClause me (GiveTurn s ∷ []) v2 v3
+pub ended : {me : CallerNo} {s : SelNo} {kept : List ℕ} {found : GateWord} {v0 v1 v2 v3 : PassView}
+    (selection : Selection) (answer : Selected) → s ≡ selection.selector
+    → kept ≡ selection.kept → CallClause me (Completes (remove_kept s kept)) v0 v1 tt
+    → ActsClause me (EndWake s found ∷ []) v1 v2 → ActsClause me (GiveTurn s ∷ []) v2 v3
     → CallClause me (Completes (end_selection selection answer)) v0 v3 (done answer)
 ended {me = me} {s = s} {kept = kept} {v0 = v0} {v3 = v3} selection answer on is kept_removed ends gives =
     subst (λ (s' : SelNo). CallClause me (Completes (removing s' selection.kept)) v0 v3 (done answer)) on
     (subst (λ (kept' : List ℕ). CallClause me (Completes (removing s kept')) v0 v3 (done answer)) is
-    (returned (ran_then (λ _. end_wake s >> (give_turn s >> reply (done answer))) kept_removed (left_ask _ ends (left_ask _ gives (left_after gives))))))
+    (returned
+    (ran_then (λ _. end_wake s >> (give_turn s >> reply (done answer))) kept_removed
+    (left_ask _ ends (left_ask _ gives (left_after gives))))))
   where
     removing : SelNo → List ℕ → Plan ToldReply
     removing s' kept' = remove_kept s' kept' >>= λ _. end_wake s' >> (give_turn s' >> reply (done answer))
 
 -- after the marks the selection is over
-pub over : {me : CallerNo} {s : SelNo} {gate : GateWord} {interrupted : Bool} {answer : ToldReply} {v0 v1 v2 v3 : PassView} (selection : Selection) (elapsed : Bool) (count : ℕ)
-    (mode : Mode) (why : Why) → s ≡ selection.selector → mode ≡ selection.mode → ActsClause me (LookGate s gate ∷ []) v0 v1 → ActsClause me (LookInterrupt interrupted ∷ []) v1 v2
+pub over : {me : CallerNo} {s : SelNo} {gate : GateWord} {interrupted : Bool} {answer : ToldReply}
+    {v0 v1 v2 v3 : PassView} (selection : Selection) (elapsed : Bool) (count : ℕ)
+    (mode : Mode) (why : Why) → s ≡ selection.selector → mode ≡ selection.mode
+    → ActsClause me (LookGate s gate ∷ []) v0 v1 → ActsClause me (LookInterrupt interrupted ∷ []) v1 v2
     → is_again mode count gate interrupted elapsed ≡ false → why ≡ why_ended mode count gate interrupted
-    → CallClause me (Completes (end_selection selection (record { count = count; why = why }))) v2 v3 answer → CallClause me (Completes (after_marks selection elapsed count)) v0 v3 answer
-over {me = me} {gate = gate} {interrupted = interrupted} {answer = answer} {v0 = v0} {v1 = v1} {v2 = v2} {v3 = v3} selection elapsed count mode why on same looks asks goes is ends =
+    → CallClause me (Completes (end_selection selection (record { count = count; why = why }))) v2 v3 answer
+    → CallClause me (Completes (after_marks selection elapsed count)) v0 v3 answer
+over {me = me} {gate = gate} {interrupted = interrupted} {answer = answer} {v0 = v0} {v1 = v1} {v2 = v2} {v3 = v3}
+    selection elapsed count mode why on same looks asks goes is ends =
     let look = subst (λ (s' : SelNo). ActsClause me (LookGate s' gate ∷ []) v0 v1) on looks in
-    let is' : why ≡ why_ended selection.mode count gate interrupted = is ∙ ap (λ (m : Mode). why_ended m count gate interrupted) same in
-    let ends' = subst (λ (w : Why). CallClause me (Completes (end_selection selection (record { count = count; why = w }))) v2 v3 answer) is' ends in
-    returned (left_ask _ look (left_ask _ asks (left_else _ _ _ (ap (λ (m : Mode). is_again m count gate interrupted elapsed) (sym same) ∙ goes) (left_of_call ends'))))
+    let is' : why ≡ why_ended selection.mode count gate interrupted = is
+    ∙ ap (λ (m : Mode). why_ended m count gate interrupted) same in
+    let ends' = subst
+    (λ (w : Why). CallClause me (Completes (end_selection selection (record { count = count; why = w }))) v2 v3
+    answer) is' ends in
+    returned (left_ask _ look
+    (left_ask _ asks
+    (left_else _ _ _ (ap (λ (m : Mode). is_again m count gate interrupted elapsed) (sym same) ∙ goes)
+    (left_of_call ends'))))

@@ -1,5 +1,6 @@
 -- What stands within the finishing of a closing after one step more.
-use Rattle.std.proofs.Common.{◌≡◌, ℕ, ◌<◌, ◌≤◌, ◌==◌, Bool, true, false, ◌&&◌, ◌||◌, if◌then◌else◌, Option, Some, None, List, [], ◌∷◌, ◌++◌, refl, ap, ◌∙◌, eq-eqb}
+use Rattle.std.proofs.Common.{◌≡◌, ℕ, ◌<◌, ◌≤◌, ◌==◌, Bool, true, false, ◌&&◌, ◌||◌, if◌then◌else◌, Option, Some, None}
+use Rattle.std.proofs.Common.{List, [], ◌∷◌, ◌++◌, refl, ap, ◌∙◌, eq-eqb}
 use Rattle.std.specs.Prelude.{nat_lt, is_some, IsTrue}
 use Rattle.std.proofs.lemmas.Bool.{and_parts, and_from, or_left, or_right, lt-ltb}
 use Rattle.nio_base.specs.declared.numbers.CallerNo.{CallerNo}
@@ -29,27 +30,33 @@ use Rattle.nio_select.specs.Entered.{HasEntered}
 -- ---- the caller's acts
 
 -- acts after the first that opens a span stay in it
-since_first-append : (opens : Act → Bool) (own later : List Act) → has opens own ≡ true → since_first opens (own ++ later) ≡ since_first opens own ++ later
+since_first-append : (opens : Act → Bool) (own later : List Act) → has opens own ≡ true
+    → since_first opens (own ++ later) ≡ since_first opens own ++ later
 since_first-append opens [] later here = absurd cc
 since_first-append opens (act ∷ own) later here = by_test (opens act) here (since_first-append opens own later)
   where
-    by_test : (b : Bool) → (b || has opens own) ≡ true → (has opens own ≡ true → since_first opens (own ++ later) ≡ since_first opens own ++ later)
-        → (if b then own ++ later else since_first opens (own ++ later)) ≡ (if b then own else since_first opens own) ++ later
+    by_test : (b : Bool) → (b || has opens own) ≡ true
+        → (has opens own ≡ true → since_first opens (own ++ later) ≡ since_first opens own ++ later)
+        → (if b then own ++ later else since_first opens (own ++ later)) ≡ (if b then own else since_first opens own)
+        ++ later
     by_test true here shorter = refl
     by_test false here shorter = shorter here
 
 -- ---- the finishing caller
 
 -- it just found the turn free
-enters_free : {w : Words} {p q : Pass} {me : CallerNo} {s : SelNo} → Steps w p q me (Enter s None) → IsReady w p me → IsSelector (limits_of w) s
+enters_free : {w : Words} {p q : Pass} {me : CallerNo} {s : SelNo} → Steps w p q me (Enter s None) → IsReady w p me
+    → IsSelector (limits_of w) s
     → is_closer (state_seen p) me s ≡ true → HasEntered w q me s
 enters_free {w = w} {p = p} {q = q} {me = me} {s = s} steps ready inside closer = record {
   ready = still_ready w p q me me _ steps ready;
   inside = inside;
-  entered = and_from (is_closer (state_seen q) me s) ((state_seen q).entered s.0) (lasts_over (selector_closed_by s me) clause closer) entered;
+  entered = and_from (is_closer (state_seen q) me s) ((state_seen q).entered s.0)
+      (lasts_over (selector_closed_by s me) clause closer) entered;
   found_free =
       ap (has (enters s.0)) clause.history.own
-      ∙ (has-more (enters s.0) (acts_seen p me) (Enter s None) ∙ or_right (has (enters s.0) (acts_seen p me)) (s.0 == s.0) (eq-eqb s.0 s.0 refl));
+      ∙ (has-more (enters s.0) (acts_seen p me) (Enter s None)
+      ∙ or_right (has (enters s.0) (acts_seen p me)) (s.0 == s.0) (eq-eqb s.0 s.0 refl));
 }
   where
     clause : ActsClause me (Enter s None ∷ []) (view w p) (view w q)
@@ -59,24 +66,29 @@ enters_free {w = w} {p = p} {q = q} {me = me} {s = s} steps ready inside closer 
     entered =
         let leaves = step_leaves (limits_of w) (Holds (view w p)) me (Enter s None) (seen p) (seen q) clause.history in
         let before : State = state_after (seen p ++ leaves.between) in
-        ap (λ st. st.entered s.0) leaves.state ∙ (put-same before.entered s.0 (before.entered s.0 || true) ∙ or_right (before.entered s.0) true refl)
+        ap (λ st. st.entered s.0) leaves.state
+        ∙ (put-same before.entered s.0 (before.entered s.0 || true) ∙ or_right (before.entered s.0) true refl)
 
-pub entered_now : {w : Words} {p q : Pass} {me : CallerNo} {s : SelNo} (found : Option CallerNo) → Steps w p q me (Enter s found) → is_some found ≡ false → IsReady w p me
+pub entered_now : {w : Words} {p q : Pass} {me : CallerNo} {s : SelNo} (found : Option CallerNo)
+    → Steps w p q me (Enter s found) → is_some found ≡ false → IsReady w p me
     → IsSelector (limits_of w) s → is_closer (state_seen p) me s ≡ true → HasEntered w q me s
 entered_now None steps free ready inside closer = enters_free steps ready inside closer
 entered_now (Some n) steps free ready inside closer = absurd cc
 
-pub entered_stays : {w : Words} {p q : Pass} {me : CallerNo} {act : Act} {s : SelNo} → Steps w p q me act → finds_drawn act ≡ false → HasEntered w p me s → HasEntered w q me s
+pub entered_stays : {w : Words} {p q : Pass} {me : CallerNo} {act : Act} {s : SelNo} → Steps w p q me act
+    → finds_drawn act ≡ false → HasEntered w p me s → HasEntered w q me s
 entered_stays {w = w} {p = p} {q = q} {me = me} {act = act} {s = s} steps new here =
     let clause = step_acts steps new in
     let both = and_parts (is_closer (state_seen p) me s) ((state_seen p).entered s.0) here.entered in
     record {
       ready = still_ready w p q me me act steps here.ready;
       inside = here.inside;
-      entered = and_from (is_closer (state_seen q) me s) ((state_seen q).entered s.0) (lasts_over (selector_closed_by s me) clause both.0) (lasts_over (selector_entered s.0) clause both.1);
+      entered = and_from (is_closer (state_seen q) me s) ((state_seen q).entered s.0)
+          (lasts_over (selector_closed_by s me) clause both.0) (lasts_over (selector_entered s.0) clause both.1);
       found_free =
           ap (has (enters s.0)) clause.history.own
-          ∙ (has-more (enters s.0) (acts_seen p me) act ∙ or_left (has (enters s.0) (acts_seen p me)) (enters s.0 act) here.found_free);
+          ∙ (has-more (enters s.0) (acts_seen p me) act
+          ∙ or_left (has (enters s.0) (acts_seen p me)) (enters s.0 act) here.found_free);
     }
 
 -- ---- which indexes it may remove
@@ -87,13 +99,16 @@ pub record MayClear (w : Words) (p : Pass) (me : CallerNo) (s : SelNo) (mark : �
   pub inside : mark ≤ (limits_of w).keys
   pub below : (i : ℕ) → i < mark → IsTrue (has (finds_below s.0 i) (since_entered s.0 (acts_seen p me)))
 
-own_since : {w : Words} {p q : Pass} {me : CallerNo} {act : Act} {s : SelNo} → Steps w p q me act → finds_drawn act ≡ false → HasEntered w p me s
+own_since : {w : Words} {p q : Pass} {me : CallerNo} {act : Act} {s : SelNo} → Steps w p q me act
+    → finds_drawn act ≡ false → HasEntered w p me s
     → since_entered s.0 (acts_seen q me) ≡ since_entered s.0 (acts_seen p me) ++ act ∷ []
 own_since {p = p} {me = me} {act = act} {s = s} steps new here =
-    ap (since_entered s.0) (step_acts steps new).history.own ∙ since_first-append (enters s.0) (acts_seen p me) (act ∷ []) here.found_free
+    ap (since_entered s.0) (step_acts steps new).history.own
+    ∙ since_first-append (enters s.0) (acts_seen p me) (act ∷ []) here.found_free
 
 -- it just found the mark
-pub may_clear_now : {w : Words} {p q : Pass} {me : CallerNo} {s : SelNo} {mark : ℕ} → Steps w p q me (LookKeys s mark) → HasEntered w p me s → MayClear w q me s mark
+pub may_clear_now : {w : Words} {p q : Pass} {me : CallerNo} {s : SelNo} {mark : ℕ} → Steps w p q me (LookKeys s mark)
+    → HasEntered w p me s → MayClear w q me s mark
 may_clear_now {w = w} {p = p} {q = q} {me = me} {s = s} {mark = mark} steps here = record {
   entered = entered_stays steps refl here;
   inside = mark_inside (step_acts steps refl);
@@ -104,7 +119,8 @@ may_clear_now {w = w} {p = p} {q = q} {me = me} {s = s} {mark = mark} steps here
       (and_from (s.0 == s.0) (nat_lt i mark) (eq-eqb s.0 s.0 refl) (lt-ltb i mark less)));
 }
 
-pub may_clear_stays : {w : Words} {p q : Pass} {me : CallerNo} {act : Act} {s : SelNo} {mark : ℕ} → Steps w p q me act → finds_drawn act ≡ false
+pub may_clear_stays : {w : Words} {p q : Pass} {me : CallerNo} {act : Act} {s : SelNo} {mark : ℕ} → Steps w p q me act
+    → finds_drawn act ≡ false
     → MayClear w p me s mark → MayClear w q me s mark
 may_clear_stays {w = w} {p = p} {q = q} {me = me} {act = act} {s = s} {mark = mark} steps new here = record {
   entered = entered_stays steps new here.entered;
@@ -112,12 +128,15 @@ may_clear_stays {w = w} {p = p} {q = q} {me = me} {act = act} {s = s} {mark = ma
   below = λ i less.
       ap (has (finds_below s.0 i)) (own_since steps new here.entered)
       ∙ (has-more (finds_below s.0 i) (since_entered s.0 (acts_seen p me)) act
-      ∙ or_left (has (finds_below s.0 i) (since_entered s.0 (acts_seen p me))) (finds_below s.0 i act) (here.below i less));
+      ∙ or_left (has (finds_below s.0 i) (since_entered s.0 (acts_seen p me))) (finds_below s.0 i act)
+      (here.below i less));
 }
 
 -- so it may remove each index below the mark
-pub may_remove_below : {w : Words} {p : Pass} {me : CallerNo} {s : SelNo} {mark : ℕ} → MayClear w p me s mark → (i : ℕ) → i < mark
+pub may_remove_below : {w : Words} {p : Pass} {me : CallerNo} {s : SelNo} {mark : ℕ} → MayClear w p me s mark → (i : ℕ)
+    → i < mark
     → (may_remove_cancelled (state_seen p) me s i || may_clear_out (state_seen p) (acts_seen p me) me s i) ≡ true
 may_remove_below {p = p} {me = me} {s = s} here i less =
     or_right (may_remove_cancelled (state_seen p) me s i) (may_clear_out (state_seen p) (acts_seen p me) me s i)
-    (and_from (has_entered (state_seen p) me s) (has (finds_below s.0 i) (since_entered s.0 (acts_seen p me))) here.entered.entered (here.below i less))
+    (and_from (has_entered (state_seen p) me s) (has (finds_below s.0 i) (since_entered s.0 (acts_seen p me)))
+    here.entered.entered (here.below i less))

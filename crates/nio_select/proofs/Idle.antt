@@ -42,22 +42,30 @@ selected_give s = λ acts answer shape. pins_are_given_back.selected_keys s _ ac
 
 -- ---- after a call of the first, and of the other
 
-pub idle_call : {R : Type 0} {Shape : List Act → R → Type 0} {answer : R} {w : Words} {p q : Pass} → GivesPinsBack Shape → CallClause zero Shape (view w p) (view w q) answer → IsReady w q zero
+pub idle_call : {R : Type 0} {Shape : List Act → R → Type 0} {answer : R} {w : Words} {p q : Pass} → GivesPinsBack Shape
+    → CallClause zero Shape (view w p) (view w q) answer → IsReady w q zero
     → AreIdle w p → AreIdle w q
-idle_call {answer = answer} gives call ready idle = idle_after call.acts ready.pass (no_pin_after (λ acts shape. gives acts answer shape) call idle.zero_unpinned) idle
+idle_call {answer = answer} gives call ready idle =
+    idle_after call.acts ready.pass (no_pin_after (λ acts shape. gives acts answer shape) call idle.zero_unpinned) idle
 
-pub idle_call_other : {R : Type 0} {Shape : List Act → R → Type 0} {answer : R} {w : Words} {p q : Pass} → GivesPinsBack Shape → CallClause one Shape (view w p) (view w q) answer → IsReady w q one
+pub idle_call_other : {R : Type 0} {Shape : List Act → R → Type 0} {answer : R} {w : Words} {p q : Pass}
+    → GivesPinsBack Shape → CallClause one Shape (view w p) (view w q) answer → IsReady w q one
     → AreIdle w p → AreIdle w q
-idle_call_other {answer = answer} gives call ready idle = idle_after_other call.acts ready.pass (no_pin_after (λ acts shape. gives acts answer shape) call idle.one_unpinned) idle
+idle_call_other {answer = answer} gives call ready idle =
+    idle_after_other call.acts ready.pass (no_pin_after (λ acts shape. gives acts answer shape) call idle.one_unpinned)
+    idle
 
 -- after the first opened a selector, where nothing was done but two draws
-pub idle_opened : {w : Words} {p q : Pass} (l : Limits) (answer : Result SelNo SelectorsSpent) → CallClause zero (Completes (open_selector_plan l)) (view w p) (view w q) answer
+pub idle_opened : {w : Words} {p q : Pass} (l : Limits) (answer : Result SelNo SelectorsSpent)
+    → CallClause zero (Completes (open_selector_plan l)) (view w p) (view w q) answer
     → IsReady w q zero → IsReady w p one → seen p ≡ drawn → HasSelector (view w q) first_selector → AreIdle w q
 idle_opened {w = w} {p = p} {q = q} l answer call ready other is made = record {
   zero_ready = ready;
   one_ready = ready_after one call.acts ready.pass other;
-  zero_unpinned = no_pin_after (λ acts shape. pins_are_given_back.open_selector l acts answer shape) call (λ s i. ap (λ (events : List Event). has_pin (state_after events) zero s i) is);
-  one_unpinned = λ s i. pins_are_own (limits_of w) one s i (seen q) ready.pass.legal ∙ ap (keeps_pin s.0 i) (call.acts.history.others one held (λ same. zero_other (sym same)) ∙ ap (mine one) is);
+  zero_unpinned = no_pin_after (λ acts shape. pins_are_given_back.open_selector l acts answer shape) call
+      (λ s i. ap (λ (events : List Event). has_pin (state_after events) zero s i) is);
+  one_unpinned = λ s i. pins_are_own (limits_of w) one s i (seen q) ready.pass.legal
+      ∙ ap (keeps_pin s.0 i) (call.acts.history.others one held (λ same. zero_other (sym same)) ∙ ap (mine one) is);
   selector = made;
 }
   where
@@ -72,16 +80,19 @@ zero_held {p = p} idle = eq-eqb (bit_at (numbers_of p) 0) 1 idle.zero_ready.numb
 pub one_held : {w : Words} {p : Pass} → AreIdle w p → HoldsNumber (view w p) one
 one_held {p = p} idle = eq-eqb (bit_at (numbers_of p) 1) 1 idle.one_ready.number
 
-pub selects_beside : {acts : List Act} {v0 v1 : PassView} {selection : Selection} → ActsClause one acts v0 v1 → HoldsNumber v0 zero → Selects v0 zero selection → Selects v1 zero selection
+pub selects_beside : {acts : List Act} {v0 v1 : PassView} {selection : Selection} → ActsClause one acts v0 v1
+    → HoldsNumber v0 zero → Selects v0 zero selection → Selects v1 zero selection
 selects_beside {selection = selection} clause held has = record {
   inside = subst (λ (l : Limits). IsSelector l selection.selector) (sym clause.limits) has.inside;
   begun = subst (λ own. IsBegun own selection) (sym (clause.history.others zero held zero_other)) has.begun;
 }
 
-pub closes_beside : {acts : List Act} {v0 v1 : PassView} {s : SelNo} → ActsClause zero acts v0 v1 → HoldsNumber v0 one → Closes v0 one s → Closes v1 one s
+pub closes_beside : {acts : List Act} {v0 v1 : PassView} {s : SelNo} → ActsClause zero acts v0 v1 → HoldsNumber v0 one
+    → Closes v0 one s → Closes v1 one s
 closes_beside {s = s} clause held has = record {
   inside = subst (λ (l : Limits). IsSelector l s) (sym clause.limits) has.inside;
-  closing = subst (λ own. IsClosing own s) (sym (clause.history.others one held (λ same. zero_other (sym same)))) has.closing;
+  closing = subst (λ own. IsClosing own s) (sym (clause.history.others one held (λ same. zero_other (sym same))))
+      has.closing;
 }
 
 -- what is in progress, if anything, still is

@@ -1,5 +1,6 @@
 -- What a selection in progress knows of its lists: they rise, and are within the limits.
-use Rattle.std.proofs.Common.{◌≡◌, ℕ, suc, ◌-◌, ◌<◌, ◌≤◌, List, [], ◌∷◌, ◌++◌, length, map, ap, sym, ◌∙◌, subst, arith, append_assoc}
+use Rattle.std.proofs.Common.{◌≡◌, ℕ, suc, ◌-◌, ◌<◌, ◌≤◌, List, [], ◌∷◌, ◌++◌, length, map, ap, sym, ◌∙◌, subst, arith}
+use Rattle.std.proofs.Common.{append_assoc}
 use Rattle.std.specs.List.{All, Contains}
 use Rattle.std.proofs.lemmas.List.Elements.{All-nil, All-cons, All-head, All-tail, All-weaker, All-contains}
 use Rattle.nio_base.specs.Limits.{IsFit}
@@ -34,68 +35,92 @@ use Rattle.nio_select.specs.declared.asked.Slot.{Slot}
 
 -- ---- the bound
 
-pub keys-act : (s : SelNo) (act : Act) → question_of act ≡ Question.look_keys s → act ≡ LookKeys s (number_in (answer_of act))
+pub keys-act : (s : SelNo) (act : Act) → question_of act ≡ Question.look_keys s
+    → act ≡ LookKeys s (number_in (answer_of act))
 keys-act s (LookKeys s' found) asks = cc asks
 keys-act s _ asks = absurd (cc asks)
 
 -- it is a keys' mark that the caller found when it began
-bound_inside : (l : Limits) (n : CallerNo) (events : List Event) (selection : Selection) → IsLegal l events → IsBegun (mine n events) selection → selection.bound ≤ l.keys
+bound_inside : (l : Limits) (n : CallerNo) (events : List Event) (selection : Selection) → IsLegal l events
+    → IsBegun (mine n events) selection → selection.bound ≤ l.keys
 bound_inside l n events selection legal begun =
     let s = selection.selector in
     let first = begin-parts s selection.mode begun.beginning selection begun.begins in
     let before = begun.earlier ++ (first.gate ∷ first.take ∷ first.look ∷ []) in
     let later = (first.lists ++ first.over) ++ begun.since in
-    let act : first.keys ≡ LookKeys s selection.bound = keys-act s first.keys first.asks_keys ∙ ap (LookKeys s) (sym first.bound) in
-    let acts : begun.beginning ≡ first.gate ∷ first.take ∷ first.look ∷ LookKeys s selection.bound ∷ (first.lists ++ first.over)
+    let act : first.keys ≡ LookKeys s selection.bound = keys-act s first.keys first.asks_keys
+    ∙ ap (LookKeys s) (sym first.bound) in
+    let acts : begun.beginning ≡ first.gate ∷ first.take ∷ first.look ∷ LookKeys s selection.bound
+    ∷ (first.lists ++ first.over)
     = first.parts ∙ ap (λ x. first.gate ∷ first.take ∷ first.look ∷ x ∷ (first.lists ++ first.over)) act in
     let own : mine n events ≡ before ++ LookKeys s selection.bound ∷ later
-    = begun.parts ∙ (ap (λ xs. begun.earlier ++ (xs ++ begun.since)) acts ∙ sym (append_assoc begun.earlier (first.gate ∷ first.take ∷ first.look ∷ []) (LookKeys s selection.bound ∷ later))) in
+    = begun.parts
+    ∙ (ap (λ xs. begun.earlier ++ (xs ++ begun.since)) acts
+    ∙ sym (append_assoc begun.earlier (first.gate ∷ first.take ∷ first.look ∷ [])
+    (LookKeys s selection.bound ∷ later))) in
     let cut = cut_at n events before (LookKeys s selection.bound) later own in
     let e = event_of n (LookKeys s selection.bound) in
     let legal' = subst (IsLegal l) cut.parts legal in
-    let told : selection.bound ≡ (state_after cut.past).keys_high s.0 = cc (legal_next l cut.past e cut.later legal').answers in
-    subst (λ (k : ℕ). k ≤ l.keys) (sym told) ((legal-within l cut.past (legal_beginning l cut.past (e ∷ cut.later) legal')).keys_high s.0)
+    let told : selection.bound ≡ (state_after cut.past).keys_high s.0 = cc
+    (legal_next l cut.past e cut.later legal').answers in
+    subst (λ (k : ℕ). k ≤ l.keys) (sym told)
+    ((legal-within l cut.past (legal_beginning l cut.past (e ∷ cut.later) legal')).keys_high s.0)
 
 -- ---- the lists
 
 -- as many keys as there are indexes, at most
-few : (slots : List Slot) (low high : ℕ) → Rise slots → All (λ slot. low ≤ slot.key.index) slots → All (λ slot. slot.key.index < high) slots → length slots ≤ high - low
+few : (slots : List Slot) (low high : ℕ) → Rise slots → All (λ slot. low ≤ slot.key.index) slots
+    → All (λ slot. slot.key.index < high) slots → length slots ≤ high - low
 few [] low high rise above below = omega arith
 few (slot ∷ slots) low high rise above below =
     let here : low ≤ slot.key.index = All-head (λ x. low ≤ x.key.index) slot slots above in
     let under : slot.key.index < high = All-head (λ x. x.key.index < high) slot slots below in
     let later : length slots ≤ high - suc slot.key.index =
-    few slots (suc slot.key.index) high (pairs-tail (λ x y. x.key.index < y.key.index) slot slots rise) (pairs-head (λ x y. x.key.index < y.key.index) slot slots rise)
+    few slots (suc slot.key.index) high (pairs-tail (λ x y. x.key.index < y.key.index) slot slots rise)
+    (pairs-head (λ x y. x.key.index < y.key.index) slot slots rise)
     (All-tail (λ x. x.key.index < high) slot slots below) in
     omega arith
 
 in_order : (pass : PassView) (me : CallerNo) (selection : Selection) → Selects pass me selection → IsInOrder selection
-in_order pass me selection selects = lists_in_order selection.selector selection.mode selects.begun.beginning selection selects.begun.begins
+in_order pass me selection selects =
+    lists_in_order selection.selector selection.mode selects.begun.beginning selection selects.begun.begins
 
 -- the kept indexes are within the limits
-pub kept_inside : {w : Words} {p : Pass} {me : CallerNo} {selection : Selection} → IsReady w p me → Selects (view w p) me selection
+pub kept_inside : {w : Words} {p : Pass} {me : CallerNo} {selection : Selection} → IsReady w p me
+    → Selects (view w p) me selection
     → All (λ i. i < (limits_of w).keys) selection.kept
 kept_inside {w = w} {p = p} {me = me} {selection = selection} ready selects =
     let bound = bound_inside (limits_of w) me (seen p) selection ready.pass.legal selects.begun in
-    All-weaker (λ i. i < selection.bound) (λ i. i < (limits_of w).keys) (λ i below. omega arith) selection.kept (in_order (view w p) me selection selects).below
+    All-weaker (λ i. i < selection.bound) (λ i. i < (limits_of w).keys) (λ i below. omega arith) selection.kept
+    (in_order (view w p) me selection selects).below
 
 -- so are those of the looked list
-pub looked_inside : {w : Words} {p : Pass} {me : CallerNo} {selection : Selection} → IsReady w p me → Selects (view w p) me selection
+pub looked_inside : {w : Words} {p : Pass} {me : CallerNo} {selection : Selection} → IsReady w p me
+    → Selects (view w p) me selection
     → All (λ entry. entry.index < (limits_of w).keys) selection.looked
 looked_inside {w = w} {p = p} {me = me} {selection = selection} ready selects =
     All-weaker (λ entry. Contains selection.kept entry.index) (λ entry. entry.index < (limits_of w).keys)
-    (λ entry there. All-contains (λ i. i < (limits_of w).keys) selection.kept entry.index (kept_inside ready selects) there) selection.looked (in_order (view w p) me selection selects).kept
+    (λ entry there. All-contains (λ i. i < (limits_of w).keys) selection.kept entry.index
+    (kept_inside ready selects) there) selection.looked (in_order (view w p) me selection selects).kept
 
 -- what holds of each key holds of each slot
-all_back : (P : LookedKey → Type 0) (slots : List Slot) → All P (map (λ (slot : Slot). slot.key) slots) → All (λ slot. P slot.key) slots
+all_back : (P : LookedKey → Type 0) (slots : List Slot) → All P (map (λ (slot : Slot). slot.key) slots)
+    → All (λ slot. P slot.key) slots
 all_back P [] each = All-nil (λ slot. P slot.key)
 all_back P (slot ∷ slots) each =
-    All-cons (λ x. P x.key) slot slots (All-head P slot.key (map (λ (x : Slot). x.key) slots) each) (all_back P slots (All-tail P slot.key (map (λ (x : Slot). x.key) slots) each))
+    All-cons (λ x. P x.key) slot slots (All-head P slot.key (map (λ (x : Slot). x.key) slots) each)
+    (all_back P slots (All-tail P slot.key (map (λ (x : Slot). x.key) slots) each))
 
 -- keys that rise within the limits can be counted
-pub countable : (l : Limits) (s : SelNo) (slots : List Slot) (entries : List LookedKey) → IsFit l → IsSelector l s → Rise slots → map (λ (slot : Slot). slot.key) slots ≡ entries
+pub countable : (l : Limits) (s : SelNo) (slots : List Slot) (entries : List LookedKey) → IsFit l → IsSelector l s
+    → Rise slots → map (λ (slot : Slot). slot.key) slots ≡ entries
     → All (λ entry. entry.index < l.keys) entries → AreCountable l s slots
 countable l s slots entries fit inside rise same below =
-    let each : All (λ slot. slot.key.index < l.keys) slots = all_back (λ entry. entry.index < l.keys) slots (subst (λ xs. All (λ entry. entry.index < l.keys) xs) (sym same) below) in
+    let each : All (λ slot. slot.key.index < l.keys) slots = all_back (λ entry. entry.index < l.keys) slots
+    (subst (λ xs. All (λ entry. entry.index < l.keys) xs) (sym same) below) in
     let count : length slots ≤ l.keys - 0 = few slots 0 l.keys rise (λ k d within. omega arith) each in
-    record { keys = All-weaker (λ slot. slot.key.index < l.keys) (λ slot. IsKey l s slot.key.index) (λ slot less. (inside, less)) slots each; count = omega (arith, fit.few_keys) }
+    record {
+      keys = All-weaker (λ slot. slot.key.index < l.keys) (λ slot. IsKey l s slot.key.index)
+          (λ slot less. (inside, less)) slots each;
+      count = omega (arith, fit.few_keys);
+    }

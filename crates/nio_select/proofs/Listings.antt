@@ -18,25 +18,33 @@ use Rattle.nio_steps.specs.declared.refusal.ListError.TheVariants.{Memory}
 use Rattle.nio_select.specs.Listed.{ok_seen}
 
 -- the call with this answer, by what is listed of each index
-abbrev pub Lists : (SelNo → ℕ → List KeyNo → Plan (List KeyNo)) → SelNo → List Act → Result (List KeyNo) ListError → Type 0
+abbrev pub Lists : (SelNo → ℕ → List KeyNo → Plan (List KeyNo)) → SelNo → List Act → Result (List KeyNo) ListError
+    → Type 0
 Lists list_one s acts answer = Completes (list_plan list_one s (list_lacks_memory answer)) acts answer
 
 -- the gate was found open, the mark was looked at, and there is memory for the list
-pub lists_all : {me : CallerNo} {s : SelNo} {gate : GateWord} {mark : ℕ} {listed : List KeyNo} {v0 v1 v2 v3 : PassView} (list_one : SelNo → ℕ → List KeyNo → Plan (List KeyNo))
+pub lists_all : {me : CallerNo} {s : SelNo} {gate : GateWord} {mark : ℕ} {listed : List KeyNo} {v0 v1 v2 v3 : PassView}
+    (list_one : SelNo → ℕ → List KeyNo → Plan (List KeyNo))
     → ActsClause me (LookGate s gate ∷ []) v0 v1 → gate.shut ≡ false → ActsClause me (LookKeys s mark ∷ []) v1 v2
-    → CallClause me (Completes (list_all list_one s mark)) v2 v3 (Ok listed) → CallClause me (Lists list_one s) v0 v3 (Ok listed)
+    → CallClause me (Completes (list_all list_one s mark)) v2 v3 (Ok listed)
+    → CallClause me (Lists list_one s) v0 v3 (Ok listed)
 lists_all {s = s} {listed = listed} list_one look unshut mark call =
     call_as (Lists list_one s) (Ok listed) (λ acts here. here)
-    (returned {plan = list_plan list_one s false} (left_ask _ look (left_else _ _ _ unshut (left_ask _ mark (left_of_call call)))))
+    (returned {plan = list_plan list_one s false}
+    (left_ask _ look (left_else _ _ _ unshut (left_ask _ mark (left_of_call call)))))
 
 -- there isn't
-pub lists_none : {me : CallerNo} {s : SelNo} {gate : GateWord} {mark : ℕ} {v0 v1 v2 : PassView} (list_one : SelNo → ℕ → List KeyNo → Plan (List KeyNo))
-    → ActsClause me (LookGate s gate ∷ []) v0 v1 → gate.shut ≡ false → ActsClause me (LookKeys s mark ∷ []) v1 v2 → CallClause me (Lists list_one s) v0 v2 (Err Memory)
+pub lists_none : {me : CallerNo} {s : SelNo} {gate : GateWord} {mark : ℕ} {v0 v1 v2 : PassView}
+    (list_one : SelNo → ℕ → List KeyNo → Plan (List KeyNo))
+    → ActsClause me (LookGate s gate ∷ []) v0 v1 → gate.shut ≡ false → ActsClause me (LookKeys s mark ∷ []) v1 v2
+    → CallClause me (Lists list_one s) v0 v2 (Err Memory)
 lists_none {s = s} list_one look unshut mark =
     call_as (Lists list_one s) (Err Memory) (λ acts here. here)
-    (returned {plan = list_plan list_one s true} (left_ask _ look (left_else _ _ _ unshut (left_ask _ mark (left_after mark)))))
+    (returned {plan = list_plan list_one s true}
+    (left_ask _ look (left_else _ _ _ unshut (left_ask _ mark (left_after mark)))))
 
 -- a result that is such a refusal
-pub refused : {A B : Type 0} (view : A → B) (P : Result B ListError → Type 0) (r : Result A ListError) → IsErrAnd r (λ e. e ≡ Memory) → P (Err Memory) → P (ok_seen view r)
+pub refused : {A B : Type 0} (view : A → B) (P : Result B ListError → Type 0) (r : Result A ListError)
+    → IsErrAnd r (λ e. e ≡ Memory) → P (Err Memory) → P (ok_seen view r)
 refused view P (Ok x) is here = absurd is
 refused view P (Err e) is here = subst (λ (error : ListError). P (Err error)) (sym is) here

@@ -13,11 +13,14 @@ use Rattle.nio_event.specs.declared.act.Act.{Act}
 use Rattle.nio_event.specs.declared.act.Act.TheVariants.{MakeSelector}
 
 -- what is permanent stands after the acts of a call
-pub lasts_over : {me : CallerNo} {acts : List Act} {v0 v1 : PassView} (f : PermanentFact) → ActsClause me acts v0 v1 → stands f (known v0) ≡ true → stands f (known v1) ≡ true
-lasts_over {v0 = v0} {v1 = v1} f clause here = facts_are_permanent v0.limits v0.seen v1.seen clause.history.goes_on clause.history.legal f here
+pub lasts_over : {me : CallerNo} {acts : List Act} {v0 v1 : PassView} (f : PermanentFact) → ActsClause me acts v0 v1
+    → stands f (known v0) ≡ true → stands f (known v1) ≡ true
+lasts_over {v0 = v0} {v1 = v1} f clause here =
+    facts_are_permanent v0.limits v0.seen v1.seen clause.history.goes_on clause.history.legal f here
 
 -- a selector that was just made is made
-pub made_now : {me : CallerNo} {s : SelNo} {found : Bool} {v0 v1 : PassView} → ActsClause me (MakeSelector s found ∷ []) v0 v1 → (known v1).selector s.0 ≡ true
+pub made_now : {me : CallerNo} {s : SelNo} {found : Bool} {v0 v1 : PassView}
+    → ActsClause me (MakeSelector s found ∷ []) v0 v1 → (known v1).selector s.0 ≡ true
 made_now {me = me} {s = s} {found = found} {v0 = v0} {v1 = v1} clause =
     let leaves = step_leaves v0.limits (Holds v0) me (MakeSelector s found) v0.seen v1.seen clause.history in
     let before : State = state_after (v0.seen ++ leaves.between) in

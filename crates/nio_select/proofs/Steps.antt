@@ -1,5 +1,6 @@
 -- The laws of plans about selections, over the calls on a pass.
-use Rattle.std.proofs.Common.{◌≡◌, ℕ, zero, suc, ◌+◌, ◌*◌, ◌≤◌, Bool, true, false, if◌then◌else◌, Ok, List, [], ◌∷◌, ◌++◌, IsTrue, map, length, refl, ap, sym, ◌∙◌, subst, arith, append_assoc}
+use Rattle.std.proofs.Common.{◌≡◌, ℕ, zero, suc, ◌+◌, ◌*◌, ◌≤◌, Bool, true, false, if◌then◌else◌, Ok, List, [], ◌∷◌}
+use Rattle.std.proofs.Common.{◌++◌, IsTrue, map, length, refl, ap, sym, ◌∙◌, subst, arith, append_assoc}
 use Rattle.std.specs.List.{All}
 use Rattle.std.proofs.lemmas.Bool.{or_right}
 use Rattle.std.proofs.lemmas.List.{append_cancel_left}
@@ -30,9 +31,12 @@ keys_are_gone law old new me s mode selection i serial call published cancelled 
     let clause = call.acts.history in
     let later : List Event = clause.goes_on.0 in
     let parts : old.seen ++ later ≡ new.seen = clause.goes_on.1 in
-    let begins : Begins s mode (mine me later) (Ok selection) = subst (λ acts. Begins s mode acts (Ok selection)) (done_in me old new later parts) call.shape in
-    subst (λ events. IsTrue (was_removed ((state_after events).key s.0 i) serial) × All (λ entry. ¬ ((entry.index ≡ i) × (entry.serial ≡ serial))) selection.looked) parts
-    (law old.limits me old.seen later s mode selection i serial (subst (IsLegal old.limits) (sym parts) clause.legal) begins published cancelled below)
+    let begins : Begins s mode (mine me later) (Ok selection) = subst (λ acts. Begins s mode acts (Ok selection))
+    (done_in me old new later parts) call.shape in
+    subst (λ events. IsTrue (was_removed ((state_after events).key s.0 i) serial)
+    × All (λ entry. ¬ ((entry.index ≡ i) × (entry.serial ≡ serial))) selection.looked) parts
+    (law old.limits me old.seen later s mode selection i serial (subst (IsLegal old.limits) (sym parts) clause.legal)
+    begins published cancelled below)
 
 -- ---- a bound on the steps
 
@@ -45,7 +49,8 @@ count_below-le (suc n) p q allows = by_test (p n) refl (count_below-le n p q all
     one : Bool → ℕ
     one b = if b then 1 else 0
 
-    by_test : (b : Bool) → p n ≡ b → count_below n p ≤ count_below n q → count_below n p + one (p n) ≤ count_below n q + one (q n)
+    by_test : (b : Bool) → p n ≡ b → count_below n p ≤ count_below n q
+        → count_below n p + one (p n) ≤ count_below n q + one (q n)
     by_test true is rest =
         let here : one (p n) ≡ one true = ap one is in
         let there : one (q n) ≡ one true = ap one (allows n is) in
@@ -54,11 +59,15 @@ count_below-le (suc n) p q allows = by_test (p n) refl (count_below-le n p q all
         let here : one (p n) ≡ one false = ap one is in
         omega (arith, here, rest)
 
-has_later : (p : Act → Bool) (first : List Act) (act : Act) (second : List Act) → has p second ≡ true → has p (first ++ act ∷ second) ≡ true
-has_later p first act second there = list_any-append p first (act ∷ second) ∙ or_right (has p first) (has p (act ∷ second)) (or_right (p act) (has p second) there)
+has_later : (p : Act → Bool) (first : List Act) (act : Act) (second : List Act) → has p second ≡ true
+    → has p (first ++ act ∷ second) ≡ true
+has_later p first act second there =
+    list_any-append p first (act ∷ second)
+    ∙ or_right (has p first) (has p (act ∷ second)) (or_right (p act) (has p second) there)
 
 pub calls_are_bounded : SelectionIsBounded → CallsAreBounded
-calls_are_bounded law me before_begin after_begin before_told after_told selection poll answer window fit is its = bounded
+calls_are_bounded law me before_begin after_begin before_told after_told selection poll answer window fit is its =
+    bounded
   where
     s : SelNo
     s = selection.selector
@@ -105,12 +114,14 @@ calls_are_bounded law me before_begin after_begin before_told after_told selecti
     begin_parts : before_begin.seen ++ (a ++ e ∷ b) ≡ after_begin.seen
     begin_parts =
         sym (append_assoc before_begin.seen a (e ∷ b))
-        ∙ (ap (λ events. events ++ e ∷ b) its.begins_after.1 ∙ (sym (append_assoc its.past (e ∷ []) b) ∙ its.begins_before.1))
+        ∙ (ap (λ events. events ++ e ∷ b) its.begins_after.1
+        ∙ (sym (append_assoc its.past (e ∷ []) b) ∙ its.begins_before.1))
 
     told_parts : before_told.seen ++ (d ++ e' ∷ its.rest) ≡ after_told.seen
     told_parts =
         sym (append_assoc before_told.seen d (e' ∷ its.rest))
-        ∙ (ap (λ events. events ++ e' ∷ its.rest) its.ends_after.1 ∙ (append_assoc its.past (e ∷ window) (e' ∷ its.rest) ∙ sym its.parts))
+        ∙ (ap (λ events. events ++ e' ∷ its.rest) its.ends_after.1
+        ∙ (append_assoc its.past (e ∷ window) (e' ∷ its.rest) ∙ sym its.parts))
 
     begin_is : done_between me before_begin after_begin ≡ first ++ look ∷ second
     begin_is = done_in me before_begin after_begin (a ++ e ∷ b) begin_parts ∙ mine-around me a look b
@@ -133,7 +144,8 @@ calls_are_bounded law me before_begin after_begin before_told after_told selecti
     window_is = let same = append_cancel_left its.past (e ∷ window) (e ∷ (b ++ (m ++ d))) joined in cc
 
     window_acts : mine me window ≡ second ++ (between ++ third)
-    window_acts = ap (mine me) window_is ∙ (mine-append me b (m ++ d) ∙ ap (λ acts. second ++ acts) (mine-append me m d))
+    window_acts =
+        ap (mine me) window_is ∙ (mine-append me b (m ++ d) ∙ ap (λ acts. second ++ acts) (mine-append me m d))
 
     whole : IsWhole selection poll answer its.found its.woken first second between third fourth
     whole = record {
@@ -144,17 +156,23 @@ calls_are_bounded law me before_begin after_begin before_told after_told selecti
     }
 
     at_most : length (first ++ look ∷ second) + length (third ++ ends ∷ fourth)
-        ≤ 8 + words_below selection.bound + 6 * count_below selection.bound (λ k. has (finds_listed s.0 k) second) + count (disturbs s.0 selection.bound) (map (λ x. x.act) window)
+        ≤ 8 + words_below selection.bound + 6 * count_below selection.bound (λ k. has (finds_listed s.0 k) second)
+        + count (disturbs s.0 selection.bound) (map (λ x. x.act) window)
     at_most =
-        law before_told.limits me its.past window its.rest selection poll answer its.found its.woken first second between third fourth
-        (subst IsFit is.tells.acts.limits fit) (subst (IsLegal before_told.limits) its.parts is.tells.acts.history.legal) window_acts whole
+        law before_told.limits me its.past window its.rest selection poll answer its.found its.woken first second
+        between third fourth
+        (subst IsFit is.tells.acts.limits fit)
+        (subst (IsLegal before_told.limits) its.parts is.tells.acts.history.legal) window_acts whole
 
-    found_fewer : count_below selection.bound (λ k. has (finds_listed s.0 k) second) ≤ count_below selection.bound (λ k. has (finds_listed s.0 k) (done_between me before_begin after_begin))
+    found_fewer : count_below selection.bound (λ k. has (finds_listed s.0 k) second) ≤ count_below selection.bound
+        (λ k. has (finds_listed s.0 k) (done_between me before_begin after_begin))
     found_fewer =
-        count_below-le selection.bound (λ k. has (finds_listed s.0 k) second) (λ k. has (finds_listed s.0 k) (done_between me before_begin after_begin))
+        count_below-le selection.bound (λ k. has (finds_listed s.0 k) second)
+        (λ k. has (finds_listed s.0 k) (done_between me before_begin after_begin))
         (λ k there. ap (has (finds_listed s.0 k)) begin_is ∙ has_later (finds_listed s.0 k) first look second there)
 
     bounded : length (done_between me before_begin after_begin) + length (done_between me before_told after_told)
-        ≤ 8 + words_below selection.bound + 6 * count_below selection.bound (λ k. has (finds_listed s.0 k) (done_between me before_begin after_begin))
+        ≤ 8 + words_below selection.bound + 6 * count_below selection.bound
+        (λ k. has (finds_listed s.0 k) (done_between me before_begin after_begin))
         + count (disturbs s.0 selection.bound) (map (λ x. x.act) window)
     bounded = omega (arith, ap length begin_is, ap length told_is, at_most, found_fewer)

@@ -14,7 +14,8 @@ use Rattle.nio_steps.proofs.OwnActs.{Cut, cut_at}
 use Rattle.nio_steps.proofs.StandLaws.{look-act}
 use Rattle.nio_steps.proofs.Walks.{Always, always_run, always_bind, always_if, always_any}
 use Rattle.nio_steps.specs.Plan.{reply}
-use Rattle.nio_steps.specs.SelectCalls.{Selection, Begins, Poll, Tells, ToldReply, done, again, told_plan, after_marks, end_selection, mark_entry, remove_if_cancelled}
+use Rattle.nio_steps.specs.SelectCalls.{Selection, Begins, Poll, Tells, ToldReply, done, again, told_plan, after_marks}
+use Rattle.nio_steps.specs.SelectCalls.{end_selection, mark_entry, remove_if_cancelled}
 use Rattle.nio_steps.specs.Steps.{gate_in}
 use Rattle.nio_steps.specs.Sweeps.{sweep_over}
 use Rattle.nio_steps.specs.declared.selected.Selected.{Selected}
@@ -29,7 +30,8 @@ record HasLook (s : SelNo) (acts : List Act) : Type 0 where
   later : List Act
   parts : acts ≡ before ++ BeginLook s found ∷ later
 
-begin-look : (selection : Selection) (acts : List Act) → Begins selection.selector selection.mode acts (Ok selection) → HasLook selection.selector acts
+begin-look : (selection : Selection) (acts : List Act) → Begins selection.selector selection.mode acts (Ok selection)
+    → HasLook selection.selector acts
 begin-look selection acts run =
     let s = selection.selector in
     let first = begin-parts s selection.mode acts selection run in
@@ -37,7 +39,9 @@ begin-look selection acts run =
       before = first.gate ∷ first.take ∷ [];
       found = gate_in (answer_of first.look);
       later = first.keys ∷ (first.lists ++ first.over);
-      parts = first.parts ∙ ap (λ x. first.gate ∷ first.take ∷ x ∷ first.keys ∷ (first.lists ++ first.over)) (look-act s first.look first.asks_look);
+      parts = first.parts
+          ∙ ap (λ x. first.gate ∷ first.take ∷ x ∷ first.keys ∷ (first.lists ++ first.over))
+          (look-act s first.look first.asks_look);
     }
 
 record HasEnd (s : SelNo) (acts : List Act) : Type 0 where
@@ -59,12 +63,15 @@ module _ (selection : Selection) (poll : Poll) where
   unfolding told_plan
   told-ends =
       let s = selection.selector in
-      always_bind (λ _ _. ⊤) IsEnded (sweep_over selection.looked (mark_entry s poll.pairs) 0) (after_marks selection poll.elapsed)
+      always_bind (λ _ _. ⊤) IsEnded (sweep_over selection.looked (mark_entry s poll.pairs) 0)
+      (after_marks selection poll.elapsed)
       (always_any (sweep_over selection.looked (mark_entry s poll.pairs) 0))
       (λ marks number _. λ gate asks_gate. λ status asks_status.
-      always_if (λ xs r. IsEnded (marks ++ gate ∷ status ∷ xs) r) _ (reply (again selection)) (end_selection selection _)
+      always_if (λ xs r. IsEnded (marks ++ gate ∷ status ∷ xs) r) _ (reply (again selection))
+      (end_selection selection _)
       (λ _. tt)
-      (λ _. always_bind (λ _ _. ⊤) (λ xs r. IsEnded (marks ++ gate ∷ status ∷ xs) r) (sweep_over selection.kept (λ i _. remove_if_cancelled s i) tt) _
+      (λ _. always_bind (λ _ _. ⊤) (λ xs r. IsEnded (marks ++ gate ∷ status ∷ xs) r)
+      (sweep_over selection.kept (λ i _. remove_if_cancelled s i) tt) _
       (always_any (sweep_over selection.kept (λ i _. remove_if_cancelled s i) tt))
       (λ sweeps _ _. λ wake asks_wake. λ give asks_give. record {
         before = marks ++ gate ∷ status ∷ sweeps;
@@ -74,8 +81,11 @@ module _ (selection : Selection) (poll : Poll) where
             ∙ ap (λ x. (marks ++ gate ∷ status ∷ sweeps) ++ x ∷ give ∷ []) (end-act s wake asks_wake);
       })))
 
-told-end : (selection : Selection) (poll : Poll) (acts : List Act) (answer : Selected) → Tells selection poll acts (done answer) → HasEnd selection.selector acts
-told-end selection poll acts answer run = always_run (IsEnded selection poll) (told_plan selection poll.pairs poll.elapsed) acts (done answer) (told-ends selection poll) run
+told-end : (selection : Selection) (poll : Poll) (acts : List Act) (answer : Selected)
+    → Tells selection poll acts (done answer) → HasEnd selection.selector acts
+told-end selection poll acts answer run =
+    always_run (IsEnded selection poll) (told_plan selection poll.pairs poll.elapsed) acts (done answer)
+    (told-ends selection poll) run
 
 -- ---- the window
 
@@ -110,10 +120,12 @@ selections_have_windows me before_begin after_begin before_told after_told selec
     told_parts = is.tells.acts.history.goes_on.1
 
     first : Cut me in_begin look.before (BeginLook s look.found) look.later
-    first = cut_at me in_begin look.before (BeginLook s look.found) look.later (sym (done_in me before_begin after_begin in_begin begin_parts) ∙ look.parts)
+    first = cut_at me in_begin look.before (BeginLook s look.found) look.later
+        (sym (done_in me before_begin after_begin in_begin begin_parts) ∙ look.parts)
 
     second : Cut me in_told ends.before (EndWake s ends.woken) ends.later
-    second = cut_at me in_told ends.before (EndWake s ends.woken) ends.later (sym (done_in me before_told after_told in_told told_parts) ∙ ends.parts)
+    second = cut_at me in_told ends.before (EndWake s ends.woken) ends.later
+        (sym (done_in me before_told after_told in_told told_parts) ∙ ends.parts)
 
     between : List Event
     between = is.goes_on.0
@@ -127,7 +139,8 @@ selections_have_windows me before_begin after_begin before_told after_told selec
     begins_before : (past ++ e ∷ []) ++ first.later ≡ after_begin.seen
     begins_before =
         append_assoc past (e ∷ []) first.later
-        ∙ (append_assoc before_begin.seen first.past (e ∷ first.later) ∙ (ap (λ events. before_begin.seen ++ events) (sym first.parts) ∙ begin_parts))
+        ∙ (append_assoc before_begin.seen first.past (e ∷ first.later)
+        ∙ (ap (λ events. before_begin.seen ++ events) (sym first.parts) ∙ begin_parts))
 
     ends_after : before_told.seen ++ second.past ≡ past ++ e ∷ window
     ends_after =
@@ -145,7 +158,8 @@ selections_have_windows me before_begin after_begin before_told after_told selec
       parts = sym told_parts
           ∙ (ap (λ events. before_told.seen ++ events) second.parts
           ∙ (sym (append_assoc before_told.seen second.past (e' ∷ second.later))
-          ∙ (ap (λ events. events ++ e' ∷ second.later) ends_after ∙ append_assoc past (e ∷ window) (e' ∷ second.later))));
+          ∙ (ap (λ events. events ++ e' ∷ second.later) ends_after
+          ∙ append_assoc past (e ∷ window) (e' ∷ second.later))));
       begins_after = (first.past, refl);
       begins_before = (first.later, begins_before);
       ends_after = (second.past, ends_after);

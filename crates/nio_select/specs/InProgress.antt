@@ -5,7 +5,8 @@ use Rattle.nio_base.specs.declared.numbers.SelNo.{SelNo}
 use Rattle.nio_event.specs.Conditions.{IsSelector}
 use Rattle.nio_event.specs.Histories.{mine}
 use Rattle.nio_event.specs.PassViews.{PassView}
-use Rattle.nio_steps.specs.SelectCalls.{Selection, Poll, ToldReply, done, again, ShutReply, closing, already_closed, FinishReply, closed, busy}
+use Rattle.nio_steps.specs.SelectCalls.{Selection, Poll, ToldReply, done, again, ShutReply, closing, already_closed}
+use Rattle.nio_steps.specs.SelectCalls.{FinishReply, closed, busy}
 use Rattle.nio_steps.specs.Selections.{IsBegun, IsClosing}
 use Rattle.nio_select.specs.declared.closing.Shutting.{Shutting}
 use Rattle.nio_select.specs.declared.closing.Shutting.TheVariants as shutting

@@ -31,14 +31,17 @@ abbrev pub CancelledKeysAreGone : Type 0
 CancelledKeysAreGone =
     (old new : PassView) (me : CallerNo) (s : SelNo) (mode : Mode) (selection : Selection) (i serial : ℕ)
     → CallClause me (Begins s mode) old new (Ok selection)
-    → IsTrue (was_published ((known old).key s.0 i) serial) → IsTrue (was_cancelled ((known old).key s.0 i) serial) → i < selection.bound
-    → IsTrue (was_removed ((known new).key s.0 i) serial) × All (λ entry. ¬ ((entry.index ≡ i) × (entry.serial ≡ serial))) selection.looked
+    → IsTrue (was_published ((known old).key s.0 i) serial) → IsTrue (was_cancelled ((known old).key s.0 i) serial)
+    → i < selection.bound
+    → IsTrue (was_removed ((known new).key s.0 i) serial)
+    × All (λ entry. ¬ ((entry.index ≡ i) × (entry.serial ≡ serial))) selection.looked
 
 -- ---- how many steps a selection makes
 
 -- A whole selection by two calls on a pass: the `try_begin` answered Ok, and the `told` ended the selection. Between
 -- the two the caller doesn't give the turn back and removes no key there.
-pub record IsSelection (me : CallerNo) (before_begin after_begin before_told after_told : PassView) (selection : Selection) (poll : Poll) (answer : Selected) : Type 0 where
+pub record IsSelection (me : CallerNo) (before_begin after_begin before_told after_told : PassView)
+    (selection : Selection) (poll : Poll) (answer : Selected) : Type 0 where
   pub begins : CallClause me (Begins selection.selector selection.mode) before_begin after_begin (Ok selection)
   pub goes_on : IsPrefix after_begin.seen before_told.seen
   pub keeps_turn : IsFalse (has (gives_turn selection.selector.0) (done_between me after_begin before_told))
@@ -47,12 +50,14 @@ pub record IsSelection (me : CallerNo) (before_begin after_begin before_told aft
 
 -- `window` is what happened, by any caller, between the look with which the selection begins and the step that ends the
 -- wakeup: the look stands in the `try_begin`, and that step in the `told`.
-pub record IsWindow (me : CallerNo) (before_begin after_begin before_told after_told : PassView) (s : SelNo) (window : List Event) : Type 0 where
+pub record IsWindow (me : CallerNo) (before_begin after_begin before_told after_told : PassView) (s : SelNo)
+    (window : List Event) : Type 0 where
   pub past : List Event
   pub found : GateWord
   pub woken : GateWord
   pub rest : List Event
-  pub parts : after_told.seen ≡ past ++ event_of me (BeginLook s found) ∷ (window ++ event_of me (EndWake s woken) ∷ rest)
+  pub parts : after_told.seen ≡ past ++ event_of me (BeginLook s found)
+      ∷ (window ++ event_of me (EndWake s woken) ∷ rest)
   pub begins_after : IsPrefix before_begin.seen past
   pub begins_before : IsPrefix (past ++ event_of me (BeginLook s found) ∷ []) after_begin.seen
   pub ends_after : IsPrefix before_told.seen (past ++ event_of me (BeginLook s found) ∷ window)
@@ -62,7 +67,8 @@ pub record IsWindow (me : CallerNo) (before_begin after_begin before_told after_
 -- in the window.
 abbrev pub CallsAreBounded : Type 0
 CallsAreBounded =
-    (me : CallerNo) (before_begin after_begin before_told after_told : PassView) (selection : Selection) (poll : Poll) (answer : Selected) (window : List Event)
+    (me : CallerNo) (before_begin after_begin before_told after_told : PassView) (selection : Selection) (poll : Poll)
+    (answer : Selected) (window : List Event)
     → IsFit after_told.limits → IsSelection me before_begin after_begin before_told after_told selection poll answer
     → IsWindow me before_begin after_begin before_told after_told selection.selector window
     → let s = selection.selector in
@@ -70,12 +76,14 @@ CallsAreBounded =
     let in_begin = done_between me before_begin after_begin in
     let in_told = done_between me before_told after_told in
     length in_begin + length in_told
-    ≤ 8 + words_below bound + 6 * count_below bound (λ i. has (finds_listed s.0 i) in_begin) + count (disturbs s.0 bound) (map (λ e. e.act) window)
+    ≤ 8 + words_below bound + 6 * count_below bound (λ i. has (finds_listed s.0 i) in_begin)
+    + count (disturbs s.0 bound) (map (λ e. e.act) window)
 
 -- Each whole selection has such a window.
 abbrev pub SelectionsHaveWindows : Type 0
 SelectionsHaveWindows =
-    (me : CallerNo) (before_begin after_begin before_told after_told : PassView) (selection : Selection) (poll : Poll) (answer : Selected)
+    (me : CallerNo) (before_begin after_begin before_told after_told : PassView) (selection : Selection) (poll : Poll)
+    (answer : Selected)
     → IsSelection me before_begin after_begin before_told after_told selection poll answer
     → (window : List Event) × IsWindow me before_begin after_begin before_told after_told selection.selector window
 
@@ -98,8 +106,8 @@ pub record FindsMark (me : CallerNo) (old new : PassView) (s : SelNo) (mark : �
   pub parts : new.seen ≡ past ++ event_of me (LookKeys s mark) ∷ later
   pub after : IsPrefix old.seen past
 
--- After a `try_finish` that answers Closed each key is removed whose index is below the mark that it found, and that was
--- claimed before that look.
+-- After a `try_finish` that answers Closed each key is removed whose index is below the mark that it found, and that
+-- was claimed before that look.
 abbrev pub ClosingsRemoveKeys : Type 0
 ClosingsRemoveKeys =
     (old new : PassView) (me : CallerNo) (s : SelNo) (mark i serial : ℕ) (past : List Event)

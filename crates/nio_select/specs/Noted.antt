@@ -22,7 +22,9 @@ noted pairs slots = map (λ (slot : Slot). with_told slot (told_of pairs slot.ke
 
 -- of one pair more
 abbrev pub noted_more : ℕ × ℕ → List Slot → List Slot
-noted_more pair slots = map (λ (slot : Slot). with_told slot (if pair.0 == slot.key.index then bit_or slot.told pair.1 else slot.told)) slots
+noted_more pair slots =
+    map (λ (slot : Slot). with_told slot (if pair.0 == slot.key.index then bit_or slot.told pair.1 else slot.told))
+    slots
 
 -- marks the key with what is noted of it and it is interested in
 abbrev pub mark_slot : SelNo → Slot → ℕ → Plan ℕ

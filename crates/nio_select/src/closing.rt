@@ -29,13 +29,17 @@ impl Model for Closing {
 
 /// Whether this call began to close the selector.
 pub enum Shutting {
+    /// It did: the closing is still to be finished.
     Closing(Closing),
+    /// Another call began to before.
     AlreadyClosed,
 }
 
-/// What came of a try to finish a closing: the selector is closed, or a selection is in progress there.
+/// What came of a try to finish a closing.
 pub enum Finish {
+    /// The selector is closed.
     Closed,
+    /// A selection is in progress there: the closing is still to be finished.
     Busy(Closing),
 }
 

@@ -38,9 +38,11 @@ impl Model for Selecting {
     ghost view = { λ s. record { selector = s.selector; mode = s.mode; bound = s.bound; looked = s.asked; kept = s.kept.items } };
 }
 
-/// What came of a poller's answer: the selection is over, or goes on with a further poll.
+/// What came of a poller's answer.
 pub enum After {
+    /// The selection is over.
     Done(Selected),
+    /// The selection goes on with a further poll.
     Again(Selecting),
 }
 

@@ -68,19 +68,24 @@ after past me acts = past ++ map (event_of me) acts
 -- what a script has of a call
 abbrev pub IsScripted : Limits → List Event → Progress → CallerNo → List Act → Progress → Bool → Scripted → Type 0
 IsScripted l past now me acts left true _ = Unit {0}
-IsScripted l past now me acts left false (as_call word said) = seq Now l (documented (state_after past) now) me word ≡ record { reply = said; left = documented (state_after (after past me acts)) left }
-IsScripted l past now me acts left false unseen = documented (state_after (after past me acts)) left ≡ documented (state_after past) now
+IsScripted l past now me acts left false (as_call word said) =
+    seq Now l (documented (state_after past) now) me word
+    ≡ record { reply = said; left = documented (state_after (after past me acts)) left }
+IsScripted l past now me acts left false unseen =
+    documented (state_after (after past me acts)) left ≡ documented (state_after past) now
 IsScripted l past now me acts left false unscripted = Unit {0}
 
 -- what is in progress by it, for its caller and for others, and that the state is between two calls
-pub record EndsAs (l : Limits) (past : List Event) (now : Progress) (me : CallerNo) (acts : List Act) (left : Progress) (ongoing : Ongoing) (lacks : Bool) (scripted : Scripted) : Type 0 where
+pub record EndsAs (l : Limits) (past : List Event) (now : Progress) (me : CallerNo) (acts : List Act) (left : Progress)
+    (ongoing : Ongoing) (lacks : Bool) (scripted : Scripted) : Type 0 where
   pub between : IsBetween l (state_after (after past me acts)) left
   pub own : IsOngoing me left ongoing
   pub others : (n : CallerNo) (o : Ongoing) → (me.0 == n.0) ≡ false → IsOngoing n now o → IsOngoing n left o
   pub is : IsScripted l past now me acts left lacks scripted
 
 abbrev pub Ends : Limits → List Event → Progress → CallerNo → Ongoing → List Act → Made → Type 0
-Ends l past now me ongoing acts call = EndsAs l past now me acts (after_made now me call) (after_call ongoing call) (lacks_memory call) (script_call call)
+Ends l past now me ongoing acts call =
+    EndsAs l past now me acts (after_made now me call) (after_call ongoing call) (lacks_memory call) (script_call call)
 
 -- the call doesn't wait, and isn't on a pipe
 abbrev pub IsPlain : Made → Type 0
@@ -90,11 +95,16 @@ IsPlain made = IsTrue (is_of_script (script_call made) && not (waits made))
 
 pub made-run : {R : Type 0} (plan : Plan R) (said : R → Reply) (left : R → Progress) (acts : List Act) (a : R)
     → Completes plan acts a → Completes (makes plan said left) acts (record { reply = said a; left = left a })
-made-run plan said left acts a run = follows_bind plan (λ answer. Plan.reply (record { reply = said answer; left = left answer })) acts (Plan.reply a) run
+made-run plan said left acts a run =
+    follows_bind plan (λ answer. Plan.reply (record { reply = said answer; left = left answer })) acts
+    (Plan.reply a) run
 
-seq-through : (l : Limits) (st : ScriptState) (me : CallerNo) (word : Call) → IsCaller l me → seq Now l st me word ≡ call_of Now l st me word
+seq-through : (l : Limits) (st : ScriptState) (me : CallerNo) (word : Call) → IsCaller l me
+    → seq Now l st me word ≡ call_of Now l st me word
 unfolding seq
-seq-through l st me word below = cond-true (nat_lt me.0 l.callers) (call_of Now l st me word) (unchanged st reply.NoCaller) (lt-ltb me.0 l.callers below)
+seq-through l st me word below =
+    cond-true (nat_lt me.0 l.callers) (call_of Now l st me word) (unchanged st reply.NoCaller)
+    (lt-ltb me.0 l.callers below)
 
 mode_through : (mode : Mode) → HasTime mode → mode_of (waiting_of mode) ≡ Some mode
 mode_through Mode.Now time = refl
@@ -103,11 +113,14 @@ mode_through (Mode.For zero) time = absurd (omega arith)
 mode_through (Mode.For (suc ms)) time = refl
 
 -- a `told` that answers Again goes on with the same selection
-again-same : (x next : Selection) (pairs : List (ℕ × ℕ)) (elapsed : Bool) (acts : List Act) → Completes (told_plan x pairs elapsed) acts (again next) → next ≡ x
+again-same : (x next : Selection) (pairs : List (ℕ × ℕ)) (elapsed : Bool) (acts : List Act)
+    → Completes (told_plan x pairs elapsed) acts (again next) → next ≡ x
 unfolding told_plan
 again-same x next pairs elapsed acts run =
-    let parts = split (sweep_over x.looked (mark_entry x.selector pairs) 0) (after_marks x elapsed) acts (again next) run in
-    (each_run (NoMark x.selector.0) (Replies x parts.middle) (after_marks x elapsed parts.middle) parts.second (again next) (after-replies x elapsed parts.middle) parts.runs_second).1.0
+    let parts =
+    split (sweep_over x.looked (mark_entry x.selector pairs) 0) (after_marks x elapsed) acts (again next) run in
+    (each_run (NoMark x.selector.0) (Replies x parts.middle) (after_marks x elapsed parts.middle) parts.second
+    (again next) (after-replies x elapsed parts.middle) parts.runs_second).1.0
 
 -- ---- what stood before
 
@@ -115,12 +128,15 @@ none_from : (o : Option Selecting) → is_some (option_map (λ (x : Selecting). 
 none_from None is = refl
 none_from (Some x) is = absurd (cc is)
 
-begun_free : (b c : Bool) (ds : ScriptState) (y : Answered) (xs : List (KeyId × ℕ)) → (cond b (unchanged ds reply.ClosedSelector) (cond c (unchanged ds reply.Busy) y)).reply ≡ reply.Looked xs → c ≡ false
+begun_free : (b c : Bool) (ds : ScriptState) (y : Answered) (xs : List (KeyId × ℕ))
+    → (cond b (unchanged ds reply.ClosedSelector) (cond c (unchanged ds reply.Busy) y)).reply ≡ reply.Looked xs
+    → c ≡ false
 begun_free true c ds y xs is = absurd (cc is)
 begun_free false true ds y xs is = absurd (cc is)
 begun_free false false ds y xs is = refl
 
-shut_open : (b : Bool) (ds : ScriptState) (y : Answered) → (cond b (unchanged ds reply.Already) y).reply ≡ reply.Closing → b ≡ false
+shut_open : (b : Bool) (ds : ScriptState) (y : Answered) → (cond b (unchanged ds reply.Already) y).reply ≡ reply.Closing
+    → b ≡ false
 shut_open true ds y is = absurd (cc is)
 shut_open false ds y is = refl
 
@@ -144,21 +160,26 @@ module _ (l : Limits) (past : List Event) (now : Progress) (me : CallerNo) (fit 
 
   -- a selection begins where there is none
   begin-free : (s : SelNo) (mode : Mode) (left : ScriptState) (x : Selection) → HasTime mode → IsMadeSelector st s
-      → call_of Now l ds me (call.Begin s (waiting_of mode)) ≡ record { reply = begin_reply (Ok x); left = left } → now.selection s.0 ≡ None
+      → call_of Now l ds me (call.Begin s (waiting_of mode)) ≡ record { reply = begin_reply (Ok x); left = left }
+      → now.selection s.0 ≡ None
   unfolding call_of begin_call
   begin-free s mode left x time made is =
       none_from (now.selection s.0)
       (ap is_some (sym (between.shown s.0).turn)
       ∙ begun_free (st.gate s.0).shut (is_some (st.turn s.0)) ds _ (shown x).looked
-      (sym (ap (λ (a : Answered). a.reply) (selector-through ds s made _ ∙ ap (λ o. begun_with Now ds me s.0 o) (mode_through mode time))) ∙ ap (λ (a : Answered). a.reply) is))
+      (sym (ap (λ (a : Answered). a.reply) (selector-through ds s made _
+      ∙ ap (λ o. begun_with Now ds me s.0 o) (mode_through mode time))) ∙ ap (λ (a : Answered). a.reply) is))
 
   -- and a closing too
   shut-free : (s : SelNo) (left : ScriptState) → IsMadeSelector st s
       → call_of Now l ds me (call.Close s) ≡ record { reply = reply.Closing; left = left } → now.closing s.0 ≡ None
   unfolding call_of close_call
   shut-free s left made is =
-      let open_gate : (st.gate s.0).shut ≡ false = shut_open (st.gate s.0).shut ds _ (sym (ap (λ (a : Answered). a.reply) (selector-through ds s made _)) ∙ ap (λ (a : Answered). a.reply) is) in
-      let none : st.closer s.0 ≡ None = not_some (st.closer s.0) (st.gate s.0).shut ((sound l st now between).closings s.0).closer_shut open_gate in
+      let open_gate : (st.gate s.0).shut ≡ false =
+      shut_open (st.gate s.0).shut ds _ (sym (ap (λ (a : Answered). a.reply) (selector-through ds s made _))
+      ∙ ap (λ (a : Answered). a.reply) is) in
+      let none : st.closer s.0 ≡ None =
+      not_some (st.closer s.0) (st.gate s.0).shut ((sound l st now between).closings s.0).closer_shut open_gate in
       (between.shown s.0).closing ∙ (ap (λ o. if st.entered s.0 then None else o) none ∙ either (st.entered s.0))
     where
       either : (b : Bool) → (if b then None else no_one) ≡ no_one
@@ -168,39 +189,69 @@ module _ (l : Limits) (past : List Event) (now : Progress) (me : CallerNo) (fit 
   -- ---- lines
 
   -- a run of the call's line
-  line-amounts : (word : Call) (acts : List Act) (said : Said) → IsNamed l st word → IsLegal l (after past me acts) → Completes (call_plan l now me word) acts said → Amounts l (call_of Now l ds me word) (after past me acts) said
-  line-amounts word acts said named legal run = call-runs-amount l now me word past acts said fit by between named legal run
+  line-amounts : (word : Call) (acts : List Act) (said : Said) → IsNamed l st word → IsLegal l (after past me acts)
+      → Completes (call_plan l now me word) acts said → Amounts l (call_of Now l ds me word) (after past me acts) said
+  line-amounts word acts said named legal run =
+      call-runs-amount l now me word past acts said fit by between named legal run
 
   -- that the documented system answers so too
-  seq-of : (word : Call) (acts : List Act) (said : Said) → Amounts l (call_of Now l ds me word) (after past me acts) said
-      → seq Now l ds me word ≡ record { reply = said.reply; left = documented (state_after (after past me acts)) said.left }
+  seq-of : (word : Call) (acts : List Act) (said : Said)
+      → Amounts l (call_of Now l ds me word) (after past me acts) said
+      → seq Now l ds me word ≡ record {
+        reply = said.reply;
+        left =
+            documented (state_after (after past me acts)) said.left;
+      }
   seq-of word acts said amounts = seq-through l ds me word by ∙ amounts.answered
 
   -- a call that begins and ends nothing
-  quiet-line : (o : Ongoing) (word : Call) (r : Reply) (acts : List Act) → IsNamed l st word → IsLegal l (after past me acts) → Completes (call_plan l now me word) acts (record { reply = r; left = now }) → IsOngoing me now o
+  quiet-line : (o : Ongoing) (word : Call) (r : Reply) (acts : List Act) → IsNamed l st word
+      → IsLegal l (after past me acts) → Completes (call_plan l now me word) acts (record { reply = r; left = now })
+      → IsOngoing me now o
       → EndsAs l past now me acts now o false (as_call word r)
   quiet-line o word r acts named legal run at =
       let amounts = line-amounts word acts (record { reply = r; left = now }) named legal run in
-      record { between = amounts.between; own = at; others = λ n o' other at'. at'; is = seq-of word acts (record { reply = r; left = now }) amounts }
+      record {
+        between = amounts.between;
+        own = at;
+        others = λ n o' other at'. at';
+        is =
+            seq-of word acts (record { reply = r; left = now }) amounts;
+      }
 
   -- one that leaves the state as it was
-  same-state : {R : Type 0} (plan : Plan R) (acts : List Act) (a : R) → (perform me plan st).state ≡ st → IsLegal l (after past me acts) → Completes plan acts a → state_after (after past me acts) ≡ st
-  same-state plan acts a leaves legal run = sym (ap (λ p. p.state) (perform_ran l me plan past acts a legal run)) ∙ leaves
+  same-state : {R : Type 0} (plan : Plan R) (acts : List Act) (a : R) → (perform me plan st).state ≡ st
+      → IsLegal l (after past me acts) → Completes plan acts a → state_after (after past me acts) ≡ st
+  same-state plan acts a leaves legal run =
+      sym (ap (λ p. p.state) (perform_ran l me plan past acts a legal run)) ∙ leaves
 
-  stays-between : (acts : List Act) → state_after (after past me acts) ≡ st → IsBetween l (state_after (after past me acts)) now
+  stays-between : (acts : List Act) → state_after (after past me acts) ≡ st
+      → IsBetween l (state_after (after past me acts)) now
   stays-between acts same = subst (λ x. IsBetween l x now) (sym same) between
 
-  unseen-ends : (o : Ongoing) (acts : List Act) → state_after (after past me acts) ≡ st → IsOngoing me now o → EndsAs l past now me acts now o false unseen
-  unseen-ends o acts same at = record { between = stays-between acts same; own = at; others = λ n o' other at'. at'; is = ap (λ x. documented x now) same }
+  unseen-ends : (o : Ongoing) (acts : List Act) → state_after (after past me acts) ≡ st → IsOngoing me now o
+      → EndsAs l past now me acts now o false unseen
+  unseen-ends o acts same at =
+      record {
+        between = stays-between acts same;
+        own = at;
+        others = λ n o' other at'. at';
+        is = ap
+            (λ x. documented x now) same;
+      }
 
   -- one without memory
-  lacking-ends : (o : Ongoing) (acts : List Act) (scripted : Scripted) → state_after (after past me acts) ≡ st → IsOngoing me now o → EndsAs l past now me acts now o true scripted
-  lacking-ends o acts _ same at = record { between = stays-between acts same; own = at; others = λ n o' other at'. at'; is = tt }
+  lacking-ends : (o : Ongoing) (acts : List Act) (scripted : Scripted) → state_after (after past me acts) ≡ st
+      → IsOngoing me now o → EndsAs l past now me acts now o true scripted
+  lacking-ends o acts _ same at =
+      record { between = stays-between acts same; own = at; others = λ n o' other at'. at'; is = tt }
 
   -- a draw
-  draw-ends : (o : Ongoing) (n : CallerNo) (acts : List Act) → acts ≡ DrawBit n false ∷ [] → IsOngoing me now o → EndsAs l past now me acts now o false unseen
+  draw-ends : (o : Ongoing) (n : CallerNo) (acts : List Act) → acts ≡ DrawBit n false ∷ [] → IsOngoing me now o
+      → EndsAs l past now me acts now o false unseen
   draw-ends o n acts is at =
-      let same : state_after (after past me acts) ≡ with_drawn st n.0 true = ap (λ xs. state_after (after past me xs)) is ∙ state_after-more past (event_of me (DrawBit n false)) in
+      let same : state_after (after past me acts) ≡ with_drawn st n.0 true =
+      ap (λ xs. state_after (after past me xs)) is ∙ state_after-more past (event_of me (DrawBit n false)) in
       record {
         between = subst (λ x. IsBetween l x now) (sym same) (draws-stay l st now n between);
         own = at;
@@ -210,38 +261,51 @@ module _ (l : Limits) (past : List Event) (now : Progress) (me : CallerNo) (fit 
 
   -- ---- selections
 
-  begin-ends : (o : Ongoing) (s : SelNo) (mode : Mode) (answer : Result Selection BeginError) (acts : List Act) → IsRun l (try_begin s mode answer) acts → IsLegal l (after past me acts)
+  begin-ends : (o : Ongoing) (s : SelNo) (mode : Mode) (answer : Result Selection BeginError) (acts : List Act)
+      → IsRun l (try_begin s mode answer) acts → IsLegal l (after past me acts)
       → IsMadeSelector st s → HasTime mode → IsOngoing me now o → Here o acts (try_begin s mode answer)
   unfolding call_plan
   begin-ends o s mode (Ok x) acts run legal made time at =
       let said : Said = record { reply = begin_reply (Ok x); left = after_begin now me s (Ok x) } in
       let word = call.Begin s (waiting_of mode) in
       let amounts = line-amounts word acts said made legal
-      (subst (λ m. Completes (begin_line now me s m) acts said) (sym (mode_through mode time)) (made-run (try_begin_plan s mode false) begin_reply (after_begin now me s) acts (Ok x) run)) in
+      (subst (λ m. Completes (begin_line now me s m) acts said) (sym (mode_through mode time))
+      (made-run (try_begin_plan s mode false) begin_reply (after_begin now me s) acts (Ok x) run)) in
       record {
         between = amounts.between;
-        own = put_selection me now o s.0 (Some x) (Some (record { caller = me; selection = x })) (own_of_caller me x) at;
-        others = λ n o' other at'. others_begun me n other now o' s.0 x (begin-free s mode (documented (state_after (after past me acts)) said.left) x time made amounts.answered) at';
+        own = put_selection me now o s.0 (Some x) (Some (record { caller = me; selection = x }))
+            (own_of_caller me x) at;
+        others =
+            λ n o' other at'. others_begun me n other now o' s.0 x
+            (begin-free s mode
+            (documented (state_after (after past me acts)) said.left) x time made amounts.answered) at';
         is = seq-of word acts said amounts;
       }
   begin-ends o s mode (Err BeginError.ClosedSelector) acts run legal made time at =
       quiet-line o (call.Begin s (waiting_of mode)) reply.ClosedSelector acts made legal
-      (subst (λ m. Completes (begin_line now me s m) acts (record { reply = reply.ClosedSelector; left = now })) (sym (mode_through mode time))
-      (made-run (try_begin_plan s mode false) begin_reply (after_begin now me s) acts (Err BeginError.ClosedSelector) run)) at
+      (subst (λ m. Completes (begin_line now me s m) acts (record { reply = reply.ClosedSelector; left = now }))
+      (sym (mode_through mode time))
+      (made-run (try_begin_plan s mode false) begin_reply (after_begin now me s) acts
+      (Err BeginError.ClosedSelector) run)) at
   begin-ends o s mode (Err BeginError.Busy) acts run legal made time at =
       quiet-line o (call.Begin s (waiting_of mode)) reply.Busy acts made legal
-      (subst (λ m. Completes (begin_line now me s m) acts (record { reply = reply.Busy; left = now })) (sym (mode_through mode time))
+      (subst (λ m. Completes (begin_line now me s m) acts (record { reply = reply.Busy; left = now }))
+      (sym (mode_through mode time))
       (made-run (try_begin_plan s mode false) begin_reply (after_begin now me s) acts (Err BeginError.Busy) run)) at
   begin-ends o s mode (Err BeginError.Memory) acts run legal made time at =
       lacking-ends o acts (script_call (try_begin s mode (Err BeginError.Memory)))
-      (same-state (try_begin_plan s mode true) acts (Err BeginError.Memory) (lacking-leaves l st now me s mode between).begins legal run) at
+      (same-state (try_begin_plan s mode true) acts (Err BeginError.Memory)
+      (lacking-leaves l st now me s mode between).begins legal run) at
 
   -- the caller's own selection, by what the caller has in progress
-  own-selection : (o : Ongoing) (x : Selection) → IsOngoing me now o → o.selection x.selector.0 ≡ Some x → own_selection now me x.selector ≡ Some x
+  own-selection : (o : Ongoing) (x : Selection) → IsOngoing me now o → o.selection x.selector.0 ≡ Some x
+      → own_selection now me x.selector ≡ Some x
   own-selection o x at may = sym (at.selection x.selector.0) ∙ may
 
-  told-ends : (o : Ongoing) (x : Selection) (poll : Poll) (answer : ToldReply) (acts : List Act) → IsRun l (told x poll answer) acts → IsLegal l (after past me acts)
-      → IsMadeSelector st x.selector → IsOngoing me now o → o.selection x.selector.0 ≡ Some x → Here o acts (told x poll answer)
+  told-ends : (o : Ongoing) (x : Selection) (poll : Poll) (answer : ToldReply) (acts : List Act)
+      → IsRun l (told x poll answer) acts → IsLegal l (after past me acts)
+      → IsMadeSelector st x.selector → IsOngoing me now o → o.selection x.selector.0 ≡ Some x
+      → Here o acts (told x poll answer)
   told-ends o x poll answer acts run legal made at may = by_answer answer run
     where
       its_own : own_selection now me x.selector ≡ Some x
@@ -252,21 +316,34 @@ module _ (l : Limits) (past : List Event) (now : Progress) (me : CallerNo) (fit 
 
       by_answer : (a : ToldReply) → IsRun l (told x poll a) acts → Here o acts (told x poll a)
       by_answer (done a) run' =
-          let amounts = told-runs-amount l now me x.selector x poll.pairs poll.elapsed past acts (done a) by between made its_own legal run' in
+          let amounts =
+          told-runs-amount l now me x.selector x poll.pairs poll.elapsed past acts
+          (done a) by between made its_own legal run' in
           let own' = own-is me (now.selection x.selector.0) x its_own in
           record {
             between = amounts.between;
             own = put_selection me now o x.selector.0 None None refl at;
             others = λ n o' other at'. others_ended me n other now o' x.selector.0 own'.its own'.is own'.by at';
-            is = seq-of word acts (record { reply = told_reply (done a); left = after_told now x.selector (done a) }) amounts;
+            is = seq-of word acts (record {
+              reply = told_reply (done a);
+              left =
+                  after_told now x.selector (done a);
+            }) amounts;
           }
       by_answer (again next) run' =
-          let amounts = told-runs-amount l now me x.selector x poll.pairs poll.elapsed past acts (again next) by between made its_own legal run' in
+          let amounts =
+          told-runs-amount l now me x.selector x poll.pairs poll.elapsed past acts
+          (again next) by between made its_own legal run' in
           record {
             between = amounts.between;
-            own = put_same me now o x.selector.0 (Some next) (ap (λ (y : Selection). Some y) (again-same x next poll.pairs poll.elapsed acts run') ∙ sym may) at;
+            own = put_same me now o x.selector.0 (Some next) (ap (λ (y : Selection). Some y)
+                (again-same x next poll.pairs poll.elapsed acts run') ∙ sym may) at;
             others = λ n o' other at'. at';
-            is = seq-of word acts (record { reply = told_reply (again next); left = after_told now x.selector (again next) }) amounts;
+            is = seq-of word acts (record {
+              reply = told_reply (again next);
+              left =
+                  after_told now x.selector (again next);
+            }) amounts;
           }
 
   leave-ends : (o : Ongoing) (x : Selection) (acts : List Act) → IsRun l (leave x) acts → IsLegal l (after past me acts)
@@ -278,7 +355,8 @@ module _ (l : Limits) (past : List Event) (now : Progress) (me : CallerNo) (fit 
       let mine = own-selection o x at may in
       let own' = own-is me (now.selection x.selector.0) x mine in
       let amounts = line-amounts (call.Failed x.selector) acts said made legal
-      (subst (λ m. Completes (failed_line now x.selector m) acts said) (sym mine) (made-run (leave_plan x) (λ _. reply.Left) (λ _. left) acts tt run)) in
+      (subst (λ m. Completes (failed_line now x.selector m) acts said) (sym mine)
+      (made-run (leave_plan x) (λ _. reply.Left) (λ _. left) acts tt run)) in
       record {
         between = amounts.between;
         own = put_selection me now o x.selector.0 None None refl at;
@@ -288,21 +366,28 @@ module _ (l : Limits) (past : List Event) (now : Progress) (me : CallerNo) (fit 
 
   -- ---- closings
 
-  shut-ends : (o : Ongoing) (s : SelNo) (answer : ShutReply) (acts : List Act) → IsRun l (shut s answer) acts → IsLegal l (after past me acts) → IsMadeSelector st s → IsOngoing me now o → Here o acts (shut s answer)
+  shut-ends : (o : Ongoing) (s : SelNo) (answer : ShutReply) (acts : List Act) → IsRun l (shut s answer) acts
+      → IsLegal l (after past me acts) → IsMadeSelector st s → IsOngoing me now o → Here o acts (shut s answer)
   unfolding call_plan
   shut-ends o s closing acts run legal made at =
       let said : Said = record { reply = reply.Closing; left = after_shut now me s closing } in
-      let amounts = line-amounts (call.Close s) acts said made legal (made-run (shut_plan s) shut_reply (after_shut now me s) acts closing run) in
+      let amounts =
+      line-amounts (call.Close s) acts said made legal (made-run (shut_plan s) shut_reply
+      (after_shut now me s) acts closing run) in
       record {
         between = amounts.between;
         own = put_closing me now o s.0 true (Some me) (closing_of_caller me) at;
-        others = λ n o' other at'. others_shut me n other now o' s.0 (shut-free s (documented (state_after (after past me acts)) said.left) made amounts.answered) at';
+        others =
+            λ n o' other at'. others_shut me n other now o' s.0
+            (shut-free s (documented (state_after (after past me acts)) said.left) made amounts.answered) at';
         is = seq-of (call.Close s) acts said amounts;
       }
   shut-ends o s already_closed acts run legal made at =
-      quiet-line o (call.Close s) reply.Already acts made legal (made-run (shut_plan s) shut_reply (after_shut now me s) acts already_closed run) at
+      quiet-line o (call.Close s) reply.Already acts made legal
+      (made-run (shut_plan s) shut_reply (after_shut now me s) acts already_closed run) at
 
-  finish-ends : (o : Ongoing) (s : SelNo) (answer : FinishReply) (acts : List Act) → IsRun l (try_finish s answer) acts → IsLegal l (after past me acts) → IsMadeSelector st s → IsOngoing me now o → o.closes s.0 ≡ true
+  finish-ends : (o : Ongoing) (s : SelNo) (answer : FinishReply) (acts : List Act) → IsRun l (try_finish s answer) acts
+      → IsLegal l (after past me acts) → IsMadeSelector st s → IsOngoing me now o → o.closes s.0 ≡ true
       → Here o acts (try_finish s answer)
   unfolding call_plan
   finish-ends o s answer acts run legal made at may = by_answer answer run
@@ -310,9 +395,12 @@ module _ (l : Limits) (past : List Event) (now : Progress) (me : CallerNo) (fit 
       mine : is_caller me (now.closing s.0) ≡ true
       mine = sym (at.closes s.0) ∙ may
 
-      along : (a : FinishReply) → Completes (try_finish_plan s) acts a → Completes (close_end_line now me s) acts (record { reply = finish_reply a; left = after_finish now s a })
+      along : (a : FinishReply) → Completes (try_finish_plan s) acts a
+          → Completes (close_end_line now me s) acts (record { reply = finish_reply a; left = after_finish now s a })
       along a run' =
-          subst (λ b. Completes (if b then makes (try_finish_plan s) finish_reply (after_finish now s) else refused now reply.NotClosing) acts (record { reply = finish_reply a; left = after_finish now s a })) (sym mine)
+          subst (λ b. Completes (if b then makes (try_finish_plan s) finish_reply (after_finish now s)
+          else refused now reply.NotClosing) acts (record { reply = finish_reply a; left = after_finish now s a }))
+          (sym mine)
           (made-run (try_finish_plan s) finish_reply (after_finish now s) acts a run')
 
       by_answer : (a : FinishReply) → Completes (try_finish_plan s) acts a → Here o acts (try_finish s a)
@@ -329,38 +417,66 @@ module _ (l : Limits) (past : List Event) (now : Progress) (me : CallerNo) (fit 
 
   -- ---- listings
 
-  keys-ends : (o : Ongoing) (s : SelNo) (answer : Result (List KeyNo) ListError) (acts : List Act) → IsRun l (keys s answer) acts → IsLegal l (after past me acts) → IsMadeSelector st s → IsOngoing me now o → Here o acts (keys s answer)
+  keys-ends : (o : Ongoing) (s : SelNo) (answer : Result (List KeyNo) ListError) (acts : List Act)
+      → IsRun l (keys s answer) acts → IsLegal l (after past me acts) → IsMadeSelector st s → IsOngoing me now o
+      → Here o acts (keys s answer)
   unfolding call_plan
-  keys-ends o s (Ok found) acts run legal made at = quiet-line o (call.Keys s) (list_reply (Ok found)) acts made legal (made-run (keys_plan s false) list_reply (λ _. now) acts (Ok found) run) at
+  keys-ends o s (Ok found) acts run legal made at =
+      quiet-line o (call.Keys s) (list_reply (Ok found)) acts made legal
+      (made-run (keys_plan s false) list_reply (λ _. now) acts (Ok found) run) at
   keys-ends o s (Err ListError.ClosedSelector) acts run legal made at =
-      quiet-line o (call.Keys s) reply.ClosedSelector acts made legal (made-run (keys_plan s false) list_reply (λ _. now) acts (Err ListError.ClosedSelector) run) at
+      quiet-line o (call.Keys s) reply.ClosedSelector acts made legal
+      (made-run (keys_plan s false) list_reply (λ _. now) acts (Err ListError.ClosedSelector) run) at
   keys-ends o s (Err ListError.Memory) acts run legal made at =
-      lacking-ends o acts (script_call (keys s (Err ListError.Memory))) (same-state (keys_plan s true) acts (Err ListError.Memory) (lacking-leaves l st now me s Mode.Now between).keys legal run) at
+      lacking-ends o acts (script_call (keys s (Err ListError.Memory)))
+      (same-state (keys_plan s true) acts (Err ListError.Memory)
+      (lacking-leaves l st now me s Mode.Now between).keys legal run) at
 
-  selected-ends : (o : Ongoing) (s : SelNo) (answer : Result (List KeyNo) ListError) (acts : List Act) → IsRun l (selected_keys s answer) acts → IsLegal l (after past me acts) → IsMadeSelector st s → IsOngoing me now o → Here o acts (selected_keys s answer)
+  selected-ends : (o : Ongoing) (s : SelNo) (answer : Result (List KeyNo) ListError) (acts : List Act)
+      → IsRun l (selected_keys s answer) acts → IsLegal l (after past me acts) → IsMadeSelector st s
+      → IsOngoing me now o → Here o acts (selected_keys s answer)
   unfolding call_plan
-  selected-ends o s (Ok found) acts run legal made at = quiet-line o (call.Selected s) (list_reply (Ok found)) acts made legal (made-run (selected_keys_plan s false) list_reply (λ _. now) acts (Ok found) run) at
+  selected-ends o s (Ok found) acts run legal made at =
+      quiet-line o (call.Selected s) (list_reply (Ok found)) acts made legal
+      (made-run (selected_keys_plan s false) list_reply (λ _. now) acts (Ok found) run) at
   selected-ends o s (Err ListError.ClosedSelector) acts run legal made at =
-      quiet-line o (call.Selected s) reply.ClosedSelector acts made legal (made-run (selected_keys_plan s false) list_reply (λ _. now) acts (Err ListError.ClosedSelector) run) at
+      quiet-line o (call.Selected s) reply.ClosedSelector acts made legal
+      (made-run (selected_keys_plan s false) list_reply (λ _. now) acts (Err ListError.ClosedSelector) run) at
   selected-ends o s (Err ListError.Memory) acts run legal made at =
-      lacking-ends o acts (script_call (selected_keys s (Err ListError.Memory))) (same-state (selected_keys_plan s true) acts (Err ListError.Memory) (lacking-leaves l st now me s Mode.Now between).selected legal run) at
+      lacking-ends o acts (script_call (selected_keys s (Err ListError.Memory)))
+      (same-state (selected_keys_plan s true) acts (Err ListError.Memory)
+      (lacking-leaves l st now me s Mode.Now between).selected legal run) at
 
   -- ---- look-ups
 
-  selector-ends : (o : Ongoing) (n : ℕ) (answer : Option SelNo) (acts : List Act) → Completes (find_selector_plan l n) acts answer → IsLegal l (after past me acts) → IsOngoing me now o → Here o acts (find_selector n answer)
-  selector-ends o n answer acts run legal at = unseen-ends o acts (same-state (find_selector_plan l n) acts answer (ap (λ p. p.state) (selector-found l st now me fit between n)) legal run) at
+  selector-ends : (o : Ongoing) (n : ℕ) (answer : Option SelNo) (acts : List Act)
+      → Completes (find_selector_plan l n) acts answer → IsLegal l (after past me acts) → IsOngoing me now o
+      → Here o acts (find_selector n answer)
+  selector-ends o n answer acts run legal at =
+      unseen-ends o acts (same-state (find_selector_plan l n) acts answer
+      (ap (λ p. p.state) (selector-found l st now me fit between n)) legal run) at
 
-  channel-ends : (o : Ongoing) (n : ℕ) (answer : Option ChanNo) (acts : List Act) → Completes (find_channel_plan l n) acts answer → IsLegal l (after past me acts) → IsOngoing me now o → Here o acts (find_channel n answer)
-  channel-ends o n answer acts run legal at = unseen-ends o acts (same-state (find_channel_plan l n) acts answer (ap (λ p. p.state) (channel-found l st now me fit between n)) legal run) at
+  channel-ends : (o : Ongoing) (n : ℕ) (answer : Option ChanNo) (acts : List Act)
+      → Completes (find_channel_plan l n) acts answer → IsLegal l (after past me acts) → IsOngoing me now o
+      → Here o acts (find_channel n answer)
+  channel-ends o n answer acts run legal at =
+      unseen-ends o acts (same-state (find_channel_plan l n) acts answer
+      (ap (λ p. p.state) (channel-found l st now me fit between n)) legal run) at
 
-  key-ends : (o : Ongoing) (s : SelNo) (i q : ℕ) (answer : Option KeyNo) (acts : List Act) → Completes (find_plan l s i q) acts answer → IsLegal l (after past me acts) → IsOngoing me now o → Here o acts (find s i q answer)
-  key-ends o s i q answer acts run legal at = unseen-ends o acts (same-state (find_plan l s i q) acts answer (ap (λ p. p.state) (key-found l st now me fit between s i q)) legal run) at
+  key-ends : (o : Ongoing) (s : SelNo) (i q : ℕ) (answer : Option KeyNo) (acts : List Act)
+      → Completes (find_plan l s i q) acts answer → IsLegal l (after past me acts) → IsOngoing me now o
+      → Here o acts (find s i q answer)
+  key-ends o s i q answer acts run legal at =
+      unseen-ends o acts (same-state (find_plan l s i q) acts answer
+      (ap (λ p. p.state) (key-found l st now me fit between s i q)) legal run) at
 
   -- who is interrupted is one of the table's callers
-  interrupt-below : (n : CallerNo) (acts : List Act) → Completes (interrupt_plan n) acts tt → IsLegal l (after past me acts) → IsCaller l n
+  interrupt-below : (n : CallerNo) (acts : List Act) → Completes (interrupt_plan n) acts tt
+      → IsLegal l (after past me acts) → IsCaller l n
   unfolding interrupt_plan
   interrupt-below n [] run legal = absurd (cc run)
-  interrupt-below n (act ∷ rest) run legal = by_act act run.0 (legal_next l past (event_of me act) (map (event_of me) rest) legal).condition
+  interrupt-below n (act ∷ rest) run legal =
+      by_act act run.0 (legal_next l past (event_of me act) (map (event_of me) rest) legal).condition
     where
       by_act : (a : Act) → question_of a ≡ Question.set_interrupt n → Condition l (mine me past) st me a → IsCaller l n
       by_act (SetInterrupt n' found) asks holds = subst (IsCaller l) (cc asks) holds
@@ -368,45 +484,90 @@ module _ (l : Limits) (past : List Event) (now : Progress) (me : CallerNo) (fit 
 
   -- ---- every call that has a word in a script, or that a script doesn't see
 
-  pub ends : (o : Ongoing) (made : Made) (acts : List Act) → IsPlain made → IsRun l made acts → IsLegal l (after past me acts) → HasNames st made → IsOngoing me now o → MayCome o made → Here o acts made
+  pub ends : (o : Ongoing) (made : Made) (acts : List Act) → IsPlain made → IsRun l made acts
+      → IsLegal l (after past me acts) → HasNames st made → IsOngoing me now o → MayCome o made → Here o acts made
   unfolding call_plan
   ends o (draw n) acts plain run legal names at may = draw-ends o n acts run at
   ends o (find_selector n answer) acts plain run legal names at may = selector-ends o n answer acts run legal at
   ends o (find_channel n answer) acts plain run legal names at may = channel-ends o n answer acts run legal at
   ends o (find s i serial answer) acts plain run legal names at may = key-ends o s i serial answer acts run legal at
-  ends o (is_valid k answer) acts plain run legal names at may = quiet-line o (call.Valid k.sel (key_id k)) (yes_or_no answer) acts names legal (made-run (is_valid_plan k) yes_or_no (λ _. now) acts answer run) at
-  ends o (interest k answer) acts plain run legal names at may = quiet-line o (call.Interest k.sel (key_id k)) (set_reply answer) acts names legal (made-run (interest_plan k) set_reply (λ _. now) acts answer run) at
-  ends o (set_interest k ops answer) acts plain run legal names at may = quiet-line o (call.Iset k.sel (key_id k) ops) (put_reply answer) acts names legal (made-run (set_interest_plan k ops) put_reply (λ _. now) acts answer run) at
-  ends o (interest_or k ops answer) acts plain run legal names at may = quiet-line o (call.Ior k.sel (key_id k) ops) (set_reply answer) acts names legal (made-run (interest_or_plan k ops) set_reply (λ _. now) acts answer run) at
-  ends o (interest_and k ops answer) acts plain run legal names at may = quiet-line o (call.Iand k.sel (key_id k) ops) (set_reply answer) acts names legal (made-run (interest_and_plan k ops) set_reply (λ _. now) acts answer run) at
-  ends o (ready k answer) acts plain run legal names at may = quiet-line o (call.Ready k.sel (key_id k)) (set_reply answer) acts names legal (made-run (ready_plan k) set_reply (λ _. now) acts answer run) at
-  ends o (cancel k) acts plain run legal names at may = quiet-line o (call.Cancel k.sel (key_id k)) reply.«Ok» acts names legal (made-run (cancel_plan k) (λ _. reply.«Ok») (λ _. now) acts tt run) at
-  ends o (unselect k answer) acts plain run legal names at may = quiet-line o (call.Unselect k.sel (key_id k)) (yes_or_no answer) acts names legal (made-run (unselect_plan k) yes_or_no (λ _. now) acts answer run) at
-  ends o (attach k att answer) acts plain run legal names at may = quiet-line o (call.Attach k.sel (key_id k) att) (reply.Number answer) acts names legal (made-run (attach_plan k att) (λ before. reply.Number before) (λ _. now) acts answer run) at
-  ends o (attachment k answer) acts plain run legal names at may = quiet-line o (call.Attachment k.sel (key_id k)) (reply.Number answer) acts names legal (made-run (attachment_plan k) (λ att. reply.Number att) (λ _. now) acts answer run) at
-  ends o (open_channel kind answer) acts plain run legal names at may = quiet-line o (call.Channel kind) (channel_reply answer) acts names legal (made-run (open_channel_plan l kind) channel_reply (λ _. now) acts answer run) at
-  ends o (is_open c answer) acts plain run legal names at may = quiet-line o (call.IsOpen c) (yes_or_no answer) acts names legal (made-run (is_open_plan c) yes_or_no (λ _. now) acts answer run) at
-  ends o (is_blocking c answer) acts plain run legal names at may = quiet-line o (call.IsBlocking c) (yes_or_no answer) acts names legal (made-run (is_blocking_plan c) yes_or_no (λ _. now) acts answer run) at
-  ends o (is_registered c answer) acts plain run legal names at may = quiet-line o (call.IsRegistered c) (yes_or_no answer) acts names legal (made-run (is_registered_plan l c) yes_or_no (λ _. now) acts answer run) at
-  ends o (key_for c s answer) acts plain run legal names at may = quiet-line o (call.KeyFor c s) (find_reply answer) acts names legal (made-run (key_for_plan c s) find_reply (λ _. now) acts answer run) at
-  ends o (try_set_blocking c on answer) acts plain run legal names at may = quiet-line o (call.Blocking c on) (mode_reply answer) acts names legal (made-run (try_set_blocking_plan l c on) mode_reply (λ _. now) acts answer run) at
-  ends o (try_register s c ops att answer) acts plain run legal names at may = quiet-line o (call.Register s c ops (Some att)) (register_reply answer) acts names legal (made-run (try_register_plan l s c ops att) register_reply (λ _. now) acts answer run) at
+  ends o (is_valid k answer) acts plain run legal names at may =
+      quiet-line o (call.Valid k.sel (key_id k)) (yes_or_no answer) acts names legal
+      (made-run (is_valid_plan k) yes_or_no (λ _. now) acts answer run) at
+  ends o (interest k answer) acts plain run legal names at may =
+      quiet-line o (call.Interest k.sel (key_id k)) (set_reply answer) acts names legal
+      (made-run (interest_plan k) set_reply (λ _. now) acts answer run) at
+  ends o (set_interest k ops answer) acts plain run legal names at may =
+      quiet-line o (call.Iset k.sel (key_id k) ops) (put_reply answer) acts names legal
+      (made-run (set_interest_plan k ops) put_reply (λ _. now) acts answer run) at
+  ends o (interest_or k ops answer) acts plain run legal names at may =
+      quiet-line o (call.Ior k.sel (key_id k) ops) (set_reply answer) acts names legal
+      (made-run (interest_or_plan k ops) set_reply (λ _. now) acts answer run) at
+  ends o (interest_and k ops answer) acts plain run legal names at may =
+      quiet-line o (call.Iand k.sel (key_id k) ops) (set_reply answer) acts names legal
+      (made-run (interest_and_plan k ops) set_reply (λ _. now) acts answer run) at
+  ends o (ready k answer) acts plain run legal names at may =
+      quiet-line o (call.Ready k.sel (key_id k)) (set_reply answer) acts names legal
+      (made-run (ready_plan k) set_reply (λ _. now) acts answer run) at
+  ends o (cancel k) acts plain run legal names at may =
+      quiet-line o (call.Cancel k.sel (key_id k)) reply.«Ok» acts names legal
+      (made-run (cancel_plan k) (λ _. reply.«Ok») (λ _. now) acts tt run) at
+  ends o (unselect k answer) acts plain run legal names at may =
+      quiet-line o (call.Unselect k.sel (key_id k)) (yes_or_no answer) acts names legal
+      (made-run (unselect_plan k) yes_or_no (λ _. now) acts answer run) at
+  ends o (attach k att answer) acts plain run legal names at may =
+      quiet-line o (call.Attach k.sel (key_id k) att) (reply.Number answer) acts names legal
+      (made-run (attach_plan k att) (λ before. reply.Number before) (λ _. now) acts answer run) at
+  ends o (attachment k answer) acts plain run legal names at may =
+      quiet-line o (call.Attachment k.sel (key_id k)) (reply.Number answer) acts names legal
+      (made-run (attachment_plan k) (λ att. reply.Number att) (λ _. now) acts answer run) at
+  ends o (open_channel kind answer) acts plain run legal names at may =
+      quiet-line o (call.Channel kind) (channel_reply answer) acts names legal
+      (made-run (open_channel_plan l kind) channel_reply (λ _. now) acts answer run) at
+  ends o (is_open c answer) acts plain run legal names at may =
+      quiet-line o (call.IsOpen c) (yes_or_no answer) acts names legal
+      (made-run (is_open_plan c) yes_or_no (λ _. now) acts answer run) at
+  ends o (is_blocking c answer) acts plain run legal names at may =
+      quiet-line o (call.IsBlocking c) (yes_or_no answer) acts names legal
+      (made-run (is_blocking_plan c) yes_or_no (λ _. now) acts answer run) at
+  ends o (is_registered c answer) acts plain run legal names at may =
+      quiet-line o (call.IsRegistered c) (yes_or_no answer) acts names legal
+      (made-run (is_registered_plan l c) yes_or_no (λ _. now) acts answer run) at
+  ends o (key_for c s answer) acts plain run legal names at may =
+      quiet-line o (call.KeyFor c s) (find_reply answer) acts names legal
+      (made-run (key_for_plan c s) find_reply (λ _. now) acts answer run) at
+  ends o (try_set_blocking c on answer) acts plain run legal names at may =
+      quiet-line o (call.Blocking c on) (mode_reply answer) acts names legal
+      (made-run (try_set_blocking_plan l c on) mode_reply (λ _. now) acts answer run) at
+  ends o (try_register s c ops att answer) acts plain run legal names at may =
+      quiet-line o (call.Register s c ops (Some att)) (register_reply answer) acts names legal
+      (made-run (try_register_plan l s c ops att) register_reply (λ _. now) acts answer run) at
   ends o (close_channel c answer) acts plain run legal names at may =
       quiet-line o (call.Closec c) (closed_reply answer) acts names legal
-      (subst (λ (x : Progress). Completes (call_plan l now me (call.Closec c)) acts (record { reply = closed_reply answer; left = x }))
+      (subst (λ (x : Progress). Completes (call_plan l now me (call.Closec c)) acts
+      (record { reply = closed_reply answer; left = x }))
       (unmarked now me c no_pipes)
       (made-run (close_channel_plan l c) closed_reply (λ _. with_mark now (own_sink now me c)) acts answer run)) at
-  ends o (open_selector answer) acts plain run legal names at may = quiet-line o call.Selector (selector_reply answer) acts names legal (made-run (open_selector_plan l) selector_reply (λ _. now) acts answer run) at
-  ends o (try_begin s mode answer) acts plain run legal names at may = begin-ends o s mode answer acts run legal names.0 names.1 at
+  ends o (open_selector answer) acts plain run legal names at may =
+      quiet-line o call.Selector (selector_reply answer) acts names legal
+      (made-run (open_selector_plan l) selector_reply (λ _. now) acts answer run) at
+  ends o (try_begin s mode answer) acts plain run legal names at may =
+      begin-ends o s mode answer acts run legal names.0 names.1 at
   ends o (told x poll answer) acts plain run legal names at may = told-ends o x poll answer acts run legal names at may
   ends o (leave x) acts plain run legal names at may = leave-ends o x acts run legal names at may
   ends o (shut s answer) acts plain run legal names at may = shut-ends o s answer acts run legal names at
   ends o (try_finish s answer) acts plain run legal names at may = finish-ends o s answer acts run legal names at may
   ends o (keys s answer) acts plain run legal names at may = keys-ends o s answer acts run legal names at
   ends o (selected_keys s answer) acts plain run legal names at may = selected-ends o s answer acts run legal names at
-  ends o (wakeup s) acts plain run legal names at may = quiet-line o (call.Wakeup s) reply.«Ok» acts names legal (made-run (wakeup_plan s) (λ _. reply.«Ok») (λ _. now) acts tt run) at
-  ends o (interrupt n) acts plain run legal names at may = quiet-line o (call.Interrupt n) reply.«Ok» acts (interrupt-below n acts run legal) legal (made-run (interrupt_plan n) (λ _. reply.«Ok») (λ _. now) acts tt run) at
-  ends o (interrupted answer) acts plain run legal names at may = quiet-line o call.Interrupted (yes_or_no answer) acts names legal (made-run interrupted_plan yes_or_no (λ _. now) acts answer run) at
+  ends o (wakeup s) acts plain run legal names at may =
+      quiet-line o (call.Wakeup s) reply.«Ok» acts names legal
+      (made-run (wakeup_plan s) (λ _. reply.«Ok») (λ _. now) acts tt run) at
+  ends o (interrupt n) acts plain run legal names at may =
+      quiet-line o (call.Interrupt n) reply.«Ok» acts (interrupt-below n acts run legal) legal
+      (made-run (interrupt_plan n) (λ _. reply.«Ok») (λ _. now) acts tt run) at
+  ends o (interrupted answer) acts plain run legal names at may =
+      quiet-line o call.Interrupted (yes_or_no answer) acts names legal
+      (made-run interrupted_plan yes_or_no (λ _. now) acts answer run) at
   ends o (pipe answer) acts plain run legal names at may = absurd (cc plain)
   ends o (try_read source answer) acts plain run legal names at may = absurd (cc plain)
   ends o (try_write source sink answer) acts plain run legal names at may = absurd (cc plain)

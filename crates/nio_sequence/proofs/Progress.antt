@@ -1,5 +1,6 @@
--- What callers have in progress, where a progress shows it: what a call puts in progress, for its caller and for others.
-use Rattle.std.proofs.Common.{◌≡◌, ℕ, ◌==◌, Bool, true, false, if◌then◌else◌, Option, Some, None, Result, Ok, Err, List, [], ◌∷◌, refl, ap, sym, ◌∙◌, eqb-true, eq-eqb}
+-- What callers have in progress, where a progress shows it: what a call puts in progress, for its caller and for
+-- others.
+use Rattle.std.proofs.Common.{◌≡◌, ℕ, ◌==◌, Bool, true, false, if◌then◌else◌, Option, Some, None, Ok, Err, List, [], ◌∷◌, refl, ap, sym, ◌∙◌, eqb-true, eq-eqb}
 use Rattle.nio_base.specs.declared.numbers.CallerNo.{CallerNo}
 use Rattle.nio_event.proofs.Put.{put_keeps, put_both}
 use Rattle.nio_event.specs.State.{put}
@@ -73,14 +74,16 @@ pipes-in_progress now (one ∷ later) =
 
 -- ---- of the caller itself
 
-pub put_selection : (me : CallerNo) (now : Progress) (o : Ongoing) (s : ℕ) (x : Option Selection) (y : Option Selecting) → x ≡ if_own me y → IsOngoing me now o
+pub put_selection : (me : CallerNo) (now : Progress) (o : Ongoing) (s : ℕ) (x : Option Selection) (y : Option Selecting)
+    → x ≡ if_own me y → IsOngoing me now o
     → IsOngoing me (record now { selection = put now.selection s y }) (record o { selection = put o.selection s x })
 put_selection me now o s x y own at = record {
   selection = λ t. put_both (λ _ a b. a ≡ if_own me b) o.selection now.selection s x y own t (at.selection t);
   closes = at.closes;
 }
 
-pub put_closing : (me : CallerNo) (now : Progress) (o : Ongoing) (s : ℕ) (x : Bool) (y : Option CallerNo) → x ≡ is_caller me y → IsOngoing me now o
+pub put_closing : (me : CallerNo) (now : Progress) (o : Ongoing) (s : ℕ) (x : Bool) (y : Option CallerNo)
+    → x ≡ is_caller me y → IsOngoing me now o
     → IsOngoing me (record now { closing = put now.closing s y }) (record o { closes = put o.closes s x })
 put_closing me now o s x y own at = record {
   selection = at.selection;
@@ -88,9 +91,12 @@ put_closing me now o s x y own at = record {
 }
 
 -- what stands there is put again
-pub put_same : (me : CallerNo) (now : Progress) (o : Ongoing) (s : ℕ) (x : Option Selection) → x ≡ o.selection s → IsOngoing me now o → IsOngoing me now (record o { selection = put o.selection s x })
+pub put_same : (me : CallerNo) (now : Progress) (o : Ongoing) (s : ℕ) (x : Option Selection) → x ≡ o.selection s
+    → IsOngoing me now o → IsOngoing me now (record o { selection = put o.selection s x })
 put_same me now o s x is at = record {
-  selection = λ t. put_keeps (λ k a. a ≡ own_selection now me (selector k)) o.selection s x (λ was. is ∙ was) t (at.selection t);
+  selection =
+      λ t. put_keeps (λ k a. a ≡ own_selection now me (selector k)) o.selection s x (λ was. is ∙ was) t
+      (at.selection t);
   closes = at.closes;
 }
 
@@ -104,7 +110,8 @@ pub own-is : (me : CallerNo) (o : Option Selecting) (x : Selection) → if_own m
 own-is me None x is = absurd (cc is)
 own-is me (Some y) x is = by_test (y.caller.0 == me.0) refl is
   where
-    by_test : (b : Bool) → (y.caller.0 == me.0) ≡ b → (if b then Some y.selection else None) ≡ Some x → Own me (Some y) x
+    by_test : (b : Bool) → (y.caller.0 == me.0) ≡ b → (if b then Some y.selection else None) ≡ Some x
+        → Own me (Some y) x
     by_test true by is' = record { its = y; is = refl; by = by }
     by_test false by is' = absurd (cc is')
 
@@ -128,16 +135,23 @@ module _ (me n : CallerNo) (other : (me.0 == n.0) ≡ false) where
   pub others_begun : (now : Progress) (o : Ongoing) (s : ℕ) (x : Selection) → now.selection s ≡ None → IsOngoing n now o
       → IsOngoing n (record now { selection = put now.selection s (Some (record { caller = me; selection = x })) }) o
   others_begun now o s x none at = record {
-    selection = λ t. put_keeps (λ k y. o.selection k ≡ if_own n y) now.selection s (Some (record { caller = me; selection = x }))
-        (λ was. was ∙ (ap (if_own n) none ∙ sym (none_of_other (record { caller = me; selection = x }) (eq-eqb me.0 me.0 refl)))) t (at.selection t);
+    selection =
+        λ t. put_keeps (λ k y. o.selection k ≡ if_own n y) now.selection s
+        (Some (record { caller = me; selection = x }))
+        (λ was. was
+        ∙ (ap (if_own n) none
+        ∙ sym (none_of_other (record { caller = me; selection = x }) (eq-eqb me.0 me.0 refl)))) t (at.selection t);
     closes = at.closes;
   }
 
   -- or is over
-  pub others_ended : (now : Progress) (o : Ongoing) (s : ℕ) (y : Selecting) → now.selection s ≡ Some y → (y.caller.0 == me.0) ≡ true → IsOngoing n now o
+  pub others_ended : (now : Progress) (o : Ongoing) (s : ℕ) (y : Selecting) → now.selection s ≡ Some y
+      → (y.caller.0 == me.0) ≡ true → IsOngoing n now o
       → IsOngoing n (record now { selection = put now.selection s None }) o
   others_ended now o s y is by at = record {
-    selection = λ t. put_keeps (λ k z. o.selection k ≡ if_own n z) now.selection s None (λ was. was ∙ (ap (if_own n) is ∙ none_of_other y by)) t (at.selection t);
+    selection =
+        λ t. put_keeps (λ k z. o.selection k ≡ if_own n z) now.selection s None
+        (λ was. was ∙ (ap (if_own n) is ∙ none_of_other y by)) t (at.selection t);
     closes = at.closes;
   }
 
@@ -146,15 +160,21 @@ module _ (me n : CallerNo) (other : (me.0 == n.0) ≡ false) where
   none_closing (Some m) is = not_other m.0 is
 
   -- a closing of this caller is begun where there was none
-  pub others_shut : (now : Progress) (o : Ongoing) (s : ℕ) → now.closing s ≡ None → IsOngoing n now o → IsOngoing n (record now { closing = put now.closing s (Some me) }) o
+  pub others_shut : (now : Progress) (o : Ongoing) (s : ℕ) → now.closing s ≡ None → IsOngoing n now o
+      → IsOngoing n (record now { closing = put now.closing s (Some me) }) o
   others_shut now o s none at = record {
     selection = at.selection;
-    closes = λ t. put_keeps (λ k y. o.closes k ≡ is_caller n y) now.closing s (Some me) (λ was. was ∙ (ap (is_caller n) none ∙ sym other)) t (at.closes t);
+    closes =
+        λ t. put_keeps (λ k y. o.closes k ≡ is_caller n y) now.closing s (Some me)
+        (λ was. was ∙ (ap (is_caller n) none ∙ sym other)) t (at.closes t);
   }
 
   -- or is over
-  pub others_closed : (now : Progress) (o : Ongoing) (s : ℕ) → is_caller me (now.closing s) ≡ true → IsOngoing n now o → IsOngoing n (record now { closing = put now.closing s None }) o
+  pub others_closed : (now : Progress) (o : Ongoing) (s : ℕ) → is_caller me (now.closing s) ≡ true → IsOngoing n now o
+      → IsOngoing n (record now { closing = put now.closing s None }) o
   others_closed now o s by at = record {
     selection = at.selection;
-    closes = λ t. put_keeps (λ k y. o.closes k ≡ is_caller n y) now.closing s None (λ was. was ∙ none_closing (now.closing s) by) t (at.closes t);
+    closes =
+        λ t. put_keeps (λ k y. o.closes k ≡ is_caller n y) now.closing s None
+        (λ was. was ∙ none_closing (now.closing s) by) t (at.closes t);
   }

@@ -18,7 +18,8 @@ use Rattle.nio_sequence.specs.Called.{IsNamedCall}
 
 -- ---- what is in progress
 
--- what is in progress after this call of the caller
+-- What is in progress after this call of the caller. The pipes and the group of a script are made and used by lines:
+-- no call of a history is on them.
 abbrev pub after_made : Progress → CallerNo → Made → Progress
 after_made now me (draw n) = now
 after_made now me (find_selector n answer) = now

@@ -45,7 +45,8 @@ filter-filter p q [] = refl
 filter-filter p q (x ∷ xs) = by_test (q x) (filter-filter p q xs)
   where
     by_test : (b : Bool) → filter p (filter q xs) ≡ filter (λ i. q i && p i) xs
-        → filter p (cond b (x ∷ filter q xs) (filter q xs)) ≡ cond (b && p x) (x ∷ filter (λ i. q i && p i) xs) (filter (λ i. q i && p i) xs)
+        → filter p (cond b (x ∷ filter q xs) (filter q xs))
+        ≡ cond (b && p x) (x ∷ filter (λ i. q i && p i) xs) (filter (λ i. q i && p i) xs)
     by_test true rest = ap (λ ys. cond (p x) (x ∷ ys) ys) rest
     by_test false rest = rest
 
@@ -63,7 +64,8 @@ any-below p zero i low is = absurd (omega arith)
 any-below p (suc n) i low is =
     list_any-append p (below n) (n ∷ [])
     ∙ ⊎_elim
-    (λ (e : i ≡ n). or_right (list_any p (below n)) (p n || false) (or_left (p n) false (subst (λ (k : ℕ). p k ≡ true) e is)))
+    (λ (e : i ≡ n). or_right (list_any p (below n)) (p n || false)
+    (or_left (p n) false (subst (λ (k : ℕ). p k ≡ true) e is)))
     (λ (other : i ≡ n → ⊥). or_left (list_any p (below n)) (p n || false) (any-below p n i (omega arith) is))
     (cases_eq i n)
 
@@ -76,10 +78,12 @@ below-rises : (n : ℕ) → AllPairs (λ i j. i < j) (below n)
 below-rises zero = pairs-none (λ i j. i < j)
 below-rises (suc n) = pairs-push (λ i j. i < j) (below n) n (below-rises n) (below_all n)
 
-pairs-map : {X Y : Type 0} (f : X → Y) (R : Y → Y → Type 0) (xs : List X) → AllPairs (λ a b. R (f a) (f b)) xs → AllPairs R (map f xs)
+pairs-map : {X Y : Type 0} (f : X → Y) (R : Y → Y → Type 0) (xs : List X) → AllPairs (λ a b. R (f a) (f b)) xs
+    → AllPairs R (map f xs)
 pairs-map f R [] pairs = pairs-none R
 pairs-map f R (x ∷ xs) pairs =
-    AllPairs-cons R (f x) (map f xs) (All-map (R (f x)) f xs (pairs-head (λ a b. R (f a) (f b)) x xs pairs)) (pairs-map f R xs (pairs-tail (λ a b. R (f a) (f b)) x xs pairs))
+    AllPairs-cons R (f x) (map f xs) (All-map (R (f x)) f xs (pairs-head (λ a b. R (f a) (f b)) x xs pairs))
+    (pairs-map f R xs (pairs-tail (λ a b. R (f a) (f b)) x xs pairs))
 
 or_true : (b : Bool) → (b || true) ≡ true
 or_true true = refl
@@ -89,7 +93,8 @@ or_true false = refl
 
 module _ (st : State) (now : Progress) (me : CallerNo) (s : SelNo)
     (none_due : (i : ℕ) → st.put_due s.0 i ≡ false) (untaken : (i : ℕ) → st.taker s.0 i ≡ None)
-    (published : (i : ℕ) → (st.key s.0 i).published ≡ nat_lt i (st.keys_high s.0)) (free : (i : ℕ) → st.free s.0 i ≡ true → (st.key s.0 i).removed ≡ true) where
+    (published : (i : ℕ) → (st.key s.0 i).published ≡ nat_lt i (st.keys_high s.0))
+    (free : (i : ℕ) → st.free s.0 i ≡ true → (st.key s.0 i).removed ≡ true) where
   abbrev ds : ScriptState
   ds = documented st now
 
@@ -113,23 +118,34 @@ module _ (st : State) (now : Progress) (me : CallerNo) (s : SelNo)
   abbrev begun : Mode → Selection
   begun mode = record { selector = s; mode = mode; bound = mark; looked = over.looked; kept = over.kept }
 
-  listed_published : (past : List ℕ) (e : ℕ) (later : List ℕ) → listed ≡ past ++ e ∷ later → (st.key s.0 e).published ≡ true
+  listed_published : (past : List ℕ) (e : ℕ) (later : List ℕ) → listed ≡ past ++ e ∷ later
+      → (st.key s.0 e).published ≡ true
   listed_published past e later parts =
-      let low : e < mark = All-contains (λ i. i < mark) listed e (All-filter (is_not_free turned me s) (λ i. i < mark) (below mark) (below_all mark)) (subst (λ xs. Contains xs e) (sym parts) (contains-middle past e later)) in
+      let low : e < mark =
+      All-contains (λ i. i < mark) listed e (All-filter (is_not_free turned me s) (λ i. i < mark) (below mark)
+      (below_all mark)) (subst (λ xs. Contains xs e) (sym parts) (contains-middle past e later)) in
       published e ∙ lt-ltb e mark low
 
   -- ---- what the plan does
 
-  below-performed : (mode : Mode) → perform me (begin_below s mode mark false) turned ≡ record { answer = Ok (begun mode); state = left }
+  below-performed : (mode : Mode) → perform me (begin_below s mode mark false) turned
+      ≡ record { answer = Ok (begun mode); state = left }
   below-performed mode =
       perform_then_on me (list_below s mark) _ turned listed turned (list_below-performed turned me s mark)
-      ∙ perform_then_on me (sweep_over listed (look_over s) (record { looked = []; kept = [] })) _ turned over left (look-performed turned me s none_due untaken listed listed_published)
+      ∙ perform_then_on me (sweep_over listed (look_over s) (record { looked = []; kept = [] })) _ turned over left
+      (look-performed turned me s none_due untaken listed listed_published)
 
-  open-performed : (mode : Mode) → st.turn s.0 ≡ None → (st.gate s.0).shut ≡ false → perform me (begin_open s mode false) st ≡ record { answer = Ok (begun mode); state = left }
+  open-performed : (mode : Mode) → st.turn s.0 ≡ None → (st.gate s.0).shut ≡ false
+      → perform me (begin_open s mode false) st ≡ record { answer = Ok (begun mode); state = left }
   open-performed mode no_turn not_shut =
-      ap (λ (o : Option CallerNo). perform me (if is_some o then Plan.reply (Err BeginError.Busy) else begin_with_turn s mode false) (with_begun (with_turn st s.0 (taken_by me o)) s.0 (is_some o && st.begun s.0))) no_turn
-      ∙ (ap (λ (b : Bool). perform me (if b then given_back s (Err BeginError.ClosedSelector) else (look_keys s >>= (λ bound. begin_below s mode bound false))) (with_begun taken s.0 (taken.begun s.0 || not b))) not_shut
-      ∙ (ap (λ (f : ℕ → Bool). perform me (begin_below s mode mark false) (record turned { begun = f })) (ap (λ (b : Bool). put taken.begun s.0 b) (or_true (taken.begun s.0)) ∙ put-twice st.begun s.0 false true)
+      ap (λ (o : Option CallerNo). perform me (if is_some o then Plan.reply (Err BeginError.Busy)
+      else begin_with_turn s mode false) (with_begun (with_turn st s.0 (taken_by me o)) s.0
+      (is_some o && st.begun s.0))) no_turn
+      ∙ (ap (λ (b : Bool). perform me (if b then given_back s (Err BeginError.ClosedSelector) else
+      (look_keys s >>= (λ bound. begin_below s mode bound false)))
+      (with_begun taken s.0 (taken.begun s.0 || not b))) not_shut
+      ∙ (ap (λ (f : ℕ → Bool). perform me (begin_below s mode mark false) (record turned { begun = f }))
+      (ap (λ (b : Bool). put taken.begun s.0 b) (or_true (taken.begun s.0)) ∙ put-twice st.begun s.0 false true)
       ∙ below-performed mode))
     where
       taken : State
@@ -140,7 +156,8 @@ module _ (st : State) (now : Progress) (me : CallerNo) (s : SelNo)
   abbrev swept_ds : State
   swept_ds = without_cancelled Now ds.shared s.0
 
-  cancelled-listed : (i : ℕ) → (has_index i listed && in_cancelled_set (st.key s.0 i)) ≡ in_cancelled_set (settled (st.key s.0 i))
+  cancelled-listed : (i : ℕ) → (has_index i listed && in_cancelled_set (st.key s.0 i))
+      ≡ in_cancelled_set (settled (st.key s.0 i))
   cancelled-listed i = by_test (in_cancelled_set (st.key s.0 i)) refl ∙ sym (settled-cancelled (st.key s.0 i))
     where
       k : Stage
@@ -155,17 +172,20 @@ module _ (st : State) (now : Progress) (me : CallerNo) (s : SelNo)
           let in_set = (and_parts (in_key_set k) k.cancelled is).0 in
           let parts = and_parts k.published (not k.removed) in_set in
           let low : i < mark = ltb-true i mark (sym (published i) ∙ parts.0) in
-          let not_free : st.free s.0 i ≡ false = false_from_ne_true (st.free s.0 i) (λ h. both_ways k.removed (not-true k.removed parts.1) (free i h)) in
+          let not_free : st.free s.0 i ≡ false =
+          false_from_ne_true (st.free s.0 i) (λ h. both_ways k.removed (not-true k.removed parts.1) (free i h)) in
           ap (λ b. b && true) (index-there (is_not_free turned me s) mark i low (ap not not_free))
       by_test false is = none_of (has_index i listed)
 
   state-is : settled_state left ≡ with_begun (with_turn swept_ds s.0 (Some me)) s.0 true
   state-is =
       settled-removed turned has_next s.0 (λ i. has_index i listed && in_cancelled_set (st.key s.0 i)) (λ _. refl)
-      ∙ ap (λ (test : ℕ → Bool). without_keys_where (settled_state turned) s.0 test has_next) (λ j i. cancelled-listed i j)
+      ∙ ap (λ (test : ℕ → Bool). without_keys_where (settled_state turned) s.0 test has_next)
+      (λ j i. cancelled-listed i j)
 
   -- the valid keys that are listed are the key set that is left
-  in_set_after : (k : Stage) → in_key_set (cond (in_cancelled_set (settled k)) (removed_key (settled k)) (settled k)) ≡ is_valid k
+  in_set_after : (k : Stage) → in_key_set (cond (in_cancelled_set (settled k)) (removed_key (settled k)) (settled k))
+      ≡ is_valid k
   in_set_after k = by_test (in_cancelled_set (settled k)) refl
     where
       none_of : (b : Bool) → (b && false) ≡ false
@@ -182,12 +202,17 @@ module _ (st : State) (now : Progress) (me : CallerNo) (s : SelNo)
       stays_valid true false e = refl
       stays_valid false c e = refl
 
-      by_test : (b : Bool) → in_cancelled_set (settled k) ≡ b → in_key_set (cond b (removed_key (settled k)) (settled k)) ≡ is_valid k
-      by_test true is = none_of k.published ∙ sym (not_valid (in_key_set k) k.cancelled (sym (settled-cancelled k) ∙ is))
+      by_test : (b : Bool) → in_cancelled_set (settled k) ≡ b
+          → in_key_set (cond b (removed_key (settled k)) (settled k)) ≡ is_valid k
+      by_test true is =
+          none_of k.published ∙ sym (not_valid (in_key_set k) k.cancelled (sym (settled-cancelled k) ∙ is))
       by_test false is = stays_valid (in_key_set k) k.cancelled (sym (settled-cancelled k) ∙ is)
 
-  goes_there : (i : ℕ) → swept_ds.key s.0 i ≡ cond (in_cancelled_set (settled (st.key s.0 i))) (removed_key (settled (st.key s.0 i))) (settled (st.key s.0 i))
-  goes_there i = ap (λ b. cond (b && in_cancelled_set (settled (st.key s.0 i))) (removed_key (settled (st.key s.0 i))) (settled (st.key s.0 i))) (eq-eqb s.0 s.0 refl)
+  goes_there : (i : ℕ) → swept_ds.key s.0 i
+      ≡ cond (in_cancelled_set (settled (st.key s.0 i))) (removed_key (settled (st.key s.0 i))) (settled (st.key s.0 i))
+  goes_there i =
+      ap (λ b. cond (b && in_cancelled_set (settled (st.key s.0 i))) (removed_key (settled (st.key s.0 i)))
+      (settled (st.key s.0 i))) (eq-eqb s.0 s.0 refl)
 
   listed-valid : (i : ℕ) → i < mark → (not (st.free s.0 i) && is_valid (st.key s.0 i)) ≡ in_key_set (swept_ds.key s.0 i)
   listed-valid i low = by_free (st.free s.0 i) refl ∙ sym (ap in_key_set (goes_there i) ∙ in_set_after (st.key s.0 i))
@@ -198,84 +223,130 @@ module _ (st : State) (now : Progress) (me : CallerNo) (s : SelNo)
       removed_invalid false r c e = refl
 
       by_free : (b : Bool) → st.free s.0 i ≡ b → (not b && is_valid (st.key s.0 i)) ≡ is_valid (st.key s.0 i)
-      by_free true is = removed_invalid (st.key s.0 i).published (st.key s.0 i).removed (st.key s.0 i).cancelled (free i is)
+      by_free true is =
+          removed_invalid (st.key s.0 i).published (st.key s.0 i).removed (st.key s.0 i).cancelled (free i is)
       by_free false is = refl
 
   serial-same : (b : Bool) (k : Stage) → k.serial ≡ (cond b (removed_key (settled k)) (settled k)).serial
   serial-same true k = refl
   serial-same false k = refl
 
-  pairs-are : (xs : List ℕ) → map looked_pair (map (λ i. looked_key i (st.key s.0 i) (st.interest s.0 i)) xs) ≡ map (λ i. (key_at swept_ds s.0 i, swept_ds.interest s.0 i)) xs
+  pairs-are : (xs : List ℕ) → map looked_pair (map (λ i. looked_key i (st.key s.0 i) (st.interest s.0 i)) xs)
+      ≡ map (λ i. (key_at swept_ds s.0 i, swept_ds.interest s.0 i)) xs
   pairs-are [] = refl
-  pairs-are (i ∷ xs) = λ j. (record { index = i; serial = serial-same ((s.0 == s.0) && in_cancelled_set (settled (st.key s.0 i))) (st.key s.0 i) j }, st.interest s.0 i) ∷ pairs-are xs j
+  pairs-are (i ∷ xs) =
+      λ j. (
+        record {
+          index = i;
+          serial = serial-same ((s.0 == s.0) && in_cancelled_set (settled (st.key s.0 i)))
+              (st.key s.0 i) j;
+        },
+        st.interest s.0 i,
+      ) ∷ pairs-are xs j
 
   looked-is : map looked_pair over.looked ≡ looked_keys swept_ds s.0
   looked-is =
       pairs-are (filter (λ i. is_valid (st.key s.0 i)) listed)
       ∙ ap (map (λ i. (key_at swept_ds s.0 i, swept_ds.interest s.0 i)))
       (filter-filter (λ i. is_valid (st.key s.0 i)) (is_not_free turned me s) (below mark)
-      ∙ filter-same (λ i. not (st.free s.0 i) && is_valid (st.key s.0 i)) (λ i. in_key_set (swept_ds.key s.0 i)) mark listed-valid)
+      ∙ filter-same (λ i. not (st.free s.0 i) && is_valid (st.key s.0 i))
+      (λ i. in_key_set (swept_ds.key s.0 i)) mark listed-valid)
 
-  begun-is : (mode : Mode) → selection_begun Now ds me s.0 mode ≡ amounts begin_reply (after_begin now me s) (record { answer = Ok (begun mode); state = left })
+  begun-is : (mode : Mode) → selection_begun Now ds me s.0 mode
+      ≡ amounts begin_reply (after_begin now me s) (record { answer = Ok (begun mode); state = left })
   begun-is mode = λ j. record {
     reply = reply.Looked (sym looked-is j);
     left = record {
       shared = sym state-is j;
-      selection = (ap (λ looked. put ds.selection s.0 (Some (record { mode = mode; bound = mark; looked = looked }))) (sym looked-is)
-          ∙ sym (put-under (λ _ o. option_map (λ x. shown x.selection) o) now.selection s.0 (Some (record { caller = me; selection = begun mode })))) j;
+      selection =
+          (ap (λ looked. put ds.selection s.0 (Some (record { mode = mode; bound = mark; looked = looked })))
+          (sym looked-is)
+          ∙ sym (put-under (λ _ o. option_map (λ x. shown x.selection) o) now.selection s.0
+          (Some (record { caller = me; selection = begun mode })))) j;
       group = now.group;
       pipes = now.pipes;
     };
   }
 
-  pub begin-amounts : (mode : Mode) → begun_with Now ds me s.0 (Some mode) ≡ amounts begin_reply (after_begin now me s) (perform me (try_begin_plan s mode false) st)
+  pub begin-amounts : (mode : Mode) → begun_with Now ds me s.0 (Some mode)
+      ≡ amounts begin_reply (after_begin now me s) (perform me (try_begin_plan s mode false) st)
   unfolding try_begin_plan
   begin-amounts mode =
-      branch (amounts begin_reply (after_begin now me s)) me (Plan.reply (Err BeginError.ClosedSelector)) (begin_open s mode false) st _ _ (st.gate s.0).shut (st.gate s.0).shut refl
+      branch (amounts begin_reply (after_begin now me s)) me (Plan.reply (Err BeginError.ClosedSelector))
+      (begin_open s mode false) st _ _ (st.gate s.0).shut (st.gate s.0).shut refl
       (λ _. refl)
       (λ not_shut. by_turn (st.turn s.0) refl not_shut)
     where
       by_turn : (o : Option CallerNo) → st.turn s.0 ≡ o → (st.gate s.0).shut ≡ false
-          → cond (is_some o) (unchanged ds reply.Busy) (selection_begun Now ds me s.0 mode) ≡ amounts begin_reply (after_begin now me s) (perform me (begin_open s mode false) st)
+          → cond (is_some o) (unchanged ds reply.Busy) (selection_begun Now ds me s.0 mode)
+          ≡ amounts begin_reply (after_begin now me s) (perform me (begin_open s mode false) st)
       by_turn (Some n) is not_shut =
-          sym (ap (λ (o : Option CallerNo). amounts begin_reply (after_begin now me s) (perform me (if is_some o then Plan.reply (Err BeginError.Busy) else begin_with_turn s mode false) (with_begun (with_turn st s.0 (taken_by me o)) s.0 (is_some o && st.begun s.0)))) is
-          ∙ (λ j. record { reply = reply.Busy; left = documented (record st { turn = put-here st.turn s.0 (Some n) is j; begun = put-here st.begun s.0 (st.begun s.0) refl j }) now }))
-      by_turn None is not_shut = begun-is mode ∙ sym (ap (amounts begin_reply (after_begin now me s)) (open-performed mode is not_shut))
+          sym (ap (λ (o : Option CallerNo). amounts begin_reply (after_begin now me s)
+          (perform me (if is_some o then Plan.reply (Err BeginError.Busy) else begin_with_turn s mode false)
+          (with_begun (with_turn st s.0 (taken_by me o)) s.0 (is_some o && st.begun s.0)))) is
+          ∙ (λ j. record {
+            reply = reply.Busy;
+            left =
+                documented (record st {
+                  turn = put-here st.turn s.0 (Some n) is j;
+                  begun = put-here st.begun s.0
+                      (st.begun s.0) refl j;
+                }) now;
+          }))
+      by_turn None is not_shut =
+          begun-is mode ∙ sym (ap (amounts begin_reply (after_begin now me s)) (open-performed mode is not_shut))
 
   -- what the call answers, and the state that it leaves: it is refused, or the selection has begun
   pub begin-cases : (mode : Mode) (P : Performed (Result Selection BeginError) → Type 0)
-      → P (record { answer = Err BeginError.ClosedSelector; state = st }) → P (record { answer = Err BeginError.Busy; state = st })
+      → P (record { answer = Err BeginError.ClosedSelector; state = st })
+      → P (record { answer = Err BeginError.Busy; state = st })
       → (st.turn s.0 ≡ None → P (record { answer = Ok (begun mode); state = left }))
       → P (perform me (try_begin_plan s mode false) st)
   unfolding try_begin_plan
   begin-cases mode P closed busy begins = by_shut (st.gate s.0).shut refl
     where
-      by_turn : (o : Option CallerNo) → st.turn s.0 ≡ o → (st.gate s.0).shut ≡ false → P (perform me (begin_open s mode false) st)
+      by_turn : (o : Option CallerNo) → st.turn s.0 ≡ o → (st.gate s.0).shut ≡ false
+          → P (perform me (begin_open s mode false) st)
       by_turn (Some n) is not_shut =
-          subst P (sym (ap (λ (o : Option CallerNo). perform me (if is_some o then Plan.reply (Err BeginError.Busy) else begin_with_turn s mode false) (with_begun (with_turn st s.0 (taken_by me o)) s.0 (is_some o && st.begun s.0))) is
-          ∙ (λ j. record { answer = Err BeginError.Busy; state = record st { turn = put-here st.turn s.0 (Some n) is j; begun = put-here st.begun s.0 (st.begun s.0) refl j } }))) busy
+          subst P (sym (ap (λ (o : Option CallerNo). perform me
+          (if is_some o then Plan.reply (Err BeginError.Busy) else begin_with_turn s mode false)
+          (with_begun (with_turn st s.0 (taken_by me o)) s.0 (is_some o && st.begun s.0))) is
+          ∙ (λ j. record {
+            answer = Err BeginError.Busy;
+            state =
+                record st {
+                  turn = put-here st.turn s.0 (Some n) is j;
+                  begun = put-here st.begun s.0
+                      (st.begun s.0) refl j;
+                };
+          }))) busy
       by_turn None is not_shut = subst P (sym (open-performed mode is not_shut)) (begins is)
 
-      by_shut : (b : Bool) → (st.gate s.0).shut ≡ b → P (perform me (if b then Plan.reply (Err BeginError.ClosedSelector) else begin_open s mode false) st)
+      by_shut : (b : Bool) → (st.gate s.0).shut ≡ b
+          → P (perform me (if b then Plan.reply (Err BeginError.ClosedSelector) else begin_open s mode false) st)
       by_shut true e = closed
       by_shut false e = by_turn (st.turn s.0) refl e
 
   -- the selection that has begun looks at each index once, in rising order, and keeps these indexes
-  kept-are : (xs : List ℕ) → xs ≡ map (λ (e : LookedKey). e.index) (map (λ i. looked_key i (st.key s.0 i) (st.interest s.0 i)) xs)
+  kept-are : (xs : List ℕ) → xs ≡ map (λ (e : LookedKey). e.index)
+      (map (λ i. looked_key i (st.key s.0 i) (st.interest s.0 i)) xs)
   kept-are [] = refl
   kept-are (i ∷ xs) = ap (λ ys. i ∷ ys) (kept-are xs)
 
   pub begun-on : (mode : Mode) → IsOn s.0 (begun mode)
   begun-on mode = record {
     selector = refl;
-    rises = pairs-map (λ i. looked_key i (st.key s.0 i) (st.interest s.0 i)) (λ (a b : LookedKey). a.index < b.index) (filter (λ i. is_valid (st.key s.0 i)) listed)
-        (AllPairs-filter (λ i j. i < j) (λ i. is_valid (st.key s.0 i)) listed (AllPairs-filter (λ i j. i < j) (is_not_free turned me s) (below mark) (below-rises mark)));
+    rises = pairs-map (λ i. looked_key i (st.key s.0 i) (st.interest s.0 i)) (λ (a b : LookedKey). a.index < b.index)
+        (filter (λ i. is_valid (st.key s.0 i)) listed)
+        (AllPairs-filter (λ i j. i < j) (λ i. is_valid (st.key s.0 i)) listed
+        (AllPairs-filter (λ i j. i < j) (is_not_free turned me s) (below mark) (below-rises mark)));
     kept = kept-are (filter (λ i. is_valid (st.key s.0 i)) listed);
   }
 
 -- ---- a beginning for which there is no memory
 
-pub begin-lacking : (st : State) (me : CallerNo) (s : SelNo) (mode : Mode) → ((t i : ℕ) → st.put_due t i ≡ false) → st.begun s.0 ≡ is_some (st.turn s.0)
+pub begin-lacking : (st : State) (me : CallerNo) (s : SelNo) (mode : Mode) → ((t i : ℕ) → st.put_due t i ≡ false)
+    → st.begun s.0 ≡ is_some (st.turn s.0)
     → (perform me (try_begin_plan s mode true) st).state ≡ st
 unfolding try_begin_plan
 begin-lacking st me s mode none_due begun = by_shut (st.gate s.0).shut refl
@@ -294,7 +365,8 @@ begin-lacking st me s mode none_due begun = by_shut (st.gate s.0).shut refl
         let idle : st.begun s.0 ≡ false = begun ∙ ap is_some is in
         λ j. record st {
           turn = put-back st.turn s.0 (Some me) None is j;
-          begun = (put-twice (put st.begun s.0 false) s.0 b false ∙ (put-twice st.begun s.0 false false ∙ put-here st.begun s.0 false idle)) j;
+          begun = (put-twice (put st.begun s.0 false) s.0 b false
+              ∙ (put-twice st.begun s.0 false false ∙ put-here st.begun s.0 false idle)) j;
           put_due = λ t i. no_longer (t == s.0) (st.put_due t i) (none_due t i) j;
         }
       where
@@ -303,15 +375,24 @@ begin-lacking st me s mode none_due begun = by_shut (st.gate s.0).shut refl
         no_longer false x e = refl
 
     by_look : (b : Bool) → st.turn s.0 ≡ None
-        → (perform me (if b then given_back s (Err BeginError.ClosedSelector) else (look_keys s >>= (λ bound. begin_below s mode bound true))) (with_begun taken s.0 (taken.begun s.0 || not b))).state ≡ st
+        → (perform me (if b then given_back s (Err BeginError.ClosedSelector) else
+        (look_keys s >>= (λ bound. begin_below s mode bound true)))
+        (with_begun taken s.0 (taken.begun s.0 || not b))).state ≡ st
     by_look true is = given (taken.begun s.0 || false) is
     by_look false is = given (taken.begun s.0 || true) is
 
     by_turn : (o : Option CallerNo) → st.turn s.0 ≡ o
-        → (perform me (if is_some o then Plan.reply (Err BeginError.Busy) else begin_with_turn s mode true) (with_begun (with_turn st s.0 (taken_by me o)) s.0 (is_some o && st.begun s.0))).state ≡ st
-    by_turn (Some n) is = λ j. record st { turn = put-here st.turn s.0 (Some n) is j; begun = put-here st.begun s.0 (st.begun s.0) refl j }
+        → (perform me (if is_some o then Plan.reply (Err BeginError.Busy) else begin_with_turn s mode true)
+        (with_begun (with_turn st s.0 (taken_by me o)) s.0 (is_some o && st.begun s.0))).state ≡ st
+    by_turn (Some n) is =
+        λ j. record st {
+          turn = put-here st.turn s.0 (Some n) is j;
+          begun = put-here st.begun s.0
+              (st.begun s.0) refl j;
+        }
     by_turn None is = by_look (st.gate s.0).shut is
 
-    by_shut : (b : Bool) → (st.gate s.0).shut ≡ b → (perform me (if b then Plan.reply (Err BeginError.ClosedSelector) else begin_open s mode true) st).state ≡ st
+    by_shut : (b : Bool) → (st.gate s.0).shut ≡ b
+        → (perform me (if b then Plan.reply (Err BeginError.ClosedSelector) else begin_open s mode true) st).state ≡ st
     by_shut true e = refl
     by_shut false e = by_turn (st.turn s.0) refl

@@ -35,12 +35,18 @@ use Rattle.nio_serial.specs.Replies.{closed_reply}
 
 -- ---- one key
 
-pub cancel-performed : (st : State) (me : CallerNo) (s : SelNo) (k : KeyId) → st.pinned s.0 k.index me.0 ≡ false → (st.key s.0 k.index).claimed ≡ (st.key s.0 k.index).published
+pub cancel-performed : (st : State) (me : CallerNo) (s : SelNo) (k : KeyId) → st.pinned s.0 k.index me.0 ≡ false
+    → (st.key s.0 k.index).claimed ≡ (st.key s.0 k.index).published
     → let stage = st.key s.0 k.index in
-    perform me (cancel_plan (key s k)) st ≡ record { answer = tt; state = with_key st s.0 k.index (cond (is_in_key_set stage k.serial) (cancelled_key stage) stage) }
+    perform me (cancel_plan (key s k)) st ≡ record {
+      answer = tt;
+      state =
+          with_key st s.0 k.index (cond (is_in_key_set stage k.serial) (cancelled_key stage) stage);
+    }
 unfolding cancel_plan
 cancel-performed st me s k free whole =
-    perform_pinned me s k.index (cancel_present (key s k)) st ∙ by_set (fits stage k.serial && not stage.removed) (in_set-is stage k.serial whole)
+    perform_pinned me s k.index (cancel_present (key s k)) st
+    ∙ by_set (fits stage k.serial && not stage.removed) (in_set-is stage k.serial whole)
   where
     stage : Stage
     stage = st.key s.0 k.index
@@ -48,18 +54,28 @@ cancel-performed st me s k free whole =
     held : State
     held = with_pin st s.0 k.index me.0 true
 
-    back : (F : (ℕ → ℕ → ℕ → Bool) → State) → ◌≡◌ {A = Performed (Unit {0})} (record { answer = tt; state = F (with_pin held s.0 k.index me.0 false).pinned }) (record { answer = tt; state = F st.pinned })
+    back : (F : (ℕ → ℕ → ℕ → Bool) → State)
+        → ◌≡◌ {A = Performed (Unit {0})} (record {
+          answer = tt;
+          state = F
+              (with_pin held s.0 k.index me.0 false).pinned;
+        }) (record { answer = tt; state = F st.pinned })
     back F = ap (λ p. record { answer = tt; state = F p }) (pin-back st.pinned s.0 k.index me.0 free)
 
     by_set : (b : Bool) → b ≡ is_in_key_set stage k.serial
         → unpinned me s k.index (perform me (when b (cancel_key s k.index)) held)
-        ≡ record { answer = tt; state = with_key st s.0 k.index (cond (is_in_key_set stage k.serial) (cancelled_key stage) stage) }
+        ≡ record {
+          answer = tt;
+          state =
+              with_key st s.0 k.index (cond (is_in_key_set stage k.serial) (cancelled_key stage) stage);
+        }
     by_set true same =
         back (λ p. record (with_key st s.0 k.index (cancelled_key stage)) { pinned = p })
         ∙ ap (λ b. record { answer = tt; state = with_key st s.0 k.index (cond b (cancelled_key stage) stage) }) same
     by_set false same =
         back (λ p. record st { pinned = p })
-        ∙ (ap (λ f. record { answer = tt; state = record st { key = f } }) (sym (put_at-here st.key s.0 k.index stage refl))
+        ∙ (ap (λ f. record { answer = tt; state = record st { key = f } })
+        (sym (put_at-here st.key s.0 k.index stage refl))
         ∙ ap (λ b. record { answer = tt; state = with_key st s.0 k.index (cond b (cancelled_key stage) stage) }) same)
 
 -- ---- the keys of a channel
@@ -78,28 +94,37 @@ module _ (st : State) (c : ℕ) where
 
   -- at the selector whose turn comes nothing is changed yet
   not_yet : (n i : ℕ) → keys_after n n i ≡ st.key n i
-  not_yet n i = ap (λ b. cond (b && has_index (key_of st c n) i) (cancelled_key (st.key n i)) (st.key n i)) (le-ltb n n (omega arith))
+  not_yet n i =
+      ap (λ b. cond (b && has_index (key_of st c n) i) (cancelled_key (st.key n i)) (st.key n i))
+      (le-ltb n n (omega arith))
 
   -- after its turn
-  done_here : (n i : ℕ) → keys_after (n + 1) n i ≡ cond (has_index (key_of st c n) i) (cancelled_key (st.key n i)) (st.key n i)
-  done_here n i = ap (λ b. cond (b && has_index (key_of st c n) i) (cancelled_key (st.key n i)) (st.key n i)) (lt-ltb n (n + 1) (omega arith))
+  done_here : (n i : ℕ) → keys_after (n + 1) n i
+      ≡ cond (has_index (key_of st c n) i) (cancelled_key (st.key n i)) (st.key n i)
+  done_here n i =
+      ap (λ b. cond (b && has_index (key_of st c n) i) (cancelled_key (st.key n i)) (st.key n i))
+      (lt-ltb n (n + 1) (omega arith))
 
   -- and at every other
   others : (n s i : ℕ) → s ≢ n → keys_after (n + 1) s i ≡ keys_after n s i
-  others n s i other = ap (λ b. cond (b && has_index (key_of st c s) i) (cancelled_key (st.key s i)) (st.key s i)) (lt_more s n other)
+  others n s i other =
+      ap (λ b. cond (b && has_index (key_of st c s) i) (cancelled_key (st.key s i)) (st.key s i)) (lt_more s n other)
 
   module _ (n : ℕ) where
     none_there : st.noted c n ≡ None → (s i : ℕ) → keys_after n s i ≡ keys_after (n + 1) s i
     none_there none s i =
         ⊎_elim
         (λ (e : s ≡ n). subst (λ (m : ℕ). keys_after n m i ≡ keys_after (n + 1) m i) (sym e)
-        (not_yet n i ∙ sym (done_here n i ∙ ap (λ o. cond (has_index (if_in_key_set st n o) i) (cancelled_key (st.key n i)) (st.key n i)) none)))
+        (not_yet n i
+        ∙ sym (done_here n i
+        ∙ ap (λ o. cond (has_index (if_in_key_set st n o) i) (cancelled_key (st.key n i)) (st.key n i)) none)))
         (λ (other : s ≢ n). sym (others n s i other))
         (cases_eq s n)
 
     one_there : (k : KeyId) → st.noted c n ≡ Some k
         → let stage = st.key n k.index in
-        (s i : ℕ) → put_at (keys_after n) n k.index (cond (is_in_key_set stage k.serial) (cancelled_key stage) stage) s i ≡ keys_after (n + 1) s i
+        (s i : ℕ) → put_at (keys_after n) n k.index (cond (is_in_key_set stage k.serial)
+        (cancelled_key stage) stage) s i ≡ keys_after (n + 1) s i
     one_there k is s i = ⊎_elim same_selector other_selector (cases_eq s n)
       where
         stage : Stage
@@ -108,10 +133,15 @@ module _ (st : State) (c : ℕ) where
         x : Stage
         x = cond (is_in_key_set stage k.serial) (cancelled_key stage) stage
 
-        now_there : (j : ℕ) → keys_after (n + 1) n j ≡ cond (has_index (cond (is_in_key_set stage k.serial) (Some k) None) j) (cancelled_key (st.key n j)) (st.key n j)
-        now_there j = done_here n j ∙ ap (λ o. cond (has_index (if_in_key_set st n o) j) (cancelled_key (st.key n j)) (st.key n j)) is
+        now_there : (j : ℕ) → keys_after (n + 1) n j
+            ≡ cond (has_index (cond (is_in_key_set stage k.serial) (Some k) None) j) (cancelled_key (st.key n j))
+            (st.key n j)
+        now_there j =
+            done_here n j ∙ ap (λ o. cond (has_index (if_in_key_set st n o) j) (cancelled_key (st.key n j))
+            (st.key n j)) is
 
-        at_index : (b : Bool) → cond b (cancelled_key stage) stage ≡ cond (has_index (cond b (Some k) None) k.index) (cancelled_key stage) stage
+        at_index : (b : Bool) → cond b (cancelled_key stage) stage
+            ≡ cond (has_index (cond b (Some k) None) k.index) (cancelled_key stage) stage
         at_index true = ap (λ b. cond b (cancelled_key stage) stage) (sym (eq-eqb k.index k.index refl))
         at_index false = refl
 
@@ -121,57 +151,86 @@ module _ (st : State) (c : ℕ) where
 
         same_index : i ≡ k.index → put_at (keys_after n) n k.index x n i ≡ keys_after (n + 1) n i
         same_index e = subst (λ (j : ℕ). put_at (keys_after n) n k.index x n j ≡ keys_after (n + 1) n j) (sym e)
-            (put_at-same (keys_after n) n k.index x ∙ (at_index (is_in_key_set stage k.serial) ∙ sym (now_there k.index)))
+            (put_at-same (keys_after n) n k.index x
+            ∙ (at_index (is_in_key_set stage k.serial) ∙ sym (now_there k.index)))
 
         other_index : i ≢ k.index → put_at (keys_after n) n k.index x n i ≡ keys_after (n + 1) n i
         other_index other =
-            cond-false ((n == n) && (i == k.index)) x (keys_after n n i) (and_right (n == n) (i == k.index) (ne_eqb i k.index other))
+            cond-false ((n == n) && (i == k.index)) x (keys_after n n i)
+            (and_right (n == n) (i == k.index) (ne_eqb i k.index other))
             ∙ (not_yet n i
-            ∙ sym (now_there i ∙ ap (λ b. cond b (cancelled_key (st.key n i)) (st.key n i)) (beside i other (is_in_key_set stage k.serial))))
+            ∙ sym (now_there i
+            ∙ ap (λ b. cond b (cancelled_key (st.key n i)) (st.key n i))
+            (beside i other (is_in_key_set stage k.serial))))
 
         same_selector : s ≡ n → put_at (keys_after n) n k.index x s i ≡ keys_after (n + 1) s i
-        same_selector e = subst (λ (m : ℕ). put_at (keys_after n) n k.index x m i ≡ keys_after (n + 1) m i) (sym e) (⊎_elim same_index other_index (cases_eq i k.index))
+        same_selector e =
+            subst (λ (m : ℕ). put_at (keys_after n) n k.index x m i ≡ keys_after (n + 1) m i) (sym e)
+            (⊎_elim same_index other_index (cases_eq i k.index))
 
         other_selector : s ≢ n → put_at (keys_after n) n k.index x s i ≡ keys_after (n + 1) s i
         other_selector other =
-            cond-false ((s == n) && (i == k.index)) x (keys_after n s i) (and_left (s == n) (i == k.index) (ne_eqb s n other)) ∙ sym (others n s i other)
+            cond-false ((s == n) && (i == k.index)) x (keys_after n s i)
+            (and_left (s == n) (i == k.index) (ne_eqb s n other)) ∙ sym (others n s i other)
 
-module _ (st : State) (me : CallerNo) (c : ChanNo) (free : (s i : ℕ) → st.pinned s i me.0 ≡ false) (whole : (s i : ℕ) → (st.key s i).claimed ≡ (st.key s i).published) where
+module _ (st : State) (me : CallerNo) (c : ChanNo) (free : (s i : ℕ) → st.pinned s i me.0 ≡ false)
+    (whole : (s i : ℕ) → (st.key s i).claimed ≡ (st.key s i).published) where
   abbrev stands : ℕ → State
   stands n = record st { key = keys_after st c.0 n }
 
   turn : (n : ℕ) → perform me (cancel_noted c n) (stands n) ≡ record { answer = tt; state = stands (n + 1) }
   turn n = by_noted (st.noted c.0 n) refl
     where
-      by_noted : (o : Option KeyId) → st.noted c.0 n ≡ o → perform me (cancel_at (selector n) o) (stands n) ≡ record { answer = tt; state = stands (n + 1) }
-      by_noted None is = ap (λ f. record { answer = tt; state = record st { key = f } }) (λ j s i. none_there st c.0 n is s i j)
+      by_noted : (o : Option KeyId) → st.noted c.0 n ≡ o
+          → perform me (cancel_at (selector n) o) (stands n) ≡ record { answer = tt; state = stands (n + 1) }
+      by_noted None is =
+          ap (λ f. record { answer = tt; state = record st { key = f } }) (λ j s i. none_there st c.0 n is s i j)
       by_noted (Some k) is =
           let stage = st.key n k.index in
-          cancel-performed (stands n) me (selector n) k (free n k.index) (ap (λ x. x.claimed) (not_yet st c.0 n k.index) ∙ (whole n k.index ∙ ap (λ x. x.published) (sym (not_yet st c.0 n k.index))))
-          ∙ (ap (λ x. record { answer = tt; state = record st { key = put_at (keys_after st c.0 n) n k.index (cond (is_in_key_set x k.serial) (cancelled_key x) x) } }) (not_yet st c.0 n k.index)
+          cancel-performed (stands n) me (selector n) k (free n k.index)
+          (ap (λ x. x.claimed) (not_yet st c.0 n k.index)
+          ∙ (whole n k.index ∙ ap (λ x. x.published) (sym (not_yet st c.0 n k.index))))
+          ∙ (ap (λ x. record {
+            answer = tt;
+            state =
+                record st {
+                  key = put_at (keys_after st c.0 n) n k.index
+                      (cond (is_in_key_set x k.serial) (cancelled_key x) x);
+                };
+          }) (not_yet st c.0 n k.index)
           ∙ ap (λ f. record { answer = tt; state = record st { key = f } }) (λ j s i. one_there st c.0 n k is s i j))
 
-  pub cancel_keys-performed : (l : Limits) → perform me (cancel_keys l c) st ≡ record { answer = true; state = stands l.selectors }
+  pub cancel_keys-performed : (l : Limits)
+      → perform me (cancel_keys l c) st ≡ record { answer = true; state = stands l.selectors }
   cancel_keys-performed l =
-      perform_then_on me (sweep_to l.selectors 0 (λ s _. cancel_noted c s) tt) (λ _. Plan.reply true) st tt (stands l.selectors)
+      perform_then_on me (sweep_to l.selectors 0 (λ s _. cancel_noted c s) tt) (λ _. Plan.reply true) st tt
+      (stands l.selectors)
       (ap (perform me (sweep_to l.selectors 0 (λ s _. cancel_noted c s) tt)) before
       ∙ perform_sweep me l.selectors 0 (λ s _. cancel_noted c s) (λ _. tt) stands (omega arith) (λ n _ _. turn n))
     where
       before : st ≡ stands 0
-      before = ap (λ f. record st { key = f }) (λ j s i. sym (ap (λ b. cond (b && has_index (key_of st c.0 s) i) (cancelled_key (st.key s i)) (st.key s i)) (le-ltb s 0 (omega arith))) j)
+      before =
+          ap (λ f. record st { key = f }) (λ j s i. sym (ap
+          (λ b. cond (b && has_index (key_of st c.0 s) i) (cancelled_key (st.key s i)) (st.key s i))
+          (le-ltb s 0 (omega arith))) j)
 
 -- ---- the call
 
 -- the channel's key at an index is in the key set
-pub index_in_set : (st : State) (s i : ℕ) (noted : Option KeyId) → has_index (if_in_key_set st s noted) i ≡ true → in_key_set (st.key s i) ≡ true
+pub index_in_set : (st : State) (s i : ℕ) (noted : Option KeyId) → has_index (if_in_key_set st s noted) i ≡ true
+    → in_key_set (st.key s i) ≡ true
 index_in_set st s i None e = absurd (both_ways false refl e)
 index_in_set st s i (Some k) e = by_set (is_in_key_set (st.key s k.index) k.serial) refl e
   where
-    by_set : (b : Bool) → is_in_key_set (st.key s k.index) k.serial ≡ b → has_index (cond b (Some k) None) i ≡ true → in_key_set (st.key s i) ≡ true
-    by_set true is same = subst (λ (j : ℕ). in_key_set (st.key s j) ≡ true) (eqb-true k.index i same) (and_parts (fits (st.key s k.index) k.serial) (in_key_set (st.key s k.index)) is).1
+    by_set : (b : Bool) → is_in_key_set (st.key s k.index) k.serial ≡ b → has_index (cond b (Some k) None) i ≡ true
+        → in_key_set (st.key s i) ≡ true
+    by_set true is same =
+        subst (λ (j : ℕ). in_key_set (st.key s j) ≡ true) (eqb-true k.index i same)
+        (and_parts (fits (st.key s k.index) k.serial) (in_key_set (st.key s k.index)) is).1
     by_set false is same = absurd (both_ways false refl same)
 
-settled_where : (t h : Bool) (k : Stage) → (h ≡ true → (t ≡ true) × (k.removed ≡ false)) → settled (cond (t && h) (cancelled_key k) k) ≡ cond h (cancelled_key (settled k)) (settled k)
+settled_where : (t h : Bool) (k : Stage) → (h ≡ true → (t ≡ true) × (k.removed ≡ false))
+    → settled (cond (t && h) (cancelled_key k) k) ≡ cond h (cancelled_key (settled k)) (settled k)
 settled_where true true k there = λ j. record k { cancelled = not ((there refl).1 j) && true }
 settled_where false true k there = absurd (both_ways true (sym (there refl).0) refl)
 settled_where true false k there = refl
@@ -203,11 +262,13 @@ module _ (l : Limits) (st : State) (now : Progress) (me : CallerNo) (c : ChanNo)
   keys : (s i : ℕ) → cond (has_index (key_of st c.0 s) i) (cancelled_key (settled (st.key s i))) (settled (st.key s i))
       ≡ settled (keys_after closed_st c.0 l.selectors s i)
   keys s i = sym (settled_where (nat_lt s l.selectors) (has_index (key_of st c.0 s) i) (st.key s i)
-      (λ h. let in_set = index_in_set st s i (st.noted c.0 s) h in
-      (lt-ltb s l.selectors (within s i in_set),
-      not-true (st.key s i).removed (and_parts (st.key s i).published (not (st.key s i).removed) in_set).1)))
+      (λ h. let in_set = index_in_set st s i (st.noted c.0 s) h in (
+        lt-ltb s l.selectors (within s i in_set),
+        not-true (st.key s i).removed (and_parts (st.key s i).published (not (st.key s i).removed) in_set).1,
+      )))
 
-  marks : (s i : ℕ) → settled_mark (st.key s i) (st.mark s i) ≡ settled_mark (keys_after closed_st c.0 l.selectors s i) (st.mark s i)
+  marks : (s i : ℕ) → settled_mark (st.key s i) (st.mark s i)
+      ≡ settled_mark (keys_after closed_st c.0 l.selectors s i) (st.mark s i)
   marks s i = sym (marked_where (nat_lt s l.selectors && has_index (key_of st c.0 s) i) (st.key s i) (st.mark s i))
 
   pub closed-documented : (r : Reply) → answered ds r (channel_closed ds.shared c.0)

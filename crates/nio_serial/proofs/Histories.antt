@@ -44,23 +44,35 @@ use Rattle.nio_serial.specs.Lines.{Said, comes_to, refused, if_found, if_selecto
 -- ---- names that are found
 
 module _ (l : Limits) (st : State) (now : Progress) (me : CallerNo) (fit : IsFit l) (between : IsBetween l st now) where
-  selector-through : (s : SelNo) (plan : Plan Said) → IsMadeSelector st s → perform me (if_selector l now s plan) st ≡ perform me plan st
+  selector-through : (s : SelNo) (plan : Plan Said) → IsMadeSelector st s
+      → perform me (if_selector l now s plan) st ≡ perform me plan st
   selector-through s plan made =
       perform_then_on me (find_selector_plan l s.0) (if_found now reply.NoSelector plan) st (Some (selector s.0)) st
-      (selector-found l st now me fit between s.0 ∙ ap (λ (b : Bool). record { answer = if b then Some (selector s.0) else None; state = st }) made)
+      (selector-found l st now me fit between s.0
+      ∙ ap (λ (b : Bool). record { answer = if b then Some (selector s.0) else None; state = st }) made)
 
-  channel-through : (c : ChanNo) (plan : Plan Said) → IsMadeChannel st c → perform me (if_channel l now c plan) st ≡ perform me plan st
+  channel-through : (c : ChanNo) (plan : Plan Said) → IsMadeChannel st c
+      → perform me (if_channel l now c plan) st ≡ perform me plan st
   channel-through c plan made =
       perform_then_on me (find_channel_plan l c.0) (if_found now reply.NoChannel plan) st (Some (channel c.0)) st
-      (channel-found l st now me fit between c.0 ∙ ap (λ (b : Bool). record { answer = if b then Some (channel c.0) else None; state = st }) made)
+      (channel-found l st now me fit between c.0
+      ∙ ap (λ (b : Bool). record { answer = if b then Some (channel c.0) else None; state = st }) made)
 
-  key-through : (s : SelNo) (k : KeyId) (plan : Plan Said) → IsMadeKey st s k → perform me (if_key l now s k plan) st ≡ perform me plan st
+  key-through : (s : SelNo) (k : KeyId) (plan : Plan Said) → IsMadeKey st s k
+      → perform me (if_key l now s k plan) st ≡ perform me plan st
   key-through s k plan made =
       selector-through s (find_plan l s k.index k.serial >>= if_found now reply.NoKey plan) made.0
-      ∙ perform_then_on me (find_plan l s k.index k.serial) (if_found now reply.NoKey plan) st (Some (record { sel = s; index = k.index; serial = k.serial })) st
-      (key-found l st now me fit between s k.index k.serial ∙ ap (λ (b : Bool). record { answer = if b then Some (record { sel = s; index = k.index; serial = k.serial }) else None; state = st }) made.1)
+      ∙ perform_then_on me (find_plan l s k.index k.serial) (if_found now reply.NoKey plan) st
+      (Some (record { sel = s; index = k.index; serial = k.serial })) st
+      (key-found l st now me fit between s k.index k.serial
+      ∙ ap (λ (b : Bool). record {
+        answer = if b then Some (record { sel = s; index = k.index; serial = k.serial })
+            else None;
+        state = st;
+      }) made.1)
 
-  named-through : (word : Call) (plan : Plan Said) → IsNamed l st word → perform me (if_named l now word plan) st ≡ perform me plan st
+  named-through : (word : Call) (plan : Plan Said) → IsNamed l st word
+      → perform me (if_named l now word plan) st ≡ perform me plan st
   unfolding if_named
   named-through call.Selector plan named = refl
   named-through (call.Channel kind) plan named = refl
@@ -68,8 +80,10 @@ module _ (l : Limits) (st : State) (now : Progress) (me : CallerNo) (fit : IsFit
   named-through (call.IsBlocking c) plan named = channel-through c plan named
   named-through (call.IsOpen c) plan named = channel-through c plan named
   named-through (call.IsRegistered c) plan named = channel-through c plan named
-  named-through (call.KeyFor c s) plan named = channel-through c (if_selector l now s plan) named.0 ∙ selector-through s plan named.1
-  named-through (call.Register s c ops att) plan named = selector-through s (if_channel l now c plan) named.0 ∙ channel-through c plan named.1
+  named-through (call.KeyFor c s) plan named =
+      channel-through c (if_selector l now s plan) named.0 ∙ selector-through s plan named.1
+  named-through (call.Register s c ops att) plan named =
+      selector-through s (if_channel l now c plan) named.0 ∙ channel-through c plan named.1
   named-through (call.Closec c) plan named = channel-through c plan named
   named-through (call.Valid s k) plan named = key-through s k plan named
   named-through (call.Interest s k) plan named = key-through s k plan named
@@ -89,23 +103,29 @@ module _ (l : Limits) (st : State) (now : Progress) (me : CallerNo) (fit : IsFit
   named-through (call.CloseEnd s) plan named = selector-through s plan named
   named-through (call.Keys s) plan named = selector-through s plan named
   named-through (call.Selected s) plan named = selector-through s plan named
-  named-through (call.Interrupt target) plan named = ap (λ (b : Bool). perform me (if b then plan else refused now reply.NoCaller) st) (lt-ltb target.0 l.callers named)
+  named-through (call.Interrupt target) plan named =
+      ap (λ (b : Bool). perform me (if b then plan else refused now reply.NoCaller) st)
+      (lt-ltb target.0 l.callers named)
   named-through call.Interrupted plan named = refl
   named-through (call.Pipe target) plan named =
-      ap (λ (b : Bool). perform me (if b then plan else refused now reply.NoCaller) st) (lt-ltb target.0 l.callers named)
+      ap (λ (b : Bool). perform me (if b then plan else refused now reply.NoCaller) st)
+      (lt-ltb target.0 l.callers named)
   named-through (call.Pwrite c bytes) plan named = channel-through c plan named
   named-through (call.Pread c n) plan named = channel-through c plan named
   named-through (call.Group g) plan named = refl
 
-  line-through : (word : Call) → IsCaller l me → IsNamed l st word → perform me (line_plan l now me word) st ≡ perform me (call_plan l now me word) st
+  line-through : (word : Call) → IsCaller l me → IsNamed l st word
+      → perform me (line_plan l now me word) st ≡ perform me (call_plan l now me word) st
   unfolding line_plan
   line-through word below named =
-      ap (λ (b : Bool). perform me (if b then if_named l now word (call_plan l now me word) else refused now reply.NoCaller) st) (lt-ltb me.0 l.callers below)
+      ap (λ (b : Bool). perform me (if b then if_named l now word (call_plan l now me word)
+      else refused now reply.NoCaller) st) (lt-ltb me.0 l.callers below)
       ∙ named-through word (call_plan l now me word) named
 
 pub calls-stay : CallsStayBetween
 calls-stay l st now me word fit below between named =
-    subst (λ (done : Performed Said). IsBetween l done.state done.answer.left) (line-through l st now me fit between word below named) (line-stays l st now me fit between word)
+    subst (λ (done : Performed Said). IsBetween l done.state done.answer.left)
+    (line-through l st now me fit between word below named) (line-stays l st now me fit between word)
 
 pub calls-amount : CallsAmount
 calls-amount l st now me word between named = call-amounts l st now me between word named
@@ -120,7 +140,9 @@ call-runs-amount l now me word past acts said fit below between named legal whol
     let ran = perform_ran l me (call_plan l now me word) past acts said legal whole in
     record {
       answered = calls-amount l (state_after past) now me word between named ∙ ap comes_to ran;
-      between = subst (λ (done : Performed Said). IsBetween l done.state done.answer.left) ran (calls-stay l (state_after past) now me word fit below between named);
+      between =
+          subst (λ (done : Performed Said). IsBetween l done.state done.answer.left) ran
+          (calls-stay l (state_after past) now me word fit below between named);
     }
 
 pub line-runs-amount : LineRunsAmount
@@ -128,15 +150,19 @@ line-runs-amount l now me word past acts said fit between legal whole =
     let ran = perform_ran l me (line_plan l now me word) past acts said legal whole in
     record {
       answered = lines-amount l (state_after past) now me word fit between ∙ ap comes_to ran;
-      between = subst (λ (done : Performed Said). IsBetween l done.state done.answer.left) ran (line-stays l (state_after past) now me fit between word);
+      between =
+          subst (λ (done : Performed Said). IsBetween l done.state done.answer.left) ran
+          (line-stays l (state_after past) now me fit between word);
     }
 
 pub pass-lines-amount : PassLinesAmount
 pass-lines-amount now me word old new said fit only between call =
     let acts = done_between me old new in
     let grown = (call.acts.only only).1 in
-    subst (λ (events : List Event). Amounts old.limits (seq Now old.limits (documented (known old) now) me word) events said) (sym grown)
-    (line-runs-amount old.limits now me word old.seen acts said fit between (subst (IsLegal old.limits) grown call.acts.history.legal) call.shape)
+    subst (λ (events : List Event). Amounts old.limits
+    (seq Now old.limits (documented (known old) now) me word) events said) (sym grown)
+    (line-runs-amount old.limits now me word old.seen acts said fit between
+    (subst (IsLegal old.limits) grown call.acts.history.legal) call.shape)
 
 -- ---- draws
 
@@ -145,13 +171,15 @@ pub draws-stay : DrawsStayBetween
 draws-stay l st now n between = record {
   left = record { calls = between.left.calls; left = between.left.left };
   at_rest = between.at_rest;
-  shown = λ s. let was = between.shown s in record { turn = was.turn; begun = was.begun; on = was.on; closing = was.closing };
+  shown = λ s. let was = between.shown s in
+      record { turn = was.turn; begun = was.begun; on = was.on; closing = was.closing };
 }
 
 -- ---- a `told` by index
 
 pub told-amounts-by-index : ToldAmounts
-told-amounts-by-index l st now me s x told elapsed between made own = told-by-index l st now me between s x told elapsed made own
+told-amounts-by-index l st now me s x told elapsed between made own =
+    told-by-index l st now me between s x told elapsed made own
 
 -- ---- calls for which there is no memory
 
@@ -165,18 +193,25 @@ lacking-leaves l st now me s mode between = record {
 
 -- ---- a `told` by index stays between two calls
 
-seq-through : (l : Limits) (st : ScriptState) (me : CallerNo) (word : Call) → IsCaller l me → seq Now l st me word ≡ call_of Now l st me word
+seq-through : (l : Limits) (st : ScriptState) (me : CallerNo) (word : Call) → IsCaller l me
+    → seq Now l st me word ≡ call_of Now l st me word
 unfolding seq
-seq-through l st me word below = cond-true (nat_lt me.0 l.callers) (call_of Now l st me word) (unchanged st reply.NoCaller) (lt-ltb me.0 l.callers below)
+seq-through l st me word below =
+    cond-true (nat_lt me.0 l.callers) (call_of Now l st me word) (unchanged st reply.NoCaller)
+    (lt-ltb me.0 l.callers below)
 
 pub told-stays : ToldStaysBetween
 told-stays l st now me s x told elapsed below between made own =
     let ds = documented st now in
     let word = call.Told s elapsed (by_key x told) in
-    let same : seq Now l ds me word ≡ amounts told_reply (after_told now s) (perform me (told_plan x told elapsed) st) = seq-through l ds me word below ∙ told-by-index l st now me between s x told elapsed made own in
+    let same : seq Now l ds me word ≡ amounts told_reply (after_told now s) (perform me (told_plan x told elapsed) st) =
+    seq-through l ds me word below ∙ told-by-index l st now me between s x told elapsed made own in
     record {
       left = subst (λ (a : Answered). IsLeft l a.left) same (left-more l ds me word between.left);
-      at_rest = subst (λ (a : Answered). IsAtRest l a.left.shared) same (rests-is l (seq Now l ds me word).left.shared (rests-seq l ds (sound l st now between) (rests-from l ds.shared between.at_rest) me word));
+      at_rest =
+          subst (λ (a : Answered). IsAtRest l a.left.shared) same
+          (rests-is l (seq Now l ds me word).left.shared (rests-seq l ds (sound l st now between)
+          (rests-from l ds.shared between.at_rest) me word));
       shown = told-index-shows l st now me between s x told elapsed own;
     }
 
@@ -184,6 +219,10 @@ pub told-runs-amount : ToldRunsAmount
 told-runs-amount l now me s x told elapsed past acts answer below between made own legal whole =
     let ran = perform_ran l me (told_plan x told elapsed) past acts answer legal whole in
     record {
-      answered = told-by-index l (state_after past) now me between s x told elapsed made own ∙ ap (amounts told_reply (after_told now s)) ran;
-      between = subst (λ (done : Performed ToldReply). IsBetween l done.state (after_told now s done.answer)) ran (told-stays l (state_after past) now me s x told elapsed below between made own);
+      answered =
+          told-by-index l (state_after past) now me between s x told elapsed made own
+          ∙ ap (amounts told_reply (after_told now s)) ran;
+      between =
+          subst (λ (done : Performed ToldReply). IsBetween l done.state (after_told now s done.answer)) ran
+          (told-stays l (state_after past) now me s x told elapsed below between made own);
     }

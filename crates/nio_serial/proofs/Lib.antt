@@ -26,5 +26,6 @@ pub mod RestingCalls
 pub mod Showing
 pub mod Steady
 pub mod Staying
+pub mod WholePipes
 pub mod Histories
 pub mod Serial

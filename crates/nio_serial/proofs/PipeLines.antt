@@ -1,5 +1,5 @@
 -- Reading and writing a pipe amount to the documented calls.
-use Rattle.std.proofs.Common.{◌≡◌, ℕ, ◌+◌, ◌<◌, ◌==◌, Bool, true, false, ◌&&◌, if◌then◌else◌, Some, Result, Ok, Err, List, [], ◌∷◌, ◌++◌, length, take, refl, ap, sym, ◌∙◌}
+use Rattle.std.proofs.Common.{◌≡◌, ℕ, ◌<◌, ◌==◌, Bool, true, false, ◌&&◌, if◌then◌else◌, Some, Result, Ok, Err, List, [], ◌∷◌, ◌++◌, length, take, refl, ap, sym, ◌∙◌}
 use Rattle.std.proofs.lemmas.List.{set-get_or}
 use Rattle.nio_base.specs.declared.limits.Limits.{Limits}
 use Rattle.nio_base.specs.declared.numbers.CallerNo.{CallerNo}
@@ -15,7 +15,6 @@ use Rattle.nio_plain.specs.Seq.Pipes.{no_pipe, marking}
 use Rattle.nio_plain.specs.Seq.Piping.{not_now, read_first, read_from, room_for, write_first, write_to}
 use Rattle.nio_steps.proofs.PerformLaws.{perform-bind, perform_then_on}
 use Rattle.nio_steps.specs.ChannelCalls.{close_channel_plan}
-use Rattle.nio_steps.specs.Names.{channel}
 use Rattle.nio_steps.specs.Perform.{Performed, perform}
 use Rattle.nio_steps.specs.PipeCalls.{if_interrupted, if_open, try_read_plan, if_unbroken, try_write_plan}
 use Rattle.nio_steps.specs.Plan.{Plan, ◌>>=◌}
@@ -57,7 +56,8 @@ module _ (l : Limits) (st : State) (now : Progress) (me : CallerNo) (c : ChanNo)
 
       by_mode : (b : Bool) → (st.chan c.0).closed ≡ false
           → perform me (if b then (look_interrupt >>= if_interrupted l c) else Plan.reply (Ok false)) st
-          ≡ (if b && st.interrupted me.0 then ends (Err PipeError.ClosedByInterrupt) (closed_left l st c) else ends (Ok b) st)
+          ≡ (if b && st.interrupted me.0 then ends (Err PipeError.ClosedByInterrupt) (closed_left l st c) else ends
+          (Ok b) st)
       by_mode true opened = by_status (st.interrupted me.0) opened
       by_mode false opened = refl
 
@@ -118,7 +118,8 @@ module _ (l : Limits) (st : State) (now : Progress) (me : CallerNo) (c : ChanNo)
 
       pub read-amounts : read_from ds me c n (Some i) ≡ gave (read_gives n) (perform me (try_read_plan l c) st)
       unfolding try_read_plan
-      read-amounts = read-is (st.chan c.0).closed (blocking && st.interrupted me.0) ∙ sym (ap (gave (read_gives n)) looks)
+      read-amounts =
+          read-is (st.chan c.0).closed (blocking && st.interrupted me.0) ∙ sym (ap (gave (read_gives n)) looks)
 
     module _ (bytes : List ℕ) where
       abbrev broken : Bool

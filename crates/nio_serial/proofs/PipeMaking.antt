@@ -52,10 +52,12 @@ module _ (l : Limits) (st : State) (now : Progress) (me target : CallerNo)
 
   module _ (room : m < l.channels) where
     exact1 : (c : ℕ) → (st1.chan c).made ≡ nat_lt c st1.channels_high
-    exact1 = (channels-more l m st.chan (record { within = omega arith; made = exact }) room (new_channel Source) refl).made
+    exact1 =
+        (channels-more l m st.chan (record { within = omega arith; made = exact }) room (new_channel Source) refl).made
 
     sink-made : st1.channels_high < l.channels
-        → with_sink ds1 me target m (next_channel l ds1) ≡ gave (perform me (open_channel_plan l Sink >>= sink_for l (channel m)) st1)
+        → with_sink ds1 me target m (next_channel l ds1)
+        ≡ gave (perform me (open_channel_plan l Sink >>= sink_for l (channel m)) st1)
     sink-made room1 =
         ap (with_sink ds1 me target m) (next-is st1 now me exact1 l room1)
         ∙ sym (ap gave (perform_then_on me (open_channel_plan l Sink) (sink_for l (channel m)) st1
@@ -67,25 +69,29 @@ module _ (l : Limits) (st : State) (now : Progress) (me target : CallerNo)
         ≡ gave (perform me (sink_for l c (Err ChannelError.ChannelsSpent)) st1)
     sink-spent c opened =
         closed-documented l st1 now me c free whole within reply.ChannelsSpent
-        ∙ sym (ap gave (perform_then_on me (close_channel_plan l c) (λ _. Plan.reply (Err PipeMakeError.ChannelsSpent)) st1
+        ∙ sym (ap gave (perform_then_on me (close_channel_plan l c)
+        (λ _. Plan.reply (Err PipeMakeError.ChannelsSpent)) st1
         true (closed_left l st1 c) (close-open l st1 now me c free whole within opened)))
 
     no-sink : l.channels ≤ st1.channels_high
-        → with_sink ds1 me target m (next_channel l ds1) ≡ gave (perform me (open_channel_plan l Sink >>= sink_for l (channel m)) st1)
+        → with_sink ds1 me target m (next_channel l ds1)
+        ≡ gave (perform me (open_channel_plan l Sink >>= sink_for l (channel m)) st1)
     no-sink full =
         ap (with_sink ds1 me target m) (next-spent st1 now me exact1 l full)
         ∙ (sink-spent (channel m) (ap (λ x. x.closed) (put-same st.chan m (new_channel Source)))
         ∙ sym (ap gave (perform_then_on me (open_channel_plan l Sink) (sink_for l (channel m)) st1
         (Err ChannelError.ChannelsSpent) st1 (open-spent st1 now me exact1 l Sink full))))
 
-    source-made : with_source l ds me target (next_channel l ds) ≡ gave (perform me (open_channel_plan l Source >>= ends_for l) st)
+    source-made : with_source l ds me target (next_channel l ds)
+        ≡ gave (perform me (open_channel_plan l Source >>= ends_for l) st)
     source-made =
         ap (with_source l ds me target) (next-is st now me exact l room)
         ∙ (⊎_elim sink-made no-sink (cases_lt st1.channels_high l.channels)
         ∙ sym (ap gave (perform_then_on me (open_channel_plan l Source) (ends_for l) st
         (Ok (channel m)) st1 (open-performed st now me exact l Source room))))
 
-  no-source : l.channels ≤ m → with_source l ds me target (next_channel l ds) ≡ gave (perform me (open_channel_plan l Source >>= ends_for l) st)
+  no-source : l.channels ≤ m → with_source l ds me target (next_channel l ds)
+      ≡ gave (perform me (open_channel_plan l Source >>= ends_for l) st)
   no-source full =
       ap (with_source l ds me target) (next-spent st now me exact l full)
       ∙ sym (ap gave (perform_then_on me (open_channel_plan l Source) (ends_for l) st

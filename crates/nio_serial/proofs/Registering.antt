@@ -34,11 +34,13 @@ use Rattle.nio_serial.specs.Replies.{register_reply}
 
 -- ---- a new key as a script sees it
 
-new_mark : (b : Bool) (c q : ℕ) (k : Stage) (m : Mark) → settled_mark (cond b (new_stage c q) k) (cond b unmarked m) ≡ cond b unmarked (settled_mark k m)
+new_mark : (b : Bool) (c q : ℕ) (k : Stage) (m : Mark)
+    → settled_mark (cond b (new_stage c q) k) (cond b unmarked m) ≡ cond b unmarked (settled_mark k m)
 new_mark true c q k m = refl
 new_mark false c q k m = refl
 
-settled-new : (st : State) (s c : ℕ) (k : KeyId) (ops att : ℕ) → settled_state (with_new_key st s c k ops att) ≡ with_new_key (settled_state st) s c k ops att
+settled-new : (st : State) (s c : ℕ) (k : KeyId) (ops att : ℕ)
+    → settled_state (with_new_key st s c k ops att) ≡ with_new_key (settled_state st) s c k ops att
 settled-new st s c k ops att = λ j. record (with_new_key (settled_state st) s c k ops att) {
   key = put_at-under (λ _ _ x. settled x) st.key s k.index (new_stage c k.serial) j;
   mark = λ t i. new_mark ((t == s) && (i == k.index)) c k.serial (st.key t i) (st.mark t i) j;
@@ -59,7 +61,12 @@ module _ (l : Limits) (st : State) (me : CallerNo) (s : SelNo) (c : ChanNo) (ops
 
   -- the channel has a valid key
   abbrev updated : KeyId → Done
-  updated k = record { answer = Ok (key s k); state = with_note (with_interest st s.0 k.index ops) s.0 k.index (if att == 0 then st.note s.0 k.index else att) }
+  updated k =
+      record {
+        answer = Ok (key s k);
+        state = with_note (with_interest st s.0 k.index ops) s.0 k.index
+            (if att == 0 then st.note s.0 k.index else att);
+      }
 
   module _ (k : KeyId) where
     abbrev stage : Stage
@@ -84,7 +91,8 @@ module _ (l : Limits) (st : State) (me : CallerNo) (s : SelNo) (c : ChanNo) (ops
 
     -- the pins are as before
     back : (a : Option (Result KeyNo ChannelError)) (F : (ℕ → ℕ → ℕ → Bool) → State)
-        → ◌≡◌ {A = Over} (record { answer = a; state = F (with_pin held s.0 k.index me.0 false).pinned }) (record { answer = a; state = F st.pinned })
+        → ◌≡◌ {A = Over} (record { answer = a; state = F (with_pin held s.0 k.index me.0 false).pinned })
+        (record { answer = a; state = F st.pinned })
     back a F = ap (λ p. record { answer = a; state = F p }) (pin-back st.pinned s.0 k.index me.0 (free k.index me.0))
 
     abbrev pub over_of : (cancelled shut valid : Bool) → Over
@@ -94,25 +102,44 @@ module _ (l : Limits) (st : State) (me : CallerNo) (s : SelNo) (c : ChanNo) (ops
     over_of false false false = record { answer = None; state = st }
 
     noted_att : (b : Bool) → ◌≡◌ {A = Done} (perform me (setting b) (with_interest held s.0 k.index ops))
-        (record { answer = Ok (key s k); state = with_note (with_interest held s.0 k.index ops) s.0 k.index (if b then st.note s.0 k.index else att) })
-    noted_att true = λ j. record { answer = Ok (key s k); state = record (with_interest held s.0 k.index ops) { note = sym (put_at-here st.note s.0 k.index (st.note s.0 k.index) refl) j } }
+        (record {
+          answer = Ok (key s k);
+          state =
+              with_note (with_interest held s.0 k.index ops) s.0 k.index (if b then st.note s.0 k.index else att);
+        })
+    noted_att true =
+        λ j. record {
+          answer = Ok (key s k);
+          state = record
+              (with_interest held s.0 k.index ops) {
+                note = sym
+                    (put_at-here st.note s.0 k.index (st.note s.0 k.index) refl) j;
+              };
+        }
     noted_att false = refl
 
-    after_gate : (shut valid : Bool) → unpinned me s k.index (perform me (opened shut valid) held) ≡ over_of false shut valid
+    after_gate : (shut valid : Bool) → unpinned me s k.index (perform me (opened shut valid) held)
+        ≡ over_of false shut valid
     after_gate true valid = back (Some (Err ChannelError.ClosedSelector)) (λ p. record st { pinned = p })
     after_gate false true =
-        let done = with_note (with_interest held s.0 k.index ops) s.0 k.index (if att == 0 then st.note s.0 k.index else att) in
-        ap (unpinned me s k.index) (perform_then_on me (update_key s k ops att) (λ answer. Plan.reply (Some answer)) held (Ok (key s k)) done (noted_att (att == 0)))
+        let done =
+        with_note (with_interest held s.0 k.index ops) s.0 k.index
+        (if att == 0 then st.note s.0 k.index else att) in
+        ap (unpinned me s k.index) (perform_then_on me (update_key s k ops att)
+        (λ answer. Plan.reply (Some answer)) held (Ok (key s k)) done (noted_att (att == 0)))
         ∙ back (Some (Ok (key s k))) (λ p. record done { pinned = p })
     after_gate false false = back None (λ p. record st { pinned = p })
 
-    at_first : (b : Bool) → unpinned me s k.index (perform me (steps b) held) ≡ over_of b (st.gate s.0).shut (is_valid_key stage k.serial)
+    at_first : (b : Bool) → unpinned me s k.index (perform me (steps b) held)
+        ≡ over_of b (st.gate s.0).shut (is_valid_key stage k.serial)
     at_first true = back (Some (Err ChannelError.CancelledKey)) (λ p. record st { pinned = p })
     at_first false = after_gate (st.gate s.0).shut (is_valid_key stage k.serial)
 
     over-performed : perform me (under_pin s k.index (register_noted s ops att k)) st
         ≡ over_of (is_in_key_set stage k.serial && stage.cancelled) (st.gate s.0).shut (is_valid_key stage k.serial)
-    over-performed = perform_pinned me s k.index (register_noted s ops att k) st ∙ at_first (is_in_key_set stage k.serial && stage.cancelled)
+    over-performed =
+        perform_pinned me s k.index (register_noted s ops att k) st
+        ∙ at_first (is_in_key_set stage k.serial && stage.cancelled)
 
 -- ---- the call
 
@@ -128,11 +155,13 @@ not_valid true false c e = refl
 not_valid false i c e = refl
 
 -- the attachment that a key has after it is registered again
-kept-is : (given : Option ℕ) (n : ℕ) → given_or_kept given n ≡ (if given_or_none given == 0 then n else given_or_none given)
+kept-is : (given : Option ℕ) (n : ℕ) → given_or_kept given n
+    ≡ (if given_or_none given == 0 then n else given_or_none given)
 kept-is None n = refl
 kept-is (Some a) n = refl
 
-module _ (l : Limits) (st : State) (now : Progress) (me : CallerNo) (s : SelNo) (c : ChanNo) (ops : ℕ) (given : Option ℕ)
+module _ (l : Limits) (st : State) (now : Progress) (me : CallerNo) (s : SelNo) (c : ChanNo) (ops : ℕ)
+    (given : Option ℕ)
     (unheld : st.hold c.0 ≡ None)
     (free : (i n : ℕ) → st.pinned s.0 i n ≡ false) (untaken : (i : ℕ) → st.taker s.0 i ≡ None)
     (exact : (i : ℕ) → (st.key s.0 i).claimed ≡ nat_lt i (st.keys_high s.0))
@@ -153,22 +182,37 @@ module _ (l : Limits) (st : State) (now : Progress) (me : CallerNo) (s : SelNo) 
   freed : (G : (ℕ → Option CallerNo) → Answered) → G st.hold ≡ G (with_hold holding c.0 None).hold
   freed G = sym (ap G (put-back st.hold c.0 (Some me) None unheld))
 
-  refused : (e : ChannelError) (r : Reply) → register_reply (Err e) ≡ r → unchanged ds r ≡ F (record { answer = Err e; state = holding })
-  refused e r is = ap (unchanged ds) (sym is) ∙ freed (λ h. record { reply = register_reply (Err e); left = documented (record st { hold = h }) now })
+  refused : (e : ChannelError) (r : Reply) → register_reply (Err e) ≡ r
+      → unchanged ds r ≡ F (record { answer = Err e; state = holding })
+  refused e r is =
+      ap (unchanged ds) (sym is) ∙ freed (λ h. record {
+        reply = register_reply (Err e);
+        left = documented
+            (record st { hold = h }) now;
+      })
 
   module _ (is_open : (st.chan c.0).closed ≡ false) where
-    newly : (st.gate s.0).shut ≡ false → registered_new ds s.0 c.0 ops att (next_key l ds.shared s.0) ≡ F (perform me (register_new l s c ops att) holding)
+    newly : (st.gate s.0).shut ≡ false → registered_new ds s.0 c.0 ops att (next_key l ds.shared s.0)
+        ≡ F (perform me (register_new l s c ops att) holding)
     newly not_shut =
-        by_next (next_key l st s.0) ∙ sym (ap F (new-performed l holding me s c ops att free untaken exact fresh_mark fresh_free not_shut is_open))
+        by_next (next_key l st s.0) ∙ sym
+        (ap F (new-performed l holding me s c ops att free untaken exact fresh_mark fresh_free not_shut is_open))
       where
-        by_next : (o : Option KeyId) → registered_new ds s.0 c.0 ops att o ≡ F (made l holding me s c ops att free untaken exact fresh_mark fresh_free not_shut is_open o)
+        by_next : (o : Option KeyId) → registered_new ds s.0 c.0 ops att o
+            ≡ F (made l holding me s c ops att free untaken exact fresh_mark fresh_free not_shut is_open o)
         by_next None = refused ChannelError.Full reply.Full refl
         by_next (Some k) =
             (λ j. record { reply = reply.Key k; left = with_shared ds (sym (settled-new st s.0 c.0 k ops att) j) })
-            ∙ freed (λ h. record { reply = reply.Key k; left = documented (record (with_new_key st s.0 c.0 k ops att) { hold = h }) now })
+            ∙ freed (λ h. record {
+              reply = reply.Key k;
+              left =
+                  documented (record (with_new_key st s.0 c.0 k ops att) { hold = h }) now;
+            })
 
     unregistered : (b : Bool) → (st.gate s.0).shut ≡ b
-        → cond b (unchanged ds reply.ClosedSelector) (registered_new ds s.0 c.0 ops att (next_key l ds.shared s.0)) ≡ F (perform me (register_rest l s c ops att (if b then Some (Err ChannelError.ClosedSelector) else None)) holding)
+        → cond b (unchanged ds reply.ClosedSelector) (registered_new ds s.0 c.0 ops att (next_key l ds.shared s.0))
+        ≡ F (perform me (register_rest l s c ops att (if b then Some (Err ChannelError.ClosedSelector)
+        else None)) holding)
     unregistered true shut = refused ChannelError.ClosedSelector reply.ClosedSelector refl
     unregistered false not_shut = newly not_shut
 
@@ -182,54 +226,82 @@ module _ (l : Limits) (st : State) (now : Progress) (me : CallerNo) (s : SelNo) 
       abbrev finish : Performed (Option (Result KeyNo ChannelError)) → Answered
       finish done = F (perform me (register_rest l s c ops att done.answer) done.state)
 
-      by_key : (in_set : Bool) → is_in_key_set noted_stage k.serial ≡ in_set → (cancelled : Bool) → noted_stage.cancelled ≡ cancelled → (shut : Bool) → (st.gate s.0).shut ≡ shut
-          → registered l ds s.0 c.0 ops given (cond in_set (Some k) None) ≡ finish (over (in_set && cancelled) shut (is_valid_key noted_stage k.serial))
+      by_key : (in_set : Bool) → is_in_key_set noted_stage k.serial ≡ in_set → (cancelled : Bool)
+          → noted_stage.cancelled ≡ cancelled → (shut : Bool) → (st.gate s.0).shut ≡ shut
+          → registered l ds s.0 c.0 ops given (cond in_set (Some k) None)
+          ≡ finish (over (in_set && cancelled) shut (is_valid_key noted_stage k.serial))
       by_key true e cancelled e' shut e'' =
           let both = and_parts (fits noted_stage k.serial) (in_key_set noted_stage) e in
-          let present : noted_stage.removed ≡ false = not-true noted_stage.removed (and_parts noted_stage.published (not noted_stage.removed) both.1).1 in
-          (λ j. by_tests (not (present j) && e' j) (e'' j)) ∙ with_key_there cancelled shut (λ out. valid_where (fits noted_stage k.serial) (in_key_set noted_stage) noted_stage.cancelled e (e' ∙ out))
+          let present : noted_stage.removed ≡ false =
+          not-true noted_stage.removed (and_parts noted_stage.published (not noted_stage.removed) both.1).1 in
+          (λ j. by_tests (not (present j) && e' j) (e'' j))
+          ∙ with_key_there cancelled shut (λ out. valid_where (fits noted_stage k.serial)
+          (in_key_set noted_stage) noted_stage.cancelled e (e' ∙ out))
         where
           done : Answered
-          done = answered ds (reply.Key k) (with_note (with_interest ds.shared s.0 k.index ops) s.0 k.index (given_or_kept given (st.note s.0 k.index)))
+          done = answered ds (reply.Key k) (with_note (with_interest ds.shared s.0 k.index ops) s.0 k.index
+              (given_or_kept given (st.note s.0 k.index)))
 
           by_tests : Bool → Bool → Answered
           by_tests x y = cond x (unchanged ds reply.CancelledKey) (cond y (unchanged ds reply.ClosedSelector) done)
 
-          with_key_there : (x y : Bool) → (x ≡ false → is_valid_key noted_stage k.serial ≡ true) → by_tests x y ≡ finish (over x y (is_valid_key noted_stage k.serial))
+          with_key_there : (x y : Bool) → (x ≡ false → is_valid_key noted_stage k.serial ≡ true)
+              → by_tests x y ≡ finish (over x y (is_valid_key noted_stage k.serial))
           with_key_there true y valid = refused ChannelError.CancelledKey reply.CancelledKey refl
           with_key_there false true valid = refused ChannelError.ClosedSelector reply.ClosedSelector refl
           with_key_there false false valid =
-              ap (λ n. answered ds (reply.Key k) (with_note (with_interest ds.shared s.0 k.index ops) s.0 k.index n)) (kept-is given (st.note s.0 k.index))
-              ∙ (freed (λ h. record { reply = reply.Key k; left = documented (record (with_note (with_interest st s.0 k.index ops) s.0 k.index (if att == 0 then st.note s.0 k.index else att)) { hold = h }) now })
+              ap (λ n. answered ds (reply.Key k) (with_note (with_interest ds.shared s.0 k.index ops) s.0 k.index n))
+              (kept-is given (st.note s.0 k.index))
+              ∙ (freed (λ h. record {
+                reply = reply.Key k;
+                left =
+                    documented (record (with_note (with_interest st s.0 k.index ops) s.0 k.index
+                    (if att == 0 then st.note s.0 k.index else att)) { hold = h }) now;
+              })
               ∙ ap (λ v. finish (over false false v)) (sym (valid refl)))
       by_key false e cancelled e' true shut =
-          ap (λ b. cond b (unchanged ds reply.ClosedSelector) (registered_new ds s.0 c.0 ops att (next_key l ds.shared s.0))) shut ∙ refused ChannelError.ClosedSelector reply.ClosedSelector refl
+          ap (λ b. cond b (unchanged ds reply.ClosedSelector)
+          (registered_new ds s.0 c.0 ops att (next_key l ds.shared s.0))) shut
+          ∙ refused ChannelError.ClosedSelector reply.ClosedSelector refl
       by_key false e cancelled e' false not_shut =
-          ap (λ b. cond b (unchanged ds reply.ClosedSelector) (registered_new ds s.0 c.0 ops att (next_key l ds.shared s.0))) not_shut
-          ∙ (newly not_shut ∙ ap (λ v. finish (over false false v)) (sym (not_valid (fits noted_stage k.serial) (in_key_set noted_stage) noted_stage.cancelled e)))
+          ap (λ b. cond b (unchanged ds reply.ClosedSelector)
+          (registered_new ds s.0 c.0 ops att (next_key l ds.shared s.0))) not_shut
+          ∙ (newly not_shut
+          ∙ ap (λ v. finish (over false false v)) (sym (not_valid (fits noted_stage k.serial)
+          (in_key_set noted_stage) noted_stage.cancelled e)))
 
     by_noted : (o : Option KeyId) → st.noted c.0 s.0 ≡ o
-        → registered l ds s.0 c.0 ops given (if_in_key_set ds.shared s.0 o) ≡ F (perform me (register_over s ops att o >>= register_rest l s c ops att) holding)
+        → registered l ds s.0 c.0 ops given (if_in_key_set ds.shared s.0 o)
+        ≡ F (perform me (register_over s ops att o >>= register_rest l s c ops att) holding)
     by_noted None is = unregistered (st.gate s.0).shut refl
     by_noted (Some k) is =
         let stage = st.key s.0 k.index in
         by_key k (is_in_key_set stage k.serial) refl stage.cancelled refl (st.gate s.0).shut refl
-        ∙ sym (ap F (perform_then_on me (under_pin s k.index (register_noted s ops att k)) (register_rest l s c ops att) holding _ _
+        ∙ sym (ap F (perform_then_on me (under_pin s k.index (register_noted s ops att k))
+        (register_rest l s c ops att) holding _ _
         (over-performed l holding me s c ops att free untaken exact fresh_mark fresh_free is_open k)))
 
-  pub register-amounts : st.selector s.0 ≡ true → (st.chan c.0).made ≡ true → register_call l ds s c ops given ≡ amounts register_reply (λ _. now) (perform me (try_register_plan l s c ops att) st)
+  pub register-amounts : st.selector s.0 ≡ true → (st.chan c.0).made ≡ true
+      → register_call l ds s c ops given ≡ amounts register_reply (λ _. now)
+      (perform me (try_register_plan l s c ops att) st)
   unfolding register_call try_register_plan
   register-amounts selector made_c =
       let chan = st.chan c.0 in
       let legal = is_within ops (valid_operations chan.kind) in
       let stays = amounts register_reply (λ _. now) in
       selector-through ds s selector _ ∙ (channel-through ds c made_c _
-      ∙ branch stays me (Plan.reply (Err ChannelError.IllegalOps)) (if chan.closed then Plan.reply (Err ChannelError.ClosedChannel) else under_hold c (register_held l s c ops att)) st _ _ (not legal) (not legal) refl
+      ∙ branch stays me (Plan.reply (Err ChannelError.IllegalOps))
+      (if chan.closed then Plan.reply (Err ChannelError.ClosedChannel) else under_hold c
+      (register_held l s c ops att)) st _ _ (not legal) (not legal) refl
       (λ _. refl)
-      (λ _. branch stays me (Plan.reply (Err ChannelError.ClosedChannel)) (under_hold c (register_held l s c ops att)) st _ _ chan.closed chan.closed refl
+      (λ _. branch stays me (Plan.reply (Err ChannelError.ClosedChannel))
+      (under_hold c (register_held l s c ops att)) st _ _ chan.closed chan.closed refl
       (λ _. refl)
-      (λ is_open. branch F me (Plan.reply (Err ChannelError.IllegalBlockingMode)) (register_unblocked l s c ops att) holding _ _ chan.blocking chan.blocking refl
+      (λ is_open. branch F me (Plan.reply (Err ChannelError.IllegalBlockingMode))
+      (register_unblocked l s c ops att) holding _ _ chan.blocking chan.blocking refl
       (λ _. refused ChannelError.IllegalBlockingMode reply.IllegalBlockingMode refl)
       (λ _. by_noted is_open (st.noted c.0 s.0) refl)
-      ∙ (ap F (sym (perform_else me chan.closed (Plan.reply (Err ChannelError.ClosedChannel)) (if chan.blocking then Plan.reply (Err ChannelError.IllegalBlockingMode) else register_unblocked l s c ops att) holding is_open))
+      ∙ (ap F (sym (perform_else me chan.closed (Plan.reply (Err ChannelError.ClosedChannel))
+      (if chan.blocking then Plan.reply (Err ChannelError.IllegalBlockingMode)
+      else register_unblocked l s c ops att) holding is_open))
       ∙ sym (ap stays (perform_held me c (register_held l s c ops att) st unheld))))))

@@ -93,7 +93,8 @@ rests-closed l st rest c =
     let within = λ (s i : ℕ). index_in_set st s i (st.noted c s) in
     record {
       unused = rest.unused;
-      channels = channels-changed l st.channels_high st.chan rest.channels c (record (st.chan c) { closed = true }) refl;
+      channels =
+          channels-changed l st.channels_high st.chan rest.channels c (record (st.chan c) { closed = true }) refl;
       keys = keys-cancelled l st rest test within;
       frees = frees-cancelled l st rest test within;
     }
@@ -133,8 +134,10 @@ module _ (l : Limits) (st : ScriptState) (sound : Sound Now l st) (rest : Rests 
       named_key s k (cond valid a (unchanged st reply.CancelledKey)) (allowed valid reply.CancelledKey a (λ _. h))
 
   -- parts of which no other rests
-  beside : (interrupted : ℕ → Bool) (interest note : ℕ → ℕ → ℕ) → Rests l (record st.shared { interrupted = interrupted; interest = interest; note = note })
-  beside interrupted interest note = record { unused = rest.unused; channels = rest.channels; keys = rest.keys; frees = rest.frees }
+  beside : (interrupted : ℕ → Bool) (interest note : ℕ → ℕ → ℕ)
+      → Rests l (record st.shared { interrupted = interrupted; interest = interest; note = note })
+  beside interrupted interest note =
+      record { unused = rest.unused; channels = rest.channels; keys = rest.keys; frees = rest.frees }
 
   -- ---- opening, mode, registering and closing of channels
 
@@ -144,7 +147,8 @@ module _ (l : Limits) (st : ScriptState) (sound : Sound Now l st) (rest : Rests 
     where
       by_found : (o : Option ℕ) → Keeps (selector_made st o)
       by_found None = rest
-      by_found (Some s) = record { unused = rest.unused; channels = rest.channels; keys = rest.keys; frees = rest.frees }
+      by_found (Some s) =
+          record { unused = rest.unused; channels = rest.channels; keys = rest.keys; frees = rest.frees }
 
   rests-channel_call : (kind : Kind) → Keeps (channel_call l st kind)
   unfolding channel_call
@@ -159,15 +163,25 @@ module _ (l : Limits) (st : ScriptState) (sound : Sound Now l st) (rest : Rests 
   rests-blocking_call c on =
       named_channel c _ (denied (st.shared.chan c.0).closed reply.ClosedChannel _
       (λ _. denied (on && is_registered l st.shared c.0) reply.IllegalBlockingMode _
-      (λ _. record { unused = rest.unused; channels = channels-changed l st.shared.channels_high st.shared.chan rest.channels c.0 (record (st.shared.chan c.0) { blocking = on }) refl; keys = rest.keys; frees = rest.frees })))
+      (λ _. record {
+        unused = rest.unused;
+        channels =
+            channels-changed l st.shared.channels_high st.shared.chan rest.channels c.0
+            (record (st.shared.chan c.0) { blocking = on }) refl;
+        keys = rest.keys;
+        frees = rest.frees;
+      })))
 
   -- the index that a new key gets
-  next_low : (s : ℕ) (k : KeyId) → next_key l st.shared s ≡ Some k → (k.index ≤ st.shared.keys_high s) × (k.index < l.keys)
+  next_low : (s : ℕ) (k : KeyId) → next_key l st.shared s ≡ Some k
+      → (k.index ≤ st.shared.keys_high s) × (k.index < l.keys)
   next_low s k e = by_free (free_index st.shared s) refl e
     where
-      by_free : (o : Option ℕ) → free_index st.shared s ≡ o → next_by l st.shared s o ≡ Some k → (k.index ≤ st.shared.keys_high s) × (k.index < l.keys)
+      by_free : (o : Option ℕ) → free_index st.shared s ≡ o → next_by l st.shared s o ≡ Some k
+          → (k.index ≤ st.shared.keys_high s) × (k.index < l.keys)
       by_free (Some i) is now =
-          let low : i < st.shared.keys_high s = (found_below (λ j. st.shared.free s j) (st.shared.keys_high s) i is).1 in
+          let low : i < st.shared.keys_high s =
+          (found_below (λ j. st.shared.free s j) (st.shared.keys_high s) i is).1 in
           let within = rest.keys.within s in
           let index : i ≡ k.index = ap (λ o. index_or o) now in
           (omega arith, omega arith)
@@ -181,14 +195,17 @@ module _ (l : Limits) (st : ScriptState) (sound : Sound Now l st) (rest : Rests 
           index_or None = 0
           index_or (Some m) = m.index
 
-          by_room : (b : Bool) → nat_lt (st.shared.keys_high s) l.keys ≡ b → cond b (Some (record { index = st.shared.keys_high s; serial = 0 })) None ≡ Some k → (k.index ≤ st.shared.keys_high s) × (k.index < l.keys)
+          by_room : (b : Bool) → nat_lt (st.shared.keys_high s) l.keys ≡ b
+              → cond b (Some (record { index = st.shared.keys_high s; serial = 0 })) None ≡ Some k
+              → (k.index ≤ st.shared.keys_high s) × (k.index < l.keys)
           by_room true e' now' =
               let room : st.shared.keys_high s < l.keys = ltb-true (st.shared.keys_high s) l.keys e' in
               let index : st.shared.keys_high s ≡ k.index = ap (λ o. index_or o) now' in
               (omega arith, omega arith)
           by_room false e' now' = absurd cc
 
-  rests_new : (s c ops note : ℕ) (o : Option KeyId) → next_key l st.shared s ≡ o → Keeps (registered_new st s c ops note o)
+  rests_new : (s c ops note : ℕ) (o : Option KeyId) → next_key l st.shared s ≡ o
+      → Keeps (registered_new st s c ops note o)
   rests_new s c ops note None e = rest
   rests_new s c ops note (Some k) e =
       let low = next_low s k e in
@@ -200,12 +217,15 @@ module _ (l : Limits) (st : ScriptState) (sound : Sound Now l st) (rest : Rests 
       }
 
   rests_registered : (s c ops : ℕ) (att : Option ℕ) (o : Option KeyId) → Keeps (registered l st s c ops att o)
-  rests_registered s c ops att None = denied (st.shared.gate s).shut reply.ClosedSelector _ (λ _. rests_new s c ops (given_or_none att) (next_key l st.shared s) refl)
+  rests_registered s c ops att None =
+      denied (st.shared.gate s).shut reply.ClosedSelector _
+      (λ _. rests_new s c ops (given_or_none att) (next_key l st.shared s) refl)
   rests_registered s c ops att (Some k) =
       let i = k.index in
       denied (st.shared.key s i).cancelled reply.CancelledKey _
       (λ _. denied (st.shared.gate s).shut reply.ClosedSelector _
-      (λ _. beside st.shared.interrupted (put_at st.shared.interest s i ops) (put_at st.shared.note s i (given_or_kept att (st.shared.note s i)))))
+      (λ _. beside st.shared.interrupted (put_at st.shared.interest s i ops)
+      (put_at st.shared.note s i (given_or_kept att (st.shared.note s i)))))
 
   rests-register_call : (s : SelNo) (c : ChanNo) (ops : ℕ) (att : Option ℕ) → Keeps (register_call l st s c ops att)
   unfolding register_call
@@ -242,21 +262,30 @@ module _ (l : Limits) (st : ScriptState) (sound : Sound Now l st) (rest : Rests 
   rests-cancel_call : (s : SelNo) (k : KeyId) → Keeps (cancel_call st s k)
   unfolding cancel_call
   rests-cancel_call s k =
-      let test : ℕ → ℕ → Bool = λ t i. ((t == s.0) && (i == k.index)) && is_in_key_set (st.shared.key s.0 k.index) k.serial in
-      let same : (λ t i. cond (test t i) (cancelled_key (st.shared.key t i)) (st.shared.key t i)) ≡ put_at st.shared.key s.0 k.index (cancelled_in_set (st.shared.key s.0 k.index) k.serial) = λ j t i. sym (one_cancelled st.shared s.0 k t i) j in
+      let test : ℕ → ℕ → Bool =
+      λ t i. ((t == s.0) && (i == k.index)) && is_in_key_set (st.shared.key s.0 k.index) k.serial in
+      let same : (λ t i. cond (test t i) (cancelled_key (st.shared.key t i)) (st.shared.key t i))
+      ≡ put_at st.shared.key s.0 k.index (cancelled_in_set (st.shared.key s.0 k.index) k.serial) = λ j t i. sym
+      (one_cancelled st.shared s.0 k t i) j in
       named_key s k _ (record {
         unused = rest.unused;
         channels = rest.channels;
-        keys = subst (λ f. KeysRest l st.shared.keys_high f st.shared.mark st.shared.free) same (keys-cancelled l st.shared rest test within);
-        frees = subst (λ f. FreesRest st.shared.entered f st.shared.free) same (frees-cancelled l st.shared rest test within);
+        keys = subst (λ f. KeysRest l st.shared.keys_high f st.shared.mark st.shared.free) same
+            (keys-cancelled l st.shared rest test within);
+        frees = subst (λ f. FreesRest st.shared.entered f st.shared.free) same
+            (frees-cancelled l st.shared rest test within);
       })
     where
-      within : (t i : ℕ) → (((t == s.0) && (i == k.index)) && is_in_key_set (st.shared.key s.0 k.index) k.serial) ≡ true → in_key_set (st.shared.key t i) ≡ true
+      within : (t i : ℕ) → (((t == s.0) && (i == k.index)) && is_in_key_set (st.shared.key s.0 k.index) k.serial) ≡ true
+          → in_key_set (st.shared.key t i) ≡ true
       within t i h =
           let both = and_parts ((t == s.0) && (i == k.index)) (is_in_key_set (st.shared.key s.0 k.index) k.serial) h in
           let place = and_parts (t == s.0) (i == k.index) both.0 in
-          let there = (and_parts (fits (st.shared.key s.0 k.index) k.serial) (in_key_set (st.shared.key s.0 k.index)) both.1).1 in
-          subst (λ (n : ℕ). in_key_set (st.shared.key n i) ≡ true) (sym (eqb-true t s.0 place.0)) (subst (λ (n : ℕ). in_key_set (st.shared.key s.0 n) ≡ true) (sym (eqb-true i k.index place.1)) there)
+          let there =
+          (and_parts (fits (st.shared.key s.0 k.index) k.serial)
+          (in_key_set (st.shared.key s.0 k.index)) both.1).1 in
+          subst (λ (n : ℕ). in_key_set (st.shared.key n i) ≡ true) (sym (eqb-true t s.0 place.0))
+          (subst (λ (n : ℕ). in_key_set (st.shared.key s.0 n) ≡ true) (sym (eqb-true i k.index place.1)) there)
 
   rests-valid_call : (s : SelNo) (k : KeyId) → Keeps (valid_call st s k)
   unfolding valid_call
@@ -278,11 +307,15 @@ module _ (l : Limits) (st : ScriptState) (sound : Sound Now l st) (rest : Rests 
 
   rests-iset_call : (s : SelNo) (k : KeyId) (ops : ℕ) → Keeps (iset_call st s k ops)
   unfolding iset_call
-  rests-iset_call s k ops = valid_key s k _ (allowed (are_legal_at st.shared s.0 k.index ops) reply.IllegalOps _ (λ _. interest_set s.0 k.index ops))
+  rests-iset_call s k ops =
+      valid_key s k _ (allowed (are_legal_at st.shared s.0 k.index ops) reply.IllegalOps _
+      (λ _. interest_set s.0 k.index ops))
 
   rests-ior_call : (s : SelNo) (k : KeyId) (ops : ℕ) → Keeps (ior_call st s k ops)
   unfolding ior_call
-  rests-ior_call s k ops = valid_key s k _ (allowed (are_legal_at st.shared s.0 k.index ops) reply.IllegalOps _ (λ _. interest_set s.0 k.index (bit_or (st.shared.interest s.0 k.index) ops)))
+  rests-ior_call s k ops =
+      valid_key s k _ (allowed (are_legal_at st.shared s.0 k.index ops) reply.IllegalOps _
+      (λ _. interest_set s.0 k.index (bit_or (st.shared.interest s.0 k.index) ops)))
 
   rests-iand_call : (s : SelNo) (k : KeyId) (ops : ℕ) → Keeps (iand_call st s k ops)
   unfolding iand_call
@@ -292,11 +325,19 @@ module _ (l : Limits) (st : ScriptState) (sound : Sound Now l st) (rest : Rests 
   unfolding unselect_call
   rests-unselect_call s k =
       named_key s k _ (allowed (is_in_selected_set st.shared s.0 k) reply.No _
-      (λ _. record { unused = rest.unused; channels = rest.channels; keys = keys-unselected l st.shared rest s.0 k.index; frees = rest.frees }))
+      (λ _. record {
+        unused = rest.unused;
+        channels = rest.channels;
+        keys =
+            keys-unselected l st.shared rest s.0 k.index;
+        frees = rest.frees;
+      }))
 
   rests-attach_call : (s : SelNo) (k : KeyId) (att : ℕ) → Keeps (attach_call st s k att)
   unfolding attach_call
-  rests-attach_call s k att = named_key s k _ (allowed (fits (st.shared.key s.0 k.index) k.serial) (reply.Number 0) _ (λ _. note_set s.0 k.index att))
+  rests-attach_call s k att =
+      named_key s k _ (allowed (fits (st.shared.key s.0 k.index) k.serial) (reply.Number 0) _
+      (λ _. note_set s.0 k.index att))
 
   rests-attachment_call : (s : SelNo) (k : KeyId) → Keeps (attachment_call st s k)
   unfolding attachment_call
@@ -305,7 +346,8 @@ module _ (l : Limits) (st : ScriptState) (sound : Sound Now l st) (rest : Rests 
   -- ---- selections
 
   -- the cancelled keys that pass the test are removed by a selection
-  module _ (s : ℕ) (test : ℕ → Bool) (cancelled : (i : ℕ) → test i ≡ true → in_cancelled_set (st.shared.key s i) ≡ true) (marks : ℕ → ℕ → Mark)
+  module _ (s : ℕ) (test : ℕ → Bool) (cancelled : (i : ℕ) → test i ≡ true → in_cancelled_set (st.shared.key s i) ≡ true)
+      (marks : ℕ → ℕ → Mark)
       (quiet : (t i : ℕ) → nat_lt i (st.shared.keys_high t) ≡ false → marks t i ≡ st.shared.mark t i) where
     abbrev goes : ℕ → ℕ → Bool
     goes t i = (t == s) && test i
@@ -313,15 +355,19 @@ module _ (l : Limits) (st : ScriptState) (sound : Sound Now l st) (rest : Rests 
     goes_in_set : (t i : ℕ) → goes t i ≡ true → in_key_set (st.shared.key t i) ≡ true
     goes_in_set t i h =
         let both = and_parts (t == s) (test i) h in
-        subst (λ (n : ℕ). in_key_set (st.shared.key n i) ≡ true) (sym (eqb-true t s both.0)) (and_parts (in_key_set (st.shared.key s i)) (st.shared.key s i).cancelled (cancelled i both.1)).0
+        subst (λ (n : ℕ). in_key_set (st.shared.key n i) ≡ true) (sym (eqb-true t s both.0))
+        (and_parts (in_key_set (st.shared.key s i)) (st.shared.key s i).cancelled (cancelled i both.1)).0
 
-    swept_keys : KeysRest l st.shared.keys_high (λ t i. cond (goes t i) (removed_key (st.shared.key t i)) (st.shared.key t i)) (λ t i. cond (goes t i) (unselected (marks t i)) (marks t i)) (λ t i. (goes t i && comes_back Now (st.shared.key t i)) || st.shared.free t i)
+    swept_keys : KeysRest l st.shared.keys_high (λ t i. cond (goes t i) (removed_key (st.shared.key t i))
+        (st.shared.key t i)) (λ t i. cond (goes t i) (unselected (marks t i)) (marks t i))
+        (λ t i. (goes t i && comes_back Now (st.shared.key t i)) || st.shared.free t i)
     swept_keys =
         keys-removed l st.shared rest goes (comes_back Now) st.shared.entered marks
         (λ t i h. (and_parts (st.shared.key t i).published (not (st.shared.key t i).removed) (goes_in_set t i h)).0)
         quiet (λ _ h. h) (λ t i _ h. (goes_in_set t i h, refl))
 
-    swept_frees : FreesRest st.shared.entered (λ t i. cond (goes t i) (removed_key (st.shared.key t i)) (st.shared.key t i)) (λ t i. (goes t i && comes_back Now (st.shared.key t i)) || st.shared.free t i)
+    swept_frees : FreesRest st.shared.entered (λ t i. cond (goes t i) (removed_key (st.shared.key t i))
+        (st.shared.key t i)) (λ t i. (goes t i && comes_back Now (st.shared.key t i)) || st.shared.free t i)
     swept_frees =
         frees-removed l st.shared rest goes (comes_back Now) st.shared.entered marks
         (λ t i h. (and_parts (st.shared.key t i).published (not (st.shared.key t i).removed) (goes_in_set t i h)).0)
@@ -347,7 +393,8 @@ module _ (l : Limits) (st : ScriptState) (sound : Sound Now l st) (rest : Rests 
     unlooked : (i : ℕ) → nat_lt i (st.shared.keys_high s) ≡ false → is_looked x.looked (key_at st.shared s i) ≡ false
     unlooked i above = false_from_ne_true (is_looked x.looked (key_at st.shared s i)) (λ h.
         let in_set = (sound.looks s).in_set x is (key_at st.shared s i) h in
-        both_ways (in_key_set (st.shared.key s i)) (above-out l st.shared.keys_high st.shared.key st.shared.mark st.shared.free rest.keys s i above)
+        both_ways (in_key_set (st.shared.key s i))
+        (above-out l st.shared.keys_high st.shared.key st.shared.mark st.shared.free rest.keys s i above)
         (and_parts (fits (st.shared.key s i) (st.shared.key s i).serial) (in_key_set (st.shared.key s i)) in_set).1)
 
     no_interest : (looked : List (KeyId × ℕ)) (k : KeyId) → is_looked looked k ≡ false → looked_interest looked k ≡ 0
@@ -357,26 +404,37 @@ module _ (l : Limits) (st : ScriptState) (sound : Sound Now l st) (rest : Rests 
         ap (λ b. cond b q.1 (looked_interest looked k)) parts.0 ∙ no_interest looked k parts.1
 
     abbrev marks : ℕ → ℕ → Mark
-    marks t i = cond (t == s) (marked (st.shared.mark t i) (told_bits x.looked pairs (key_at st.shared t i))) (st.shared.mark t i)
+    marks t i =
+        cond (t == s) (marked (st.shared.mark t i) (told_bits x.looked pairs (key_at st.shared t i)))
+        (st.shared.mark t i)
 
     quiet_marks : (t i : ℕ) → nat_lt i (st.shared.keys_high t) ≡ false → marks t i ≡ st.shared.mark t i
     quiet_marks t i above = by_selector (t == s) refl
       where
-        here : nat_lt i (st.shared.keys_high s) ≡ false → marked (st.shared.mark s i) (told_bits x.looked pairs (key_at st.shared s i)) ≡ st.shared.mark s i
+        here : nat_lt i (st.shared.keys_high s) ≡ false
+            → marked (st.shared.mark s i) (told_bits x.looked pairs (key_at st.shared s i)) ≡ st.shared.mark s i
         here above' =
             let k = key_at st.shared s i in
-            ap (marked (st.shared.mark s i)) (ap (bit_and (all_told pairs k)) (no_interest x.looked k (unlooked i above')) ∙ and_zero_r (all_told pairs k))
+            ap (marked (st.shared.mark s i)) (ap (bit_and (all_told pairs k))
+            (no_interest x.looked k (unlooked i above')) ∙ and_zero_r (all_told pairs k))
 
-        by_selector : (b : Bool) → (t == s) ≡ b → cond b (marked (st.shared.mark t i) (told_bits x.looked pairs (key_at st.shared t i))) (st.shared.mark t i) ≡ st.shared.mark t i
+        by_selector : (b : Bool) → (t == s) ≡ b
+            → cond b (marked (st.shared.mark t i) (told_bits x.looked pairs (key_at st.shared t i)))
+            (st.shared.mark t i) ≡ st.shared.mark t i
         by_selector true there =
-            subst (λ (n : ℕ). nat_lt i (st.shared.keys_high n) ≡ false → marked (st.shared.mark n i) (told_bits x.looked pairs (key_at st.shared n i)) ≡ st.shared.mark n i) (sym (eqb-true t s there)) here above
+            subst (λ (n : ℕ). nat_lt i (st.shared.keys_high n) ≡ false
+            → marked (st.shared.mark n i) (told_bits x.looked pairs (key_at st.shared n i)) ≡ st.shared.mark n i)
+            (sym (eqb-true t s there)) here above
         by_selector false other = refl
 
     rests_told : (me : CallerNo) (elapsed : Bool) → Keeps (told_selection Now st me s pairs elapsed (Some x))
     rests_told me elapsed =
         let test : ℕ → Bool = λ i. is_looked x.looked (key_at st.shared s i) && in_cancelled_set (st.shared.key s i) in
-        let cancelled = λ (i : ℕ) (h : (is_looked x.looked (key_at st.shared s i) && in_cancelled_set (st.shared.key s i)) ≡ true). (and_parts (is_looked x.looked (key_at st.shared s i)) (in_cancelled_set (st.shared.key s i)) h).1 in
-        denied (is_again (st.shared.gate s) (st.shared.interrupted me.0) x.mode elapsed (updated_count st.shared s x.looked pairs)) reply.Again _
+        let cancelled =
+        λ (i : ℕ) (h : (is_looked x.looked (key_at st.shared s i) && in_cancelled_set (st.shared.key s i)) ≡ true).
+        (and_parts (is_looked x.looked (key_at st.shared s i)) (in_cancelled_set (st.shared.key s i)) h).1 in
+        denied (is_again (st.shared.gate s) (st.shared.interrupted me.0) x.mode elapsed
+        (updated_count st.shared s x.looked pairs)) reply.Again _
         (λ _. record {
           unused = rest.unused;
           channels = rest.channels;
@@ -391,11 +449,13 @@ module _ (l : Limits) (st : ScriptState) (sound : Sound Now l st) (rest : Rests 
       by_caller true now = now
       by_caller false now = absurd cc
 
-  rests-told_call : (me : CallerNo) (s : SelNo) (elapsed : Bool) (pairs : List (KeyId × ℕ)) → Keeps (told_call Now st me s elapsed pairs)
+  rests-told_call : (me : CallerNo) (s : SelNo) (elapsed : Bool) (pairs : List (KeyId × ℕ))
+      → Keeps (told_call Now st me s elapsed pairs)
   unfolding told_call
   rests-told_call me s elapsed pairs = named_selector s _ (by_own (own_selection st me s.0) (own_is me s.0))
     where
-      by_own : (o : Option Selection) → ((x : Selection) → o ≡ Some x → st.selection s.0 ≡ Some x) → Keeps (told_selection Now st me s.0 pairs elapsed o)
+      by_own : (o : Option Selection) → ((x : Selection) → o ≡ Some x → st.selection s.0 ≡ Some x)
+          → Keeps (told_selection Now st me s.0 pairs elapsed o)
       by_own None own = rest
       by_own (Some x) own = rests_told s.0 x (own x refl) pairs me elapsed
 
@@ -411,11 +471,20 @@ module _ (l : Limits) (st : ScriptState) (sound : Sound Now l st) (rest : Rests 
 
   rests-wakeup_call : (s : SelNo) → Keeps (wakeup_call st s)
   unfolding wakeup_call
-  rests-wakeup_call s = named_selector s _ (record { unused = rest.unused; channels = rest.channels; keys = rest.keys; frees = rest.frees })
+  rests-wakeup_call s =
+      named_selector s _ (record {
+        unused = rest.unused;
+        channels = rest.channels;
+        keys = rest.keys;
+        frees =
+            rest.frees;
+      })
 
   rests-interrupt_call : (target : CallerNo) → Keeps (interrupt_call l st target)
   unfolding interrupt_call
-  rests-interrupt_call target = allowed (nat_lt target.0 l.callers) reply.NoCaller _ (λ _. beside (put st.shared.interrupted target.0 true) st.shared.interest st.shared.note)
+  rests-interrupt_call target =
+      allowed (nat_lt target.0 l.callers) reply.NoCaller _
+      (λ _. beside (put st.shared.interrupted target.0 true) st.shared.interest st.shared.note)
 
   rests-interrupted_call : (me : CallerNo) → Keeps (interrupted_call st me)
   unfolding interrupted_call
@@ -424,7 +493,8 @@ module _ (l : Limits) (st : ScriptState) (sound : Sound Now l st) (rest : Rests 
   rests-close_call : (me : CallerNo) (s : SelNo) → Keeps (close_call st me s)
   unfolding close_call
   rests-close_call me s =
-      named_selector s _ (denied (st.shared.gate s.0).shut reply.Already _ (λ _. record { unused = rest.unused; channels = rest.channels; keys = rest.keys; frees = rest.frees }))
+      named_selector s _ (denied (st.shared.gate s.0).shut reply.Already _
+      (λ _. record { unused = rest.unused; channels = rest.channels; keys = rest.keys; frees = rest.frees }))
 
   -- the claimed keys of a selector are removed, and none of their indexes becomes free
   module _ (s : ℕ) where
@@ -437,7 +507,8 @@ module _ (l : Limits) (st : ScriptState) (sound : Sound Now l st) (rest : Rests 
     claimed_published : (t i : ℕ) → empties t i ≡ true → (st.shared.key t i).published ≡ true
     claimed_published t i h =
         let both = and_parts (t == s) (st.shared.key s i).claimed h in
-        subst (λ (n : ℕ). (st.shared.key n i).published ≡ true) (sym (eqb-true t s both.0)) (rest.keys.published s i ∙ (sym (rest.keys.claimed s i) ∙ both.1))
+        subst (λ (n : ℕ). (st.shared.key n i).published ≡ true) (sym (eqb-true t s both.0))
+        (rest.keys.published s i ∙ (sym (rest.keys.claimed s i) ∙ both.1))
 
     abbrev ended : ℕ → Bool
     ended = put st.shared.entered s true
@@ -449,21 +520,38 @@ module _ (l : Limits) (st : ScriptState) (sound : Sound Now l st) (rest : Rests 
         by_selector true e = absurd (both_ways true e refl)
         by_selector false e = e
 
-    none_go : (t i : ℕ) → ended t ≡ false → empties t i ≡ true → (in_key_set (st.shared.key t i) ≡ true) × (none (st.shared.key t i) ≡ nat_lt (st.shared.key t i).serial last_serial)
-    none_go t i h going = absurd (both_ways true (sym (ap (λ b. cond b true (st.shared.entered t)) (and_parts (t == s) (st.shared.key s i).claimed going).0) ∙ h) refl)
+    none_go : (t i : ℕ) → ended t ≡ false → empties t i ≡ true
+        → (in_key_set (st.shared.key t i) ≡ true) × (none (st.shared.key t i)
+        ≡ nat_lt (st.shared.key t i).serial last_serial)
+    none_go t i h going =
+        absurd (both_ways true (sym (ap (λ b. cond b true (st.shared.entered t))
+        (and_parts (t == s) (st.shared.key s i).claimed going).0) ∙ h) refl)
 
-    emptied_keys : KeysRest l st.shared.keys_high (λ t i. cond (empties t i) (removed_key (st.shared.key t i)) (st.shared.key t i)) (λ t i. cond (empties t i) (unselected (st.shared.mark t i)) (st.shared.mark t i)) (λ t i. (empties t i && false) || st.shared.free t i)
-    emptied_keys = keys-removed l st.shared rest empties none ended st.shared.mark claimed_published (λ _ _ _. refl) kept_open none_go
+    emptied_keys : KeysRest l st.shared.keys_high (λ t i. cond (empties t i) (removed_key (st.shared.key t i))
+        (st.shared.key t i)) (λ t i. cond (empties t i) (unselected (st.shared.mark t i)) (st.shared.mark t i))
+        (λ t i. (empties t i && false) || st.shared.free t i)
+    emptied_keys =
+        keys-removed l st.shared rest empties none ended st.shared.mark claimed_published
+        (λ _ _ _. refl) kept_open none_go
 
-    emptied_frees : FreesRest ended (λ t i. cond (empties t i) (removed_key (st.shared.key t i)) (st.shared.key t i)) (λ t i. (empties t i && false) || st.shared.free t i)
-    emptied_frees = frees-removed l st.shared rest empties none ended st.shared.mark claimed_published (λ _ _ _. refl) kept_open none_go
+    emptied_frees : FreesRest ended (λ t i. cond (empties t i) (removed_key (st.shared.key t i)) (st.shared.key t i))
+        (λ t i. (empties t i && false) || st.shared.free t i)
+    emptied_frees =
+        frees-removed l st.shared rest empties none ended st.shared.mark claimed_published
+        (λ _ _ _. refl) kept_open none_go
 
   rests-close_end_call : (me : CallerNo) (s : SelNo) → Keeps (close_end_call st me s)
   unfolding close_end_call
   rests-close_end_call me s =
       named_selector s _ (denied (not (is_caller me (st.shared.closer s.0)) || st.shared.entered s.0) reply.NotClosing _
       (λ _. denied (is_some (st.shared.turn s.0)) reply.Busy _
-      (λ _. record { unused = rest.unused; channels = rest.channels; keys = emptied_keys s.0; frees = emptied_frees s.0 })))
+      (λ _. record {
+        unused = rest.unused;
+        channels = rest.channels;
+        keys = emptied_keys s.0;
+        frees =
+            emptied_frees s.0;
+      })))
 
   rests_listed : (s : SelNo) (in_set : ℕ → Bool) → Keeps (listed st s in_set)
   rests_listed s in_set = named_selector s _ (denied (st.shared.gate s.0).shut reply.ClosedSelector _ (λ _. rest))
@@ -483,7 +571,8 @@ module _ (l : Limits) (st : ScriptState) (sound : Sound Now l st) (rest : Rests 
 
   rests-pipe_call : (me target : CallerNo) → Keeps (pipe_call l st me target)
   unfolding pipe_call
-  rests-pipe_call me target = allowed (nat_lt target.0 l.callers) reply.NoCaller _ (λ _. by_next (next_channel l st) refl)
+  rests-pipe_call me target =
+      allowed (nat_lt target.0 l.callers) reply.NoCaller _ (λ _. by_next (next_channel l st) refl)
     where
       by_next : (o : Option ℕ) → next_channel l st ≡ o → Keeps (with_source l st me target o)
       by_next None e = rest
@@ -560,4 +649,5 @@ module _ (l : Limits) (st : ScriptState) (sound : Sound Now l st) (rest : Rests 
 
   pub rests-seq : (me : CallerNo) (word : Call) → Keeps (seq Now l st me word)
   unfolding seq
-  rests-seq me word = allowed (nat_lt me.0 l.callers) reply.NoCaller (call_of Now l st me word) (λ _. rests-call_of me word)
+  rests-seq me word =
+      allowed (nat_lt me.0 l.callers) reply.NoCaller (call_of Now l st me word) (λ _. rests-call_of me word)

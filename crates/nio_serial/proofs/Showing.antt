@@ -38,8 +38,26 @@ Shows done = (t : ℕ) → IsShownBy done.state done.answer.left t
 abbrev pub ShowsBy : {R : Type 0} → (R → Progress) → Performed R → Type 0
 ShowsBy left done = (t : ℕ) → IsShownBy done.state (left done.answer) t
 
-made-shows : {R : Type 0} (me : CallerNo) (plan : Plan R) (said : R → Reply) (left : R → Progress) (st : State) → ShowsBy left (perform me plan st) → Shows (perform me (makes plan said left) st)
-made-shows me plan said left st shows = subst Shows (sym (perform-bind me plan (λ answer. Plan.reply (record { reply = said answer; left = left answer })) st)) shows
+made-shows : {R : Type 0} (me : CallerNo) (plan : Plan R) (said : R → Reply) (left : R → Progress) (st : State)
+    → ShowsBy left (perform me plan st) → Shows (perform me (makes plan said left) st)
+made-shows me plan said left st shows =
+    subst Shows (sym (perform-bind me plan (λ answer. Plan.reply
+    (record { reply = said answer; left = left answer })) st)) shows
+
+-- the selections and the closings in progress are as before
+pub record ShowsAsBefore (before after : Progress) : Type 0 where
+  pub selection : after.selection ≡ before.selection
+  pub closing : after.closing ≡ before.closing
+
+pub shows-on : (st : State) (before after : Progress) (t : ℕ) → ShowsAsBefore before after
+    → IsShownBy st before t → IsShownBy st after t
+shows-on st before after t same was = record {
+  turn = was.turn ∙ ap (λ f. option_map (λ (x : Selecting). x.caller) (f t)) (sym same.selection);
+  begun = was.begun ∙ ap (λ f. is_some (f t)) (sym same.selection);
+  on = subst (λ (f : ℕ → Option Selecting). (x : Selecting) → f t ≡ Some x → IsOn t x.selection)
+      (sym same.selection) was.on;
+  closing = ap (λ f. f t) same.closing ∙ was.closing;
+}
 
 -- the selections and the closings in progress are as before
 pub record ShowsAsBefore (before after : Progress) : Type 0 where
@@ -57,7 +75,8 @@ shows-on st before after t same was = record {
 
 module _ (l : Limits) (st : State) (now : Progress) (me : CallerNo) (between : IsBetween l st now) where
   -- a state with the same turns and closings
-  pub shows-same : (st' : State) → st'.turn ≡ st.turn → st'.begun ≡ st.begun → st'.closer ≡ st.closer → st'.entered ≡ st.entered → (t : ℕ) → IsShownBy st' now t
+  pub shows-same : (st' : State) → st'.turn ≡ st.turn → st'.begun ≡ st.begun → st'.closer ≡ st.closer
+      → st'.entered ≡ st.entered → (t : ℕ) → IsShownBy st' now t
   shows-same st' turns beguns closers entereds t =
       let was = between.shown t in
       record {
@@ -71,14 +90,19 @@ module _ (l : Limits) (st : State) (now : Progress) (me : CallerNo) (between : I
   refused-shows r t = between.shown t
 
   -- a selector on which this selection is in progress, or none
-  shows-selection : (st' : State) (s : SelNo) (x : Option Selecting) → st'.turn ≡ put st.turn s.0 (option_map (λ y. y.caller) x) → st'.begun ≡ put st.begun s.0 (is_some x) → st'.closer ≡ st.closer → st'.entered ≡ st.entered
+  shows-selection : (st' : State) (s : SelNo) (x : Option Selecting)
+      → st'.turn ≡ put st.turn s.0 (option_map (λ y. y.caller) x) → st'.begun ≡ put st.begun s.0 (is_some x)
+      → st'.closer ≡ st.closer → st'.entered ≡ st.entered
       → ((y : Selecting) → x ≡ Some y → IsOn s.0 y.selection) → (t : ℕ) → IsShownBy st' (with_selection now s x) t
   shows-selection st' s x turns beguns closers entereds on t =
       let was = between.shown t in
       record {
-        turn = ap (λ f. f t) turns ∙ put_both (λ _ a b. a ≡ option_map (λ y. y.caller) b) st.turn now.selection s.0 (option_map (λ y. y.caller) x) x refl t was.turn;
-        begun = ap (λ f. f t) beguns ∙ put_both (λ _ a b. a ≡ is_some b) st.begun now.selection s.0 (is_some x) x refl t was.begun;
-        on = put_keeps (λ n o. (y : Selecting) → o ≡ Some y → IsOn n y.selection) now.selection s.0 x (λ _. on) t was.on;
+        turn = ap (λ f. f t) turns ∙ put_both (λ _ a b. a ≡ option_map (λ y. y.caller) b) st.turn now.selection s.0
+            (option_map (λ y. y.caller) x) x refl t was.turn;
+        begun = ap (λ f. f t) beguns ∙ put_both (λ _ a b. a ≡ is_some b) st.begun now.selection s.0
+            (is_some x) x refl t was.begun;
+        on = put_keeps (λ n o. (y : Selecting) → o ≡ Some y → IsOn n y.selection) now.selection s.0 x
+            (λ _. on) t was.on;
         closing = was.closing ∙ (λ j. if sym entereds j t then None else sym closers j t);
       }
 
@@ -111,26 +135,37 @@ module _ (l : Limits) (st : State) (now : Progress) (me : CallerNo) (between : I
     selector-is : x.selector ≡ s
     selector-is = λ j. record { 0 = on.selector j }
 
-    in_set : (k : KeyId) → is_looked (map looked_pair x.looked) k ≡ true → is_in_key_set (st.key x.selector.0 k.index) k.serial ≡ true
-    in_set = subst (λ (n : ℕ). (k : KeyId) → is_looked (map looked_pair x.looked) k ≡ true → is_in_key_set (st.key n k.index) k.serial ≡ true) (sym on.selector) (looked_in_set l st now between s.0 y is)
+    in_set : (k : KeyId) → is_looked (map looked_pair x.looked) k ≡ true
+        → is_in_key_set (st.key x.selector.0 k.index) k.serial ≡ true
+    in_set =
+        subst (λ (n : ℕ). (k : KeyId) → is_looked (map looked_pair x.looked) k ≡ true
+        → is_in_key_set (st.key n k.index) k.serial ≡ true) (sym on.selector) (looked_in_set l st now between s.0 y is)
 
-    told-index : (elapsed : Bool) (told : List (ℕ × ℕ)) → ShowsBy (after_told now s) (perform me (told_plan x told elapsed) st)
+    told-index : (elapsed : Bool) (told : List (ℕ × ℕ))
+        → ShowsBy (after_told now s) (perform me (told_plan x told elapsed) st)
     told-index elapsed told =
         subst (λ (n : SelNo). ShowsBy (after_told now n) (perform me (told_plan x told elapsed) st)) selector-is
-        (told-cases st now me x (by_key x told) told on.rises in_set (by_key-tells x told) on.kept (none_due l st now between) (untaken l st now between x.selector.0) elapsed (ShowsBy (after_told now x.selector))
+        (told-cases st now me x (by_key x told) told on.rises in_set (by_key-tells x told) on.kept
+        (none_due l st now between) (untaken l st now between x.selector.0) elapsed
+        (ShowsBy (after_told now x.selector))
         (shows-same _ refl refl refl refl)
         (λ answer. shows-selection _ x.selector None refl refl refl refl (λ z e. absurd cc)))
 
-    told-one : (elapsed : Bool) (pairs : List (KeyId × ℕ)) → Shows (perform me (told_line now s elapsed pairs (Some x)) st)
-    told-one elapsed pairs = made-shows me (told_plan x (by_index x pairs) elapsed) told_reply (after_told now s) st (told-index elapsed (by_index x pairs))
+    told-one : (elapsed : Bool) (pairs : List (KeyId × ℕ))
+        → Shows (perform me (told_line now s elapsed pairs (Some x)) st)
+    told-one elapsed pairs =
+        made-shows me (told_plan x (by_index x pairs) elapsed) told_reply (after_told now s) st
+        (told-index elapsed (by_index x pairs))
 
     failed-one : Shows (perform me (failed_line now s (Some x)) st)
     unfolding leave_plan
     failed-one =
-        subst (λ (n : SelNo). Shows (perform me (makes (leave_plan x) (λ _. reply.Left) (λ _. with_selection now n None)) st)) selector-is
+        subst (λ (n : SelNo). Shows (perform me (makes (leave_plan x) (λ _. reply.Left)
+        (λ _. with_selection now n None)) st)) selector-is
         (shows-selection _ x.selector None refl refl refl refl (λ z e. absurd cc))
 
-  pub told-shows : (s : SelNo) (elapsed : Bool) (pairs : List (KeyId × ℕ)) (o : Option Selecting) → now.selection s.0 ≡ o → Shows (perform me (told_line now s elapsed pairs (if_own me o)) st)
+  pub told-shows : (s : SelNo) (elapsed : Bool) (pairs : List (KeyId × ℕ)) (o : Option Selecting)
+      → now.selection s.0 ≡ o → Shows (perform me (told_line now s elapsed pairs (if_own me o)) st)
   told-shows s elapsed pairs None is = between.shown
   told-shows s elapsed pairs (Some y) is = by_caller (y.caller.0 == me.0)
     where
@@ -138,7 +173,8 @@ module _ (l : Limits) (st : State) (now : Progress) (me : CallerNo) (between : I
       by_caller true = told-one s y is elapsed pairs
       by_caller false = between.shown
 
-  pub failed-shows : (s : SelNo) (o : Option Selecting) → now.selection s.0 ≡ o → Shows (perform me (failed_line now s (if_own me o)) st)
+  pub failed-shows : (s : SelNo) (o : Option Selecting) → now.selection s.0 ≡ o
+      → Shows (perform me (failed_line now s (if_own me o)) st)
   failed-shows s None is = between.shown
   failed-shows s (Some y) is = by_caller (y.caller.0 == me.0)
     where
@@ -147,15 +183,20 @@ module _ (l : Limits) (st : State) (now : Progress) (me : CallerNo) (between : I
       by_caller false = between.shown
 
   -- a `told` by index
-  pub told-index-shows : (s : SelNo) (x : Selection) (told : List (ℕ × ℕ)) (elapsed : Bool) → own_selection now me s ≡ Some x → ShowsBy (after_told now s) (perform me (told_plan x told elapsed) st)
+  pub told-index-shows : (s : SelNo) (x : Selection) (told : List (ℕ × ℕ)) (elapsed : Bool)
+      → own_selection now me s ≡ Some x → ShowsBy (after_told now s) (perform me (told_plan x told elapsed) st)
   told-index-shows s x told elapsed own = by_selection (now.selection s.0) refl own
     where
-      by_selection : (o : Option Selecting) → now.selection s.0 ≡ o → if_own me o ≡ Some x → ShowsBy (after_told now s) (perform me (told_plan x told elapsed) st)
+      by_selection : (o : Option Selecting) → now.selection s.0 ≡ o → if_own me o ≡ Some x
+          → ShowsBy (after_told now s) (perform me (told_plan x told elapsed) st)
       by_selection None is own' = absurd cc
       by_selection (Some y) is own' = by_caller (y.caller.0 == me.0) own'
         where
-          by_caller : (b : Bool) → cond b (Some y.selection) None ≡ Some x → ShowsBy (after_told now s) (perform me (told_plan x told elapsed) st)
-          by_caller true same = subst (λ (z : Selection). ShowsBy (after_told now s) (perform me (told_plan z told elapsed) st)) (some_same y.selection x same) (told-index s y is elapsed told)
+          by_caller : (b : Bool) → cond b (Some y.selection) None ≡ Some x
+              → ShowsBy (after_told now s) (perform me (told_plan x told elapsed) st)
+          by_caller true same =
+              subst (λ (z : Selection). ShowsBy (after_told now s) (perform me (told_plan z told elapsed) st))
+              (some_same y.selection x same) (told-index s y is elapsed told)
           by_caller false same = absurd cc
 
   -- ---- closings
@@ -172,16 +213,23 @@ module _ (l : Limits) (st : State) (now : Progress) (me : CallerNo) (between : I
       gate_after = with_gate st s.0 (record (st.gate s.0) { shut = true })
 
       by_shut : (b : Bool) → (st.gate s.0).shut ≡ b
-          → (t : ℕ) → IsShownBy (with_closer gate_after s.0 (if b then st.closer s.0 else Some me)) (after_shut now me s (if b then already_closed else closing)) t
-      by_shut true e t = shows-same (with_closer gate_after s.0 (st.closer s.0)) refl refl (put-here st.closer s.0 (st.closer s.0) refl) refl t
+          → (t : ℕ) → IsShownBy (with_closer gate_after s.0 (if b then st.closer s.0 else Some me))
+          (after_shut now me s (if b then already_closed else closing)) t
+      by_shut true e t =
+          shows-same (with_closer gate_after s.0 (st.closer s.0)) refl refl
+          (put-here st.closer s.0 (st.closer s.0) refl) refl t
       by_shut false e t =
           let was = between.shown t in
-          let not_entered : st.entered s.0 ≡ false = false_from_ne_true (st.entered s.0) (λ h. both_ways (st.gate s.0).shut e (((sound l st now between).closings s.0).entered_shut h)) in
+          let not_entered : st.entered s.0 ≡ false =
+          false_from_ne_true (st.entered s.0) (λ h. both_ways (st.gate s.0).shut e
+          (((sound l st now between).closings s.0).entered_shut h)) in
           record {
             turn = was.turn;
             begun = was.begun;
             on = was.on;
-            closing = put_both (λ n a b. a ≡ closing_by (st.entered n) b) now.closing st.closer s.0 (Some me) (Some me) (λ j. closing_by (sym not_entered j) (Some me)) t was.closing;
+            closing =
+                put_both (λ n a b. a ≡ closing_by (st.entered n) b) now.closing st.closer s.0 (Some me) (Some me)
+                (λ j. closing_by (sym not_entered j) (Some me)) t was.closing;
           }
 
   pub close_end-shows : (s : SelNo) → Shows (perform me (close_end_line now me s) st)
@@ -192,9 +240,12 @@ module _ (l : Limits) (st : State) (now : Progress) (me : CallerNo) (between : I
 
       by_caller : (b : Bool) → is_caller me (now.closing s.0) ≡ b → Shows (perform me (line b) st)
       by_caller true own =
-          let not_entered : st.entered s.0 ≡ false = false_from_ne_true (st.entered s.0) (λ h. both_ways (is_caller me (now.closing s.0)) (ap (is_caller me) ((between.shown s.0).closing ∙ ap (λ b. closing_by b (st.closer s.0)) h)) own) in
+          let not_entered : st.entered s.0 ≡ false =
+          false_from_ne_true (st.entered s.0) (λ h. both_ways (is_caller me (now.closing s.0))
+          (ap (is_caller me) ((between.shown s.0).closing ∙ ap (λ b. closing_by b (st.closer s.0)) h)) own) in
           made-shows me (try_finish_plan s) finish_reply (after_finish now s) st
-          (finish-cases st me s (begun l st now between s.0) (none_due l st now between s.0) not_entered (ShowsBy (after_finish now s))
+          (finish-cases st me s (begun l st now between s.0) (none_due l st now between s.0) not_entered
+          (ShowsBy (after_finish now s))
           between.shown
           (λ t.
           let was = between.shown t in
@@ -202,6 +253,9 @@ module _ (l : Limits) (st : State) (now : Progress) (me : CallerNo) (between : I
             turn = was.turn;
             begun = was.begun;
             on = was.on;
-            closing = put_both (λ n a b. a ≡ closing_by b (st.closer n)) now.closing st.entered s.0 None (st.entered s.0 || true) (λ j. closing_by (sym (λ i. not_entered i || true) j) (st.closer s.0)) t was.closing;
+            closing =
+                put_both (λ n a b. a ≡ closing_by b (st.closer n)) now.closing st.entered s.0 None
+                (st.entered s.0 || true) (λ j. closing_by (sym (λ i. not_entered i || true) j)
+                (st.closer s.0)) t was.closing;
           }))
       by_caller false other = between.shown

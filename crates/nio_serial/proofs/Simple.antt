@@ -1,5 +1,5 @@
 -- The calls of one look at a channel, those of one step, and those that open: they amount to the documented ones.
-use Rattle.std.proofs.Common.{◌≡◌, ℕ, suc, ◌+◌, ◌-◌, ◌<◌, ◌≤◌, max, nat_lt, Bool, true, false, cond, not, Option, Some, None, option_map, Result, Ok, Err, find, ⊎_elim, refl, ap, sym, ◌∙◌, arith}
+use Rattle.std.proofs.Common.{◌≡◌, ℕ, suc, ◌+◌, ◌-◌, ◌<◌, ◌≤◌, max, nat_lt, Bool, true, false, cond, not, Option, Some, None, option_map, Ok, Err, find, ⊎_elim, refl, ap, sym, ◌∙◌, arith}
 use Rattle.std.proofs.lemmas.Bool.{cases_lt, lt-ltb, le-ltb, not-true, not-false, cond-true}
 use Rattle.nio_base.specs.declared.kind.Kind.{Kind}
 use Rattle.nio_base.specs.declared.limits.Limits.{Limits}
@@ -59,7 +59,8 @@ module _ (st : State) (now : Progress) (me : CallerNo) where
     unfolding is_open_call is_open_plan
     is_open-amounts = channel-through ds c made _
 
-    pub is_registered-amounts : (l : Limits) → is_registered_call l ds c ≡ stays yes_or_no (perform me (is_registered_plan l c) st)
+    pub is_registered-amounts : (l : Limits)
+        → is_registered_call l ds c ≡ stays yes_or_no (perform me (is_registered_plan l c) st)
     unfolding is_registered_call
     is_registered-amounts l = channel-through ds c made _ ∙ sym (ap (stays yes_or_no) (registered-performed l me c st))
 
@@ -67,11 +68,13 @@ module _ (st : State) (now : Progress) (me : CallerNo) where
     named s None = refl
     named s (Some k) = refl
 
-    pub key_for-amounts : (s : SelNo) → st.selector s.0 ≡ true → key_for_call ds c s ≡ stays find_reply (perform me (key_for_plan c s) st)
+    pub key_for-amounts : (s : SelNo) → st.selector s.0 ≡ true
+        → key_for_call ds c s ≡ stays find_reply (perform me (key_for_plan c s) st)
     unfolding key_for_call
     key_for-amounts s there =
         channel-through ds c made _ ∙ (selector-through ds s there _
-        ∙ (ap (λ r. unchanged ds r) (named s (key_of st c.0 s.0)) ∙ sym (ap (stays find_reply) (key_for-performed me c s st))))
+        ∙ (ap (λ r. unchanged ds r) (named s (key_of st c.0 s.0))
+        ∙ sym (ap (stays find_reply) (key_for-performed me c s st))))
 
   -- ---- one step
 
@@ -85,18 +88,26 @@ module _ (st : State) (now : Progress) (me : CallerNo) where
     close-amounts = selector-through ds s made _ ∙ by_shut (st.gate s.0).shut refl
       where
         by_shut : (b : Bool) → (st.gate s.0).shut ≡ b
-            → cond b (unchanged ds reply.Already) (answered ds reply.Closing (with_closer (with_gate ds.shared s.0 (record (st.gate s.0) { shut = true })) s.0 (Some me)))
-            ≡ amounts shut_reply (after_shut now me s) (record { answer = cond b already_closed closing; state = with_closer (with_gate st s.0 (record (st.gate s.0) { shut = true })) s.0 (cond b (st.closer s.0) (Some me)) })
+            → cond b (unchanged ds reply.Already) (answered ds reply.Closing
+            (with_closer (with_gate ds.shared s.0 (record (st.gate s.0) { shut = true })) s.0 (Some me)))
+            ≡ amounts shut_reply (after_shut now me s) (record {
+              answer = cond b already_closed closing;
+              state =
+                  with_closer (with_gate st s.0 (record (st.gate s.0) { shut = true })) s.0
+                  (cond b (st.closer s.0) (Some me));
+            })
         by_shut true e = λ j. record {
           reply = reply.Already;
           left = documented (record st {
-            gate = sym (put-here st.gate s.0 (record (st.gate s.0) { shut = true }) (λ i. record (st.gate s.0) { shut = e i })) j;
+            gate = sym (put-here st.gate s.0 (record (st.gate s.0) { shut = true })
+                (λ i. record (st.gate s.0) { shut = e i })) j;
             closer = sym (put-here st.closer s.0 (st.closer s.0) refl) j;
           }) now;
         }
         by_shut false e = refl
 
-  pub interrupt-amounts : (l : Limits) (target : CallerNo) → target.0 < l.callers → interrupt_call l ds target ≡ stays (λ _. reply.«Ok») (perform me (interrupt_plan target) st)
+  pub interrupt-amounts : (l : Limits) (target : CallerNo) → target.0 < l.callers
+      → interrupt_call l ds target ≡ stays (λ _. reply.«Ok») (perform me (interrupt_plan target) st)
   unfolding interrupt_call interrupt_plan
   interrupt-amounts l target below = cond-true (nat_lt target.0 l.callers) _ _ (lt-ltb target.0 l.callers below)
 
@@ -113,17 +124,27 @@ module _ (st : State) (now : Progress) (me : CallerNo) where
       let o = find unmade (indexes 0 (l.selectors - 0)) in
       ap (selector_made ds) (sym (find-below unmade l.selectors))
       ∙ (by_found o
-      ∙ sym (ap (stays selector_reply) (perform_then_on me (seek_to l.selectors 0 (λ n. makes_selector (selector n))) (λ made. Plan.reply (opened_selector made)) st
-      (found_at st selector (λ n. with_selector st n true) o).answer (found_at st selector (λ n. with_selector st n true) o).state
-      (perform_seek me l.selectors 0 (λ n. makes_selector (selector n)) unmade selector st (λ n. with_selector st n true) (omega arith)
-      (λ n _ _ is. ap (made_already n) (not-false (st.selector n) is) ∙ ap (λ f. record { answer = None; state = record st { selector = f } }) (put-here st.selector n true (not-false (st.selector n) is)))
+      ∙ sym (ap (stays selector_reply) (perform_then_on me (seek_to l.selectors 0 (λ n. makes_selector (selector n)))
+      (λ made. Plan.reply (opened_selector made)) st
+      (found_at st selector (λ n. with_selector st n true) o).answer
+      (found_at st selector (λ n. with_selector st n true) o).state
+      (perform_seek me l.selectors 0 (λ n. makes_selector (selector n)) unmade selector st
+      (λ n. with_selector st n true) (omega arith)
+      (λ n _ _ is. ap (made_already n) (not-false (st.selector n) is)
+      ∙ ap (λ f. record { answer = None; state = record st { selector = f } })
+      (put-here st.selector n true (not-false (st.selector n) is)))
       (λ n _ _ is. ap (made_already n) (not-true (st.selector n) is))))))
     where
       made_already : ℕ → Bool → Performed (Option SelNo)
       made_already n b = record { answer = cond b None (Some (selector n)); state = with_selector st n true }
 
       by_found : (o : Option ℕ) → selector_made ds o
-          ≡ stays selector_reply (record { answer = opened_selector (found_at st selector (λ n. with_selector st n true) o).answer; state = (found_at st selector (λ n. with_selector st n true) o).state })
+          ≡ stays selector_reply (record {
+            answer =
+                opened_selector (found_at st selector (λ n. with_selector st n true) o).answer;
+            state =
+                (found_at st selector (λ n. with_selector st n true) o).state;
+          })
       by_found None = refl
       by_found (Some n) = refl
 
@@ -166,7 +187,8 @@ module _ (st : State) (now : Progress) (me : CallerNo) where
         state = with_chan st n (cond b (st.chan n) (new_channel kind));
       }
 
-      sought : m < l.channels → perform me (seek_to l.channels m makes) st ≡ record { answer = Some (channel m); state = left m }
+      sought : m < l.channels → perform me (seek_to l.channels m makes) st
+          ≡ record { answer = Some (channel m); state = left m }
       sought room =
           perform_seek me l.channels m makes unmade channel st left (omega arith)
           (λ n _ _ is. ap (turn n) (not-false (st.chan n).made is)

@@ -93,7 +93,8 @@ module _ (l : Limits) (st : ScriptState) where
   pub steady-blocking : (c : ChanNo) (on : Bool) → IsSteady st (blocking_call l st c on)
   unfolding blocking_call
   steady-blocking c on =
-      named_channel c _ (denied (st.shared.chan c.0).closed reply.ClosedChannel _ (denied (on && is_registered l st.shared c.0) reply.IllegalBlockingMode _
+      named_channel c _ (denied (st.shared.chan c.0).closed reply.ClosedChannel _
+      (denied (on && is_registered l st.shared c.0) reply.IllegalBlockingMode _
       (record { turn = refl; begun = refl; closer = refl; entered = refl })))
 
   pub steady-is_blocking : (c : ChanNo) → IsSteady st (is_blocking_call st c)
@@ -117,15 +118,21 @@ module _ (l : Limits) (st : ScriptState) where
   steady_new s c ops note (Some k) = record { turn = refl; begun = refl; closer = refl; entered = refl }
 
   steady_registered : (s c ops : ℕ) (att : Option ℕ) (o : Option KeyId) → IsSteady st (registered l st s c ops att o)
-  steady_registered s c ops att None = denied (st.shared.gate s).shut reply.ClosedSelector _ (steady_new s c ops (given_or_none att) (next_key l st.shared s))
+  steady_registered s c ops att None =
+      denied (st.shared.gate s).shut reply.ClosedSelector _
+      (steady_new s c ops (given_or_none att) (next_key l st.shared s))
   steady_registered s c ops att (Some k) =
-      denied (st.shared.key s k.index).cancelled reply.CancelledKey _ (denied (st.shared.gate s).shut reply.ClosedSelector _ (record { turn = refl; begun = refl; closer = refl; entered = refl }))
+      denied (st.shared.key s k.index).cancelled reply.CancelledKey _
+      (denied (st.shared.gate s).shut reply.ClosedSelector _
+      (record { turn = refl; begun = refl; closer = refl; entered = refl }))
 
-  pub steady-register : (s : SelNo) (c : ChanNo) (ops : ℕ) (att : Option ℕ) → IsSteady st (register_call l st s c ops att)
+  pub steady-register : (s : SelNo) (c : ChanNo) (ops : ℕ) (att : Option ℕ)
+      → IsSteady st (register_call l st s c ops att)
   unfolding register_call
   steady-register s c ops att =
       named_selector s _ (named_channel c _ (denied (not (are_legal (st.shared.chan c.0).kind ops)) reply.IllegalOps _
-      (denied (st.shared.chan c.0).closed reply.ClosedChannel _ (denied (st.shared.chan c.0).blocking reply.IllegalBlockingMode _
+      (denied (st.shared.chan c.0).closed reply.ClosedChannel _
+      (denied (st.shared.chan c.0).blocking reply.IllegalBlockingMode _
       (steady_registered s.0 c.0 ops att (key_of st.shared c.0 s.0))))))
 
   pub steady-closec : (me : CallerNo) (c : ChanNo) → IsSteady st (closec_call st me c)
@@ -148,11 +155,15 @@ module _ (l : Limits) (st : ScriptState) where
 
   pub steady-iset : (s : SelNo) (k : KeyId) (ops : ℕ) → IsSteady st (iset_call st s k ops)
   unfolding iset_call
-  steady-iset s k ops = valid_key s k _ (allowed (are_legal_at st.shared s.0 k.index ops) reply.IllegalOps _ (record { turn = refl; begun = refl; closer = refl; entered = refl }))
+  steady-iset s k ops =
+      valid_key s k _ (allowed (are_legal_at st.shared s.0 k.index ops) reply.IllegalOps _
+      (record { turn = refl; begun = refl; closer = refl; entered = refl }))
 
   pub steady-ior : (s : SelNo) (k : KeyId) (ops : ℕ) → IsSteady st (ior_call st s k ops)
   unfolding ior_call
-  steady-ior s k ops = valid_key s k _ (allowed (are_legal_at st.shared s.0 k.index ops) reply.IllegalOps _ (record { turn = refl; begun = refl; closer = refl; entered = refl }))
+  steady-ior s k ops =
+      valid_key s k _ (allowed (are_legal_at st.shared s.0 k.index ops) reply.IllegalOps _
+      (record { turn = refl; begun = refl; closer = refl; entered = refl }))
 
   pub steady-iand : (s : SelNo) (k : KeyId) (ops : ℕ) → IsSteady st (iand_call st s k ops)
   unfolding iand_call
@@ -164,11 +175,15 @@ module _ (l : Limits) (st : ScriptState) where
 
   pub steady-unselect : (s : SelNo) (k : KeyId) → IsSteady st (unselect_call st s k)
   unfolding unselect_call
-  steady-unselect s k = named_key s k _ (allowed (is_in_selected_set st.shared s.0 k) reply.No _ (record { turn = refl; begun = refl; closer = refl; entered = refl }))
+  steady-unselect s k =
+      named_key s k _ (allowed (is_in_selected_set st.shared s.0 k) reply.No _
+      (record { turn = refl; begun = refl; closer = refl; entered = refl }))
 
   pub steady-attach : (s : SelNo) (k : KeyId) (att : ℕ) → IsSteady st (attach_call st s k att)
   unfolding attach_call
-  steady-attach s k att = named_key s k _ (allowed (fits (st.shared.key s.0 k.index) k.serial) (reply.Number 0) _ (record { turn = refl; begun = refl; closer = refl; entered = refl }))
+  steady-attach s k att =
+      named_key s k _ (allowed (fits (st.shared.key s.0 k.index) k.serial) (reply.Number 0) _
+      (record { turn = refl; begun = refl; closer = refl; entered = refl }))
 
   pub steady-attachment : (s : SelNo) (k : KeyId) → IsSteady st (attachment_call st s k)
   unfolding attachment_call
@@ -188,7 +203,9 @@ module _ (l : Limits) (st : ScriptState) where
 
   pub steady-interrupt : (target : CallerNo) → IsSteady st (interrupt_call l st target)
   unfolding interrupt_call
-  steady-interrupt target = allowed (nat_lt target.0 l.callers) reply.NoCaller _ (record { turn = refl; begun = refl; closer = refl; entered = refl })
+  steady-interrupt target =
+      allowed (nat_lt target.0 l.callers) reply.NoCaller _
+      (record { turn = refl; begun = refl; closer = refl; entered = refl })
 
   pub steady-interrupted : (me : CallerNo) → IsSteady st (interrupted_call st me)
   unfolding interrupted_call
@@ -208,7 +225,8 @@ module _ (l : Limits) (st : ScriptState) where
 
   pub steady-pipe : (me target : CallerNo) → IsSteady st (pipe_call l st me target)
   unfolding pipe_call
-  steady-pipe me target = allowed (nat_lt target.0 l.callers) reply.NoCaller _ (steady_source me target (next_channel l st))
+  steady-pipe me target =
+      allowed (nat_lt target.0 l.callers) reply.NoCaller _ (steady_source me target (next_channel l st))
 
   steady_first : (blocking : Bool) (n i : ℕ) (waiting : List ℕ) (marked : Bool)
       → IsSteady st (read_first st blocking n i waiting marked)
@@ -231,7 +249,8 @@ module _ (l : Limits) (st : ScriptState) where
   steady_room : (blocking : Bool) (bytes : List ℕ) (i n : ℕ) → IsSteady st (write_first st blocking bytes i n)
   steady_room blocking bytes i n = both (n == 0) _ _ (same _) (piped (unchanged st reply.End) _ _ (same reply.End))
 
-  steady_write : (me : CallerNo) (c : ChanNo) (bytes : List ℕ) (place : Option ℕ) → IsSteady st (write_to st me c bytes place)
+  steady_write : (me : CallerNo) (c : ChanNo) (bytes : List ℕ) (place : Option ℕ)
+      → IsSteady st (write_to st me c bytes place)
   steady_write me c bytes None = same reply.NotOwner
   steady_write me c bytes (Some i) =
       both (st.shared.chan c.0).closed _ _ (marks (Some i) _ (same reply.ClosedChannel))

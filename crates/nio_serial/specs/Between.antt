@@ -1,11 +1,15 @@
 -- What holds between two calls of a serial history, in which each call ends before the next begins.
-use Rattle.std.specs.Prelude.{◌≡◌, ℕ, ◌<◌, ◌≤◌, nat_lt, ◌&&◌, if◌then◌else◌, IsTrue, IsFalse, Some, None, option_map, is_some, List, map}
+use Rattle.std.specs.Prelude.{◌≡◌, ℕ, ◌<◌, ◌≤◌, nat_lt, ◌&&◌, if◌then◌else◌, IsTrue, IsFalse, Some, None, option_map, is_some, List, length, map}
 use Rattle.std.specs.List.{AllPairs}
+use Rattle.nio_base.specs.declared.kind.Kind.{Kind}
+use Rattle.nio_base.specs.declared.kind.Kind.TheVariants.{Source, Sink}
 use Rattle.nio_base.specs.declared.limits.Limits.{Limits}
+use Rattle.nio_base.specs.declared.numbers.ChanNo.{ChanNo}
 use Rattle.nio_event.specs.State.{State, unclaimed, unmarked, last_serial}
 use Rattle.nio_event.specs.declared.call.ScriptCall.{ScriptCall}
+use Rattle.nio_event.specs.declared.found.Chan.{Chan}
 use Rattle.nio_plain.specs.Answer.{left_by_script}
-use Rattle.nio_plain.specs.ScriptState.{ScriptState}
+use Rattle.nio_plain.specs.ScriptState.{Pipe, ScriptState}
 use Rattle.nio_plain.specs.declared.rules.Rules.TheVariants.{Now}
 use Rattle.nio_steps.specs.SelectCalls.{Selection}
 use Rattle.nio_serial.specs.Documented.{Progress, Selecting, documented}
@@ -68,3 +72,15 @@ pub record IsBetween (l : Limits) (st : State) (now : Progress) : Type 0 where
   pub left : IsLeft l (documented st now)
   pub at_rest : IsAtRest l (documented st now).shared
   pub shown : (s : ℕ) → IsShownBy st now s
+
+-- ---- what follows of the pipes
+
+-- a made channel of this kind
+abbrev pub IsChannelOf : (ℕ → Chan) → ChanNo → Kind → Type 0
+IsChannelOf chan c kind = IsTrue (chan c.0).made × ((chan c.0).kind ≡ kind)
+
+-- a pipe whose ends are made channels of their kinds, and in which at most 65,536 bytes wait
+pub record IsWholePipe (chan : ℕ → Chan) (p : Pipe) : Type 0 where
+  pub source : IsChannelOf chan p.source Source
+  pub sink : IsChannelOf chan p.sink Sink
+  pub room : length p.waiting ≤ 65536

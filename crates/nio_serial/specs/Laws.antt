@@ -1,5 +1,6 @@
 -- The laws of calls that don't overlap.
 use Rattle.std.specs.Prelude.{◌≡◌, ℕ, ◌<◌, Bool, true, Some, List, ◌++◌, map, IsTrue, ⊤}
+use Rattle.std.specs.List.{All}
 use Rattle.nio_base.specs.Limits.{IsFit}
 use Rattle.nio_base.specs.declared.limits.Limits.{Limits}
 use Rattle.nio_base.specs.declared.numbers.CallerNo.{CallerNo}
@@ -23,7 +24,7 @@ use Rattle.nio_steps.specs.Calls.{CallClause}
 use Rattle.nio_steps.specs.Perform.{perform}
 use Rattle.nio_steps.specs.Runs.{Completes}
 use Rattle.nio_steps.specs.SelectCalls.{Selection, told_of, told_plan, try_begin_plan, keys_plan, selected_keys_plan, ToldReply}
-use Rattle.nio_serial.specs.Between.{IsBetween}
+use Rattle.nio_serial.specs.Between.{IsBetween, IsWholePipe}
 use Rattle.nio_serial.specs.Documented.{Progress, nothing_yet, looked_pair, documented, amounts}
 use Rattle.nio_serial.specs.Lines.{Said, comes_to, own_selection, after_told, call_plan, line_plan}
 use Rattle.nio_serial.specs.Replies.{told_reply}
@@ -89,9 +90,12 @@ by_key x told = map (λ entry. ((looked_pair entry).0, told_of told entry.index)
 
 -- A `told` gives what the poller told by index: it amounts to the documented call that names the looked keys.
 abbrev pub ToldAmounts : Type 0
-ToldAmounts = (l : Limits) (st : State) (now : Progress) (me : CallerNo) (s : SelNo) (x : Selection) (told : List (ℕ × ℕ)) (elapsed : Bool)
+ToldAmounts =
+    (l : Limits) (st : State) (now : Progress) (me : CallerNo) (s : SelNo) (x : Selection) (told : List (ℕ × ℕ))
+    (elapsed : Bool)
     → IsBetween l st now → IsMadeSelector st s → own_selection now me s ≡ Some x
-    → call_of Now l (documented st now) me (call.Told s elapsed (by_key x told)) ≡ amounts told_reply (after_told now s) (perform me (told_plan x told elapsed) st)
+    → call_of Now l (documented st now) me (call.Told s elapsed (by_key x told))
+    ≡ amounts told_reply (after_told now s) (perform me (told_plan x told elapsed) st)
 
 -- so do those of a line with its look-ups
 abbrev pub LinesAmount : Type 0
@@ -115,7 +119,9 @@ CallsStayBetween = (l : Limits) (st : State) (now : Progress) (me : CallerNo) (w
     IsBetween l done.state done.answer.left
 
 abbrev pub ToldStaysBetween : Type 0
-ToldStaysBetween = (l : Limits) (st : State) (now : Progress) (me : CallerNo) (s : SelNo) (x : Selection) (told : List (ℕ × ℕ)) (elapsed : Bool)
+ToldStaysBetween =
+    (l : Limits) (st : State) (now : Progress) (me : CallerNo) (s : SelNo) (x : Selection) (told : List (ℕ × ℕ))
+    (elapsed : Bool)
     → IsCaller l me → IsBetween l st now → IsMadeSelector st s → own_selection now me s ≡ Some x
     → let done = perform me (told_plan x told elapsed) st in
     IsBetween l done.state (after_told now s done.answer)
@@ -126,6 +132,11 @@ LinesStayBetween = (l : Limits) (st : State) (now : Progress) (me : CallerNo) (w
     → let done = perform me (line_plan l now me word) st in
     IsBetween l done.state done.answer.left
 
+-- so that each pipe is whole
+abbrev pub PipesAreWhole : Type 0
+PipesAreWhole =
+    (l : Limits) (st : State) (now : Progress) → IsBetween l st now → All (IsWholePipe st.chan) now.pipes
+
 -- A call for which there is no memory leaves the state as it was: it has no reply, and nothing is in progress by it.
 pub record LacksOnlyMemory (me : CallerNo) (s : SelNo) (mode : Mode) (st : State) : Type 0 where
   pub begins : (perform me (try_begin_plan s mode true) st).state ≡ st
@@ -133,34 +144,42 @@ pub record LacksOnlyMemory (me : CallerNo) (s : SelNo) (mode : Mode) (st : State
   pub selected : (perform me (selected_keys_plan s true) st).state ≡ st
 
 abbrev pub LackingLeaves : Type 0
-LackingLeaves = (l : Limits) (st : State) (now : Progress) (me : CallerNo) (s : SelNo) (mode : Mode) → IsBetween l st now → LacksOnlyMemory me s mode st
+LackingLeaves =
+    (l : Limits) (st : State) (now : Progress) (me : CallerNo) (s : SelNo) (mode : Mode) → IsBetween l st now
+    → LacksOnlyMemory me s mode st
 
 -- ---- the same of histories
 
--- What a call with this documented answer comes to in a history: it has the reply of the documented call, and leaves the
--- state of that call, between two calls again.
+-- What a call with this documented answer comes to in a history: it has the reply of the documented call, and leaves
+-- the state of that call, between two calls again.
 pub record Amounts (l : Limits) (answer : Answered) (after : List Event) (said : Said) : Type 0 where
   pub answered : answer ≡ record { reply = said.reply; left = documented (state_after after) said.left }
   pub between : IsBetween l (state_after after) said.left
 
 -- a run of a call that is legal after a history, with no event of another caller between
 abbrev pub CallRunsAmount : Type 0
-CallRunsAmount = (l : Limits) (now : Progress) (me : CallerNo) (word : Call) (past : List Event) (acts : List Act) (said : Said)
+CallRunsAmount =
+    (l : Limits) (now : Progress) (me : CallerNo) (word : Call) (past : List Event) (acts : List Act) (said : Said)
     → IsFit l → IsCaller l me → IsBetween l (state_after past) now → IsNamed l (state_after past) word
     → IsLegal l (past ++ map (event_of me) acts) → Completes (call_plan l now me word) acts said
     → Amounts l (call_of Now l (documented (state_after past) now) me word) (past ++ map (event_of me) acts) said
 
 -- the same of a `told` by index
 abbrev pub ToldRunsAmount : Type 0
-ToldRunsAmount = (l : Limits) (now : Progress) (me : CallerNo) (s : SelNo) (x : Selection) (told : List (ℕ × ℕ)) (elapsed : Bool) (past : List Event) (acts : List Act) (answer : ToldReply)
-    → IsCaller l me → IsBetween l (state_after past) now → IsMadeSelector (state_after past) s → own_selection now me s ≡ Some x
+ToldRunsAmount =
+    (l : Limits) (now : Progress) (me : CallerNo) (s : SelNo) (x : Selection) (told : List (ℕ × ℕ)) (elapsed : Bool)
+    (past : List Event) (acts : List Act) (answer : ToldReply)
+    → IsCaller l me → IsBetween l (state_after past) now → IsMadeSelector (state_after past) s
+    → own_selection now me s ≡ Some x
     → IsLegal l (past ++ map (event_of me) acts) → Completes (told_plan x told elapsed) acts answer
-    → Amounts l (call_of Now l (documented (state_after past) now) me (call.Told s elapsed (by_key x told))) (past ++ map (event_of me) acts)
+    → Amounts l (call_of Now l (documented (state_after past) now) me (call.Told s elapsed (by_key x told)))
+    (past ++ map (event_of me) acts)
     (record { reply = told_reply answer; left = after_told now s answer })
 
 -- the same of a line
 abbrev pub LineRunsAmount : Type 0
-LineRunsAmount = (l : Limits) (now : Progress) (me : CallerNo) (word : Call) (past : List Event) (acts : List Act) (said : Said)
+LineRunsAmount =
+    (l : Limits) (now : Progress) (me : CallerNo) (word : Call) (past : List Event) (acts : List Act) (said : Said)
     → IsFit l → IsBetween l (state_after past) now
     → IsLegal l (past ++ map (event_of me) acts) → Completes (line_plan l now me word) acts said
     → Amounts l (seq Now l (documented (state_after past) now) me word) (past ++ map (event_of me) acts) said

@@ -102,7 +102,8 @@ failed_line now s (Some x) = makes (leave_plan x) (λ _. reply.Left) (λ _. with
 
 abbrev pub close_end_line : Progress → CallerNo → SelNo → Plan Said
 close_end_line now me s =
-    if is_caller me (now.closing s.0) then makes (try_finish_plan s) finish_reply (after_finish now s) else refused now reply.NotClosing
+    if is_caller me (now.closing s.0) then makes (try_finish_plan s) finish_reply (after_finish now s)
+    else refused now reply.NotClosing
 
 -- a call on the group makes no step on the table: its reply and the group that it leaves follow from the group alone
 abbrev pub group_line : Progress → GroupCall → Plan Said
@@ -114,7 +115,8 @@ group_line now g = Plan.reply (record {
 -- a read or a write on the pipe at a place
 abbrev pub on_pipe : Progress → ℕ → Plan (Result Bool PipeError) → (Pipe → Result Bool PipeError → Piped) → Plan Said
 on_pipe now i plan gives =
-    makes plan (λ answer. (gives (pipe_at now i) answer).reply) (λ answer. with_pipe now i (gives (pipe_at now i) answer).left)
+    makes plan (λ answer. (gives (pipe_at now i) answer).reply)
+    (λ answer. with_pipe now i (gives (pipe_at now i) answer).left)
 
 -- of the caller's own pipe
 abbrev pub read_line : Limits → Progress → ChanNo → ℕ → Option ℕ → Plan Said
@@ -134,7 +136,8 @@ call_plan l now me (call.IsBlocking c) = asks now (is_blocking_plan c) yes_or_no
 call_plan l now me (call.IsOpen c) = asks now (is_open_plan c) yes_or_no
 call_plan l now me (call.IsRegistered c) = asks now (is_registered_plan l c) yes_or_no
 call_plan l now me (call.KeyFor c s) = asks now (key_for_plan c s) find_reply
-call_plan l now me (call.Register s c ops att) = asks now (try_register_plan l s c ops (given_or_none att)) register_reply
+call_plan l now me (call.Register s c ops att) =
+    asks now (try_register_plan l s c ops (given_or_none att)) register_reply
 call_plan l now me (call.Closec c) =
     makes (close_channel_plan l c) closed_reply (λ _. with_mark now (own_sink now me c))
 call_plan l now me (call.Valid s k) = asks now (is_valid_plan (key s k)) yes_or_no

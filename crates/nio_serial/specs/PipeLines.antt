@@ -1,5 +1,5 @@
--- Lines on pipes. The table has a pipe's channels; its bytes, its end mark and its owners stand beside the table. What a
--- line says and leaves in the pipe follows from the pipe and from what the call's plan answers.
+-- Lines on pipes. The table has a pipe's channels; its bytes, its end mark and its owners stand beside the table.
+-- What a line says and leaves in the pipe follows from the pipe and from what the call's plan answers.
 use Rattle.std.specs.Prelude.{ℕ, ◌==◌, Bool, true, false, if◌then◌else◌, Option, Result, Ok, Err, List, [], ◌∷◌, ◌++◌, length, take, drop, position, slice_index_or, slice_set}
 use Rattle.nio_base.specs.declared.numbers.CallerNo.{CallerNo}
 use Rattle.nio_base.specs.declared.numbers.ChanNo.{ChanNo}

@@ -1,5 +1,5 @@
 //! The laws, as the contracts of functions that do nothing.
-ghost use Rattle.nio_serial.specs.Laws.{CallsAmount, ToldAmounts, LinesAmount, BeginsBetween, DrawsStayBetween, CallsStayBetween, ToldStaysBetween, LinesStayBetween, CallRunsAmount, ToldRunsAmount, LineRunsAmount, PassLinesAmount, LackingLeaves};
+ghost use Rattle.nio_serial.specs.Laws.{CallsAmount, ToldAmounts, LinesAmount, BeginsBetween, DrawsStayBetween, CallsStayBetween, ToldStaysBetween, LinesStayBetween, PipesAreWhole, CallRunsAmount, ToldRunsAmount, LineRunsAmount, PassLinesAmount, LackingLeaves};
 ghost use Rattle.nio_serial.specs.Serial.{SerialLinesAmount};
 
 /// The steps of a call between which nobody comes amount to the documented call: the reply and the state
@@ -13,13 +13,15 @@ pub fn amounts_law()
 {}
 
 /// What holds between two calls of a serial history holds at the beginning, after each draw, after each
-/// call, and after each line.
+/// call, and after each line. Then the ends of each pipe are made channels of their kinds, and at most 65,536
+/// bytes wait in it.
 pub fn between_law()
     ensures begins { BeginsBetween }
     ensures draws { DrawsStayBetween }
     ensures calls { CallsStayBetween }
     ensures told { ToldStaysBetween }
     ensures lines { LinesStayBetween }
+    ensures pipes { PipesAreWhole }
 {}
 
 /// A run of a call in a legal history, with no event of another caller between, has the reply and leaves

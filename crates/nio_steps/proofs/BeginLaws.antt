@@ -9,7 +9,8 @@ use Rattle.nio_event.specs.declared.found.Mode.{Mode}
 use Rattle.nio_steps.proofs.Walks.{Always, always_if, always_bind, always_itself, always_run}
 use Rattle.nio_steps.specs.Plan.{reply}
 use Rattle.nio_steps.specs.Runs.{Completes}
-use Rattle.nio_steps.specs.SelectCalls.{Selection, LookedOver, Begins, try_begin_plan, begin_with_turn, begin_below, given_back, list_below, look_over}
+use Rattle.nio_steps.specs.SelectCalls.{Selection, LookedOver, Begins, try_begin_plan, begin_with_turn, begin_below}
+use Rattle.nio_steps.specs.SelectCalls.{given_back, list_below, look_over}
 use Rattle.nio_steps.specs.Steps.{gate_in, number_in, holder_in}
 use Rattle.nio_steps.specs.Sweeps.{sweep_over}
 use Rattle.nio_steps.specs.declared.refusal.BeginError.{BeginError}
@@ -35,7 +36,8 @@ pub record Begun (s : SelNo) (mode : Mode) (acts : List Act) (selection : Select
   pub asks_keys : question_of keys ≡ Question.look_keys s
   pub bound : selection.bound ≡ number_in (answer_of keys)
   pub runs_lists : Completes (list_below s selection.bound) lists listed
-  pub runs_over : Completes (sweep_over listed (look_over s) none_yet) over (record { looked = selection.looked; kept = selection.kept })
+  pub runs_over : Completes (sweep_over listed (look_over s) none_yet) over
+      (record { looked = selection.looked; kept = selection.kept })
   pub selector : selection.selector ≡ s
   pub mode_is : selection.mode ≡ mode
 
@@ -44,12 +46,17 @@ module _ (s : SelNo) (mode : Mode) where
   IsBegunBy acts (Ok selection) = Begun s mode acts selection
   IsBegunBy acts (Err refusal) = ⊤
 
-  below-begun : (gate take look keys : Act) → question_of gate ≡ Question.look_gate s → question_of take ≡ Question.take_turn s → question_of look ≡ Question.begin_look s → (gate_in (answer_of look)).shut ≡ false → question_of keys ≡ Question.look_keys s
-      → Always (λ acts r. IsBegunBy (gate ∷ take ∷ look ∷ keys ∷ acts) r) (begin_below s mode (number_in (answer_of keys)) false)
+  below-begun : (gate take look keys : Act) → question_of gate ≡ Question.look_gate s
+      → question_of take ≡ Question.take_turn s → question_of look ≡ Question.begin_look s
+      → (gate_in (answer_of look)).shut ≡ false → question_of keys ≡ Question.look_keys s
+      → Always (λ acts r. IsBegunBy (gate ∷ take ∷ look ∷ keys ∷ acts) r)
+      (begin_below s mode (number_in (answer_of keys)) false)
   below-begun gate take look keys asks_gate asks_take asks_look opens asks_keys =
       let bound = number_in (answer_of keys) in
-      always_bind (Completes (list_below s bound)) (λ acts r. IsBegunBy (gate ∷ take ∷ look ∷ keys ∷ acts) r) (list_below s bound) _ (always_itself (list_below s bound))
-      (λ xs listed lists. always_bind (Completes (sweep_over listed (look_over s) none_yet)) (λ acts r. IsBegunBy (gate ∷ take ∷ look ∷ keys ∷ (xs ++ acts)) r)
+      always_bind (Completes (list_below s bound)) (λ acts r. IsBegunBy (gate ∷ take ∷ look ∷ keys ∷ acts) r)
+      (list_below s bound) _ (always_itself (list_below s bound))
+      (λ xs listed lists. always_bind (Completes (sweep_over listed (look_over s) none_yet))
+      (λ acts r. IsBegunBy (gate ∷ take ∷ look ∷ keys ∷ (xs ++ acts)) r)
       (sweep_over listed (look_over s) none_yet) _ (always_itself (sweep_over listed (look_over s) none_yet))
       (λ ys found over. record {
         gate = gate;
@@ -74,10 +81,15 @@ module _ (s : SelNo) (mode : Mode) where
 
   begin-begun : Always IsBegunBy (try_begin_plan s mode false)
   unfolding try_begin_plan
-  begin-begun = λ gate asks_gate. always_if _ (gate_in (answer_of gate)).shut (reply (Err BeginError.ClosedSelector)) _ (λ _. tt)
-      (λ _ take asks_take. always_if _ (is_some (holder_in (answer_of take))) (reply (Err BeginError.Busy)) (begin_with_turn s mode false) (λ _. tt)
-      (λ _ look asks_look. always_if _ (gate_in (answer_of look)).shut (given_back s (Err BeginError.ClosedSelector)) _ (λ _ give _. tt)
+  begin-begun =
+      λ gate asks_gate. always_if _ (gate_in (answer_of gate)).shut (reply (Err BeginError.ClosedSelector)) _ (λ _. tt)
+      (λ _ take asks_take. always_if _ (is_some (holder_in (answer_of take))) (reply (Err BeginError.Busy))
+      (begin_with_turn s mode false) (λ _. tt)
+      (λ _ look asks_look. always_if _ (gate_in (answer_of look)).shut (given_back s (Err BeginError.ClosedSelector)) _
+      (λ _ give _. tt)
       (λ opens keys asks_keys. below-begun gate take look keys asks_gate asks_take asks_look opens asks_keys)))
 
-pub begin-parts : (s : SelNo) (mode : Mode) (acts : List Act) (selection : Selection) → Begins s mode acts (Ok selection) → Begun s mode acts selection
-begin-parts s mode acts selection run = always_run (IsBegunBy s mode) (try_begin_plan s mode false) acts (Ok selection) (begin-begun s mode) run
+pub begin-parts : (s : SelNo) (mode : Mode) (acts : List Act) (selection : Selection)
+    → Begins s mode acts (Ok selection) → Begun s mode acts selection
+begin-parts s mode acts selection run =
+    always_run (IsBegunBy s mode) (try_begin_plan s mode false) acts (Ok selection) (begin-begun s mode) run

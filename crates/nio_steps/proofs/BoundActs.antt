@@ -1,5 +1,7 @@
 -- How many acts a selection makes at an index, and why.
-use Rattle.std.proofs.Common.{◌≡◌, ℕ, ◌+◌, ◌<◌, ◌≤◌, ◌==◌, ◌&&◌, ◌⊎◌, inl, inr, nat_lt, Bool, true, false, Result, Ok, Err, List, [], ◌∷◌, ◌++◌, length, refl, ap, sym, ◌∙◌, subst, append_assoc, eqb-true, arith}
+use Rattle.std.proofs.Common.{◌≡◌, ℕ, ◌+◌, ◌<◌, ◌≤◌, ◌==◌, ◌&&◌, ◌⊎◌, inl, inr, nat_lt, Bool, true, false, Result, Ok}
+use Rattle.std.proofs.Common.{Err, List, [], ◌∷◌, ◌++◌, length, refl, ap, sym, ◌∙◌, subst, append_assoc, eqb-true}
+use Rattle.std.proofs.Common.{arith}
 use Rattle.std.specs.Prelude.{⊤}
 use Rattle.std.specs.List.{All, AllPairs, Contains}
 use Rattle.std.proofs.lemmas.List.Elements.{All-nil, All-push, All-weaker, Contains-push_cases}
@@ -28,7 +30,9 @@ use Rattle.nio_steps.proofs.Walks.{Always, always_if, always_bind, always_weaker
 use Rattle.nio_steps.proofs.Each.{Each}
 use Rattle.nio_steps.specs.Plan.{Plan, reply, ◌>>=◌, ◌>>◌, when}
 use Rattle.nio_steps.specs.Runs.{Completes}
-use Rattle.nio_steps.specs.SelectCalls.{LookedOver, look_over, look_valid, looked_key, remove_cancelled, mark_entry, mark_told, mark_looked, mark_again, told_bits, gains_nothing, remove_if_cancelled}
+use Rattle.nio_steps.specs.SelectCalls.{LookedOver, look_over, look_valid, looked_key, remove_cancelled, mark_entry}
+use Rattle.nio_steps.specs.SelectCalls.{mark_told, mark_looked, mark_again, told_bits, gains_nothing}
+use Rattle.nio_steps.specs.SelectCalls.{remove_if_cancelled}
 use Rattle.nio_steps.specs.Steps.{put_free, mark, mark_in, stage_in, operations_in, exchange_in}
 use Rattle.nio_steps.specs.Sweeps.{sweep_over}
 use Rattle.nio_steps.specs.declared.looked.LookedKey.{LookedKey}
@@ -48,10 +52,12 @@ abbrev pub acts_at : ℕ → ℕ → Act → Bool
 acts_at s i act = asks_at s i (question_of act)
 
 -- a plan of which each run is such
-runs_always : {R : Type 0} (Asks : Question → Type 0) (Replies : R → Type 0) (P : List Act → R → Type 0) (plan : Plan R) → Each Asks Replies plan
+runs_always : {R : Type 0} (Asks : Question → Type 0) (Replies : R → Type 0) (P : List Act → R → Type 0) (plan : Plan R)
+    → Each Asks Replies plan
     → ((acts : List Act) (r : R) → All (λ act. Asks (question_of act)) acts → Replies r → P acts r) → Always P plan
 runs_always Asks Replies P plan each fits =
-    always_weaker (Completes plan) P plan (λ acts r run. let of_run = each_run Asks Replies plan acts r each run in fits acts r of_run.0 of_run.1) (always_itself plan)
+    always_weaker (Completes plan) P plan (λ acts r run. let of_run = each_run Asks Replies plan acts r each run in
+    fits acts r of_run.0 of_run.1) (always_itself plan)
 
 none-counted : (p : Act → Bool) (acts : List Act) → All (λ act. p act ≡ false) acts → count p acts ≡ 0
 none-counted p acts each = count-none p acts (list_any_none p acts each)
@@ -137,7 +143,9 @@ module _ (s : SelNo) (i : ℕ) where
   not-removes_at _ e = refl
 
   abbrev PassesOn : LookedOver → LookedOver → Type 0
-  PassesOn found z = (NotLooked found → NotLooked z) × (NotKept found → NotKept z) × ((stage : Stage) → EntryOf stage found → EntryOf stage z)
+  PassesOn found z =
+      (NotLooked found → NotLooked z) × (NotKept found → NotKept z)
+      × ((stage : Stage) → EntryOf stage found → EntryOf stage z)
 
   turn-aside : (e : ℕ) (found : LookedOver) → (e ≡ i → ⊥) → Always (Aside found) (look_over s e found)
   turn-aside e found other =
@@ -147,13 +155,15 @@ module _ (s : SelNo) (i : ℕ) where
         looked = λ entry is. (
           λ none. All-push (λ x. x.index ≡ i → ⊥) found.looked entry none (λ same. other (sym is ∙ same)),
           λ none there. by_place none (Contains-push_cases found.kept e i there),
-          λ stage each. All-push (λ x. x.index ≡ i → IsOf stage x) found.looked entry each (λ same. absurd (other (sym is ∙ same))),
+          λ stage each. All-push (λ x. x.index ≡ i → IsOf stage x) found.looked entry each
+              (λ same. absurd (other (sym is ∙ same))),
         );
         kept = (λ h. h, λ none there. by_place none (Contains-push_cases found.kept e i there), λ stage h. h);
       }))
       (λ acts z each replies. record {
         none = none-counted (acts_at s.0 i) acts each;
-        spares = list_any_none (removes s.0 i) acts (All-weaker (λ act. NotAt (question_of act)) (λ act. removes s.0 i act ≡ false) not-removes_at acts each);
+        spares = list_any_none (removes s.0 i) acts
+            (All-weaker (λ act. NotAt (question_of act)) (λ act. removes s.0 i act ≡ false) not-removes_at acts each);
         looked = replies.0;
         kept = replies.1;
         entry = replies.2;
@@ -178,9 +188,12 @@ module _ (s : SelNo) (i : ℕ) where
       at_i = λ look asks.
           let stage = stage_in (answer_of look) in
           always_if (λ xs r. Seen (look ∷ xs) r) (in_cancelled_set stage) (remove_cancelled s i stage >> reply found) _
-          (λ _ remove _. always_bind (λ xs _. length xs ≤ 1) (λ xs r. Seen (look ∷ remove ∷ xs) r) (when (nat_lt stage.serial last_serial) (put_free s i)) (λ _. reply found)
-          (always_if (λ xs _. length xs ≤ 1) (nat_lt stage.serial last_serial) (put_free s i >> reply tt) (reply tt) (λ _ put _. omega arith) (λ _. omega arith))
-          (λ xs _ fits. is_dropped (short (look ∷ remove ∷ (xs ++ [])) 3 (by_length look remove xs fits)) not_looked not_kept))
+          (λ _ remove _. always_bind (λ xs _. length xs ≤ 1) (λ xs r. Seen (look ∷ remove ∷ xs) r)
+          (when (nat_lt stage.serial last_serial) (put_free s i)) (λ _. reply found)
+          (always_if (λ xs _. length xs ≤ 1) (nat_lt stage.serial last_serial) (put_free s i >> reply tt) (reply tt)
+          (λ _ put _. omega arith) (λ _. omega arith))
+          (λ xs _ fits. is_dropped (short (look ∷ remove ∷ (xs ++ [])) 3 (by_length look remove xs fits)) not_looked
+          not_kept))
           (λ _. always_if (λ xs r. Seen (look ∷ xs) r) (is_valid stage) (look_valid s i stage found) _
           (λ valid act asks'. is_looked (short (look ∷ act ∷ []) 2 (omega arith))
           (record {
@@ -192,14 +205,18 @@ module _ (s : SelNo) (i : ℕ) where
             spared = no_removal act asks';
           })
           (All-push (λ x. x.index ≡ i → IsOf stage x) found.looked (looked_key i stage (operations_in (answer_of act)))
-          (All-weaker (λ x. x.index ≡ i → ⊥) (λ x. x.index ≡ i → IsOf stage x) (λ x none same'. absurd (none same')) found.looked not_looked)
+          (All-weaker (λ x. x.index ≡ i → ⊥) (λ x. x.index ≡ i → IsOf stage x)
+          (λ x none same'. absurd (none same')) found.looked not_looked)
           (λ _. record { serial = refl; channel = refl })))
           (λ _. always_if (λ xs r. Seen (look ∷ xs) r) stage.removed (reply found) _
-          (λ _. is_dropped (short (look ∷ []) 3 (omega arith)) not_looked not_kept) (λ _. is_kept (short (look ∷ []) 1 (omega arith)) not_looked)))
+          (λ _. is_dropped (short (look ∷ []) 3 (omega arith)) not_looked not_kept)
+          (λ _. is_kept (short (look ∷ []) 1 (omega arith)) not_looked)))
 
   seen-on : (acts zs : List Act) (found z : LookedOver) → Aside found zs z → Seen acts found → Seen (acts ++ zs) z
-  seen-on acts zs found z aside (is_dropped fits not_looked not_kept) = is_dropped (more acts zs 3 fits aside.none) (aside.looked not_looked) (aside.kept not_kept)
-  seen-on acts zs found z aside (is_kept fits not_looked) = is_kept (more acts zs 1 fits aside.none) (aside.looked not_looked)
+  seen-on acts zs found z aside (is_dropped fits not_looked not_kept) =
+      is_dropped (more acts zs 3 fits aside.none) (aside.looked not_looked) (aside.kept not_kept)
+  seen-on acts zs found z aside (is_kept fits not_looked) =
+      is_kept (more acts zs 1 fits aside.none) (aside.looked not_looked)
   seen-on acts zs found z aside (is_looked fits valid of_stage) =
       is_looked (more acts zs 2 fits aside.none) (record {
         before = valid.before;
@@ -212,14 +229,17 @@ module _ (s : SelNo) (i : ℕ) where
 
   -- acts before, which made none at the index
   seen-later : (acts zs : List Act) (z : LookedOver) → At acts ≡ 0 → Seen zs z → Seen (acts ++ zs) z
-  seen-later acts zs z none (is_dropped fits not_looked not_kept) = is_dropped (omega (arith, count-append (acts_at s.0 i) acts zs)) not_looked not_kept
-  seen-later acts zs z none (is_kept fits not_looked) = is_kept (omega (arith, count-append (acts_at s.0 i) acts zs)) not_looked
+  seen-later acts zs z none (is_dropped fits not_looked not_kept) =
+      is_dropped (omega (arith, count-append (acts_at s.0 i) acts zs)) not_looked not_kept
+  seen-later acts zs z none (is_kept fits not_looked) =
+      is_kept (omega (arith, count-append (acts_at s.0 i) acts zs)) not_looked
   seen-later acts zs z none (is_looked fits valid of_stage) =
       is_looked (omega (arith, count-append (acts_at s.0 i) acts zs)) (record {
         before = acts ++ valid.before;
         stage = valid.stage;
         later = valid.later;
-        parts = ap (λ xs. acts ++ xs) valid.parts ∙ sym (append_assoc acts valid.before (LookKey s i valid.stage ∷ valid.later));
+        parts = ap (λ xs. acts ++ xs) valid.parts
+            ∙ sym (append_assoc acts valid.before (LookKey s i valid.stage ∷ valid.later));
         valid = valid.valid;
         spared = valid.spared;
       }) of_stage
@@ -233,14 +253,18 @@ module _ (s : SelNo) (i : ℕ) where
           not_looked = aside.looked unseen.not_looked;
           not_kept = aside.kept unseen.not_kept;
         }) (turn-aside e found other);
-    other_after = λ e acts found other seen. always_weaker (Aside found) (λ zs z. Seen (acts ++ zs) z) (look_over s e found) (λ zs z aside. seen-on acts zs found z aside seen) (turn-aside e found other);
-    here = λ e acts found same unseen. always_weaker Seen (λ zs z. Seen (acts ++ zs) z) (look_over s e found) (λ zs z seen. seen-later acts zs z unseen.none seen) (turn-here e found same unseen.not_looked unseen.not_kept);
+    other_after = λ e acts found other seen. always_weaker (Aside found) (λ zs z. Seen (acts ++ zs) z)
+        (look_over s e found) (λ zs z aside. seen-on acts zs found z aside seen) (turn-aside e found other);
+    here = λ e acts found same unseen. always_weaker Seen (λ zs z. Seen (acts ++ zs) z) (look_over s e found)
+        (λ zs z seen. seen-later acts zs z unseen.none seen) (turn-here e found same unseen.not_looked unseen.not_kept);
   }
 
-  pub over-visits : (listed : List ℕ) → AllPairs (λ a b. a < b) listed → Always (OneVisit (λ k. k) i Unseen Seen listed) (sweep_over listed (look_over s) none_yet)
+  pub over-visits : (listed : List ℕ) → AllPairs (λ a b. a < b) listed
+      → Always (OneVisit (λ k. k) i Unseen Seen listed) (sweep_over listed (look_over s) none_yet)
   over-visits listed rising =
       visits_once (λ k. k) i Unseen Seen listed (look_over s) none_yet rising
-      (record { none = refl; not_looked = All-nil (λ entry. entry.index ≡ i → ⊥); not_kept = contains-none i }) over-turns
+      (record { none = refl; not_looked = All-nil (λ entry. entry.index ≡ i → ⊥); not_kept = contains-none i })
+      over-turns
 
   -- ---- the marks
 
@@ -264,11 +288,15 @@ module _ (s : SelNo) (i : ℕ) where
   mark-look (LookMark s' i' found) asks = cc asks
   mark-look _ asks = absurd (cc asks)
 
-  failed-mark : (act : Act) (from : KeyMark) (told : ℕ) (stands : KeyMark) → question_of act ≡ Question.mark s i from told → exchange_in (answer_of act) ≡ Err stands → act ≡ Mark s i from told (Err stands)
+  failed-mark : (act : Act) (from : KeyMark) (told : ℕ) (stands : KeyMark)
+      → question_of act ≡ Question.mark s i from told → exchange_in (answer_of act) ≡ Err stands
+      → act ≡ Mark s i from told (Err stands)
   failed-mark (Mark s' i' from' told' found) from told stands asks is = cc
   failed-mark _ from told stands asks is = absurd (cc asks)
 
-  again-marks : (look act : Act) (told : ℕ) (was : KeyMark) → look ≡ LookMark s i was → question_of act ≡ Question.mark s i was told → (found : Result (Unit {0}) KeyMark) → exchange_in (answer_of act) ≡ found
+  again-marks : (look act : Act) (told : ℕ) (was : KeyMark) → look ≡ LookMark s i was
+      → question_of act ≡ Question.mark s i was told → (found : Result (Unit {0}) KeyMark)
+      → exchange_in (answer_of act) ≡ found
       → Always (λ xs n. Marked (look ∷ act ∷ xs) n) (mark_again s i told found)
   again-marks look act told was looks asks (Ok u) is = is_marked (short (look ∷ act ∷ []) 2 (omega arith))
   again-marks look act told was looks asks (Err stands) is = λ second _.
@@ -279,19 +307,24 @@ module _ (s : SelNo) (i : ℕ) where
         told = told;
         stands = stands;
         later = second ∷ [];
-        parts = ap (λ x. x ∷ act ∷ second ∷ []) looks ∙ ap (λ x. LookMark s i was ∷ x ∷ second ∷ []) (failed-mark act was told stands asks is);
+        parts = ap (λ x. x ∷ act ∷ second ∷ []) looks
+            ∙ ap (λ x. LookMark s i was ∷ x ∷ second ∷ []) (failed-mark act was told stands asks is);
       })
 
-  entry-marks : (pairs : List (ℕ × ℕ)) (entry : LookedKey) (before : ℕ) → entry.index ≡ i → Always Marked (mark_entry s pairs entry before)
+  entry-marks : (pairs : List (ℕ × ℕ)) (entry : LookedKey) (before : ℕ) → entry.index ≡ i
+      → Always Marked (mark_entry s pairs entry before)
   entry-marks pairs entry before same =
       let told = told_bits pairs entry in
       always_bind Marked Marked (mark_told s entry.index told) (λ marked. reply (before + marked))
       (subst (λ (k : ℕ). Always Marked (mark_told s k told)) (sym same)
       (always_if Marked (told == 0) (reply 0) (mark_looked s i told) (λ _. is_marked (short [] 2 (omega arith)))
-      (λ _ look asks. always_if (λ xs n. Marked (look ∷ xs) n) (gains_nothing (mark_in (answer_of look)) told) (reply 0) (mark s i (mark_in (answer_of look)) told >>= mark_again s i told)
+      (λ _ look asks. always_if (λ xs n. Marked (look ∷ xs) n) (gains_nothing (mark_in (answer_of look)) told) (reply 0)
+      (mark s i (mark_in (answer_of look)) told >>= mark_again s i told)
       (λ _. is_marked (short (look ∷ []) 2 (omega arith)))
-      (λ _ act asks'. again-marks look act told (mark_in (answer_of look)) (mark-look look asks) asks' (exchange_in (answer_of act)) refl))))
-      (λ xs marked here. subst (λ acts. Marked acts (before + marked)) (sym (append-nil xs)) (recounted xs marked (before + marked) here))
+      (λ _ act asks'. again-marks look act told (mark_in (answer_of look)) (mark-look look asks) asks'
+      (exchange_in (answer_of act)) refl))))
+      (λ xs marked here. subst (λ acts. Marked acts (before + marked)) (sym (append-nil xs))
+      (recounted xs marked (before + marked) here))
     where
       recounted : (xs : List Act) (m n : ℕ) → Marked xs m → Marked xs n
       recounted xs m n (is_marked fits) = is_marked fits
@@ -306,7 +339,9 @@ module _ (s : SelNo) (i : ℕ) where
         told = changed.told;
         stands = changed.stands;
         later = changed.later ++ zs;
-        parts = ap (λ xs. xs ++ zs) changed.parts ∙ append_assoc changed.before (LookMark s i changed.was ∷ Mark s i changed.was changed.told (Err changed.stands) ∷ changed.later) zs;
+        parts = ap (λ xs. xs ++ zs) changed.parts
+            ∙ append_assoc changed.before
+            (LookMark s i changed.was ∷ Mark s i changed.was changed.told (Err changed.stands) ∷ changed.later) zs;
       })
 
   marked-later : (acts zs : List Act) (m : ℕ) → At acts ≡ 0 → Marked zs m → Marked (acts ++ zs) m
@@ -318,23 +353,32 @@ module _ (s : SelNo) (i : ℕ) where
         told = changed.told;
         stands = changed.stands;
         later = changed.later;
-        parts = ap (λ xs. acts ++ xs) changed.parts ∙ sym (append_assoc acts changed.before (LookMark s i changed.was ∷ Mark s i changed.was changed.told (Err changed.stands) ∷ changed.later));
+        parts = ap (λ xs. acts ++ xs) changed.parts
+            ∙ sym (append_assoc acts changed.before
+            (LookMark s i changed.was ∷ Mark s i changed.was changed.told (Err changed.stands) ∷ changed.later));
       })
 
-  entry-aside : (pairs : List (ℕ × ℕ)) (entry : LookedKey) (before : ℕ) → (entry.index ≡ i → ⊥) → Always (λ zs _. At zs ≡ 0) (mark_entry s pairs entry before)
+  entry-aside : (pairs : List (ℕ × ℕ)) (entry : LookedKey) (before : ℕ) → (entry.index ≡ i → ⊥)
+      → Always (λ zs _. At zs ≡ 0) (mark_entry s pairs entry before)
   entry-aside pairs entry before other =
-      runs_always NotAt (λ _. ⊤) (λ zs _. At zs ≡ 0) (mark_entry s pairs entry before) (each_entry NotAt s pairs entry before (other-marks entry.index other))
+      runs_always NotAt (λ _. ⊤) (λ zs _. At zs ≡ 0) (mark_entry s pairs entry before)
+      (each_entry NotAt s pairs entry before (other-marks entry.index other))
       (λ acts _ each _. none-counted (acts_at s.0 i) acts each)
 
   pub marks-visits : (pairs : List (ℕ × ℕ)) (entries : List LookedKey) → AllPairs (λ a b. a.index < b.index) entries
       → Always (OneVisit (λ entry. entry.index) i Unmarked Marked entries) (sweep_over entries (mark_entry s pairs) 0)
   marks-visits pairs entries rising =
       visits_once (λ entry. entry.index) i Unmarked Marked entries (mark_entry s pairs) 0 rising refl (record {
-        other_before = λ entry acts n other none. always_weaker (λ zs _. At zs ≡ 0) (λ zs z. Unmarked (acts ++ zs) z) (mark_entry s pairs entry n)
+        other_before =
+            λ entry acts n other none. always_weaker (λ zs _. At zs ≡ 0) (λ zs z. Unmarked (acts ++ zs) z)
+            (mark_entry s pairs entry n)
             (λ zs z aside. omega (arith, count-append (acts_at s.0 i) acts zs)) (entry-aside pairs entry n other);
-        other_after = λ entry acts n other marked. always_weaker (λ zs _. At zs ≡ 0) (λ zs z. Marked (acts ++ zs) z) (mark_entry s pairs entry n)
+        other_after =
+            λ entry acts n other marked. always_weaker (λ zs _. At zs ≡ 0) (λ zs z. Marked (acts ++ zs) z)
+            (mark_entry s pairs entry n)
             (λ zs z aside. marked-on acts zs n z aside marked) (entry-aside pairs entry n other);
-        here = λ entry acts n same none. always_weaker Marked (λ zs z. Marked (acts ++ zs) z) (mark_entry s pairs entry n)
+        here = λ entry acts n same none. always_weaker Marked (λ zs z. Marked (acts ++ zs) z)
+            (mark_entry s pairs entry n)
             (λ zs z marked. marked-later acts zs z none marked) (entry-marks pairs entry n same);
       })
 
@@ -357,7 +401,8 @@ module _ (s : SelNo) (i : ℕ) where
   sweep-here : (e : ℕ) → e ≡ i → Always Swept (remove_if_cancelled s e)
   sweep-here e same = subst (λ (k : ℕ). Always Swept (remove_if_cancelled s k)) (sym same) at_i
     where
-      cancelled : (look : Act) (xs : List Act) → question_of look ≡ Question.look_key s i → in_cancelled_set (stage_in (answer_of look)) ≡ true → length xs ≤ 2 → (u : Unit {0}) → Swept (look ∷ xs) u
+      cancelled : (look : Act) (xs : List Act) → question_of look ≡ Question.look_key s i
+          → in_cancelled_set (stage_in (answer_of look)) ≡ true → length xs ≤ 2 → (u : Unit {0}) → Swept (look ∷ xs) u
       cancelled look xs asks is fits u =
           is_cancelled (short (look ∷ xs) 3 (omega arith)) (record {
             before = [];
@@ -370,14 +415,21 @@ module _ (s : SelNo) (i : ℕ) where
       at_i : Always Swept (remove_if_cancelled s i)
       at_i = λ look asks.
           let stage = stage_in (answer_of look) in
-          always_if (λ xs u. Swept (look ∷ xs) u) (in_cancelled_set stage) (remove_cancelled s i stage >> reply tt) (reply tt)
-          (λ is remove _. always_bind (λ xs _. length xs ≤ 1) (λ xs u. Swept (look ∷ remove ∷ xs) u) (when (nat_lt stage.serial last_serial) (put_free s i)) (λ _. reply tt)
-          (always_if (λ xs _. length xs ≤ 1) (nat_lt stage.serial last_serial) (put_free s i >> reply tt) (reply tt) (λ _ put _. omega arith) (λ _. omega arith))
-          (λ xs u fits. cancelled look (remove ∷ (xs ++ [])) asks is (subst (λ ys. length (remove ∷ ys) ≤ 2) (sym (append-nil xs)) (omega arith)) tt))
+          always_if (λ xs u. Swept (look ∷ xs) u) (in_cancelled_set stage) (remove_cancelled s i stage >> reply tt)
+          (reply tt)
+          (λ is remove _. always_bind (λ xs _. length xs ≤ 1) (λ xs u. Swept (look ∷ remove ∷ xs) u)
+          (when (nat_lt stage.serial last_serial) (put_free s i)) (λ _. reply tt)
+          (always_if (λ xs _. length xs ≤ 1) (nat_lt stage.serial last_serial) (put_free s i >> reply tt) (reply tt)
+          (λ _ put _. omega arith) (λ _. omega arith))
+          (λ xs u fits. cancelled look (remove ∷ (xs ++ [])) asks is
+          (subst (λ ys. length (remove ∷ ys) ≤ 2) (sym (append-nil xs)) (omega arith)) tt))
           (λ _. is_swept (short (look ∷ []) 1 (omega arith)))
 
   sweep-aside : (e : ℕ) → (e ≡ i → ⊥) → Always (λ zs _. At zs ≡ 0) (remove_if_cancelled s e)
-  sweep-aside e other = runs_always NotAt (λ _. ⊤) (λ zs _. At zs ≡ 0) (remove_if_cancelled s e) (each_remove_if_cancelled NotAt s e (other-asks e other)) (λ acts _ each _. none-counted (acts_at s.0 i) acts each)
+  sweep-aside e other =
+      runs_always NotAt (λ _. ⊤) (λ zs _. At zs ≡ 0) (remove_if_cancelled s e)
+      (each_remove_if_cancelled NotAt s e (other-asks e other))
+      (λ acts _ each _. none-counted (acts_at s.0 i) acts each)
 
   swept-on : (acts zs : List Act) (u v : Unit {0}) → At zs ≡ 0 → Swept acts u → Swept (acts ++ zs) v
   swept-on acts zs u v none (is_swept fits) = is_swept (more acts zs 1 fits none)
@@ -397,15 +449,21 @@ module _ (s : SelNo) (i : ℕ) where
         before = acts ++ found.before;
         stage = found.stage;
         later = found.later;
-        parts = ap (λ xs. acts ++ xs) found.parts ∙ sym (append_assoc acts found.before (LookKey s i found.stage ∷ found.later));
+        parts = ap (λ xs. acts ++ xs) found.parts
+            ∙ sym (append_assoc acts found.before (LookKey s i found.stage ∷ found.later));
         cancelled = found.cancelled;
       })
 
-  pub sweeps-visits : (kept : List ℕ) → AllPairs (λ a b. a < b) kept → Always (OneVisit (λ k. k) i Unswept Swept kept) (sweep_over kept (λ k _. remove_if_cancelled s k) tt)
+  pub sweeps-visits : (kept : List ℕ) → AllPairs (λ a b. a < b) kept
+      → Always (OneVisit (λ k. k) i Unswept Swept kept) (sweep_over kept (λ k _. remove_if_cancelled s k) tt)
   sweeps-visits kept rising =
       visits_once (λ k. k) i Unswept Swept kept (λ k _. remove_if_cancelled s k) tt rising refl (record {
-        other_before = λ e acts u other none. always_weaker (λ zs _. At zs ≡ 0) (λ zs z. Unswept (acts ++ zs) z) (remove_if_cancelled s e)
+        other_before =
+            λ e acts u other none. always_weaker (λ zs _. At zs ≡ 0) (λ zs z. Unswept (acts ++ zs) z)
+            (remove_if_cancelled s e)
             (λ zs z aside. omega (arith, count-append (acts_at s.0 i) acts zs)) (sweep-aside e other);
-        other_after = λ e acts u other swept. always_weaker (λ zs _. At zs ≡ 0) (λ zs z. Swept (acts ++ zs) z) (remove_if_cancelled s e) (λ zs z aside. swept-on acts zs u z aside swept) (sweep-aside e other);
-        here = λ e acts u same none. always_weaker Swept (λ zs z. Swept (acts ++ zs) z) (remove_if_cancelled s e) (λ zs z swept. swept-later acts zs z none swept) (sweep-here e same);
+        other_after = λ e acts u other swept. always_weaker (λ zs _. At zs ≡ 0) (λ zs z. Swept (acts ++ zs) z)
+            (remove_if_cancelled s e) (λ zs z aside. swept-on acts zs u z aside swept) (sweep-aside e other);
+        here = λ e acts u same none. always_weaker Swept (λ zs z. Swept (acts ++ zs) z) (remove_if_cancelled s e)
+            (λ zs z swept. swept-later acts zs z none swept) (sweep-here e same);
       })

@@ -1,5 +1,7 @@
 -- What happened where a selection marks a key twice, or removes a key that it looked at.
-use Rattle.std.proofs.Common.{◌≡◌, ℕ, ◌≤◌, ◌==◌, ◌&&◌, ◌||◌, cond, not, Bool, true, false, if◌then◌else◌, Result, Ok, Err, List, [], ◌∷◌, ◌++◌, map, refl, ap, sym, ◌∙◌, subst, append_assoc, eq-eqb, eqb-true, arith}
+use Rattle.std.proofs.Common.{◌≡◌, ℕ, ◌≤◌, ◌==◌, ◌&&◌, ◌||◌, cond, not, Bool, true, false, if◌then◌else◌, Result, Ok}
+use Rattle.std.proofs.Common.{Err, List, [], ◌∷◌, ◌++◌, map, refl, ap, sym, ◌∙◌, subst, append_assoc, eq-eqb, eqb-true}
+use Rattle.std.proofs.Common.{arith}
 use Rattle.std.specs.Bool.{beq}
 use Rattle.std.proofs.lemmas.Bool.{and_parts, and_from}
 use Rattle.std.proofs.lemmas.List.{append-nil, map-append}
@@ -28,7 +30,8 @@ use Rattle.nio_event.specs.Sets.{fits, in_key_set, in_cancelled_set, is_valid, i
 use Rattle.nio_event.specs.State.{State, put}
 use Rattle.nio_event.specs.Turns.{selects_on}
 use Rattle.nio_event.specs.declared.act.Act.{Act}
-use Rattle.nio_event.specs.declared.act.Act.TheVariants.{LookKey, CancelKey, Claim, Publish, BeginLook, Remove, LookMark, Mark, UnselectBit, EndWake, ClearMark, ClaimAgain}
+use Rattle.nio_event.specs.declared.act.Act.TheVariants.{LookKey, CancelKey, Claim, Publish, BeginLook, Remove}
+use Rattle.nio_event.specs.declared.act.Act.TheVariants.{LookMark, Mark, UnselectBit, EndWake, ClearMark, ClaimAgain}
 use Rattle.nio_event.specs.declared.event.Event.{Event}
 use Rattle.nio_event.specs.declared.found.GateWord.{GateWord}
 use Rattle.nio_event.specs.declared.found.Mark.{Mark as KeyMark}
@@ -48,9 +51,12 @@ pub record Turned (test : State → Bool) (past later : List Event) : Type 0 whe
   pub was : test (state_after (past ++ middle)) ≡ true
   pub turns : test (effect (state_after (past ++ middle)) event.caller event.act) ≡ false
 
-pub turned : (test : State → Bool) (past later : List Event) → test (state_after past) ≡ true → test (state_after (past ++ later)) ≡ false → Turned test past later
-turned test past [] was now = absurd (cc (sym was ∙ (ap (λ events. test (state_after events)) (sym (append-nil past)) ∙ now)))
-turned test past (e ∷ later) was now = by_test (test (effect (state_after past) e.caller e.act)) refl (turned test (past ++ e ∷ []) later)
+pub turned : (test : State → Bool) (past later : List Event) → test (state_after past) ≡ true
+    → test (state_after (past ++ later)) ≡ false → Turned test past later
+turned test past [] was now =
+    absurd (cc (sym was ∙ (ap (λ events. test (state_after events)) (sym (append-nil past)) ∙ now)))
+turned test past (e ∷ later) was now =
+    by_test (test (effect (state_after past) e.caller e.act)) refl (turned test (past ++ e ∷ []) later)
   where
     first : past ++ [] ≡ past
     first = append-nil past
@@ -59,7 +65,8 @@ turned test past (e ∷ later) was now = by_test (test (effect (state_after past
     joined = append_assoc past (e ∷ []) later
 
     by_test : (b : Bool) → test (effect (state_after past) e.caller e.act) ≡ b
-        → (test (state_after (past ++ e ∷ [])) ≡ true → test (state_after ((past ++ e ∷ []) ++ later)) ≡ false → Turned test (past ++ e ∷ []) later) → Turned test past (e ∷ later)
+        → (test (state_after (past ++ e ∷ [])) ≡ true → test (state_after ((past ++ e ∷ []) ++ later)) ≡ false
+        → Turned test (past ++ e ∷ []) later) → Turned test past (e ∷ later)
     by_test false is rec = record {
       middle = [];
       event = e;
@@ -69,15 +76,18 @@ turned test past (e ∷ later) was now = by_test (test (effect (state_after past
       turns = ap (λ events. test (effect (state_after events) e.caller e.act)) first ∙ is;
     }
     by_test true is rec =
-        let further = rec (ap test (state_after-more past e) ∙ is) (ap (λ events. test (state_after events)) joined ∙ now) in
-        let same : (past ++ e ∷ []) ++ further.middle ≡ past ++ e ∷ further.middle = append_assoc past (e ∷ []) further.middle in
+        let further = rec (ap test (state_after-more past e) ∙ is)
+        (ap (λ events. test (state_after events)) joined ∙ now) in
+        let same : (past ++ e ∷ []) ++ further.middle ≡ past ++ e ∷ further.middle = append_assoc past
+        (e ∷ []) further.middle in
         record {
           middle = e ∷ further.middle;
           event = further.event;
           rest = further.rest;
           parts = ap (λ events. e ∷ events) further.parts;
           was = ap (λ events. test (state_after events)) (sym same) ∙ further.was;
-          turns = ap (λ events. test (effect (state_after events) further.event.caller further.event.act)) (sym same) ∙ further.turns;
+          turns = ap (λ events. test (effect (state_after events) further.event.caller further.event.act)) (sym same)
+              ∙ further.turns;
         }
 
 -- ---- cancelling, and taking out of the selected set
@@ -95,15 +105,23 @@ both_ways true is is_not = cc is_not
 both_ways false is is_not = cc is
 
 -- a key that isn't cancelled is cancelled by nothing else
-uncancelled_kept : (st : State) (me : CallerNo) (act : Act) (s i : ℕ) → cancels_at s i act ≡ false → (st.key s i).cancelled ≡ false → ((effect st me act).key s i).cancelled ≡ false
+uncancelled_kept : (st : State) (me : CallerNo) (act : Act) (s i : ℕ) → cancels_at s i act ≡ false
+    → (st.key s i).cancelled ≡ false → ((effect st me act).key s i).cancelled ≡ false
 uncancelled_kept st me (CancelKey s' i' found) s i other = λ now.
-    put_at_keeps (λ m t k. ((s'.0 == m) && (i' == t)) ≡ false → k.cancelled ≡ false) st.key s'.0 i' _ (λ _ other'. absurd (both_ways ((s'.0 == s'.0) && (i' == i')) (same_two s'.0 i') other')) s i (λ _. now) other
-uncancelled_kept st me (Claim s' i' c true) s i other = put_at_keeps (λ _ _ k. k.cancelled ≡ false) st.key s'.0 i' _ (λ h. h) s i
-uncancelled_kept st me (Claim s' i' c false) s i other = put_at_keeps (λ _ _ k. k.cancelled ≡ false) st.key s'.0 i' (new_key c 0) (λ _. refl) s i
-uncancelled_kept st me (Publish s' i' found) s i other = put_at_keeps (λ _ _ k. k.cancelled ≡ false) st.key s'.0 i' _ (λ h. h) s i
-uncancelled_kept st me (Remove s' i' found) s i other = put_at_keeps (λ _ _ k. k.cancelled ≡ false) st.key s'.0 i' _ (λ h. h) s i
-uncancelled_kept st me (ClaimAgain s' i' c from true) s i other = put_at_keeps (λ _ _ k. k.cancelled ≡ false) st.key s'.0 i' _ (λ h. h) s i
-uncancelled_kept st me (ClaimAgain s' i' c from false) s i other = put_at_keeps (λ _ _ k. k.cancelled ≡ false) st.key s'.0 i' _ (λ _. refl) s i
+    put_at_keeps (λ m t k. ((s'.0 == m) && (i' == t)) ≡ false → k.cancelled ≡ false) st.key s'.0 i' _
+    (λ _ other'. absurd (both_ways ((s'.0 == s'.0) && (i' == i')) (same_two s'.0 i') other')) s i (λ _. now) other
+uncancelled_kept st me (Claim s' i' c true) s i other =
+    put_at_keeps (λ _ _ k. k.cancelled ≡ false) st.key s'.0 i' _ (λ h. h) s i
+uncancelled_kept st me (Claim s' i' c false) s i other =
+    put_at_keeps (λ _ _ k. k.cancelled ≡ false) st.key s'.0 i' (new_key c 0) (λ _. refl) s i
+uncancelled_kept st me (Publish s' i' found) s i other =
+    put_at_keeps (λ _ _ k. k.cancelled ≡ false) st.key s'.0 i' _ (λ h. h) s i
+uncancelled_kept st me (Remove s' i' found) s i other =
+    put_at_keeps (λ _ _ k. k.cancelled ≡ false) st.key s'.0 i' _ (λ h. h) s i
+uncancelled_kept st me (ClaimAgain s' i' c from true) s i other =
+    put_at_keeps (λ _ _ k. k.cancelled ≡ false) st.key s'.0 i' _ (λ h. h) s i
+uncancelled_kept st me (ClaimAgain s' i' c from false) s i other =
+    put_at_keeps (λ _ _ k. k.cancelled ≡ false) st.key s'.0 i' _ (λ _. refl) s i
 uncancelled_kept st me act s i other = λ now. now
 
 abbrev changes_mark : ℕ → ℕ → Act → Bool
@@ -112,17 +130,23 @@ changes_mark s i (UnselectBit s' i' found) = (s'.0 == s) && (i' == i)
 changes_mark s i (ClearMark s' i' found) = (s'.0 == s) && (i' == i)
 changes_mark s i _ = false
 
-mark_kept : (st : State) (me : CallerNo) (act : Act) (s i : ℕ) (was : KeyMark) → changes_mark s i act ≡ false → is_same_mark (st.mark s i) was ≡ true → is_same_mark ((effect st me act).mark s i) was ≡ true
+mark_kept : (st : State) (me : CallerNo) (act : Act) (s i : ℕ) (was : KeyMark) → changes_mark s i act ≡ false
+    → is_same_mark (st.mark s i) was ≡ true → is_same_mark ((effect st me act).mark s i) was ≡ true
 mark_kept st me (Mark s' i' from told found) s i was other = λ now.
-    put_at_keeps (λ m t k. ((s'.0 == m) && (i' == t)) ≡ false → is_same_mark k was ≡ true) st.mark s'.0 i' _ (λ _ other'. absurd (both_ways ((s'.0 == s'.0) && (i' == i')) (same_two s'.0 i') other')) s i (λ _. now) other
+    put_at_keeps (λ m t k. ((s'.0 == m) && (i' == t)) ≡ false → is_same_mark k was ≡ true) st.mark s'.0 i' _
+    (λ _ other'. absurd (both_ways ((s'.0 == s'.0) && (i' == i')) (same_two s'.0 i') other')) s i (λ _. now) other
 mark_kept st me (UnselectBit s' i' found) s i was other = λ now.
-    put_at_keeps (λ m t k. ((s'.0 == m) && (i' == t)) ≡ false → is_same_mark k was ≡ true) st.mark s'.0 i' _ (λ _ other'. absurd (both_ways ((s'.0 == s'.0) && (i' == i')) (same_two s'.0 i') other')) s i (λ _. now) other
+    put_at_keeps (λ m t k. ((s'.0 == m) && (i' == t)) ≡ false → is_same_mark k was ≡ true) st.mark s'.0 i' _
+    (λ _ other'. absurd (both_ways ((s'.0 == s'.0) && (i' == i')) (same_two s'.0 i') other')) s i (λ _. now) other
 mark_kept st me (ClearMark s' i' found) s i was other = λ now.
-    put_at_keeps (λ m t k. ((s'.0 == m) && (i' == t)) ≡ false → is_same_mark k was ≡ true) st.mark s'.0 i' _ (λ _ other'. absurd (both_ways ((s'.0 == s'.0) && (i' == i')) (same_two s'.0 i') other')) s i (λ _. now) other
+    put_at_keeps (λ m t k. ((s'.0 == m) && (i' == t)) ≡ false → is_same_mark k was ≡ true) st.mark s'.0 i' _
+    (λ _ other'. absurd (both_ways ((s'.0 == s'.0) && (i' == i')) (same_two s'.0 i') other')) s i (λ _. now) other
 mark_kept st me act s i was other = λ now. now
 
 same_as_itself : (was : KeyMark) → is_same_mark was was ≡ true
-same_as_itself was = and_from (beq was.selected was.selected) (was.ready == was.ready) (by_bool was.selected) (eq-eqb was.ready was.ready refl)
+same_as_itself was =
+    and_from (beq was.selected was.selected) (was.ready == was.ready) (by_bool was.selected)
+    (eq-eqb was.ready was.ready refl)
   where
     by_bool : (b : Bool) → beq b b ≡ true
     by_bool true = refl
@@ -131,9 +155,11 @@ same_as_itself was = and_from (beq was.selected was.selected) (was.ready == was.
 -- ---- counting
 
 -- an event among others counts
-pub counted : (p : Act → Bool) (before : List Event) (e : Event) (after : List Event) → p e.act ≡ true → 1 ≤ count p (map (λ x. x.act) (before ++ e ∷ after))
+pub counted : (p : Act → Bool) (before : List Event) (e : Event) (after : List Event) → p e.act ≡ true
+    → 1 ≤ count p (map (λ x. x.act) (before ++ e ∷ after))
 counted p before e after is =
-    let acts : map (λ x. x.act) (before ++ e ∷ after) ≡ map (λ x. x.act) before ++ e.act ∷ map (λ x. x.act) after = map-append (λ x. x.act) before (e ∷ after) in
+    let acts : map (λ x. x.act) (before ++ e ∷ after) ≡ map (λ x. x.act) before ++ e.act ∷ map (λ x. x.act) after =
+    map-append (λ x. x.act) before (e ∷ after) in
     let all = ap (count p) acts ∙ count-append p (map (λ x. x.act) before) (e.act ∷ map (λ x. x.act) after) in
     let one : cond {A = ℕ} (p e.act) 1 0 ≡ 1 = ap (λ (b : Bool). cond {A = ℕ} b 1 0) is in
     omega (arith, all, one, count-cons p e.act (map (λ x. x.act) after))
@@ -164,7 +190,8 @@ first_none (x ∷ xs) ys is = absurd (cc is)
 
 -- ---- while a selection is in progress
 
-module _ (l : Limits) (n : CallerNo) (past window rest : List Event) (s : SelNo) (found woken : GateWord) (fit : IsFit l)
+module _ (l : Limits) (n : CallerNo) (past window rest : List Event) (s : SelNo) (found woken : GateWord)
+    (fit : IsFit l)
     (legal : IsLegal l (past ++ event_of n (BeginLook s found) ∷ (window ++ event_of n (EndWake s woken) ∷ rest)))
     (opens : found.shut ≡ false) (none_gives : has (gives_turn s.0) (mine n window) ≡ false) where
   start : List Event
@@ -175,16 +202,19 @@ module _ (l : Limits) (n : CallerNo) (past window rest : List Event) (s : SelNo)
   unfolding start
   legal_at xs ys parts =
       let later : List Event = ys ++ event_of n (EndWake s woken) ∷ rest in
-      let joined : past ++ event_of n (BeginLook s found) ∷ (window ++ event_of n (EndWake s woken) ∷ rest) ≡ (start ++ xs) ++ later
+      let joined : past ++ event_of n (BeginLook s found) ∷ (window ++ event_of n (EndWake s woken) ∷ rest)
+      ≡ (start ++ xs) ++ later
       = sym (append_assoc past (event_of n (BeginLook s found) ∷ []) (window ++ event_of n (EndWake s woken) ∷ rest))
       ∙ (ap (λ w. start ++ (w ++ event_of n (EndWake s woken) ∷ rest)) parts
-      ∙ (ap (λ w. start ++ w) (append_assoc xs ys (event_of n (EndWake s woken) ∷ rest)) ∙ sym (append_assoc start xs later))) in
+      ∙ (ap (λ w. start ++ w) (append_assoc xs ys (event_of n (EndWake s woken) ∷ rest))
+      ∙ sym (append_assoc start xs later))) in
       legal_beginning l (start ++ xs) later (subst (IsLegal l) joined legal)
 
   step_at : (xs : List Event) (e : Event) (ys : List Event) → window ≡ xs ++ e ∷ ys → IsStep l (start ++ xs) e
   step_at xs e ys parts =
       let joined : (xs ++ e ∷ []) ++ ys ≡ xs ++ e ∷ ys = append_assoc xs (e ∷ []) ys in
-      legal_next l (start ++ xs) e [] (subst (IsLegal l) (sym (append_assoc start xs (e ∷ []))) (legal_at (xs ++ e ∷ []) ys (parts ∙ sym joined)))
+      legal_next l (start ++ xs) e []
+      (subst (IsLegal l) (sym (append_assoc start xs (e ∷ []))) (legal_at (xs ++ e ∷ []) ys (parts ∙ sym joined)))
 
   begun_first : has_begun (state_after start) n s ≡ true
   unfolding start
@@ -194,17 +224,23 @@ module _ (l : Limits) (n : CallerNo) (past window rest : List Event) (s : SelNo)
       let step = legal_next l past e (window ++ event_of n (EndWake s woken) ∷ rest) legal in
       let begins : (st.begun s.0 || not found.shut) ≡ true = by_second (st.begun s.0) (not found.shut) (ap not opens) in
       ap (λ x. has_begun x n s) (state_after-more past e)
-      ∙ and_from (has_turn st n s) (put st.begun s.0 (st.begun s.0 || not found.shut) s.0) step.condition.1 (put-same st.begun s.0 (st.begun s.0 || not found.shut) ∙ begins)
+      ∙ and_from (has_turn st n s) (put st.begun s.0 (st.begun s.0 || not found.shut) s.0) step.condition.1
+      (put-same st.begun s.0 (st.begun s.0 || not found.shut) ∙ begins)
 
   gives_none : (xs ys : List Event) → window ≡ xs ++ ys → has (gives_turn s.0) (mine n xs) ≡ false
-  gives_none xs ys parts = has_first (gives_turn s.0) (mine n xs) (mine n ys) (ap (has (gives_turn s.0)) (sym (mine-append n xs ys)) ∙ (ap (λ w. has (gives_turn s.0) (mine n w)) (sym parts) ∙ none_gives))
+  gives_none xs ys parts =
+      has_first (gives_turn s.0) (mine n xs) (mine n ys)
+      (ap (has (gives_turn s.0)) (sym (mine-append n xs ys))
+      ∙ (ap (λ w. has (gives_turn s.0) (mine n w)) (sym parts) ∙ none_gives))
 
   begun_at : (xs ys : List Event) → window ≡ xs ++ ys → has_begun (state_after (start ++ xs)) n s ≡ true
-  begun_at xs ys parts = only_itself_gives_back l n start xs (legal_at xs ys parts) (a_selection s) (gives_none xs ys parts) begun_first
+  begun_at xs ys parts =
+      only_itself_gives_back l n start xs (legal_at xs ys parts) (a_selection s) (gives_none xs ys parts) begun_first
 
   -- ---- a key that was valid and is cancelled was cancelled meanwhile
 
-  pub cancelled_meanwhile : (i : ℕ) (before between after : List Act) (was now : Stage) → mine n window ≡ before ++ LookKey s i was ∷ (between ++ LookKey s i now ∷ after)
+  pub cancelled_meanwhile : (i : ℕ) (before between after : List Act) (was now : Stage)
+      → mine n window ≡ before ++ LookKey s i was ∷ (between ++ LookKey s i now ∷ after)
       → is_valid was ≡ true → in_cancelled_set now ≡ true → 1 ≤ count (cancels_at s.0 i) (map (λ x. x.act) window)
   cancelled_meanwhile i before between after was now own valid cancelled =
       let first = cut_at n window before (LookKey s i was) (between ++ LookKey s i now ∷ after) own in
@@ -212,23 +248,34 @@ module _ (l : Limits) (n : CallerNo) (past window rest : List Event) (s : SelNo)
       let e0 = event_of n (LookKey s i was) in
       let e1 = event_of n (LookKey s i now) in
       let mid : List Event = first.past ++ e0 ∷ second.past in
-      let parts : window ≡ mid ++ e1 ∷ second.later = first.parts ∙ (ap (λ es. first.past ++ e0 ∷ es) second.parts ∙ sym (append_assoc first.past (e0 ∷ second.past) (e1 ∷ second.later))) in
-      let was_is : was ≡ (state_after (start ++ first.past)).key s.0 i = ap stage_in (step_at first.past e0 first.later first.parts).answers in
-      let now_is : now ≡ (state_after (start ++ mid)).key s.0 i = ap stage_in (step_at mid e1 second.later parts).answers in
+      let parts : window ≡ mid ++ e1 ∷ second.later = first.parts
+      ∙ (ap (λ es. first.past ++ e0 ∷ es) second.parts
+      ∙ sym (append_assoc first.past (e0 ∷ second.past) (e1 ∷ second.later))) in
+      let was_is : was ≡ (state_after (start ++ first.past)).key s.0 i = ap stage_in
+      (step_at first.past e0 first.later first.parts).answers in
+      let now_is : now ≡ (state_after (start ++ mid)).key s.0 i = ap stage_in
+      (step_at mid e1 second.later parts).answers in
       let test : State → Bool = λ st. not (st.key s.0 i).cancelled in
-      let before_is : test (state_after (start ++ first.past)) ≡ true = ap (λ (k : Stage). not k.cancelled) (sym was_is) ∙ (and_parts (in_key_set was) (not was.cancelled) valid).1 in
+      let before_is : test (state_after (start ++ first.past)) ≡ true = ap (λ (k : Stage). not k.cancelled) (sym was_is)
+      ∙ (and_parts (in_key_set was) (not was.cancelled) valid).1 in
       let after_is : test (state_after ((start ++ first.past) ++ e0 ∷ second.past)) ≡ false
       = ap (λ es. test (state_after es)) (append_assoc start first.past (e0 ∷ second.past))
-      ∙ (ap (λ (k : Stage). not k.cancelled) (sym now_is) ∙ ap not (and_parts (in_key_set now) now.cancelled cancelled).1) in
+      ∙ (ap (λ (k : Stage). not k.cancelled) (sym now_is)
+      ∙ ap not (and_parts (in_key_set now) now.cancelled cancelled).1) in
       let turn = turned test (start ++ first.past) (e0 ∷ second.past) before_is after_is in
       let whole : window ≡ (first.past ++ turn.middle) ++ turn.event ∷ (turn.rest ++ e1 ∷ second.later)
-      = parts ∙ (append_assoc first.past (e0 ∷ second.past) (e1 ∷ second.later) ∙ (ap (λ es. first.past ++ (es ++ e1 ∷ second.later)) turn.parts
-      ∙ (ap (λ es. first.past ++ es) (append_assoc turn.middle (turn.event ∷ turn.rest) (e1 ∷ second.later)) ∙ sym (append_assoc first.past turn.middle (turn.event ∷ (turn.rest ++ e1 ∷ second.later)))))) in
+      = parts ∙ (append_assoc first.past (e0 ∷ second.past) (e1 ∷ second.later)
+      ∙ (ap (λ es. first.past ++ (es ++ e1 ∷ second.later)) turn.parts
+      ∙ (ap (λ es. first.past ++ es) (append_assoc turn.middle (turn.event ∷ turn.rest) (e1 ∷ second.later))
+      ∙ sym (append_assoc first.past turn.middle (turn.event ∷ (turn.rest ++ e1 ∷ second.later)))))) in
       subst (λ w. 1 ≤ count (cancels_at s.0 i) (map (λ x. x.act) w)) (sym whole)
       (counted (cancels_at s.0 i) (first.past ++ turn.middle) turn.event (turn.rest ++ e1 ∷ second.later)
-      (by_cancel (cancels_at s.0 i turn.event.act) refl (uncancelled_kept (state_after ((start ++ first.past) ++ turn.middle)) turn.event.caller turn.event.act s.0 i) turn.was turn.turns))
+      (by_cancel (cancels_at s.0 i turn.event.act) refl
+      (uncancelled_kept (state_after ((start ++ first.past) ++ turn.middle)) turn.event.caller turn.event.act s.0 i)
+      turn.was turn.turns))
     where
-      by_cancel : {old new : Bool} (b : Bool) {c : Bool} → c ≡ b → (c ≡ false → old ≡ false → new ≡ false) → not old ≡ true → not new ≡ false → c ≡ true
+      by_cancel : {old new : Bool} (b : Bool) {c : Bool} → c ≡ b → (c ≡ false → old ≡ false → new ≡ false)
+          → not old ≡ true → not new ≡ false → c ≡ true
       by_cancel true is kept was_not turns = is
       by_cancel {old = true} false is kept was_not turns = absurd (cc was_not)
       by_cancel {old = false} {new = true} false is kept was_not turns = absurd (cc (sym (kept is refl)))
@@ -237,12 +284,16 @@ module _ (l : Limits) (n : CallerNo) (past window rest : List Event) (s : SelNo)
   -- ---- a mark that changed just before it was marked was taken out of the selected set
 
   module _ (i : ℕ) (before between after : List Act) (stage : Stage) (was stands : KeyMark) (told : ℕ)
-      (own : mine n window ≡ before ++ LookKey s i stage ∷ (between ++ LookMark s i was ∷ Mark s i was told (Err stands) ∷ after))
+      (own : mine n window ≡ before ++ LookKey s i stage
+      ∷ (between ++ LookMark s i was ∷ Mark s i was told (Err stands) ∷ after))
       (valid : is_valid stage ≡ true) (spared : has (removes s.0 i) between ≡ false) where
     -- the key is published at each moment between the look at its mark and the marking
-    published_at : (xs ys : List Event) (w0 w1 : List Event) → window ≡ (w0 ++ event_of n (LookKey s i stage) ∷ (w1 ++ event_of n (LookMark s i was) ∷ xs)) ++ ys
+    published_at : (xs ys : List Event) (w0 w1 : List Event)
+        → window ≡ (w0 ++ event_of n (LookKey s i stage) ∷ (w1 ++ event_of n (LookMark s i was) ∷ xs)) ++ ys
         → mine n w1 ≡ between → mine n xs ≡ []
-        → ((state_after (start ++ (w0 ++ event_of n (LookKey s i stage) ∷ (w1 ++ event_of n (LookMark s i was) ∷ xs)))).key s.0 i).published ≡ true
+        → ((state_after
+        (start ++ (w0 ++ event_of n (LookKey s i stage) ∷ (w1 ++ event_of n (LookMark s i was) ∷ xs)))).key s.0
+        i).published ≡ true
     published_at xs ys w0 w1 parts mine_w1 none =
         let e0 = event_of n (LookKey s i stage) in
         let e1 = event_of n (LookMark s i was) in
@@ -251,28 +302,39 @@ module _ (l : Limits) (n : CallerNo) (past window rest : List Event) (s : SelNo)
         let first : window ≡ w0 ++ (later ++ ys) = parts ∙ append_assoc w0 later ys in
         let legal_w0 = legal_at w0 (later ++ ys) first in
         let is : stage ≡ st.key s.0 i = ap stage_in (step_at w0 e0 ((w1 ++ e1 ∷ xs) ++ ys) first).answers in
-        let in_set : in_key_set (st.key s.0 i) ≡ true = ap in_key_set (sym is) ∙ (and_parts (in_key_set stage) (not stage.cancelled) valid).0 in
-        let is_published : (st.key s.0 i).published ≡ true = (and_parts (st.key s.0 i).published (not (st.key s.0 i).removed) in_set).0 in
-        let claimed : (st.key s.0 i).claimed ≡ true = beyond-claimed st (legal-sound l (start ++ w0) legal_w0) s.0 i (ap (λ (b : Bool). b || (st.key s.0 i).cancelled || (st.key s.0 i).removed) is_published) in
+        let in_set : in_key_set (st.key s.0 i) ≡ true = ap in_key_set (sym is)
+        ∙ (and_parts (in_key_set stage) (not stage.cancelled) valid).0 in
+        let is_published : (st.key s.0 i).published
+        ≡ true = (and_parts (st.key s.0 i).published (not (st.key s.0 i).removed) in_set).0 in
+        let claimed : (st.key s.0 i).claimed ≡ true = beyond-claimed st (legal-sound l (start ++ w0) legal_w0) s.0 i
+        (ap (λ (b : Bool). b || (st.key s.0 i).cancelled || (st.key s.0 i).removed) is_published) in
         let serial = (st.key s.0 i).serial in
         let here : is_in_key_set (st.key s.0 i) serial ≡ true
-        = and_from (fits (st.key s.0 i) serial) (in_key_set (st.key s.0 i)) (and_from (st.key s.0 i).claimed (serial == serial) claimed (eq-eqb serial serial refl)) in_set in
+        = and_from (fits (st.key s.0 i) serial) (in_key_set (st.key s.0 i))
+        (and_from (st.key s.0 i).claimed (serial == serial) claimed (eq-eqb serial serial refl)) in_set in
         let joined : (start ++ w0) ++ later ≡ start ++ (w0 ++ later) = append_assoc start w0 later in
         let acts : mine n later ≡ LookKey s i stage ∷ (between ++ LookMark s i was ∷ []) =
         mine-own_first n e0 (w1 ++ e1 ∷ xs) (eq-eqb n.0 n.0 refl)
-        ∙ ap (λ xs'. LookKey s i stage ∷ xs') (mine-append n w1 (e1 ∷ xs) ∙ (ap (λ xs'. xs' ++ mine n (e1 ∷ xs)) mine_w1 ∙ ap (λ xs'. between ++ xs') (mine-own_first n e1 xs (eq-eqb n.0 n.0 refl) ∙ ap (λ xs'. LookMark s i was ∷ xs') none))) in
+        ∙ ap (λ xs'. LookKey s i stage ∷ xs')
+        (mine-append n w1 (e1 ∷ xs)
+        ∙ (ap (λ xs'. xs' ++ mine n (e1 ∷ xs)) mine_w1
+        ∙ ap (λ xs'. between ++ xs')
+        (mine-own_first n e1 xs (eq-eqb n.0 n.0 refl) ∙ ap (λ xs'. LookMark s i was ∷ xs') none))) in
         let keeps : Keeps l n (a_selection s) (start ++ w0) later = record {
           legal = subst (IsLegal l) (sym joined) (legal_at (w0 ++ later) ys parts);
           has_it = begun_at w0 (later ++ ys) first;
-          kept = has_last (gives_turn s.0) (mine n w0) (mine n later) (ap (has (gives_turn s.0)) (sym (mine-append n w0 later)) ∙ gives_none (w0 ++ later) ys parts);
+          kept = has_last (gives_turn s.0) (mine n w0) (mine n later)
+              (ap (has (gives_turn s.0)) (sym (mine-append n w0 later)) ∙ gives_none (w0 ++ later) ys parts);
         } in
-        let spares : has (removes s.0 i) (mine n later) ≡ false = ap (has (removes s.0 i)) acts ∙ (list_any-append (removes s.0 i) between (LookMark s i was ∷ []) ∙ neither _ _ spared refl) in
+        let spares : has (removes s.0 i) (mine n later) ≡ false = ap (has (removes s.0 i)) acts
+        ∙ (list_any-append (removes s.0 i) between (LookMark s i was ∷ []) ∙ neither _ _ spared refl) in
         let set = key_set_stays l n s (start ++ w0) later keeps (record { index = i; serial = serial }) spares here in
         let now = (state_after ((start ++ w0) ++ later)).key s.0 i in
         ap (λ es. ((state_after es).key s.0 i).published) (sym joined)
         ∙ (and_parts now.published (not now.removed) (and_parts (fits now serial) (in_key_set now) set).1).0
 
-    module _ (w0 w1 w2 ys : List Event) (parts : window ≡ ((w0 ++ event_of n (LookKey s i stage) ∷ w1) ++ event_of n (LookMark s i was) ∷ w2) ++ ys)
+    module _ (w0 w1 w2 ys : List Event)
+        (parts : window ≡ ((w0 ++ event_of n (LookKey s i stage) ∷ w1) ++ event_of n (LookMark s i was) ∷ w2) ++ ys)
         (mine_w1 : mine n w1 ≡ between) (mine_w2 : mine n w2 ≡ []) where
       abbrev e1 : Event
       e1 = event_of n (LookMark s i was)
@@ -284,7 +346,9 @@ module _ (l : Limits) (n : CallerNo) (past window rest : List Event) (s : SelNo)
       test st = is_same_mark (st.mark s.0 i) was
 
       -- an event that changed the mark takes the key out of the selected set
-      by_act : (xs : List Event) (e : Event) (ys' : List Event) → window ≡ (mid ++ e1 ∷ xs) ++ e ∷ ys' → mine n (xs ++ e ∷ []) ≡ [] → (act : Act) → e.act ≡ act → changes_mark s.0 i act ≡ true → unselects_at s.0 i act ≡ true
+      by_act : (xs : List Event) (e : Event) (ys' : List Event) → window ≡ (mid ++ e1 ∷ xs) ++ e ∷ ys'
+          → mine n (xs ++ e ∷ []) ≡ [] → (act : Act) → e.act ≡ act → changes_mark s.0 i act ≡ true
+          → unselects_at s.0 i act ≡ true
       by_act xs e ys' at none (UnselectBit s' i' found') is changes = changes
       by_act xs e ys' at none (Mark s' i' from told' found') is changes =
           let keeps : Keeps l n (a_selection s) start ((mid ++ e1 ∷ xs) ++ e ∷ []) = record {
@@ -292,45 +356,69 @@ module _ (l : Limits) (n : CallerNo) (past window rest : List Event) (s : SelNo)
             has_it = begun_first;
             kept = gives_none ((mid ++ e1 ∷ xs) ++ e ∷ []) ys' (at ∙ sym (append_assoc (mid ++ e1 ∷ xs) (e ∷ []) ys'));
           } in
-          let own : e.caller ≡ n = selects_alone l n s start (mid ++ e1 ∷ xs) e keeps (ap (selects_on s.0) is ∙ (and_parts (s'.0 == s.0) (i' == i) changes).0) in
-          let acts : mine n xs ++ e.act ∷ [] ≡ [] = ap (λ es. mine n xs ++ es) (sym (mine-own_first n e [] (eq-eqb e.caller.0 n.0 (ap (λ (m : CallerNo). m.0) own)))) ∙ (sym (mine-append n xs (e ∷ [])) ∙ none) in
+          let own : e.caller ≡ n = selects_alone l n s start (mid ++ e1 ∷ xs) e keeps
+          (ap (selects_on s.0) is ∙ (and_parts (s'.0 == s.0) (i' == i) changes).0) in
+          let acts : mine n xs ++ e.act ∷ [] ≡ [] = ap (λ es. mine n xs ++ es)
+          (sym (mine-own_first n e [] (eq-eqb e.caller.0 n.0 (ap (λ (m : CallerNo). m.0) own))))
+          ∙ (sym (mine-append n xs (e ∷ [])) ∙ none) in
           absurd (never_empty (mine n xs) e.act acts)
       by_act xs e ys' at none (ClearMark s' i' found') is changes =
           let step = step_at (mid ++ e1 ∷ xs) e ys' at in
           let both = and_parts (s'.0 == s.0) (i' == i) changes in
           let st = state_after (start ++ (mid ++ e1 ∷ xs)) in
-          let may = subst (λ (a : Act). Condition l (mine e.caller (start ++ (mid ++ e1 ∷ xs))) st e.caller a) is step.condition in
-          let unpublished : (st.key s'.0 i').published ≡ false = unpublished_keys_stay l e.caller s' i' (start ++ (mid ++ e1 ∷ xs)) fit (legal_at (mid ++ e1 ∷ xs) (e ∷ ys') at) may.1 in
+          let may = subst (λ (a : Act). Condition l (mine e.caller (start ++ (mid ++ e1 ∷ xs))) st e.caller a) is
+          step.condition in
+          let unpublished : (st.key s'.0 i').published ≡ false = unpublished_keys_stay l e.caller s' i'
+          (start ++ (mid ++ e1 ∷ xs)) fit (legal_at (mid ++ e1 ∷ xs) (e ∷ ys') at) may.1 in
           let here : (st.key s.0 i).published ≡ false
-          = subst (λ (k : ℕ). (st.key k i).published ≡ false) (eqb-true s'.0 s.0 both.0) (subst (λ (k : ℕ). (st.key s'.0 k).published ≡ false) (eqb-true i' i both.1) unpublished) in
-          let flat : mid ++ e1 ∷ xs ≡ w0 ++ event_of n (LookKey s i stage) ∷ (w1 ++ e1 ∷ xs) = append_assoc w0 (event_of n (LookKey s i stage) ∷ w1) (e1 ∷ xs) in
-          let published = published_at xs (e ∷ ys') w0 w1 (at ∙ ap (λ es. es ++ e ∷ ys') flat) mine_w1 (first_none (mine n xs) (mine n (e ∷ [])) (sym (mine-append n xs (e ∷ [])) ∙ none)) in
-          absurd (both_ways (st.key s.0 i).published (ap (λ es. ((state_after (start ++ es)).key s.0 i).published) flat ∙ published) here)
+          = subst (λ (k : ℕ). (st.key k i).published ≡ false) (eqb-true s'.0 s.0 both.0)
+          (subst (λ (k : ℕ). (st.key s'.0 k).published ≡ false) (eqb-true i' i both.1) unpublished) in
+          let flat : mid ++ e1 ∷ xs ≡ w0 ++ event_of n (LookKey s i stage) ∷ (w1 ++ e1 ∷ xs) = append_assoc w0
+          (event_of n (LookKey s i stage) ∷ w1) (e1 ∷ xs) in
+          let published = published_at xs (e ∷ ys') w0 w1 (at ∙ ap (λ es. es ++ e ∷ ys') flat) mine_w1
+          (first_none (mine n xs) (mine n (e ∷ [])) (sym (mine-append n xs (e ∷ [])) ∙ none)) in
+          absurd (both_ways (st.key s.0 i).published
+          (ap (λ es. ((state_after (start ++ es)).key s.0 i).published) flat ∙ published) here)
       by_act xs e ys' at none act is changes = absurd (cc changes)
 
-      unselecting : (xs : List Event) (e : Event) (ys' : List Event) → window ≡ (mid ++ e1 ∷ xs) ++ e ∷ ys' → mine n (xs ++ e ∷ []) ≡ [] → test (state_after (start ++ (mid ++ e1 ∷ xs))) ≡ true
-          → test (effect (state_after (start ++ (mid ++ e1 ∷ xs))) e.caller e.act) ≡ false → (b : Bool) → changes_mark s.0 i e.act ≡ b → unselects_at s.0 i e.act ≡ true
+      unselecting : (xs : List Event) (e : Event) (ys' : List Event) → window ≡ (mid ++ e1 ∷ xs) ++ e ∷ ys'
+          → mine n (xs ++ e ∷ []) ≡ [] → test (state_after (start ++ (mid ++ e1 ∷ xs))) ≡ true
+          → test (effect (state_after (start ++ (mid ++ e1 ∷ xs))) e.caller e.act) ≡ false → (b : Bool)
+          → changes_mark s.0 i e.act ≡ b → unselects_at s.0 i e.act ≡ true
       unselecting xs e ys' at none was_same turns true is = by_act xs e ys' at none e.act refl is
       unselecting xs e ys' at none was_same turns false is =
-          absurd (both_ways (test (effect (state_after (start ++ (mid ++ e1 ∷ xs))) e.caller e.act)) (mark_kept (state_after (start ++ (mid ++ e1 ∷ xs))) e.caller e.act s.0 i was is was_same) turns)
+          absurd (both_ways (test (effect (state_after (start ++ (mid ++ e1 ∷ xs))) e.caller e.act))
+          (mark_kept (state_after (start ++ (mid ++ e1 ∷ xs))) e.caller e.act s.0 i was is was_same) turns)
 
-      from_middle : (middle : List Event) (e : Event) (rest' : List Event) → e1 ∷ w2 ≡ middle ++ e ∷ rest' → test (state_after ((start ++ mid) ++ middle)) ≡ true
-          → test (effect (state_after ((start ++ mid) ++ middle)) e.caller e.act) ≡ false → 1 ≤ count (unselects_at s.0 i) (map (λ x. x.act) window)
+      from_middle : (middle : List Event) (e : Event) (rest' : List Event) → e1 ∷ w2 ≡ middle ++ e ∷ rest'
+          → test (state_after ((start ++ mid) ++ middle)) ≡ true
+          → test (effect (state_after ((start ++ mid) ++ middle)) e.caller e.act) ≡ false
+          → 1 ≤ count (unselects_at s.0 i) (map (λ x. x.act) window)
       from_middle [] e rest' is was_same turns =
           let same : e ≡ e1 = sym (cc is) in
           let st = state_after ((start ++ mid) ++ []) in
-          let stays : test (effect st e.caller e.act) ≡ true = mark_kept st e.caller e.act s.0 i was (ap (λ (x : Event). changes_mark s.0 i x.act) same) was_same in
+          let stays : test (effect st e.caller e.act) ≡ true = mark_kept st e.caller e.act s.0 i was
+          (ap (λ (x : Event). changes_mark s.0 i x.act) same) was_same in
           absurd (both_ways (test (effect st e.caller e.act)) stays turns)
       from_middle (x ∷ xs) e rest' is was_same turns =
           let same : x ≡ e1 = sym (cc is) in
           let later : w2 ≡ xs ++ e ∷ rest' = cc is in
-          let flat : (start ++ mid) ++ (x ∷ xs) ≡ start ++ (mid ++ e1 ∷ xs) = append_assoc start mid (x ∷ xs) ∙ ap (λ y. start ++ (mid ++ y ∷ xs)) same in
+          let flat : (start ++ mid) ++ (x ∷ xs) ≡ start ++ (mid ++ e1 ∷ xs) = append_assoc start mid (x ∷ xs)
+          ∙ ap (λ y. start ++ (mid ++ y ∷ xs)) same in
           let here : window ≡ (mid ++ e1 ∷ xs) ++ e ∷ (rest' ++ ys)
-          = parts ∙ (ap (λ es. (mid ++ e1 ∷ es) ++ ys) later ∙ (append_assoc mid (e1 ∷ (xs ++ e ∷ rest')) ys ∙ (ap (λ es. mid ++ e1 ∷ es) (append_assoc xs (e ∷ rest') ys) ∙ sym (append_assoc mid (e1 ∷ xs) (e ∷ (rest' ++ ys)))))) in
+          = parts ∙ (ap (λ es. (mid ++ e1 ∷ es) ++ ys) later
+          ∙ (append_assoc mid (e1 ∷ (xs ++ e ∷ rest')) ys
+          ∙ (ap (λ es. mid ++ e1 ∷ es) (append_assoc xs (e ∷ rest') ys)
+          ∙ sym (append_assoc mid (e1 ∷ xs) (e ∷ (rest' ++ ys)))))) in
           let joined : (xs ++ e ∷ []) ++ rest' ≡ w2 = append_assoc xs (e ∷ []) rest' ∙ sym later in
-          let none : mine n (xs ++ e ∷ []) ≡ [] = first_none (mine n (xs ++ e ∷ [])) (mine n rest') (sym (mine-append n (xs ++ e ∷ []) rest') ∙ (ap (mine n) joined ∙ mine_w2)) in
-          let unselects = unselecting xs e (rest' ++ ys) here none (ap (λ es. test (state_after es)) (sym flat) ∙ was_same) (ap (λ es. test (effect (state_after es) e.caller e.act)) (sym flat) ∙ turns) (changes_mark s.0 i e.act) refl in
-          subst (λ w. 1 ≤ count (unselects_at s.0 i) (map (λ z. z.act) w)) (sym here) (counted (unselects_at s.0 i) (mid ++ e1 ∷ xs) e (rest' ++ ys) unselects)
+          let none : mine n (xs ++ e ∷ []) ≡ [] = first_none (mine n (xs ++ e ∷ [])) (mine n rest')
+          (sym (mine-append n (xs ++ e ∷ []) rest') ∙ (ap (mine n) joined ∙ mine_w2)) in
+          let unselects = unselecting xs e (rest' ++ ys) here none
+          (ap (λ es. test (state_after es)) (sym flat) ∙ was_same)
+          (ap (λ es. test (effect (state_after es) e.caller e.act)) (sym flat) ∙ turns)
+          (changes_mark s.0 i e.act) refl in
+          subst (λ w. 1 ≤ count (unselects_at s.0 i) (map (λ z. z.act) w)) (sym here)
+          (counted (unselects_at s.0 i) (mid ++ e1 ∷ xs) e (rest' ++ ys) unselects)
 
       by_turn : Turned test (start ++ mid) (e1 ∷ w2) → 1 ≤ count (unselects_at s.0 i) (map (λ x. x.act) window)
       by_turn turn = from_middle turn.middle turn.event turn.rest turn.parts turn.was turn.turns
@@ -340,18 +428,26 @@ module _ (l : Limits) (n : CallerNo) (past window rest : List Event) (s : SelNo)
         let e0 = event_of n (LookKey s i stage) in
         let e1 = event_of n (LookMark s i was) in
         let e2 = event_of n (Mark s i was told (Err stands)) in
-        let first = cut_at n window before (LookKey s i stage) (between ++ LookMark s i was ∷ Mark s i was told (Err stands) ∷ after) own in
-        let second = cut_at n first.later between (LookMark s i was) (Mark s i was told (Err stands) ∷ after) first.mine_later in
+        let first = cut_at n window before (LookKey s i stage)
+        (between ++ LookMark s i was ∷ Mark s i was told (Err stands) ∷ after) own in
+        let second = cut_at n first.later between (LookMark s i was) (Mark s i was told (Err stands) ∷ after)
+        first.mine_later in
         let third = cut_at n second.later [] (Mark s i was told (Err stands)) after second.mine_later in
         let mid : List Event = first.past ++ e0 ∷ second.past in
         let to_mark : List Event = mid ++ e1 ∷ third.past in
-        let parts_mid : window ≡ mid ++ e1 ∷ second.later = first.parts ∙ (ap (λ es. first.past ++ e0 ∷ es) second.parts ∙ sym (append_assoc first.past (e0 ∷ second.past) (e1 ∷ second.later))) in
-        let parts_mark : window ≡ to_mark ++ e2 ∷ third.later = parts_mid ∙ (ap (λ es. mid ++ e1 ∷ es) third.parts ∙ sym (append_assoc mid (e1 ∷ third.past) (e2 ∷ third.later))) in
+        let parts_mid : window ≡ mid ++ e1 ∷ second.later = first.parts
+        ∙ (ap (λ es. first.past ++ e0 ∷ es) second.parts
+        ∙ sym (append_assoc first.past (e0 ∷ second.past) (e1 ∷ second.later))) in
+        let parts_mark : window ≡ to_mark ++ e2 ∷ third.later = parts_mid
+        ∙ (ap (λ es. mid ++ e1 ∷ es) third.parts ∙ sym (append_assoc mid (e1 ∷ third.past) (e2 ∷ third.later))) in
         let test : State → Bool = λ st. is_same_mark (st.mark s.0 i) was in
-        let was_is : was ≡ (state_after (start ++ mid)).mark s.0 i = ap mark_in (step_at mid e1 second.later parts_mid).answers in
-        let before_is : test (state_after (start ++ mid)) ≡ true = ap (λ (m : KeyMark). is_same_mark m was) (sym was_is) ∙ same_as_itself was in
+        let was_is : was ≡ (state_after (start ++ mid)).mark s.0 i = ap mark_in
+        (step_at mid e1 second.later parts_mid).answers in
+        let before_is : test (state_after (start ++ mid)) ≡ true = ap (λ (m : KeyMark). is_same_mark m was) (sym was_is)
+        ∙ same_as_itself was in
         let fails = ap exchange_in (step_at to_mark e2 third.later parts_mark).answers in
         let after_is : test (state_after ((start ++ mid) ++ e1 ∷ third.past)) ≡ false
-        = ap (λ es. test (state_after es)) (append_assoc start mid (e1 ∷ third.past)) ∙ not_exchanged was ((state_after (start ++ to_mark)).mark s.0 i) stands fails in
+        = ap (λ es. test (state_after es)) (append_assoc start mid (e1 ∷ third.past))
+        ∙ not_exchanged was ((state_after (start ++ to_mark)).mark s.0 i) stands fails in
         let turn = turned test (start ++ mid) (e1 ∷ third.past) before_is after_is in
         by_turn first.past second.past third.past (e2 ∷ third.later) parts_mark second.mine_past third.mine_past turn

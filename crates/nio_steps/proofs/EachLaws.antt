@@ -1,5 +1,6 @@
 -- What holds of each question and each reply of a plan holds of what follows it.
-use Rattle.std.proofs.Common.{◌≡◌, ℕ, zero, suc, ◌+◌, ◌-◌, ◌<◌, ◌≤◌, Bool, true, false, if◌then◌else◌, List, [], ◌∷◌, ◌++◌, refl, ap, sym, ◌∙◌, subst, append_assoc, add-zero, arith}
+use Rattle.std.proofs.Common.{◌≡◌, ℕ, zero, suc, ◌+◌, ◌-◌, ◌<◌, ◌≤◌, Bool, true, false, if◌then◌else◌, List, [], ◌∷◌}
+use Rattle.std.proofs.Common.{◌++◌, refl, ap, sym, ◌∙◌, subst, append_assoc, add-zero, arith}
 use Rattle.std.specs.Prelude.{⊤}
 use Rattle.std.specs.List.{All}
 use Rattle.std.proofs.lemmas.List.{append-nil}
@@ -14,17 +15,20 @@ use Rattle.nio_steps.specs.Waiting.{Then}
 
 -- ---- of plans after one another
 
-pub each_bind : {A B : Type 0} (Asks : Question → Type 0) (First : A → Type 0) (Second : B → Type 0) (plan : Plan A) (f : A → Plan B)
+pub each_bind : {A B : Type 0} (Asks : Question → Type 0) (First : A → Type 0) (Second : B → Type 0) (plan : Plan A)
+    (f : A → Plan B)
     → Each Asks First plan → ((a : A) → First a → Each Asks Second (f a)) → Each Asks Second (plan >>= f)
 each_bind Asks First Second (reply a) f here later = later a here
-each_bind Asks First Second (ask q next) f here later = (here.0, λ answer. each_bind Asks First Second (next answer) f (here.1 answer) later)
+each_bind Asks First Second (ask q next) f here later =
+    (here.0, λ answer. each_bind Asks First Second (next answer) f (here.1 answer) later)
 
 pub each_if : {R : Type 0} (Asks : Question → Type 0) (Replies : R → Type 0) (b : Bool) (x y : Plan R)
     → (b ≡ true → Each Asks Replies x) → (b ≡ false → Each Asks Replies y) → Each Asks Replies (if b then x else y)
 each_if Asks Replies true x y this that = this refl
 each_if Asks Replies false x y this that = that refl
 
-pub each_when : {A : Type 0} (Asks : Question → Type 0) (test : Bool) (plan : Plan A) → Each Asks (λ _. ⊤) plan → Each Asks (λ _. ⊤) (when test plan)
+pub each_when : {A : Type 0} (Asks : Question → Type 0) (test : Bool) (plan : Plan A) → Each Asks (λ _. ⊤) plan
+    → Each Asks (λ _. ⊤) (when test plan)
 each_when Asks true plan here = each_bind Asks (λ _. ⊤) (λ _. ⊤) plan (λ _. reply tt) here (λ _ _. tt)
 each_when Asks false plan here = tt
 
@@ -32,28 +36,36 @@ each_when Asks false plan here = tt
 
 -- `Left k` is what is left before the turn of index k
 by_count : {A : Type 0} (Asks : Question → Type 0) (Left : ℕ → A → Type 0) (n i : ℕ) (f : ℕ → A → Plan A) (x : A)
-    → Left i x → ((k : ℕ) (y : A) → i ≤ k → k < i + n → Left k y → Each Asks (Left (k + 1)) (f k y)) → Each Asks (Left (i + n)) (sweep n i f x)
+    → Left i x → ((k : ℕ) (y : A) → i ≤ k → k < i + n → Left k y → Each Asks (Left (k + 1)) (f k y))
+    → Each Asks (Left (i + n)) (sweep n i f x)
 unfolding sweep
 by_count Asks Left zero i f x here each = subst (λ (m : ℕ). Left m x) (sym (add-zero i)) here
 by_count Asks Left (suc n) i f x here each =
     let same : (i + 1) + n ≡ i + suc n = omega arith in
     subst (λ (m : ℕ). Each Asks (Left m) (f i x >>= λ y. sweep n (i + 1) f y)) same
-    (each_bind Asks (Left (i + 1)) (Left ((i + 1) + n)) (f i x) (λ y. sweep n (i + 1) f y) (each i x (omega arith) (omega arith) here)
+    (each_bind Asks (Left (i + 1)) (Left ((i + 1) + n)) (f i x) (λ y. sweep n (i + 1) f y)
+    (each i x (omega arith) (omega arith) here)
     (λ y left. by_count Asks Left n (i + 1) f y left (λ k z low high. each k z (omega arith) (omega arith))))
 
-pub each_sweep_at : {A : Type 0} (Asks : Question → Type 0) (Left : ℕ → A → Type 0) (b i : ℕ) (f : ℕ → A → Plan A) (x : A) → i ≤ b
-    → Left i x → ((k : ℕ) (y : A) → i ≤ k → k < b → Left k y → Each Asks (Left (k + 1)) (f k y)) → Each Asks (Left b) (sweep_to b i f x)
+pub each_sweep_at : {A : Type 0} (Asks : Question → Type 0) (Left : ℕ → A → Type 0) (b i : ℕ) (f : ℕ → A → Plan A)
+    (x : A) → i ≤ b
+    → Left i x → ((k : ℕ) (y : A) → i ≤ k → k < b → Left k y → Each Asks (Left (k + 1)) (f k y))
+    → Each Asks (Left b) (sweep_to b i f x)
 each_sweep_at Asks Left b i f x within here each =
     let end : i + (b - i) ≡ b = omega arith in
-    subst (λ (m : ℕ). Each Asks (Left m) (sweep_to b i f x)) end (by_count Asks Left (b - i) i f x here (λ k y low high. each k y low (omega arith)))
+    subst (λ (m : ℕ). Each Asks (Left m) (sweep_to b i f x)) end
+    (by_count Asks Left (b - i) i f x here (λ k y low high. each k y low (omega arith)))
 
 pub each_sweep : {A : Type 0} (Asks : Question → Type 0) (Left : A → Type 0) (b i : ℕ) (f : ℕ → A → Plan A) (x : A)
     → Left x → ((k : ℕ) (y : A) → i ≤ k → k < b → Left y → Each Asks Left (f k y)) → Each Asks Left (sweep_to b i f x)
-each_sweep Asks Left b i f x here each = by_count Asks (λ _. Left) (b - i) i f x here (λ k y low high. each k y low (omega arith))
+each_sweep Asks Left b i f x here each =
+    by_count Asks (λ _. Left) (b - i) i f x here (λ k y low high. each k y low (omega arith))
 
 -- at each element of a list that passes `Fits`
-pub each_over : {X A : Type 0} (Asks : Question → Type 0) (Fits : X → Type 0) (Left : A → Type 0) (xs : List X) (f : X → A → Plan A) (x : A)
-    → All Fits xs → Left x → ((e : X) (y : A) → Fits e → Left y → Each Asks Left (f e y)) → Each Asks Left (sweep_over xs f x)
+pub each_over : {X A : Type 0} (Asks : Question → Type 0) (Fits : X → Type 0) (Left : A → Type 0) (xs : List X)
+    (f : X → A → Plan A) (x : A)
+    → All Fits xs → Left x → ((e : X) (y : A) → Fits e → Left y → Each Asks Left (f e y))
+    → Each Asks Left (sweep_over xs f x)
 unfolding sweep_over
 each_over Asks Fits Left [] f x fit here each = here
 each_over Asks Fits Left (e ∷ later) f x fit here each =
@@ -61,25 +73,33 @@ each_over Asks Fits Left (e ∷ later) f x fit here each =
     (λ y left. each_over Asks Fits Left later f y (All-tail Fits e later fit) left each)
 
 -- the same, where `Left past` is what is left after the turns of these elements
-pub each_over_at : {X A : Type 0} (Asks : Question → Type 0) (Left : List X → A → Type 0) (xs : List X) (f : X → A → Plan A) (x : A)
-    → Left [] x → ((past : List X) (e : X) (later : List X) (y : A) → xs ≡ past ++ e ∷ later → Left past y → Each Asks (Left (past ++ e ∷ [])) (f e y)) → Each Asks (Left xs) (sweep_over xs f x)
+pub each_over_at : {X A : Type 0} (Asks : Question → Type 0) (Left : List X → A → Type 0) (xs : List X)
+    (f : X → A → Plan A) (x : A)
+    → Left [] x
+    → ((past : List X) (e : X) (later : List X) (y : A) → xs ≡ past ++ e ∷ later → Left past y
+    → Each Asks (Left (past ++ e ∷ [])) (f e y)) → Each Asks (Left xs) (sweep_over xs f x)
 unfolding sweep_over
 each_over_at {X = X} {A = A} Asks Left xs f x here each = from_here [] xs x refl here
   where
-    from_here : (past later : List X) (y : A) → xs ≡ past ++ later → Left past y → Each Asks (Left xs) (sweep_over later f y)
+    from_here : (past later : List X) (y : A) → xs ≡ past ++ later → Left past y
+        → Each Asks (Left xs) (sweep_over later f y)
     from_here past [] y parts left =
         let same : past ≡ xs = sym (append-nil past) ∙ sym parts in
         subst (λ done. Left done y) same left
     from_here past (e ∷ later) y parts left =
-        each_bind Asks (Left (past ++ e ∷ [])) (Left xs) (f e y) (λ z. sweep_over later f z) (each past e later y parts left)
+        each_bind Asks (Left (past ++ e ∷ [])) (Left xs) (f e y) (λ z. sweep_over later f z)
+        (each past e later y parts left)
         (λ z left'. from_here (past ++ e ∷ []) later z (parts ∙ sym (append_assoc past (e ∷ []) later)) left')
 
 -- ---- of what follows them
 
 -- what is left of the plan is such a one again
-pub each_part : {R : Type 0} (Asks : Question → Type 0) (Replies : R → Type 0) (plan : Plan R) (acts : List Act) (rest : Plan R)
-    → Each Asks Replies plan → Follows plan acts rest → All (λ act. Asks (question_of act)) acts × Each Asks Replies rest
-each_part Asks Replies plan [] rest here follows = (All-nil (λ act. Asks (question_of act)), subst (Each Asks Replies) follows here)
+pub each_part : {R : Type 0} (Asks : Question → Type 0) (Replies : R → Type 0) (plan : Plan R) (acts : List Act)
+    (rest : Plan R)
+    → Each Asks Replies plan → Follows plan acts rest → All (λ act. Asks (question_of act)) acts
+    × Each Asks Replies rest
+each_part Asks Replies plan [] rest here follows =
+    (All-nil (λ act. Asks (question_of act)), subst (Each Asks Replies) follows here)
 each_part Asks Replies (reply r) (act ∷ acts) rest here follows = absurd follows
 each_part Asks Replies (ask q next) (act ∷ acts) rest here follows =
     let later = each_part Asks Replies (next (answer_of act)) acts rest (here.1 (answer_of act)) follows.1 in
@@ -91,8 +111,10 @@ each_run Asks Replies plan acts r here run = each_part Asks Replies plan acts (r
 
 -- ---- a run of one plan and then another
 
-pub split : {A B : Type 0} (plan : Plan A) (f : A → Plan B) (acts : List Act) (r : B) → Completes (plan >>= f) acts r → Then (Completes plan) (λ a. Completes (f a)) acts r
-split (reply a) f acts r run = record { first = []; middle = a; second = acts; parts = refl; runs_first = refl; runs_second = run }
+pub split : {A B : Type 0} (plan : Plan A) (f : A → Plan B) (acts : List Act) (r : B) → Completes (plan >>= f) acts r
+    → Then (Completes plan) (λ a. Completes (f a)) acts r
+split (reply a) f acts r run =
+    record { first = []; middle = a; second = acts; parts = refl; runs_first = refl; runs_second = run }
 split (ask q next) f [] r run = absurd (cc run)
 split (ask q next) f (act ∷ acts) r run =
     let later = split (next (answer_of act)) f acts r run.1 in

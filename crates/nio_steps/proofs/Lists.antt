@@ -1,7 +1,9 @@
 -- Lists: pairs of elements, and where an element stands.
 use Rattle.std.proofs.Common.{◌≡◌, suc, ◌⊎◌, inl, inr, List, [], ◌∷◌, ◌++◌, ap, arith}
 use Rattle.std.specs.List.{All, AllPairs, Contains}
-use Rattle.std.proofs.lemmas.List.Elements.{All-nil, All-cons, All-append, All-tail, All-head, All-weaker, All-contains, Contains-push, Contains-append_left, Contains-append_right, Contains-append_cases, Contains-push_cases}
+use Rattle.std.proofs.lemmas.List.Elements.{All-nil, All-cons, All-append, All-tail, All-head, All-weaker, All-contains}
+use Rattle.std.proofs.lemmas.List.Elements.{Contains-push, Contains-append_left, Contains-append_right}
+use Rattle.std.proofs.lemmas.List.Elements.{Contains-append_cases, Contains-push_cases}
 use Rattle.std.proofs.lemmas.List.Kept.{AllPairs-cons}
 
 pub all_any : {X : Type 0} (xs : List X) → All (λ _. Unit {0}) xs
@@ -10,7 +12,8 @@ all_any xs k d below = tt
 -- ---- an element of a list
 
 pub contains-middle : {X : Type 0} (xs : List X) (e : X) (later : List X) → Contains (xs ++ e ∷ later) e
-contains-middle xs e later = Contains-append_right xs (e ∷ later) e (Contains-append_left (e ∷ []) later e (Contains-push [] e))
+contains-middle xs e later =
+    Contains-append_right xs (e ∷ later) e (Contains-append_left (e ∷ []) later e (Contains-push [] e))
 
 pub contains-none : {X : Type 0} (e : X) → Contains [] e → ⊥
 contains-none e there = absurd (omega (arith, there.1))
@@ -30,7 +33,8 @@ parted {X = X} (x ∷ xs) e there = by_place (Contains-append_cases (x ∷ []) x
 
     by_place : Contains (x ∷ []) e ⊎ Contains xs e → (Contains xs e → Parted xs e) → Parted (x ∷ xs) e
     by_place (inl here) rest = by_head (Contains-push_cases [] x e here)
-    by_place (inr further) rest = let found = rest further in record { past = x ∷ found.past; later = found.later; parts = ap (λ ys. x ∷ ys) found.parts }
+    by_place (inr further) rest = let found =
+        rest further in record { past = x ∷ found.past; later = found.later; parts = ap (λ ys. x ∷ ys) found.parts }
 
 -- ---- pairs of a list
 
@@ -44,10 +48,12 @@ pub pairs-tail : {X : Type 0} (R : X → X → Type 0) (x : X) (xs : List X) →
 pairs-tail R x xs pairs i j d before within = pairs (suc i) (suc j) d (omega arith) (omega arith)
 
 -- two lists, each element of the first with each of the second
-pub pairs-append : {X : Type 0} (R : X → X → Type 0) (xs ys : List X) → AllPairs R xs → AllPairs R ys → All (λ x. All (R x) ys) xs → AllPairs R (xs ++ ys)
+pub pairs-append : {X : Type 0} (R : X → X → Type 0) (xs ys : List X) → AllPairs R xs → AllPairs R ys
+    → All (λ x. All (R x) ys) xs → AllPairs R (xs ++ ys)
 pairs-append R [] ys first second each = second
 pairs-append R (x ∷ xs) ys first second each =
-    AllPairs-cons R x (xs ++ ys) (All-append (R x) xs ys (pairs-head R x xs first) (All-head (λ z. All (R z) ys) x xs each))
+    AllPairs-cons R x (xs ++ ys)
+    (All-append (R x) xs ys (pairs-head R x xs first) (All-head (λ z. All (R z) ys) x xs each))
     (pairs-append R xs ys (pairs-tail R x xs first) second (All-tail (λ z. All (R z) ys) x xs each))
 
 pub pairs-one : {X : Type 0} (R : X → X → Type 0) (y : X) → AllPairs R (y ∷ [])
@@ -56,12 +62,18 @@ pairs-one R y = AllPairs-cons R y [] (All-nil (R y)) (pairs-none R)
 pub all-one : {X : Type 0} (P : X → Type 0) (y : X) → P y → All P (y ∷ [])
 all-one P y here = All-cons P y [] here (All-nil P)
 
-pub pairs-push : {X : Type 0} (R : X → X → Type 0) (xs : List X) (y : X) → AllPairs R xs → All (λ x. R x y) xs → AllPairs R (xs ++ y ∷ [])
-pairs-push R xs y pairs each = pairs-append R xs (y ∷ []) pairs (pairs-one R y) (All-weaker (λ x. R x y) (λ x. All (R x) (y ∷ [])) (λ x here. all-one (R x) y here) xs each)
+pub pairs-push : {X : Type 0} (R : X → X → Type 0) (xs : List X) (y : X) → AllPairs R xs → All (λ x. R x y) xs
+    → AllPairs R (xs ++ y ∷ [])
+pairs-push R xs y pairs each =
+    pairs-append R xs (y ∷ []) pairs (pairs-one R y)
+    (All-weaker (λ x. R x y) (λ x. All (R x) (y ∷ [])) (λ x here. all-one (R x) y here) xs each)
 
 -- each element before one of a list
-pub pairs-before : {X : Type 0} (R : X → X → Type 0) (past : List X) (e : X) (later : List X) → AllPairs R (past ++ e ∷ later) → All (λ x. R x e) past
+pub pairs-before : {X : Type 0} (R : X → X → Type 0) (past : List X) (e : X) (later : List X)
+    → AllPairs R (past ++ e ∷ later) → All (λ x. R x e) past
 pairs-before R [] e later pairs = All-nil (λ x. R x e)
 pairs-before R (x ∷ past) e later pairs =
-    All-cons (λ z. R z e) x past (All-contains (R x) (past ++ e ∷ later) e (pairs-head R x (past ++ e ∷ later) pairs) (contains-middle past e later))
+    All-cons (λ z. R z e) x past
+    (All-contains (R x) (past ++ e ∷ later) e (pairs-head R x (past ++ e ∷ later) pairs)
+    (contains-middle past e later))
     (pairs-before R past e later (pairs-tail R x (past ++ e ∷ later) pairs))

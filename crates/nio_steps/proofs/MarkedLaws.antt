@@ -1,5 +1,6 @@
 -- A selection marks keys that it looked at and that are in the key set.
-use Rattle.std.proofs.Common.{◌≡◌, ℕ, ◌≤◌, ◌==◌, ◌||◌, inl, inr, not, Bool, true, false, List, [], ◌∷◌, ◌++◌, refl, ap, sym, ◌∙◌, subst, append_assoc, eq-eqb, eqb-true, arith}
+use Rattle.std.proofs.Common.{◌≡◌, ℕ, ◌≤◌, ◌==◌, ◌||◌, inl, inr, not, Bool, true, false, List, [], ◌∷◌, ◌++◌, refl, ap}
+use Rattle.std.proofs.Common.{sym, ◌∙◌, subst, append_assoc, eq-eqb, eqb-true, arith}
 use Rattle.std.specs.List.{All, Contains}
 use Rattle.std.proofs.lemmas.Bool.{and_parts, and_from}
 use Rattle.std.proofs.lemmas.List.{append-nil}
@@ -34,14 +35,16 @@ use Rattle.nio_steps.proofs.Either.{neither}
 use Rattle.nio_steps.proofs.Lists.{contains-middle}
 use Rattle.nio_steps.proofs.OrderLaws.{list-rises, IsListed}
 use Rattle.nio_steps.proofs.OwnActs.{cut_at, mine-own_first, mine-append}
-use Rattle.nio_steps.proofs.SelectionLaws.{NoMark, Replies, after-replies, asks_mark, marks-no_give, marks-no_remove, removes_none, not-gives, asks_give}
+use Rattle.nio_steps.proofs.SelectionLaws.{NoMark, Replies, after-replies, asks_mark, marks-no_give, marks-no_remove}
+use Rattle.nio_steps.proofs.SelectionLaws.{removes_none, not-gives, asks_give}
 use Rattle.nio_steps.proofs.StandLaws.{look-act, begun_since, over-keeps, lists-keep}
 use Rattle.nio_steps.proofs.ToldLaws.{marks_only_as_told}
 use Rattle.nio_steps.proofs.Visits.{OneVisit}
 use Rattle.nio_steps.proofs.Walks.{always_run}
 use Rattle.nio_steps.specs.ChannelCalls.{words_below}
 use Rattle.nio_steps.specs.Laws.{MarksLookedKeys}
-use Rattle.nio_steps.specs.SelectCalls.{Selection, LookedOver, list_below, look_over, mark_entry, after_marks, told_plan}
+use Rattle.nio_steps.specs.SelectCalls.{Selection, LookedOver, list_below, look_over, mark_entry, after_marks}
+use Rattle.nio_steps.specs.SelectCalls.{told_plan}
 use Rattle.nio_steps.specs.Selections.{IsBegun}
 use Rattle.nio_steps.specs.Steps.{stage_in, gate_in}
 use Rattle.nio_steps.specs.Sweeps.{sweep_over}
@@ -59,35 +62,47 @@ both_ways : (b : Bool) → b ≡ true → b ≡ false → ⊥
 both_ways true is is_not = cc is_not
 both_ways false is is_not = cc is
 
-keeps_channel-stages : (st : State) (was : Stage) (s i : ℕ) → KeepsStages (λ _. Unit {0}) st (λ a b k. a ≡ s → b ≡ i → KeepsChannel was k)
+keeps_channel-stages : (st : State) (was : Stage) (s i : ℕ)
+    → KeepsStages (λ _. Unit {0}) st (λ a b k. a ≡ s → b ≡ i → KeepsChannel was k)
 keeps_channel-stages st was s i = record {
-  claimed = λ s' i' c unclaimed old at_s at_i. absurd (both_ways (st.key s'.0 i').claimed (old at_s at_i).claimed unclaimed);
-  published = λ s' i' found may old at_s at_i. let o = old at_s at_i in record { claimed = o.claimed; serial = o.serial; channel = o.channel };
-  cancelled = λ s' i' found may old at_s at_i. let o = old at_s at_i in record { claimed = o.claimed; serial = o.serial; channel = o.channel };
-  removed = λ s' i' found may old at_s at_i. let o = old at_s at_i in record { claimed = o.claimed; serial = o.serial; channel = o.channel };
+  claimed = λ s' i' c unclaimed old at_s at_i. absurd
+      (both_ways (st.key s'.0 i').claimed (old at_s at_i).claimed unclaimed);
+  published = λ s' i' found may old at_s at_i. let o = old at_s at_i in
+      record { claimed = o.claimed; serial = o.serial; channel = o.channel };
+  cancelled = λ s' i' found may old at_s at_i. let o = old at_s at_i in
+      record { claimed = o.claimed; serial = o.serial; channel = o.channel };
+  removed = λ s' i' found may old at_s at_i. let o = old at_s at_i in
+      record { claimed = o.claimed; serial = o.serial; channel = o.channel };
   again = λ s' i' c from may unpinned old at_s at_i.
       let low = (old at_s at_i).serial in
       record { claimed = refl; serial = omega (arith, low); channel = λ same. absurd (omega (arith, low, same)) };
 }
 
-keeps_channel : (l : Limits) (was : Stage) (s i : ℕ) (past later : List Event) → IsLegal l (past ++ later) → KeepsChannel was ((state_after past).key s i)
+keeps_channel : (l : Limits) (was : Stage) (s i : ℕ) (past later : List Event) → IsLegal l (past ++ later)
+    → KeepsChannel was ((state_after past).key s i)
     → KeepsChannel was ((state_after (past ++ later)).key s i)
-keeps_channel l was s i past [] legal here = subst (λ events. KeepsChannel was ((state_after events).key s i)) (sym (append-nil past)) here
+keeps_channel l was s i past [] legal here =
+    subst (λ events. KeepsChannel was ((state_after events).key s i)) (sym (append-nil past)) here
 keeps_channel l was s i past (e ∷ later) legal here =
     let st : State = state_after past in
     let step = legal_next l past e later legal in
     let joined : (past ++ e ∷ []) ++ later ≡ past ++ e ∷ later = append_assoc past (e ∷ []) later in
-    let next = stages_keep (λ _. Unit {0}) st e.caller (λ a b k. a ≡ s → b ≡ i → KeepsChannel was k) (keeps_channel-stages st was s i) e.act tt step.answers s i (λ _ _. here) refl refl in
+    let next = stages_keep (λ _. Unit {0}) st e.caller (λ a b k. a ≡ s → b ≡ i → KeepsChannel was k)
+    (keeps_channel-stages st was s i) e.act tt step.answers s i (λ _ _. here) refl refl in
     subst (λ events. KeepsChannel was ((state_after events).key s i)) joined
-    (keeps_channel l was s i (past ++ e ∷ []) later (subst (IsLegal l) (sym joined) legal) (subst (λ (x : State). KeepsChannel was (x.key s i)) (sym (state_after-more past e)) next))
+    (keeps_channel l was s i (past ++ e ∷ []) later (subst (IsLegal l) (sym joined) legal)
+    (subst (λ (x : State). KeepsChannel was (x.key s i)) (sym (state_after-more past e)) next))
 
 -- ---- what a caller did before a mark
 
 -- what none of the first acts is, none before this one is, which isn't among the others
-none_before : (p q : Act → Bool) (xs : List Act) (x : Act) (ys us vs : List Act) → xs ++ x ∷ ys ≡ us ++ vs → p x ≡ true → All (λ act. p act ≡ false) vs → has q us ≡ false → has q xs ≡ false
+none_before : (p q : Act → Bool) (xs : List Act) (x : Act) (ys us vs : List Act) → xs ++ x ∷ ys ≡ us ++ vs → p x ≡ true
+    → All (λ act. p act ≡ false) vs → has q us ≡ false → has q xs ≡ false
 none_before p q [] x ys us vs same it none_vs none_us = refl
 none_before p q (a ∷ xs) x ys [] vs same it none_vs none_us =
-    absurd (both_ways (p x) it (All-contains (λ act. p act ≡ false) vs x none_vs (subst (λ acts. Contains acts x) same (contains-middle (a ∷ xs) x ys))))
+    absurd (both_ways (p x) it
+    (All-contains (λ act. p act ≡ false) vs x none_vs
+    (subst (λ acts. Contains acts x) same (contains-middle (a ∷ xs) x ys))))
 none_before p q (a ∷ xs) x ys (u ∷ us) vs same it none_vs none_us =
     let first : a ≡ u = cc same in
     let rest : xs ++ x ∷ ys ≡ us ++ vs = cc same in
@@ -105,10 +120,13 @@ record LookedAt (s : SelNo) (acts : List Act) (entry : LookedKey) : Type 0 where
   valid : FoundValid s entry.index acts
   entry_of : IsOf s entry.index valid.stage entry
 
-looked_at : (s : SelNo) (selection : Selection) (beginning : List Act) (begun : Begun s selection.mode beginning selection) (entry : LookedKey) → Contains selection.looked entry
+looked_at : (s : SelNo) (selection : Selection) (beginning : List Act)
+    (begun : Begun s selection.mode beginning selection) (entry : LookedKey) → Contains selection.looked entry
     → LookedAt s begun.over entry
 looked_at s selection beginning begun entry there =
-    by_over (always_run (OneVisit (λ k. k) i (Unseen s i) (Seen s i) begun.listed) (sweep_over begun.listed (look_over s) none_yet) begun.over whole (over-visits s i begun.listed listed_is.0.rising) begun.runs_over)
+    by_over (always_run (OneVisit (λ k. k) i (Unseen s i) (Seen s i) begun.listed)
+    (sweep_over begun.listed (look_over s) none_yet) begun.over whole
+    (over-visits s i begun.listed listed_is.0.rising) begun.runs_over)
   where
     i : ℕ
     i = entry.index
@@ -117,7 +135,9 @@ looked_at s selection beginning begun entry there =
     whole = record { looked = selection.looked; kept = selection.kept }
 
     listed_is : IsListed selection.bound (words_below selection.bound) begun.listed
-    listed_is = (each_run (λ _. Unit {0}) (IsListed selection.bound (words_below selection.bound)) (list_below s selection.bound) begun.lists begun.listed (list-rises s selection.bound) begun.runs_lists).1
+    listed_is =
+        (each_run (λ _. Unit {0}) (IsListed selection.bound (words_below selection.bound))
+        (list_below s selection.bound) begun.lists begun.listed (list-rises s selection.bound) begun.runs_lists).1
 
     is_among : All (λ x. x.index ≡ i → ⊥) selection.looked → ⊥
     is_among none = All-contains (λ x. x.index ≡ i → ⊥) selection.looked entry none there refl
@@ -125,7 +145,12 @@ looked_at s selection beginning begun entry there =
     by_seen : Seen s i begun.over whole → LookedAt s begun.over entry
     by_seen (is_dropped fits none not_kept) = absurd (is_among none)
     by_seen (is_kept fits none) = absurd (is_among none)
-    by_seen (is_looked fits valid of_stage) = record { valid = valid; entry_of = All-contains (λ x. x.index ≡ i → IsOf s i valid.stage x) selection.looked entry of_stage there refl }
+    by_seen (is_looked fits valid of_stage) =
+        record {
+          valid = valid;
+          entry_of = All-contains (λ x. x.index ≡ i → IsOf s i valid.stage x) selection.looked
+              entry of_stage there refl;
+        }
 
     by_over : OneVisit (λ k. k) i (Unseen s i) (Seen s i) begun.listed begun.over whole → LookedAt s begun.over entry
     by_over (inl unvisited) = absurd (is_among unvisited.1.not_looked)
@@ -133,9 +158,12 @@ looked_at s selection beginning begun entry there =
 
 -- ---- the key stays till a mark
 
-module _ (l : Limits) (n : CallerNo) (before past : List Event) (selection : Selection) (entry : LookedKey) (legal : IsLegal l (before ++ past)) (begun : IsBegun (mine n before) selection)
-    (there : Contains selection.looked entry) (no_give : has (gives_turn selection.selector.0) (mine n past) ≡ false) (no_remove : has (removes_on selection.selector.0) (mine n past) ≡ false) where
-  stays : (is_in_key_set ((state_after (before ++ past)).key selection.selector.0 entry.index) entry.serial ≡ true) × (((state_after (before ++ past)).key selection.selector.0 entry.index).chan ≡ entry.channel)
+module _ (l : Limits) (n : CallerNo) (before past : List Event) (selection : Selection) (entry : LookedKey)
+    (legal : IsLegal l (before ++ past)) (begun : IsBegun (mine n before) selection)
+    (there : Contains selection.looked entry) (no_give : has (gives_turn selection.selector.0) (mine n past) ≡ false)
+    (no_remove : has (removes_on selection.selector.0) (mine n past) ≡ false) where
+  stays : (is_in_key_set ((state_after (before ++ past)).key selection.selector.0 entry.index) entry.serial ≡ true)
+      × (((state_after (before ++ past)).key selection.selector.0 entry.index).chan ≡ entry.channel)
   stays =
       let s = selection.selector in
       let i = entry.index in
@@ -152,46 +180,75 @@ module _ (l : Limits) (n : CallerNo) (before past : List Event) (selection : Sel
       let since : List Act = valid.later ++ begun.since in
       let own : mine n before ≡ to_look ++ LookKey s i stage ∷ since
       = begun.parts ∙ (ap (λ xs. begun.earlier ++ (xs ++ begun.since)) first.parts
-      ∙ (ap (λ x. begun.earlier ++ ((first.gate ∷ first.take ∷ x ∷ first.keys ∷ (first.lists ++ first.over)) ++ begun.since)) (look-act s first.look first.asks_look)
-      ∙ (ap (λ xs. begun.earlier ++ ((first.gate ∷ first.take ∷ BeginLook s found ∷ first.keys ∷ (first.lists ++ xs)) ++ begun.since)) valid.parts ∙ simp append_assoc))) in
+      ∙ (ap (λ x. begun.earlier
+      ++ ((first.gate ∷ first.take ∷ x ∷ first.keys ∷ (first.lists ++ first.over)) ++ begun.since))
+      (look-act s first.look first.asks_look)
+      ∙ (ap (λ xs. begun.earlier
+      ++ ((first.gate ∷ first.take ∷ BeginLook s found ∷ first.keys ∷ (first.lists ++ xs)) ++ begun.since))
+      valid.parts ∙ simp append_assoc))) in
       let cut = cut_at n before to_look (LookKey s i stage) since own in
       let later : List Event = e0 ∷ (cut.later ++ past) in
-      let joined : cut.past ++ later ≡ before ++ past = sym (append_assoc cut.past (e0 ∷ cut.later) past) ∙ ap (λ events. events ++ past) (sym cut.parts) in
+      let joined : cut.past ++ later ≡ before ++ past = sym (append_assoc cut.past (e0 ∷ cut.later) past)
+      ∙ ap (λ events. events ++ past) (sym cut.parts) in
       let legal' : IsLegal l (cut.past ++ later) = subst (IsLegal l) (sym joined) legal in
       let legal_past = legal_beginning l cut.past later legal' in
       -- the caller has begun there
       let over_keeps = over-keeps s first.listed first.over _ first.runs_over in
-      let over_parts : has (gives_turn s.0) (valid.before ++ LookKey s i stage ∷ valid.later) ≡ false = ap (has (gives_turn s.0)) (sym valid.parts) ∙ over_keeps in
-      let before_keeps : has (gives_turn s.0) valid.before ≡ false = has_first (gives_turn s.0) valid.before (LookKey s i stage ∷ valid.later) over_parts in
-      let later_keeps : has (gives_turn s.0) (LookKey s i stage ∷ valid.later) ≡ false = has_last (gives_turn s.0) valid.before (LookKey s i stage ∷ valid.later) over_parts in
+      let over_parts : has (gives_turn s.0) (valid.before ++ LookKey s i stage ∷ valid.later)
+      ≡ false = ap (has (gives_turn s.0)) (sym valid.parts) ∙ over_keeps in
+      let before_keeps : has (gives_turn s.0) valid.before ≡ false = has_first (gives_turn s.0) valid.before
+      (LookKey s i stage ∷ valid.later) over_parts in
+      let later_keeps : has (gives_turn s.0) (LookKey s i stage ∷ valid.later)
+      ≡ false = has_last (gives_turn s.0) valid.before (LookKey s i stage ∷ valid.later) over_parts in
       let lists_keep = lists-keep s selection.bound first.lists first.listed first.runs_lists in
       let middle_keeps : has (gives_turn s.0) middle ≡ false
-      = neither _ _ (not-gives s.0 first.keys (ap (asks_give s.0) first.asks_keys)) (list_any-append (gives_turn s.0) first.lists valid.before ∙ neither _ _ lists_keep before_keeps) in
-      let has_begun_there = begun_since l n cut.past s earlier found middle legal_past cut.mine_past first.opens middle_keeps in
+      = neither _ _ (not-gives s.0 first.keys (ap (asks_give s.0) first.asks_keys))
+      (list_any-append (gives_turn s.0) first.lists valid.before ∙ neither _ _ lists_keep before_keeps) in
+      let has_begun_there = begun_since l n cut.past s earlier found middle legal_past cut.mine_past first.opens
+      middle_keeps in
       -- what the caller did from there on
       let acts : mine n later ≡ LookKey s i stage ∷ (since ++ mine n past)
-      = mine-own_first n e0 (cut.later ++ past) (eq-eqb n.0 n.0 refl) ∙ ap (λ xs. LookKey s i stage ∷ xs) (mine-append n cut.later past ∙ ap (λ xs. xs ++ mine n past) cut.mine_later) in
-      let keeps_since : has (gives_turn s.0) since ≡ false = list_any-append (gives_turn s.0) valid.later begun.since ∙ neither _ _ later_keeps begun.goes_on in
-      let kept : has (gives_turn s.0) (mine n later) ≡ false = ap (has (gives_turn s.0)) acts ∙ (list_any-append (gives_turn s.0) since (mine n past) ∙ neither _ _ keeps_since no_give) in
+      = mine-own_first n e0 (cut.later ++ past) (eq-eqb n.0 n.0 refl)
+      ∙ ap (λ xs. LookKey s i stage ∷ xs)
+      (mine-append n cut.later past ∙ ap (λ xs. xs ++ mine n past) cut.mine_later) in
+      let keeps_since : has (gives_turn s.0) since ≡ false = list_any-append (gives_turn s.0) valid.later begun.since
+      ∙ neither _ _ later_keeps begun.goes_on in
+      let kept : has (gives_turn s.0) (mine n later) ≡ false = ap (has (gives_turn s.0)) acts
+      ∙ (list_any-append (gives_turn s.0) since (mine n past) ∙ neither _ _ keeps_since no_give) in
       let spares_since : has (removes s.0 i) since ≡ false
-      = list_any-append (removes s.0 i) valid.later begun.since ∙ neither _ _ valid.spared (removes_none s.0 i begun.since begun.unremoved) in
+      = list_any-append (removes s.0 i) valid.later begun.since
+      ∙ neither _ _ valid.spared (removes_none s.0 i begun.since begun.unremoved) in
       let spared : has (removes s.0 i) (mine n later) ≡ false
-      = ap (has (removes s.0 i)) acts ∙ (list_any-append (removes s.0 i) since (mine n past) ∙ neither _ _ spares_since (removes_none s.0 i (mine n past) no_remove)) in
+      = ap (has (removes s.0 i)) acts
+      ∙ (list_any-append (removes s.0 i) since (mine n past)
+      ∙ neither _ _ spares_since (removes_none s.0 i (mine n past) no_remove)) in
       -- what the look found
       let st = state_after cut.past in
       let k : Stage = st.key s.0 i in
       let is : stage ≡ k = ap stage_in (legal_next l cut.past e0 (cut.later ++ past) legal').answers in
-      let in_set : in_key_set k ≡ true = ap in_key_set (sym is) ∙ (and_parts (in_key_set stage) (not stage.cancelled) valid.valid).0 in
+      let in_set : in_key_set k ≡ true = ap in_key_set (sym is)
+      ∙ (and_parts (in_key_set stage) (not stage.cancelled) valid.valid).0 in
       let published : k.published ≡ true = (and_parts k.published (not k.removed) in_set).0 in
-      let claimed : k.claimed ≡ true = beyond-claimed st (legal-sound l cut.past legal_past) s.0 i (ap (λ (b : Bool). b || k.cancelled || k.removed) published) in
+      let claimed : k.claimed ≡ true = beyond-claimed st (legal-sound l cut.past legal_past) s.0 i
+      (ap (λ (b : Bool). b || k.cancelled || k.removed) published) in
       let serial_is : k.serial ≡ entry.serial = ap (λ (x : Stage). x.serial) (sym is) ∙ looked.entry_of.serial in
-      let here : is_in_key_set k entry.serial ≡ true = and_from (fits k entry.serial) (in_key_set k) (and_from k.claimed (k.serial == entry.serial) claimed (eq-eqb k.serial entry.serial serial_is)) in_set in
-      let keeps : Keeps l n (a_selection s) cut.past later = record { legal = legal'; has_it = has_begun_there; kept = kept } in
+      let here : is_in_key_set k entry.serial ≡ true = and_from (fits k entry.serial) (in_key_set k)
+      (and_from k.claimed (k.serial == entry.serial) claimed (eq-eqb k.serial entry.serial serial_is)) in_set in
+      let keeps : Keeps l n (a_selection s) cut.past later = record {
+        legal = legal';
+        has_it = has_begun_there;
+        kept = kept;
+      } in
       let set = key_set_stays l n s cut.past later keeps (record { index = i; serial = entry.serial }) spared here in
       let now = (state_after (cut.past ++ later)).key s.0 i in
-      let same : now.serial ≡ k.serial = eqb-true now.serial entry.serial (and_parts now.claimed (now.serial == entry.serial) (and_parts (fits now entry.serial) (in_key_set now) set).0).1 ∙ sym serial_is in
-      let channel = (keeps_channel l k s.0 i cut.past later legal' (record { claimed = claimed; serial = omega arith; channel = λ _. refl })).channel same in
-      subst (λ events. (is_in_key_set ((state_after events).key s.0 i) entry.serial ≡ true) × (((state_after events).key s.0 i).chan ≡ entry.channel)) joined
+      let same : now.serial ≡ k.serial = eqb-true now.serial entry.serial
+      (and_parts now.claimed (now.serial == entry.serial)
+      (and_parts (fits now entry.serial) (in_key_set now) set).0).1 ∙ sym serial_is in
+      let channel =
+      (keeps_channel l k s.0 i cut.past later legal'
+      (record { claimed = claimed; serial = omega arith; channel = λ _. refl })).channel same in
+      subst (λ events. (is_in_key_set ((state_after events).key s.0 i) entry.serial ≡ true)
+      × (((state_after events).key s.0 i).chan ≡ entry.channel)) joined
       (set, channel ∙ (ap (λ (x : Stage). x.chan) (sym is) ∙ looked.entry_of.channel))
 
 -- ---- the law
@@ -201,20 +258,32 @@ unfolding told_plan
 marks_looked_keys l n before past later selection poll answer s i told from found legal begun run =
     let act = Mark s i from told found in
     let e = event_of n act in
-    let acts : mine n (past ++ e ∷ later) ≡ mine n past ++ act ∷ mine n later = mine-append n past (e ∷ later) ∙ ap (λ xs. mine n past ++ xs) (mine-own_first n e later (eq-eqb n.0 n.0 refl)) in
-    let as_told = marks_only_as_told selection poll (mine n (past ++ e ∷ later)) answer run s i told from found (subst (λ xs. Contains xs act) (sym acts) (contains-middle (mine n past) act (mine n later))) in
+    let acts : mine n (past ++ e ∷ later) ≡ mine n past ++ act ∷ mine n later = mine-append n past (e ∷ later)
+    ∙ ap (λ xs. mine n past ++ xs) (mine-own_first n e later (eq-eqb n.0 n.0 refl)) in
+    let as_told = marks_only_as_told selection poll (mine n (past ++ e ∷ later)) answer run s i told from found
+    (subst (λ xs. Contains xs act) (sym acts) (contains-middle (mine n past) act (mine n later))) in
     let t = selection.selector in
-    let parts = split (sweep_over selection.looked (mark_entry t poll.pairs) 0) (after_marks selection poll.elapsed) (mine n (past ++ e ∷ later)) answer run in
-    let no_marks = (each_run (NoMark t.0) (Replies selection parts.middle) (after_marks selection poll.elapsed parts.middle) parts.second answer (after-replies selection poll.elapsed parts.middle) parts.runs_second).0 in
-    let is_mark : asks_mark t.0 (question_of act) ≡ true = eq-eqb s.0 t.0 (ap (λ (x : SelNo). x.0) as_told.on_selector) in
+    let parts = split (sweep_over selection.looked (mark_entry t poll.pairs) 0) (after_marks selection poll.elapsed)
+    (mine n (past ++ e ∷ later)) answer run in
+    let no_marks =
+    (each_run (NoMark t.0) (Replies selection parts.middle) (after_marks selection poll.elapsed parts.middle)
+    parts.second answer (after-replies selection poll.elapsed parts.middle) parts.runs_second).0 in
+    let is_mark : asks_mark t.0 (question_of act) ≡ true = eq-eqb s.0 t.0
+    (ap (λ (x : SelNo). x.0) as_told.on_selector) in
     let none = λ (q : Act → Bool) (none_first : has q parts.first ≡ false).
-    none_before (λ a. asks_mark t.0 (question_of a)) q (mine n past) act (mine n later) parts.first parts.second (sym acts ∙ parts.parts) is_mark no_marks none_first in
-    let no_give = none (gives_turn t.0) (marks-no_give t poll.pairs selection.looked parts.first parts.middle parts.runs_first) in
-    let no_remove = none (removes_on t.0) (marks-no_remove t poll.pairs selection.looked parts.first parts.middle parts.runs_first) in
-    let legal' : IsLegal l (before ++ past) = legal_beginning l (before ++ past) (e ∷ later) (subst (IsLegal l) (sym (append_assoc before past (e ∷ later))) legal) in
+    none_before (λ a. asks_mark t.0 (question_of a)) q (mine n past) act (mine n later) parts.first parts.second
+    (sym acts ∙ parts.parts) is_mark no_marks none_first in
+    let no_give = none (gives_turn t.0)
+    (marks-no_give t poll.pairs selection.looked parts.first parts.middle parts.runs_first) in
+    let no_remove = none (removes_on t.0)
+    (marks-no_remove t poll.pairs selection.looked parts.first parts.middle parts.runs_first) in
+    let legal' : IsLegal l (before ++ past) = legal_beginning l (before ++ past) (e ∷ later)
+    (subst (IsLegal l) (sym (append_assoc before past (e ∷ later))) legal) in
     let entry = as_told.entry in
     let here = stays l n before past selection entry legal' begun as_told.looked no_give no_remove in
     let st = state_after (before ++ past) in
-    let at = subst (λ (j : ℕ). (is_in_key_set (st.key t.0 j) entry.serial ≡ true) × ((st.key t.0 j).chan ≡ entry.channel)) as_told.at_index here in
-    let at_s = subst (λ (x : SelNo). (is_in_key_set (st.key x.0 i) entry.serial ≡ true) × ((st.key x.0 i).chan ≡ entry.channel)) (sym as_told.on_selector) at in
+    let at = subst (λ (j : ℕ). (is_in_key_set (st.key t.0 j) entry.serial ≡ true)
+    × ((st.key t.0 j).chan ≡ entry.channel)) as_told.at_index here in
+    let at_s = subst (λ (x : SelNo). (is_in_key_set (st.key x.0 i) entry.serial ≡ true)
+    × ((st.key x.0 i).chan ≡ entry.channel)) (sym as_told.on_selector) at in
     record { as_told = as_told; in_set = at_s.0; channel = at_s.1 }

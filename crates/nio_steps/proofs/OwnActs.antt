@@ -9,11 +9,15 @@ use Rattle.nio_event.specs.declared.act.Act.{Act}
 use Rattle.nio_event.specs.declared.event.Event.{Event}
 use Rattle.nio_steps.proofs.Lists.{parted}
 
-pub mine-own_first : (n : CallerNo) (e : Event) (events : List Event) → is_by n e ≡ true → mine n (e ∷ events) ≡ e.act ∷ mine n events
-mine-own_first n e events by = ap (λ b. map (λ x. x.act) (cond b (e ∷ filter (is_by n) events) (filter (is_by n) events))) by
+pub mine-own_first : (n : CallerNo) (e : Event) (events : List Event) → is_by n e ≡ true
+    → mine n (e ∷ events) ≡ e.act ∷ mine n events
+mine-own_first n e events by =
+    ap (λ b. map (λ x. x.act) (cond b (e ∷ filter (is_by n) events) (filter (is_by n) events))) by
 
-mine-other_first : (n : CallerNo) (e : Event) (events : List Event) → is_by n e ≡ false → mine n (e ∷ events) ≡ mine n events
-mine-other_first n e events by = ap (λ b. map (λ x. x.act) (cond b (e ∷ filter (is_by n) events) (filter (is_by n) events))) by
+mine-other_first : (n : CallerNo) (e : Event) (events : List Event) → is_by n e ≡ false
+    → mine n (e ∷ events) ≡ mine n events
+mine-other_first n e events by =
+    ap (λ b. map (λ x. x.act) (cond b (e ∷ filter (is_by n) events) (filter (is_by n) events))) by
 
 -- the history is cut at the event of that act
 pub record Cut (n : CallerNo) (events : List Event) (xs : List Act) (act : Act) (ys : List Act) : Type 0 where
@@ -27,7 +31,8 @@ not_empty : {A : Type 0} (xs : List A) (y : A) (ys : List A) → [] ≡ xs ++ y 
 not_empty [] y ys eq = cc
 not_empty (x ∷ xs) y ys eq = cc
 
-pub cut_at : (n : CallerNo) (events : List Event) (xs : List Act) (act : Act) (ys : List Act) → mine n events ≡ xs ++ act ∷ ys → Cut n events xs act ys
+pub cut_at : (n : CallerNo) (events : List Event) (xs : List Act) (act : Act) (ys : List Act)
+    → mine n events ≡ xs ++ act ∷ ys → Cut n events xs act ys
 cut_at n [] xs act ys own = absurd (not_empty xs act ys own)
 cut_at n (e ∷ events) xs act ys own = by_test (is_by n e) refl xs own (λ zs rest. cut_at n events zs act ys rest)
   where
@@ -37,7 +42,8 @@ cut_at n (e ∷ events) xs act ys own = by_test (is_by n e) refl xs own (λ zs r
         let both : e.act ∷ mine n events ≡ act ∷ ys = sym (mine-own_first n e events by) ∙ own' in
         let same_caller : e.caller ≡ n = ap (λ (k : ℕ). record { 0 = k }) (eqb-true e.caller.0 n.0 by) in
         let same_act : e.act ≡ act = cc both in
-        let same : e ≡ event_of n act = ap (λ (m : CallerNo). event_of m e.act) same_caller ∙ ap (event_of n) same_act in
+        let same : e ≡ event_of n act = ap (λ (m : CallerNo). event_of m e.act) same_caller
+        ∙ ap (event_of n) same_act in
         record { past = []; later = events; parts = ap (λ x. x ∷ events) same; mine_past = refl; mine_later = cc both }
     by_test true by (z ∷ zs) own' rec =
         let both : e.act ∷ mine n events ≡ z ∷ (zs ++ act ∷ ys) = sym (mine-own_first n e events by) ∙ own' in
@@ -47,7 +53,8 @@ cut_at n (e ∷ events) xs act ys own = by_test (is_by n e) refl xs own (λ zs r
           past = e ∷ cut.past;
           later = cut.later;
           parts = ap (λ rest. e ∷ rest) cut.parts;
-          mine_past = mine-own_first n e cut.past by ∙ (ap (λ x. x ∷ mine n cut.past) first ∙ ap (λ rest. z ∷ rest) cut.mine_past);
+          mine_past = mine-own_first n e cut.past by
+              ∙ (ap (λ x. x ∷ mine n cut.past) first ∙ ap (λ rest. z ∷ rest) cut.mine_past);
           mine_later = cut.mine_later;
         }
     by_test false by zs own' rec =
@@ -73,4 +80,6 @@ at_own n events act there =
     record { past = cut.past; later = cut.later; parts = cut.parts }
 
 pub mine-append : (n : CallerNo) (xs ys : List Event) → mine n (xs ++ ys) ≡ mine n xs ++ mine n ys
-mine-append n xs ys = ap (map (λ x. x.act)) (filter-append (is_by n) xs ys) ∙ map-append (λ x. x.act) (filter (is_by n) xs) (filter (is_by n) ys)
+mine-append n xs ys =
+    ap (map (λ x. x.act)) (filter-append (is_by n) xs ys)
+    ∙ map-append (λ x. x.act) (filter (is_by n) xs) (filter (is_by n) ys)

@@ -1,5 +1,6 @@
 -- What a run of a plan does to the pins of its caller.
-use Rattle.std.proofs.Common.{◌≡◌, ℕ, suc, ◌+◌, ◌-◌, ◌==◌, Bool, true, false, ◌&&◌, if◌then◌else◌, Option, Some, None, List, [], ◌∷◌, ◌++◌, refl, ap, sym, ◌∙◌, subst, append_assoc, zero}
+use Rattle.std.proofs.Common.{◌≡◌, ℕ, suc, ◌+◌, ◌-◌, ◌==◌, Bool, true, false, ◌&&◌, if◌then◌else◌, Option, Some, None}
+use Rattle.std.proofs.Common.{List, [], ◌∷◌, ◌++◌, refl, ap, sym, ◌∙◌, subst, append_assoc, zero}
 use Rattle.std.specs.Prelude.{fold}
 use Rattle.std.specs.Option.{option_or}
 use Rattle.std.proofs.lemmas.List.{append-nil}
@@ -38,32 +39,42 @@ or_assoc : (a b c : Option Bool) → option_or (option_or a b) c ≡ option_or a
 or_assoc (Some x) b c = refl
 or_assoc None b c = refl
 
-from_first : (tells : Act → Option Bool) (acts : List Act) (before : Option Bool) → fold (λ told act. option_or (tells act) told) before acts ≡ option_or (last tells acts) before
+from_first : (tells : Act → Option Bool) (acts : List Act) (before : Option Bool)
+    → fold (λ told act. option_or (tells act) told) before acts ≡ option_or (last tells acts) before
 from_first tells [] before = refl
 from_first tells (act ∷ acts) before =
     from_first tells acts (option_or (tells act) before)
     ∙ (sym (or_assoc (last tells acts) (tells act) before)
-    ∙ ap (λ told. option_or told before) (ap (option_or (last tells acts)) (or_none (tells act)) ∙ sym (from_first tells acts (option_or (tells act) None))))
+    ∙ ap (λ told. option_or told before)
+    (ap (option_or (last tells acts)) (or_none (tells act))
+    ∙ sym (from_first tells acts (option_or (tells act) None))))
   where
     or_none : (a : Option Bool) → a ≡ option_or a None
     or_none (Some x) = refl
     or_none None = refl
 
-last-append : (tells : Act → Option Bool) (acts later : List Act) → last tells (acts ++ later) ≡ option_or (last tells later) (last tells acts)
-last-append tells acts later = fold-append (λ told act. option_or (tells act) told) None acts later ∙ from_first tells later (last tells acts)
+last-append : (tells : Act → Option Bool) (acts later : List Act)
+    → last tells (acts ++ later) ≡ option_or (last tells later) (last tells acts)
+last-append tells acts later =
+    fold-append (λ told act. option_or (tells act) told) None acts later ∙ from_first tells later (last tells acts)
 
 yes_neither : (a b : Option Bool) → is_yes a ≡ false → is_yes b ≡ false → is_yes (option_or a b) ≡ false
 yes_neither (Some x) b first second = first
 yes_neither None b first second = second
 
-keeps-append : (s i : ℕ) (acts later : List Act) → keeps_pin s i acts ≡ false → keeps_pin s i later ≡ false → keeps_pin s i (acts ++ later) ≡ false
-keeps-append s i acts later first second = ap is_yes (last-append (pin_changed s i) acts later) ∙ yes_neither (last (pin_changed s i) later) (last (pin_changed s i) acts) second first
+keeps-append : (s i : ℕ) (acts later : List Act) → keeps_pin s i acts ≡ false → keeps_pin s i later ≡ false
+    → keeps_pin s i (acts ++ later) ≡ false
+keeps-append s i acts later first second =
+    ap is_yes (last-append (pin_changed s i) acts later)
+    ∙ yes_neither (last (pin_changed s i) later) (last (pin_changed s i) acts) second first
 
 pub no_pins-append : (acts later : List Act) → NoPins acts → NoPins later → NoPins (acts ++ later)
 no_pins-append acts later first second s i = keeps-append s i acts later (first s i) (second s i)
 
-pub only_pin-append : (s : SelNo) (i : ℕ) (acts later : List Act) → OnlyPin s i acts → OnlyPin s i later → OnlyPin s i (acts ++ later)
-only_pin-append s i acts later first second s' i' other = keeps-append s' i' acts later (first s' i' other) (second s' i' other)
+pub only_pin-append : (s : SelNo) (i : ℕ) (acts later : List Act) → OnlyPin s i acts → OnlyPin s i later
+    → OnlyPin s i (acts ++ later)
+only_pin-append s i acts later first second s' i' other =
+    keeps-append s' i' acts later (first s' i' other) (second s' i' other)
 
 -- ---- one act
 
@@ -90,44 +101,56 @@ pub pin-only : (s : SelNo) (i : ℕ) (act : Act) → question_of act ≡ Questio
 pin-only s i (Pin s'' i'' found) asks s' i' other =
     let first : s'' ≡ s = cc asks in
     let second : i'' ≡ i = cc asks in
-    pin_if ((s''.0 == s') && (i'' == i')) true (ap (λ (x : SelNo). (x.0 == s') && (i'' == i')) first ∙ (ap (λ (x : ℕ). (s.0 == s') && (x == i')) second ∙ other))
+    pin_if ((s''.0 == s') && (i'' == i')) true
+    (ap (λ (x : SelNo). (x.0 == s') && (i'' == i')) first
+    ∙ (ap (λ (x : ℕ). (s.0 == s') && (x == i')) second ∙ other))
 pin-only s i _ asks s' i' other = absurd (cc asks)
 
 -- a claim leaves a pin on its index alone
-pub claim-only : (s : SelNo) (i : ℕ) (act : Act) (c : ChanNo) → question_of act ≡ Question.claim s i c → OnlyPin s i (act ∷ [])
+pub claim-only : (s : SelNo) (i : ℕ) (act : Act) (c : ChanNo) → question_of act ≡ Question.claim s i c
+    → OnlyPin s i (act ∷ [])
 claim-only s i (Claim s'' i'' c'' true) c asks s' i' other = refl
 claim-only s i (Claim s'' i'' c'' false) c asks s' i' other =
     let first : s'' ≡ s = cc asks in
     let second : i'' ≡ i = cc asks in
-    pin_if ((s''.0 == s') && (i'' == i')) true (ap (λ (x : SelNo). (x.0 == s') && (i'' == i')) first ∙ (ap (λ (x : ℕ). (s.0 == s') && (x == i')) second ∙ other))
+    pin_if ((s''.0 == s') && (i'' == i')) true
+    (ap (λ (x : SelNo). (x.0 == s') && (i'' == i')) first
+    ∙ (ap (λ (x : ℕ). (s.0 == s') && (x == i')) second ∙ other))
 claim-only s i _ c asks s' i' other = absurd (cc asks)
 
-pub claim_again-only : (s : SelNo) (i : ℕ) (act : Act) (c : ChanNo) (from : Stage) → question_of act ≡ Question.claim_again s i c from → OnlyPin s i (act ∷ [])
+pub claim_again-only : (s : SelNo) (i : ℕ) (act : Act) (c : ChanNo) (from : Stage)
+    → question_of act ≡ Question.claim_again s i c from → OnlyPin s i (act ∷ [])
 claim_again-only s i (ClaimAgain s'' i'' c'' from'' true) c from asks s' i' other = refl
 claim_again-only s i (ClaimAgain s'' i'' c'' from'' false) c from asks s' i' other =
     let first : s'' ≡ s = cc asks in
     let second : i'' ≡ i = cc asks in
-    pin_if ((s''.0 == s') && (i'' == i')) true (ap (λ (x : SelNo). (x.0 == s') && (i'' == i')) first ∙ (ap (λ (x : ℕ). (s.0 == s') && (x == i')) second ∙ other))
+    pin_if ((s''.0 == s') && (i'' == i')) true
+    (ap (λ (x : SelNo). (x.0 == s') && (i'' == i')) first
+    ∙ (ap (λ (x : ℕ). (s.0 == s') && (x == i')) second ∙ other))
 claim_again-only s i _ c from asks s' i' other = absurd (cc asks)
 
 -- a claim that found the index claimed, or pinned, leaves no pin
-pub claim-none : (s : SelNo) (i : ℕ) (act : Act) (c : ChanNo) → question_of act ≡ Question.claim s i c → flag_in (answer_of act) ≡ true → NoPins (act ∷ [])
+pub claim-none : (s : SelNo) (i : ℕ) (act : Act) (c : ChanNo) → question_of act ≡ Question.claim s i c
+    → flag_in (answer_of act) ≡ true → NoPins (act ∷ [])
 claim-none s i (Claim s'' i'' c'' true) c asks was s' i' = refl
 claim-none s i (Claim s'' i'' c'' false) c asks was s' i' = absurd (cc was)
 claim-none s i _ c asks was s' i' = absurd (cc asks)
 
-pub claim_again-none : (s : SelNo) (i : ℕ) (act : Act) (c : ChanNo) (from : Stage) → question_of act ≡ Question.claim_again s i c from → flag_in (answer_of act) ≡ true → NoPins (act ∷ [])
+pub claim_again-none : (s : SelNo) (i : ℕ) (act : Act) (c : ChanNo) (from : Stage)
+    → question_of act ≡ Question.claim_again s i c from → flag_in (answer_of act) ≡ true → NoPins (act ∷ [])
 claim_again-none s i (ClaimAgain s'' i'' c'' from'' true) c from asks was s' i' = refl
 claim_again-none s i (ClaimAgain s'' i'' c'' from'' false) c from asks was s' i' = absurd (cc was)
 claim_again-none s i _ c from asks was s' i' = absurd (cc asks)
 
 -- an unpinning leaves no pin on its index
-unpin-gives : (s : SelNo) (i : ℕ) (act : Act) → question_of act ≡ Question.unpin s i → (s' i' : ℕ) (b : Bool) → ((s.0 == s') && (i == i')) ≡ b
+unpin-gives : (s : SelNo) (i : ℕ) (act : Act) → question_of act ≡ Question.unpin s i → (s' i' : ℕ) (b : Bool)
+    → ((s.0 == s') && (i == i')) ≡ b
     → last (pin_changed s' i') (act ∷ []) ≡ (if b then Some false else None)
 unpin-gives s i (Unpin s'' i'') asks s' i' b is =
     let first : s'' ≡ s = cc asks in
     let second : i'' ≡ i = cc asks in
-    let test : ((s''.0 == s') && (i'' == i')) ≡ b = ap (λ (x : SelNo). (x.0 == s') && (i'' == i')) first ∙ (ap (λ (x : ℕ). (s.0 == s') && (x == i')) second ∙ is) in
+    let test : ((s''.0 == s') && (i'' == i')) ≡ b = ap (λ (x : SelNo). (x.0 == s') && (i'' == i')) first
+    ∙ (ap (λ (x : ℕ). (s.0 == s') && (x == i')) second ∙ is) in
     ap (λ (c : Bool). option_or (if c then Some false else None) None) test ∙ by_test b
   where
     by_test : (c : Bool) → option_or (if c then Some false else None) None ≡ (if c then Some false else None)
@@ -136,12 +159,18 @@ unpin-gives s i (Unpin s'' i'') asks s' i' b is =
 unpin-gives s i _ asks s' i' b is = absurd (cc asks)
 
 -- acts that keep no pin but one, and then the unpinning
-pub unpinned : (s : SelNo) (i : ℕ) (acts : List Act) (act : Act) → question_of act ≡ Question.unpin s i → OnlyPin s i acts → NoPins (acts ++ act ∷ [])
-unpinned s i acts act asks only s' i' = ap is_yes (last-append (pin_changed s' i') acts (act ∷ [])) ∙ by_test ((s.0 == s') && (i == i')) refl
+pub unpinned : (s : SelNo) (i : ℕ) (acts : List Act) (act : Act) → question_of act ≡ Question.unpin s i
+    → OnlyPin s i acts → NoPins (acts ++ act ∷ [])
+unpinned s i acts act asks only s' i' =
+    ap is_yes (last-append (pin_changed s' i') acts (act ∷ [])) ∙ by_test ((s.0 == s') && (i == i')) refl
   where
-    by_test : (b : Bool) → ((s.0 == s') && (i == i')) ≡ b → is_yes (option_or (last (pin_changed s' i') (act ∷ [])) (last (pin_changed s' i') acts)) ≡ false
-    by_test true is = ap (λ told. is_yes (option_or told (last (pin_changed s' i') acts))) (unpin-gives s i act asks s' i' true is)
-    by_test false is = ap (λ told. is_yes (option_or told (last (pin_changed s' i') acts))) (unpin-gives s i act asks s' i' false is) ∙ only s' i' is
+    by_test : (b : Bool) → ((s.0 == s') && (i == i')) ≡ b
+        → is_yes (option_or (last (pin_changed s' i') (act ∷ [])) (last (pin_changed s' i') acts)) ≡ false
+    by_test true is =
+        ap (λ told. is_yes (option_or told (last (pin_changed s' i') acts))) (unpin-gives s i act asks s' i' true is)
+    by_test false is =
+        ap (λ told. is_yes (option_or told (last (pin_changed s' i') acts))) (unpin-gives s i act asks s' i' false is)
+        ∙ only s' i' is
 
 -- ---- plans
 
@@ -155,37 +184,50 @@ no_pins s i = refl
 pub leaves_reply : {R : Type 0} (r : R) → Leaves (reply r)
 leaves_reply r = record { always = no_pins }
 
-pub leaves_ask : {R : Type 0} (question : Question) (next : Answer → Plan R) → leaves_pins question ≡ true → ((answer : Answer) → Leaves (next answer)) → Leaves (ask question next)
+pub leaves_ask : {R : Type 0} (question : Question) (next : Answer → Plan R) → leaves_pins question ≡ true
+    → ((answer : Answer) → Leaves (next answer)) → Leaves (ask question next)
 leaves_ask question next quiet later = record {
   always = λ act asks.
       always_weaker (λ acts _. NoPins acts) (λ acts _. NoPins (act ∷ acts)) (next (answer_of act))
-      (λ acts _ none. no_pins-append (act ∷ []) acts (leaves-none act (ap leaves_pins asks ∙ quiet)) none) (later (answer_of act)).always;
+      (λ acts _ none. no_pins-append (act ∷ []) acts (leaves-none act (ap leaves_pins asks ∙ quiet)) none)
+      (later (answer_of act)).always;
 }
 
 -- after acts that keep no pin
-pub leaves_after : {R : Type 0} (xs : List Act) (plan : Plan R) → NoPins xs → Leaves plan → Always (λ acts _. NoPins (xs ++ acts)) plan
-leaves_after xs plan none here = always_weaker (λ acts _. NoPins acts) (λ acts _. NoPins (xs ++ acts)) plan (λ acts _ more. no_pins-append xs acts none more) here.always
+pub leaves_after : {R : Type 0} (xs : List Act) (plan : Plan R) → NoPins xs → Leaves plan
+    → Always (λ acts _. NoPins (xs ++ acts)) plan
+leaves_after xs plan none here =
+    always_weaker (λ acts _. NoPins acts) (λ acts _. NoPins (xs ++ acts)) plan
+    (λ acts _ more. no_pins-append xs acts none more) here.always
 
-pub leaves_bind : {A B : Type 0} (plan : Plan A) (f : A → Plan B) → Leaves plan → ((a : A) → Leaves (f a)) → Leaves (plan >>= f)
+pub leaves_bind : {A B : Type 0} (plan : Plan A) (f : A → Plan B) → Leaves plan → ((a : A) → Leaves (f a))
+    → Leaves (plan >>= f)
 leaves_bind plan f here later = record {
-  always = always_bind (λ acts _. NoPins acts) (λ acts _. NoPins acts) plan f here.always (λ xs a none. leaves_after xs (f a) none (later a));
+  always = always_bind (λ acts _. NoPins acts) (λ acts _. NoPins acts) plan f here.always
+      (λ xs a none. leaves_after xs (f a) none (later a));
 }
 
 pub leaves_if : {R : Type 0} (b : Bool) (x y : Plan R) → Leaves x → Leaves y → Leaves (if b then x else y)
-leaves_if b x y this that = record { always = always_if (λ acts _. NoPins acts) b x y (λ _. this.always) (λ _. that.always) }
+leaves_if b x y this that =
+    record { always = always_if (λ acts _. NoPins acts) b x y (λ _. this.always) (λ _. that.always) }
 
-leaves_turns : {A : Type 0} (n i : ℕ) (f : ℕ → A → Plan A) (x : A) → ((k : ℕ) (y : A) → Leaves (f k y)) → Leaves (sweep n i f x)
+leaves_turns : {A : Type 0} (n i : ℕ) (f : ℕ → A → Plan A) (x : A) → ((k : ℕ) (y : A) → Leaves (f k y))
+    → Leaves (sweep n i f x)
 unfolding sweep
 leaves_turns zero i f x each = leaves_reply x
-leaves_turns (suc n) i f x each = leaves_bind (f i x) (λ y. sweep n (i + 1) f y) (each i x) (λ y. leaves_turns n (i + 1) f y each)
+leaves_turns (suc n) i f x each =
+    leaves_bind (f i x) (λ y. sweep n (i + 1) f y) (each i x) (λ y. leaves_turns n (i + 1) f y each)
 
-pub leaves_sweep : {A : Type 0} (b i : ℕ) (f : ℕ → A → Plan A) (x : A) → ((k : ℕ) (y : A) → Leaves (f k y)) → Leaves (sweep_to b i f x)
+pub leaves_sweep : {A : Type 0} (b i : ℕ) (f : ℕ → A → Plan A) (x : A) → ((k : ℕ) (y : A) → Leaves (f k y))
+    → Leaves (sweep_to b i f x)
 leaves_sweep b i f x each = leaves_turns (b - i) i f x each
 
-pub leaves_over : {X A : Type 0} (xs : List X) (f : X → A → Plan A) (x : A) → ((e : X) (y : A) → Leaves (f e y)) → Leaves (sweep_over xs f x)
+pub leaves_over : {X A : Type 0} (xs : List X) (f : X → A → Plan A) (x : A) → ((e : X) (y : A) → Leaves (f e y))
+    → Leaves (sweep_over xs f x)
 unfolding sweep_over
 leaves_over [] f x each = leaves_reply x
-leaves_over (e ∷ later) f x each = leaves_bind (f e x) (λ y. sweep_over later f y) (each e x) (λ y. leaves_over later f y each)
+leaves_over (e ∷ later) f x each =
+    leaves_bind (f e x) (λ y. sweep_over later f y) (each e x) (λ y. leaves_over later f y each)
 
 -- ---- plans that may claim an index: a run that gives one keeps a pin on it alone
 
@@ -193,30 +235,39 @@ abbrev pub PinsFound : {A : Type 0} → SelNo → (A → ℕ) → List Act → O
 PinsFound s index acts None = NoPins acts
 PinsFound s index acts (Some x) = OnlyPin s (index x) acts
 
-pub found-append : {A : Type 0} (s : SelNo) (index : A → ℕ) (acts later : List Act) (found : Option A) → NoPins acts → PinsFound s index later found → PinsFound s index (acts ++ later) found
+pub found-append : {A : Type 0} (s : SelNo) (index : A → ℕ) (acts later : List Act) (found : Option A) → NoPins acts
+    → PinsFound s index later found → PinsFound s index (acts ++ later) found
 found-append s index acts later None none more = no_pins-append acts later none more
 found-append s index acts later (Some x) none only = only_pin-append s (index x) acts later (λ s' i' _. none s' i') only
 
-pub found_leaves : {A : Type 0} (s : SelNo) (index : A → ℕ) (acts : List Act) (plan : Plan (Option A)) → NoPins acts → Always (PinsFound s index) plan → Always (λ xs r. PinsFound s index (acts ++ xs) r) plan
-found_leaves s index acts plan none here = always_weaker (PinsFound s index) (λ xs r. PinsFound s index (acts ++ xs) r) plan (λ xs r found. found-append s index acts xs r none found) here
+pub found_leaves : {A : Type 0} (s : SelNo) (index : A → ℕ) (acts : List Act) (plan : Plan (Option A)) → NoPins acts
+    → Always (PinsFound s index) plan → Always (λ xs r. PinsFound s index (acts ++ xs) r) plan
+found_leaves s index acts plan none here =
+    always_weaker (PinsFound s index) (λ xs r. PinsFound s index (acts ++ xs) r) plan
+    (λ xs r found. found-append s index acts xs r none found) here
 
-found_turns : {A : Type 0} (s : SelNo) (index : A → ℕ) (n i : ℕ) (f : ℕ → Plan (Option A)) → ((k : ℕ) → Always (PinsFound s index) (f k)) → Always (PinsFound s index) (seek n i f)
+found_turns : {A : Type 0} (s : SelNo) (index : A → ℕ) (n i : ℕ) (f : ℕ → Plan (Option A))
+    → ((k : ℕ) → Always (PinsFound s index) (f k)) → Always (PinsFound s index) (seek n i f)
 unfolding seek
 found_turns s index zero i f each = no_pins
 found_turns {A = A} s index (suc n) i f each =
-    always_bind (PinsFound s index) (PinsFound s index) (f i) (found_or (seek n (i + 1) f)) (each i) (by_found (found_turns s index n (i + 1) f each))
+    always_bind (PinsFound s index) (PinsFound s index) (f i) (found_or (seek n (i + 1) f)) (each i)
+    (by_found (found_turns s index n (i + 1) f each))
   where
-    by_found : Always (PinsFound s index) (seek n (i + 1) f) → (xs : List Act) (here : Option A) → PinsFound s index xs here → Always (λ ys r. PinsFound s index (xs ++ ys) r) (found_or (seek n (i + 1) f) here)
+    by_found : Always (PinsFound s index) (seek n (i + 1) f) → (xs : List Act) (here : Option A)
+        → PinsFound s index xs here → Always (λ ys r. PinsFound s index (xs ++ ys) r) (found_or (seek n (i + 1) f) here)
     by_found later xs (Some x) only = subst (OnlyPin s (index x)) (sym (append-nil xs)) only
     by_found later xs None none = found_leaves s index xs (seek n (i + 1) f) none later
 
-pub found_seek : {A : Type 0} (s : SelNo) (index : A → ℕ) (b i : ℕ) (f : ℕ → Plan (Option A)) → ((k : ℕ) → Always (PinsFound s index) (f k)) → Always (PinsFound s index) (seek_to b i f)
+pub found_seek : {A : Type 0} (s : SelNo) (index : A → ℕ) (b i : ℕ) (f : ℕ → Plan (Option A))
+    → ((k : ℕ) → Always (PinsFound s index) (f k)) → Always (PinsFound s index) (seek_to b i f)
 found_seek s index b i f each = found_turns s index (b - i) i f each
 
 leaves_tries : {A : Type 0} (n i : ℕ) (f : ℕ → Plan (Option A)) → ((k : ℕ) → Leaves (f k)) → Leaves (seek n i f)
 unfolding seek
 leaves_tries zero i f each = leaves_reply None
-leaves_tries {A = A} (suc n) i f each = leaves_bind (f i) (found_or (seek n (i + 1) f)) (each i) (by_found (leaves_tries n (i + 1) f each))
+leaves_tries {A = A} (suc n) i f each =
+    leaves_bind (f i) (found_or (seek n (i + 1) f)) (each i) (by_found (leaves_tries n (i + 1) f each))
   where
     by_found : Leaves (seek n (i + 1) f) → (here : Option A) → Leaves (found_or (seek n (i + 1) f) here)
     by_found later (Some x) = leaves_reply (Some x)
@@ -226,22 +277,29 @@ pub leaves_seek : {A : Type 0} (b i : ℕ) (f : ℕ → Plan (Option A)) → ((k
 leaves_seek b i f each = leaves_tries (b - i) i f each
 
 -- what is done with a pin on an index, which is then given back
-pub leaves_pinned : {A : Type 0} (s : SelNo) (i : ℕ) (before : List Act) (plan : Plan A) → OnlyPin s i before → Leaves plan
+pub leaves_pinned : {A : Type 0} (s : SelNo) (i : ℕ) (before : List Act) (plan : Plan A) → OnlyPin s i before
+    → Leaves plan
     → Always (λ acts _. NoPins (before ++ acts)) (plan >>= λ answer. (unpin s i >> reply answer))
 leaves_pinned s i before plan only here =
-    always_bind (λ acts _. NoPins acts) (λ acts _. NoPins (before ++ acts)) plan (λ answer. unpin s i >> reply answer) here.always
+    always_bind (λ acts _. NoPins acts) (λ acts _. NoPins (before ++ acts)) plan
+    (λ answer. unpin s i >> reply answer) here.always
     (λ xs a none act asks. subst NoPins (append_assoc before xs (act ∷ []))
     (unpinned s i (before ++ xs) act asks (only_pin-append s i before xs only (λ s' i' _. none s' i'))))
 
-pub leaves_under_pin : {A : Type 0} (s : SelNo) (i : ℕ) (steps : Stage → Plan A) → ((stage : Stage) → Leaves (steps stage)) → Leaves (under_pin s i steps)
+pub leaves_under_pin : {A : Type 0} (s : SelNo) (i : ℕ) (steps : Stage → Plan A)
+    → ((stage : Stage) → Leaves (steps stage)) → Leaves (under_pin s i steps)
 leaves_under_pin s i steps each = record {
-  always = λ act asks. leaves_pinned s i (act ∷ []) (steps (stage_in (answer_of act))) (pin-only s i act asks) (each (stage_in (answer_of act)));
+  always = λ act asks. leaves_pinned s i (act ∷ []) (steps (stage_in (answer_of act))) (pin-only s i act asks)
+      (each (stage_in (answer_of act)));
 }
 
 -- after one act more
-pub again : {R : Type 0} (before : List Act) (act : Act) (plan : Plan R) → Always (λ acts _. NoPins ((before ++ act ∷ []) ++ acts)) plan → Always (λ acts _. NoPins (before ++ act ∷ acts)) plan
+pub again : {R : Type 0} (before : List Act) (act : Act) (plan : Plan R)
+    → Always (λ acts _. NoPins ((before ++ act ∷ []) ++ acts)) plan
+    → Always (λ acts _. NoPins (before ++ act ∷ acts)) plan
 again before act plan here =
-    always_weaker (λ acts _. NoPins ((before ++ act ∷ []) ++ acts)) (λ acts _. NoPins (before ++ act ∷ acts)) plan (λ acts _ none. subst NoPins (append_assoc before (act ∷ []) acts) none) here
+    always_weaker (λ acts _. NoPins ((before ++ act ∷ []) ++ acts)) (λ acts _. NoPins (before ++ act ∷ acts)) plan
+    (λ acts _ none. subst NoPins (append_assoc before (act ∷ []) acts) none) here
 
 -- ---- of a whole run
 
@@ -252,10 +310,14 @@ gives_back plan here acts answer run = always_run (λ xs _. NoPins xs) plan acts
 
 -- a caller that has no pin when it makes a call of this shape has none when the call returns
 pub no_pin_after : {R : Type 0} {me : CallerNo} {Shape : List Act → R → Type 0} {answer : R} {old new : PassView}
-    → ((acts : List Act) → Shape acts answer → NoPins acts) → CallClause me Shape old new answer → HasNoPin old me → HasNoPin new me
+    → ((acts : List Act) → Shape acts answer → NoPins acts) → CallClause me Shape old new answer → HasNoPin old me
+    → HasNoPin new me
 no_pin_after {me = me} {old = old} {new = new} gives call none s i =
     let history = call.acts.history in
-    let legal_old : IsLegal old.limits old.seen = beginnings_are_legal old.limits old.seen new.seen history.goes_on history.legal in
+    let legal_old : IsLegal old.limits old.seen = beginnings_are_legal old.limits old.seen new.seen history.goes_on
+    history.legal in
     pins_are_own old.limits me s i new.seen history.legal
     ∙ (ap (keeps_pin s.0 i) history.own
-    ∙ keeps-append s.0 i (mine me old.seen) (done_between me old new) (sym (pins_are_own old.limits me s i old.seen legal_old) ∙ none s i) (gives (done_between me old new) call.shape s.0 i))
+    ∙ keeps-append s.0 i (mine me old.seen) (done_between me old new)
+    (sym (pins_are_own old.limits me s i old.seen legal_old) ∙ none s i)
+    (gives (done_between me old new) call.shape s.0 i))

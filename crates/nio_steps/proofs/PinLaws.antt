@@ -1,5 +1,6 @@
 -- Each call gives back the pins that it takes.
-use Rattle.std.proofs.Common.{◌≡◌, ℕ, suc, ◌+◌, ◌*◌, nat_lt, Bool, true, false, not, ◌&&◌, if◌then◌else◌, Option, Some, None, Result, Ok, Err, List, [], ◌∷◌, ◌++◌, refl, ap, sym, subst, append_assoc}
+use Rattle.std.proofs.Common.{◌≡◌, ℕ, suc, ◌+◌, ◌*◌, nat_lt, Bool, true, false, not, ◌&&◌, if◌then◌else◌, Option, Some}
+use Rattle.std.proofs.Common.{None, Result, Ok, Err, List, [], ◌∷◌, ◌++◌, refl, ap, sym, subst, append_assoc}
 use Rattle.std.proofs.lemmas.List.{append-nil}
 use Rattle.nio_base.specs.Kind.{valid_operations}
 use Rattle.nio_base.specs.declared.kind.Kind.{Kind}
@@ -16,16 +17,33 @@ use Rattle.nio_event.specs.declared.found.Chan.{Chan}
 use Rattle.nio_event.specs.declared.found.Mark.{Mark as KeyMark}
 use Rattle.nio_event.specs.declared.found.Mode.{Mode}
 use Rattle.nio_event.specs.declared.found.Stage.{Stage}
-use Rattle.nio_steps.proofs.PinBack.{NoPins, no_pins, again, OnlyPin, PinsFound, Leaves, leaves_reply, leaves_ask, leaves_bind, leaves_if, leaves_sweep, leaves_over, leaves_seek, leaves_pinned, leaves_under_pin, found_leaves, leaves_pins, found_seek, claim-none, claim-only, claim_again-none, claim_again-only, leaves-none, no_pins-append, only_pin-append, gives_back}
+use Rattle.nio_steps.proofs.PinBack.{NoPins, no_pins, again, OnlyPin, PinsFound, Leaves, leaves_reply, leaves_ask}
+use Rattle.nio_steps.proofs.PinBack.{leaves_bind, leaves_if, leaves_sweep, leaves_over, leaves_seek, leaves_pinned}
+use Rattle.nio_steps.proofs.PinBack.{leaves_under_pin, found_leaves, leaves_pins, found_seek, claim-none, claim-only}
+use Rattle.nio_steps.proofs.PinBack.{claim_again-none, claim_again-only, leaves-none, no_pins-append, only_pin-append}
+use Rattle.nio_steps.proofs.PinBack.{gives_back}
 use Rattle.nio_steps.proofs.WaitingPins.{retries-give, selects-give, closes-give, waits-give}
 use Rattle.nio_steps.proofs.Walks.{Always, always_weaker, always_bind, always_if}
-use Rattle.nio_steps.specs.ChannelCalls.{open_channel_plan, opened_channel, is_open_plan, is_blocking_plan, is_registered_plan, noted_in_set, key_for_plan, under_hold, set_mode_held, try_set_blocking_plan, register_noted, register_over, claim_taken, claim_free, claim_in_word, search_free, words_below, claim_new, make_key, make_claimed, register_first, register_next, register_new, register_rest, register_held, try_register_plan, cancel_at, close_channel_plan}
-use Rattle.nio_steps.specs.KeyCalls.{has_bit, is_within, find_selector_plan, find_channel_plan, find_plan, is_valid_plan, on_valid, if_valid, on_supported, look_set, put_set, add_set, keep_set, look_ready, interest_plan, set_interest_plan, interest_or_plan, interest_and_plan, ready_plan, cancel_plan, cancel_present, unselect_plan, unselect_present, attach_plan, attach_present, attachment_plan, attachment_present}
+use Rattle.nio_steps.specs.ChannelCalls.{open_channel_plan, opened_channel, is_open_plan, is_blocking_plan}
+use Rattle.nio_steps.specs.ChannelCalls.{is_registered_plan, noted_in_set, key_for_plan, under_hold, set_mode_held}
+use Rattle.nio_steps.specs.ChannelCalls.{try_set_blocking_plan, register_noted, register_over, claim_taken, claim_free}
+use Rattle.nio_steps.specs.ChannelCalls.{claim_in_word, search_free, words_below, claim_new, make_key, make_claimed}
+use Rattle.nio_steps.specs.ChannelCalls.{register_first, register_next, register_new, register_rest, register_held}
+use Rattle.nio_steps.specs.ChannelCalls.{try_register_plan, cancel_at, close_channel_plan}
+use Rattle.nio_steps.specs.KeyCalls.{has_bit, is_within, find_selector_plan, find_channel_plan, find_plan}
+use Rattle.nio_steps.specs.KeyCalls.{is_valid_plan, on_valid, if_valid, on_supported, look_set, put_set, add_set}
+use Rattle.nio_steps.specs.KeyCalls.{keep_set, look_ready, interest_plan, set_interest_plan, interest_or_plan}
+use Rattle.nio_steps.specs.KeyCalls.{interest_and_plan, ready_plan, cancel_plan, cancel_present, unselect_plan}
+use Rattle.nio_steps.specs.KeyCalls.{unselect_present, attach_plan, attach_present, attachment_plan, attachment_present}
 use Rattle.nio_steps.specs.PinLaws.{PinsAreGivenBack}
-use Rattle.nio_steps.specs.PipeCalls.{pipe_plan, without_sink, with_sink, with_source, if_interrupted, if_open, if_unbroken, try_read_plan, try_write_plan}
+use Rattle.nio_steps.specs.PipeCalls.{pipe_plan, without_sink, with_sink, with_source, if_interrupted, if_open}
+use Rattle.nio_steps.specs.PipeCalls.{if_unbroken, try_read_plan, try_write_plan}
 use Rattle.nio_steps.specs.Names.{key}
 use Rattle.nio_steps.specs.Plan.{Plan, reply, ◌>>◌, when}
-use Rattle.nio_steps.specs.SelectCalls.{Selection, LookedOver, open_selector_plan, try_begin_plan, begin_below, look_over, told_plan, mark_entry, mark_again, after_marks, leave_plan, shut_plan, try_finish_plan, keys_plan, list_selected, list_present, selected_keys_plan, wakeup_plan, interrupt_plan, interrupted_plan}
+use Rattle.nio_steps.specs.SelectCalls.{Selection, LookedOver, open_selector_plan, try_begin_plan, begin_below}
+use Rattle.nio_steps.specs.SelectCalls.{look_over, told_plan, mark_entry, mark_again, after_marks, leave_plan}
+use Rattle.nio_steps.specs.SelectCalls.{shut_plan, try_finish_plan, keys_plan, list_selected, list_present}
+use Rattle.nio_steps.specs.SelectCalls.{selected_keys_plan, wakeup_plan, interrupt_plan, interrupted_plan}
 use Rattle.nio_steps.specs.Steps.{cancel_key, put_free, flag_in, stage_in, word_in, channel_in, number_in}
 use Rattle.nio_steps.specs.Sweeps.{seek_to}
 use Rattle.nio_steps.specs.declared.looked.LookedKey.{LookedKey}
@@ -53,8 +71,11 @@ is_valid-leaves : (k : KeyNo) → Leaves (is_valid_plan k)
 unfolding is_valid_plan
 is_valid-leaves k = search still depth 12
 
-on_valid-leaves : {A : Type 0} (k : KeyNo) (steps : Stage → Plan (Result A KeyError)) → ((stage : Stage) → Leaves (steps stage)) → Leaves (on_valid k steps)
-on_valid-leaves k steps each = leaves_under_pin k.sel k.index (if_valid k steps) (λ stage. leaves_if _ _ (steps stage) (leaves_reply _) (each stage))
+on_valid-leaves : {A : Type 0} (k : KeyNo) (steps : Stage → Plan (Result A KeyError))
+    → ((stage : Stage) → Leaves (steps stage)) → Leaves (on_valid k steps)
+on_valid-leaves k steps each =
+    leaves_under_pin k.sel k.index (if_valid k steps)
+    (λ stage. leaves_if _ _ (steps stage) (leaves_reply _) (each stage))
 
 interest-leaves : (k : KeyNo) → Leaves (interest_plan k)
 unfolding interest_plan
@@ -122,19 +143,27 @@ is_registered-leaves : (l : Limits) (c : ChanNo) → Leaves (is_registered_plan 
 unfolding is_registered_plan
 is_registered-leaves l c = search (still, key_for-leaves) depth 12
 
-under_hold-leaves : {A : Type 0} (c : ChanNo) (steps : Plan (Result A ChannelError)) → Leaves steps → Leaves (under_hold c steps)
-under_hold-leaves c steps here = leaves_ask _ _ refl (λ answer. leaves_if _ _ _ (leaves_reply _) (leaves_bind steps _ here (λ a. leaves_ask _ _ refl (λ _. leaves_reply a))))
+under_hold-leaves : {A : Type 0} (c : ChanNo) (steps : Plan (Result A ChannelError)) → Leaves steps
+    → Leaves (under_hold c steps)
+under_hold-leaves c steps here =
+    leaves_ask _ _ refl
+    (λ answer. leaves_if _ _ _ (leaves_reply _)
+    (leaves_bind steps _ here (λ a. leaves_ask _ _ refl (λ _. leaves_reply a))))
 
 mode_held-leaves : (l : Limits) (c : ChanNo) (on : Bool) → Leaves (set_mode_held l c on)
 mode_held-leaves l c on = search (still, key_for-leaves) depth 12
 
 set_blocking-leaves : (l : Limits) (c : ChanNo) (on : Bool) → Leaves (try_set_blocking_plan l c on)
 unfolding try_set_blocking_plan
-set_blocking-leaves l c on = leaves_ask _ _ refl (λ answer. leaves_if _ _ _ (leaves_reply _) (under_hold-leaves c (set_mode_held l c on) (mode_held-leaves l c on)))
+set_blocking-leaves l c on =
+    leaves_ask _ _ refl
+    (λ answer. leaves_if _ _ _ (leaves_reply _)
+    (under_hold-leaves c (set_mode_held l c on) (mode_held-leaves l c on)))
 
 over-leaves : (s : SelNo) (ops att : ℕ) (noted : Option KeyId) → Leaves (register_over s ops att noted)
 over-leaves s ops att None = search still depth 12
-over-leaves s ops att (Some k) = leaves_under_pin s k.index (register_noted s ops att k) (λ stage. search still depth 16)
+over-leaves s ops att (Some k) =
+    leaves_under_pin s k.index (register_noted s ops att k) (λ stage. search still depth 16)
 
 -- a new key's index is pinned from its claim on
 abbrev IsFound : List Act → Option KeyId → SelNo → Type 0
@@ -144,10 +173,13 @@ taken-found : (s : SelNo) (c : ChanNo) (i : ℕ) → Always (PinsFound s (λ k. 
 taken-found s c i = λ look asks claim asks'.
     let none = leaves-none look (ap leaves_pins asks) in
     let stage = stage_in (answer_of look) in
-    always_if (λ acts r. IsFound (look ∷ claim ∷ acts) r s) (flag_in (answer_of claim)) (put_free s i >> reply None) (reply (Some (record { index = i; serial = suc stage.serial })))
-    (λ pinned put asks''. no_pins-append (look ∷ claim ∷ []) (put ∷ []) (no_pins-append (look ∷ []) (claim ∷ []) none (claim_again-none s i claim c stage asks' pinned))
+    always_if (λ acts r. IsFound (look ∷ claim ∷ acts) r s) (flag_in (answer_of claim)) (put_free s i >> reply None)
+    (reply (Some (record { index = i; serial = suc stage.serial })))
+    (λ pinned put asks''. no_pins-append (look ∷ claim ∷ []) (put ∷ [])
+    (no_pins-append (look ∷ []) (claim ∷ []) none (claim_again-none s i claim c stage asks' pinned))
     (leaves-none put (ap leaves_pins asks'')))
-    (λ _. only_pin-append s i (look ∷ []) (claim ∷ []) (λ s' i' _. none s' i') (claim_again-only s i claim c stage asks'))
+    (λ _. only_pin-append s i (look ∷ []) (claim ∷ []) (λ s' i' _. none s' i')
+    (claim_again-only s i claim c stage asks'))
 
 free-found : (s : SelNo) (c : ChanNo) (i : ℕ) → Always (PinsFound s (λ k. k.index)) (claim_free s c i)
 free-found s c i = λ take asks.
@@ -160,11 +192,14 @@ word-found : (s : SelNo) (c : ChanNo) (mark j : ℕ) → Always (PinsFound s (λ
 word-found s c mark j = λ look asks.
     let word = word_in (answer_of look) in
     found_leaves s (λ k. k.index) (look ∷ []) _ (leaves-none look (ap leaves_pins asks))
-    (found_seek s (λ k. k.index) 64 0 (λ b. if has_bit word b && nat_lt (64 * j + b) mark then claim_free s c (64 * j + b) else reply None)
-    (λ b. always_if (PinsFound s (λ k. k.index)) (has_bit word b && nat_lt (64 * j + b) mark) (claim_free s c (64 * j + b)) (reply None) (λ _. free-found s c (64 * j + b)) (λ _. no_pins)))
+    (found_seek s (λ k. k.index) 64 0
+    (λ b. if has_bit word b && nat_lt (64 * j + b) mark then claim_free s c (64 * j + b) else reply None)
+    (λ b. always_if (PinsFound s (λ k. k.index)) (has_bit word b && nat_lt (64 * j + b) mark)
+    (claim_free s c (64 * j + b)) (reply None) (λ _. free-found s c (64 * j + b)) (λ _. no_pins)))
 
 search-found : (s : SelNo) (c : ChanNo) (mark : ℕ) → Always (PinsFound s (λ k. k.index)) (search_free s c mark)
-search-found s c mark = found_seek s (λ k. k.index) (words_below mark) 0 (claim_in_word s c mark) (λ j. word-found s c mark j)
+search-found s c mark =
+    found_seek s (λ k. k.index) (words_below mark) 0 (claim_in_word s c mark) (λ j. word-found s c mark j)
 
 new-found : (s : SelNo) (c : ChanNo) (i : ℕ) → Always (PinsFound s (λ k. k.index)) (claim_new s c i)
 new-found s c i = λ act asks. by_test act asks (flag_in (answer_of act)) refl
@@ -177,39 +212,57 @@ new-found s c i = λ act asks. by_test act asks (flag_in (answer_of act)) refl
 make_key-leaves : (s : SelNo) (c : ChanNo) (ops att : ℕ) (k : KeyId) → Leaves (make_key s c ops att k)
 make_key-leaves s c ops att k =
     leaves_ask _ _ refl (λ gate. leaves_if _ _ _ (leaves_reply _)
-    (leaves_ask _ _ refl (λ _. leaves_ask _ _ refl (λ _. leaves_ask _ _ refl (λ _. leaves_ask _ _ refl (λ before. leaves_if _ _ _ (leaves_reply _)
-    (leaves_ask _ _ refl (λ found. leaves_bind (when (channel_in found).closed (cancel_key s k.index)) _ (search still) (λ _. leaves_reply _)))))))))
+    (leaves_ask _ _ refl
+    (λ _. leaves_ask _ _ refl
+    (λ _. leaves_ask _ _ refl (λ _. leaves_ask _ _ refl (λ before. leaves_if _ _ _ (leaves_reply _)
+    (leaves_ask _ _ refl
+    (λ found. leaves_bind (when (channel_in found).closed (cancel_key s k.index)) _ (search still)
+    (λ _. leaves_reply _)))))))))
 
 -- with the pin of the claim
-claimed-leaves : (s : SelNo) (c : ChanNo) (ops att : ℕ) (k : KeyId) (before : List Act) → OnlyPin s k.index before → Always (λ acts _. NoPins (before ++ acts)) (make_claimed s c ops att k)
-claimed-leaves s c ops att k before only = leaves_pinned s k.index before (make_key s c ops att k) only (make_key-leaves s c ops att k)
+claimed-leaves : (s : SelNo) (c : ChanNo) (ops att : ℕ) (k : KeyId) (before : List Act) → OnlyPin s k.index before
+    → Always (λ acts _. NoPins (before ++ acts)) (make_claimed s c ops att k)
+claimed-leaves s c ops att k before only =
+    leaves_pinned s k.index before (make_key s c ops att k) only (make_key-leaves s c ops att k)
 
-first-leaves : (s : SelNo) (c : ChanNo) (ops att : ℕ) (found : Option KeyId) (before : List Act) → IsFound before found s → Always (λ acts _. NoPins (before ++ acts)) (register_first s c ops att found)
+first-leaves : (s : SelNo) (c : ChanNo) (ops att : ℕ) (found : Option KeyId) (before : List Act)
+    → IsFound before found s → Always (λ acts _. NoPins (before ++ acts)) (register_first s c ops att found)
 first-leaves s c ops att None before none = subst NoPins (sym (append-nil before)) none
 first-leaves s c ops att (Some k) before only = λ act asks.
-    again before act (make_claimed s c ops att k) (claimed-leaves s c ops att k (before ++ act ∷ []) (only_pin-append s k.index before (act ∷ []) only (λ s' i' _. leaves-none act (ap leaves_pins asks) s' i')))
+    again before act (make_claimed s c ops att k)
+    (claimed-leaves s c ops att k (before ++ act ∷ [])
+    (only_pin-append s k.index before (act ∷ []) only (λ s' i' _. leaves-none act (ap leaves_pins asks) s' i')))
 
-next-leaves : (l : Limits) (s : SelNo) (c : ChanNo) (ops att mark : ℕ) (found : Option KeyId) (before : List Act) → IsFound before found s
+next-leaves : (l : Limits) (s : SelNo) (c : ChanNo) (ops att mark : ℕ) (found : Option KeyId) (before : List Act)
+    → IsFound before found s
     → Always (λ acts _. NoPins (before ++ acts)) (register_next l s c ops att mark found)
 next-leaves l s c ops att mark None before none =
-    always_bind (λ acts r. IsFound (before ++ acts) r s) (λ acts _. NoPins (before ++ acts)) (seek_to l.keys mark (claim_new s c)) (register_first s c ops att)
-    (found_leaves s (λ k. k.index) before _ none (found_seek s (λ k. k.index) l.keys mark (claim_new s c) (λ i. new-found s c i)))
-    (λ xs found here. always_weaker (λ acts _. NoPins ((before ++ xs) ++ acts)) (λ acts _. NoPins (before ++ (xs ++ acts))) (register_first s c ops att found)
-    (λ acts _ none'. subst NoPins (append_assoc before xs acts) none') (first-leaves s c ops att found (before ++ xs) here))
+    always_bind (λ acts r. IsFound (before ++ acts) r s) (λ acts _. NoPins (before ++ acts))
+    (seek_to l.keys mark (claim_new s c)) (register_first s c ops att)
+    (found_leaves s (λ k. k.index) before _ none
+    (found_seek s (λ k. k.index) l.keys mark (claim_new s c) (λ i. new-found s c i)))
+    (λ xs found here. always_weaker (λ acts _. NoPins ((before ++ xs) ++ acts))
+    (λ acts _. NoPins (before ++ (xs ++ acts))) (register_first s c ops att found)
+    (λ acts _ none'. subst NoPins (append_assoc before xs acts) none')
+    (first-leaves s c ops att found (before ++ xs) here))
 next-leaves l s c ops att mark (Some k) before only = λ act asks.
-    again before act (make_claimed s c ops att k) (claimed-leaves s c ops att k (before ++ act ∷ []) (only_pin-append s k.index before (act ∷ []) only (λ s' i' _. leaves-none act (ap leaves_pins asks) s' i')))
+    again before act (make_claimed s c ops att k)
+    (claimed-leaves s c ops att k (before ++ act ∷ [])
+    (only_pin-append s k.index before (act ∷ []) only (λ s' i' _. leaves-none act (ap leaves_pins asks) s' i')))
 
 new-leaves : (l : Limits) (s : SelNo) (c : ChanNo) (ops att : ℕ) → Leaves (register_new l s c ops att)
 new-leaves l s c ops att = record {
   always = λ look asks.
       let mark = number_in (answer_of look) in
       let none = leaves-none look (ap leaves_pins asks) in
-      always_bind (λ acts r. IsFound (look ∷ acts) r s) (λ acts _. NoPins (look ∷ acts)) (search_free s c mark) (register_next l s c ops att mark)
+      always_bind (λ acts r. IsFound (look ∷ acts) r s) (λ acts _. NoPins (look ∷ acts)) (search_free s c mark)
+      (register_next l s c ops att mark)
       (found_leaves s (λ k. k.index) (look ∷ []) (search_free s c mark) none (search-found s c mark))
       (λ xs found here. next-leaves l s c ops att mark found (look ∷ xs) here);
 }
 
-rest-leaves : (l : Limits) (s : SelNo) (c : ChanNo) (ops att : ℕ) (over : Option (Result KeyNo ChannelError)) → Leaves (register_rest l s c ops att over)
+rest-leaves : (l : Limits) (s : SelNo) (c : ChanNo) (ops att : ℕ) (over : Option (Result KeyNo ChannelError))
+    → Leaves (register_rest l s c ops att over)
 rest-leaves l s c ops att None = new-leaves l s c ops att
 rest-leaves l s c ops att (Some answer) = leaves_reply answer
 
@@ -221,8 +274,10 @@ unfolding try_register_plan
 register-leaves l s c ops att =
     leaves_ask _ _ refl (λ answer.
     let found = channel_in answer in
-    leaves_if (not (is_within ops (valid_operations found.kind))) (reply (Err ChannelError.IllegalOps)) _ (leaves_reply (Err ChannelError.IllegalOps))
-    (leaves_if found.closed (reply (Err ChannelError.ClosedChannel)) (under_hold c (register_held l s c ops att)) (leaves_reply (Err ChannelError.ClosedChannel))
+    leaves_if (not (is_within ops (valid_operations found.kind))) (reply (Err ChannelError.IllegalOps)) _
+    (leaves_reply (Err ChannelError.IllegalOps))
+    (leaves_if found.closed (reply (Err ChannelError.ClosedChannel)) (under_hold c (register_held l s c ops att))
+    (leaves_reply (Err ChannelError.ClosedChannel))
     (under_hold-leaves c (register_held l s c ops att) (held-leaves l s c ops att))))
 
 cancel_at-leaves : (s : SelNo) (noted : Option KeyId) → Leaves (cancel_at s noted)
@@ -253,13 +308,15 @@ again-leaves : (s : SelNo) (i told : ℕ) (found : Result (Unit {0}) KeyMark) �
 again-leaves s i told (Ok u) = search still
 again-leaves s i told (Err stands) = search still
 
-entry-leaves : (s : SelNo) (pairs : List (ℕ × ℕ)) (entry : LookedKey) (count : ℕ) → Leaves (mark_entry s pairs entry count)
+entry-leaves : (s : SelNo) (pairs : List (ℕ × ℕ)) (entry : LookedKey) (count : ℕ)
+    → Leaves (mark_entry s pairs entry count)
 entry-leaves s pairs entry count = search (still, again-leaves) depth 16
 
 marked-leaves : (selection : Selection) (elapsed : Bool) (count : ℕ) → Leaves (after_marks selection elapsed count)
 marked-leaves selection elapsed count = search still depth 20
 
-told-leaves : (selection : Selection) (pairs : List (ℕ × ℕ)) (elapsed : Bool) → Leaves (told_plan selection pairs elapsed)
+told-leaves : (selection : Selection) (pairs : List (ℕ × ℕ)) (elapsed : Bool)
+    → Leaves (told_plan selection pairs elapsed)
 unfolding told_plan
 told-leaves selection pairs elapsed = search (still, entry-leaves, marked-leaves) depth 12
 
@@ -285,8 +342,11 @@ list_selected-leaves s i listed = leaves_under_pin s i (list_present s i listed)
 selected_keys-leaves : (s : SelNo) (lacks : Bool) → Leaves (selected_keys_plan s lacks)
 unfolding selected_keys_plan
 selected_keys-leaves s lacks =
-    leaves_ask _ _ refl (λ gate. leaves_if _ _ _ (leaves_reply _) (leaves_ask _ _ refl (λ bound. leaves_if _ _ _ (leaves_reply _)
-    (leaves_bind _ _ (leaves_sweep (number_in bound) 0 (list_selected s) [] (λ i listed. list_selected-leaves s i listed)) (λ listed. leaves_reply _)))))
+    leaves_ask _ _ refl
+    (λ gate. leaves_if _ _ _ (leaves_reply _) (leaves_ask _ _ refl (λ bound. leaves_if _ _ _ (leaves_reply _)
+    (leaves_bind _ _
+    (leaves_sweep (number_in bound) 0 (list_selected s) [] (λ i listed. list_selected-leaves s i listed))
+    (λ listed. leaves_reply _)))))
 
 wakeup-leaves : (s : SelNo) → Leaves (wakeup_plan s)
 unfolding wakeup_plan
@@ -303,7 +363,8 @@ interrupted-leaves = search still
 -- ---- pipes
 
 without_sink-leaves : (l : Limits) (source : ChanNo) → Leaves (without_sink l source)
-without_sink-leaves l source = leaves_bind (close_channel_plan l source) _ (close_channel-leaves l source) (λ _. leaves_reply _)
+without_sink-leaves l source =
+    leaves_bind (close_channel_plan l source) _ (close_channel-leaves l source) (λ _. leaves_reply _)
 
 sink-leaves : (l : Limits) (source : ChanNo) (made : Result ChanNo ChannelError) → Leaves (with_sink l source made)
 sink-leaves l source (Ok sink) = leaves_reply _
@@ -317,7 +378,8 @@ sink-leaves l source (Err ChannelError.ClosedSelector) = without_sink-leaves l s
 sink-leaves l source (Err ChannelError.Full) = without_sink-leaves l source
 
 source-leaves : (l : Limits) (made : Result ChanNo ChannelError) → Leaves (with_source l made)
-source-leaves l (Ok source) = leaves_bind (open_channel_plan l Sink) (with_sink l source) (open_channel-leaves l Sink) (sink-leaves l source)
+source-leaves l (Ok source) =
+    leaves_bind (open_channel_plan l Sink) (with_sink l source) (open_channel-leaves l Sink) (sink-leaves l source)
 source-leaves l (Err ChannelError.ChannelsSpent) = leaves_reply _
 source-leaves l (Err ChannelError.IllegalOps) = leaves_reply _
 source-leaves l (Err ChannelError.ClosedChannel) = leaves_reply _
@@ -329,16 +391,20 @@ source-leaves l (Err ChannelError.Full) = leaves_reply _
 
 pipe-leaves : (l : Limits) (lacks : Bool) → Leaves (pipe_plan l lacks)
 unfolding pipe_plan
-pipe-leaves l lacks = leaves_if lacks _ _ (leaves_reply _) (leaves_bind (open_channel_plan l Source) (with_source l) (open_channel-leaves l Source) (source-leaves l))
+pipe-leaves l lacks =
+    leaves_if lacks _ _ (leaves_reply _)
+    (leaves_bind (open_channel_plan l Source) (with_source l) (open_channel-leaves l Source) (source-leaves l))
 
 interrupted_there-leaves : (l : Limits) (c : ChanNo) (interrupted : Bool) → Leaves (if_interrupted l c interrupted)
 interrupted_there-leaves l c interrupted =
-    leaves_if interrupted _ _ (leaves_bind (close_channel_plan l c) _ (close_channel-leaves l c) (λ _. leaves_reply _)) (leaves_reply _)
+    leaves_if interrupted _ _ (leaves_bind (close_channel_plan l c) _ (close_channel-leaves l c) (λ _. leaves_reply _))
+    (leaves_reply _)
 
 open-leaves : (l : Limits) (c : ChanNo) (found : Chan) → Leaves (if_open l c found)
 open-leaves l c found =
     leaves_if found.closed _ _ (leaves_reply _)
-    (leaves_if found.blocking _ _ (leaves_ask _ _ refl (λ answer. interrupted_there-leaves l c (flag_in answer))) (leaves_reply _))
+    (leaves_if found.blocking _ _ (leaves_ask _ _ refl (λ answer. interrupted_there-leaves l c (flag_in answer)))
+    (leaves_reply _))
 
 unbroken-leaves : (source : ChanNo) (found : Result Bool PipeError) → Leaves (if_unbroken source found)
 unbroken-leaves source (Ok blocking) = leaves_ask _ _ refl (λ answer. leaves_reply _)
@@ -350,7 +416,10 @@ try_read-leaves l source = leaves_ask _ _ refl (λ answer. open-leaves l source 
 
 try_write-leaves : (l : Limits) (source sink : ChanNo) → Leaves (try_write_plan l source sink)
 unfolding try_write_plan
-try_write-leaves l source sink = leaves_ask _ _ refl (λ answer. leaves_bind (if_open l sink (channel_in answer)) (if_unbroken source) (open-leaves l sink (channel_in answer)) (unbroken-leaves source))
+try_write-leaves l source sink =
+    leaves_ask _ _ refl
+    (λ answer. leaves_bind (if_open l sink (channel_in answer)) (if_unbroken source)
+    (open-leaves l sink (channel_in answer)) (unbroken-leaves source))
 
 -- ---- the law
 
@@ -379,7 +448,8 @@ pins_are_given_back = record {
   close_channel = λ l c. gives_back (close_channel_plan l c) (close_channel-leaves l c);
   open_selector = λ l. gives_back (open_selector_plan l) (open_selector-leaves l);
   try_begin = λ s mode lacks. gives_back (try_begin_plan s mode lacks) (begin-leaves s mode lacks);
-  told = λ selection pairs elapsed. gives_back (told_plan selection pairs elapsed) (told-leaves selection pairs elapsed);
+  told = λ selection pairs elapsed. gives_back (told_plan selection pairs elapsed)
+      (told-leaves selection pairs elapsed);
   leave = λ selection. gives_back (leave_plan selection) (leave-leaves selection);
   shut = λ s. gives_back (shut_plan s) (shut-leaves s);
   try_finish = λ s. gives_back (try_finish_plan s) (finish-leaves s);
@@ -392,12 +462,16 @@ pins_are_given_back = record {
   try_read = λ l source. gives_back (try_read_plan l source) (try_read-leaves l source);
   try_write = λ l source sink. gives_back (try_write_plan l source sink) (try_write-leaves l source sink);
   set_blocking = λ l c on. retries-give (gives_back (try_set_blocking_plan l c on) (set_blocking-leaves l c on));
-  register = λ l s c ops att. retries-give (gives_back (try_register_plan l s c ops att) (register-leaves l s c ops att));
+  register = λ l s c ops att. retries-give
+      (gives_back (try_register_plan l s c ops att) (register-leaves l s c ops att));
   select = λ s mode polls. selects-give s mode polls
       (λ acts answer. gives_back (try_begin_plan s mode _) (begin-leaves s mode _) acts answer)
-      (λ selection poll. gives_back (told_plan selection poll.pairs poll.elapsed) (told-leaves selection poll.pairs poll.elapsed))
+      (λ selection poll. gives_back (told_plan selection poll.pairs poll.elapsed)
+      (told-leaves selection poll.pairs poll.elapsed))
       (λ selection. gives_back (leave_plan selection) (leave-leaves selection));
-  close = λ s. closes-give s (gives_back (shut_plan s) (shut-leaves s)) (gives_back (try_finish_plan s) (finish-leaves s));
+  close = λ s. closes-give s (gives_back (shut_plan s) (shut-leaves s))
+      (gives_back (try_finish_plan s) (finish-leaves s));
   read = λ l source none. waits-give none (gives_back (try_read_plan l source) (try_read-leaves l source));
-  write = λ l source sink none. waits-give none (gives_back (try_write_plan l source sink) (try_write-leaves l source sink));
+  write = λ l source sink none. waits-give none
+      (gives_back (try_write_plan l source sink) (try_write-leaves l source sink));
 }

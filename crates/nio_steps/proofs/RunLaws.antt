@@ -11,7 +11,8 @@ pub bind-reply : {A : Type 0} (plan : Plan A) → (plan >>= reply) ≡ plan
 bind-reply (reply r) = refl
 bind-reply (ask q next) = λ i. ask q (λ a. bind-reply (next a) i)
 
-pub bind-bind : {A B C : Type 0} (plan : Plan A) (f : A → Plan B) (g : B → Plan C) → ((plan >>= f) >>= g) ≡ (plan >>= (λ x. f x >>= g))
+pub bind-bind : {A B C : Type 0} (plan : Plan A) (f : A → Plan B) (g : B → Plan C)
+    → ((plan >>= f) >>= g) ≡ (plan >>= (λ x. f x >>= g))
 bind-bind (reply r) f g = refl
 bind-bind (ask q next) f g = λ i. ask q (λ a. bind-bind (next a) f g i)
 
@@ -22,7 +23,8 @@ pub follows_more : {R : Type 0} (plan : Plan R) (acts : List Act) (middle : Plan
     → Follows plan acts middle → Follows middle later rest → Follows plan (acts ++ later) rest
 follows_more plan [] middle later rest first second = subst (λ p. Follows p later rest) (sym first) second
 follows_more (reply r) (act ∷ acts) middle later rest first second = absurd first
-follows_more (ask q next) (act ∷ acts) middle later rest first second = (first.0, follows_more (next (answer_of act)) acts middle later rest first.1 second)
+follows_more (ask q next) (act ∷ acts) middle later rest first second =
+    (first.0, follows_more (next (answer_of act)) acts middle later rest first.1 second)
 
 -- acts along a plan are acts along that plan and then another
 pub follows_bind : {A B : Type 0} (plan : Plan A) (f : A → Plan B) (acts : List Act) (rest : Plan A)

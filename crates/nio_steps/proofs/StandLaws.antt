@@ -1,5 +1,6 @@
 -- What a caller began and hasn't ended stands in the state, whatever others did.
-use Rattle.std.proofs.Common.{◌≡◌, ℕ, List, true, false, not, ◌||◌, [], ◌∷◌, ◌++◌, Some, refl, ap, sym, ◌∙◌, subst, append_assoc, eq-eqb}
+use Rattle.std.proofs.Common.{◌≡◌, ℕ, List, true, false, not, ◌||◌, [], ◌∷◌, ◌++◌, Some, refl, ap, sym, ◌∙◌, subst}
+use Rattle.std.proofs.Common.{append_assoc, eq-eqb}
 use Rattle.std.specs.Prelude.{⊤}
 use Rattle.std.proofs.lemmas.Bool.{and_from}
 use Rattle.std.proofs.lemmas.List.Folds.{list_any-append}
@@ -36,13 +37,16 @@ use Rattle.nio_steps.specs.Sweeps.{sweep_over}
 
 -- ---- a beginning of a selection
 
-pub look-act : (s : SelNo) (act : Act) → question_of act ≡ Question.begin_look s → act ≡ BeginLook s (gate_in (answer_of act))
+pub look-act : (s : SelNo) (act : Act) → question_of act ≡ Question.begin_look s
+    → act ≡ BeginLook s (gate_in (answer_of act))
 look-act s (BeginLook s' found) asks = cc asks
 look-act s _ asks = absurd (cc asks)
 
 -- who looked with the turn, found the gate not shut and hasn't given the turn back since has begun
-pub begun_since : (l : Limits) (n : CallerNo) (events : List Event) (s : SelNo) (before : List Act) (found : GateWord) (later : List Act) → IsLegal l events
-    → mine n events ≡ before ++ BeginLook s found ∷ later → found.shut ≡ false → has (gives_turn s.0) later ≡ false → has_begun (state_after events) n s ≡ true
+pub begun_since : (l : Limits) (n : CallerNo) (events : List Event) (s : SelNo) (before : List Act) (found : GateWord)
+    (later : List Act) → IsLegal l events
+    → mine n events ≡ before ++ BeginLook s found ∷ later → found.shut ≡ false → has (gives_turn s.0) later ≡ false
+    → has_begun (state_after events) n s ≡ true
 begun_since l n events s before found later legal own opens keeps =
     let cut = cut_at n events before (BeginLook s found) later own in
     let e = event_of n (BeginLook s found) in
@@ -51,21 +55,32 @@ begun_since l n events s before found later legal own opens keeps =
     let st = state_after cut.past in
     let begins : (st.begun s.0 || not found.shut) ≡ true = by_second (st.begun s.0) (not found.shut) (ap not opens) in
     let here : has_begun (effect st n (BeginLook s found)) n s ≡ true
-    = and_from (has_turn st n s) (put st.begun s.0 (st.begun s.0 || not found.shut) s.0) step.condition.1 (put-same st.begun s.0 (st.begun s.0 || not found.shut) ∙ begins) in
-    let there : has_begun (state_after (cut.past ++ e ∷ [])) n s ≡ true = ap (λ x. has_begun x n s) (state_after-more cut.past e) ∙ here in
-    let joined : (cut.past ++ e ∷ []) ++ cut.later ≡ events = append_assoc cut.past (e ∷ []) cut.later ∙ sym cut.parts in
+    = and_from (has_turn st n s) (put st.begun s.0 (st.begun s.0 || not found.shut) s.0) step.condition.1
+    (put-same st.begun s.0 (st.begun s.0 || not found.shut) ∙ begins) in
+    let there : has_begun (state_after (cut.past ++ e ∷ [])) n s ≡ true = ap (λ x. has_begun x n s)
+    (state_after-more cut.past e) ∙ here in
+    let joined : (cut.past ++ e ∷ []) ++ cut.later ≡ events = append_assoc cut.past (e ∷ []) cut.later
+    ∙ sym cut.parts in
     subst (λ evs. has_begun (state_after evs) n s ≡ true) joined
-    (only_itself_gives_back l n (cut.past ++ e ∷ []) cut.later (subst (IsLegal l) (sym joined) legal) (a_selection s) (ap (has (gives_turn s.0)) cut.mine_later ∙ keeps) there)
+    (only_itself_gives_back l n (cut.past ++ e ∷ []) cut.later (subst (IsLegal l) (sym joined) legal) (a_selection s)
+    (ap (has (gives_turn s.0)) cut.mine_later ∙ keeps) there)
 
 -- the acts over the listed indexes don't give the turn back
-pub over-keeps : (s : SelNo) (listed : List ℕ) (over : List Act) (found : LookedOver) → Completes (sweep_over listed (look_over s) none_yet) over found → has (gives_turn s.0) over ≡ false
+pub over-keeps : (s : SelNo) (listed : List ℕ) (over : List Act) (found : LookedOver)
+    → Completes (sweep_over listed (look_over s) none_yet) over found → has (gives_turn s.0) over ≡ false
 over-keeps s listed over found run =
     no_gives s.0 over (each_run (NoGive s.0) (λ _. ⊤) (sweep_over listed (look_over s) none_yet) over found
-    (each_over (NoGive s.0) (λ _. ⊤) (λ _. ⊤) listed (look_over s) none_yet (all_any listed) tt (λ i past _ _. each_look (NoGive s.0) s i (record { looks = refl; looks_interest = refl; removes = refl; puts = refl }) (λ _. ⊤) past (goes_any i past))) run).0
+    (each_over (NoGive s.0) (λ _. ⊤) (λ _. ⊤) listed (look_over s) none_yet (all_any listed) tt
+    (λ i past _ _. each_look (NoGive s.0) s i
+    (record { looks = refl; looks_interest = refl; removes = refl; puts = refl }) (λ _. ⊤) past
+    (goes_any i past))) run).0
 
-pub lists-keep : (s : SelNo) (bound : ℕ) (lists : List Act) (listed : List ℕ) → Completes (list_below s bound) lists listed → has (gives_turn s.0) lists ≡ false
+pub lists-keep : (s : SelNo) (bound : ℕ) (lists : List Act) (listed : List ℕ)
+    → Completes (list_below s bound) lists listed → has (gives_turn s.0) lists ≡ false
 lists-keep s bound lists listed run =
-    no_gives s.0 lists (each_run (NoGive s.0) (λ _. ⊤) (list_below s bound) lists listed (each_list (NoGive s.0) s bound (λ _. refl)) run).0
+    no_gives s.0 lists
+    (each_run (NoGive s.0) (λ _. ⊤) (list_below s bound) lists listed (each_list (NoGive s.0) s bound (λ _. refl))
+    run).0
 
 -- who began a selection has begun on its selector, in every legal history
 pub selections_stand : SelectionsStand
@@ -78,7 +93,8 @@ selections_stand l n events selection legal begun =
     let keeps_lists = lists-keep s selection.bound first.lists first.listed first.runs_lists in
     let keeps_over = over-keeps s first.listed first.over _ first.runs_over in
     let keeps_rest : has (gives_turn s.0) rest ≡ false
-    = neither _ _ (not-gives s.0 first.keys (ap (asks_give s.0) first.asks_keys)) (list_any-append (gives_turn s.0) first.lists first.over ∙ neither _ _ keeps_lists keeps_over) in
+    = neither _ _ (not-gives s.0 first.keys (ap (asks_give s.0) first.asks_keys))
+    (list_any-append (gives_turn s.0) first.lists first.over ∙ neither _ _ keeps_lists keeps_over) in
     let acts : begun.beginning ≡ before ++ BeginLook s found ∷ rest
     = first.parts ∙ ap (λ x. first.gate ∷ first.take ∷ x ∷ rest) (look-act s first.look first.asks_look) in
     let own : mine n events ≡ (begun.earlier ++ before) ++ BeginLook s found ∷ (rest ++ begun.since)
@@ -97,6 +113,8 @@ closings_stand l n events s legal closing =
     let e = event_of n act in
     let joined : (at.past ++ e ∷ []) ++ at.later ≡ events = append_assoc at.past (e ∷ []) at.later ∙ sym at.parts in
     let st = state_after at.past in
-    let closes : is_closer (effect st n act) n s ≡ true = ap (is_held_by n) (put-same st.closer s.0 (Some n)) ∙ eq-eqb n.0 n.0 refl in
-    let here : is_closer (state_after (at.past ++ e ∷ [])) n s ≡ true = ap (λ x. is_closer x n s) (state_after-more at.past e) ∙ closes in
+    let closes : is_closer (effect st n act) n s ≡ true = ap (is_held_by n) (put-same st.closer s.0 (Some n))
+    ∙ eq-eqb n.0 n.0 refl in
+    let here : is_closer (state_after (at.past ++ e ∷ [])) n s ≡ true = ap (λ x. is_closer x n s)
+    (state_after-more at.past e) ∙ closes in
     facts_are_permanent l (at.past ++ e ∷ []) events (at.later, joined) legal (selector_closed_by s n) here

@@ -10,10 +10,13 @@ use Rattle.nio_steps.proofs.BeginLaws.{none_yet}
 use Rattle.nio_steps.proofs.Each.{Each}
 use Rattle.nio_steps.proofs.EachLaws.{each_bind, each_if, each_over, each_run, split}
 use Rattle.nio_steps.proofs.SelectionAsks.{AsksAt, each_list, each_look, goes_any}
-use Rattle.nio_steps.proofs.SelectionLaws.{NoMark, Replies, after-replies, no_marks, none-count, none_of-append, over-counts}
+use Rattle.nio_steps.proofs.SelectionLaws.{NoMark, Replies, after-replies, no_marks, none-count, none_of-append}
+use Rattle.nio_steps.proofs.SelectionLaws.{over-counts}
 use Rattle.nio_steps.proofs.Walks.{always_run}
 use Rattle.nio_steps.specs.Plan.{reply}
-use Rattle.nio_steps.specs.SelectCalls.{Selection, Begins, Poll, Tells, again, begin_lacks_memory, begin_below, begin_open, begin_with_turn, given_back, list_below, look_over, try_begin_plan, mark_entry, after_marks, told_plan}
+use Rattle.nio_steps.specs.SelectCalls.{Selection, Begins, Poll, Tells, again, begin_lacks_memory, begin_below}
+use Rattle.nio_steps.specs.SelectCalls.{begin_open, begin_with_turn, given_back, list_below, look_over, try_begin_plan}
+use Rattle.nio_steps.specs.SelectCalls.{mark_entry, after_marks, told_plan}
 use Rattle.nio_steps.specs.Selections.{marks_on}
 use Rattle.nio_steps.specs.Steps.{gate_in, holder_in}
 use Rattle.nio_steps.specs.Sweeps.{sweep_over}
@@ -25,7 +28,8 @@ module _ (n : ℕ) (s : SelNo) (mode : Mode) (lacks : Bool) where
       each_if (NoMark n) (λ _. ⊤) lacks (given_back s (Err BeginError.Memory)) _ (λ _. (refl, λ _. tt))
       (λ _. each_bind (NoMark n) (λ _. ⊤) (λ _. ⊤) (list_below s bound) _ (each_list (NoMark n) s bound (λ j. refl))
       (λ listed _. each_bind (NoMark n) (λ _. ⊤) (λ _. ⊤) (sweep_over listed (look_over s) none_yet) _
-      (each_over (NoMark n) (AsksAt (NoMark n) s) (λ _. ⊤) listed (look_over s) none_yet (λ k d _. record { looks = refl; looks_interest = refl; removes = refl; puts = refl }) tt
+      (each_over (NoMark n) (AsksAt (NoMark n) s) (λ _. ⊤) listed (look_over s) none_yet
+      (λ k d _. record { looks = refl; looks_interest = refl; removes = refl; puts = refl }) tt
       (λ i found asks _. each_look (NoMark n) s i asks (λ _. ⊤) found (goes_any i found)))
       (λ _ _. tt)))
 
@@ -33,31 +37,44 @@ module _ (n : ℕ) (s : SelNo) (mode : Mode) (lacks : Bool) where
   unfolding try_begin_plan
   begin-unmarked = (
     refl,
-    λ gate. each_if (NoMark n) (λ _. ⊤) (gate_in gate).shut (reply (Err BeginError.ClosedSelector)) (begin_open s mode lacks) (λ _. tt)
+    λ gate. each_if (NoMark n) (λ _. ⊤) (gate_in gate).shut (reply (Err BeginError.ClosedSelector))
+        (begin_open s mode lacks) (λ _. tt)
         (λ _. (
           refl,
-          λ take. each_if (NoMark n) (λ _. ⊤) (is_some (holder_in take)) (reply (Err BeginError.Busy)) (begin_with_turn s mode lacks) (λ _. tt)
+          λ take. each_if (NoMark n) (λ _. ⊤) (is_some (holder_in take)) (reply (Err BeginError.Busy))
+              (begin_with_turn s mode lacks) (λ _. tt)
               (λ _. (
                 refl,
-                λ look. each_if (NoMark n) (λ _. ⊤) (gate_in look).shut (given_back s (Err BeginError.ClosedSelector)) _ (λ _. (refl, λ _. tt))
+                λ look. each_if (NoMark n) (λ _. ⊤) (gate_in look).shut (given_back s (Err BeginError.ClosedSelector)) _
+                    (λ _. (refl, λ _. tt))
                     (λ _. (refl, λ keys. below-unmarked _)),
               )),
         )),
   )
 
 -- beginning a selection marks no key, on any selector
-pub begin_unmarked : (n : ℕ) (s : SelNo) (mode : Mode) (acts : List Act) (answer : Result Selection BeginError) → Begins s mode acts answer → has (marks_on n) acts ≡ false
+pub begin_unmarked : (n : ℕ) (s : SelNo) (mode : Mode) (acts : List Act) (answer : Result Selection BeginError)
+    → Begins s mode acts answer → has (marks_on n) acts ≡ false
 begin_unmarked n s mode acts answer run =
-    no_marks n acts (each_run (NoMark n) (λ _. ⊤) (try_begin_plan s mode (begin_lacks_memory answer)) acts answer (begin-unmarked n s mode (begin_lacks_memory answer)) run).0
+    no_marks n acts
+    (each_run (NoMark n) (λ _. ⊤) (try_begin_plan s mode (begin_lacks_memory answer)) acts answer
+    (begin-unmarked n s mode (begin_lacks_memory answer)) run).0
 
 -- a `told` after which the selection goes on marked no key, and goes on with this selection
-pub again_unmarked : (selection next : Selection) (poll : Poll) (acts : List Act) → Tells selection poll acts (again next)
+pub again_unmarked : (selection next : Selection) (poll : Poll) (acts : List Act)
+    → Tells selection poll acts (again next)
     → (next ≡ selection) × (has (marks_on selection.selector.0) acts ≡ false)
 unfolding told_plan
 again_unmarked selection next poll acts run =
     let s = selection.selector in
-    let parts = split (sweep_over selection.looked (mark_entry s poll.pairs) 0) (after_marks selection poll.elapsed) acts (again next) run in
-    let counted = always_run (λ xs k. count (marks_on s.0) xs ≡ k) _ parts.first parts.middle (over-counts s poll.pairs selection.looked) parts.runs_first in
-    let after = each_run (NoMark s.0) (Replies selection parts.middle) (after_marks selection poll.elapsed parts.middle) parts.second (again next) (after-replies selection poll.elapsed parts.middle) parts.runs_second in
-    let none_first = none-count (marks_on s.0) parts.first (counted ∙ after.1.1) in
-    (after.1.0, ap (has (marks_on s.0)) parts.parts ∙ none_of-append (marks_on s.0) parts.first parts.second none_first (no_marks s.0 parts.second after.0))
+    let parts = split (sweep_over selection.looked (mark_entry s poll.pairs) 0)
+    (after_marks selection poll.elapsed) acts (again next) run in
+    let counted = always_run (λ xs k. count (marks_on s.0) xs ≡ k) _ parts.first parts.middle
+    (over-counts s poll.pairs selection.looked) parts.runs_first in
+    let after = each_run (NoMark s.0) (Replies selection parts.middle) (after_marks selection poll.elapsed parts.middle)
+    parts.second (again next) (after-replies selection poll.elapsed parts.middle) parts.runs_second in
+    let none_first = none-count (marks_on s.0) parts.first (counted ∙ after.1.1) in (
+      after.1.0,
+      ap (has (marks_on s.0)) parts.parts
+          ∙ none_of-append (marks_on s.0) parts.first parts.second none_first (no_marks s.0 parts.second after.0),
+    )

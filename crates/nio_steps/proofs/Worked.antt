@@ -13,13 +13,19 @@ use Rattle.nio_event.specs.declared.found.Mode.{Mode}
 use Rattle.nio_event.specs.declared.found.Mode.TheVariants.{Now as WithoutWaiting, Wait, For}
 use Rattle.nio_event.specs.declared.found.Stage.{Stage}
 use Rattle.nio_event.specs.declared.reply.Why.TheVariants.{Ready, Closed, Now, Woken, Interrupted, Elapsed}
-use Rattle.nio_steps.specs.ChannelCalls.{open_channel_plan, is_open_plan, is_blocking_plan, is_registered_plan, key_for_plan, try_set_blocking_plan, try_register_plan, close_channel_plan}
-use Rattle.nio_steps.specs.KeyCalls.{find_selector_plan, find_channel_plan, find_plan, is_valid_plan, interest_plan, set_interest_plan, interest_or_plan, interest_and_plan, ready_plan, cancel_plan, unselect_plan, attach_plan, attachment_plan}
+use Rattle.nio_steps.specs.ChannelCalls.{open_channel_plan, is_open_plan, is_blocking_plan, is_registered_plan}
+use Rattle.nio_steps.specs.ChannelCalls.{key_for_plan, try_set_blocking_plan, try_register_plan, close_channel_plan}
+use Rattle.nio_steps.specs.KeyCalls.{find_selector_plan, find_channel_plan, find_plan, is_valid_plan, interest_plan}
+use Rattle.nio_steps.specs.KeyCalls.{set_interest_plan, interest_or_plan, interest_and_plan, ready_plan, cancel_plan}
+use Rattle.nio_steps.specs.KeyCalls.{unselect_plan, attach_plan, attachment_plan}
 use Rattle.nio_steps.specs.Names.{selector, channel}
 use Rattle.nio_steps.specs.Perform.{perform}
 use Rattle.nio_steps.specs.PipeCalls.{PipeEnds, pipe_plan, try_read_plan, try_write_plan}
 use Rattle.nio_steps.specs.Plan.{Plan}
-use Rattle.nio_steps.specs.SelectCalls.{open_selector_plan, try_begin_plan, told_plan, leave_plan, shut_plan, try_finish_plan, keys_plan, selected_keys_plan, wakeup_plan, interrupt_plan, interrupted_plan, done, again, closing, already_closed, closed, busy, Selection, not_free}
+use Rattle.nio_steps.specs.SelectCalls.{open_selector_plan, try_begin_plan, told_plan, leave_plan, shut_plan}
+use Rattle.nio_steps.specs.SelectCalls.{try_finish_plan, keys_plan, selected_keys_plan, wakeup_plan, interrupt_plan}
+use Rattle.nio_steps.specs.SelectCalls.{interrupted_plan, done, again, closing, already_closed, closed, busy, Selection}
+use Rattle.nio_steps.specs.SelectCalls.{not_free}
 use Rattle.nio_steps.specs.Steps.{pin, unpin}
 use Rattle.nio_steps.specs.Sweeps.{sweep, seek, sweep_over}
 use Rattle.nio_steps.specs.declared.refusal.BeginError.{BeginError}
@@ -31,7 +37,12 @@ use Rattle.nio_steps.specs.declared.refusal.PipeMakeError.{PipeMakeError}
 
 -- all that the cases compute with
 plans : Unit {0}
-unfolding not_free count_below pipe_plan try_read_plan try_write_plan open_channel_plan is_open_plan is_blocking_plan is_registered_plan key_for_plan try_set_blocking_plan try_register_plan close_channel_plan find_selector_plan find_channel_plan find_plan is_valid_plan interest_plan set_interest_plan interest_or_plan interest_and_plan ready_plan cancel_plan unselect_plan attach_plan attachment_plan open_selector_plan try_begin_plan told_plan leave_plan shut_plan try_finish_plan keys_plan selected_keys_plan wakeup_plan interrupt_plan interrupted_plan sweep seek sweep_over bits_below
+unfolding not_free count_below pipe_plan try_read_plan try_write_plan open_channel_plan is_open_plan is_blocking_plan
+    is_registered_plan key_for_plan try_set_blocking_plan try_register_plan close_channel_plan find_selector_plan
+    find_channel_plan find_plan is_valid_plan interest_plan set_interest_plan interest_or_plan interest_and_plan
+    ready_plan cancel_plan unselect_plan attach_plan attachment_plan open_selector_plan try_begin_plan told_plan
+    leave_plan shut_plan try_finish_plan keys_plan selected_keys_plan wakeup_plan interrupt_plan
+    interrupted_plan sweep seek sweep_over bits_below
 plans = tt
 
 -- ---- names
@@ -69,11 +80,24 @@ End st = Unit {0}
 abbrev Setup : Kind → ℕ → (State → Type 0) → State → Type 0
 Setup kind ops later =
     Says t1 (open_selector_plan limits) (Ok s0) (Says t1 (open_channel_plan limits kind) (Ok c0)
-    (Says t1 (try_set_blocking_plan limits c0 false) (Ok tt) (Says t1 (try_register_plan limits s0 c0 ops 0) (Ok k0) later)))
+    (Says t1 (try_set_blocking_plan limits c0 false) (Ok tt)
+    (Says t1 (try_register_plan limits s0 c0 ops 0) (Ok k0) later)))
 
 -- a selection that looks at key 0, or at no key
 abbrev sel : Mode → ℕ → Selection
-sel mode ops = record { selector = s0; mode = mode; bound = 1; looked = record { index = 0; serial = 0; channel = c0; interest = ops } ∷ []; kept = 0 ∷ [] }
+sel mode ops =
+    record {
+      selector = s0;
+      mode = mode;
+      bound = 1;
+      looked = record {
+        index = 0;
+        serial = 0;
+        channel = c0;
+        interest = ops;
+      } ∷ [];
+      kept = 0 ∷ [];
+    }
 
 abbrev no_key : Mode → Selection
 no_key mode = record { selector = s0; mode = mode; bound = 1; looked = []; kept = [] }
@@ -84,30 +108,39 @@ Begins me mode ops = Says me (try_begin_plan s0 mode false) (Ok (sel mode ops))
 -- ---- the cases
 
 one_selection : Setup Source 1 (Begins t1 WithoutWaiting 1
-    (Says t1 (told_plan (sel WithoutWaiting 1) ((0, 1) ∷ []) false) (done (record { count = 1; why = Ready })) End)) opening
+    (Says t1 (told_plan (sel WithoutWaiting 1) ((0, 1) ∷ []) false) (done (record { count = 1; why = Ready })) End))
+    opening
 unfolding plans
 one_selection = (refl, (refl, (refl, (refl, (refl, (refl, tt))))))
 
-refusals_before_non_blocking : Says t1 (open_selector_plan limits) (Ok s0) (Says t1 (open_channel_plan limits Source) (Ok c0)
-    (Says t1 (try_register_plan limits s0 c0 1 0) (Err ChannelError.IllegalBlockingMode) (Says t1 (try_register_plan limits s0 c0 4 0) (Err ChannelError.IllegalOps) End))) opening
+refusals_before_non_blocking : Says t1 (open_selector_plan limits) (Ok s0)
+    (Says t1 (open_channel_plan limits Source) (Ok c0)
+    (Says t1 (try_register_plan limits s0 c0 1 0) (Err ChannelError.IllegalBlockingMode)
+    (Says t1 (try_register_plan limits s0 c0 4 0) (Err ChannelError.IllegalOps) End))) opening
 unfolding plans
 refusals_before_non_blocking = (refl, (refl, (refl, (refl, tt))))
 
 selecting_again_counts_nothing : Setup Source 1 (Begins t1 WithoutWaiting 1
-    (Says t1 (told_plan (sel WithoutWaiting 1) ((0, 1) ∷ []) false) (done (record { count = 1; why = Ready })) (Begins t1 WithoutWaiting 1
-    (Says t1 (told_plan (sel WithoutWaiting 1) ((0, 1) ∷ []) false) (done (record { count = 0; why = Now })) End)))) opening
+    (Says t1 (told_plan (sel WithoutWaiting 1) ((0, 1) ∷ []) false) (done (record { count = 1; why = Ready }))
+    (Begins t1 WithoutWaiting 1
+    (Says t1 (told_plan (sel WithoutWaiting 1) ((0, 1) ∷ []) false) (done (record { count = 0; why = Now })) End))))
+    opening
 unfolding plans
 selecting_again_counts_nothing = (refl, (refl, (refl, (refl, (refl, (refl, (refl, (refl, tt))))))))
 
 unselected_key_starts_afresh : Setup Stream 5 (Begins t1 WithoutWaiting 5
-    (Says t1 (told_plan (sel WithoutWaiting 5) ((0, 1) ∷ []) false) (done (record { count = 1; why = Ready })) (Says t1 (unselect_plan k0) true (Begins t1 WithoutWaiting 5
-    (Says t1 (told_plan (sel WithoutWaiting 5) ((0, 4) ∷ []) false) (done (record { count = 1; why = Ready })) (Says t1 (ready_plan k0) (Ok 4) End)))))) opening
+    (Says t1 (told_plan (sel WithoutWaiting 5) ((0, 1) ∷ []) false) (done (record { count = 1; why = Ready }))
+    (Says t1 (unselect_plan k0) true (Begins t1 WithoutWaiting 5
+    (Says t1 (told_plan (sel WithoutWaiting 5) ((0, 4) ∷ []) false) (done (record { count = 1; why = Ready }))
+    (Says t1 (ready_plan k0) (Ok 4) End)))))) opening
 unfolding plans
 unselected_key_starts_afresh = (refl, (refl, (refl, (refl, (refl, (refl, (refl, (refl, (refl, (refl, tt))))))))))
 
 selected_key_gathers_bits : Setup Stream 5 (Begins t1 WithoutWaiting 5
-    (Says t1 (told_plan (sel WithoutWaiting 5) ((0, 1) ∷ []) false) (done (record { count = 1; why = Ready })) (Begins t1 WithoutWaiting 5
-    (Says t1 (told_plan (sel WithoutWaiting 5) ((0, 4) ∷ []) false) (done (record { count = 1; why = Ready })) (Says t1 (ready_plan k0) (Ok 5) End))))) opening
+    (Says t1 (told_plan (sel WithoutWaiting 5) ((0, 1) ∷ []) false) (done (record { count = 1; why = Ready }))
+    (Begins t1 WithoutWaiting 5
+    (Says t1 (told_plan (sel WithoutWaiting 5) ((0, 4) ∷ []) false) (done (record { count = 1; why = Ready }))
+    (Says t1 (ready_plan k0) (Ok 5) End))))) opening
 unfolding plans
 selected_key_gathers_bits = (refl, (refl, (refl, (refl, (refl, (refl, (refl, (refl, (refl, tt)))))))))
 
@@ -130,27 +163,37 @@ unfolding plans
 cancel_during_selection = (refl, (refl, (refl, (refl, (refl, (refl, (refl, (refl, (refl, tt)))))))))
 
 cancelled_key_until_selection : Setup Source 1 (Says t1 (cancel_plan k0) tt (Says t1 (key_for_plan c0 s0) (Some k0)
-    (Says t1 (try_register_plan limits s0 c0 1 0) (Err ChannelError.CancelledKey) (Says t1 (try_begin_plan s0 WithoutWaiting false) (Ok (no_key WithoutWaiting))
-    (Says t1 (told_plan (no_key WithoutWaiting) [] false) (done (record { count = 0; why = Now })) (Says t1 (key_for_plan c0 s0) None
+    (Says t1 (try_register_plan limits s0 c0 1 0) (Err ChannelError.CancelledKey)
+    (Says t1 (try_begin_plan s0 WithoutWaiting false) (Ok (no_key WithoutWaiting))
+    (Says t1 (told_plan (no_key WithoutWaiting) [] false) (done (record { count = 0; why = Now }))
+    (Says t1 (key_for_plan c0 s0) None
     (Says t1 (try_register_plan limits s0 c0 1 0) (Ok (k 0 1)) End))))))) opening
 unfolding plans
-cancelled_key_until_selection = (refl, (refl, (refl, (refl, (refl, (refl, (refl, (refl, (refl, (refl, (refl, tt)))))))))))
+cancelled_key_until_selection =
+    (refl, (refl, (refl, (refl, (refl, (refl, (refl, (refl, (refl, (refl, (refl, tt)))))))))))
 
 closing_in_two_parts : Setup Source 1 (Begins t1 Wait 1 (Says t2 (shut_plan s0) closing (Says t1 (is_valid_plan k0) true
-    (Says t1 (told_plan (sel Wait 1) [] false) (done (record { count = 0; why = Closed })) (Says t2 (try_finish_plan s0) closed (Says t1 (is_valid_plan k0) false
-    (Says t1 (try_begin_plan s0 WithoutWaiting false) (Err BeginError.ClosedSelector) (Says t2 (wakeup_plan s0) tt (Says t2 (shut_plan s0) already_closed
+    (Says t1 (told_plan (sel Wait 1) [] false) (done (record { count = 0; why = Closed }))
+    (Says t2 (try_finish_plan s0) closed (Says t1 (is_valid_plan k0) false
+    (Says t1 (try_begin_plan s0 WithoutWaiting false) (Err BeginError.ClosedSelector)
+    (Says t2 (wakeup_plan s0) tt (Says t2 (shut_plan s0) already_closed
     (Says t1 (is_registered_plan limits c0) false End)))))))))) opening
 unfolding plans
-closing_in_two_parts = (refl, (refl, (refl, (refl, (refl, (refl, (refl, (refl, (refl, (refl, (refl, (refl, (refl, (refl, tt))))))))))))))
+closing_in_two_parts =
+    (refl, (refl, (refl, (refl, (refl, (refl, (refl, (refl, (refl, (refl, (refl, (refl, (refl, (refl, tt))))))))))))))
 
-busy_turn : Setup Source 1 (Begins t1 Wait 1 (Says t2 (try_begin_plan s0 WithoutWaiting false) (Err BeginError.Busy) (Says t2 (shut_plan s0) closing
+busy_turn : Setup Source 1
+    (Begins t1 Wait 1
+    (Says t2 (try_begin_plan s0 WithoutWaiting false) (Err BeginError.Busy) (Says t2 (shut_plan s0) closing
     (Says t2 (try_finish_plan s0) busy (Says t2 (try_begin_plan s0 WithoutWaiting false) (Err BeginError.ClosedSelector)
     (Says t1 (keys_plan s0 false) (Err ListError.ClosedSelector) End)))))) opening
 unfolding plans
 busy_turn = (refl, (refl, (refl, (refl, (refl, (refl, (refl, (refl, (refl, (refl, tt))))))))))
 
-closed_channel_cancels_keys : Setup Source 1 (Says t2 (close_channel_plan limits c0) true (Says t1 (interest_plan k0) (Err KeyError.CancelledKey)
-    (Says t1 (try_set_blocking_plan limits c0 true) (Err ChannelError.ClosedChannel) (Says t2 (close_channel_plan limits c0) false
+closed_channel_cancels_keys : Setup Source 1
+    (Says t2 (close_channel_plan limits c0) true (Says t1 (interest_plan k0) (Err KeyError.CancelledKey)
+    (Says t1 (try_set_blocking_plan limits c0 true) (Err ChannelError.ClosedChannel)
+    (Says t2 (close_channel_plan limits c0) false
     (Says t1 (is_valid_plan k0) false (Says t1 (is_open_plan c0) false End)))))) opening
 unfolding plans
 closed_channel_cancels_keys = (refl, (refl, (refl, (refl, (refl, (refl, (refl, (refl, (refl, (refl, tt))))))))))
@@ -161,22 +204,29 @@ unfolding plans
 bits_outside_the_kind = (refl, (refl, (refl, (refl, (refl, (refl, (refl, (refl, tt))))))))
 
 interrupted_selection : Setup Source 1 (Says t2 (interrupt_plan t1) tt (Begins t1 Wait 1
-    (Says t1 (told_plan (sel Wait 1) [] false) (done (record { count = 0; why = Interrupted })) (Says t1 interrupted_plan true (Says t1 interrupted_plan false End))))) opening
+    (Says t1 (told_plan (sel Wait 1) [] false) (done (record { count = 0; why = Interrupted }))
+    (Says t1 interrupted_plan true (Says t1 interrupted_plan false End))))) opening
 unfolding plans
 interrupted_selection = (refl, (refl, (refl, (refl, (refl, (refl, (refl, (refl, (refl, tt)))))))))
 
 told_unasked_bits : Setup Source 1 (Begins t1 WithoutWaiting 1
-    (Says t1 (told_plan (sel WithoutWaiting 1) ((0, 4) ∷ (7, 1) ∷ []) false) (done (record { count = 0; why = Now })) (Says t1 (ready_plan k0) (Ok 0) End))) opening
+    (Says t1 (told_plan (sel WithoutWaiting 1) ((0, 4) ∷ (7, 1) ∷ []) false) (done (record { count = 0; why = Now }))
+    (Says t1 (ready_plan k0) (Ok 0) End))) opening
 unfolding plans
 told_unasked_bits = (refl, (refl, (refl, (refl, (refl, (refl, (refl, tt)))))))
 
-failed_poll_keeps_wakeup : Setup Source 1 (Says t2 (wakeup_plan s0) tt (Begins t1 Wait 1 (Says t1 (leave_plan (sel Wait 1)) tt (Begins t1 Wait 1
+failed_poll_keeps_wakeup : Setup Source 1
+    (Says t2 (wakeup_plan s0) tt (Begins t1 Wait 1 (Says t1 (leave_plan (sel Wait 1)) tt (Begins t1 Wait 1
     (Says t1 (told_plan (sel Wait 1) [] false) (done (record { count = 0; why = Woken })) End))))) opening
 unfolding plans
 failed_poll_keeps_wakeup = (refl, (refl, (refl, (refl, (refl, (refl, (refl, (refl, (refl, tt)))))))))
 
-attachments : Setup Source 1 (Says t1 (attach_plan k0 7) 0 (Says t1 (try_register_plan limits s0 c0 0 0) (Ok k0) (Says t1 (attachment_plan k0) 7 (Says t1 (interest_plan k0) (Ok 0)
-    (Says t1 (try_register_plan limits s0 c0 1 18446744073709551615) (Ok k0) (Says t1 (attach_plan k0 0) 18446744073709551615 End)))))) opening
+attachments : Setup Source 1
+    (Says t1 (attach_plan k0 7) 0
+    (Says t1 (try_register_plan limits s0 c0 0 0) (Ok k0)
+    (Says t1 (attachment_plan k0) 7 (Says t1 (interest_plan k0) (Ok 0)
+    (Says t1 (try_register_plan limits s0 c0 1 18446744073709551615) (Ok k0)
+    (Says t1 (attach_plan k0 0) 18446744073709551615 End)))))) opening
 unfolding plans
 attachments = (refl, (refl, (refl, (refl, (refl, (refl, (refl, (refl, (refl, (refl, tt))))))))))
 
@@ -197,24 +247,46 @@ Unblocks n = Says t1 (try_set_blocking_plan few (channel n) false) (Ok tt)
 
 small_limits : Says t1 (open_selector_plan few) (Ok s0) (Says t1 (open_selector_plan few) (Err (record {}))
     (Opens 0 (Opens 1 (Opens 2 (Opens 3 (Says t1 (open_channel_plan few Source) (Err ChannelError.ChannelsSpent)
-    (Unblocks 0 (Unblocks 1 (Unblocks 2 (Says t1 (try_register_plan few s0 (channel 0) 1 0) (Ok k0) (Says t1 (try_register_plan few s0 (channel 1) 1 0) (Ok (k 1 0))
-    (Says t1 (try_register_plan few s0 (channel 2) 1 0) (Err ChannelError.Full) (Says t1 (try_register_plan few s0 (channel 0) 0 0) (Ok k0) End))))))))))))) opening
+    (Unblocks 0
+    (Unblocks 1
+    (Unblocks 2
+    (Says t1 (try_register_plan few s0 (channel 0) 1 0) (Ok k0)
+    (Says t1 (try_register_plan few s0 (channel 1) 1 0) (Ok (k 1 0))
+    (Says t1 (try_register_plan few s0 (channel 2) 1 0) (Err ChannelError.Full)
+    (Says t1 (try_register_plan few s0 (channel 0) 0 0) (Ok k0) End))))))))))))) opening
 unfolding plans
-small_limits = (refl, (refl, (refl, (refl, (refl, (refl, (refl, (refl, (refl, (refl, (refl, (refl, (refl, (refl, tt))))))))))))))
+small_limits =
+    (refl, (refl, (refl, (refl, (refl, (refl, (refl, (refl, (refl, (refl, (refl, (refl, (refl, (refl, tt))))))))))))))
 
 -- no memory for the looked list: the turn is free, and a wakeup stays
-no_memory : Setup Source 1 (Says t2 (wakeup_plan s0) tt (Says t1 (try_begin_plan s0 Wait true) (Err BeginError.Memory) (Begins t2 Wait 1
+no_memory : Setup Source 1
+    (Says t2 (wakeup_plan s0) tt (Says t1 (try_begin_plan s0 Wait true) (Err BeginError.Memory) (Begins t2 Wait 1
     (Says t2 (told_plan (sel Wait 1) [] false) (done (record { count = 0; why = Woken })) End)))) opening
 unfolding plans
 no_memory = (refl, (refl, (refl, (refl, (refl, (refl, (refl, (refl, tt))))))))
 
 -- names that are made or not, and a channel's mode
-names : Setup Source 1 (Says t1 (find_selector_plan limits 0) (Some s0) (Says t1 (find_selector_plan limits 1) None (Says t1 (find_selector_plan limits 2) None
-    (Says t1 (find_channel_plan limits 0) (Some c0) (Says t1 (find_channel_plan limits 1) None (Says t1 (find_plan limits s0 0 0) (Some k0) (Says t1 (find_plan limits s0 1 0) None
-    (Says t1 (find_plan limits s0 4 0) None (Says t1 (is_blocking_plan c0) false (Says t1 (try_set_blocking_plan limits c0 true) (Err ChannelError.IllegalBlockingMode)
+names : Setup Source 1
+    (Says t1 (find_selector_plan limits 0) (Some s0)
+    (Says t1 (find_selector_plan limits 1) None (Says t1 (find_selector_plan limits 2) None
+    (Says t1 (find_channel_plan limits 0) (Some c0)
+    (Says t1 (find_channel_plan limits 1) None
+    (Says t1 (find_plan limits s0 0 0) (Some k0) (Says t1 (find_plan limits s0 1 0) None
+    (Says t1 (find_plan limits s0 4 0) None
+    (Says t1 (is_blocking_plan c0) false
+    (Says t1 (try_set_blocking_plan limits c0 true) (Err ChannelError.IllegalBlockingMode)
     (Says t1 (keys_plan s0 false) (Ok (k0 ∷ [])) (Says t1 (selected_keys_plan s0 false) (Ok []) End)))))))))))) opening
 unfolding plans
-names = (refl, (refl, (refl, (refl, (refl, (refl, (refl, (refl, (refl, (refl, (refl, (refl, (refl, (refl, (refl, (refl, tt))))))))))))))))
+names = (
+  refl,
+  (
+    refl,
+    (
+      refl,
+      (refl, (refl, (refl, (refl, (refl, (refl, (refl, (refl, (refl, (refl, (refl, (refl, (refl, tt))))))))))))),
+    ),
+  ),
+)
 
 -- ---- an index that is given again
 
@@ -228,24 +300,50 @@ removed = record { claimed = true; published = true; cancelled = true; removed =
 abbrev Registers : ChanNo → ℕ → Result KeyNo ChannelError → (State → Type 0) → State → Type 0
 Registers c att = Says t1 (try_register_plan one_key s0 c 1 att)
 
-index_given_again : Says t1 (open_selector_plan one_key) (Ok s0) (Opens 0 (Opens 1 (Unblocks 0 (Unblocks 1 (Registers c0 5 (Ok k0)
+index_given_again : Says t1 (open_selector_plan one_key) (Ok s0)
+    (Opens 0 (Opens 1 (Unblocks 0 (Unblocks 1 (Registers c0 5 (Ok k0)
     (Says t1 (cancel_plan k0) tt (Says t1 (try_begin_plan s0 WithoutWaiting false) (Ok (no_key WithoutWaiting))
     (Says t1 (told_plan (no_key WithoutWaiting) [] false) (done (record { count = 0; why = Now }))
-    (Says t2 (pin s0 0) removed (Registers (channel 1) 0 (Err ChannelError.Full) (Says t2 (unpin s0 0) tt (Registers (channel 1) 0 (Ok (k 0 1))
-    (Says t1 (is_valid_plan k0) false (Says t1 (attachment_plan k0) 0 (Says t1 (ready_plan (k 0 1)) (Ok 0) (Says t1 (find_plan one_key s0 0 0) (Some k0)
+    (Says t2 (pin s0 0) removed
+    (Registers (channel 1) 0 (Err ChannelError.Full) (Says t2 (unpin s0 0) tt (Registers (channel 1) 0 (Ok (k 0 1))
+    (Says t1 (is_valid_plan k0) false
+    (Says t1 (attachment_plan k0) 0
+    (Says t1 (ready_plan (k 0 1)) (Ok 0) (Says t1 (find_plan one_key s0 0 0) (Some k0)
     (Says t1 (find_plan one_key s0 0 2) None End))))))))))))))))) opening
 unfolding plans
-index_given_again = (refl, (refl, (refl, (refl, (refl, (refl, (refl, (refl, (refl, (refl, (refl, (refl, (refl, (refl, (refl, (refl, (refl, (refl, tt))))))))))))))))))
+index_given_again = (
+  refl,
+  (
+    refl,
+    (
+      refl,
+      (
+        refl,
+        (
+          refl,
+          (
+            refl,
+            (refl, (refl, (refl, (refl, (refl, (refl, (refl, (refl, (refl, (refl, (refl, (refl, tt)))))))))))),
+          ),
+        ),
+      ),
+    ),
+  ),
+)
 
 -- ---- pipes
 
 abbrev ends : PipeEnds
 ends = record { source = channel 0; sink = channel 1 }
 
-pipes : Says t1 (pipe_plan few false) (Ok ends) (Says t1 (try_read_plan few (channel 0)) (Ok true) (Says t1 (try_set_blocking_plan few (channel 1) false) (Ok tt)
-    (Says t1 (try_write_plan few (channel 0) (channel 1)) (Ok false) (Says t2 (interrupt_plan t1) tt (Says t1 (try_read_plan few (channel 0)) (Err PipeError.ClosedByInterrupt)
-    (Says t1 (try_read_plan few (channel 0)) (Err PipeError.ClosedChannel) (Says t1 (try_write_plan few (channel 0) (channel 1)) (Err PipeError.BrokenPipe)
-    (Opens 2 (Says t1 (pipe_plan few true) (Err PipeMakeError.Memory) (Says t1 (pipe_plan few false) (Err PipeMakeError.ChannelsSpent)
+pipes : Says t1 (pipe_plan few false) (Ok ends)
+    (Says t1 (try_read_plan few (channel 0)) (Ok true) (Says t1 (try_set_blocking_plan few (channel 1) false) (Ok tt)
+    (Says t1 (try_write_plan few (channel 0) (channel 1)) (Ok false)
+    (Says t2 (interrupt_plan t1) tt (Says t1 (try_read_plan few (channel 0)) (Err PipeError.ClosedByInterrupt)
+    (Says t1 (try_read_plan few (channel 0)) (Err PipeError.ClosedChannel)
+    (Says t1 (try_write_plan few (channel 0) (channel 1)) (Err PipeError.BrokenPipe)
+    (Opens 2 (Says t1 (pipe_plan few true) (Err PipeMakeError.Memory)
+    (Says t1 (pipe_plan few false) (Err PipeMakeError.ChannelsSpent)
     (Says t1 (is_open_plan (channel 3)) false End))))))))))) opening
 unfolding plans
 pipes = (refl, (refl, (refl, (refl, (refl, (refl, (refl, (refl, (refl, (refl, (refl, (refl, tt))))))))))))

@@ -1,5 +1,6 @@
 -- A bound on the steps of a selection, whatever other callers do meanwhile.
-use Rattle.std.specs.Prelude.{◌≡◌, ℕ, ◌+◌, ◌*◌, ◌/◌, ◌%◌, ◌≤◌, ◌==◌, nat_lt, Bool, false, not, ◌&&◌, Ok, List, ◌∷◌, ◌++◌, length, map}
+use Rattle.std.specs.Prelude.{◌≡◌, ℕ, ◌+◌, ◌*◌, ◌/◌, ◌%◌, ◌≤◌, ◌==◌, nat_lt, Bool, false, not, ◌&&◌, Ok, List, ◌∷◌}
+use Rattle.std.specs.Prelude.{◌++◌, length, map}
 use Rattle.nio_base.specs.Limits.{IsFit}
 use Rattle.nio_base.specs.declared.limits.Limits.{Limits}
 use Rattle.nio_base.specs.declared.numbers.CallerNo.{CallerNo}
@@ -8,7 +9,15 @@ use Rattle.nio_event.specs.Histories.{mine, event_of, IsLegal}
 use Rattle.nio_event.specs.OwnEvents.{has, count, gives_turn}
 use Rattle.nio_event.specs.Turns.{removes_on}
 use Rattle.nio_event.specs.declared.act.Act.{Act}
-use Rattle.nio_event.specs.declared.act.Act.TheVariants.{DrawBit, MakeSelector, LookSelectors, Wake, LookGate, SetInterrupt, TakeInterrupt, LookInterrupt, LookKey, CancelKey, LookInterest, SwapInterest, OrInterest, AndInterest, SwapNote, LookNote, MakeChannel, LookChannel, Claim, RaiseKeys, LookKeys, Publish, LookReg, Enrol, TakeTurn, BeginLook, GiveTurn, Remove, LookMark, Mark, UnselectBit, EndWake, LookChannels, RaiseChannels, TryHoldBit, Release, SetMode, CloseBit, ShutBit, Enter, Pin, Unpin, ClearMark, ClaimAgain, LookFree, PutFree, TakeFree}
+use Rattle.nio_event.specs.declared.act.Act.TheVariants.{DrawBit, MakeSelector, LookSelectors, Wake, LookGate}
+use Rattle.nio_event.specs.declared.act.Act.TheVariants.{SetInterrupt, TakeInterrupt, LookInterrupt, LookKey, CancelKey}
+use Rattle.nio_event.specs.declared.act.Act.TheVariants.{LookInterest, SwapInterest, OrInterest, AndInterest, SwapNote}
+use Rattle.nio_event.specs.declared.act.Act.TheVariants.{LookNote, MakeChannel, LookChannel, Claim, RaiseKeys, LookKeys}
+use Rattle.nio_event.specs.declared.act.Act.TheVariants.{Publish, LookReg, Enrol, TakeTurn, BeginLook, GiveTurn, Remove}
+use Rattle.nio_event.specs.declared.act.Act.TheVariants.{LookMark, Mark, UnselectBit, EndWake, LookChannels}
+use Rattle.nio_event.specs.declared.act.Act.TheVariants.{RaiseChannels, TryHoldBit, Release, SetMode, CloseBit, ShutBit}
+use Rattle.nio_event.specs.declared.act.Act.TheVariants.{Enter, Pin, Unpin, ClearMark, ClaimAgain, LookFree, PutFree}
+use Rattle.nio_event.specs.declared.act.Act.TheVariants.{TakeFree}
 use Rattle.nio_event.specs.declared.event.Event.{Event}
 use Rattle.nio_event.specs.declared.found.GateWord.{GateWord}
 use Rattle.nio_steps.specs.ChannelCalls.{words_below}
@@ -120,8 +129,10 @@ finds_listed s k (TakeFree s' i found) = false
 -- by the look with which the selection begins and the step that ends the wakeup, and by what stands before and
 -- after each of the two; between the two calls the caller may do what it likes, but give the turn back or
 -- remove a key.
-pub record IsWhole (selection : Selection) (poll : Poll) (answer : Selected) (found woken : GateWord) (first second between third fourth : List Act) : Type 0 where
-  pub begins : Begins selection.selector selection.mode (first ++ BeginLook selection.selector found ∷ second) (Ok selection)
+pub record IsWhole (selection : Selection) (poll : Poll) (answer : Selected) (found woken : GateWord)
+    (first second between third fourth : List Act) : Type 0 where
+  pub begins : Begins selection.selector selection.mode (first ++ BeginLook selection.selector found ∷ second)
+      (Ok selection)
   pub tells : Tells selection poll (third ++ EndWake selection.selector woken ∷ fourth) (done answer)
   pub kept : has (gives_turn selection.selector.0) between ≡ false
   pub unremoved : has (removes_on selection.selector.0) between ≡ false
@@ -131,11 +142,16 @@ pub record IsWhole (selection : Selection) (poll : Poll) (answer : Selected) (fo
 -- the gate with the turn and the end of the wakeup.
 abbrev pub SelectionIsBounded : Type 0
 SelectionIsBounded =
-    (l : Limits) (n : CallerNo) (past window rest : List Event) (selection : Selection) (poll : Poll) (answer : Selected) (found woken : GateWord)
+    (l : Limits) (n : CallerNo) (past window rest : List Event) (selection : Selection) (poll : Poll)
+    (answer : Selected) (found woken : GateWord)
     (first second between third fourth : List Act) → IsFit l
-    → IsLegal l (past ++ event_of n (BeginLook selection.selector found) ∷ (window ++ event_of n (EndWake selection.selector woken) ∷ rest))
-    → mine n window ≡ second ++ (between ++ third) → IsWhole selection poll answer found woken first second between third fourth
+    → IsLegal l
+    (past ++ event_of n (BeginLook selection.selector found)
+    ∷ (window ++ event_of n (EndWake selection.selector woken) ∷ rest))
+    → mine n window ≡ second ++ (between ++ third)
+    → IsWhole selection poll answer found woken first second between third fourth
     → let s = selection.selector in
     let bound = selection.bound in
     length (first ++ BeginLook s found ∷ second) + length (third ++ EndWake s woken ∷ fourth)
-    ≤ 8 + words_below bound + 6 * count_below bound (λ k. has (finds_listed s.0 k) second) + count (disturbs s.0 bound) (map (λ e. e.act) window)
+    ≤ 8 + words_below bound + 6 * count_below bound (λ k. has (finds_listed s.0 k) second) + count (disturbs s.0 bound)
+    (map (λ e. e.act) window)

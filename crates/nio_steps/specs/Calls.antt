@@ -10,7 +10,8 @@ use Rattle.nio_steps.specs.Runs.{Follows}
 -- A call of `me` on a pass, before and after, that answered so. A shape says of acts and an answer whether
 -- a caller that makes the call may do these acts and have this answer: `Completes` of a plan is one, and
 -- `Repeats` is that of a call that waits.
-pub record CallClause {R : Type 0} (me : CallerNo) (Shape : List Act → R → Type 0) (old new : PassView) (answer : R) : Type 0 where
+pub record CallClause {R : Type 0} (me : CallerNo) (Shape : List Act → R → Type 0) (old new : PassView)
+    (answer : R) : Type 0 where
   pub acts : ActsClause me (done_between me old new) old new
   pub shape : Shape (done_between me old new) answer
 

@@ -1,5 +1,6 @@
 -- The steps of the calls on channels.
-use Rattle.std.specs.Prelude.{ℕ, suc, ◌+◌, ◌*◌, ◌/◌, ◌==◌, nat_lt, Bool, true, false, not, ◌&&◌, ◌||◌, if◌then◌else◌, Option, Some, None, is_some, Result, Ok, Err, List}
+use Rattle.std.specs.Prelude.{ℕ, suc, ◌+◌, ◌*◌, ◌/◌, ◌==◌, nat_lt, Bool, true, false, not, ◌&&◌, ◌||◌, if◌then◌else◌}
+use Rattle.std.specs.Prelude.{Option, Some, None, is_some, Result, Ok, Err, List}
 use Rattle.nio_base.specs.Kind.{valid_operations}
 use Rattle.nio_base.specs.declared.kind.Kind.{Kind}
 use Rattle.nio_base.specs.declared.limits.Limits.{Limits}
@@ -14,11 +15,16 @@ use Rattle.nio_steps.specs.KeyCalls.{has_bit, is_within, under_pin, cancel_plan}
 use Rattle.nio_steps.specs.Names.{selector, channel, key}
 use Rattle.nio_steps.specs.Plan.{Plan, reply, ◌>>=◌, ◌>>◌, when}
 use Rattle.nio_steps.specs.Runs.{Completes}
-use Rattle.nio_steps.specs.Steps.{look_key, cancel_key, swap_interest, swap_note, make_channel, look_channel, claim, raise_keys, look_keys, publish, look_reg, enrol, look_channels, raise_channels, look_gate, try_hold_bit, release, set_mode, close_bit, unpin, clear_mark, claim_again, look_free, put_free, take_free}
+use Rattle.nio_steps.specs.Steps.{look_key, cancel_key, swap_interest, swap_note, make_channel, look_channel, claim}
+use Rattle.nio_steps.specs.Steps.{raise_keys, look_keys, publish, look_reg, enrol, look_channels, raise_channels}
+use Rattle.nio_steps.specs.Steps.{look_gate, try_hold_bit, release, set_mode, close_bit, unpin, clear_mark, claim_again}
+use Rattle.nio_steps.specs.Steps.{look_free, put_free, take_free}
 use Rattle.nio_steps.specs.Sweeps.{sweep_to, seek_to}
 use Rattle.nio_steps.specs.Waiting.{Retries}
 use Rattle.nio_steps.specs.declared.refusal.ChannelError.{ChannelError}
-use Rattle.nio_steps.specs.declared.refusal.ChannelError.TheVariants.{ChannelsSpent, IllegalOps, ClosedChannel, Busy, IllegalBlockingMode, CancelledKey, ClosedSelector, Full}
+use Rattle.nio_steps.specs.declared.refusal.ChannelError.TheVariants.{ChannelsSpent, IllegalOps, ClosedChannel, Busy}
+use Rattle.nio_steps.specs.declared.refusal.ChannelError.TheVariants.{IllegalBlockingMode, CancelledKey, ClosedSelector}
+use Rattle.nio_steps.specs.declared.refusal.ChannelError.TheVariants.{Full}
 
 -- ---- opening
 
@@ -165,7 +171,8 @@ claim_free s c i = do
 -- index b of the 64 from 64 times j on is claimed again, where it is below the mark and the look shows it as
 -- free
 abbrev pub claim_at_bit : SelNo → ChanNo → ℕ → ℕ → ℕ → ℕ → Plan (Option KeyId)
-claim_at_bit s c mark j word b = if has_bit word b && nat_lt (64 * j + b) mark then claim_free s c (64 * j + b) else reply None
+claim_at_bit s c mark j word b =
+    if has_bit word b && nat_lt (64 * j + b) mark then claim_free s c (64 * j + b) else reply None
 
 -- the first of these 64 indexes that can be claimed again
 abbrev pub claim_in_word : SelNo → ChanNo → ℕ → ℕ → Plan (Option KeyId)
@@ -243,7 +250,8 @@ register_new l s c ops att = do
   claimed ← search_free s c mark
   register_next l s c ops att mark claimed
 
-abbrev pub register_rest : Limits → SelNo → ChanNo → ℕ → ℕ → Option (Result KeyNo ChannelError) → Plan (Result KeyNo ChannelError)
+abbrev pub register_rest : Limits → SelNo → ChanNo → ℕ → ℕ → Option (Result KeyNo ChannelError)
+    → Plan (Result KeyNo ChannelError)
 register_rest l s c ops att None = register_new l s c ops att
 register_rest l s c ops att (Some answer) = reply answer
 

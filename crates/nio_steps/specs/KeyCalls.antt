@@ -1,5 +1,6 @@
 -- The steps of the calls that find things by their numbers, and of the calls on keys.
-use Rattle.std.specs.Prelude.{ℕ, ◌==◌, nat_lt, Bool, false, not, ◌&&◌, if◌then◌else◌, Option, Some, None, Result, Ok, Err, bit_and}
+use Rattle.std.specs.Prelude.{ℕ, ◌==◌, nat_lt, Bool, false, not, ◌&&◌, if◌then◌else◌, Option, Some, None, Result, Ok}
+use Rattle.std.specs.Prelude.{Err, bit_and}
 use Rattle.std.specs.Int.{bit_at}
 use Rattle.nio_base.specs.Kind.{valid_operations}
 use Rattle.nio_base.specs.declared.limits.Limits.{Limits}
@@ -11,7 +12,8 @@ use Rattle.nio_event.specs.declared.found.Chan.{Chan}
 use Rattle.nio_event.specs.declared.found.Stage.{Stage}
 use Rattle.nio_steps.specs.Names.{selector, channel}
 use Rattle.nio_steps.specs.Plan.{Plan, reply, ◌>>=◌, ◌>>◌, when}
-use Rattle.nio_steps.specs.Steps.{look_selectors, look_key, cancel_key, look_interest, swap_interest, or_interest, and_interest, swap_note, look_note, look_channel, look_mark, unselect_bit, pin, unpin}
+use Rattle.nio_steps.specs.Steps.{look_selectors, look_key, cancel_key, look_interest, swap_interest, or_interest}
+use Rattle.nio_steps.specs.Steps.{and_interest, swap_note, look_note, look_channel, look_mark, unselect_bit, pin, unpin}
 use Rattle.nio_steps.specs.declared.refusal.KeyError.{KeyError}
 use Rattle.nio_steps.specs.declared.refusal.KeyError.TheVariants.{CancelledKey, IllegalOps}
 
@@ -78,7 +80,8 @@ is_within these those = bit_and these those == these
 
 -- how a call goes on with the channel that it looked at, and operations that the channel's kind has to have
 abbrev pub if_supported : {A : Type 0} → ℕ → Plan (Result A KeyError) → Chan → Plan (Result A KeyError)
-if_supported ops steps found = if not (is_within ops (valid_operations found.kind)) then reply (Err IllegalOps) else steps
+if_supported ops steps found = if not (is_within ops (valid_operations found.kind)) then reply (Err IllegalOps)
+    else steps
 
 -- what is done with operations that the key's channel has
 abbrev pub on_supported : {A : Type 0} → ℕ → Plan (Result A KeyError) → Stage → Plan (Result A KeyError)

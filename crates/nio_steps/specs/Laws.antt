@@ -1,4 +1,4 @@
--- What the plans promise.
+-- Laws of the plans: what holds after a call that made the steps of its plan.
 use Rattle.std.specs.Prelude.{◌≡◌, ℕ, ◌==◌, ◌<◌, not, Result, Ok, List, ◌∷◌, ◌++◌, map, IsTrue}
 use Rattle.std.specs.List.{All, AllPairs, Contains}
 use Rattle.nio_base.specs.declared.limits.Limits.{Limits}
@@ -18,42 +18,48 @@ use Rattle.nio_event.specs.declared.found.Stage.{Stage}
 use Rattle.nio_steps.specs.Perform.{perform}
 use Rattle.nio_steps.specs.Plan.{Plan}
 use Rattle.nio_steps.specs.Runs.{Completes}
-use Rattle.nio_steps.specs.SelectCalls.{Selection, Begins, Poll, Tells, ToldReply, done, again, told_bits, closed, try_finish_plan}
+use Rattle.nio_steps.specs.SelectCalls.{Selection, Begins, Poll, Tells, ToldReply, done, again, told_bits, closed}
+use Rattle.nio_steps.specs.SelectCalls.{try_finish_plan}
 use Rattle.nio_steps.specs.Selections.{marks_on, IsBegun, IsClosing}
 use Rattle.nio_steps.specs.declared.looked.LookedKey.{LookedKey}
 use Rattle.nio_steps.specs.declared.selected.Selected.{Selected}
 
--- A run of a plan that is legal after a history, with no event of another caller between, has just
--- the reply and leaves just the state of the plan performed on the state that the history left.
+-- The caller makes all steps of a plan after a history, no other caller makes a step between them, and the whole is
+-- legal. Then the answer, and the state after it, are those of `perform`, which carries the plan out on the state after
+-- the history.
 abbrev pub RunsArePerformed : Type 0 → Type 0
 RunsArePerformed R =
     (l : Limits) (me : CallerNo) (plan : Plan R) (past : List Event) (acts : List Act) (answer : R)
     → IsLegal l (past ++ map (event_of me) acts) → Completes plan acts answer
-    → perform me plan (state_after past) ≡ record { answer = answer; state = state_after (past ++ map (event_of me) acts) }
+    → perform me plan (state_after past) ≡ record {
+      answer = answer;
+      state = state_after (past ++ map (event_of me) acts);
+    }
 
 -- ---- selections
 
--- A `try_begin` that answers Ok begins the selection that it answers.
+-- After a `try_begin` that answers Ok, the selection in its answer has begun.
 abbrev pub BeginsSelection : Type 0
 BeginsSelection =
     (s : SelNo) (mode : Mode) (own acts : List Act) (selection : Selection)
     → Begins s mode acts (Ok selection) → IsBegun (own ++ acts) selection
 
--- the looked list has each key once, and the kept list each index, in rising order, all below the bound; a
--- looked key has a kept index
+-- The indexes of the looked keys rise, and so do the kept indexes; so none stands in its list twice. Each kept index is
+-- below the bound, and the index of each looked key is kept.
 pub record IsInOrder (selection : Selection) : Type 0 where
   pub looked_rise : AllPairs (λ x y. x.index < y.index) selection.looked
   pub kept_rise : AllPairs (λ i j. i < j) selection.kept
   pub below : All (λ i. i < selection.bound) selection.kept
   pub kept : All (λ entry. Contains selection.kept entry.index) selection.looked
 
+-- The lists of a selection that has begun are in this order.
 abbrev pub ListsInOrder : Type 0
 ListsInOrder =
     (s : SelNo) (mode : Mode) (acts : List Act) (selection : Selection)
     → Begins s mode acts (Ok selection) → IsInOrder selection
 
--- a looked key was found valid by a look among these acts, with its channel and serial, and its interest set
--- by another
+-- Among these acts are a look at the key's index that found the key valid, with the serial and the channel of the entry,
+-- and a look that found the entry's interest set.
 pub record IsLookedAt (s : SelNo) (acts : List Act) (entry : LookedKey) : Type 0 where
   pub stage : Stage
   pub look : Contains acts (LookKey s entry.index stage)
@@ -62,24 +68,28 @@ pub record IsLookedAt (s : SelNo) (acts : List Act) (entry : LookedKey) : Type 0
   pub channel : stage.chan ≡ entry.channel
   pub interest : Contains acts (LookInterest s entry.index entry.interest)
 
--- Each key of the looked list was found so in the call that begins the selection.
+-- The call that begins a selection looked so at each of its looked keys.
 abbrev pub LooksAtValidKeys : Type 0
 LooksAtValidKeys =
     (s : SelNo) (mode : Mode) (acts : List Act) (selection : Selection)
     → Begins s mode acts (Ok selection) → All (IsLookedAt s acts) selection.looked
 
--- A key that was published and cancelled before a `try_begin` that answers Ok with a bound above its index
--- is removed after it, and isn't in the looked list. What the caller did after `before` is this call.
+-- A key was published and cancelled before a `try_begin` that answers Ok, and its index is below the selection's bound.
+-- Then the key is removed when the call returns, and it isn't among the looked keys. `before` is the history before the
+-- call; what the caller did after it is this call.
 abbrev pub CancelledKeysGo : Type 0
 CancelledKeysGo =
-    (l : Limits) (n : CallerNo) (before later : List Event) (s : SelNo) (mode : Mode) (selection : Selection) (i serial : ℕ)
+    (l : Limits) (n : CallerNo) (before later : List Event) (s : SelNo) (mode : Mode) (selection : Selection)
+    (i serial : ℕ)
     → IsLegal l (before ++ later) → Begins s mode (mine n later) (Ok selection)
-    → IsTrue (was_published ((state_after before).key s.0 i) serial) → IsTrue (was_cancelled ((state_after before).key s.0 i) serial)
+    → IsTrue (was_published ((state_after before).key s.0 i) serial)
+    → IsTrue (was_cancelled ((state_after before).key s.0 i) serial)
     → i < selection.bound
-    → IsTrue (was_removed ((state_after (before ++ later)).key s.0 i) serial) × All (λ entry. ¬ ((entry.index ≡ i) × (entry.serial ≡ serial))) selection.looked
+    → IsTrue (was_removed ((state_after (before ++ later)).key s.0 i) serial)
+    × All (λ entry. ¬ ((entry.index ≡ i) × (entry.serial ≡ serial))) selection.looked
 
--- Index i of selector s is marked with exactly its told bits, of which there are some: the bits that the
--- poller told of the index of a looked key, met with the interest set that the selection found.
+-- The bits that index i of selector s is marked with are the told bits of a looked key at that index: those that the
+-- poller told of the index and that are in the interest set which the selection found. There is at least one.
 pub record MarksAsTold (selection : Selection) (pairs : List (ℕ × ℕ)) (s : SelNo) (i told : ℕ) : Type 0 where
   pub entry : LookedKey
   pub looked : Contains selection.looked entry
@@ -88,38 +98,40 @@ pub record MarksAsTold (selection : Selection) (pairs : List (ℕ × ℕ)) (s : 
   pub bits : told ≡ told_bits pairs entry
   pub some : IsTrue (not (told == 0))
 
--- A `told` marks an index only for what the poller told of it in that call, and only where the selection looked at
--- it and looked for what was told.
+-- Each mark of a `told` is such a one: the poller told its bits in this call, the selection looked at the key, and they
+-- are in the interest set that it found.
 abbrev pub MarksOnlyAsTold : Type 0
 MarksOnlyAsTold =
     (selection : Selection) (poll : Poll) (acts : List Act) (answer : ToldReply) → Tells selection poll acts answer
     → (s : SelNo) (i told : ℕ) (from : KeyMark) (found : Result (Unit {0}) KeyMark)
     → Contains acts (Mark s i from told found) → MarksAsTold selection poll.pairs s i told
 
--- Index i of selector s is marked as told, and has the key that the selection looked at there: that key is in the key
--- set, with the serial and the channel of its entry.
-pub record MarksLookedKey (st : State) (selection : Selection) (pairs : List (ℕ × ℕ)) (s : SelNo) (i told : ℕ) : Type 0 where
+-- Index i of selector s is marked as told, and still has the key that the selection looked at there: that key is in the
+-- key set, with the serial and the channel of the looked key.
+pub record MarksLookedKey (st : State) (selection : Selection) (pairs : List (ℕ × ℕ)) (s : SelNo)
+    (i told : ℕ) : Type 0 where
   pub as_told : MarksAsTold selection pairs s i told
   pub in_set : IsTrue (is_in_key_set (st.key s.0 i) as_told.entry.serial)
   pub channel : (st.key s.0 i).chan ≡ as_told.entry.channel
 
--- In a legal history an index has the key that the selection looked at when a `told` marks it. What the caller did
--- after `before` is this `told`, and the mark stands after `past`.
+-- In a legal history, when a `told` marks an index, the index still has the key that the selection looked at. `before` is
+-- the history before the call; what the caller did after it is this `told`, and `past` is what stands before the mark.
 abbrev pub MarksLookedKeys : Type 0
 MarksLookedKeys =
-    (l : Limits) (n : CallerNo) (before past later : List Event) (selection : Selection) (poll : Poll) (answer : ToldReply)
+    (l : Limits) (n : CallerNo) (before past later : List Event) (selection : Selection) (poll : Poll)
+    (answer : ToldReply)
     (s : SelNo) (i told : ℕ) (from : KeyMark) (found : Result (Unit {0}) KeyMark)
     → let call = past ++ event_of n (Mark s i from told found) ∷ later in
     IsLegal l (before ++ call) → IsBegun (mine n before) selection → Tells selection poll (mine n call) answer
     → MarksLookedKey (state_after (before ++ past)) selection poll.pairs s i told
 
--- A `told` that answers Again goes on with the selection that was begun, and has marked nothing.
+-- A `told` that answers Again has marked no key, and the selection in its answer is still in progress.
 abbrev pub AgainGoesOn : Type 0
 AgainGoesOn =
     (own : List Act) (selection next : Selection) (poll : Poll) (acts : List Act)
     → IsBegun own selection → Tells selection poll acts (again next) → IsBegun (own ++ acts) next
 
--- The count is the number of marks that succeeded since the selection began.
+-- The count of a selection that is over is the number of its marks that succeeded.
 abbrev pub CountsSelection : Type 0
 CountsSelection =
     (own : List Act) (selection : Selection) (poll : Poll) (acts : List Act) (answer : Selected)
@@ -128,21 +140,23 @@ CountsSelection =
 
 -- ---- what is in progress
 
--- Who began a selection and hasn't left it has begun on its selector, in every legal history.
+-- In every legal history, where a caller's own acts began a selection and haven't given its turn back, the state says
+-- that this caller has begun on that selector.
 abbrev pub SelectionsStand : Type 0
 SelectionsStand =
     (l : Limits) (n : CallerNo) (events : List Event) (selection : Selection)
-    → IsLegal l events → IsBegun (mine n events) selection → IsTrue (has_begun (state_after events) n selection.selector)
+    → IsLegal l events → IsBegun (mine n events) selection
+    → IsTrue (has_begun (state_after events) n selection.selector)
 
--- Who is closing a selector is its closer, in every legal history.
+-- In every legal history, where a caller's own acts shut a selector, the state says that this caller is its closer.
 abbrev pub ClosingsStand : Type 0
 ClosingsStand =
     (l : Limits) (n : CallerNo) (events : List Event) (s : SelNo)
     → IsLegal l events → IsClosing (mine n events) s → IsTrue (is_closer (state_after events) n s)
 
--- After a `try_finish` that answers Closed each key is removed whose index is below the mark that it found,
--- and that was claimed before that look. What the caller did after `before` is this call, and the look stands
--- after `looked`.
+-- A `try_finish` that answers Closed looks at the selector's high-water mark. When it returns, each key that was claimed
+-- before that look, at an index below the mark, is removed. `before` is the history before the call; what the caller did
+-- after it is this call, and `looked` is what stands before the look.
 abbrev pub ClosedRemovesKeys : Type 0
 ClosedRemovesKeys =
     (l : Limits) (n : CallerNo) (before looked later : List Event) (s : SelNo) (mark i serial : ℕ)

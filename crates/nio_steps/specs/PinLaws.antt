@@ -10,11 +10,17 @@ use Rattle.nio_base.specs.declared.numbers.SelNo.{SelNo}
 use Rattle.nio_event.specs.OwnEvents.{keeps_pin}
 use Rattle.nio_event.specs.declared.act.Act.{Act}
 use Rattle.nio_event.specs.declared.found.Mode.{Mode}
-use Rattle.nio_steps.specs.ChannelCalls.{open_channel_plan, is_open_plan, is_blocking_plan, is_registered_plan, key_for_plan, try_set_blocking_plan, try_register_plan, close_channel_plan, SetsBlocking, Registers}
-use Rattle.nio_steps.specs.KeyCalls.{find_selector_plan, find_channel_plan, find_plan, is_valid_plan, interest_plan, set_interest_plan, interest_or_plan, interest_and_plan, ready_plan, cancel_plan, unselect_plan, attach_plan, attachment_plan}
+use Rattle.nio_steps.specs.ChannelCalls.{open_channel_plan, is_open_plan, is_blocking_plan, is_registered_plan}
+use Rattle.nio_steps.specs.ChannelCalls.{key_for_plan, try_set_blocking_plan, try_register_plan, close_channel_plan}
+use Rattle.nio_steps.specs.ChannelCalls.{SetsBlocking, Registers}
+use Rattle.nio_steps.specs.KeyCalls.{find_selector_plan, find_channel_plan, find_plan, is_valid_plan, interest_plan}
+use Rattle.nio_steps.specs.KeyCalls.{set_interest_plan, interest_or_plan, interest_and_plan, ready_plan, cancel_plan}
+use Rattle.nio_steps.specs.KeyCalls.{unselect_plan, attach_plan, attachment_plan}
 use Rattle.nio_steps.specs.PipeCalls.{pipe_plan, try_read_plan, try_write_plan, Reads, Writes}
 use Rattle.nio_steps.specs.Runs.{Completes}
-use Rattle.nio_steps.specs.SelectCalls.{Selection, open_selector_plan, try_begin_plan, told_plan, leave_plan, shut_plan, try_finish_plan, keys_plan, selected_keys_plan, wakeup_plan, interrupt_plan, interrupted_plan, Poll, Selects, Closes}
+use Rattle.nio_steps.specs.SelectCalls.{Selection, open_selector_plan, try_begin_plan, told_plan, leave_plan, shut_plan}
+use Rattle.nio_steps.specs.SelectCalls.{try_finish_plan, keys_plan, selected_keys_plan, wakeup_plan, interrupt_plan}
+use Rattle.nio_steps.specs.SelectCalls.{interrupted_plan, Poll, Selects, Closes}
 
 -- after a call of this shape the caller keeps no pin that it took in the call
 abbrev pub GivesPinsBack : {R : Type 0} → (List Act → R → Type 0) → Type 0
@@ -39,12 +45,15 @@ pub record PinsAreGivenBack : Type 0 where
   pub is_blocking : (c : ChanNo) → GivesPinsBack (Completes (is_blocking_plan c))
   pub is_registered : (l : Limits) (c : ChanNo) → GivesPinsBack (Completes (is_registered_plan l c))
   pub key_for : (c : ChanNo) (s : SelNo) → GivesPinsBack (Completes (key_for_plan c s))
-  pub try_set_blocking : (l : Limits) (c : ChanNo) (on : Bool) → GivesPinsBack (Completes (try_set_blocking_plan l c on))
-  pub try_register : (l : Limits) (s : SelNo) (c : ChanNo) (ops att : ℕ) → GivesPinsBack (Completes (try_register_plan l s c ops att))
+  pub try_set_blocking : (l : Limits) (c : ChanNo) (on : Bool)
+      → GivesPinsBack (Completes (try_set_blocking_plan l c on))
+  pub try_register : (l : Limits) (s : SelNo) (c : ChanNo) (ops att : ℕ)
+      → GivesPinsBack (Completes (try_register_plan l s c ops att))
   pub close_channel : (l : Limits) (c : ChanNo) → GivesPinsBack (Completes (close_channel_plan l c))
   pub open_selector : (l : Limits) → GivesPinsBack (Completes (open_selector_plan l))
   pub try_begin : (s : SelNo) (mode : Mode) (lacks : Bool) → GivesPinsBack (Completes (try_begin_plan s mode lacks))
-  pub told : (selection : Selection) (pairs : List (ℕ × ℕ)) (elapsed : Bool) → GivesPinsBack (Completes (told_plan selection pairs elapsed))
+  pub told : (selection : Selection) (pairs : List (ℕ × ℕ)) (elapsed : Bool)
+      → GivesPinsBack (Completes (told_plan selection pairs elapsed))
   pub leave : (selection : Selection) → GivesPinsBack (Completes (leave_plan selection))
   pub shut : (s : SelNo) → GivesPinsBack (Completes (shut_plan s))
   pub try_finish : (s : SelNo) → GivesPinsBack (Completes (try_finish_plan s))

@@ -13,7 +13,8 @@ use Rattle.nio_steps.specs.Steps.{look_channel, look_interrupt}
 use Rattle.nio_steps.specs.Waiting.{Repeats}
 use Rattle.nio_steps.specs.declared.refusal.ChannelError.{ChannelError}
 use Rattle.nio_steps.specs.declared.refusal.PipeError.{PipeError}
-use Rattle.nio_steps.specs.declared.refusal.PipeError.TheVariants.{ClosedChannel, ClosedByInterrupt, AsynchronousClose, BrokenPipe}
+use Rattle.nio_steps.specs.declared.refusal.PipeError.TheVariants.{ClosedChannel, ClosedByInterrupt, AsynchronousClose}
+use Rattle.nio_steps.specs.declared.refusal.PipeError.TheVariants.{BrokenPipe}
 use Rattle.nio_steps.specs.declared.refusal.PipeMakeError.{PipeMakeError}
 
 -- ---- making a pipe
@@ -116,7 +117,8 @@ as_waited (run ∷ later) (Err BrokenPipe) = Err BrokenPipe
 
 -- reading or writing until there are bytes or room, with this plan; `none` says whether the last run found no
 -- bytes, or no room
-pub record Waits (plan : Plan (Result Bool PipeError)) (none : Bool) (acts : List Act) (answer : Result Bool PipeError) : Type 0 where
+pub record Waits (plan : Plan (Result Bool PipeError)) (none : Bool) (acts : List Act)
+    (answer : Result Bool PipeError) : Type 0 where
   pub found : Result Bool PipeError
   pub runs : Repeats (λ (_ : Bool). Completes plan) waits_for_bytes acts found
   pub found_none : runs.last.given ≡ none

@@ -1,5 +1,7 @@
 -- The steps of the calls of selections, of closing a selector, and of waking and interrupting.
-use Rattle.std.specs.Prelude.{◌≡◌, ℕ, zero, suc, ◌+◌, ◌*◌, ◌==◌, nat_lt, Bool, true, false, not, ◌&&◌, if◌then◌else◌, Option, Some, None, is_some, Result, Ok, Err, is_ok, List, [], ◌∷◌, ◌++◌, map, fold, bit_and, bit_or}
+use Rattle.std.specs.Prelude.{◌≡◌, ℕ, zero, suc, ◌+◌, ◌*◌, ◌==◌, nat_lt, Bool, true, false, not, ◌&&◌, if◌then◌else◌}
+use Rattle.std.specs.Prelude.{Option, Some, None, is_some, Result, Ok, Err, is_ok, List, [], ◌∷◌, ◌++◌, map, fold}
+use Rattle.std.specs.Prelude.{bit_and, bit_or}
 use Rattle.nio_base.specs.declared.limits.Limits.{Limits}
 use Rattle.nio_base.specs.declared.numbers.CallerNo.{CallerNo}
 use Rattle.nio_base.specs.declared.numbers.KeyNo.{KeyNo}
@@ -19,7 +21,9 @@ use Rattle.nio_steps.specs.KeyCalls.{has_bit, is_within, under_pin}
 use Rattle.nio_steps.specs.Names.{selector}
 use Rattle.nio_steps.specs.Plan.{Plan, reply, ◌>>=◌, ◌>>◌, when}
 use Rattle.nio_steps.specs.Runs.{Completes}
-use Rattle.nio_steps.specs.Steps.{make_selector, wake, look_gate, set_interrupt, take_interrupt, look_interrupt, look_key, look_interest, look_keys, take_turn, begin_look, give_turn, remove, look_mark, mark, end_wake, shut_bit, enter, look_free, put_free}
+use Rattle.nio_steps.specs.Steps.{make_selector, wake, look_gate, set_interrupt, take_interrupt, look_interrupt}
+use Rattle.nio_steps.specs.Steps.{look_key, look_interest, look_keys, take_turn, begin_look, give_turn, remove}
+use Rattle.nio_steps.specs.Steps.{look_mark, mark, end_wake, shut_bit, enter, look_free, put_free}
 use Rattle.nio_steps.specs.Sweeps.{sweep_to, seek_to, sweep_over}
 use Rattle.nio_steps.specs.Waiting.{Then, Tries, Repeats, Retries}
 use Rattle.nio_steps.specs.declared.looked.LookedKey.{LookedKey}
@@ -68,7 +72,8 @@ given_back s answer = do
 unfoldable pub not_free : ℕ → ℕ → ℕ → ℕ → List ℕ
 not_free word j bound zero = []
 not_free word j bound (suc n) =
-    if nat_lt (64 * j + n) bound && not (has_bit word n) then not_free word j bound n ++ (64 * j + n) ∷ [] else not_free word j bound n
+    if nat_lt (64 * j + n) bound && not (has_bit word n) then not_free word j bound n ++ (64 * j + n) ∷ []
+    else not_free word j bound n
 
 abbrev pub list_word : SelNo → ℕ → ℕ → List ℕ → Plan (List ℕ)
 list_word s bound j listed = do
@@ -202,7 +207,8 @@ is_timed (For ms) = true
 -- nor that it is shut, the caller isn't interrupted, and its time isn't over
 abbrev pub is_again : Mode → ℕ → GateWord → Bool → Bool → Bool
 is_again mode count gate interrupted elapsed =
-    may_wait mode && (count == 0) && not gate.woken && not gate.shut && not interrupted && not (is_timed mode && elapsed)
+    may_wait mode && (count == 0) && not gate.woken && not gate.shut && not interrupted
+    && not (is_timed mode && elapsed)
 
 -- why the selection is over: the first that holds
 abbrev pub why_ended : Mode → ℕ → GateWord → Bool → Why
@@ -308,13 +314,15 @@ list_all list_one s bound = do
   reply (Ok listed)
 
 -- the gate was found open
-abbrev pub list_open : (SelNo → ℕ → List KeyNo → Plan (List KeyNo)) → SelNo → Bool → Plan (Result (List KeyNo) ListError)
+abbrev pub list_open : (SelNo → ℕ → List KeyNo → Plan (List KeyNo)) → SelNo → Bool
+    → Plan (Result (List KeyNo) ListError)
 list_open list_one s lacks = do
   bound ← look_keys s
   if lacks then reply (Err ListError.Memory) else list_all list_one s bound
 
 -- `lacks` says whether there is no memory for the list
-abbrev pub list_plan : (SelNo → ℕ → List KeyNo → Plan (List KeyNo)) → SelNo → Bool → Plan (Result (List KeyNo) ListError)
+abbrev pub list_plan : (SelNo → ℕ → List KeyNo → Plan (List KeyNo)) → SelNo → Bool
+    → Plan (Result (List KeyNo) ListError)
 list_plan list_one s lacks = do
   gate ← look_gate s
   if gate.shut then reply (Err ListError.ClosedSelector) else list_open list_one s lacks
@@ -418,7 +426,8 @@ finish_finds_busy busy = true
 
 -- a closing that this call began is finished once nobody selects
 abbrev pub ClosesRest : SelNo → ShutReply → List Act → Bool → Type 0
-ClosesRest s closing acts answer = (answer ≡ true) × Retries (Completes (try_finish_plan s)) finish_finds_busy acts closed
+ClosesRest s closing acts answer =
+    (answer ≡ true) × Retries (Completes (try_finish_plan s)) finish_finds_busy acts closed
 ClosesRest s already_closed acts answer = (answer ≡ false) × (acts ≡ [])
 
 -- closing a selector: whether this call shut it

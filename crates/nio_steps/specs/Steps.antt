@@ -5,7 +5,8 @@ use Rattle.nio_base.specs.declared.numbers.CallerNo.{CallerNo}
 use Rattle.nio_base.specs.declared.numbers.ChanNo.{ChanNo}
 use Rattle.nio_base.specs.declared.numbers.KeyId.{KeyId}
 use Rattle.nio_base.specs.declared.numbers.SelNo.{SelNo}
-use Rattle.nio_event.specs.Questions.{Question, Answer, flag, word, gate_word, stage, operations, channel, number, noted_key, holder, key_mark, exchange}
+use Rattle.nio_event.specs.Questions.{Question, Answer, flag, word, gate_word, stage, operations, channel, number}
+use Rattle.nio_event.specs.Questions.{noted_key, holder, key_mark, exchange}
 use Rattle.nio_event.specs.State.{open_gate, unclaimed, unmade_channel, unmarked}
 use Rattle.nio_event.specs.declared.found.Chan.{Chan}
 use Rattle.nio_event.specs.declared.found.GateWord.{GateWord}

@@ -8,7 +8,8 @@ use Rattle.std.specs.List.{All}
 use Rattle.nio_event.specs.declared.act.Act.{Act}
 
 -- the acts are those of one call and then those of another, which takes the answer of the first
-pub record Then {A R : Type 0} (First : List Act → A → Type 0) (Second : A → List Act → R → Type 0) (acts : List Act) (answer : R) : Type 0 where
+pub record Then {A R : Type 0} (First : List Act → A → Type 0) (Second : A → List Act → R → Type 0) (acts : List Act)
+    (answer : R) : Type 0 where
   pub first : List Act
   pub middle : A
   pub second : List Act
@@ -31,7 +32,8 @@ acts_of (run ∷ later) = run.acts ++ acts_of later
 
 -- The acts are runs of a call, one after the other, each of which answers that the call is to be made again.
 -- `Shape x` is the shape of a run that is given x.
-pub record Tries {X R : Type 0} (Shape : X → List Act → R → Type 0) (goes_on : X → R → Bool) (acts : List Act) : Type 0 where
+pub record Tries {X R : Type 0} (Shape : X → List Act → R → Type 0) (goes_on : X → R → Bool)
+    (acts : List Act) : Type 0 where
   pub runs : List (Run X R)
   pub parts : acts ≡ acts_of runs
   pub made : All (λ run. Shape run.given run.acts run.answer) runs
@@ -39,7 +41,8 @@ pub record Tries {X R : Type 0} (Shape : X → List Act → R → Type 0) (goes_
 
 -- The acts are such runs and then one that answers that the call is over: a call that waits has done them
 -- when it returns.
-pub record Repeats {X R : Type 0} (Shape : X → List Act → R → Type 0) (goes_on : X → R → Bool) (acts : List Act) (answer : R) : Type 0 where
+pub record Repeats {X R : Type 0} (Shape : X → List Act → R → Type 0) (goes_on : X → R → Bool) (acts : List Act)
+    (answer : R) : Type 0 where
   pub before : List Act
   pub tries : Tries Shape goes_on before
   pub last : Run X R

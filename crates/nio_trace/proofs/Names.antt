@@ -20,7 +20,8 @@ pub use mir.Syntax.{a_type, dcons, dnil, named}
 pub use mir.Val.{Val, vunit, vptr, vstruct, vcons, vnil}
 pub use seplogic.Ra.Ura.{Ura}
 pub use types.ByLocal.{alloc_all, pass_all, free_all, look_at, get, sets}
-pub use types.Kit.{‵, raw, ◌⊛◌, ◌$◌, ◌∵◌, !, qed, by, done, move, keep, split, join, fsplit, fsplit3, fjoin, fjoin3, fpick, fpack, feq_i, use0, use1, use2, later, await, updating, now}
+pub use types.Kit.{‵, raw, ◌⊛◌, ◌$◌, ◌∵◌, !, qed, by, done, move, keep, split, join, fsplit, fsplit3, fjoin, fjoin3}
+pub use types.Kit.{fpick, fpack, feq_i, use0, use1, use2, later, await, updating, now}
 pub use types.Logic.{Logic, sem}
 pub use types.Part.{agg}
 pub use types.Run.{enter, of_opd, unit_lit, returns, and_then, no_more}

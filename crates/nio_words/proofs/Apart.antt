@@ -1,6 +1,7 @@
 -- A step changes no word but that of its own part. Of each sort of part only the kinds of step that
 -- change such a part are looked at; of the others the last line speaks.
-use Rattle.std.proofs.Common.{◌≡◌, ◌≢◌, ℕ, ◌+◌, ◌*◌, ◌/◌, ◌^◌, ◌<◌, ◌==◌, Bool, true, false, cond, ◌&&◌, refl, ap, sym, ◌∙◌, subst, arith, eqb-true, ne_eqb}
+use Rattle.std.proofs.Common.{◌≡◌, ◌≢◌, ℕ, ◌+◌, ◌*◌, ◌/◌, ◌^◌, ◌<◌, ◌==◌, Bool, true, false, cond, ◌&&◌, refl, ap, sym}
+use Rattle.std.proofs.Common.{◌∙◌, subst, arith, eqb-true, ne_eqb}
 use Rattle.std.specs.Option.{IfSome}
 use Rattle.std.proofs.lemmas.Bool.{and_parts}
 use Rattle.nio_base.specs.declared.numbers.CallerNo.{CallerNo}
@@ -8,19 +9,27 @@ use Rattle.nio_event.specs.Acts.{effect}
 use Rattle.nio_event.specs.Answers.{bits_below, count_below}
 use Rattle.nio_event.specs.State.{State, put, put_at}
 use Rattle.nio_event.specs.declared.act.Act.{Act}
-use Rattle.nio_event.specs.declared.act.Act.TheVariants.{DrawBit, MakeSelector, Wake, SetInterrupt, TakeInterrupt, CancelKey, SwapInterest, OrInterest, AndInterest, SwapNote, MakeChannel, Claim, RaiseKeys, Publish, Enrol, TakeTurn, GiveTurn, Remove, Mark as MarkKey, UnselectBit, EndWake, RaiseChannels, TryHoldBit, Release, SetMode, CloseBit, ShutBit, Pin, Unpin, ClearMark, ClaimAgain, PutFree, TakeFree}
+use Rattle.nio_event.specs.declared.act.Act.TheVariants.{DrawBit, MakeSelector, Wake, SetInterrupt, TakeInterrupt}
+use Rattle.nio_event.specs.declared.act.Act.TheVariants.{CancelKey, SwapInterest, OrInterest, AndInterest, SwapNote}
+use Rattle.nio_event.specs.declared.act.Act.TheVariants.{MakeChannel, Claim, RaiseKeys, Publish, Enrol, TakeTurn}
+use Rattle.nio_event.specs.declared.act.Act.TheVariants.{GiveTurn, Remove, Mark as MarkKey, UnselectBit, EndWake}
+use Rattle.nio_event.specs.declared.act.Act.TheVariants.{RaiseChannels, TryHoldBit, Release, SetMode, CloseBit, ShutBit}
+use Rattle.nio_event.specs.declared.act.Act.TheVariants.{Pin, Unpin, ClearMark, ClaimAgain, PutFree, TakeFree}
 use Rattle.nio_event.specs.declared.found.Stage.{Stage}
 use Rattle.nio_words.proofs.Bits.{bits_below-same}
-use Rattle.nio_words.specs.Encodings.{encoding, IsProper, channel_word, holder_word, noted_word, gate_word, stage_word, mark_word}
+use Rattle.nio_words.specs.Encodings.{encoding, IsProper, channel_word, holder_word, noted_word, gate_word, stage_word}
+use Rattle.nio_words.specs.Encodings.{mark_word}
 use Rattle.nio_words.specs.Parts.{part_of}
 use Rattle.nio_words.specs.declared.part.Part.{Part}
-use Rattle.nio_words.specs.declared.part.Part.TheVariants.{Callers, Interrupts, Selectors, ChannelsMark, Chan, Hold, Noted, Gate, Turn, KeysMark, Key, Interest, Mark, Note, Free}
+use Rattle.nio_words.specs.declared.part.Part.TheVariants.{Callers, Interrupts, Selectors, ChannelsMark, Chan, Hold}
+use Rattle.nio_words.specs.declared.part.Part.TheVariants.{Noted, Gate, Turn, KeysMark, Key, Interest, Mark, Note, Free}
 
 -- at another number a changed function is what it was
 put-other : {A : Type 0} (f : ℕ → A) (i : ℕ) (x : A) (n : ℕ) → n ≢ i → put f i x n ≡ f n
 put-other f i x n ne = ap (λ b. cond b x (f n)) (ne_eqb n i ne)
 
-put_at-other : {A : Type 0} (f : ℕ → ℕ → A) (i j : ℕ) (x : A) (m n : ℕ) → ((m ≡ i) → (n ≡ j) → ⊥) → put_at f i j x m n ≡ f m n
+put_at-other : {A : Type 0} (f : ℕ → ℕ → A) (i j : ℕ) (x : A) (m n : ℕ) → ((m ≡ i) → (n ≡ j) → ⊥)
+    → put_at f i j x m n ≡ f m n
 put_at-other {A = A} f i j x m n ne = by_test ((m == i) && (n == j)) refl
   where
     by_test : (b : Bool) → ((m == i) && (n == j)) ≡ b → cond b x (f m n) ≡ f m n
@@ -28,8 +37,10 @@ put_at-other {A = A} f i j x m n ne = by_test ((m == i) && (n == j)) refl
     by_test false e = refl
 
 -- the word of an index whose key and pins are as they were
-key_word : {k k' : Stage} {f f' : ℕ → Bool} → k' ≡ k → f' ≡ f → stage_word k' (count_below 64 f') ≡ stage_word k (count_below 64 f)
-key_word {k' = k'} {f = f} same same' = ap (λ g. stage_word k' (count_below 64 g)) same' ∙ ap (λ x. stage_word x (count_below 64 f)) same
+key_word : {k k' : Stage} {f f' : ℕ → Bool} → k' ≡ k → f' ≡ f
+    → stage_word k' (count_below 64 f') ≡ stage_word k (count_below 64 f)
+key_word {k' = k'} {f = f} same same' =
+    ap (λ g. stage_word k' (count_below 64 g)) same' ∙ ap (λ x. stage_word x (count_below 64 f)) same
 
 -- a word of free indexes in which another index changes
 free_word-other : (free : ℕ → ℕ → Bool) (s i : ℕ) (x : Bool) (t j : ℕ) → ((t ≡ s) → (j ≡ i / 64) → ⊥)
@@ -37,7 +48,8 @@ free_word-other : (free : ℕ → ℕ → Bool) (s i : ℕ) (x : Bool) (t j : �
 free_word-other free s i x t j ne =
     bits_below-same 64 _ _ (λ b below. put_at-other free s i x t (64 * j + b) (λ e e'. ne e (omega arith)))
 
-pub apart : (st : State) (me : CallerNo) (act : Act) (q : Part) → q ≢ part_of act → encoding (effect st me act) q ≡ encoding st q
+pub apart : (st : State) (me : CallerNo) (act : Act) (q : Part) → q ≢ part_of act
+    → encoding (effect st me act) q ≡ encoding st q
 apart st me (DrawBit n found) Callers ne = absurd (ne refl)
 apart st me act Callers ne = refl
 apart st me (SetInterrupt n found) Interrupts ne = absurd (ne refl)
@@ -54,7 +66,8 @@ apart st me act (Chan d) ne = refl
 apart st me (TryHoldBit c found) (Hold d) ne = ap holder_word (put-other st.hold c.0 _ d (λ e. ne (ap Hold e)))
 apart st me (Release c) (Hold d) ne = ap holder_word (put-other st.hold c.0 _ d (λ e. ne (ap Hold e)))
 apart st me act (Hold d) ne = refl
-apart st me (Enrol c s i serial found) (Noted d t) ne = ap noted_word (put_at-other st.noted c.0 s.0 _ d t (λ e e'. ne cc))
+apart st me (Enrol c s i serial found) (Noted d t) ne =
+    ap noted_word (put_at-other st.noted c.0 s.0 _ d t (λ e e'. ne cc))
 apart st me act (Noted d t) ne = refl
 apart st me (Wake s found) (Gate t) ne = ap gate_word (put-other st.gate s.0 _ t (λ e. ne (ap Gate e)))
 apart st me (EndWake s found) (Gate t) ne = ap gate_word (put-other st.gate s.0 _ t (λ e. ne (ap Gate e)))
@@ -66,18 +79,21 @@ apart st me act (Turn t) ne = refl
 apart st me (RaiseKeys s n found) (KeysMark t) ne = put-other st.keys_high s.0 _ t (λ e. ne (ap KeysMark e))
 apart st me act (KeysMark t) ne = refl
 apart st me (CancelKey s i found) (Key t j) ne = key_word (put_at-other st.key s.0 i _ t j (λ e e'. ne cc)) refl
-apart st me (Claim s i c found) (Key t j) ne = key_word (put_at-other st.key s.0 i _ t j (λ e e'. ne cc)) (put_at-other st.pinned s.0 i _ t j (λ e e'. ne cc))
+apart st me (Claim s i c found) (Key t j) ne =
+    key_word (put_at-other st.key s.0 i _ t j (λ e e'. ne cc)) (put_at-other st.pinned s.0 i _ t j (λ e e'. ne cc))
 apart st me (Publish s i found) (Key t j) ne = key_word (put_at-other st.key s.0 i _ t j (λ e e'. ne cc)) refl
 apart st me (Remove s i found) (Key t j) ne = key_word (put_at-other st.key s.0 i _ t j (λ e e'. ne cc)) refl
 apart st me (Pin s i found) (Key t j) ne = key_word refl (put_at-other st.pinned s.0 i _ t j (λ e e'. ne cc))
 apart st me (Unpin s i) (Key t j) ne = key_word refl (put_at-other st.pinned s.0 i _ t j (λ e e'. ne cc))
-apart st me (ClaimAgain s i c from found) (Key t j) ne = key_word (put_at-other st.key s.0 i _ t j (λ e e'. ne cc)) (put_at-other st.pinned s.0 i _ t j (λ e e'. ne cc))
+apart st me (ClaimAgain s i c from found) (Key t j) ne =
+    key_word (put_at-other st.key s.0 i _ t j (λ e e'. ne cc)) (put_at-other st.pinned s.0 i _ t j (λ e e'. ne cc))
 apart st me act (Key t j) ne = refl
 apart st me (SwapInterest s i ops found) (Interest t j) ne = put_at-other st.interest s.0 i _ t j (λ e e'. ne cc)
 apart st me (OrInterest s i ops found) (Interest t j) ne = put_at-other st.interest s.0 i _ t j (λ e e'. ne cc)
 apart st me (AndInterest s i ops found) (Interest t j) ne = put_at-other st.interest s.0 i _ t j (λ e e'. ne cc)
 apart st me act (Interest t j) ne = refl
-apart st me (MarkKey s i from told found) (Mark t j) ne = ap mark_word (put_at-other st.mark s.0 i _ t j (λ e e'. ne cc))
+apart st me (MarkKey s i from told found) (Mark t j) ne =
+    ap mark_word (put_at-other st.mark s.0 i _ t j (λ e e'. ne cc))
 apart st me (ClearMark s i found) (Mark t j) ne = ap mark_word (put_at-other st.mark s.0 i _ t j (λ e e'. ne cc))
 apart st me (UnselectBit s i found) (Mark t j) ne = ap mark_word (put_at-other st.mark s.0 i _ t j (λ e e'. ne cc))
 apart st me act (Mark t j) ne = refl
@@ -87,17 +103,27 @@ apart st me (PutFree s i) (Free t j) ne = free_word-other st.free s.0 i _ t j (�
 apart st me (TakeFree s i found) (Free t j) ne = free_word-other st.free s.0 i _ t j (λ e e'. ne cc)
 apart st me act (Free t j) ne = refl
 
-pub proper-apart : (st : State) (me : CallerNo) (act : Act) (q : Part) → q ≢ part_of act → IsProper st q → IsProper (effect st me act) q
-proper-apart st me (Enrol c s i serial found) (Noted d t) ne h = subst (λ o. IfSome o (λ k. k.index + 1 < 2 ^ 32)) (sym (put_at-other st.noted c.0 s.0 _ d t (λ e e'. ne cc))) h
+pub proper-apart : (st : State) (me : CallerNo) (act : Act) (q : Part) → q ≢ part_of act → IsProper st q
+    → IsProper (effect st me act) q
+proper-apart st me (Enrol c s i serial found) (Noted d t) ne h =
+    subst (λ o. IfSome o (λ k. k.index + 1 < 2 ^ 32)) (sym (put_at-other st.noted c.0 s.0 _ d t (λ e e'. ne cc))) h
 proper-apart st me act (Noted d t) ne h = h
-proper-apart st me (CancelKey s i found) (Key t j) ne h = subst (λ k. k.chan.0 < 2 ^ 20) (sym (put_at-other st.key s.0 i _ t j (λ e e'. ne cc))) h
-proper-apart st me (Claim s i c found) (Key t j) ne h = subst (λ k. k.chan.0 < 2 ^ 20) (sym (put_at-other st.key s.0 i _ t j (λ e e'. ne cc))) h
-proper-apart st me (Publish s i found) (Key t j) ne h = subst (λ k. k.chan.0 < 2 ^ 20) (sym (put_at-other st.key s.0 i _ t j (λ e e'. ne cc))) h
-proper-apart st me (Remove s i found) (Key t j) ne h = subst (λ k. k.chan.0 < 2 ^ 20) (sym (put_at-other st.key s.0 i _ t j (λ e e'. ne cc))) h
-proper-apart st me (ClaimAgain s i c from found) (Key t j) ne h = subst (λ k. k.chan.0 < 2 ^ 20) (sym (put_at-other st.key s.0 i _ t j (λ e e'. ne cc))) h
+proper-apart st me (CancelKey s i found) (Key t j) ne h =
+    subst (λ k. k.chan.0 < 2 ^ 20) (sym (put_at-other st.key s.0 i _ t j (λ e e'. ne cc))) h
+proper-apart st me (Claim s i c found) (Key t j) ne h =
+    subst (λ k. k.chan.0 < 2 ^ 20) (sym (put_at-other st.key s.0 i _ t j (λ e e'. ne cc))) h
+proper-apart st me (Publish s i found) (Key t j) ne h =
+    subst (λ k. k.chan.0 < 2 ^ 20) (sym (put_at-other st.key s.0 i _ t j (λ e e'. ne cc))) h
+proper-apart st me (Remove s i found) (Key t j) ne h =
+    subst (λ k. k.chan.0 < 2 ^ 20) (sym (put_at-other st.key s.0 i _ t j (λ e e'. ne cc))) h
+proper-apart st me (ClaimAgain s i c from found) (Key t j) ne h =
+    subst (λ k. k.chan.0 < 2 ^ 20) (sym (put_at-other st.key s.0 i _ t j (λ e e'. ne cc))) h
 proper-apart st me act (Key t j) ne h = h
-proper-apart st me (ClearMark s i found) (Mark t j) ne h = subst (λ m. m.ready < 256) (sym (put_at-other st.mark s.0 i _ t j (λ e e'. ne cc))) h
-proper-apart st me (MarkKey s i from told found) (Mark t j) ne h = subst (λ m. m.ready < 256) (sym (put_at-other st.mark s.0 i _ t j (λ e e'. ne cc))) h
-proper-apart st me (UnselectBit s i found) (Mark t j) ne h = subst (λ m. m.ready < 256) (sym (put_at-other st.mark s.0 i _ t j (λ e e'. ne cc))) h
+proper-apart st me (ClearMark s i found) (Mark t j) ne h =
+    subst (λ m. m.ready < 256) (sym (put_at-other st.mark s.0 i _ t j (λ e e'. ne cc))) h
+proper-apart st me (MarkKey s i from told found) (Mark t j) ne h =
+    subst (λ m. m.ready < 256) (sym (put_at-other st.mark s.0 i _ t j (λ e e'. ne cc))) h
+proper-apart st me (UnselectBit s i found) (Mark t j) ne h =
+    subst (λ m. m.ready < 256) (sym (put_at-other st.mark s.0 i _ t j (λ e e'. ne cc))) h
 proper-apart st me act (Mark t j) ne h = h
 proper-apart st me act q ne h = tt

@@ -1,5 +1,6 @@
 -- Beginnings of a history, and the events of one caller in them.
-use Rattle.std.proofs.Common.{◌≡◌, ℕ, ◌≤◌, List, [], ◌∷◌, ◌++◌, map, length, refl, ap, sym, ◌∙◌, subst, arith, append_assoc, length-append}
+use Rattle.std.proofs.Common.{◌≡◌, ℕ, ◌≤◌, List, [], ◌∷◌, ◌++◌, map, length, refl, ap, sym, ◌∙◌, subst, arith}
+use Rattle.std.proofs.Common.{append_assoc, length-append}
 use Rattle.std.specs.List.{filter}
 use Rattle.std.proofs.lemmas.List.{append-nil, map-append}
 use Rattle.std.proofs.lemmas.List.Elements.{filter-append}
@@ -15,7 +16,8 @@ pub prefix_trans : {A : Type 0} (xs ys zs : List A) → IsPrefix xs ys → IsPre
 prefix_trans xs ys zs p q = (p.0 ++ q.0, sym (append_assoc xs p.0 q.0) ∙ (ap (λ w. w ++ q.0) p.1 ∙ q.1))
 
 -- of two beginnings of one list the shorter begins the longer
-pub prefix_shorter : {A : Type 0} (xs ys zs : List A) → IsPrefix xs zs → IsPrefix ys zs → length xs ≤ length ys → IsPrefix xs ys
+pub prefix_shorter : {A : Type 0} (xs ys zs : List A) → IsPrefix xs zs → IsPrefix ys zs → length xs ≤ length ys
+    → IsPrefix xs ys
 prefix_shorter [] ys zs p q le = (ys, refl)
 prefix_shorter (x ∷ xs) [] zs p q le = absurd (omega arith)
 prefix_shorter (x ∷ xs) (y ∷ ys) [] p q le = absurd (cc (p.1))
@@ -40,15 +42,19 @@ pub prefix_both : {A : Type 0} (xs ys : List A) → IsPrefix xs ys → IsPrefix 
 prefix_both xs ys p q = prefix_whole xs ys p (prefix_length ys xs q)
 
 pub mine-append : (n : CallerNo) (xs ys : List Event) → mine n (xs ++ ys) ≡ mine n xs ++ mine n ys
-mine-append n xs ys = ap (map (λ x. x.act)) (filter-append (is_by n) xs ys) ∙ map-append (λ x. x.act) (filter (is_by n) xs) (filter (is_by n) ys)
+mine-append n xs ys =
+    ap (map (λ x. x.act)) (filter-append (is_by n) xs ys)
+    ∙ map-append (λ x. x.act) (filter (is_by n) xs) (filter (is_by n) ys)
 
 pub mine_begins : (n : CallerNo) (xs ys : List Event) → IsPrefix xs ys → IsPrefix (mine n xs) (mine n ys)
 mine_begins n xs ys p = (mine n p.0, sym (mine-append n xs p.0) ∙ ap (mine n) p.1)
 
 -- a caller with the same events in a longer history has them in every history between
-pub mine_between : (n : CallerNo) (xs ys zs : List Event) → IsPrefix xs ys → IsPrefix ys zs → mine n zs ≡ mine n xs → mine n ys ≡ mine n xs
+pub mine_between : (n : CallerNo) (xs ys zs : List Event) → IsPrefix xs ys → IsPrefix ys zs → mine n zs ≡ mine n xs
+    → mine n ys ≡ mine n xs
 mine_between n xs ys zs p q e =
-    sym (prefix_both (mine n xs) (mine n ys) (mine_begins n xs ys p) (subst (λ es. IsPrefix (mine n ys) es) e (mine_begins n ys zs q)))
+    sym (prefix_both (mine n xs) (mine n ys) (mine_begins n xs ys p)
+    (subst (λ es. IsPrefix (mine n ys) es) e (mine_begins n ys zs q)))
 
 pub same_number : (m n : CallerNo) → m.0 ≡ n.0 → m ≡ n
 same_number m n e = ap (λ (k : ℕ). record { 0 = k }) e

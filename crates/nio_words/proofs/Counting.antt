@@ -1,5 +1,6 @@
 -- How many numbers pass a test that is changed at one number, and how many pins are on an index.
-use Rattle.std.proofs.Common.{◌≡◌, ◌≢◌, ℕ, zero, suc, ◌+◌, ◌<◌, ◌≤◌, ◌==◌, Bool, true, false, cond, ◌||◌, not, refl, ap, arith, eqb-true, ne_eqb}
+use Rattle.std.proofs.Common.{◌≡◌, ◌≢◌, ℕ, zero, suc, ◌+◌, ◌<◌, ◌≤◌, ◌==◌, Bool, true, false, cond, ◌||◌, not, refl, ap}
+use Rattle.std.proofs.Common.{arith, eqb-true, ne_eqb}
 use Rattle.std.proofs.lemmas.Bool.{eqb-false}
 use Rattle.nio_event.specs.Answers.{count_below}
 use Rattle.nio_event.specs.State.{put}
@@ -21,7 +22,8 @@ count_below-beyond (suc k) f n x beyond =
     let same : bit (put f n x k) ≡ bit (f k) = ap bit other in
     omega (arith, rest, same)
 
-pub count_below-put : (k : ℕ) (f : ℕ → Bool) (n : ℕ) (x : Bool) → n < k → count_below k (put f n x) + bit (f n) ≡ count_below k f + bit x
+pub count_below-put : (k : ℕ) (f : ℕ → Bool) (n : ℕ) (x : Bool) → n < k
+    → count_below k (put f n x) + bit (f n) ≡ count_below k f + bit x
 unfolding count_below
 count_below-put zero f n x below = absurd (omega arith)
 count_below-put (suc k) f n x below = by_test (k == n) refl (λ lower. count_below-put k f n x lower)
@@ -45,7 +47,8 @@ count_below-put (suc k) f n x below = by_test (k == n) refl (λ lower. count_bel
 -- who passes the test is counted
 pub count_below-some : (k : ℕ) (f : ℕ → Bool) (n : ℕ) → n < k → bit (f n) ≤ count_below k f
 count_below-some k f n below =
-    let without : count_below k (put f n false) + bit (f n) ≡ count_below k f + bit false = count_below-put k f n false below in
+    let without : count_below k (put f n false) + bit (f n) ≡ count_below k f
+    + bit false = count_below-put k f n false below in
     let none : bit false ≡ 0 = refl in
     omega (arith, without, none)
 
@@ -60,7 +63,8 @@ count_below-none (suc k) f none =
 
 -- ---- a claim's pin: where the index wasn't claimed, the caller has one more
 
-pub claimed_pins : (f : ℕ → Bool) (me : ℕ) → me < 64 → count_below 64 f ≡ 0 → count_below 64 (put f me (f me || not false)) ≡ 1
+pub claimed_pins : (f : ℕ → Bool) (me : ℕ) → me < 64 → count_below 64 f ≡ 0
+    → count_below 64 (put f me (f me || not false)) ≡ 1
 claimed_pins f me below none =
     let some = count_below-some 64 f me below in
     let count = count_below-put 64 f me (f me || not false) below in

@@ -1,5 +1,6 @@
 -- A draw keeps the table's rule, and tells whether its number was drawn.
-use Rattle.std.proofs.Common.{◌≡◌, ℕ, ◌<◌, Bool, true, false, ◌⊎◌, inl, inr, List, [], ◌∷◌, ◌++◌, length, set, refl, ap, sym, ◌∙◌, subst, arith}
+use Rattle.std.proofs.Common.{◌≡◌, ℕ, ◌<◌, Bool, true, false, ◌⊎◌, inl, inr, List, [], ◌∷◌, ◌++◌, length, set, refl, ap}
+use Rattle.std.proofs.Common.{sym, ◌∙◌, subst, arith}
 use Rattle.std.specs.Prelude.{bit_or, slice_index}
 use Rattle.std.proofs.lemmas.List.{set-get_or, append-nil}
 use Rattle.std.proofs.lemmas.Nat.{or_lt}
@@ -34,12 +35,14 @@ use Rattle.nio_words.specs.declared.view.View.{View}
 use Rattle.nio_words.specs.declared.words.Pass.{Pass}
 use Rattle.nio_words.specs.declared.words.Words.{Words}
 
-module _ (l : Limits) (s : Table (Unit {0}) View) (kept : IsKept l s) (id : ℕ) (v : View) (here : get_elem? s.views id ≡ some v) (unspent : v.spent ≡ false)
+module _ (l : Limits) (s : Table (Unit {0}) View) (kept : IsKept l s) (id : ℕ) (v : View)
+    (here : get_elem? s.views id ≡ some v) (unspent : v.spent ≡ false)
     (number : CallerNo) (below : number.0 < 64) (is_caller : IsCaller l number) where
   -- what the step may do at this moment
   pub May : List (ℕ × Unit {0}) → Bool → Type 0
   May carried found =
-      (w : View) × (a : TableAct (Unit {0})) × Valid s.homes carried a × IsKept l (stepped s 0 (bit_or (slice_index s.words 0) (one_bit number.0)) id carried w a)
+      (w : View) × (a : TableAct (Unit {0})) × Valid s.homes carried a
+      × IsKept l (stepped s 0 (bit_or (slice_index s.words 0) (one_bit number.0)) id carried w a)
       × ((carried_after carried a ≡ carried) × TellsDrawn v number found w)
 
   known : Knows l kept.history v
@@ -64,11 +67,13 @@ module _ (l : Limits) (s : Table (Unit {0}) View) (kept : IsKept l s) (id : ℕ)
         halves = λ i d h. absurd (omega arith);
       } in
       let same : bit_or (slice_index s.words 0) (one_bit number.0) ≡ slice_index s.words 0 =
-      ap (λ n. bit_or n (one_bit number.0)) word ∙ (sets_again (state_after kept.history).drawn number.0 below drawn ∙ sym word) in (
+      ap (λ n. bit_or n (one_bit number.0)) word
+      ∙ (sets_again (state_after kept.history).drawn number.0 below drawn ∙ sym word) in (
         w,
         keeps,
         tt,
-        looked l s kept id v here unspent w knows refl refl unspent known.begins (set s.words 0 (bit_or (slice_index s.words 0) (one_bit number.0)))
+        looked l s kept id v here unspent w knows refl refl unspent known.begins
+            (set s.words 0 (bit_or (slice_index s.words 0) (one_bit number.0)))
             (ap (set s.words 0) same ∙ set-get_or s.words 0 0) s.homes,
         (
           refl,
@@ -87,20 +92,30 @@ module _ (l : Limits) (s : Table (Unit {0}) View) (kept : IsKept l s) (id : ℕ)
       )
 
   -- a number that isn't drawn is nowhere
-  nowhere : (state_after kept.history).drawn number.0 ≡ false → (j : ℕ) (u : View) → get_elem? s.views j ≡ some u → HasBit u.numbers number.0 → ⊥
+  nowhere : (state_after kept.history).drawn number.0 ≡ false → (j : ℕ) (u : View) → get_elem? s.views j ≡ some u
+      → HasBit u.numbers number.0 → ⊥
   nowhere undrawn j u at has = by_test u.spent refl
     where
       by_test : (b : Bool) → u.spent ≡ b → ⊥
       by_test true e = none_has number.0 (subst (λ (n : ℕ). HasBit n number.0) (kept.spent_empty j u at e) has)
       by_test false e = let clash : true ≡ false = sym ((kept.each j u at e).drawn number.0 has) ∙ undrawn in cc
 
-  finds_undrawn : (carried : List (ℕ × Unit {0})) → (state_after kept.history).drawn number.0 ≡ false → May carried false
+  finds_undrawn : (carried : List (ℕ × Unit {0})) → (state_after kept.history).drawn number.0 ≡ false
+      → May carried false
   unfolding May
   finds_undrawn carried undrawn =
       let e : Event = event_of number (DrawBit number false) in
       let st = state_after kept.history in
-      let w : View = record v { seen = kept.history ++ e ∷ []; numbers = bit_or v.numbers (one_bit number.0); halves = [] } in
-      let step : IsStep l kept.history e = record { by_caller = is_caller; condition = (is_caller, refl, refl); answers = ap flag (sym undrawn) } in
+      let w : View = record v {
+        seen = kept.history ++ e ∷ [];
+        numbers = bit_or v.numbers (one_bit number.0);
+        halves = [];
+      } in
+      let step : IsStep l kept.history e = record {
+        by_caller = is_caller;
+        condition = (is_caller, refl, refl);
+        answers = ap flag (sym undrawn);
+      } in
       let drawn_now : put st.drawn number.0 true number.0 ≡ true = put-same st.drawn number.0 true in
       let no_event : mine number kept.history ≡ [] = kept.undrawn number undrawn in
       let adds : AddsTo l s kept.history id v w e = record {
@@ -112,7 +127,8 @@ module _ (l : Limits) (s : Table (Unit {0}) View) (kept : IsKept l s) (id : ℕ)
         alone = refl;
         unspent = unspent;
         halves = refl;
-        callers = λ n has. elim (more_has v.numbers number.0 n below has) [ inl same ↦ subst (λ (m : ℕ). m < l.callers) (sym same) is_caller | inr old ↦ known.callers n old ];
+        callers = λ n has. elim (more_has v.numbers number.0 n below has)
+            [ inl same ↦ subst (λ (m : ℕ). m < l.callers) (sym same) is_caller | inr old ↦ known.callers n old ];
         drawn = λ n has. elim (more_has v.numbers number.0 n below has) [
           | inl same ↦ subst (λ (m : ℕ). put st.drawn number.0 true m ≡ true) (sym same) drawn_now
           | inr old ↦ drawn_lasts st number (DrawBit number false) n (known.drawn n old)
@@ -127,16 +143,21 @@ module _ (l : Limits) (s : Table (Unit {0}) View) (kept : IsKept l s) (id : ℕ)
         w,
         keeps,
         tt,
-        added l s kept id v here unspent w e Callers (bit_or (slice_index s.words 0) (one_bit number.0)) adds tt refl new_word
-            (or_lt 64 (slice_index s.words 0) (one_bit number.0) (kept.encoded Callers tt).small (one_bit-lt number.0)) tt s.homes,
+        added l s kept id v here unspent w e Callers (bit_or (slice_index s.words 0) (one_bit number.0)) adds tt refl
+            new_word
+            (or_lt 64 (slice_index s.words 0) (one_bit number.0) (kept.encoded Callers tt).small (one_bit-lt number.0))
+            tt s.homes,
         (
           refl,
           record {
             past = kept.history;
             begins = known.begins;
             own = known.own;
-            own_me = sym (prefix_whole (mine number v.seen) (mine number kept.history) (mine_begins number v.seen kept.history known.begins) (omega (arith, ap length no_event)));
-            legal = subst (λ l'. IsLegal l' (kept.history ++ e ∷ [])) (sym known.limits) (legal_more l kept.history e kept.legal step);
+            own_me = sym
+                (prefix_whole (mine number v.seen) (mine number kept.history)
+                (mine_begins number v.seen kept.history known.begins) (omega (arith, ap length no_event)));
+            legal = subst (λ l'. IsLegal l' (kept.history ++ e ∷ [])) (sym known.limits)
+                (legal_more l kept.history e kept.legal step);
             whole = λ alone. sym (kept.alone id v here alone);
             after = refl;
           },
@@ -146,39 +167,59 @@ module _ (l : Limits) (s : Table (Unit {0}) View) (kept : IsKept l s) (id : ℕ)
   pub may_draw : (carried : List (ℕ × Unit {0})) → May carried (is_set (slice_index s.words 0) number.0)
   may_draw carried = by_test ((state_after kept.history).drawn number.0) refl
     where
-      by_test : (b : Bool) → (state_after kept.history).drawn number.0 ≡ b → May carried (is_set (slice_index s.words 0) number.0)
+      by_test : (b : Bool) → (state_after kept.history).drawn number.0 ≡ b
+          → May carried (is_set (slice_index s.words 0) number.0)
       by_test true e = subst (May carried) (sym (reads ∙ e)) (finds_drawn carried e)
       by_test false e = subst (May carried) (sym (reads ∙ e)) (finds_undrawn carried e)
 
-pub draw_allowed : (l : Limits) (slots id : ℕ) (v : View) (carried : List (ℕ × Unit {0})) (number : CallerNo) → number.0 < 64 → v.spent ≡ false → IsCaller l number
-    → Allows (IsKept l) slots id (v, carried) 0 (λ n. bit_or n (one_bit number.0)) (λ n after. (after.1 ≡ carried) × TellsDrawn v number (is_set n number.0) after.0)
+pub draw_allowed : (l : Limits) (slots id : ℕ) (v : View) (carried : List (ℕ × Unit {0})) (number : CallerNo)
+    → number.0 < 64 → v.spent ≡ false → IsCaller l number
+    → Allows (IsKept l) slots id (v, carried) 0 (λ n. bit_or n (one_bit number.0))
+    (λ n after. (after.1 ≡ carried) × TellsDrawn v number (is_set n number.0) after.0)
 unfolding May
-draw_allowed l slots id v carried number below unspent is_caller s kept homes at fits = may_draw l s kept id v at unspent number below is_caller carried
+draw_allowed l slots id v carried number below unspent is_caller s kept homes at fits =
+    may_draw l s kept id v at unspent number below is_caller carried
 
 -- ---- what follows from what is told
 
-pub draws_undrawn : (w : Words) (p q : Pass) (number : CallerNo) → number.0 < 64 → IsCaller w.limits number → IsPassOf w p → q.seat.table_id ≡ p.seat.table_id
+pub draws_undrawn : (w : Words) (p q : Pass) (number : CallerNo) → number.0 < 64 → IsCaller w.limits number
+    → IsPassOf w p → q.seat.table_id ≡ p.seat.table_id
     → TellsDrawn (view_of p) number false (view_of q) → Draws w p q number false
 draws_undrawn w p q number below is_caller pass table adds =
     let e : Event = event_of number (DrawBit number false) in
     let clause : HistoryClause w.limits (Holds p) number (DrawBit number false ∷ []) (seen p) (seen q) =
     subst (λ l. HistoryClause l (Holds p) number (DrawBit number false ∷ []) (seen p) (seen q)) pass.limits
-    (history_clause (view_of p) (bit_or (numbers_of p) (one_bit number.0)) number (DrawBit number false) (view_of q) adds) in
+    (history_clause (view_of p) (bit_or (numbers_of p) (one_bit number.0)) number (DrawBit number false)
+    (view_of q) adds) in
     let numbers : numbers_of q ≡ bit_or (numbers_of p) (one_bit number.0) = ap (λ x. x.numbers) adds.after in
-    let which : (n : CallerNo) → Holds q n → (n.0 ≡ number.0) ⊎ Holds p n = λ n has. more_has (numbers_of p) number.0 n.0 below (subst (λ (k : ℕ). HasBit k n.0) numbers has) in
+    let which : (n : CallerNo) → Holds q n
+    → (n.0 ≡ number.0)
+    ⊎ Holds p n = λ n has. more_has (numbers_of p) number.0 n.0 below
+    (subst (λ (k : ℕ). HasBit k n.0) numbers has) in
     record {
       pass = record {
         table = table ∙ pass.table;
         limits = ap (λ x. x.limits) adds.after ∙ pass.limits;
         legal = clause.legal;
-        callers = λ n has. elim (which n has) [ inl same ↦ subst (λ (k : ℕ). k < w.limits.callers) (sym same) is_caller | inr old ↦ pass.callers n old ];
+        callers = λ n has. elim (which n has) [
+          | inl same ↦ subst (λ (k : ℕ). k < w.limits.callers) (sym same) is_caller
+          | inr old ↦ pass.callers n old
+        ];
       };
       clause = clause;
-      keeps = λ n has. subst (λ (k : ℕ). HasBit k n.0) (sym numbers) (left_has (numbers_of p) (one_bit number.0) n.0 has);
+      keeps = λ n has. subst (λ (k : ℕ). HasBit k n.0) (sym numbers)
+          (left_has (numbers_of p) (one_bit number.0) n.0 has);
       holds = λ _. subst (λ (k : ℕ). HasBit k number.0) (sym numbers) (new_has (numbers_of p) number.0 below);
-      others = λ n has other. elim (which n has) [ inl same ↦ absurd (other (same_number n number same)) | inr old ↦ old ];
+      others = λ n has other. elim (which n has) [
+        | inl same ↦ absurd (other (same_number n number same))
+        | inr old ↦ old
+      ];
       same = λ clash. absurd cc;
-      only = λ alone. (ap (λ x. x.alone) adds.after ∙ alone, ap (λ x. x.seen) adds.after ∙ ap (λ es. es ++ e ∷ []) (adds.whole alone));
+      only = λ alone. (
+        ap (λ x. x.alone) adds.after ∙ alone,
+        ap (λ x. x.seen) adds.after
+            ∙ ap (λ es. es ++ e ∷ []) (adds.whole alone),
+      );
     }
 
 pub draws_drawn : (w : Words) (p q : Pass) (number : CallerNo) → IsPassOf w p → q.seat.table_id ≡ p.seat.table_id
@@ -187,7 +228,8 @@ draws_drawn w p q number pass table told =
     let looks = told.0 in
     let sight : seen q ≡ looks.past = ap (λ x. x.seen) looks.after in
     let numbers : numbers_of q ≡ numbers_of p = ap (λ x. x.numbers) looks.after in
-    let legal : IsLegal w.limits (seen q) = subst (IsLegal w.limits) (sym sight) (subst (λ l. IsLegal l looks.past) pass.limits looks.legal) in
+    let legal : IsLegal w.limits (seen q) = subst (IsLegal w.limits) (sym sight)
+    (subst (λ l. IsLegal l looks.past) pass.limits looks.legal) in
     record {
       pass = record {
         table = table ∙ pass.table;

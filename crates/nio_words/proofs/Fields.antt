@@ -1,5 +1,6 @@
 -- Fields of a word: reading a bit, setting and clearing it, and exchanging a word that is 0.
-use Rattle.std.proofs.Common.{◌≡◌, ◌≢◌, ℕ, ◌+◌, ◌-◌, ◌*◌, ◌/◌, ◌%◌, ◌^◌, ◌<◌, ◌==◌, Bool, true, false, if◌then◌else◌, Option, Some, None, refl, ap, ◌∙◌, arith, ne_eqb}
+use Rattle.std.proofs.Common.{◌≡◌, ◌≢◌, ℕ, ◌+◌, ◌-◌, ◌*◌, ◌/◌, ◌%◌, ◌^◌, ◌<◌, ◌==◌, Bool, true, false, if◌then◌else◌}
+use Rattle.std.proofs.Common.{Option, Some, None, refl, ap, ◌∙◌, arith, ne_eqb}
 use Rattle.std.specs.Prelude.{bit_and, bit_or}
 use Rattle.std.proofs.lemmas.Nat.{pow_pos, or_comm, or_block, and_block, and_mask}
 use prog.Atomic.{either}
@@ -30,22 +31,27 @@ sets_low hi true = or_block 1 hi 0 1 1 (omega arith) (omega arith) ∙ ap (λ (n
 sets_low hi false = or_block 1 hi 0 0 1 (omega arith) (omega arith) ∙ ap (λ (n : ℕ). n * 2 + 1) (or_comm hi 0)
 
 -- a bit is set, and the others are as they were
-pub sets : (k hi lo : ℕ) (b : Bool) → lo < 2 ^ k → bit_or ((hi * 2 + bit b) * 2 ^ k + lo) (1 * 2 ^ k + 0) ≡ (hi * 2 + 1) * 2 ^ k + lo
+pub sets : (k hi lo : ℕ) (b : Bool) → lo < 2 ^ k
+    → bit_or ((hi * 2 + bit b) * 2 ^ k + lo) (1 * 2 ^ k + 0) ≡ (hi * 2 + 1) * 2 ^ k + lo
 sets k hi lo b small =
     or_block k (hi * 2 + bit b) 1 lo 0 small (pow_pos k)
-    ∙ (ap (λ (n : ℕ). n * 2 ^ k + bit_or lo 0) (sets_low hi b) ∙ ap (λ (n : ℕ). (hi * 2 + 1) * 2 ^ k + n) (or_comm lo 0))
+    ∙ (ap (λ (n : ℕ). n * 2 ^ k + bit_or lo 0) (sets_low hi b)
+    ∙ ap (λ (n : ℕ). (hi * 2 + 1) * 2 ^ k + n) (or_comm lo 0))
 
 -- the highest bit is cleared by what has none of it, and the others are as they were
-pub clears_top : (k top lo : ℕ) (b : Bool) → lo < 2 ^ k → lo % 2 ^ k ≡ lo → bit_and (bit b) top ≡ 0 → bit_and (bit b * 2 ^ k + lo) (top * 2 ^ k + (2 ^ k - 1)) ≡ lo
+pub clears_top : (k top lo : ℕ) (b : Bool) → lo < 2 ^ k → lo % 2 ^ k ≡ lo → bit_and (bit b) top ≡ 0
+    → bit_and (bit b * 2 ^ k + lo) (top * 2 ^ k + (2 ^ k - 1)) ≡ lo
 clears_top k top lo b small same none_of =
     and_block k (bit b) top lo (2 ^ k - 1) small (let positive = pow_pos k in omega arith)
-    ∙ (ap (λ (n : ℕ). n * 2 ^ k + bit_and lo (2 ^ k - 1)) none_of ∙ (no_block (bit_and lo (2 ^ k - 1)) ∙ (and_mask lo k ∙ same)))
+    ∙ (ap (λ (n : ℕ). n * 2 ^ k + bit_and lo (2 ^ k - 1)) none_of
+    ∙ (no_block (bit_and lo (2 ^ k - 1)) ∙ (and_mask lo k ∙ same)))
   where
     no_block : (n : ℕ) → 0 * 2 ^ k + n ≡ n
     no_block n = omega arith
 
 -- an exchange of 0 for a new word puts it there where 0 stands there, and else changes nothing
-pub exchanges : (w new : ℕ) (was : Bool) → (was ≡ true → w ≢ 0) → (was ≡ false → w ≡ 0) → applied (Exchange 0 new) w ≡ (if was then w else new)
+pub exchanges : (w new : ℕ) (was : Bool) → (was ≡ true → w ≢ 0) → (was ≡ false → w ≡ 0)
+    → applied (Exchange 0 new) w ≡ (if was then w else new)
 exchanges w new true there bare = ap (λ b. either b new w) (ne_eqb w 0 (there refl))
 exchanges w new false there bare = ap (λ (n : ℕ). applied (Exchange 0 new) n) (bare refl)
 
@@ -72,12 +78,14 @@ reads_noted None fits = refl
 reads_noted (Some k) fits =
     let index : number_of (noted_word (Some k) - 1) ≡ k.index = omega arith in
     let serial : noted_word (Some k) / 2 ^ 32 ≡ k.serial = omega arith in
-    ap (λ b. if b then None else Some (record { index = number_of (noted_word (Some k) - 1); serial = noted_word (Some k) / 2 ^ 32 }))
+    ap (λ b. if b then None
+    else Some (record { index = number_of (noted_word (Some k) - 1); serial = noted_word (Some k) / 2 ^ 32 }))
     (ne_eqb (noted_word (Some k)) 0 (λ e. omega arith))
     ∙ (λ j. Some (record { index = index j; serial = serial j }))
 
 -- the exchange takes the hold or the turn where nobody has it
-pub takes : (me : CallerNo) (o : Option CallerNo) → applied (Exchange 0 (holder_word (Some me))) (holder_word o) ≡ holder_word (taken_by me o)
+pub takes : (me : CallerNo) (o : Option CallerNo)
+    → applied (Exchange 0 (holder_word (Some me))) (holder_word o) ≡ holder_word (taken_by me o)
 takes me None = refl
 takes me (Some n) = exchanges (n.0 + 1) (me.0 + 1) true (λ _ e. omega arith) (λ e. absurd cc)
 

@@ -1,5 +1,6 @@
 -- Each step of the worked history takes a pass that follows it one event further.
-use Rattle.std.proofs.Common.{◌≡◌, ℕ, false, zero, suc, ◌+◌, ◌<◌, List, [], ◌∷◌, ◌++◌, take, drop, length, get_or, refl, ap, sym, ◌∙◌, subst, arith}
+use Rattle.std.proofs.Common.{◌≡◌, ℕ, false, zero, suc, ◌+◌, ◌<◌, List, [], ◌∷◌, ◌++◌, take, drop, length, get_or, refl}
+use Rattle.std.proofs.Common.{ap, sym, ◌∙◌, subst, arith}
 use Rattle.std.proofs.Math.ListN.{get_or-map}
 use Rattle.std.proofs.Math.Seq.{take-suc, drop-cons}
 use Rattle.std.proofs.lemmas.List.{length-map, get_or-take, get_or-drop, length-take, length-drop, take-append-drop}
@@ -24,13 +25,16 @@ pub record IsAt (count : ℕ) (e : Event) : Type 0 where
   pub below : count < length worked_history
   pub is : get_or worked_history count e ≡ e
 
-at : (from i : ℕ) (steps : List (CallerNo × Act)) (x : CallerNo × Act) → IsPart from steps → i < length steps → get_or steps i x ≡ x → IsAt (from + i) (event_of x.0 x.1)
+at : (from i : ℕ) (steps : List (CallerNo × Act)) (x : CallerNo × Act) → IsPart from steps → i < length steps
+    → get_or steps i x ≡ x → IsAt (from + i) (event_of x.0 x.1)
 at from i steps x part below is =
     let few = ap length part ∙ length-take (length steps) (drop from worked_steps) in
     let left = length-drop from worked_steps in
     let whole = length-map worked_history step_of in
     let step : get_or worked_steps (from + i) x ≡ x =
-    sym (get_or-drop from worked_steps i x) ∙ (sym (get_or-take (length steps) (drop from worked_steps) i x below) ∙ (ap (λ xs. get_or xs i x) (sym part) ∙ is)) in
+    sym (get_or-drop from worked_steps i x)
+    ∙ (sym (get_or-take (length steps) (drop from worked_steps) i x below)
+    ∙ (ap (λ xs. get_or xs i x) (sym part) ∙ is)) in
     let pair : step_of (get_or worked_history (from + i) (event_of x.0 x.1)) ≡ x =
     sym (get_or-map step_of worked_history (from + i) (event_of x.0 x.1)) ∙ step in
     record {
@@ -42,12 +46,16 @@ at from i steps x part below is =
 worked_step : (count : ℕ) (e : Event) → IsAt count e → IsStep small_limits (take count worked_history) e
 worked_step count e here =
     worked_history_is_legal.steps (take count worked_history) e (drop (suc count) worked_history)
-    (sym (take-append-drop count worked_history) ∙ ap (λ es. take count worked_history ++ es) (drop-cons worked_history count e here.below ∙ ap (λ x. x ∷ drop (suc count) worked_history) here.is))
+    (sym (take-append-drop count worked_history)
+    ∙ ap (λ es. take count worked_history ++ es)
+    (drop-cons worked_history count e here.below ∙ ap (λ x. x ∷ drop (suc count) worked_history) here.is))
 
 same_count : (n : ℕ) → suc n ≡ n + 1
 same_count n = omega arith
 
-module _ (w : Words) (p : Pass) (from i : ℕ) (steps : List (CallerNo × Act)) (x : CallerNo × Act) (follows : Follows w (from + i) p) (part : IsPart from steps) (below : i < length steps) (is : get_or steps i x ≡ x) where
+module _ (w : Words) (p : Pass) (from i : ℕ) (steps : List (CallerNo × Act)) (x : CallerNo × Act)
+    (follows : Follows w (from + i) p) (part : IsPart from steps) (below : i < length steps)
+    (is : get_or steps i x ≡ x) where
   here : IsAt (from + i) (event_of x.0 x.1)
   here = at from i steps x part below is
 
@@ -71,18 +79,22 @@ module _ (w : Words) (p : Pass) (from i : ℕ) (steps : List (CallerNo × Act)) 
   follows_on q steps' =
       let grown = steps'.only follows.only in
       let one_more : take (suc (from + i)) worked_history ≡ take (from + i) worked_history ++ event_of x.0 x.1 ∷ [] =
-      take-suc worked_history (from + i) (event_of x.0 x.1) here.below ∙ ap (λ e. take (from + i) worked_history ++ e ∷ []) here.is in
+      take-suc worked_history (from + i) (event_of x.0 x.1) here.below
+      ∙ ap (λ e. take (from + i) worked_history ++ e ∷ []) here.is in
       record {
         pass = steps'.pass;
         limits = follows.limits;
         first = subst (λ (k : ℕ). HasBit k 0) (sym steps'.numbers) follows.first;
         second = subst (λ (k : ℕ). HasBit k 1) (sym steps'.numbers) follows.second;
         only = grown.0;
-        seen = grown.1 ∙ (ap (λ es. es ++ event_of x.0 x.1 ∷ []) follows.seen ∙ (sym one_more ∙ ap (λ (n : ℕ). take n worked_history) (same_count (from + i))));
+        seen = grown.1
+            ∙ (ap (λ es. es ++ event_of x.0 x.1 ∷ []) follows.seen
+            ∙ (sym one_more ∙ ap (λ (n : ℕ). take n worked_history) (same_count (from + i))));
       }
 
 -- after both callers are drawn, the table's first pass follows the worked history
-pub draws_follow : (w : Words) (p q r : Pass) → limits_of w ≡ small_limits → IsFirstPass w p → Draws w p q u false → Draws w q r v false → Follows w 2 r
+pub draws_follow : (w : Words) (p q r : Pass) → limits_of w ≡ small_limits → IsFirstPass w p → Draws w p q u false
+    → Draws w q r v false → Follows w 2 r
 draws_follow w p q r limits made first second =
     let one = first.only made.only in
     let two = second.only one.0 in
@@ -92,5 +104,7 @@ draws_follow w p q r limits made first second =
       first = second.keeps u (first.holds refl);
       second = second.holds refl;
       only = two.0;
-      seen = two.1 ∙ ap (λ es. es ++ event_of v (DrawBit v false) ∷ []) (one.1 ∙ ap (λ es. es ++ event_of u (DrawBit u false) ∷ []) made.unseen);
+      seen = two.1
+          ∙ ap (λ es. es ++ event_of v (DrawBit v false) ∷ [])
+          (one.1 ∙ ap (λ es. es ++ event_of u (DrawBit u false) ∷ []) made.unseen);
     }

@@ -1,5 +1,6 @@
 -- The kinds of step on a word of free indexes do to it what they do to the free indexes.
-use Rattle.std.proofs.Common.{◌≡◌, ◌≢◌, ℕ, ◌+◌, ◌*◌, ◌/◌, ◌%◌, ◌<◌, ◌==◌, Bool, true, false, cond, ◌&&◌, refl, ap, sym, ◌∙◌, arith, eqb-true, eq-eqb, ne_eqb}
+use Rattle.std.proofs.Common.{◌≡◌, ◌≢◌, ℕ, ◌+◌, ◌*◌, ◌/◌, ◌%◌, ◌<◌, ◌==◌, Bool, true, false, cond, ◌&&◌, refl, ap, sym}
+use Rattle.std.proofs.Common.{◌∙◌, arith, eqb-true, eq-eqb, ne_eqb}
 use Rattle.std.specs.Int.{bit_not, w64}
 use Rattle.std.proofs.lemmas.Bool.{eqb-false, and_from}
 use Rattle.std.proofs.lemmas.Nat.{or_lt, and_le_l}
@@ -28,21 +29,26 @@ one_changed : (free : ℕ → ℕ → Bool) (s i : ℕ) (x : Bool) (b : ℕ) →
     → put (λ b'. free s (64 * (i / 64) + b')) (i % 64) x b ≡ put_at free s i x s (64 * (i / 64) + b)
 one_changed free s i x b below = by_test (b == i % 64) refl
   where
-    by_test : (t : Bool) → (b == i % 64) ≡ t → cond t x (free s (64 * (i / 64) + b)) ≡ put_at free s i x s (64 * (i / 64) + b)
+    by_test : (t : Bool) → (b == i % 64) ≡ t
+        → cond t x (free s (64 * (i / 64) + b)) ≡ put_at free s i x s (64 * (i / 64) + b)
     by_test true e =
         let same : b ≡ i % 64 = eqb-true b (i % 64) e in
         let here : 64 * (i / 64) + b ≡ i = omega arith in
-        ap (λ t. cond t x (free s (64 * (i / 64) + b))) (sym (and_from (s == s) (64 * (i / 64) + b == i) (eq-eqb s s refl) (eq-eqb (64 * (i / 64) + b) i here)))
+        ap (λ t. cond t x (free s (64 * (i / 64) + b)))
+        (sym (and_from (s == s) (64 * (i / 64) + b == i) (eq-eqb s s refl) (eq-eqb (64 * (i / 64) + b) i here)))
     by_test false e =
         let ne : b ≢ i % 64 = eqb-false b (i % 64) e in
         let other : 64 * (i / 64) + b ≢ i = λ here. ne (omega arith) in
-        ap (λ t. cond t x (free s (64 * (i / 64) + b))) (sym (ap (λ t. t && (64 * (i / 64) + b == i)) (eq-eqb s s refl) ∙ ne_eqb (64 * (i / 64) + b) i other))
+        ap (λ t. cond t x (free s (64 * (i / 64) + b)))
+        (sym (ap (λ t. t && (64 * (i / 64) + b == i)) (eq-eqb s s refl) ∙ ne_eqb (64 * (i / 64) + b) i other))
 
 word_changed : (free : ℕ → ℕ → Bool) (s i : ℕ) (x : Bool)
-    → bits_below 64 (put (λ b. free s (64 * (i / 64) + b)) (i % 64) x) ≡ bits_below 64 (λ b. put_at free s i x s (64 * (i / 64) + b))
+    → bits_below 64 (put (λ b. free s (64 * (i / 64) + b)) (i % 64) x)
+    ≡ bits_below 64 (λ b. put_at free s i x s (64 * (i / 64) + b))
 word_changed free s i x = bits_below-same 64 _ _ (one_changed free s i x)
 
-pub look_free_moves : (l : Limits) (me : CallerNo) (s : SelNo) (j : ℕ) → IsSelector l s → 64 * j < l.keys → Moves l me (Free s.0 j) Load (λ n. LookFree s j n)
+pub look_free_moves : (l : Limits) (me : CallerNo) (s : SelNo) (j : ℕ) → IsSelector l s → 64 * j < l.keys
+    → Moves l me (Free s.0 j) Load (λ n. LookFree s j n)
 look_free_moves l me s j is_selector below = record {
   within = (is_selector, omega arith);
   bit = tt;
@@ -53,24 +59,29 @@ look_free_moves l me s j is_selector below = record {
   answers = λ st now. refl;
 }
 
-pub put_free_moves : (l : Limits) (me : CallerNo) (s : SelNo) (i : ℕ) → IsKey l s i → Moves l me (Free s.0 (i / 64)) (SetBit (i % 64)) (λ n. PutFree s i)
+pub put_free_moves : (l : Limits) (me : CallerNo) (s : SelNo) (i : ℕ) → IsKey l s i
+    → Moves l me (Free s.0 (i / 64)) (SetBit (i % 64)) (λ n. PutFree s i)
 put_free_moves l me s i is_key = record {
   within = (is_key.0, word_within l i is_key.1);
   bit = omega arith;
   part = λ n. refl;
-  word = λ st now. sets_bit (λ b. st.free s.0 (64 * (i / 64) + b)) (i % 64) (omega arith) ∙ word_changed st.free s.0 i true;
+  word = λ st now. sets_bit (λ b. st.free s.0 (64 * (i / 64) + b)) (i % 64) (omega arith)
+      ∙ word_changed st.free s.0 i true;
   small = λ n small. or_lt 64 n (one_bit (i % 64)) small (one_bit-lt (i % 64));
   proper = λ st now. tt;
   answers = λ st now. refl;
 }
 
-pub take_free_moves : (l : Limits) (me : CallerNo) (s : SelNo) (i : ℕ) → IsKey l s i → Moves l me (Free s.0 (i / 64)) (ClearBit (i % 64)) (λ n. TakeFree s i (is_set n (i % 64)))
+pub take_free_moves : (l : Limits) (me : CallerNo) (s : SelNo) (i : ℕ) → IsKey l s i
+    → Moves l me (Free s.0 (i / 64)) (ClearBit (i % 64)) (λ n. TakeFree s i (is_set n (i % 64)))
 take_free_moves l me s i is_key = record {
   within = (is_key.0, word_within l i is_key.1);
   bit = omega arith;
   part = λ n. refl;
-  word = λ st now. clears_bit (λ b. st.free s.0 (64 * (i / 64) + b)) (i % 64) (omega arith) ∙ word_changed st.free s.0 i false;
+  word = λ st now. clears_bit (λ b. st.free s.0 (64 * (i / 64) + b)) (i % 64) (omega arith)
+      ∙ word_changed st.free s.0 i false;
   small = λ n small. let less = and_le_l n (bit_not w64 (one_bit (i % 64))) in omega arith;
   proper = λ st now. tt;
-  answers = λ st now. ap flag (reads_bit (λ b. st.free s.0 (64 * (i / 64) + b)) (i % 64) (omega arith) ∙ ap (st.free s.0) (omega arith));
+  answers = λ st now. ap flag (reads_bit (λ b. st.free s.0 (64 * (i / 64) + b)) (i % 64) (omega arith)
+      ∙ ap (st.free s.0) (omega arith));
 }

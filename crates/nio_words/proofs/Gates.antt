@@ -50,18 +50,21 @@ reads_shut false false = refl
 reads_gate : (g : GateWord) → gate_of (gate_word g) ≡ g
 reads_gate g = λ k. record { woken = reads_woken g.woken g.shut k; shut = reads_shut g.woken g.shut k }
 
-pub wake_moves : (l : Limits) (me : CallerNo) (s : SelNo) → IsSelector l s → Moves l me (Gate s.0) (SetBit 0) (λ n. Wake s (is_set n 0))
+pub wake_moves : (l : Limits) (me : CallerNo) (s : SelNo) → IsSelector l s
+    → Moves l me (Gate s.0) (SetBit 0) (λ n. Wake s (is_set n 0))
 wake_moves l me s below = record {
   within = below;
   bit = omega arith;
   part = λ n. refl;
-  word = λ st now. sets_woken (st.gate s.0).woken (st.gate s.0).shut ∙ ap gate_word (sym (put-same st.gate s.0 (record (st.gate s.0) { woken = true })));
+  word = λ st now. sets_woken (st.gate s.0).woken (st.gate s.0).shut
+      ∙ ap gate_word (sym (put-same st.gate s.0 (record (st.gate s.0) { woken = true })));
   small = λ n small. or_lt 2 n 1 small (omega arith);
   proper = λ st now. tt;
   answers = λ st now. ap flag (reads_woken (st.gate s.0).woken (st.gate s.0).shut);
 }
 
-pub look_gate_moves : (l : Limits) (me : CallerNo) (s : SelNo) → IsSelector l s → Moves l me (Gate s.0) Load (λ n. LookGate s (gate_of n))
+pub look_gate_moves : (l : Limits) (me : CallerNo) (s : SelNo) → IsSelector l s
+    → Moves l me (Gate s.0) Load (λ n. LookGate s (gate_of n))
 look_gate_moves l me s below = record {
   within = below;
   bit = tt;
@@ -72,7 +75,8 @@ look_gate_moves l me s below = record {
   answers = λ st now. ap found_gate (reads_gate (st.gate s.0));
 }
 
-pub begin_look_moves : (l : Limits) (me : CallerNo) (s : SelNo) → IsSelector l s → Moves l me (Gate s.0) Load (λ n. BeginLook s (gate_of n))
+pub begin_look_moves : (l : Limits) (me : CallerNo) (s : SelNo) → IsSelector l s
+    → Moves l me (Gate s.0) Load (λ n. BeginLook s (gate_of n))
 begin_look_moves l me s below = record {
   within = below;
   bit = tt;
@@ -83,23 +87,27 @@ begin_look_moves l me s below = record {
   answers = λ st now. ap found_gate (reads_gate (st.gate s.0));
 }
 
-pub end_wake_moves : (l : Limits) (me : CallerNo) (s : SelNo) → IsSelector l s → Moves l me (Gate s.0) (ClearBit 0) (λ n. EndWake s (gate_of n))
+pub end_wake_moves : (l : Limits) (me : CallerNo) (s : SelNo) → IsSelector l s
+    → Moves l me (Gate s.0) (ClearBit 0) (λ n. EndWake s (gate_of n))
 end_wake_moves l me s below = record {
   within = below;
   bit = omega arith;
   part = λ n. refl;
-  word = λ st now. clears_woken (st.gate s.0).woken (st.gate s.0).shut ∙ ap gate_word (sym (put-same st.gate s.0 (record (st.gate s.0) { woken = false })));
+  word = λ st now. clears_woken (st.gate s.0).woken (st.gate s.0).shut
+      ∙ ap gate_word (sym (put-same st.gate s.0 (record (st.gate s.0) { woken = false })));
   small = λ n small. let less = and_le_l n (bit_not w64 1) in omega arith;
   proper = λ st now. tt;
   answers = λ st now. ap found_gate (reads_gate (st.gate s.0));
 }
 
-pub shut_bit_moves : (l : Limits) (me : CallerNo) (s : SelNo) → IsSelector l s → Moves l me (Gate s.0) (SetBit 1) (λ n. ShutBit s (is_set n 1))
+pub shut_bit_moves : (l : Limits) (me : CallerNo) (s : SelNo) → IsSelector l s
+    → Moves l me (Gate s.0) (SetBit 1) (λ n. ShutBit s (is_set n 1))
 shut_bit_moves l me s below = record {
   within = below;
   bit = omega arith;
   part = λ n. refl;
-  word = λ st now. sets_shut (st.gate s.0).woken (st.gate s.0).shut ∙ ap gate_word (sym (put-same st.gate s.0 (record (st.gate s.0) { shut = true })));
+  word = λ st now. sets_shut (st.gate s.0).woken (st.gate s.0).shut
+      ∙ ap gate_word (sym (put-same st.gate s.0 (record (st.gate s.0) { shut = true })));
   small = λ n small. or_lt 2 n 2 small (omega arith);
   proper = λ st now. tt;
   answers = λ st now. ap flag (reads_shut (st.gate s.0).woken (st.gate s.0).shut);

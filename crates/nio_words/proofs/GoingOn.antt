@@ -22,7 +22,10 @@ use Rattle.nio_event.specs.State.{State}
 use Rattle.nio_event.specs.declared.act.Act.{Act}
 use Rattle.nio_event.specs.declared.event.Event.{Event}
 use Rattle.nio_words.proofs.Beginnings.{prefix_trans, mine-append}
-use Rattle.nio_words.specs.Laws.{IsLater, GoesOn, KeepsBetween, CallsGoOn, DrawsGoOn, SplitsGoOn, JoinsGoOn, GoingOnChains, HistoriesGoOn, FactsStand, InvalidKeysStand, OwnStands, PinnedKeysStand, ModeStands, NotedStands, FoundNotedStands, OutsideStands, FoundClearStands, SelectsAlone, KeySetStands, SelectedKeysStand, MarksStand, WakeupStands}
+use Rattle.nio_words.specs.Laws.{IsLater, GoesOn, KeepsBetween, CallsGoOn, DrawsGoOn, SplitsGoOn, JoinsGoOn}
+use Rattle.nio_words.specs.Laws.{GoingOnChains, HistoriesGoOn, FactsStand, InvalidKeysStand, OwnStands, PinnedKeysStand}
+use Rattle.nio_words.specs.Laws.{ModeStands, NotedStands, FoundNotedStands, OutsideStands, FoundClearStands}
+use Rattle.nio_words.specs.Laws.{SelectsAlone, KeySetStands, SelectedKeysStand, MarksStand, WakeupStands}
 use Rattle.nio_words.specs.Passes.{seen, state_seen, acts_seen, IsPassOf}
 use Rattle.nio_words.specs.declared.words.Pass.{Pass}
 use Rattle.nio_words.specs.declared.words.Words.{Words}
@@ -39,16 +42,19 @@ draws_go_on w p q number true pass draws n held other = record {
   later = record { earlier_pass = pass; later_pass = draws.pass; begins = draws.clause.goes_on };
   own = draws.clause.own n held ∙ sym (append-nil (acts_seen p n));
 }
-draws_go_on w p q number false pass draws n held other = (calls_go_on w p q number _ pass draws.pass draws.clause).1 n held other
+draws_go_on w p q number false pass draws n held other =
+    (calls_go_on w p q number _ pass draws.pass draws.clause).1 n held other
 
-sees_on : (w : Words) (before after : Pass) → IsPassOf w before → IsPassOf w after → seen after ≡ seen before → (n : CallerNo) → GoesOn w n [] before after
+sees_on : (w : Words) (before after : Pass) → IsPassOf w before → IsPassOf w after → seen after ≡ seen before
+    → (n : CallerNo) → GoesOn w n [] before after
 sees_on w before after pass later_pass same n = record {
   later = record { earlier_pass = pass; later_pass = later_pass; begins = ([], append-nil (seen before) ∙ sym same) };
   own = ap (mine n) same ∙ sym (append-nil (acts_seen before n));
 }
 
 pub splits_go_on : SplitsGoOn
-splits_go_on w before after given pass sees n = (sees_on w before after pass sees.pass sees.sight n, sees_on w before given pass sees.given_pass sees.given_sight n)
+splits_go_on w before after given pass sees n =
+    (sees_on w before after pass sees.pass sees.sight n, sees_on w before given pass sees.given_pass sees.given_sight n)
 
 pub joins_go_on : JoinsGoOn
 joins_go_on w before other after pass other_pass joins n = (
@@ -78,7 +84,8 @@ histories_go_on w me what acts before after keeps =
     let later : List Event = go.later.begins.0 in
     let parts : seen before ++ later ≡ seen after = go.later.begins.1 in
     let own : mine me later ≡ acts =
-    append_cancel_left (acts_seen before me) (mine me later) acts (sym (mine-append me (seen before) later) ∙ (ap (mine me) parts ∙ go.own)) in
+    append_cancel_left (acts_seen before me) (mine me later) acts
+    (sym (mine-append me (seen before) later) ∙ (ap (mine me) parts ∙ go.own)) in
     record {
       later = later;
       parts = parts;
@@ -93,30 +100,38 @@ histories_go_on w me what acts before after keeps =
 -- ---- what is permanent, and what a caller has
 
 pub facts_stand : FactsStand
-facts_stand w before after later f here = facts_are_permanent w.limits (seen before) (seen after) later.begins later.later_pass.legal f here
+facts_stand w before after later f here =
+    facts_are_permanent w.limits (seen before) (seen after) later.begins later.later_pass.legal f here
 
 pub invalid_keys_stand : InvalidKeysStand
-invalid_keys_stand w before after later s k = invalid_keys_stay_invalid w.limits (seen before) (seen after) later.begins later.later_pass.legal s.0 k.index k.serial
+invalid_keys_stand w before after later s k =
+    invalid_keys_stay_invalid w.limits (seen before) (seen after) later.begins later.later_pass.legal s.0 k.index
+    k.serial
 
 pub own_stands : OwnStands
 own_stands w me what acts before after keeps =
     let there = histories_go_on w me what acts before after keeps in
     subst (λ es. is_had_by me what (state_after es) ≡ true) there.parts
-    (only_itself_gives_back w.limits me (seen before) there.later there.keeps.legal what there.keeps.kept there.keeps.has_it)
+    (only_itself_gives_back w.limits me (seen before) there.later there.keeps.legal what there.keeps.kept
+    there.keeps.has_it)
 
 pub pinned_keys_stand : PinnedKeysStand
 pinned_keys_stand w me s i acts before after keeps =
     let there = histories_go_on w me _ acts before after keeps in
     subst (λ es. IsSameKey ((state_seen before).key s.0 i) ((state_after es).key s.0 i)) there.parts
-    (pinned_keys_stay w.limits me s i (seen before) there.later w.fit there.keeps.legal there.keeps.has_it there.keeps.kept)
+    (pinned_keys_stay w.limits me s i (seen before) there.later w.fit there.keeps.legal there.keeps.has_it
+    there.keeps.kept)
 
 -- of two lists of acts of which none is such, none of the first is
-has-append : (p : Act → Bool) (first second : List Act) → has p (first ++ second) ≡ false → (has p first ≡ false) × (has p second ≡ false)
-has-append p first second nowhere = or_parts (has p first) (has p second) (sym (list_any-append p first second) ∙ nowhere)
+has-append : (p : Act → Bool) (first second : List Act) → has p (first ++ second) ≡ false
+    → (has p first ≡ false) × (has p second ≡ false)
+has-append p first second nowhere =
+    or_parts (has p first) (has p second) (sym (list_any-append p first second) ∙ nowhere)
 
 -- ---- what a law of histories says of what was seen in between, it says of the passes
 
-module _ {w : Words} {me : CallerNo} {what : OwnFact} {acts : List Act} {before after : Pass} (there : KeepsBetween w me what acts before after) where
+module _ {w : Words} {me : CallerNo} {what : OwnFact} {acts : List Act} {before after : Pass}
+    (there : KeepsBetween w me what acts before after) where
   -- acts of which none is such
   none_such : (p : Act → Bool) → has p acts ≡ false → has p (mine me there.later) ≡ false
   none_such p nowhere = ap (has p) there.own ∙ nowhere
@@ -141,13 +156,16 @@ pub found_noted_stands : FoundNotedStands
 found_noted_stands w me c acts before after keeps s noted found =
     let there = histories_go_on w me _ acts before after keeps in
     at_last there (λ st. st.noted c.0 s.0 ≡ noted)
-    (found_noted_stays w.limits me c (seen before) there.later there.keeps s noted (ap (last (noted_found c.0 s.0)) there.own ∙ found))
+    (found_noted_stays w.limits me c (seen before) there.later there.keeps s noted
+    (ap (last (noted_found c.0 s.0)) there.own ∙ found))
 
 pub outside_stands : OutsideStands
 outside_stands w me c acts before after keeps s k spared =
     let there = histories_go_on w me _ acts before after keeps in
-    λ was of_channel. at_last there (λ st. (st.key s.0 k.index).chan ≡ c → is_in_key_set (st.key s.0 k.index) k.serial ≡ false)
-    (outside_stays w.limits me c (seen before) there.later w.fit there.keeps s k (none_such there _ spared) was) of_channel
+    λ was of_channel. at_last there (λ st. (st.key s.0 k.index).chan ≡ c
+    → is_in_key_set (st.key s.0 k.index) k.serial ≡ false)
+    (outside_stays w.limits me c (seen before) there.later w.fit there.keeps s k (none_such there _ spared) was)
+    of_channel
 
 pub found_clear_stands : FoundClearStands
 found_clear_stands w me c acts before after keeps s clear =
@@ -159,12 +177,16 @@ found_clear_stands w me c acts before after keeps s clear =
 pub selects_alone : SelectsAlone
 selects_alone w me s acts before after keeps between e rest parts on =
     let there = histories_go_on w me (a_selection s) acts before after keeps in
-    let is : there.later ≡ between ++ e ∷ rest = append_cancel_left (seen before) there.later (between ++ e ∷ rest) (there.parts ∙ parts) in
+    let is : there.later ≡ between ++ e ∷ rest = append_cancel_left (seen before) there.later (between ++ e ∷ rest)
+    (there.parts ∙ parts) in
     let whole : there.later ≡ (between ++ e ∷ []) ++ rest = is ∙ sym (append_assoc between (e ∷ []) rest) in
     let legal : IsLegal w.limits ((seen before ++ (between ++ e ∷ [])) ++ rest) =
-    subst (IsLegal w.limits) (ap (λ es. seen before ++ es) whole ∙ sym (append_assoc (seen before) (between ++ e ∷ []) rest)) there.keeps.legal in
+    subst (IsLegal w.limits)
+    (ap (λ es. seen before ++ es) whole ∙ sym (append_assoc (seen before) (between ++ e ∷ []) rest))
+    there.keeps.legal in
     let kept : has (gives_back (a_selection s)) (mine me (between ++ e ∷ []) ++ mine me rest) ≡ false =
-    subst (λ own. has (gives_back (a_selection s)) own ≡ false) (ap (mine me) whole ∙ mine-append me (between ++ e ∷ []) rest) there.keeps.kept in
+    subst (λ own. has (gives_back (a_selection s)) own ≡ false)
+    (ap (mine me) whole ∙ mine-append me (between ++ e ∷ []) rest) there.keeps.kept in
     selects_alone_there w.limits me s (seen before) between e
     record {
       legal = legal_beginning w.limits (seen before ++ (between ++ e ∷ [])) rest legal;
@@ -183,13 +205,15 @@ pub selected_keys_stand : SelectedKeysStand
 selected_keys_stand w me s acts before after keeps i spared present =
     let there = histories_go_on w me _ acts before after keeps in
     at_last there (λ st. IsKeptInSelection ((state_seen before).key s.0 i) (st.key s.0 i) × (st.free s.0 i ≡ false))
-    (selections_keep_keys w.limits me s i (seen before) there.later there.keeps.legal there.keeps.has_it there.keeps.kept (none_such there _ spared) present)
+    (selections_keep_keys w.limits me s i (seen before) there.later there.keeps.legal there.keeps.has_it
+    there.keeps.kept (none_such there _ spared) present)
 
 pub marks_stand : MarksStand
 marks_stand w me s acts before after keeps k spared unmarked here =
     let there = histories_go_on w me _ acts before after keeps in
     at_last there (λ st. IsAtMostUnselected ((state_seen before).mark s.0 k.index) (st.mark s.0 k.index))
-    (marks_stay w.limits me s (seen before) there.later w.fit there.keeps k (none_such there _ spared) (none_such there _ unmarked) here)
+    (marks_stay w.limits me s (seen before) there.later w.fit there.keeps k (none_such there _ spared)
+    (none_such there _ unmarked) here)
 
 pub wakeup_stands : WakeupStands
 wakeup_stands w me s acts before after keeps spared here =

@@ -27,7 +27,8 @@ look_channels_moves l me = record {
   answers = λ st now. ap number (reads_number st.channels_high now.small);
 }
 
-pub raise_channels_moves : (l : Limits) (me : CallerNo) (k : ℕ) → k < 2 ^ 32 → Moves l me ChannelsMark (Max k) (λ n. RaiseChannels k (number_of n))
+pub raise_channels_moves : (l : Limits) (me : CallerNo) (k : ℕ) → k < 2 ^ 32
+    → Moves l me ChannelsMark (Max k) (λ n. RaiseChannels k (number_of n))
 raise_channels_moves l me k few = record {
   within = tt;
   bit = tt;
@@ -38,7 +39,8 @@ raise_channels_moves l me k few = record {
   answers = λ st now. ap number (reads_number st.channels_high now.small);
 }
 
-pub look_keys_moves : (l : Limits) (me : CallerNo) (s : SelNo) → IsSelector l s → Moves l me (KeysMark s.0) Load (λ n. LookKeys s (number_of n))
+pub look_keys_moves : (l : Limits) (me : CallerNo) (s : SelNo) → IsSelector l s
+    → Moves l me (KeysMark s.0) Load (λ n. LookKeys s (number_of n))
 look_keys_moves l me s below = record {
   within = below;
   bit = tt;
@@ -49,7 +51,8 @@ look_keys_moves l me s below = record {
   answers = λ st now. ap number (reads_number (st.keys_high s.0) now.small);
 }
 
-pub raise_keys_moves : (l : Limits) (me : CallerNo) (s : SelNo) (k : ℕ) → IsSelector l s → k < 2 ^ 32 → Moves l me (KeysMark s.0) (Max k) (λ n. RaiseKeys s k (number_of n))
+pub raise_keys_moves : (l : Limits) (me : CallerNo) (s : SelNo) (k : ℕ) → IsSelector l s → k < 2 ^ 32
+    → Moves l me (KeysMark s.0) (Max k) (λ n. RaiseKeys s k (number_of n))
 raise_keys_moves l me s k below few = record {
   within = below;
   bit = tt;

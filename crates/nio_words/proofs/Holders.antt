@@ -50,7 +50,8 @@ try_hold_bit_moves l me c below few = record {
   answers = λ st now. ap holder (reads_holder (st.hold c.0) now.small);
 }
 
-pub release_moves : (l : Limits) (me : CallerNo) (c : ChanNo) → IsChannel l c → Moves l me (Hold c.0) (Swap 0) (λ n. Release c)
+pub release_moves : (l : Limits) (me : CallerNo) (c : ChanNo) → IsChannel l c
+    → Moves l me (Hold c.0) (Swap 0) (λ n. Release c)
 release_moves l me c below = record {
   within = below;
   bit = tt;
@@ -75,7 +76,8 @@ take_turn_moves l me s below few = record {
   answers = λ st now. ap holder (reads_holder (st.turn s.0) now.small);
 }
 
-pub give_turn_moves : (l : Limits) (me : CallerNo) (s : SelNo) → IsSelector l s → Moves l me (Turn s.0) (Swap 0) (λ n. GiveTurn s)
+pub give_turn_moves : (l : Limits) (me : CallerNo) (s : SelNo) → IsSelector l s
+    → Moves l me (Turn s.0) (Swap 0) (λ n. GiveTurn s)
 give_turn_moves l me s below = record {
   within = below;
   bit = tt;
@@ -86,7 +88,8 @@ give_turn_moves l me s below = record {
   answers = λ st now. refl;
 }
 
-pub enter_moves : (l : Limits) (me : CallerNo) (s : SelNo) → IsSelector l s → Moves l me (Turn s.0) Load (λ n. Enter s (holder_of n))
+pub enter_moves : (l : Limits) (me : CallerNo) (s : SelNo) → IsSelector l s
+    → Moves l me (Turn s.0) Load (λ n. Enter s (holder_of n))
 enter_moves l me s below = record {
   within = below;
   bit = tt;

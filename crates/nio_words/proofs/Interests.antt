@@ -17,7 +17,8 @@ use Rattle.nio_words.specs.declared.part.Part.TheVariants.{Interest}
 reads_operations : (n : ℕ) → n < 256 → operations_of n ≡ n
 reads_operations n small = omega arith
 
-pub look_interest_moves : (l : Limits) (me : CallerNo) (s : SelNo) (i : ℕ) → IsKey l s i → Moves l me (Interest s.0 i) Load (λ n. LookInterest s i (operations_of n))
+pub look_interest_moves : (l : Limits) (me : CallerNo) (s : SelNo) (i : ℕ) → IsKey l s i
+    → Moves l me (Interest s.0 i) Load (λ n. LookInterest s i (operations_of n))
 look_interest_moves l me s i is_key = record {
   within = is_key;
   bit = tt;
@@ -28,7 +29,8 @@ look_interest_moves l me s i is_key = record {
   answers = λ st now. ap operations (reads_operations (st.interest s.0 i) now.small);
 }
 
-pub swap_interest_moves : (l : Limits) (me : CallerNo) (s : SelNo) (i ops : ℕ) → IsKey l s i → ops < 256 → Moves l me (Interest s.0 i) (Swap ops) (λ n. SwapInterest s i ops (operations_of n))
+pub swap_interest_moves : (l : Limits) (me : CallerNo) (s : SelNo) (i ops : ℕ) → IsKey l s i → ops < 256
+    → Moves l me (Interest s.0 i) (Swap ops) (λ n. SwapInterest s i ops (operations_of n))
 swap_interest_moves l me s i ops is_key fits = record {
   within = is_key;
   bit = tt;
@@ -39,7 +41,8 @@ swap_interest_moves l me s i ops is_key fits = record {
   answers = λ st now. ap operations (reads_operations (st.interest s.0 i) now.small);
 }
 
-pub or_interest_moves : (l : Limits) (me : CallerNo) (s : SelNo) (i ops : ℕ) → IsKey l s i → ops < 256 → Moves l me (Interest s.0 i) (Or ops) (λ n. OrInterest s i ops (operations_of n))
+pub or_interest_moves : (l : Limits) (me : CallerNo) (s : SelNo) (i ops : ℕ) → IsKey l s i → ops < 256
+    → Moves l me (Interest s.0 i) (Or ops) (λ n. OrInterest s i ops (operations_of n))
 or_interest_moves l me s i ops is_key fits = record {
   within = is_key;
   bit = tt;
@@ -50,7 +53,8 @@ or_interest_moves l me s i ops is_key fits = record {
   answers = λ st now. ap operations (reads_operations (st.interest s.0 i) now.small);
 }
 
-pub and_interest_moves : (l : Limits) (me : CallerNo) (s : SelNo) (i ops : ℕ) → IsKey l s i → Moves l me (Interest s.0 i) (And ops) (λ n. AndInterest s i ops (operations_of n))
+pub and_interest_moves : (l : Limits) (me : CallerNo) (s : SelNo) (i ops : ℕ) → IsKey l s i
+    → Moves l me (Interest s.0 i) (And ops) (λ n. AndInterest s i ops (operations_of n))
 and_interest_moves l me s i ops is_key = record {
   within = is_key;
   bit = tt;

@@ -13,7 +13,8 @@ use Rattle.nio_words.specs.Moves.{Moves}
 use Rattle.nio_words.specs.declared.instruction.Instruction.TheVariants.{Load, SetBit, ClearBit}
 use Rattle.nio_words.specs.declared.part.Part.TheVariants.{Interrupts}
 
-pub set_interrupt_moves : (l : Limits) (me target : CallerNo) → target.0 < 64 → Moves l me Interrupts (SetBit target.0) (λ n. SetInterrupt target (is_set n target.0))
+pub set_interrupt_moves : (l : Limits) (me target : CallerNo) → target.0 < 64
+    → Moves l me Interrupts (SetBit target.0) (λ n. SetInterrupt target (is_set n target.0))
 set_interrupt_moves l me target below = record {
   within = tt;
   bit = below;
@@ -24,7 +25,8 @@ set_interrupt_moves l me target below = record {
   answers = λ st now. ap flag (reads_bit st.interrupted target.0 below);
 }
 
-pub take_interrupt_moves : (l : Limits) (me : CallerNo) → me.0 < 64 → Moves l me Interrupts (ClearBit me.0) (λ n. TakeInterrupt (is_set n me.0))
+pub take_interrupt_moves : (l : Limits) (me : CallerNo) → me.0 < 64
+    → Moves l me Interrupts (ClearBit me.0) (λ n. TakeInterrupt (is_set n me.0))
 take_interrupt_moves l me below = record {
   within = tt;
   bit = below;
@@ -35,7 +37,8 @@ take_interrupt_moves l me below = record {
   answers = λ st now. ap flag (reads_bit st.interrupted me.0 below);
 }
 
-pub look_interrupt_moves : (l : Limits) (me : CallerNo) → me.0 < 64 → Moves l me Interrupts Load (λ n. LookInterrupt (is_set n me.0))
+pub look_interrupt_moves : (l : Limits) (me : CallerNo) → me.0 < 64
+    → Moves l me Interrupts Load (λ n. LookInterrupt (is_set n me.0))
 look_interrupt_moves l me below = record {
   within = tt;
   bit = tt;

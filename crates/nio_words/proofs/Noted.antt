@@ -17,7 +17,8 @@ use Rattle.nio_words.specs.Moves.{Moves}
 use Rattle.nio_words.specs.declared.instruction.Instruction.TheVariants.{Load, Swap}
 use Rattle.nio_words.specs.declared.part.Part.TheVariants.{Noted}
 
-pub look_reg_moves : (l : Limits) (me : CallerNo) (c : ChanNo) (s : SelNo) → IsChannel l c → IsSelector l s → Moves l me (Noted c.0 s.0) Load (λ n. LookReg c s (noted_of n))
+pub look_reg_moves : (l : Limits) (me : CallerNo) (c : ChanNo) (s : SelNo) → IsChannel l c → IsSelector l s
+    → Moves l me (Noted c.0 s.0) Load (λ n. LookReg c s (noted_of n))
 look_reg_moves l me c s is_channel is_selector = record {
   within = (is_channel, is_selector);
   bit = tt;
@@ -28,7 +29,8 @@ look_reg_moves l me c s is_channel is_selector = record {
   answers = λ st now. ap noted_key (reads_noted (st.noted c.0 s.0) now.proper);
 }
 
-pub enrol_moves : (l : Limits) (me : CallerNo) (c : ChanNo) (s : SelNo) (k : KeyId) → IsChannel l c → IsSelector l s → k.index + 1 < 2 ^ 32 → k.serial < 2 ^ 32
+pub enrol_moves : (l : Limits) (me : CallerNo) (c : ChanNo) (s : SelNo) (k : KeyId) → IsChannel l c → IsSelector l s
+    → k.index + 1 < 2 ^ 32 → k.serial < 2 ^ 32
     → Moves l me (Noted c.0 s.0) (Swap (noted_word (Some k))) (λ n. Enrol c s k.index k.serial (noted_of n))
 enrol_moves l me c s k is_channel is_selector few serial = record {
   within = (is_channel, is_selector);
@@ -36,6 +38,7 @@ enrol_moves l me c s k is_channel is_selector few serial = record {
   part = λ n. refl;
   word = λ st now. ap noted_word (sym (put_at-same st.noted c.0 s.0 (Some k)));
   small = λ n small. omega arith;
-  proper = λ st now. subst (λ o. IfSome o (λ x. x.index + 1 < 2 ^ 32)) (sym (put_at-same st.noted c.0 s.0 (Some k))) few;
+  proper = λ st now. subst (λ o. IfSome o (λ x. x.index + 1 < 2 ^ 32)) (sym (put_at-same st.noted c.0 s.0 (Some k)))
+      few;
   answers = λ st now. ap noted_key (reads_noted (st.noted c.0 s.0) now.proper);
 }

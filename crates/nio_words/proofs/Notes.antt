@@ -10,7 +10,8 @@ use Rattle.nio_words.specs.Moves.{Moves}
 use Rattle.nio_words.specs.declared.instruction.Instruction.TheVariants.{Load, Swap}
 use Rattle.nio_words.specs.declared.part.Part.TheVariants.{Note}
 
-pub swap_note_moves : (l : Limits) (me : CallerNo) (s : SelNo) (i att : ℕ) → IsKey l s i → att < 2 ^ 64 → Moves l me (Note s.0 i) (Swap att) (λ n. SwapNote s i att n)
+pub swap_note_moves : (l : Limits) (me : CallerNo) (s : SelNo) (i att : ℕ) → IsKey l s i → att < 2 ^ 64
+    → Moves l me (Note s.0 i) (Swap att) (λ n. SwapNote s i att n)
 swap_note_moves l me s i att is_key fits = record {
   within = is_key;
   bit = tt;
@@ -21,7 +22,8 @@ swap_note_moves l me s i att is_key fits = record {
   answers = λ st now. refl;
 }
 
-pub look_note_moves : (l : Limits) (me : CallerNo) (s : SelNo) (i : ℕ) → IsKey l s i → Moves l me (Note s.0 i) Load (λ n. LookNote s i n)
+pub look_note_moves : (l : Limits) (me : CallerNo) (s : SelNo) (i : ℕ) → IsKey l s i
+    → Moves l me (Note s.0 i) Load (λ n. LookNote s i n)
 look_note_moves l me s i is_key = record {
   within = is_key;
   bit = tt;

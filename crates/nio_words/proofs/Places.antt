@@ -4,10 +4,12 @@ use Rattle.std.proofs.lemmas.Nat.{mul-add-lt, same_from_place}
 use Rattle.nio_base.specs.declared.limits.Limits.{Limits}
 use Rattle.nio_words.specs.Places.{free_words, rows, row, column, IsWithin, total, word_count, place}
 use Rattle.nio_words.specs.declared.part.Part.{Part}
-use Rattle.nio_words.specs.declared.part.Part.TheVariants.{Callers, Interrupts, Selectors, ChannelsMark, Chan, Hold, Noted, Gate, Turn, KeysMark, Key, Interest, Mark, Note, Free}
+use Rattle.nio_words.specs.declared.part.Part.TheVariants.{Callers, Interrupts, Selectors, ChannelsMark, Chan, Hold}
+use Rattle.nio_words.specs.declared.part.Part.TheVariants.{Noted, Gate, Turn, KeysMark, Key, Interest, Mark, Note, Free}
 
 -- a place behind some rows tells which rows, and where in the next one
-same_row : (xs : List ℕ) (i j a b : ℕ) → a < get_or xs i 0 → b < get_or xs j 0 → total (take i xs) + a ≡ total (take j xs) + b → (i ≡ j) × (a ≡ b)
+same_row : (xs : List ℕ) (i j a b : ℕ) → a < get_or xs i 0 → b < get_or xs j 0
+    → total (take i xs) + a ≡ total (take j xs) + b → (i ≡ j) × (a ≡ b)
 same_row [] i j a b ha hb e = absurd (omega arith)
 same_row (x ∷ xs) zero zero a b ha hb e = (refl, omega arith)
 same_row (x ∷ xs) zero (suc j) a b ha hb e = absurd (omega arith)
@@ -62,7 +64,8 @@ same_numbers l p q hp hq r c = absurd (omega (arith, r))
 
 pub same_part : (l : Limits) (p q : Part) → IsWithin l p → IsWithin l q → place l p ≡ place l q → p ≡ q
 same_part l p q hp hq e =
-    let both = same_row (rows l) (row p) (row q) (column l p) (column l q) (column_below l p hp) (column_below l q hq) e in
+    let both = same_row (rows l) (row p) (row q) (column l p) (column l q) (column_below l p hp)
+    (column_below l q hq) e in
     same_numbers l p q hp hq both.0 both.1
 
 not_limits : (p : Part) → row p ≢ 1

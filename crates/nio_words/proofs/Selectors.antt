@@ -13,7 +13,8 @@ use Rattle.nio_words.specs.Moves.{Moves}
 use Rattle.nio_words.specs.declared.instruction.Instruction.TheVariants.{Load, SetBit}
 use Rattle.nio_words.specs.declared.part.Part.TheVariants.{Selectors}
 
-pub make_selector_moves : (l : Limits) (me : CallerNo) (s : SelNo) → s.0 < 64 → Moves l me Selectors (SetBit s.0) (λ n. MakeSelector s (is_set n s.0))
+pub make_selector_moves : (l : Limits) (me : CallerNo) (s : SelNo) → s.0 < 64
+    → Moves l me Selectors (SetBit s.0) (λ n. MakeSelector s (is_set n s.0))
 make_selector_moves l me s below = record {
   within = tt;
   bit = below;

@@ -23,10 +23,12 @@ module _ (k : Stage) (n : ℕ) (few : n < 2 ^ 8) (fits : k.chan.0 < 2 ^ 20) wher
   reads_claimed = reads (stage_word k n) 0 k.claimed (omega (arith, claimed-lt, published-lt, cancelled-lt, removed-lt))
 
   reads_published : is_set (stage_word k n) 1 ≡ k.published
-  reads_published = reads (stage_word k n) 1 k.published (omega (arith, claimed-lt, published-lt, cancelled-lt, removed-lt))
+  reads_published =
+      reads (stage_word k n) 1 k.published (omega (arith, claimed-lt, published-lt, cancelled-lt, removed-lt))
 
   reads_cancelled : is_set (stage_word k n) 2 ≡ k.cancelled
-  reads_cancelled = reads (stage_word k n) 2 k.cancelled (omega (arith, claimed-lt, published-lt, cancelled-lt, removed-lt))
+  reads_cancelled =
+      reads (stage_word k n) 2 k.cancelled (omega (arith, claimed-lt, published-lt, cancelled-lt, removed-lt))
 
   reads_removed : is_set (stage_word k n) 3 ≡ k.removed
   reads_removed = reads (stage_word k n) 3 k.removed (omega (arith, claimed-lt, published-lt, cancelled-lt, removed-lt))
@@ -58,17 +60,20 @@ module _ (k : Stage) (n : ℕ) (few : n < 2 ^ 8) (fits : k.chan.0 < 2 ^ 20) wher
       let hi : ℕ = bit k.removed + 2 * n + 2 ^ 9 * k.chan.0 + 2 ^ 29 * k.serial in
       let lo : ℕ = bit k.claimed + 2 * bit k.published in
       let fields : stage_word k n ≡ (hi * 2 + bit k.cancelled) * 2 ^ 2 + lo = omega arith in
-      ap (λ (m : ℕ). bit_or m 4) fields ∙ (sets 2 hi lo k.cancelled (omega (arith, claimed-lt, published-lt)) ∙ omega arith)
+      ap (λ (m : ℕ). bit_or m 4) fields
+      ∙ (sets 2 hi lo k.cancelled (omega (arith, claimed-lt, published-lt)) ∙ omega arith)
 
   pub removes_stage : bit_or (stage_word k n) 8 ≡ stage_word (record k { removed = true }) n
   removes_stage =
       let hi : ℕ = n + 2 ^ 8 * k.chan.0 + 2 ^ 28 * k.serial in
       let lo : ℕ = bit k.claimed + 2 * bit k.published + 4 * bit k.cancelled in
       let fields : stage_word k n ≡ (hi * 2 + bit k.removed) * 2 ^ 3 + lo = omega arith in
-      ap (λ (m : ℕ). bit_or m 8) fields ∙ (sets 3 hi lo k.removed (omega (arith, claimed-lt, published-lt, cancelled-lt)) ∙ omega arith)
+      ap (λ (m : ℕ). bit_or m 8) fields
+      ∙ (sets 3 hi lo k.removed (omega (arith, claimed-lt, published-lt, cancelled-lt)) ∙ omega arith)
 
 -- one pin more, and one less
-pub pins_stage : (k : Stage) (n : ℕ) → n + 1 < 2 ^ 8 → k.chan.0 < 2 ^ 20 → stage_word k n < 2 ^ 64 → (stage_word k n + 16) % 2 ^ 64 ≡ stage_word k (n + 1)
+pub pins_stage : (k : Stage) (n : ℕ) → n + 1 < 2 ^ 8 → k.chan.0 < 2 ^ 20 → stage_word k n < 2 ^ 64
+    → (stage_word k n + 16) % 2 ^ 64 ≡ stage_word k (n + 1)
 pins_stage k n few fits small =
     let a = bit-lt k.claimed in
     let b = bit-lt k.published in
@@ -77,7 +82,8 @@ pins_stage k n few fits small =
     let serial : k.serial < 2 ^ 32 = omega arith in
     omega arith
 
-pub unpins_stage : (k : Stage) (n : ℕ) → stage_word k (n + 1) < 2 ^ 64 → (stage_word k (n + 1) + (2 ^ 64 - 16)) % 2 ^ 64 ≡ stage_word k n
+pub unpins_stage : (k : Stage) (n : ℕ) → stage_word k (n + 1) < 2 ^ 64
+    → (stage_word k (n + 1) + (2 ^ 64 - 16)) % 2 ^ 64 ≡ stage_word k n
 unpins_stage k n small = omega arith
 
 -- the word of a claimed index isn't 0

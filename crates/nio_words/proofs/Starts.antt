@@ -1,5 +1,6 @@
 -- A table that was just made keeps its rule.
-use Rattle.std.proofs.Common.{◌≡◌, ℕ, zero, suc, ◌<◌, false, List, [], ◌∷◌, length, set, get_or, replicate, refl, ap, sym, ◌∙◌, subst, arith, length-set, get_or-set_same, get_or-set_other}
+use Rattle.std.proofs.Common.{◌≡◌, ℕ, zero, suc, ◌<◌, false, List, [], ◌∷◌, length, set, get_or, replicate, refl, ap}
+use Rattle.std.proofs.Common.{sym, ◌∙◌, subst, arith, length-set, get_or-set_same, get_or-set_other}
 use Rattle.std.proofs.lemmas.List.{get_or-replicate, length-replicate}
 use mathlib.Core.Option.{some, some-injective, some-ne-none}
 use lib.ListN.{get_elem?}
@@ -52,27 +53,34 @@ knows_first l = record {
   halves = λ k d h. absurd (omega arith);
 }
 
-pub starts : (l : Limits) (words : List ℕ) → IsFit l → words ≡ set (replicate (word_count l) 0) 1 (limits_word l) → IsKept l (first_table words [] (first_view l))
+pub starts : (l : Limits) (words : List ℕ) → IsFit l → words ≡ set (replicate (word_count l) 0) 1 (limits_word l)
+    → IsKept l (first_table words [] (first_view l))
 starts l words fit are = record {
   fit = fit;
   history = [];
   legal = legal_empty l;
   longest = record { seat = 0; view = first_view l; there = refl; unspent = refl; whole = refl };
-  wide = ap length are ∙ (length-set (replicate (word_count l) 0) 1 (limits_word l) ∙ length-replicate (word_count l) 0);
+  wide = ap length are
+      ∙ (length-set (replicate (word_count l) 0) 1 (limits_word l) ∙ length-replicate (word_count l) 0);
   encoded = encoded;
-  limits = ap (λ ws. get_or ws 1 0) are ∙ get_or-set_same (replicate (word_count l) 0) 1 (limits_word l) 0 (subst (λ (k : ℕ). 1 < k) (sym (length-replicate (word_count l) 0)) (limits_inside l));
+  limits = ap (λ ws. get_or ws 1 0) are
+      ∙ get_or-set_same (replicate (word_count l) 0) 1 (limits_word l) 0
+      (subst (λ (k : ℕ). 1 < k) (sym (length-replicate (word_count l) 0)) (limits_inside l));
   each = λ i u at live. subst (Knows l []) (only_first (first_view l) i u at).1 (knows_first l);
-  one_seat = λ i j u w n at_i at_j has_i has_j. (only_first (first_view l) i u at_i).0 ∙ sym (only_first (first_view l) j w at_j).0;
+  one_seat = λ i j u w n at_i at_j has_i has_j. (only_first (first_view l) i u at_i).0
+      ∙ sym (only_first (first_view l) j w at_j).0;
   spent_empty = λ i u at spent. ap (λ x. x.numbers) (sym (only_first (first_view l) i u at).1);
   undrawn = λ n h. refl;
   alone = λ i u at alone. ap (λ x. x.seen) (sym (only_first (first_view l) i u at).1);
-  others_spent = λ i j u w at_i alone at_j ne. absurd (ne ((only_first (first_view l) j w at_j).0 ∙ sym (only_first (first_view l) i u at_i).0));
+  others_spent = λ i j u w at_i alone at_j ne. absurd
+      (ne ((only_first (first_view l) j w at_j).0 ∙ sym (only_first (first_view l) i u at_i).0));
 }
   where
     encoded : (p : Part) → IsWithin l p → IsEncoded l [] words p
     encoded p h =
         let zero_there : get_or words (place l p) 0 ≡ 0 =
-        ap (λ ws. get_or ws (place l p) 0) are ∙ (get_or-set_other (replicate (word_count l) 0) 1 (place l p) (limits_word l) 0 (place-limits l p h)
+        ap (λ ws. get_or ws (place l p) 0) are
+        ∙ (get_or-set_other (replicate (word_count l) 0) 1 (place l p) (limits_word l) 0 (place-limits l p h)
         ∙ get_or-replicate (word_count l) (place l p) 0 0 (place_inside l p h)) in
         record {
           word = zero_there ∙ sym (encoding-opening p);

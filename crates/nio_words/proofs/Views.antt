@@ -1,5 +1,6 @@
 -- From the steps on a table to the acts that calls are made of.
-use Rattle.std.proofs.Common.{◌≡◌, ℕ, ◌<◌, ◌==◌, ◌&&◌, ◌||◌, Bool, true, false, [], ◌∷◌, ◌++◌, refl, ap, sym, ◌∙◌, subst, arith, append_assoc, eqb-true, eq-eqb}
+use Rattle.std.proofs.Common.{◌≡◌, ℕ, ◌<◌, ◌==◌, ◌&&◌, ◌||◌, Bool, true, false, [], ◌∷◌, ◌++◌, refl, ap, sym, ◌∙◌}
+use Rattle.std.proofs.Common.{subst, arith, append_assoc, eqb-true, eq-eqb}
 use Rattle.std.specs.Int.{bit_at}
 use Rattle.std.specs.Prelude.{IsTrue, nat_lt}
 use Rattle.std.proofs.lemmas.Bool.{ltb-true}
@@ -35,12 +36,14 @@ abbrev pub finds_drawn : Act → Bool
 finds_drawn (DrawBit n found) = found
 finds_drawn _ = false
 
-history_of : (w : Words) (p q : Pass) (me : CallerNo) (act : Act) → Steps w p q me act → finds_drawn act ≡ false → HistoryClause (limits_of w) (Holds p) me (act ∷ []) (seen p) (seen q)
+history_of : (w : Words) (p q : Pass) (me : CallerNo) (act : Act) → Steps w p q me act → finds_drawn act ≡ false
+    → HistoryClause (limits_of w) (Holds p) me (act ∷ []) (seen p) (seen q)
 history_of w p q me (DrawBit n true) steps new = absurd cc
 history_of w p q me act steps new = steps.clause
 
 -- a step is this act
-pub step_acts : {w : Words} {p q : Pass} {me : CallerNo} {act : Act} → Steps w p q me act → finds_drawn act ≡ false → ActsClause me (act ∷ []) (view w p) (view w q)
+pub step_acts : {w : Words} {p q : Pass} {me : CallerNo} {act : Act} → Steps w p q me act → finds_drawn act ≡ false
+    → ActsClause me (act ∷ []) (view w p) (view w q)
 step_acts {w = w} {p = p} {q = q} {me = me} {act = act} steps new =
     let clause = history_of w p q me act steps new in
     record {
@@ -59,44 +62,57 @@ step_acts {w = w} {p = p} {q = q} {me = me} {act = act} steps new =
 -- ---- just after an act
 
 -- what a look found is what stands there
-pub look_tells : {me : CallerNo} {act : Act} {v0 v1 : PassView} → ActsClause me (act ∷ []) v0 v1 → IsTrue (is_look act) → Answers (known v1) me act
+pub look_tells : {me : CallerNo} {act : Act} {v0 v1 : PassView} → ActsClause me (act ∷ []) v0 v1 → IsTrue (is_look act)
+    → Answers (known v1) me act
 look_tells {me = me} {act = act} {v0 = v0} {v1 = v1} clause looks =
     let leaves = step_leaves v0.limits (HoldsNumber v0) me act v0.seen v1.seen clause.history in
-    let whole : v1.seen ≡ (v0.seen ++ leaves.between) ++ event_of me act ∷ [] = leaves.parts ∙ sym (append_assoc v0.seen leaves.between (event_of me act ∷ [])) in
+    let whole : v1.seen ≡ (v0.seen ++ leaves.between) ++ event_of me act ∷ [] = leaves.parts
+    ∙ sym (append_assoc v0.seen leaves.between (event_of me act ∷ [])) in
     subst (λ events. Answers (state_after events) me act) (sym whole)
-    (looks_tell v0.limits me act (v0.seen ++ leaves.between) [] (subst (IsLegal v0.limits) whole clause.history.legal) looks)
+    (looks_tell v0.limits me act (v0.seen ++ leaves.between) [] (subst (IsLegal v0.limits) whole clause.history.legal)
+    looks)
 
 -- what the act found tells that the fact stands
-pub found_now : {me : CallerNo} {act : Act} {v0 v1 : PassView} (f : PermanentFact) → ActsClause me (act ∷ []) v0 v1 → IsTrue (finds act f) → IsTrue (stands f (known v1))
+pub found_now : {me : CallerNo} {act : Act} {v0 v1 : PassView} (f : PermanentFact) → ActsClause me (act ∷ []) v0 v1
+    → IsTrue (finds act f) → IsTrue (stands f (known v1))
 found_now {me = me} {act = act} {v0 = v0} {v1 = v1} f clause told =
     found_stands v0.limits me v1.seen clause.history.legal f
-    (ap (has (λ x. finds x f)) clause.history.own ∙ (has-more (λ x. finds x f) (mine me v0.seen) act ∙ or_right (has (λ x. finds x f) (mine me v0.seen)) (finds act f) told))
+    (ap (has (λ x. finds x f)) clause.history.own
+    ∙ (has-more (λ x. finds x f) (mine me v0.seen) act
+    ∙ or_right (has (λ x. finds x f) (mine me v0.seen)) (finds act f) told))
 
-pub channel_found : {me : CallerNo} {c : ChanNo} {found : Chan} {v0 v1 : PassView} → ActsClause me (LookChannel c found ∷ []) v0 v1 → IsTrue found.made → IsTrue (is_made (known v1) c)
-channel_found {c = c} {found = found} clause made = found_now (channel_made c.0) clause (ap (λ b. b && found.made) (eq-eqb c.0 c.0 refl) ∙ made)
+pub channel_found : {me : CallerNo} {c : ChanNo} {found : Chan} {v0 v1 : PassView}
+    → ActsClause me (LookChannel c found ∷ []) v0 v1 → IsTrue found.made → IsTrue (is_made (known v1) c)
+channel_found {c = c} {found = found} clause made =
+    found_now (channel_made c.0) clause (ap (λ b. b && found.made) (eq-eqb c.0 c.0 refl) ∙ made)
 
-pub key_found : {me : CallerNo} {s : SelNo} {i : ℕ} {found : Stage} {v0 v1 : PassView} (serial : ℕ) → ActsClause me (LookKey s i found ∷ []) v0 v1 → IsTrue (was_published found serial)
+pub key_found : {me : CallerNo} {s : SelNo} {i : ℕ} {found : Stage} {v0 v1 : PassView} (serial : ℕ)
+    → ActsClause me (LookKey s i found ∷ []) v0 v1 → IsTrue (was_published found serial)
     → IsTrue (was_published ((known v1).key s.0 i) serial)
 key_found {s = s} {i = i} {found = found} serial clause published =
     found_now (key_published s.0 i serial) clause
-    (ap (λ b. b && (i == i) && was_published found serial) (eq-eqb s.0 s.0 refl) ∙ (ap (λ b. b && was_published found serial) (eq-eqb i i refl) ∙ published))
+    (ap (λ b. b && (i == i) && was_published found serial) (eq-eqb s.0 s.0 refl)
+    ∙ (ap (λ b. b && was_published found serial) (eq-eqb i i refl) ∙ published))
 
 -- ---- keys
 
 bare_unpublished : (k : Stage) (serial : ℕ) → k ≡ unclaimed → was_published k serial ≡ false
-bare_unpublished k serial bare = ap (λ x. was_published x serial) bare ∙ ap (λ b. b || false) (by_test (nat_lt serial 0) refl)
+bare_unpublished k serial bare =
+    ap (λ x. was_published x serial) bare ∙ ap (λ b. b || false) (by_test (nat_lt serial 0) refl)
   where
     by_test : (b : Bool) → nat_lt serial 0 ≡ b → nat_lt serial 0 ≡ false
     by_test true below = let less : serial < 0 = ltb-true serial 0 below in absurd (omega arith)
     by_test false below = below
 
 -- the index of a key that was published is claimed
-pub key_claimed : {w : Words} {p : Pass} {k : KeyNo} → IsPassOf w p → HasKey (view w p) k → IsTrue (is_claimed (state_seen p) k.sel k.index)
+pub key_claimed : {w : Words} {p : Pass} {k : KeyNo} → IsPassOf w p → HasKey (view w p) k
+    → IsTrue (is_claimed (state_seen p) k.sel k.index)
 key_claimed {w = w} {p = p} {k = k} pass has = by_test (is_claimed (state_seen p) k.sel k.index) refl
   where
     by_test : (b : Bool) → is_claimed (state_seen p) k.sel k.index ≡ b → is_claimed (state_seen p) k.sel k.index ≡ true
     by_test true claimed = claimed
     by_test false claimed =
         let bare = (legal-sound (limits_of w) (seen p) pass.legal).unclaimed_bare k.sel.0 k.index claimed in
-        let clash : true ≡ false = sym has.published ∙ bare_unpublished ((state_seen p).key k.sel.0 k.index) k.serial bare in
+        let clash : true ≡ false = sym has.published
+        ∙ bare_unpublished ((state_seen p).key k.sel.0 k.index) k.serial bare in
         absurd cc

@@ -1,6 +1,7 @@
 -- Whoever holds every number has seen the whole history: an event more would be by a caller whose
 -- number is held, and so seen.
-use Rattle.std.proofs.Common.{◌≡◌, ◌<◌, true, List, [], ◌∷◌, ◌++◌, map, if◌then◌else◌, refl, ap, sym, ◌∙◌, subst, eq-eqb}
+use Rattle.std.proofs.Common.{◌≡◌, ◌<◌, true, List, [], ◌∷◌, ◌++◌, map, if◌then◌else◌, refl, ap, sym, ◌∙◌, subst}
+use Rattle.std.proofs.Common.{eq-eqb}
 use Rattle.std.specs.List.{filter}
 use Rattle.std.proofs.lemmas.List.{append-nil}
 use Rattle.nio_base.specs.declared.limits.Limits.{Limits}
@@ -14,7 +15,10 @@ use Rattle.nio_words.specs.Whole.{HoldersOfAllSeeAll}
 has_event : (e : Event) (later : List Event) → mine e.caller (e ∷ later) ≡ [] → ⊥
 has_event e later none_of_it =
     let by : is_by e.caller e ≡ true = eq-eqb e.caller.0 e.caller.0 refl in
-    let some_of_it : e.act ∷ mine e.caller later ≡ [] = sym (ap (λ b. map (λ x. x.act) (if b then e ∷ filter (is_by e.caller) later else filter (is_by e.caller) later)) by) ∙ none_of_it in
+    let some_of_it : e.act ∷ mine e.caller later
+    ≡ [] = sym
+    (ap (λ b. map (λ x. x.act) (if b then e ∷ filter (is_by e.caller) later else filter (is_by e.caller) later))
+    by) ∙ none_of_it in
     cc
 
 nothing_more : (l : Limits) (seen rest : List Event) → IsLegal l (seen ++ rest)
@@ -29,4 +33,5 @@ holders_of_all_see_all l s kept i v at live all =
     let known = kept.each i v at live in
     let rest : List Event = known.begins.0 in
     let whole : v.seen ++ rest ≡ kept.history = known.begins.1 in
-    nothing_more l v.seen rest (subst (IsLegal l) (sym whole) kept.legal) (λ n below. ap (mine n) whole ∙ known.own n (all n.0 below)) ∙ whole
+    nothing_more l v.seen rest (subst (IsLegal l) (sym whole) kept.legal)
+    (λ n below. ap (mine n) whole ∙ known.own n (all n.0 below)) ∙ whole

@@ -20,7 +20,8 @@ pub record Draws (w : Words) (p q : Pass) (number : CallerNo) (found : Bool) : T
   pub holds : found ≡ false → Holds q number
   pub others : (n : CallerNo) → Holds q n → n ≢ number → Holds p n
   pub same : found ≡ true → HoldSame p q
-  pub only : IsOnly p → IsOnly q × (seen q ≡ seen p ++ (if found then [] else event_of number (DrawBit number false) ∷ []))
+  pub only : IsOnly p
+      → IsOnly q × (seen q ≡ seen p ++ (if found then [] else event_of number (DrawBit number false) ∷ []))
 
 -- what a draw answers: the number isn't below the limit, and nothing changed; or its step found it
 -- drawn; or it found it not drawn

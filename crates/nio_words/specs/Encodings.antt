@@ -14,7 +14,8 @@ use Rattle.nio_event.specs.declared.found.GateWord.{GateWord}
 use Rattle.nio_event.specs.declared.found.Mark.{Mark as KeyMark}
 use Rattle.nio_event.specs.declared.found.Stage.{Stage}
 use Rattle.nio_words.specs.declared.part.Part.{Part}
-use Rattle.nio_words.specs.declared.part.Part.TheVariants.{Callers, Interrupts, Selectors, ChannelsMark, Chan, Hold, Noted, Gate, Turn, KeysMark, Key, Interest, Mark, Note, Free}
+use Rattle.nio_words.specs.declared.part.Part.TheVariants.{Callers, Interrupts, Selectors, ChannelsMark, Chan, Hold}
+use Rattle.nio_words.specs.declared.part.Part.TheVariants.{Noted, Gate, Turn, KeysMark, Key, Interest, Mark, Note, Free}
 
 abbrev pub bit : Bool → ℕ
 bit b = if b then 1 else 0
@@ -27,7 +28,8 @@ gate_word g = bit g.woken + 2 * bit g.shut
 -- to 31 the channel; bits 32 to 63 the serial
 abbrev pub stage_word : Stage → ℕ → ℕ
 stage_word k count =
-    bit k.claimed + 2 * bit k.published + 4 * bit k.cancelled + 8 * bit k.removed + 2 ^ 4 * count + 2 ^ 12 * k.chan.0 + 2 ^ 32 * k.serial
+    bit k.claimed + 2 * bit k.published + 4 * bit k.cancelled + 8 * bit k.removed + 2 ^ 4 * count + 2 ^ 12 * k.chan.0
+    + 2 ^ 32 * k.serial
 
 abbrev pub kind_code : Kind → ℕ
 kind_code Stream = 0

@@ -3,7 +3,8 @@ use Rattle.std.specs.Prelude.{ℕ, ◌+◌, ◌-◌, ◌*◌, ◌%◌, ◌^◌, 
 use Rattle.std.specs.Int.{bit_not, w64}
 use prog.Atomic.{either}
 use Rattle.nio_words.specs.declared.instruction.Instruction.{Instruction}
-use Rattle.nio_words.specs.declared.instruction.Instruction.TheVariants.{Load, SetBit, ClearBit, Or, And, Add, Subtract, Max, Swap, Exchange}
+use Rattle.nio_words.specs.declared.instruction.Instruction.TheVariants.{Load, SetBit, ClearBit, Or, And, Add, Subtract}
+use Rattle.nio_words.specs.declared.instruction.Instruction.TheVariants.{Max, Swap, Exchange}
 
 -- the word that has bit k alone
 abbrev pub one_bit : ℕ → ℕ

@@ -9,7 +9,8 @@ use Rattle.nio_base.specs.declared.numbers.KeyId.{KeyId}
 use Rattle.nio_base.specs.declared.numbers.SelNo.{SelNo}
 use Rattle.nio_event.specs.Histories.{mine, HistoryClause}
 use Rattle.nio_event.specs.Holders.{Keeps as KeepsHistory, marks, ends_wakeup, IsAtMostUnselected}
-use Rattle.nio_event.specs.Permanent.{PermanentFact, stands, OwnFact, a_selection, the_hold, a_pin, is_had_by, gives_back}
+use Rattle.nio_event.specs.Permanent.{PermanentFact, stands, OwnFact, a_selection, the_hold, a_pin, is_had_by}
+use Rattle.nio_event.specs.Permanent.{gives_back}
 use Rattle.nio_event.specs.OwnEvents.{has, last, sets_mode, notes_key, publishes, noted_found, is_clear_by}
 use Rattle.nio_event.specs.Pins.{IsSameKey, IsKeptInSelection, removes}
 use Rattle.nio_event.specs.Sets.{was_published, is_valid_key, is_in_key_set}
@@ -65,19 +66,22 @@ JoinsGoOn = (w : Words) (before other after : Pass) → IsPassOf w before → Is
 
 -- whoever went on, and then went on again, went on
 abbrev pub GoingOnChains : Type 0
-GoingOnChains = (w : Words) (me : CallerNo) (acts more : List Act) (p q r : Pass) → GoesOn w me acts p q → GoesOn w me more q r
+GoingOnChains = (w : Words) (me : CallerNo) (acts more : List Act) (p q r : Pass) → GoesOn w me acts p q
+    → GoesOn w me more q r
     → GoesOn w me (acts ++ more) p r
 
 -- what was seen in between, and that the caller kept it there: so each law of histories about what a caller
 -- keeps speaks of passes
-pub record KeepsBetween (w : Words) (me : CallerNo) (what : OwnFact) (acts : List Act) (before after : Pass) : Type 0 where
+pub record KeepsBetween (w : Words) (me : CallerNo) (what : OwnFact) (acts : List Act)
+    (before after : Pass) : Type 0 where
   pub later : List Event
   pub parts : seen before ++ later ≡ seen after
   pub own : mine me later ≡ acts
   pub keeps : KeepsHistory (limits_of w) me what (seen before) later
 
 abbrev pub HistoriesGoOn : Type 0
-HistoriesGoOn = (w : Words) (me : CallerNo) (what : OwnFact) (acts : List Act) (before after : Pass) → Keeps w me what acts before after
+HistoriesGoOn = (w : Words) (me : CallerNo) (what : OwnFact) (acts : List Act) (before after : Pass)
+    → Keeps w me what acts before after
     → KeepsBetween w me what acts before after
 
 -- ---- what is permanent
@@ -91,43 +95,51 @@ FactsStand = (w : Words) (before after : Pass) → IsLater w before after
 abbrev pub InvalidKeysStand : Type 0
 InvalidKeysStand = (w : Words) (before after : Pass) → IsLater w before after → (s : SelNo) (k : KeyId)
     → IsTrue (was_published ((state_seen before).key s.0 k.index) k.serial)
-    → IsFalse (is_valid_key ((state_seen before).key s.0 k.index) k.serial) → IsFalse (is_valid_key ((state_seen after).key s.0 k.index) k.serial)
+    → IsFalse (is_valid_key ((state_seen before).key s.0 k.index) k.serial)
+    → IsFalse (is_valid_key ((state_seen after).key s.0 k.index) k.serial)
 
 -- ---- what a caller has
 
 -- a turn, a selection, a hold, a pin and a taken index stand until the caller gives them back itself
 abbrev pub OwnStands : Type 0
-OwnStands = (w : Words) (me : CallerNo) (what : OwnFact) (acts : List Act) (before after : Pass) → Keeps w me what acts before after
+OwnStands = (w : Words) (me : CallerNo) (what : OwnFact) (acts : List Act) (before after : Pass)
+    → Keeps w me what acts before after
     → IsTrue (is_had_by me what (state_seen after))
 
 -- an index keeps its key while the caller has a pin on it
 abbrev pub PinnedKeysStand : Type 0
-PinnedKeysStand = (w : Words) (me : CallerNo) (s : SelNo) (i : ℕ) (acts : List Act) (before after : Pass) → Keeps w me (a_pin s i) acts before after
+PinnedKeysStand = (w : Words) (me : CallerNo) (s : SelNo) (i : ℕ) (acts : List Act) (before after : Pass)
+    → Keeps w me (a_pin s i) acts before after
     → IsSameKey ((state_seen before).key s.0 i) ((state_seen after).key s.0 i)
 
 -- ---- what stands under a hold
 
 -- a channel keeps its mode while a caller holds it and doesn't set it itself
 abbrev pub ModeStands : Type 0
-ModeStands = (w : Words) (me : CallerNo) (c : ChanNo) (acts : List Act) (before after : Pass) → Keeps w me (the_hold c) acts before after
+ModeStands = (w : Words) (me : CallerNo) (c : ChanNo) (acts : List Act) (before after : Pass)
+    → Keeps w me (the_hold c) acts before after
     → IsFalse (has (sets_mode c.0) acts)
     → ((state_seen after).chan c.0).blocking ≡ ((state_seen before).chan c.0).blocking
 
 -- which key is noted for a channel stays while a caller holds it and notes none itself
 abbrev pub NotedStands : Type 0
-NotedStands = (w : Words) (me : CallerNo) (c : ChanNo) (acts : List Act) (before after : Pass) → Keeps w me (the_hold c) acts before after
+NotedStands = (w : Words) (me : CallerNo) (c : ChanNo) (acts : List Act) (before after : Pass)
+    → Keeps w me (the_hold c) acts before after
     → (s : SelNo) → IsFalse (has (notes_key c.0 s.0) acts)
     → (state_seen after).noted c.0 s.0 ≡ (state_seen before).noted c.0 s.0
 
 -- what a caller last found noted for a channel, or noted itself, while it held the channel is noted there
 abbrev pub FoundNotedStands : Type 0
-FoundNotedStands = (w : Words) (me : CallerNo) (c : ChanNo) (acts : List Act) (before after : Pass) → Keeps w me (the_hold c) acts before after
-    → (s : SelNo) (noted : Option KeyId) → last (noted_found c.0 s.0) acts ≡ Some noted → (state_seen after).noted c.0 s.0 ≡ noted
+FoundNotedStands = (w : Words) (me : CallerNo) (c : ChanNo) (acts : List Act) (before after : Pass)
+    → Keeps w me (the_hold c) acts before after
+    → (s : SelNo) (noted : Option KeyId) → last (noted_found c.0 s.0) acts ≡ Some noted
+    → (state_seen after).noted c.0 s.0 ≡ noted
 
 -- a key that is outside the key set stays outside while a caller holds its channel and doesn't publish the key
 -- of its index
 abbrev pub OutsideStands : Type 0
-OutsideStands = (w : Words) (me : CallerNo) (c : ChanNo) (acts : List Act) (before after : Pass) → Keeps w me (the_hold c) acts before after
+OutsideStands = (w : Words) (me : CallerNo) (c : ChanNo) (acts : List Act) (before after : Pass)
+    → Keeps w me (the_hold c) acts before after
     → (s : SelNo) (k : KeyId) → IsFalse (has (publishes s.0 k.index) acts)
     → IsFalse (is_in_key_set ((state_seen before).key s.0 k.index) k.serial)
     → ((state_seen after).key s.0 k.index).chan ≡ c
@@ -136,42 +148,51 @@ OutsideStands = (w : Words) (me : CallerNo) (c : ChanNo) (acts : List Act) (befo
 -- where a caller knows from its acts while it held a channel that no key of the key set is noted for it in a
 -- selector, none is
 abbrev pub FoundClearStands : Type 0
-FoundClearStands = (w : Words) (me : CallerNo) (c : ChanNo) (acts : List Act) (before after : Pass) → Keeps w me (the_hold c) acts before after
+FoundClearStands = (w : Words) (me : CallerNo) (c : ChanNo) (acts : List Act) (before after : Pass)
+    → Keeps w me (the_hold c) acts before after
     → (s : SelNo) → IsTrue (is_clear_by c.0 s.0 acts (last (noted_found c.0 s.0) acts))
-    → ForSome ((state_seen after).noted c.0 s.0) (λ k. IsFalse (is_in_key_set ((state_seen after).key s.0 k.index) k.serial))
+    → ForSome ((state_seen after).noted c.0 s.0)
+    (λ k. IsFalse (is_in_key_set ((state_seen after).key s.0 k.index) k.serial))
 
 -- ---- what stands during a selection
 
 -- of what is seen while a caller selects, all marks and removals of keys of that selector and all ends
 -- of its wakeup are its own
 abbrev pub SelectsAlone : Type 0
-SelectsAlone = (w : Words) (me : CallerNo) (s : SelNo) (acts : List Act) (before after : Pass) → Keeps w me (a_selection s) acts before after
+SelectsAlone = (w : Words) (me : CallerNo) (s : SelNo) (acts : List Act) (before after : Pass)
+    → Keeps w me (a_selection s) acts before after
     → (between : List Event) (e : Event) (rest : List Event) → seen after ≡ seen before ++ (between ++ e ∷ rest)
     → IsTrue (selects_on s.0 e.act) → e.caller ≡ me
 
 -- a key stays in the key set while a caller selects and doesn't remove it itself
 abbrev pub KeySetStands : Type 0
-KeySetStands = (w : Words) (me : CallerNo) (s : SelNo) (acts : List Act) (before after : Pass) → Keeps w me (a_selection s) acts before after
+KeySetStands = (w : Words) (me : CallerNo) (s : SelNo) (acts : List Act) (before after : Pass)
+    → Keeps w me (a_selection s) acts before after
     → (k : KeyId) → IsFalse (has (removes s.0 k.index) acts)
-    → IsTrue (is_in_key_set ((state_seen before).key s.0 k.index) k.serial) → IsTrue (is_in_key_set ((state_seen after).key s.0 k.index) k.serial)
+    → IsTrue (is_in_key_set ((state_seen before).key s.0 k.index) k.serial)
+    → IsTrue (is_in_key_set ((state_seen after).key s.0 k.index) k.serial)
 
 -- an index whose key isn't removed keeps the key while a caller selects and doesn't remove it itself, and
 -- doesn't become free
 abbrev pub SelectedKeysStand : Type 0
-SelectedKeysStand = (w : Words) (me : CallerNo) (s : SelNo) (acts : List Act) (before after : Pass) → Keeps w me (a_selection s) acts before after
+SelectedKeysStand = (w : Words) (me : CallerNo) (s : SelNo) (acts : List Act) (before after : Pass)
+    → Keeps w me (a_selection s) acts before after
     → (i : ℕ) → IsFalse (has (removes s.0 i) acts) → IsFalse ((state_seen before).key s.0 i).removed
-    → IsKeptInSelection ((state_seen before).key s.0 i) ((state_seen after).key s.0 i) × IsFalse ((state_seen after).free s.0 i)
+    → IsKeptInSelection ((state_seen before).key s.0 i) ((state_seen after).key s.0 i)
+    × IsFalse ((state_seen after).free s.0 i)
 
 -- to the mark of a key of the key set no more happens than that somebody takes the key out of the selected
 -- set, while a caller selects and neither marks nor removes it itself
 abbrev pub MarksStand : Type 0
-MarksStand = (w : Words) (me : CallerNo) (s : SelNo) (acts : List Act) (before after : Pass) → Keeps w me (a_selection s) acts before after
+MarksStand = (w : Words) (me : CallerNo) (s : SelNo) (acts : List Act) (before after : Pass)
+    → Keeps w me (a_selection s) acts before after
     → (k : KeyId) → IsFalse (has (removes s.0 k.index) acts) → IsFalse (has (marks s.0 k.index) acts)
     → IsTrue (is_in_key_set ((state_seen before).key s.0 k.index) k.serial)
     → IsAtMostUnselected ((state_seen before).mark s.0 k.index) ((state_seen after).mark s.0 k.index)
 
 -- a pending wakeup stays pending while a caller selects and doesn't end it itself
 abbrev pub WakeupStands : Type 0
-WakeupStands = (w : Words) (me : CallerNo) (s : SelNo) (acts : List Act) (before after : Pass) → Keeps w me (a_selection s) acts before after
+WakeupStands = (w : Words) (me : CallerNo) (s : SelNo) (acts : List Act) (before after : Pass)
+    → Keeps w me (a_selection s) acts before after
     → IsFalse (has (ends_wakeup s.0) acts)
     → IsTrue ((state_seen before).gate s.0).woken → IsTrue ((state_seen after).gate s.0).woken

@@ -31,7 +31,8 @@ pub record Moves (l : Limits) (me : CallerNo) (p : Part) (instruction : Instruct
   pub within : IsWithin l p
   pub bit : IsInWord instruction
   pub part : (n : ℕ) → part_of (act n) ≡ p
-  pub word : (st : State) → IsMoment l me p act st → applied instruction (encoding st p) ≡ encoding (effect st me (act (encoding st p))) p
+  pub word : (st : State) → IsMoment l me p act st
+      → applied instruction (encoding st p) ≡ encoding (effect st me (act (encoding st p))) p
   pub small : (n : ℕ) → n < bound p → applied instruction n < bound p
   pub proper : (st : State) → IsMoment l me p act st → IsProper (effect st me (act (encoding st p))) p
   pub answers : (st : State) → IsMoment l me p act st → Answers st me (act (encoding st p))

@@ -1,5 +1,6 @@
 -- The table's rule: what holds of its words and of all seats' views between any two steps.
-use Rattle.std.specs.Prelude.{◌≡◌, ◌≢◌, ℕ, ◌<◌, true, false, IsTrue, List, [], ◌∷◌, length, All, slice_index, if◌then◌else◌, nat_lt, bit_or}
+use Rattle.std.specs.Prelude.{◌≡◌, ◌≢◌, ℕ, ◌<◌, true, false, IsTrue, List, [], ◌∷◌, length, All, slice_index}
+use Rattle.std.specs.Prelude.{if◌then◌else◌, nat_lt, bit_or}
 use Rattle.std.specs.Int.{bit_at}
 use mathlib.Core.List.{IsPrefix}
 use mathlib.Core.Option.{some}
@@ -33,10 +34,30 @@ abbrev pub half : View → Half
 half v = record { seen = v.seen; numbers = v.numbers }
 
 abbrev pub joined_view : View → View → View
-joined_view v w = record v { seen = longer v.seen w.seen; numbers = bit_or v.numbers w.numbers; alone = false; halves = half v ∷ half w ∷ [] }
+joined_view v w =
+    record v {
+      seen = longer v.seen w.seen;
+      numbers = bit_or v.numbers w.numbers;
+      alone = false;
+      halves =
+          half v ∷ half w ∷ [];
+    }
 
 abbrev pub spent_view : View
-spent_view = record { seen = []; numbers = 0; limits = record { callers = 0; selectors = 0; channels = 0; keys = 0 }; alone = false; spent = true; halves = [] }
+spent_view =
+    record {
+      seen = [];
+      numbers = 0;
+      limits = record {
+        callers = 0;
+        selectors = 0;
+        channels = 0;
+        keys = 0;
+      };
+      alone = false;
+      spent = true;
+      halves = [];
+    }
 
 -- what a seat that is split leaves with these numbers, on either side
 abbrev pub split_view : ℕ → View → View
@@ -86,10 +107,12 @@ pub record IsKept (l : Limits) (s : Table (Unit {0}) View) : Type 0 where
   -- each seat knows a beginning of the history
   pub each : (i : ℕ) (v : View) → get_elem? s.views i ≡ some v → v.spent ≡ false → Knows l history v
   -- no number is held by two seats, and none by a seat that is spent
-  pub one_seat : (i j : ℕ) (v w : View) (n : ℕ) → get_elem? s.views i ≡ some v → get_elem? s.views j ≡ some w → HasBit v.numbers n → HasBit w.numbers n → i ≡ j
+  pub one_seat : (i j : ℕ) (v w : View) (n : ℕ) → get_elem? s.views i ≡ some v → get_elem? s.views j ≡ some w
+      → HasBit v.numbers n → HasBit w.numbers n → i ≡ j
   pub spent_empty : (i : ℕ) (v : View) → get_elem? s.views i ≡ some v → v.spent ≡ true → v.numbers ≡ 0
   -- a number that isn't drawn has no event
   pub undrawn : (n : CallerNo) → (state_after history).drawn n.0 ≡ false → mine n history ≡ []
   -- a seat that is marked as the only one has seen the whole history, and every other seat is spent
   pub alone : (i : ℕ) (v : View) → get_elem? s.views i ≡ some v → v.alone ≡ true → v.seen ≡ history
-  pub others_spent : (i j : ℕ) (v w : View) → get_elem? s.views i ≡ some v → v.alone ≡ true → get_elem? s.views j ≡ some w → j ≢ i → w.spent ≡ true
+  pub others_spent : (i j : ℕ) (v w : View) → get_elem? s.views i ≡ some v → v.alone ≡ true
+      → get_elem? s.views j ≡ some w → j ≢ i → w.spent ≡ true

@@ -10,7 +10,8 @@ use Rattle.nio_words.specs.declared.words.Pass.{Pass}
 use Rattle.nio_words.specs.declared.words.Words.{Words}
 
 abbrev pub view : Words → Pass → PassView
-view w p = record { limits = limits_of w; seen = seen p; held = λ n. bit_at (numbers_of p) n.0 == 1; only = (view_of p).alone }
+view w p =
+    record { limits = limits_of w; seen = seen p; held = λ n. bit_at (numbers_of p) n.0 == 1; only = (view_of p).alone }
 
 -- the caller has a pin on this index, and on no other
 pub record HasOnlyPin (pass : PassView) (me : CallerNo) (s : SelNo) (i : ℕ) : Type 0 where

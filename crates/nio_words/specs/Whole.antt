@@ -10,4 +10,5 @@ use Rattle.nio_words.specs.declared.view.View.{View}
 -- between any two steps, a pass that holds every number below the limit has seen the whole history
 abbrev pub HoldersOfAllSeeAll : Type 0
 HoldersOfAllSeeAll = (l : Limits) (s : Table (Unit {0}) View) (kept : IsKept l s) (i : ℕ) (v : View)
-    → get_elem? s.views i ≡ some v → v.spent ≡ false → ((n : ℕ) → n < l.callers → HasBit v.numbers n) → v.seen ≡ kept.history
+    → get_elem? s.views i ≡ some v → v.spent ≡ false → ((n : ℕ) → n < l.callers → HasBit v.numbers n)
+    → v.seen ≡ kept.history

@@ -16,8 +16,10 @@ use thiserror::Error;
 /// Why a number wasn't drawn.
 #[derive(Clone, Copy, Debug, PartialEq, Eq, Error)]
 pub enum DrawError {
+    /// The number isn't below the table's limit of callers.
     #[error("there is no caller with this number")]
     NoSuchCaller,
+    /// Some pass acts, or acted, for this caller.
     #[error("the number is drawn already")]
     CallerTaken,
 }

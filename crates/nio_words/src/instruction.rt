@@ -5,6 +5,7 @@ ghost use Rattle.nio_words.specs.Instructions.{put_bit};
 /// What one step does to its word. It finds what stood there before.
 #[derive(Clone, Copy)]
 pub enum Instruction {
+    /// Leaves the word as it is.
     Load,
     /// Sets this bit.
     SetBit(u32),

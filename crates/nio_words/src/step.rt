@@ -20,12 +20,17 @@ use std::marker::Brand;
 /// What the part and the instruction of a step leave out of the event that it adds.
 #[derive(Clone, Copy)]
 pub enum Details {
+    /// The kind of a channel that is made.
     OfKind(Kind),
+    /// The channel for which an index is claimed.
     ForChannel(ChanNo),
     /// The channel, and the stage from which an index is claimed again.
     Again(ChanNo, Stage),
+    /// An index of a selector, or a high-water mark.
     Number(u32),
+    /// The key that is noted for a channel.
     Noted(KeyId),
+    /// Whether a channel is blocking from now on.
     Mode(bool),
     /// Whether the key was selected, its ready set, and what was told of it.
     Told(bool, Ops, Ops),

@@ -54,6 +54,7 @@ impl Words {
         Ok((Words { limits, table }, Pass { numbers: 0, seat }))
     }
 
+    /// How many callers, selectors, channels and keys the table has words for.
     pub fn limits(&self) -> Limits
         ensures { result ≡ limits_of self.now }
     {

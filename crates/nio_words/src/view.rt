@@ -5,7 +5,9 @@ use nio_event::Event;
 
 /// What one of two joined passes knew. A clause reads an array as a list of any length.
 pub struct Half {
+    /// The history as far as it was seen.
     pub seen: [Event; 0],
+    /// The callers' numbers that it held, one bit each.
     pub numbers: u64,
 }
 
@@ -15,6 +17,7 @@ pub struct View {
     pub seen: [Event; 0],
     /// The callers' numbers that it holds, one bit each.
     pub numbers: u64,
+    /// The table's limits.
     pub limits: Limits,
     /// Whether it is the table's only one.
     pub alone: bool,

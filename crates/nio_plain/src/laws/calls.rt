@@ -1,7 +1,9 @@
 //! Laws of one call, and of the calls between two wakeups.
 ghost use Rattle.nio_plain.specs.CallLaws.{RefusalsChangeNothing, OnlyToldBitsAreSelected, BitsAreToldAndLookedFor, LookedIsAnswered, OnlyItselfEndsASelection, WakeupsArePending, FurtherWakeupsChangeNothing, WakeupsAreAnswered, WakeupsActAsOne};
 
-/// A refused call changes nothing, nor does one that only asks.
+/// A refused call changes nothing, nor does one that only asks. The exceptions are calls on pipes: an owner's
+/// `closec` or `pwrite` that finds its sink closed leaves the end mark, an interrupted caller's `pread` or
+/// `pwrite` closes its channel, and a `pipe` with one channel left makes and closes that channel.
 pub fn refusals_law()
     ensures { RefusalsChangeNothing }
 {}

@@ -203,10 +203,8 @@ impl Plain {
     fn is_closed(&self, chan: ChanNo) -> bool
         ensures { result ≡ ((state_of self.now).shared.chan chan.0).closed }
     {
-        match self.channels.get(chan.0 as usize) {
-            Some(channel) => channel.closed,
-            None => false,
-        }
+        let number = chan.0 as usize;
+        number < self.channels.len() && self.channels[number].closed
     }
 }
 

@@ -7,7 +7,9 @@ use Rattle.nio_tour.specs.Drawn.{first, second}
 use Rattle.nio_tour.proofs.set_up.Goals as goal
 
 pub register-requires-clause-selector : goal.register-requires-clause-selector
-register-requires-clause-selector g c = selector_after c.in_ok-set_blocking.ensures.call.acts (selector_after c.in_ok-chan.ensures.call.acts c.in_ok-sel.ensures.made)
+register-requires-clause-selector g c =
+    selector_after c.in_ok-set_blocking.ensures.call.acts
+    (selector_after c.in_ok-chan.ensures.call.acts c.in_ok-sel.ensures.made)
 
 pub register-requires-clause-channel : goal.register-requires-clause-channel
 register-requires-clause-channel g c = channel_after c.in_ok-set_blocking.ensures.call.acts c.in_ok-chan.ensures.made

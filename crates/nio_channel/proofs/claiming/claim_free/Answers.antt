@@ -16,10 +16,12 @@ pub claim_taken-requires-clause-unpinned : goal.claim_taken-requires-clause-unpi
 claim_taken-requires-clause-unpinned c = no_pin_stays (step_acts c.take_free.ensures refl) refl c.requires.unpinned
 
 pub returns-then-take_free-clause-call : goal.returns-then-take_free-clause-call
-returns-then-take_free-clause-call c = returned (left_ask _ (step_acts c.if-take_free.ensures refl) (left_of_call c.claim_taken.ensures.call))
+returns-then-take_free-clause-call c =
+    returned (left_ask _ (step_acts c.if-take_free.ensures refl) (left_of_call c.claim_taken.ensures.call))
 
 pub returns-else-take_free-clause-may : goal.returns-else-take_free-clause-may
 returns-else-take_free-clause-may c = may_note_stays c.take_free.ensures refl refl c.requires.may
 
 pub returns-else-take_free-clause-unpinned : goal.returns-else-take_free-clause-unpinned
-returns-else-take_free-clause-unpinned c = λ _. no_pin_stays (step_acts c.take_free.ensures refl) refl c.requires.unpinned
+returns-else-take_free-clause-unpinned c =
+    λ _. no_pin_stays (step_acts c.take_free.ensures refl) refl c.requires.unpinned

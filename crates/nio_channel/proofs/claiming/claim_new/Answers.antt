@@ -18,7 +18,8 @@ pub returns-else-claim-clause-may : goal.returns-else-claim-clause-may
 returns-else-claim-clause-may c = may_note_stays c.claim.ensures refl refl c.requires.may
 
 pub returns-else-claim-clause-claimed : goal.returns-else-claim-clause-claimed
-returns-else-claim-clause-claimed c = has_claimed c.if-claim.ensures c.requires.may.unblocked.held.ready c.requires.key c.requires.unpinned
+returns-else-claim-clause-claimed c =
+    has_claimed c.if-claim.ensures c.requires.may.unblocked.held.ready c.requires.key c.requires.unpinned
 
 pub returns-else-claim-clause-lower : goal.returns-else-claim-clause-lower
 returns-else-claim-clause-lower c = all_claimed_more (step_acts c.claim.ensures refl) c.requires.lower

@@ -5,13 +5,19 @@ use Rattle.nio_steps.specs.Plan.{reply}
 use Rattle.nio_channel.proofs.claiming.search_bits.Goals as goal
 
 pub loop-b-init : goal.loop-b-init
-loop-b-init c = (c.requires.may, c.requires.unpinned, left_reply (left_start _ _ _ c.requires.may.unblocked.held.ready.pass.legal))
+loop-b-init c =
+    (c.requires.may, c.requires.unpinned, left_reply (left_start _ _ _ c.requires.may.unblocked.held.ready.pass.legal))
 
 pub returns-in-Some-clause-call : goal.returns-in-Some-clause-call
-returns-in-Some-clause-call c = returned (seek_yes _ _ _ reply _ (search rules) c.loop-b.invariant.2 c.in-Some.ensures.call)
+returns-in-Some-clause-call c =
+    returned (seek_yes _ _ _ reply _ (search rules) c.loop-b.invariant.2 c.in-Some.ensures.call)
 
 pub loop-b-preserved : goal.loop-b-preserved
-loop-b-preserved c = (c.in_default.ensures.may, c.in_default.ensures.unpinned refl, seek_no _ _ _ reply (search rules) c.loop-b.invariant.2 c.in_default.ensures.call)
+loop-b-preserved c = (
+  c.in_default.ensures.may,
+  c.in_default.ensures.unpinned refl,
+  seek_no _ _ _ reply (search rules) c.loop-b.invariant.2 c.in_default.ensures.call,
+)
 
 pub returns-clause-call : goal.returns-clause-call
 returns-clause-call c = returned (seek_done _ _ _ reply (search rules) c.loop-b.invariant.2)

@@ -17,7 +17,8 @@ cancel_pinned-requires c = record {
 pub returns-clause-call : goal.returns-clause-call
 unfolding cancel_plan
 returns-clause-call c =
-    ran_pinned (cancel_present (key c.args.sel c.args.k)) (step_acts c.pin-stage.ensures refl) c.cancel_pinned.ensures.call (step_acts c.unpin.ensures refl)
+    ran_pinned (cancel_present (key c.args.sel c.args.k))
+    (step_acts c.pin-stage.ensures refl) c.cancel_pinned.ensures.call (step_acts c.unpin.ensures refl)
 
 pub returns-clause-unpinned : goal.returns-clause-unpinned
 returns-clause-unpinned c = none_unpinned (step_acts c.unpin.ensures refl) c.cancel_pinned.ensures.pinned.only

@@ -18,7 +18,11 @@ cancel_all-requires-clause-unpinned c = no_pin_stays (step_acts c.close_bit.ensu
 
 pub returns-clause-call : goal.returns-clause-call
 unfolding close_channel_plan
-returns-clause-call c = returned (left_ask _ (step_acts c.close_bit.ensures refl) (left_else _ _ _ c.if-close_bit.false (left_of_call c.cancel_all.ensures.call)))
+returns-clause-call c =
+    returned (left_ask _ (step_acts c.close_bit.ensures refl)
+    (left_else _ _ _ c.if-close_bit.false (left_of_call c.cancel_all.ensures.call)))
 
 pub returns-clause-closed : goal.returns-clause-closed
-returns-clause-closed c = lasts_over (channel_closed c.args.chan.0) c.cancel_all.ensures.call.acts (closed_now (step_acts c.close_bit.ensures refl))
+returns-clause-closed c =
+    lasts_over (channel_closed c.args.chan.0) c.cancel_all.ensures.call.acts
+    (closed_now (step_acts c.close_bit.ensures refl))

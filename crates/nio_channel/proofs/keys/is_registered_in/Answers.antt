@@ -8,9 +8,11 @@ use Rattle.nio_channel.proofs.keys.is_registered_in.Goals as goal
 pub returns-then-before-clause-call : goal.returns-then-before-clause-call
 returns-then-before-clause-call c =
     let same : (c.args.before || is_some c.key_in-here.result) ≡ c.args.before = search rules in
-    returned (ran_then (λ here. reply (c.args.before || is_some here)) c.key_in-here.ensures.call (left_at (ap reply same) c.key_in-here.ensures.call.acts))
+    returned (ran_then (λ here. reply (c.args.before || is_some here)) c.key_in-here.ensures.call
+    (left_at (ap reply same) c.key_in-here.ensures.call.acts))
 
 pub returns-else-before-clause-call : goal.returns-else-before-clause-call
 returns-else-before-clause-call c =
     let same : (c.args.before || is_some c.key_in-here.result) ≡ c.is_some.result = search rules in
-    returned (ran_then (λ here. reply (c.args.before || is_some here)) c.key_in-here.ensures.call (left_at (ap reply same) c.key_in-here.ensures.call.acts))
+    returned (ran_then (λ here. reply (c.args.before || is_some here)) c.key_in-here.ensures.call
+    (left_at (ap reply same) c.key_in-here.ensures.call.acts))

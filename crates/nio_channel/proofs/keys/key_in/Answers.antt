@@ -20,7 +20,8 @@ unfolding key_for_plan
 returns-then-is_in_key_set-clause-call c =
     let found : is_in_key_set c.look_key-stage.result c.in-Some.k.serial ≡ true = search rules in
     returned (left_ask _ (step_acts c.in-Some.ensures.step refl) (left_ask _ (step_acts c.look_key-stage.ensures refl)
-    (left_at (ap (λ b. reply (if b then Some (key c.args.sel c.in-Some.k) else None)) found) (step_acts c.look_key-stage.ensures refl))))
+    (left_at (ap (λ b. reply (if b then Some (key c.args.sel c.in-Some.k) else None)) found)
+    (step_acts c.look_key-stage.ensures refl))))
 
 pub returns-then-is_in_key_set-clause-found : goal.returns-then-is_in_key_set-clause-found
 returns-then-is_in_key_set-clause-found c =
@@ -28,17 +29,20 @@ returns-then-is_in_key_set-clause-found c =
     looked_key c.look_key-stage.ensures c.in-Some.ensures.inside found
 
 pub returns-then-is_in_key_set-clause-held : goal.returns-then-is_in_key_set-clause-held
-returns-then-is_in_key_set-clause-held c = λ held. hold_stays c.look_key-stage.ensures refl refl (hold_stays c.in-Some.ensures.step refl refl held)
+returns-then-is_in_key_set-clause-held c =
+    λ held. hold_stays c.look_key-stage.ensures refl refl (hold_stays c.in-Some.ensures.step refl refl held)
 
 pub returns-else-is_in_key_set-clause-call : goal.returns-else-is_in_key_set-clause-call
 unfolding key_for_plan
 returns-else-is_in_key_set-clause-call c =
     let out : is_in_key_set c.look_key-stage.result c.in-Some.k.serial ≡ false = search rules in
     returned (left_ask _ (step_acts c.in-Some.ensures.step refl) (left_ask _ (step_acts c.look_key-stage.ensures refl)
-    (left_at (ap (λ b. reply (if b then Some (key c.args.sel c.in-Some.k) else None)) out) (step_acts c.look_key-stage.ensures refl))))
+    (left_at (ap (λ b. reply (if b then Some (key c.args.sel c.in-Some.k) else None)) out)
+    (step_acts c.look_key-stage.ensures refl))))
 
 pub returns-else-is_in_key_set-clause-held : goal.returns-else-is_in_key_set-clause-held
-returns-else-is_in_key_set-clause-held c = λ held. hold_stays c.look_key-stage.ensures refl refl (hold_stays c.in-Some.ensures.step refl refl held)
+returns-else-is_in_key_set-clause-held c =
+    λ held. hold_stays c.look_key-stage.ensures refl refl (hold_stays c.in-Some.ensures.step refl refl held)
 
 pub returns-else-is_in_key_set-clause-clear : goal.returns-else-is_in_key_set-clause-clear
 returns-else-is_in_key_set-clause-clear c = λ _ clear.

@@ -5,13 +5,19 @@ use Rattle.nio_steps.specs.Plan.{reply}
 use Rattle.nio_channel.proofs.modes.first_key.Goals as goal
 
 pub loop-number-init : goal.loop-number-init
-loop-number-init c = (c.requires, λ s below. absurd (omega arith), left_reply (left_start _ _ _ c.requires.ready.pass.legal))
+loop-number-init c =
+    (c.requires, λ s below. absurd (omega arith), left_reply (left_start _ _ _ c.requires.ready.pass.legal))
 
 pub returns-in-Some-clause-call : goal.returns-in-Some-clause-call
-returns-in-Some-clause-call c = returned (seek_yes _ _ _ reply _ (search rules) c.loop-number.invariant.2 c.in-Some.ensures.call)
+returns-in-Some-clause-call c =
+    returned (seek_yes _ _ _ reply _ (search rules) c.loop-number.invariant.2 c.in-Some.ensures.call)
 
 pub loop-number-preserved : goal.loop-number-preserved
-loop-number-preserved c = (c.in_default.ensures.held c.loop-number.invariant.0, c.in_default.ensures.clear refl c.loop-number.invariant.1, seek_no _ _ _ reply (search rules) c.loop-number.invariant.2 c.in_default.ensures.call)
+loop-number-preserved c = (
+  c.in_default.ensures.held c.loop-number.invariant.0,
+  c.in_default.ensures.clear refl c.loop-number.invariant.1,
+  seek_no _ _ _ reply (search rules) c.loop-number.invariant.2 c.in_default.ensures.call,
+)
 
 pub returns-clause-call : goal.returns-clause-call
 returns-clause-call c = returned (seek_done _ _ _ reply (search rules) c.loop-number.invariant.2)

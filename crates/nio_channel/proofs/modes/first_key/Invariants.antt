@@ -11,4 +11,5 @@ use Rattle.nio_channel.proofs.modes.first_key.Given as goal
 abbrev pub invariant-loop-number : goal.invariant-loop-number
 invariant-loop-number l =
     HoldsChannel l.w l.p l.me l.chan × IsClearBelow l.p l.me l.chan l.number
-    × PartClause l.me (first_key (limits_of l.w) l.chan) (view l.w l.fn.p) (view l.w l.p) (seek_to (limits_of l.w).selectors l.number (λ s. key_for_plan l.chan (selector s)) >>= reply)
+    × PartClause l.me (first_key (limits_of l.w) l.chan) (view l.w l.fn.p) (view l.w l.p)
+    (seek_to (limits_of l.w).selectors l.number (λ s. key_for_plan l.chan (selector s)) >>= reply)

@@ -11,4 +11,6 @@ pub set_mode_open-requires : goal.set_mode_open-requires
 set_mode_open-requires c = hold_stays c.look_channel.ensures refl refl c.requires
 
 pub returns-clause-call : goal.returns-clause-call
-returns-clause-call c = returned (left_ask _ (step_acts c.look_channel.ensures refl) (left_else _ _ _ c.if-look_channel.false (left_of_call c.set_mode_open.ensures.call)))
+returns-clause-call c =
+    returned (left_ask _ (step_acts c.look_channel.ensures refl)
+    (left_else _ _ _ c.if-look_channel.false (left_of_call c.set_mode_open.ensures.call)))

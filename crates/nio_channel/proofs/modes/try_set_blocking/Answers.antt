@@ -15,17 +15,22 @@ pub returns-then-is_some-clause-call : goal.returns-then-is_some-clause-call
 unfolding try_set_blocking_plan
 returns-then-is_some-clause-call c =
     let held : is_some c.try_hold_bit.result ≡ true = search rules in
-    returned (left_ask _ (step_acts c.look_channel.ensures refl) (left_else _ _ _ c.if-look_channel.false (left_ask _ (step_acts c.try_hold_bit.ensures refl)
+    returned (left_ask _ (step_acts c.look_channel.ensures refl)
+    (left_else _ _ _ c.if-look_channel.false (left_ask _ (step_acts c.try_hold_bit.ensures refl)
     (left_then _ _ _ held (left_after (step_acts c.try_hold_bit.ensures refl))))))
 
 pub set_mode_held-answer-requires : goal.set_mode_held-answer-requires
 set_mode_held-answer-requires c =
     let free : c.try_hold_bit.result ≡ None = search rules in
-    takes_the_hold c.try_hold_bit.ensures free (still_ready _ _ _ _ _ _ c.look_channel.ensures c.requires.ready) c.requires.channel.inside
+    takes_the_hold c.try_hold_bit.ensures free (still_ready _ _ _ _ _ _ c.look_channel.ensures c.requires.ready)
+    c.requires.channel.inside
 
 pub returns-clause-call : goal.returns-clause-call
 unfolding try_set_blocking_plan
 returns-clause-call c =
     let free : is_some c.try_hold_bit.result ≡ false = search rules in
-    returned (left_ask _ (step_acts c.look_channel.ensures refl) (left_else _ _ _ c.if-look_channel.false (left_ask _ (step_acts c.try_hold_bit.ensures refl)
-    (left_else _ _ _ free (ran_then _ c.set_mode_held-answer.ensures.call (left_ask _ (step_acts c.release.ensures refl) (left_after (step_acts c.release.ensures refl))))))))
+    returned (left_ask _ (step_acts c.look_channel.ensures refl)
+    (left_else _ _ _ c.if-look_channel.false (left_ask _ (step_acts c.try_hold_bit.ensures refl)
+    (left_else _ _ _ free
+    (ran_then _ c.set_mode_held-answer.ensures.call
+    (left_ask _ (step_acts c.release.ensures refl) (left_after (step_acts c.release.ensures refl))))))))

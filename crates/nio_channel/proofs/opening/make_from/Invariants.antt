@@ -11,5 +11,6 @@ use Rattle.nio_channel.proofs.opening.make_from.Given as goal
 abbrev pub invariant-loop-number : goal.invariant-loop-number
 invariant-loop-number l =
     IsReady l.w l.p l.me × AllMade (state_seen l.p) l.number
-    × PartClause l.me (seek_to (limits_of l.w).channels l.mark (λ n. makes_channel l.kind (channel n))) (view l.w l.fn.p) (view l.w l.p)
+    × PartClause l.me (seek_to (limits_of l.w).channels l.mark (λ n. makes_channel l.kind (channel n)))
+    (view l.w l.fn.p) (view l.w l.p)
     (seek_to (limits_of l.w).channels l.number (λ n. makes_channel l.kind (channel n)) >>= reply)

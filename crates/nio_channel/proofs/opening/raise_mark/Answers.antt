@@ -5,4 +5,9 @@ use Rattle.nio_channel.proofs.Made.{lasts_over}
 use Rattle.nio_channel.proofs.opening.raise_mark.Goals as goal
 
 pub returns-clause-made : goal.returns-clause-made
-returns-clause-made c = record { inside = search rules; made = lasts_over (channel_made c.in_ok-chan.chan.0) (step_acts c.raise_channels.ensures refl) (search rules) }
+returns-clause-made c =
+    record {
+      inside = search rules;
+      made = lasts_over (channel_made c.in_ok-chan.chan.0)
+          (step_acts c.raise_channels.ensures refl) (search rules);
+    }

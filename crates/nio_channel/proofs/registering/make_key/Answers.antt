@@ -19,4 +19,6 @@ pub publish_key-requires-clause-claimed : goal.publish_key-requires-clause-claim
 publish_key-requires-clause-claimed c = claimed_stays c.look_gate.ensures refl refl refl c.requires.claimed
 
 pub returns-clause-call : goal.returns-clause-call
-returns-clause-call c = returned (left_ask _ (step_acts c.look_gate.ensures refl) (left_else _ _ _ c.if-look_gate.false (left_of_call c.publish_key.ensures.call)))
+returns-clause-call c =
+    returned (left_ask _ (step_acts c.look_gate.ensures refl)
+    (left_else _ _ _ c.if-look_gate.false (left_of_call c.publish_key.ensures.call)))

@@ -8,32 +8,64 @@ use Rattle.nio_channel.proofs.Registered.{enrolled_unblocked, enrolled_noted, ma
 use Rattle.nio_channel.proofs.registering.publish_key.Goals as goal
 
 pub swap_note-requires-clause-pinned : goal.swap_note-requires-clause-pinned
-swap_note-requires-clause-pinned c = (stays_pinned c.swap_interest.ensures refl refl c.requires.claimed.pinned).only.here
+swap_note-requires-clause-pinned c =
+    (stays_pinned c.swap_interest.ensures refl refl c.requires.claimed.pinned).only.here
 
 pub enrol-requires-clause-holds : goal.enrol-requires-clause-holds
-enrol-requires-clause-holds c = (may_note_stays c.swap_note.ensures refl refl (may_note_stays c.swap_interest.ensures refl refl c.requires.may)).unblocked.held.holding
+enrol-requires-clause-holds c =
+    (may_note_stays c.swap_note.ensures refl refl
+    (may_note_stays c.swap_interest.ensures refl refl c.requires.may)).unblocked.held.holding
 
 pub enrol-requires-clause-clear : goal.enrol-requires-clause-clear
-enrol-requires-clause-clear c = (may_note_stays c.swap_note.ensures refl refl (may_note_stays c.swap_interest.ensures refl refl c.requires.may)).clear
+enrol-requires-clause-clear c =
+    (may_note_stays c.swap_note.ensures refl refl
+    (may_note_stays c.swap_interest.ensures refl refl c.requires.may)).clear
 
 pub publish-before-requires-clause-may : goal.publish-before-requires-clause-may
-publish-before-requires-clause-may c = may_publish_claimed (enrolled_unblocked c.enrol.ensures (may_note_stays c.swap_note.ensures refl refl (may_note_stays c.swap_interest.ensures refl refl c.requires.may)).unblocked) (claimed_stays c.enrol.ensures refl refl refl (claimed_stays c.swap_note.ensures refl refl refl (claimed_stays c.swap_interest.ensures refl refl refl c.requires.claimed)))
+publish-before-requires-clause-may c =
+    may_publish_claimed
+    (enrolled_unblocked c.enrol.ensures
+    (may_note_stays c.swap_note.ensures refl refl
+    (may_note_stays c.swap_interest.ensures refl refl c.requires.may)).unblocked)
+    (claimed_stays c.enrol.ensures refl refl refl
+    (claimed_stays c.swap_note.ensures refl refl refl
+    (claimed_stays c.swap_interest.ensures refl refl refl c.requires.claimed)))
 
 pub returns-then-before-clause-call : goal.returns-then-before-clause-call
 returns-then-before-clause-call c =
-    returned (left_ask _ (step_acts c.swap_interest.ensures refl) (left_ask _ (step_acts c.swap_note.ensures refl) (left_ask _ (step_acts c.enrol.ensures refl) (left_ask _ (step_acts c.publish-before.ensures refl)
+    returned (left_ask _ (step_acts c.swap_interest.ensures refl)
+    (left_ask _ (step_acts c.swap_note.ensures refl)
+    (left_ask _ (step_acts c.enrol.ensures refl) (left_ask _ (step_acts c.publish-before.ensures refl)
     (left_then _ _ _ c.if-before.true (left_after (step_acts c.publish-before.ensures refl)))))))
 
 pub returns-then-before-clause-held : goal.returns-then-before-clause-held
-returns-then-before-clause-held c = hold_stays c.publish-before.ensures refl refl (enrolled_unblocked c.enrol.ensures (may_note_stays c.swap_note.ensures refl refl (may_note_stays c.swap_interest.ensures refl refl c.requires.may)).unblocked).held
+returns-then-before-clause-held c =
+    hold_stays c.publish-before.ensures refl refl
+    (enrolled_unblocked c.enrol.ensures
+    (may_note_stays c.swap_note.ensures refl refl
+    (may_note_stays c.swap_interest.ensures refl refl c.requires.may)).unblocked).held
 
 pub returns-then-before-clause-pinned : goal.returns-then-before-clause-pinned
-returns-then-before-clause-pinned c = stays_pinned c.publish-before.ensures refl refl (claimed_stays c.enrol.ensures refl refl refl (claimed_stays c.swap_note.ensures refl refl refl (claimed_stays c.swap_interest.ensures refl refl refl c.requires.claimed))).pinned
+returns-then-before-clause-pinned c =
+    stays_pinned c.publish-before.ensures refl refl
+    (claimed_stays c.enrol.ensures refl refl refl
+    (claimed_stays c.swap_note.ensures refl refl refl
+    (claimed_stays c.swap_interest.ensures refl refl refl c.requires.claimed))).pinned
 
 pub settle_key-requires : goal.settle_key-requires
-settle_key-requires c = has_published c.publish-before.ensures (enrolled_unblocked c.enrol.ensures (may_note_stays c.swap_note.ensures refl refl (may_note_stays c.swap_interest.ensures refl refl c.requires.may)).unblocked) (enrolled_noted c.enrol.ensures) (claimed_stays c.enrol.ensures refl refl refl (claimed_stays c.swap_note.ensures refl refl refl (claimed_stays c.swap_interest.ensures refl refl refl c.requires.claimed)))
+settle_key-requires c =
+    has_published c.publish-before.ensures
+    (enrolled_unblocked c.enrol.ensures
+    (may_note_stays c.swap_note.ensures refl refl
+    (may_note_stays c.swap_interest.ensures refl refl c.requires.may)).unblocked)
+    (enrolled_noted c.enrol.ensures)
+    (claimed_stays c.enrol.ensures refl refl refl
+    (claimed_stays c.swap_note.ensures refl refl refl
+    (claimed_stays c.swap_interest.ensures refl refl refl c.requires.claimed)))
 
 pub returns-clause-call : goal.returns-clause-call
 returns-clause-call c =
-    returned (left_ask _ (step_acts c.swap_interest.ensures refl) (left_ask _ (step_acts c.swap_note.ensures refl) (left_ask _ (step_acts c.enrol.ensures refl) (left_ask _ (step_acts c.publish-before.ensures refl)
+    returned (left_ask _ (step_acts c.swap_interest.ensures refl)
+    (left_ask _ (step_acts c.swap_note.ensures refl)
+    (left_ask _ (step_acts c.enrol.ensures refl) (left_ask _ (step_acts c.publish-before.ensures refl)
     (left_else _ _ _ c.if-before.false (left_of_call c.settle_key.ensures.call))))))

@@ -12,4 +12,5 @@ pub make_claimed-requires-clause-claimed : goal.make_claimed-requires-clause-cla
 make_claimed-requires-clause-claimed c = claimed_stays c.clear_mark.ensures refl refl refl c.requires.claimed
 
 pub returns-clause-call : goal.returns-clause-call
-returns-clause-call c = returned (left_ask _ (step_acts c.clear_mark.ensures refl) (left_of_call c.make_claimed.ensures.call))
+returns-clause-call c =
+    returned (left_ask _ (step_acts c.clear_mark.ensures refl) (left_of_call c.make_claimed.ensures.call))

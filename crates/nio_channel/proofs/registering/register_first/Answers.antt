@@ -13,11 +13,13 @@ make_claimed-requires-clause-may c = may_note_stays c.raise_keys.ensures refl re
 
 pub make_claimed-requires-clause-claimed : goal.make_claimed-requires-clause-claimed
 make_claimed-requires-clause-claimed c =
-    let claimed : HasClaimed c.args.w.now c.args.p.now c.args.me c.args.wanted.now.chan c.args.wanted.now.sel c.in-Some.k = search rules in
+    let claimed : HasClaimed c.args.w.now c.args.p.now c.args.me c.args.wanted.now.chan c.args.wanted.now.sel
+    c.in-Some.k = search rules in
     claimed_stays c.raise_keys.ensures refl refl refl claimed
 
 pub returns-clause-call : goal.returns-clause-call
 returns-clause-call c =
     let is : c.args.claimed ≡ Some c.in-Some.k = search rules in
-    call_from (register_first c.args.wanted.now.sel c.args.wanted.now.chan c.args.wanted.now.ops c.args.wanted.now.att) is
+    call_from (register_first c.args.wanted.now.sel c.args.wanted.now.chan c.args.wanted.now.ops c.args.wanted.now.att)
+    is
     (returned (left_ask _ (step_acts c.raise_keys.ensures refl) (left_of_call c.make_claimed.ensures.call)))

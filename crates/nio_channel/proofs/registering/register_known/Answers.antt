@@ -23,10 +23,13 @@ pub register_noted-over-requires-clause-has : goal.register_noted-over-requires-
 register_noted-over-requires-clause-has c = λ inside. pinned_key c.pin-stage.ensures c.requires.inside inside
 
 pub register_noted-over-requires-clause-may : goal.register_noted-over-requires-clause-may
-register_noted-over-requires-clause-may c = λ out. pinned_outside c.pin-stage.ensures c.requires.unblocked c.requires.noted out
+register_noted-over-requires-clause-may c =
+    λ out. pinned_outside c.pin-stage.ensures c.requires.unblocked c.requires.noted out
 
 pub returns-clause-call : goal.returns-clause-call
-returns-clause-call c = ran_pinned (register_noted c.args.wanted.now.sel c.args.wanted.now.ops c.args.wanted.now.att c.args.k) (step_acts c.pin-stage.ensures refl) c.register_noted-over.ensures.call (step_acts c.unpin.ensures refl)
+returns-clause-call c =
+    ran_pinned (register_noted c.args.wanted.now.sel c.args.wanted.now.ops c.args.wanted.now.att c.args.k)
+    (step_acts c.pin-stage.ensures refl) c.register_noted-over.ensures.call (step_acts c.unpin.ensures refl)
 
 pub returns-clause-unblocked : goal.returns-clause-unblocked
 returns-clause-unblocked c = unblocked_stays c.unpin.ensures refl refl c.register_noted-over.ensures.unblocked
@@ -35,7 +38,9 @@ pub returns-clause-may : goal.returns-clause-may
 returns-clause-may c = λ none. may_note_stays c.unpin.ensures refl refl (c.register_noted-over.ensures.may none)
 
 pub returns-clause-registered : goal.returns-clause-registered
-returns-clause-registered c = each_some_ok c.register_noted-over.result c.register_noted-over.ensures.registered (λ k here. registered_stays c.unpin.ensures refl refl refl refl here)
+returns-clause-registered c =
+    each_some_ok c.register_noted-over.result c.register_noted-over.ensures.registered
+    (λ k here. registered_stays c.unpin.ensures refl refl refl refl here)
 
 pub returns-clause-unpinned : goal.returns-clause-unpinned
 returns-clause-unpinned c = none_unpinned (step_acts c.unpin.ensures refl) c.register_noted-over.ensures.pinned.only

@@ -17,13 +17,18 @@ pub search_free-claimed-requires-clause-mark : goal.search_free-claimed-requires
 search_free-claimed-requires-clause-mark c = mark_inside (step_acts c.look_keys-mark.ensures refl)
 
 pub search_free-claimed-requires-clause-unpinned : goal.search_free-claimed-requires-clause-unpinned
-search_free-claimed-requires-clause-unpinned c = no_pin_stays (step_acts c.look_keys-mark.ensures refl) refl c.requires.unpinned
+search_free-claimed-requires-clause-unpinned c =
+    no_pin_stays (step_acts c.look_keys-mark.ensures refl) refl c.requires.unpinned
 
 pub register_next-requires-clause-lower : goal.register_next-requires-clause-lower
-register_next-requires-clause-lower c = λ i below. lasts_over (index_claimed c.args.wanted.now.sel.0 i) c.search_free-claimed.ensures.call.acts (all_claimed_below (step_acts c.look_keys-mark.ensures refl) i below)
+register_next-requires-clause-lower c =
+    λ i below. lasts_over (index_claimed c.args.wanted.now.sel.0 i) c.search_free-claimed.ensures.call.acts
+    (all_claimed_below (step_acts c.look_keys-mark.ensures refl) i below)
 
 pub returns-clause-call : goal.returns-clause-call
 returns-clause-call c =
     returned (left_ask _ (step_acts c.look_keys-mark.ensures refl)
-    (ran_then (register_next (limits_of c.args.w.now) c.args.wanted.now.sel c.args.wanted.now.chan c.args.wanted.now.ops c.args.wanted.now.att c.look_keys-mark.result)
+    (ran_then
+    (register_next (limits_of c.args.w.now) c.args.wanted.now.sel c.args.wanted.now.chan c.args.wanted.now.ops
+    c.args.wanted.now.att c.look_keys-mark.result)
     c.search_free-claimed.ensures.call (left_of_call c.register_next.ensures.call)))

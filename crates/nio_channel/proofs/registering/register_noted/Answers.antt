@@ -20,15 +20,18 @@ update_key-requires c =
     record {
       unblocked = unblocked_stays c.look_gate.ensures refl refl c.requires.unblocked;
       pinned = stays_pinned c.look_gate.ensures refl refl c.requires.pinned;
-      noted = noted_stays c.args.wanted.now.chan c.args.wanted.now.sel c.args.k c.look_gate.ensures refl refl refl c.requires.noted;
-      has = key_after (step_acts c.look_gate.ensures refl) (c.requires.has (valid_in_set c.args.stage c.args.k.serial valid));
+      noted = noted_stays c.args.wanted.now.chan c.args.wanted.now.sel c.args.k c.look_gate.ensures refl refl refl
+          c.requires.noted;
+      has = key_after (step_acts c.look_gate.ensures refl)
+          (c.requires.has (valid_in_set c.args.stage c.args.k.serial valid));
     }
 
 pub returns-then-is_valid_key-clause-call : goal.returns-then-is_valid_key-clause-call
 returns-then-is_valid_key-clause-call c =
     let spared : (is_in_key_set c.args.stage c.args.k.serial && c.args.stage.cancelled) ≡ false = search rules in
     let valid : is_valid_key c.args.stage c.args.k.serial ≡ true = search rules in
-    returned (left_else _ _ _ spared (left_ask _ (step_acts c.look_gate.ensures refl) (left_else _ _ _ c.if-look_gate.false (left_then _ _ _ valid
+    returned (left_else _ _ _ spared
+    (left_ask _ (step_acts c.look_gate.ensures refl) (left_else _ _ _ c.if-look_gate.false (left_then _ _ _ valid
     (ran_then _ c.update_key.ensures.call (left_after_call c.update_key.ensures.call))))))
 
 pub returns-else-is_valid_key-clause-unblocked : goal.returns-else-is_valid_key-clause-unblocked
@@ -38,7 +41,8 @@ pub returns-else-is_valid_key-clause-may : goal.returns-else-is_valid_key-clause
 returns-else-is_valid_key-clause-may c = λ _.
     let spared : (is_in_key_set c.args.stage c.args.k.serial && c.args.stage.cancelled) ≡ false = search rules in
     let invalid : is_valid_key c.args.stage c.args.k.serial ≡ false = search rules in
-    may_note_stays c.look_gate.ensures refl refl (c.requires.may (invalid_outside c.args.stage c.args.k.serial spared invalid))
+    may_note_stays c.look_gate.ensures refl refl
+    (c.requires.may (invalid_outside c.args.stage c.args.k.serial spared invalid))
 
 pub returns-else-is_valid_key-clause-pinned : goal.returns-else-is_valid_key-clause-pinned
 returns-else-is_valid_key-clause-pinned c = stays_pinned c.look_gate.ensures refl refl c.requires.pinned

@@ -22,23 +22,30 @@ pub returns-then-not-found-clause-pinned : goal.returns-then-not-found-clause-pi
 returns-then-not-found-clause-pinned c = stays_pinned c.look_channel-found.ensures refl refl c.requires.known.pinned
 
 pub cancel_key-requires-clause-claimed : goal.cancel_key-requires-clause-claimed
-cancel_key-requires-clause-claimed c = pinned_claimed (stays_pinned c.look_channel-found.ensures refl refl c.requires.known.pinned)
+cancel_key-requires-clause-claimed c =
+    pinned_claimed (stays_pinned c.look_channel-found.ensures refl refl c.requires.known.pinned)
 
 pub cancel_key-requires-clause-pinned : goal.cancel_key-requires-clause-pinned
-cancel_key-requires-clause-pinned c = (stays_pinned c.look_channel-found.ensures refl refl c.requires.known.pinned).only.here
+cancel_key-requires-clause-pinned c =
+    (stays_pinned c.look_channel-found.ensures refl refl c.requires.known.pinned).only.here
 
 pub returns-clause-call : goal.returns-clause-call
 returns-clause-call c =
     let closed : c.look_channel-found.result.closed ≡ true = search rules in
     returned (left_ask _ (step_acts c.look_channel-found.ensures refl)
-    (left_choice (λ b. when b (cancel_key c.args.wanted.now.sel c.args.k.index) >> reply (Ok (key c.args.wanted.now.sel c.args.k))) closed
+    (left_choice (λ b. when b (cancel_key c.args.wanted.now.sel c.args.k.index)
+    >> reply (Ok (key c.args.wanted.now.sel c.args.k))) closed
     (left_ask _ (step_acts c.cancel_key.ensures refl) (left_after (step_acts c.cancel_key.ensures refl)))))
 
 pub returns-clause-held : goal.returns-clause-held
-returns-clause-held c = hold_stays c.cancel_key.ensures refl refl (hold_stays c.look_channel-found.ensures refl refl c.requires.known.unblocked.held)
+returns-clause-held c =
+    hold_stays c.cancel_key.ensures refl refl
+    (hold_stays c.look_channel-found.ensures refl refl c.requires.known.unblocked.held)
 
 pub returns-clause-registered : goal.returns-clause-registered
 returns-clause-registered c = settled_cancelled c.look_channel-found.ensures c.cancel_key.ensures c.requires
 
 pub returns-clause-pinned : goal.returns-clause-pinned
-returns-clause-pinned c = stays_pinned c.cancel_key.ensures refl refl (stays_pinned c.look_channel-found.ensures refl refl c.requires.known.pinned)
+returns-clause-pinned c =
+    stays_pinned c.cancel_key.ensures refl refl
+    (stays_pinned c.look_channel-found.ensures refl refl c.requires.known.pinned)

@@ -16,32 +16,45 @@ use Rattle.nio_channel.proofs.registering.try_register.Goals as goal
 pub returns-then-not-supports-clause-call : goal.returns-then-not-supports-clause-call
 unfolding try_register_plan
 returns-then-not-supports-clause-call c =
-    let outside : not (is_within c.args.ops (valid_operations c.look_channel-found.result.kind)) ≡ true = search rules in
-    returned (left_ask _ (step_acts c.look_channel-found.ensures refl) (left_then _ _ _ outside (left_after (step_acts c.look_channel-found.ensures refl))))
+    let outside : not (is_within c.args.ops (valid_operations c.look_channel-found.result.kind))
+    ≡ true = search rules in
+    returned (left_ask _ (step_acts c.look_channel-found.ensures refl)
+    (left_then _ _ _ outside (left_after (step_acts c.look_channel-found.ensures refl))))
 
 pub returns-then-not-supports-clause-unpinned : goal.returns-then-not-supports-clause-unpinned
-returns-then-not-supports-clause-unpinned c = no_pin_stays (step_acts c.look_channel-found.ensures refl) refl c.requires.unpinned
+returns-then-not-supports-clause-unpinned c =
+    no_pin_stays (step_acts c.look_channel-found.ensures refl) refl c.requires.unpinned
 
 pub returns-then-found-clause-unpinned : goal.returns-then-found-clause-unpinned
-returns-then-found-clause-unpinned c = no_pin_stays (step_acts c.look_channel-found.ensures refl) refl c.requires.unpinned
+returns-then-found-clause-unpinned c =
+    no_pin_stays (step_acts c.look_channel-found.ensures refl) refl c.requires.unpinned
 
 pub try_hold_bit-requires-clause-made : goal.try_hold_bit-requires-clause-made
-try_hold_bit-requires-clause-made c = (channel_after (step_acts c.look_channel-found.ensures refl) c.requires.channel).made
+try_hold_bit-requires-clause-made c =
+    (channel_after (step_acts c.look_channel-found.ensures refl) c.requires.channel).made
 
 pub returns-then-is_some-clause-call : goal.returns-then-is_some-clause-call
 unfolding try_register_plan
 returns-then-is_some-clause-call c =
-    let within : not (is_within c.args.ops (valid_operations c.look_channel-found.result.kind)) ≡ false = search rules in
+    let within : not (is_within c.args.ops (valid_operations c.look_channel-found.result.kind))
+    ≡ false = search rules in
     let held : is_some c.try_hold_bit.result ≡ true = search rules in
-    returned (left_ask _ (step_acts c.look_channel-found.ensures refl) (left_else _ _ _ within (left_else _ _ _ c.if-found.false (left_ask _ (step_acts c.try_hold_bit.ensures refl) (left_then _ _ _ held (left_after (step_acts c.try_hold_bit.ensures refl)))))))
+    returned (left_ask _ (step_acts c.look_channel-found.ensures refl)
+    (left_else _ _ _ within
+    (left_else _ _ _ c.if-found.false
+    (left_ask _ (step_acts c.try_hold_bit.ensures refl)
+    (left_then _ _ _ held (left_after (step_acts c.try_hold_bit.ensures refl)))))))
 
 pub returns-then-is_some-clause-unpinned : goal.returns-then-is_some-clause-unpinned
-returns-then-is_some-clause-unpinned c = no_pin_stays (step_acts c.try_hold_bit.ensures refl) refl (no_pin_stays (step_acts c.look_channel-found.ensures refl) refl c.requires.unpinned)
+returns-then-is_some-clause-unpinned c =
+    no_pin_stays (step_acts c.try_hold_bit.ensures refl) refl
+    (no_pin_stays (step_acts c.look_channel-found.ensures refl) refl c.requires.unpinned)
 
 pub register_held-answer-requires-clause-held : goal.register_held-answer-requires-clause-held
 register_held-answer-requires-clause-held c =
     let free : c.try_hold_bit.result ≡ None = search rules in
-    takes_the_hold c.try_hold_bit.ensures free (still_ready _ _ _ _ _ _ c.look_channel-found.ensures c.requires.ready) c.requires.channel.inside
+    takes_the_hold c.try_hold_bit.ensures free (still_ready _ _ _ _ _ _ c.look_channel-found.ensures c.requires.ready)
+    c.requires.channel.inside
 
 pub register_held-answer-requires-clause-unclosed : goal.register_held-answer-requires-clause-unclosed
 register_held-answer-requires-clause-unclosed c =
@@ -49,27 +62,40 @@ register_held-answer-requires-clause-unclosed c =
     unclosed_yet c.try_hold_bit.ensures free
 
 pub register_held-answer-requires-clause-unpinned : goal.register_held-answer-requires-clause-unpinned
-register_held-answer-requires-clause-unpinned c = no_pin_stays (step_acts c.try_hold_bit.ensures refl) refl (no_pin_stays (step_acts c.look_channel-found.ensures refl) refl c.requires.unpinned)
+register_held-answer-requires-clause-unpinned c =
+    no_pin_stays (step_acts c.try_hold_bit.ensures refl) refl
+    (no_pin_stays (step_acts c.look_channel-found.ensures refl) refl c.requires.unpinned)
 
 pub returns-clause-call : goal.returns-clause-call
 unfolding try_register_plan
 returns-clause-call c =
-    let within : not (is_within c.args.ops (valid_operations c.look_channel-found.result.kind)) ≡ false = search rules in
+    let within : not (is_within c.args.ops (valid_operations c.look_channel-found.result.kind))
+    ≡ false = search rules in
     let free : is_some c.try_hold_bit.result ≡ false = search rules in
-    returned (left_ask _ (step_acts c.look_channel-found.ensures refl) (left_else _ _ _ within (left_else _ _ _ c.if-found.false (left_ask _ (step_acts c.try_hold_bit.ensures refl)
-    (left_else _ _ _ free (ran_then _ c.register_held-answer.ensures.call (left_ask _ (step_acts c.release.ensures refl) (left_after (step_acts c.release.ensures refl)))))))))
+    returned (left_ask _ (step_acts c.look_channel-found.ensures refl)
+    (left_else _ _ _ within (left_else _ _ _ c.if-found.false (left_ask _ (step_acts c.try_hold_bit.ensures refl)
+    (left_else _ _ _ free
+    (ran_then _ c.register_held-answer.ensures.call
+    (left_ask _ (step_acts c.release.ensures refl) (left_after (step_acts c.release.ensures refl)))))))))
 
 pub returns-clause-in_selector : goal.returns-clause-in_selector
-returns-clause-in_selector c = each_ok c.register_held-answer.result c.register_held-answer.ensures.registered (λ k here. here.in_selector)
+returns-clause-in_selector c =
+    each_ok c.register_held-answer.result c.register_held-answer.ensures.registered (λ k here. here.in_selector)
 
 pub returns-clause-key : goal.returns-clause-key
-returns-clause-key c = each_ok c.register_held-answer.result c.register_held-answer.ensures.registered (λ k here. key_after (step_acts c.release.ensures refl) here.has)
+returns-clause-key c =
+    each_ok c.register_held-answer.result c.register_held-answer.ensures.registered
+    (λ k here. key_after (step_acts c.release.ensures refl) here.has)
 
 pub returns-clause-its : goal.returns-clause-its
-returns-clause-its c = each_ok c.register_held-answer.result c.register_held-answer.ensures.registered (λ k here. its_answer c.release.ensures here)
+returns-clause-its c =
+    each_ok c.register_held-answer.result c.register_held-answer.ensures.registered
+    (λ k here. its_answer c.release.ensures here)
 
 pub returns-clause-cancelled : goal.returns-clause-cancelled
-returns-clause-cancelled c = each_ok c.register_held-answer.result c.register_held-answer.ensures.registered (λ k here. cancelled_after c.args.chan k c.release.ensures refl refl refl here.cancelled)
+returns-clause-cancelled c =
+    each_ok c.register_held-answer.result c.register_held-answer.ensures.registered
+    (λ k here. cancelled_after c.args.chan k c.release.ensures refl refl refl here.cancelled)
 
 pub returns-clause-unpinned : goal.returns-clause-unpinned
 returns-clause-unpinned c = no_pin_stays (step_acts c.release.ensures refl) refl c.register_held-answer.ensures.unpinned

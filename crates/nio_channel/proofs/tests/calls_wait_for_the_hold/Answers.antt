@@ -15,7 +15,9 @@ holds-requires-clause-ready g c =
     record { pass = over.sees.given_pass; number = (over.given_number one).1 refl }
 
 pub holds-requires-clause-channel : goal.holds-requires-clause-channel
-holds-requires-clause-channel g c = channel_same c.in_ok-words.words c.«open».new.p c.in_ok-q.q c.in_ok-q.ensures.sees.given_sight c.in_ok-chan.ensures.made
+holds-requires-clause-channel g c =
+    channel_same c.in_ok-words.words c.«open».new.p c.in_ok-q.q c.in_ok-q.ensures.sees.given_sight
+    c.in_ok-chan.ensures.made
 
 pub join-p-requires-after_bounds : goal.join-p-requires-after_bounds
 join-p-requires-after_bounds g c κs outlives =

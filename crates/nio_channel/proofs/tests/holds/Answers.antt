@@ -9,4 +9,7 @@ is_none (Some n) true there free = absurd cc
 is_none (Some n) false there free = absurd cc
 
 pub returns : goal.returns
-returns c = λ free. takes_the_hold c.try_hold_bit.ensures (is_none c.try_hold_bit.result c.is_none.result c.is_none.ensures free) c.requires.ready c.requires.channel.inside
+returns c =
+    λ free. takes_the_hold c.try_hold_bit.ensures
+    (is_none c.try_hold_bit.result c.is_none.result c.is_none.ensures free) c.requires.ready
+    c.requires.channel.inside

@@ -23,13 +23,22 @@ pub try_register-answer-requires-clause-unpinned : goal.try_register-answer-requ
 try_register-answer-requires-clause-unpinned c = (just_pinned c.pin.ensures c.requires.idle).zero_unpinned
 
 pub unpin-requires-clause-ready : goal.unpin-requires-clause-ready
-unpin-requires-clause-ready c = (still_pinned c.try_register-answer.ensures.call.acts c.try_register-answer.ensures.ready.pass c.try_register-answer.ensures.unpinned (just_pinned c.pin.ensures c.requires.idle)).one_ready
+unpin-requires-clause-ready c =
+    (still_pinned c.try_register-answer.ensures.call.acts c.try_register-answer.ensures.ready.pass
+    c.try_register-answer.ensures.unpinned (just_pinned c.pin.ensures c.requires.idle)).one_ready
 
 pub unpin-requires-clause-pinned : goal.unpin-requires-clause-pinned
-unpin-requires-clause-pinned c = (still_pinned c.try_register-answer.ensures.call.acts c.try_register-answer.ensures.ready.pass c.try_register-answer.ensures.unpinned (just_pinned c.pin.ensures c.requires.idle)).pin.here
+unpin-requires-clause-pinned c =
+    (still_pinned c.try_register-answer.ensures.call.acts c.try_register-answer.ensures.ready.pass
+    c.try_register-answer.ensures.unpinned (just_pinned c.pin.ensures c.requires.idle)).pin.here
 
 pub returns-clause-idle : goal.returns-clause-idle
-returns-clause-idle c = idle_unpinned c.unpin.ensures (still_pinned c.try_register-answer.ensures.call.acts c.try_register-answer.ensures.ready.pass c.try_register-answer.ensures.unpinned (just_pinned c.pin.ensures c.requires.idle))
+returns-clause-idle c =
+    idle_unpinned c.unpin.ensures
+    (still_pinned c.try_register-answer.ensures.call.acts c.try_register-answer.ensures.ready.pass
+    c.try_register-answer.ensures.unpinned (just_pinned c.pin.ensures c.requires.idle))
 
 pub returns-clause-channels : goal.returns-clause-channels
-returns-clause-channels c = λ chan has. channel_after (step_acts c.unpin.ensures refl) (channel_after c.try_register-answer.ensures.call.acts (channel_after (step_acts c.pin.ensures refl) has))
+returns-clause-channels c =
+    λ chan has. channel_after (step_acts c.unpin.ensures refl)
+    (channel_after c.try_register-answer.ensures.call.acts (channel_after (step_acts c.pin.ensures refl) has))

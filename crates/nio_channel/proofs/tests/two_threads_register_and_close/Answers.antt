@@ -29,4 +29,5 @@ join-p-requires-after_bounds g c κs outlives =
     )
 
 pub look_key-stage-requires-clause-ready : goal.look_key-stage-requires-clause-ready
-look_key-stage-requires-clause-ready g c = record { pass = c.join.ensures.pass; number = (c.join.ensures.numbers zero).1 (inl c.join-p.ensures.first.number) }
+look_key-stage-requires-clause-ready g c =
+    record { pass = c.join.ensures.pass; number = (c.join.ensures.numbers zero).1 (inl c.join-p.ensures.first.number) }

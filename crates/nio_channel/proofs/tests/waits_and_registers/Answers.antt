@@ -11,4 +11,5 @@ register-key-requires-clause-channel g c = channel_after c.set_blocking-mode.ens
 
 pub register-key-requires-clause-unpinned : goal.register-key-requires-clause-unpinned
 register-key-requires-clause-unpinned g c =
-    no_pin_after (λ acts shape. pins_are_given_back.set_blocking _ c.args.chan _ acts _ shape) c.set_blocking-mode.ensures.call c.requires.unpinned
+    no_pin_after (λ acts shape. pins_are_given_back.set_blocking _ c.args.chan _ acts _ shape)
+    c.set_blocking-mode.ensures.call c.requires.unpinned

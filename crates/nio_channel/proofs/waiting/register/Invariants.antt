@@ -8,5 +8,7 @@ use Rattle.nio_channel.proofs.waiting.register.Given as goal
 
 abbrev pub invariant-loop : goal.invariant-loop
 invariant-loop g l =
-    IsReady l.w l.p l.me × HasSelector (view l.w l.p) l.sel × HasChannel (view l.w l.p) l.chan × HasNoPin (view l.w l.p) l.me
-    × TryingClause l.me (λ (_ : Unit {0}). Completes (try_register_plan (limits_of l.w) l.sel l.chan l.ops l.att)) (λ _. finds_held) (view l.w l.fn.p) (view l.w l.p)
+    IsReady l.w l.p l.me × HasSelector (view l.w l.p) l.sel × HasChannel (view l.w l.p) l.chan
+    × HasNoPin (view l.w l.p) l.me
+    × TryingClause l.me (λ (_ : Unit {0}). Completes (try_register_plan (limits_of l.w) l.sel l.chan l.ops l.att))
+    (λ _. finds_held) (view l.w l.fn.p) (view l.w l.p)

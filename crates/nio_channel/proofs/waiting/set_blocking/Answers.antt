@@ -10,8 +10,12 @@ loop-init g c = (c.requires.ready, c.requires.channel, trying_none _ _ _ _ c.req
 
 pub loop-preserved : goal.loop-preserved
 loop-preserved g c =
-    let again : finds_held c.try_set_blocking-answer.result ≡ true = search rules in
-    (c.try_set_blocking-answer.ensures.ready, channel_after c.try_set_blocking-answer.ensures.call.acts c.loop.invariant.1, try_more tt c.try_set_blocking-answer.result c.loop.invariant.2 c.try_set_blocking-answer.ensures.call again)
+    let again : finds_held c.try_set_blocking-answer.result ≡ true = search rules in (
+      c.try_set_blocking-answer.ensures.ready,
+      channel_after c.try_set_blocking-answer.ensures.call.acts c.loop.invariant.1,
+      try_more tt c.try_set_blocking-answer.result c.loop.invariant.2 c.try_set_blocking-answer.ensures.call
+          again,
+    )
 
 pub returns-then-not-is_busy-clause-call : goal.returns-then-not-is_busy-clause-call
 returns-then-not-is_busy-clause-call g c =

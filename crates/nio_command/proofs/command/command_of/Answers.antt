@@ -1,4 +1,5 @@
-use Rattle.std.proofs.Common.{◌≡◌, arith, map, length, take, drop, ℕ, List, [], ◌∷◌, ◌-◌, ◌∙◌, ap, subst, sym, codes, Option}
+use Rattle.std.proofs.Common.{◌≡◌, arith, map, length, take, drop, ℕ, List, [], ◌∷◌, ◌-◌, ◌∙◌, ap, subst, sym, codes}
+use Rattle.std.proofs.Common.{Option}
 use Rattle.std.specs.Option.{ok_or}
 use Rattle.nio_command.specs.Words.{IsCommand, IsProxyCommand}
 use Rattle.nio_command.specs.declared.command.Command.{Command}
@@ -6,7 +7,8 @@ use Rattle.nio_command.specs.declared.command.Command.TheVariants.{Proxy}
 use Rattle.nio_command.specs.declared.command.WordsError.TheVariants.{Usage}
 use Rattle.std.specs.String.{string_bytes}
 use Rattle.std.proofs.lemmas.Grind.{common_steps}
-use Rattle.nio_command.proofs.Commands.{behind_load, behind_proxy, if_some_as, made, only_proxy, same_command, usage_from}
+use Rattle.nio_command.proofs.Commands.{behind_load, behind_proxy, if_some_as, made, only_proxy, same_command}
+use Rattle.nio_command.proofs.Commands.{usage_from}
 use Rattle.nio_command.proofs.command.command_of.Goals as goal
 use Rattle.nio_command.proofs.command.command_of.Goals.{After-ok_or}
 
@@ -55,20 +57,25 @@ returns-in_ok-read_proxy-in-len1-up-clause-usage c =
 -- the words of the arm on `load`
 are_two : (c : After-ok_or) → map string_bytes c.args.words.now ≡ codes "load" ∷ c.as_str-in-len2.result.now ∷ []
 are_two c =
-    behind_load c.args.words.now c.word-item-then-words-lt3.result c.rounds-item.result c.as_str-then-words-lt3.result.now c.as_str-in-len2.result.now
+    behind_load c.args.words.now c.word-item-then-words-lt3.result c.rounds-item.result
+    c.as_str-then-words-lt3.result.now c.as_str-in-len2.result.now
     c.word-item-then-words-lt3.is c.rounds-item.is (omega arith) (omega arith)
-    c.as_str-then-words-lt3.ensures.value (sym c.eq-then-words-lt3.ensures ∙ c.if-eq-2.true) c.as_str-in-len2.ensures.value
+    c.as_str-then-words-lt3.ensures.value (sym c.eq-then-words-lt3.ensures ∙ c.if-eq-2.true)
+    c.as_str-in-len2.ensures.value
 
 pub returns-in-len2-clause-found : goal.returns-in-len2-clause-found
 returns-in-len2-clause-found c = λ command ok.
     subst (λ (ws : List (List ℕ)). IsCommand ws command) (sym (are_two c))
-    (if_some_as c.read_load.result (IsCommand (codes "load" ∷ c.as_str-in-len2.result.now ∷ [])) Usage c.ok_or.result command c.read_load.ensures.found c.ok_or.ensures.value ok)
+    (if_some_as c.read_load.result (IsCommand (codes "load" ∷ c.as_str-in-len2.result.now ∷ [])) Usage c.ok_or.result
+    command c.read_load.ensures.found c.ok_or.ensures.value ok)
 
 pub returns-in-len2-clause-only : goal.returns-in-len2-clause-only
 returns-in-len2-clause-only c = λ command is room.
     c.ok_or.ensures.value
-    ∙ ap (λ (o : Option Command). ok_or o Usage) (c.read_load.ensures.only command (subst (λ (ws : List (List ℕ)). IsCommand ws command) (are_two c) is))
+    ∙ ap (λ (o : Option Command). ok_or o Usage)
+    (c.read_load.ensures.only command (subst (λ (ws : List (List ℕ)). IsCommand ws command) (are_two c) is))
 
 pub returns-in-len2-clause-usage : goal.returns-in-len2-clause-usage
 returns-in-len2-clause-usage c =
-    usage_from (map string_bytes c.args.words.now) c.ok_or.result (returns-in-len2-clause-found c) (returns-in-len2-clause-only c)
+    usage_from (map string_bytes c.args.words.now) c.ok_or.result (returns-in-len2-clause-found c)
+    (returns-in-len2-clause-only c)

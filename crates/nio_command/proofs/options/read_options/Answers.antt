@@ -27,7 +27,8 @@ pub returns-in-Ok-clause-found : goal.returns-in-Ok-clause-found
 returns-in-Ok-clause-found c =
     let words = map string_bytes c.args.words.now in
     let rows = rows_at c.in_ok-command.command words c.in-Ok.matches c.in_ok-command.ensures c.in-Ok.ensures.matches in
-    let fails = fault_at c.in_ok-command.command words c.try_get_matches_from.result c.in_ok-command.ensures c.try_get_matches_from.ensures.kinds in
+    let fails = fault_at c.in_ok-command.command words c.try_get_matches_from.result c.in_ok-command.ensures
+    c.try_get_matches_from.ensures.kinds in
     let none : fault_of proxy_app words ≡ [] = subst (FailsBy (fault_of proxy_app words)) c.in-Ok.is fails in
     IfSome_then c.texts_found.result c.texts_found.ensures.found
     (λ t f.
@@ -48,7 +49,8 @@ pub returns-clause-only : goal.returns-clause-only
 returns-clause-only c = λ v o p.
     let words = map string_bytes c.args.words.now in
     let taken = values_taken words v o p in
-    let fails = fault_at c.in_ok-command.command words c.try_get_matches_from.result c.in_ok-command.ensures c.try_get_matches_from.ensures.kinds in
+    let fails = fault_at c.in_ok-command.command words c.try_get_matches_from.result c.in_ok-command.ensures
+    c.try_get_matches_from.ensures.kinds in
     let kinds = subst (FailsBy (fault_of proxy_app words)) c.in-Err.is fails in
     let memory = only_memory (fault_of proxy_app words) c.in-Err.error taken.no_fault kinds in
     let same : c.kind.result ≡ OutOfMemory = c.kind.ensures ∙ memory in

@@ -1,4 +1,5 @@
-use Rattle.nio_event.proofs.Holds.{mode_stays, noted_stays, found_noted_stays, outside_stays, found_clear_stays, clear_is_true}
+use Rattle.nio_event.proofs.Holds.{mode_stays, noted_stays, found_noted_stays, outside_stays, found_clear_stays}
+use Rattle.nio_event.proofs.Holds.{clear_is_true}
 use Rattle.nio_event.proofs.laws.hold_law.Goals as goal
 
 pub returns-clause-mode : goal.returns-clause-mode

@@ -1,4 +1,5 @@
-use Rattle.nio_event.proofs.PinLaws.{pinned_keys_stay, claims_again_where_unpinned, claims_again_the_removed, own_claims_stand, noted_keys_are_claimed}
+use Rattle.nio_event.proofs.PinLaws.{pinned_keys_stay, claims_again_where_unpinned, claims_again_the_removed}
+use Rattle.nio_event.proofs.PinLaws.{own_claims_stand, noted_keys_are_claimed}
 use Rattle.nio_event.proofs.Unpublished.{unpublished_keys_stay}
 use Rattle.nio_event.proofs.laws.pins_law.Goals as goal
 

@@ -8,4 +8,9 @@ returns-then-is_blank-clause-malformed c =
 
 pub returns-in-Some-clause-malformed : goal.returns-in-Some-clause-malformed
 returns-in-Some-clause-malformed c =
-    λ _. (λ e. (cc), λ bad. absurd (bad (IsInGrammar.is_call c.in-Some.caller c.in-Some.call (rw c.in-Some.is at c.in_ok-caller.ensures.found))))
+    λ _. (
+      λ e. (cc),
+      λ bad. absurd
+          (bad (IsInGrammar.is_call c.in-Some.caller c.in-Some.call
+          (rw c.in-Some.is at c.in_ok-caller.ensures.found))),
+    )

@@ -6,7 +6,8 @@ use Rattle.nio_group.proofs.flight.complete_all.Given as goal
 
 abbrev pub invariant-loop-number : goal.invariant-loop-number
 invariant-loop-number l =
-    (with_channel_closed l.flight l.chan ≡ with_channel_closed l.initial.flight l.chan) × IsListedOn l.flight l.chan l.left
+    (with_channel_closed l.flight l.chan ≡ with_channel_closed l.initial.flight l.chan)
+    × IsListedOn l.flight l.chan l.left
 
 abbrev pub decreases-loop-number : goal.decreases-loop-number
 decreases-loop-number l = filled_slots l.left

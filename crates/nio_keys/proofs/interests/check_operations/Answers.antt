@@ -11,7 +11,9 @@ pub returns-then-not-supports-clause-call : goal.returns-then-not-supports-claus
 returns-then-not-supports-clause-call c =
     let looked = step_acts c.look_channel-found.ensures refl in
     returned (left_else (not (is_valid_key c.args.stage c.args.key.serial)) _ _ (search rules)
-    (left_ask _ looked (left_then (not (is_within c.args.ops (valid_operations c.look_channel-found.result.kind))) _ _ (search rules) (left_after looked))))
+    (left_ask _ looked
+    (left_then (not (is_within c.args.ops (valid_operations c.look_channel-found.result.kind))) _ _ (search rules)
+    (left_after looked))))
 
 pub returns-then-not-supports-clause-pinned : goal.returns-then-not-supports-clause-pinned
 returns-then-not-supports-clause-pinned c = stays_pinned c.look_channel-found.ensures refl refl c.requires.pinned

@@ -4,4 +4,6 @@ use Rattle.nio_keys.proofs.interests.interest_and.Goals as goal
 
 pub returns-clause-call : goal.returns-clause-call
 unfolding interest_and_plan
-returns-clause-call c = ran_pinned (if_valid c.args.key (λ _. keep_set c.args.key c.args.ops)) c.pin-stage.ensures.act c.interest_and_present-answer.ensures.call c.unpin.ensures.act
+returns-clause-call c =
+    ran_pinned (if_valid c.args.key (λ _. keep_set c.args.key c.args.ops)) c.pin-stage.ensures.act
+    c.interest_and_present-answer.ensures.call c.unpin.ensures.act

@@ -4,4 +4,6 @@ use Rattle.nio_keys.proofs.interests.interest_or.Goals as goal
 
 pub returns-clause-call : goal.returns-clause-call
 unfolding interest_or_plan
-returns-clause-call c = ran_pinned (if_valid c.args.key (on_supported c.args.ops (add_set c.args.key c.args.ops))) c.pin-stage.ensures.act c.interest_or_present-answer.ensures.call c.unpin.ensures.act
+returns-clause-call c =
+    ran_pinned (if_valid c.args.key (on_supported c.args.ops (add_set c.args.key c.args.ops))) c.pin-stage.ensures.act
+    c.interest_or_present-answer.ensures.call c.unpin.ensures.act

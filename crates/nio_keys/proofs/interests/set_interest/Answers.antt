@@ -4,4 +4,6 @@ use Rattle.nio_keys.proofs.interests.set_interest.Goals as goal
 
 pub returns-clause-call : goal.returns-clause-call
 unfolding set_interest_plan
-returns-clause-call c = ran_pinned (if_valid c.args.key (on_supported c.args.ops (put_set c.args.key c.args.ops))) c.pin-stage.ensures.act c.set_interest_present-answer.ensures.call c.unpin.ensures.act
+returns-clause-call c =
+    ran_pinned (if_valid c.args.key (on_supported c.args.ops (put_set c.args.key c.args.ops))) c.pin-stage.ensures.act
+    c.set_interest_present-answer.ensures.call c.unpin.ensures.act

@@ -10,7 +10,8 @@ use Rattle.nio_keys.proofs.interests.set_interest_present.Goals as goal
 pub returns-in_err-check_operations-clause-call : goal.returns-in_err-check_operations-clause-call
 returns-in_err-check_operations-clause-call c =
     let refusal = err_from_is_err_and c.from_residual.result c.from_residual.ensures.1 in
-    rw (refusal.1, refusal.2) (ran_refused c.args.key c.args.stage c.args.ops (put_set c.args.key c.args.ops) (search rules))
+    rw (refusal.1, refusal.2)
+    (ran_refused c.args.key c.args.stage c.args.ops (put_set c.args.key c.args.ops) (search rules))
 
 pub returns-clause-call : goal.returns-clause-call
 returns-clause-call c =

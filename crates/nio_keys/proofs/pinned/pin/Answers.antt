@@ -28,5 +28,7 @@ same_stage e = cc
 pub returns-clause-channel : goal.returns-clause-channel
 returns-clause-channel c =
     let claimed = pinned_claimed (returns-clause-pinned c) in
-    let inside = (legal-within (limits_of c.args.w.now) (seen c.pin.new.p) c.pin.ensures.pass.legal).keys c.args.key.sel.0 c.args.key.index claimed in
-    subst (λ (k : Stage). IsChannel (limits_of c.args.w.now) k.chan) (same_stage (look_tells (step_acts c.pin.ensures refl) refl)) inside.2
+    let inside = (legal-within (limits_of c.args.w.now) (seen c.pin.new.p) c.pin.ensures.pass.legal).keys
+    c.args.key.sel.0 c.args.key.index claimed in
+    subst (λ (k : Stage). IsChannel (limits_of c.args.w.now) k.chan)
+    (same_stage (look_tells (step_acts c.pin.ensures refl) refl)) inside.2

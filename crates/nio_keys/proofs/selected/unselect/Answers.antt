@@ -4,4 +4,6 @@ use Rattle.nio_keys.proofs.selected.unselect.Goals as goal
 
 pub returns-clause-call : goal.returns-clause-call
 unfolding unselect_plan
-returns-clause-call c = ran_pinned (unselect_present c.args.key) c.pin-stage.ensures.act c.unselect_present-answer.ensures.call c.unpin.ensures.act
+returns-clause-call c =
+    ran_pinned (unselect_present c.args.key) c.pin-stage.ensures.act c.unselect_present-answer.ensures.call
+    c.unpin.ensures.act

@@ -4,4 +4,6 @@ use Rattle.nio_keys.proofs.simple.attach.Goals as goal
 
 pub returns-clause-call : goal.returns-clause-call
 unfolding attach_plan
-returns-clause-call c = ran_pinned (attach_present c.args.key c.args.att) c.pin-stage.ensures.act c.attach_present-answer.ensures.call c.unpin.ensures.act
+returns-clause-call c =
+    ran_pinned (attach_present c.args.key c.args.att) c.pin-stage.ensures.act c.attach_present-answer.ensures.call
+    c.unpin.ensures.act

@@ -4,4 +4,6 @@ use Rattle.nio_keys.proofs.simple.attachment.Goals as goal
 
 pub returns-clause-call : goal.returns-clause-call
 unfolding attachment_plan
-returns-clause-call c = ran_pinned (attachment_present c.args.key) c.pin-stage.ensures.act c.attachment_present-answer.ensures.call c.unpin.ensures.act
+returns-clause-call c =
+    ran_pinned (attachment_present c.args.key) c.pin-stage.ensures.act c.attachment_present-answer.ensures.call
+    c.unpin.ensures.act

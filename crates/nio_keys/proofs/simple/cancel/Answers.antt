@@ -4,4 +4,5 @@ use Rattle.nio_keys.proofs.simple.cancel.Goals as goal
 
 pub returns-clause-call : goal.returns-clause-call
 unfolding cancel_plan
-returns-clause-call c = ran_pinned (cancel_present c.args.key) c.pin-stage.ensures.act c.cancel_present.ensures.call c.unpin.ensures.act
+returns-clause-call c =
+    ran_pinned (cancel_present c.args.key) c.pin-stage.ensures.act c.cancel_present.ensures.call c.unpin.ensures.act

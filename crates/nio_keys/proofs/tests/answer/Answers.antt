@@ -4,7 +4,9 @@ use Rattle.nio_steps.proofs.PinLaws.{pins_are_given_back}
 use Rattle.nio_keys.proofs.tests.answer.Goals as goal
 
 pub returns-in-Valid-clause-unpinned : goal.returns-in-Valid-clause-unpinned
-returns-in-Valid-clause-unpinned c = no_pin_after (λ acts run. pins_are_given_back.is_valid c.args.key acts c.is_valid.result run) c.is_valid.ensures.call c.requires.unpinned
+returns-in-Valid-clause-unpinned c =
+    no_pin_after (λ acts run. pins_are_given_back.is_valid c.args.key acts c.is_valid.result run)
+    c.is_valid.ensures.call c.requires.unpinned
 
 pub returns-in-Valid-clause-keys : goal.returns-in-Valid-clause-keys
 returns-in-Valid-clause-keys c k has = key_after c.is_valid.ensures.call.acts has

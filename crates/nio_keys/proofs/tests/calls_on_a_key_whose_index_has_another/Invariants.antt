@@ -5,4 +5,5 @@ use Rattle.nio_words.specs.Views.{view}
 use Rattle.nio_keys.proofs.tests.calls_on_a_key_whose_index_has_another.Given as goal
 
 abbrev pub invariant-loop-key : goal.invariant-loop-key
-invariant-loop-key g l = IsReady l.words l.p me × HasNoPin (view l.words l.p) me × HasKey (view l.words l.p) (key_of 0) × HasKey (view l.words l.p) (key_of 1)
+invariant-loop-key g l = IsReady l.words l.p me × HasNoPin (view l.words l.p) me × HasKey (view l.words l.p) (key_of 0)
+    × HasKey (view l.words l.p) (key_of 1)

@@ -15,16 +15,24 @@ looked taken found = (removed_key ++ event_of me (TakeFree s 0 taken) ∷ []) ++
 abbrev claimed : Bool → Stage → Bool → List Event
 claimed taken found pinned = looked taken found ++ event_of me (ClaimAgain s 0 source found pinned) ∷ []
 
-found_since : (events : List Event) (taken : Bool) (found : Stage) → events ≡ looked taken found → taken ≡ true → last (stage_found 0 0) (since_taken 0 0 (mine me events)) ≡ Some found
-found_since events taken found is took = ap (λ es. last (stage_found 0 0) (since_taken 0 0 (mine me es))) (is ∙ ap (λ t. looked t found) took)
+found_since : (events : List Event) (taken : Bool) (found : Stage) → events ≡ looked taken found → taken ≡ true
+    → last (stage_found 0 0) (since_taken 0 0 (mine me events)) ≡ Some found
+found_since events taken found is took =
+    ap (λ es. last (stage_found 0 0) (since_taken 0 0 (mine me es))) (is ∙ ap (λ t. looked t found) took)
 
-may_now : (events : List Event) (taken : Bool) (found : Stage) (pinned : Bool) → events ≡ claimed taken found pinned → taken ≡ true → pinned ≡ false
+may_now : (events : List Event) (taken : Bool) (found : Stage) (pinned : Bool) → events ≡ claimed taken found pinned
+    → taken ≡ true → pinned ≡ false
     → may_publish (state_after events) (mine me events) me (own_claim 0 0 (mine me events)) ≡ true
 may_now events taken found pinned is took free =
-    ap (λ es. may_publish (state_after es) (mine me es) me (own_claim 0 0 (mine me es))) (is ∙ (ap (λ t. claimed t found pinned) took ∙ ap (λ p. claimed true found p) free))
+    ap (λ es. may_publish (state_after es) (mine me es) me (own_claim 0 0 (mine me es)))
+    (is ∙ (ap (λ t. claimed t found pinned) took ∙ ap (λ p. claimed true found p) free))
 
 pub claim_again-requires-clause-found : goal.claim_again-requires-clause-found
-claim_again-requires-clause-found c = found_since (seen c.look_key-removed.new.p) c.take_free.result c.look_key-removed.result (search rules) (search rules)
+claim_again-requires-clause-found c =
+    found_since (seen c.look_key-removed.new.p) c.take_free.result c.look_key-removed.result (search rules)
+    (search rules)
 
 pub publish-requires-clause-may : goal.publish-requires-clause-may
-publish-requires-clause-may c = may_now (seen c.claim_again.new.p) c.take_free.result c.look_key-removed.result c.claim_again.result (search rules) (search rules) (search rules)
+publish-requires-clause-may c =
+    may_now (seen c.claim_again.new.p) c.take_free.result c.look_key-removed.result c.claim_again.result (search rules)
+    (search rules) (search rules)

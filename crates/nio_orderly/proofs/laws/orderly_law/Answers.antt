@@ -1,4 +1,5 @@
-use Rattle.nio_orderly.proofs.CallLists.{beginnings_are_orderly, whole_is_orderly, one_call_more, orderly_ends_in_call, serial_is_whole, serial_call_more}
+use Rattle.nio_orderly.proofs.CallLists.{beginnings_are_orderly, whole_is_orderly, one_call_more, orderly_ends_in_call}
+use Rattle.nio_orderly.proofs.CallLists.{serial_is_whole, serial_call_more}
 use Rattle.nio_orderly.proofs.WaitedCalls.{waiting_calls_are_calls, calls_without_waiting}
 use Rattle.nio_orderly.proofs.laws.orderly_law.Goals as goal
 

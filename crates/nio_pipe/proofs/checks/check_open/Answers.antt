@@ -7,19 +7,24 @@ use Rattle.nio_words.proofs.Views.{step_acts}
 use Rattle.nio_pipe.proofs.checks.check_open.Goals as goal
 
 pub returns-then-found-clause-unpinned : goal.returns-then-found-clause-unpinned
-returns-then-found-clause-unpinned c = no_pin_stays (step_acts c.look_channel-found.ensures refl) refl c.requires.unpinned
+returns-then-found-clause-unpinned c =
+    no_pin_stays (step_acts c.look_channel-found.ensures refl) refl c.requires.unpinned
 
 pub returns-then-not-found-clause-unpinned : goal.returns-then-not-found-clause-unpinned
-returns-then-not-found-clause-unpinned c = no_pin_stays (step_acts c.look_channel-found.ensures refl) refl c.requires.unpinned
+returns-then-not-found-clause-unpinned c =
+    no_pin_stays (step_acts c.look_channel-found.ensures refl) refl c.requires.unpinned
 
 pub check_interrupt-requires-clause-channel : goal.check_interrupt-requires-clause-channel
-check_interrupt-requires-clause-channel c = channel_after (step_acts c.look_channel-found.ensures refl) c.requires.channel
+check_interrupt-requires-clause-channel c =
+    channel_after (step_acts c.look_channel-found.ensures refl) c.requires.channel
 
 pub check_interrupt-requires-clause-unpinned : goal.check_interrupt-requires-clause-unpinned
-check_interrupt-requires-clause-unpinned c = no_pin_stays (step_acts c.look_channel-found.ensures refl) refl c.requires.unpinned
+check_interrupt-requires-clause-unpinned c =
+    no_pin_stays (step_acts c.look_channel-found.ensures refl) refl c.requires.unpinned
 
 pub returns-clause-call : goal.returns-clause-call
 unfolding try_read_plan
 returns-clause-call c =
     let blocking : c.look_channel-found.result.blocking ≡ true = search rules in
-    returned (left_ask _ (step_acts c.look_channel-found.ensures refl) (left_else _ _ _ c.if-found.false (left_then _ _ _ blocking (left_of_call c.check_interrupt.ensures.call))))
+    returned (left_ask _ (step_acts c.look_channel-found.ensures refl)
+    (left_else _ _ _ c.if-found.false (left_then _ _ _ blocking (left_of_call c.check_interrupt.ensures.call))))

@@ -12,4 +12,6 @@ pub returns-in_err-buffer-clause-call : goal.returns-in_err-buffer-clause-call
 unfolding pipe_plan
 returns-in_err-buffer-clause-call c =
     let p = err_from_is_err_and c.from_residual.result c.from_residual.ensures.1 in
-    rw (p.1, p.2) (call_of_acts (MakesPipe (limits_of c.args.w.now)) [] (Err Memory) (acts_nothing c.args.me (view c.args.w.now c.args.p.now) c.requires.ready.pass.legal) refl)
+    rw (p.1, p.2)
+    (call_of_acts (MakesPipe (limits_of c.args.w.now)) [] (Err Memory)
+    (acts_nothing c.args.me (view c.args.w.now c.args.p.now) c.requires.ready.pass.legal) refl)

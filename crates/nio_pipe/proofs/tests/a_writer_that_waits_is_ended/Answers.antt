@@ -3,7 +3,8 @@ use Rattle.nio_pipe.proofs.Idle.{may_idle, may_stay, may_go, may_same}
 use Rattle.nio_pipe.proofs.tests.a_writer_that_waits_is_ended.Goals as goal
 
 pub meet_writer-read-requires-clause-reader : goal.meet_writer-read-requires-clause-reader
-meet_writer-read-requires-clause-reader g c κs = may_stay c.in_ok-q.ensures (may_idle c.in_ok-source.ensures.idle c.in_ok-source.ensures.channels)
+meet_writer-read-requires-clause-reader g c κs =
+    may_stay c.in_ok-q.ensures (may_idle c.in_ok-source.ensures.idle c.in_ok-source.ensures.channels)
 
 pub meet_writer-read-requires-clause-writer : goal.meet_writer-read-requires-clause-writer
 meet_writer-read-requires-clause-writer g c κs =

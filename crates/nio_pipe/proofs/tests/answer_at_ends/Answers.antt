@@ -4,7 +4,9 @@ use Rattle.nio_pipe.proofs.Idle.{may_after, may_same, may_write, both_read, both
 use Rattle.nio_pipe.proofs.tests.answer_at_ends.Goals as goal
 
 pub returns-in-Read : goal.returns-in-Read
-returns-in-Read c = both_read {sink = c.args.sink.now} c.reads.ensures.same (may_same refl (sym c.chan.ensures) c.reads.ensures.may) c.requires
+returns-in-Read c =
+    both_read {sink = c.args.sink.now} c.reads.ensures.same (may_same refl (sym c.chan.ensures) c.reads.ensures.may)
+    c.requires
 
 pub writes-requires : goal.writes-requires
 writes-requires c = may_write c.requires

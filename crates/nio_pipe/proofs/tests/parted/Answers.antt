@@ -6,5 +6,7 @@ use Rattle.nio_pipe.proofs.tests.parted.Goals as goal
 
 pub returns : goal.returns
 returns c =
-    IfOk-weaker c.part.result (λ ends. AreParts c.args.pipe ends.0 ends.1) (λ ends. HasBoth c.args.w.now c.args.p.now ends.0 ends.1)
-    (λ ends parts. record { may = may_same parts.source_channel parts.sink_channel c.requires; pair = parts.ends }) c.part.ensures
+    IfOk-weaker c.part.result (λ ends. AreParts c.args.pipe ends.0 ends.1)
+    (λ ends. HasBoth c.args.w.now c.args.p.now ends.0 ends.1)
+    (λ ends parts. record { may = may_same parts.source_channel parts.sink_channel c.requires; pair = parts.ends })
+    c.part.ensures

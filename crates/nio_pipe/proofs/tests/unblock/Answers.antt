@@ -12,6 +12,8 @@ pub returns : goal.returns
 returns c =
     let first = c.try_set_blocking.ensures in
     let second = c.try_set_blocking-2.ensures in
-    let once = no_pin_after (λ acts shape. pins_are_given_back.try_set_blocking _ c.args.source false acts _ shape) first.call c.requires.unpinned in
-    let twice = no_pin_after (λ acts shape. pins_are_given_back.try_set_blocking _ c.args.sink false acts _ shape) second.call once in
+    let once = no_pin_after (λ acts shape. pins_are_given_back.try_set_blocking _ c.args.source false acts _ shape)
+    first.call c.requires.unpinned in
+    let twice = no_pin_after (λ acts shape. pins_are_given_back.try_set_blocking _ c.args.sink false acts _ shape)
+    second.call once in
     may_after second.call.acts second.ready twice (may_after first.call.acts first.ready once c.requires)

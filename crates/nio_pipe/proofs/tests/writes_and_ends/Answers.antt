@@ -5,7 +5,10 @@ use Rattle.nio_pipe.proofs.tests.writes_and_ends.Goals as goal
 pub write-second-requires-clause-ends : goal.write-second-requires-clause-ends
 write-second-requires-clause-ends g c =
     let first = c.write-first.ensures in
-    (may_same first.same.other first.same.channel (may_after first.call.acts first.ready first.unpinned c.requires.idle)).ends
+    (may_same first.same.other first.same.channel
+    (may_after first.call.acts first.ready first.unpinned c.requires.idle)).ends
 
 pub close_channel-requires-clause-channel : goal.close_channel-requires-clause-channel
-close_channel-requires-clause-channel g c = channel_after c.write-second.ensures.call.acts (channel_after c.write-first.ensures.call.acts c.requires.idle.ends.source)
+close_channel-requires-clause-channel g c =
+    channel_after c.write-second.ensures.call.acts
+    (channel_after c.write-first.ensures.call.acts c.requires.idle.ends.source)

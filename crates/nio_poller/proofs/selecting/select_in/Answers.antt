@@ -11,7 +11,8 @@ returns-in-Ok-clause-call g c =
 pub returns-in-Err-ClosedSelector-clause-call : goal.returns-in-Err-ClosedSelector-clause-call
 returns-in-Err-ClosedSelector-clause-call g c =
     let refused = c.in-Err-ClosedSelector.ensures in
-    select_refused c.args.sel c.args.mode begin_error.ClosedSelector _ c.in-Err-ClosedSelector.field-0-is refused.call refl
+    select_refused c.args.sel c.args.mode begin_error.ClosedSelector _ c.in-Err-ClosedSelector.field-0-is refused.call
+    refl
 
 pub returns-in-Err-Memory-clause-call : goal.returns-in-Err-Memory-clause-call
 returns-in-Err-Memory-clause-call g c =

@@ -13,7 +13,8 @@ pub returns-in-SelectFor-clause-selector : goal.returns-in-SelectFor-clause-sele
 returns-in-SelectFor-clause-selector g c =
     let w = c.args.w.now in
     let poller = c.select_for.new.poller in
-    selector_timed (record { 0 = 0 }) c.args.sel (view w c.args.p.now) (view w c.select_for.new.p) (g.P.Poller.polls c.args.poller.now) (g.P.Poller.polls poller) (g.P.Poller.ready poller)
+    selector_timed (record { 0 = 0 }) c.args.sel (view w c.args.p.now) (view w c.select_for.new.p)
+    (g.P.Poller.polls c.args.poller.now) (g.P.Poller.polls poller) (g.P.Poller.ready poller)
     c.select_for.result c.args.sel _ c.select_for.ensures.call c.requires.selector
 
 pub returns-in-Wakeup-clause-selector : goal.returns-in-Wakeup-clause-selector

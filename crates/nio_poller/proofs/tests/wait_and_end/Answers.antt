@@ -22,7 +22,8 @@ pub hand_over-requires-clause-number : goal.hand_over-requires-clause-number
 hand_over-requires-clause-number g c =
     let second = c.in_ok-draw-2.ensures.answer.1 in
     let opened = c.in_ok-sel.ensures in
-    (ready_after one opened.call.acts opened.ready.pass (record { pass = second.pass; number = second.holds refl })).number
+    (ready_after one opened.call.acts opened.ready.pass
+    (record { pass = second.pass; number = second.holds refl })).number
 
 pub join-p-requires-after_bounds : goal.join-p-requires-after_bounds
 join-p-requires-after_bounds g c κs within =

@@ -6,8 +6,13 @@ use Rattle.nio_poller.proofs.waking.finish.Goals as goal
 
 pub loop-preserved : goal.loop-preserved
 loop-preserved g c =
-    let busy = c.in-Busy.ensures in
-    (busy.ready, busy.still.1, busy.still.0 ∙ c.loop.invariant.2, finish_more _ _ _ c.loop.invariant.2 c.loop.invariant.3 busy.call refl)
+    let busy = c.in-Busy.ensures in (
+      busy.ready,
+      busy.still.1,
+      busy.still.0
+          ∙ c.loop.invariant.2,
+      finish_more _ _ _ c.loop.invariant.2 c.loop.invariant.3 busy.call refl,
+    )
 
 pub returns-in-Closed-clause-call : goal.returns-in-Closed-clause-call
 returns-in-Closed-clause-call g c =

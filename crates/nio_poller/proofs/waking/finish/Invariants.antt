@@ -10,4 +10,5 @@ use Rattle.nio_poller.proofs.waking.finish.Given as goal
 abbrev pub invariant-loop : goal.invariant-loop
 invariant-loop g l =
     IsReady l.w l.p l.me × Closes (view l.w l.p) l.me l.closing × (l.closing ≡ l.fn.closing)
-    × TryingClause l.me (λ (_ : Unit {0}). Completes (try_finish_plan l.fn.closing)) (λ _. finish_finds_busy) (view l.w l.fn.p) (view l.w l.p)
+    × TryingClause l.me (λ (_ : Unit {0}). Completes (try_finish_plan l.fn.closing)) (λ _. finish_finds_busy)
+    (view l.w l.fn.p) (view l.w l.p)

@@ -17,7 +17,9 @@ loop-j-init c =
       begun = c.requires.begun;
       count = omega (arith, ap length c.requires.empty, c.args.listed.now.ok.0);
       room = omega arith;
-      left = subst (λ (listed : List ℕ). PartClause c.args.me (list_below c.args.sel c.args.bound) start start (sweep_to (words_below c.args.bound) 0 (list_word c.args.sel c.args.bound) listed >>= reply))
+      left = subst
+          (λ (listed : List ℕ). PartClause c.args.me (list_below c.args.sel c.args.bound) start start
+          (sweep_to (words_below c.args.bound) 0 (list_word c.args.sel c.args.bound) listed >>= reply))
           (sym c.requires.empty) (left_reply (left_start _ _ _ c.requires.begun.ready.pass.legal));
     }
 
@@ -28,11 +30,14 @@ loop-j-preserved c =
       begun = c.list_word.ensures.begun;
       count = omega (arith, so_far.count, c.list_word.ensures.count);
       room = omega (arith, so_far.room, c.list_word.ensures.capacity);
-      left = sweep_turn _ _ _ _ _ reply (omega (arith, c.loop-j-test.true, c.words_below-j-end.ensures)) so_far.left c.list_word.ensures.call;
+      left = sweep_turn _ _ _ _ _ reply (omega (arith, c.loop-j-test.true, c.words_below-j-end.ensures)) so_far.left
+          c.list_word.ensures.call;
     }
 
 pub returns-clause-call : goal.returns-clause-call
-returns-clause-call c = returned (sweep_done _ _ _ _ reply (omega (arith, c.loop-j-test.false, c.words_below-j-end.ensures)) c.loop-j.invariant.left)
+returns-clause-call c =
+    returned (sweep_done _ _ _ _ reply (omega (arith, c.loop-j-test.false, c.words_below-j-end.ensures))
+    c.loop-j.invariant.left)
 
 pub returns-clause-below : goal.returns-clause-below
 returns-clause-below c = listed_below c.args.sel c.args.bound (returns-clause-call c)

@@ -14,5 +14,6 @@ invariant-loop-j l = record {
   begun : HasBegun l.w l.p l.me l.sel;
   count : vec_len l.listed ≤ 64 * l.j;
   room : vec_capacity l.fn.listed ≤ vec_capacity l.listed;
-  left : PartClause l.me (list_below l.sel l.bound) (view l.w l.fn.p) (view l.w l.p) (sweep_to (words_below l.bound) l.j (list_word l.sel l.bound) l.listed.items >>= reply);
+  left : PartClause l.me (list_below l.sel l.bound) (view l.w l.fn.p) (view l.w l.p)
+      (sweep_to (words_below l.bound) l.j (list_word l.sel l.bound) l.listed.items >>= reply);
 }

@@ -8,8 +8,11 @@ use Rattle.nio_select.proofs.Entered.{may_clear_now, may_clear_stays, may_remove
 use Rattle.nio_select.proofs.closing.remove_keys.Goals as goal
 
 pub loop-i-init : goal.loop-i-init
-loop-i-init c =
-    (may_clear_now c.look_keys-bound.ensures c.requires.entered, left_ask _ (step_acts c.look_keys-bound.ensures refl) (left_after (step_acts c.look_keys-bound.ensures refl)))
+loop-i-init c = (
+  may_clear_now c.look_keys-bound.ensures c.requires.entered,
+  left_ask _ (step_acts c.look_keys-bound.ensures refl)
+      (left_after (step_acts c.look_keys-bound.ensures refl)),
+)
 
 pub remove-requires-clause-may : goal.remove-requires-clause-may
 remove-requires-clause-may c = may_remove_below c.loop-i.invariant.0 c.loop-i.i (search rules)

@@ -10,4 +10,6 @@ list_below-requires-clause-bound c = mark_inside (step_acts c.look_keys-bound.en
 
 pub returns-clause-call : goal.returns-clause-call
 unfolding keys_plan
-returns-clause-call c = lists_all list_key (step_acts c.look_gate.ensures refl) c.if-look_gate.false (step_acts c.look_keys-bound.ensures refl) c.list_below.ensures.call
+returns-clause-call c =
+    lists_all list_key (step_acts c.look_gate.ensures refl) c.if-look_gate.false
+    (step_acts c.look_keys-bound.ensures refl) c.list_below.ensures.call

@@ -15,7 +15,8 @@ list_pinned-requires-clause-pinned c = record {
 
 pub returns-clause-call : goal.returns-clause-call
 returns-clause-call c =
-    ran_pinned (list_present c.args.sel c.args.i c.args.listed.now.items) (step_acts c.pin-stage.ensures refl) c.list_pinned.ensures.call (step_acts c.unpin.ensures refl)
+    ran_pinned (list_present c.args.sel c.args.i c.args.listed.now.items)
+    (step_acts c.pin-stage.ensures refl) c.list_pinned.ensures.call (step_acts c.unpin.ensures refl)
 
 pub returns-clause-unpinned : goal.returns-clause-unpinned
 returns-clause-unpinned c = none_unpinned (step_acts c.unpin.ensures refl) c.list_pinned.ensures.pinned.only

@@ -11,27 +11,34 @@ use Rattle.nio_select.proofs.removing.remove_cancelled.Goals as goal
 
 pub remove-requires-clause-may : goal.remove-requires-clause-may
 remove-requires-clause-may c =
-    or_left (may_remove_cancelled (state_seen c.args.p.now) c.args.me c.args.sel c.args.i) (may_clear_out (state_seen c.args.p.now) (acts_seen c.args.p.now c.args.me) c.args.me c.args.sel c.args.i)
+    or_left (may_remove_cancelled (state_seen c.args.p.now) c.args.me c.args.sel c.args.i)
+    (may_clear_out (state_seen c.args.p.now) (acts_seen c.args.p.now c.args.me) c.args.me c.args.sel c.args.i)
     c.requires.may
 
 pub put_free-requires-clause-may : goal.put_free-requires-clause-may
 put_free-requires-clause-may c =
     let below : nat_lt c.args.stage.serial last_serial ≡ true = search rules in
-    or_right (has_taken (state_seen c.remove.new.p) c.args.me c.args.sel c.args.i) (may_put_due (state_seen c.remove.new.p) c.args.me c.args.sel c.args.i)
-    (due_now (step_acts c.remove.ensures refl) c.requires.may c.requires.stage below (begun_stays c.remove.ensures refl refl c.requires.begun).begun)
+    or_right (has_taken (state_seen c.remove.new.p) c.args.me c.args.sel c.args.i)
+    (may_put_due (state_seen c.remove.new.p) c.args.me c.args.sel c.args.i)
+    (due_now (step_acts c.remove.ensures refl) c.requires.may c.requires.stage below
+    (begun_stays c.remove.ensures refl refl c.requires.begun).begun)
 
 pub returns-then-stage-lt4294967295-clause-call : goal.returns-then-stage-lt4294967295-clause-call
 returns-then-stage-lt4294967295-clause-call c =
     let below : nat_lt c.args.stage.serial last_serial ≡ true = search rules in
-    returned (left_ask _ (step_acts c.remove.ensures refl) (left_then _ _ _ below (left_ask _ (step_acts c.put_free.ensures refl) (left_after (step_acts c.put_free.ensures refl)))))
+    returned (left_ask _ (step_acts c.remove.ensures refl)
+    (left_then _ _ _ below
+    (left_ask _ (step_acts c.put_free.ensures refl) (left_after (step_acts c.put_free.ensures refl)))))
 
 pub returns-then-stage-lt4294967295-clause-begun : goal.returns-then-stage-lt4294967295-clause-begun
-returns-then-stage-lt4294967295-clause-begun c = begun_stays c.put_free.ensures refl refl (begun_stays c.remove.ensures refl refl c.requires.begun)
+returns-then-stage-lt4294967295-clause-begun c =
+    begun_stays c.put_free.ensures refl refl (begun_stays c.remove.ensures refl refl c.requires.begun)
 
 pub returns-else-stage-lt4294967295-clause-call : goal.returns-else-stage-lt4294967295-clause-call
 returns-else-stage-lt4294967295-clause-call c =
     let last : nat_lt c.args.stage.serial last_serial ≡ false = search rules in
-    returned (left_ask _ (step_acts c.remove.ensures refl) (left_else _ _ _ last (left_after (step_acts c.remove.ensures refl))))
+    returned (left_ask _ (step_acts c.remove.ensures refl)
+    (left_else _ _ _ last (left_after (step_acts c.remove.ensures refl))))
 
 pub returns-else-stage-lt4294967295-clause-begun : goal.returns-else-stage-lt4294967295-clause-begun
 returns-else-stage-lt4294967295-clause-begun c = begun_stays c.remove.ensures refl refl c.requires.begun

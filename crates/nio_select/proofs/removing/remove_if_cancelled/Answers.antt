@@ -10,14 +10,16 @@ remove_cancelled-requires-clause-begun c = begun_stays c.look_key-stage.ensures 
 
 pub remove_cancelled-requires-clause-may : goal.remove_cancelled-requires-clause-may
 remove_cancelled-requires-clause-may c =
-    may_remove_now c.args.i (begun_stays c.look_key-stage.ensures refl refl c.requires.begun) (stage_now (step_acts c.look_key-stage.ensures refl)) (sym c.if-is_in_cancelled_set.ensures)
+    may_remove_now c.args.i (begun_stays c.look_key-stage.ensures refl refl c.requires.begun)
+    (stage_now (step_acts c.look_key-stage.ensures refl)) (sym c.if-is_in_cancelled_set.ensures)
 
 pub remove_cancelled-requires-clause-stage : goal.remove_cancelled-requires-clause-stage
 remove_cancelled-requires-clause-stage c = stage_now (step_acts c.look_key-stage.ensures refl)
 
 pub returns-then-is_in_cancelled_set-clause-call : goal.returns-then-is_in_cancelled_set-clause-call
 returns-then-is_in_cancelled_set-clause-call c =
-    returned (left_ask _ (step_acts c.look_key-stage.ensures refl) (left_then _ _ _ (sym c.if-is_in_cancelled_set.ensures)
+    returned (left_ask _ (step_acts c.look_key-stage.ensures refl)
+    (left_then _ _ _ (sym c.if-is_in_cancelled_set.ensures)
     (ran_then (λ _. reply tt) c.remove_cancelled.ensures.call (left_after c.remove_cancelled.ensures.call.acts))))
 
 pub returns-else-is_in_cancelled_set-clause-begun : goal.returns-else-is_in_cancelled_set-clause-begun

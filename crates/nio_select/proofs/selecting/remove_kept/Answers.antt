@@ -10,8 +10,11 @@ loop-i-init c = (c.requires.begun, left_reply (left_start _ _ _ c.requires.begun
 pub loop-i-preserved : goal.loop-i-preserved
 loop-i-preserved c = (
   c.remove_if_cancelled.ensures.begun,
-  over_turn_at c.args.kept.now c.loop-i.i-index 0 (λ i _. remove_if_cancelled c.args.sel i) tt tt reply c.loop-i-test.true c.loop-i.invariant.1 c.remove_if_cancelled.ensures.call,
+  over_turn_at c.args.kept.now c.loop-i.i-index 0 (λ i _. remove_if_cancelled c.args.sel i) tt tt reply
+      c.loop-i-test.true c.loop-i.invariant.1 c.remove_if_cancelled.ensures.call,
 )
 
 pub returns-clause-call : goal.returns-clause-call
-returns-clause-call c = returned (over_done_at c.args.kept.now c.loop-i.i-index (λ i _. remove_if_cancelled c.args.sel i) tt reply c.loop-i-test.false c.loop-i.invariant.1)
+returns-clause-call c =
+    returned (over_done_at c.args.kept.now c.loop-i.i-index (λ i _. remove_if_cancelled c.args.sel i) tt reply
+    c.loop-i-test.false c.loop-i.invariant.1)

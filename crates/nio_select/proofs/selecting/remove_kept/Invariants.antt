@@ -11,4 +11,5 @@ use Rattle.nio_select.proofs.selecting.remove_kept.Given as goal
 abbrev pub invariant-loop-i : goal.invariant-loop-i
 invariant-loop-i l =
     HasBegun l.w l.p l.me l.sel
-    × PartClause l.me (remove_kept l.sel l.kept) (view l.w l.fn.p) (view l.w l.p) (sweep_over (drop l.i-index l.kept) (λ i _. remove_if_cancelled l.sel i) tt >>= reply)
+    × PartClause l.me (remove_kept l.sel l.kept) (view l.w l.fn.p) (view l.w l.p)
+    (sweep_over (drop l.i-index l.kept) (λ i _. remove_if_cancelled l.sel i) tt >>= reply)

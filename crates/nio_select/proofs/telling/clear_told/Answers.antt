@@ -7,4 +7,5 @@ use Rattle.nio_select.proofs.telling.clear_told.Goals as goal
 pub loop-at-preserved : goal.loop-at-preserved
 loop-at-preserved c =
     let below : c.loop-at.at < length c.args.slots.now.items = omega (arith, c.args.slots.now.ok.0) in
-    map_over_more (λ (slot : Slot). with_told slot 0) c.args.slots.now.items c.loop-at.slots.items c.loop-at.at c.index_mut.result.now below c.loop-at.invariant c.index_mut.ensures.value
+    map_over_more (λ (slot : Slot). with_told slot 0) c.args.slots.now.items c.loop-at.slots.items c.loop-at.at
+    c.index_mut.result.now below c.loop-at.invariant c.index_mut.ensures.value

@@ -10,4 +10,5 @@ use Rattle.nio_select.proofs.telling.mark_all.Given as goal
 abbrev pub invariant-loop-slot : goal.invariant-loop-slot
 invariant-loop-slot l =
     HasBegun l.w l.p l.me l.sel × (l.count ≤ l.slot-index)
-    × PartClause l.me (sweep_over l.slots (mark_slot l.sel) 0) (view l.w l.fn.p) (view l.w l.p) (sweep_over (drop l.slot-index l.slots) (mark_slot l.sel) l.count >>= reply)
+    × PartClause l.me (sweep_over l.slots (mark_slot l.sel) 0) (view l.w l.fn.p) (view l.w l.p)
+    (sweep_over (drop l.slot-index l.slots) (mark_slot l.sel) l.count >>= reply)

@@ -12,22 +12,27 @@ mark_all-requires-clause-countable c =
     let slots = c.asked.inside.slots.items in
     let pairs = c.args.pairs.now in
     subst (AreCountable (limits_of c.args.w.now) c.args.sel) (sym (c.as_slice.ensures.value ∙ c.note_told.ensures))
-    (countable (limits_of c.args.w.now) c.args.sel (noted pairs slots) c.args.asked.now c.args.w.now.fit c.requires.begun.inside (noted-rise pairs slots c.asked.invariant)
+    (countable (limits_of c.args.w.now) c.args.sel (noted pairs slots) c.args.asked.now c.args.w.now.fit
+    c.requires.begun.inside (noted-rise pairs slots c.asked.invariant)
     (noted-keys pairs slots ∙ c.asked.view_is) c.requires.keys)
 
 pub invariant_of-asked : goal.invariant_of-asked
-invariant_of-asked c = subst Rise (sym c.note_told.ensures) (noted-rise c.args.pairs.now c.asked.inside.slots.items c.asked.invariant)
+invariant_of-asked c =
+    subst Rise (sym c.note_told.ensures) (noted-rise c.args.pairs.now c.asked.inside.slots.items c.asked.invariant)
 
 pub returns-clause-call : goal.returns-clause-call
 returns-clause-call c =
-    marked_as_told c.args.sel c.args.pairs.now c.asked.inside.slots.items c.args.asked.now c.as_slice.result.now (c.as_slice.ensures.value ∙ c.note_told.ensures) c.asked.view_is
+    marked_as_told c.args.sel c.args.pairs.now c.asked.inside.slots.items c.args.asked.now c.as_slice.result.now
+    (c.as_slice.ensures.value ∙ c.note_told.ensures) c.asked.view_is
     c.mark_all.ensures.call
 
 pub returns-clause-same : goal.returns-clause-same
 returns-clause-same c =
-    ap (map (λ (slot : Slot). slot.key)) c.note_told.ensures ∙ (noted-keys c.args.pairs.now c.asked.inside.slots.items ∙ c.asked.view_is)
+    ap (map (λ (slot : Slot). slot.key)) c.note_told.ensures
+    ∙ (noted-keys c.args.pairs.now c.asked.inside.slots.items ∙ c.asked.view_is)
 
 pub returns-then-is_empty-clause-call : goal.returns-then-is_empty-clause-call
 returns-then-is_empty-clause-call c =
     let none : length c.args.pairs.now ≡ 0 = search rules in
-    nothing_told (view c.args.w.now c.args.p.now) c.args.sel c.args.asked.now c.args.pairs.now none c.requires.begun.ready.pass.legal
+    nothing_told (view c.args.w.now c.args.p.now) c.args.sel c.args.asked.now c.args.pairs.now none
+    c.requires.begun.ready.pass.legal

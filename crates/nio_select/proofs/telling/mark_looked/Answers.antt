@@ -11,7 +11,8 @@ pub mark-first-requires-clause-begun : goal.mark-first-requires-clause-begun
 mark-first-requires-clause-begun c = (begun_stays c.look_mark-was.ensures refl refl c.requires.begun).begun
 
 pub mark_again-requires-clause-begun : goal.mark_again-requires-clause-begun
-mark_again-requires-clause-begun c = begun_stays c.mark-first.ensures refl refl (begun_stays c.look_mark-was.ensures refl refl c.requires.begun)
+mark_again-requires-clause-begun c =
+    begun_stays c.mark-first.ensures refl refl (begun_stays c.look_mark-was.ensures refl refl c.requires.begun)
 
 pub returns-clause-call : goal.returns-clause-call
 returns-clause-call c =

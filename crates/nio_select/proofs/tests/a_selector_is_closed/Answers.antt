@@ -10,4 +10,5 @@ set_up-requires-clause-zero g c =
     record { pass = second.pass; number = second.keeps zero (first.holds refl) }
 
 pub is_told_beside-waits-requires-clause-idle : goal.is_told_beside-waits-requires-clause-idle
-is_told_beside-waits-requires-clause-idle g c = idle_call (begin_gives _ _) c.try_begin.ensures.call c.try_begin.ensures.ready c.set_up.ensures
+is_told_beside-waits-requires-clause-idle g c =
+    idle_call (begin_gives _ _) c.try_begin.ensures.call c.try_begin.ensures.ready c.set_up.ensures

@@ -8,12 +8,15 @@ returns-in-Ok-clause-idle c =
     (idle_call_other (begin_gives _ _) c.try_begin.ensures.call c.try_begin.ensures.ready c.requires)
 
 pub returns-in-Err-clause-idle : goal.returns-in-Err-clause-idle
-returns-in-Err-clause-idle c = idle_call_other (begin_gives _ _) c.try_begin.ensures.call c.try_begin.ensures.ready c.requires
+returns-in-Err-clause-idle c =
+    idle_call_other (begin_gives _ _) c.try_begin.ensures.call c.try_begin.ensures.ready c.requires
 
 pub returns-in-Ok-clause-selecting : goal.returns-in-Ok-clause-selecting
 returns-in-Ok-clause-selecting c = λ selection has.
-    selects_beside c.leave.ensures.call.acts (zero_held (idle_call_other (begin_gives _ _) c.try_begin.ensures.call c.try_begin.ensures.ready c.requires))
+    selects_beside c.leave.ensures.call.acts
+    (zero_held (idle_call_other (begin_gives _ _) c.try_begin.ensures.call c.try_begin.ensures.ready c.requires))
     (selects_beside c.try_begin.ensures.call.acts (zero_held c.requires) has)
 
 pub returns-in-Err-clause-selecting : goal.returns-in-Err-clause-selecting
-returns-in-Err-clause-selecting c = λ selection has. selects_beside c.try_begin.ensures.call.acts (zero_held c.requires) has
+returns-in-Err-clause-selecting c =
+    λ selection has. selects_beside c.try_begin.ensures.call.acts (zero_held c.requires) has

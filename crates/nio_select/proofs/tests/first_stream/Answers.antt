@@ -3,4 +3,5 @@ use Rattle.nio_select.proofs.Idle.{idle_call}
 use Rattle.nio_select.proofs.tests.first_stream.Goals as goal
 
 pub returns-clause-idle : goal.returns-clause-idle
-returns-clause-idle c = idle_call (pins_are_given_back.find_channel _ _) c.find_channel.ensures.call c.find_channel.ensures.ready c.requires
+returns-clause-idle c =
+    idle_call (pins_are_given_back.find_channel _ _) c.find_channel.ensures.call c.find_channel.ensures.ready c.requires

@@ -3,7 +3,8 @@ use Rattle.nio_select.proofs.Idle.{idle_call, closes_beside, one_held}
 use Rattle.nio_select.proofs.tests.is_told.Goals as goal
 
 pub returns-in-Done-clause-idle : goal.returns-in-Done-clause-idle
-returns-in-Done-clause-idle c = idle_call (pins_are_given_back.told _ _ _) c.told.ensures.call c.told.ensures.ready c.requires.idle
+returns-in-Done-clause-idle c =
+    idle_call (pins_are_given_back.told _ _ _) c.told.ensures.call c.told.ensures.ready c.requires.idle
 
 pub returns-in-Done-clause-closing : goal.returns-in-Done-clause-closing
 returns-in-Done-clause-closing c = λ s has. closes_beside c.told.ensures.call.acts (one_held c.requires.idle) has
@@ -15,5 +16,6 @@ returns-in-Again-clause-idle c =
 
 pub returns-in-Again-clause-closing : goal.returns-in-Again-clause-closing
 returns-in-Again-clause-closing c = λ s has.
-    closes_beside c.leave.ensures.call.acts (one_held (idle_call (pins_are_given_back.told _ _ _) c.told.ensures.call c.told.ensures.ready c.requires.idle))
+    closes_beside c.leave.ensures.call.acts
+    (one_held (idle_call (pins_are_given_back.told _ _ _) c.told.ensures.call c.told.ensures.ready c.requires.idle))
     (closes_beside c.told.ensures.call.acts (one_held c.requires.idle) has)

@@ -6,5 +6,7 @@ use Rattle.nio_select.proofs.tests.opens_first.Goals as goal
 
 pub returns-in-Ok : goal.returns-in-Ok
 returns-in-Ok c = λ first.
-    idle_opened _ c.open_selector.result c.open_selector.ensures.call c.open_selector.ensures.ready c.requires.one c.requires.seen
-    (subst (λ (k : ℕ). HasSelector (view c.args.w.now c.open_selector.new.p) (record { 0 = k })) (eqb-true c.in-Ok.sel.0 0 (sym c.eq.ensures ∙ first)) c.in-Ok.ensures.made)
+    idle_opened _ c.open_selector.result c.open_selector.ensures.call c.open_selector.ensures.ready c.requires.one
+    c.requires.seen
+    (subst (λ (k : ℕ). HasSelector (view c.args.w.now c.open_selector.new.p) (record { 0 = k }))
+    (eqb-true c.in-Ok.sel.0 0 (sym c.eq.ensures ∙ first)) c.in-Ok.ensures.made)

@@ -15,7 +15,10 @@ try_register-requires-clause-unpinned c = no_pin_stays (step_acts c.wake.ensures
 
 pub returns-in-Ok-clause-channel : goal.returns-in-Ok-clause-channel
 returns-in-Ok-clause-channel c =
-    channel_after c.cancel.ensures.call.acts (channel_after c.try_register.ensures.call.acts (channel_after (step_acts c.wake.ensures refl) c.requires.channel))
+    channel_after c.cancel.ensures.call.acts
+    (channel_after c.try_register.ensures.call.acts
+    (channel_after (step_acts c.wake.ensures refl) c.requires.channel))
 
 pub returns-in_default-clause-channel : goal.returns-in_default-clause-channel
-returns-in_default-clause-channel c = channel_after c.try_register.ensures.call.acts (channel_after (step_acts c.wake.ensures refl) c.requires.channel)
+returns-in_default-clause-channel c =
+    channel_after c.try_register.ensures.call.acts (channel_after (step_acts c.wake.ensures refl) c.requires.channel)

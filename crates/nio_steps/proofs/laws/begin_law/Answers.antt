@@ -5,4 +5,10 @@ use Rattle.nio_steps.proofs.SelectionLaws.{begins_selection}
 use Rattle.nio_steps.proofs.laws.begin_law.Goals as goal
 
 pub returns : goal.returns
-returns c = record { begins = begins_selection; in_order = lists_in_order; valid = looks_at_valid_keys; cancelled = cancelled_keys_go }
+returns c =
+    record {
+      begins = begins_selection;
+      in_order = lists_in_order;
+      valid = looks_at_valid_keys;
+      cancelled = cancelled_keys_go;
+    }

@@ -4,4 +4,10 @@ use Rattle.nio_steps.proofs.ToldLaws.{marks_only_as_told}
 use Rattle.nio_steps.proofs.laws.told_law.Goals as goal
 
 pub returns : goal.returns
-returns c = record { only_as_told = marks_only_as_told; looked = marks_looked_keys; goes_on = again_goes_on; counts = counts_selection }
+returns c =
+    record {
+      only_as_told = marks_only_as_told;
+      looked = marks_looked_keys;
+      goes_on = again_goes_on;
+      counts = counts_selection;
+    }

@@ -1,4 +1,5 @@
-use Rattle.nio_words.proofs.GoingOn.{calls_go_on, draws_go_on, splits_go_on, joins_go_on, going_on_chains, histories_go_on}
+use Rattle.nio_words.proofs.GoingOn.{calls_go_on, draws_go_on, splits_go_on, joins_go_on, going_on_chains}
+use Rattle.nio_words.proofs.GoingOn.{histories_go_on}
 use Rattle.nio_words.proofs.laws.going_on_law.Goals as goal
 
 pub returns-clause-calls : goal.returns-clause-calls

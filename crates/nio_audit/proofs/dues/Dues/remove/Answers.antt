@@ -13,5 +13,6 @@ returns-clause-due c =
     elim c.if-frees.branch [ then-frees w ↦ grind arith | else-frees w ↦ grind arith ] in
     on_ok_weaker _
     (λ (written : grid c.set.new.self ≡ put_at was c.args.sel.0 c.args.index c.if-frees.set).
-    due_of-removed _ _ _ _ c.args.now c.args.frees c.requires refl (written ∙ ap (put_at was c.args.sel.0 c.args.index) value))
+    due_of-removed _ _ _ _ c.args.now c.args.frees c.requires refl
+    (written ∙ ap (put_at was c.args.sel.0 c.args.index) value))
     c.set.ensures

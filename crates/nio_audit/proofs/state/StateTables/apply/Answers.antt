@@ -5,7 +5,9 @@ use Rattle.nio_event.specs.declared.act.Act.{Act}
 use Rattle.nio_audit.proofs.state.StateTables.apply.Goals as goal
 
 pub claim_again-requires : goal.claim_again-requires
-claim_again-requires c = subst (λ (a : Act). IsBounded (state_with c.args.self.now (λ _ _. false)) a) c.in-ClaimAgain.is (c.requires (λ _ _. false))
+claim_again-requires c =
+    subst (λ (a : Act). IsBounded (state_with c.args.self.now (λ _ _. false)) a) c.in-ClaimAgain.is
+    (c.requires (λ _ _. false))
 
 pub returns-in-MakeChannel : goal.returns-in-MakeChannel
 returns-in-MakeChannel c = rw c.in-MakeChannel.is (c.make_channel.ensures c.args.me)

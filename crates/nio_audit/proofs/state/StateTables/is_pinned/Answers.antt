@@ -12,7 +12,11 @@ pub returns-then-get : goal.returns-then-get
 returns-then-get c = λ due.
     let st = state_with c.args.self.now due in
     true_by (is_pinned st c.args.sel.0 c.args.index)
-    (pinned_by st c.args.sel.0 c.args.index c.loop-caller.caller c.loop-caller-test.true (sym c.get.ensures ∙ c.if-get.true))
+    (pinned_by st c.args.sel.0 c.args.index c.loop-caller.caller c.loop-caller-test.true
+    (sym c.get.ensures ∙ c.if-get.true))
 
 pub returns : goal.returns
-returns c = λ due. sym (pinned_by_nobody (state_with c.args.self.now due) c.args.sel.0 c.args.index (λ n below. c.loop-caller.invariant n (omega arith)))
+returns c =
+    λ due. sym
+    (pinned_by_nobody (state_with c.args.self.now due) c.args.sel.0 c.args.index
+    (λ n below. c.loop-caller.invariant n (omega arith)))

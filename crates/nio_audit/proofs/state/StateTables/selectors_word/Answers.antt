@@ -11,8 +11,12 @@ loop-bit-init c = sym (bits_below-none (row c.args.self.now.selector))
 pub loop-bit-preserved : goal.loop-bit-preserved
 loop-bit-preserved c =
     elim c.if-get.branch [
-      | then-get w ↦ w.word-is ∙ with_bit (row c.args.self.now.selector) c.loop-bit.bit c.loop-bit.word c.loop-bit-test.true c.loop-bit.invariant (sym c.get.ensures ∙ w.if-get.true)
-      | else-get w ↦ w.word-is ∙ without_bit (row c.args.self.now.selector) c.loop-bit.bit c.loop-bit.word c.loop-bit.invariant (sym c.get.ensures ∙ w.if-get.false)
+      | then-get w ↦ w.word-is
+          ∙ with_bit (row c.args.self.now.selector) c.loop-bit.bit c.loop-bit.word c.loop-bit-test.true
+          c.loop-bit.invariant (sym c.get.ensures ∙ w.if-get.true)
+      | else-get w ↦ w.word-is
+          ∙ without_bit (row c.args.self.now.selector) c.loop-bit.bit c.loop-bit.word c.loop-bit.invariant
+          (sym c.get.ensures ∙ w.if-get.false)
     ]
 
 pub returns : goal.returns

@@ -3,4 +3,6 @@ use Rattle.std.specs.Io.KnownBytes.{Keeps}
 use Rattle.nio_bytes.proofs.std_source.StdSourceSource.read.Given as goal
 
 abbrev pub invariant-loop : goal.invariant-loop
-invariant-loop g l = (l.self.faults ≡ l.initial.self.faults) × Keeps (g.R.Read.remaining l.initial.self.inner) (g.R.Read.remaining l.self.inner)
+invariant-loop g l =
+    (l.self.faults ≡ l.initial.self.faults)
+    × Keeps (g.R.Read.remaining l.initial.self.inner) (g.R.Read.remaining l.self.inner)

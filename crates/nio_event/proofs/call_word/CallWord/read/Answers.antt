@@ -12,5 +12,6 @@ use Rattle.nio_event.proofs.call_word.CallWord.read.Goals as goal
 pub returns : goal.returns
 returns c =
     let text = c.args.text.now in
-    let found = find_from_yields_List (λ w. bytes_eq (call_word_text w) text) _ _ c.find.result c.find.ensures.ran (YieldsList-from_copied (YieldsList-from_slice CALL_WORDS cc)) (λ x b q k. search (rules, tests)) in
+    let found = find_from_yields_List (λ w. bytes_eq (call_word_text w) text) _ _ c.find.result c.find.ensures.ran
+    (YieldsList-from_copied (YieldsList-from_slice CALL_WORDS cc)) (λ x b q k. search (rules, tests)) in
     reads_call_word text c.find.result (sym (option_map_id c.find.result) ∙ found)

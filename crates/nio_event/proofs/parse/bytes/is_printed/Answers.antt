@@ -8,5 +8,6 @@ returns c =
     let printed : c.as_slice.result.now ≡ bytes_word c.args.bytes.now =
     c.as_slice.ensures.value ∙ (c.in_ok-push_hex.ensures
     ∙ ap (λ front. front ++ bytes_word c.args.bytes.now) c.in_ok-printed.ensures.items) in
-    few_bytes c.args.word.now c.as_slice.result.now c.args.bytes.now c.eq.result (omega (arith, c.if-bytes-gt-BYTES_LIMIT.false))
+    few_bytes c.args.word.now c.as_slice.result.now c.args.bytes.now c.eq.result
+    (omega (arith, c.if-bytes-gt-BYTES_LIMIT.false))
     c.type_inv.bytes printed c.eq.ensures

@@ -12,13 +12,17 @@ returns-in_ok-index-in-None c =
 pub returns-in_err-index-in-Some : goal.returns-in_err-index-in-Some
 returns-in_err-index-in-Some c =
     rw c.from_residual-in_err-index-in-Some.ensures
-    (no_later_index c.args.word.now c.in-Some.index.now c.in-Some.serial.now c.in-Some.ensures.found c.in-Some.ensures.only c.in_err-index-in-Some.ensures)
+    (no_later_index c.args.word.now c.in-Some.index.now c.in-Some.serial.now c.in-Some.ensures.found
+    c.in-Some.ensures.only c.in_err-index-in-Some.ensures)
 
 pub returns-in_err-serial-in-Some : goal.returns-in_err-serial-in-Some
 returns-in_err-serial-in-Some c =
     rw c.from_residual-in_err-serial-in-Some.ensures
-    (no_serial c.args.word.now c.in-Some.index.now c.in-Some.serial.now c.in-Some.ensures.found c.in-Some.ensures.only c.in_err-serial-in-Some.ensures)
+    (no_serial c.args.word.now c.in-Some.index.now c.in-Some.serial.now c.in-Some.ensures.found c.in-Some.ensures.only
+    c.in_err-serial-in-Some.ensures)
 
 pub returns-in_ok-serial-in-Some : goal.returns-in_ok-serial-in-Some
 returns-in_ok-serial-in-Some c =
-    key_at_serial c.args.word.now c.in-Some.index.now c.in-Some.serial.now c.in_ok-index-in-Some.index c.in_ok-serial-in-Some.serial c.in-Some.ensures.found c.in-Some.ensures.only c.in_ok-index-in-Some.ensures c.in_ok-serial-in-Some.ensures
+    key_at_serial c.args.word.now c.in-Some.index.now c.in-Some.serial.now c.in_ok-index-in-Some.index
+    c.in_ok-serial-in-Some.serial c.in-Some.ensures.found c.in-Some.ensures.only c.in_ok-index-in-Some.ensures
+    c.in_ok-serial-in-Some.ensures

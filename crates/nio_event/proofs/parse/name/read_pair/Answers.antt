@@ -16,4 +16,5 @@ returns-in_err-ops c =
 
 pub returns : goal.returns
 returns c =
-    some_pair c.args.word.now c.in_ok-key.key.now c.in_ok-key.ops.now c.in_ok-key-2.key c.in_ok-ops.ops c.in_ok-key.ensures.only c.in_ok-key.ensures.found c.in_ok-key-2.ensures c.in_ok-ops.ensures
+    some_pair c.args.word.now c.in_ok-key.key.now c.in_ok-key.ops.now c.in_ok-key-2.key c.in_ok-ops.ops
+    c.in_ok-key.ensures.only c.in_ok-key.ensures.found c.in_ok-key-2.ensures c.in_ok-ops.ensures

@@ -15,12 +15,16 @@ returns-in_default c =
 
 pub returns-in_default-parse : goal.returns-in_default-parse
 returns-in_default-parse c =
-    not_parsed c.args.text.now c.in-Ok.digits.now c.args.max c.parse.result (omega arith) c.in-Ok.ensures.cases.0 c.parse.ensures.value.0 (λ v e f. (cc))
+    not_parsed c.args.text.now c.in-Ok.digits.now c.args.max c.parse.result
+    (omega arith) c.in-Ok.ensures.cases.0 c.parse.ensures.value.0 (λ v e f. (cc))
 
 pub returns-then-number-max : goal.returns-then-number-max
 returns-then-number-max c =
-    is_number c.args.text.now c.in-Ok.digits.now c.args.max c.in-Ok-parse.number c.parse.result (omega arith) c.in-Ok.ensures.cases.0 (c.if-not-begins_as_number.ensures.0 refl) c.parse.ensures.value.0 c.in-Ok-parse.is (omega arith)
+    is_number c.args.text.now c.in-Ok.digits.now c.args.max c.in-Ok-parse.number c.parse.result
+    (omega arith) c.in-Ok.ensures.cases.0 (c.if-not-begins_as_number.ensures.0 refl) c.parse.ensures.value.0
+    c.in-Ok-parse.is (omega arith)
 
 pub returns-else-number-max : goal.returns-else-number-max
 returns-else-number-max c =
-    not_parsed c.args.text.now c.in-Ok.digits.now c.args.max c.parse.result (omega arith) c.in-Ok.ensures.cases.0 c.parse.ensures.value.0 (search rules)
+    not_parsed c.args.text.now c.in-Ok.digits.now c.args.max c.parse.result
+    (omega arith) c.in-Ok.ensures.cases.0 c.parse.ensures.value.0 (search rules)

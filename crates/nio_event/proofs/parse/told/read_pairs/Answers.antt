@@ -10,19 +10,25 @@ loop-word-init c = rw c.in_ok-pairs.ensures.items (none_read (map (λ w. w.now) 
 
 pub returns-in_default : goal.returns-in_default
 returns-in_default c =
-    no_pair (map (λ w. w.now) c.args.words.now) c.loop-word.word-index _ (stands_at c.args.words.now c.loop-word.word-index _ c.loop-word-test.true) c.in_default.ensures
+    no_pair (map (λ w. w.now) c.args.words.now) c.loop-word.word-index _
+    (stands_at c.args.words.now c.loop-word.word-index _ c.loop-word-test.true) c.in_default.ensures
 
 pub returns-then-has_key : goal.returns-then-has_key
 returns-then-has_key c =
     let twice = rw c.deref.ensures.value at (c.if-has_key.ensures.0 refl) in
-    key_again (map (λ w. w.now) c.args.words.now) c.loop-word.word-index _ c.in-Some.pair c.loop-word.pairs.items (stands_at c.args.words.now c.loop-word.word-index _ c.loop-word-test.true) c.in-Some.ensures twice c.loop-word.invariant
+    key_again (map (λ w. w.now) c.args.words.now) c.loop-word.word-index _ c.in-Some.pair c.loop-word.pairs.items
+    (stands_at c.args.words.now c.loop-word.word-index _ c.loop-word-test.true) c.in-Some.ensures twice
+    c.loop-word.invariant
 
 pub loop-word-preserved : goal.loop-word-preserved
 loop-word-preserved c =
     let new = rw c.deref.ensures.value at c.if-has_key.ensures.1 in
     rw c.in_ok-push.ensures.items
-    (one_more (map (λ w. w.now) c.args.words.now) c.loop-word.word-index _ c.in-Some.pair c.loop-word.pairs.items (stands_at c.args.words.now c.loop-word.word-index _ c.loop-word-test.true) c.in-Some.ensures (λ twice. false≢true (new twice)) c.loop-word.invariant)
+    (one_more (map (λ w. w.now) c.args.words.now) c.loop-word.word-index _ c.in-Some.pair c.loop-word.pairs.items
+    (stands_at c.args.words.now c.loop-word.word-index _ c.loop-word-test.true) c.in-Some.ensures
+    (λ twice. false≢true (new twice)) c.loop-word.invariant)
 
 pub returns : goal.returns
 returns c =
-    all_read (map (λ w. w.now) c.args.words.now) c.loop-word.word-index c.loop-word.pairs.items (omega (arith, length-map c.args.words.now (λ (w : Bor (List ℕ)). w.now))) c.loop-word.invariant
+    all_read (map (λ w. w.now) c.args.words.now) c.loop-word.word-index c.loop-word.pairs.items
+    (omega (arith, length-map c.args.words.now (λ (w : Bor (List ℕ)). w.now))) c.loop-word.invariant

@@ -13,5 +13,6 @@ returns-then-before-eq0 c =
 
 pub returns-else-before-eq0 : goal.returns-else-before-eq0
 returns-else-before-eq0 c =
-    let value : to_z w64 (of_z w64 c.negated.result) ≡ neg_ℤ (pos c.in_ok-before.before) = omega (arith, ints, c.negated.ensures) in
+    let value : to_z w64 (of_z w64 c.negated.result) ≡ neg_ℤ (pos c.in_ok-before.before) = omega
+    (arith, ints, c.negated.ensures) in
     rw value (time_before c.args.digits.now c.in_ok-before.before c.in_ok-before.ensures c.if-before-eq0.false)

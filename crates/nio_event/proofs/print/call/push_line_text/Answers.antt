@@ -8,5 +8,7 @@ use Rattle.nio_event.proofs.print.call.push_line_text.Goals as goal
 pub returns : goal.returns
 returns c =
     let call = c.args.call.now in
-    both_pushed c.args.line.now.items c.push_numbered.new.line.items c.push_call.new.line.items (caller_word c.args.caller) (spaced (call_words call)) (line_text c.args.caller call) c.push_call.result c.in_ok-push_numbered.ensures c.push_call.ensures
+    both_pushed c.args.line.now.items c.push_numbered.new.line.items c.push_call.new.line.items
+    (caller_word c.args.caller) (spaced (call_words call)) (line_text c.args.caller call) c.push_call.result
+    c.in_ok-push_numbered.ensures c.push_call.ensures
     (sym (join_spaced (caller_word c.args.caller) (call_words call)))

@@ -9,5 +9,7 @@ pub returns-in_ok-push_key-in-Some : goal.returns-in_ok-push_key-in-Some
 returns-in_ok-push_key-in-Some c =
     let first = key_word c.in-Some.first.now in
     let others = map key_word c.in-Some.others.now in
-    both_pushed c.args.line.now.items c.push_key.new.line.items c.push_keys.new.line.items first (spaced others) (join_with_byte 32 (map key_word c.args.keys.now)) c.push_keys.result c.in_ok-push_key-in-Some.ensures c.push_keys.ensures
+    both_pushed c.args.line.now.items c.push_key.new.line.items c.push_keys.new.line.items first (spaced others)
+    (join_with_byte 32 (map key_word c.args.keys.now)) c.push_keys.result c.in_ok-push_key-in-Some.ensures
+    c.push_keys.ensures
     (sym (join_spaced first others) ∙ ap (λ l. join_with_byte 32 (map key_word l)) (sym c.in-Some.ensures.cases.0))

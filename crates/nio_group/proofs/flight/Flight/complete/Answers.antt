@@ -6,4 +6,11 @@ pub push_back_reserved-requires : goal.push_back_reserved-requires
 push_back_reserved-requires c =
     let kept = c.self.invariant in
     let is = rw (← c.self.view_is) at c.requires.is in
-    omega (arith, kept.queue_length, kept.room, kept.within, queued-below c.self.inside.operations.operations c.args.number c.args.operation is (not_queued-pending c.args.operation c.requires.pending))
+    omega (
+      arith,
+      kept.queue_length,
+      kept.room,
+      kept.within,
+      queued-below c.self.inside.operations.operations c.args.number c.args.operation is
+          (not_queued-pending c.args.operation c.requires.pending),
+    )

@@ -5,4 +5,5 @@ pub invariant_of-self : goal.invariant_of-self
 invariant_of-self c =
     let within = rw (← c.self.view_is) at c.requires in
     rw (c.complete_all.ensures, c.none.ensures)
-    (kept-closed c.args.chan.0 c.index-channel.result.now c.self.invariant within c.index-channel.ensures (not-false c.index-channel.result.now.is_open c.if-not-channel.false))
+    (kept-closed c.args.chan.0 c.index-channel.result.now c.self.invariant within c.index-channel.ensures
+    (not-false c.index-channel.result.now.is_open c.if-not-channel.false))

@@ -11,6 +11,8 @@ returns-then-self-eq0 c =
     elim c.if-self.branch [
       | then-self w ↦
           rw (c.in_flight.ensures, ← c.self.view_is)
-          (terminated-when {f = i.flight} {cs = i.channels.items} {ps = i.pending.items} {o = i.open_channels} {r = i.channels.cap} {r' = i.pending.cap} {sh = i.shut} {l = i.limits} c.self.invariant w.if-self.true (same_number c.self.inside.open_channels 0 (sym w.value-is ∙ c.if-self-eq0.true)))
+          (terminated-when {f = i.flight} {cs = i.channels.items} {ps = i.pending.items} {o = i.open_channels}
+          {r = i.channels.cap} {r' = i.pending.cap} {sh = i.shut} {l = i.limits} c.self.invariant w.if-self.true
+          (same_number c.self.inside.open_channels 0 (sym w.value-is ∙ c.if-self-eq0.true)))
       | else-self w ↦ absurd (false≢true (sym w.if-self.false ∙ sym w.value-is ∙ c.if-self-eq0.true))
     ]

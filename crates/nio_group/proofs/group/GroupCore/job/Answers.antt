@@ -12,7 +12,8 @@ returns-clause-some c =
     let slot : slot_of c.index.result.now c.args.kind ≡ Some c.in_ok-number.number = sym c.get.ensures
     ∙ c.in_ok-number.was in
     let is : op_at c.self.inside.flight c.in_ok-number.number ≡ Some op = sym c.get-2.ensures ∙ c.in_ok-operation.was in
-    let parts = job-pending c.args.chan.0 c.args.kind c.index.result.now c.in_ok-number.number op c.self.invariant within c.index.ensures slot is in
+    let parts = job-pending c.args.chan.0 c.args.kind c.index.result.now c.in_ok-number.number op c.self.invariant
+    within c.index.ensures slot is in
     rw (c.make.ensures, ← c.self.view_is)
     (record {
       chan = parts.chan;

@@ -9,4 +9,5 @@ invariant_of-self c =
     let made = c.push_reserved.ensures in
     let slot = c.push_reserved-2.ensures in
     rw (made.items, slot.items, c.none.ensures, c.new.ensures, made.capacity, slot.capacity)
-    (kept-channel_made _ kept (new-open c.args.kind) (new-not_connecting c.args.kind) (omega (arith, few, c.len.ensures, c.if-len-self.false, c.self.inside.channels.ok.0)))
+    (kept-channel_made _ kept (new-open c.args.kind) (new-not_connecting c.args.kind)
+    (omega (arith, few, c.len.ensures, c.if-len-self.false, c.self.inside.channels.ok.0)))

@@ -6,4 +6,5 @@ pub complete-requires-clause-channel : goal.complete-requires-clause-channel
 complete-requires-clause-channel c =
     let free = sym c.report.ensures ∙ c.in_default-report.is in
     rw (← c.self.view_is)
-    (pending-made c.args.op.0 c.in-Some.operation c.self.invariant (sym c.get.ensures ∙ c.in-Some.is) (report-allowed c.in-Some.operation c.args.outcome free).0).0
+    (pending-made c.args.op.0 c.in-Some.operation c.self.invariant (sym c.get.ensures ∙ c.in-Some.is)
+    (report-allowed c.in-Some.operation c.args.outcome free).0).0

@@ -15,7 +15,9 @@ returns-in-Some c =
     let within = rw (← c.self.view_is) at c.requires in
     let going : is_terminated g ≡ false = rw (← c.self.view_is) at
     (sym c.is_terminated.ensures ∙ c.if-is_terminated.false) in
-    let is = start_refusal-read c.args.chan.0 c.args.kind c.index-channel.result.now c.index.result.now c.is_some-pending.result c.start.result c.self.invariant within going c.index-channel.ensures c.index.ensures (rw c.get.ensures at c.is_some-pending.ensures) c.start.ensures in
+    let is = start_refusal-read c.args.chan.0 c.args.kind c.index-channel.result.now c.index.result.now
+    c.is_some-pending.result c.start.result c.self.invariant within going c.index-channel.ensures c.index.ensures
+    (rw c.get.ensures at c.is_some-pending.ensures) c.start.ensures in
     rw (← c.self.view_is)
     (sym (is ∙ ap (λ (e : Option StartError). option_or e (limit_refusal g)) c.in-Some.is))
 
@@ -26,9 +28,12 @@ returns-then-accepted-self c =
     let within = rw (← c.self.view_is) at c.requires in
     let going : is_terminated g ≡ false = rw (← c.self.view_is) at
     (sym c.is_terminated.ensures ∙ c.if-is_terminated.false) in
-    let is = start_refusal-read c.args.chan.0 c.args.kind c.index-channel.result.now c.index.result.now c.is_some-pending.result c.start.result c.self.invariant within going c.index-channel.ensures c.index.ensures (rw c.get.ensures at c.is_some-pending.ensures) c.start.ensures in
+    let is = start_refusal-read c.args.chan.0 c.args.kind c.index-channel.result.now c.index.result.now
+    c.is_some-pending.result c.start.result c.self.invariant within going c.index-channel.ensures c.index.ensures
+    (rw c.get.ensures at c.is_some-pending.ensures) c.start.ensures in
     rw (← c.self.view_is)
-    (sym (is ∙ ap (λ (e : Option StartError). option_or e (limit_refusal g)) c.in_default.is ∙ limit-ops g (sym c.accepted.ensures ∙ c.if-accepted-self.true)))
+    (sym (is ∙ ap (λ (e : Option StartError). option_or e (limit_refusal g)) c.in_default.is
+    ∙ limit-ops g (sym c.accepted.ensures ∙ c.if-accepted-self.true)))
 
 pub returns-then-in_flight-self : goal.returns-then-in_flight-self
 returns-then-in_flight-self c =
@@ -37,12 +42,15 @@ returns-then-in_flight-self c =
     let within = rw (← c.self.view_is) at c.requires in
     let going : is_terminated g ≡ false = rw (← c.self.view_is) at
     (sym c.is_terminated.ensures ∙ c.if-is_terminated.false) in
-    let is = start_refusal-read c.args.chan.0 c.args.kind c.index-channel.result.now c.index.result.now c.is_some-pending.result c.start.result c.self.invariant within going c.index-channel.ensures c.index.ensures (rw c.get.ensures at c.is_some-pending.ensures) c.start.ensures in
+    let is = start_refusal-read c.args.chan.0 c.args.kind c.index-channel.result.now c.index.result.now
+    c.is_some-pending.result c.start.result c.self.invariant within going c.index-channel.ensures c.index.ensures
+    (rw c.get.ensures at c.is_some-pending.ensures) c.start.ensures in
     let below : accepted g.flight ≢ g.op_limit = λ e. c.if-accepted-self.false (c.accepted.ensures ∙ e) in
     let full : in_flight g.flight ≡ g.flight.limit = sym c.in_flight.ensures ∙ c.if-in_flight-self.true
     ∙ sym c.self.invariant.same_limit in
     rw (← c.self.view_is)
-    (sym (is ∙ ap (λ (e : Option StartError). option_or e (limit_refusal g)) c.in_default.is ∙ limit-flight g below full))
+    (sym (is ∙ ap (λ (e : Option StartError). option_or e (limit_refusal g)) c.in_default.is
+    ∙ limit-flight g below full))
 
 pub returns : goal.returns
 returns c =
@@ -51,7 +59,9 @@ returns c =
     let within = rw (← c.self.view_is) at c.requires in
     let going : is_terminated g ≡ false = rw (← c.self.view_is) at
     (sym c.is_terminated.ensures ∙ c.if-is_terminated.false) in
-    let is = start_refusal-read c.args.chan.0 c.args.kind c.index-channel.result.now c.index.result.now c.is_some-pending.result c.start.result c.self.invariant within going c.index-channel.ensures c.index.ensures (rw c.get.ensures at c.is_some-pending.ensures) c.start.ensures in
+    let is = start_refusal-read c.args.chan.0 c.args.kind c.index-channel.result.now c.index.result.now
+    c.is_some-pending.result c.start.result c.self.invariant within going c.index-channel.ensures c.index.ensures
+    (rw c.get.ensures at c.is_some-pending.ensures) c.start.ensures in
     let below : accepted g.flight ≢ g.op_limit = λ e. c.if-accepted-self.false (c.accepted.ensures ∙ e) in
     let room : in_flight g.flight ≢ g.flight.limit = λ e. c.if-in_flight-self.false
     (c.in_flight.ensures ∙ e ∙ c.self.invariant.same_limit) in

@@ -15,4 +15,5 @@ returns c =
     let small = table.small_reach in
     let found = rw c.deref.ensures.value at c.in_ok-at.ensures.found in
     rw (← c.self.view_is)
-    (key_in-read c.args.number c.in_ok-at.at c.index.result.now c.in_ok-entry.entry table (omega (arith, found.1, c.home-home.ensures.below)) found.2 c.index.ensures c.in_ok-entry.was)
+    (key_in-read c.args.number c.in_ok-at.at c.index.result.now c.in_ok-entry.entry table
+    (omega (arith, found.1, c.home-home.ensures.below)) found.2 c.index.ensures c.in_ok-entry.was)

@@ -16,7 +16,8 @@ returns-in-Some-clause-changes c =
     let small = c.self.invariant.small_reach in
     let found = rw c.deref.ensures.value at c.in-Some.ensures.found in
     rw (← c.self.view_is)
-    (changes-removed c.args.number c.in-Some.at c.self.invariant (omega (arith, found.1, c.home-home.ensures.below)) found.2)
+    (changes-removed c.args.number c.in-Some.at c.self.invariant (omega (arith, found.1, c.home-home.ensures.below))
+    found.2)
 
 -- the number has a key, so it is found
 not_found : (c : goal.In_default) → ⊥

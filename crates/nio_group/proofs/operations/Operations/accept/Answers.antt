@@ -10,7 +10,9 @@ invariant_of-self c =
     let kept = c.self.invariant in
     let room = rw (← c.self.view_is) at c.requires.room in
     let numbers = rw (← c.self.view_is) at c.requires.numbers in
-    is_kept-accepts c.insert_reserved-key.result c.args.operation kept slot.was_vacant slot.updates put.changes slot.len put.count slot.capacity put.limit (omega (arith, room, kept.counted)) (omega (arith, numbers, length-kept i.slab i.index i.accepted))
+    is_kept-accepts c.insert_reserved-key.result c.args.operation kept slot.was_vacant slot.updates put.changes slot.len
+    put.count slot.capacity put.limit (omega (arith, room, kept.counted))
+    (omega (arith, numbers, length-kept i.slab i.index i.accepted))
 
 pub returns-clause-number : goal.returns-clause-number
 returns-clause-number c =
@@ -21,4 +23,6 @@ pub returns-clause-accepts : goal.returns-clause-accepts
 returns-clause-accepts c =
     let slot = c.insert_reserved-key.ensures in
     rw (← c.self.view_is)
-    (ap (λ xs. record { operations = xs; limit = c.self.inside.limit }) (kept-accepts c.insert_reserved-key.result c.args.operation c.self.invariant slot.was_vacant slot.updates c.insert.ensures.changes))
+    (ap (λ xs. record { operations = xs; limit = c.self.inside.limit })
+    (kept-accepts c.insert_reserved-key.result c.args.operation c.self.invariant slot.was_vacant slot.updates
+    c.insert.ensures.changes))

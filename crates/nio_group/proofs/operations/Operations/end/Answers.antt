@@ -17,7 +17,9 @@ invariant_of-self c =
 pub returns-in-Some : goal.returns-in-Some
 returns-in-Some c =
     rw (← c.self.view_is)
-    (ap (λ xs. record { operations = xs; limit = c.self.inside.limit }) (kept-ends c.args.number c.in-Some.key c.self.invariant (sym c.in-Some.ensures) c.remove.ensures.updates c.remove-in-Some.ensures.changes))
+    (ap (λ xs. record { operations = xs; limit = c.self.inside.limit })
+    (kept-ends c.args.number c.in-Some.key c.self.invariant (sym c.in-Some.ensures) c.remove.ensures.updates
+    c.remove-in-Some.ensures.changes))
 
 pub returns-in_default : goal.returns-in_default
 returns-in_default c =

@@ -9,7 +9,9 @@ use Rattle.nio_pipe.proofs.held.HeldPipe.part.Goals as goal
 taken_over : (c : goal.After-drop-buffer-2) → sent c.take_over.new.self ≡ waiting c.args.self
 taken_over c =
     let h = c.self.inside in
-    c.take_over.ensures.sent ∙ (c.as_slices.ensures ∙ (sym (waiting-items h.sent h.received h.buffer c.self.invariant) ∙ ap waiting c.self.view_is))
+    c.take_over.ensures.sent
+    ∙ (c.as_slices.ensures
+    ∙ (sym (waiting-items h.sent h.received h.buffer c.self.invariant) ∙ ap waiting c.self.view_is))
 
 none_read : (c : goal.After-drop-buffer-2) → received c.beside.new.self ≡ []
 none_read c = c.beside.ensures.source.received ∙ c.ends-source.ensures.ends.none_received
@@ -21,17 +23,25 @@ pub returns : goal.returns
 returns c =
     let look = c.look_beside.ensures in
     let all : known c.beside.new.self ≡ waiting c.args.self =
-    ap (λ xs. xs ++ known c.beside.new.self) (sym (none_read c)) ∙ (c.beside.ensures.whole ∙ (c.beside.ensures.sink.sent ∙ taken_over c)) in
-    let whole : sent c.look_beside.new.self ≡ waiting c.args.self = look.sink.sent ∙ (c.beside.ensures.sink.sent ∙ taken_over c) in
+    ap (λ xs. xs ++ known c.beside.new.self) (sym (none_read c))
+    ∙ (c.beside.ensures.whole ∙ (c.beside.ensures.sink.sent ∙ taken_over c)) in
+    let whole : sent c.look_beside.new.self ≡ waiting c.args.self = look.sink.sent
+    ∙ (c.beside.ensures.sink.sent ∙ taken_over c) in
     let none : received c.look_beside.new.source ≡ [] = look.source.received ∙ none_read c in
     record {
       ends = look.ends;
-      source_channel = look.source.same.channel ∙ (c.beside.ensures.source.same.channel ∙ (c.ends-source.ensures.source ∙ ap (λ pipe. pipe.source) c.self.view_is));
-      sink_channel = look.sink.same.channel ∙ (c.beside.ensures.sink.same.channel ∙ (c.take_over.ensures.same.channel ∙ (c.ends-source.ensures.sink ∙ ap (λ pipe. pipe.sink) c.self.view_is)));
+      source_channel = look.source.same.channel
+          ∙ (c.beside.ensures.source.same.channel
+          ∙ (c.ends-source.ensures.source ∙ ap (λ pipe. pipe.source) c.self.view_is));
+      sink_channel = look.sink.same.channel
+          ∙ (c.beside.ensures.sink.same.channel
+          ∙ (c.take_over.ensures.same.channel
+          ∙ (c.ends-source.ensures.sink ∙ ap (λ pipe. pipe.sink) c.self.view_is)));
       all_sent = whole;
       none_received = none;
       all_known = subst (λ xs. IsPrefix xs (known c.look_beside.new.source)) all look.source.known;
       mark_left = look.sink.mark ∙ marked c;
       mark_known = look.end ∙ (c.beside.ensures.end ∙ marked c);
-      room = λ unmarked. omega (arith, look.free (look.sink.mark ∙ (marked c ∙ unmarked)), ap length whole, ap length none);
+      room = λ unmarked. omega
+          (arith, look.free (look.sink.mark ∙ (marked c ∙ unmarked)), ap length whole, ap length none);
     }

@@ -12,6 +12,7 @@ invariant-loop g l = record {
   ready : IsReady l.w l.p l.me;
   ends : HasEnds (view l.w l.p) l.fn.self.source l.fn.self.chan;
   unpinned : HasNoPin (view l.w l.p) l.me;
-  tried : TriedClause l.me (try_write_plan (limits_of l.w) l.fn.self.source l.fn.self.chan) l.waited (view l.w l.fn.p) (view l.w l.p);
+  tried : TriedClause l.me (try_write_plan (limits_of l.w) l.fn.self.source l.fn.self.chan) l.waited (view l.w l.fn.p)
+      (view l.w l.p);
   looks : SinkLooks l.fn.self l.self;
 }

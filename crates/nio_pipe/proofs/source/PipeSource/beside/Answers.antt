@@ -7,8 +7,11 @@ use Rattle.nio_pipe.specs.Ends.{known}
 use Rattle.nio_pipe.proofs.EndLemmas.{Beside, end_known, all_known, known_grows, known_then, end_lasts, was_whole}
 use Rattle.nio_pipe.proofs.source.PipeSource.beside.Goals as goal
 
-beside_of : (c : goal.After-reach_end) → Beside (popped c.slots_beside-waiting.new.self) (known_items c.slots_beside-waiting.new.self) (pushed c.slots_beside-waiting.new.producer)
-    c.take_mark_beside.new.sink.marked c.take_mark_beside.new.self.count c.take_mark_beside.new.sink.count c.take_mark_beside.new.self.mark c.take_mark_beside.new.self.to_end c.reach_end.new.self.to_end
+beside_of : (c : goal.After-reach_end)
+    → Beside (popped c.slots_beside-waiting.new.self) (known_items c.slots_beside-waiting.new.self)
+    (pushed c.slots_beside-waiting.new.producer)
+    c.take_mark_beside.new.sink.marked c.take_mark_beside.new.self.count c.take_mark_beside.new.sink.count
+    c.take_mark_beside.new.self.mark c.take_mark_beside.new.self.to_end c.reach_end.new.self.to_end
 beside_of c =
     let source = c.take_mark_beside.new.self in
     let sink = c.take_mark_beside.new.sink in
@@ -27,10 +30,13 @@ beside_of c =
 
 -- what the source knows is all that waits
 all_seen : (c : goal.After-reach_end) → known c.reach_end.new.self ≡ known_items c.slots_beside-waiting.new.self
-all_seen c = ap (λ ring. known_of c.reach_end.new.self.to_end (known_items ring)) c.reach_end.ensures.bytes ∙ all_known _ _ _ _ _ _ _ _ _ (beside_of c)
+all_seen c = ap (λ ring. known_of c.reach_end.new.self.to_end (known_items ring)) c.reach_end.ensures.bytes
+    ∙ all_known _ _ _ _ _ _ _ _ _ (beside_of c)
 
 -- what it knew before
-knew : (c : goal.After-reach_end) → known_of c.take_mark_beside.new.self.to_end (known_items c.take_mark_beside.new.self.bytes) ≡ known c.args.self.now
+knew : (c : goal.After-reach_end)
+    → known_of c.take_mark_beside.new.self.to_end (known_items c.take_mark_beside.new.self.bytes)
+    ≡ known c.args.self.now
 knew c =
     ap (λ t. known_of t (known_items c.take_mark_beside.new.self.bytes)) c.take_mark_beside.ensures.to_end
     ∙ ap (λ ring. known_of c.args.self.now.to_end (known_items ring)) c.take_mark_beside.ensures.bytes
@@ -55,21 +61,28 @@ returns-clause-source c =
     let grows : IsPrefix (known_items source.bytes) (known_items slots.new.self) = slots.ensures.looked.2 in
     record {
       same = record {
-        bytes = subst (λ b. SameConsumer old.bytes b) (sym c.reach_end.ensures.bytes) (subst (λ b. SameConsumer b slots.new.self) c.take_mark_beside.ensures.bytes slots.ensures.looked.0);
+        bytes = subst (λ b. SameConsumer old.bytes b) (sym c.reach_end.ensures.bytes)
+            (subst (λ b. SameConsumer b slots.new.self) c.take_mark_beside.ensures.bytes slots.ensures.looked.0);
         marks = subst (λ m. SameConsumer old.marks m) (sym c.reach_end.ensures.marks) c.take_mark_beside.ensures.marks;
         channel = c.reach_end.ensures.channel ∙ c.take_mark_beside.ensures.channel;
       };
-      received = ap popped c.reach_end.ensures.bytes ∙ (slots.ensures.looked.1 ∙ ap popped c.take_mark_beside.ensures.bytes);
-      known = subst (λ xs. IsPrefix xs (known new)) (knew c) (subst (λ ring. IsPrefix (known_of source.to_end (known_items source.bytes)) (known_of new.to_end (known_items ring))) (sym c.reach_end.ensures.bytes)
+      received = ap popped c.reach_end.ensures.bytes
+          ∙ (slots.ensures.looked.1 ∙ ap popped c.take_mark_beside.ensures.bytes);
+      known = subst (λ xs. IsPrefix xs (known new)) (knew c)
+          (subst (λ ring. IsPrefix (known_of source.to_end (known_items source.bytes))
+          (known_of new.to_end (known_items ring))) (sym c.reach_end.ensures.bytes)
           (known_grows _ _ _ _ _ _ _ _ _ (beside_of c) (known_items source.bytes) source.reached.seen grows));
       no_more = λ knows.
           ap (λ ring. known_of new.to_end (known_items ring)) c.reach_end.ensures.bytes
-          ∙ (known_then _ _ _ _ _ _ _ _ _ (beside_of c) (known_items source.bytes) source.reached.seen grows (ap is_some c.take_mark_beside.ensures.to_end ∙ knows) ∙ knew c);
-      end_stays = λ knows. end_lasts _ _ _ _ _ _ _ _ _ (beside_of c) (ap is_some c.take_mark_beside.ensures.to_end ∙ knows);
+          ∙ (known_then _ _ _ _ _ _ _ _ _ (beside_of c) (known_items source.bytes) source.reached.seen grows
+          (ap is_some c.take_mark_beside.ensures.to_end ∙ knows) ∙ knew c);
+      end_stays = λ knows. end_lasts _ _ _ _ _ _ _ _ _ (beside_of c)
+          (ap is_some c.take_mark_beside.ensures.to_end ∙ knows);
     }
 
 pub returns-clause-told : goal.returns-clause-told
 returns-clause-told c = λ at_end.
     let source = c.take_mark_beside.new.self in
-    let told = was_whole _ _ _ _ _ _ _ _ _ (beside_of c) (known_items source.bytes) source.reached.seen (ap is_some c.take_mark_beside.ensures.to_end ∙ at_end.marked) (knew c ∙ at_end.no_byte) in
+    let told = was_whole _ _ _ _ _ _ _ _ _ (beside_of c) (known_items source.bytes) source.reached.seen
+    (ap is_some c.take_mark_beside.ensures.to_end ∙ at_end.marked) (knew c ∙ at_end.no_byte) in
     record { marked = told.0; whole = ap popped c.reach_end.ensures.bytes ∙ told.1 }

@@ -10,7 +10,8 @@ returns c =
     let new = c.reach_end.new.self in
     record {
       same = record {
-        bytes = subst (λ b. SameConsumer old.bytes b) (sym c.reach_end.ensures.bytes) (subst (λ b. SameConsumer b c.slots.new.self) c.take_mark.ensures.bytes c.slots.ensures.looked.0);
+        bytes = subst (λ b. SameConsumer old.bytes b) (sym c.reach_end.ensures.bytes)
+            (subst (λ b. SameConsumer b c.slots.new.self) c.take_mark.ensures.bytes c.slots.ensures.looked.0);
         marks = subst (λ m. SameConsumer old.marks m) (sym c.reach_end.ensures.marks) c.take_mark.ensures.marks;
         channel = c.reach_end.ensures.channel ∙ c.take_mark.ensures.channel;
       };

@@ -8,7 +8,8 @@ pub invariant_of-self-clause-reached : goal.invariant_of-self-clause-reached
 invariant_of-self-clause-reached c =
     let self = c.args.self.now in
     let pop = c.pop_slice-given in
-    let pops : PopsToEnd (known_items self.bytes) (known_items pop.new.bytes) (popped self.bytes) (popped pop.new.bytes) c.args.into.now pop.new.slice c.args.left c.min-room.result pop.result = record {
+    let pops : PopsToEnd (known_items self.bytes) (known_items pop.new.bytes) (popped self.bytes)
+    (popped pop.new.bytes) c.args.into.now pop.new.slice c.args.left c.min-room.result pop.result = record {
       seen = self.reached.seen c.args.left c.requires;
       room_is = c.min-room.ensures;
       fits = pop.ensures.fit;
@@ -23,7 +24,8 @@ pub returns-clause-bytes : goal.returns-clause-bytes
 returns-clause-bytes c =
     let self = c.args.self.now in
     let pop = c.pop_slice-given in
-    let pops : PopsToEnd (known_items self.bytes) (known_items pop.new.bytes) (popped self.bytes) (popped pop.new.bytes) c.args.into.now pop.new.slice c.args.left c.min-room.result pop.result = record {
+    let pops : PopsToEnd (known_items self.bytes) (known_items pop.new.bytes) (popped self.bytes)
+    (popped pop.new.bytes) c.args.into.now pop.new.slice c.args.left c.min-room.result pop.result = record {
       seen = self.reached.seen c.args.left c.requires;
       room_is = c.min-room.ensures;
       fits = pop.ensures.fit;

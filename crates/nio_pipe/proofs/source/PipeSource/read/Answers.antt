@@ -9,7 +9,8 @@ use Rattle.nio_pipe.specs.Calls.{WaitsToRead}
 use Rattle.nio_pipe.specs.Ends.{GivesBytes}
 use Rattle.nio_pipe.specs.declared.answers.PipeRead.TheVariants.{NotYet}
 use Rattle.nio_pipe.proofs.EndLemmas.{looks_none, looks_more, gives_after, knew_nothing}
-use Rattle.nio_pipe.proofs.Waits.{tried_none, tried_more, tried_last, refused_ends, found_nothing, read_done, read_refused}
+use Rattle.nio_pipe.proofs.Waits.{tried_none, tried_more, tried_last, refused_ends, found_nothing, read_done}
+use Rattle.nio_pipe.proofs.Waits.{read_refused}
 use Rattle.nio_pipe.proofs.source.PipeSource.read.Goals as goal
 
 pub loop-init : goal.loop-init
@@ -27,7 +28,8 @@ loop-preserved g c =
     let goes : (read_waits (Ok c.give-answer.result) && c.in-Ok.blocking) ≡ true = search rules in
     let both = and_parts (read_waits (Ok c.give-answer.result)) c.in-Ok.blocking goes in
     let gives : GivesBytes c.loop.self c.give-answer.new.self c.loop.into c.give-answer.new.into 0 =
-    subst (λ answer. GivesBytes c.loop.self c.give-answer.new.self c.loop.into c.give-answer.new.into (bytes_read (Ok answer))) (found_nothing c.give-answer.result both.0) c.give-answer.ensures.bytes in
+    subst (λ answer. GivesBytes c.loop.self c.give-answer.new.self c.loop.into c.give-answer.new.into
+    (bytes_read (Ok answer))) (found_nothing c.give-answer.result both.0) c.give-answer.ensures.bytes in
     record {
       ready = c.in-Ok.ensures.ready;
       channel = channel_after c.in-Ok.ensures.call.acts c.loop.invariant.channel;
@@ -40,11 +42,14 @@ loop-preserved g c =
 pub returns-then-not-read_goes_on-clause-call : goal.returns-then-not-read_goes_on-clause-call
 returns-then-not-read_goes_on-clause-call g c =
     let over : (read_waits (Ok c.give-answer.result) && c.in-Ok.blocking) ≡ false = search rules in
-    read_done _ _ _ _ (tried_last (read_waits (Ok c.give-answer.result)) (Ok c.in-Ok.blocking) c.loop.invariant.tried c.in-Ok.ensures.call over)
+    read_done _ _ _ _
+    (tried_last (read_waits (Ok c.give-answer.result)) (Ok c.in-Ok.blocking) c.loop.invariant.tried
+    c.in-Ok.ensures.call over)
 
 pub returns-then-not-read_goes_on-clause-bytes : goal.returns-then-not-read_goes_on-clause-bytes
 returns-then-not-read_goes_on-clause-bytes g c =
-    subst (λ into. GivesBytes c.args.self.now c.give-answer.new.self into c.give-answer.new.into (bytes_read (Ok c.give-answer.result))) c.loop.invariant.into
+    subst (λ into. GivesBytes c.args.self.now c.give-answer.new.self into c.give-answer.new.into
+    (bytes_read (Ok c.give-answer.result))) c.loop.invariant.into
     (gives_after c.loop.invariant.looks c.give-answer.ensures.bytes)
 
 pub returns-then-not-read_goes_on-clause-not_yet : goal.returns-then-not-read_goes_on-clause-not_yet
@@ -57,5 +62,8 @@ pub returns-in-Err-clause-call : goal.returns-in-Err-clause-call
 returns-in-Err-clause-call g c =
     let l = limits_of c.args.w.now in
     let chan = c.args.self.now.chan in
-    subst (λ refusal. CallClause c.args.me (WaitsToRead l chan) (view c.args.w.now c.args.p.now) (view c.args.w.now c.check_open.new.p) (Err refusal)) (sym c.refusal_after.ensures)
-    (read_refused l chan c.loop.waited c.in-Err.refusal (tried_last false (Err c.in-Err.refusal) c.loop.invariant.tried c.in-Err.ensures.call (refused_ends false c.in-Err.refusal)))
+    subst (λ refusal. CallClause c.args.me (WaitsToRead l chan) (view c.args.w.now c.args.p.now)
+    (view c.args.w.now c.check_open.new.p) (Err refusal)) (sym c.refusal_after.ensures)
+    (read_refused l chan c.loop.waited c.in-Err.refusal
+    (tried_last false (Err c.in-Err.refusal) c.loop.invariant.tried c.in-Err.ensures.call
+    (refused_ends false c.in-Err.refusal)))

@@ -1,9 +1,10 @@
-use Rattle.std.proofs.Common.{ap, refl}
+use Rattle.std.proofs.Common.{ℕ, List, ap, refl, sym, ◌∙◌}
 use Rattle.nio_plain.proofs.Answering.{of_word, without_memory}
 use Rattle.nio_plain.proofs.Grouping.{answers_by_group}
 use Rattle.nio_plain.specs.PlainState.{limits_of, rules_of, state_of}
 use Rattle.nio_plain.specs.ScriptState.{with_group}
 use Rattle.nio_plain.specs.Seq.{call_of}
+use Rattle.nio_plain.specs.Seq.Piping.{pwrite_call}
 use Rattle.nio_plain.proofs.plain.Plain.call_of.Goals as goal
 
 pub returns-in-Selector : goal.returns-in-Selector
@@ -190,7 +191,10 @@ pub returns-in-Pwrite : goal.returns-in-Pwrite
 unfolding call_of
 returns-in-Pwrite c =
     let p = c.args.self.now in
-    of_word _ _ _ _ _ (ap (call_of (rules_of p) (limits_of p) (state_of p) c.args.me) c.in-Pwrite.is) c.pwrite.ensures
+    of_word _ _ _ _ _
+    (ap (call_of (rules_of p) (limits_of p) (state_of p) c.args.me) c.in-Pwrite.is
+    ∙ ap (λ (bytes : List ℕ). pwrite_call (state_of p) c.args.me c.in-Pwrite.chan bytes) (sym c.as_slice.ensures))
+    c.pwrite.ensures
 
 pub returns-in-Pread : goal.returns-in-Pread
 unfolding call_of

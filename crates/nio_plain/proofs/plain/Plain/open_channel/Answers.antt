@@ -1,23 +1,30 @@
 use Rattle.std.proofs.Common.{◌≡◌, ◌<◌, ◌≤◌, length, refl, ap, arith}
 use Rattle.nio_event.specs.declared.reply.Reply.TheVariants as reply
-use Rattle.nio_plain.proofs.Answering.{unchanged_as, answered_as, channel_made-below, channel_made-past, state-push_channel}
-use Rattle.nio_plain.proofs.Opening.{channel_call-spent, channel_call-found}
+use Rattle.nio_plain.proofs.Answering.{unchanged_as, answered_as}
+use Rattle.nio_plain.proofs.Piping.{channel_added, next_end, no_next_end}
+use Rattle.nio_plain.specs.PlainState.{channel_row, state_of}
+use Rattle.nio_plain.specs.Seq.Opening.{channel_call, channel_made}
 use Rattle.nio_plain.proofs.plain.Plain.open_channel.Goals as goal
 
 pub returns-then-number-self : goal.returns-then-number-self
+unfolding channel_call
 returns-then-number-self c =
-    let xs = c.args.self.now.channels.items in
-    let full : c.args.self.now.limits.channels ≤ length xs = omega (arith, c.args.self.now.channels.ok.0) in
-    unchanged_as c.args.self.now reply.ChannelsSpent _
-    (channel_call-spent c.args.self.now.limits _ _ _ _ _ _ c.args.kind (length xs) (channel_made-below xs) (channel_made-past xs) full)
+    let p = c.args.self.now in
+    let xs = p.channels.items in
+    let full : p.limits.channels ≤ length xs = omega (arith, p.channels.ok.0) in
+    unchanged_as p reply.ChannelsSpent _
+    (ap (channel_made (state_of p) c.args.kind) (no_next_end p p.pipes.items xs full))
 
 pub returns : goal.returns
+unfolding channel_call
 returns c =
-    let xs = c.args.self.now.channels.items in
-    let room : length xs < c.args.self.now.limits.channels = omega (arith, c.args.self.now.channels.ok.0) in
-    let number : c.len-number.result ≡ length xs = omega (arith, c.args.self.now.channels.ok.0) in
-    answered_as _ _ _ _ _
-    (channel_call-found c.args.self.now.limits _ _ _ _ _ _ c.args.kind (length xs) (channel_made-below xs) (channel_made-past xs) room)
+    let p = c.args.self.now in
+    let xs = p.channels.items in
+    let room : length xs < p.limits.channels = omega (arith, p.channels.ok.0) in
+    let number : c.len-number.result ≡ length xs = omega (arith, p.channels.ok.0) in
+    answered_as p _ _ _ _
+    (ap (channel_made (state_of p) c.args.kind) (next_end p p.pipes.items xs room))
     (ap (λ n. reply.Channel (record { 0 = n })) number)
-    (state-push_channel _ _ _ _ xs c.push.new.self.items _ c.in_ok-push.ensures.items)
+    (channel_added p c.args.kind p.pipes.items c.push.new.self.items c.new.result refl c.in_ok-push.ensures.items
+    (ap channel_row c.new.ensures))
     (record { limits = refl; rules = refl })

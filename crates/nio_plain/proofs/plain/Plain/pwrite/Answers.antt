@@ -54,14 +54,14 @@ returns-then-finds_interrupt c =
     ∙ (cond-false (st.shared.chan c.args.chan.0).closed (marking (Some c.in-Some.place) (unchanged st reply.ClosedChannel)) _ opened
     ∙ cond-true (finds_interrupt st c.args.me c.args.chan) (marking (Some c.in-Some.place) (answered st reply.ClosedByInterrupt (channel_closed st.shared c.args.chan.0))) _ found)))
     refl
-    (c.mark-2.ensures.left ∙ ap (with_mark (Some c.in-Some.place)) c.shut_channel.ensures.left)
+    (c.mark-then-finds_interrupt.ensures.left ∙ ap (with_mark (Some c.in-Some.place)) c.shut_channel.ensures.left)
     (record {
-      limits = c.mark-2.ensures.kept.limits ∙ c.shut_channel.ensures.kept.limits;
-      rules = c.mark-2.ensures.kept.rules ∙ c.shut_channel.ensures.kept.rules;
+      limits = c.mark-then-finds_interrupt.ensures.kept.limits ∙ c.shut_channel.ensures.kept.limits;
+      rules = c.mark-then-finds_interrupt.ensures.kept.rules ∙ c.shut_channel.ensures.kept.rules;
     })
 
-pub index-source-requires : goal.index-source-requires
-index-source-requires c =
+pub index-requires : goal.index-requires
+index-requires c =
     let p = c.args.self.now in
     let within : c.in-Some.place < length p.pipes.items = place_within (owns_sink c.args.me c.args.chan) p.pipes.items c.in-Some.place (sym c.in-Some.ensures) in
     omega (arith, p.pipes.ok.0)
@@ -76,7 +76,7 @@ returns-then-is_closed c =
     let opened = ap (λ (x : Chan). x.closed) c.in-Ok.ensures.row ∙ c.if-channel.false in
     let none = ap (λ (x : Chan). x.blocking && st.shared.interrupted c.args.me.0) c.in-Ok.ensures.row ∙ sym c.if-finds_interrupt.ensures in
     let broken =
-        ap (λ (q : Pipe). (st.shared.chan q.source.0).closed) (pipe_at-is p.pipes.items place c.index-source.result.now within c.index-source.ensures)
+        ap (λ (q : Pipe). (st.shared.chan q.source.0).closed) (pipe_at-is p.pipes.items place c.index.result.now within c.index.ensures)
         ∙ sym c.if-is_closed.ensures in
     unchanged_as p _ _
     (c.in-Ok.ensures.through _ ∙ (ap (write_to st c.args.me c.args.chan c.args.bytes.now) (sym c.in-Some.ensures)
@@ -94,7 +94,7 @@ returns-then-is_empty c =
     let opened = ap (λ (x : Chan). x.closed) c.in-Ok.ensures.row ∙ c.if-channel.false in
     let none = ap (λ (x : Chan). x.blocking && st.shared.interrupted c.args.me.0) c.in-Ok.ensures.row ∙ sym c.if-finds_interrupt.ensures in
     let whole =
-        ap (λ (q : Pipe). (st.shared.chan q.source.0).closed) (pipe_at-is p.pipes.items place c.index-source.result.now within c.index-source.ensures)
+        ap (λ (q : Pipe). (st.shared.chan q.source.0).closed) (pipe_at-is p.pipes.items place c.index.result.now within c.index.ensures)
         ∙ sym c.if-is_closed.ensures in
     unchanged_as p _ _
     (c.in-Ok.ensures.through _ ∙ (ap (write_to st c.args.me c.args.chan c.args.bytes.now) (sym c.in-Some.ensures)
@@ -119,7 +119,7 @@ returns c =
     let opened = ap (λ (x : Chan). x.closed) c.in-Ok.ensures.row ∙ c.if-channel.false in
     let none = ap (λ (x : Chan). x.blocking && st.shared.interrupted c.args.me.0) c.in-Ok.ensures.row ∙ sym c.if-finds_interrupt.ensures in
     let whole =
-        ap (λ (q : Pipe). (st.shared.chan q.source.0).closed) (pipe_at-is p.pipes.items place c.index-source.result.now within c.index-source.ensures)
+        ap (λ (q : Pipe). (st.shared.chan q.source.0).closed) (pipe_at-is p.pipes.items place c.index.result.now within c.index.ensures)
         ∙ sym c.if-is_closed.ensures in
     of_word _ _ _ _ _
     (c.in-Ok.ensures.through _ ∙ (ap (write_to st c.args.me c.args.chan c.args.bytes.now) (sym c.in-Some.ensures)

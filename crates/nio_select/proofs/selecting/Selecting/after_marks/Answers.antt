@@ -5,9 +5,13 @@ use Rattle.nio_select.proofs.Ended.{over}
 use Rattle.nio_select.proofs.selecting.Selecting.after_marks.Goals as goal
 
 pub end-requires-clause-begun : goal.end-requires-clause-begun
-end-requires-clause-begun c = begun_stays c.look_interrupt-interrupted.ensures refl refl (begun_stays c.look_gate-gate.ensures refl refl c.requires.begun)
+end-requires-clause-begun c =
+    begun_stays c.look_interrupt-interrupted.ensures refl refl
+    (begun_stays c.look_gate-gate.ensures refl refl c.requires.begun)
 
 pub returns-clause-call : goal.returns-clause-call
 returns-clause-call c =
-    over c.args.self c.args.elapsed c.args.count c.self.inside.mode c.why_ended-why.result (ap (λ x. x.selector) c.self.view_is) (ap (λ x. x.mode) c.self.view_is)
-    (step_acts c.look_gate-gate.ensures refl) (step_acts c.look_interrupt-interrupted.ensures refl) (sym c.if-is_again.ensures) c.why_ended-why.ensures c.end.ensures.call
+    over c.args.self c.args.elapsed c.args.count c.self.inside.mode c.why_ended-why.result
+    (ap (λ x. x.selector) c.self.view_is) (ap (λ x. x.mode) c.self.view_is)
+    (step_acts c.look_gate-gate.ensures refl) (step_acts c.look_interrupt-interrupted.ensures refl)
+    (sym c.if-is_again.ensures) c.why_ended-why.ensures c.end.ensures.call

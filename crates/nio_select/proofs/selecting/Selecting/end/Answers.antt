@@ -9,5 +9,6 @@ give_turn-requires-clause-turn c = begun_turn (begun_stays c.end_wake.ensures re
 
 pub returns-clause-call : goal.returns-clause-call
 returns-clause-call c =
-    ended c.args.self c.args.answer (ap (λ x. x.selector) c.self.view_is) (c.as_slice.ensures.value ∙ ap (λ x. x.kept) c.self.view_is)
+    ended c.args.self c.args.answer (ap (λ x. x.selector) c.self.view_is)
+    (c.as_slice.ensures.value ∙ ap (λ x. x.kept) c.self.view_is)
     c.remove_kept.ensures.call (step_acts c.end_wake.ensures refl) (step_acts c.give_turn.ensures refl)

@@ -13,10 +13,12 @@ use Rattle.nio_select.proofs.selecting.Selecting.leave.Goals as goal
 
 pub give_turn-requires-clause-turn : goal.give_turn-requires-clause-turn
 give_turn-requires-clause-turn c =
-    subst (λ s. has_turn (state_seen c.args.p.now) c.args.me s ≡ true) (ap (λ x. x.selector) (sym c.self.view_is)) (begun_turn (selecting_begun c.requires.ready c.requires.begun))
+    subst (λ s. has_turn (state_seen c.args.p.now) c.args.me s ≡ true) (ap (λ x. x.selector) (sym c.self.view_is))
+    (begun_turn (selecting_begun c.requires.ready c.requires.begun))
 
 pub returns-clause-call : goal.returns-clause-call
 unfolding leave_plan
 returns-clause-call c =
-    subst (λ s. CallClause c.args.me (Completes (give_turn s)) (view c.args.w.now c.args.p.now) (view c.args.w.now c.give_turn.new.p) tt) (ap (λ x. x.selector) c.self.view_is)
+    subst (λ s. CallClause c.args.me (Completes (give_turn s)) (view c.args.w.now c.args.p.now)
+    (view c.args.w.now c.give_turn.new.p) tt) (ap (λ x. x.selector) c.self.view_is)
     (returned (left_ask _ (step_acts c.give_turn.ensures refl) (left_after (step_acts c.give_turn.ensures refl))))

@@ -9,8 +9,10 @@ pub returns-else-number-lt64 : goal.returns-else-number-lt64
 returns-else-number-lt64 c = (
   λ is. absurd (omega (arith, ltb-true c.args.number.0 64 is)),
   λ has.
-      let there : HasBit c.args.self.now.numbers c.args.number.0 = subst (λ (k : ℕ). HasBit k c.args.number.0) c.args.self.now.numbers_are has in
+      let there : HasBit c.args.self.now.numbers c.args.number.0 = subst
+      (λ (k : ℕ). HasBit k c.args.number.0) c.args.self.now.numbers_are has in
       let fits : c.args.self.now.numbers < 2 ^ 64 = omega arith in
-      let none : bit_at c.args.self.now.numbers c.args.number.0 ≡ 0 = bit_at_above c.args.self.now.numbers 64 c.args.number.0 fits c.if-number-lt64.false in
+      let none : bit_at c.args.self.now.numbers c.args.number.0
+      ≡ 0 = bit_at_above c.args.self.now.numbers 64 c.args.number.0 fits c.if-number-lt64.false in
       absurd (omega arith),
 )

@@ -7,7 +7,9 @@ new_key-new-requires c = omega (arith, c.requires.channel, c.args.self.now.fit.f
 
 pub step_that-found-requires : goal.step_that-found-requires
 step_that-found-requires c =
-    let few : c.args.me.0 < 64 = omega (arith, c.requires.ready.pass.callers c.args.me c.requires.ready.number, c.args.self.now.fit.few_callers) in
+    let few : c.args.me.0
+    < 64 = omega
+    (arith, c.requires.ready.pass.callers c.args.me c.requires.ready.number, c.args.self.now.fit.few_callers) in
     let fits : c.args.c.0 < 2 ^ 20 = omega (arith, c.requires.channel, c.args.self.now.fit.few_channels) in (
       c.requires.ready,
       (

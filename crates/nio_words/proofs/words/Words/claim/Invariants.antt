@@ -5,4 +5,9 @@ use Rattle.nio_words.specs.Details.{channel_of_details}
 use Rattle.nio_words.proofs.words.Words.claim.Given as goal
 
 abbrev pub ghost-step_that : goal.ghost-step_that
-ghost-step_that a = record { who = a.me; act = λ n. Claim (selector_in a.part) (index_in a.part) (channel_of_details a._details) (is_set n 0) }
+ghost-step_that a =
+    record {
+      who = a.me;
+      act = λ n. Claim (selector_in a.part) (index_in a.part) (channel_of_details a._details)
+          (is_set n 0);
+    }

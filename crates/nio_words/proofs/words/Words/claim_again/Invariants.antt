@@ -5,4 +5,9 @@ use Rattle.nio_words.specs.Details.{channel_of_details, stage_of_details}
 use Rattle.nio_words.proofs.words.Words.claim_again.Given as goal
 
 abbrev pub ghost-step_that : goal.ghost-step_that
-ghost-step_that a = record { who = a.me; act = λ n. ClaimAgain (selector_in a.part) (index_in a.part) (channel_of_details a._details) (stage_of_details a._details) (was_pinned (stage_of_details a._details) n) }
+ghost-step_that a =
+    record {
+      who = a.me;
+      act = λ n. ClaimAgain (selector_in a.part) (index_in a.part) (channel_of_details a._details)
+          (stage_of_details a._details) (was_pinned (stage_of_details a._details) n);
+    }

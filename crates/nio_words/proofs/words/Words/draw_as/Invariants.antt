@@ -4,4 +4,8 @@ use Rattle.nio_words.specs.Telling.{TellsDrawn}
 use Rattle.nio_words.proofs.words.Words.draw_as.Given as goal
 
 abbrev pub ghosts-perform : goal.ghosts-perform
-ghosts-perform g a = record { then = λ _ before found after. (after.1 ≡ before.1) × TellsDrawn before.0 g.who (is_set found g.who.0) after.0 }
+ghosts-perform g a =
+    record {
+      then = λ _ before found after. (after.1 ≡ before.1)
+          × TellsDrawn before.0 g.who (is_set found g.who.0) after.0;
+    }

@@ -5,4 +5,9 @@ use Rattle.nio_words.specs.Details.{key_of_details}
 use Rattle.nio_words.proofs.words.Words.enrol.Given as goal
 
 abbrev pub ghost-step_that : goal.ghost-step_that
-ghost-step_that a = record { who = a.me; act = λ n. Enrol (channel_in a.part) (selector_in a.part) (key_of_details a._details).index (key_of_details a._details).serial (noted_of n) }
+ghost-step_that a =
+    record {
+      who = a.me;
+      act = λ n. Enrol (channel_in a.part) (selector_in a.part) (key_of_details a._details).index
+          (key_of_details a._details).serial (noted_of n);
+    }

@@ -18,9 +18,11 @@ join_seat-requires c =
 
 pub perform-requires-clause-rule : goal.perform-requires-clause-rule
 perform-requires-clause-rule c =
-    recalls_allowed _ _ _ c.join_seat.new.seat.me.0 c.join_seat.new.seat.me.1 0 (ap (λ m. m.0.spent) c.join_seat.ensures.2 ∙ c.args.p.now.unspent)
+    recalls_allowed _ _ _ c.join_seat.new.seat.me.0 c.join_seat.new.seat.me.1 0
+    (ap (λ m. m.0.spent) c.join_seat.ensures.2 ∙ c.args.p.now.unspent)
 
 pub returns : goal.returns
 returns c =
-    joins_clause c.args.self.now c.args.p.now c.args.other _ c.requires.pass c.requires.other (c.perform.ensures.seat.0 ∙ c.join_seat.ensures.0)
+    joins_clause c.args.self.now c.args.p.now c.args.other _ c.requires.pass c.requires.other
+    (c.perform.ensures.seat.0 ∙ c.join_seat.ensures.0)
     (subst (λ m. Recalls m.0 c.perform.new.seat.me.0) c.join_seat.ensures.2 c.perform.ensures.told.1)

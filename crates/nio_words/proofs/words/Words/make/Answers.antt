@@ -10,12 +10,15 @@ use Rattle.nio_words.proofs.words.Words.make.Goals as goal
 
 pub of_words-requires : goal.of_words-requires
 of_words-requires c =
-    let zeros : c.in_ok-words.words.items ≡ replicate c.word_count.result 0 = c.in_ok-words.ensures.items_if_clones_equal (search rules) in
+    let zeros : c.in_ok-words.words.items ≡ replicate c.word_count.result 0 =
+    c.in_ok-words.ensures.items_if_clones_equal (search rules) in
     let many : c.word_count.result ≡ word_count c.args.limits = c.word_count.ensures in
     let limits : c.limits_word.result ≡ limits_word c.args.limits = c.limits_word.ensures in
-    let words : c.as_slice.result.now ≡ set c.in_ok-words.words.items 1 c.limits_word.result = c.as_slice.ensures.value in
+    let words : c.as_slice.result.now ≡ set c.in_ok-words.words.items 1 c.limits_word.result =
+    c.as_slice.ensures.value in
     starts c.args.limits c.as_slice.result.now c.requires
-    (words ∙ (ap (λ ws. set ws 1 c.limits_word.result) (zeros ∙ ap (λ n. replicate n 0) many) ∙ ap (set (replicate (word_count c.args.limits) 0) 1) limits))
+    (words ∙ (ap (λ ws. set ws 1 c.limits_word.result) (zeros ∙ ap (λ n. replicate n 0) many)
+    ∙ ap (set (replicate (word_count c.args.limits) 0) 1) limits))
 
 pub returns-clause-pass : goal.returns-clause-pass
 returns-clause-pass c =

@@ -4,4 +4,10 @@ use Rattle.nio_words.specs.Instructions.{bit_in}
 use Rattle.nio_words.proofs.words.Words.make_selector.Given as goal
 
 abbrev pub ghost-step : goal.ghost-step
-ghost-step a = record { who = a._me; act = λ n. MakeSelector (record { 0 = bit_in a.instruction }) (is_set n (bit_in a.instruction)) }
+ghost-step a =
+    record {
+      who = a._me;
+      act = λ n. MakeSelector (record {
+        0 = bit_in a.instruction;
+      }) (is_set n (bit_in a.instruction));
+    }

@@ -5,4 +5,9 @@ use Rattle.nio_words.specs.Details.{mark_of_details, told_of_details}
 use Rattle.nio_words.proofs.words.Words.mark.Given as goal
 
 abbrev pub ghost-step_that : goal.ghost-step_that
-ghost-step_that a = record { who = a.me; act = λ n. Mark (selector_in a.part) (index_in a.part) (mark_of_details a._details) (told_of_details a._details) (exchange_found (mark_of_details a._details) n) }
+ghost-step_that a =
+    record {
+      who = a.me;
+      act = λ n. Mark (selector_in a.part) (index_in a.part) (mark_of_details a._details)
+          (told_of_details a._details) (exchange_found (mark_of_details a._details) n);
+    }

@@ -5,4 +5,9 @@ use Rattle.nio_words.specs.Parts.{selector_in, index_in}
 use Rattle.nio_words.proofs.words.Words.or_interest.Given as goal
 
 abbrev pub ghost-step : goal.ghost-step
-ghost-step a = record { who = a._me; act = λ n. OrInterest (selector_in a.part) (index_in a.part) (word_in a.instruction) (operations_of n) }
+ghost-step a =
+    record {
+      who = a._me;
+      act = λ n. OrInterest (selector_in a.part) (index_in a.part) (word_in a.instruction)
+          (operations_of n);
+    }

@@ -5,4 +5,5 @@ use Rattle.nio_words.specs.Details.{number_of_details}
 use Rattle.nio_words.proofs.words.Words.raise_keys.Given as goal
 
 abbrev pub ghost-step_that : goal.ghost-step_that
-ghost-step_that a = record { who = a.me; act = λ n. RaiseKeys (selector_in a.part) (number_of_details a._details) (number_of n) }
+ghost-step_that a =
+    record { who = a.me; act = λ n. RaiseKeys (selector_in a.part) (number_of_details a._details) (number_of n) }

@@ -5,4 +5,5 @@ use Rattle.nio_words.specs.Details.{mode_of_details}
 use Rattle.nio_words.proofs.words.Words.set_mode.Given as goal
 
 abbrev pub ghost-step_that : goal.ghost-step_that
-ghost-step_that a = record { who = a.me; act = λ n. SetMode (channel_in a.part) (mode_of_details a._details) (chan_of n) }
+ghost-step_that a =
+    record { who = a.me; act = λ n. SetMode (channel_in a.part) (mode_of_details a._details) (chan_of n) }

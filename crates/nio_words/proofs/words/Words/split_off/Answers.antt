@@ -33,13 +33,16 @@ returns-clause-sees g c =
         table = split.0 ∙ pass.table;
         limits = ap (λ m. m.0.limits) split.2 ∙ pass.limits;
         legal = subst (IsLegal w.limits) (sym (ap (λ m. m.0.seen) split.2)) pass.legal;
-        callers = λ n has. pass.callers n (kept_has c.args.p.now.seat.me.0.numbers (bit_not w64 g.taken) n.0 (subst (λ (k : ℕ). HasBit k n.0) (ap (λ m. m.0.numbers) split.2) has));
+        callers = λ n has. pass.callers n
+            (kept_has c.args.p.now.seat.me.0.numbers (bit_not w64 g.taken) n.0
+            (subst (λ (k : ℕ). HasBit k n.0) (ap (λ m. m.0.numbers) split.2) has));
       };
       given_pass = record {
         table = split.3 ∙ pass.table;
         limits = ap (λ m. m.0.limits) split.4 ∙ pass.limits;
         legal = subst (IsLegal w.limits) (sym (ap (λ m. m.0.seen) split.4)) pass.legal;
-        callers = λ n has. pass.callers n (c.requires.1.1 n.0 (subst (λ (k : ℕ). HasBit k n.0) (ap (λ m. m.0.numbers) split.4 ∙ c.requires.0) has));
+        callers = λ n has. pass.callers n
+            (c.requires.1.1 n.0 (subst (λ (k : ℕ). HasBit k n.0) (ap (λ m. m.0.numbers) split.4 ∙ c.requires.0) has));
       };
       sight = ap (λ m. m.0.seen) split.2;
       given_sight = ap (λ m. m.0.seen) split.4;

@@ -6,4 +6,9 @@ use Rattle.nio_words.specs.Details.{number_of_details}
 use Rattle.nio_words.proofs.words.Words.take_free.Given as goal
 
 abbrev pub ghost-step_that : goal.ghost-step_that
-ghost-step_that a = record { who = a.me; act = λ n. TakeFree (selector_in a.part) (number_of_details a._details) (is_set n (number_of_details a._details % 64)) }
+ghost-step_that a =
+    record {
+      who = a.me;
+      act = λ n. TakeFree (selector_in a.part) (number_of_details a._details)
+          (is_set n (number_of_details a._details % 64));
+    }
