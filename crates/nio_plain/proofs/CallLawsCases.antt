@@ -36,7 +36,7 @@ use Rattle.nio_plain.specs.Seq.Modes.{name_or_none, key_of, is_registered, block
 use Rattle.nio_plain.specs.Seq.Names.{below, key_at}
 use Rattle.nio_plain.specs.Seq.Opening.{channel_made, next_channel, selector_made, selector_call, channel_call}
 use Rattle.nio_plain.specs.Seq.Pipes.{own_source, own_sink, pipe_at, with_pipe, marking}
-use Rattle.nio_plain.specs.Seq.Piping.{with_sink, with_source, finds_interrupt, not_now, read_first, read_from, room_for, write_first, write_to, pipe_call, pread_call, pwrite_call}
+use Rattle.nio_plain.specs.Seq.Piping.{with_sink, with_source, finds_interrupt, not_now, read_first, read_from, room_for, write_to, pipe_call, pread_call, pwrite_call}
 use Rattle.nio_plain.specs.Seq.Registering.{given_or_none, given_or_kept, next_key, with_new_key, are_legal, registered, registered_new, register_call}
 use Rattle.nio_plain.specs.Seq.Removing.{unselected}
 use Rattle.nio_plain.specs.Seq.Selections.{mode_of, selection_begun, updated_count, is_again, why_ended, selection_ended, own_selection, left_selection, is_caller, begun_with, told_selection, begin_call, told_call, failed_call}

@@ -1,5 +1,5 @@
 -- A step of the group with a reply that refuses leaves the group as it was.
-use Rattle.std.proofs.Common.{◌≡◌, ℕ, Bool, true, false, cond, Option, Some, None, Result, Ok, refl, sym, ◌∙◌}
+use Rattle.std.proofs.Common.{◌≡◌, Bool, true, false, cond, Option, Some, None, Result, Ok, refl, sym, ◌∙◌}
 use Rattle.std.proofs.lemmas.Bool.{false≢true}
 use Rattle.nio_event.specs.declared.group_call.GroupCall.{GroupCall}
 use Rattle.nio_event.specs.declared.group_call.GroupCall.TheVariants as group

@@ -1,5 +1,5 @@
 -- How a call on the group is shown to answer as the documented one.
-use Rattle.std.proofs.Common.{◌≡◌, Result, Ok}
+use Rattle.std.proofs.Common.{◌≡◌, Ok}
 use Rattle.nio_event.specs.declared.group_call.GroupCall.{GroupCall}
 use Rattle.nio_event.specs.declared.reply.Reply.{Reply}
 use Rattle.nio_plain.specs.Plain.{AnswersAs, Kept}

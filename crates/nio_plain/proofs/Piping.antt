@@ -17,7 +17,7 @@ use Rattle.nio_plain.proofs.Answering.{channel_made-below, channel_made-past, ro
 use Rattle.nio_plain.proofs.Found.{find_spent, find_unmade}
 use Rattle.nio_plain.specs.PlainState.{channel_row, pipe_of, places, state_from, state_of}
 use Rattle.nio_plain.specs.ScriptState.{Pipe, ScriptState, with_pipes}
-use Rattle.nio_plain.specs.Seq.Answers.{Answered, unchanged}
+use Rattle.nio_plain.specs.Seq.Answers.{unchanged}
 use Rattle.nio_plain.specs.Seq.Opening.{channel_made, next_channel}
 use Rattle.nio_plain.specs.Seq.Pipes.{no_pipe, pipe_at, with_pipe}
 use Rattle.nio_plain.specs.Seq.Piping.{not_now, pipe_call, read_first, with_sink, with_source}
@@ -27,42 +27,56 @@ use Rattle.nio_plain.specs.declared.plain.pipe.Pipe.{Pipe as PlainPipe}
 
 -- the first place of a list, and of its image
 
-prefix_len-map : {X A : Type 0} (p : A → Bool) (f : X → A) (xs : List X) → prefix_len p (map f xs) ≡ prefix_len (λ x. p (f x)) xs
+prefix_len-map : {X A : Type 0} (p : A → Bool) (f : X → A) (xs : List X)
+    → prefix_len p (map f xs) ≡ prefix_len (λ x. p (f x)) xs
 prefix_len-map p f [] = refl
 prefix_len-map {X} p f (x ∷ xs) = ap (λ (n : ℕ). cond (p (f x)) (1 + n) 0) (prefix_len-map p f xs)
 
-pub position-map : {X A : Type 0} (q : A → Bool) (f : X → A) (xs : List X) → position q (map f xs) ≡ position (λ x. q (f x)) xs
+pub position-map : {X A : Type 0} (q : A → Bool) (f : X → A) (xs : List X)
+    → position q (map f xs) ≡ position (λ x. q (f x)) xs
 position-map {X} q f xs =
-    let first : ◌≡◌ {A = ℕ} (prefix_len (λ a. not (q a)) (map f xs)) (prefix_len (λ (x : X). not (q (f x))) xs) = prefix_len-map (λ a. not (q a)) f xs in
+    let first : ◌≡◌ {A = ℕ} (prefix_len (λ a. not (q a)) (map f xs)) (prefix_len (λ (x : X). not (q (f x))) xs) =
+    prefix_len-map (λ a. not (q a)) f xs in
     let size : ◌≡◌ {A = ℕ} (length (map f xs)) (length xs) = length-map xs f in
     λ i. cond (nat_lt (first i) (size i)) (Some (first i)) None
 
 -- the pipe at a place
-pub pipe_at-is : (items : List PlainPipe) (place : ℕ) (x : PlainPipe) → place < length items → x ≡ get_or items place x → get_or (map pipe_of items) place no_pipe ≡ pipe_of x
+pub pipe_at-is : (items : List PlainPipe) (place : ℕ) (x : PlainPipe) → place < length items
+    → x ≡ get_or items place x → get_or (map pipe_of items) place no_pipe ≡ pipe_of x
 pipe_at-is items place x within is = get_or-map pipe_of items place x no_pipe within ∙ ap pipe_of (sym is)
 
 -- one pipe is changed
-pub changed_pipe : (items : List PlainPipe) (place : ℕ) (x new : PlainPipe) (change : Pipe → Pipe) → place < length items → x ≡ get_or items place x → pipe_of new ≡ change (pipe_of x)
-    → map pipe_of (set items place new) ≡ set (map pipe_of items) place (change (get_or (map pipe_of items) place no_pipe))
+pub changed_pipe : (items : List PlainPipe) (place : ℕ) (x new : PlainPipe) (change : Pipe → Pipe)
+    → place < length items → x ≡ get_or items place x → pipe_of new ≡ change (pipe_of x)
+    → map pipe_of (set items place new)
+    ≡ set (map pipe_of items) place (change (get_or (map pipe_of items) place no_pipe))
 changed_pipe items place x new change within is changes =
     map-set pipe_of items place new
     ∙ ap (set (map pipe_of items) place) (changes ∙ ap change (sym (pipe_at-is items place x within is)))
 
 -- reading where bytes wait, and where none does
 
-pub read_first-some : (st : ScriptState) (blocking : Bool) (n i : ℕ) (waiting : List ℕ) (marked : Bool) → waiting ≢ []
-    → read_first st blocking n i waiting marked ≡ record { reply = reply.Bytes (take n waiting); left = with_pipe st i (record (pipe_at st i) { waiting = drop n waiting }) }
+pub read_first-some : (st : ScriptState) (blocking : Bool) (n i : ℕ) (waiting : List ℕ) (marked : Bool)
+    → waiting ≢ []
+    → read_first st blocking n i waiting marked
+    ≡ record {
+      reply = reply.Bytes (take n waiting);
+      left = with_pipe st i
+          (record (pipe_at st i) { waiting = drop n waiting });
+    }
 read_first-some st blocking n i [] marked some = absurd (some refl)
 read_first-some st blocking n i (b ∷ bytes) marked some = refl
 
-pub read_first-none : (st : ScriptState) (blocking : Bool) (n i : ℕ) (waiting : List ℕ) (marked : Bool) → waiting ≡ []
+pub read_first-none : (st : ScriptState) (blocking : Bool) (n i : ℕ) (waiting : List ℕ) (marked : Bool)
+    → waiting ≡ []
     → read_first st blocking n i waiting marked ≡ unchanged st (cond marked reply.End (not_now blocking))
 read_first-none st blocking n i [] true none = refl
 read_first-none st blocking n i [] false none = refl
 read_first-none st blocking n i (b ∷ bytes) marked none = absurd (cc none)
 
 -- a place that was found is one of the list
-pub place_within : (q : Pipe → Bool) (items : List PlainPipe) (place : ℕ) → position q (map pipe_of items) ≡ Some place → place < length items
+pub place_within : (q : Pipe → Bool) (items : List PlainPipe) (place : ℕ)
+    → position q (map pipe_of items) ≡ Some place → place < length items
 place_within q items place e =
     let found = position-Some q (map pipe_of items) place no_pipe e in
     omega (arith, found.0, length-map items pipe_of)
@@ -76,7 +90,8 @@ pub pipe_call-is : (l : Limits) (st : ScriptState) (me target : CallerNo) (sourc
     → pipe_call l st me target ≡ with_sink (channel_made st Source (Some source)).left me target source sink
 unfolding pipe_call
 pipe_call-is l st me target source sink within next further =
-    cond-true (nat_lt target.0 l.callers) (with_source l st me target (next_channel l st)) _ (lt-ltb target.0 l.callers within)
+    cond-true (nat_lt target.0 l.callers) (with_source l st me target (next_channel l st)) _
+    (lt-ltb target.0 l.callers within)
     ∙ (ap (with_source l st me target) next
     ∙ ap (with_sink (channel_made st Source (Some source)).left me target source) further)
 
@@ -97,7 +112,8 @@ drop_min n xs =
     (cases_lt n (length xs))
 
 -- the first c were rotated to the end, and cut off there
-pub left_by_take : (xs : List ℕ) (n c : ℕ) → c ≡ min n (length xs) → take (length xs - c) (drop c xs ++ take c xs) ≡ drop n xs
+pub left_by_take : (xs : List ℕ) (n c : ℕ) → c ≡ min n (length xs)
+    → take (length xs - c) (drop c xs ++ take c xs) ≡ drop n xs
 left_by_take xs n c is =
     ap (λ (k : ℕ). take k (drop c xs ++ take c xs)) (sym (length-drop c xs))
     ∙ (take-append_seam (drop c xs) (take c xs)
@@ -134,7 +150,8 @@ channel_added p kind pipes channels new same more is =
     is)
 
 -- a system with a sink and a pipe more
-pub sink_made : (p : Plain) (before pipes : List PlainPipe) (ones channels : List Channel) (sink : Channel) (pipe : PlainPipe) (new : Pipe)
+pub sink_made : (p : Plain) (before pipes : List PlainPipe) (ones channels : List Channel) (sink : Channel)
+    (pipe : PlainPipe) (new : Pipe)
     → pipes ≡ before ++ pipe ∷ [] → channels ≡ ones ++ sink ∷ []
     → channel_row sink ≡ record { made = true; kind = Sink; closed = false; blocking = true }
     → pipe_of pipe ≡ new

@@ -11,7 +11,7 @@ use Rattle.nio_group.specs.Run as step
 use Rattle.nio_group.specs.Run.{IsCallOf, IsRunOf, after, left_by}
 use Rattle.nio_plain.proofs.CallLawsCases.{HoldsOfChanges, holds_of_calls}
 use Rattle.nio_plain.specs.Answer.{left_from}
-use Rattle.nio_plain.specs.ReachedLaws.{GroupIsLawful, GroupIsLeftByARun, IsLeftByARun}
+use Rattle.nio_plain.specs.ReachedLaws.{GroupIsLawful, GroupIsLeftByARun}
 use Rattle.nio_plain.specs.ScriptState.{ScriptState, group_limits, script_opening}
 use Rattle.nio_plain.specs.Seq.{seq}
 use Rattle.nio_plain.specs.Seq.Answers.{Answered}

@@ -1,5 +1,5 @@
 -- What the calls on pipes keep.
-use Rattle.std.proofs.Common.{◌≡◌, ℕ, ◌==◌, Bool, true, false, cond, not, nat_lt, Option, Some, None, List, [], ◌∷◌, length, find, refl}
+use Rattle.std.proofs.Common.{◌≡◌, ℕ, ◌==◌, Bool, true, false, cond, not, Option, Some, None, List, [], ◌∷◌, length, refl}
 use Rattle.std.proofs.lemmas.Bool.{not-true}
 use Rattle.nio_base.specs.declared.kind.Kind.TheVariants.{Source, Sink}
 use Rattle.nio_base.specs.declared.limits.Limits.{Limits}
@@ -13,7 +13,6 @@ use Rattle.nio_plain.proofs.ReachedSound.{Keeps, Sound, by_test, keeps_unchanged
 use Rattle.nio_plain.specs.ScriptState.{Pipe, ScriptState, with_pipes}
 use Rattle.nio_plain.specs.Seq.Answers.{Answered, unchanged, answered}
 use Rattle.nio_plain.specs.Seq.Cancelling.{channel_closed}
-use Rattle.nio_plain.specs.Seq.Names.{below}
 use Rattle.nio_plain.specs.Seq.Opening.{channel_made, next_channel}
 use Rattle.nio_plain.specs.Seq.Pipes.{marking, pipe_at}
 use Rattle.nio_plain.specs.Seq.Piping.{finds_interrupt, not_now, read_first, read_from, room_for, with_sink, with_source, write_first, write_to}

@@ -2,8 +2,8 @@
 -- Each call has one reply and leaves one state, over whole sets of keys and without steps. What a call
 -- does stands with its subject, in the files of Seq/; here each call word finds its own.
 --
--- A refusal changes nothing. Refusals are tested in the order in which they stand: first the caller,
--- then the names of the line, then the call's own.
+-- A refusal changes nothing, but for some calls on pipes. Refusals are tested in the order in which they
+-- stand: first the caller, then the names of the line, then the call's own.
 --
 -- It answers by one of two rules. They differ in one word, `comes_back`, which only the beginning and the
 -- end of a selection cite.

@@ -4,8 +4,6 @@
 //! next, and the keys of a selector by their indexes.
 ghost use Rattle.std.specs.Prelude.{◌≡◌, ◌≤◌, vec_len};
 
-pub use self::grouping::answer_group;
-
 use self::channel::Channel;
 use self::pipe::Pipe;
 use self::selector::Selector;
@@ -37,6 +35,8 @@ mod selector;
 mod sets;
 mod telling;
 mod waking;
+
+pub use self::grouping::answer_group;
 
 /// How much a script's group can hold.
 pub const GROUP_LIMITS: GroupLimits = GroupLimits {

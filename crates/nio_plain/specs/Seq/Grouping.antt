@@ -1,7 +1,7 @@
 -- Calls on the group. Each but the two that only ask is one step of the group, whose answer is the reply. A
 -- channel of the group that the line names has to be made. The reply, and the group that the call leaves, depend on
 -- the group alone.
-use Rattle.std.specs.Prelude.{length, nat_lt, true, false, if◌then◌else◌, Result, Ok, Err, Option, Some, None}
+use Rattle.std.specs.Prelude.{length, nat_lt, true, false, if◌then◌else◌, Ok, Err, Some, None}
 use Rattle.nio_base.specs.declared.numbers.GChan.{GChan}
 use Rattle.nio_event.specs.declared.group_call.GroupCall.{GroupCall}
 use Rattle.nio_event.specs.declared.group_call.GroupCall.TheVariants as group
@@ -11,7 +11,6 @@ use Rattle.nio_event.specs.declared.reply.Reply.TheVariants as reply
 use Rattle.nio_group.specs.Group.{Group, is_terminated}
 use Rattle.nio_group.specs.Run as step
 use Rattle.nio_group.specs.Run.{after, reply_to}
-use Rattle.nio_group.specs.declared.refusal.NotRunning.{NotRunning}
 use Rattle.nio_group.specs.declared.refusal.ReportError.{ReportError}
 use Rattle.nio_group.specs.declared.refusal.ReportError.TheVariants as unreported
 use Rattle.nio_group.specs.declared.refusal.StartError.{StartError}

@@ -11,7 +11,8 @@ returns-then-number-len c =
     let xs = c.args.self.now.channels.items in
     let n = c.args.chan.0 in
     let within : n < length xs = omega (arith, c.args.self.now.channels.ok.0) in
-    sym (ap (λ (r : Chan). r.closed) (places_at channel_row unmade_channel xs n c.index.result.now within c.index.ensures))
+    sym (ap (λ (r : Chan). r.closed)
+    (places_at channel_row unmade_channel xs n c.index.result.now within c.index.ensures))
 
 pub returns-else-number-len : goal.returns-else-number-len
 returns-else-number-len c =

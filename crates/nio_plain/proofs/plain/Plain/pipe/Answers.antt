@@ -1,4 +1,4 @@
-use Rattle.std.proofs.Common.{◌≡◌, ℕ, ◌+◌, ◌<◌, ◌≤◌, Bool, false, nat_lt, Option, Some, None, List, [], ◌∷◌, ◌++◌, length, refl, sym, ap, ◌∙◌, arith}
+use Rattle.std.proofs.Common.{◌≡◌, ◌+◌, ◌<◌, ◌≤◌, false, nat_lt, Some, None, List, [], ◌∷◌, ◌++◌, length, refl, sym, ap, ◌∙◌, arith}
 use Rattle.std.proofs.lemmas.Bool.{cond-true, cond-false, le-ltb, lt-ltb}
 use Rattle.std.proofs.lemmas.List.{length_push}
 use Rattle.nio_base.specs.declared.kind.Kind.TheVariants.{Source, Sink}
@@ -7,7 +7,6 @@ use Rattle.nio_plain.proofs.Answering.{answered_as, unchanged_as}
 use Rattle.nio_plain.proofs.Piping.{channel_added, next_end, no_next_end, pipe_call-is, sink_made}
 use Rattle.nio_plain.specs.PlainState.{channel_row, pipe_of, state_of}
 use Rattle.nio_plain.specs.ScriptState.{ScriptState, with_pipes, with_shared}
-use Rattle.nio_plain.specs.Seq.Answers.{unchanged}
 use Rattle.nio_plain.specs.Seq.Cancelling.{channel_closed}
 use Rattle.nio_plain.specs.Seq.Opening.{channel_made, next_channel}
 use Rattle.nio_plain.specs.Seq.Piping.{new_pipe, pipe_call, with_source}
@@ -20,7 +19,8 @@ unfolding pipe_call
 returns-then-target-self c =
     let p = c.args.self.now in
     unchanged_as p _ _
-    (cond-false (nat_lt c.args.target.0 p.limits.callers) _ _ (le-ltb c.args.target.0 p.limits.callers c.if-target-self.true))
+    (cond-false (nat_lt c.args.target.0 p.limits.callers) _ _
+    (le-ltb c.args.target.0 p.limits.callers c.if-target-self.true))
 
 pub returns-then-number-self : goal.returns-then-number-self
 unfolding pipe_call
@@ -31,7 +31,9 @@ returns-then-number-self c =
     let within : c.args.target.0 < l.callers = omega arith in
     let full : l.channels ≤ length xs = omega (arith, p.channels.ok.0) in
     unchanged_as p _ _
-    (cond-true (nat_lt c.args.target.0 l.callers) (with_source l (state_of p) c.args.me c.args.target (next_channel l (state_of p))) _ (lt-ltb c.args.target.0 l.callers within)
+    (cond-true (nat_lt c.args.target.0 l.callers)
+    (with_source l (state_of p) c.args.me c.args.target (next_channel l (state_of p))) _
+    (lt-ltb c.args.target.0 l.callers within)
     ∙ ap (with_source l (state_of p) c.args.me c.args.target)
     (no_next_end p p.pipes.items xs full))
 
@@ -46,9 +48,11 @@ returns-then-number-self-2 c =
     let number : c.len-number.result ≡ length xs = omega (arith, p.channels.ok.0) in
     let room : length xs < l.channels = omega (arith, number) in
     let more : ys ≡ xs ++ c.new.result ∷ [] =
-        c.push_reserved.ensures.items ∙ ap (λ (zs : List Channel). zs ++ c.new.result ∷ []) c.reserve.ensures.items in
+    c.push_reserved.ensures.items ∙ ap (λ (zs : List Channel). zs ++ c.new.result ∷ []) c.reserve.ensures.items in
     let full : l.channels ≤ length ys = omega (arith, number, ap length more, length_push xs c.new.result) in
-    let made = channel_added p Source c.reserve-2.new.self.items ys c.new.result c.reserve-2.ensures.items more (ap channel_row c.new.ensures) in
+    let made =
+    channel_added p Source c.reserve-2.new.self.items ys c.new.result c.reserve-2.ensures.items more
+    (ap channel_row c.new.ensures) in
     let next = next_end p p.pipes.items xs room in
     let none = sym (ap (next_channel l) made) ∙ no_next_end p c.reserve-2.new.self.items ys full in
     answered_as p _ _ _ _
@@ -69,7 +73,7 @@ returns c =
     let number : c.len-number.result ≡ length xs = omega (arith, p.channels.ok.0) in
     let room : length xs < l.channels = omega (arith, number) in
     let more : ys ≡ xs ++ c.new.result ∷ [] =
-        c.push_reserved.ensures.items ∙ ap (λ (zs : List Channel). zs ++ c.new.result ∷ []) c.reserve.ensures.items in
+    c.push_reserved.ensures.items ∙ ap (λ (zs : List Channel). zs ++ c.new.result ∷ []) c.reserve.ensures.items in
     let size : length ys ≡ length xs + 1 = ap length more ∙ length_push xs c.new.result in
     let further : length ys < l.channels = omega (arith, number, size) in
     let second : c.len-number.result + 1 ≡ length ys = omega (arith, number, size) in
@@ -86,15 +90,16 @@ returns c =
       marked = false;
     } in
     let is : pipe_of one ≡ pipe =
-        λ i. record {
-          source = record { 0 = number i };
-          sink = record { 0 = second i };
-          reader = c.args.me;
-          writer = c.args.target;
-          waiting = c.new-3.ensures.items i;
-          marked = false;
-        } in
-    let one_more = c.push_reserved-3.ensures.items ∙ ap (λ (qs : List PlainPipe). qs ++ one ∷ []) c.reserve-2.ensures.items in
+    λ i. record {
+      source = record { 0 = number i };
+      sink = record { 0 = second i };
+      reader = c.args.me;
+      writer = c.args.target;
+      waiting = c.new-3.ensures.items i;
+      marked = false;
+    } in
+    let one_more =
+    c.push_reserved-3.ensures.items ∙ ap (λ (qs : List PlainPipe). qs ++ one ∷ []) c.reserve-2.ensures.items in
     answered_as p _ _ _ _
     (pipe_call-is l st c.args.me c.args.target (length xs) (Some (length ys)) within next after)
     (λ i. reply.Ends (record { 0 = number i }) (record { 0 = second i }))

@@ -39,11 +39,14 @@ returns-then-finds_interrupt c =
     let p = c.args.self.now in
     let st = state_of p in
     let opened = ap (λ (x : Chan). x.closed) c.in-Ok.ensures.row ∙ c.if-channel.false in
-    let found = ap (λ (x : Chan). x.blocking && st.shared.interrupted c.args.me.0) c.in-Ok.ensures.row ∙ sym c.if-finds_interrupt.ensures in
+    let found =
+    ap (λ (x : Chan). x.blocking && st.shared.interrupted c.args.me.0) c.in-Ok.ensures.row
+    ∙ sym c.if-finds_interrupt.ensures in
     answered_as p _ _ _ _
     (c.in-Ok.ensures.through _ ∙ (ap (read_from st c.args.me c.args.chan c.args.most) (sym c.in-Some.ensures)
     ∙ (cond-false (st.shared.chan c.args.chan.0).closed (unchanged st reply.ClosedChannel) _ opened
-    ∙ cond-true (finds_interrupt st c.args.me c.args.chan) (answered st reply.ClosedByInterrupt (channel_closed st.shared c.args.chan.0)) _ found)))
+    ∙ cond-true (finds_interrupt st c.args.me c.args.chan)
+    (answered st reply.ClosedByInterrupt (channel_closed st.shared c.args.chan.0)) _ found)))
     refl
     c.shut_channel.ensures.left
     c.shut_channel.ensures.kept
@@ -54,17 +57,21 @@ returns-then-most-eq0 c =
     let p = c.args.self.now in
     let st = state_of p in
     let opened = ap (λ (x : Chan). x.closed) c.in-Ok.ensures.row ∙ c.if-channel.false in
-    let none = ap (λ (x : Chan). x.blocking && st.shared.interrupted c.args.me.0) c.in-Ok.ensures.row ∙ sym c.if-finds_interrupt.ensures in
+    let none =
+    ap (λ (x : Chan). x.blocking && st.shared.interrupted c.args.me.0) c.in-Ok.ensures.row
+    ∙ sym c.if-finds_interrupt.ensures in
     unchanged_as p _ _
     (c.in-Ok.ensures.through _ ∙ (ap (read_from st c.args.me c.args.chan c.args.most) (sym c.in-Some.ensures)
     ∙ (cond-false (st.shared.chan c.args.chan.0).closed (unchanged st reply.ClosedChannel) _ opened
-    ∙ (cond-false (finds_interrupt st c.args.me c.args.chan) (answered st reply.ClosedByInterrupt (channel_closed st.shared c.args.chan.0)) _ none
+    ∙ (cond-false (finds_interrupt st c.args.me c.args.chan)
+    (answered st reply.ClosedByInterrupt (channel_closed st.shared c.args.chan.0)) _ none
     ∙ cond-true (c.args.most == 0) (unchanged st (reply.Number 0)) _ (eq-eqb c.args.most 0 c.if-most-eq0.true)))))
 
 pub read_from-requires : goal.read_from-requires
 read_from-requires c =
     let p = c.args.self.now in
-    let within : c.in-Some.place < length p.pipes.items = place_within (owns_source c.args.me c.args.chan) p.pipes.items c.in-Some.place (sym c.in-Some.ensures) in
+    let within : c.in-Some.place < length p.pipes.items =
+    place_within (owns_source c.args.me c.args.chan) p.pipes.items c.in-Some.place (sym c.in-Some.ensures) in
     omega (arith, p.pipes.ok.0)
 
 pub returns : goal.returns
@@ -73,11 +80,15 @@ returns c =
     let p = c.args.self.now in
     let st = state_of p in
     let opened = ap (λ (x : Chan). x.closed) c.in-Ok.ensures.row ∙ c.if-channel.false in
-    let none = ap (λ (x : Chan). x.blocking && st.shared.interrupted c.args.me.0) c.in-Ok.ensures.row ∙ sym c.if-finds_interrupt.ensures in
+    let none =
+    ap (λ (x : Chan). x.blocking && st.shared.interrupted c.args.me.0) c.in-Ok.ensures.row
+    ∙ sym c.if-finds_interrupt.ensures in
     of_word _ _ _ _ _
     (c.in-Ok.ensures.through _ ∙ (ap (read_from st c.args.me c.args.chan c.args.most) (sym c.in-Some.ensures)
     ∙ (cond-false (st.shared.chan c.args.chan.0).closed (unchanged st reply.ClosedChannel) _ opened
-    ∙ (cond-false (finds_interrupt st c.args.me c.args.chan) (answered st reply.ClosedByInterrupt (channel_closed st.shared c.args.chan.0)) _ none
+    ∙ (cond-false (finds_interrupt st c.args.me c.args.chan)
+    (answered st reply.ClosedByInterrupt (channel_closed st.shared c.args.chan.0)) _ none
     ∙ (cond-false (c.args.most == 0) (unchanged st (reply.Number 0)) _ (ne_eqb c.args.most 0 c.if-most-eq0.false)
-    ∙ ap (λ (x : Chan). read_first st x.blocking c.args.most c.in-Some.place (pipe_at st c.in-Some.place).waiting (pipe_at st c.in-Some.place).marked) c.in-Ok.ensures.row)))))
+    ∙ ap (λ (x : Chan). read_first st x.blocking c.args.most c.in-Some.place (pipe_at st c.in-Some.place).waiting
+    (pipe_at st c.in-Some.place).marked) c.in-Ok.ensures.row)))))
     c.read_from.ensures

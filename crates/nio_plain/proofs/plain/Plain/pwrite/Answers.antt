@@ -1,11 +1,11 @@
 use Rattle.std.proofs.Common.{◌<◌, ◌==◌, ◌&&◌, Some, length, refl, sym, ap, ◌∙◌, arith}
-use Rattle.std.proofs.lemmas.Bool.{cond-true, cond-false, eq-eqb, ne_eqb}
+use Rattle.std.proofs.lemmas.Bool.{cond-true, cond-false}
 use Rattle.nio_event.specs.declared.found.Chan.{Chan}
 use Rattle.nio_event.specs.declared.reply.Reply.TheVariants as reply
 use Rattle.nio_plain.proofs.Answering.{unchanged_as, answered_as, of_word}
 use Rattle.nio_plain.proofs.Piping.{pipe_at-is, place_within}
 use Rattle.nio_plain.specs.PlainState.{state_of}
-use Rattle.nio_plain.specs.ScriptState.{Pipe, ScriptState}
+use Rattle.nio_plain.specs.ScriptState.{Pipe}
 use Rattle.nio_plain.specs.Seq.Answers.{unchanged, answered}
 use Rattle.nio_plain.specs.Seq.Cancelling.{channel_closed}
 use Rattle.nio_plain.specs.Seq.Pipes.{marking, owns_sink, pipe_at, with_mark}
@@ -21,12 +21,14 @@ unfolding pwrite_call
 returns-in_default c =
     let p = c.args.self.now in
     unchanged_as p _ _
-    (c.in-Ok.ensures.through _ ∙ ap (write_to (state_of p) c.args.me c.args.chan c.args.bytes.now) (sym c.in_default.ensures))
+    (c.in-Ok.ensures.through _
+    ∙ ap (write_to (state_of p) c.args.me c.args.chan c.args.bytes.now) (sym c.in_default.ensures))
 
 pub mark-requires : goal.mark-requires
 mark-requires c =
     let p = c.args.self.now in
-    let within : c.in-Some.place < length p.pipes.items = place_within (owns_sink c.args.me c.args.chan) p.pipes.items c.in-Some.place (sym c.in-Some.ensures) in
+    let within : c.in-Some.place < length p.pipes.items =
+    place_within (owns_sink c.args.me c.args.chan) p.pipes.items c.in-Some.place (sym c.in-Some.ensures) in
     omega (arith, p.pipes.ok.0)
 
 pub returns-then-channel : goal.returns-then-channel
@@ -37,7 +39,8 @@ returns-then-channel c =
     let closed = ap (λ (x : Chan). x.closed) c.in-Ok.ensures.row ∙ c.if-channel.true in
     answered_as p _ _ _ _
     (c.in-Ok.ensures.through _ ∙ (ap (write_to st c.args.me c.args.chan c.args.bytes.now) (sym c.in-Some.ensures)
-    ∙ cond-true (st.shared.chan c.args.chan.0).closed (marking (Some c.in-Some.place) (unchanged st reply.ClosedChannel)) _ closed))
+    ∙ cond-true (st.shared.chan c.args.chan.0).closed
+    (marking (Some c.in-Some.place) (unchanged st reply.ClosedChannel)) _ closed))
     refl
     c.mark.ensures.left
     c.mark.ensures.kept
@@ -48,11 +51,16 @@ returns-then-finds_interrupt c =
     let p = c.args.self.now in
     let st = state_of p in
     let opened = ap (λ (x : Chan). x.closed) c.in-Ok.ensures.row ∙ c.if-channel.false in
-    let found = ap (λ (x : Chan). x.blocking && st.shared.interrupted c.args.me.0) c.in-Ok.ensures.row ∙ sym c.if-finds_interrupt.ensures in
+    let found =
+    ap (λ (x : Chan). x.blocking && st.shared.interrupted c.args.me.0) c.in-Ok.ensures.row
+    ∙ sym c.if-finds_interrupt.ensures in
     answered_as p _ _ _ _
     (c.in-Ok.ensures.through _ ∙ (ap (write_to st c.args.me c.args.chan c.args.bytes.now) (sym c.in-Some.ensures)
-    ∙ (cond-false (st.shared.chan c.args.chan.0).closed (marking (Some c.in-Some.place) (unchanged st reply.ClosedChannel)) _ opened
-    ∙ cond-true (finds_interrupt st c.args.me c.args.chan) (marking (Some c.in-Some.place) (answered st reply.ClosedByInterrupt (channel_closed st.shared c.args.chan.0))) _ found)))
+    ∙ (cond-false (st.shared.chan c.args.chan.0).closed
+    (marking (Some c.in-Some.place) (unchanged st reply.ClosedChannel)) _ opened
+    ∙ cond-true (finds_interrupt st c.args.me c.args.chan)
+    (marking (Some c.in-Some.place)
+    (answered st reply.ClosedByInterrupt (channel_closed st.shared c.args.chan.0))) _ found)))
     refl
     (c.mark-then-finds_interrupt.ensures.left ∙ ap (with_mark (Some c.in-Some.place)) c.shut_channel.ensures.left)
     (record {
@@ -63,7 +71,8 @@ returns-then-finds_interrupt c =
 pub index-requires : goal.index-requires
 index-requires c =
     let p = c.args.self.now in
-    let within : c.in-Some.place < length p.pipes.items = place_within (owns_sink c.args.me c.args.chan) p.pipes.items c.in-Some.place (sym c.in-Some.ensures) in
+    let within : c.in-Some.place < length p.pipes.items =
+    place_within (owns_sink c.args.me c.args.chan) p.pipes.items c.in-Some.place (sym c.in-Some.ensures) in
     omega (arith, p.pipes.ok.0)
 
 pub returns-then-is_closed : goal.returns-then-is_closed
@@ -72,16 +81,22 @@ returns-then-is_closed c =
     let p = c.args.self.now in
     let st = state_of p in
     let place = c.in-Some.place in
-    let within : place < length p.pipes.items = place_within (owns_sink c.args.me c.args.chan) p.pipes.items place (sym c.in-Some.ensures) in
+    let within : place < length p.pipes.items =
+    place_within (owns_sink c.args.me c.args.chan) p.pipes.items place (sym c.in-Some.ensures) in
     let opened = ap (λ (x : Chan). x.closed) c.in-Ok.ensures.row ∙ c.if-channel.false in
-    let none = ap (λ (x : Chan). x.blocking && st.shared.interrupted c.args.me.0) c.in-Ok.ensures.row ∙ sym c.if-finds_interrupt.ensures in
+    let none =
+    ap (λ (x : Chan). x.blocking && st.shared.interrupted c.args.me.0) c.in-Ok.ensures.row
+    ∙ sym c.if-finds_interrupt.ensures in
     let broken =
-        ap (λ (q : Pipe). (st.shared.chan q.source.0).closed) (pipe_at-is p.pipes.items place c.index.result.now within c.index.ensures)
-        ∙ sym c.if-is_closed.ensures in
+    ap (λ (q : Pipe). (st.shared.chan q.source.0).closed)
+    (pipe_at-is p.pipes.items place c.index.result.now within c.index.ensures)
+    ∙ sym c.if-is_closed.ensures in
     unchanged_as p _ _
     (c.in-Ok.ensures.through _ ∙ (ap (write_to st c.args.me c.args.chan c.args.bytes.now) (sym c.in-Some.ensures)
-    ∙ (cond-false (st.shared.chan c.args.chan.0).closed (marking (Some place) (unchanged st reply.ClosedChannel)) _ opened
-    ∙ (cond-false (finds_interrupt st c.args.me c.args.chan) (marking (Some place) (answered st reply.ClosedByInterrupt (channel_closed st.shared c.args.chan.0))) _ none
+    ∙ (cond-false (st.shared.chan c.args.chan.0).closed
+    (marking (Some place) (unchanged st reply.ClosedChannel)) _ opened
+    ∙ (cond-false (finds_interrupt st c.args.me c.args.chan)
+    (marking (Some place) (answered st reply.ClosedByInterrupt (channel_closed st.shared c.args.chan.0))) _ none
     ∙ cond-true (st.shared.chan (pipe_at st place).source.0).closed (unchanged st reply.BrokenPipe) _ broken))))
 
 pub returns-then-is_empty : goal.returns-then-is_empty
@@ -90,23 +105,30 @@ returns-then-is_empty c =
     let p = c.args.self.now in
     let st = state_of p in
     let place = c.in-Some.place in
-    let within : place < length p.pipes.items = place_within (owns_sink c.args.me c.args.chan) p.pipes.items place (sym c.in-Some.ensures) in
+    let within : place < length p.pipes.items =
+    place_within (owns_sink c.args.me c.args.chan) p.pipes.items place (sym c.in-Some.ensures) in
     let opened = ap (λ (x : Chan). x.closed) c.in-Ok.ensures.row ∙ c.if-channel.false in
-    let none = ap (λ (x : Chan). x.blocking && st.shared.interrupted c.args.me.0) c.in-Ok.ensures.row ∙ sym c.if-finds_interrupt.ensures in
+    let none =
+    ap (λ (x : Chan). x.blocking && st.shared.interrupted c.args.me.0) c.in-Ok.ensures.row
+    ∙ sym c.if-finds_interrupt.ensures in
     let whole =
-        ap (λ (q : Pipe). (st.shared.chan q.source.0).closed) (pipe_at-is p.pipes.items place c.index.result.now within c.index.ensures)
-        ∙ sym c.if-is_closed.ensures in
+    ap (λ (q : Pipe). (st.shared.chan q.source.0).closed)
+    (pipe_at-is p.pipes.items place c.index.result.now within c.index.ensures)
+    ∙ sym c.if-is_closed.ensures in
     unchanged_as p _ _
     (c.in-Ok.ensures.through _ ∙ (ap (write_to st c.args.me c.args.chan c.args.bytes.now) (sym c.in-Some.ensures)
-    ∙ (cond-false (st.shared.chan c.args.chan.0).closed (marking (Some place) (unchanged st reply.ClosedChannel)) _ opened
-    ∙ (cond-false (finds_interrupt st c.args.me c.args.chan) (marking (Some place) (answered st reply.ClosedByInterrupt (channel_closed st.shared c.args.chan.0))) _ none
+    ∙ (cond-false (st.shared.chan c.args.chan.0).closed
+    (marking (Some place) (unchanged st reply.ClosedChannel)) _ opened
+    ∙ (cond-false (finds_interrupt st c.args.me c.args.chan)
+    (marking (Some place) (answered st reply.ClosedByInterrupt (channel_closed st.shared c.args.chan.0))) _ none
     ∙ (cond-false (st.shared.chan (pipe_at st place).source.0).closed (unchanged st reply.BrokenPipe) _ whole
     ∙ cond-true (length c.args.bytes.now == 0) (unchanged st (reply.Number 0)) _ (sym c.if-is_empty.ensures))))))
 
 pub write_to-requires : goal.write_to-requires
 write_to-requires c =
     let p = c.args.self.now in
-    let within : c.in-Some.place < length p.pipes.items = place_within (owns_sink c.args.me c.args.chan) p.pipes.items c.in-Some.place (sym c.in-Some.ensures) in
+    let within : c.in-Some.place < length p.pipes.items =
+    place_within (owns_sink c.args.me c.args.chan) p.pipes.items c.in-Some.place (sym c.in-Some.ensures) in
     omega (arith, p.pipes.ok.0)
 
 pub returns : goal.returns
@@ -115,17 +137,24 @@ returns c =
     let p = c.args.self.now in
     let st = state_of p in
     let place = c.in-Some.place in
-    let within : place < length p.pipes.items = place_within (owns_sink c.args.me c.args.chan) p.pipes.items place (sym c.in-Some.ensures) in
+    let within : place < length p.pipes.items =
+    place_within (owns_sink c.args.me c.args.chan) p.pipes.items place (sym c.in-Some.ensures) in
     let opened = ap (λ (x : Chan). x.closed) c.in-Ok.ensures.row ∙ c.if-channel.false in
-    let none = ap (λ (x : Chan). x.blocking && st.shared.interrupted c.args.me.0) c.in-Ok.ensures.row ∙ sym c.if-finds_interrupt.ensures in
+    let none =
+    ap (λ (x : Chan). x.blocking && st.shared.interrupted c.args.me.0) c.in-Ok.ensures.row
+    ∙ sym c.if-finds_interrupt.ensures in
     let whole =
-        ap (λ (q : Pipe). (st.shared.chan q.source.0).closed) (pipe_at-is p.pipes.items place c.index.result.now within c.index.ensures)
-        ∙ sym c.if-is_closed.ensures in
+    ap (λ (q : Pipe). (st.shared.chan q.source.0).closed)
+    (pipe_at-is p.pipes.items place c.index.result.now within c.index.ensures)
+    ∙ sym c.if-is_closed.ensures in
     of_word _ _ _ _ _
     (c.in-Ok.ensures.through _ ∙ (ap (write_to st c.args.me c.args.chan c.args.bytes.now) (sym c.in-Some.ensures)
-    ∙ (cond-false (st.shared.chan c.args.chan.0).closed (marking (Some place) (unchanged st reply.ClosedChannel)) _ opened
-    ∙ (cond-false (finds_interrupt st c.args.me c.args.chan) (marking (Some place) (answered st reply.ClosedByInterrupt (channel_closed st.shared c.args.chan.0))) _ none
+    ∙ (cond-false (st.shared.chan c.args.chan.0).closed
+    (marking (Some place) (unchanged st reply.ClosedChannel)) _ opened
+    ∙ (cond-false (finds_interrupt st c.args.me c.args.chan)
+    (marking (Some place) (answered st reply.ClosedByInterrupt (channel_closed st.shared c.args.chan.0))) _ none
     ∙ (cond-false (st.shared.chan (pipe_at st place).source.0).closed (unchanged st reply.BrokenPipe) _ whole
     ∙ (cond-false (length c.args.bytes.now == 0) (unchanged st (reply.Number 0)) _ (sym c.if-is_empty.ensures)
-    ∙ ap (λ (x : Chan). write_first st x.blocking c.args.bytes.now place (room_for c.args.bytes.now (pipe_at st place))) c.in-Ok.ensures.row))))))
+    ∙ ap (λ (x : Chan). write_first st x.blocking c.args.bytes.now place
+    (room_for c.args.bytes.now (pipe_at st place))) c.in-Ok.ensures.row))))))
     c.write_to.ensures

@@ -1,4 +1,4 @@
-use Rattle.std.proofs.Common.{◌≡◌, ◌≢◌, ℕ, ◌<◌, ◌==◌, Bool, true, cond, List, [], drop, length, take, refl, sym, ap, ◌∙◌, arith}
+use Rattle.std.proofs.Common.{◌≡◌, ◌≢◌, ℕ, ◌<◌, cond, List, [], drop, length, take, refl, sym, ap, ◌∙◌, arith}
 use Rattle.std.proofs.Math.Seq.{map-set_same}
 use Rattle.std.proofs.lemmas.Bool.{eq-eqb, eqb-true, false≢true}
 use Rattle.std.proofs.lemmas.List.{nil_from_length}
@@ -20,7 +20,8 @@ returns-then-is_empty c =
     let blocking = c.args.channel.blocking in
     let within : c.args.place < length p.pipes.items = omega (arith, p.pipes.ok.0, c.requires) in
     let at = pipe_at-is p.pipes.items c.args.place x within c.index-pipe.ensures in
-    let size : length x.waiting.items ≡ 0 = omega (arith, x.waiting.ok.0, eqb-true x.waiting.len 0 (sym c.if-is_empty.ensures)) in
+    let size : length x.waiting.items ≡ 0 =
+    omega (arith, x.waiting.ok.0, eqb-true x.waiting.len 0 (sym c.if-is_empty.ensures)) in
     let none = ap (λ (q : Pipe). q.waiting) at ∙ nil_from_length x.waiting.items size in
     unchanged_as p _ _
     (read_first-none st blocking c.args.most c.args.place _ (pipe_at st c.args.place).marked none
@@ -47,10 +48,10 @@ returns c =
     let read = pipe_at-is p.pipes.items c.args.place x within c.index-pipe.ensures in
     let at = pipe_at-is p.pipes.items c.args.place y within c.index_mut.ensures.value in
     let some : (pipe_at st c.args.place).waiting ≢ [] =
-        λ e.
-        let none = sym (ap (λ (q : Pipe). q.waiting) read) ∙ e in
-        let size : x.waiting.len ≡ 0 = omega (arith, x.waiting.ok.0, ap length none) in
-        absurd (false≢true (c.if-is_empty.ensures ∙ eq-eqb x.waiting.len 0 size)) in
+    λ e.
+    let none = sym (ap (λ (q : Pipe). q.waiting) read) ∙ e in
+    let size : x.waiting.len ≡ 0 = omega (arith, x.waiting.ok.0, ap length none) in
+    absurd (false≢true (c.if-is_empty.ensures ∙ eq-eqb x.waiting.len 0 size)) in
     answered_as p _ _ _ _
     (read_first-some st c.args.channel.blocking n c.args.place _ (pipe_at st c.args.place).marked some)
     (ap (λ (bytes : List ℕ). reply.Bytes bytes)

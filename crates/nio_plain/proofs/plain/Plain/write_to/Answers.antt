@@ -1,4 +1,4 @@
-use Rattle.std.proofs.Common.{◌≡◌, ℕ, ◌-◌, ◌<◌, ◌==◌, List, ◌++◌, length, min, take, refl, sym, ap, ◌∙◌, arith}
+use Rattle.std.proofs.Common.{◌≡◌, ℕ, ◌-◌, ◌<◌, ◌==◌, ◌++◌, length, min, take, refl, sym, ap, ◌∙◌, arith}
 use Rattle.std.proofs.Math.Seq.{map-set_same}
 use Rattle.std.proofs.lemmas.Bool.{cond-true, cond-false, eq-eqb, ne_eqb}
 use Rattle.nio_event.specs.declared.reply.Reply.TheVariants as reply
@@ -20,7 +20,7 @@ returns-then-room-eq0 c =
     let within : c.args.place < length p.pipes.items = omega (arith, p.pipes.ok.0, c.requires) in
     let at = pipe_at-is p.pipes.items c.args.place x within c.index.ensures in
     let room : c.min-room.result ≡ min (length bytes) (65536 - length x.waiting.items) =
-        omega (arith, x.waiting.ok.0) in
+    omega (arith, x.waiting.ok.0) in
     let none = ap (room_for bytes) at ∙ (sym room ∙ c.if-room-eq0.true) in
     let size = room_for bytes (pipe_at st c.args.place) in
     unchanged_as p _ _
@@ -47,10 +47,11 @@ returns c =
     let at = pipe_at-is p.pipes.items c.args.place x within c.index.ensures in
     let size = room_for bytes (pipe_at st c.args.place) in
     let room : c.min-room.result ≡ min (length bytes) (65536 - length x.waiting.items) =
-        omega (arith, x.waiting.ok.0) in
+    omega (arith, x.waiting.ok.0) in
     let all : c.min-room.result ≡ size = room ∙ sym (ap (room_for bytes) at) in
     answered_as p _ _ _ _
-    (cond-false (size == 0) (unchanged st (not_now c.args.channel.blocking)) _ (ne_eqb size 0 (λ e. c.if-room-eq0.false (all ∙ e))))
+    (cond-false (size == 0) (unchanged st (not_now c.args.channel.blocking)) _
+    (ne_eqb size 0 (λ e. c.if-room-eq0.false (all ∙ e))))
     (ap reply.Number all)
     (ap (with_pipes st)
     (changed_pipe p.pipes.items c.args.place y c.put.new.self

@@ -9,16 +9,19 @@ use Rattle.nio_plain.proofs.plain.grouping.answer_group.Goals as goal
 
 -- the call is this one
 
-replies_to : (g : Group) (call known : GroupCall) (r : Reply) → call ≡ known → r ≡ group_reply g known → r ≡ group_reply g call
+replies_to : (g : Group) (call known : GroupCall) (r : Reply) → call ≡ known → r ≡ group_reply g known
+    → r ≡ group_reply g call
 replies_to g call known r is says = says ∙ sym (ap (group_reply g) is)
 
-leaves_by : (g : Group) (call known : GroupCall) (left : Group) → call ≡ known → left ≡ group_left g known → left ≡ group_left g call
+leaves_by : (g : Group) (call known : GroupCall) (left : Group) → call ≡ known → left ≡ group_left g known
+    → left ≡ group_left g call
 leaves_by g call known left is leaves = leaves ∙ sym (ap (group_left g) is)
 
 pub returns-in-Gopen-clause-reply : goal.returns-in-Gopen-clause-reply
 unfolding group_answer
 returns-in-Gopen-clause-reply c =
-    replies_to c.args.group.now _ _ _ c.in-Gopen.is (c.opened.ensures ∙ ap (λ a. answer_of (step.opened a)) c.open_channel.ensures.answer)
+    replies_to c.args.group.now _ _ _ c.in-Gopen.is (c.opened.ensures
+    ∙ ap (λ a. answer_of (step.opened a)) c.open_channel.ensures.answer)
 
 pub returns-in-Gopen-clause-left : goal.returns-in-Gopen-clause-left
 unfolding group_answer
@@ -48,7 +51,8 @@ returns-in-Start-clause-left c =
 pub returns-in-Report-clause-reply : goal.returns-in-Report-clause-reply
 unfolding group_answer
 returns-in-Report-clause-reply c =
-    replies_to c.args.group.now _ _ _ c.in-Report.is (c.reported.ensures ∙ ap (λ a. answer_of (step.reported a)) c.report.ensures.answer)
+    replies_to c.args.group.now _ _ _ c.in-Report.is (c.reported.ensures
+    ∙ ap (λ a. answer_of (step.reported a)) c.report.ensures.answer)
 
 pub returns-in-Report-clause-left : goal.returns-in-Report-clause-left
 unfolding group_answer
@@ -58,7 +62,8 @@ returns-in-Report-clause-left c =
 pub returns-in-Take-clause-reply : goal.returns-in-Take-clause-reply
 unfolding group_answer
 returns-in-Take-clause-reply c =
-    replies_to c.args.group.now _ _ _ c.in-Take.is (c.taken.ensures ∙ ap (λ a. answer_of (step.taken a)) c.take.ensures.answer)
+    replies_to c.args.group.now _ _ _ c.in-Take.is (c.taken.ensures
+    ∙ ap (λ a. answer_of (step.taken a)) c.take.ensures.answer)
 
 pub returns-in-Take-clause-left : goal.returns-in-Take-clause-left
 unfolding group_answer
@@ -68,7 +73,8 @@ returns-in-Take-clause-left c =
 pub returns-in-Done-clause-reply : goal.returns-in-Done-clause-reply
 unfolding group_answer
 returns-in-Done-clause-reply c =
-    replies_to c.args.group.now _ _ _ c.in-Done.is (c.finished.ensures ∙ ap (λ a. answer_of (step.finished a)) c.finish.ensures.answer)
+    replies_to c.args.group.now _ _ _ c.in-Done.is (c.finished.ensures
+    ∙ ap (λ a. answer_of (step.finished a)) c.finish.ensures.answer)
 
 pub returns-in-Done-clause-left : goal.returns-in-Done-clause-left
 unfolding group_answer
@@ -118,7 +124,8 @@ returns-in-IsShutdown-clause-left c =
 pub returns-in-Terminated-clause-reply : goal.returns-in-Terminated-clause-reply
 unfolding group_answer
 returns-in-Terminated-clause-reply c =
-    replies_to c.args.group.now _ _ _ c.in-Terminated.is (c.yes_or_no-in-Terminated.ensures ∙ ap yes_or_no c.is_terminated.ensures)
+    replies_to c.args.group.now _ _ _ c.in-Terminated.is (c.yes_or_no-in-Terminated.ensures
+    ∙ ap yes_or_no c.is_terminated.ensures)
 
 pub returns-in-Terminated-clause-left : goal.returns-in-Terminated-clause-left
 unfolding group_answer
