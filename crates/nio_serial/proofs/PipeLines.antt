@@ -56,8 +56,8 @@ module _ (l : Limits) (st : State) (now : Progress) (me : CallerNo) (c : ChanNo)
 
       by_mode : (b : Bool) → (st.chan c.0).closed ≡ false
           → perform me (if b then (look_interrupt >>= if_interrupted l c) else Plan.reply (Ok false)) st
-          ≡ (if b && st.interrupted me.0 then ends (Err PipeError.ClosedByInterrupt) (closed_left l st c) else ends
-          (Ok b) st)
+          ≡ (if b && st.interrupted me.0 then ends (Err PipeError.ClosedByInterrupt) (closed_left l st c)
+          else ends (Ok b) st)
       by_mode true opened = by_status (st.interrupted me.0) opened
       by_mode false opened = refl
 
