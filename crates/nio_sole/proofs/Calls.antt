@@ -30,7 +30,7 @@ use Rattle.nio_plain.specs.Seq.Selections.{mode_of, is_caller}
 use Rattle.nio_serial.specs.Between.{IsBetween}
 use Rattle.nio_serial.specs.Documented.{Progress, Selecting}
 use Rattle.nio_serial.specs.Lines.{Said, makes, asks, refused, with_selection, with_closing, if_own, own_selection, after_begin, after_told, after_shut, after_finish, begin_line, by_index, told_line, failed_line, close_end_line, read_line, write_line, call_plan, if_caller, if_found, if_selector, if_channel, if_key, if_named, line_plan}
-use Rattle.nio_serial.specs.PipeLines.{own_source, own_sink, pipe_at, with_mark, after_pipe}
+use Rattle.nio_serial.specs.PipeLines.{own_source, own_sink, pipe_at, with_mark, with_pipe, after_pipe, read_gives, write_gives}
 use Rattle.nio_serial.specs.Replies.{ends_reply, find_reply, set_reply, put_reply, channel_reply, mode_reply, register_reply, closed_reply, selector_reply, begin_reply, told_reply, shut_reply, finish_reply, list_reply}
 use Rattle.nio_sole.specs.Made.{IsOngoing, HasMade}
 use Rattle.nio_sole.specs.MadeLaws.{LinesAreCalls}
@@ -649,14 +649,16 @@ module _ (l : Limits) (me : CallerNo) (now : Progress) where
   leads_read : (c : ChanNo) (n : ℕ) (place : Option ℕ) → Leads l me now (read_line l now c n place)
   leads_read c n None = leads_refused l me now _
   leads_read c n (Some i) =
-      leads_leaving (try_read_plan l c) (λ a. try_read c a) _ _ (λ _. record { selection = refl; closing = refl })
+      leads_leaving (try_read_plan l c) (λ a. try_read c a) (λ a. (read_gives n (pipe_at now i) a).reply)
+      (λ a. with_pipe now i (read_gives n (pipe_at now i) a).left) (λ _. record { selection = refl; closing = refl })
       (λ o acts a run at. quiet l me now o (try_read c a) acts run tt at)
 
   leads_write : (c : ChanNo) (bytes : List ℕ) (place : Option ℕ) → Leads l me now (write_line l now c bytes place)
   leads_write c bytes None = leads_refused l me now _
   leads_write c bytes (Some i) =
       let source = (pipe_at now i).source in
-      leads_leaving (try_write_plan l source c) (λ a. try_write source c a) _ _ (λ _. record { selection = refl; closing = refl })
+      leads_leaving (try_write_plan l source c) (λ a. try_write source c a) (λ a. (write_gives bytes (pipe_at now i) a).reply)
+      (λ a. with_pipe now i (write_gives bytes (pipe_at now i) a).left) (λ _. record { selection = refl; closing = refl })
       (λ o acts a run at. quiet l me now o (try_write source c a) acts run tt at)
 
   -- the call of a line

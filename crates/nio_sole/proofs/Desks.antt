@@ -59,9 +59,9 @@ pub some_is : {A : Type 0} {x y : A} → Some y ≡ Some x → x ≡ y
 some_is same = cc
 
 -- the channels of the pipes are made still after a call
-pub still_made : {R : Type 0} {Shape : List Act → R → Type 0} {w : Words} {d : Desk} {q : Pass} {me : CallerNo} {answer : R}
-    → HasPlaces w d → CallClause me Shape (view w d.pass) (view w q) answer → AreMade (view w q) d.pipes.items
-still_made {w = w} {d = d} {q = q} places call =
+pub still_made : {R : Type 0} {Shape : List Act → R → Type 0} {w : Words} {d : Desk} {me : CallerNo} {answer : R}
+    (q : Pass) → HasPlaces w d → CallClause me Shape (view w d.pass) (view w q) answer → AreMade (view w q) d.pipes.items
+still_made {w = w} {d = d} q places call =
     All-weaker (λ (x : OwnedPipe). HasEnds (view w d.pass) x.pipe.source x.pipe.sink)
     (λ (x : OwnedPipe). HasEnds (view w q) x.pipe.source x.pipe.sink)
     (λ x ends. record { source = channel_after call.acts ends.source; sink = channel_after call.acts ends.sink })
@@ -79,14 +79,14 @@ pub none_made : {pass : PassView} {pipes : List OwnedPipe} → pipes ≡ [] → 
 none_made {pass = pass} none = subst (AreMade pass) (sym none) (All-nil (λ (x : OwnedPipe). HasEnds pass x.pipe.source x.pipe.sink))
 
 -- after a call the places are the same
-pub places_same : {R : Type 0} {Shape : List Act → R → Type 0} {w : Words} {d : Desk} {q : Pass} {me : CallerNo} {answer : R}
-    → CallClause me Shape (view w d.pass) (view w q) answer → HasPlaces w d → HasPlaces w (record d { pass = q })
-places_same call places = record {
+pub places_same : {R : Type 0} {Shape : List Act → R → Type 0} {w : Words} {d : Desk} {me : CallerNo} {answer : R}
+    (q : Pass) → CallClause me Shape (view w d.pass) (view w q) answer → HasPlaces w d → HasPlaces w (record d { pass = q })
+places_same q call places = record {
   selections = places.selections;
   closings = places.closings;
   selects = places.selects;
   closes = places.closes;
-  pipes = still_made places call;
+  pipes = still_made q places call;
 }
 
 -- ---- what a line leaves

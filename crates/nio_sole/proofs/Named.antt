@@ -45,7 +45,7 @@ pub may_make_named : (w : Words) (d : Desk) (q : Pass) (me : CallerNo) (word : C
     → MayMake w (record d { pass = q }) me word
 may_make_named w d q me word finds places made = record {
   ask = record { ready = finds.ready; unpinned = finds.unpinned; named = finds.named };
-  places = places_same (looked_up w d.pass q me word (progress_of d) finds) places;
+  places = places_same q (looked_up w d.pass q me word (progress_of d) finds) places;
   made = ∥∥₁_map made (made_after w d.pass q me word (progress_of d) finds);
 }
 
@@ -55,7 +55,7 @@ missing_made w d q me word missing finds places =
     let call : CallClause me (Completes (if_named (limits_of w) (progress_of d) word (call_plan (limits_of w) (progress_of d) me word)))
     (view w d.pass) (view w q) (record { reply = missing; left = progress_of d })
     = returned (finds.call (progress_of d) (call_plan (limits_of w) (progress_of d) me word)) in
-    record { call = call; ready = finds.ready; places = places_same call places }
+    record { call = call; ready = finds.ready; places = places_same q call places }
 
 named_made : (w : Words) (d d' : Desk) (q : Pass) (me : CallerNo) (word : Call) (plan : Plan Said) (r : Reply) → FindsNames w d.pass q me word None → Makes w (record d { pass = q }) d' me plan r
     → Makes w d d' me (if_named (limits_of w) (progress_of d) word plan) r

@@ -42,6 +42,7 @@ use Rattle.nio_steps.proofs.CallLaws.{call_as}
 use Rattle.nio_steps.specs.Calls.{CallClause}
 use Rattle.nio_steps.specs.ChannelCalls.{close_channel_plan}
 use Rattle.nio_steps.specs.PipeCalls.{MakesPipe, PipeEnds, pipe_lacks_memory, pipe_plan, try_read_plan, try_write_plan}
+use Rattle.nio_steps.specs.Plan.{Plan}
 use Rattle.nio_steps.specs.Runs.{Completes}
 use Rattle.nio_steps.specs.declared.refusal.PipeError.{PipeError}
 use Rattle.nio_steps.specs.declared.refusal.PipeMakeError.{PipeMakeError}
@@ -141,14 +142,14 @@ pub source_at : (d : Desk) (me : CallerNo) (c : ChanNo) (i : ℕ) (x : OwnedPipe
     → (i < length d.pipes.items) × (x.pipe.source ≡ c)
 source_at d me c i x at is =
     let found = position-Some (λ (y : OwnedPipe). (y.pipe.source.0 == c.0) && (y.reader.0 == me.0)) d.pipes.items i x (sym at) in
-    let both = ap (λ (y : OwnedPipe). (y.pipe.source.0 == c.0) && (y.reader.0 == me.0)) is ∙ found.1.0 in
+    let both = ap (λ (y : OwnedPipe). (y.pipe.source.0 == c.0) && (y.reader.0 == me.0)) is ∙ found.1 in
     (found.0, channel_is x.pipe.source c (and_parts (x.pipe.source.0 == c.0) (x.reader.0 == me.0) both).0)
 
 pub sink_at : (d : Desk) (me : CallerNo) (c : ChanNo) (i : ℕ) (x : OwnedPipe) → IsSinkAt d me c (Some i) → x ≡ get_or d.pipes.items i x
     → (i < length d.pipes.items) × (x.pipe.sink ≡ c)
 sink_at d me c i x at is =
     let found = position-Some (λ (y : OwnedPipe). (y.pipe.sink.0 == c.0) && (y.writer.0 == me.0)) d.pipes.items i x (sym at) in
-    let both = ap (λ (y : OwnedPipe). (y.pipe.sink.0 == c.0) && (y.writer.0 == me.0)) is ∙ found.1.0 in
+    let both = ap (λ (y : OwnedPipe). (y.pipe.sink.0 == c.0) && (y.writer.0 == me.0)) is ∙ found.1 in
     (found.0, channel_is x.pipe.sink c (and_parts (x.pipe.sink.0 == c.0) (x.writer.0 == me.0) both).0)
 
 -- ---- reads and writes
@@ -208,7 +209,7 @@ read_made w d q me c n i x x' pipes found r may at is ran ready items source sin
           (gives_leaves d i x x' gives r here.0 is comes q pipes items)) (gives_says d i x x' gives r here.0 is comes));
       ready = ready;
       places = places_pipes may.places (subst (AreMade (view w q)) (sym items)
-          (made_set (view w q) d.pipes.items i x x' (still_made may.places call) here.0 is source sink));
+          (made_set (view w q) d.pipes.items i x x' (still_made q may.places call) here.0 is source sink));
     }
 
 pub write_none : (w : Words) (d : Desk) (me : CallerNo) (c : ChanNo) (bytes : List ℕ) → MayMake w d me (call.Pwrite c bytes) → IsSinkAt d me c None
@@ -242,7 +243,7 @@ write_made w d q me c bytes i x x' pipes found r may at is ran ready items sourc
           (gives_leaves d i x x' gives r here.0 is comes q pipes items)) (gives_says d i x x' gives r here.0 is comes));
       ready = ready;
       places = places_pipes may.places (subst (AreMade (view w q)) (sym items)
-          (made_set (view w q) d.pipes.items i x x' (still_made may.places call) here.0 is source sink));
+          (made_set (view w q) d.pipes.items i x x' (still_made q may.places call) here.0 is source sink));
     }
 
 -- with what the call answers, and what its slice then has
@@ -277,6 +278,19 @@ write_said w d q me c bytes i x pipes (Err refusal) may at is lawful ran ready a
     write_made w d q me c bytes i x (with_held x (after_write x.pipe bytes (Err refusal))) pipes (Err refusal) _ may at is ran ready items refl refl
     (write_refused x lawful bytes refusal)
 
+-- a place that was found among the same pipes
+pub source_found : (d : Desk) (me : CallerNo) (c : ChanNo) (place : Option ℕ) (xs : List OwnedPipe)
+    → place ≡ position (λ x. (x.pipe.source.0 == c.0) && (x.reader.0 == me.0)) xs → xs ≡ d.pipes.items → IsSourceAt d me c place
+source_found d me c place xs is same = is ∙ ap (position (λ (x : OwnedPipe). (x.pipe.source.0 == c.0) && (x.reader.0 == me.0))) same
+
+pub sink_found : (d : Desk) (me : CallerNo) (c : ChanNo) (place : Option ℕ) (xs : List OwnedPipe)
+    → place ≡ position (λ x. (x.pipe.sink.0 == c.0) && (x.writer.0 == me.0)) xs → xs ≡ d.pipes.items → IsSinkAt d me c place
+sink_found d me c place xs is same = is ∙ ap (position (λ (x : OwnedPipe). (x.pipe.sink.0 == c.0) && (x.writer.0 == me.0))) same
+
+-- with a reply that is the same
+pub said_so : {w : Words} {d d' : Desk} {me : CallerNo} {plan : Plan Said} {r r' : Reply} → r' ≡ r → Makes w d d' me plan r → Makes w d d' me plan r'
+said_so {w = w} {d = d} {d' = d'} {me = me} {plan = plan} same makes = subst (λ (x : Reply). Makes w d d' me plan x) (sym same) makes
+
 -- ---- closing
 
 pub close_none : (w : Words) (d : Desk) (q : Pass) (me : CallerNo) (c : ChanNo) (closes : Bool) → MayMake w d me (call.Closec c) → IsSinkAt d me c None
@@ -288,7 +302,7 @@ close_none w d q me c closes may none ran ready =
     record {
       call = left_as (makes_ran closed_reply (λ _. with_mark now (own_sink now me c)) ran) (ap (with_mark now) (own_sink_is d me c None none));
       ready = ready;
-      places = places_same ran may.places;
+      places = places_same q ran may.places;
     }
 
 pub close_made : (w : Words) (d : Desk) (q : Pass) (me : CallerNo) (c : ChanNo) (i : ℕ) (x : OwnedPipe) (pipes : Vec OwnedPipe Global) (closes : Bool) → MayMake w d me (call.Closec c)
@@ -312,7 +326,7 @@ close_made w d q me c i x pipes closes may at is ran ready items =
           ∙ (sym (shown_set d.pipes.items i x') ∙ ap pipes_of (sym items))));
       ready = ready;
       places = places_pipes may.places (subst (AreMade (view w q)) (sym items)
-          (made_set (view w q) d.pipes.items i x x' (still_made may.places call) here.0 is refl refl));
+          (made_set (view w q) d.pipes.items i x x' (still_made q may.places call) here.0 is refl refl));
     }
 
 -- ---- making
@@ -339,7 +353,7 @@ pipe_made w d q me target pipe pipes may ran ready ends empty items =
           ∙ (sym (map-append pipe_of d.pipes.items (x ∷ [])) ∙ ap pipes_of (sym items))));
       ready = ready;
       places = places_pipes may.places (subst (AreMade (view w q)) (sym items)
-          (All-append (AreEnds (view w q)) d.pipes.items (x ∷ []) (still_made may.places ran) (All-cons (AreEnds (view w q)) x [] ends (All-nil (AreEnds (view w q))))));
+          (All-append (AreEnds (view w q)) d.pipes.items (x ∷ []) (still_made q may.places ran) (All-cons (AreEnds (view w q)) x [] ends (All-nil (AreEnds (view w q))))));
     }
 
 -- the room was taken, and no pipe was made
@@ -353,7 +367,7 @@ pipe_refused w d q me target pipes may ran ready items =
     record {
       call = left_as (makes_ran ends_reply (after_pipe now me target) call) (ap {B = Progress} (λ (xs : List OwnedPipe). record now { pipes = pipes_of xs }) (sym items));
       ready = ready;
-      places = places_pipes may.places (subst (AreMade (view w q)) (sym items) (still_made may.places ran));
+      places = places_pipes may.places (subst (AreMade (view w q)) (sym items) (still_made q may.places ran));
     }
 
 -- the room was taken, and there was no memory for the pipe
@@ -372,7 +386,7 @@ pipe_lacks w d q me target pipes may ran ready items =
       makes = record {
         call = left_as (makes_ran ends_reply (after_pipe now me target) call) same;
         ready = ready;
-        places = places_pipes may.places (subst (AreMade (view w q)) (sym items) (still_made may.places ran));
+        places = places_pipes may.places (subst (AreMade (view w q)) (sym items) (still_made q may.places ran));
       };
       same = sym same;
     }

@@ -1,6 +1,6 @@
 -- The pipes that a desk shows, and what a read or a write leaves of them.
 use Rattle.std.proofs.Common.{◌≡◌, ℕ, zero, suc, ◌+◌, ◌-◌, ◌<◌, ◌≤◌, ◌==◌, nat_lt, Bool, true, false, ◌||◌, cond, min, List, [], ◌∷◌, ◌++◌, length, get_or, map, set, take, drop, Result, Ok, Err, refl, sym, ap, ◌∙◌, subst, arith}
-use Rattle.std.proofs.lemmas.Bool.{cond-false, cond-true, eq-eqb, eqb-true, le-ltb, lt-ltb}
+use Rattle.std.proofs.lemmas.Bool.{cond-false, cond-true, eq-eqb, eqb-true, le-ltb, lt-ltb, ne_eqb}
 use Rattle.std.proofs.lemmas.List.{append-nil, drop-append-le, drop_min, get_or-map, length-append, length-take, length-take-le, map-set, take_min}
 use Rattle.std.proofs.Math.Seq.{drop-append-add, drop-append_seam, take-append_seam}
 use Rattle.nio_event.specs.declared.reply.Reply.{Reply}
@@ -30,7 +30,7 @@ shown_set items i x = map-set pipe_of items i x
 
 -- ---- what waits
 
-pub with_held : OwnedPipe → Held → OwnedPipe
+abbrev pub with_held : OwnedPipe → Held → OwnedPipe
 with_held x pipe = record x { pipe = pipe }
 
 sent_is : (p : Held) → IsLawful p → p.sent ≡ p.received ++ waiting p
@@ -149,6 +149,8 @@ module _ (x : OwnedPipe) (lawful : IsLawful x.pipe) where
           is ∙ (cond-false (room == 0) (PipeRead.Bytes 0) _ places
           ∙ (cond-true (nat_lt 0 (given_of room)) (PipeRead.Bytes (given_of room)) _ (lt-ltb 0 (given_of room) (omega (arith, given_is)))
           ∙ ap PipeRead.Bytes given_is)) in
+          let says : read_says (PipeRead.Bytes (suc k)) w blocking ≡ reply.Bytes (take (suc k) w) =
+          cond-false (suc k == 0) (reply.Number 0) (reply.Bytes (take (suc k) w)) (ne_eqb (suc k) 0 (λ e. omega (arith, e))) in
           ap (λ ws. takes shown blocking n ws x.pipe.marked) some
           ∙ (ap {B = Piped} (λ (ws : List ℕ). record { reply = reply.Bytes (take n ws); left = record shown { waiting = drop n ws } }) (sym some)
           ∙ (ap {B = Piped} (λ (p : List ℕ × List ℕ). record { reply = reply.Bytes p.0; left = record shown { waiting = p.1 } })
@@ -157,7 +159,8 @@ module _ (x : OwnedPipe) (lawful : IsLawful x.pipe) where
             (sym (drop_min n w) ∙ ap (λ m. drop m w) count) j,
           ))
           ∙ (ap {B = Piped} (λ (p : Pipe). record { reply = reply.Bytes (take (suc k) w); left = p }) (sym (read_leaves (Ok (PipeRead.Bytes (suc k)))))
-          ∙ ap (λ a. read_comes_to a blocking) (sym told))))
+          ∙ (ap {B = Piped} (λ (r : Reply). record { reply = r; left = pipe_of (with_held x (after_read x.pipe (Ok (PipeRead.Bytes (suc k))))) }) (sym says)
+          ∙ ap (λ a. read_comes_to a blocking) (sym told)))))
 
       by_waiting : (ws : List ℕ) → waiting x.pipe ≡ ws → (n == 0) ≡ false
           → takes shown blocking n (waiting x.pipe) x.pipe.marked ≡ read_comes_to answer blocking

@@ -31,5 +31,5 @@ asked_by {w = w} {d = d} {q = q} {me = me} {r = r} is places asked =
     (record {
       call = asked.call (progress_of d);
       ready = asked.ready;
-      places = places_same (asked.call (progress_of d)) places;
+      places = places_same q (asked.call (progress_of d)) places;
     })

@@ -95,11 +95,10 @@ pub(crate) fn close_channel(
     requires { MayMake w.now d.old me (Call.Closec chan) }
     ensures { MakesCall (λ plan. plan) w.now d.old d.new me (Call.Closec chan) result }
 {
-    let closes = match sink_place(&d.pipes, me, chan) {
-        Some(place) => d.pipes[place].pipe.close_sink(w, &mut d.pass, me),
-        None => nio_channel::close_channel(w, &mut d.pass, me, chan),
-    };
-    Ok(closed_reply(closes))
+    match sink_place(&d.pipes, me, chan) {
+        Some(place) => Ok(closed_reply(d.pipes[place].pipe.close_sink(w, &mut d.pass, me))),
+        None => Ok(closed_reply(nio_channel::close_channel(w, &mut d.pass, me, chan))),
+    }
 }
 
 // The place of the caller's own pipe with this source.

@@ -15,7 +15,7 @@ returns-in-Closing c = record {
   ready = c.in-Closing.ensures.ready;
   places = places_closing c.args.w.now c.args.d.now c.shut.new.p c.args.sel c.put_closing.new.closings (Some _) c.requires.places c.requires.ask.named.inside c.put_closing.ensures.items c.put_closing.ensures.len
       (λ x is. ap (λ (y : Shut). y.closing.0) (some_is is) ∙ ap (λ (s : SelNo). s.0) c.in-Closing.ensures.closing.0)
-      (still_made c.requires.places c.in-Closing.ensures.call);
+      (still_made c.shut.new.p c.requires.places c.in-Closing.ensures.call);
 }
 
 pub returns-in-AlreadyClosed : goal.returns-in-AlreadyClosed
@@ -23,5 +23,5 @@ unfolding call_plan
 returns-in-AlreadyClosed c = record {
   call = makes_ran shut_reply (after_shut (progress_of c.args.d.now) c.args.me c.args.sel) c.in-AlreadyClosed.ensures.call;
   ready = c.in-AlreadyClosed.ensures.ready;
-  places = places_same c.in-AlreadyClosed.ensures.call c.requires.places;
+  places = places_same c.shut.new.p c.in-AlreadyClosed.ensures.call c.requires.places;
 }

@@ -58,7 +58,7 @@ returns-in-Closed c =
           (sym (progress_closing w d c.try_finish.new.p s c.take_closing.new.closings None c.requires.places c.requires.ask.named.inside c.in-Some.ensures.taken.taken));
       ready = c.in-Closed.ensures.ready;
       places = places_closing w d c.try_finish.new.p s c.take_closing.new.closings None c.requires.places c.requires.ask.named.inside c.in-Some.ensures.taken.taken c.in-Some.ensures.len (λ x is. nothing_there is)
-          (still_made c.requires.places ran);
+          (still_made c.try_finish.new.p c.requires.places ran);
     }
 
 pub returns-in-Busy : goal.returns-in-Busy
@@ -77,5 +77,5 @@ returns-in-Busy c =
       ready = c.in-Busy.ensures.ready;
       places = places_put_back w d c.try_finish.new.p s c.take_closing.new.closings c.put_closing.new.closings _ c.requires.places c.requires.ask.named.inside c.in-Some.ensures.taken.taken c.in-Some.ensures.len c.put_closing.ensures.items c.put_closing.ensures.len
           (ap (λ (x : SelNo). x.0) (c.in-Busy.ensures.still.0 ∙ same))
-          (still_made c.requires.places ran);
+          (still_made c.try_finish.new.p c.requires.places ran);
     }

@@ -35,5 +35,5 @@ returns-in-Some c =
           (sym (progress_selection w d c.leave.new.p s c.take_selection.new.selections None c.requires.places c.requires.ask.named.inside c.in-Some.ensures.taken.0));
       ready = c.leave.ensures.ready;
       places = places_selection w d c.leave.new.p s c.take_selection.new.selections None c.requires.places c.requires.ask.named.inside c.in-Some.ensures.taken.0 c.in-Some.ensures.len (λ x is. nothing_there is)
-          (still_made c.requires.places c.leave.ensures.call);
+          (still_made c.leave.new.p c.requires.places c.leave.ensures.call);
     }

@@ -68,7 +68,7 @@ returns-in-Done c =
           (sym (progress_selection w d c.told.new.p s c.take_selection.new.selections None c.requires.places c.requires.ask.named.inside c.in-Some.ensures.taken.0));
       ready = c.in-Done.ensures.ready;
       places = places_selection w d c.told.new.p s c.take_selection.new.selections None c.requires.places c.requires.ask.named.inside c.in-Some.ensures.taken.0 c.in-Some.ensures.len (λ y is. nothing_there is)
-          (still_made c.requires.places c.in-Done.ensures.call);
+          (still_made c.told.new.p c.requires.places c.in-Done.ensures.call);
     }
 
 pub returns : goal.returns
@@ -90,5 +90,5 @@ returns c =
       ready = c.in-Again.ensures.ready;
       places = places_selection_back w d c.told.new.p s c.take_selection.new.selections c.put_selection-in-Again.new.selections _ c.requires.places c.requires.ask.named.inside c.in-Some.ensures.taken.0 c.in-Some.ensures.len c.put_selection-in-Again.ensures.items c.put_selection-in-Again.ensures.len
           (ap (λ (y : Selection). y.selector.0) same ∙ ap (λ (y : SelNo). y.0) (own_on w d c.args.me s x c.requires.places c.in-Some.ensures.taken.1))
-          (still_made c.requires.places c.in-Again.ensures.call);
+          (still_made c.told.new.p c.requires.places c.in-Again.ensures.call);
     }
