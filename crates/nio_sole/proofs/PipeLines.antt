@@ -264,19 +264,32 @@ read_said w d q me c n room i x pipes into rest (Err refusal) may at is lawful r
     read_made w d q me c n i x (with_held x (after_read x.pipe (Err refusal))) pipes (Err refusal) _ may at is ran ready items refl refl
     (read_refused x lawful n refusal)
 
-pub write_said : (w : Words) (d : Desk) (q : Pass) (me : CallerNo) (c : ChanNo) (bytes : List ℕ) (i : ℕ) (x : OwnedPipe) (pipes : Vec OwnedPipe Global)
+written : (w : Words) (d : Desk) (q : Pass) (me : CallerNo) (c : ChanNo) (bytes : List ℕ) (i : ℕ) (x : OwnedPipe) (pipes : Vec OwnedPipe Global)
     (result : Result (PipeWrite × Bool) PipeError)
     → MayMake w d me (call.Pwrite c bytes) → IsSinkAt d me c (Some i) → x ≡ get_or d.pipes.items i x → IsLawful x.pipe
     → CallClause me (Completes (try_write_plan (limits_of w) x.pipe.source x.pipe.sink)) (view w d.pass) (view w q) (mode_found result) → IsReady w q me
     → IfOk result (λ found. found.0 ≡ write_answer (length bytes) (min (length bytes) (65536 - length (waiting x.pipe))))
     → pipes.items ≡ set d.pipes.items i (with_held x (after_write x.pipe bytes (without_mode result)))
     → Makes w d (with_pipes_in d q pipes) me (call_plan (limits_of w) (progress_of d) me (call.Pwrite c bytes)) (write_reply result)
-write_said w d q me c bytes i x pipes (Ok found) may at is lawful ran ready answer items =
+written w d q me c bytes i x pipes (Ok found) may at is lawful ran ready answer items =
     write_made w d q me c bytes i x (with_held x (after_write x.pipe bytes (Ok found.0))) pipes (Ok found.1) _ may at is ran ready items refl refl
     (write_gave x lawful bytes found.1 found.0 answer)
-write_said w d q me c bytes i x pipes (Err refusal) may at is lawful ran ready answer items =
+written w d q me c bytes i x pipes (Err refusal) may at is lawful ran ready answer items =
     write_made w d q me c bytes i x (with_held x (after_write x.pipe bytes (Err refusal))) pipes (Err refusal) _ may at is ran ready items refl refl
     (write_refused x lawful bytes refusal)
+
+-- the slice that is written has the bytes of the line
+pub write_said : (w : Words) (d : Desk) (q : Pass) (me : CallerNo) (c : ChanNo) (bytes from : List ℕ) (i : ℕ) (x : OwnedPipe) (pipes : Vec OwnedPipe Global)
+    (result : Result (PipeWrite × Bool) PipeError) → from ≡ bytes
+    → MayMake w d me (call.Pwrite c bytes) → IsSinkAt d me c (Some i) → x ≡ get_or d.pipes.items i x → IsLawful x.pipe
+    → CallClause me (Completes (try_write_plan (limits_of w) x.pipe.source x.pipe.sink)) (view w d.pass) (view w q) (mode_found result) → IsReady w q me
+    → IfOk result (λ found. found.0 ≡ write_answer (length from) (min (length from) (65536 - length (waiting x.pipe))))
+    → pipes.items ≡ set d.pipes.items i (with_held x (after_write x.pipe from (without_mode result)))
+    → Makes w d (with_pipes_in d q pipes) me (call_plan (limits_of w) (progress_of d) me (call.Pwrite c bytes)) (write_reply result)
+write_said w d q me c bytes from i x pipes result same may at is lawful ran ready answer items =
+    written w d q me c bytes i x pipes result may at is lawful ran ready
+    (subst (λ (b : List ℕ). IfOk result (λ found. found.0 ≡ write_answer (length b) (min (length b) (65536 - length (waiting x.pipe))))) same answer)
+    (items ∙ ap (λ (b : List ℕ). set d.pipes.items i (with_held x (after_write x.pipe b (without_mode result)))) same)
 
 -- a place that was found among the same pipes
 pub source_found : (d : Desk) (me : CallerNo) (c : ChanNo) (place : Option ℕ) (xs : List OwnedPipe)

@@ -57,6 +57,11 @@ more_waiting p more lawful =
 
 -- ---- reading
 
+-- what a vector holds after a whole slice of it was written
+pub written_back : (size : ℕ) (slice items : List ℕ) → size ≡ length slice → take size (slice ++ drop (length slice) items) ≡ slice
+written_back size slice items same =
+    ap (λ (n : ℕ). take n (slice ++ drop (length slice) items)) same ∙ take-append_seam slice (drop (length slice) items)
+
 -- a read gives no more than there is to give
 few_read : (room given : ℕ) (marked : Bool) → bytes_read (Ok (read_answer room given marked)) ≤ given
 few_read room given marked = by_tests (room == 0) (nat_lt 0 given) marked

@@ -1,5 +1,7 @@
-use Rattle.std.proofs.Common.{Err, Result, subst}
-use Rattle.nio_sole.proofs.PipeLines.{pipe_lacks, pipe_made, pipe_refused, pipe_unplaced}
+use Rattle.std.proofs.Common.{List, [], ◌∷◌, ◌++◌, Err, Result, ap, ◌∙◌, subst}
+use Rattle.nio_event.specs.declared.reply.Reply.TheVariants as reply
+use Rattle.nio_sole.proofs.PipeLines.{pipe_lacks, pipe_made, pipe_refused, pipe_unplaced, said_so}
+use Rattle.nio_sole.specs.declared.desk.OwnedPipe.{OwnedPipe}
 use Rattle.nio_steps.specs.Calls.{CallClause}
 use Rattle.nio_steps.specs.PipeCalls.{MakesPipe, PipeEnds}
 use Rattle.nio_steps.specs.declared.refusal.PipeMakeError.{PipeMakeError}
@@ -13,9 +15,11 @@ returns-in-Err c =
 
 pub returns-in-Ok-held_pipe : goal.returns-in-Ok-held_pipe
 returns-in-Ok-held_pipe c =
-    pipe_made c.args.w.now c.args.d.now c.held_pipe.new.p c.args.me c.args.target _ c.push_reserved.new.self c.requires
+    let x : OwnedPipe = record { reader = c.args.me; writer = c.args.target; pipe = c.in-Ok-held_pipe.pipe } in
+    said_so (λ j. reply.Ends (c.source.ensures j) (c.sink.ensures j))
+    (pipe_made c.args.w.now c.args.d.now c.held_pipe.new.p c.args.me c.args.target _ c.push_reserved.new.self c.requires
     c.in-Ok-held_pipe.ensures.call c.in-Ok-held_pipe.ensures.ready c.in-Ok-held_pipe.ensures.ends c.in-Ok-held_pipe.ensures.empty
-    c.push_reserved.ensures.items
+    (c.push_reserved.ensures.items ∙ ap (λ (xs : List OwnedPipe). xs ++ x ∷ []) c.reserve.ensures.items))
 
 pub returns-in-Err-ChannelsSpent : goal.returns-in-Err-ChannelsSpent
 returns-in-Err-ChannelsSpent c =
