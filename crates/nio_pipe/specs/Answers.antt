@@ -62,3 +62,14 @@ refusal_after true ClosedChannel = AsynchronousClose
 refusal_after true ClosedByInterrupt = ClosedByInterrupt
 refusal_after true AsynchronousClose = AsynchronousClose
 refusal_after true BrokenPipe = BrokenPipe
+
+-- A call that answers with the mode, true for blocking, that it found its channel in: the mode or the refusal, and the
+-- answer of the same call without the mode.
+
+abbrev pub mode_found : {A : Type 0} → Result (A × Bool) PipeError → Result Bool PipeError
+mode_found (Ok found) = Ok found.1
+mode_found (Err refusal) = Err refusal
+
+abbrev pub without_mode : {A : Type 0} → Result (A × Bool) PipeError → Result A PipeError
+without_mode (Ok found) = Ok found.0
+without_mode (Err refusal) = Err refusal

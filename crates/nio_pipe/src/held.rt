@@ -3,12 +3,12 @@ ghost use Rattle.std.specs.Prelude.{◌≡◌, [], length, min, take, drop, ◌+
 ghost use Rattle.nio_event.specs.PassViews.{HasChannel, HasNoPin};
 ghost use Rattle.nio_steps.specs.Calls.{CallClause};
 ghost use Rattle.nio_steps.specs.ChannelCalls.{close_channel_plan};
-ghost use Rattle.nio_steps.specs.PipeCalls.{MakesPipe};
+ghost use Rattle.nio_steps.specs.PipeCalls.{MakesPipe, try_read_plan, try_write_plan};
 ghost use Rattle.nio_steps.specs.Runs.{Completes};
 ghost use Rattle.nio_steps.specs.declared.refusal.PipeError.TheVariants.{ClosedByInterrupt};
 ghost use Rattle.nio_words.specs.Passes.{IsReady, limits_of};
 ghost use Rattle.nio_words.specs.Views.{view};
-ghost use Rattle.nio_pipe.specs.Answers.{bytes_read, read_answer as answer_of_read, write_answer as answer_of_write};
+ghost use Rattle.nio_pipe.specs.Answers.{bytes_read, mode_found, read_answer as answer_of_read, without_mode, write_answer as answer_of_write};
 ghost use Rattle.nio_pipe.specs.Calls.{HasEnds, IsClosed, TriesRead, TriesWrite};
 ghost use Rattle.nio_pipe.specs.Held.{pipe_made};
 ghost use Rattle.nio_pipe.specs.Making.{AreParts};
@@ -118,9 +118,43 @@ impl HeldPipe {
         ensures end { result ≡ Ok End → IsAtEnd self.new }
     {
         check_open(w, p, me, self.source)?;
+        Ok(self.give(into))
+    }
+
+    /// Reads as `try_read` does. Says besides whether it found the source's channel in blocking mode.
+    pub fn try_read_in_mode(
+        &mut self,
+        w: &Words,
+        p: &mut Pass,
+        me: CallerNo,
+        into: &mut [u8],
+    ) -> Result<(PipeRead, bool), PipeError>
+        requires ready { IsReady w.now p.old me }
+        requires channel { HasChannel (view w.now p.old) self.old.source }
+        requires unpinned { HasNoPin (view w.now p.old) me }
+        ensures call { CallClause me (Completes (try_read_plan (limits_of w.now) self.old.source)) (view w.now p.old) (view w.now p.new) (mode_found result) }
+        ensures ready { IsReady w.now p.new me }
+        ensures unpinned { HasNoPin (view w.now p.new) me }
+        ensures closed { result ≡ Err ClosedByInterrupt → IsClosed (view w.now p.new) self.old.source }
+        ensures answer { IfOk result (λ found. found.0 ≡ answer_of_read (length into.old) (min (length into.old) (length (waiting self.old))) self.old.marked) }
+        ensures bytes { into.new ≡ take (bytes_read (without_mode result)) (waiting self.old) ++ drop (bytes_read (without_mode result)) into.old }
+        ensures pipe { self.new ≡ after_read self.old (without_mode result) }
+        ensures end { IfOk result (λ found. found.0 ≡ End → IsAtEnd self.new) }
+    {
+        let blocking = check_open(w, p, me, self.source)?;
+        Ok((self.give(into), blocking))
+    }
+
+    // Gives as many bytes as wait and fit into the slice.
+    fn give(&mut self, into: &mut [u8]) -> PipeRead
+        ensures answer { result ≡ answer_of_read (length into.old) (min (length into.old) (length (waiting self.old))) self.old.marked }
+        ensures bytes { into.new ≡ take (bytes_read (Ok result)) (waiting self.old) ++ drop (bytes_read (Ok result)) into.old }
+        ensures pipe { self.new ≡ after_read self.old (Ok result) }
+        ensures end { result ≡ End → IsAtEnd self.new }
+    {
         let given = self.buffer.read_into(into);
         self.received.extend(&into[..given]);
-        Ok(read_answer(into.len(), given, self.marked))
+        read_answer(into.len(), given, self.marked)
     }
 
     /// Writes as many bytes of the slice as there is room for. Where it finds the sink's channel
@@ -144,6 +178,33 @@ impl HeldPipe {
     {
         match check_write(w, p, me, self.source, self.sink) {
             Ok(_) => Ok(self.take(from)),
+            Err(refusal) => {
+                self.marked = self.marked || leaves_mark(refusal);
+                Err(refusal)
+            }
+        }
+    }
+
+    /// Writes as `try_write` does. Says besides whether it found the sink's channel in blocking mode.
+    pub fn try_write_in_mode(
+        &mut self,
+        w: &Words,
+        p: &mut Pass,
+        me: CallerNo,
+        from: &[u8],
+    ) -> Result<(PipeWrite, bool), PipeError>
+        requires ready { IsReady w.now p.old me }
+        requires ends { HasEnds (view w.now p.old) self.old.source self.old.sink }
+        requires unpinned { HasNoPin (view w.now p.old) me }
+        ensures call { CallClause me (Completes (try_write_plan (limits_of w.now) self.old.source self.old.sink)) (view w.now p.old) (view w.now p.new) (mode_found result) }
+        ensures ready { IsReady w.now p.new me }
+        ensures unpinned { HasNoPin (view w.now p.new) me }
+        ensures closed { result ≡ Err ClosedByInterrupt → IsClosed (view w.now p.new) self.old.sink }
+        ensures answer { IfOk result (λ found. found.0 ≡ answer_of_write (length from.now) (min (length from.now) (room_of self.old))) }
+        ensures pipe { self.new ≡ after_write self.old from.now (without_mode result) }
+    {
+        match check_write(w, p, me, self.source, self.sink) {
+            Ok(blocking) => Ok((self.take(from), blocking)),
             Err(refusal) => {
                 self.marked = self.marked || leaves_mark(refusal);
                 Err(refusal)

@@ -12,14 +12,16 @@ use Rattle.nio_event.specs.Histories.{mine, state_after}
 use Rattle.nio_event.specs.declared.act.Act.{Act}
 use Rattle.nio_event.specs.declared.event.Event.{Event}
 use Rattle.nio_plain.specs.Seq.Selections.{is_caller}
-use Rattle.nio_serial.specs.Documented.{Progress, Selecting}
+use Rattle.nio_serial.specs.Documented.{Progress, Selecting, nothing_yet}
 use Rattle.nio_serial.specs.Lines.{if_own}
 use Rattle.nio_sole.specs.Made.{HasMade}
-use Rattle.nio_sole.specs.Stands.{slot, selecting_of, progress_of, HasPlaces, Stands}
+use Rattle.nio_sole.proofs.Desks.{none_made}
+use Rattle.nio_sole.specs.Stands.{slot, selecting_of, group_of, pipes_of, progress_of, AreMade, HasPlaces, Stands}
 use Rattle.nio_sole.specs.declared.desk.Begun.{Begun}
 use Rattle.nio_sole.specs.declared.desk.Desk.{Desk}
 use Rattle.nio_sole.specs.declared.desk.Shut.{Shut}
 use Rattle.nio_words.specs.Passes.{IsPassOf, limits_of, seen}
+use Rattle.nio_words.specs.Views.{view}
 use Rattle.nio_words.specs.declared.words.Words.{Words}
 use Rattle.nio_race.specs.Race.{own_progress, own_selection_of}
 use Rattle.nio_race.specs.SetOff.{own_begun, other_begun, own_shut, other_shut, AddsRacer, AreRacers, AreSetOff, HasLeft, IsSetOffAt, MovedBelow, StoodAtGo, TakesOver}
@@ -93,16 +95,20 @@ module _ (w : Words) (d d' r : Desk) (n : CallerNo) (places : HasPlaces w d)
     (begun : MovedBelow (own_begun n) (other_begun n) (limits_of w).selectors d.selections.items d'.selections.items r.selections.items)
     (shut : MovedBelow (own_shut n) (other_shut n) (limits_of w).selectors d.closings.items d'.closings.items r.closings.items)
     (lens : (vec_len d'.selections ≡ (limits_of w).selectors) × (vec_len r.selections ≡ (limits_of w).selectors) × (vec_len d'.closings ≡ (limits_of w).selectors) × (vec_len r.closings ≡ (limits_of w).selectors)) where
-  pub moved_progress : progress_of r ≡ own_progress n (progress_of d)
-  moved_progress = λ i. record {
+  pub moved_progress : r.group ≡ None → r.pipes.items ≡ [] → progress_of r ≡ own_progress n (progress_of d)
+  moved_progress no_group no_pipes = λ i. record {
     selection = λ s. all_moved (own_begun n) (other_begun n) (limits_of w).selectors d.selections.items d'.selections.items r.selections.items begun (omega (arith, places.selections)) (option_map selecting_of) (own_selection_of n) (own-begun-part n) refl s i;
     closing = λ s. all_moved (own_shut n) (other_shut n) (limits_of w).selectors d.closings.items d'.closings.items r.closings.items shut (omega (arith, places.closings)) (option_map (λ x. x.caller)) (own_closing n) (own-shut-part n) refl s i;
+    group = group_of (no_group i);
+    pipes = pipes_of (no_pipes i);
   }
 
   pub left_progress : (m : CallerNo) → m ≢ n → own_progress m (progress_of d') ≡ own_progress m (progress_of d)
   left_progress m other = λ i. record {
     selection = λ s. all_left (own_begun n) (other_begun n) (limits_of w).selectors d.selections.items d'.selections.items r.selections.items begun (omega (arith, places.selections)) (option_map selecting_of) (own_selection_of m) (λ o. others-begun-part m n o other) s i;
     closing = λ s. all_left (own_shut n) (other_shut n) (limits_of w).selectors d.closings.items d'.closings.items r.closings.items shut (omega (arith, places.closings)) (option_map (λ x. x.caller)) (own_closing m) (λ o. others-shut-part m n o other) s i;
+    group = nothing_yet.group;
+    pipes = nothing_yet.pipes;
   }
 
   from_own : {A : Type 0} (b : Bool) (x y : A) → (if b then Some x else None) ≡ Some y → Some x ≡ Some y
@@ -132,8 +138,8 @@ module _ (w : Words) (d d' r : Desk) (n : CallerNo) (places : HasPlaces w d)
   nothing_moved : {A B : Type 0} (o : Option A) (x : A) → o ≡ None → o ≡ Some x → B
   nothing_moved o x none is = let clash : None ≡ Some x = sym none ∙ is in absurd cc
 
-  pub moved_places : HasPlaces w r
-  moved_places = record {
+  pub moved_places : r.pipes.items ≡ [] → HasPlaces w r
+  moved_places no_pipes = record {
     selections = lens.1;
     closings = lens.3;
     selects = λ s x is. ⊎_elim
@@ -144,10 +150,11 @@ module _ (w : Words) (d d' r : Desk) (n : CallerNo) (places : HasPlaces w d)
         (λ (below : s < (limits_of w).selectors). places.closes s x (shut_own _ x (sym (shut.moved s below) ∙ is)))
         (λ (past : (limits_of w).selectors ≤ s). nothing_moved _ x (shut.unmoved s past) is)
         (cases_lt s (limits_of w).selectors);
+    pipes = none_made no_pipes;
   }
 
-  pub left_places : HasPlaces w d'
-  left_places = record {
+  pub left_places : AreMade (view w d'.pass) d'.pipes.items → HasPlaces w d'
+  left_places made = record {
     selections = lens.0;
     closings = lens.2;
     selects = λ s x is. ⊎_elim
@@ -158,6 +165,7 @@ module _ (w : Words) (d d' r : Desk) (n : CallerNo) (places : HasPlaces w d)
         (λ (below : s < (limits_of w).selectors). places.closes s x (shut_other _ x (sym (shut.left s below) ∙ is)))
         (λ (past : (limits_of w).selectors ≤ s). places.closes s x (sym (shut.unleft s past) ∙ is))
         (cases_lt s (limits_of w).selectors);
+    pipes = made;
   }
 
 -- ---- what a caller made

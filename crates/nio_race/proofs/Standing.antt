@@ -20,7 +20,7 @@ use Rattle.nio_sole.proofs.Beginnings.{made_whole}
 use Rattle.nio_sole.proofs.Calls.{AreOn, Leads, leads_named, leads_line, leads_refused, leads_begin_memory, leads_keys_memory, leads_selected_memory, made_along}
 use Rattle.nio_sole.proofs.Lines.{line_of_named}
 use Rattle.nio_sole.specs.Made.{HasMade}
-use Rattle.nio_sole.specs.Makes.{Makes, MakesCall, Want, begin_unmade, begin_refused, told_unmade, keys_refused, keys_unsaid, selected_refused, selected_unsaid, word_of, want_plan}
+use Rattle.nio_sole.specs.Makes.{Makes, MakesCall, Want, begin_unmade, begin_refused, told_unmade, keys_refused, keys_unsaid, selected_refused, selected_unsaid, pipe_unmade, read_unmade, group_unmade, word_of, want_plan}
 use Rattle.nio_sole.specs.Stands.{HasPlaces, progress_of, selecting_of, slot}
 use Rattle.nio_sole.specs.declared.desk.Begun.{Begun}
 use Rattle.nio_sole.specs.declared.desk.Desk.{Desk}
@@ -89,6 +89,15 @@ wanted w d d' me r (selected_refused s) stands makes =
     stands_after_run w d d' me _ r stands (leads_named (limits_of w) me (progress_of d) (call.Selected s) _ (leads_selected_memory (limits_of w) me (progress_of d) s list_reply)) makes
 wanted w d d' me r (selected_unsaid s) stands makes =
     stands_after_run w d d' me _ r stands (leads_line (limits_of w) me (progress_of d) (call.Selected s) (are_on w d stands.places)) (made_line w d d' me (call.Selected s) r stands makes)
+wanted w d d' me r (pipe_unmade target) stands makes =
+    stands_after_run w d d' me _ r stands
+    (leads_named (limits_of w) me (progress_of d) (call.Pipe target) _ (leads_refused (limits_of w) me (progress_of d) reply.ChannelsSpent)) makes
+wanted w d d' me r (read_unmade c n) stands makes =
+    stands_after_run w d d' me _ r stands
+    (leads_named (limits_of w) me (progress_of d) (call.Pread c n) _ (leads_refused (limits_of w) me (progress_of d) reply.Busy)) makes
+wanted w d d' me r (group_unmade g) stands makes =
+    stands_after_run w d d' me _ r stands
+    (leads_named (limits_of w) me (progress_of d) (call.Group g) _ (leads_refused (limits_of w) me (progress_of d) reply.Busy)) makes
 
 -- after a line, made or not
 pub line_stands : (w : Words) (d d' : Desk) (me : CallerNo) (word : Call) (result : Result Reply AllocError) → StandsFor w d me

@@ -43,9 +43,9 @@ abbrev pub own_selection_of : CallerNo → Option Selecting → Option Selecting
 own_selection_of n None = None
 own_selection_of n (Some x) = if x.caller.0 == n.0 then Some x else None
 
--- what of this the caller has in progress
+-- What of this the caller has in progress. It makes no call on the group or on a pipe, and keeps none of them.
 abbrev pub own_progress : CallerNo → Progress → Progress
-own_progress n now = record {
+own_progress n now = record nothing_yet {
   selection = λ s. own_selection_of n (now.selection s);
   closing = λ s. if is_caller n (now.closing s) then now.closing s else None;
 }

@@ -58,6 +58,14 @@ is_busy reply.NoCaller = false
 is_busy reply.NoSelector = false
 is_busy reply.NoChannel = false
 is_busy reply.NoKey = false
+is_busy (reply.Ends source sink) = false
+is_busy (reply.Bytes bytes) = false
+is_busy reply.End = false
+is_busy reply.NotOwner = false
+is_busy reply.ClosedByInterrupt = false
+is_busy reply.AsyncClose = false
+is_busy reply.BrokenPipe = false
+is_busy (reply.Group answer) = false
 
 -- The line with this reply is made again: its call waits until nobody else holds the channel, and found that another
 -- caller does.
@@ -91,6 +99,10 @@ waits_for_hold (call.Keys s) r = false
 waits_for_hold (call.Selected s) r = false
 waits_for_hold (call.Interrupt target) r = false
 waits_for_hold call.Interrupted r = false
+waits_for_hold (call.Pipe target) r = false
+waits_for_hold (call.Pwrite c bytes) r = false
+waits_for_hold (call.Pread c n) r = false
+waits_for_hold (call.Group g) r = false
 
 abbrev pub is_made_again : Call → Said → Bool
 is_made_again word said = waits_for_hold word said.reply
@@ -132,6 +144,10 @@ wakes (call.Keys s) = false
 wakes (call.Selected s) = false
 wakes (call.Interrupt target) = true
 wakes call.Interrupted = false
+wakes (call.Pipe target) = false
+wakes (call.Pwrite c bytes) = false
+wakes (call.Pread c n) = false
+wakes (call.Group g) = false
 
 -- ---- `block`
 

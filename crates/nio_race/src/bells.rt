@@ -36,7 +36,11 @@ pub(crate) fn wakes(call: &Call) -> bool
         | Call::CloseEnd(..)
         | Call::Keys(..)
         | Call::Selected(..)
-        | Call::Interrupted => false,
+        | Call::Interrupted
+        | Call::Pipe(..)
+        | Call::Pwrite(..)
+        | Call::Pread(..)
+        | Call::Group(..) => false,
     }
 }
 

@@ -86,7 +86,11 @@ fn waits_for_hold(call: &Call, reply: &Reply) -> bool
         | Call::Keys(..)
         | Call::Selected(..)
         | Call::Interrupt(..)
-        | Call::Interrupted => false,
+        | Call::Interrupted
+        | Call::Pipe(..)
+        | Call::Pwrite(..)
+        | Call::Pread(..)
+        | Call::Group(..) => false,
     }
 }
 
@@ -125,6 +129,14 @@ fn is_busy(reply: &Reply) -> bool
         | Reply::NoCaller
         | Reply::NoSelector
         | Reply::NoChannel
-        | Reply::NoKey => false,
+        | Reply::NoKey
+        | Reply::Ends(..)
+        | Reply::Bytes(..)
+        | Reply::End
+        | Reply::NotOwner
+        | Reply::ClosedByInterrupt
+        | Reply::AsyncClose
+        | Reply::BrokenPipe
+        | Reply::Group(..) => false,
     }
 }

@@ -67,6 +67,8 @@ fn set_off_one(
                     pass,
                     selections,
                     closings,
+                    group: None,
+                    pipes: Vec::new(alloc),
                 },
                 sleeper,
                 replies,

@@ -2,23 +2,18 @@
 use Rattle.std.proofs.Common.{◌≡◌, ℕ, ◌<◌, ◌≤◌, nat_lt, Bool, true, false, if◌then◌else◌, Option, List, [], Result, Ok, Err, refl, sym, ap, ◌∙◌, subst, eqb-true, eq-eqb}
 use Rattle.std.proofs.Math.Bool.{Bool-set}
 use Rattle.std.proofs.Math.Logic.{∥∥₁_elim, ∥∥₁_map, ∥∥₁_map₂}
-use Rattle.std.proofs.Math.Nat.{ℕ_set}
 use Rattle.std.proofs.lemmas.Bool.{lt-ltb, le-ltb}
 use Rattle.std.proofs.lemmas.List.{append-nil}
 use Rattle.std.specs.Int.{bit_at}
 use Rattle.std.specs.declared.alloc.AllocError.{AllocError}
-use mathlib.Core.List as lists
-use mathlib.Core.Sum.{⊎_set}
 use Rattle.nio_base.specs.Limits.{IsFit}
 use Rattle.nio_base.specs.declared.limits.Limits.{Limits}
 use Rattle.nio_base.specs.declared.numbers.CallerNo.{CallerNo}
-use Rattle.nio_base.specs.declared.numbers.KeyId.{KeyId}
 use Rattle.nio_event.specs.Histories.{mine}
 use Rattle.nio_event.specs.PassViews.{PassView, ActsClause, HasNoPin, done_between, known}
 use Rattle.nio_event.specs.declared.act.Act.{Act}
 use Rattle.nio_event.specs.declared.call.Call.{Call}
 use Rattle.nio_event.specs.declared.call.Call.TheVariants as call
-use Rattle.nio_event.specs.declared.found.Mode.{Mode}
 use Rattle.nio_event.specs.declared.reply.Reply.{Reply}
 use Rattle.nio_event.specs.declared.reply.Reply.TheVariants as reply
 use Rattle.nio_plain.specs.ScriptState.{ScriptState}
@@ -34,8 +29,9 @@ use Rattle.nio_sole.proofs.Calls.{Leads, leads_named, leads_refused, leads_begin
 use Rattle.nio_sole.proofs.Lines.{AreBetween, line_of_named, line_stands, named-rests, keys-same, selected-same}
 use Rattle.nio_sole.proofs.Memory.{stays_along, begin_memory_stays, keys_memory_stays, selected_memory_stays}
 use Rattle.nio_sole.proofs.Others.{call_made}
+use Rattle.nio_sole.proofs.ValueSets.{reply_set, script_set}
 use Rattle.nio_sole.specs.Made.{HasMade}
-use Rattle.nio_sole.specs.Makes.{Makes, MakesCall, Lacks, Want, begin_unmade, begin_refused, told_unmade, keys_refused, keys_unsaid, selected_refused, selected_unsaid, word_of, want_plan}
+use Rattle.nio_sole.specs.Makes.{Makes, MakesCall, Lacks, Want, begin_unmade, begin_refused, told_unmade, keys_refused, keys_unsaid, selected_refused, selected_unsaid, pipe_unmade, read_unmade, group_unmade, word_of, want_plan}
 use Rattle.nio_sole.specs.Said.{state_at, SaysLine}
 use Rattle.nio_sole.specs.Stands.{progress_of, Stands}
 use Rattle.nio_sole.specs.declared.desk.Desk.{Desk}
@@ -46,26 +42,6 @@ use Rattle.nio_words.specs.Passes.{IsPassOf, IsReady, limits_of, numbers_of, see
 use Rattle.nio_words.specs.Views.{view}
 use Rattle.nio_words.specs.declared.words.Pass.{Pass}
 use Rattle.nio_words.specs.declared.words.Words.{Words}
-
--- ---- what is said between two lines has one proof
-
-option_set : {A : Type 0} → IsSet A → IsSet (Option A)
-option_set set = hlevel (set, ⊎_set)
-
-key_id_set : IsSet KeyId
-key_id_set = hlevel ℕ_set
-
-pairs_set : IsSet (List (KeyId × ℕ))
-pairs_set = lists.is_set (hlevel (key_id_set, ℕ_set))
-
-mode_set : IsSet Mode
-mode_set = hlevel (ℕ_set, ⊎_set)
-
-reply_set : IsSet Reply
-reply_set = hlevel (ℕ_set, ⊎_set, pairs_set, lists.is_set key_id_set)
-
-script_set : IsSet ScriptState
-script_set = hlevel (ℕ_set, Bool-set, ⊎_set, option_set, mode_set, pairs_set)
 
 -- ---- before a line
 
@@ -186,6 +162,9 @@ module _ (me : CallerNo) (now : Progress) (v0 v1 : PassView) (fit : IsFit v0.lim
       rested me now _ v0 v1 said (leads_named v0.limits me now (call.Selected s) _ (leads_selected_memory v0.limits me now s list_reply)) only before run left
       (selected_memory_stays me now s v0 v1 only list_reply said run)
   wanted (selected_unsaid s) run = unsaid (call.Selected s) (selected-same v0.limits (documented (known v0) now) me s) run
+  wanted (pipe_unmade target) run = unmade (call.Pipe target) reply.ChannelsSpent run
+  wanted (read_unmade c n) run = unmade (call.Pread c n) reply.Busy run
+  wanted (group_unmade g) run = unmade (call.Group g) reply.Busy run
 
 lacks_said : (w : Words) (d d' : Desk) (me : CallerNo) (word : Call) (e : AllocError) → Stands w d → nat_lt me.0 (limits_of w).callers ≡ true
     → Lacks (if_named (limits_of w) (progress_of d) word) w d d' me word → SaysLine w d d' me word (Err e)

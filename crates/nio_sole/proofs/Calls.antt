@@ -2,6 +2,7 @@
 use Rattle.std.proofs.Common.{◌≡◌, ℕ, ◌==◌, nat_lt, Bool, true, false, ◌||◌, if◌then◌else◌, Option, Some, None, Result, Ok, Err, List, [], ◌∷◌, ◌++◌, refl, ap, sym, ◌∙◌, subst, append_assoc, eqb-true, eq-eqb, ◌⊎◌, inl, inr}
 use Rattle.std.specs.Prelude.{◌≢◌, is_some, is_ok}
 use Rattle.std.proofs.lemmas.List.{append-nil}
+use Rattle.nio_base.specs.declared.kind.Kind.TheVariants.{Source, Sink}
 use Rattle.nio_base.specs.declared.limits.Limits.{Limits}
 use Rattle.nio_base.specs.declared.numbers.CallerNo.{CallerNo}
 use Rattle.nio_base.specs.declared.numbers.ChanNo.{ChanNo}
@@ -21,14 +22,16 @@ use Rattle.nio_event.specs.declared.reply.Reply.{Reply}
 use Rattle.nio_event.specs.declared.reply.Reply.TheVariants as reply
 use Rattle.nio_orderly.proofs.CallLists.{one_call_more}
 use Rattle.nio_orderly.proofs.ListWords.{has-first, has-second}
-use Rattle.nio_orderly.specs.Made.{Made, IsRun, Ongoing, nothing_ongoing, after_call, after_calls, MayCome, find_selector, find_channel, find, is_valid, interest, set_interest, interest_or, interest_and, ready, cancel, unselect, attach, attachment, open_channel, is_open, is_blocking, is_registered, key_for, try_set_blocking, try_register, close_channel, open_selector, try_begin, told, leave, shut, try_finish, keys, selected_keys, wakeup, interrupt, interrupted}
+use Rattle.nio_orderly.specs.Made.{Made, IsRun, Ongoing, nothing_ongoing, after_call, after_calls, MayCome, find_selector, find_channel, find, is_valid, interest, set_interest, interest_or, interest_and, ready, cancel, unselect, attach, attachment, open_channel, is_open, is_blocking, is_registered, key_for, try_set_blocking, try_register, close_channel, open_selector, try_begin, told, leave, shut, try_finish, keys, selected_keys, wakeup, interrupt, interrupted, pipe, try_read, try_write}
 use Rattle.nio_plain.specs.Seq.Answers.{yes_or_no}
+use Rattle.nio_plain.specs.Seq.Grouping.{group_reply, group_left}
 use Rattle.nio_plain.specs.Seq.Registering.{given_or_none}
 use Rattle.nio_plain.specs.Seq.Selections.{mode_of, is_caller}
 use Rattle.nio_serial.specs.Between.{IsBetween}
 use Rattle.nio_serial.specs.Documented.{Progress, Selecting}
-use Rattle.nio_serial.specs.Lines.{Said, makes, asks, refused, with_selection, with_closing, if_own, own_selection, after_begin, after_told, after_shut, after_finish, begin_line, by_index, told_line, failed_line, close_end_line, call_plan, if_caller, if_found, if_selector, if_channel, if_key, if_named, line_plan}
-use Rattle.nio_serial.specs.Replies.{find_reply, set_reply, put_reply, channel_reply, mode_reply, register_reply, closed_reply, selector_reply, begin_reply, told_reply, shut_reply, finish_reply, list_reply}
+use Rattle.nio_serial.specs.Lines.{Said, makes, asks, refused, with_selection, with_closing, if_own, own_selection, after_begin, after_told, after_shut, after_finish, begin_line, by_index, told_line, failed_line, close_end_line, read_line, write_line, call_plan, if_caller, if_found, if_selector, if_channel, if_key, if_named, line_plan}
+use Rattle.nio_serial.specs.PipeLines.{own_source, own_sink, pipe_at, with_mark, with_pipe, after_pipe, read_gives, write_gives}
+use Rattle.nio_serial.specs.Replies.{ends_reply, find_reply, set_reply, put_reply, channel_reply, mode_reply, register_reply, closed_reply, selector_reply, begin_reply, told_reply, shut_reply, finish_reply, list_reply}
 use Rattle.nio_sole.specs.Made.{IsOngoing, HasMade}
 use Rattle.nio_sole.specs.MadeLaws.{LinesAreCalls}
 use Rattle.nio_steps.proofs.EachLaws.{each_run, split}
@@ -37,13 +40,16 @@ use Rattle.nio_steps.proofs.Walks.{Always, always_weaker, always_bind, always_if
 use Rattle.nio_steps.specs.ChannelCalls.{open_channel_plan, is_open_plan, is_blocking_plan, is_registered_plan, key_for_plan, try_set_blocking_plan, try_register_plan, close_channel_plan}
 use Rattle.nio_steps.specs.KeyCalls.{find_selector_plan, find_channel_plan, find_plan, is_valid_plan, interest_plan, set_interest_plan, interest_or_plan, interest_and_plan, ready_plan, cancel_plan, unselect_plan, attach_plan, attachment_plan}
 use Rattle.nio_steps.specs.Names.{selector, key}
+use Rattle.nio_steps.specs.PipeCalls.{PipeEnds, pipe_lacks_memory, pipe_plan, try_read_plan, try_write_plan, with_sink, with_source, without_sink}
 use Rattle.nio_steps.specs.Plan.{Plan, ◌>>=◌}
 use Rattle.nio_steps.specs.Runs.{Follows, Completes}
 use Rattle.nio_steps.specs.SelectCalls.{Selection, open_selector_plan, try_begin_plan, begin_lacks_memory, begin_open, begin_with_turn, given_back, list_below, look_over, told_plan, mark_entry, after_marks, Poll, ToldReply, done, again, leave_plan, shut_plan, ShutReply, closing, already_closed, try_finish_plan, FinishReply, closed, busy, keys_plan, selected_keys_plan, list_lacks_memory, list_plan, list_open, list_key, list_selected, wakeup_plan, interrupt_plan, interrupted_plan}
 use Rattle.nio_steps.specs.Steps.{flag_in, gate_in, holder_in, number_in}
 use Rattle.nio_steps.specs.Sweeps.{sweep_over, sweep_to}
 use Rattle.nio_steps.specs.declared.refusal.BeginError.{BeginError}
+use Rattle.nio_steps.specs.declared.refusal.ChannelError.{ChannelError}
 use Rattle.nio_steps.specs.declared.refusal.ListError.{ListError}
+use Rattle.nio_steps.specs.declared.refusal.PipeMakeError.{PipeMakeError}
 
 -- ---- what another caller has in progress
 
@@ -94,6 +100,32 @@ leaves_then n now middle left xs ys first second = record {
     closings s (inl same) (inl same') = inl (same' ∙ same)
     closings s (inr from) (inl same') = inr (record { shut_so = has-first (shuts s) xs ys from.shut_so; none = same' ∙ from.none })
     closings s _ (inr from) = inr (record { shut_so = has-second (shuts s) xs ys from.shut_so; none = from.none })
+
+-- ---- what stands beside the table
+
+-- what is left shows the same selections and closings in progress: the group and the pipes may be others
+pub record IsBeside (now left : Progress) : Type 0 where
+  pub selection : left.selection ≡ now.selection
+  pub closing : left.closing ≡ now.closing
+
+ongoing_beside : (n : CallerNo) (now left : Progress) (ongoing : Ongoing) → IsBeside now left → IsOngoing n now ongoing → IsOngoing n left ongoing
+ongoing_beside n now left ongoing beside at = record {
+  selection = λ s. at.selection s ∙ ap (λ (f : ℕ → Option Selecting). if_own n (f s)) (sym beside.selection);
+  closes = λ s. at.closes s ∙ ap (λ (f : ℕ → Option CallerNo). is_caller n (f s)) (sym beside.closing);
+}
+
+pub made_beside : (l : Limits) (own : List Act) (n : CallerNo) (now left : Progress) → IsBeside now left → HasMade l own n now → HasMade l own n left
+made_beside l own n now left beside made = record {
+  calls = made.calls;
+  are = made.are;
+  ongoing = ongoing_beside n now left (after_calls nothing_ongoing made.calls) beside made.ongoing;
+}
+
+leaves_beside : (n : CallerNo) (now left : Progress) (acts : List Act) → IsBeside now left → LeavesTo n now acts left
+leaves_beside n now left acts beside = record {
+  selection = λ s. inl (ap (λ (f : ℕ → Option Selecting). if_own n (f s)) beside.selection);
+  closes = λ s. inl (ap (λ (f : ℕ → Option CallerNo). is_caller n (f s)) beside.closing);
+}
 
 -- ---- one call more
 
@@ -319,6 +351,44 @@ list_has_memory list_one s = λ gate asks. always_if (λ _ r. list_lacks_memory 
     (λ _ looked asks'. let bound = number_in (answer_of looked) in
     always_bind anything (λ _ r. list_lacks_memory r ≡ false) (sweep_to bound 0 (list_one s) []) _ (always_any _) (λ _ _ _. refl))
 
+-- ---- making a pipe
+
+abbrev has_memory : {R : Type 0} → List Act → Result R PipeMakeError → Type 0
+has_memory acts answer = pipe_lacks_memory answer ≡ false
+
+without_sink_memory : (l : Limits) (source : ChanNo) → Always has_memory (without_sink l source)
+without_sink_memory l source =
+    always_bind anything has_memory (close_channel_plan l source) _ (always_any (close_channel_plan l source)) (λ _ _ _. refl)
+
+sink_memory : (l : Limits) (source : ChanNo) (answer : Result ChanNo ChannelError) → Always has_memory (with_sink l source answer)
+sink_memory l source (Ok sink) = refl
+sink_memory l source (Err ChannelError.ChannelsSpent) = without_sink_memory l source
+sink_memory l source (Err ChannelError.IllegalOps) = without_sink_memory l source
+sink_memory l source (Err ChannelError.ClosedChannel) = without_sink_memory l source
+sink_memory l source (Err ChannelError.Busy) = without_sink_memory l source
+sink_memory l source (Err ChannelError.IllegalBlockingMode) = without_sink_memory l source
+sink_memory l source (Err ChannelError.CancelledKey) = without_sink_memory l source
+sink_memory l source (Err ChannelError.ClosedSelector) = without_sink_memory l source
+sink_memory l source (Err ChannelError.Full) = without_sink_memory l source
+
+source_memory : (l : Limits) (answer : Result ChanNo ChannelError) → Always has_memory (with_source l answer)
+source_memory l (Ok source) =
+    always_bind anything has_memory (open_channel_plan l Sink) (with_sink l source) (always_any (open_channel_plan l Sink)) (λ _ answer _. sink_memory l source answer)
+source_memory l (Err ChannelError.ChannelsSpent) = refl
+source_memory l (Err ChannelError.IllegalOps) = refl
+source_memory l (Err ChannelError.ClosedChannel) = refl
+source_memory l (Err ChannelError.Busy) = refl
+source_memory l (Err ChannelError.IllegalBlockingMode) = refl
+source_memory l (Err ChannelError.CancelledKey) = refl
+source_memory l (Err ChannelError.ClosedSelector) = refl
+source_memory l (Err ChannelError.Full) = refl
+
+-- the making of a pipe that has memory doesn't answer that it lacks it
+pipe_has_memory : (l : Limits) → Always has_memory (pipe_plan l false)
+unfolding pipe_plan
+pipe_has_memory l =
+    always_bind anything has_memory (open_channel_plan l Source) (with_source l) (always_any (open_channel_plan l Source)) (λ _ answer _. source_memory l answer)
+
 -- ---- want of memory
 
 -- a branch of a plan that was taken
@@ -535,6 +605,62 @@ module _ (l : Limits) (me : CallerNo) (now : Progress) where
       quiet l me now ongoing (selected_keys s a) acts
       (subst (λ b. Completes (list_plan list_selected s b) acts a) (sym (always_run (λ _ r. list_lacks_memory r ≡ false) (list_plan list_selected s false) acts a (list_has_memory list_selected s) run)) run) tt at)
 
+  -- ---- what stands beside the table
+
+  -- what is left shows the same selections and closings in progress
+  leads_beside : (r : Reply) (left : Progress) → IsBeside now left → Leads l me now (Plan.reply (record { reply = r; left = left }))
+  leads_beside r left beside = record {
+    always = λ own made. record {
+      made = subst (λ acts. HasMade l acts me left) (sym (append-nil own)) (made_beside l own me now left beside made);
+      others = λ n _. leaves_beside n now left [] beside;
+    };
+  }
+
+  -- a call that leaves so what is in progress
+  leads_leaving : {R : Type 0} (plan : Plan R) (call : R → Made) (said : R → Reply) (left : R → Progress) → ((a : R) → IsBeside now (left a))
+      → ((ongoing : Ongoing) (acts : List Act) (a : R) → Completes plan acts a → IsOngoing me now ongoing → Comes l me now ongoing (call a) acts now)
+      → Leads l me now (makes plan said left)
+  leads_leaving plan call said left beside comes =
+      leads_call l me now plan call left _
+      (λ ongoing acts a run at.
+      let here = comes ongoing acts a run at in
+      record {
+        run = here.run;
+        may = here.may;
+        after = ongoing_beside me now (left a) (after_call ongoing (call a)) (beside a) here.after;
+        others = λ n _. leaves_beside n now (left a) acts (beside a);
+      })
+      (λ a. leads_answer l me (left a) (said a))
+
+  leads_pipe : (target : CallerNo) → Leads l me now (makes (pipe_plan l false) ends_reply (after_pipe now me target))
+  leads_pipe target =
+      leads_leaving (pipe_plan l false) (λ a. pipe a) ends_reply (after_pipe now me target) beside
+      (λ o acts a run at. quiet l me now o (pipe a) acts (makes_pipe acts a run) tt at)
+    where
+      beside : (a : Result PipeEnds PipeMakeError) → IsBeside now (after_pipe now me target a)
+      beside (Ok ends) = record { selection = refl; closing = refl }
+      beside (Err refusal) = record { selection = refl; closing = refl }
+
+      makes_pipe : (acts : List Act) (a : Result PipeEnds PipeMakeError) → Completes (pipe_plan l false) acts a → IsRun l (pipe a) acts
+      makes_pipe acts a run =
+          subst (λ b. Completes (pipe_plan l b) acts a)
+          (sym (always_run (λ _ r. pipe_lacks_memory r ≡ false) (pipe_plan l false) acts a (pipe_has_memory l) run)) run
+
+  leads_read : (c : ChanNo) (n : ℕ) (place : Option ℕ) → Leads l me now (read_line l now c n place)
+  leads_read c n None = leads_refused l me now _
+  leads_read c n (Some i) =
+      leads_leaving (try_read_plan l c) (λ a. try_read c a) (λ a. (read_gives n (pipe_at now i) a).reply)
+      (λ a. with_pipe now i (read_gives n (pipe_at now i) a).left) (λ _. record { selection = refl; closing = refl })
+      (λ o acts a run at. quiet l me now o (try_read c a) acts run tt at)
+
+  leads_write : (c : ChanNo) (bytes : List ℕ) (place : Option ℕ) → Leads l me now (write_line l now c bytes place)
+  leads_write c bytes None = leads_refused l me now _
+  leads_write c bytes (Some i) =
+      let source = (pipe_at now i).source in
+      leads_leaving (try_write_plan l source c) (λ a. try_write source c a) (λ a. (write_gives bytes (pipe_at now i) a).reply)
+      (λ a. with_pipe now i (write_gives bytes (pipe_at now i) a).left) (λ _. record { selection = refl; closing = refl })
+      (λ o acts a run at. quiet l me now o (try_write source c a) acts run tt at)
+
   -- the call of a line
   leads_plan : (word : Call) → AreOn now → Leads l me now (call_plan l now me word)
   unfolding call_plan
@@ -548,7 +674,9 @@ module _ (l : Limits) (me : CallerNo) (now : Progress) where
   leads_plan (call.Register s c ops att) on =
       leads_ask (try_register_plan l s c ops (given_or_none att)) (λ a. try_register s c ops (given_or_none att) a) register_reply
       (λ o acts a run at. quiet l me now o (try_register s c ops (given_or_none att) a) acts run tt at)
-  leads_plan (call.Closec c) on = leads_ask (close_channel_plan l c) (λ a. close_channel c a) closed_reply (λ o acts a run at. quiet l me now o (close_channel c a) acts run tt at)
+  leads_plan (call.Closec c) on =
+      leads_leaving (close_channel_plan l c) (λ a. close_channel c a) closed_reply (λ _. with_mark now (own_sink now me c)) (λ _. record { selection = refl; closing = refl })
+      (λ o acts a run at. quiet l me now o (close_channel c a) acts run tt at)
   leads_plan (call.Valid s k) on = leads_ask (is_valid_plan (key s k)) (λ a. is_valid (key s k) a) yes_or_no (λ o acts a run at. quiet l me now o (is_valid (key s k) a) acts run tt at)
   leads_plan (call.Interest s k) on = leads_ask (interest_plan (key s k)) (λ a. interest (key s k) a) set_reply (λ o acts a run at. quiet l me now o (interest (key s k) a) acts run tt at)
   leads_plan (call.Ready s k) on = leads_ask (ready_plan (key s k)) (λ a. ready (key s k) a) set_reply (λ o acts a run at. quiet l me now o (ready (key s k) a) acts run tt at)
@@ -570,6 +698,11 @@ module _ (l : Limits) (me : CallerNo) (now : Progress) where
   leads_plan (call.Selected s) on = leads_selected s
   leads_plan (call.Interrupt target) on = leads_ask (interrupt_plan target) (λ _. interrupt target) (λ _. reply.«Ok») (λ o acts a run at. quiet l me now o (interrupt target) acts run tt at)
   leads_plan call.Interrupted on = leads_ask interrupted_plan (λ a. interrupted a) yes_or_no (λ o acts a run at. quiet l me now o (interrupted a) acts run tt at)
+  leads_plan (call.Pipe target) on = leads_pipe target
+  leads_plan (call.Pwrite c bytes) on = leads_write c bytes (own_sink now me c)
+  leads_plan (call.Pread c n) on = leads_read c n (own_source now me c)
+  leads_plan (call.Group g) on =
+      leads_beside (group_reply now.group g) (record now { group = group_left now.group g }) (record { selection = refl; closing = refl })
 
   -- ---- the look-ups
 
@@ -626,6 +759,10 @@ module _ (l : Limits) (me : CallerNo) (now : Progress) where
   leads_named (call.Selected s) plan later = leads_selector s plan later
   leads_named (call.Interrupt target) plan later = leads_caller target plan later
   leads_named call.Interrupted plan later = later
+  leads_named (call.Pipe target) plan later = leads_caller target plan later
+  leads_named (call.Pwrite c bytes) plan later = leads_channel c plan later
+  leads_named (call.Pread c n) plan later = leads_channel c plan later
+  leads_named (call.Group g) plan later = later
 
   -- a whole line
   pub leads_line : (word : Call) → AreOn now → Leads l me now (line_plan l now me word)

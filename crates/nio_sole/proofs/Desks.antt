@@ -2,11 +2,16 @@
 use Rattle.std.proofs.Common.{◌≡◌, ℕ, zero, suc, ◌+◌, ◌<◌, [], ◌∷◌, ◌++◌, Option, Some, None, List, length, set, refl, sym, ap, ◌∙◌, subst, ⊎_elim, arith, vec_len, true, false, Bool, ◌==◌, if◌then◌else◌, eq-eqb, eqb-true}
 use Rattle.std.proofs.lemmas.Bool.{cases_eq}
 use Rattle.std.proofs.lemmas.List.{get_or-set_same, get_or-set_other, length-set}
+use Rattle.std.proofs.lemmas.List.Elements.{All-nil, All-weaker}
 use Rattle.std.specs.Prelude.{option_map, Vec}
 use Rattle.std.specs.declared.alloc.Global.{Global}
+use Rattle.nio_channel.proofs.Idle.{channel_same}
+use Rattle.nio_event.proofs.PassViews.{channel_after}
 use Rattle.nio_event.specs.PassViews.{PassView}
 use Rattle.nio_event.specs.State.{put}
+use Rattle.nio_event.specs.declared.act.Act.{Act}
 use Rattle.nio_event.specs.declared.reply.Reply.{Reply}
+use Rattle.nio_pipe.specs.Calls.{HasEnds}
 use Rattle.nio_base.specs.declared.numbers.CallerNo.{CallerNo}
 use Rattle.nio_base.specs.declared.numbers.SelNo.{SelNo}
 use Rattle.nio_plain.proofs.Places.{put_is, put-elsewhere}
@@ -14,15 +19,17 @@ use Rattle.nio_plain.specs.Seq.Selections.{is_caller}
 use Rattle.nio_serial.specs.Documented.{Progress, Selecting}
 use Rattle.nio_serial.specs.Lines.{Said, if_own, with_closing, with_selection}
 use Rattle.nio_sole.specs.Drawn.{AreEmpty}
-use Rattle.nio_sole.specs.Stands.{slot, selecting_of, selections_of, closings_of, progress_of, HasPlaces}
+use Rattle.nio_sole.specs.Stands.{slot, selecting_of, selections_of, closings_of, progress_of, AreMade, HasPlaces}
 use Rattle.nio_sole.specs.declared.desk.Begun.{Begun}
 use Rattle.nio_sole.specs.declared.desk.Desk.{Desk}
+use Rattle.nio_sole.specs.declared.desk.OwnedPipe.{OwnedPipe}
 use Rattle.nio_sole.specs.declared.desk.Shut.{Shut}
 use Rattle.nio_steps.specs.Calls.{CallClause}
 use Rattle.nio_steps.specs.Plan.{Plan}
 use Rattle.nio_steps.specs.Runs.{Completes}
 use Rattle.nio_steps.specs.SelectCalls.{Selection}
-use Rattle.nio_words.specs.Passes.{limits_of}
+use Rattle.nio_words.specs.Passes.{limits_of, seen}
+use Rattle.nio_words.specs.Views.{view}
 use Rattle.nio_words.specs.declared.words.Pass.{Pass}
 use Rattle.nio_words.specs.declared.words.Words.{Words}
 
@@ -51,9 +58,36 @@ places_put at xs s y below others here n x is =
 pub some_is : {A : Type 0} {x y : A} → Some y ≡ Some x → x ≡ y
 some_is same = cc
 
--- another pass has the same places
-pub places_same : {w : Words} {d : Desk} (p : Pass) → HasPlaces w d → HasPlaces w (record d { pass = p })
-places_same p places = record { selections = places.selections; closings = places.closings; selects = places.selects; closes = places.closes }
+-- the channels of the pipes are made still after a call
+pub still_made : {R : Type 0} {Shape : List Act → R → Type 0} {w : Words} {d : Desk} {me : CallerNo} {answer : R}
+    (q : Pass) → HasPlaces w d → CallClause me Shape (view w d.pass) (view w q) answer → AreMade (view w q) d.pipes.items
+still_made {w = w} {d = d} q places call =
+    All-weaker (λ (x : OwnedPipe). HasEnds (view w d.pass) x.pipe.source x.pipe.sink)
+    (λ (x : OwnedPipe). HasEnds (view w q) x.pipe.source x.pipe.sink)
+    (λ x ends. record { source = channel_after call.acts ends.source; sink = channel_after call.acts ends.sink })
+    d.pipes.items places.pipes
+
+-- and for another pass that has seen the same
+pub made_for : (w : Words) (p q : Pass) (pipes : List OwnedPipe) → seen q ≡ seen p → AreMade (view w p) pipes → AreMade (view w q) pipes
+made_for w p q pipes same made =
+    All-weaker (λ (x : OwnedPipe). HasEnds (view w p) x.pipe.source x.pipe.sink)
+    (λ (x : OwnedPipe). HasEnds (view w q) x.pipe.source x.pipe.sink)
+    (λ x ends. record { source = channel_same w p q same ends.source; sink = channel_same w p q same ends.sink })
+    pipes made
+
+pub none_made : {pass : PassView} {pipes : List OwnedPipe} → pipes ≡ [] → AreMade pass pipes
+none_made {pass = pass} none = subst (AreMade pass) (sym none) (All-nil (λ (x : OwnedPipe). HasEnds pass x.pipe.source x.pipe.sink))
+
+-- after a call the places are the same
+pub places_same : {R : Type 0} {Shape : List Act → R → Type 0} {w : Words} {d : Desk} {me : CallerNo} {answer : R}
+    (q : Pass) → CallClause me Shape (view w d.pass) (view w q) answer → HasPlaces w d → HasPlaces w (record d { pass = q })
+places_same q call places = record {
+  selections = places.selections;
+  closings = places.closings;
+  selects = places.selects;
+  closes = places.closes;
+  pipes = still_made q places call;
+}
 
 -- ---- what a line leaves
 
@@ -80,12 +114,13 @@ progress_closing w d p s closings place places inside items =
 
 pub places_closing : (w : Words) (d : Desk) (p : Pass) (s : SelNo) (closings : Vec (Option Shut) Global) (place : Option Shut) → HasPlaces w d → s.0 < (limits_of w).selectors
     → closings.items ≡ set d.closings.items s.0 place → vec_len closings ≡ vec_len d.closings → ((x : Shut) → place ≡ Some x → x.closing.0 ≡ s.0)
-    → HasPlaces w (with_closings_in d p closings)
-places_closing w d p s closings place places inside items len on = record {
+    → AreMade (view w p) d.pipes.items → HasPlaces w (with_closings_in d p closings)
+places_closing w d p s closings place places inside items len on made = record {
   selections = places.selections;
   closings = len ∙ places.closings;
   selects = places.selects;
   closes = λ n x is. places_put (λ (x : Shut). x.closing.0) d.closings.items s.0 place (omega (arith, places.closings)) places.closes on n x (sym (ap (λ xs. slot xs n) items) ∙ is);
+  pipes = made;
 }
 
 -- ---- a selection is put into its place, or taken out
@@ -101,12 +136,13 @@ progress_selection w d p s selections place places inside items =
 
 pub places_selection : (w : Words) (d : Desk) (p : Pass) (s : SelNo) (selections : Vec (Option Begun) Global) (place : Option Begun) → HasPlaces w d → s.0 < (limits_of w).selectors
     → selections.items ≡ set d.selections.items s.0 place → vec_len selections ≡ vec_len d.selections → ((x : Begun) → place ≡ Some x → x.selection.selector.0 ≡ s.0)
-    → HasPlaces w (with_selections_in d p selections)
-places_selection w d p s selections place places inside items len on = record {
+    → AreMade (view w p) d.pipes.items → HasPlaces w (with_selections_in d p selections)
+places_selection w d p s selections place places inside items len on made = record {
   selections = len ∙ places.selections;
   closings = places.closings;
   selects = λ n x is. places_put (λ (x : Begun). x.selection.selector.0) d.selections.items s.0 place (omega (arith, places.selections)) places.selects on n x (sym (ap (λ xs. slot xs n) items) ∙ is);
   closes = places.closes;
+  pipes = made;
 }
 
 -- ---- a closing that stands in its place
@@ -117,13 +153,14 @@ its_selector same = ap (λ n. record { 0 = n }) same
 pub own_closing : (me : CallerNo) (place : Option Shut) {x : SelNo} → place ≡ Some (record { caller = me; closing = x }) → is_caller me (option_map (λ y. y.caller) place) ≡ true
 own_closing me place is = ap (λ y. is_caller me (option_map (λ z. z.caller) y)) is ∙ eq-eqb me.0 me.0 refl
 
-pub places_taken : {w : Words} {d : Desk} {p : Pass} {closings : Vec (Option Shut) Global} → HasPlaces w d → closings.items ≡ d.closings.items → vec_len closings ≡ vec_len d.closings
-    → HasPlaces w (with_closings_in d p closings)
+pub places_taken : {w : Words} {d : Desk} {closings : Vec (Option Shut) Global} → HasPlaces w d → closings.items ≡ d.closings.items → vec_len closings ≡ vec_len d.closings
+    → HasPlaces w (with_closings_in d d.pass closings)
 places_taken places items len = record {
   selections = places.selections;
   closings = len ∙ places.closings;
   selects = places.selects;
   closes = λ n x is. places.closes n x (sym (ap (λ xs. slot xs n) items) ∙ is);
+  pipes = places.pipes;
 }
 
 -- what was taken out is put back
@@ -143,20 +180,21 @@ nothing_there is = absurd cc
 
 pub places_put_back : (w : Words) (d : Desk) (p : Pass) (s : SelNo) (taken after : Vec (Option Shut) Global) (y : Shut) → HasPlaces w d → s.0 < (limits_of w).selectors
     → taken.items ≡ set d.closings.items s.0 None → vec_len taken ≡ vec_len d.closings → after.items ≡ set taken.items s.0 (Some y) → vec_len after ≡ vec_len taken → y.closing.0 ≡ s.0
-    → HasPlaces w (with_closings_in d p after)
-places_put_back w d p s taken after y places inside items len items' len' on =
-    let middle : HasPlaces w (with_closings_in d p taken) = places_closing w d p s taken None places inside items len (λ x is. nothing_there is) in
-    places_closing w (with_closings_in d p taken) p s after (Some y) middle inside items' len' (λ x is. ap (λ (z : Shut). z.closing.0) (some_is is) ∙ on)
+    → AreMade (view w p) d.pipes.items → HasPlaces w (with_closings_in d p after)
+places_put_back w d p s taken after y places inside items len items' len' on made =
+    let middle : HasPlaces w (with_closings_in d p taken) = places_closing w d p s taken None places inside items len (λ x is. nothing_there is) made in
+    places_closing w (with_closings_in d p taken) p s after (Some y) middle inside items' len' (λ x is. ap (λ (z : Shut). z.closing.0) (some_is is) ∙ on) made
 
 -- ---- a selection that stood in its place
 
-pub places_selection_taken : {w : Words} {d : Desk} {p : Pass} {selections : Vec (Option Begun) Global} → HasPlaces w d → selections.items ≡ d.selections.items → vec_len selections ≡ vec_len d.selections
-    → HasPlaces w (with_selections_in d p selections)
+pub places_selection_taken : {w : Words} {d : Desk} {selections : Vec (Option Begun) Global} → HasPlaces w d → selections.items ≡ d.selections.items → vec_len selections ≡ vec_len d.selections
+    → HasPlaces w (with_selections_in d d.pass selections)
 places_selection_taken places items len = record {
   selections = len ∙ places.selections;
   closings = places.closings;
   selects = λ n x is. places.selects n x (sym (ap (λ xs. slot xs n) items) ∙ is);
   closes = places.closes;
+  pipes = places.pipes;
 }
 
 -- the caller's own selection that was taken out is put back
@@ -185,10 +223,10 @@ progress_selection_back w d p me s taken after y places inside items len items' 
 
 pub places_selection_back : (w : Words) (d : Desk) (p : Pass) (s : SelNo) (taken after : Vec (Option Begun) Global) (y : Begun) → HasPlaces w d → s.0 < (limits_of w).selectors
     → taken.items ≡ set d.selections.items s.0 None → vec_len taken ≡ vec_len d.selections → after.items ≡ set taken.items s.0 (Some y) → vec_len after ≡ vec_len taken → y.selection.selector.0 ≡ s.0
-    → HasPlaces w (with_selections_in d p after)
-places_selection_back w d p s taken after y places inside items len items' len' on =
-    let middle : HasPlaces w (with_selections_in d p taken) = places_selection w d p s taken None places inside items len (λ x is. nothing_there is) in
-    places_selection w (with_selections_in d p taken) p s after (Some y) middle inside items' len' (λ x is. ap (λ (z : Begun). z.selection.selector.0) (some_is is) ∙ on)
+    → AreMade (view w p) d.pipes.items → HasPlaces w (with_selections_in d p after)
+places_selection_back w d p s taken after y places inside items len items' len' on made =
+    let middle : HasPlaces w (with_selections_in d p taken) = places_selection w d p s taken None places inside items len (λ x is. nothing_there is) made in
+    places_selection w (with_selections_in d p taken) p s after (Some y) middle inside items' len' (λ x is. ap (λ (z : Begun). z.selection.selector.0) (some_is is) ∙ on) made
 
 -- it is on the selector
 pub own_on : (w : Words) (d : Desk) (me : CallerNo) (s : SelNo) (x : Selection) → HasPlaces w d → if_own me (selections_of d.selections.items s.0) ≡ Some x → x.selector ≡ s

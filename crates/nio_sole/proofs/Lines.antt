@@ -97,6 +97,10 @@ named-rests l me now (call.Keys s) plan st here = selector-rests l me now s plan
 named-rests l me now (call.Selected s) plan st here = selector-rests l me now s plan st here
 named-rests l me now (call.Interrupt target) plan st here = if-rests l me now plan st here reply.NoCaller (nat_lt target.0 l.callers)
 named-rests l me now call.Interrupted plan st here = here
+named-rests l me now (call.Pipe target) plan st here = if-rests l me now plan st here reply.NoCaller (nat_lt target.0 l.callers)
+named-rests l me now (call.Pwrite c bytes) plan st here = channel-rests l me now plan st here c
+named-rests l me now (call.Pread c n) plan st here = channel-rests l me now plan st here c
+named-rests l me now (call.Group g) plan st here = here
 
 -- ---- what stands between two lines
 

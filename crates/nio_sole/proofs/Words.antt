@@ -28,4 +28,8 @@ pub asked_by : {w : Words} {d : Desk} {q : Pass} {me : CallerNo} {word it : Call
     → Makes w d (record d { pass = q }) me (call_plan (limits_of w) (progress_of d) me word) r
 asked_by {w = w} {d = d} {q = q} {me = me} {r = r} is places asked =
     subst (λ (x : Call). Makes w d (record d { pass = q }) me (call_plan (limits_of w) (progress_of d) me x) r) (sym is)
-    (record { call = asked.call (progress_of d); ready = asked.ready; places = places_same q places })
+    (record {
+      call = asked.call (progress_of d);
+      ready = asked.ready;
+      places = places_same q (asked.call (progress_of d)) places;
+    })

@@ -5,6 +5,7 @@ pub mod OneProof
 pub mod Named
 pub mod Asked
 pub mod Makes
+pub mod PipeReplies
 pub mod Taking
 pub mod Told
 pub mod Said

@@ -2,12 +2,14 @@
 use Rattle.std.specs.Prelude.{◌≡◌, ℕ, Bool, true, false, List, Result, Ok, Err}
 use Rattle.std.specs.declared.alloc.AllocError.{AllocError}
 use Rattle.nio_base.specs.declared.numbers.CallerNo.{CallerNo}
+use Rattle.nio_base.specs.declared.numbers.ChanNo.{ChanNo}
 use Rattle.nio_base.specs.declared.numbers.KeyId.{KeyId}
 use Rattle.nio_base.specs.declared.numbers.SelNo.{SelNo}
 use Rattle.nio_event.specs.declared.call.Call.{Call}
 use Rattle.nio_event.specs.declared.call.Call.TheVariants as call
 use Rattle.nio_event.specs.declared.call.Waiting.{Waiting}
 use Rattle.nio_event.specs.declared.found.Mode.{Mode}
+use Rattle.nio_event.specs.declared.group_call.GroupCall.{GroupCall}
 use Rattle.nio_event.specs.declared.reply.Reply.{Reply}
 use Rattle.nio_event.specs.declared.reply.Reply.TheVariants as reply
 use Rattle.nio_serial.specs.Documented.{Progress}
@@ -49,6 +51,9 @@ pub data Want : Type 0 where
   keys_unsaid : SelNo → Want
   selected_refused : SelNo → Want
   selected_unsaid : SelNo → Want
+  pipe_unmade : CallerNo → Want
+  read_unmade : ChanNo → ℕ → Want
+  group_unmade : GroupCall → Want
 
 abbrev pub word_of : Want → Call
 word_of (begin_unmade s waiting) = call.Begin s waiting
@@ -58,6 +63,9 @@ word_of (keys_refused s) = call.Keys s
 word_of (keys_unsaid s) = call.Keys s
 word_of (selected_refused s) = call.Selected s
 word_of (selected_unsaid s) = call.Selected s
+word_of (pipe_unmade target) = call.Pipe target
+word_of (read_unmade c n) = call.Pread c n
+word_of (group_unmade g) = call.Group g
 
 abbrev pub want_plan : Progress → Want → Plan Said
 want_plan now (begin_unmade s waiting) = refused now reply.Busy
@@ -67,6 +75,9 @@ want_plan now (keys_refused s) = asks now (keys_plan s true) list_reply
 want_plan now (keys_unsaid s) = asks now (keys_plan s false) list_reply
 want_plan now (selected_refused s) = asks now (selected_keys_plan s true) list_reply
 want_plan now (selected_unsaid s) = asks now (selected_keys_plan s false) list_reply
+want_plan now (pipe_unmade target) = refused now reply.ChannelsSpent
+want_plan now (read_unmade c n) = refused now reply.Busy
+want_plan now (group_unmade g) = refused now reply.Busy
 
 -- the line lacks memory, and leaves what is in progress as it was
 pub record Lacks (around : Plan Said → Plan Said) (w : Words) (old new : Desk) (me : CallerNo) (word : Call) : Type 0 where

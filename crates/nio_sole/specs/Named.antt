@@ -52,6 +52,10 @@ HasNames pass (call.Keys s) = HasSelector pass s
 HasNames pass (call.Selected s) = HasSelector pass s
 HasNames pass (call.Interrupt target) = IsCaller pass.limits target
 HasNames pass call.Interrupted = ⊤
+HasNames pass (call.Pipe target) = IsCaller pass.limits target
+HasNames pass (call.Pwrite c bytes) = HasChannel pass c
+HasNames pass (call.Pread c n) = HasChannel pass c
+HasNames pass (call.Group g) = ⊤
 
 -- how a line goes on after its look-ups: with the plan of its call where nothing is missing, else with the refusal
 abbrev pub after_names : Progress → Plan Said → Option Reply → Plan Said

@@ -3,9 +3,7 @@ ghost use Rattle.std.specs.Prelude.{◌≡◌};
 ghost use Rattle.nio_plain.specs.Seq.Registering.{given_or_none};
 ghost use Rattle.nio_sole.specs.Asked.{MayAsk, Asks};
 
-use crate::replies::{
-    channel_reply, closed_reply, find_reply, mode_reply, register_reply, yes_or_no,
-};
+use crate::replies::{channel_reply, find_reply, mode_reply, register_reply, yes_or_no};
 use nio_base::{CallerNo, ChanNo, Kind, Ops, SelNo};
 use nio_channel::{try_register, try_set_blocking};
 use nio_event::{Call, Reply};
@@ -73,14 +71,6 @@ pub(crate) fn register(
     ensures { Asks w.now p.old p.new me (Call.Register sel chan ops att) result }
 {
     register_reply(try_register(w, p, me, sel, chan, ops, given_or_none(att)))
-}
-
-#[tactic(auto, unfolding(nio_serial::specs::Lines::call_plan))]
-pub(crate) fn close_channel(w: &Words, p: &mut Pass, me: CallerNo, chan: ChanNo) -> Reply
-    requires { MayAsk w.now p.old me (Call.Closec chan) }
-    ensures { Asks w.now p.old p.new me (Call.Closec chan) result }
-{
-    closed_reply(nio_channel::close_channel(w, p, me, chan))
 }
 
 // The attachment that the line gives, 0 for none.

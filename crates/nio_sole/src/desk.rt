@@ -6,6 +6,8 @@ ghost use Rattle.nio_sole.specs.Stands.{selecting_of};
 ghost use Rattle.nio_sole.specs.Taking.{TakesClosing, TakesSelection};
 
 use nio_base::{CallerNo, SelNo};
+use nio_group::GroupCore;
+use nio_pipe::HeldPipe;
 use nio_select::{Closing, Selecting};
 use nio_words::Pass;
 
@@ -21,16 +23,27 @@ pub struct Shut {
     pub closing: Closing,
 }
 
-/// A pass, which acts for one or more callers; and what they have in progress, by the selector's number: there is a
-/// place for each selector.
+/// A pipe, and the callers that own its source and its sink.
+#[derive(Drop)]
+pub struct OwnedPipe {
+    pub reader: CallerNo,
+    pub writer: CallerNo,
+    pub pipe: HeldPipe,
+}
+
+/// A pass, which acts for one or more callers; what they have in progress, by the selector's number: there is a
+/// place for each selector; their group, once a call was made on it; and their pipes, in the order in which they were
+/// made.
 pub struct Desk {
     pub pass: Pass,
     pub selections: Vec<Option<Begun>>,
     pub closings: Vec<Option<Shut>>,
+    pub group: Option<GroupCore>,
+    pub pipes: Vec<OwnedPipe>,
 }
 
 impl Desk {
-    /// Lets all that is in progress go without a step.
+    /// Lets all that is in progress, the group and the pipes go without a step.
     pub fn into_pass(self) -> Pass
         ensures { result ≡ self.pass }
     {
@@ -38,6 +51,8 @@ impl Desk {
             pass,
             selections,
             closings,
+            group: _group,
+            pipes: _pipes,
         } = self;
         forget_selections(selections);
         forget_closings(closings);

@@ -10,17 +10,18 @@ ghost use Rattle.nio_words.specs.Passes.{IsReady, limits_of, acts_seen};
 ghost use Rattle.nio_words.specs.Views.{view};
 
 use crate::channels::{
-    close_channel, is_blocking, is_open, is_registered, key_for, open_channel, register,
-    set_blocking,
+    is_blocking, is_open, is_registered, key_for, open_channel, register, set_blocking,
 };
 use crate::closing::{close, close_end};
 use crate::desk::Desk;
+use crate::group::call_group;
 use crate::keys::{
     attach, attachment, cancel, interest, interest_and, interest_or, is_valid, ready, set_interest,
     unselect,
 };
 use crate::listing;
 use crate::names::find_names;
+use crate::pipes::{close_channel, pipe, pread, pwrite};
 use crate::selections::{begin, failed, told};
 use crate::selectors::{interrupt, interrupted, open_selector, wakeup};
 use nio_base::CallerNo;
@@ -88,7 +89,7 @@ fn call_of(
         Call::Register(sel, chan, ops, att) => {
             Ok(register(w, &mut d.pass, me, *sel, *chan, *ops, *att))
         }
-        Call::Closec(chan) => Ok(close_channel(w, &mut d.pass, me, *chan)),
+        Call::Closec(chan) => close_channel(w, d, me, *chan),
         Call::Valid(sel, id) => Ok(is_valid(w, &mut d.pass, me, *sel, *id)),
         Call::Interest(sel, id) => Ok(interest(w, &mut d.pass, me, *sel, *id)),
         Call::Ready(sel, id) => Ok(ready(w, &mut d.pass, me, *sel, *id)),
@@ -109,5 +110,9 @@ fn call_of(
         Call::Selected(sel) => listing::selected(alloc, w, d, me, *sel),
         Call::Interrupt(target) => Ok(interrupt(w, &mut d.pass, me, *target)),
         Call::Interrupted => Ok(interrupted(w, &mut d.pass, me)),
+        Call::Pipe(target) => pipe(alloc, w, d, me, *target),
+        Call::Pwrite(chan, bytes) => pwrite(w, d, me, *chan, bytes),
+        Call::Pread(chan, most) => pread(alloc, w, d, me, *chan, *most),
+        Call::Group(call) => call_group(alloc, &mut d.group, *call),
     }
 }

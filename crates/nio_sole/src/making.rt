@@ -30,7 +30,7 @@ pub fn open_desk(alloc: Global, w: &Words, p: &mut Pass) -> Result<Desk, AllocEr
     ensures memory { OnErr result (p.new ≡ p.old) }
 {
     let (selections, closings) = no_progress(alloc, w.limits().selectors)?;
-    open_with(w, p, selections, closings)
+    open_with(alloc, w, p, selections, closings)
 }
 
 /// Places for so many selectors, with nothing in progress.
@@ -51,6 +51,7 @@ pub fn no_progress(
 }
 
 fn open_with(
+    alloc: Global,
     w: &Words,
     p: &mut Pass,
     selections: Vec<Option<Begun>>,
@@ -81,6 +82,8 @@ fn open_with(
                 pass,
                 selections,
                 closings,
+                group: None,
+                pipes: Vec::new(alloc),
             })
         }
     }

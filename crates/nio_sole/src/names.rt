@@ -48,6 +48,10 @@ pub(crate) fn find_names(w: &Words, p: &mut Pass, me: CallerNo, call: &Call) -> 
         Call::Selected(sel) => look_up_selector(w, p, me, *sel),
         Call::Interrupt(target) => look_up_caller(w, p, me, *target),
         Call::Interrupted => None,
+        Call::Pipe(target) => look_up_caller(w, p, me, *target),
+        Call::Pwrite(chan, _) => look_up_channel(w, p, me, *chan),
+        Call::Pread(chan, _) => look_up_channel(w, p, me, *chan),
+        Call::Group(_) => None,
     }
 }
 

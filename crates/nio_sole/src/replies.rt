@@ -1,10 +1,13 @@
 //! The reply of a line to what its call answers.
-ghost use Rattle.std.specs.Prelude.{◌≡◌};
+ghost use Rattle.std.specs.Prelude.{◌≡◌, ◌==◌, if◌then◌else◌, take};
 ghost use Rattle.nio_plain.specs.Seq.Answers.{yes_or_no};
-ghost use Rattle.nio_serial.specs.Replies.{key_refusal, channel_refusal, set_reply, put_reply, find_reply, channel_reply, mode_reply, register_reply, closed_reply, selector_reply};
+ghost use Rattle.nio_plain.specs.Seq.Piping.{not_now};
+ghost use Rattle.nio_serial.specs.Replies.{key_refusal, channel_refusal, set_reply, put_reply, find_reply, channel_reply, mode_reply, register_reply, closed_reply, pipe_refusal, selector_reply};
+ghost use Rattle.nio_sole.specs.PipeReplies.{read_reply, read_says, write_reply, write_says};
 
 use nio_base::{ChanNo, KeyId, KeyNo, Ops, SelNo};
-use nio_event::Reply;
+use nio_event::{Bytes, Reply};
+use nio_pipe::{PipeError, PipeRead, PipeWrite};
 use nio_steps::{ChannelError, KeyError, SelectorsSpent};
 
 pub(crate) fn yes_or_no(answer: bool) -> Reply
@@ -110,5 +113,76 @@ pub(crate) fn selector_reply(answer: Result<SelNo, SelectorsSpent>) -> Reply
     match answer {
         Ok(sel) => Reply::Selector(sel),
         Err(_) => Reply::SelectorsSpent,
+    }
+}
+
+// What a read answers, which left these bytes in its slice.
+pub(crate) fn read_reply(answer: Result<(PipeRead, bool), PipeError>, bytes: Vec<u8>) -> Reply
+    ensures { result ≡ read_reply answer bytes.items }
+{
+    match answer {
+        Ok((read, blocking)) => read_says(read, bytes, blocking),
+        Err(refusal) => pipe_refusal(refusal),
+    }
+}
+
+fn read_says(read: PipeRead, bytes: Vec<u8>, blocking: bool) -> Reply
+    ensures { result ≡ read_says read bytes.items blocking }
+{
+    match read {
+        PipeRead::Bytes(count) => bytes_reply(count, bytes),
+        PipeRead::End => Reply::End,
+        PipeRead::NotYet => not_now(blocking),
+    }
+}
+
+// The first so many bytes.
+fn bytes_reply(count: usize, mut bytes: Vec<u8>) -> Reply
+    ensures { result ≡ (if count == 0 then Reply.Number 0 else Reply.Bytes (take count bytes.items)) }
+{
+    if count == 0 {
+        return Reply::Number(0);
+    }
+    bytes.truncate(count);
+    Reply::Bytes(Bytes::from_vec(bytes))
+}
+
+pub(crate) fn write_reply(answer: Result<(PipeWrite, bool), PipeError>) -> Reply
+    ensures { result ≡ write_reply answer }
+{
+    match answer {
+        Ok((write, blocking)) => write_says(write, blocking),
+        Err(refusal) => pipe_refusal(refusal),
+    }
+}
+
+fn write_says(write: PipeWrite, blocking: bool) -> Reply
+    ensures { result ≡ write_says write blocking }
+{
+    match write {
+        PipeWrite::Bytes(count) => Reply::Number(count as u64),
+        PipeWrite::NotYet => not_now(blocking),
+    }
+}
+
+// Nothing can be read or written now.
+fn not_now(blocking: bool) -> Reply
+    ensures { result ≡ not_now blocking }
+{
+    if blocking {
+        Reply::Again
+    } else {
+        Reply::Number(0)
+    }
+}
+
+fn pipe_refusal(refusal: PipeError) -> Reply
+    ensures { result ≡ pipe_refusal refusal }
+{
+    match refusal {
+        PipeError::ClosedChannel => Reply::ClosedChannel,
+        PipeError::ClosedByInterrupt => Reply::ClosedByInterrupt,
+        PipeError::AsynchronousClose => Reply::AsyncClose,
+        PipeError::BrokenPipe => Reply::BrokenPipe,
     }
 }

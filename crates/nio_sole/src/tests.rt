@@ -1,4 +1,4 @@
-//! A script with every word, on a table: each line's reply. What is in progress at the end is forgotten, and the pass
+//! Scripts on a table: each line's reply, of every word. What is in progress at the end is forgotten, and the pass
 //! that comes back acts for each caller.
 use crate::Sole;
 use nio_base::{CallerNo, Limits};
@@ -10,13 +10,13 @@ use std::process::Abort;
 use std::test::Fail;
 
 const SMALL: Limits = Limits {
-    callers: 2,
+    callers: 3,
     selectors: 2,
     channels: 2,
     keys: 2,
 };
 
-const ROWS: [(&str, &str); 40] = [
+const SELECTING: [(&str, &str); 40] = [
     ("t5 selector", "no-caller"),
     ("t0 selector", "s0"),
     ("t0 channel source", "c0"),
@@ -59,6 +59,62 @@ const ROWS: [(&str, &str); 40] = [
     ("t0 close-end s0", "closed"),
 ];
 
+const PIPE_BYTES: [(&str, &str); 18] = [
+    ("t1 pipe t5", "no-caller"),
+    ("t1 pipe t2", "c0 c1"),
+    ("t1 pipe t2", "channels-spent"),
+    ("t2 pwrite c1 68656c6c6f", "5"),
+    ("t1 pwrite c1 00", "not-owner"),
+    ("t1 pread c0 3", "68656c"),
+    ("t2 pwrite c1 6f", "1"),
+    ("t1 pread c0 9", "6c6f6f"),
+    ("t1 pread c0 1", "again"),
+    ("t1 pread c0 0", "0"),
+    ("t1 blocking c0 off", "ok"),
+    ("t1 pread c0 1", "0"),
+    ("t1 closec c1", "ok"),
+    ("t1 pread c0 1", "0"),
+    ("t2 closec c1", "already"),
+    ("t1 pread c0 1", "end"),
+    ("t1 closec c0", "ok"),
+    ("t1 pread c0 1", "closed-channel"),
+];
+
+const BROKEN_PIPE: [(&str, &str); 12] = [
+    ("t1 pipe t2", "c0 c1"),
+    ("t1 closec c0", "ok"),
+    ("t2 pwrite c1 00", "broken-pipe"),
+    ("t2 pwrite c1 -", "broken-pipe"),
+    ("t1 interrupt t2", "ok"),
+    ("t2 pwrite c1 00", "closed-by-interrupt"),
+    ("t2 pwrite c1 00", "closed-channel"),
+    ("t2 interrupted", "yes"),
+    ("t1 pread c1 1", "not-owner"),
+    ("t1 pread c2 1", "no-channel"),
+    ("t1 pread c0 1", "closed-channel"),
+    ("t1 pipe t2", "channels-spent"),
+];
+
+const GROUP_SHUTDOWN_NOW: [(&str, &str); 17] = [
+    ("t1 gopen stream", "g0"),
+    ("t1 start g0 read 10", "not-yet-connected"),
+    ("t1 start g0 connect 0", "op 0"),
+    ("t1 report 0 connected", "ok"),
+    ("t1 take", "op 0 connected"),
+    ("t1 done 0", "ok"),
+    ("t1 start g0 read 10", "op 1"),
+    ("t2 start g0 read 10", "read-pending"),
+    ("t2 shutdown-now", "ok"),
+    ("t1 terminated", "no"),
+    ("t1 take", "op 1 async-close"),
+    ("t1 terminated", "no"),
+    ("t1 done 1", "ok"),
+    ("t1 terminated", "yes"),
+    ("t1 start g0 read 1", "shutdown-group"),
+    ("t1 take", "none"),
+    ("t1 gopen stream", "shutdown-group"),
+];
+
 /// The call of a line, and who makes it.
 fn call_of(rt: &impl Abort, alloc: Global, line: &str) -> (CallerNo, Call) {
     match parse_line(alloc, line.as_bytes()) {
@@ -83,13 +139,21 @@ fn answers(
     Ok(())
 }
 
-#[test]
-fn lines_on_a_table(rt: HostRuntime) -> Result<(), Fail> {
-    let alloc = rt.alloc();
+/// The same on a table of its own.
+fn lines(rt: &impl Abort, alloc: Global, rows: &[(&str, &str)]) -> Result<(), Fail> {
     let (words, mut pass) = Words::make(alloc, SMALL)?;
     let mut sole = Sole::make(alloc, &words, &mut pass)?;
-    let outcome = answers(&rt, alloc, &mut sole, &ROWS);
+    let outcome = answers(rt, alloc, &mut sole, rows);
     let own = sole.into_pass();
     assert!(rt; own.holds(CallerNo(1)) && !pass.holds(CallerNo(1)));
     outcome
+}
+
+#[test]
+fn lines_on_a_table(rt: HostRuntime) -> Result<(), Fail> {
+    let alloc = rt.alloc();
+    lines(&rt, alloc, &SELECTING)?;
+    lines(&rt, alloc, &PIPE_BYTES)?;
+    lines(&rt, alloc, &BROKEN_PIPE)?;
+    lines(&rt, alloc, &GROUP_SHUTDOWN_NOW)
 }

@@ -36,7 +36,7 @@ const BOTH_WAYS: Lines = &[
 ];
 
 /// Each row's name, the lines that it begins with, and its own lines.
-const ROWS: [(&str, Lines, Lines); 20] = [
+const ROWS: [(&str, Lines, Lines); 23] = [
     (
         "refusals_before_non_blocking",
         NOTHING,
@@ -271,6 +271,53 @@ const ROWS: [(&str, Lines, Lines); 20] = [
             ("t1 cancel s0 k0.1", "ok"),
             ("t1 told s0", "selected 0 now"),
             ("t1 register s0 c0 1", "cancelled-key"),
+        ],
+    ),
+    (
+        "pipe_bytes",
+        NOTHING,
+        &[
+            ("t1 pipe t2", "c0 c1"),
+            ("t2 pwrite c1 68656c6c6f", "5"),
+            ("t1 pwrite c1 00", "not-owner"),
+            ("t1 pread c0 3", "68656c"),
+            ("t1 pread c0 9", "6c6f"),
+            ("t1 pread c0 1", "again"),
+            ("t1 blocking c0 off", "ok"),
+            ("t1 pread c0 1", "0"),
+            ("t2 closec c1", "ok"),
+            ("t1 pread c0 1", "end"),
+        ],
+    ),
+    (
+        "broken_pipe",
+        NOTHING,
+        &[
+            ("t1 pipe t2", "c0 c1"),
+            ("t1 closec c0", "ok"),
+            ("t2 pwrite c1 00", "broken-pipe"),
+            ("t1 interrupt t2", "ok"),
+            ("t2 pwrite c1 00", "closed-by-interrupt"),
+            ("t2 pwrite c1 00", "closed-channel"),
+            ("t2 interrupted", "yes"),
+        ],
+    ),
+    (
+        "group_shutdown_now",
+        NOTHING,
+        &[
+            ("t1 gopen stream", "g0"),
+            ("t1 start g0 connect 0", "op 0"),
+            ("t1 report 0 connected", "ok"),
+            ("t1 take", "op 0 connected"),
+            ("t1 done 0", "ok"),
+            ("t1 start g0 read 10", "op 1"),
+            ("t1 shutdown-now", "ok"),
+            ("t1 terminated", "no"),
+            ("t1 take", "op 1 async-close"),
+            ("t1 done 1", "ok"),
+            ("t1 terminated", "yes"),
+            ("t1 gopen stream", "shutdown-group"),
         ],
     ),
 ];

@@ -12,7 +12,7 @@ use Rattle.nio_race.proofs.block.block_line.Goals as goal
 pub block_on-requires-clause-stands : goal.block_on-requires-clause-stands
 block_on-requires-clause-stands g c =
     let d' : Desk = record c.args.d.now { pass = c.find_selector.new.p } in
-    stands_looked c.args.w.now c.args.d.now d' c.args.me c.requires c.args.sel.0 (Some c.in-Some.field-0) c.in-Some.ensures.ready (places_same c.find_selector.new.p c.requires.places) refl c.in-Some.ensures.call
+    stands_looked c.args.w.now c.args.d.now d' c.args.me c.requires c.args.sel.0 (Some c.in-Some.field-0) c.in-Some.ensures.ready (places_same c.find_selector.new.p c.in-Some.ensures.call c.requires.places) refl c.in-Some.ensures.call
 
 pub block_on-requires-clause-selector : goal.block_on-requires-clause-selector
 block_on-requires-clause-selector g c =
@@ -31,4 +31,4 @@ returns-in-None-clause-line g c =
 pub returns-in-None-clause-stands : goal.returns-in-None-clause-stands
 returns-in-None-clause-stands g c =
     let d' : Desk = record c.args.d.now { pass = c.find_selector.new.p } in
-    stands_looked c.args.w.now c.args.d.now d' c.args.me c.requires c.args.sel.0 None c.in-None.ensures.ready (places_same c.find_selector.new.p c.requires.places) refl c.in-None.ensures.call
+    stands_looked c.args.w.now c.args.d.now d' c.args.me c.requires c.args.sel.0 None c.in-None.ensures.ready (places_same c.find_selector.new.p c.in-None.ensures.call c.requires.places) refl c.in-None.ensures.call

@@ -2,7 +2,7 @@ use Rattle.std.proofs.Common.{None, Some, Err, refl, subst}
 use Rattle.nio_event.specs.declared.found.Mode.TheVariants.{Wait}
 use Rattle.nio_poller.specs.Selecting.{SelectClause}
 use Rattle.nio_poller.specs.declared.selecting.SelectError.{SelectError}
-use Rattle.nio_sole.proofs.Desks.{places_same, places_selection, progress_selection}
+use Rattle.nio_sole.proofs.Desks.{still_made, places_same, places_selection, progress_selection}
 use Rattle.nio_sole.specs.declared.desk.Desk.{Desk}
 use Rattle.nio_words.specs.Views.{view}
 use Rattle.nio_race.proofs.Blocking.{blocks_closed, blocks_selected, stands_closed, stands_selected}
@@ -20,7 +20,8 @@ returns-in-Ok-clause-stands g c =
     let d = c.args.d.now in
     let d' : Desk = record d { pass = c.select.new.p; selections = c.drop_selection.new.selections } in
     stands_selected c.args.w.now d d' c.args.me c.requires.stands c.args.sel c.in-Ok.selected c.in-Ok.ensures.ready
-    (places_selection c.args.w.now d c.select.new.p c.args.sel c.drop_selection.new.selections None c.requires.stands.places c.requires.selector.inside c.drop_selection.ensures.items c.drop_selection.ensures.len (λ x is. absurd (cc is)))
+    (places_selection c.args.w.now d c.select.new.p c.args.sel c.drop_selection.new.selections None c.requires.stands.places c.requires.selector.inside c.drop_selection.ensures.items c.drop_selection.ensures.len (λ x is. absurd (cc is))
+    (still_made c.select.new.p c.requires.stands.places c.in-Ok.ensures.call.call))
     (progress_selection c.args.w.now d c.select.new.p c.args.sel c.drop_selection.new.selections None c.requires.stands.places c.requires.selector.inside c.drop_selection.ensures.items)
     c.in-Ok.ensures.call
 
@@ -36,5 +37,5 @@ pub returns-in-Err-ClosedSelector-clause-stands : goal.returns-in-Err-ClosedSele
 returns-in-Err-ClosedSelector-clause-stands g c =
     let d = c.args.d.now in
     let d' : Desk = record d { pass = c.select.new.p } in
-    stands_closed c.args.w.now d d' c.args.me c.requires.stands c.args.sel c.in-Err-ClosedSelector.ensures.ready (places_same c.select.new.p c.requires.stands.places) refl
+    stands_closed c.args.w.now d d' c.args.me c.requires.stands c.args.sel c.in-Err-ClosedSelector.ensures.ready (places_same c.select.new.p c.in-Err-ClosedSelector.ensures.call.call c.requires.stands.places) refl
     (subst (λ (e : SelectError). SelectClause c.args.me c.args.sel Wait (view c.args.w.now d.pass) (view c.args.w.now d'.pass) (Some c.over-poller.result.polls) (Some c.select.new.poller.polls) (λ _. 0) (Err e)) c.in-Err-ClosedSelector.field-0-is c.in-Err-ClosedSelector.ensures.call)

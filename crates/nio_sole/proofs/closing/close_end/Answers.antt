@@ -8,7 +8,7 @@ use Rattle.nio_select.specs.InProgress.{Closes}
 use Rattle.nio_serial.specs.Lines.{call_plan, refused, after_finish}
 use Rattle.nio_serial.specs.Replies.{finish_reply}
 use Rattle.nio_sole.proofs.Asking.{makes_ran}
-use Rattle.nio_sole.proofs.Desks.{progress_closing, places_closing, left_as, with_closings, its_selector, own_closing, places_taken, progress_put_back, places_put_back, nothing_there}
+use Rattle.nio_sole.proofs.Desks.{progress_closing, places_closing, left_as, with_closings, its_selector, own_closing, places_taken, progress_put_back, places_put_back, nothing_there, still_made}
 use Rattle.nio_sole.proofs.Had.{closing_had}
 use Rattle.nio_sole.proofs.Progress.{made_closing}
 use Rattle.nio_sole.specs.Stands.{progress_of, closings_of}
@@ -57,7 +57,8 @@ returns-in-Closed c =
       call = left_as (returned (left_then (is_caller c.args.me (now.closing s.0)) _ (refused now reply.NotClosing) (own_closing c.args.me _ c.in-Some.ensures.taken.was) (left_of_call (makes_ran finish_reply (after_finish now s) ran))))
           (sym (progress_closing w d c.try_finish.new.p s c.take_closing.new.closings None c.requires.places c.requires.ask.named.inside c.in-Some.ensures.taken.taken));
       ready = c.in-Closed.ensures.ready;
-      places = places_closing w d c.try_finish.new.p s c.take_closing.new.closings None c.requires.places c.requires.ask.named.inside c.in-Some.ensures.taken.taken c.in-Some.ensures.len (λ x is. nothing_there is);
+      places = places_closing w d c.try_finish.new.p s c.take_closing.new.closings None c.requires.places c.requires.ask.named.inside c.in-Some.ensures.taken.taken c.in-Some.ensures.len (λ x is. nothing_there is)
+          (still_made c.try_finish.new.p c.requires.places ran);
     }
 
 pub returns-in-Busy : goal.returns-in-Busy
@@ -75,5 +76,6 @@ returns-in-Busy c =
           (sym (progress_put_back w d c.try_finish.new.p s c.take_closing.new.closings c.put_closing.new.closings _ _ c.requires.places c.requires.ask.named.inside c.in-Some.ensures.taken.taken c.in-Some.ensures.len c.put_closing.ensures.items c.in-Some.ensures.taken.was refl));
       ready = c.in-Busy.ensures.ready;
       places = places_put_back w d c.try_finish.new.p s c.take_closing.new.closings c.put_closing.new.closings _ c.requires.places c.requires.ask.named.inside c.in-Some.ensures.taken.taken c.in-Some.ensures.len c.put_closing.ensures.items c.put_closing.ensures.len
-          (ap (λ (x : SelNo). x.0) (c.in-Busy.ensures.still.0 ∙ same));
+          (ap (λ (x : SelNo). x.0) (c.in-Busy.ensures.still.0 ∙ same))
+          (still_made c.try_finish.new.p c.requires.places ran);
     }

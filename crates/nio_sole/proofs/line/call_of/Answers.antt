@@ -1,3 +1,4 @@
+use Rattle.nio_sole.proofs.PipeLines.{group_called}
 use Rattle.nio_sole.proofs.Words.{may_make, may_ask, makes_by, asked_by}
 use Rattle.nio_sole.proofs.line.call_of.Goals as goal
 
@@ -50,10 +51,10 @@ pub returns-in-Register : goal.returns-in-Register
 returns-in-Register c = asked_by c.in-Register.is c.requires.places c.register.ensures
 
 pub close_channel-requires : goal.close_channel-requires
-close_channel-requires c = may_ask c.in-Closec.is c.requires
+close_channel-requires c = may_make c.in-Closec.is c.requires
 
 pub returns-in-Closec : goal.returns-in-Closec
-returns-in-Closec c = asked_by c.in-Closec.is c.requires.places c.close_channel.ensures
+returns-in-Closec c = makes_by c.args.w.now c.args.d.now c.close_channel.new.d c.args.me c.close_channel.result c.in-Closec.is c.close_channel.ensures
 
 pub is_valid-requires : goal.is_valid-requires
 is_valid-requires c = may_ask c.in-Valid.is c.requires
@@ -174,3 +175,28 @@ selected-requires c = may_make c.in-Selected.is c.requires
 
 pub returns-in-Selected : goal.returns-in-Selected
 returns-in-Selected c = makes_by c.args.w.now c.args.d.now c.selected.new.d c.args.me c.selected.result c.in-Selected.is c.selected.ensures
+
+pub pipe-requires : goal.pipe-requires
+pipe-requires c = may_make c.in-Pipe.is c.requires
+
+pub returns-in-Pipe : goal.returns-in-Pipe
+returns-in-Pipe c = makes_by c.args.w.now c.args.d.now c.pipe.new.d c.args.me c.pipe.result c.in-Pipe.is c.pipe.ensures
+
+pub pwrite-requires : goal.pwrite-requires
+pwrite-requires c = may_make c.in-Pwrite.is c.requires
+
+pub returns-in-Pwrite : goal.returns-in-Pwrite
+returns-in-Pwrite c = makes_by c.args.w.now c.args.d.now c.pwrite.new.d c.args.me c.pwrite.result c.in-Pwrite.is c.pwrite.ensures
+
+pub pread-requires : goal.pread-requires
+pread-requires c = may_make c.in-Pread.is c.requires
+
+pub returns-in-Pread : goal.returns-in-Pread
+returns-in-Pread c = makes_by c.args.w.now c.args.d.now c.pread.new.d c.args.me c.pread.result c.in-Pread.is c.pread.ensures
+
+pub returns-in-Group : goal.returns-in-Group
+returns-in-Group c =
+    let d = c.args.d.now in
+    makes_by c.args.w.now d (record d { group = c.call_group.new.group }) c.args.me c.call_group.result c.in-Group.is
+    (group_called c.args.w.now d c.args.me c.in-Group.call c.call_group.new.group c.call_group.result (may_make c.in-Group.is c.requires)
+    c.call_group.ensures.reply c.call_group.ensures.left c.call_group.ensures.memory)

@@ -17,7 +17,7 @@ unfolding call_plan
 returns-in-Ok-ids c = record {
   call = asks_ran list_reply (progress_of c.args.d.now) (lists_selected_ran c.args.sel c.in-Ok.ensures.call) (c.names_or_none.ensures ∙ ap names_or_none (c.in-Ok-ids.ensures ∙ ap (map key_id) c.as_slice.ensures.value));
   ready = c.in-Ok.ensures.ready;
-  places = places_same c.selected_keys.new.p c.requires.places;
+  places = places_same c.selected_keys.new.p c.in-Ok.ensures.call c.requires.places;
 }
 
 pub returns-in-Ok : goal.returns-in-Ok
@@ -28,7 +28,7 @@ returns-in-Ok c = record {
   makes = record {
     call = asks_ran list_reply (progress_of c.args.d.now) (lists_selected_ran c.args.sel c.in-Ok.ensures.call) refl;
     ready = c.in-Ok.ensures.ready;
-    places = places_same c.selected_keys.new.p c.requires.places;
+    places = places_same c.selected_keys.new.p c.in-Ok.ensures.call c.requires.places;
   };
   same = refl;
 }
@@ -41,7 +41,7 @@ returns-in-Err-ClosedSelector c =
     record {
       call = asks_ran list_reply (progress_of c.args.d.now) (lists_selected_ran c.args.sel call) refl;
       ready = c.in-Err-ClosedSelector.ensures.ready;
-      places = places_same c.selected_keys.new.p c.requires.places;
+      places = places_same c.selected_keys.new.p call c.requires.places;
     }
 
 pub returns : goal.returns
@@ -55,7 +55,7 @@ returns c =
       makes = record {
         call = asks_ran list_reply (progress_of c.args.d.now) (lists_selected_ran c.args.sel call) refl;
         ready = c.in-Err-Memory.ensures.ready;
-        places = places_same c.selected_keys.new.p c.requires.places;
+        places = places_same c.selected_keys.new.p call c.requires.places;
       };
       same = refl;
     }

@@ -118,3 +118,19 @@ returns-in-Interrupt c = names_of c.in-Interrupt.is c.look_up_caller.ensures
 pub returns-in-Interrupted : goal.returns-in-Interrupted
 unfolding if_named
 returns-in-Interrupted c = names_of c.in-Interrupted.is (finds_nothing c.requires.ready c.requires.unpinned (λ now plan. refl) tt)
+
+pub returns-in-Pipe : goal.returns-in-Pipe
+unfolding if_named
+returns-in-Pipe c = names_of c.in-Pipe.is c.look_up_caller-in-Pipe.ensures
+
+pub returns-in-Pwrite : goal.returns-in-Pwrite
+unfolding if_named
+returns-in-Pwrite c = names_of c.in-Pwrite.is c.look_up_channel-in-Pwrite.ensures
+
+pub returns-in-Pread : goal.returns-in-Pread
+unfolding if_named
+returns-in-Pread c = names_of c.in-Pread.is c.look_up_channel-in-Pread.ensures
+
+pub returns-in-Group : goal.returns-in-Group
+unfolding if_named
+returns-in-Group c = names_of c.in-Group.is (finds_nothing c.requires.ready c.requires.unpinned (λ now plan. refl) tt)

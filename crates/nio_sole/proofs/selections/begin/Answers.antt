@@ -2,7 +2,6 @@ use Rattle.std.proofs.Common.{sym}
 use Rattle.nio_event.specs.declared.reply.Reply.TheVariants as reply
 use Rattle.nio_serial.specs.Lines.{call_plan}
 use Rattle.nio_sole.proofs.Asking.{begin_by, refused_at}
-use Rattle.nio_sole.proofs.Desks.{places_same}
 use Rattle.nio_sole.specs.Stands.{progress_of}
 use Rattle.nio_words.specs.Views.{view}
 use Rattle.nio_sole.proofs.selections.begin.Goals as goal
@@ -14,5 +13,5 @@ returns-in-None c =
     record {
       call = begin_by now c.args.sel (sym c.in-None.ensures) (refused_at now reply.NegativeTimeout (view c.args.w.now c.args.d.now.pass) c.requires.ask.ready.pass.legal);
       ready = c.requires.ask.ready;
-      places = places_same c.args.d.now.pass c.requires.places;
+      places = c.requires.places;
     }

@@ -5,7 +5,7 @@ use Rattle.nio_serial.specs.Documented.{looked_pair}
 use Rattle.nio_serial.specs.Lines.{call_plan, after_begin}
 use Rattle.nio_serial.specs.Replies.{begin_reply}
 use Rattle.nio_sole.proofs.Asking.{asks_ran, makes_ran, begins_ran, begin_by, replied_as}
-use Rattle.nio_sole.proofs.Desks.{places_same, progress_selection, places_selection, left_as, some_is}
+use Rattle.nio_sole.proofs.Desks.{places_same, still_made, progress_selection, places_selection, left_as, some_is}
 use Rattle.nio_sole.proofs.Fits.{looked_fits}
 use Rattle.nio_sole.specs.Makes.{begin_refused}
 use Rattle.nio_sole.specs.Stands.{progress_of}
@@ -38,7 +38,8 @@ returns-in-Ok c =
           (ap reply.Looked (c.from_vec.ensures ∙ (c.list_pairs.ensures ∙ ap (map looked_pair) c.asked.ensures)));
       ready = c.in-Ok.ensures.ready;
       places = places_selection w d c.try_begin.new.p s c.put_selection.new.selections (Some _) c.requires.may.places c.requires.may.ask.named.inside c.put_selection.ensures.items c.put_selection.ensures.len
-          (λ x is. ap (λ (y : Begun). y.selection.selector.0) (some_is is) ∙ ap (λ (x : SelNo). x.0) (begin-parts s c.args.mode _ c.in-Ok.selection begins.shape).selector);
+          (λ x is. ap (λ (y : Begun). y.selection.selector.0) (some_is is) ∙ ap (λ (x : SelNo). x.0) (begin-parts s c.args.mode _ c.in-Ok.selection begins.shape).selector)
+          (still_made c.try_begin.new.p c.requires.may.places begins);
     }
 
 pub returns-in-Err-ClosedSelector : goal.returns-in-Err-ClosedSelector
@@ -51,7 +52,7 @@ returns-in-Err-ClosedSelector c =
     record {
       call = begin_by now s c.requires.mode (makes_ran begin_reply (after_begin now c.args.me s) (begins_ran s c.args.mode call));
       ready = c.in-Err-ClosedSelector.ensures.ready;
-      places = places_same c.try_begin.new.p c.requires.may.places;
+      places = places_same c.try_begin.new.p call c.requires.may.places;
     }
 
 pub returns-in-Err-Busy : goal.returns-in-Err-Busy
@@ -64,7 +65,7 @@ returns-in-Err-Busy c =
     record {
       call = begin_by now s c.requires.mode (makes_ran begin_reply (after_begin now c.args.me s) (begins_ran s c.args.mode call));
       ready = c.in-Err-Busy.ensures.ready;
-      places = places_same c.try_begin.new.p c.requires.may.places;
+      places = places_same c.try_begin.new.p call c.requires.may.places;
     }
 
 pub returns : goal.returns
@@ -79,7 +80,7 @@ returns c =
       makes = record {
         call = asks_ran begin_reply (progress_of c.args.d.now) (begins_ran s c.args.mode call) refl;
         ready = c.in-Err-Memory.ensures.ready;
-        places = places_same c.try_begin.new.p c.requires.may.places;
+        places = places_same c.try_begin.new.p call c.requires.may.places;
       };
       same = refl;
     }

@@ -1,7 +1,6 @@
 use Rattle.std.proofs.Common.{refl}
 use Rattle.nio_event.specs.declared.reply.Reply.TheVariants as reply
 use Rattle.nio_sole.proofs.Asking.{refused_at}
-use Rattle.nio_sole.proofs.Desks.{places_same}
 use Rattle.nio_sole.specs.Makes.{begin_unmade}
 use Rattle.nio_sole.specs.Stands.{progress_of}
 use Rattle.nio_words.specs.Views.{view}
@@ -15,7 +14,7 @@ returns-in-Err c = record {
   makes = record {
     call = refused_at (progress_of c.args.d.now) reply.Busy (view c.args.w.now c.args.d.now.pass) c.requires.may.ask.ready.pass.legal;
     ready = c.requires.may.ask.ready;
-    places = places_same c.args.d.now.pass c.requires.may.places;
+    places = c.requires.may.places;
   };
   same = refl;
 }

@@ -2,7 +2,7 @@ use Rattle.std.proofs.Common.{None, sym, ap}
 use Rattle.nio_event.specs.declared.reply.Reply.TheVariants as reply
 use Rattle.nio_serial.specs.Lines.{call_plan, with_selection}
 use Rattle.nio_sole.proofs.Asking.{makes_ran, failed_by, refused_at}
-use Rattle.nio_sole.proofs.Desks.{left_as, with_selections, progress_selection, places_selection, places_selection_taken, nothing_there}
+use Rattle.nio_sole.proofs.Desks.{left_as, with_selections, progress_selection, places_selection, places_selection_taken, nothing_there, still_made}
 use Rattle.nio_sole.proofs.Owning.{its_selects}
 use Rattle.nio_sole.specs.Stands.{progress_of, selections_of}
 use Rattle.nio_words.specs.Views.{view}
@@ -34,5 +34,6 @@ returns-in-Some c =
       call = left_as (failed_by now s c.in-Some.ensures.taken.1 (makes_ran (λ _. reply.Left) (λ _. with_selection now s None) c.leave.ensures.call))
           (sym (progress_selection w d c.leave.new.p s c.take_selection.new.selections None c.requires.places c.requires.ask.named.inside c.in-Some.ensures.taken.0));
       ready = c.leave.ensures.ready;
-      places = places_selection w d c.leave.new.p s c.take_selection.new.selections None c.requires.places c.requires.ask.named.inside c.in-Some.ensures.taken.0 c.in-Some.ensures.len (λ x is. nothing_there is);
+      places = places_selection w d c.leave.new.p s c.take_selection.new.selections None c.requires.places c.requires.ask.named.inside c.in-Some.ensures.taken.0 c.in-Some.ensures.len (λ x is. nothing_there is)
+          (still_made c.leave.new.p c.requires.places c.leave.ensures.call);
     }

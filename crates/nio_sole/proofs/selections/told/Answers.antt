@@ -4,7 +4,7 @@ use Rattle.nio_serial.specs.Lines.{call_plan, by_index, after_told}
 use Rattle.nio_serial.specs.Replies.{told_reply}
 use Rattle.nio_sole.proofs.Asking.{makes_ran, told_by, tells_ran, refused_at}
 use Rattle.nio_sole.proofs.Calls.{again-same}
-use Rattle.nio_sole.proofs.Desks.{left_as, with_selections, progress_selection, places_selection, places_selection_taken, nothing_there, progress_selection_back, places_selection_back, own_on}
+use Rattle.nio_sole.proofs.Desks.{left_as, with_selections, progress_selection, places_selection, places_selection_taken, nothing_there, progress_selection_back, places_selection_back, own_on, still_made}
 use Rattle.nio_sole.proofs.Owning.{its_selects, looked_rise}
 use Rattle.nio_base.specs.declared.numbers.SelNo.{SelNo}
 use Rattle.nio_sole.specs.Makes.{told_unmade}
@@ -48,7 +48,8 @@ returns-in-Err c =
         call = left_as (refused_at (progress_of d) reply.Busy (view w d.pass) c.requires.ask.ready.pass.legal) (sym back);
         ready = c.requires.ask.ready;
         places = places_selection_back w d d.pass s c.take_selection.new.selections c.put_selection.new.selections _ c.requires.places c.requires.ask.named.inside c.in-Some.ensures.taken.0 c.in-Some.ensures.len c.put_selection.ensures.items c.put_selection.ensures.len
-            (ap (λ (y : SelNo). y.0) (own_on w d c.args.me s x c.requires.places c.in-Some.ensures.taken.1));
+            (ap (λ (y : SelNo). y.0) (own_on w d c.args.me s x c.requires.places c.in-Some.ensures.taken.1))
+            c.requires.places.pipes;
       };
       same = back;
     }
@@ -66,7 +67,8 @@ returns-in-Done c =
       call = left_as (told_by now s c.args.elapsed c.args.pairs.now c.in-Some.ensures.taken.1 (makes_ran told_reply (after_told now s) (tells_ran x _ (by_index x c.args.pairs.now) c.in-Done.ensures.call pairs)))
           (sym (progress_selection w d c.told.new.p s c.take_selection.new.selections None c.requires.places c.requires.ask.named.inside c.in-Some.ensures.taken.0));
       ready = c.in-Done.ensures.ready;
-      places = places_selection w d c.told.new.p s c.take_selection.new.selections None c.requires.places c.requires.ask.named.inside c.in-Some.ensures.taken.0 c.in-Some.ensures.len (λ y is. nothing_there is);
+      places = places_selection w d c.told.new.p s c.take_selection.new.selections None c.requires.places c.requires.ask.named.inside c.in-Some.ensures.taken.0 c.in-Some.ensures.len (λ y is. nothing_there is)
+          (still_made c.told.new.p c.requires.places c.in-Done.ensures.call);
     }
 
 pub returns : goal.returns
@@ -87,5 +89,6 @@ returns c =
           (c.in-Some.ensures.taken.1 ∙ ap Some (sym same))));
       ready = c.in-Again.ensures.ready;
       places = places_selection_back w d c.told.new.p s c.take_selection.new.selections c.put_selection-in-Again.new.selections _ c.requires.places c.requires.ask.named.inside c.in-Some.ensures.taken.0 c.in-Some.ensures.len c.put_selection-in-Again.ensures.items c.put_selection-in-Again.ensures.len
-          (ap (λ (y : Selection). y.selector.0) same ∙ ap (λ (y : SelNo). y.0) (own_on w d c.args.me s x c.requires.places c.in-Some.ensures.taken.1));
+          (ap (λ (y : Selection). y.selector.0) same ∙ ap (λ (y : SelNo). y.0) (own_on w d c.args.me s x c.requires.places c.in-Some.ensures.taken.1))
+          (still_made c.told.new.p c.requires.places c.in-Again.ensures.call);
     }
