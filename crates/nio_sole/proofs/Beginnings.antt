@@ -11,11 +11,21 @@ use Rattle.nio_sole.proofs.Calls.{made_more}
 use Rattle.nio_sole.specs.Made.{HasMade}
 
 pub made_nothing : (l : Limits) (n : CallerNo) → HasMade l [] n nothing_yet
-made_nothing l n = record { calls = []; are = record { runs = refl; in_order = tt }; ongoing = record { selection = λ s. refl; closes = λ s. refl } }
+made_nothing l n =
+    record {
+      calls = [];
+      are = record { runs = refl; in_order = tt };
+      ongoing = record {
+        selection = λ s. refl;
+        closes = λ s. refl;
+      };
+    }
 
 -- drawing its number is a call
-pub made_draw : (l : Limits) (own : List Act) (n : CallerNo) (now : Progress) → HasMade l own n now → HasMade l (own ++ DrawBit n false ∷ []) n now
+pub made_draw : (l : Limits) (own : List Act) (n : CallerNo) (now : Progress) → HasMade l own n now
+    → HasMade l (own ++ DrawBit n false ∷ []) n now
 made_draw l own n now made = made_more l own (DrawBit n false ∷ []) n now now (draw n) made refl tt made.ongoing
 
-pub made_whole : (l : Limits) (acts : List Act) (n : CallerNo) (now : Progress) → HasMade l acts n now → HasMadeCalls l acts
+pub made_whole : (l : Limits) (acts : List Act) (n : CallerNo) (now : Progress) → HasMade l acts n now
+    → HasMadeCalls l acts
 made_whole l acts n now made = record { calls = made.calls; are = made.are }

@@ -1,5 +1,7 @@
 -- A line of a script is whole calls of its caller, and leaves what other callers have in progress.
-use Rattle.std.proofs.Common.{◌≡◌, ℕ, ◌==◌, nat_lt, Bool, true, false, ◌||◌, if◌then◌else◌, Option, Some, None, Result, Ok, Err, List, [], ◌∷◌, ◌++◌, refl, ap, sym, ◌∙◌, subst, append_assoc, eqb-true, eq-eqb, ◌⊎◌, inl, inr}
+use Rattle.std.proofs.Common.{◌≡◌, ℕ, ◌==◌, nat_lt, Bool, true, false, ◌||◌, if◌then◌else◌, Option, Some, None, Result}
+use Rattle.std.proofs.Common.{Ok, Err, List, [], ◌∷◌, ◌++◌, refl, ap, sym, ◌∙◌, subst, append_assoc, eqb-true, eq-eqb}
+use Rattle.std.proofs.Common.{◌⊎◌, inl, inr}
 use Rattle.std.specs.Prelude.{◌≢◌, is_some, is_ok}
 use Rattle.std.proofs.lemmas.List.{append-nil}
 use Rattle.nio_base.specs.declared.kind.Kind.TheVariants.{Source, Sink}
@@ -22,28 +24,48 @@ use Rattle.nio_event.specs.declared.reply.Reply.{Reply}
 use Rattle.nio_event.specs.declared.reply.Reply.TheVariants as reply
 use Rattle.nio_orderly.proofs.CallLists.{one_call_more}
 use Rattle.nio_orderly.proofs.ListWords.{has-first, has-second}
-use Rattle.nio_orderly.specs.Made.{Made, IsRun, Ongoing, nothing_ongoing, after_call, after_calls, MayCome, find_selector, find_channel, find, is_valid, interest, set_interest, interest_or, interest_and, ready, cancel, unselect, attach, attachment, open_channel, is_open, is_blocking, is_registered, key_for, try_set_blocking, try_register, close_channel, open_selector, try_begin, told, leave, shut, try_finish, keys, selected_keys, wakeup, interrupt, interrupted, pipe, try_read, try_write}
+use Rattle.nio_orderly.specs.Made.{Made, IsRun, Ongoing, nothing_ongoing, after_call, after_calls, MayCome}
+use Rattle.nio_orderly.specs.Made.{find_selector, find_channel, find, is_valid, interest, set_interest, interest_or}
+use Rattle.nio_orderly.specs.Made.{interest_and, ready, cancel, unselect, attach, attachment, open_channel, is_open}
+use Rattle.nio_orderly.specs.Made.{is_blocking, is_registered, key_for, try_set_blocking, try_register, close_channel}
+use Rattle.nio_orderly.specs.Made.{open_selector, try_begin, told, leave, shut, try_finish, keys, selected_keys, wakeup}
+use Rattle.nio_orderly.specs.Made.{interrupt, interrupted, pipe, try_read, try_write}
 use Rattle.nio_plain.specs.Seq.Answers.{yes_or_no}
 use Rattle.nio_plain.specs.Seq.Grouping.{group_reply, group_left}
 use Rattle.nio_plain.specs.Seq.Registering.{given_or_none}
 use Rattle.nio_plain.specs.Seq.Selections.{mode_of, is_caller}
 use Rattle.nio_serial.specs.Between.{IsBetween}
 use Rattle.nio_serial.specs.Documented.{Progress, Selecting}
-use Rattle.nio_serial.specs.Lines.{Said, makes, asks, refused, with_selection, with_closing, if_own, own_selection, after_begin, after_told, after_shut, after_finish, begin_line, by_index, told_line, failed_line, close_end_line, read_line, write_line, call_plan, if_caller, if_found, if_selector, if_channel, if_key, if_named, line_plan}
-use Rattle.nio_serial.specs.PipeLines.{own_source, own_sink, pipe_at, with_mark, with_pipe, after_pipe, read_gives, write_gives}
-use Rattle.nio_serial.specs.Replies.{ends_reply, find_reply, set_reply, put_reply, channel_reply, mode_reply, register_reply, closed_reply, selector_reply, begin_reply, told_reply, shut_reply, finish_reply, list_reply}
+use Rattle.nio_serial.specs.Lines.{Said, makes, asks, refused, with_selection, with_closing, if_own, own_selection}
+use Rattle.nio_serial.specs.Lines.{after_begin, after_told, after_shut, after_finish, begin_line, by_index, told_line}
+use Rattle.nio_serial.specs.Lines.{failed_line, close_end_line, read_line, write_line, call_plan, if_caller, if_found}
+use Rattle.nio_serial.specs.Lines.{if_selector, if_channel, if_key, if_named, line_plan}
+use Rattle.nio_serial.specs.PipeLines.{own_source, own_sink, pipe_at, with_mark, with_pipe, after_pipe, read_gives}
+use Rattle.nio_serial.specs.PipeLines.{write_gives}
+use Rattle.nio_serial.specs.Replies.{ends_reply, find_reply, set_reply, put_reply, channel_reply, mode_reply}
+use Rattle.nio_serial.specs.Replies.{register_reply, closed_reply, selector_reply, begin_reply, told_reply, shut_reply}
+use Rattle.nio_serial.specs.Replies.{finish_reply, list_reply}
 use Rattle.nio_sole.specs.Made.{IsOngoing, HasMade}
 use Rattle.nio_sole.specs.MadeLaws.{LinesAreCalls}
 use Rattle.nio_steps.proofs.EachLaws.{each_run, split}
 use Rattle.nio_steps.proofs.SelectionLaws.{NoMark, Replies, after-replies}
 use Rattle.nio_steps.proofs.Walks.{Always, always_weaker, always_bind, always_if, always_any, always_itself, always_run}
-use Rattle.nio_steps.specs.ChannelCalls.{open_channel_plan, is_open_plan, is_blocking_plan, is_registered_plan, key_for_plan, try_set_blocking_plan, try_register_plan, close_channel_plan}
-use Rattle.nio_steps.specs.KeyCalls.{find_selector_plan, find_channel_plan, find_plan, is_valid_plan, interest_plan, set_interest_plan, interest_or_plan, interest_and_plan, ready_plan, cancel_plan, unselect_plan, attach_plan, attachment_plan}
+use Rattle.nio_steps.specs.ChannelCalls.{open_channel_plan, is_open_plan, is_blocking_plan, is_registered_plan}
+use Rattle.nio_steps.specs.ChannelCalls.{key_for_plan, try_set_blocking_plan, try_register_plan, close_channel_plan}
+use Rattle.nio_steps.specs.KeyCalls.{find_selector_plan, find_channel_plan, find_plan, is_valid_plan, interest_plan}
+use Rattle.nio_steps.specs.KeyCalls.{set_interest_plan, interest_or_plan, interest_and_plan, ready_plan, cancel_plan}
+use Rattle.nio_steps.specs.KeyCalls.{unselect_plan, attach_plan, attachment_plan}
 use Rattle.nio_steps.specs.Names.{selector, key}
-use Rattle.nio_steps.specs.PipeCalls.{PipeEnds, pipe_lacks_memory, pipe_plan, try_read_plan, try_write_plan, with_sink, with_source, without_sink}
+use Rattle.nio_steps.specs.PipeCalls.{PipeEnds, pipe_lacks_memory, pipe_plan, try_read_plan, try_write_plan, with_sink}
+use Rattle.nio_steps.specs.PipeCalls.{with_source, without_sink}
 use Rattle.nio_steps.specs.Plan.{Plan, ◌>>=◌}
 use Rattle.nio_steps.specs.Runs.{Follows, Completes}
-use Rattle.nio_steps.specs.SelectCalls.{Selection, open_selector_plan, try_begin_plan, begin_lacks_memory, begin_open, begin_with_turn, given_back, list_below, look_over, told_plan, mark_entry, after_marks, Poll, ToldReply, done, again, leave_plan, shut_plan, ShutReply, closing, already_closed, try_finish_plan, FinishReply, closed, busy, keys_plan, selected_keys_plan, list_lacks_memory, list_plan, list_open, list_key, list_selected, wakeup_plan, interrupt_plan, interrupted_plan}
+use Rattle.nio_steps.specs.SelectCalls.{Selection, open_selector_plan, try_begin_plan, begin_lacks_memory, begin_open}
+use Rattle.nio_steps.specs.SelectCalls.{begin_with_turn, given_back, list_below, look_over, told_plan, mark_entry}
+use Rattle.nio_steps.specs.SelectCalls.{after_marks, Poll, ToldReply, done, again, leave_plan, shut_plan, ShutReply}
+use Rattle.nio_steps.specs.SelectCalls.{closing, already_closed, try_finish_plan, FinishReply, closed, busy, keys_plan}
+use Rattle.nio_steps.specs.SelectCalls.{selected_keys_plan, list_lacks_memory, list_plan, list_open, list_key}
+use Rattle.nio_steps.specs.SelectCalls.{list_selected, wakeup_plan, interrupt_plan, interrupted_plan}
 use Rattle.nio_steps.specs.Steps.{flag_in, gate_in, holder_in, number_in}
 use Rattle.nio_steps.specs.Sweeps.{sweep_over, sweep_to}
 use Rattle.nio_steps.specs.declared.refusal.BeginError.{BeginError}
@@ -75,30 +97,35 @@ pub record IsShutFrom (n : CallerNo) (s : ℕ) (acts : List Act) (left : Progres
 
 -- what caller n has in progress is left as it was, unless the acts took the turn or shut the selector
 pub record LeavesTo (n : CallerNo) (now : Progress) (acts : List Act) (left : Progress) : Type 0 where
-  pub selection : (s : ℕ) → (own_selection left n (selector s) ≡ own_selection now n (selector s)) ⊎ IsTakenFrom n s acts left
+  pub selection : (s : ℕ) → (own_selection left n (selector s) ≡ own_selection now n (selector s))
+      ⊎ IsTakenFrom n s acts left
   pub closes : (s : ℕ) → (is_caller n (left.closing s) ≡ is_caller n (now.closing s)) ⊎ IsShutFrom n s acts left
 
 leaves_same : (n : CallerNo) (now : Progress) (acts : List Act) → LeavesTo n now acts now
 leaves_same n now acts = record { selection = λ s. inl refl; closes = λ s. inl refl }
 
-leaves_then : (n : CallerNo) (now middle left : Progress) (xs ys : List Act) → LeavesTo n now xs middle → LeavesTo n middle ys left → LeavesTo n now (xs ++ ys) left
+leaves_then : (n : CallerNo) (now middle left : Progress) (xs ys : List Act) → LeavesTo n now xs middle
+    → LeavesTo n middle ys left → LeavesTo n now (xs ++ ys) left
 leaves_then n now middle left xs ys first second = record {
   selection = λ s. selects s (first.selection s) (second.selection s);
   closes = λ s. closings s (first.closes s) (second.closes s);
 }
   where
-    selects : (s : ℕ) → (own_selection middle n (selector s) ≡ own_selection now n (selector s)) ⊎ IsTakenFrom n s xs middle
+    selects : (s : ℕ) → (own_selection middle n (selector s) ≡ own_selection now n (selector s))
+        ⊎ IsTakenFrom n s xs middle
         → (own_selection left n (selector s) ≡ own_selection middle n (selector s)) ⊎ IsTakenFrom n s ys left
         → (own_selection left n (selector s) ≡ own_selection now n (selector s)) ⊎ IsTakenFrom n s (xs ++ ys) left
     selects s (inl same) (inl same') = inl (same' ∙ same)
-    selects s (inr from) (inl same') = inr (record { taken = has-first (takes_turn s) xs ys from.taken; none = same' ∙ from.none })
+    selects s (inr from) (inl same') =
+        inr (record { taken = has-first (takes_turn s) xs ys from.taken; none = same' ∙ from.none })
     selects s _ (inr from) = inr (record { taken = has-second (takes_turn s) xs ys from.taken; none = from.none })
 
     closings : (s : ℕ) → (is_caller n (middle.closing s) ≡ is_caller n (now.closing s)) ⊎ IsShutFrom n s xs middle
         → (is_caller n (left.closing s) ≡ is_caller n (middle.closing s)) ⊎ IsShutFrom n s ys left
         → (is_caller n (left.closing s) ≡ is_caller n (now.closing s)) ⊎ IsShutFrom n s (xs ++ ys) left
     closings s (inl same) (inl same') = inl (same' ∙ same)
-    closings s (inr from) (inl same') = inr (record { shut_so = has-first (shuts s) xs ys from.shut_so; none = same' ∙ from.none })
+    closings s (inr from) (inl same') =
+        inr (record { shut_so = has-first (shuts s) xs ys from.shut_so; none = same' ∙ from.none })
     closings s _ (inr from) = inr (record { shut_so = has-second (shuts s) xs ys from.shut_so; none = from.none })
 
 -- ---- what stands beside the table
@@ -108,13 +135,15 @@ pub record IsBeside (now left : Progress) : Type 0 where
   pub selection : left.selection ≡ now.selection
   pub closing : left.closing ≡ now.closing
 
-ongoing_beside : (n : CallerNo) (now left : Progress) (ongoing : Ongoing) → IsBeside now left → IsOngoing n now ongoing → IsOngoing n left ongoing
+ongoing_beside : (n : CallerNo) (now left : Progress) (ongoing : Ongoing) → IsBeside now left → IsOngoing n now ongoing
+    → IsOngoing n left ongoing
 ongoing_beside n now left ongoing beside at = record {
   selection = λ s. at.selection s ∙ ap (λ (f : ℕ → Option Selecting). if_own n (f s)) (sym beside.selection);
   closes = λ s. at.closes s ∙ ap (λ (f : ℕ → Option CallerNo). is_caller n (f s)) (sym beside.closing);
 }
 
-pub made_beside : (l : Limits) (own : List Act) (n : CallerNo) (now left : Progress) → IsBeside now left → HasMade l own n now → HasMade l own n left
+pub made_beside : (l : Limits) (own : List Act) (n : CallerNo) (now left : Progress) → IsBeside now left
+    → HasMade l own n now → HasMade l own n left
 made_beside l own n now left beside made = record {
   calls = made.calls;
   are = made.are;
@@ -129,12 +158,15 @@ leaves_beside n now left acts beside = record {
 
 -- ---- one call more
 
-after-more : (now : Ongoing) (calls : List Made) (call : Made) → after_calls now (calls ++ call ∷ []) ≡ after_call (after_calls now calls) call
+after-more : (now : Ongoing) (calls : List Made) (call : Made)
+    → after_calls now (calls ++ call ∷ []) ≡ after_call (after_calls now calls) call
 after-more now [] call = refl
 after-more now (first ∷ calls) call = after-more (after_call now first) calls call
 
-pub made_more : (l : Limits) (own acts : List Act) (n : CallerNo) (now left : Progress) (call : Made) (made : HasMade l own n now)
-    → IsRun l call acts → MayCome (after_calls nothing_ongoing made.calls) call → IsOngoing n left (after_call (after_calls nothing_ongoing made.calls) call)
+pub made_more : (l : Limits) (own acts : List Act) (n : CallerNo) (now left : Progress) (call : Made)
+    (made : HasMade l own n now)
+    → IsRun l call acts → MayCome (after_calls nothing_ongoing made.calls) call
+    → IsOngoing n left (after_call (after_calls nothing_ongoing made.calls) call)
     → HasMade l (own ++ acts) n left
 made_more l own acts n now left call made run may after = record {
   calls = made.calls ++ call ∷ [];
@@ -154,7 +186,8 @@ pub record Leads (l : Limits) (me : CallerNo) (now : Progress) (plan : Plan Said
   always : (own : List Act) → HasMade l own me now → Always (λ acts said. Line l me now own acts said.left) plan
 
 -- a run of the call may come next, and leaves this
-record Comes (l : Limits) (me : CallerNo) (now : Progress) (ongoing : Ongoing) (call : Made) (acts : List Act) (left : Progress) : Type 0 where
+record Comes (l : Limits) (me : CallerNo) (now : Progress) (ongoing : Ongoing) (call : Made) (acts : List Act)
+    (left : Progress) : Type 0 where
   run : IsRun l call acts
   may : MayCome ongoing call
   after : IsOngoing me left (after_call ongoing call)
@@ -163,16 +196,21 @@ record Comes (l : Limits) (me : CallerNo) (now : Progress) (ongoing : Ongoing) (
 module _ (l : Limits) (me : CallerNo) (now : Progress) where
   pub leads_refused : (r : Reply) → Leads l me now (refused now r)
   leads_refused r = record {
-    always = λ own made. record { made = subst (λ acts. HasMade l acts me now) (sym (append-nil own)) made; others = λ n _. leaves_same n now [] };
+    always = λ own made. record {
+      made = subst (λ acts. HasMade l acts me now) (sym (append-nil own)) made;
+      others = λ n _. leaves_same n now [];
+    };
   }
 
-  pub leads_if : (b : Bool) (x y : Plan Said) → (b ≡ true → Leads l me now x) → (b ≡ false → Leads l me now y) → Leads l me now (if b then x else y)
+  pub leads_if : (b : Bool) (x y : Plan Said) → (b ≡ true → Leads l me now x) → (b ≡ false → Leads l me now y)
+      → Leads l me now (if b then x else y)
   leads_if true x y this that = this refl
   leads_if false x y this that = that refl
 
   -- a call, and then how the line goes on with its answer
   leads_call : {R : Type 0} (plan : Plan R) (call : R → Made) (left : R → Progress) (f : R → Plan Said)
-      → ((ongoing : Ongoing) (acts : List Act) (a : R) → Completes plan acts a → IsOngoing me now ongoing → Comes l me now ongoing (call a) acts (left a))
+      → ((ongoing : Ongoing) (acts : List Act) (a : R) → Completes plan acts a → IsOngoing me now ongoing
+      → Comes l me now ongoing (call a) acts (left a))
       → ((a : R) → Leads l me (left a) (f a)) → Leads l me now (plan >>= f)
   leads_call plan call left f comes later = record {
     always = λ own made.
@@ -180,9 +218,13 @@ module _ (l : Limits) (me : CallerNo) (now : Progress) where
         (always_weaker (Completes plan) (λ acts a. Line l me now own acts (left a)) plan
         (λ acts a run.
         let here = comes (after_calls nothing_ongoing made.calls) acts a run made.ongoing in
-        record { made = made_more l own acts me now (left a) (call a) made here.run here.may here.after; others = here.others })
+        record {
+          made = made_more l own acts me now (left a) (call a) made here.run here.may here.after;
+          others = here.others;
+        })
         (always_itself plan))
-        (λ xs a line. always_weaker (λ ys said. Line l me (left a) (own ++ xs) ys said.left) (λ ys said. Line l me now own (xs ++ ys) said.left) (f a)
+        (λ xs a line. always_weaker (λ ys said. Line l me (left a) (own ++ xs) ys said.left)
+        (λ ys said. Line l me now own (xs ++ ys) said.left) (f a)
         (λ ys said line'. record {
           made = subst (λ acts. HasMade l acts me said.left) (append_assoc own xs ys) line'.made;
           others = λ n other. leaves_then n now (left a) said.left xs ys (line.others n other) (line'.others n other);
@@ -191,23 +233,29 @@ module _ (l : Limits) (me : CallerNo) (now : Progress) where
   }
 
   -- a call that may always come, and leaves what is in progress
-  quiet : (ongoing : Ongoing) (call : Made) (acts : List Act) → IsRun l call acts → MayCome ongoing call → IsOngoing me now (after_call ongoing call) → Comes l me now ongoing call acts now
-  quiet ongoing call acts run may after = record { run = run; may = may; after = after; others = λ n _. leaves_same n now acts }
+  quiet : (ongoing : Ongoing) (call : Made) (acts : List Act) → IsRun l call acts → MayCome ongoing call
+      → IsOngoing me now (after_call ongoing call) → Comes l me now ongoing call acts now
+  quiet ongoing call acts run may after =
+      record { run = run; may = may; after = after; others = λ n _. leaves_same n now acts }
 
 -- the line's answer
-leads_answer : (l : Limits) (me : CallerNo) (left : Progress) (r : Reply) → Leads l me left (Plan.reply (record { reply = r; left = left }))
+leads_answer : (l : Limits) (me : CallerNo) (left : Progress) (r : Reply)
+    → Leads l me left (Plan.reply (record { reply = r; left = left }))
 leads_answer l me left r = leads_refused l me left r
 
 -- ---- what is put in progress
 
-put_selection : (me : CallerNo) (now : Progress) (ongoing : Ongoing) (s : ℕ) (x : Option Selection) (y : Option Selecting) → x ≡ if_own me y → IsOngoing me now ongoing
-    → IsOngoing me (record now { selection = put now.selection s y }) (record ongoing { selection = put ongoing.selection s x })
+put_selection : (me : CallerNo) (now : Progress) (ongoing : Ongoing) (s : ℕ) (x : Option Selection)
+    (y : Option Selecting) → x ≡ if_own me y → IsOngoing me now ongoing
+    → IsOngoing me (record now { selection = put now.selection s y })
+    (record ongoing { selection = put ongoing.selection s x })
 put_selection me now ongoing s x y own at = record {
   selection = λ t. put_both (λ _ a b. a ≡ if_own me b) ongoing.selection now.selection s x y own t (at.selection t);
   closes = at.closes;
 }
 
-put_closing : (me : CallerNo) (now : Progress) (ongoing : Ongoing) (s : ℕ) (x : Bool) (y : Option CallerNo) → x ≡ is_caller me y → IsOngoing me now ongoing
+put_closing : (me : CallerNo) (now : Progress) (ongoing : Ongoing) (s : ℕ) (x : Bool) (y : Option CallerNo)
+    → x ≡ is_caller me y → IsOngoing me now ongoing
     → IsOngoing me (record now { closing = put now.closing s y }) (record ongoing { closes = put ongoing.closes s x })
 put_closing me now ongoing s x y own at = record {
   selection = at.selection;
@@ -220,7 +268,8 @@ other_number : (me n : CallerNo) → n ≢ me → (k : ℕ) → (k == me.0) ≡ 
 other_number me n other k is = by_test (k == n.0) refl
   where
     by_test : (b : Bool) → (k == n.0) ≡ b → b ≡ false
-    by_test true same = absurd (other (ap (λ (j : ℕ). record { 0 = j }) (sym (eqb-true k n.0 same) ∙ eqb-true k me.0 is)))
+    by_test true same =
+        absurd (other (ap (λ (j : ℕ). record { 0 = j }) (sym (eqb-true k n.0 same) ∙ eqb-true k me.0 is)))
     by_test false same = refl
 
 -- a selection of this caller, whether it goes on or not, is none of another
@@ -228,7 +277,8 @@ none_of_other : (me n : CallerNo) → n ≢ me → (x : Selecting) → (x.caller
 none_of_other me n other x is = ap (λ b. if b then Some x.selection else None) (other_number me n other x.caller.0 is)
 
 -- who begins a selection takes the turn, and the others have none there
-leaves_begun : (me n : CallerNo) (now : Progress) (s : SelNo) (x : Selection) (acts : List Act) → n ≢ me → has (takes_turn s.0) acts ≡ true
+leaves_begun : (me n : CallerNo) (now : Progress) (s : SelNo) (x : Selection) (acts : List Act) → n ≢ me
+    → has (takes_turn s.0) acts ≡ true
     → LeavesTo n now acts (with_selection now s (Some (record { caller = me; selection = x })))
 leaves_begun me n now s x acts other taken = record { selection = at; closes = λ t. inl refl }
   where
@@ -238,57 +288,77 @@ leaves_begun me n now s x acts other taken = record { selection = at; closes = �
     left : Progress
     left = with_selection now s y
 
-    by_test : (t : ℕ) (b : Bool) → (t == s.0) ≡ b → (if_own n (if b then y else now.selection t) ≡ if_own n (now.selection t)) ⊎ IsTakenFrom n t acts left
+    by_test : (t : ℕ) (b : Bool) → (t == s.0) ≡ b
+        → (if_own n (if b then y else now.selection t) ≡ if_own n (now.selection t)) ⊎ IsTakenFrom n t acts left
     by_test t true is =
         let same : t ≡ s.0 = eqb-true t s.0 is in
         inr (record {
           taken = ap (λ (k : ℕ). has (takes_turn k) acts) same ∙ taken;
-          none = ap (λ b. if_own n (if b then y else now.selection t)) is ∙ none_of_other me n other (record { caller = me; selection = x }) (eq-eqb me.0 me.0 refl);
+          none = ap (λ b. if_own n (if b then y else now.selection t)) is
+              ∙ none_of_other me n other (record { caller = me; selection = x }) (eq-eqb me.0 me.0 refl);
         })
     by_test t false is = inl refl
 
     at : (t : ℕ) → (own_selection left n (selector t) ≡ own_selection now n (selector t)) ⊎ IsTakenFrom n t acts left
     at t = by_equal (t == s.0) refl
       where
-        by_equal : (b : Bool) → (t == s.0) ≡ b → (if_own n (if (t == s.0) then y else now.selection t) ≡ if_own n (now.selection t)) ⊎ IsTakenFrom n t acts left
-        by_equal b is = subst (λ (c : Bool). (if_own n (if c then y else now.selection t) ≡ if_own n (now.selection t)) ⊎ IsTakenFrom n t acts left) (sym is) (by_test t b is)
+        by_equal : (b : Bool) → (t == s.0) ≡ b
+            → (if_own n (if (t == s.0) then y else now.selection t) ≡ if_own n (now.selection t))
+            ⊎ IsTakenFrom n t acts left
+        by_equal b is =
+            subst (λ (c : Bool). (if_own n (if c then y else now.selection t) ≡ if_own n (now.selection t))
+            ⊎ IsTakenFrom n t acts left) (sym is) (by_test t b is)
 
 -- the end of a selection of this caller leaves those of the others
-leaves_ended : (me n : CallerNo) (now : Progress) (s : SelNo) (x : Selecting) (acts : List Act) → n ≢ me → now.selection s.0 ≡ Some x → (x.caller.0 == me.0) ≡ true
+leaves_ended : (me n : CallerNo) (now : Progress) (s : SelNo) (x : Selecting) (acts : List Act) → n ≢ me
+    → now.selection s.0 ≡ Some x → (x.caller.0 == me.0) ≡ true
     → LeavesTo n now acts (with_selection now s None)
 leaves_ended me n now s x acts other was by = record {
-  selection = λ t. inl (put_keeps (λ k y. if_own n y ≡ if_own n (now.selection k)) now.selection s.0 None (λ _. sym (ap (if_own n) was ∙ none_of_other me n other x by)) t refl);
+  selection = λ t. inl
+      (put_keeps (λ k y. if_own n y ≡ if_own n (now.selection k)) now.selection s.0 None
+      (λ _. sym (ap (if_own n) was ∙ none_of_other me n other x by)) t refl);
   closes = λ t. inl refl;
 }
 
 -- who shuts a selector
-leaves_shut : (me n : CallerNo) (now : Progress) (s : SelNo) (acts : List Act) → n ≢ me → has (shuts s.0) acts ≡ true → LeavesTo n now acts (with_closing now s (Some me))
-leaves_shut me n now s acts other shut_so = record { selection = λ t. inl refl; closes = λ t. by_equal t (t == s.0) refl }
+leaves_shut : (me n : CallerNo) (now : Progress) (s : SelNo) (acts : List Act) → n ≢ me → has (shuts s.0) acts ≡ true
+    → LeavesTo n now acts (with_closing now s (Some me))
+leaves_shut me n now s acts other shut_so =
+    record { selection = λ t. inl refl; closes = λ t. by_equal t (t == s.0) refl }
   where
     left : Progress
     left = with_closing now s (Some me)
 
-    by_test : (t : ℕ) (b : Bool) → (t == s.0) ≡ b → (is_caller n (if b then Some me else now.closing t) ≡ is_caller n (now.closing t)) ⊎ IsShutFrom n t acts left
+    by_test : (t : ℕ) (b : Bool) → (t == s.0) ≡ b
+        → (is_caller n (if b then Some me else now.closing t) ≡ is_caller n (now.closing t)) ⊎ IsShutFrom n t acts left
     by_test t true is =
         let same : t ≡ s.0 = eqb-true t s.0 is in
         inr (record {
           shut_so = ap (λ (k : ℕ). has (shuts k) acts) same ∙ shut_so;
-          none = ap (λ b. is_caller n (if b then Some me else now.closing t)) is ∙ other_number me n other me.0 (eq-eqb me.0 me.0 refl);
+          none = ap (λ b. is_caller n (if b then Some me else now.closing t)) is
+              ∙ other_number me n other me.0 (eq-eqb me.0 me.0 refl);
         })
     by_test t false is = inl refl
 
-    by_equal : (t : ℕ) (b : Bool) → (t == s.0) ≡ b → (is_caller n (if (t == s.0) then Some me else now.closing t) ≡ is_caller n (now.closing t)) ⊎ IsShutFrom n t acts left
-    by_equal t b is = subst (λ (c : Bool). (is_caller n (if c then Some me else now.closing t) ≡ is_caller n (now.closing t)) ⊎ IsShutFrom n t acts left) (sym is) (by_test t b is)
+    by_equal : (t : ℕ) (b : Bool) → (t == s.0) ≡ b
+        → (is_caller n (if (t == s.0) then Some me else now.closing t) ≡ is_caller n (now.closing t))
+        ⊎ IsShutFrom n t acts left
+    by_equal t b is =
+        subst (λ (c : Bool). (is_caller n (if c then Some me else now.closing t) ≡ is_caller n (now.closing t))
+        ⊎ IsShutFrom n t acts left) (sym is) (by_test t b is)
 
 none_closing : (me n : CallerNo) → n ≢ me → (o : Option CallerNo) → is_caller me o ≡ true → is_caller n o ≡ false
 none_closing me n other None is = refl
 none_closing me n other (Some m) is = other_number me n other m.0 is
 
 -- the end of its closing
-leaves_closed : (me n : CallerNo) (now : Progress) (s : SelNo) (acts : List Act) → n ≢ me → is_caller me (now.closing s.0) ≡ true → LeavesTo n now acts (with_closing now s None)
+leaves_closed : (me n : CallerNo) (now : Progress) (s : SelNo) (acts : List Act) → n ≢ me
+    → is_caller me (now.closing s.0) ≡ true → LeavesTo n now acts (with_closing now s None)
 leaves_closed me n now s acts other by = record {
   selection = λ t. inl refl;
-  closes = λ t. inl (put_keeps (λ k y. is_caller n y ≡ is_caller n (now.closing k)) now.closing s.0 None (λ _. sym (none_closing me n other (now.closing s.0) by)) t refl);
+  closes = λ t. inl
+      (put_keeps (λ k y. is_caller n y ≡ is_caller n (now.closing k)) now.closing s.0 None
+      (λ _. sym (none_closing me n other (now.closing s.0) by)) t refl);
 }
 
 -- ---- beginning a selection
@@ -297,39 +367,55 @@ abbrev anything : {R : Type 0} → List Act → R → Type 0
 anything acts r = Unit {0}
 
 -- a `try_begin` that has memory doesn't answer that it lacks it
-begin_has_memory : (s : SelNo) (mode : Mode) → Always (λ _ r. begin_lacks_memory r ≡ false) (try_begin_plan s mode false)
+begin_has_memory : (s : SelNo) (mode : Mode)
+    → Always (λ _ r. begin_lacks_memory r ≡ false) (try_begin_plan s mode false)
 unfolding try_begin_plan
-begin_has_memory s mode = λ gate asks. always_if (λ _ r. begin_lacks_memory r ≡ false) (gate_in (answer_of gate)).shut (Plan.reply (Err BeginError.ClosedSelector)) _ (λ _. refl)
-    (λ _ take asks'. always_if (λ _ r. begin_lacks_memory r ≡ false) (is_some (holder_in (answer_of take))) (Plan.reply (Err BeginError.Busy)) (begin_with_turn s mode false) (λ _. refl)
-    (λ _ look asks''. always_if (λ _ r. begin_lacks_memory r ≡ false) (gate_in (answer_of look)).shut (given_back s (Err BeginError.ClosedSelector)) _ (λ _ give _. refl)
+begin_has_memory s mode =
+    λ gate asks. always_if (λ _ r. begin_lacks_memory r ≡ false) (gate_in (answer_of gate)).shut
+    (Plan.reply (Err BeginError.ClosedSelector)) _ (λ _. refl)
+    (λ _ take asks'. always_if (λ _ r. begin_lacks_memory r ≡ false) (is_some (holder_in (answer_of take)))
+    (Plan.reply (Err BeginError.Busy)) (begin_with_turn s mode false) (λ _. refl)
+    (λ _ look asks''. always_if (λ _ r. begin_lacks_memory r ≡ false) (gate_in (answer_of look)).shut
+    (given_back s (Err BeginError.ClosedSelector)) _ (λ _ give _. refl)
     (λ _ looked asks'''. let bound = number_in (answer_of looked) in
     always_bind anything (λ _ r. begin_lacks_memory r ≡ false) (list_below s bound) _ (always_any (list_below s bound))
-    (λ _ listed _. always_bind anything (λ _ r. begin_lacks_memory r ≡ false) (sweep_over listed (look_over s) (record { looked = []; kept = [] })) _ (always_any _) (λ _ _ _. refl)))))
+    (λ _ listed _. always_bind anything (λ _ r. begin_lacks_memory r ≡ false)
+    (sweep_over listed (look_over s) (record { looked = []; kept = [] })) _ (always_any _) (λ _ _ _. refl)))))
 
 -- a `try_begin` that answers Ok found the turn free
-begin_takes : (s : SelNo) (mode : Mode) (lacks : Bool) → Always (λ acts r. is_ok r ≡ true → has (takes_turn s.0) acts ≡ true) (try_begin_plan s mode lacks)
+begin_takes : (s : SelNo) (mode : Mode) (lacks : Bool)
+    → Always (λ acts r. is_ok r ≡ true → has (takes_turn s.0) acts ≡ true) (try_begin_plan s mode lacks)
 unfolding try_begin_plan
-begin_takes s mode lacks = λ gate asks. always_if (λ acts r. is_ok r ≡ true → has (takes_turn s.0) (gate ∷ acts) ≡ true) (gate_in (answer_of gate)).shut (Plan.reply (Err BeginError.ClosedSelector)) _ (λ _ ok. absurd (cc ok))
+begin_takes s mode lacks =
+    λ gate asks. always_if (λ acts r. is_ok r ≡ true → has (takes_turn s.0) (gate ∷ acts) ≡ true)
+    (gate_in (answer_of gate)).shut (Plan.reply (Err BeginError.ClosedSelector)) _ (λ _ ok. absurd (cc ok))
     (λ _ take asks'. by_take gate take asks')
   where
     by_take : (gate take : Act) → question_of take ≡ Question.take_turn s
-        → Always (λ acts r. is_ok r ≡ true → has (takes_turn s.0) (gate ∷ take ∷ acts) ≡ true) (if is_some (holder_in (answer_of take)) then Plan.reply (Err BeginError.Busy) else begin_with_turn s mode lacks)
+        → Always (λ acts r. is_ok r ≡ true → has (takes_turn s.0) (gate ∷ take ∷ acts) ≡ true)
+        (if is_some (holder_in (answer_of take)) then Plan.reply (Err BeginError.Busy)
+        else begin_with_turn s mode lacks)
     by_take gate (TakeTurn s' (Some n)) asks = λ ok. absurd (cc ok)
     by_take gate (TakeTurn s' None) asks =
         let same : s'.0 ≡ s.0 = ap (λ (x : SelNo). x.0) (cc asks) in
-        always_weaker anything (λ acts r. is_ok r ≡ true → has (takes_turn s.0) (gate ∷ TakeTurn s' None ∷ acts) ≡ true) (begin_with_turn s mode lacks)
-        (λ acts r _ _. has-second (takes_turn s.0) (gate ∷ []) (TakeTurn s' None ∷ acts) (ap (λ b. b || has (takes_turn s.0) acts) (eq-eqb s'.0 s.0 same)))
+        always_weaker anything (λ acts r. is_ok r ≡ true → has (takes_turn s.0) (gate ∷ TakeTurn s' None ∷ acts) ≡ true)
+        (begin_with_turn s mode lacks)
+        (λ acts r _ _. has-second (takes_turn s.0) (gate ∷ []) (TakeTurn s' None ∷ acts)
+        (ap (λ b. b || has (takes_turn s.0) acts) (eq-eqb s'.0 s.0 same)))
         (always_any (begin_with_turn s mode lacks))
     by_take gate _ asks = absurd (cc asks)
 
 -- ---- telling
 
 -- a `told` that answers Again goes on with the same selection
-pub again-same : (x next : Selection) (pairs : List (ℕ × ℕ)) (elapsed : Bool) (acts : List Act) → Completes (told_plan x pairs elapsed) acts (again next) → next ≡ x
+pub again-same : (x next : Selection) (pairs : List (ℕ × ℕ)) (elapsed : Bool) (acts : List Act)
+    → Completes (told_plan x pairs elapsed) acts (again next) → next ≡ x
 unfolding told_plan
 again-same x next pairs elapsed acts run =
-    let parts = split (sweep_over x.looked (mark_entry x.selector pairs) 0) (after_marks x elapsed) acts (again next) run in
-    (each_run (NoMark x.selector.0) (Replies x parts.middle) (after_marks x elapsed parts.middle) parts.second (again next) (after-replies x elapsed parts.middle) parts.runs_second).1.0
+    let parts = split (sweep_over x.looked (mark_entry x.selector pairs) 0) (after_marks x elapsed) acts
+    (again next) run in
+    (each_run (NoMark x.selector.0) (Replies x parts.middle) (after_marks x elapsed parts.middle) parts.second
+    (again next) (after-replies x elapsed parts.middle) parts.runs_second).1.0
 
 -- ---- shutting
 
@@ -338,18 +424,25 @@ shut_shuts : (s : SelNo) → Always (λ acts r. r ≡ closing → has (shuts s.0
 unfolding shut_plan
 shut_shuts s = λ act asks. by_act act asks
   where
-    by_act : (act : Act) → question_of act ≡ Question.shut_bit s → Always (λ acts r. r ≡ closing → has (shuts s.0) (act ∷ acts) ≡ true) (Plan.reply (if flag_in (answer_of act) then already_closed else closing))
+    by_act : (act : Act) → question_of act ≡ Question.shut_bit s
+        → Always (λ acts r. r ≡ closing → has (shuts s.0) (act ∷ acts) ≡ true)
+        (Plan.reply (if flag_in (answer_of act) then already_closed else closing))
     by_act (ShutBit s' true) asks = λ is. absurd (cc is)
-    by_act (ShutBit s' false) asks = λ _. let same : s'.0 ≡ s.0 = ap (λ (x : SelNo). x.0) (cc asks) in ap (λ b. b || false) (eq-eqb s'.0 s.0 same)
+    by_act (ShutBit s' false) asks = λ _. let same : s'.0 ≡ s.0 =
+        ap (λ (x : SelNo). x.0) (cc asks) in ap (λ b. b || false) (eq-eqb s'.0 s.0 same)
     by_act _ asks = absurd (cc asks)
 
 -- ---- listing
 
 -- a listing that has memory doesn't answer that it lacks it
-list_has_memory : (list_one : SelNo → ℕ → List KeyNo → Plan (List KeyNo)) (s : SelNo) → Always (λ _ r. list_lacks_memory r ≡ false) (list_plan list_one s false)
-list_has_memory list_one s = λ gate asks. always_if (λ _ r. list_lacks_memory r ≡ false) (gate_in (answer_of gate)).shut (Plan.reply (Err ListError.ClosedSelector)) (list_open list_one s false) (λ _. refl)
+list_has_memory : (list_one : SelNo → ℕ → List KeyNo → Plan (List KeyNo)) (s : SelNo)
+    → Always (λ _ r. list_lacks_memory r ≡ false) (list_plan list_one s false)
+list_has_memory list_one s =
+    λ gate asks. always_if (λ _ r. list_lacks_memory r ≡ false) (gate_in (answer_of gate)).shut
+    (Plan.reply (Err ListError.ClosedSelector)) (list_open list_one s false) (λ _. refl)
     (λ _ looked asks'. let bound = number_in (answer_of looked) in
-    always_bind anything (λ _ r. list_lacks_memory r ≡ false) (sweep_to bound 0 (list_one s) []) _ (always_any _) (λ _ _ _. refl))
+    always_bind anything (λ _ r. list_lacks_memory r ≡ false) (sweep_to bound 0 (list_one s) []) _ (always_any _)
+    (λ _ _ _. refl))
 
 -- ---- making a pipe
 
@@ -358,9 +451,11 @@ has_memory acts answer = pipe_lacks_memory answer ≡ false
 
 without_sink_memory : (l : Limits) (source : ChanNo) → Always has_memory (without_sink l source)
 without_sink_memory l source =
-    always_bind anything has_memory (close_channel_plan l source) _ (always_any (close_channel_plan l source)) (λ _ _ _. refl)
+    always_bind anything has_memory (close_channel_plan l source) _ (always_any (close_channel_plan l source))
+    (λ _ _ _. refl)
 
-sink_memory : (l : Limits) (source : ChanNo) (answer : Result ChanNo ChannelError) → Always has_memory (with_sink l source answer)
+sink_memory : (l : Limits) (source : ChanNo) (answer : Result ChanNo ChannelError)
+    → Always has_memory (with_sink l source answer)
 sink_memory l source (Ok sink) = refl
 sink_memory l source (Err ChannelError.ChannelsSpent) = without_sink_memory l source
 sink_memory l source (Err ChannelError.IllegalOps) = without_sink_memory l source
@@ -373,7 +468,8 @@ sink_memory l source (Err ChannelError.Full) = without_sink_memory l source
 
 source_memory : (l : Limits) (answer : Result ChanNo ChannelError) → Always has_memory (with_source l answer)
 source_memory l (Ok source) =
-    always_bind anything has_memory (open_channel_plan l Sink) (with_sink l source) (always_any (open_channel_plan l Sink)) (λ _ answer _. sink_memory l source answer)
+    always_bind anything has_memory (open_channel_plan l Sink) (with_sink l source)
+    (always_any (open_channel_plan l Sink)) (λ _ answer _. sink_memory l source answer)
 source_memory l (Err ChannelError.ChannelsSpent) = refl
 source_memory l (Err ChannelError.IllegalOps) = refl
 source_memory l (Err ChannelError.ClosedChannel) = refl
@@ -387,36 +483,53 @@ source_memory l (Err ChannelError.Full) = refl
 pipe_has_memory : (l : Limits) → Always has_memory (pipe_plan l false)
 unfolding pipe_plan
 pipe_has_memory l =
-    always_bind anything has_memory (open_channel_plan l Source) (with_source l) (always_any (open_channel_plan l Source)) (λ _ answer _. source_memory l answer)
+    always_bind anything has_memory (open_channel_plan l Source) (with_source l)
+    (always_any (open_channel_plan l Source)) (λ _ answer _. source_memory l answer)
 
 -- ---- want of memory
 
 -- a branch of a plan that was taken
-taken-follows : {R : Type 0} (b : Bool) (x y : Plan R) (acts : List Act) (rest : Plan R) → b ≡ true → Follows x acts rest → Follows (if b then x else y) acts rest
+taken-follows : {R : Type 0} (b : Bool) (x y : Plan R) (acts : List Act) (rest : Plan R) → b ≡ true
+    → Follows x acts rest → Follows (if b then x else y) acts rest
 taken-follows b x y acts rest is here = subst (λ c. Follows (if c then x else y) acts rest) (sym is) here
 
-else-follows : {R : Type 0} (b : Bool) (x y : Plan R) (acts : List Act) (rest : Plan R) → b ≡ false → Follows y acts rest → Follows (if b then x else y) acts rest
+else-follows : {R : Type 0} (b : Bool) (x y : Plan R) (acts : List Act) (rest : Plan R) → b ≡ false
+    → Follows y acts rest → Follows (if b then x else y) acts rest
 else-follows b x y acts rest is here = subst (λ c. Follows (if c then x else y) acts rest) (sym is) here
 
 -- a `try_begin` without memory is the call with its answer, and begins nothing
-begin_without_memory : (s : SelNo) (mode : Mode) → Always (λ acts r. Completes (try_begin_plan s mode (begin_lacks_memory r)) acts r × (is_ok r ≡ false)) (try_begin_plan s mode true)
+begin_without_memory : (s : SelNo) (mode : Mode)
+    → Always (λ acts r. Completes (try_begin_plan s mode (begin_lacks_memory r)) acts r × (is_ok r ≡ false))
+    (try_begin_plan s mode true)
 unfolding try_begin_plan
 begin_without_memory s mode = λ gate asks_gate.
     always_if (λ acts r. Completes (try_begin_plan s mode (begin_lacks_memory r)) (gate ∷ acts) r × (is_ok r ≡ false))
     (gate_in (answer_of gate)).shut (Plan.reply (Err BeginError.ClosedSelector)) (begin_open s mode true)
     (λ is. ((asks_gate, taken-follows (gate_in (answer_of gate)).shut _ _ [] _ is refl), refl))
     (λ opens take asks_take.
-    always_if (λ acts r. Completes (try_begin_plan s mode (begin_lacks_memory r)) (gate ∷ take ∷ acts) r × (is_ok r ≡ false))
+    always_if (λ acts r. Completes (try_begin_plan s mode (begin_lacks_memory r)) (gate ∷ take ∷ acts) r
+    × (is_ok r ≡ false))
     (is_some (holder_in (answer_of take))) (Plan.reply (Err BeginError.Busy)) (begin_with_turn s mode true)
-    (λ is. ((asks_gate, else-follows (gate_in (answer_of gate)).shut _ _ (take ∷ []) _ opens (asks_take, taken-follows (is_some (holder_in (answer_of take))) _ _ [] _ is refl)), refl))
+    (λ is. (
+      (
+        asks_gate,
+        else-follows (gate_in (answer_of gate)).shut _ _ (take ∷ []) _ opens
+            (asks_take, taken-follows (is_some (holder_in (answer_of take))) _ _ [] _ is refl),
+      ),
+      refl,
+    ))
     (λ takes look asks_look.
-    always_if (λ acts r. Completes (try_begin_plan s mode (begin_lacks_memory r)) (gate ∷ take ∷ look ∷ acts) r × (is_ok r ≡ false))
+    always_if (λ acts r. Completes (try_begin_plan s mode (begin_lacks_memory r)) (gate ∷ take ∷ look ∷ acts) r
+    × (is_ok r ≡ false))
     (gate_in (answer_of look)).shut (given_back s (Err BeginError.ClosedSelector)) _
     (λ is give asks_give. (
       (
         asks_gate,
-        else-follows (gate_in (answer_of gate)).shut _ _ (take ∷ look ∷ give ∷ []) _ opens
-            (asks_take, else-follows (is_some (holder_in (answer_of take))) _ _ (look ∷ give ∷ []) _ takes (asks_look, taken-follows (gate_in (answer_of look)).shut _ _ (give ∷ []) _ is (asks_give, refl))),
+        else-follows (gate_in (answer_of gate)).shut _ _ (take ∷ look ∷ give ∷ []) _ opens (
+          asks_take,
+          else-follows (is_some (holder_in (answer_of take))) _ _ (look ∷ give ∷ []) _ takes
+              (asks_look, taken-follows (gate_in (answer_of look)).shut _ _ (give ∷ []) _ is (asks_give, refl)),
+        ),
       ),
       refl,
     ))
@@ -425,19 +538,25 @@ begin_without_memory s mode = λ gate asks_gate.
         asks_gate,
         else-follows (gate_in (answer_of gate)).shut _ _ (take ∷ look ∷ looked ∷ give ∷ []) _ opens (
           asks_take,
-          else-follows (is_some (holder_in (answer_of take))) _ _ (look ∷ looked ∷ give ∷ []) _ takes
-              (asks_look, else-follows (gate_in (answer_of look)).shut _ _ (looked ∷ give ∷ []) _ still (asks_keys, (asks_give, refl))),
+          else-follows (is_some (holder_in (answer_of take))) _ _ (look ∷ looked ∷ give ∷ []) _ takes (
+            asks_look,
+            else-follows (gate_in (answer_of look)).shut _ _ (looked ∷ give ∷ []) _ still
+                (asks_keys, (asks_give, refl)),
+          ),
         ),
       ),
       refl,
     ))))
 
 -- a listing without memory is the call with its answer
-list_without_memory : (list_one : SelNo → ℕ → List KeyNo → Plan (List KeyNo)) (s : SelNo) → Always (λ acts r. Completes (list_plan list_one s (list_lacks_memory r)) acts r) (list_plan list_one s true)
+list_without_memory : (list_one : SelNo → ℕ → List KeyNo → Plan (List KeyNo)) (s : SelNo)
+    → Always (λ acts r. Completes (list_plan list_one s (list_lacks_memory r)) acts r) (list_plan list_one s true)
 list_without_memory list_one s = λ gate asks_gate.
-    always_if (λ acts r. Completes (list_plan list_one s (list_lacks_memory r)) (gate ∷ acts) r) (gate_in (answer_of gate)).shut (Plan.reply (Err ListError.ClosedSelector)) (list_open list_one s true)
+    always_if (λ acts r. Completes (list_plan list_one s (list_lacks_memory r)) (gate ∷ acts) r)
+    (gate_in (answer_of gate)).shut (Plan.reply (Err ListError.ClosedSelector)) (list_open list_one s true)
     (λ is. (asks_gate, taken-follows (gate_in (answer_of gate)).shut _ _ [] _ is refl))
-    (λ opens looked asks_keys. (asks_gate, else-follows (gate_in (answer_of gate)).shut _ _ (looked ∷ []) _ opens (asks_keys, refl)))
+    (λ opens looked asks_keys.
+    (asks_gate, else-follows (gate_in (answer_of gate)).shut _ _ (looked ∷ []) _ opens (asks_keys, refl)))
 
 -- ---- each call
 
@@ -452,7 +571,8 @@ pub own-is : (me : CallerNo) (o : Option Selecting) (x : Selection) → if_own m
 own-is me None x is = absurd (cc is)
 own-is me (Some y) x is = by_test (y.caller.0 == me.0) refl is
   where
-    by_test : (b : Bool) → (y.caller.0 == me.0) ≡ b → (if b then Some y.selection else None) ≡ Some x → Own me (Some y) x
+    by_test : (b : Bool) → (y.caller.0 == me.0) ≡ b → (if b then Some y.selection else None) ≡ Some x
+        → Own me (Some y) x
     by_test true by is' = record { its = y; is = refl; by = by; same = cc is' }
     by_test false by is' = absurd (cc is')
 
@@ -463,30 +583,41 @@ AreOn now = (s : ℕ) (x : Selecting) → now.selection s ≡ Some x → x.selec
 module _ (l : Limits) (me : CallerNo) (now : Progress) where
   -- a call that leaves what is in progress
   leads_ask : {R : Type 0} (plan : Plan R) (call : R → Made) (said : R → Reply)
-      → ((ongoing : Ongoing) (acts : List Act) (a : R) → Completes plan acts a → IsOngoing me now ongoing → Comes l me now ongoing (call a) acts now) → Leads l me now (asks now plan said)
-  leads_ask plan call said comes = leads_call l me now plan call (λ _. now) _ comes (λ a. leads_answer l me now (said a))
+      → ((ongoing : Ongoing) (acts : List Act) (a : R) → Completes plan acts a → IsOngoing me now ongoing
+      → Comes l me now ongoing (call a) acts now) → Leads l me now (asks now plan said)
+  leads_ask plan call said comes =
+      leads_call l me now plan call (λ _. now) _ comes (λ a. leads_answer l me now (said a))
 
   leads_begin : (s : SelNo) (mode : Option Mode) → Leads l me now (begin_line now me s mode)
   leads_begin s None = leads_refused l me now _
-  leads_begin s (Some mode) = leads_call l me now (try_begin_plan s mode false) (λ a. try_begin s mode a) (after_begin now me s) _ comes (λ a. leads_answer l me (after_begin now me s a) (begin_reply a))
+  leads_begin s (Some mode) =
+      leads_call l me now (try_begin_plan s mode false) (λ a. try_begin s mode a) (after_begin now me s) _ comes
+      (λ a. leads_answer l me (after_begin now me s a) (begin_reply a))
     where
-      comes : (ongoing : Ongoing) (acts : List Act) (a : Result Selection BeginError) → Completes (try_begin_plan s mode false) acts a → IsOngoing me now ongoing
+      comes : (ongoing : Ongoing) (acts : List Act) (a : Result Selection BeginError)
+          → Completes (try_begin_plan s mode false) acts a → IsOngoing me now ongoing
           → Comes l me now ongoing (try_begin s mode a) acts (after_begin now me s a)
       comes ongoing acts (Ok x) run at = record {
         run = run;
         may = tt;
-        after = put_selection me now ongoing s.0 (Some x) (Some (record { caller = me; selection = x })) (ap (λ b. if b then Some x else None) (sym (eq-eqb me.0 me.0 refl))) at;
-        others = λ n other. leaves_begun me n now s x acts other (always_run (λ acts' r. is_ok r ≡ true → has (takes_turn s.0) acts' ≡ true) (try_begin_plan s mode false) acts (Ok x) (begin_takes s mode false) run refl);
+        after = put_selection me now ongoing s.0 (Some x) (Some (record { caller = me; selection = x }))
+            (ap (λ b. if b then Some x else None) (sym (eq-eqb me.0 me.0 refl))) at;
+        others = λ n other. leaves_begun me n now s x acts other
+            (always_run (λ acts' r. is_ok r ≡ true → has (takes_turn s.0) acts' ≡ true)
+            (try_begin_plan s mode false) acts (Ok x) (begin_takes s mode false) run refl);
       }
       comes ongoing acts (Err refusal) run at =
           quiet l me now ongoing (try_begin s mode (Err refusal)) acts
           (subst (λ b. Completes (try_begin_plan s mode b) acts (Err refusal))
-          (sym (always_run (λ _ r. begin_lacks_memory r ≡ false) (try_begin_plan s mode false) acts (Err refusal) (begin_has_memory s mode) run)) run) tt at
+          (sym (always_run (λ _ r. begin_lacks_memory r ≡ false) (try_begin_plan s mode false) acts (Err refusal)
+          (begin_has_memory s mode) run)) run) tt at
 
-  leads_told : (s : SelNo) (elapsed : Bool) (pairs : List (KeyId × ℕ)) (o : Option Selection) → AreOn now → own_selection now me s ≡ o → Leads l me now (told_line now s elapsed pairs o)
+  leads_told : (s : SelNo) (elapsed : Bool) (pairs : List (KeyId × ℕ)) (o : Option Selection) → AreOn now
+      → own_selection now me s ≡ o → Leads l me now (told_line now s elapsed pairs o)
   leads_told s elapsed pairs None on own = leads_refused l me now _
   leads_told s elapsed pairs (Some x) on own =
-      leads_call l me now (told_plan x (by_index x pairs) elapsed) (λ a. told x poll a) (after_told now s) _ comes (λ a. leads_answer l me (after_told now s a) (told_reply a))
+      leads_call l me now (told_plan x (by_index x pairs) elapsed) (λ a. told x poll a) (after_told now s) _ comes
+      (λ a. leads_answer l me (after_told now s a) (told_reply a))
     where
       poll : Poll
       poll = record { pairs = by_index x pairs; elapsed = elapsed }
@@ -500,30 +631,40 @@ module _ (l : Limits) (me : CallerNo) (now : Progress) where
       may_come : (ongoing : Ongoing) → IsOngoing me now ongoing → ongoing.selection x.selector.0 ≡ Some x
       may_come ongoing at = ap ongoing.selection on_it ∙ (at.selection s.0 ∙ own)
 
-      comes : (ongoing : Ongoing) (acts : List Act) (a : ToldReply) → Completes (told_plan x (by_index x pairs) elapsed) acts a → IsOngoing me now ongoing
+      comes : (ongoing : Ongoing) (acts : List Act) (a : ToldReply)
+          → Completes (told_plan x (by_index x pairs) elapsed) acts a → IsOngoing me now ongoing
           → Comes l me now ongoing (told x poll a) acts (after_told now s a)
       comes ongoing acts (done answer) run at = record {
         run = run;
         may = may_come ongoing at;
-        after = subst (λ (k : ℕ). IsOngoing me (with_selection now s None) (record ongoing { selection = put ongoing.selection k None })) (sym on_it) (put_selection me now ongoing s.0 None None refl at);
+        after = subst
+            (λ (k : ℕ). IsOngoing me (with_selection now s None)
+            (record ongoing { selection = put ongoing.selection k None })) (sym on_it)
+            (put_selection me now ongoing s.0 None None refl at);
         others = λ n other. leaves_ended me n now s its.its acts other its.is its.by;
       }
       comes ongoing acts (again next) run at =
           quiet l me now ongoing (told x poll (again next)) acts run (may_come ongoing at)
           (record {
-            selection = λ t. put_keeps (λ k y. y ≡ if_own me (now.selection k)) ongoing.selection x.selector.0 (Some next)
-                (λ here. ap Some (again-same x next (by_index x pairs) elapsed acts run) ∙ (sym (may_come ongoing at) ∙ here)) t (at.selection t);
+            selection =
+                λ t. put_keeps (λ k y. y ≡ if_own me (now.selection k)) ongoing.selection x.selector.0 (Some next)
+                (λ here. ap Some (again-same x next (by_index x pairs) elapsed acts run)
+                ∙ (sym (may_come ongoing at) ∙ here)) t (at.selection t);
             closes = at.closes;
           })
 
-  leads_failed : (s : SelNo) (o : Option Selection) → AreOn now → own_selection now me s ≡ o → Leads l me now (failed_line now s o)
+  leads_failed : (s : SelNo) (o : Option Selection) → AreOn now → own_selection now me s ≡ o
+      → Leads l me now (failed_line now s o)
   leads_failed s None on own = leads_refused l me now _
   leads_failed s (Some x) on own =
       leads_call l me now (leave_plan x) (λ _. leave x) (λ _. with_selection now s None) _
       (λ ongoing acts a run at. record {
         run = run;
         may = ap ongoing.selection on_it ∙ (at.selection s.0 ∙ own);
-        after = subst (λ (k : ℕ). IsOngoing me (with_selection now s None) (record ongoing { selection = put ongoing.selection k None })) (sym on_it) (put_selection me now ongoing s.0 None None refl at);
+        after = subst
+            (λ (k : ℕ). IsOngoing me (with_selection now s None)
+            (record ongoing { selection = put ongoing.selection k None })) (sym on_it)
+            (put_selection me now ongoing s.0 None None refl at);
         others = λ n other. leaves_ended me n now s its.its acts other its.is its.by;
       })
       (λ a. leads_answer l me (with_selection now s None) reply.Left)
@@ -535,24 +676,33 @@ module _ (l : Limits) (me : CallerNo) (now : Progress) where
       on_it = ap (λ (y : Selection). y.selector.0) (sym its.same) ∙ on s.0 its.its its.is
 
   leads_close : (s : SelNo) → Leads l me now (makes (shut_plan s) shut_reply (after_shut now me s))
-  leads_close s = leads_call l me now (shut_plan s) (λ a. shut s a) (after_shut now me s) _ comes (λ a. leads_answer l me (after_shut now me s a) (shut_reply a))
+  leads_close s =
+      leads_call l me now (shut_plan s) (λ a. shut s a) (after_shut now me s) _ comes
+      (λ a. leads_answer l me (after_shut now me s a) (shut_reply a))
     where
-      comes : (ongoing : Ongoing) (acts : List Act) (a : ShutReply) → Completes (shut_plan s) acts a → IsOngoing me now ongoing → Comes l me now ongoing (shut s a) acts (after_shut now me s a)
+      comes : (ongoing : Ongoing) (acts : List Act) (a : ShutReply) → Completes (shut_plan s) acts a
+          → IsOngoing me now ongoing → Comes l me now ongoing (shut s a) acts (after_shut now me s a)
       comes ongoing acts closing run at = record {
         run = run;
         may = tt;
         after = put_closing me now ongoing s.0 true (Some me) (sym (eq-eqb me.0 me.0 refl)) at;
-        others = λ n other. leaves_shut me n now s acts other (always_run (λ acts' r. r ≡ closing → has (shuts s.0) acts' ≡ true) (shut_plan s) acts closing (shut_shuts s) run refl);
+        others = λ n other. leaves_shut me n now s acts other
+            (always_run (λ acts' r. r ≡ closing → has (shuts s.0) acts' ≡ true) (shut_plan s) acts closing
+            (shut_shuts s) run refl);
       }
       comes ongoing acts already_closed run at = quiet l me now ongoing (shut s already_closed) acts run tt at
 
   leads_close_end : (s : SelNo) → Leads l me now (close_end_line now me s)
   leads_close_end s = leads_if l me now (is_caller me (now.closing s.0)) _ _ finishes (λ _. leads_refused l me now _)
     where
-      finishes : is_caller me (now.closing s.0) ≡ true → Leads l me now (makes (try_finish_plan s) finish_reply (after_finish now s))
-      finishes by = leads_call l me now (try_finish_plan s) (λ a. try_finish s a) (after_finish now s) _ comes (λ a. leads_answer l me (after_finish now s a) (finish_reply a))
+      finishes : is_caller me (now.closing s.0) ≡ true
+          → Leads l me now (makes (try_finish_plan s) finish_reply (after_finish now s))
+      finishes by =
+          leads_call l me now (try_finish_plan s) (λ a. try_finish s a) (after_finish now s) _ comes
+          (λ a. leads_answer l me (after_finish now s a) (finish_reply a))
         where
-          comes : (ongoing : Ongoing) (acts : List Act) (a : FinishReply) → Completes (try_finish_plan s) acts a → IsOngoing me now ongoing → Comes l me now ongoing (try_finish s a) acts (after_finish now s a)
+          comes : (ongoing : Ongoing) (acts : List Act) (a : FinishReply) → Completes (try_finish_plan s) acts a
+              → IsOngoing me now ongoing → Comes l me now ongoing (try_finish s a) acts (after_finish now s a)
           comes ongoing acts closed run at = record {
             run = run;
             may = at.closes s.0 ∙ by;
@@ -563,31 +713,42 @@ module _ (l : Limits) (me : CallerNo) (now : Progress) where
 
   -- want of memory
 
-  pub leads_begin_memory : (s : SelNo) (mode : Mode) (said : Result Selection BeginError → Reply) → Leads l me now (asks now (try_begin_plan s mode true) said)
+  pub leads_begin_memory : (s : SelNo) (mode : Mode) (said : Result Selection BeginError → Reply)
+      → Leads l me now (asks now (try_begin_plan s mode true) said)
   leads_begin_memory s mode said = leads_ask (try_begin_plan s mode true) (λ a. try_begin s mode a) said comes
     where
-      comes : (ongoing : Ongoing) (acts : List Act) (a : Result Selection BeginError) → Completes (try_begin_plan s mode true) acts a → IsOngoing me now ongoing
+      comes : (ongoing : Ongoing) (acts : List Act) (a : Result Selection BeginError)
+          → Completes (try_begin_plan s mode true) acts a → IsOngoing me now ongoing
           → Comes l me now ongoing (try_begin s mode a) acts now
       comes ongoing acts a run at =
-          by_answer a (always_run (λ acts' r. Completes (try_begin_plan s mode (begin_lacks_memory r)) acts' r × (is_ok r ≡ false)) (try_begin_plan s mode true) acts a (begin_without_memory s mode) run)
+          by_answer a
+          (always_run (λ acts' r. Completes (try_begin_plan s mode (begin_lacks_memory r)) acts' r
+          × (is_ok r ≡ false)) (try_begin_plan s mode true) acts a (begin_without_memory s mode) run)
         where
-          by_answer : (r : Result Selection BeginError) → Completes (try_begin_plan s mode (begin_lacks_memory r)) acts r × (is_ok r ≡ false) → Comes l me now ongoing (try_begin s mode r) acts now
+          by_answer : (r : Result Selection BeginError)
+              → Completes (try_begin_plan s mode (begin_lacks_memory r)) acts r × (is_ok r ≡ false)
+              → Comes l me now ongoing (try_begin s mode r) acts now
           by_answer (Ok x) without = absurd (cc without.1)
           by_answer (Err refusal) without = quiet l me now ongoing (try_begin s mode (Err refusal)) acts without.0 tt at
 
-  pub leads_keys_memory : (s : SelNo) (said : Result (List KeyNo) ListError → Reply) → Leads l me now (asks now (keys_plan s true) said)
+  pub leads_keys_memory : (s : SelNo) (said : Result (List KeyNo) ListError → Reply)
+      → Leads l me now (asks now (keys_plan s true) said)
   unfolding keys_plan
   leads_keys_memory s said =
       leads_ask (keys_plan s true) (λ a. keys s a) said
-      (λ ongoing acts a run at. quiet l me now ongoing (keys s a) acts (always_run (λ acts' r. Completes (list_plan list_key s (list_lacks_memory r)) acts' r) (list_plan list_key s true) acts a (list_without_memory list_key s) run) tt at)
+      (λ ongoing acts a run at. quiet l me now ongoing (keys s a) acts
+      (always_run (λ acts' r. Completes (list_plan list_key s (list_lacks_memory r)) acts' r)
+      (list_plan list_key s true) acts a (list_without_memory list_key s) run) tt at)
 
-  pub leads_selected_memory : (s : SelNo) (said : Result (List KeyNo) ListError → Reply) → Leads l me now (asks now (selected_keys_plan s true) said)
+  pub leads_selected_memory : (s : SelNo) (said : Result (List KeyNo) ListError → Reply)
+      → Leads l me now (asks now (selected_keys_plan s true) said)
   unfolding selected_keys_plan
   leads_selected_memory s said =
       leads_ask (selected_keys_plan s true) (λ a. selected_keys s a) said
       (λ ongoing acts a run at.
       quiet l me now ongoing (selected_keys s a) acts
-      (always_run (λ acts' r. Completes (list_plan list_selected s (list_lacks_memory r)) acts' r) (list_plan list_selected s true) acts a (list_without_memory list_selected s) run) tt at)
+      (always_run (λ acts' r. Completes (list_plan list_selected s (list_lacks_memory r)) acts' r)
+      (list_plan list_selected s true) acts a (list_without_memory list_selected s) run) tt at)
 
   leads_keys : (s : SelNo) → Leads l me now (asks now (keys_plan s false) list_reply)
   unfolding keys_plan
@@ -595,7 +756,9 @@ module _ (l : Limits) (me : CallerNo) (now : Progress) where
       leads_ask (keys_plan s false) (λ a. keys s a) list_reply
       (λ ongoing acts a run at.
       quiet l me now ongoing (keys s a) acts
-      (subst (λ b. Completes (list_plan list_key s b) acts a) (sym (always_run (λ _ r. list_lacks_memory r ≡ false) (list_plan list_key s false) acts a (list_has_memory list_key s) run)) run) tt at)
+      (subst (λ b. Completes (list_plan list_key s b) acts a)
+      (sym (always_run (λ _ r. list_lacks_memory r ≡ false) (list_plan list_key s false) acts a
+      (list_has_memory list_key s) run)) run) tt at)
 
   leads_selected : (s : SelNo) → Leads l me now (asks now (selected_keys_plan s false) list_reply)
   unfolding selected_keys_plan
@@ -603,12 +766,15 @@ module _ (l : Limits) (me : CallerNo) (now : Progress) where
       leads_ask (selected_keys_plan s false) (λ a. selected_keys s a) list_reply
       (λ ongoing acts a run at.
       quiet l me now ongoing (selected_keys s a) acts
-      (subst (λ b. Completes (list_plan list_selected s b) acts a) (sym (always_run (λ _ r. list_lacks_memory r ≡ false) (list_plan list_selected s false) acts a (list_has_memory list_selected s) run)) run) tt at)
+      (subst (λ b. Completes (list_plan list_selected s b) acts a)
+      (sym (always_run (λ _ r. list_lacks_memory r ≡ false) (list_plan list_selected s false) acts a
+      (list_has_memory list_selected s) run)) run) tt at)
 
   -- ---- what stands beside the table
 
   -- what is left shows the same selections and closings in progress
-  leads_beside : (r : Reply) (left : Progress) → IsBeside now left → Leads l me now (Plan.reply (record { reply = r; left = left }))
+  leads_beside : (r : Reply) (left : Progress) → IsBeside now left
+      → Leads l me now (Plan.reply (record { reply = r; left = left }))
   leads_beside r left beside = record {
     always = λ own made. record {
       made = subst (λ acts. HasMade l acts me left) (sym (append-nil own)) (made_beside l own me now left beside made);
@@ -617,8 +783,10 @@ module _ (l : Limits) (me : CallerNo) (now : Progress) where
   }
 
   -- a call that leaves so what is in progress
-  leads_leaving : {R : Type 0} (plan : Plan R) (call : R → Made) (said : R → Reply) (left : R → Progress) → ((a : R) → IsBeside now (left a))
-      → ((ongoing : Ongoing) (acts : List Act) (a : R) → Completes plan acts a → IsOngoing me now ongoing → Comes l me now ongoing (call a) acts now)
+  leads_leaving : {R : Type 0} (plan : Plan R) (call : R → Made) (said : R → Reply) (left : R → Progress)
+      → ((a : R) → IsBeside now (left a))
+      → ((ongoing : Ongoing) (acts : List Act) (a : R) → Completes plan acts a → IsOngoing me now ongoing
+      → Comes l me now ongoing (call a) acts now)
       → Leads l me now (makes plan said left)
   leads_leaving plan call said left beside comes =
       leads_call l me now plan call left _
@@ -641,7 +809,8 @@ module _ (l : Limits) (me : CallerNo) (now : Progress) where
       beside (Ok ends) = record { selection = refl; closing = refl }
       beside (Err refusal) = record { selection = refl; closing = refl }
 
-      makes_pipe : (acts : List Act) (a : Result PipeEnds PipeMakeError) → Completes (pipe_plan l false) acts a → IsRun l (pipe a) acts
+      makes_pipe : (acts : List Act) (a : Result PipeEnds PipeMakeError) → Completes (pipe_plan l false) acts a
+          → IsRun l (pipe a) acts
       makes_pipe acts a run =
           subst (λ b. Completes (pipe_plan l b) acts a)
           (sym (always_run (λ _ r. pipe_lacks_memory r ≡ false) (pipe_plan l false) acts a (pipe_has_memory l) run)) run
@@ -657,76 +826,127 @@ module _ (l : Limits) (me : CallerNo) (now : Progress) where
   leads_write c bytes None = leads_refused l me now _
   leads_write c bytes (Some i) =
       let source = (pipe_at now i).source in
-      leads_leaving (try_write_plan l source c) (λ a. try_write source c a) (λ a. (write_gives bytes (pipe_at now i) a).reply)
-      (λ a. with_pipe now i (write_gives bytes (pipe_at now i) a).left) (λ _. record { selection = refl; closing = refl })
+      leads_leaving (try_write_plan l source c) (λ a. try_write source c a)
+      (λ a. (write_gives bytes (pipe_at now i) a).reply)
+      (λ a. with_pipe now i (write_gives bytes (pipe_at now i) a).left)
+      (λ _. record { selection = refl; closing = refl })
       (λ o acts a run at. quiet l me now o (try_write source c a) acts run tt at)
 
   -- the call of a line
   leads_plan : (word : Call) → AreOn now → Leads l me now (call_plan l now me word)
   unfolding call_plan
-  leads_plan call.Selector on = leads_ask (open_selector_plan l) (λ a. open_selector a) selector_reply (λ o acts a run at. quiet l me now o (open_selector a) acts run tt at)
-  leads_plan (call.Channel kind) on = leads_ask (open_channel_plan l kind) (λ a. open_channel kind a) channel_reply (λ o acts a run at. quiet l me now o (open_channel kind a) acts run tt at)
-  leads_plan (call.Blocking c on') on = leads_ask (try_set_blocking_plan l c on') (λ a. try_set_blocking c on' a) mode_reply (λ o acts a run at. quiet l me now o (try_set_blocking c on' a) acts run tt at)
-  leads_plan (call.IsBlocking c) on = leads_ask (is_blocking_plan c) (λ a. is_blocking c a) yes_or_no (λ o acts a run at. quiet l me now o (is_blocking c a) acts run tt at)
-  leads_plan (call.IsOpen c) on = leads_ask (is_open_plan c) (λ a. is_open c a) yes_or_no (λ o acts a run at. quiet l me now o (is_open c a) acts run tt at)
-  leads_plan (call.IsRegistered c) on = leads_ask (is_registered_plan l c) (λ a. is_registered c a) yes_or_no (λ o acts a run at. quiet l me now o (is_registered c a) acts run tt at)
-  leads_plan (call.KeyFor c s) on = leads_ask (key_for_plan c s) (λ a. key_for c s a) find_reply (λ o acts a run at. quiet l me now o (key_for c s a) acts run tt at)
+  leads_plan call.Selector on =
+      leads_ask (open_selector_plan l) (λ a. open_selector a) selector_reply
+      (λ o acts a run at. quiet l me now o (open_selector a) acts run tt at)
+  leads_plan (call.Channel kind) on =
+      leads_ask (open_channel_plan l kind) (λ a. open_channel kind a) channel_reply
+      (λ o acts a run at. quiet l me now o (open_channel kind a) acts run tt at)
+  leads_plan (call.Blocking c on') on =
+      leads_ask (try_set_blocking_plan l c on') (λ a. try_set_blocking c on' a) mode_reply
+      (λ o acts a run at. quiet l me now o (try_set_blocking c on' a) acts run tt at)
+  leads_plan (call.IsBlocking c) on =
+      leads_ask (is_blocking_plan c) (λ a. is_blocking c a) yes_or_no
+      (λ o acts a run at. quiet l me now o (is_blocking c a) acts run tt at)
+  leads_plan (call.IsOpen c) on =
+      leads_ask (is_open_plan c) (λ a. is_open c a) yes_or_no
+      (λ o acts a run at. quiet l me now o (is_open c a) acts run tt at)
+  leads_plan (call.IsRegistered c) on =
+      leads_ask (is_registered_plan l c) (λ a. is_registered c a) yes_or_no
+      (λ o acts a run at. quiet l me now o (is_registered c a) acts run tt at)
+  leads_plan (call.KeyFor c s) on =
+      leads_ask (key_for_plan c s) (λ a. key_for c s a) find_reply
+      (λ o acts a run at. quiet l me now o (key_for c s a) acts run tt at)
   leads_plan (call.Register s c ops att) on =
-      leads_ask (try_register_plan l s c ops (given_or_none att)) (λ a. try_register s c ops (given_or_none att) a) register_reply
+      leads_ask (try_register_plan l s c ops (given_or_none att)) (λ a. try_register s c ops (given_or_none att) a)
+      register_reply
       (λ o acts a run at. quiet l me now o (try_register s c ops (given_or_none att) a) acts run tt at)
   leads_plan (call.Closec c) on =
-      leads_leaving (close_channel_plan l c) (λ a. close_channel c a) closed_reply (λ _. with_mark now (own_sink now me c)) (λ _. record { selection = refl; closing = refl })
+      leads_leaving (close_channel_plan l c) (λ a. close_channel c a) closed_reply
+      (λ _. with_mark now (own_sink now me c)) (λ _. record { selection = refl; closing = refl })
       (λ o acts a run at. quiet l me now o (close_channel c a) acts run tt at)
-  leads_plan (call.Valid s k) on = leads_ask (is_valid_plan (key s k)) (λ a. is_valid (key s k) a) yes_or_no (λ o acts a run at. quiet l me now o (is_valid (key s k) a) acts run tt at)
-  leads_plan (call.Interest s k) on = leads_ask (interest_plan (key s k)) (λ a. interest (key s k) a) set_reply (λ o acts a run at. quiet l me now o (interest (key s k) a) acts run tt at)
-  leads_plan (call.Ready s k) on = leads_ask (ready_plan (key s k)) (λ a. ready (key s k) a) set_reply (λ o acts a run at. quiet l me now o (ready (key s k) a) acts run tt at)
-  leads_plan (call.Iset s k ops) on = leads_ask (set_interest_plan (key s k) ops) (λ a. set_interest (key s k) ops a) put_reply (λ o acts a run at. quiet l me now o (set_interest (key s k) ops a) acts run tt at)
-  leads_plan (call.Ior s k ops) on = leads_ask (interest_or_plan (key s k) ops) (λ a. interest_or (key s k) ops a) set_reply (λ o acts a run at. quiet l me now o (interest_or (key s k) ops a) acts run tt at)
-  leads_plan (call.Iand s k ops) on = leads_ask (interest_and_plan (key s k) ops) (λ a. interest_and (key s k) ops a) set_reply (λ o acts a run at. quiet l me now o (interest_and (key s k) ops a) acts run tt at)
-  leads_plan (call.Cancel s k) on = leads_ask (cancel_plan (key s k)) (λ _. cancel (key s k)) (λ _. reply.«Ok») (λ o acts a run at. quiet l me now o (cancel (key s k)) acts run tt at)
-  leads_plan (call.Unselect s k) on = leads_ask (unselect_plan (key s k)) (λ a. unselect (key s k) a) yes_or_no (λ o acts a run at. quiet l me now o (unselect (key s k) a) acts run tt at)
+  leads_plan (call.Valid s k) on =
+      leads_ask (is_valid_plan (key s k)) (λ a. is_valid (key s k) a) yes_or_no
+      (λ o acts a run at. quiet l me now o (is_valid (key s k) a) acts run tt at)
+  leads_plan (call.Interest s k) on =
+      leads_ask (interest_plan (key s k)) (λ a. interest (key s k) a) set_reply
+      (λ o acts a run at. quiet l me now o (interest (key s k) a) acts run tt at)
+  leads_plan (call.Ready s k) on =
+      leads_ask (ready_plan (key s k)) (λ a. ready (key s k) a) set_reply
+      (λ o acts a run at. quiet l me now o (ready (key s k) a) acts run tt at)
+  leads_plan (call.Iset s k ops) on =
+      leads_ask (set_interest_plan (key s k) ops) (λ a. set_interest (key s k) ops a) put_reply
+      (λ o acts a run at. quiet l me now o (set_interest (key s k) ops a) acts run tt at)
+  leads_plan (call.Ior s k ops) on =
+      leads_ask (interest_or_plan (key s k) ops) (λ a. interest_or (key s k) ops a) set_reply
+      (λ o acts a run at. quiet l me now o (interest_or (key s k) ops a) acts run tt at)
+  leads_plan (call.Iand s k ops) on =
+      leads_ask (interest_and_plan (key s k) ops) (λ a. interest_and (key s k) ops a) set_reply
+      (λ o acts a run at. quiet l me now o (interest_and (key s k) ops a) acts run tt at)
+  leads_plan (call.Cancel s k) on =
+      leads_ask (cancel_plan (key s k)) (λ _. cancel (key s k)) (λ _. reply.«Ok»)
+      (λ o acts a run at. quiet l me now o (cancel (key s k)) acts run tt at)
+  leads_plan (call.Unselect s k) on =
+      leads_ask (unselect_plan (key s k)) (λ a. unselect (key s k) a) yes_or_no
+      (λ o acts a run at. quiet l me now o (unselect (key s k) a) acts run tt at)
   leads_plan (call.Attach s k att) on =
-      leads_ask (attach_plan (key s k) att) (λ a. attach (key s k) att a) (λ before. reply.Number before) (λ o acts a run at. quiet l me now o (attach (key s k) att a) acts run tt at)
-  leads_plan (call.Attachment s k) on = leads_ask (attachment_plan (key s k)) (λ a. attachment (key s k) a) (λ att. reply.Number att) (λ o acts a run at. quiet l me now o (attachment (key s k) a) acts run tt at)
+      leads_ask (attach_plan (key s k) att) (λ a. attach (key s k) att a) (λ before. reply.Number before)
+      (λ o acts a run at. quiet l me now o (attach (key s k) att a) acts run tt at)
+  leads_plan (call.Attachment s k) on =
+      leads_ask (attachment_plan (key s k)) (λ a. attachment (key s k) a) (λ att. reply.Number att)
+      (λ o acts a run at. quiet l me now o (attachment (key s k) a) acts run tt at)
   leads_plan (call.Begin s waiting) on = leads_begin s (mode_of waiting)
   leads_plan (call.Told s elapsed pairs) on = leads_told s elapsed pairs (own_selection now me s) on refl
   leads_plan (call.Failed s) on = leads_failed s (own_selection now me s) on refl
-  leads_plan (call.Wakeup s) on = leads_ask (wakeup_plan s) (λ _. wakeup s) (λ _. reply.«Ok») (λ o acts a run at. quiet l me now o (wakeup s) acts run tt at)
+  leads_plan (call.Wakeup s) on =
+      leads_ask (wakeup_plan s) (λ _. wakeup s) (λ _. reply.«Ok»)
+      (λ o acts a run at. quiet l me now o (wakeup s) acts run tt at)
   leads_plan (call.Close s) on = leads_close s
   leads_plan (call.CloseEnd s) on = leads_close_end s
   leads_plan (call.Keys s) on = leads_keys s
   leads_plan (call.Selected s) on = leads_selected s
-  leads_plan (call.Interrupt target) on = leads_ask (interrupt_plan target) (λ _. interrupt target) (λ _. reply.«Ok») (λ o acts a run at. quiet l me now o (interrupt target) acts run tt at)
-  leads_plan call.Interrupted on = leads_ask interrupted_plan (λ a. interrupted a) yes_or_no (λ o acts a run at. quiet l me now o (interrupted a) acts run tt at)
+  leads_plan (call.Interrupt target) on =
+      leads_ask (interrupt_plan target) (λ _. interrupt target) (λ _. reply.«Ok»)
+      (λ o acts a run at. quiet l me now o (interrupt target) acts run tt at)
+  leads_plan call.Interrupted on =
+      leads_ask interrupted_plan (λ a. interrupted a) yes_or_no
+      (λ o acts a run at. quiet l me now o (interrupted a) acts run tt at)
   leads_plan (call.Pipe target) on = leads_pipe target
   leads_plan (call.Pwrite c bytes) on = leads_write c bytes (own_sink now me c)
   leads_plan (call.Pread c n) on = leads_read c n (own_source now me c)
   leads_plan (call.Group g) on =
-      leads_beside (group_reply now.group g) (record now { group = group_left now.group g }) (record { selection = refl; closing = refl })
+      leads_beside (group_reply now.group g) (record now { group = group_left now.group g })
+      (record { selection = refl; closing = refl })
 
   -- ---- the look-ups
 
   leads_caller : (n : CallerNo) (plan : Plan Said) → Leads l me now plan → Leads l me now (if_caller l now n plan)
-  leads_caller n plan later = leads_if l me now (nat_lt n.0 l.callers) plan _ (λ _. later) (λ _. leads_refused l me now _)
+  leads_caller n plan later =
+      leads_if l me now (nat_lt n.0 l.callers) plan _ (λ _. later) (λ _. leads_refused l me now _)
 
-  leads_found : {A : Type 0} (r : Reply) (plan : Plan Said) → Leads l me now plan → (found : Option A) → Leads l me now (if_found now r plan found)
+  leads_found : {A : Type 0} (r : Reply) (plan : Plan Said) → Leads l me now plan → (found : Option A)
+      → Leads l me now (if_found now r plan found)
   leads_found r plan later found = leads_if l me now (is_some found) plan _ (λ _. later) (λ _. leads_refused l me now _)
 
   leads_selector : (s : SelNo) (plan : Plan Said) → Leads l me now plan → Leads l me now (if_selector l now s plan)
   leads_selector s plan later =
-      leads_call l me now (find_selector_plan l s.0) (λ a. find_selector s.0 a) (λ _. now) (if_found now reply.NoSelector plan)
-      (λ o acts a run at. quiet l me now o (find_selector s.0 a) acts run tt at) (leads_found reply.NoSelector plan later)
+      leads_call l me now (find_selector_plan l s.0) (λ a. find_selector s.0 a) (λ _. now)
+      (if_found now reply.NoSelector plan)
+      (λ o acts a run at. quiet l me now o (find_selector s.0 a) acts run tt at)
+      (leads_found reply.NoSelector plan later)
 
   leads_channel : (c : ChanNo) (plan : Plan Said) → Leads l me now plan → Leads l me now (if_channel l now c plan)
   leads_channel c plan later =
-      leads_call l me now (find_channel_plan l c.0) (λ a. find_channel c.0 a) (λ _. now) (if_found now reply.NoChannel plan)
+      leads_call l me now (find_channel_plan l c.0) (λ a. find_channel c.0 a) (λ _. now)
+      (if_found now reply.NoChannel plan)
       (λ o acts a run at. quiet l me now o (find_channel c.0 a) acts run tt at) (leads_found reply.NoChannel plan later)
 
   leads_key : (s : SelNo) (k : KeyId) (plan : Plan Said) → Leads l me now plan → Leads l me now (if_key l now s k plan)
   leads_key s k plan later =
       leads_selector s _
-      (leads_call l me now (find_plan l s k.index k.serial) (λ a. find s k.index k.serial a) (λ _. now) (if_found now reply.NoKey plan)
-      (λ o acts a run at. quiet l me now o (find s k.index k.serial a) acts run tt at) (leads_found reply.NoKey plan later))
+      (leads_call l me now (find_plan l s k.index k.serial) (λ a. find s k.index k.serial a) (λ _. now)
+      (if_found now reply.NoKey plan)
+      (λ o acts a run at. quiet l me now o (find s k.index k.serial a) acts run tt at)
+      (leads_found reply.NoKey plan later))
 
   pub leads_named : (word : Call) (plan : Plan Said) → Leads l me now plan → Leads l me now (if_named l now word plan)
   unfolding if_named
@@ -772,17 +992,23 @@ module _ (l : Limits) (me : CallerNo) (now : Progress) where
 -- ---- the law
 
 -- what a run along the plan made
-pub made_along : (l : Limits) (me : CallerNo) (now : Progress) (plan : Plan Said) (own acts : List Act) (said : Said) → Leads l me now plan → HasMade l own me now → Completes plan acts said
+pub made_along : (l : Limits) (me : CallerNo) (now : Progress) (plan : Plan Said) (own acts : List Act) (said : Said)
+    → Leads l me now plan → HasMade l own me now → Completes plan acts said
     → HasMade l (own ++ acts) me said.left
-made_along l me now plan own acts said leads made run = (always_run (λ xs r. Line l me now own xs r.left) plan acts said (leads.always own made) run).made
+made_along l me now plan own acts said leads made run =
+    (always_run (λ xs r. Line l me now own xs r.left) plan acts said (leads.always own made) run).made
 
 -- and what it leaves to another caller
-pub leaves_along : (l : Limits) (me n : CallerNo) (now : Progress) (plan : Plan Said) (own acts : List Act) (said : Said) → Leads l me now plan → HasMade l own me now → Completes plan acts said → n ≢ me
+pub leaves_along : (l : Limits) (me n : CallerNo) (now : Progress) (plan : Plan Said) (own acts : List Act)
+    (said : Said) → Leads l me now plan → HasMade l own me now → Completes plan acts said → n ≢ me
     → LeavesTo n now acts said.left
-leaves_along l me n now plan own acts said leads made run other = (always_run (λ xs r. Line l me now own xs r.left) plan acts said (leads.always own made) run).others n other
+leaves_along l me n now plan own acts said leads made run other =
+    (always_run (λ xs r. Line l me now own xs r.left) plan acts said (leads.always own made) run).others n other
 
 pub between_on : (l : Limits) (st : State) (now : Progress) → IsBetween l st now → AreOn now
 between_on l st now between s x is = ((between.shown s).on x is).selector
 
 pub lines_are_calls : LinesAreCalls
-lines_are_calls l st now me word own acts said between made run = made_along l me now (line_plan l now me word) own acts said (leads_line l me now word (between_on l st now between)) made run
+lines_are_calls l st now me word own acts said between made run =
+    made_along l me now (line_plan l now me word) own acts said (leads_line l me now word (between_on l st now between))
+    made run

@@ -1,5 +1,7 @@
 -- What a desk has in progress, once something was put into a place of it.
-use Rattle.std.proofs.Common.{◌≡◌, ℕ, zero, suc, ◌+◌, ◌<◌, [], ◌∷◌, ◌++◌, Option, Some, None, List, length, set, refl, sym, ap, ◌∙◌, subst, ⊎_elim, arith, vec_len, true, false, Bool, ◌==◌, if◌then◌else◌, eq-eqb, eqb-true}
+use Rattle.std.proofs.Common.{◌≡◌, ℕ, zero, suc, ◌+◌, ◌<◌, [], ◌∷◌, ◌++◌, Option, Some, None, List, length, set, refl}
+use Rattle.std.proofs.Common.{sym, ap, ◌∙◌, subst, ⊎_elim, arith, vec_len, true, false, Bool, ◌==◌, if◌then◌else◌}
+use Rattle.std.proofs.Common.{eq-eqb, eqb-true}
 use Rattle.std.proofs.lemmas.Bool.{cases_eq}
 use Rattle.std.proofs.lemmas.List.{get_or-set_same, get_or-set_other, length-set}
 use Rattle.std.proofs.lemmas.List.Elements.{All-nil, All-weaker}
@@ -60,7 +62,8 @@ some_is same = cc
 
 -- the channels of the pipes are made still after a call
 pub still_made : {R : Type 0} {Shape : List Act → R → Type 0} {w : Words} {d : Desk} {me : CallerNo} {answer : R}
-    (q : Pass) → HasPlaces w d → CallClause me Shape (view w d.pass) (view w q) answer → AreMade (view w q) d.pipes.items
+    (q : Pass) → HasPlaces w d → CallClause me Shape (view w d.pass) (view w q) answer
+    → AreMade (view w q) d.pipes.items
 still_made {w = w} {d = d} q places call =
     All-weaker (λ (x : OwnedPipe). HasEnds (view w d.pass) x.pipe.source x.pipe.sink)
     (λ (x : OwnedPipe). HasEnds (view w q) x.pipe.source x.pipe.sink)
@@ -68,7 +71,8 @@ still_made {w = w} {d = d} q places call =
     d.pipes.items places.pipes
 
 -- and for another pass that has seen the same
-pub made_for : (w : Words) (p q : Pass) (pipes : List OwnedPipe) → seen q ≡ seen p → AreMade (view w p) pipes → AreMade (view w q) pipes
+pub made_for : (w : Words) (p q : Pass) (pipes : List OwnedPipe) → seen q ≡ seen p → AreMade (view w p) pipes
+    → AreMade (view w q) pipes
 made_for w p q pipes same made =
     All-weaker (λ (x : OwnedPipe). HasEnds (view w p) x.pipe.source x.pipe.sink)
     (λ (x : OwnedPipe). HasEnds (view w q) x.pipe.source x.pipe.sink)
@@ -76,11 +80,13 @@ made_for w p q pipes same made =
     pipes made
 
 pub none_made : {pass : PassView} {pipes : List OwnedPipe} → pipes ≡ [] → AreMade pass pipes
-none_made {pass = pass} none = subst (AreMade pass) (sym none) (All-nil (λ (x : OwnedPipe). HasEnds pass x.pipe.source x.pipe.sink))
+none_made {pass = pass} none =
+    subst (AreMade pass) (sym none) (All-nil (λ (x : OwnedPipe). HasEnds pass x.pipe.source x.pipe.sink))
 
 -- after a call the places are the same
 pub places_same : {R : Type 0} {Shape : List Act → R → Type 0} {w : Words} {d : Desk} {me : CallerNo} {answer : R}
-    (q : Pass) → CallClause me Shape (view w d.pass) (view w q) answer → HasPlaces w d → HasPlaces w (record d { pass = q })
+    (q : Pass) → CallClause me Shape (view w d.pass) (view w q) answer → HasPlaces w d
+    → HasPlaces w (record d { pass = q })
 places_same q call places = record {
   selections = places.selections;
   closings = places.closings;
@@ -92,13 +98,17 @@ places_same q call places = record {
 -- ---- what a line leaves
 
 pub left_as : {me : CallerNo} {plan : Plan Said} {r : Reply} {v0 v1 : PassView} {left left' : Progress}
-    → CallClause me (Completes plan) v0 v1 (record { reply = r; left = left }) → left ≡ left' → CallClause me (Completes plan) v0 v1 (record { reply = r; left = left' })
-left_as {me = me} {plan = plan} {r = r} {v0 = v0} {v1 = v1} call same = subst (λ (x : Progress). CallClause me (Completes plan) v0 v1 (record { reply = r; left = x })) same call
+    → CallClause me (Completes plan) v0 v1 (record { reply = r; left = left }) → left ≡ left'
+    → CallClause me (Completes plan) v0 v1 (record { reply = r; left = left' })
+left_as {me = me} {plan = plan} {r = r} {v0 = v0} {v1 = v1} call same =
+    subst (λ (x : Progress). CallClause me (Completes plan) v0 v1 (record { reply = r; left = x })) same call
 
-pub with_closings : (now : Progress) {f g : ℕ → Option CallerNo} → f ≡ g → ◌≡◌ {A = Progress} (record now { closing = f }) (record now { closing = g })
+pub with_closings : (now : Progress) {f g : ℕ → Option CallerNo} → f ≡ g
+    → ◌≡◌ {A = Progress} (record now { closing = f }) (record now { closing = g })
 with_closings now same = ap (λ closing. record now { closing = closing }) same
 
-pub with_selections : (now : Progress) {f g : ℕ → Option Selecting} → f ≡ g → ◌≡◌ {A = Progress} (record now { selection = f }) (record now { selection = g })
+pub with_selections : (now : Progress) {f g : ℕ → Option Selecting} → f ≡ g
+    → ◌≡◌ {A = Progress} (record now { selection = f }) (record now { selection = g })
 with_selections now same = ap (λ selection. record now { selection = selection }) same
 
 -- ---- a closing is put into its place, or taken out
@@ -106,20 +116,26 @@ with_selections now same = ap (λ selection. record now { selection = selection 
 abbrev pub with_closings_in : Desk → Pass → Vec (Option Shut) Global → Desk
 with_closings_in d p closings = record d { pass = p; closings = closings }
 
-pub progress_closing : (w : Words) (d : Desk) (p : Pass) (s : SelNo) (closings : Vec (Option Shut) Global) (place : Option Shut) → HasPlaces w d → s.0 < (limits_of w).selectors
+pub progress_closing : (w : Words) (d : Desk) (p : Pass) (s : SelNo) (closings : Vec (Option Shut) Global)
+    (place : Option Shut) → HasPlaces w d → s.0 < (limits_of w).selectors
     → closings.items ≡ set d.closings.items s.0 place
     → progress_of (with_closings_in d p closings) ≡ with_closing (progress_of d) s (option_map (λ x. x.caller) place)
 progress_closing w d p s closings place places inside items =
-    with_closings (progress_of d) (ap closings_of items ∙ part_put (option_map (λ x. x.caller)) d.closings.items s.0 place (omega (arith, places.closings)))
+    with_closings (progress_of d)
+    (ap closings_of items
+    ∙ part_put (option_map (λ x. x.caller)) d.closings.items s.0 place (omega (arith, places.closings)))
 
-pub places_closing : (w : Words) (d : Desk) (p : Pass) (s : SelNo) (closings : Vec (Option Shut) Global) (place : Option Shut) → HasPlaces w d → s.0 < (limits_of w).selectors
-    → closings.items ≡ set d.closings.items s.0 place → vec_len closings ≡ vec_len d.closings → ((x : Shut) → place ≡ Some x → x.closing.0 ≡ s.0)
+pub places_closing : (w : Words) (d : Desk) (p : Pass) (s : SelNo) (closings : Vec (Option Shut) Global)
+    (place : Option Shut) → HasPlaces w d → s.0 < (limits_of w).selectors
+    → closings.items ≡ set d.closings.items s.0 place → vec_len closings ≡ vec_len d.closings
+    → ((x : Shut) → place ≡ Some x → x.closing.0 ≡ s.0)
     → AreMade (view w p) d.pipes.items → HasPlaces w (with_closings_in d p closings)
 places_closing w d p s closings place places inside items len on made = record {
   selections = places.selections;
   closings = len ∙ places.closings;
   selects = places.selects;
-  closes = λ n x is. places_put (λ (x : Shut). x.closing.0) d.closings.items s.0 place (omega (arith, places.closings)) places.closes on n x (sym (ap (λ xs. slot xs n) items) ∙ is);
+  closes = λ n x is. places_put (λ (x : Shut). x.closing.0) d.closings.items s.0 place
+      (omega (arith, places.closings)) places.closes on n x (sym (ap (λ xs. slot xs n) items) ∙ is);
   pipes = made;
 }
 
@@ -128,19 +144,25 @@ places_closing w d p s closings place places inside items len on made = record {
 abbrev pub with_selections_in : Desk → Pass → Vec (Option Begun) Global → Desk
 with_selections_in d p selections = record d { pass = p; selections = selections }
 
-pub progress_selection : (w : Words) (d : Desk) (p : Pass) (s : SelNo) (selections : Vec (Option Begun) Global) (place : Option Begun) → HasPlaces w d → s.0 < (limits_of w).selectors
+pub progress_selection : (w : Words) (d : Desk) (p : Pass) (s : SelNo) (selections : Vec (Option Begun) Global)
+    (place : Option Begun) → HasPlaces w d → s.0 < (limits_of w).selectors
     → selections.items ≡ set d.selections.items s.0 place
     → progress_of (with_selections_in d p selections) ≡ with_selection (progress_of d) s (option_map selecting_of place)
 progress_selection w d p s selections place places inside items =
-    with_selections (progress_of d) (ap selections_of items ∙ part_put (option_map selecting_of) d.selections.items s.0 place (omega (arith, places.selections)))
+    with_selections (progress_of d)
+    (ap selections_of items
+    ∙ part_put (option_map selecting_of) d.selections.items s.0 place (omega (arith, places.selections)))
 
-pub places_selection : (w : Words) (d : Desk) (p : Pass) (s : SelNo) (selections : Vec (Option Begun) Global) (place : Option Begun) → HasPlaces w d → s.0 < (limits_of w).selectors
-    → selections.items ≡ set d.selections.items s.0 place → vec_len selections ≡ vec_len d.selections → ((x : Begun) → place ≡ Some x → x.selection.selector.0 ≡ s.0)
+pub places_selection : (w : Words) (d : Desk) (p : Pass) (s : SelNo) (selections : Vec (Option Begun) Global)
+    (place : Option Begun) → HasPlaces w d → s.0 < (limits_of w).selectors
+    → selections.items ≡ set d.selections.items s.0 place → vec_len selections ≡ vec_len d.selections
+    → ((x : Begun) → place ≡ Some x → x.selection.selector.0 ≡ s.0)
     → AreMade (view w p) d.pipes.items → HasPlaces w (with_selections_in d p selections)
 places_selection w d p s selections place places inside items len on made = record {
   selections = len ∙ places.selections;
   closings = places.closings;
-  selects = λ n x is. places_put (λ (x : Begun). x.selection.selector.0) d.selections.items s.0 place (omega (arith, places.selections)) places.selects on n x (sym (ap (λ xs. slot xs n) items) ∙ is);
+  selects = λ n x is. places_put (λ (x : Begun). x.selection.selector.0) d.selections.items s.0 place
+      (omega (arith, places.selections)) places.selects on n x (sym (ap (λ xs. slot xs n) items) ∙ is);
   closes = places.closes;
   pipes = made;
 }
@@ -150,10 +172,12 @@ places_selection w d p s selections place places inside items len on made = reco
 pub its_selector : {s : SelNo} {x : SelNo} → x.0 ≡ s.0 → x ≡ s
 its_selector same = ap (λ n. record { 0 = n }) same
 
-pub own_closing : (me : CallerNo) (place : Option Shut) {x : SelNo} → place ≡ Some (record { caller = me; closing = x }) → is_caller me (option_map (λ y. y.caller) place) ≡ true
+pub own_closing : (me : CallerNo) (place : Option Shut) {x : SelNo} → place ≡ Some (record { caller = me; closing = x })
+    → is_caller me (option_map (λ y. y.caller) place) ≡ true
 own_closing me place is = ap (λ y. is_caller me (option_map (λ z. z.caller) y)) is ∙ eq-eqb me.0 me.0 refl
 
-pub places_taken : {w : Words} {d : Desk} {closings : Vec (Option Shut) Global} → HasPlaces w d → closings.items ≡ d.closings.items → vec_len closings ≡ vec_len d.closings
+pub places_taken : {w : Words} {d : Desk} {closings : Vec (Option Shut) Global} → HasPlaces w d
+    → closings.items ≡ d.closings.items → vec_len closings ≡ vec_len d.closings
     → HasPlaces w (with_closings_in d d.pass closings)
 places_taken places items len = record {
   selections = places.selections;
@@ -164,30 +188,40 @@ places_taken places items len = record {
 }
 
 -- what was taken out is put back
-pub progress_put_back : (w : Words) (d : Desk) (p : Pass) (s : SelNo) (taken after : Vec (Option Shut) Global) (x y : Shut) → HasPlaces w d → s.0 < (limits_of w).selectors
-    → taken.items ≡ set d.closings.items s.0 None → vec_len taken ≡ vec_len d.closings → after.items ≡ set taken.items s.0 (Some y) → slot d.closings.items s.0 ≡ Some x → y.caller ≡ x.caller
+pub progress_put_back : (w : Words) (d : Desk) (p : Pass) (s : SelNo) (taken after : Vec (Option Shut) Global)
+    (x y : Shut) → HasPlaces w d → s.0 < (limits_of w).selectors
+    → taken.items ≡ set d.closings.items s.0 None → vec_len taken ≡ vec_len d.closings
+    → after.items ≡ set taken.items s.0 (Some y) → slot d.closings.items s.0 ≡ Some x → y.caller ≡ x.caller
     → progress_of (with_closings_in d p after) ≡ progress_of d
 progress_put_back w d p s taken after x y places inside items len items' was same =
     let none : Option Shut = None in
     with_closings (progress_of d)
     (ap closings_of (items' ∙ ap (λ xs. set xs s.0 (Some y)) items)
-    ∙ (part_put (option_map (λ z. z.caller)) (set d.closings.items s.0 None) s.0 (Some y) (omega (arith, places.closings, length-set d.closings.items s.0 none))
-    ∙ (ap (λ (f : ℕ → Option CallerNo). put f s.0 (Some y.caller)) (part_put (option_map (λ z. z.caller)) d.closings.items s.0 None (omega (arith, places.closings)))
-    ∙ put_back (closings_of d.closings.items) s.0 None (Some y.caller) (ap (option_map (λ z. z.caller)) was ∙ ap Some (sym same)))))
+    ∙ (part_put (option_map (λ z. z.caller)) (set d.closings.items s.0 None) s.0 (Some y)
+    (omega (arith, places.closings, length-set d.closings.items s.0 none))
+    ∙ (ap (λ (f : ℕ → Option CallerNo). put f s.0 (Some y.caller))
+    (part_put (option_map (λ z. z.caller)) d.closings.items s.0 None (omega (arith, places.closings)))
+    ∙ put_back (closings_of d.closings.items) s.0 None (Some y.caller)
+    (ap (option_map (λ z. z.caller)) was ∙ ap Some (sym same)))))
 
 pub nothing_there : {A B : Type 0} {x : A} → None ≡ Some x → B
 nothing_there is = absurd cc
 
-pub places_put_back : (w : Words) (d : Desk) (p : Pass) (s : SelNo) (taken after : Vec (Option Shut) Global) (y : Shut) → HasPlaces w d → s.0 < (limits_of w).selectors
-    → taken.items ≡ set d.closings.items s.0 None → vec_len taken ≡ vec_len d.closings → after.items ≡ set taken.items s.0 (Some y) → vec_len after ≡ vec_len taken → y.closing.0 ≡ s.0
+pub places_put_back : (w : Words) (d : Desk) (p : Pass) (s : SelNo) (taken after : Vec (Option Shut) Global) (y : Shut)
+    → HasPlaces w d → s.0 < (limits_of w).selectors
+    → taken.items ≡ set d.closings.items s.0 None → vec_len taken ≡ vec_len d.closings
+    → after.items ≡ set taken.items s.0 (Some y) → vec_len after ≡ vec_len taken → y.closing.0 ≡ s.0
     → AreMade (view w p) d.pipes.items → HasPlaces w (with_closings_in d p after)
 places_put_back w d p s taken after y places inside items len items' len' on made =
-    let middle : HasPlaces w (with_closings_in d p taken) = places_closing w d p s taken None places inside items len (λ x is. nothing_there is) made in
-    places_closing w (with_closings_in d p taken) p s after (Some y) middle inside items' len' (λ x is. ap (λ (z : Shut). z.closing.0) (some_is is) ∙ on) made
+    let middle : HasPlaces w (with_closings_in d p taken) = places_closing w d p s taken None places inside items len
+    (λ x is. nothing_there is) made in
+    places_closing w (with_closings_in d p taken) p s after (Some y) middle inside items' len'
+    (λ x is. ap (λ (z : Shut). z.closing.0) (some_is is) ∙ on) made
 
 -- ---- a selection that stood in its place
 
-pub places_selection_taken : {w : Words} {d : Desk} {selections : Vec (Option Begun) Global} → HasPlaces w d → selections.items ≡ d.selections.items → vec_len selections ≡ vec_len d.selections
+pub places_selection_taken : {w : Words} {d : Desk} {selections : Vec (Option Begun) Global} → HasPlaces w d
+    → selections.items ≡ d.selections.items → vec_len selections ≡ vec_len d.selections
     → HasPlaces w (with_selections_in d d.pass selections)
 places_selection_taken places items len = record {
   selections = len ∙ places.selections;
@@ -198,41 +232,54 @@ places_selection_taken places items len = record {
 }
 
 -- the caller's own selection that was taken out is put back
-pub progress_selection_back : (w : Words) (d : Desk) (p : Pass) (me : CallerNo) (s : SelNo) (taken after : Vec (Option Begun) Global) (y : Begun) → HasPlaces w d → s.0 < (limits_of w).selectors
-    → taken.items ≡ set d.selections.items s.0 None → vec_len taken ≡ vec_len d.selections → after.items ≡ set taken.items s.0 (Some y)
+pub progress_selection_back : (w : Words) (d : Desk) (p : Pass) (me : CallerNo) (s : SelNo)
+    (taken after : Vec (Option Begun) Global) (y : Begun) → HasPlaces w d → s.0 < (limits_of w).selectors
+    → taken.items ≡ set d.selections.items s.0 None → vec_len taken ≡ vec_len d.selections
+    → after.items ≡ set taken.items s.0 (Some y)
     → y.caller ≡ me → if_own me (selections_of d.selections.items s.0) ≡ Some y.selection
     → progress_of (with_selections_in d p after) ≡ progress_of d
 progress_selection_back w d p me s taken after y places inside items len items' by own =
     let none : Option Begun = None in
     with_selections (progress_of d)
     (ap selections_of (items' ∙ ap (λ xs. set xs s.0 (Some y)) items)
-    ∙ (part_put (option_map selecting_of) (set d.selections.items s.0 None) s.0 (Some y) (omega (arith, places.selections, length-set d.selections.items s.0 none))
-    ∙ (ap (λ (f : ℕ → Option Selecting). put f s.0 (Some (selecting_of y))) (part_put (option_map selecting_of) d.selections.items s.0 None (omega (arith, places.selections)))
-    ∙ put_back (selections_of d.selections.items) s.0 None (Some (selecting_of y)) (own_is (selections_of d.selections.items s.0) own))))
+    ∙ (part_put (option_map selecting_of) (set d.selections.items s.0 None) s.0 (Some y)
+    (omega (arith, places.selections, length-set d.selections.items s.0 none))
+    ∙ (ap (λ (f : ℕ → Option Selecting). put f s.0 (Some (selecting_of y)))
+    (part_put (option_map selecting_of) d.selections.items s.0 None (omega (arith, places.selections)))
+    ∙ put_back (selections_of d.selections.items) s.0 None (Some (selecting_of y))
+    (own_is (selections_of d.selections.items s.0) own))))
   where
     own_is : (o : Option Selecting) → if_own me o ≡ Some y.selection → o ≡ Some (selecting_of y)
     own_is None is = nothing_there is
     own_is (Some z) is = by_test (z.caller.0 == me.0) refl is
       where
-        by_test : (b : Bool) → (z.caller.0 == me.0) ≡ b → (if b then Some z.selection else None) ≡ Some y.selection → Some z ≡ Some (selecting_of y)
+        by_test : (b : Bool) → (z.caller.0 == me.0) ≡ b → (if b then Some z.selection else None) ≡ Some y.selection
+            → Some z ≡ Some (selecting_of y)
         by_test true same is' =
-            let caller : z.caller ≡ y.caller = ap {B = CallerNo} (λ (n : ℕ). record { 0 = n }) (eqb-true z.caller.0 me.0 same) ∙ sym by in
+            let caller : z.caller ≡ y.caller = ap {B = CallerNo} (λ (n : ℕ). record { 0 = n })
+            (eqb-true z.caller.0 me.0 same) ∙ sym by in
             let selection : z.selection ≡ y.selection = sym (some_is is') in
             λ i. Some (record { caller = caller i; selection = selection i })
         by_test false same is' = nothing_there is'
 
-pub places_selection_back : (w : Words) (d : Desk) (p : Pass) (s : SelNo) (taken after : Vec (Option Begun) Global) (y : Begun) → HasPlaces w d → s.0 < (limits_of w).selectors
-    → taken.items ≡ set d.selections.items s.0 None → vec_len taken ≡ vec_len d.selections → after.items ≡ set taken.items s.0 (Some y) → vec_len after ≡ vec_len taken → y.selection.selector.0 ≡ s.0
+pub places_selection_back : (w : Words) (d : Desk) (p : Pass) (s : SelNo) (taken after : Vec (Option Begun) Global)
+    (y : Begun) → HasPlaces w d → s.0 < (limits_of w).selectors
+    → taken.items ≡ set d.selections.items s.0 None → vec_len taken ≡ vec_len d.selections
+    → after.items ≡ set taken.items s.0 (Some y) → vec_len after ≡ vec_len taken → y.selection.selector.0 ≡ s.0
     → AreMade (view w p) d.pipes.items → HasPlaces w (with_selections_in d p after)
 places_selection_back w d p s taken after y places inside items len items' len' on made =
-    let middle : HasPlaces w (with_selections_in d p taken) = places_selection w d p s taken None places inside items len (λ x is. nothing_there is) made in
-    places_selection w (with_selections_in d p taken) p s after (Some y) middle inside items' len' (λ x is. ap (λ (z : Begun). z.selection.selector.0) (some_is is) ∙ on) made
+    let middle : HasPlaces w (with_selections_in d p taken) = places_selection w d p s taken None places inside items
+    len (λ x is. nothing_there is) made in
+    places_selection w (with_selections_in d p taken) p s after (Some y) middle inside items' len'
+    (λ x is. ap (λ (z : Begun). z.selection.selector.0) (some_is is) ∙ on) made
 
 -- it is on the selector
-pub own_on : (w : Words) (d : Desk) (me : CallerNo) (s : SelNo) (x : Selection) → HasPlaces w d → if_own me (selections_of d.selections.items s.0) ≡ Some x → x.selector ≡ s
+pub own_on : (w : Words) (d : Desk) (me : CallerNo) (s : SelNo) (x : Selection) → HasPlaces w d
+    → if_own me (selections_of d.selections.items s.0) ≡ Some x → x.selector ≡ s
 own_on w d me s x places own = ap (λ (n : ℕ). record { 0 = n }) (by_place (slot d.selections.items s.0) refl own)
   where
-    by_place : (place : Option Begun) → slot d.selections.items s.0 ≡ place → if_own me (option_map selecting_of place) ≡ Some x → x.selector.0 ≡ s.0
+    by_place : (place : Option Begun) → slot d.selections.items s.0 ≡ place
+        → if_own me (option_map selecting_of place) ≡ Some x → x.selector.0 ≡ s.0
     by_place None at is = nothing_there is
     by_place (Some z) at is = by_test (z.caller.0 == me.0) is
       where
@@ -242,17 +289,20 @@ own_on w d me s x places own = ap (λ (n : ℕ). record { 0 = n }) (by_place (sl
 
 -- ---- places in which nothing stands
 
-none_more : {A : Type 0} (xs : List (Option A)) → ((s : ℕ) → slot xs s ≡ None) → (s : ℕ) → slot (xs ++ None ∷ []) s ≡ None
+none_more : {A : Type 0} (xs : List (Option A)) → ((s : ℕ) → slot xs s ≡ None) → (s : ℕ)
+    → slot (xs ++ None ∷ []) s ≡ None
 none_more [] none zero = refl
 none_more [] none (suc s) = refl
 none_more (x ∷ xs) none zero = none zero
 none_more (x ∷ xs) none (suc s) = none_more xs (λ n. none (suc n)) s
 
-pub empty_more : {A : Type 0} {places after : Vec (Option A) Global} {count : ℕ} → AreEmpty places count → after.items ≡ places.items ++ None ∷ [] → vec_len after ≡ vec_len places + 1 → AreEmpty after (count + 1)
+pub empty_more : {A : Type 0} {places after : Vec (Option A) Global} {count : ℕ} → AreEmpty places count
+    → after.items ≡ places.items ++ None ∷ [] → vec_len after ≡ vec_len places + 1 → AreEmpty after (count + 1)
 empty_more {places = places} empty items len = record {
   len = len ∙ ap (λ (n : ℕ). n + 1) empty.len;
   none = λ s. ap (λ xs. slot xs s) items ∙ none_more places.items empty.none s;
 }
 
-pub empty_none : {A : Type 0} {places : Vec (Option A) Global} → places.items ≡ [] → vec_len places ≡ 0 → AreEmpty places 0
+pub empty_none : {A : Type 0} {places : Vec (Option A) Global} → places.items ≡ [] → vec_len places ≡ 0
+    → AreEmpty places 0
 empty_none items len = record { len = len; none = λ s. ap (λ xs. slot xs s) items }

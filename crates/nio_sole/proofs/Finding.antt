@@ -1,6 +1,7 @@
 -- What a look-up of a line finds.
 use Rattle.std.specs.Prelude.{IfNone}
-use Rattle.std.proofs.Common.{◌≡◌, ℕ, nat_lt, Bool, true, false, not, if◌then◌else◌, Option, Some, None, List, [], ◌∷◌, ap, sym, subst}
+use Rattle.std.proofs.Common.{◌≡◌, ℕ, nat_lt, Bool, true, false, not, if◌then◌else◌, Option, Some, None, List, [], ◌∷◌}
+use Rattle.std.proofs.Common.{ap, sym, subst}
 use Rattle.nio_base.specs.declared.limits.Limits.{Limits}
 use Rattle.nio_base.specs.declared.numbers.CallerNo.{CallerNo}
 use Rattle.nio_base.specs.declared.numbers.ChanNo.{ChanNo}
@@ -36,12 +37,15 @@ found_now : {A : Type 0} (test : Bool) (y x : A) → (if test then Some y else N
 found_now true y x same = cc
 found_now false y x same = absurd cc
 
-found_here : {A : Type 0} (test : Bool) (y x : A) → Plan.reply (if test then Some y else None) ≡ Plan.reply (Some x) → x ≡ y
+found_here : {A : Type 0} (test : Bool) (y x : A) → Plan.reply (if test then Some y else None) ≡ Plan.reply (Some x)
+    → x ≡ y
 unfolding answered
 found_here test y x same = found_now test y x (ap answered same)
 
 found_is : {A : Type 0} (past : Bool) (question : Question) (test : Answer → Bool) (y x : A) (acts : List Act)
-    → Completes (if past then Plan.reply None else ask question (λ answer. Plan.reply (if test answer then Some y else None))) acts (Some x) → x ≡ y
+    → Completes
+    (if past then Plan.reply None else ask question (λ answer. Plan.reply (if test answer then Some y else None)))
+    acts (Some x) → x ≡ y
 unfolding answered
 found_is true question test y x [] run = let no : None ≡ Some x = ap answered run in absurd cc
 found_is true question test y x (act ∷ acts) run = absurd run
@@ -49,17 +53,21 @@ found_is false question test y x [] run = let no : None ≡ Some x = ap answered
 found_is false question test y x (act ∷ []) run = found_here (test (answer_of act)) y x run.1
 found_is false question test y x (act ∷ more ∷ acts) run = absurd run.1
 
-pub selector_found : (l : Limits) (n : ℕ) (acts : List Act) (s : SelNo) → Completes (find_selector_plan l n) acts (Some s) → s ≡ selector n
+pub selector_found : (l : Limits) (n : ℕ) (acts : List Act) (s : SelNo)
+    → Completes (find_selector_plan l n) acts (Some s) → s ≡ selector n
 unfolding find_selector_plan
 selector_found l n acts s run = found_is (not (nat_lt n l.selectors)) _ _ (selector n) s acts run
 
-pub channel_found : (l : Limits) (n : ℕ) (acts : List Act) (c : ChanNo) → Completes (find_channel_plan l n) acts (Some c) → c ≡ channel n
+pub channel_found : (l : Limits) (n : ℕ) (acts : List Act) (c : ChanNo)
+    → Completes (find_channel_plan l n) acts (Some c) → c ≡ channel n
 unfolding find_channel_plan
 channel_found l n acts c run = found_is (not (nat_lt n l.channels)) _ _ (channel n) c acts run
 
-pub key_found : (l : Limits) (s : SelNo) (i serial : ℕ) (acts : List Act) (k : KeyNo) → Completes (find_plan l s i serial) acts (Some k) → k ≡ record { sel = s; index = i; serial = serial }
+pub key_found : (l : Limits) (s : SelNo) (i serial : ℕ) (acts : List Act) (k : KeyNo)
+    → Completes (find_plan l s i serial) acts (Some k) → k ≡ record { sel = s; index = i; serial = serial }
 unfolding find_plan
-key_found l s i serial acts k run = found_is (not (nat_lt i l.keys)) _ _ (record { sel = s; index = i; serial = serial }) k acts run
+key_found l s i serial acts k run =
+    found_is (not (nat_lt i l.keys)) _ _ (record { sel = s; index = i; serial = serial }) k acts run
 
 -- ---- by the word of the line
 
@@ -67,36 +75,52 @@ pub names_of : {w : Words} {p q : Pass} {me : CallerNo} {word it : Call} {missin
     → word ≡ it → Finds (λ now plan. if_named (limits_of w) now it plan) (λ pass. HasNames pass it) w p q me missing
     → Finds (λ now plan. if_named (limits_of w) now word plan) (λ pass. HasNames pass word) w p q me missing
 names_of {w = w} {p = p} {q = q} {me = me} {missing = missing} is finds =
-    subst (λ (x : Call). Finds (λ now plan. if_named (limits_of w) now x plan) (λ pass. HasNames pass x) w p q me missing) (sym is) finds
+    subst (λ (x : Call). Finds (λ now plan. if_named (limits_of w) now x plan)
+    (λ pass. HasNames pass x) w p q me missing) (sym is) finds
 
 -- ---- look-ups one after the other
 
 -- what is missing of the first is missing
-pub missing_first : {w : Words} {p q : Pass} {me : CallerNo} {First Second : Progress → Plan Said → Plan Said} {A B : PassView → Type 0} {r : Reply}
+pub missing_first : {w : Words} {p q : Pass} {me : CallerNo} {First Second : Progress → Plan Said → Plan Said}
+    {A B : PassView → Type 0} {r : Reply}
     → Finds First A w p q me (Some r) → Finds (λ now plan. First now (Second now plan)) B w p q me (Some r)
-missing_first {Second = Second} first = record { call = λ now plan. first.call now (Second now plan); ready = first.ready; unpinned = first.unpinned; named = tt }
+missing_first {Second = Second} first =
+    record {
+      call = λ now plan. first.call now (Second now plan);
+      ready = first.ready;
+      unpinned = first.unpinned;
+      named = tt;
+    }
 
 if_both : {B C : Type 0} (missing : Option Reply) → (B → C) → IfNone missing B → IfNone missing C
 if_both None both b = both b
 if_both (Some r) both b = tt
 
 -- both look-ups
-pub finds_both : {w : Words} {p q r : Pass} {me : CallerNo} {First Second : Progress → Plan Said → Plan Said} {A B C : PassView → Type 0} {missing : Option Reply}
-    → Finds First A w p q me None → Finds Second B w q r me missing → (ActsClause me (done_between me (view w q) (view w r)) (view w q) (view w r) → A (view w q) → B (view w r) → C (view w r))
+pub finds_both : {w : Words} {p q r : Pass} {me : CallerNo} {First Second : Progress → Plan Said → Plan Said}
+    {A B C : PassView → Type 0} {missing : Option Reply}
+    → Finds First A w p q me None → Finds Second B w q r me missing
+    → (ActsClause me (done_between me (view w q) (view w r)) (view w q) (view w r) → A (view w q) → B (view w r)
+    → C (view w r))
     → Finds (λ now plan. First now (Second now plan)) C w p r me missing
 finds_both {w = w} {q = q} {r = r} {Second = Second} {missing = missing} first second both = record {
   call = λ now plan. left_more (first.call now (Second now plan)) (second.call now plan);
   ready = second.ready;
   unpinned = second.unpinned;
-  named = if_both missing (both (second.call nothing_yet (refused nothing_yet reply.NoKey)).acts first.named) second.named;
+  named = if_both missing (both (second.call nothing_yet (refused nothing_yet reply.NoKey)).acts first.named)
+      second.named;
 }
 
 -- no look-up
-pub finds_nothing : {w : Words} {p : Pass} {me : CallerNo} {look_ups : Progress → Plan Said → Plan Said} {Named : PassView → Type 0} {missing : Option Reply}
-    → IsReady w p me → HasNoPin (view w p) me → ((now : Progress) (plan : Plan Said) → look_ups now plan ≡ after_names now plan missing) → IfNone missing (Named (view w p))
+pub finds_nothing : {w : Words} {p : Pass} {me : CallerNo} {look_ups : Progress → Plan Said → Plan Said}
+    {Named : PassView → Type 0} {missing : Option Reply}
+    → IsReady w p me → HasNoPin (view w p) me
+    → ((now : Progress) (plan : Plan Said) → look_ups now plan ≡ after_names now plan missing)
+    → IfNone missing (Named (view w p))
     → Finds look_ups Named w p p me missing
 finds_nothing {w = w} {p = p} {me = me} {look_ups = look_ups} {missing = missing} ready unpinned same named = record {
-  call = λ now plan. subst (PartClause me (look_ups now plan) (view w p) (view w p)) (same now plan) (left_start me (look_ups now plan) (view w p) ready.pass.legal);
+  call = λ now plan. subst (PartClause me (look_ups now plan) (view w p) (view w p)) (same now plan)
+      (left_start me (look_ups now plan) (view w p) ready.pass.legal);
   ready = ready;
   unpinned = unpinned;
   named = named;

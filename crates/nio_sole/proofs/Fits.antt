@@ -1,5 +1,6 @@
 -- The looked list is no longer than the limit of indexes.
-use Rattle.std.proofs.Common.{◌≡◌, ℕ, suc, ◌+◌, ◌<◌, ◌≤◌, Ok, List, [], ◌∷◌, ◌++◌, length, ap, sym, ◌∙◌, subst, append_assoc, arith}
+use Rattle.std.proofs.Common.{◌≡◌, ℕ, suc, ◌+◌, ◌<◌, ◌≤◌, Ok, List, [], ◌∷◌, ◌++◌, length, ap, sym, ◌∙◌, subst}
+use Rattle.std.proofs.Common.{append_assoc, arith}
 use Rattle.std.specs.List.{All, AllPairs, Contains}
 use Rattle.std.proofs.lemmas.List.Elements.{All-head, All-tail, All-weaker, All-contains}
 use Rattle.nio_base.specs.declared.limits.Limits.{Limits}
@@ -23,43 +24,56 @@ use Rattle.nio_steps.specs.SelectCalls.{Selection, Begins}
 use Rattle.nio_steps.specs.Steps.{number_in}
 use Rattle.nio_steps.specs.declared.looked.LookedKey.{LookedKey}
 
-keys-act : (s : SelNo) (act : Act) → question_of act ≡ Question.look_keys s → act ≡ LookKeys s (number_in (answer_of act))
+keys-act : (s : SelNo) (act : Act) → question_of act ≡ Question.look_keys s
+    → act ≡ LookKeys s (number_in (answer_of act))
 keys-act s (LookKeys s' found) asks = cc asks
 keys-act s _ asks = absurd (cc asks)
 
 -- the bound is a keys' mark that the caller found
-bound_fits : (l : Limits) (n : CallerNo) (events : List Event) (own acts : List Act) (s : SelNo) (mode : Mode) (x : Selection) → IsLegal l events → mine n events ≡ own ++ acts → Begins s mode acts (Ok x)
+bound_fits : (l : Limits) (n : CallerNo) (events : List Event) (own acts : List Act) (s : SelNo) (mode : Mode)
+    (x : Selection) → IsLegal l events → mine n events ≡ own ++ acts → Begins s mode acts (Ok x)
     → x.bound ≤ l.keys
 bound_fits l n events own acts s mode x legal did run =
     let first = begin-parts s mode acts x run in
     let before = first.gate ∷ first.take ∷ first.look ∷ [] in
     let later = first.lists ++ first.over in
-    let look : first.keys ≡ LookKeys s x.bound = keys-act s first.keys first.asks_keys ∙ ap (LookKeys s) (sym first.bound) in
+    let look : first.keys ≡ LookKeys s x.bound = keys-act s first.keys first.asks_keys
+    ∙ ap (LookKeys s) (sym first.bound) in
     let parts : mine n events ≡ (own ++ before) ++ LookKeys s x.bound ∷ later
-    = did ∙ (ap (λ xs. own ++ xs) (first.parts ∙ ap (λ (a : Act). first.gate ∷ first.take ∷ first.look ∷ a ∷ later) look) ∙ sym (append_assoc own before (LookKeys s x.bound ∷ later))) in
+    = did ∙ (ap (λ xs. own ++ xs)
+    (first.parts ∙ ap (λ (a : Act). first.gate ∷ first.take ∷ first.look ∷ a ∷ later) look)
+    ∙ sym (append_assoc own before (LookKeys s x.bound ∷ later))) in
     let cut = cut_at n events (own ++ before) (LookKeys s x.bound) later parts in
     let e = event_of n (LookKeys s x.bound) in
     let legal' = subst (IsLegal l) cut.parts legal in
-    let found : x.bound ≡ (state_after cut.past).keys_high s.0 = cc (legal_next l cut.past e cut.later legal').answers in
-    subst (λ (k : ℕ). k ≤ l.keys) (sym found) ((legal-within l cut.past (legal_beginning l cut.past (e ∷ cut.later) legal')).keys_high s.0)
+    let found : x.bound ≡ (state_after cut.past).keys_high s.0 = cc
+    (legal_next l cut.past e cut.later legal').answers in
+    subst (λ (k : ℕ). k ≤ l.keys) (sym found)
+    ((legal-within l cut.past (legal_beginning l cut.past (e ∷ cut.later) legal')).keys_high s.0)
 
 -- rising indexes from `low` on that are below `high`
-few : (entries : List LookedKey) (low high : ℕ) → low ≤ high → AllPairs (λ x y. x.index < y.index) entries → All (λ x. low ≤ x.index) entries → All (λ x. x.index < high) entries → low + length entries ≤ high
+few : (entries : List LookedKey) (low high : ℕ) → low ≤ high → AllPairs (λ x y. x.index < y.index) entries
+    → All (λ x. low ≤ x.index) entries → All (λ x. x.index < high) entries → low + length entries ≤ high
 few [] low high within rise above below = omega arith
 few (entry ∷ entries) low high within rise above below =
     let here : low ≤ entry.index = All-head (λ x. low ≤ x.index) entry entries above in
     let under : entry.index < high = All-head (λ x. x.index < high) entry entries below in
     let later : suc entry.index + length entries ≤ high =
-    few entries (suc entry.index) high (omega arith) (pairs-tail (λ x y. x.index < y.index) entry entries rise) (pairs-head (λ x y. x.index < y.index) entry entries rise)
+    few entries (suc entry.index) high (omega arith) (pairs-tail (λ x y. x.index < y.index) entry entries rise)
+    (pairs-head (λ x y. x.index < y.index) entry entries rise)
     (All-tail (λ x. x.index < high) entry entries below) in
     omega arith
 
-pub looked_fits : (me : CallerNo) (s : SelNo) (mode : Mode) (v0 v1 : PassView) (x : Selection) → CallClause me (Begins s mode) v0 v1 (Ok x) → length x.looked ≤ v0.limits.keys
+pub looked_fits : (me : CallerNo) (s : SelNo) (mode : Mode) (v0 v1 : PassView) (x : Selection)
+    → CallClause me (Begins s mode) v0 v1 (Ok x) → length x.looked ≤ v0.limits.keys
 looked_fits me s mode v0 v1 x call =
     let acts = done_between me v0 v1 in
-    let bound = bound_fits v0.limits me v1.seen (mine me v0.seen) acts s mode x call.acts.history.legal call.acts.history.own call.shape in
+    let bound = bound_fits v0.limits me v1.seen (mine me v0.seen) acts s mode x call.acts.history.legal
+    call.acts.history.own call.shape in
     let order = lists_in_order s mode acts x call.shape in
     let below : All (λ entry. entry.index < x.bound) x.looked
-    = All-weaker (λ entry. Contains x.kept entry.index) (λ entry. entry.index < x.bound) (λ entry there. All-contains (λ i. i < x.bound) x.kept entry.index order.below there) x.looked order.kept in
-    let count : 0 + length x.looked ≤ x.bound = few x.looked 0 x.bound (omega arith) order.looked_rise (λ k d within. omega arith) below in
+    = All-weaker (λ entry. Contains x.kept entry.index) (λ entry. entry.index < x.bound)
+    (λ entry there. All-contains (λ i. i < x.bound) x.kept entry.index order.below there) x.looked order.kept in
+    let count : 0 + length x.looked ≤ x.bound = few x.looked 0 x.bound (omega arith) order.looked_rise
+    (λ k d within. omega arith) below in
     omega (arith, bound, count)

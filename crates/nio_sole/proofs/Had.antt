@@ -1,5 +1,6 @@
 -- What a caller has in progress, from the mere fact that it has it: in a legal history there is one such selection.
-use Rattle.std.proofs.Common.{◌≡◌, ℕ, Bool, true, false, ◌||◌, if◌then◌else◌, Some, None, is_some, Result, Ok, Err, List, [], ◌∷◌, ◌++◌, refl, ap, sym, ◌∙◌, subst, append_assoc, eqb-true, eq-eqb}
+use Rattle.std.proofs.Common.{◌≡◌, ℕ, Bool, true, false, ◌||◌, if◌then◌else◌, Some, None, is_some, Result, Ok, Err}
+use Rattle.std.proofs.Common.{List, [], ◌∷◌, ◌++◌, refl, ap, sym, ◌∙◌, subst, append_assoc, eqb-true, eq-eqb}
 use Rattle.std.specs.Prelude.{is_ok}
 use Rattle.std.proofs.Math.Bool.{Bool-set}
 use Rattle.std.proofs.Math.Logic.{∥∥₁_elim}
@@ -93,10 +94,12 @@ unfolding Ran
 ran_prop set (reply a) [] r = set a r
 ran_prop set (reply a) (act ∷ acts) r = λ x y. absurd x
 ran_prop set (ask question next) [] r = λ x y. absurd x
-ran_prop set (ask question next) (act ∷ acts) r = λ x y j. (question_set (question_of act) question x.0 y.0 j, ran_prop set (next (answer_of act)) acts r x.1 y.1 j)
+ran_prop set (ask question next) (act ∷ acts) r =
+    λ x y j. (question_set (question_of act) question x.0 y.0 j, ran_prop set (next (answer_of act)) acts r x.1 y.1 j)
 
 -- a run of a plan ends where the plan does
-ran_same : {R : Type 0} (plan : Plan R) (xs ys us vs : List Act) (r r' : R) → Ran plan xs r → Ran plan ys r' → xs ++ us ≡ ys ++ vs → xs ≡ ys
+ran_same : {R : Type 0} (plan : Plan R) (xs ys us vs : List Act) (r r' : R) → Ran plan xs r → Ran plan ys r'
+    → xs ++ us ≡ ys ++ vs → xs ≡ ys
 unfolding Ran
 ran_same (reply a) [] [] us vs r r' ran ran' same = refl
 ran_same (reply a) [] (y ∷ ys) us vs r r' ran ran' same = absurd ran'
@@ -106,7 +109,10 @@ ran_same (ask question next) (x ∷ xs) [] us vs r r' ran ran' same = absurd ran
 ran_same (ask question next) (x ∷ xs) (y ∷ ys) us vs r r' ran ran' same =
     let first : x ≡ y = cc same in
     let rest : xs ++ us ≡ ys ++ vs = cc same in
-    ap (λ (z : Act). z ∷ xs) first ∙ ap (λ zs. y ∷ zs) (ran_same (next (answer_of y)) xs ys us vs r r' (subst (λ (z : Act). Ran (next (answer_of z)) xs r) first ran.1) ran'.1 rest)
+    ap (λ (z : Act). z ∷ xs) first
+    ∙ ap (λ zs. y ∷ zs)
+    (ran_same (next (answer_of y)) xs ys us vs r r'
+    (subst (λ (z : Act). Ran (next (answer_of z)) xs r) first ran.1) ran'.1 rest)
 
 -- ---- the last act of a kind
 
@@ -127,10 +133,13 @@ record LastPlace (before before' after after' : List Act) : Type 0 where
   first : before ≡ before'
   second : after ≡ after'
 
-last_place : (p : Act → Bool) (act : Act) (xs ys us vs : List Act) → p act ≡ true → has p us ≡ false → has p vs ≡ false → xs ++ act ∷ us ≡ ys ++ act ∷ vs → LastPlace xs ys us vs
+last_place : (p : Act → Bool) (act : Act) (xs ys us vs : List Act) → p act ≡ true → has p us ≡ false → has p vs ≡ false
+    → xs ++ act ∷ us ≡ ys ++ act ∷ vs → LastPlace xs ys us vs
 last_place p act [] [] us vs is none none' same = record { first = refl; second = cc same }
-last_place p act [] (y ∷ ys) us vs is none none' same = absurd (no_such_act p ys act vs (ap (has p) (sym (cc same)) ∙ none) is)
-last_place p act (x ∷ xs) [] us vs is none none' same = absurd (no_such_act p xs act us (ap (has p) (cc same) ∙ none') is)
+last_place p act [] (y ∷ ys) us vs is none none' same =
+    absurd (no_such_act p ys act vs (ap (has p) (sym (cc same)) ∙ none) is)
+last_place p act (x ∷ xs) [] us vs is none none' same =
+    absurd (no_such_act p xs act us (ap (has p) (cc same) ∙ none') is)
 last_place p act (x ∷ xs) (y ∷ ys) us vs is none none' same =
     let first : x ≡ y = cc same in
     let rest = last_place p act xs ys us vs is none none' (cc same) in
@@ -144,19 +153,28 @@ record TakesFree (s : SelNo) (acts : List Act) : Type 0 where
   rest : List Act
   parts : acts ≡ gate ∷ TakeTurn s None ∷ rest
 
-begin-takes : (s : SelNo) (mode : Mode) → Always (λ acts r. is_ok r ≡ true → TakesFree s acts) (try_begin_plan s mode false)
+begin-takes : (s : SelNo) (mode : Mode)
+    → Always (λ acts r. is_ok r ≡ true → TakesFree s acts) (try_begin_plan s mode false)
 unfolding try_begin_plan
 begin-takes s mode = λ gate asks_gate.
-    always_if (λ acts r. is_ok r ≡ true → TakesFree s (gate ∷ acts)) (gate_in (answer_of gate)).shut (reply (Err BeginError.ClosedSelector)) (begin_open s mode false) (λ _ ok. absurd (cc ok))
+    always_if (λ acts r. is_ok r ≡ true → TakesFree s (gate ∷ acts)) (gate_in (answer_of gate)).shut
+    (reply (Err BeginError.ClosedSelector)) (begin_open s mode false) (λ _ ok. absurd (cc ok))
     (λ _ take asks_take. by_take gate take asks_take)
   where
     by_take : (gate take : Act) → question_of take ≡ Question.take_turn s
-        → Always (λ acts r. is_ok r ≡ true → TakesFree s (gate ∷ take ∷ acts)) (if is_some (holder_in (answer_of take)) then reply (Err BeginError.Busy) else begin_with_turn s mode false)
+        → Always (λ acts r. is_ok r ≡ true → TakesFree s (gate ∷ take ∷ acts))
+        (if is_some (holder_in (answer_of take)) then reply (Err BeginError.Busy) else begin_with_turn s mode false)
     by_take gate (TakeTurn s' (Some n)) asks = λ ok. absurd (cc ok)
     by_take gate (TakeTurn s' None) asks =
         let same : s' ≡ s = cc asks in
-        always_weaker (λ _ _. Unit {0}) (λ acts r. is_ok r ≡ true → TakesFree s (gate ∷ TakeTurn s' None ∷ acts)) (begin_with_turn s mode false)
-        (λ acts r _ _. record { gate = gate; rest = acts; parts = ap (λ (t : SelNo). gate ∷ TakeTurn t None ∷ acts) same }) (always_any (begin_with_turn s mode false))
+        always_weaker (λ _ _. Unit {0}) (λ acts r. is_ok r ≡ true → TakesFree s (gate ∷ TakeTurn s' None ∷ acts))
+        (begin_with_turn s mode false)
+        (λ acts r _ _. record {
+          gate = gate;
+          rest = acts;
+          parts = ap (λ (t : SelNo). gate ∷ TakeTurn t None ∷ acts) same;
+        })
+        (always_any (begin_with_turn s mode false))
     by_take gate _ asks = absurd (cc asks)
 
 -- what the caller did since it took the turn
@@ -167,25 +185,34 @@ record Taken (own : List Act) (x : Selection) (earlier beginning since : List Ac
   parts : own ≡ (earlier ++ gate ∷ []) ++ TakeTurn x.selector None ∷ (rest ++ since)
   keeps : has (gives_turn x.selector.0) (rest ++ since) ≡ false
 
-taken_so : (own : List Act) (x : Selection) (earlier beginning since : List Act) → own ≡ earlier ++ (beginning ++ since) → Completes (try_begin_plan x.selector x.mode false) beginning (Ok x)
+taken_so : (own : List Act) (x : Selection) (earlier beginning since : List Act) → own ≡ earlier ++ (beginning ++ since)
+    → Completes (try_begin_plan x.selector x.mode false) beginning (Ok x)
     → has (gives_turn x.selector.0) since ≡ false → Taken own x earlier beginning since
 taken_so own x earlier beginning since parts run goes_on =
     let s = x.selector in
-    let at = always_run (λ acts r. is_ok r ≡ true → TakesFree s acts) (try_begin_plan s x.mode false) beginning (Ok x) (begin-takes s x.mode) run refl in
+    let at = always_run (λ acts r. is_ok r ≡ true → TakesFree s acts) (try_begin_plan s x.mode false) beginning (Ok x)
+    (begin-takes s x.mode) run refl in
     let first = begin-parts s x.mode beginning x run in
-    let both : at.gate ∷ TakeTurn s None ∷ at.rest ≡ first.gate ∷ first.take ∷ first.look ∷ first.keys ∷ (first.lists ++ first.over) = sym at.parts ∙ first.parts in
+    let both : at.gate ∷ TakeTurn s None ∷ at.rest ≡ first.gate ∷ first.take ∷ first.look ∷ first.keys
+    ∷ (first.lists ++ first.over) = sym at.parts ∙ first.parts in
     let rest_is : at.rest ≡ first.look ∷ first.keys ∷ (first.lists ++ first.over) = cc both in
     let look_gives = not-gives s.0 first.look (ap (asks_give s.0) first.asks_look) in
     let keys_give = not-gives s.0 first.keys (ap (asks_give s.0) first.asks_keys) in
-    let over_gives = has-neither (gives_turn s.0) first.lists first.over (lists-keep s x.bound first.lists first.listed first.runs_lists) (over-keeps s first.listed first.over _ first.runs_over) in
+    let over_gives = has-neither (gives_turn s.0) first.lists first.over
+    (lists-keep s x.bound first.lists first.listed first.runs_lists)
+    (over-keeps s first.listed first.over _ first.runs_over) in
     let rest_gives : has (gives_turn s.0) (first.look ∷ first.keys ∷ (first.lists ++ first.over)) ≡ false
-    = has-neither (gives_turn s.0) (first.look ∷ []) (first.keys ∷ (first.lists ++ first.over)) (ap (λ b. b || false) look_gives)
-    (has-neither (gives_turn s.0) (first.keys ∷ []) (first.lists ++ first.over) (ap (λ b. b || false) keys_give) over_gives) in
+    = has-neither (gives_turn s.0) (first.look ∷ []) (first.keys ∷ (first.lists ++ first.over))
+    (ap (λ b. b || false) look_gives)
+    (has-neither (gives_turn s.0) (first.keys ∷ []) (first.lists ++ first.over)
+    (ap (λ b. b || false) keys_give) over_gives) in
     record {
       gate = at.gate;
       rest = at.rest;
       begins = at.parts;
-      parts = parts ∙ (ap (λ xs. earlier ++ (xs ++ since)) at.parts ∙ sym (append_assoc earlier (at.gate ∷ []) (TakeTurn s None ∷ (at.rest ++ since))));
+      parts = parts
+          ∙ (ap (λ xs. earlier ++ (xs ++ since)) at.parts
+          ∙ sym (append_assoc earlier (at.gate ∷ []) (TakeTurn s None ∷ (at.rest ++ since))));
       keeps = has-neither (gives_turn s.0) at.rest since (ap (has (gives_turn s.0)) rest_is ∙ rest_gives) goes_on;
     }
 
@@ -193,7 +220,8 @@ taken_so own x earlier beginning since parts run goes_on =
 
 module _ (l : Limits) (events : List Event) (n : CallerNo) (legal : IsLegal l events) where
   -- who took the turn and hasn't given it back doesn't take it again
-  not_again : (s : SelNo) (before later : List Act) → mine n events ≡ before ++ TakeTurn s None ∷ later → has (gives_turn s.0) later ≡ false → has (takes_turn s.0) later ≡ false
+  not_again : (s : SelNo) (before later : List Act) → mine n events ≡ before ++ TakeTurn s None ∷ later
+      → has (gives_turn s.0) later ≡ false → has (takes_turn s.0) later ≡ false
   not_again s before later did keeps = by_test (has (takes_turn s.0) later) refl
     where
       act : Act
@@ -204,13 +232,18 @@ module _ (l : Limits) (events : List Event) (n : CallerNo) (legal : IsLegal l ev
           let second = first_opened (takes_turn s.0) later there in
           let is_act : second.act ≡ act = takes_is second.act second.opening in
           let rest = since_first (takes_turn s.0) later in
-          let later_is : later ≡ second.before ++ act ∷ rest = second.parts ∙ ap (λ (a : Act). second.before ++ a ∷ rest) is_act in
+          let later_is : later ≡ second.before ++ act ∷ rest = second.parts
+          ∙ ap (λ (a : Act). second.before ++ a ∷ rest) is_act in
           let cut = cut_at n events before act later did in
           let cut' = cut_at n cut.later second.before act rest (cut.mine_later ∙ later_is) in
           let e = event_of n act in
           let parts : events ≡ (cut.past ++ e ∷ (cut'.past ++ e ∷ [])) ++ cut'.later
-          = cut.parts ∙ (ap (λ es. cut.past ++ e ∷ es) cut'.parts ∙ (ap (λ es. cut.past ++ e ∷ es) (sym (append_assoc cut'.past (e ∷ []) cut'.later)) ∙ sym (append_assoc cut.past (e ∷ (cut'.past ++ e ∷ [])) cut'.later))) in
-          let given = turn_has_one_holder l s n n cut.past cut'.past (legal_beginning l (cut.past ++ e ∷ (cut'.past ++ e ∷ [])) cut'.later (subst (IsLegal l) parts legal)) in
+          = cut.parts
+          ∙ (ap (λ es. cut.past ++ e ∷ es) cut'.parts
+          ∙ (ap (λ es. cut.past ++ e ∷ es) (sym (append_assoc cut'.past (e ∷ []) cut'.later))
+          ∙ sym (append_assoc cut.past (e ∷ (cut'.past ++ e ∷ [])) cut'.later))) in
+          let given = turn_has_one_holder l s n n cut.past cut'.past
+          (legal_beginning l (cut.past ++ e ∷ (cut'.past ++ e ∷ [])) cut'.later (subst (IsLegal l) parts legal)) in
           both_ways (has (gives_turn s.0) second.before) (ap (has (gives_turn s.0)) (sym cut'.mine_past) ∙ given)
           (has-not_first (gives_turn s.0) second.before (act ∷ rest) (ap (has (gives_turn s.0)) (sym later_is) ∙ keeps))
         where
@@ -233,7 +266,8 @@ module _ (l : Limits) (events : List Event) (n : CallerNo) (legal : IsLegal l ev
   abbrev IsCutSo : Selection → Cuts → Type 0
   IsCutSo x t =
       (own ≡ t.0 ++ (t.1 ++ t.2)) × Ran (try_begin_plan x.selector x.mode false) t.1 (Ok x)
-      × (has (gives_turn x.selector.0) t.2 ≡ false) × (has (marks_on x.selector.0) t.2 ≡ false) × (has (removes_on x.selector.0) t.2 ≡ false)
+      × (has (gives_turn x.selector.0) t.2 ≡ false) × (has (marks_on x.selector.0) t.2 ≡ false)
+      × (has (removes_on x.selector.0) t.2 ≡ false)
 
   cut_so-prop : (x : Selection) (t : Cuts) → IsProp (IsCutSo x t)
   cut_so-prop x t = hlevel (lists.is_set act_set, Bool-set, ran_prop answer_set)
@@ -253,8 +287,10 @@ module _ (l : Limits) (events : List Event) (n : CallerNo) (legal : IsLegal l ev
 
       place : LastPlace (t.0 ++ a.gate ∷ []) (u.0 ++ b.gate ∷ []) (a.rest ++ t.2) (b.rest ++ u.2)
       place =
-          last_place (takes_turn x.selector.0) (TakeTurn x.selector None) (t.0 ++ a.gate ∷ []) (u.0 ++ b.gate ∷ []) (a.rest ++ t.2) (b.rest ++ u.2) (eq-eqb x.selector.0 x.selector.0 refl)
-          (not_again x.selector (t.0 ++ a.gate ∷ []) (a.rest ++ t.2) a.parts a.keeps) (not_again x.selector (u.0 ++ b.gate ∷ []) (b.rest ++ u.2) b.parts b.keeps) (sym a.parts ∙ b.parts)
+          last_place (takes_turn x.selector.0) (TakeTurn x.selector None) (t.0 ++ a.gate ∷ []) (u.0 ++ b.gate ∷ [])
+          (a.rest ++ t.2) (b.rest ++ u.2) (eq-eqb x.selector.0 x.selector.0 refl)
+          (not_again x.selector (t.0 ++ a.gate ∷ []) (a.rest ++ t.2) a.parts a.keeps)
+          (not_again x.selector (u.0 ++ b.gate ∷ []) (b.rest ++ u.2) b.parts b.keeps) (sym a.parts ∙ b.parts)
 
       pushed : LastPushed t.0 u.0 a.gate b.gate
       pushed = last_pushed t.0 u.0 a.gate b.gate place.first
@@ -265,7 +301,8 @@ module _ (l : Limits) (events : List Event) (n : CallerNo) (legal : IsLegal l ev
       whole : t.1 ++ t.2 ≡ u.1 ++ u.2
       whole =
           ap (λ xs. xs ++ t.2) a.begins
-          ∙ (ap (λ (act : Act). act ∷ TakeTurn x.selector None ∷ (a.rest ++ t.2)) pushed.last ∙ (ap (λ xs. b.gate ∷ TakeTurn x.selector None ∷ xs) place.second ∙ ap (λ xs. xs ++ u.2) (sym b.begins)))
+          ∙ (ap (λ (act : Act). act ∷ TakeTurn x.selector None ∷ (a.rest ++ t.2)) pushed.last
+          ∙ (ap (λ xs. b.gate ∷ TakeTurn x.selector None ∷ xs) place.second ∙ ap (λ xs. xs ++ u.2) (sym b.begins)))
 
       beginning_is : t.1 ≡ u.1
       beginning_is = ran_same plan t.1 u.1 t.2 u.2 (Ok x) (Ok x) f.1 g.1 whole
@@ -284,7 +321,16 @@ module _ (l : Limits) (events : List Event) (n : CallerNo) (legal : IsLegal l ev
       only_one = λ p q. Σ_prop_path (cut_so-prop x) (same_cut x p.0 q.0 p.1 q.1)
 
       forth : IsBegun own x → Cut
-      forth begun = ((begun.earlier, begun.beginning, begun.since), (begun.parts, ran_of (try_begin_plan x.selector x.mode false) begun.beginning (Ok x) begun.begins, begun.goes_on, begun.unmarked, begun.unremoved))
+      forth begun = (
+        (begun.earlier, begun.beginning, begun.since),
+        (
+          begun.parts,
+          ran_of (try_begin_plan x.selector x.mode false) begun.beginning (Ok x) begun.begins,
+          begun.goes_on,
+          begun.unmarked,
+          begun.unremoved,
+        ),
+      )
 
       back : Cut → IsBegun own x
       back cut = record {
@@ -321,4 +367,6 @@ closing_had did s mere = back (∥∥₁_elim mere (Bool-set (has (shuts s.0) di
     back there =
         let first = first_opened (shuts s.0) did there in
         let rest = since_first (shuts s.0) did in
-        subst (λ xs. Contains xs act) (sym (first.parts ∙ ap (λ (a : Act). first.before ++ a ∷ rest) (shuts_is first.act first.opening))) (contains-middle first.before act rest)
+        subst (λ xs. Contains xs act)
+        (sym (first.parts ∙ ap (λ (a : Act). first.before ++ a ∷ rest) (shuts_is first.act first.opening)))
+        (contains-middle first.before act rest)

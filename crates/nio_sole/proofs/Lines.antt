@@ -1,5 +1,6 @@
 -- What stands between two lines stands after each line, and after a call that lacked memory.
-use Rattle.std.proofs.Common.{◌≡◌, ℕ, nat_lt, Bool, true, false, not, if◌then◌else◌, Option, Some, None, is_some, refl, sym, subst}
+use Rattle.std.proofs.Common.{◌≡◌, ℕ, nat_lt, Bool, true, false, not, if◌then◌else◌, Option, Some, None, is_some, refl}
+use Rattle.std.proofs.Common.{sym, subst}
 use Rattle.nio_base.specs.Limits.{IsFit}
 use Rattle.nio_base.specs.declared.limits.Limits.{Limits}
 use Rattle.nio_base.specs.declared.numbers.CallerNo.{CallerNo}
@@ -23,7 +24,8 @@ use Rattle.nio_plain.specs.declared.rules.Rules.TheVariants.{Now}
 use Rattle.nio_serial.specs.Between.{IsBetween}
 use Rattle.nio_serial.specs.Documented.{Progress, documented}
 use Rattle.nio_serial.proofs.Histories.{pass-lines-amount}
-use Rattle.nio_serial.specs.Lines.{Said, refused, call_plan, if_found, if_selector, if_channel, if_key, if_named, line_plan}
+use Rattle.nio_serial.specs.Lines.{Said, refused, call_plan, if_found, if_selector, if_channel, if_key, if_named}
+use Rattle.nio_serial.specs.Lines.{line_plan}
 use Rattle.nio_sole.proofs.Calls.{Leads}
 use Rattle.nio_sole.proofs.Memory.{Rests, rests_then, selector-rests, stays_along}
 use Rattle.nio_sole.proofs.Others.{call_made, line_made}
@@ -41,7 +43,11 @@ find_channel-rests : (l : Limits) (me : CallerNo) (n : ℕ) (st : State) → Res
 unfolding find_channel_plan
 find_channel-rests l me n st = by_test (not (nat_lt n l.channels))
   where
-    by_test : (b : Bool) → Rests me (if b then Plan.reply None else (look_channel (channel n) >>= λ found. Plan.reply (if found.made then Some (channel n) else None))) st
+    by_test : (b : Bool)
+        → Rests me
+        (if b then Plan.reply None
+        else (look_channel (channel n) >>= λ found. Plan.reply (if found.made then Some (channel n) else None)))
+        st
     by_test true = refl
     by_test false = refl
 
@@ -49,7 +55,13 @@ find-rests : (l : Limits) (me : CallerNo) (s : SelNo) (i serial : ℕ) (st : Sta
 unfolding find_plan
 find-rests l me s i serial st = by_test (not (nat_lt i l.keys))
   where
-    by_test : (b : Bool) → Rests {R = Option KeyNo} me (if b then Plan.reply None else (look_key s i >>= λ stage. Plan.reply (if was_published stage serial then Some (record { sel = s; index = i; serial = serial }) else None))) st
+    by_test : (b : Bool)
+        → Rests {R = Option KeyNo} me
+        (if b then Plan.reply None
+        else (look_key s i
+        >>= λ stage. Plan.reply
+        (if was_published stage serial then Some (record { sel = s; index = i; serial = serial })
+        else None))) st
     by_test true = refl
     by_test false = refl
 
@@ -59,14 +71,18 @@ module _ (l : Limits) (me : CallerNo) (now : Progress) (plan : Plan Said) (st : 
   if-rests r false = refl
 
   channel-rests : (c : ChanNo) → Rests me (if_channel l now c plan) st
-  channel-rests c = rests_then me (find_channel_plan l c.0) (if_found now reply.NoChannel plan) st (find_channel-rests l me c.0 st) (λ found. if-rests reply.NoChannel (is_some found))
+  channel-rests c =
+      rests_then me (find_channel_plan l c.0) (if_found now reply.NoChannel plan) st (find_channel-rests l me c.0 st)
+      (λ found. if-rests reply.NoChannel (is_some found))
 
   key-rests : (s : SelNo) (k : KeyId) → Rests me (if_key l now s k plan) st
   key-rests s k =
       selector-rests l me now s (find_plan l s k.index k.serial >>= if_found now reply.NoKey plan) st
-      (rests_then me (find_plan l s k.index k.serial) (if_found now reply.NoKey plan) st (find-rests l me s k.index k.serial st) (λ found. if-rests reply.NoKey (is_some found)))
+      (rests_then me (find_plan l s k.index k.serial) (if_found now reply.NoKey plan) st
+      (find-rests l me s k.index k.serial st) (λ found. if-rests reply.NoKey (is_some found)))
 
-pub named-rests : (l : Limits) (me : CallerNo) (now : Progress) (word : Call) (plan : Plan Said) (st : State) → Rests me plan st → Rests me (if_named l now word plan) st
+pub named-rests : (l : Limits) (me : CallerNo) (now : Progress) (word : Call) (plan : Plan Said) (st : State)
+    → Rests me plan st → Rests me (if_named l now word plan) st
 unfolding if_named
 named-rests l me now call.Selector plan st here = here
 named-rests l me now (call.Channel kind) plan st here = here
@@ -74,8 +90,10 @@ named-rests l me now (call.Blocking c on) plan st here = channel-rests l me now 
 named-rests l me now (call.IsBlocking c) plan st here = channel-rests l me now plan st here c
 named-rests l me now (call.IsOpen c) plan st here = channel-rests l me now plan st here c
 named-rests l me now (call.IsRegistered c) plan st here = channel-rests l me now plan st here c
-named-rests l me now (call.KeyFor c s) plan st here = channel-rests l me now (if_selector l now s plan) st (selector-rests l me now s plan st here) c
-named-rests l me now (call.Register s c ops att) plan st here = selector-rests l me now s (if_channel l now c plan) st (channel-rests l me now plan st here c)
+named-rests l me now (call.KeyFor c s) plan st here =
+    channel-rests l me now (if_selector l now s plan) st (selector-rests l me now s plan st here) c
+named-rests l me now (call.Register s c ops att) plan st here =
+    selector-rests l me now s (if_channel l now c plan) st (channel-rests l me now plan st here c)
 named-rests l me now (call.Closec c) plan st here = channel-rests l me now plan st here c
 named-rests l me now (call.Valid s k) plan st here = key-rests l me now plan st here s k
 named-rests l me now (call.Interest s k) plan st here = key-rests l me now plan st here s k
@@ -95,9 +113,11 @@ named-rests l me now (call.Close s) plan st here = selector-rests l me now s pla
 named-rests l me now (call.CloseEnd s) plan st here = selector-rests l me now s plan st here
 named-rests l me now (call.Keys s) plan st here = selector-rests l me now s plan st here
 named-rests l me now (call.Selected s) plan st here = selector-rests l me now s plan st here
-named-rests l me now (call.Interrupt target) plan st here = if-rests l me now plan st here reply.NoCaller (nat_lt target.0 l.callers)
+named-rests l me now (call.Interrupt target) plan st here =
+    if-rests l me now plan st here reply.NoCaller (nat_lt target.0 l.callers)
 named-rests l me now call.Interrupted plan st here = here
-named-rests l me now (call.Pipe target) plan st here = if-rests l me now plan st here reply.NoCaller (nat_lt target.0 l.callers)
+named-rests l me now (call.Pipe target) plan st here =
+    if-rests l me now plan st here reply.NoCaller (nat_lt target.0 l.callers)
 named-rests l me now (call.Pwrite c bytes) plan st here = channel-rests l me now plan st here c
 named-rests l me now (call.Pread c n) plan st here = channel-rests l me now plan st here c
 named-rests l me now (call.Group g) plan st here = here
@@ -110,31 +130,46 @@ pub record AreBetween (l : Limits) (v : PassView) (now : Progress) : Type 0 wher
   pub made : (n : CallerNo) → HasMade l (mine n v.seen) n now
 
 -- a line whose caller may be drawn is its look-ups and its call
-pub line_of_named : (me : CallerNo) (now : Progress) (word : Call) (l : Limits) (v0 v1 : PassView) (said : Said) → nat_lt me.0 l.callers ≡ true
-    → CallClause me (Completes (if_named l now word (call_plan l now me word))) v0 v1 said → CallClause me (Completes (line_plan l now me word)) v0 v1 said
+pub line_of_named : (me : CallerNo) (now : Progress) (word : Call) (l : Limits) (v0 v1 : PassView) (said : Said)
+    → nat_lt me.0 l.callers ≡ true
+    → CallClause me (Completes (if_named l now word (call_plan l now me word))) v0 v1 said
+    → CallClause me (Completes (line_plan l now me word)) v0 v1 said
 unfolding line_plan
 line_of_named me now word l v0 v1 said drawn call =
     let plan = if_named l now word (call_plan l now me word) in
     subst (λ b. CallClause me (Completes (if b then plan else refused now reply.NoCaller)) v0 v1 said) (sym drawn) call
 
 -- after a line it stands so, and the line amounts to the documented one
-pub line_stands : (me : CallerNo) (now : Progress) (word : Call) (v0 v1 : PassView) (said : Said) → IsFit v0.limits → v0.only ≡ true → AreBetween v0.limits v0 now
+pub line_stands : (me : CallerNo) (now : Progress) (word : Call) (v0 v1 : PassView) (said : Said) → IsFit v0.limits
+    → v0.only ≡ true → AreBetween v0.limits v0 now
     → CallClause me (Completes (line_plan v0.limits now me word)) v0 v1 said
-    → AreBetween v0.limits v1 said.left × (seq Now v0.limits (documented (known v0) now) me word ≡ record { reply = said.reply; left = documented (known v1) said.left })
+    → AreBetween v0.limits v1 said.left
+    × (seq Now v0.limits (documented (known v0) now) me word ≡ record {
+      reply = said.reply;
+      left = documented (known v1) said.left;
+    })
 line_stands me now word v0 v1 said fit only before call =
-    let amounts = pass-lines-amount now me word v0 v1 said fit only before.between call in
-    (record { between = amounts.between; made = line_made me now word v0 v1 said only before.between call before.made }, amounts.answered)
+    let amounts = pass-lines-amount now me word v0 v1 said fit only before.between call in (
+      record {
+        between = amounts.between;
+        made = line_made me now word v0 v1 said only before.between call before.made;
+      },
+      amounts.answered,
+    )
 
 -- ---- want of memory
 
 -- a call that is made of calls, and leaves the state and what is in progress
-pub rest_stands : (me : CallerNo) (now : Progress) (plan : Plan Said) (v0 v1 : PassView) (r : Reply) → Leads v0.limits me now plan → Rests me plan (known v0) → v0.only ≡ true → AreBetween v0.limits v0 now
-    → CallClause me (Completes plan) v0 v1 (record { reply = r; left = now }) → AreBetween v0.limits v1 now × (known v1 ≡ known v0)
+pub rest_stands : (me : CallerNo) (now : Progress) (plan : Plan Said) (v0 v1 : PassView) (r : Reply)
+    → Leads v0.limits me now plan → Rests me plan (known v0) → v0.only ≡ true → AreBetween v0.limits v0 now
+    → CallClause me (Completes plan) v0 v1 (record { reply = r; left = now })
+    → AreBetween v0.limits v1 now × (known v1 ≡ known v0)
 rest_stands me now plan v0 v1 r leads rests only before call =
     let same = stays_along me plan v0 v1 (record { reply = r; left = now }) only rests call in (
       record {
         between = subst (λ st. IsBetween v0.limits st now) (sym same) before.between;
-        made = call_made me now plan v0 v1 (record { reply = r; left = now }) leads only before.between call before.made;
+        made = call_made me now plan v0 v1 (record { reply = r; left = now }) leads only before.between call
+            before.made;
       },
       same,
     )
@@ -143,7 +178,9 @@ rest_stands me now plan v0 v1 r leads rests only before call =
 listed-same : (ds : ScriptState) (s : SelNo) (in_set : ℕ → Bool) → (listed ds s in_set).left ≡ ds
 listed-same ds s in_set = by_tests (ds.shared.selector s.0) (ds.shared.gate s.0).shut _
   where
-    by_tests : (a b : Bool) (r : Reply) → (if a then (if b then unchanged ds reply.ClosedSelector else unchanged ds r) else unchanged ds reply.NoSelector).left ≡ ds
+    by_tests : (a b : Bool) (r : Reply)
+        → (if a then (if b then unchanged ds reply.ClosedSelector else unchanged ds r)
+        else unchanged ds reply.NoSelector).left ≡ ds
     by_tests true true r = refl
     by_tests true false r = refl
     by_tests false b r = refl
@@ -157,7 +194,8 @@ keys-same l ds me s = by_caller (nat_lt me.0 l.callers)
     by_caller true = listed-same ds s _
     by_caller false = refl
 
-pub selected-same : (l : Limits) (ds : ScriptState) (me : CallerNo) (s : SelNo) → (seq Now l ds me (call.Selected s)).left ≡ ds
+pub selected-same : (l : Limits) (ds : ScriptState) (me : CallerNo) (s : SelNo)
+    → (seq Now l ds me (call.Selected s)).left ≡ ds
 unfolding seq call_of selected_call
 selected-same l ds me s = by_caller (nat_lt me.0 l.callers)
   where

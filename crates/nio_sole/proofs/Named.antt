@@ -25,7 +25,8 @@ use Rattle.nio_words.specs.declared.words.Pass.{Pass}
 use Rattle.nio_words.specs.declared.words.Words.{Words}
 
 abbrev pub FindsNames : Words → Pass → Pass → CallerNo → Call → Option Reply → Type 0
-FindsNames w p q me word missing = Finds (λ now plan. if_named (limits_of w) now word plan) (λ pass. HasNames pass word) w p q me missing
+FindsNames w p q me word missing =
+    Finds (λ now plan. if_named (limits_of w) now word plan) (λ pass. HasNames pass word) w p q me missing
 
 -- the look-ups with nothing after them
 looked_up : (w : Words) (p q : Pass) (me : CallerNo) (word : Call) (now : Progress) → FindsNames w p q me word None
@@ -34,13 +35,17 @@ looked_up : (w : Words) (p q : Pass) (me : CallerNo) (word : Call) (now : Progre
 looked_up w p q me word now finds = returned (finds.call now (refused now reply.Busy))
 
 -- the look-ups are whole calls
-pub made_after : (w : Words) (p q : Pass) (me : CallerNo) (word : Call) (now : Progress) → FindsNames w p q me word None → HasMade (limits_of w) (acts_seen p me) me now → HasMade (limits_of w) (acts_seen q me) me now
+pub made_after : (w : Words) (p q : Pass) (me : CallerNo) (word : Call) (now : Progress) → FindsNames w p q me word None
+    → HasMade (limits_of w) (acts_seen p me) me now → HasMade (limits_of w) (acts_seen q me) me now
 made_after w p q me word now finds made =
     let call = looked_up w p q me word now finds in
     subst (λ (acts : List _). HasMade (limits_of w) acts me now) (sym call.acts.history.own)
-    (made_along (limits_of w) me now _ (acts_seen p me) _ (record { reply = reply.Busy; left = now }) (leads_named (limits_of w) me now word (refused now reply.Busy) (leads_refused (limits_of w) me now reply.Busy)) made call.shape)
+    (made_along (limits_of w) me now _ (acts_seen p me) _ (record { reply = reply.Busy; left = now })
+    (leads_named (limits_of w) me now word (refused now reply.Busy) (leads_refused (limits_of w) me now reply.Busy))
+    made call.shape)
 
-pub may_make_named : (w : Words) (d : Desk) (q : Pass) (me : CallerNo) (word : Call) → FindsNames w d.pass q me word None → HasPlaces w d
+pub may_make_named : (w : Words) (d : Desk) (q : Pass) (me : CallerNo) (word : Call)
+    → FindsNames w d.pass q me word None → HasPlaces w d
     → ∥ HasMade (limits_of w) (acts_seen d.pass me) me (progress_of d) ∥₁
     → MayMake w (record d { pass = q }) me word
 may_make_named w d q me word finds places made = record {
@@ -49,15 +54,19 @@ may_make_named w d q me word finds places made = record {
   made = ∥∥₁_map made (made_after w d.pass q me word (progress_of d) finds);
 }
 
-pub missing_made : (w : Words) (d : Desk) (q : Pass) (me : CallerNo) (word : Call) (missing : Reply) → FindsNames w d.pass q me word (Some missing) → HasPlaces w d
-    → Makes w d (record d { pass = q }) me (if_named (limits_of w) (progress_of d) word (call_plan (limits_of w) (progress_of d) me word)) missing
+pub missing_made : (w : Words) (d : Desk) (q : Pass) (me : CallerNo) (word : Call) (missing : Reply)
+    → FindsNames w d.pass q me word (Some missing) → HasPlaces w d
+    → Makes w d (record d { pass = q }) me
+    (if_named (limits_of w) (progress_of d) word (call_plan (limits_of w) (progress_of d) me word)) missing
 missing_made w d q me word missing finds places =
-    let call : CallClause me (Completes (if_named (limits_of w) (progress_of d) word (call_plan (limits_of w) (progress_of d) me word)))
+    let call : CallClause me
+    (Completes (if_named (limits_of w) (progress_of d) word (call_plan (limits_of w) (progress_of d) me word)))
     (view w d.pass) (view w q) (record { reply = missing; left = progress_of d })
     = returned (finds.call (progress_of d) (call_plan (limits_of w) (progress_of d) me word)) in
     record { call = call; ready = finds.ready; places = places_same q call places }
 
-named_made : (w : Words) (d d' : Desk) (q : Pass) (me : CallerNo) (word : Call) (plan : Plan Said) (r : Reply) → FindsNames w d.pass q me word None → Makes w (record d { pass = q }) d' me plan r
+named_made : (w : Words) (d d' : Desk) (q : Pass) (me : CallerNo) (word : Call) (plan : Plan Said) (r : Reply)
+    → FindsNames w d.pass q me word None → Makes w (record d { pass = q }) d' me plan r
     → Makes w d d' me (if_named (limits_of w) (progress_of d) word plan) r
 named_made w d d' q me word plan r finds made = record {
   call = returned (left_more (finds.call (progress_of d) plan) (left_of_call made.call));
@@ -65,9 +74,12 @@ named_made w d d' q me word plan r finds made = record {
   places = made.places;
 }
 
-pub line_made_of : (w : Words) (d d' : Desk) (q : Pass) (me : CallerNo) (word : Call) (result : Result Reply AllocError) → FindsNames w d.pass q me word None
-    → MakesCall (λ plan. plan) w (record d { pass = q }) d' me word result → MakesCall (if_named (limits_of w) (progress_of d) word) w d d' me word result
-line_made_of w d d' q me word (Ok r) finds made = named_made w d d' q me word (call_plan (limits_of w) (progress_of d) me word) r finds made
+pub line_made_of : (w : Words) (d d' : Desk) (q : Pass) (me : CallerNo) (word : Call) (result : Result Reply AllocError)
+    → FindsNames w d.pass q me word None
+    → MakesCall (λ plan. plan) w (record d { pass = q }) d' me word result
+    → MakesCall (if_named (limits_of w) (progress_of d) word) w d d' me word result
+line_made_of w d d' q me word (Ok r) finds made =
+    named_made w d d' q me word (call_plan (limits_of w) (progress_of d) me word) r finds made
 line_made_of w d d' q me word (Err e) finds lacks = record {
   want = lacks.want;
   is = lacks.is;

@@ -21,17 +21,23 @@ use Rattle.nio_words.specs.Passes.{IsReady, limits_of, seen, acts_seen}
 use Rattle.nio_words.specs.Views.{view}
 use Rattle.nio_words.specs.declared.words.Words.{Words}
 
-pub its_selects : (w : Words) (d : Desk) (me : CallerNo) (s : SelNo) (x : Selection) → IsReady w d.pass me → HasSelector (view w d.pass) s → HasPlaces w d
-    → ∥ HasMade (limits_of w) (acts_seen d.pass me) me (progress_of d) ∥₁ → if_own me (selections_of d.selections.items s.0) ≡ Some x → Selects (view w d.pass) me x
+pub its_selects : (w : Words) (d : Desk) (me : CallerNo) (s : SelNo) (x : Selection) → IsReady w d.pass me
+    → HasSelector (view w d.pass) s → HasPlaces w d
+    → ∥ HasMade (limits_of w) (acts_seen d.pass me) me (progress_of d) ∥₁
+    → if_own me (selections_of d.selections.items s.0) ≡ Some x → Selects (view w d.pass) me x
 its_selects w d me s x ready has places made own = record {
   inside = subst (λ (y : SelNo). IsSelector (limits_of w) y) (sym (own_on w d me s x places own)) has.inside;
-  begun = begun_had (limits_of w) (seen d.pass) me ready.pass.legal x (∥∥₁_map made (λ m. (made_begun (limits_of w) (seen d.pass) me (progress_of d) s x ready.pass.legal m own).0));
+  begun = begun_had (limits_of w) (seen d.pass) me ready.pass.legal x
+      (∥∥₁_map made (λ m. (made_begun (limits_of w) (seen d.pass) me (progress_of d) s x ready.pass.legal m own).0));
 }
 
 -- The indexes of the keys that it looks at rise.
-pub looked_rise : (w : Words) (d : Desk) (me : CallerNo) (s : SelNo) (x : Selection) → IsReady w d.pass me → HasSelector (view w d.pass) s → HasPlaces w d
-    → ∥ HasMade (limits_of w) (acts_seen d.pass me) me (progress_of d) ∥₁ → if_own me (selections_of d.selections.items s.0) ≡ Some x
+pub looked_rise : (w : Words) (d : Desk) (me : CallerNo) (s : SelNo) (x : Selection) → IsReady w d.pass me
+    → HasSelector (view w d.pass) s → HasPlaces w d
+    → ∥ HasMade (limits_of w) (acts_seen d.pass me) me (progress_of d) ∥₁
+    → if_own me (selections_of d.selections.items s.0) ≡ Some x
     → (looked : List LookedKey) → looked ≡ x.looked → AllPairs (λ a b. a.index < b.index) looked
 looked_rise w d me s x ready has places made own looked is =
     let begun = (its_selects w d me s x ready has places made own).begun in
-    subst (λ (entries : List LookedKey). AllPairs (λ a b. a.index < b.index) entries) (sym is) (lists_in_order x.selector x.mode begun.beginning x begun.begins).looked_rise
+    subst (λ (entries : List LookedKey). AllPairs (λ a b. a.index < b.index) entries) (sym is)
+    (lists_in_order x.selector x.mode begun.beginning x begun.begins).looked_rise

@@ -1,5 +1,7 @@
 -- From the calls on a desk's group and pipes to the lines.
-use Rattle.std.proofs.Common.{◌≡◌, ℕ, ◌<◌, ◌==◌, ◌&&◌, true, false, Bool, Option, Some, None, Result, Ok, Err, List, [], ◌∷◌, ◌++◌, ◌-◌, length, get_or, map, min, set, take, position, refl, sym, ap, ◌∙◌, subst, All}
+use Rattle.std.proofs.Common.{◌≡◌, ℕ, ◌<◌, ◌==◌, ◌&&◌, true, false, Bool, Option, Some, None, Result, Ok, Err, List, []}
+use Rattle.std.proofs.Common.{◌∷◌, ◌++◌, ◌-◌, length, get_or, map, min, set, take, position, refl, sym, ap, ◌∙◌, subst}
+use Rattle.std.proofs.Common.{All}
 use Rattle.std.proofs.lemmas.Bool.{and_parts, eqb-true}
 use Rattle.std.proofs.lemmas.List.{map-append}
 use Rattle.std.proofs.lemmas.List.Elements.{All-append, All-cons, All-get_or, All-nil, All-set}
@@ -19,7 +21,8 @@ use Rattle.nio_event.specs.declared.reply.Reply.TheVariants as reply
 use Rattle.nio_group.specs.Group.{Group}
 use Rattle.nio_pipe.specs.Calls.{HasEnds}
 use Rattle.nio_pipe.specs.Answers.{bytes_read, mode_found, read_answer, without_mode, write_answer}
-use Rattle.nio_pipe.specs.Pipe.{Pipe as Held, IsLawful, after_end, after_read, after_write, new_pipe as new_held, waiting}
+use Rattle.nio_pipe.specs.Pipe.{Pipe as Held, IsLawful, after_end, after_read, after_write, new_pipe as new_held}
+use Rattle.nio_pipe.specs.Pipe.{waiting}
 use Rattle.nio_pipe.specs.declared.answers.PipeRead.{PipeRead}
 use Rattle.nio_pipe.specs.declared.answers.PipeWrite.{PipeWrite}
 use Rattle.nio_plain.proofs.Piping.{position-map}
@@ -28,11 +31,13 @@ use Rattle.nio_plain.specs.Seq.Grouping.{group_left, group_reply}
 use Rattle.nio_plain.specs.Seq.Pipes.{marked_pipes, no_pipe, owns_sink, owns_source}
 use Rattle.nio_serial.specs.Documented.{Progress}
 use Rattle.nio_serial.specs.Lines.{Said, call_plan, makes, read_line, refused, write_line}
-use Rattle.nio_serial.specs.PipeLines.{Piped, after_pipe, own_sink, own_source, pipe_at, read_gives, with_mark, with_pipe, write_gives}
+use Rattle.nio_serial.specs.PipeLines.{Piped, after_pipe, own_sink, own_source, pipe_at, read_gives, with_mark}
+use Rattle.nio_serial.specs.PipeLines.{with_pipe, write_gives}
 use Rattle.nio_serial.specs.Replies.{closed_reply, ends_reply}
 use Rattle.nio_sole.proofs.Asking.{makes_ran, refused_at, replied_as}
 use Rattle.nio_sole.proofs.Desks.{left_as, places_same, still_made}
-use Rattle.nio_sole.proofs.Piping.{read_gave, read_refused, shown_at, shown_set, slice_says, with_held, write_gave, write_refused}
+use Rattle.nio_sole.proofs.Piping.{read_gave, read_refused, shown_at, shown_set, slice_says, with_held, write_gave}
+use Rattle.nio_sole.proofs.Piping.{write_refused}
 use Rattle.nio_sole.specs.Makes.{Lacks, Makes, MakesCall, MayMake, Want}
 use Rattle.nio_sole.specs.PipeReplies.{read_reply, write_reply}
 use Rattle.nio_sole.specs.Stands.{AreMade, HasPlaces, group_of, pipe_of, pipes_of, progress_of}
@@ -62,9 +67,11 @@ places_group places = record {
   pipes = places.pipes;
 }
 
-pub group_called : (w : Words) (d : Desk) (me : CallerNo) (g : GroupCall) (group : Option Group) (result : Result Reply AllocError)
+pub group_called : (w : Words) (d : Desk) (me : CallerNo) (g : GroupCall) (group : Option Group)
+    (result : Result Reply AllocError)
     → MayMake w d me (call.Group g)
-    → IfOk result (λ r. r ≡ group_reply (group_of d.group) g) → IfOk result (λ _. group_of group ≡ group_left (group_of d.group) g)
+    → IfOk result (λ r. r ≡ group_reply (group_of d.group) g)
+    → IfOk result (λ _. group_of group ≡ group_left (group_of d.group) g)
     → OnErr result (group ≡ d.group)
     → MakesCall (λ plan. plan) w d (record d { group = group }) me (call.Group g) result
 unfolding call_plan
@@ -97,7 +104,8 @@ group_called w d me g group (Err e) may says leaves memory =
 abbrev pub with_pipes_in : Desk → Pass → Vec OwnedPipe Global → Desk
 with_pipes_in d p pipes = record d { pass = p; pipes = pipes }
 
-places_pipes : {w : Words} {d : Desk} {q : Pass} {pipes : Vec OwnedPipe Global} → HasPlaces w d → AreMade (view w q) pipes.items → HasPlaces w (with_pipes_in d q pipes)
+places_pipes : {w : Words} {d : Desk} {q : Pass} {pipes : Vec OwnedPipe Global} → HasPlaces w d
+    → AreMade (view w q) pipes.items → HasPlaces w (with_pipes_in d q pipes)
 places_pipes places made = record {
   selections = places.selections;
   closings = places.closings;
@@ -110,15 +118,19 @@ abbrev AreEnds : PassView → OwnedPipe → Type 0
 AreEnds pass x = HasEnds pass x.pipe.source x.pipe.sink
 
 -- the ends of the pipe at a place
-pub made_at : (pass : PassView) (items : List OwnedPipe) (i : ℕ) (x : OwnedPipe) → AreMade pass items → i < length items → x ≡ get_or items i x → AreEnds pass x
+pub made_at : (pass : PassView) (items : List OwnedPipe) (i : ℕ) (x : OwnedPipe) → AreMade pass items → i < length items
+    → x ≡ get_or items i x → AreEnds pass x
 made_at pass items i x made within is = subst (AreEnds pass) (sym is) (All-get_or (AreEnds pass) items i x within made)
 
 -- a pipe with the same channels is put there
-made_set : (pass : PassView) (items : List OwnedPipe) (i : ℕ) (x x' : OwnedPipe) → AreMade pass items → i < length items → x ≡ get_or items i x
+made_set : (pass : PassView) (items : List OwnedPipe) (i : ℕ) (x x' : OwnedPipe) → AreMade pass items → i < length items
+    → x ≡ get_or items i x
     → x'.pipe.source ≡ x.pipe.source → x'.pipe.sink ≡ x.pipe.sink → AreMade pass (set items i x')
 made_set pass items i x x' made within is source sink =
     let ends = made_at pass items i x made within is in
-    All-set (AreEnds pass) items i x' (subst (λ c. HasEnds pass c x'.pipe.sink) (sym source) (subst (λ c. HasEnds pass x.pipe.source c) (sym sink) ends)) made
+    All-set (AreEnds pass) items i x'
+    (subst (λ c. HasEnds pass c x'.pipe.sink) (sym source)
+    (subst (λ c. HasEnds pass x.pipe.source c) (sym sink) ends)) made
 
 -- ---- the caller's own pipe
 
@@ -128,45 +140,56 @@ IsSourceAt d me c place = place ≡ position (λ x. (x.pipe.source.0 == c.0) && 
 abbrev pub IsSinkAt : Desk → CallerNo → ChanNo → Option ℕ → Type 0
 IsSinkAt d me c place = place ≡ position (λ x. (x.pipe.sink.0 == c.0) && (x.writer.0 == me.0)) d.pipes.items
 
-own_source_is : (d : Desk) (me : CallerNo) (c : ChanNo) (place : Option ℕ) → IsSourceAt d me c place → own_source (progress_of d) me c ≡ place
+own_source_is : (d : Desk) (me : CallerNo) (c : ChanNo) (place : Option ℕ) → IsSourceAt d me c place
+    → own_source (progress_of d) me c ≡ place
 own_source_is d me c place is = position-map (owns_source me c) pipe_of d.pipes.items ∙ sym is
 
-own_sink_is : (d : Desk) (me : CallerNo) (c : ChanNo) (place : Option ℕ) → IsSinkAt d me c place → own_sink (progress_of d) me c ≡ place
+own_sink_is : (d : Desk) (me : CallerNo) (c : ChanNo) (place : Option ℕ) → IsSinkAt d me c place
+    → own_sink (progress_of d) me c ≡ place
 own_sink_is d me c place is = position-map (owns_sink me c) pipe_of d.pipes.items ∙ sym is
 
 channel_is : (a b : ChanNo) → (a.0 == b.0) ≡ true → a ≡ b
 channel_is a b same = ap {B = ChanNo} (λ (n : ℕ). record { 0 = n }) (eqb-true a.0 b.0 same)
 
 -- it stands within the list, and its source is the channel
-pub source_at : (d : Desk) (me : CallerNo) (c : ChanNo) (i : ℕ) (x : OwnedPipe) → IsSourceAt d me c (Some i) → x ≡ get_or d.pipes.items i x
+pub source_at : (d : Desk) (me : CallerNo) (c : ChanNo) (i : ℕ) (x : OwnedPipe) → IsSourceAt d me c (Some i)
+    → x ≡ get_or d.pipes.items i x
     → (i < length d.pipes.items) × (x.pipe.source ≡ c)
 source_at d me c i x at is =
-    let found = position-Some (λ (y : OwnedPipe). (y.pipe.source.0 == c.0) && (y.reader.0 == me.0)) d.pipes.items i x (sym at) in
+    let found = position-Some (λ (y : OwnedPipe). (y.pipe.source.0 == c.0) && (y.reader.0 == me.0)) d.pipes.items i x
+    (sym at) in
     let both = ap (λ (y : OwnedPipe). (y.pipe.source.0 == c.0) && (y.reader.0 == me.0)) is ∙ found.1 in
     (found.0, channel_is x.pipe.source c (and_parts (x.pipe.source.0 == c.0) (x.reader.0 == me.0) both).0)
 
-pub sink_at : (d : Desk) (me : CallerNo) (c : ChanNo) (i : ℕ) (x : OwnedPipe) → IsSinkAt d me c (Some i) → x ≡ get_or d.pipes.items i x
+pub sink_at : (d : Desk) (me : CallerNo) (c : ChanNo) (i : ℕ) (x : OwnedPipe) → IsSinkAt d me c (Some i)
+    → x ≡ get_or d.pipes.items i x
     → (i < length d.pipes.items) × (x.pipe.sink ≡ c)
 sink_at d me c i x at is =
-    let found = position-Some (λ (y : OwnedPipe). (y.pipe.sink.0 == c.0) && (y.writer.0 == me.0)) d.pipes.items i x (sym at) in
+    let found = position-Some (λ (y : OwnedPipe). (y.pipe.sink.0 == c.0) && (y.writer.0 == me.0)) d.pipes.items i x
+    (sym at) in
     let both = ap (λ (y : OwnedPipe). (y.pipe.sink.0 == c.0) && (y.writer.0 == me.0)) is ∙ found.1 in
     (found.0, channel_is x.pipe.sink c (and_parts (x.pipe.sink.0 == c.0) (x.writer.0 == me.0) both).0)
 
 -- ---- reads and writes
 
-read_by : {me : CallerNo} (l : Limits) (now : Progress) (c : ChanNo) (n : ℕ) {place place' : Option ℕ} {said : Said} {v0 v1 : PassView}
-    → place ≡ place' → CallClause me (Completes (read_line l now c n place')) v0 v1 said → CallClause me (Completes (read_line l now c n place)) v0 v1 said
+read_by : {me : CallerNo} (l : Limits) (now : Progress) (c : ChanNo) (n : ℕ) {place place' : Option ℕ} {said : Said}
+    {v0 v1 : PassView}
+    → place ≡ place' → CallClause me (Completes (read_line l now c n place')) v0 v1 said
+    → CallClause me (Completes (read_line l now c n place)) v0 v1 said
 read_by {me = me} l now c n {said = said} {v0 = v0} {v1 = v1} is call =
     subst (λ (x : Option ℕ). CallClause me (Completes (read_line l now c n x)) v0 v1 said) (sym is) call
 
-write_by : {me : CallerNo} (l : Limits) (now : Progress) (c : ChanNo) (bytes : List ℕ) {place place' : Option ℕ} {said : Said} {v0 v1 : PassView}
-    → place ≡ place' → CallClause me (Completes (write_line l now c bytes place')) v0 v1 said → CallClause me (Completes (write_line l now c bytes place)) v0 v1 said
+write_by : {me : CallerNo} (l : Limits) (now : Progress) (c : ChanNo) (bytes : List ℕ) {place place' : Option ℕ}
+    {said : Said} {v0 v1 : PassView}
+    → place ≡ place' → CallClause me (Completes (write_line l now c bytes place')) v0 v1 said
+    → CallClause me (Completes (write_line l now c bytes place)) v0 v1 said
 write_by {me = me} l now c bytes {said = said} {v0 = v0} {v1 = v1} is call =
     subst (λ (x : Option ℕ). CallClause me (Completes (write_line l now c bytes x)) v0 v1 said) (sym is) call
 
 -- what a desk shows once the pipe at a place has come to this
 module _ (d : Desk) (i : ℕ) (x x' : OwnedPipe) (gives : Pipe → Piped) (r : Reply)
-    (within : i < length d.pipes.items) (is : x ≡ get_or d.pipes.items i x) (comes : gives (pipe_of x) ≡ record { reply = r; left = pipe_of x' }) where
+    (within : i < length d.pipes.items) (is : x ≡ get_or d.pipes.items i x)
+    (comes : gives (pipe_of x) ≡ record { reply = r; left = pipe_of x' }) where
   gives_at : gives (pipe_at (progress_of d) i) ≡ record { reply = r; left = pipe_of x' }
   gives_at = ap gives (shown_at d.pipes.items i x within is) ∙ comes
 
@@ -178,20 +201,25 @@ module _ (d : Desk) (i : ℕ) (x x' : OwnedPipe) (gives : Pipe → Piped) (r : R
   gives_leaves q pipes items =
       let now = progress_of d in
       ap {B = Progress} (λ (ps : List Pipe). record now { pipes = ps })
-      (ap (λ (g : Piped). set (pipes_of d.pipes.items) i g.left) gives_at ∙ (sym (shown_set d.pipes.items i x') ∙ ap pipes_of (sym items)))
+      (ap (λ (g : Piped). set (pipes_of d.pipes.items) i g.left) gives_at
+      ∙ (sym (shown_set d.pipes.items i x') ∙ ap pipes_of (sym items)))
 
-pub read_none : (w : Words) (d : Desk) (me : CallerNo) (c : ChanNo) (n : ℕ) → MayMake w d me (call.Pread c n) → IsSourceAt d me c None
+pub read_none : (w : Words) (d : Desk) (me : CallerNo) (c : ChanNo) (n : ℕ) → MayMake w d me (call.Pread c n)
+    → IsSourceAt d me c None
     → Makes w d d me (call_plan (limits_of w) (progress_of d) me (call.Pread c n)) reply.NotOwner
 unfolding call_plan
 read_none w d me c n may none = record {
-  call = read_by (limits_of w) (progress_of d) c n (own_source_is d me c None none) (refused_at (progress_of d) reply.NotOwner (view w d.pass) may.ask.ready.pass.legal);
+  call = read_by (limits_of w) (progress_of d) c n (own_source_is d me c None none)
+      (refused_at (progress_of d) reply.NotOwner (view w d.pass) may.ask.ready.pass.legal);
   ready = may.ask.ready;
   places = may.places;
 }
 
-pub read_made : (w : Words) (d : Desk) (q : Pass) (me : CallerNo) (c : ChanNo) (n i : ℕ) (x x' : OwnedPipe) (pipes : Vec OwnedPipe Global) (found : Result Bool PipeError) (r : Reply)
+pub read_made : (w : Words) (d : Desk) (q : Pass) (me : CallerNo) (c : ChanNo) (n i : ℕ) (x x' : OwnedPipe)
+    (pipes : Vec OwnedPipe Global) (found : Result Bool PipeError) (r : Reply)
     → MayMake w d me (call.Pread c n) → IsSourceAt d me c (Some i) → x ≡ get_or d.pipes.items i x
-    → CallClause me (Completes (try_read_plan (limits_of w) x.pipe.source)) (view w d.pass) (view w q) found → IsReady w q me
+    → CallClause me (Completes (try_read_plan (limits_of w) x.pipe.source)) (view w d.pass) (view w q) found
+    → IsReady w q me
     → pipes.items ≡ set d.pipes.items i x' → x'.pipe.source ≡ x.pipe.source → x'.pipe.sink ≡ x.pipe.sink
     → read_gives n (pipe_of x) found ≡ record { reply = r; left = pipe_of x' }
     → Makes w d (with_pipes_in d q pipes) me (call_plan (limits_of w) (progress_of d) me (call.Pread c n)) r
@@ -205,25 +233,31 @@ read_made w d q me c n i x x' pipes found r may at is ran ready items source sin
     let gives : Pipe → Piped = λ p. read_gives n p found in
     record {
       call = read_by l now c n (own_source_is d me c (Some i) at)
-          (replied_as (left_as (makes_ran (λ a. (read_gives n (pipe_at now i) a).reply) (λ a. with_pipe now i (read_gives n (pipe_at now i) a).left) call)
+          (replied_as
+          (left_as (makes_ran (λ a. (read_gives n (pipe_at now i) a).reply)
+          (λ a. with_pipe now i (read_gives n (pipe_at now i) a).left) call)
           (gives_leaves d i x x' gives r here.0 is comes q pipes items)) (gives_says d i x x' gives r here.0 is comes));
       ready = ready;
       places = places_pipes may.places (subst (AreMade (view w q)) (sym items)
           (made_set (view w q) d.pipes.items i x x' (still_made q may.places call) here.0 is source sink));
     }
 
-pub write_none : (w : Words) (d : Desk) (me : CallerNo) (c : ChanNo) (bytes : List ℕ) → MayMake w d me (call.Pwrite c bytes) → IsSinkAt d me c None
+pub write_none : (w : Words) (d : Desk) (me : CallerNo) (c : ChanNo) (bytes : List ℕ)
+    → MayMake w d me (call.Pwrite c bytes) → IsSinkAt d me c None
     → Makes w d d me (call_plan (limits_of w) (progress_of d) me (call.Pwrite c bytes)) reply.NotOwner
 unfolding call_plan
 write_none w d me c bytes may none = record {
-  call = write_by (limits_of w) (progress_of d) c bytes (own_sink_is d me c None none) (refused_at (progress_of d) reply.NotOwner (view w d.pass) may.ask.ready.pass.legal);
+  call = write_by (limits_of w) (progress_of d) c bytes (own_sink_is d me c None none)
+      (refused_at (progress_of d) reply.NotOwner (view w d.pass) may.ask.ready.pass.legal);
   ready = may.ask.ready;
   places = may.places;
 }
 
-pub write_made : (w : Words) (d : Desk) (q : Pass) (me : CallerNo) (c : ChanNo) (bytes : List ℕ) (i : ℕ) (x x' : OwnedPipe) (pipes : Vec OwnedPipe Global) (found : Result Bool PipeError) (r : Reply)
+pub write_made : (w : Words) (d : Desk) (q : Pass) (me : CallerNo) (c : ChanNo) (bytes : List ℕ) (i : ℕ)
+    (x x' : OwnedPipe) (pipes : Vec OwnedPipe Global) (found : Result Bool PipeError) (r : Reply)
     → MayMake w d me (call.Pwrite c bytes) → IsSinkAt d me c (Some i) → x ≡ get_or d.pipes.items i x
-    → CallClause me (Completes (try_write_plan (limits_of w) x.pipe.source x.pipe.sink)) (view w d.pass) (view w q) found → IsReady w q me
+    → CallClause me (Completes (try_write_plan (limits_of w) x.pipe.source x.pipe.sink)) (view w d.pass)
+    (view w q) found → IsReady w q me
     → pipes.items ≡ set d.pipes.items i x' → x'.pipe.source ≡ x.pipe.source → x'.pipe.sink ≡ x.pipe.sink
     → write_gives bytes (pipe_of x) found ≡ record { reply = r; left = pipe_of x' }
     → Makes w d (with_pipes_in d q pipes) me (call_plan (limits_of w) (progress_of d) me (call.Pwrite c bytes)) r
@@ -232,14 +266,19 @@ write_made w d q me c bytes i x x' pipes found r may at is ran ready items sourc
     let l = limits_of w in
     let now = progress_of d in
     let here = sink_at d me c i x at is in
-    let source_shown : x.pipe.source ≡ (pipe_at now i).source = sym (ap (λ (p : Pipe). p.source) (shown_at d.pipes.items i x here.0 is)) in
+    let source_shown : x.pipe.source ≡ (pipe_at now i).source = sym
+    (ap (λ (p : Pipe). p.source) (shown_at d.pipes.items i x here.0 is)) in
     let call : CallClause me (Completes (try_write_plan l (pipe_at now i).source c)) (view w d.pass) (view w q) found =
-    subst (λ (s : ChanNo). CallClause me (Completes (try_write_plan l s c)) (view w d.pass) (view w q) found) source_shown
-    (subst (λ (s : ChanNo). CallClause me (Completes (try_write_plan l x.pipe.source s)) (view w d.pass) (view w q) found) here.1 ran) in
+    subst (λ (s : ChanNo). CallClause me (Completes (try_write_plan l s c)) (view w d.pass) (view w q) found)
+    source_shown
+    (subst (λ (s : ChanNo). CallClause me (Completes (try_write_plan l x.pipe.source s)) (view w d.pass)
+    (view w q) found) here.1 ran) in
     let gives : Pipe → Piped = λ p. write_gives bytes p found in
     record {
       call = write_by l now c bytes (own_sink_is d me c (Some i) at)
-          (replied_as (left_as (makes_ran (λ a. (write_gives bytes (pipe_at now i) a).reply) (λ a. with_pipe now i (write_gives bytes (pipe_at now i) a).left) call)
+          (replied_as
+          (left_as (makes_ran (λ a. (write_gives bytes (pipe_at now i) a).reply)
+          (λ a. with_pipe now i (write_gives bytes (pipe_at now i) a).left) call)
           (gives_leaves d i x x' gives r here.0 is comes q pipes items)) (gives_says d i x x' gives r here.0 is comes));
       ready = ready;
       places = places_pipes may.places (subst (AreMade (view w q)) (sym items)
@@ -247,82 +286,111 @@ write_made w d q me c bytes i x x' pipes found r may at is ran ready items sourc
     }
 
 -- with what the call answers, and what its slice then has
-pub read_said : (w : Words) (d : Desk) (q : Pass) (me : CallerNo) (c : ChanNo) (n room i : ℕ) (x : OwnedPipe) (pipes : Vec OwnedPipe Global)
+pub read_said : (w : Words) (d : Desk) (q : Pass) (me : CallerNo) (c : ChanNo) (n room i : ℕ) (x : OwnedPipe)
+    (pipes : Vec OwnedPipe Global)
     (into rest : List ℕ) (result : Result (PipeRead × Bool) PipeError)
-    → MayMake w d me (call.Pread c n) → IsSourceAt d me c (Some i) → x ≡ get_or d.pipes.items i x → IsLawful x.pipe → room ≡ min 65536 n
-    → CallClause me (Completes (try_read_plan (limits_of w) x.pipe.source)) (view w d.pass) (view w q) (mode_found result) → IsReady w q me
+    → MayMake w d me (call.Pread c n) → IsSourceAt d me c (Some i) → x ≡ get_or d.pipes.items i x → IsLawful x.pipe
+    → room ≡ min 65536 n
+    → CallClause me (Completes (try_read_plan (limits_of w) x.pipe.source)) (view w d.pass) (view w q)
+    (mode_found result) → IsReady w q me
     → IfOk result (λ found. found.0 ≡ read_answer room (min room (length (waiting x.pipe))) x.pipe.marked)
     → into ≡ take (bytes_read (without_mode result)) (waiting x.pipe) ++ rest
     → pipes.items ≡ set d.pipes.items i (with_held x (after_read x.pipe (without_mode result)))
-    → Makes w d (with_pipes_in d q pipes) me (call_plan (limits_of w) (progress_of d) me (call.Pread c n)) (read_reply result into)
+    → Makes w d (with_pipes_in d q pipes) me (call_plan (limits_of w) (progress_of d) me (call.Pread c n))
+    (read_reply result into)
 read_said w d q me c n room i x pipes into rest (Ok found) may at is lawful room_is ran ready answer front items =
-    subst (λ (r : Reply). Makes w d (with_pipes_in d q pipes) me (call_plan (limits_of w) (progress_of d) me (call.Pread c n)) r)
+    subst (λ (r : Reply). Makes w d (with_pipes_in d q pipes) me
+    (call_plan (limits_of w) (progress_of d) me (call.Pread c n)) r)
     (sym (slice_says x lawful room found.1 found.0 into rest answer front))
-    (read_made w d q me c n i x (with_held x (after_read x.pipe (Ok found.0))) pipes (Ok found.1) _ may at is ran ready items refl refl
+    (read_made w d q me c n i x (with_held x (after_read x.pipe (Ok found.0))) pipes
+    (Ok found.1) _ may at is ran ready items refl refl
     (read_gave x lawful n room found.1 found.0 room_is answer))
 read_said w d q me c n room i x pipes into rest (Err refusal) may at is lawful room_is ran ready answer front items =
-    read_made w d q me c n i x (with_held x (after_read x.pipe (Err refusal))) pipes (Err refusal) _ may at is ran ready items refl refl
+    read_made w d q me c n i x (with_held x (after_read x.pipe (Err refusal))) pipes
+    (Err refusal) _ may at is ran ready items refl refl
     (read_refused x lawful n refusal)
 
-written : (w : Words) (d : Desk) (q : Pass) (me : CallerNo) (c : ChanNo) (bytes : List ℕ) (i : ℕ) (x : OwnedPipe) (pipes : Vec OwnedPipe Global)
+written : (w : Words) (d : Desk) (q : Pass) (me : CallerNo) (c : ChanNo) (bytes : List ℕ) (i : ℕ) (x : OwnedPipe)
+    (pipes : Vec OwnedPipe Global)
     (result : Result (PipeWrite × Bool) PipeError)
     → MayMake w d me (call.Pwrite c bytes) → IsSinkAt d me c (Some i) → x ≡ get_or d.pipes.items i x → IsLawful x.pipe
-    → CallClause me (Completes (try_write_plan (limits_of w) x.pipe.source x.pipe.sink)) (view w d.pass) (view w q) (mode_found result) → IsReady w q me
-    → IfOk result (λ found. found.0 ≡ write_answer (length bytes) (min (length bytes) (65536 - length (waiting x.pipe))))
+    → CallClause me (Completes (try_write_plan (limits_of w) x.pipe.source x.pipe.sink)) (view w d.pass) (view w q)
+    (mode_found result) → IsReady w q me
+    → IfOk result
+    (λ found. found.0 ≡ write_answer (length bytes) (min (length bytes) (65536 - length (waiting x.pipe))))
     → pipes.items ≡ set d.pipes.items i (with_held x (after_write x.pipe bytes (without_mode result)))
-    → Makes w d (with_pipes_in d q pipes) me (call_plan (limits_of w) (progress_of d) me (call.Pwrite c bytes)) (write_reply result)
+    → Makes w d (with_pipes_in d q pipes) me (call_plan (limits_of w) (progress_of d) me (call.Pwrite c bytes))
+    (write_reply result)
 written w d q me c bytes i x pipes (Ok found) may at is lawful ran ready answer items =
-    write_made w d q me c bytes i x (with_held x (after_write x.pipe bytes (Ok found.0))) pipes (Ok found.1) _ may at is ran ready items refl refl
+    write_made w d q me c bytes i x (with_held x (after_write x.pipe bytes (Ok found.0))) pipes
+    (Ok found.1) _ may at is ran ready items refl refl
     (write_gave x lawful bytes found.1 found.0 answer)
 written w d q me c bytes i x pipes (Err refusal) may at is lawful ran ready answer items =
-    write_made w d q me c bytes i x (with_held x (after_write x.pipe bytes (Err refusal))) pipes (Err refusal) _ may at is ran ready items refl refl
+    write_made w d q me c bytes i x (with_held x (after_write x.pipe bytes (Err refusal))) pipes
+    (Err refusal) _ may at is ran ready items refl refl
     (write_refused x lawful bytes refusal)
 
 -- the slice that is written has the bytes of the line
-pub write_said : (w : Words) (d : Desk) (q : Pass) (me : CallerNo) (c : ChanNo) (bytes from : List ℕ) (i : ℕ) (x : OwnedPipe) (pipes : Vec OwnedPipe Global)
+pub write_said : (w : Words) (d : Desk) (q : Pass) (me : CallerNo) (c : ChanNo) (bytes from : List ℕ) (i : ℕ)
+    (x : OwnedPipe) (pipes : Vec OwnedPipe Global)
     (result : Result (PipeWrite × Bool) PipeError) → from ≡ bytes
     → MayMake w d me (call.Pwrite c bytes) → IsSinkAt d me c (Some i) → x ≡ get_or d.pipes.items i x → IsLawful x.pipe
-    → CallClause me (Completes (try_write_plan (limits_of w) x.pipe.source x.pipe.sink)) (view w d.pass) (view w q) (mode_found result) → IsReady w q me
+    → CallClause me (Completes (try_write_plan (limits_of w) x.pipe.source x.pipe.sink)) (view w d.pass) (view w q)
+    (mode_found result) → IsReady w q me
     → IfOk result (λ found. found.0 ≡ write_answer (length from) (min (length from) (65536 - length (waiting x.pipe))))
     → pipes.items ≡ set d.pipes.items i (with_held x (after_write x.pipe from (without_mode result)))
-    → Makes w d (with_pipes_in d q pipes) me (call_plan (limits_of w) (progress_of d) me (call.Pwrite c bytes)) (write_reply result)
+    → Makes w d (with_pipes_in d q pipes) me (call_plan (limits_of w) (progress_of d) me (call.Pwrite c bytes))
+    (write_reply result)
 write_said w d q me c bytes from i x pipes result same may at is lawful ran ready answer items =
     written w d q me c bytes i x pipes result may at is lawful ran ready
-    (subst (λ (b : List ℕ). IfOk result (λ found. found.0 ≡ write_answer (length b) (min (length b) (65536 - length (waiting x.pipe))))) same answer)
+    (subst (λ (b : List ℕ). IfOk result
+    (λ found. found.0 ≡ write_answer (length b) (min (length b) (65536 - length (waiting x.pipe))))) same answer)
     (items ∙ ap (λ (b : List ℕ). set d.pipes.items i (with_held x (after_write x.pipe b (without_mode result)))) same)
 
 -- a place that was found among the same pipes
 pub source_found : (d : Desk) (me : CallerNo) (c : ChanNo) (place : Option ℕ) (xs : List OwnedPipe)
-    → place ≡ position (λ x. (x.pipe.source.0 == c.0) && (x.reader.0 == me.0)) xs → xs ≡ d.pipes.items → IsSourceAt d me c place
-source_found d me c place xs is same = is ∙ ap (position (λ (x : OwnedPipe). (x.pipe.source.0 == c.0) && (x.reader.0 == me.0))) same
+    → place ≡ position (λ x. (x.pipe.source.0 == c.0) && (x.reader.0 == me.0)) xs → xs ≡ d.pipes.items
+    → IsSourceAt d me c place
+source_found d me c place xs is same =
+    is ∙ ap (position (λ (x : OwnedPipe). (x.pipe.source.0 == c.0) && (x.reader.0 == me.0))) same
 
 pub sink_found : (d : Desk) (me : CallerNo) (c : ChanNo) (place : Option ℕ) (xs : List OwnedPipe)
-    → place ≡ position (λ x. (x.pipe.sink.0 == c.0) && (x.writer.0 == me.0)) xs → xs ≡ d.pipes.items → IsSinkAt d me c place
-sink_found d me c place xs is same = is ∙ ap (position (λ (x : OwnedPipe). (x.pipe.sink.0 == c.0) && (x.writer.0 == me.0))) same
+    → place ≡ position (λ x. (x.pipe.sink.0 == c.0) && (x.writer.0 == me.0)) xs → xs ≡ d.pipes.items
+    → IsSinkAt d me c place
+sink_found d me c place xs is same =
+    is ∙ ap (position (λ (x : OwnedPipe). (x.pipe.sink.0 == c.0) && (x.writer.0 == me.0))) same
 
 -- with a reply that is the same
-pub said_so : {w : Words} {d d' : Desk} {me : CallerNo} {plan : Plan Said} {r r' : Reply} → r' ≡ r → Makes w d d' me plan r → Makes w d d' me plan r'
-said_so {w = w} {d = d} {d' = d'} {me = me} {plan = plan} same makes = subst (λ (x : Reply). Makes w d d' me plan x) (sym same) makes
+pub said_so : {w : Words} {d d' : Desk} {me : CallerNo} {plan : Plan Said} {r r' : Reply} → r' ≡ r
+    → Makes w d d' me plan r → Makes w d d' me plan r'
+said_so {w = w} {d = d} {d' = d'} {me = me} {plan = plan} same makes =
+    subst (λ (x : Reply). Makes w d d' me plan x) (sym same) makes
 
 -- ---- closing
 
-pub close_none : (w : Words) (d : Desk) (q : Pass) (me : CallerNo) (c : ChanNo) (closes : Bool) → MayMake w d me (call.Closec c) → IsSinkAt d me c None
+pub close_none : (w : Words) (d : Desk) (q : Pass) (me : CallerNo) (c : ChanNo) (closes : Bool)
+    → MayMake w d me (call.Closec c) → IsSinkAt d me c None
     → CallClause me (Completes (close_channel_plan (limits_of w) c)) (view w d.pass) (view w q) closes → IsReady w q me
-    → Makes w d (record d { pass = q }) me (call_plan (limits_of w) (progress_of d) me (call.Closec c)) (closed_reply closes)
+    → Makes w d (record d { pass = q }) me (call_plan (limits_of w) (progress_of d) me (call.Closec c))
+    (closed_reply closes)
 unfolding call_plan
 close_none w d q me c closes may none ran ready =
     let now = progress_of d in
     record {
-      call = left_as (makes_ran closed_reply (λ _. with_mark now (own_sink now me c)) ran) (ap (with_mark now) (own_sink_is d me c None none));
+      call = left_as (makes_ran closed_reply (λ _. with_mark now (own_sink now me c)) ran)
+          (ap (with_mark now) (own_sink_is d me c None none));
       ready = ready;
       places = places_same q ran may.places;
     }
 
-pub close_made : (w : Words) (d : Desk) (q : Pass) (me : CallerNo) (c : ChanNo) (i : ℕ) (x : OwnedPipe) (pipes : Vec OwnedPipe Global) (closes : Bool) → MayMake w d me (call.Closec c)
+pub close_made : (w : Words) (d : Desk) (q : Pass) (me : CallerNo) (c : ChanNo) (i : ℕ) (x : OwnedPipe)
+    (pipes : Vec OwnedPipe Global) (closes : Bool) → MayMake w d me (call.Closec c)
     → IsSinkAt d me c (Some i) → x ≡ get_or d.pipes.items i x
-    → CallClause me (Completes (close_channel_plan (limits_of w) x.pipe.sink)) (view w d.pass) (view w q) closes → IsReady w q me
+    → CallClause me (Completes (close_channel_plan (limits_of w) x.pipe.sink)) (view w d.pass) (view w q) closes
+    → IsReady w q me
     → pipes.items ≡ set d.pipes.items i (with_held x (after_end x.pipe))
-    → Makes w d (with_pipes_in d q pipes) me (call_plan (limits_of w) (progress_of d) me (call.Closec c)) (closed_reply closes)
+    → Makes w d (with_pipes_in d q pipes) me (call_plan (limits_of w) (progress_of d) me (call.Closec c))
+    (closed_reply closes)
 unfolding call_plan
 close_made w d q me c i x pipes closes may at is ran ready items =
     let l = limits_of w in
@@ -330,12 +398,14 @@ close_made w d q me c i x pipes closes may at is ran ready items =
     let here = sink_at d me c i x at is in
     let x' = with_held x (after_end x.pipe) in
     let call : CallClause me (Completes (close_channel_plan l c)) (view w d.pass) (view w q) closes =
-    subst (λ (s : ChanNo). CallClause me (Completes (close_channel_plan l s)) (view w d.pass) (view w q) closes) here.1 ran in
+    subst (λ (s : ChanNo). CallClause me (Completes (close_channel_plan l s)) (view w d.pass) (view w q) closes) here.1
+    ran in
     record {
       call = left_as (makes_ran closed_reply (λ _. with_mark now (own_sink now me c)) call)
           (ap (with_mark now) (own_sink_is d me c (Some i) at)
           ∙ ap {B = Progress} (λ (ps : List Pipe). record now { pipes = ps })
-          (ap {B = List Pipe} (λ (p : Pipe). set (pipes_of d.pipes.items) i (record p { marked = true })) (shown_at d.pipes.items i x here.0 is)
+          (ap {B = List Pipe} (λ (p : Pipe). set (pipes_of d.pipes.items) i (record p { marked = true }))
+          (shown_at d.pipes.items i x here.0 is)
           ∙ (sym (shown_set d.pipes.items i x') ∙ ap pipes_of (sym items))));
       ready = ready;
       places = places_pipes may.places (subst (AreMade (view w q)) (sym items)
@@ -344,15 +414,20 @@ close_made w d q me c i x pipes closes may at is ran ready items =
 
 -- ---- making
 
-pipe_ran : {me : CallerNo} (l : Limits) {answer : Result PipeEnds PipeMakeError} {v0 v1 : PassView} → CallClause me (MakesPipe l) v0 v1 answer
+pipe_ran : {me : CallerNo} (l : Limits) {answer : Result PipeEnds PipeMakeError} {v0 v1 : PassView}
+    → CallClause me (MakesPipe l) v0 v1 answer
     → CallClause me (Completes (pipe_plan l (pipe_lacks_memory answer))) v0 v1 answer
-pipe_ran l {answer = answer} call = call_as (Completes (pipe_plan l (pipe_lacks_memory answer))) answer (λ acts run. run) call
+pipe_ran l {answer = answer} call =
+    call_as (Completes (pipe_plan l (pipe_lacks_memory answer))) answer (λ acts run. run) call
 
-pub pipe_made : (w : Words) (d : Desk) (q : Pass) (me target : CallerNo) (pipe : Held) (pipes : Vec OwnedPipe Global) → MayMake w d me (call.Pipe target)
-    → CallClause me (MakesPipe (limits_of w)) (view w d.pass) (view w q) (Ok (record { source = pipe.source; sink = pipe.sink })) → IsReady w q me
+pub pipe_made : (w : Words) (d : Desk) (q : Pass) (me target : CallerNo) (pipe : Held) (pipes : Vec OwnedPipe Global)
+    → MayMake w d me (call.Pipe target)
+    → CallClause me (MakesPipe (limits_of w)) (view w d.pass) (view w q)
+    (Ok (record { source = pipe.source; sink = pipe.sink })) → IsReady w q me
     → HasEnds (view w q) pipe.source pipe.sink → pipe ≡ new_held pipe.source pipe.sink
     → pipes.items ≡ d.pipes.items ++ record { reader = me; writer = target; pipe = pipe } ∷ []
-    → Makes w d (with_pipes_in d q pipes) me (call_plan (limits_of w) (progress_of d) me (call.Pipe target)) (reply.Ends pipe.source pipe.sink)
+    → Makes w d (with_pipes_in d q pipes) me (call_plan (limits_of w) (progress_of d) me (call.Pipe target))
+    (reply.Ends pipe.source pipe.sink)
 unfolding call_plan
 pipe_made w d q me target pipe pipes may ran ready ends empty items =
     let now = progress_of d in
@@ -362,30 +437,38 @@ pipe_made w d q me target pipe pipes may ran ready ends empty items =
     record {
       call = left_as (makes_ran ends_reply (after_pipe now me target) call)
           (ap {B = Progress} (λ (ps : List Pipe). record now { pipes = ps })
-          (ap (λ (h : Held). pipes_of d.pipes.items ++ pipe_of (record { reader = me; writer = target; pipe = h }) ∷ []) (sym empty)
+          (ap (λ (h : Held). pipes_of d.pipes.items ++ pipe_of (record { reader = me; writer = target; pipe = h }) ∷ [])
+          (sym empty)
           ∙ (sym (map-append pipe_of d.pipes.items (x ∷ [])) ∙ ap pipes_of (sym items))));
       ready = ready;
       places = places_pipes may.places (subst (AreMade (view w q)) (sym items)
-          (All-append (AreEnds (view w q)) d.pipes.items (x ∷ []) (still_made q may.places ran) (All-cons (AreEnds (view w q)) x [] ends (All-nil (AreEnds (view w q))))));
+          (All-append (AreEnds (view w q)) d.pipes.items (x ∷ []) (still_made q may.places ran)
+          (All-cons (AreEnds (view w q)) x [] ends (All-nil (AreEnds (view w q))))));
     }
 
 -- the room was taken, and no pipe was made
-pub pipe_refused : (w : Words) (d : Desk) (q : Pass) (me target : CallerNo) (pipes : Vec OwnedPipe Global) → MayMake w d me (call.Pipe target)
-    → CallClause me (MakesPipe (limits_of w)) (view w d.pass) (view w q) (Err PipeMakeError.ChannelsSpent) → IsReady w q me → pipes.items ≡ d.pipes.items
-    → Makes w d (with_pipes_in d q pipes) me (call_plan (limits_of w) (progress_of d) me (call.Pipe target)) reply.ChannelsSpent
+pub pipe_refused : (w : Words) (d : Desk) (q : Pass) (me target : CallerNo) (pipes : Vec OwnedPipe Global)
+    → MayMake w d me (call.Pipe target)
+    → CallClause me (MakesPipe (limits_of w)) (view w d.pass) (view w q) (Err PipeMakeError.ChannelsSpent)
+    → IsReady w q me → pipes.items ≡ d.pipes.items
+    → Makes w d (with_pipes_in d q pipes) me (call_plan (limits_of w) (progress_of d) me (call.Pipe target))
+    reply.ChannelsSpent
 unfolding call_plan
 pipe_refused w d q me target pipes may ran ready items =
     let now = progress_of d in
     let call = pipe_ran (limits_of w) ran in
     record {
-      call = left_as (makes_ran ends_reply (after_pipe now me target) call) (ap {B = Progress} (λ (xs : List OwnedPipe). record now { pipes = pipes_of xs }) (sym items));
+      call = left_as (makes_ran ends_reply (after_pipe now me target) call)
+          (ap {B = Progress} (λ (xs : List OwnedPipe). record now { pipes = pipes_of xs }) (sym items));
       ready = ready;
       places = places_pipes may.places (subst (AreMade (view w q)) (sym items) (still_made q may.places ran));
     }
 
 -- the room was taken, and there was no memory for the pipe
-pub pipe_lacks : (w : Words) (d : Desk) (q : Pass) (me target : CallerNo) (pipes : Vec OwnedPipe Global) → MayMake w d me (call.Pipe target)
-    → CallClause me (MakesPipe (limits_of w)) (view w d.pass) (view w q) (Err PipeMakeError.Memory) → IsReady w q me → pipes.items ≡ d.pipes.items
+pub pipe_lacks : (w : Words) (d : Desk) (q : Pass) (me target : CallerNo) (pipes : Vec OwnedPipe Global)
+    → MayMake w d me (call.Pipe target)
+    → CallClause me (MakesPipe (limits_of w)) (view w d.pass) (view w q) (Err PipeMakeError.Memory) → IsReady w q me
+    → pipes.items ≡ d.pipes.items
     → Lacks (λ plan. plan) w d (with_pipes_in d q pipes) me (call.Pipe target)
 unfolding pipe_plan
 pipe_lacks w d q me target pipes may ran ready items =
@@ -405,7 +488,8 @@ pipe_lacks w d q me target pipes may ran ready items =
     }
 
 -- there was no room
-pub pipe_unplaced : (w : Words) (d : Desk) (me target : CallerNo) (pipes : Vec OwnedPipe Global) → MayMake w d me (call.Pipe target) → pipes.items ≡ d.pipes.items
+pub pipe_unplaced : (w : Words) (d : Desk) (me target : CallerNo) (pipes : Vec OwnedPipe Global)
+    → MayMake w d me (call.Pipe target) → pipes.items ≡ d.pipes.items
     → Lacks (λ plan. plan) w d (with_pipes_in d d.pass pipes) me (call.Pipe target)
 pipe_unplaced w d me target pipes may items =
     let now = progress_of d in
@@ -422,7 +506,8 @@ pipe_unplaced w d me target pipes may items =
       same = sym same;
     }
 
-pub read_lacks : (w : Words) (d : Desk) (me : CallerNo) (c : ChanNo) (n : ℕ) → MayMake w d me (call.Pread c n) → Lacks (λ plan. plan) w d d me (call.Pread c n)
+pub read_lacks : (w : Words) (d : Desk) (me : CallerNo) (c : ChanNo) (n : ℕ) → MayMake w d me (call.Pread c n)
+    → Lacks (λ plan. plan) w d d me (call.Pread c n)
 read_lacks w d me c n may = record {
   want = Want.read_unmade c n;
   is = refl;

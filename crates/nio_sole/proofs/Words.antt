@@ -14,17 +14,20 @@ use Rattle.nio_words.specs.Passes.{limits_of}
 use Rattle.nio_words.specs.declared.words.Pass.{Pass}
 use Rattle.nio_words.specs.declared.words.Words.{Words}
 
-pub may_make : {w : Words} {d : Desk} {me : CallerNo} {word it : Call} → word ≡ it → MayMake w d me word → MayMake w d me it
+pub may_make : {w : Words} {d : Desk} {me : CallerNo} {word it : Call} → word ≡ it → MayMake w d me word
+    → MayMake w d me it
 may_make {w = w} {d = d} {me = me} is may = subst (λ (x : Call). MayMake w d me x) is may
 
-pub may_ask : {w : Words} {d : Desk} {me : CallerNo} {word it : Call} → word ≡ it → MayMake w d me word → MayAsk w d.pass me it
+pub may_ask : {w : Words} {d : Desk} {me : CallerNo} {word it : Call} → word ≡ it → MayMake w d me word
+    → MayAsk w d.pass me it
 may_ask is may = (may_make is may).ask
 
 pub makes_by : (w : Words) (d d' : Desk) (me : CallerNo) {word it : Call} (result : Result Reply AllocError) → word ≡ it
     → MakesCall (λ plan. plan) w d d' me it result → MakesCall (λ plan. plan) w d d' me word result
 makes_by w d d' me result is made = subst (λ (x : Call). MakesCall (λ plan. plan) w d d' me x result) (sym is) made
 
-pub asked_by : {w : Words} {d : Desk} {q : Pass} {me : CallerNo} {word it : Call} {r : Reply} → word ≡ it → HasPlaces w d → Asks w d.pass q me it r
+pub asked_by : {w : Words} {d : Desk} {q : Pass} {me : CallerNo} {word it : Call} {r : Reply} → word ≡ it
+    → HasPlaces w d → Asks w d.pass q me it r
     → Makes w d (record d { pass = q }) me (call_plan (limits_of w) (progress_of d) me word) r
 asked_by {w = w} {d = d} {q = q} {me = me} {r = r} is places asked =
     subst (λ (x : Call). Makes w d (record d { pass = q }) me (call_plan (limits_of w) (progress_of d) me x) r) (sym is)

@@ -21,5 +21,7 @@ pub record MayAsk (w : Words) (p : Pass) (me : CallerNo) (word : Call) : Type 0 
 
 -- it made the call, which leaves whatever is in progress as it is, and had this reply
 pub record Asks (w : Words) (p q : Pass) (me : CallerNo) (word : Call) (r : Reply) : Type 0 where
-  pub call : (now : Progress) → CallClause me (Completes (call_plan (limits_of w) now me word)) (view w p) (view w q) (record { reply = r; left = now })
+  pub call : (now : Progress)
+      → CallClause me (Completes (call_plan (limits_of w) now me word)) (view w p) (view w q)
+      (record { reply = r; left = now })
   pub ready : IsReady w q me

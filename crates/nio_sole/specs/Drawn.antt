@@ -1,5 +1,6 @@
 -- The beginning of a `Sole`: every number is drawn, and nothing else was done.
-use Rattle.std.specs.Prelude.{◌≡◌, ℕ, zero, suc, ◌<◌, ◌≤◌, ◌++◌, false, IsTrue, Option, None, List, [], ◌∷◌, Vec, vec_len}
+use Rattle.std.specs.Prelude.{◌≡◌, ℕ, zero, suc, ◌<◌, ◌≤◌, ◌++◌, false, IsTrue, Option, None, List, [], ◌∷◌, Vec}
+use Rattle.std.specs.Prelude.{vec_len}
 use Rattle.std.specs.declared.alloc.Global.{Global}
 use Rattle.nio_base.specs.declared.limits.Limits.{Limits}
 use Rattle.nio_base.specs.declared.numbers.CallerNo.{CallerNo}
@@ -21,7 +22,8 @@ abbrev pub draws : ℕ → List Entry
 draws zero = []
 draws (suc k) = draws k ++ draw (record { 0 = k }) ∷ []
 
--- Draws alone were made: it stands between two calls, in the opening state of scripts; each caller made whole calls; each
+-- Draws alone were made: it stands between two calls, in the opening state of scripts; each caller made whole calls;
+-- each
 -- number below k is drawn, and no other.
 pub record AreDrawn (l : Limits) (events : List Event) (k : ℕ) : Type 0 where
   pub are : events ≡ history_of (draws k)

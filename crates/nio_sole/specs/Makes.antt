@@ -35,13 +35,15 @@ pub record MayMake (w : Words) (d : Desk) (me : CallerNo) (word : Call) : Type 0
 
 -- it made a whole run of the plan, to this reply
 pub record Makes (w : Words) (old new : Desk) (me : CallerNo) (plan : Plan Said) (r : Reply) : Type 0 where
-  pub call : CallClause me (Completes plan) (view w old.pass) (view w new.pass) (record { reply = r; left = progress_of new })
+  pub call : CallClause me (Completes plan) (view w old.pass) (view w new.pass)
+      (record { reply = r; left = progress_of new })
   pub ready : IsReady w new.pass me
   pub places : HasPlaces w new
 
 -- ---- want of memory
 
--- A line that lacks memory: its look-ups alone were made; or the beginning or the listing was refused for want of memory;
+-- A line that lacks memory: its look-ups alone were made; or the beginning or the listing was refused for want of
+-- memory;
 -- or the listing was made, and its reply lacks memory.
 pub data Want : Type 0 where
   begin_unmade : SelNo → Waiting → Want
@@ -80,7 +82,8 @@ want_plan now (read_unmade c n) = refused now reply.Busy
 want_plan now (group_unmade g) = refused now reply.Busy
 
 -- the line lacks memory, and leaves what is in progress as it was
-pub record Lacks (around : Plan Said → Plan Said) (w : Words) (old new : Desk) (me : CallerNo) (word : Call) : Type 0 where
+pub record Lacks (around : Plan Said → Plan Said) (w : Words) (old new : Desk) (me : CallerNo)
+    (word : Call) : Type 0 where
   pub want : Want
   pub is : word ≡ word_of want
   pub r : Reply
@@ -88,6 +91,8 @@ pub record Lacks (around : Plan Said → Plan Said) (w : Words) (old new : Desk)
   pub same : progress_of new ≡ progress_of old
 
 -- the call was made, or lacks memory
-abbrev pub MakesCall : (Plan Said → Plan Said) → Words → Desk → Desk → CallerNo → Call → Result Reply AllocError → Type 0
-MakesCall around w old new me word (Ok r) = Makes w old new me (around (call_plan (limits_of w) (progress_of old) me word)) r
+abbrev pub MakesCall : (Plan Said → Plan Said) → Words → Desk → Desk → CallerNo → Call → Result Reply AllocError
+    → Type 0
+MakesCall around w old new me word (Ok r) =
+    Makes w old new me (around (call_plan (limits_of w) (progress_of old) me word)) r
 MakesCall around w old new me word (Err _) = Lacks around w old new me word

@@ -68,8 +68,10 @@ if_present l now s k plan = find_plan l s k.index k.serial >>= if_found now repl
 
 -- These look-ups were made, before whatever plan, and said what is missing. Where nothing is, what they look for is
 -- there.
-pub record Finds (look_ups : Progress → Plan Said → Plan Said) (Named : PassView → Type 0) (w : Words) (p q : Pass) (me : CallerNo) (missing : Option Reply) : Type 0 where
-  pub call : (now : Progress) (plan : Plan Said) → PartClause me (look_ups now plan) (view w p) (view w q) (after_names now plan missing)
+pub record Finds (look_ups : Progress → Plan Said → Plan Said) (Named : PassView → Type 0) (w : Words) (p q : Pass)
+    (me : CallerNo) (missing : Option Reply) : Type 0 where
+  pub call : (now : Progress) (plan : Plan Said)
+      → PartClause me (look_ups now plan) (view w p) (view w q) (after_names now plan missing)
   pub ready : IsReady w q me
   pub unpinned : HasNoPin (view w q) me
   pub named : IfNone missing (Named (view w q))

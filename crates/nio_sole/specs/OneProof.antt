@@ -13,7 +13,15 @@ use Rattle.nio_event.specs.OwnEvents.{OwnClaim}
 use Rattle.nio_event.specs.Questions.{Answer}
 use Rattle.nio_event.specs.State.{State}
 use Rattle.nio_event.specs.declared.act.Act.{Act}
-use Rattle.nio_event.specs.declared.act.Act.TheVariants.{DrawBit, MakeSelector, LookSelectors, Wake, LookGate, SetInterrupt, TakeInterrupt, LookInterrupt, LookKey, CancelKey, LookInterest, SwapInterest, OrInterest, AndInterest, SwapNote, LookNote, MakeChannel, LookChannel, Claim, RaiseKeys, LookKeys, Publish, LookReg, Enrol, TakeTurn, BeginLook, GiveTurn, Remove, LookMark, Mark, UnselectBit, EndWake, LookChannels, RaiseChannels, TryHoldBit, Release, SetMode, CloseBit, ShutBit, Enter, Pin, Unpin, ClearMark, ClaimAgain, LookFree, PutFree, TakeFree}
+use Rattle.nio_event.specs.declared.act.Act.TheVariants.{DrawBit, MakeSelector, LookSelectors, Wake, LookGate}
+use Rattle.nio_event.specs.declared.act.Act.TheVariants.{SetInterrupt, TakeInterrupt, LookInterrupt, LookKey, CancelKey}
+use Rattle.nio_event.specs.declared.act.Act.TheVariants.{LookInterest, SwapInterest, OrInterest, AndInterest, SwapNote}
+use Rattle.nio_event.specs.declared.act.Act.TheVariants.{LookNote, MakeChannel, LookChannel, Claim, RaiseKeys, LookKeys}
+use Rattle.nio_event.specs.declared.act.Act.TheVariants.{Publish, LookReg, Enrol, TakeTurn, BeginLook, GiveTurn, Remove}
+use Rattle.nio_event.specs.declared.act.Act.TheVariants.{LookMark, Mark, UnselectBit, EndWake, LookChannels}
+use Rattle.nio_event.specs.declared.act.Act.TheVariants.{RaiseChannels, TryHoldBit, Release, SetMode, CloseBit, ShutBit}
+use Rattle.nio_event.specs.declared.act.Act.TheVariants.{Enter, Pin, Unpin, ClearMark, ClaimAgain, LookFree, PutFree}
+use Rattle.nio_event.specs.declared.act.Act.TheVariants.{TakeFree}
 use Rattle.nio_event.specs.declared.event.Event.{Event}
 use Rattle.nio_event.specs.declared.found.Stage.{Stage}
 use Rattle.nio_sole.specs.Stands.{Stands}
@@ -40,54 +48,98 @@ option_set set = hlevel (set, ⊎_set)
 answer_set : IsSet Answer
 answer_set = hlevel (ℕ_set, Bool-set, ⊎_set)
 
-condition_prop : (l : Limits) (own : List Act) (st : State) (me : CallerNo) (act : Act) → IsProp (Condition l own st me act)
-condition_prop l own st me (DrawBit n found) = hlevel (props, ℕ_set, Bool-set, caller_set, stage_set, claim_set, option_set)
-condition_prop l own st me (MakeSelector s found) = hlevel (props, ℕ_set, Bool-set, caller_set, stage_set, claim_set, option_set)
-condition_prop l own st me (LookSelectors found) = hlevel (props, ℕ_set, Bool-set, caller_set, stage_set, claim_set, option_set)
-condition_prop l own st me (Wake s found) = hlevel (props, ℕ_set, Bool-set, caller_set, stage_set, claim_set, option_set)
-condition_prop l own st me (LookGate s found) = hlevel (props, ℕ_set, Bool-set, caller_set, stage_set, claim_set, option_set)
-condition_prop l own st me (SetInterrupt n found) = hlevel (props, ℕ_set, Bool-set, caller_set, stage_set, claim_set, option_set)
-condition_prop l own st me (TakeInterrupt found) = hlevel (props, ℕ_set, Bool-set, caller_set, stage_set, claim_set, option_set)
-condition_prop l own st me (LookInterrupt found) = hlevel (props, ℕ_set, Bool-set, caller_set, stage_set, claim_set, option_set)
-condition_prop l own st me (LookKey s i found) = hlevel (props, ℕ_set, Bool-set, caller_set, stage_set, claim_set, option_set)
-condition_prop l own st me (CancelKey s i found) = hlevel (props, ℕ_set, Bool-set, caller_set, stage_set, claim_set, option_set)
-condition_prop l own st me (LookInterest s i found) = hlevel (props, ℕ_set, Bool-set, caller_set, stage_set, claim_set, option_set)
-condition_prop l own st me (SwapInterest s i ops found) = hlevel (props, ℕ_set, Bool-set, caller_set, stage_set, claim_set, option_set)
-condition_prop l own st me (OrInterest s i ops found) = hlevel (props, ℕ_set, Bool-set, caller_set, stage_set, claim_set, option_set)
-condition_prop l own st me (AndInterest s i ops found) = hlevel (props, ℕ_set, Bool-set, caller_set, stage_set, claim_set, option_set)
-condition_prop l own st me (SwapNote s i att found) = hlevel (props, ℕ_set, Bool-set, caller_set, stage_set, claim_set, option_set)
-condition_prop l own st me (LookNote s i found) = hlevel (props, ℕ_set, Bool-set, caller_set, stage_set, claim_set, option_set)
-condition_prop l own st me (MakeChannel c kind found) = hlevel (props, ℕ_set, Bool-set, caller_set, stage_set, claim_set, option_set)
-condition_prop l own st me (LookChannel c found) = hlevel (props, ℕ_set, Bool-set, caller_set, stage_set, claim_set, option_set)
-condition_prop l own st me (Claim s i c found) = hlevel (props, ℕ_set, Bool-set, caller_set, stage_set, claim_set, option_set)
-condition_prop l own st me (RaiseKeys s n found) = hlevel (props, ℕ_set, Bool-set, caller_set, stage_set, claim_set, option_set)
-condition_prop l own st me (LookKeys s found) = hlevel (props, ℕ_set, Bool-set, caller_set, stage_set, claim_set, option_set)
-condition_prop l own st me (Publish s i found) = hlevel (props, ℕ_set, Bool-set, caller_set, stage_set, claim_set, option_set)
-condition_prop l own st me (LookReg c s found) = hlevel (props, ℕ_set, Bool-set, caller_set, stage_set, claim_set, option_set)
-condition_prop l own st me (Enrol c s i serial found) = hlevel (props, ℕ_set, Bool-set, caller_set, stage_set, claim_set, option_set)
-condition_prop l own st me (TakeTurn s found) = hlevel (props, ℕ_set, Bool-set, caller_set, stage_set, claim_set, option_set)
-condition_prop l own st me (BeginLook s found) = hlevel (props, ℕ_set, Bool-set, caller_set, stage_set, claim_set, option_set)
+condition_prop : (l : Limits) (own : List Act) (st : State) (me : CallerNo) (act : Act)
+    → IsProp (Condition l own st me act)
+condition_prop l own st me (DrawBit n found) =
+    hlevel (props, ℕ_set, Bool-set, caller_set, stage_set, claim_set, option_set)
+condition_prop l own st me (MakeSelector s found) =
+    hlevel (props, ℕ_set, Bool-set, caller_set, stage_set, claim_set, option_set)
+condition_prop l own st me (LookSelectors found) =
+    hlevel (props, ℕ_set, Bool-set, caller_set, stage_set, claim_set, option_set)
+condition_prop l own st me (Wake s found) =
+    hlevel (props, ℕ_set, Bool-set, caller_set, stage_set, claim_set, option_set)
+condition_prop l own st me (LookGate s found) =
+    hlevel (props, ℕ_set, Bool-set, caller_set, stage_set, claim_set, option_set)
+condition_prop l own st me (SetInterrupt n found) =
+    hlevel (props, ℕ_set, Bool-set, caller_set, stage_set, claim_set, option_set)
+condition_prop l own st me (TakeInterrupt found) =
+    hlevel (props, ℕ_set, Bool-set, caller_set, stage_set, claim_set, option_set)
+condition_prop l own st me (LookInterrupt found) =
+    hlevel (props, ℕ_set, Bool-set, caller_set, stage_set, claim_set, option_set)
+condition_prop l own st me (LookKey s i found) =
+    hlevel (props, ℕ_set, Bool-set, caller_set, stage_set, claim_set, option_set)
+condition_prop l own st me (CancelKey s i found) =
+    hlevel (props, ℕ_set, Bool-set, caller_set, stage_set, claim_set, option_set)
+condition_prop l own st me (LookInterest s i found) =
+    hlevel (props, ℕ_set, Bool-set, caller_set, stage_set, claim_set, option_set)
+condition_prop l own st me (SwapInterest s i ops found) =
+    hlevel (props, ℕ_set, Bool-set, caller_set, stage_set, claim_set, option_set)
+condition_prop l own st me (OrInterest s i ops found) =
+    hlevel (props, ℕ_set, Bool-set, caller_set, stage_set, claim_set, option_set)
+condition_prop l own st me (AndInterest s i ops found) =
+    hlevel (props, ℕ_set, Bool-set, caller_set, stage_set, claim_set, option_set)
+condition_prop l own st me (SwapNote s i att found) =
+    hlevel (props, ℕ_set, Bool-set, caller_set, stage_set, claim_set, option_set)
+condition_prop l own st me (LookNote s i found) =
+    hlevel (props, ℕ_set, Bool-set, caller_set, stage_set, claim_set, option_set)
+condition_prop l own st me (MakeChannel c kind found) =
+    hlevel (props, ℕ_set, Bool-set, caller_set, stage_set, claim_set, option_set)
+condition_prop l own st me (LookChannel c found) =
+    hlevel (props, ℕ_set, Bool-set, caller_set, stage_set, claim_set, option_set)
+condition_prop l own st me (Claim s i c found) =
+    hlevel (props, ℕ_set, Bool-set, caller_set, stage_set, claim_set, option_set)
+condition_prop l own st me (RaiseKeys s n found) =
+    hlevel (props, ℕ_set, Bool-set, caller_set, stage_set, claim_set, option_set)
+condition_prop l own st me (LookKeys s found) =
+    hlevel (props, ℕ_set, Bool-set, caller_set, stage_set, claim_set, option_set)
+condition_prop l own st me (Publish s i found) =
+    hlevel (props, ℕ_set, Bool-set, caller_set, stage_set, claim_set, option_set)
+condition_prop l own st me (LookReg c s found) =
+    hlevel (props, ℕ_set, Bool-set, caller_set, stage_set, claim_set, option_set)
+condition_prop l own st me (Enrol c s i serial found) =
+    hlevel (props, ℕ_set, Bool-set, caller_set, stage_set, claim_set, option_set)
+condition_prop l own st me (TakeTurn s found) =
+    hlevel (props, ℕ_set, Bool-set, caller_set, stage_set, claim_set, option_set)
+condition_prop l own st me (BeginLook s found) =
+    hlevel (props, ℕ_set, Bool-set, caller_set, stage_set, claim_set, option_set)
 condition_prop l own st me (GiveTurn s) = hlevel (props, ℕ_set, Bool-set, caller_set, stage_set, claim_set, option_set)
-condition_prop l own st me (Remove s i found) = hlevel (props, ℕ_set, Bool-set, caller_set, stage_set, claim_set, option_set)
-condition_prop l own st me (LookMark s i found) = hlevel (props, ℕ_set, Bool-set, caller_set, stage_set, claim_set, option_set)
-condition_prop l own st me (Mark s i from told found) = hlevel (props, ℕ_set, Bool-set, caller_set, stage_set, claim_set, option_set)
-condition_prop l own st me (UnselectBit s i found) = hlevel (props, ℕ_set, Bool-set, caller_set, stage_set, claim_set, option_set)
-condition_prop l own st me (EndWake s found) = hlevel (props, ℕ_set, Bool-set, caller_set, stage_set, claim_set, option_set)
-condition_prop l own st me (LookChannels found) = hlevel (props, ℕ_set, Bool-set, caller_set, stage_set, claim_set, option_set)
-condition_prop l own st me (RaiseChannels n found) = hlevel (props, ℕ_set, Bool-set, caller_set, stage_set, claim_set, option_set)
-condition_prop l own st me (TryHoldBit c found) = hlevel (props, ℕ_set, Bool-set, caller_set, stage_set, claim_set, option_set)
+condition_prop l own st me (Remove s i found) =
+    hlevel (props, ℕ_set, Bool-set, caller_set, stage_set, claim_set, option_set)
+condition_prop l own st me (LookMark s i found) =
+    hlevel (props, ℕ_set, Bool-set, caller_set, stage_set, claim_set, option_set)
+condition_prop l own st me (Mark s i from told found) =
+    hlevel (props, ℕ_set, Bool-set, caller_set, stage_set, claim_set, option_set)
+condition_prop l own st me (UnselectBit s i found) =
+    hlevel (props, ℕ_set, Bool-set, caller_set, stage_set, claim_set, option_set)
+condition_prop l own st me (EndWake s found) =
+    hlevel (props, ℕ_set, Bool-set, caller_set, stage_set, claim_set, option_set)
+condition_prop l own st me (LookChannels found) =
+    hlevel (props, ℕ_set, Bool-set, caller_set, stage_set, claim_set, option_set)
+condition_prop l own st me (RaiseChannels n found) =
+    hlevel (props, ℕ_set, Bool-set, caller_set, stage_set, claim_set, option_set)
+condition_prop l own st me (TryHoldBit c found) =
+    hlevel (props, ℕ_set, Bool-set, caller_set, stage_set, claim_set, option_set)
 condition_prop l own st me (Release c) = hlevel (props, ℕ_set, Bool-set, caller_set, stage_set, claim_set, option_set)
-condition_prop l own st me (SetMode c blocking found) = hlevel (props, ℕ_set, Bool-set, caller_set, stage_set, claim_set, option_set)
-condition_prop l own st me (CloseBit c found) = hlevel (props, ℕ_set, Bool-set, caller_set, stage_set, claim_set, option_set)
-condition_prop l own st me (ShutBit s found) = hlevel (props, ℕ_set, Bool-set, caller_set, stage_set, claim_set, option_set)
-condition_prop l own st me (Enter s found) = hlevel (props, ℕ_set, Bool-set, caller_set, stage_set, claim_set, option_set)
-condition_prop l own st me (Pin s i found) = hlevel (props, ℕ_set, Bool-set, caller_set, stage_set, claim_set, option_set)
+condition_prop l own st me (SetMode c blocking found) =
+    hlevel (props, ℕ_set, Bool-set, caller_set, stage_set, claim_set, option_set)
+condition_prop l own st me (CloseBit c found) =
+    hlevel (props, ℕ_set, Bool-set, caller_set, stage_set, claim_set, option_set)
+condition_prop l own st me (ShutBit s found) =
+    hlevel (props, ℕ_set, Bool-set, caller_set, stage_set, claim_set, option_set)
+condition_prop l own st me (Enter s found) =
+    hlevel (props, ℕ_set, Bool-set, caller_set, stage_set, claim_set, option_set)
+condition_prop l own st me (Pin s i found) =
+    hlevel (props, ℕ_set, Bool-set, caller_set, stage_set, claim_set, option_set)
 condition_prop l own st me (Unpin s i) = hlevel (props, ℕ_set, Bool-set, caller_set, stage_set, claim_set, option_set)
-condition_prop l own st me (ClearMark s i found) = hlevel (props, ℕ_set, Bool-set, caller_set, stage_set, claim_set, option_set)
-condition_prop l own st me (ClaimAgain s i c from found) = hlevel (props, ℕ_set, Bool-set, caller_set, stage_set, claim_set, option_set)
-condition_prop l own st me (LookFree s j found) = hlevel (props, ℕ_set, Bool-set, caller_set, stage_set, claim_set, option_set)
+condition_prop l own st me (ClearMark s i found) =
+    hlevel (props, ℕ_set, Bool-set, caller_set, stage_set, claim_set, option_set)
+condition_prop l own st me (ClaimAgain s i c from found) =
+    hlevel (props, ℕ_set, Bool-set, caller_set, stage_set, claim_set, option_set)
+condition_prop l own st me (LookFree s j found) =
+    hlevel (props, ℕ_set, Bool-set, caller_set, stage_set, claim_set, option_set)
 condition_prop l own st me (PutFree s i) = hlevel (props, ℕ_set, Bool-set, caller_set, stage_set, claim_set, option_set)
-condition_prop l own st me (TakeFree s i found) = hlevel (props, ℕ_set, Bool-set, caller_set, stage_set, claim_set, option_set)
+condition_prop l own st me (TakeFree s i found) =
+    hlevel (props, ℕ_set, Bool-set, caller_set, stage_set, claim_set, option_set)
 
 answers_prop : (st : State) (me : CallerNo) (act : Act) → IsProp (Answers st me act)
 answers_prop st me act = hlevel answer_set

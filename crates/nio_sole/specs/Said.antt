@@ -26,10 +26,12 @@ state_at d = documented (state_seen d.pass) (progress_of d)
 pub record MadeLine (w : Words) (old new : Desk) (me : CallerNo) (word : Call) (r : Reply) : Type 0 where
   pub acts : List Act
   pub grew : seen new.pass ≡ seen old.pass ++ map (event_of me) acts
-  pub run : Completes (line_plan (limits_of w) (progress_of old) me word) acts (record { reply = r; left = progress_of new })
+  pub run : Completes (line_plan (limits_of w) (progress_of old) me word) acts
+      (record { reply = r; left = progress_of new })
 
 -- the line's reply and state are those of the documented system; a line that lacks memory leaves the state
-pub record SaysLine (w : Words) (old new : Desk) (me : CallerNo) (word : Call) (result : Result Reply AllocError) : Type 0 where
+pub record SaysLine (w : Words) (old new : Desk) (me : CallerNo) (word : Call) (result : Result Reply AllocError) : Type
+    0 where
   pub stands : Stands w new
   pub reply : IfOk result (λ r. r ≡ (seq Now (limits_of w) (state_at old) me word).reply)
   pub left : IfOk result (λ _. state_at new ≡ (seq Now (limits_of w) (state_at old) me word).left)

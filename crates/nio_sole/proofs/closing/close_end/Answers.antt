@@ -8,7 +8,8 @@ use Rattle.nio_select.specs.InProgress.{Closes}
 use Rattle.nio_serial.specs.Lines.{call_plan, refused, after_finish}
 use Rattle.nio_serial.specs.Replies.{finish_reply}
 use Rattle.nio_sole.proofs.Asking.{makes_ran}
-use Rattle.nio_sole.proofs.Desks.{progress_closing, places_closing, left_as, with_closings, its_selector, own_closing, places_taken, progress_put_back, places_put_back, nothing_there, still_made}
+use Rattle.nio_sole.proofs.Desks.{progress_closing, places_closing, left_as, with_closings, its_selector, own_closing}
+use Rattle.nio_sole.proofs.Desks.{places_taken, progress_put_back, places_put_back, nothing_there, still_made}
 use Rattle.nio_sole.proofs.Had.{closing_had}
 use Rattle.nio_sole.proofs.Progress.{made_closing}
 use Rattle.nio_sole.specs.Stands.{progress_of, closings_of}
@@ -26,7 +27,12 @@ returns-in-None c =
     let now = progress_of c.args.d.now in
     let same = sym (with_closings now (ap closings_of c.in-None.ensures.taken.0)) in
     record {
-      call = left_as (returned (left_else (is_caller c.args.me (now.closing c.args.sel.0)) _ (refused now reply.NotClosing) c.in-None.ensures.taken.1 (left_start c.args.me (refused now reply.NotClosing) (view c.args.w.now c.args.d.now.pass) c.requires.ask.ready.pass.legal))) same;
+      call = left_as
+          (returned
+          (left_else (is_caller c.args.me (now.closing c.args.sel.0)) _
+          (refused now reply.NotClosing) c.in-None.ensures.taken.1
+          (left_start c.args.me (refused now reply.NotClosing)
+          (view c.args.w.now c.args.d.now.pass) c.requires.ask.ready.pass.legal))) same;
       ready = c.requires.ask.ready;
       places = places_taken c.requires.places c.in-None.ensures.taken.0 c.in-None.ensures.len;
     }
@@ -37,10 +43,13 @@ try_finish-requires-clause-closing c =
     let d = c.args.d.now in
     let s = c.args.sel in
     let same : c.in-Some.closing ≡ s = its_selector (c.requires.places.closes s.0 _ c.in-Some.ensures.taken.was) in
-    let own : is_caller c.args.me (closings_of d.closings.items s.0) ≡ true = own_closing c.args.me _ c.in-Some.ensures.taken.was in
+    let own : is_caller c.args.me (closings_of d.closings.items s.0)
+    ≡ true = own_closing c.args.me _ c.in-Some.ensures.taken.was in
     subst (Closes (view w d.pass) c.args.me) (sym same) (record {
       inside = c.requires.ask.named.inside;
-      closing = closing_had _ s (∥∥₁_map c.requires.made (λ made. made_closing (limits_of w) (mine c.args.me (seen d.pass)) c.args.me (progress_of d) s made own));
+      closing = closing_had _ s
+          (∥∥₁_map c.requires.made
+          (λ made. made_closing (limits_of w) (mine c.args.me (seen d.pass)) c.args.me (progress_of d) s made own));
     })
 
 pub returns-in-Closed : goal.returns-in-Closed
@@ -52,12 +61,19 @@ returns-in-Closed c =
     let now = progress_of d in
     let same : c.in-Some.closing ≡ s = its_selector (c.requires.places.closes s.0 _ c.in-Some.ensures.taken.was) in
     let ran : CallClause c.args.me (Completes (try_finish_plan s)) (view w d.pass) (view w c.try_finish.new.p) closed =
-    subst (λ (x : SelNo). CallClause c.args.me (Completes (try_finish_plan x)) (view w d.pass) (view w c.try_finish.new.p) closed) same c.in-Closed.ensures.call in
+    subst (λ (x : SelNo). CallClause c.args.me (Completes (try_finish_plan x)) (view w d.pass)
+    (view w c.try_finish.new.p) closed) same c.in-Closed.ensures.call in
     record {
-      call = left_as (returned (left_then (is_caller c.args.me (now.closing s.0)) _ (refused now reply.NotClosing) (own_closing c.args.me _ c.in-Some.ensures.taken.was) (left_of_call (makes_ran finish_reply (after_finish now s) ran))))
-          (sym (progress_closing w d c.try_finish.new.p s c.take_closing.new.closings None c.requires.places c.requires.ask.named.inside c.in-Some.ensures.taken.taken));
+      call = left_as
+          (returned
+          (left_then (is_caller c.args.me (now.closing s.0)) _ (refused now reply.NotClosing)
+          (own_closing c.args.me _ c.in-Some.ensures.taken.was)
+          (left_of_call (makes_ran finish_reply (after_finish now s) ran))))
+          (sym (progress_closing w d c.try_finish.new.p s c.take_closing.new.closings None c.requires.places
+          c.requires.ask.named.inside c.in-Some.ensures.taken.taken));
       ready = c.in-Closed.ensures.ready;
-      places = places_closing w d c.try_finish.new.p s c.take_closing.new.closings None c.requires.places c.requires.ask.named.inside c.in-Some.ensures.taken.taken c.in-Some.ensures.len (λ x is. nothing_there is)
+      places = places_closing w d c.try_finish.new.p s c.take_closing.new.closings None c.requires.places
+          c.requires.ask.named.inside c.in-Some.ensures.taken.taken c.in-Some.ensures.len (λ x is. nothing_there is)
           (still_made c.try_finish.new.p c.requires.places ran);
     }
 
@@ -70,12 +86,21 @@ returns-in-Busy c =
     let now = progress_of d in
     let same : c.in-Some.closing ≡ s = its_selector (c.requires.places.closes s.0 _ c.in-Some.ensures.taken.was) in
     let ran : CallClause c.args.me (Completes (try_finish_plan s)) (view w d.pass) (view w c.try_finish.new.p) busy =
-    subst (λ (x : SelNo). CallClause c.args.me (Completes (try_finish_plan x)) (view w d.pass) (view w c.try_finish.new.p) busy) same c.in-Busy.ensures.call in
+    subst (λ (x : SelNo). CallClause c.args.me (Completes (try_finish_plan x)) (view w d.pass)
+    (view w c.try_finish.new.p) busy) same c.in-Busy.ensures.call in
     record {
-      call = left_as (returned (left_then (is_caller c.args.me (now.closing s.0)) _ (refused now reply.NotClosing) (own_closing c.args.me _ c.in-Some.ensures.taken.was) (left_of_call (makes_ran finish_reply (after_finish now s) ran))))
-          (sym (progress_put_back w d c.try_finish.new.p s c.take_closing.new.closings c.put_closing.new.closings _ _ c.requires.places c.requires.ask.named.inside c.in-Some.ensures.taken.taken c.in-Some.ensures.len c.put_closing.ensures.items c.in-Some.ensures.taken.was refl));
+      call = left_as
+          (returned
+          (left_then (is_caller c.args.me (now.closing s.0)) _ (refused now reply.NotClosing)
+          (own_closing c.args.me _ c.in-Some.ensures.taken.was)
+          (left_of_call (makes_ran finish_reply (after_finish now s) ran))))
+          (sym (progress_put_back w d c.try_finish.new.p s c.take_closing.new.closings c.put_closing.new.closings _ _
+          c.requires.places c.requires.ask.named.inside c.in-Some.ensures.taken.taken c.in-Some.ensures.len
+          c.put_closing.ensures.items c.in-Some.ensures.taken.was refl));
       ready = c.in-Busy.ensures.ready;
-      places = places_put_back w d c.try_finish.new.p s c.take_closing.new.closings c.put_closing.new.closings _ c.requires.places c.requires.ask.named.inside c.in-Some.ensures.taken.taken c.in-Some.ensures.len c.put_closing.ensures.items c.put_closing.ensures.len
+      places = places_put_back w d c.try_finish.new.p s c.take_closing.new.closings c.put_closing.new.closings _
+          c.requires.places c.requires.ask.named.inside c.in-Some.ensures.taken.taken c.in-Some.ensures.len
+          c.put_closing.ensures.items c.put_closing.ensures.len
           (ap (λ (x : SelNo). x.0) (c.in-Busy.ensures.still.0 ∙ same))
           (still_made c.try_finish.new.p c.requires.places ran);
     }

@@ -54,7 +54,9 @@ pub close_channel-requires : goal.close_channel-requires
 close_channel-requires c = may_make c.in-Closec.is c.requires
 
 pub returns-in-Closec : goal.returns-in-Closec
-returns-in-Closec c = makes_by c.args.w.now c.args.d.now c.close_channel.new.d c.args.me c.close_channel.result c.in-Closec.is c.close_channel.ensures
+returns-in-Closec c =
+    makes_by c.args.w.now c.args.d.now c.close_channel.new.d c.args.me c.close_channel.result c.in-Closec.is
+    c.close_channel.ensures
 
 pub is_valid-requires : goal.is_valid-requires
 is_valid-requires c = may_ask c.in-Valid.is c.requires
@@ -138,7 +140,8 @@ pub begin-requires : goal.begin-requires
 begin-requires c = may_make c.in-Begin.is c.requires
 
 pub returns-in-Begin : goal.returns-in-Begin
-returns-in-Begin c = makes_by c.args.w.now c.args.d.now c.begin.new.d c.args.me c.begin.result c.in-Begin.is c.begin.ensures
+returns-in-Begin c =
+    makes_by c.args.w.now c.args.d.now c.begin.new.d c.args.me c.begin.result c.in-Begin.is c.begin.ensures
 
 pub told-requires : goal.told-requires
 told-requires c = may_make c.in-Told.is c.requires
@@ -150,19 +153,23 @@ pub failed-requires : goal.failed-requires
 failed-requires c = may_make c.in-Failed.is c.requires
 
 pub returns-in-Failed : goal.returns-in-Failed
-returns-in-Failed c = makes_by c.args.w.now c.args.d.now c.failed.new.d c.args.me c.failed.result c.in-Failed.is c.failed.ensures
+returns-in-Failed c =
+    makes_by c.args.w.now c.args.d.now c.failed.new.d c.args.me c.failed.result c.in-Failed.is c.failed.ensures
 
 pub close-requires : goal.close-requires
 close-requires c = may_make c.in-Close.is c.requires
 
 pub returns-in-Close : goal.returns-in-Close
-returns-in-Close c = makes_by c.args.w.now c.args.d.now c.close.new.d c.args.me c.close.result c.in-Close.is c.close.ensures
+returns-in-Close c =
+    makes_by c.args.w.now c.args.d.now c.close.new.d c.args.me c.close.result c.in-Close.is c.close.ensures
 
 pub close_end-requires : goal.close_end-requires
 close_end-requires c = may_make c.in-CloseEnd.is c.requires
 
 pub returns-in-CloseEnd : goal.returns-in-CloseEnd
-returns-in-CloseEnd c = makes_by c.args.w.now c.args.d.now c.close_end.new.d c.args.me c.close_end.result c.in-CloseEnd.is c.close_end.ensures
+returns-in-CloseEnd c =
+    makes_by c.args.w.now c.args.d.now c.close_end.new.d c.args.me c.close_end.result c.in-CloseEnd.is
+    c.close_end.ensures
 
 pub keys-requires : goal.keys-requires
 keys-requires c = may_make c.in-Keys.is c.requires
@@ -174,7 +181,8 @@ pub selected-requires : goal.selected-requires
 selected-requires c = may_make c.in-Selected.is c.requires
 
 pub returns-in-Selected : goal.returns-in-Selected
-returns-in-Selected c = makes_by c.args.w.now c.args.d.now c.selected.new.d c.args.me c.selected.result c.in-Selected.is c.selected.ensures
+returns-in-Selected c =
+    makes_by c.args.w.now c.args.d.now c.selected.new.d c.args.me c.selected.result c.in-Selected.is c.selected.ensures
 
 pub pipe-requires : goal.pipe-requires
 pipe-requires c = may_make c.in-Pipe.is c.requires
@@ -186,17 +194,20 @@ pub pwrite-requires : goal.pwrite-requires
 pwrite-requires c = may_make c.in-Pwrite.is c.requires
 
 pub returns-in-Pwrite : goal.returns-in-Pwrite
-returns-in-Pwrite c = makes_by c.args.w.now c.args.d.now c.pwrite.new.d c.args.me c.pwrite.result c.in-Pwrite.is c.pwrite.ensures
+returns-in-Pwrite c =
+    makes_by c.args.w.now c.args.d.now c.pwrite.new.d c.args.me c.pwrite.result c.in-Pwrite.is c.pwrite.ensures
 
 pub pread-requires : goal.pread-requires
 pread-requires c = may_make c.in-Pread.is c.requires
 
 pub returns-in-Pread : goal.returns-in-Pread
-returns-in-Pread c = makes_by c.args.w.now c.args.d.now c.pread.new.d c.args.me c.pread.result c.in-Pread.is c.pread.ensures
+returns-in-Pread c =
+    makes_by c.args.w.now c.args.d.now c.pread.new.d c.args.me c.pread.result c.in-Pread.is c.pread.ensures
 
 pub returns-in-Group : goal.returns-in-Group
 returns-in-Group c =
     let d = c.args.d.now in
     makes_by c.args.w.now d (record d { group = c.call_group.new.group }) c.args.me c.call_group.result c.in-Group.is
-    (group_called c.args.w.now d c.args.me c.in-Group.call c.call_group.new.group c.call_group.result (may_make c.in-Group.is c.requires)
+    (group_called c.args.w.now d c.args.me c.in-Group.call c.call_group.new.group c.call_group.result
+    (may_make c.in-Group.is c.requires)
     c.call_group.ensures.reply c.call_group.ensures.left c.call_group.ensures.memory)

@@ -15,7 +15,8 @@ use Rattle.nio_sole.proofs.listing.keys.Goals as goal
 pub returns-in-Ok-ids : goal.returns-in-Ok-ids
 unfolding call_plan
 returns-in-Ok-ids c = record {
-  call = asks_ran list_reply (progress_of c.args.d.now) (lists_ran c.args.sel c.in-Ok.ensures.call) (c.names_or_none.ensures ∙ ap names_or_none (c.in-Ok-ids.ensures ∙ ap (map key_id) c.as_slice.ensures.value));
+  call = asks_ran list_reply (progress_of c.args.d.now) (lists_ran c.args.sel c.in-Ok.ensures.call)
+      (c.names_or_none.ensures ∙ ap names_or_none (c.in-Ok-ids.ensures ∙ ap (map key_id) c.as_slice.ensures.value));
   ready = c.in-Ok.ensures.ready;
   places = places_same c.keys.new.p c.in-Ok.ensures.call c.requires.places;
 }
@@ -37,7 +38,9 @@ pub returns-in-Err-ClosedSelector : goal.returns-in-Err-ClosedSelector
 unfolding call_plan
 returns-in-Err-ClosedSelector c =
     let w = c.args.w.now in
-    let call = subst (λ (e : ListError). CallClause c.args.me (ListsKeys c.args.sel) (view w c.args.d.now.pass) (view w c.keys.new.p) (Err e)) c.in-Err-ClosedSelector.field-0-is c.in-Err-ClosedSelector.ensures.call in
+    let call = subst
+    (λ (e : ListError). CallClause c.args.me (ListsKeys c.args.sel) (view w c.args.d.now.pass) (view w c.keys.new.p)
+    (Err e)) c.in-Err-ClosedSelector.field-0-is c.in-Err-ClosedSelector.ensures.call in
     record {
       call = asks_ran list_reply (progress_of c.args.d.now) (lists_ran c.args.sel call) refl;
       ready = c.in-Err-ClosedSelector.ensures.ready;
@@ -47,7 +50,9 @@ returns-in-Err-ClosedSelector c =
 pub returns : goal.returns
 returns c =
     let w = c.args.w.now in
-    let call = subst (λ (e : ListError). CallClause c.args.me (ListsKeys c.args.sel) (view w c.args.d.now.pass) (view w c.keys.new.p) (Err e)) c.in-Err-Memory.field-0-is c.in-Err-Memory.ensures.call in
+    let call = subst
+    (λ (e : ListError). CallClause c.args.me (ListsKeys c.args.sel) (view w c.args.d.now.pass) (view w c.keys.new.p)
+    (Err e)) c.in-Err-Memory.field-0-is c.in-Err-Memory.ensures.call in
     record {
       want = keys_refused c.args.sel;
       is = refl;

@@ -5,11 +5,13 @@ use Rattle.nio_sole.proofs.names.find_names.Goals as goal
 
 pub returns-in-Selector : goal.returns-in-Selector
 unfolding if_named
-returns-in-Selector c = names_of c.in-Selector.is (finds_nothing c.requires.ready c.requires.unpinned (λ now plan. refl) tt)
+returns-in-Selector c =
+    names_of c.in-Selector.is (finds_nothing c.requires.ready c.requires.unpinned (λ now plan. refl) tt)
 
 pub returns-in-Channel : goal.returns-in-Channel
 unfolding if_named
-returns-in-Channel c = names_of c.in-Channel.is (finds_nothing c.requires.ready c.requires.unpinned (λ now plan. refl) tt)
+returns-in-Channel c =
+    names_of c.in-Channel.is (finds_nothing c.requires.ready c.requires.unpinned (λ now plan. refl) tt)
 
 pub returns-in-Blocking : goal.returns-in-Blocking
 unfolding if_named
@@ -117,7 +119,8 @@ returns-in-Interrupt c = names_of c.in-Interrupt.is c.look_up_caller.ensures
 
 pub returns-in-Interrupted : goal.returns-in-Interrupted
 unfolding if_named
-returns-in-Interrupted c = names_of c.in-Interrupted.is (finds_nothing c.requires.ready c.requires.unpinned (λ now plan. refl) tt)
+returns-in-Interrupted c =
+    names_of c.in-Interrupted.is (finds_nothing c.requires.ready c.requires.unpinned (λ now plan. refl) tt)
 
 pub returns-in-Pipe : goal.returns-in-Pipe
 unfolding if_named

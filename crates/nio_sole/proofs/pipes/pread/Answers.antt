@@ -18,7 +18,8 @@ returns-in-Ok c =
     let read = c.try_read_in_mode-answer.ensures in
     let size : c.in-Ok.bytes.len ≡ length c.try_read_in_mode-answer.new.into = omega arith in
     said_so c.read_reply.ensures
-    (read_said c.args.w.now d c.try_read_in_mode-answer.new.p c.args.me c.args.chan c.args.most _ c.in-Some.place c.index_mut.result.now _ _ _ c.try_read_in_mode-answer.result
+    (read_said c.args.w.now d c.try_read_in_mode-answer.new.p c.args.me c.args.chan c.args.most _ c.in-Some.place
+    c.index_mut.result.now _ _ _ c.try_read_in_mode-answer.result
     c.requires (source_found d c.args.me c.args.chan (Some c.in-Some.place) _ c.in-Some.ensures c.deref.ensures.value)
     c.index_mut.ensures.value c.law.ensures (omega (arith, c.in-Ok.ensures.len)) read.call read.ready read.answer
     (written_back c.in-Ok.bytes.len c.try_read_in_mode-answer.new.into c.in-Ok.bytes.items size ∙ read.bytes)

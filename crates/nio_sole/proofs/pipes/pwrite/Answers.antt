@@ -14,7 +14,9 @@ returns c =
     let d = c.args.d.now in
     let write = c.try_write_in_mode-answer.ensures in
     said_so c.write_reply.ensures
-    (write_said c.args.w.now d c.try_write_in_mode-answer.new.p c.args.me c.args.chan c.args.bytes.now c.as_slice.result.now c.in-Some.place c.index_mut.result.now _ c.try_write_in_mode-answer.result
-    c.as_slice.ensures c.requires (sink_found d c.args.me c.args.chan (Some c.in-Some.place) _ c.in-Some.ensures c.deref.ensures.value)
+    (write_said c.args.w.now d c.try_write_in_mode-answer.new.p c.args.me c.args.chan c.args.bytes.now
+    c.as_slice.result.now c.in-Some.place c.index_mut.result.now _ c.try_write_in_mode-answer.result
+    c.as_slice.ensures c.requires
+    (sink_found d c.args.me c.args.chan (Some c.in-Some.place) _ c.in-Some.ensures c.deref.ensures.value)
     c.index_mut.ensures.value c.law.ensures write.call write.ready write.answer
     (ap (λ (h : Held). set d.pipes.items c.in-Some.place (with_held c.index_mut.result.now h)) write.pipe))

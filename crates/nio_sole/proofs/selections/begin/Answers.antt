@@ -11,7 +11,8 @@ unfolding call_plan
 returns-in-None c =
     let now = progress_of c.args.d.now in
     record {
-      call = begin_by now c.args.sel (sym c.in-None.ensures) (refused_at now reply.NegativeTimeout (view c.args.w.now c.args.d.now.pass) c.requires.ask.ready.pass.legal);
+      call = begin_by now c.args.sel (sym c.in-None.ensures)
+          (refused_at now reply.NegativeTimeout (view c.args.w.now c.args.d.now.pass) c.requires.ask.ready.pass.legal);
       ready = c.requires.ask.ready;
       places = c.requires.places;
     }

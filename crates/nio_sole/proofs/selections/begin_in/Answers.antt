@@ -20,7 +20,8 @@ use Rattle.nio_sole.proofs.selections.begin_in.Goals as goal
 pub list_pairs-requires-clause-room : goal.list_pairs-requires-clause-room
 list_pairs-requires-clause-room c =
     let looked = ap length c.asked.ensures in
-    let fits = looked_fits c.args.me c.args.sel c.args.mode (view c.args.w.now c.args.d.now.pass) (view c.args.w.now c.try_begin.new.p) c.in-Ok.selection c.in-Ok.ensures.call in
+    let fits = looked_fits c.args.me c.args.sel c.args.mode (view c.args.w.now c.args.d.now.pass)
+    (view c.args.w.now c.try_begin.new.p) c.in-Ok.selection c.in-Ok.ensures.call in
     omega (arith, looked, fits, c.requires.room)
 
 pub returns-in-Ok : goal.returns-in-Ok
@@ -33,12 +34,17 @@ returns-in-Ok c =
     let begins = c.in-Ok.ensures.call in
     record {
       call = replied_as
-          (left_as (begin_by now s c.requires.mode (makes_ran begin_reply (after_begin now c.args.me s) (begins_ran s c.args.mode begins)))
-          (sym (progress_selection w d c.try_begin.new.p s c.put_selection.new.selections (Some _) c.requires.may.places c.requires.may.ask.named.inside c.put_selection.ensures.items)))
+          (left_as (begin_by now s c.requires.mode
+          (makes_ran begin_reply (after_begin now c.args.me s) (begins_ran s c.args.mode begins)))
+          (sym (progress_selection w d c.try_begin.new.p s c.put_selection.new.selections
+          (Some _) c.requires.may.places c.requires.may.ask.named.inside c.put_selection.ensures.items)))
           (ap reply.Looked (c.from_vec.ensures ∙ (c.list_pairs.ensures ∙ ap (map looked_pair) c.asked.ensures)));
       ready = c.in-Ok.ensures.ready;
-      places = places_selection w d c.try_begin.new.p s c.put_selection.new.selections (Some _) c.requires.may.places c.requires.may.ask.named.inside c.put_selection.ensures.items c.put_selection.ensures.len
-          (λ x is. ap (λ (y : Begun). y.selection.selector.0) (some_is is) ∙ ap (λ (x : SelNo). x.0) (begin-parts s c.args.mode _ c.in-Ok.selection begins.shape).selector)
+      places = places_selection w d c.try_begin.new.p s c.put_selection.new.selections
+          (Some _) c.requires.may.places c.requires.may.ask.named.inside c.put_selection.ensures.items
+          c.put_selection.ensures.len
+          (λ x is. ap (λ (y : Begun). y.selection.selector.0) (some_is is)
+          ∙ ap (λ (x : SelNo). x.0) (begin-parts s c.args.mode _ c.in-Ok.selection begins.shape).selector)
           (still_made c.try_begin.new.p c.requires.may.places begins);
     }
 
@@ -48,9 +54,13 @@ returns-in-Err-ClosedSelector c =
     let w = c.args.w.now in
     let now = progress_of c.args.d.now in
     let s = c.args.sel in
-    let call = subst (λ (e : BeginError). CallClause c.args.me (Begins s c.args.mode) (view w c.args.d.now.pass) (view w c.try_begin.new.p) (Err e)) c.in-Err-ClosedSelector.field-0-is c.in-Err-ClosedSelector.ensures.call in
+    let call = subst
+    (λ (e : BeginError). CallClause c.args.me (Begins s c.args.mode) (view w c.args.d.now.pass)
+    (view w c.try_begin.new.p) (Err e)) c.in-Err-ClosedSelector.field-0-is
+    c.in-Err-ClosedSelector.ensures.call in
     record {
-      call = begin_by now s c.requires.mode (makes_ran begin_reply (after_begin now c.args.me s) (begins_ran s c.args.mode call));
+      call = begin_by now s c.requires.mode
+          (makes_ran begin_reply (after_begin now c.args.me s) (begins_ran s c.args.mode call));
       ready = c.in-Err-ClosedSelector.ensures.ready;
       places = places_same c.try_begin.new.p call c.requires.may.places;
     }
@@ -61,9 +71,12 @@ returns-in-Err-Busy c =
     let w = c.args.w.now in
     let now = progress_of c.args.d.now in
     let s = c.args.sel in
-    let call = subst (λ (e : BeginError). CallClause c.args.me (Begins s c.args.mode) (view w c.args.d.now.pass) (view w c.try_begin.new.p) (Err e)) c.in-Err-Busy.field-0-is c.in-Err-Busy.ensures.call in
+    let call = subst
+    (λ (e : BeginError). CallClause c.args.me (Begins s c.args.mode) (view w c.args.d.now.pass)
+    (view w c.try_begin.new.p) (Err e)) c.in-Err-Busy.field-0-is c.in-Err-Busy.ensures.call in
     record {
-      call = begin_by now s c.requires.mode (makes_ran begin_reply (after_begin now c.args.me s) (begins_ran s c.args.mode call));
+      call = begin_by now s c.requires.mode
+          (makes_ran begin_reply (after_begin now c.args.me s) (begins_ran s c.args.mode call));
       ready = c.in-Err-Busy.ensures.ready;
       places = places_same c.try_begin.new.p call c.requires.may.places;
     }
@@ -72,7 +85,9 @@ pub returns : goal.returns
 returns c =
     let w = c.args.w.now in
     let s = c.args.sel in
-    let call = subst (λ (e : BeginError). CallClause c.args.me (Begins s c.args.mode) (view w c.args.d.now.pass) (view w c.try_begin.new.p) (Err e)) c.in-Err-Memory.field-0-is c.in-Err-Memory.ensures.call in
+    let call = subst
+    (λ (e : BeginError). CallClause c.args.me (Begins s c.args.mode) (view w c.args.d.now.pass)
+    (view w c.try_begin.new.p) (Err e)) c.in-Err-Memory.field-0-is c.in-Err-Memory.ensures.call in
     record {
       want = begin_refused s c.args.waiting c.args.mode;
       is = refl;

@@ -12,7 +12,8 @@ returns-in-Err c = record {
   is = refl;
   r = _;
   makes = record {
-    call = refused_at (progress_of c.args.d.now) reply.Busy (view c.args.w.now c.args.d.now.pass) c.requires.may.ask.ready.pass.legal;
+    call = refused_at (progress_of c.args.d.now) reply.Busy
+        (view c.args.w.now c.args.d.now.pass) c.requires.may.ask.ready.pass.legal;
     ready = c.requires.may.ask.ready;
     places = c.requires.may.places;
   };

@@ -4,7 +4,9 @@ use Rattle.nio_serial.specs.Lines.{call_plan, by_index, after_told}
 use Rattle.nio_serial.specs.Replies.{told_reply}
 use Rattle.nio_sole.proofs.Asking.{makes_ran, told_by, tells_ran, refused_at}
 use Rattle.nio_sole.proofs.Calls.{again-same}
-use Rattle.nio_sole.proofs.Desks.{left_as, with_selections, progress_selection, places_selection, places_selection_taken, nothing_there, progress_selection_back, places_selection_back, own_on, still_made}
+use Rattle.nio_sole.proofs.Desks.{left_as, with_selections, progress_selection, places_selection}
+use Rattle.nio_sole.proofs.Desks.{places_selection_taken, nothing_there, progress_selection_back, places_selection_back}
+use Rattle.nio_sole.proofs.Desks.{own_on, still_made}
 use Rattle.nio_sole.proofs.Owning.{its_selects, looked_rise}
 use Rattle.nio_base.specs.declared.numbers.SelNo.{SelNo}
 use Rattle.nio_sole.specs.Makes.{told_unmade}
@@ -19,7 +21,9 @@ unfolding call_plan
 returns-in-None c =
     let now = progress_of c.args.d.now in
     record {
-      call = left_as (told_by now c.args.sel c.args.elapsed c.args.pairs.now c.in-None.ensures.taken.1 (refused_at now reply.NotSelecting (view c.args.w.now c.args.d.now.pass) c.requires.ask.ready.pass.legal))
+      call = left_as
+          (told_by now c.args.sel c.args.elapsed c.args.pairs.now c.in-None.ensures.taken.1
+          (refused_at now reply.NotSelecting (view c.args.w.now c.args.d.now.pass) c.requires.ask.ready.pass.legal))
           (sym (with_selections now (ap selections_of c.in-None.ensures.taken.0)));
       ready = c.requires.ask.ready;
       places = places_selection_taken c.requires.places c.in-None.ensures.taken.0 c.in-None.ensures.len;
@@ -27,11 +31,13 @@ returns-in-None c =
 
 pub pairs_by_index-requires : goal.pairs_by_index-requires
 pairs_by_index-requires c =
-    looked_rise c.args.w.now c.args.d.now c.args.me c.args.sel c.in-Some.selection c.requires.ask.ready c.requires.ask.named c.requires.places c.requires.made c.in-Some.ensures.taken.1 _ c.asked.ensures
+    looked_rise c.args.w.now c.args.d.now c.args.me c.args.sel c.in-Some.selection c.requires.ask.ready
+    c.requires.ask.named c.requires.places c.requires.made c.in-Some.ensures.taken.1 _ c.asked.ensures
 
 pub told-requires-clause-begun : goal.told-requires-clause-begun
 told-requires-clause-begun c =
-    its_selects c.args.w.now c.args.d.now c.args.me c.args.sel c.in-Some.selection c.requires.ask.ready c.requires.ask.named c.requires.places c.requires.made c.in-Some.ensures.taken.1
+    its_selects c.args.w.now c.args.d.now c.args.me c.args.sel c.in-Some.selection c.requires.ask.ready
+    c.requires.ask.named c.requires.places c.requires.made c.in-Some.ensures.taken.1
 
 pub returns-in-Err : goal.returns-in-Err
 returns-in-Err c =
@@ -39,15 +45,20 @@ returns-in-Err c =
     let d = c.args.d.now in
     let s = c.args.sel in
     let x = c.in-Some.selection in
-    let back = progress_selection_back w d d.pass c.args.me s c.take_selection.new.selections c.put_selection.new.selections _ c.requires.places c.requires.ask.named.inside c.in-Some.ensures.taken.0 c.in-Some.ensures.len c.put_selection.ensures.items refl c.in-Some.ensures.taken.1 in
+    let back = progress_selection_back w d d.pass c.args.me s c.take_selection.new.selections
+    c.put_selection.new.selections _ c.requires.places c.requires.ask.named.inside c.in-Some.ensures.taken.0
+    c.in-Some.ensures.len c.put_selection.ensures.items refl c.in-Some.ensures.taken.1 in
     record {
       want = told_unmade s c.args.elapsed c.args.pairs.now;
       is = refl;
       r = _;
       makes = record {
-        call = left_as (refused_at (progress_of d) reply.Busy (view w d.pass) c.requires.ask.ready.pass.legal) (sym back);
+        call = left_as (refused_at (progress_of d) reply.Busy (view w d.pass) c.requires.ask.ready.pass.legal)
+            (sym back);
         ready = c.requires.ask.ready;
-        places = places_selection_back w d d.pass s c.take_selection.new.selections c.put_selection.new.selections _ c.requires.places c.requires.ask.named.inside c.in-Some.ensures.taken.0 c.in-Some.ensures.len c.put_selection.ensures.items c.put_selection.ensures.len
+        places = places_selection_back w d d.pass s c.take_selection.new.selections c.put_selection.new.selections _
+            c.requires.places c.requires.ask.named.inside c.in-Some.ensures.taken.0 c.in-Some.ensures.len
+            c.put_selection.ensures.items c.put_selection.ensures.len
             (ap (λ (y : SelNo). y.0) (own_on w d c.args.me s x c.requires.places c.in-Some.ensures.taken.1))
             c.requires.places.pipes;
       };
@@ -62,12 +73,19 @@ returns-in-Done c =
     let s = c.args.sel in
     let now = progress_of d in
     let x = c.in-Some.selection in
-    let pairs : c.in-Ok.told.items ≡ by_index x c.args.pairs.now = c.in-Ok.ensures ∙ (ap (λ looked. told_pairs looked c.as_slice.result.now) c.asked.ensures ∙ ap (told_pairs x.looked) c.as_slice.ensures) in
+    let pairs : c.in-Ok.told.items ≡ by_index x c.args.pairs.now = c.in-Ok.ensures
+    ∙ (ap (λ looked. told_pairs looked c.as_slice.result.now) c.asked.ensures
+    ∙ ap (told_pairs x.looked) c.as_slice.ensures) in
     record {
-      call = left_as (told_by now s c.args.elapsed c.args.pairs.now c.in-Some.ensures.taken.1 (makes_ran told_reply (after_told now s) (tells_ran x _ (by_index x c.args.pairs.now) c.in-Done.ensures.call pairs)))
-          (sym (progress_selection w d c.told.new.p s c.take_selection.new.selections None c.requires.places c.requires.ask.named.inside c.in-Some.ensures.taken.0));
+      call = left_as
+          (told_by now s c.args.elapsed c.args.pairs.now c.in-Some.ensures.taken.1
+          (makes_ran told_reply (after_told now s)
+          (tells_ran x _ (by_index x c.args.pairs.now) c.in-Done.ensures.call pairs)))
+          (sym (progress_selection w d c.told.new.p s c.take_selection.new.selections None c.requires.places
+          c.requires.ask.named.inside c.in-Some.ensures.taken.0));
       ready = c.in-Done.ensures.ready;
-      places = places_selection w d c.told.new.p s c.take_selection.new.selections None c.requires.places c.requires.ask.named.inside c.in-Some.ensures.taken.0 c.in-Some.ensures.len (λ y is. nothing_there is)
+      places = places_selection w d c.told.new.p s c.take_selection.new.selections None c.requires.places
+          c.requires.ask.named.inside c.in-Some.ensures.taken.0 c.in-Some.ensures.len (λ y is. nothing_there is)
           (still_made c.told.new.p c.requires.places c.in-Done.ensures.call);
     }
 
@@ -80,15 +98,25 @@ returns c =
     let now = progress_of d in
     let x = c.in-Some.selection in
     let next = c.in-Again.selection in
-    let pairs : c.in-Ok.told.items ≡ by_index x c.args.pairs.now = c.in-Ok.ensures ∙ (ap (λ looked. told_pairs looked c.as_slice.result.now) c.asked.ensures ∙ ap (told_pairs x.looked) c.as_slice.ensures) in
+    let pairs : c.in-Ok.told.items ≡ by_index x c.args.pairs.now = c.in-Ok.ensures
+    ∙ (ap (λ looked. told_pairs looked c.as_slice.result.now) c.asked.ensures
+    ∙ ap (told_pairs x.looked) c.as_slice.ensures) in
     let told = tells_ran x _ (by_index x c.args.pairs.now) c.in-Again.ensures.call pairs in
     let same : next ≡ x = again-same x next (by_index x c.args.pairs.now) c.args.elapsed _ told.shape in
     record {
-      call = left_as (told_by now s c.args.elapsed c.args.pairs.now c.in-Some.ensures.taken.1 (makes_ran told_reply (after_told now s) told))
-          (sym (progress_selection_back w d c.told.new.p c.args.me s c.take_selection.new.selections c.put_selection-in-Again.new.selections _ c.requires.places c.requires.ask.named.inside c.in-Some.ensures.taken.0 c.in-Some.ensures.len c.put_selection-in-Again.ensures.items refl
+      call = left_as
+          (told_by now s c.args.elapsed c.args.pairs.now c.in-Some.ensures.taken.1
+          (makes_ran told_reply (after_told now s) told))
+          (sym (progress_selection_back w d c.told.new.p c.args.me s c.take_selection.new.selections
+          c.put_selection-in-Again.new.selections _ c.requires.places c.requires.ask.named.inside
+          c.in-Some.ensures.taken.0 c.in-Some.ensures.len c.put_selection-in-Again.ensures.items refl
           (c.in-Some.ensures.taken.1 ∙ ap Some (sym same))));
       ready = c.in-Again.ensures.ready;
-      places = places_selection_back w d c.told.new.p s c.take_selection.new.selections c.put_selection-in-Again.new.selections _ c.requires.places c.requires.ask.named.inside c.in-Some.ensures.taken.0 c.in-Some.ensures.len c.put_selection-in-Again.ensures.items c.put_selection-in-Again.ensures.len
-          (ap (λ (y : Selection). y.selector.0) same ∙ ap (λ (y : SelNo). y.0) (own_on w d c.args.me s x c.requires.places c.in-Some.ensures.taken.1))
+      places = places_selection_back w d c.told.new.p s c.take_selection.new.selections
+          c.put_selection-in-Again.new.selections _ c.requires.places c.requires.ask.named.inside
+          c.in-Some.ensures.taken.0 c.in-Some.ensures.len c.put_selection-in-Again.ensures.items
+          c.put_selection-in-Again.ensures.len
+          (ap (λ (y : Selection). y.selector.0) same
+          ∙ ap (λ (y : SelNo). y.0) (own_on w d c.args.me s x c.requires.places c.in-Some.ensures.taken.1))
           (still_made c.told.new.p c.requires.places c.in-Again.ensures.call);
     }

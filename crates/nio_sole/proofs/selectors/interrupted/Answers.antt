@@ -13,6 +13,8 @@ use Rattle.nio_sole.proofs.selectors.interrupted.Goals as goal
 pub returns : goal.returns
 unfolding call_plan interrupted_plan
 returns c = record {
-  call = λ now. asks_ran yes_or_no now (returned (left_one (λ answer. Plan.reply (flag_in answer)) (step_acts c.take_interrupt.ensures refl))) c.yes_or_no.ensures;
+  call = λ now. asks_ran yes_or_no now
+      (returned (left_one (λ answer. Plan.reply (flag_in answer)) (step_acts c.take_interrupt.ensures refl)))
+      c.yes_or_no.ensures;
   ready = still_ready _ _ _ _ _ _ c.take_interrupt.ensures c.requires.ready;
 }

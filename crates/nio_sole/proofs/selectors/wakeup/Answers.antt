@@ -12,6 +12,7 @@ use Rattle.nio_sole.proofs.selectors.wakeup.Goals as goal
 pub returns : goal.returns
 unfolding call_plan wakeup_plan
 returns c = record {
-  call = λ now. asks_ran {R = Unit {0}} {answer = tt} (λ _. reply.«Ok») now (returned (left_one (λ _. Plan.reply tt) (step_acts c.wake.ensures refl))) refl;
+  call = λ now. asks_ran {R = Unit {0}} {answer = tt} (λ _. reply.«Ok») now
+      (returned (left_one (λ _. Plan.reply tt) (step_acts c.wake.ensures refl))) refl;
   ready = still_ready _ _ _ _ _ _ c.wake.ensures c.requires.ready;
 }

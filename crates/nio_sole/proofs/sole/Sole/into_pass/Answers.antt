@@ -15,15 +15,18 @@ use Rattle.nio_sole.proofs.sole.Sole.into_pass.Goals as goal
 pub returns-clause-ready : goal.returns-clause-ready
 returns-clause-ready c =
     let sole = c.args.self in
-    subst (λ (p : Pass). (n : CallerNo) → n.0 < (limits_of sole).callers → IsReady (words_of sole) p n) (sym c.into_pass.ensures) sole.stands.ready
+    subst (λ (p : Pass). (n : CallerNo) → n.0 < (limits_of sole).callers → IsReady (words_of sole) p n)
+    (sym c.into_pass.ensures) sole.stands.ready
 
 pub returns-clause-whole : goal.returns-clause-whole
 returns-clause-whole c =
     let sole = c.args.self in
     subst (λ (p : Pass). ∥ IsWhole (limits_of sole) (seen p) ∥₁) (sym c.into_pass.ensures)
-    (∥∥₁_map sole.stands.made (λ made n. made_whole (limits_of sole) (acts_seen sole.desk.pass n) n (progress_of sole.desk) (made n)))
+    (∥∥₁_map sole.stands.made
+    (λ made n. made_whole (limits_of sole) (acts_seen sole.desk.pass n) n (progress_of sole.desk) (made n)))
 
 pub returns-clause-unpinned : goal.returns-clause-unpinned
 returns-clause-unpinned c =
     let sole = c.args.self in
-    subst (λ (p : Pass). (n : CallerNo) → HasNoPin (view (words_of sole) p) n) (sym c.into_pass.ensures) (λ n. has_no_pin (words_of sole) sole.desk n sole.stands)
+    subst (λ (p : Pass). (n : CallerNo) → HasNoPin (view (words_of sole) p) n) (sym c.into_pass.ensures)
+    (λ n. has_no_pin (words_of sole) sole.desk n sole.stands)
