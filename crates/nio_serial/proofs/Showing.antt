@@ -63,20 +63,6 @@ shows-on st before after t same was = record {
   closing = ap (λ f. f t) same.closing ∙ was.closing;
 }
 
--- the selections and the closings in progress are as before
-pub record ShowsAsBefore (before after : Progress) : Type 0 where
-  pub selection : after.selection ≡ before.selection
-  pub closing : after.closing ≡ before.closing
-
-pub shows-on : (st : State) (before after : Progress) (t : ℕ) → ShowsAsBefore before after
-    → IsShownBy st before t → IsShownBy st after t
-shows-on st before after t same was = record {
-  turn = was.turn ∙ ap (λ f. option_map (λ (x : Selecting). x.caller) (f t)) (sym same.selection);
-  begun = was.begun ∙ ap (λ f. is_some (f t)) (sym same.selection);
-  on = subst (λ (f : ℕ → Option Selecting). (x : Selecting) → f t ≡ Some x → IsOn t x.selection) (sym same.selection) was.on;
-  closing = ap (λ f. f t) same.closing ∙ was.closing;
-}
-
 module _ (l : Limits) (st : State) (now : Progress) (me : CallerNo) (between : IsBetween l st now) where
   -- a state with the same turns and closings
   pub shows-same : (st' : State) → st'.turn ≡ st.turn → st'.begun ≡ st.begun → st'.closer ≡ st.closer
