@@ -13,6 +13,7 @@ use Rattle.nio_link.specs.declared.place.Role.TheVariants as role
 use Rattle.nio_link.specs.declared.place.Standing.TheVariants.{Nothing}
 use Rattle.nio_proxy.specs.Serving.{HasFaulted, IsUnfaulted, client_of, target_of, listener, count_below}
 use Rattle.nio_proxy.specs.Nets.{Members, Begins, FailsToAccept, IsQuiet, IsStill, Works}
+use Rattle.nio_proxy.specs.Passing.{BothSame, OneRose}
 use Rattle.nio_proxy.specs.Slots.{IsSlot, IsUnbegun, HasRoles, IsSlotOf, AreSlots, AreServed, ListensAt, Serving, has_ended, has_faulted}
 use Rattle.nio_proxy.specs.declared.board.Port.{Port}
 use Rattle.nio_proxy.specs.declared.connections.Connections.{Connections}
@@ -267,14 +268,14 @@ module _ {N : Type 0} (n : Members N) where
   serving_still x y c served still = serving_alone x y c served still.links (λ k _. still.places k) (λ k _. still.faults k) (λ k. omega (arith, still.faults k)) (omega (arith, still.polls))
 
   -- where work was done on the links of one connection
-  pub serving_step : (k : ℕ) (slot : Slot) (relay : Relay) (own : ChanNo) (x y : N) (c0 c1 : Connections) → AreServed (n.link x) (n.place x) c0
-      → slice_get c0.slots.items k ≡ Some (Live relay) → Works n (client_of k) (target_of k) own x y → Changes c0.slots.items c1.slots.items k slot
+  pub serving_step : (k : ℕ) (slot : Slot) (relay : Relay) (x y : N) (c0 c1 : Connections) → AreServed (n.link x) (n.place x) c0
+      → slice_get c0.slots.items k ≡ Some (Live relay) → Works n (client_of k) (target_of k) x y → Changes c0.slots.items c1.slots.items k slot
       → length c1.slots.items ≡ length c0.slots.items → vec_capacity c1.slots ≡ vec_capacity c0.slots → c1.conns ≡ c0.conns → c1.target ≡ c0.target
       → IsSlot (Some slot) (n.link y (client_of k)) (n.link y (target_of k)) (n.place y (client_of k)) (n.place y (target_of k))
       → ((to : Addr) (r s : Role) → HasRoles to (Some (Live relay)) r s → HasRoles to (Some slot) r s)
       → c1.ended ≡ c0.ended + one_if (has_ended (Some slot)) → c1.faulted ≡ c0.faulted + one_if (has_faulted (Some slot))
       → (IsTrue (has_faulted (Some slot)) → HasFaulted (n.faults x) (n.faults y) k) → (IsFalse (has_faulted (Some slot)) → IsUnfaulted (n.faults x) (n.faults y) k) → Serving n x y c0 c1
-  serving_step k slot relay own x y c0 c1 served was work changes short room conns target is roles ended faulted faulty unfaulted =
+  serving_step k slot relay x y c0 c1 served was work changes short room conns target is roles ended faulted faulty unfaulted =
       let before : HasRoles c0.target (Some (Live relay)) (n.place x (client_of k)).role (n.place x (target_of k)).role =
       subst (λ s. HasRoles c0.target s (n.place x (client_of k)).role (n.place x (target_of k)).role) was (served.slots k).roles in
       let now : HasRoles c0.target (Some (Live relay)) (n.place y (client_of k)).role (n.place y (target_of k)).role = (work.roles (client_of k) ∙ before.0, work.roles (target_of k) ∙ before.1) in
@@ -318,28 +319,33 @@ module _ {N : Type 0} (n : Members N) where
         polls = omega (arith, begins.polls);
       }
 
-  -- the same, where the two links and the channel that was told have other names
-  pub serving_told : (k : ℕ) (slot : Slot) (relay : Relay) (own client target side : ChanNo) (x y : N) (c0 c1 : Connections)
-      → client ≡ client_of k → target ≡ target_of k → side ≡ own → AreServed (n.link x) (n.place x) c0
-      → slice_get c0.slots.items k ≡ Some (Live relay) → Works n client target side x y → Changes c0.slots.items c1.slots.items k slot
-      → length c1.slots.items ≡ length c0.slots.items → vec_capacity c1.slots ≡ vec_capacity c0.slots → c1.conns ≡ c0.conns → c1.target ≡ c0.target
+  -- the same, where the two links have other names
+  pub serving_told : (k : ℕ) (slot : Slot) (relay : Relay) (client target : ChanNo) (x y : N) (c0 c1 : Connections)
+      → client ≡ client_of k → target ≡ target_of k → AreServed (n.link x) (n.place x) c0
+      → slice_get c0.slots.items k ≡ Some (Live relay) → Works n client target x y
+      → Changes c0.slots.items c1.slots.items k slot → length c1.slots.items ≡ length c0.slots.items
+      → vec_capacity c1.slots ≡ vec_capacity c0.slots → c1.conns ≡ c0.conns → c1.target ≡ c0.target
       → IsSlot (Some slot) (n.link y client) (n.link y target) (n.place y client) (n.place y target)
       → ((to : Addr) (r s : Role) → HasRoles to (Some (Live relay)) r s → HasRoles to (Some slot) r s)
-      → c1.ended ≡ c0.ended + one_if (has_ended (Some slot)) → c1.faulted ≡ c0.faulted + one_if (has_faulted (Some slot))
-      → (IsTrue (has_faulted (Some slot)) → Rose (n.faults x client) (n.faults y client) ⊎ Rose (n.faults x target) (n.faults y target))
-      → (IsFalse (has_faulted (Some slot)) → (n.faults y client ≡ n.faults x client) × (n.faults y target ≡ n.faults x target)) → Serving n x y c0 c1
-  serving_told k slot relay own client target side x y c0 c1 is_client is_target is_own served was work changes short room conns to is roles ended faulted faulty calm =
-      serving_step k slot relay own x y c0 c1 served was
-      (subst (λ a. Works n a (target_of k) own x y) is_client (subst (λ b. Works n client b own x y) is_target (subst (λ s. Works n client target s x y) is_own work)))
+      → c1.ended ≡ c0.ended + one_if (has_ended (Some slot))
+      → c1.faulted ≡ c0.faulted + one_if (has_faulted (Some slot))
+      → (IsTrue (has_faulted (Some slot)) → OneRose (n.faults x) (n.faults y) client target)
+      → (IsFalse (has_faulted (Some slot)) → BothSame (n.faults x) (n.faults y) client target)
+      → Serving n x y c0 c1
+  serving_told k slot relay client target x y c0 c1 is_client is_target served was work changes short room conns to is
+      roles ended faulted faulty calm =
+      serving_step k slot relay x y c0 c1 served was
+      (subst (λ a. Works n a (target_of k) x y) is_client (subst (λ b. Works n client b x y) is_target work))
       changes short room conns to
-      (subst (λ a. IsSlot (Some slot) (n.link y a) (n.link y (target_of k)) (n.place y a) (n.place y (target_of k))) is_client
+      (subst (λ a. IsSlot (Some slot) (n.link y a) (n.link y (target_of k)) (n.place y a) (n.place y (target_of k)))
+      is_client
       (subst (λ b. IsSlot (Some slot) (n.link y client) (n.link y b) (n.place y client) (n.place y b)) is_target is))
       roles ended faulted
-      (λ f. subst (λ a. Rose (n.faults x a) (n.faults y a) ⊎ Rose (n.faults x (target_of k)) (n.faults y (target_of k))) is_client
-      (subst (λ b. Rose (n.faults x client) (n.faults y client) ⊎ Rose (n.faults x b) (n.faults y b)) is_target (faulty f)))
+      (λ f. subst (λ a. OneRose (n.faults x) (n.faults y) a (target_of k)) is_client
+      (subst (λ b. OneRose (n.faults x) (n.faults y) client b) is_target (faulty f)))
       (λ f. record {
-        client = subst (λ a. n.faults y a ≡ n.faults x a) is_client (calm f).0;
-        target = subst (λ b. n.faults y b ≡ n.faults x b) is_target (calm f).1;
+        client = subst (λ a. n.faults y a ≡ n.faults x a) is_client (calm f).first;
+        target = subst (λ b. n.faults y b ≡ n.faults x b) is_target (calm f).second;
       })
 
   pub serving_new : (slot : Slot) (client target : ChanNo) (x y : N) (c0 c1 : Connections)
@@ -416,12 +422,3 @@ module _ {N : Type 0} (n : Members N) where
 -- the listener stands as it did, and is watched as it was
 pub listens_on : (before now : Option Port) (p q : Place) → now ≡ before → q ≡ p → ListensAt before p.standing → ListensAt now q.standing
 listens_on before now p q ports places listens = subst (λ o. ListensAt o q.standing) (sym ports) (subst (λ (x : Place). ListensAt before x.standing) (sym places) listens)
-
--- the link that was told is one of the two of its connection
-pub side_is : (chan client target : ChanNo) (k : ℕ) (b : Bool) → client ≡ client_of k → target ≡ target_of k → k ≡ (chan.0 - 1) / 2 → 1 ≤ chan.0
-    → b ≡ (chan.0 == client.0) → (if b then client else target) ≡ chan
-side_is chan client target k true is_client is_target is some same = sym (chan_as chan client (eqb-true chan.0 client.0 (sym same)))
-side_is chan client target k false is_client is_target is some other =
-    let never : chan.0 ≢ 2 * k + 1 = λ at. eqb-false chan.0 client.0 (sym other) (at ∙ sym (ap (λ (c : ChanNo). c.0) is_client)) in
-    let at : chan.0 ≡ 2 * k + 2 = omega (arith, never) in
-    is_target ∙ sym (chan_as chan (target_of k) at)

@@ -92,53 +92,53 @@ closes_then before mid now (inr is) (inr again) =
     inr (again ∙ (twice ∙ once))
 
 module _ {N : Type 0} (n : Members N) where
-  pub works_none : (a b own : ChanNo) (x : N) → Works n a b own x x
-  works_none a b own x = record {
+  pub works_none : (a b : ChanNo) (x : N) → Works n a b x x
+  works_none a b x = record {
     links = λ c _ _. refl;
     places = λ c _ _. refl;
     faults = λ c _ _. refl;
-    ready = λ c _. refl;
+    ready = λ c _ _. refl;
     later = λ c. omega arith;
     roles = λ c. refl;
     polls = refl;
   }
 
-  pub works_then : (a b own : ChanNo) (x y z : N) → Works n a b own x y → Works n a b own y z → Works n a b own x z
-  works_then a b own x y z first second = record {
+  pub works_then : (a b : ChanNo) (x y z : N) → Works n a b x y → Works n a b y z → Works n a b x z
+  works_then a b x y z first second = record {
     links = λ c not_a not_b. second.links c not_a not_b ∙ first.links c not_a not_b;
     places = λ c not_a not_b. second.places c not_a not_b ∙ first.places c not_a not_b;
     faults = λ c not_a not_b. second.faults c not_a not_b ∙ first.faults c not_a not_b;
-    ready = λ c not_own. second.ready c not_own ∙ first.ready c not_own;
+    ready = λ c not_a not_b. second.ready c not_a not_b ∙ first.ready c not_a not_b;
     later = λ c. omega (arith, first.later c, second.later c);
     roles = λ c. second.roles c ∙ first.roles c;
     polls = second.polls ∙ first.polls;
   }
 
   -- as work on two links
-  pub works_first : (a b own : ChanNo) (x y : N) → Works n a a own x y → Works n a b own x y
-  works_first a b own x y work = record {
+  pub works_first : (a b : ChanNo) (x y : N) → Works n a a x y → Works n a b x y
+  works_first a b x y work = record {
     links = λ c not_a not_b. work.links c not_a not_a;
     places = λ c not_a not_b. work.places c not_a not_a;
     faults = λ c not_a not_b. work.faults c not_a not_a;
-    ready = work.ready;
+    ready = λ c not_a not_b. work.ready c not_a not_a;
     later = work.later;
     roles = work.roles;
     polls = work.polls;
   }
 
-  pub works_swapped : (a b own : ChanNo) (x y : N) → Works n a b own x y → Works n b a own x y
-  works_swapped a b own x y work = record {
+  pub works_swapped : (a b : ChanNo) (x y : N) → Works n a b x y → Works n b a x y
+  works_swapped a b x y work = record {
     links = λ c not_b not_a. work.links c not_a not_b;
     places = λ c not_b not_a. work.places c not_a not_b;
     faults = λ c not_b not_a. work.faults c not_a not_b;
-    ready = work.ready;
+    ready = λ c not_b not_a. work.ready c not_a not_b;
     later = work.later;
     roles = work.roles;
     polls = work.polls;
   }
 
-  pub works_second : (a b own : ChanNo) (x y : N) → Works n b b own x y → Works n a b own x y
-  works_second a b own x y work = works_swapped b a own x y (works_first b a own x y work)
+  pub works_second : (a b : ChanNo) (x y : N) → Works n b b x y → Works n a b x y
+  works_second a b x y work = works_swapped b a x y (works_first b a x y work)
 
   -- a connection was accepted, and then begun
   pub begins_then : (client target : ChanNo) (x y z : N) → Accepts n client x y → Begins n client target y z → Begins n client target x z
