@@ -1,26 +1,39 @@
--- The channel that was served last, and the channels behind it in an ordered list.
-use Rattle.std.proofs.Common.{◌≡◌, ℕ, ◌+◌, ◌<◌, ◌≤◌, List, Option, Some, None, IfSome, length, slice_index_or, subst, sym, ◌∙◌, arith}
+-- What a selection told, while it is served: the channels behind those that were served.
+use Rattle.std.proofs.Common.{◌≡◌, ◌≢◌, ℕ, ◌+◌, ◌-◌, ◌*◌, ◌/◌, ◌<◌, ◌≤◌, List, length, slice_index_or, IsTrue, sym, ap, subst, ◌∙◌, arith}
 use Rattle.std.proofs.lemmas.List.{get_or_default}
+use Rattle.std.proofs.lemmas.List.Elements.{All-get_or}
 use Rattle.nio_base.specs.declared.numbers.ChanNo.{ChanNo}
-use Rattle.nio_proxy.specs.Board.{AreOrdered}
+use Rattle.nio_steps.specs.KeyCalls.{is_within}
+use Rattle.nio_proxy.specs.Board.{AreOrdered, AreReady}
+use Rattle.nio_proxy.specs.Passing.{channel_after}
+use Rattle.nio_proxy.specs.Serving.{client_of, target_of}
 
--- the last one isn't greater than any from the index i on
-abbrev pub IsAtMostRest : Option ChanNo → List (ChanNo × ℕ) → ℕ → Type 0
-IsAtMostRest last told i = IfSome last (λ x. (j : ℕ) (d : ChanNo × ℕ) → i ≤ j → j < length told → x.0 ≤ (slice_index_or told j d).0.0)
+-- what stands at an index behind another one isn't before it
+pub rises : (told : List (ChanNo × ℕ)) (i j : ℕ) (d e : ChanNo × ℕ) → AreOrdered told → i ≤ j → j < length told
+    → (slice_index_or told i d).0.0 ≤ (slice_index_or told j e).0.0
+rises told i j d e ordered from there =
+    subst (λ (x : ChanNo × ℕ). (slice_index_or told i d).0.0 ≤ x.0.0) (get_or_default told j d e there)
+    (ordered i j d from there)
 
--- what stands at the index i is the last one for what follows
-pub rest_of_next : (told : List (ChanNo × ℕ)) (i : ℕ) (item : ChanNo × ℕ) → AreOrdered told → i < length told → item ≡ slice_index_or told i item
-    → IsAtMostRest (Some item.0) told (i + 1)
-rest_of_next told i item ordered there is =
-    λ j d from within.
-    let same : item ≡ slice_index_or told i d = is ∙ get_or_default told i item d there in
-    let rises : (slice_index_or told i d).0.0 ≤ (slice_index_or told j d).0.0 = ordered i j d (omega (arith, from)) within in
-    subst (λ (x : ChanNo × ℕ). x.0.0 ≤ (slice_index_or told j d).0.0) (sym same) rises
+-- the channel there is still ready, where the channels from `unserved` on are as ready as they were
+pub still_ready : (before now : ChanNo → ℕ) (told : List (ChanNo × ℕ)) (unserved i : ℕ) (d : ChanNo × ℕ)
+    → AreReady before told → ((c : ChanNo) → unserved ≤ c.0 → now c ≡ before c) → i < length told
+    → unserved ≤ (slice_index_or told i d).0.0
+    → IsTrue (is_within (slice_index_or told i d).1 (now (slice_index_or told i d).0))
+still_ready before now told unserved i d ready same there behind =
+    let item : ChanNo × ℕ = slice_index_or told i d in
+    subst (λ ops. IsTrue (is_within item.1 ops)) (sym (same item.0 behind))
+    (All-get_or (λ (x : ChanNo × ℕ). IsTrue (is_within x.1 (before x.0))) told i d there ready)
 
--- a channel behind the one at the index i is behind the last one
-pub behind_last : (last : Option ChanNo) (told : List (ChanNo × ℕ)) (i : ℕ) (item : ChanNo × ℕ) (c : ChanNo) → IsAtMostRest last told i → i < length told
-    → item ≡ slice_index_or told i item → item.0.0 < c.0 → IfSome last (λ x. x.0 < c.0)
-behind_last None told i item c rest there is behind = tt
-behind_last (Some x) told i item c rest there is behind =
-    let most : x.0 ≤ item.0.0 = subst (λ (y : ChanNo × ℕ). x.0 ≤ y.0.0) (sym is) (rest i item (omega arith) there) in
-    omega (arith, most, behind)
+-- a channel behind a connection is none of its two
+pub past_client : (chan c : ChanNo) (k : ℕ) → 0 < chan.0 → k ≡ (chan.0 - 1) / 2 → channel_after chan ≤ c.0
+    → c ≢ client_of k
+past_client chan c k linked is past at =
+    let same : c.0 ≡ 2 * k + 1 = ap (λ (x : ChanNo). x.0) at in
+    omega (arith, same, is, past, linked)
+
+pub past_target : (chan c : ChanNo) (k : ℕ) → 0 < chan.0 → k ≡ (chan.0 - 1) / 2 → channel_after chan ≤ c.0
+    → c ≢ target_of k
+past_target chan c k linked is past at =
+    let same : c.0 ≡ 2 * k + 2 = ap (λ (x : ChanNo). x.0) at in
+    omega (arith, same, is, past, linked)

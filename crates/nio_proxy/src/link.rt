@@ -204,7 +204,7 @@ fn read_new<N: Net>(net: &mut N, own: ChanNo, scratch: &mut [u8]) -> Result<Got,
     requires scratch { length scratch.old ≡ CAPACITY }
     requires ready { IsTrue (is_within 1 (N.ready net.old own)) }
     requires linked { IsLinked (N.place net.old own).standing }
-    ensures got { IfOk result (IsGot scratch.old scratch.new) }
+    ensures got { IfOk result (IsGot scratch.old) }
     ensures source { (f : Flow) → KeepsSource f (flow_after_read result scratch.new f) (N.link net.old own) (N.place net.old own) (N.link net.new own) (N.place net.new own) }
     ensures work { Works N.Net own own net.old net.new }
     ensures stands { N.place net.new own ≡ N.place net.old own }
