@@ -26,7 +26,8 @@ returns-in-Bytes-clause-passes g c =
     c.in-Bytes.is (c.in_ok-count.ensures.source f) in
     let did = c.read_new.ensures in
     let wrote = c.write_new.ensures in
-    passes_then n a c.args.sink f (takes f bytes) c.write_new.new.direction c.args.net.now c.read_new.new.net c.write_new.new.net
+    passes_then n a c.args.sink f (takes f bytes) c.write_new.new.direction c.args.net.now c.read_new.new.net
+    c.write_new.new.net
     (passes_read n a c.args.sink f (takes f bytes) c.args.net.now c.read_new.new.net c.requires.apart did.work got
     (record { written = refl; shut = refl }) did.stands did.write)
     (passes_write n a c.args.sink (takes f bytes) c.write_new.new.direction c.read_new.new.net c.write_new.new.net

@@ -7,7 +7,8 @@ use Rattle.nio_proxy.proofs.link.write_all.Given as goal
 
 abbrev pub invariant-loop : goal.invariant-loop
 invariant-loop g l = record {
-  sink : KeepsSink l.fn.incoming l.incoming (g.N.Net.link l.fn.net l.own) (g.N.Net.place l.fn.net l.own) (g.N.Net.link l.net l.own) (g.N.Net.place l.net l.own);
+  sink : KeepsSink l.fn.incoming l.incoming (g.N.Net.link l.fn.net l.own) (g.N.Net.place l.fn.net l.own)
+      (g.N.Net.link l.net l.own) (g.N.Net.place l.net l.own);
   source : SameSource l.fn.incoming l.incoming;
   work : Works (seen g.N.Poller g.N.Net) l.own l.own l.fn.net l.net;
   stands : g.N.Net.place l.net l.own ≡ g.N.Net.place l.fn.net l.own;

@@ -9,10 +9,24 @@ use Rattle.nio_proxy.proofs.Slotting.{serving_told, client_listener, target_list
 use Rattle.nio_proxy.proofs.connections.Connections.serve.Goals as goal
 
 pub put-requires-clause-few : goal.put-requires-clause-few
-put-requires-clause-few g c = omega (arith, c.take.ensures.ended, c.requires.served.ended, c.requires.served.bound, count_few (λ k. has_ended (slice_get c.args.self.now.slots.items k)) c.args.self.now.conns)
+put-requires-clause-few g c =
+    omega (
+      arith,
+      c.take.ensures.ended,
+      c.requires.served.ended,
+      c.requires.served.bound,
+      count_few (λ k. has_ended (slice_get c.args.self.now.slots.items k)) c.args.self.now.conns,
+    )
 
 pub put-requires-clause-few_faulted : goal.put-requires-clause-few_faulted
-put-requires-clause-few_faulted g c = omega (arith, c.take.ensures.faulted, c.requires.served.faulted, c.requires.served.bound, count_few (λ k. has_faulted (slice_get c.args.self.now.slots.items k)) c.args.self.now.conns)
+put-requires-clause-few_faulted g c =
+    omega (
+      arith,
+      c.take.ensures.faulted,
+      c.requires.served.faulted,
+      c.requires.served.bound,
+      count_few (λ k. has_faulted (slice_get c.args.self.now.slots.items k)) c.args.self.now.conns,
+    )
 
 pub returns-clause-serving : goal.returns-clause-serving
 returns-clause-serving g c =
