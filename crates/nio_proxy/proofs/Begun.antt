@@ -15,15 +15,22 @@ use Rattle.nio_proxy.specs.Slots.{IsLive}
 unused_carried : (l : Link) → IsUnused l → HasCarried l (carried fresh fresh)
 unused_carried l unused = record { got = unused.got; ended = unused.ended; put = unused.put; shut = unused.shut }
 
-unused_target : (made : Bool) (to : Addr) (l : Link) (p : Place) → IsUnused l → p ≡ place_after_connect (Ok made) to → IsTarget made l p (carried fresh fresh)
-unused_target true to l p unused is = record { carried = unused_carried l unused; stands = ap (λ (q : Place). q.standing) is }
-unused_target false to l p unused is = record { carried = unused_carried l unused; stands = ap (λ (q : Place). q.standing) is; unshut = refl }
+unused_target : (made : Bool) (to : Addr) (l : Link) (p : Place) → IsUnused l → p ≡ place_after_connect (Ok made) to
+    → IsTarget made l p (carried fresh fresh)
+unused_target true to l p unused is =
+    record { carried = unused_carried l unused; stands = ap (λ (q : Place). q.standing) is }
+unused_target false to l p unused is =
+    record { carried = unused_carried l unused; stands = ap (λ (q : Place). q.standing) is; unshut = refl }
 
 -- a connection whose client was accepted, and whose connecting to the target was answered so
-pub unused_live : (made : Bool) (to : Addr) (client target : Link) (p q : Place) → IsUnused client → IsUnused target → p.standing ≡ Linked → q ≡ place_after_connect (Ok made) to
+pub unused_live : (made : Bool) (to : Addr) (client target : Link) (p q : Place) → IsUnused client → IsUnused target
+    → p.standing ≡ Linked → q ≡ place_after_connect (Ok made) to
     → IsLive made fresh fresh client target p q
 unused_live made to client target p q c t linked is = record {
-  relaying = record { by_client = record { carried = unused_carried client c; stands = linked }; by_target = unused_target made to target q t is };
+  relaying = record {
+    by_client = record { carried = unused_carried client c; stands = linked };
+    by_target = unused_target made to target q t is;
+  };
   there_lawful = fresh-IsLawful;
   back_lawful = fresh-IsLawful;
 }

@@ -1,5 +1,6 @@
 -- How many numbers below a bound are counted.
-use Rattle.std.proofs.Common.{◌≡◌, ◌≢◌, ℕ, zero, suc, ◌+◌, ◌<◌, ◌≤◌, inl, inr, Bool, true, false, IsTrue, if◌then◌else◌, refl, sym, ap, ◌∙◌, arith}
+use Rattle.std.proofs.Common.{◌≡◌, ◌≢◌, ℕ, zero, suc, ◌+◌, ◌<◌, ◌≤◌, inl, inr, Bool, true, false, IsTrue, if◌then◌else◌}
+use Rattle.std.proofs.Common.{refl, sym, ap, ◌∙◌, arith}
 use Rattle.std.proofs.lemmas.Bool.{cases_order}
 use Rattle.nio_proxy.specs.Serving.{count_below}
 
@@ -43,11 +44,13 @@ count_none f (suc n) none =
     omega (arith, last, count_none f n (λ k few. none k (omega arith)))
 
 -- where one more may be counted
-pub count_one : (f g : ℕ → Bool) (k n : ℕ) → k < n → f k ≡ false → ((j : ℕ) → j ≢ k → g j ≡ f j) → count_below g n ≡ count_below f n + one_if (g k)
+pub count_one : (f g : ℕ → Bool) (k n : ℕ) → k < n → f k ≡ false → ((j : ℕ) → j ≢ k → g j ≡ f j)
+    → count_below g n ≡ count_below f n + one_if (g k)
 count_one f g k zero few was others = absurd (omega arith)
 count_one f g k (suc n) few was others = elim (cases_order k n) [
   | inl same ↦
-      let before : count_below g n ≡ count_below f n = count-same f g n (λ j less. others j (λ at. absurd (omega arith))) in
+      let before : count_below g n ≡ count_below f n = count-same f g n
+      (λ j less. others j (λ at. absurd (omega arith))) in
       let old : one_if (f n) ≡ 0 = ap one_if (ap f (sym same) ∙ was) in
       let new : one_if (g n) ≡ one_if (g k) = ap (λ i. one_if (g i)) (sym same) in
       omega (arith, before, old, new)

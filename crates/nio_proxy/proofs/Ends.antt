@@ -19,21 +19,29 @@ open_gone : (b : Bool) → closed (open_or_shut b) ≡ Gone
 open_gone true = refl
 open_gone false = refl
 
-pub end_gone : {l : Link} {p : Place} {c : Carried} (q : Place) → q ≡ place_after_close p → IsEnd l p c → q.standing ≡ Gone
+pub end_gone : {l : Link} {p : Place} {c : Carried} (q : Place) → q ≡ place_after_close p → IsEnd l p c
+    → q.standing ≡ Gone
 end_gone {c = c} q is_closed is = ap (λ (x : Place). x.standing) is_closed ∙ ap closed is.stands ∙ open_gone c.shut
 
 -- the link and its place are the same
 pub end_moved : {l0 l1 : Link} {p0 p1 : Place} {c : Carried} → l1 ≡ l0 → p1 ≡ p0 → IsEnd l0 p0 c → IsEnd l1 p1 c
-end_moved {l0} {l1} {p0} {p1} {c} links places is = subst (λ l. IsEnd l p1 c) (sym links) (subst (λ p. IsEnd l0 p c) (sym places) is)
+end_moved {l0} {l1} {p0} {p1} {c} links places is =
+    subst (λ l. IsEnd l p1 c) (sym links) (subst (λ p. IsEnd l0 p c) (sym places) is)
 
 -- the direction that takes from it has taken the same
-pub end_source : {l : Link} {p : Place} {f g : Flow} (incoming : Flow) → SameSource f g → IsEnd l p (carried f incoming) → IsEnd l p (carried g incoming)
+pub end_source : {l : Link} {p : Place} {f g : Flow} (incoming : Flow) → SameSource f g → IsEnd l p (carried f incoming)
+    → IsEnd l p (carried g incoming)
 end_source {l} {p} {f} {g} incoming same is =
-    subst (λ taken. IsEnd l p (record { got = taken; ended = g.ended; put = incoming.written; shut = incoming.shut })) (sym same.taken)
-    (subst (λ ended. IsEnd l p (record { got = f.taken; ended = ended; put = incoming.written; shut = incoming.shut })) (sym same.ended) is)
+    subst (λ taken. IsEnd l p (record { got = taken; ended = g.ended; put = incoming.written; shut = incoming.shut }))
+    (sym same.taken)
+    (subst (λ ended. IsEnd l p (record { got = f.taken; ended = ended; put = incoming.written; shut = incoming.shut }))
+    (sym same.ended) is)
 
 -- the direction that writes to it has written the same
-pub end_sink : {l : Link} {p : Place} {f g : Flow} (outgoing : Flow) → SameSink f g → IsEnd l p (carried outgoing f) → IsEnd l p (carried outgoing g)
+pub end_sink : {l : Link} {p : Place} {f g : Flow} (outgoing : Flow) → SameSink f g → IsEnd l p (carried outgoing f)
+    → IsEnd l p (carried outgoing g)
 end_sink {l} {p} {f} {g} outgoing same is =
-    subst (λ put. IsEnd l p (record { got = outgoing.taken; ended = outgoing.ended; put = put; shut = g.shut })) (sym same.written)
-    (subst (λ shut. IsEnd l p (record { got = outgoing.taken; ended = outgoing.ended; put = f.written; shut = shut })) (sym same.shut) is)
+    subst (λ put. IsEnd l p (record { got = outgoing.taken; ended = outgoing.ended; put = put; shut = g.shut }))
+    (sym same.written)
+    (subst (λ shut. IsEnd l p (record { got = outgoing.taken; ended = outgoing.ended; put = f.written; shut = shut }))
+    (sym same.shut) is)

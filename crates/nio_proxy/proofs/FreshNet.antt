@@ -14,7 +14,9 @@ free_at (suc n) zero = refl
 free_at (suc n) (suc i) = free_at n i
 
 pub planned_unused : (plan : NetPlan) (c : ChanNo) → IsUnused (carried_at (planned plan).slots c)
-planned_unused plan c = subst (λ s. IsUnused (carried_by s)) (sym (free_at (2 * length plan.peers.items + 1) c.0)) (record { got = refl; ended = refl; put = refl; shut = refl })
+planned_unused plan c =
+    subst (λ s. IsUnused (carried_by s)) (sym (free_at (2 * length plan.peers.items + 1) c.0))
+    (record { got = refl; ended = refl; put = refl; shut = refl })
 
 pub planned_unasked : (plan : NetPlan) (c : ChanNo) → places_after (planned plan).changes c ≡ unused
 planned_unasked plan c = refl

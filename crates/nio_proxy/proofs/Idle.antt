@@ -21,13 +21,17 @@ use Rattle.nio_words.specs.declared.words.Words.{Words}
 use Rattle.nio_proxy.specs.Board.{caller, IsIdle}
 
 -- after a call that leaves the caller without a pin
-pub idle_after : {w : Words} {p q : Pass} {s : SelNo} {acts : List Act} → ActsClause caller acts (view w p) (view w q) → IsReady w q caller → HasNoPin (view w q) caller → IsIdle w p s → IsIdle w q s
-idle_after clause ready none idle = record { ready = ready; unpinned = none; selector = selector_after clause idle.selector }
+pub idle_after : {w : Words} {p q : Pass} {s : SelNo} {acts : List Act} → ActsClause caller acts (view w p) (view w q)
+    → IsReady w q caller → HasNoPin (view w q) caller → IsIdle w p s → IsIdle w q s
+idle_after clause ready none idle =
+    record { ready = ready; unpinned = none; selector = selector_after clause idle.selector }
 
 -- after a call that gives its pins back
-pub idle_call : {R : Type 0} {Shape : List Act → R → Type 0} {answer : R} {w : Words} {p q : Pass} {s : SelNo} → GivesPinsBack Shape → CallClause caller Shape (view w p) (view w q) answer
+pub idle_call : {R : Type 0} {Shape : List Act → R → Type 0} {answer : R} {w : Words} {p q : Pass} {s : SelNo}
+    → GivesPinsBack Shape → CallClause caller Shape (view w p) (view w q) answer
     → IsReady w q caller → IsIdle w p s → IsIdle w q s
-idle_call {answer = answer} gives call ready idle = idle_after call.acts ready (no_pin_after (λ acts shape. gives acts answer shape) call idle.unpinned) idle
+idle_call {answer = answer} gives call ready idle =
+    idle_after call.acts ready (no_pin_after (λ acts shape. gives acts answer shape) call idle.unpinned) idle
 
 pub begin_gives : (s : SelNo) (mode : Mode) → GivesPinsBack (Begins s mode)
 begin_gives s mode = λ acts answer shape. pins_are_given_back.try_begin s mode _ acts answer shape

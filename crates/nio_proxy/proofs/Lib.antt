@@ -1,5 +1,6 @@
 mod Begun
 mod Bits
+mod Carrying
 mod Counts
 mod Ends
 pub mod FreshNet

@@ -1,5 +1,7 @@
 -- What the proxy promises, from what stands of its connections.
-use Rattle.std.proofs.Common.{◌≡◌, ◌≢◌, ℕ, zero, suc, ◌+◌, ◌-◌, ◌*◌, ◌/◌, ◌<◌, ◌≤◌, ◌⊎◌, inl, inr, Bool, true, false, IsTrue, IsFalse, Option, Some, None, IsSome, Result, Ok, Err, is_err, List, [], ◌∷◌, length, get_or, slice_get, vec_capacity, refl, sym, ap, subst, ◌∙◌, arith}
+use Rattle.std.proofs.Common.{◌≡◌, ◌≢◌, ℕ, zero, suc, ◌+◌, ◌-◌, ◌*◌, ◌/◌, ◌<◌, ◌≤◌, ◌⊎◌, inl, inr, Bool, true, false}
+use Rattle.std.proofs.Common.{IsTrue, IsFalse, Option, Some, None, IsSome, Result, Ok, Err, is_err, List, [], ◌∷◌}
+use Rattle.std.proofs.Common.{length, get_or, slice_get, vec_capacity, refl, sym, ap, subst, ◌∙◌, arith}
 use Rattle.std.proofs.lemmas.Bool.{cases_order}
 use Rattle.std.proofs.lemmas.List.{append-nil}
 use Rattle.std.proofs.lemmas.Option.{slice_get_past}
@@ -23,11 +25,15 @@ use Rattle.nio_proxy.proofs.Begun.{unused_relayed}
 use Rattle.nio_proxy.proofs.Counts.{count_all, count_none}
 use Rattle.nio_proxy.proofs.Ends.{end_gone}
 use Rattle.nio_proxy.proofs.Slotting.{faulted_from, client_listener, target_listener}
-use Rattle.nio_proxy.proofs.Working.{chan_as, gone_stays, is_or_not, later_all, quiet_then, role_stays, rose_from, vacant_stays}
+use Rattle.nio_proxy.proofs.Working.{chan_as, gone_stays, is_or_not, later_all, quiet_then, role_stays, rose_from}
+use Rattle.nio_proxy.proofs.Working.{vacant_stays}
 use Rattle.nio_proxy.specs.Nets.{Members, IsQuiet, OnlyCloses}
 use Rattle.nio_proxy.specs.Relaying.{carried, IsTarget}
-use Rattle.nio_proxy.specs.Serving.{HasCarried, HaveCarried, AreRelayed, RelaysBytes, IsAtMost, LeavesNothing, WasBegun, HasFaulted, HasServed, Serves, NoneRose, ServesAllOr, client_of, target_of, listener, count_below}
-use Rattle.nio_proxy.specs.Slots.{HasEnded, IsLive, IsSlot, IsSlotOf, IsUnbegun, HasRoles, AreServed, ListensAt, Serving, has_ended, has_faulted}
+use Rattle.nio_proxy.specs.Serving.{HasCarried, HaveCarried, AreRelayed, RelaysBytes, IsAtMost, LeavesNothing, WasBegun}
+use Rattle.nio_proxy.specs.Serving.{HasFaulted, HasServed, Serves, NoneRose, ServesAllOr, client_of, target_of}
+use Rattle.nio_proxy.specs.Serving.{listener, count_below}
+use Rattle.nio_proxy.specs.Slots.{HasEnded, IsLive, IsSlot, IsSlotOf, IsUnbegun, HasRoles, AreServed, ListensAt}
+use Rattle.nio_proxy.specs.Slots.{Serving, has_ended, has_faulted}
 use Rattle.nio_proxy.specs.declared.board.Port.{Port}
 use Rattle.nio_proxy.specs.declared.connections.Connections.{Connections}
 use Rattle.nio_proxy.specs.declared.serve.ServeError.{ServeError}
@@ -38,21 +44,31 @@ use Rattle.nio_proxy.specs.declared.slot.Slot.TheVariants.{Live, Clean, Faulted,
 -- ---- bytes
 
 whole_relayed : (a b : Carried) → IsWhole a b → IsRelayed a b
-whole_relayed a b whole = record { in_order = ([], append-nil b.put ∙ whole.bytes); few_missing = omega (arith, ap length whole.bytes); whole_at_shut = λ _. whole }
+whole_relayed a b whole =
+    record {
+      in_order = ([], append-nil b.put ∙ whole.bytes);
+      few_missing = omega (arith, ap length whole.bytes);
+      whole_at_shut = λ _. whole;
+    }
 
 -- what a lawful direction relays
 lawful_relayed : (f g : Flow) → IsLawful f → IsRelayed (carried f g) (carried g f)
 lawful_relayed f g lawful = record {
   in_order = lawful.in_order;
   few_missing = lawful-few f lawful;
-  whole_at_shut = λ is_shut. record { bytes = lawful.shut_whole is_shut; ended = lawful.shut_after_end is_shut; shut = is_shut };
+  whole_at_shut = λ is_shut. record {
+    bytes = lawful.shut_whole is_shut;
+    ended = lawful.shut_after_end is_shut;
+    shut = is_shut;
+  };
 }
 
 target_carried : (b : Bool) (l : Link) (p : Place) (c : Carried) → IsTarget b l p c → HasCarried l c
 target_carried true l p c is = is.carried
 target_carried false l p c is = is.carried
 
-live_relayed : (made : Bool) (there back : Flow) (client target : Link) (p q : Place) → IsLive made there back client target p q → HaveCarried AreRelayed client target
+live_relayed : (made : Bool) (there back : Flow) (client target : Link) (p q : Place)
+    → IsLive made there back client target p q → HaveCarried AreRelayed client target
 live_relayed made there back client target p q is = record {
   of_client = carried there back;
   of_target = carried back there;
@@ -61,40 +77,67 @@ live_relayed made there back client target p q is = record {
   related = (lawful_relayed there back is.there_lawful, lawful_relayed back there is.back_lawful);
 }
 
-live_clean : (made : Bool) (there back : Flow) (client target : Link) (p q : Place) → IsLive made there back client target p q → IsTrue there.shut → IsTrue back.shut → HaveCarried IsClean client target
+live_clean : (made : Bool) (there back : Flow) (client target : Link) (p q : Place)
+    → IsLive made there back client target p q → IsTrue there.shut → IsTrue back.shut
+    → HaveCarried IsClean client target
 live_clean made there back client target p q is there_shut back_shut = record {
   of_client = carried there back;
   of_target = carried back there;
   by_client = is.relaying.by_client.carried;
   by_target = target_carried made target q (carried back there) is.relaying.by_target;
-  related = record { there = (lawful_relayed there back is.there_lawful).whole_at_shut there_shut; back = (lawful_relayed back there is.back_lawful).whole_at_shut back_shut };
+  related = record {
+    there = (lawful_relayed there back is.there_lawful).whole_at_shut there_shut;
+    back = (lawful_relayed back there is.back_lawful).whole_at_shut back_shut;
+  };
 }
 
-have_moved : {P : Carried → Carried → Type 0} (c0 c1 t0 t1 : Link) → c1 ≡ c0 → t1 ≡ t0 → HaveCarried P c0 t0 → HaveCarried P c1 t1
-have_moved {P} c0 c1 t0 t1 clients targets have = subst (λ c. HaveCarried P c t1) (sym clients) (subst (λ t. HaveCarried P c0 t) (sym targets) have)
+have_moved : {P : Carried → Carried → Type 0} (c0 c1 t0 t1 : Link) → c1 ≡ c0 → t1 ≡ t0 → HaveCarried P c0 t0
+    → HaveCarried P c1 t1
+have_moved {P} c0 c1 t0 t1 clients targets have =
+    subst (λ c. HaveCarried P c t1) (sym clients) (subst (λ t. HaveCarried P c0 t) (sym targets) have)
 
 -- a connection that is closed after a fault, or where both directions are shut
-module _ (made : Bool) (there back : Flow) (c0 c1 t0 t1 : Link) (p0 p1 q0 q1 : Place) (live : IsLive made there back c0 t0 p0 q0) (clients : c1 ≡ c0) (targets : t1 ≡ t0) (client : p1 ≡ place_after_close p0) (target : IsVacant q1.standing) where
+module _ (made : Bool) (there back : Flow) (c0 c1 t0 t1 : Link) (p0 p1 q0 q1 : Place)
+    (live : IsLive made there back c0 t0 p0 q0) (clients : c1 ≡ c0) (targets : t1 ≡ t0)
+    (client : p1 ≡ place_after_close p0) (target : IsVacant q1.standing) where
   pub ended_faulty : HasEnded AreRelayed c1 t1 p1 q1
-  ended_faulty = record { carried = have_moved c0 c1 t0 t1 clients targets (live_relayed made there back c0 t0 p0 q0 live); client_closed = end_gone p1 client live.relaying.by_client; target_closed = target }
+  ended_faulty =
+      record {
+        carried = have_moved c0 c1 t0 t1 clients targets (live_relayed made there back c0 t0 p0 q0 live);
+        client_closed = end_gone p1 client live.relaying.by_client;
+        target_closed = target;
+      }
 
   pub ended_clean : IsTrue there.shut → IsTrue back.shut → HasEnded IsClean c1 t1 p1 q1
-  ended_clean there_shut back_shut = record { carried = have_moved c0 c1 t0 t1 clients targets (live_clean made there back c0 t0 p0 q0 live there_shut back_shut); client_closed = end_gone p1 client live.relaying.by_client; target_closed = target }
+  ended_clean there_shut back_shut =
+      record {
+        carried = have_moved c0 c1 t0 t1 clients targets
+            (live_clean made there back c0 t0 p0 q0 live there_shut back_shut);
+        client_closed =
+            end_gone p1 client live.relaying.by_client;
+        target_closed = target;
+      }
 
-slot_relayed : (slot : Option Slot) (client target : Link) (p q : Place) → IsSlot slot client target p q → HaveCarried AreRelayed client target
+slot_relayed : (slot : Option Slot) (client target : Link) (p q : Place) → IsSlot slot client target p q
+    → HaveCarried AreRelayed client target
 slot_relayed None client target p q is = unused_relayed client target is.client_unused is.target_unused
-slot_relayed (Some (Live relay)) client target p q is = live_relayed relay.is_connected relay.there relay.back client target p q is
+slot_relayed (Some (Live relay)) client target p q is =
+    live_relayed relay.is_connected relay.there relay.back client target p q is
 slot_relayed (Some Clean) client target p q is = record {
   of_client = is.carried.of_client;
   of_target = is.carried.of_target;
   by_client = is.carried.by_client;
   by_target = is.carried.by_target;
-  related = (whole_relayed is.carried.of_client is.carried.of_target is.carried.related.there, whole_relayed is.carried.of_target is.carried.of_client is.carried.related.back);
+  related = (
+    whole_relayed is.carried.of_client is.carried.of_target is.carried.related.there,
+    whole_relayed is.carried.of_target is.carried.of_client is.carried.related.back,
+  );
 }
 slot_relayed (Some Faulted) client target p q is = is.carried
 slot_relayed (Some Dropped) client target p q is = unused_relayed client target is.client_unused is.target_unused
 
-slot_clean : (slot : Option Slot) (client target : Link) (p q : Place) → IsTrue (has_ended slot) → IsFalse (has_faulted slot) → IsSlot slot client target p q → HaveCarried IsClean client target
+slot_clean : (slot : Option Slot) (client target : Link) (p q : Place) → IsTrue (has_ended slot)
+    → IsFalse (has_faulted slot) → IsSlot slot client target p q → HaveCarried IsClean client target
 slot_clean None client target p q ended clean is = cc
 slot_clean (Some (Live relay)) client target p q ended clean is = cc
 slot_clean (Some Clean) client target p q ended clean is = is.carried
@@ -103,14 +146,16 @@ slot_clean (Some Dropped) client target p q ended clean is = cc
 
 -- ---- places
 
-pub slot_vacant : (slot : Option Slot) (client target : Link) (p q : Place) → IsTrue (has_ended slot) → IsSlot slot client target p q → IsVacant p.standing × IsVacant q.standing
+pub slot_vacant : (slot : Option Slot) (client target : Link) (p q : Place) → IsTrue (has_ended slot)
+    → IsSlot slot client target p q → IsVacant p.standing × IsVacant q.standing
 slot_vacant None client target p q ended is = absurd (cc)
 slot_vacant (Some (Live relay)) client target p q ended is = absurd (cc)
 slot_vacant (Some Clean) client target p q ended is = (subst IsVacant (sym is.client_closed) tt, is.target_closed)
 slot_vacant (Some Faulted) client target p q ended is = (subst IsVacant (sym is.client_closed) tt, is.target_closed)
 slot_vacant (Some Dropped) client target p q ended is = absurd (cc)
 
-slot_gone : (slot : Option Slot) (client target : Link) (p q : Place) → IsTrue (has_ended slot) → IsSlot slot client target p q → p.standing ≡ Gone
+slot_gone : (slot : Option Slot) (client target : Link) (p q : Place) → IsTrue (has_ended slot)
+    → IsSlot slot client target p q → p.standing ≡ Gone
 slot_gone None client target p q ended is = absurd (cc)
 slot_gone (Some (Live relay)) client target p q ended is = absurd (cc)
 slot_gone (Some Clean) client target p q ended is = is.client_closed
@@ -119,16 +164,19 @@ slot_gone (Some Dropped) client target p q ended is = absurd (cc)
 
 place_as : (p : Place) (r : Role) (s : Standing) → p.role ≡ r → p.standing ≡ s → p ≡ record { role = r; standing = s }
 place_as p r s roles stands =
-    ap (λ (x : Role). let q : Place = record { role = x; standing = p.standing } in q) roles ∙ ap (λ (x : Standing). let q : Place = record { role = r; standing = x } in q) stands
+    ap (λ (x : Role). let q : Place = record { role = x; standing = p.standing } in q) roles
+    ∙ ap (λ (x : Standing). let q : Place = record { role = r; standing = x } in q) stands
 
-roles_at_most : (to : Addr) (slot : Option Slot) (r s : Role) → HasRoles to slot r s → IsAtMost (role.Accepted listener) r × IsAtMost (role.Connected to) s
+roles_at_most : (to : Addr) (slot : Option Slot) (r s : Role) → HasRoles to slot r s
+    → IsAtMost (role.Accepted listener) r × IsAtMost (role.Connected to) s
 roles_at_most to None r s has = (inl has.0, inl has.1)
 roles_at_most to (Some (Live relay)) r s has = (inr has.0, inr has.1)
 roles_at_most to (Some Clean) r s has = (inr has.0, inr has.1)
 roles_at_most to (Some Faulted) r s has = (inr has.0, inr has.1)
 roles_at_most to (Some Dropped) r s has = (inr has.0, inl has.1)
 
-roles_ended : (to : Addr) (slot : Option Slot) (r s : Role) → IsTrue (has_ended slot) → HasRoles to slot r s → (r ≡ role.Accepted listener) × (s ≡ role.Connected to)
+roles_ended : (to : Addr) (slot : Option Slot) (r s : Role) → IsTrue (has_ended slot) → HasRoles to slot r s
+    → (r ≡ role.Accepted listener) × (s ≡ role.Connected to)
 roles_ended to None r s ended has = absurd (cc)
 roles_ended to (Some (Live relay)) r s ended has = absurd (cc)
 roles_ended to (Some Clean) r s ended has = has
@@ -162,9 +210,11 @@ whose c = elim (is_or_not c listener) [
 
 -- a connection that wasn't begun
 module _ (link : ChanNo → Link) (place : ChanNo → Place) (c : Connections) (served : AreServed link place c) where
-  unbegun_past : (k : ℕ) → length c.slots.items ≤ k → IsUnbegun (link (client_of k)) (link (target_of k)) (place (client_of k)) (place (target_of k))
+  unbegun_past : (k : ℕ) → length c.slots.items ≤ k
+      → IsUnbegun (link (client_of k)) (link (target_of k)) (place (client_of k)) (place (target_of k))
   unbegun_past k past =
-      subst (λ s. IsSlot s (link (client_of k)) (link (target_of k)) (place (client_of k)) (place (target_of k))) (slice_get_past c.slots.items k past) (served.slots k).is_slot
+      subst (λ s. IsSlot s (link (client_of k)) (link (target_of k)) (place (client_of k)) (place (target_of k)))
+      (slice_get_past c.slots.items k past) (served.slots k).is_slot
 
   -- a channel past those of all connections
   pub past_all : (x : ChanNo) → 2 * c.conns < x.0 → (place x ≡ unused) × IsUnused (link x)
@@ -203,8 +253,10 @@ all_vacant link p0 p1 p2 c served first second closed listens x = elim (whose x)
     both k = elim (few_or_past k (length c.slots.items)) [
       | inl few ↦ closed k few
       | inr past ↦
-          let none = unbegun_past link p0 c served k past in
-          (vacant_unused (p0 (client_of k)) (p1 (client_of k)) (first (client_of k)) none.client_unasked, vacant_unused (p0 (target_of k)) (p1 (target_of k)) (first (target_of k)) none.target_unasked)
+          let none = unbegun_past link p0 c served k past in (
+            vacant_unused (p0 (client_of k)) (p1 (client_of k)) (first (client_of k)) none.client_unasked,
+            vacant_unused (p0 (target_of k)) (p1 (target_of k)) (first (target_of k)) none.target_unasked,
+          )
     ]
 
 -- what stands under an index
@@ -214,12 +266,16 @@ get_is (y ∷ ys) zero x few is = ap Some (sym is)
 get_is (y ∷ ys) (suc i) x few is = get_is ys i x (omega arith) is
 
 -- where the links of one more connection are closed, unless it has ended
-module _ {N : Type 0} (n : Members N) (net0 net1 net2 : N) (c : Connections) (i : ℕ) (slot : Slot) (client target : ChanNo) where
+module _ {N : Type 0} (n : Members N) (net0 net1 net2 : N) (c : Connections) (i : ℕ) (slot : Slot)
+    (client target : ChanNo) where
   abbrev AreVacant : N → ℕ → Type 0
   AreVacant net k = IsVacant (n.place net (client_of k)).standing × IsVacant (n.place net (target_of k)).standing
 
-  pub closed_next : AreServed (n.link net0) (n.place net0) c → client ≡ client_of i → target ≡ target_of i → slice_get c.slots.items i ≡ Some slot → IsQuiet n net0 net1 → IsQuiet n net1 net2
-      → ((k : ℕ) → k < i → AreVacant net1 k) → (IsFalse (has_ended (Some slot)) → IsVacant (n.place net2 client).standing × IsVacant (n.place net2 target).standing)
+  pub closed_next : AreServed (n.link net0) (n.place net0) c → client ≡ client_of i → target ≡ target_of i
+      → slice_get c.slots.items i ≡ Some slot → IsQuiet n net0 net1 → IsQuiet n net1 net2
+      → ((k : ℕ) → k < i → AreVacant net1 k)
+      → (IsFalse (has_ended (Some slot)) → IsVacant (n.place net2 client).standing
+      × IsVacant (n.place net2 target).standing)
       → (k : ℕ) → k < i + 1 → AreVacant net2 k
   closed_next served is_client is_target there first second before closed k few = elim (cases_order k i) [
     | inl same ↦ subst (AreVacant net2) (sym same) (by_test (has_ended (Some slot)) refl)
@@ -228,16 +284,24 @@ module _ {N : Type 0} (n : Members N) (net0 net1 net2 : N) (c : Connections) (i 
   ]
     where
       stays : (net : N) (j : ℕ) → IsQuiet n net net2 → AreVacant net j → AreVacant net2 j
-      stays net j quiet vacant = (vacant_stays (n.place net (client_of j)) (n.place net2 (client_of j)) (quiet.places (client_of j)) vacant.0, vacant_stays (n.place net (target_of j)) (n.place net2 (target_of j)) (quiet.places (target_of j)) vacant.1)
+      stays net j quiet vacant = (
+        vacant_stays (n.place net (client_of j)) (n.place net2 (client_of j)) (quiet.places (client_of j)) vacant.0,
+        vacant_stays (n.place net (target_of j)) (n.place net2 (target_of j))
+            (quiet.places (target_of j)) vacant.1,
+      )
 
       by_test : (b : Bool) → has_ended (Some slot) ≡ b → AreVacant net2 i
       by_test true is =
-          let here : IsSlot (Some slot) (n.link net0 (client_of i)) (n.link net0 (target_of i)) (n.place net0 (client_of i)) (n.place net0 (target_of i)) =
-          subst (λ s. IsSlot s (n.link net0 (client_of i)) (n.link net0 (target_of i)) (n.place net0 (client_of i)) (n.place net0 (target_of i))) there (served.slots i).is_slot in
+          let here : IsSlot (Some slot) (n.link net0 (client_of i)) (n.link net0 (target_of i))
+          (n.place net0 (client_of i)) (n.place net0 (target_of i)) =
+          subst (λ s. IsSlot s (n.link net0 (client_of i)) (n.link net0 (target_of i)) (n.place net0 (client_of i))
+          (n.place net0 (target_of i))) there (served.slots i).is_slot in
           stays net0 i (quiet_then n net0 net1 net2 first second) (slot_vacant (Some slot) _ _ _ _ is here)
       by_test false is =
-          let both = closed is in
-          (subst (λ a. IsVacant (n.place net2 a).standing) is_client both.0, subst (λ b. IsVacant (n.place net2 b).standing) is_target both.1)
+          let both = closed is in (
+            subst (λ a. IsVacant (n.place net2 a).standing) is_client both.0,
+            subst (λ b. IsVacant (n.place net2 b).standing) is_target both.1,
+          )
 
 -- ---- the answers
 
@@ -249,10 +313,13 @@ never_faulted : (before now : ChanNo → ℕ) (pb pn k : ℕ) → NoneRose befor
 never_faulted before now pb pn k none (inl rose) = none.links (client_of k) rose
 never_faulted before now pb pn k none (inr rose) = none.links (target_of k) rose
 
-pub serves_all : (plan : ProxyPlan) (link : ChanNo → Link) (place : ChanNo → Place) (before now : ChanNo → ℕ) (pb pn : ℕ) (result : Result Served ServeError)
+pub serves_all : (plan : ProxyPlan) (link : ChanNo → Link) (place : ChanNo → Place) (before now : ChanNo → ℕ)
+    (pb pn : ℕ) (result : Result Served ServeError)
     → Serves plan link place before now pb pn result → NoneRose before now pb pn → ServesAllOr plan.conns link result
 serves_all plan link place before now pb pn (Ok served) serves none =
-    let nobody : (k : ℕ) → k < plan.conns → IsFalse (serves.counted k) = λ k few. not_counted (serves.counted k) (λ is. never_faulted before now pb pn k none (serves.faulty k few is)) in
+    let nobody : (k : ℕ) → k < plan.conns
+    → IsFalse (serves.counted k) = λ k few. not_counted (serves.counted k)
+    (λ is. never_faulted before now pb pn k none (serves.faulty k few is)) in
     record {
       connections = serves.connections;
       faults = serves.faults ∙ count_none serves.counted plan.conns nobody;
@@ -262,22 +329,27 @@ serves_all plan link place before now pb pn (Err NetFault) (inl rose) none = abs
 serves_all plan link place before now pb pn (Err NetFault) (inr rose) none = absurd (none.links listener rose)
 serves_all plan link place before now pb pn (Err Memory) serves none = tt
 
-pub serves_err : (plan : ProxyPlan) (link : ChanNo → Link) (place : ChanNo → Place) (before now : ChanNo → ℕ) (pb pn : ℕ) (error : ServeError)
-    → (error ≡ NetFault → Rose pb pn ⊎ Rose (before listener) (now listener)) → Serves plan link place before now pb pn (Err error)
+pub serves_err : (plan : ProxyPlan) (link : ChanNo → Link) (place : ChanNo → Place) (before now : ChanNo → ℕ)
+    (pb pn : ℕ) (error : ServeError)
+    → (error ≡ NetFault → Rose pb pn ⊎ Rose (before listener) (now listener))
+    → Serves plan link place before now pb pn (Err error)
 serves_err plan link place before now pb pn NetFault cause = cause refl
 serves_err plan link place before now pb pn Memory cause = tt
 
 -- ---- before the first connection
 
-pub listen_role : (r : Result (Unit {0}) Failed) (at : Addr) (p : Place) → p ≡ place_after_listen r at → p.role ≡ role.Listener at
+pub listen_role : (r : Result (Unit {0}) Failed) (at : Addr) (p : Place) → p ≡ place_after_listen r at
+    → p.role ≡ role.Listener at
 listen_role (Ok _) at p is = ap (λ (x : Place). x.role) is
 listen_role (Err _) at p is = ap (λ (x : Place). x.role) is
 
-pub listen_stands : (r : Result (Unit {0}) Failed) (at : Addr) (p : Place) → false ≡ is_err r → p ≡ place_after_listen r at → p.standing ≡ Listening
+pub listen_stands : (r : Result (Unit {0}) Failed) (at : Addr) (p : Place) → false ≡ is_err r
+    → p ≡ place_after_listen r at → p.standing ≡ Listening
 listen_stands (Ok _) at p made is = ap (λ (x : Place). x.standing) is
 listen_stands (Err _) at p made is = absurd (cc)
 
-pub listen_failed : (r : Result (Unit {0}) Failed) (at : Addr) (p : Place) → true ≡ is_err r → p ≡ place_after_listen r at → IsVacant p.standing
+pub listen_failed : (r : Result (Unit {0}) Failed) (at : Addr) (p : Place) → true ≡ is_err r
+    → p ≡ place_after_listen r at → IsVacant p.standing
 listen_failed (Ok _) at p failed is = absurd (cc)
 listen_failed (Err _) at p failed is = subst (λ (x : Place). IsVacant x.standing) (sym is) tt
 
@@ -286,11 +358,14 @@ listens_first (Some port) s some is = is
 listens_first None s some is = absurd (cc)
 
 pub unbegun : (link : ChanNo → Link) → ((c : ChanNo) → IsUnused (link c)) → RelaysBytes link
-unbegun link fresh k = unused_relayed (link (client_of k)) (link (target_of k)) (fresh (client_of k)) (fresh (target_of k))
+unbegun link fresh k =
+    unused_relayed (link (client_of k)) (link (target_of k)) (fresh (client_of k)) (fresh (target_of k))
 
 -- where nothing was done but to ask for the listener
-pub leaves_first : (plan : ProxyPlan) (link : ChanNo → Link) (place : ChanNo → Place) → ((c : ChanNo) → IsUnused (link c)) → ((c : ChanNo) → c ≢ listener → place c ≡ unused)
-    → IsVacant (place listener).standing → IsAtMost (role.Listener plan.listen) (place listener).role → LeavesNothing plan link place
+pub leaves_first : (plan : ProxyPlan) (link : ChanNo → Link) (place : ChanNo → Place)
+    → ((c : ChanNo) → IsUnused (link c)) → ((c : ChanNo) → c ≢ listener → place c ≡ unused)
+    → IsVacant (place listener).standing → IsAtMost (role.Listener plan.listen) (place listener).role
+    → LeavesNothing plan link place
 leaves_first plan link place fresh unasked vacant asked = record {
   vacant = λ c. elim (is_or_not c listener) [
     | inl same ↦ subst (λ x. IsVacant (place x).standing) (sym same) vacant
@@ -299,32 +374,47 @@ leaves_first plan link place fresh unasked vacant asked = record {
   listens = asked;
   clients = λ k _. inl (ap (λ (p : Place). p.role) (unasked (client_of k) (client_listener k)));
   targets = λ k _. inl (ap (λ (p : Place). p.role) (unasked (target_of k) (target_listener k)));
-  others = λ c past. ap (λ (p : Place). p.role) (unasked c (λ at. let none : c.0 ≡ 0 = ap (λ (x : ChanNo). x.0) at in absurd (omega arith)));
+  others = λ c past. ap (λ (p : Place). p.role)
+      (unasked c (λ at. let none : c.0 ≡ 0 = ap (λ (x : ChanNo). x.0) at in absurd (omega arith)));
   no_bytes = fresh listener;
   rest = λ c _. fresh c;
 }
 
 -- where nothing was done
-pub leaves_unasked : (plan : ProxyPlan) (link : ChanNo → Link) (place : ChanNo → Place) → ((c : ChanNo) → IsUnused (link c)) → ((c : ChanNo) → place c ≡ unused) → LeavesNothing plan link place
+pub leaves_unasked : (plan : ProxyPlan) (link : ChanNo → Link) (place : ChanNo → Place)
+    → ((c : ChanNo) → IsUnused (link c)) → ((c : ChanNo) → place c ≡ unused) → LeavesNothing plan link place
 leaves_unasked plan link place fresh unasked =
-    leaves_first plan link place fresh (λ c _. unasked c) (subst (λ (p : Place). IsVacant p.standing) (sym (unasked listener)) tt) (inl (ap (λ (p : Place). p.role) (unasked listener)))
+    leaves_first plan link place fresh (λ c _. unasked c)
+    (subst (λ (p : Place). IsVacant p.standing) (sym (unasked listener)) tt)
+    (inl (ap (λ (p : Place). p.role) (unasked listener)))
 
-pub served_first : (link : ChanNo → Link) (place : ChanNo → Place) (c : Connections) → ((k : ChanNo) → IsUnused (link k)) → ((k : ChanNo) → k ≢ listener → place k ≡ unused)
-    → c.slots.items ≡ [] → c.conns ≤ vec_capacity c.slots → c.ended ≡ 0 → c.faulted ≡ 0 → c.conns ≤ 16000 → AreServed link place c
+pub served_first : (link : ChanNo → Link) (place : ChanNo → Place) (c : Connections)
+    → ((k : ChanNo) → IsUnused (link k)) → ((k : ChanNo) → k ≢ listener → place k ≡ unused)
+    → c.slots.items ≡ [] → c.conns ≤ vec_capacity c.slots → c.ended ≡ 0 → c.faulted ≡ 0 → c.conns ≤ 16000
+    → AreServed link place c
 served_first link place c fresh unasked none room ended faulted few =
     let at : (k : ℕ) → slice_get c.slots.items k ≡ None = λ k. ap (λ (xs : List Slot). slice_get xs k) none in
     let clients : (k : ℕ) → place (client_of k) ≡ unused = λ k. unasked (client_of k) (client_listener k) in
     let targets : (k : ℕ) → place (target_of k) ≡ unused = λ k. unasked (target_of k) (target_listener k) in
     record {
-      slots = λ k. subst (λ s. IsSlotOf c.target s (link (client_of k)) (link (target_of k)) (place (client_of k)) (place (target_of k))) (sym (at k)) (record {
-        is_slot = record { client_unused = fresh (client_of k); target_unused = fresh (target_of k); client_unasked = clients k; target_unasked = targets k };
-        roles = (ap (λ (p : Place). p.role) (clients k), ap (λ (p : Place). p.role) (targets k));
-      });
+      slots = λ k. subst
+          (λ s. IsSlotOf c.target s (link (client_of k)) (link (target_of k)) (place (client_of k))
+          (place (target_of k))) (sym (at k)) (record {
+            is_slot = record {
+              client_unused = fresh (client_of k);
+              target_unused = fresh (target_of k);
+              client_unasked = clients k;
+              target_unasked = targets k;
+            };
+            roles = (ap (λ (p : Place). p.role) (clients k), ap (λ (p : Place). p.role) (targets k));
+          });
       few = omega (arith, ap length none);
       room = room;
       bound = few;
-      ended = ended ∙ sym (count_none (λ k. has_ended (slice_get c.slots.items k)) c.conns (λ k _. ap has_ended (at k)));
-      faulted = faulted ∙ sym (count_none (λ k. has_faulted (slice_get c.slots.items k)) c.conns (λ k _. ap has_faulted (at k)));
+      ended = ended
+          ∙ sym (count_none (λ k. has_ended (slice_get c.slots.items k)) c.conns (λ k _. ap has_ended (at k)));
+      faulted = faulted
+          ∙ sym (count_none (λ k. has_faulted (slice_get c.slots.items k)) c.conns (λ k _. ap has_faulted (at k)));
     }
 
 -- ---- a whole run
@@ -346,7 +436,8 @@ module _ {N : Type 0} (n : Members N) where
     pub quiet : IsQuiet n net2 net3
     pub vacant : (c : ChanNo) → IsVacant (n.place net3 c).standing
 
-  module _ (plan : ProxyPlan) (net0 net1 net2 net3 : N) (c0 c1 : Connections) (ran : Ran plan net0 net1 net2 net3 c0 c1) where
+  module _ (plan : ProxyPlan) (net0 net1 net2 net3 : N) (c0 c1 : Connections)
+      (ran : Ran plan net0 net1 net2 net3 c0 c1) where
     all : c1.conns ≡ plan.conns
     all = ran.serving.conns ∙ ran.conns
 
@@ -372,8 +463,11 @@ module _ {N : Type 0} (n : Members N) where
         (subst (λ l. HaveCarried AreRelayed (n.link net2 (client_of k)) l) (sym (ran.quiet.links (target_of k)))
         (slot_relayed (slice_get c1.slots.items k) _ _ _ _ (ran.serving.served.slots k).is_slot))
 
-    at_most : (k : ℕ) → IsAtMost (role.Accepted listener) (n.place net2 (client_of k)).role × IsAtMost (role.Connected plan.target) (n.place net2 (target_of k)).role
-    at_most k = subst (λ a. IsAtMost (role.Accepted listener) (n.place net2 (client_of k)).role × IsAtMost (role.Connected a) (n.place net2 (target_of k)).role) to
+    at_most : (k : ℕ) → IsAtMost (role.Accepted listener) (n.place net2 (client_of k)).role
+        × IsAtMost (role.Connected plan.target) (n.place net2 (target_of k)).role
+    at_most k =
+        subst (λ a. IsAtMost (role.Accepted listener) (n.place net2 (client_of k)).role
+        × IsAtMost (role.Connected a) (n.place net2 (target_of k)).role) to
         (roles_at_most c1.target (slice_get c1.slots.items k) _ _ (ran.serving.served.slots k).roles)
 
     past : (c : ChanNo) → 2 * plan.conns < c.0 → (n.place net2 c ≡ unused) × IsUnused (n.link net2 c)
@@ -386,37 +480,54 @@ module _ {N : Type 0} (n : Members N) where
       clients = λ k _. subst (IsAtMost (role.Accepted listener)) (sym (same_role (client_of k))) (at_most k).0;
       targets = λ k _. subst (IsAtMost (role.Connected plan.target)) (sym (same_role (target_of k))) (at_most k).1;
       others = λ c more. same_role c ∙ ap (λ (p : Place). p.role) (past c more).0;
-      no_bytes = subst IsUnused (sym (ran.quiet.links listener ∙ (ran.serving.no_bytes ∙ ran.links listener))) (ran.fresh listener);
+      no_bytes = subst IsUnused (sym (ran.quiet.links listener ∙ (ran.serving.no_bytes ∙ ran.links listener)))
+          (ran.fresh listener);
       rest = λ c more. subst IsUnused (sym (ran.quiet.links c)) (past c more).1;
     }
 
     -- where all connections have ended
     module _ (over : c1.ended ≡ c1.conns) where
       all_ended : (k : ℕ) → k < plan.conns → IsTrue (has_ended (slice_get c1.slots.items k))
-      all_ended k few = count_all (λ j. has_ended (slice_get c1.slots.items j)) c1.conns (sym ran.serving.served.ended ∙ over) k (omega (arith, few, all))
+      all_ended k few =
+          count_all (λ j. has_ended (slice_get c1.slots.items j)) c1.conns (sym ran.serving.served.ended ∙ over) k
+          (omega (arith, few, all))
 
       begun_of : (k : ℕ) → k < plan.conns → WasBegun plan.target (n.place net3) k
       begun_of k few =
-          let roles = roles_ended c1.target (slice_get c1.slots.items k) _ _ (all_ended k few) (ran.serving.served.slots k).roles in
-          let gone = slot_gone (slice_get c1.slots.items k) _ _ _ _ (all_ended k few) (ran.serving.served.slots k).is_slot in
-          let stands = gone_stays (n.place net2 (client_of k)) (n.place net3 (client_of k)) (ran.quiet.places (client_of k)) gone in
-          record { accepted = place_as (n.place net3 (client_of k)) (role.Accepted listener) Gone (same_role (client_of k) ∙ roles.0) stands; asked = same_role (target_of k) ∙ (roles.1 ∙ ap role.Connected to) }
+          let roles = roles_ended c1.target (slice_get c1.slots.items k) _ _ (all_ended k few)
+          (ran.serving.served.slots k).roles in
+          let gone = slot_gone (slice_get c1.slots.items k) _ _ _ _ (all_ended k few)
+          (ran.serving.served.slots k).is_slot in
+          let stands = gone_stays (n.place net2 (client_of k)) (n.place net3 (client_of k))
+          (ran.quiet.places (client_of k)) gone in
+          record {
+            accepted = place_as (n.place net3 (client_of k)) (role.Accepted listener) Gone
+                (same_role (client_of k) ∙ roles.0) stands;
+            asked =
+                same_role (target_of k) ∙ (roles.1 ∙ ap role.Connected to);
+          }
 
-      clean_of : (k : ℕ) → k < plan.conns → IsFalse (has_faulted (slice_get c1.slots.items k)) → HaveCarried IsClean (n.link net3 (client_of k)) (n.link net3 (target_of k))
+      clean_of : (k : ℕ) → k < plan.conns → IsFalse (has_faulted (slice_get c1.slots.items k))
+          → HaveCarried IsClean (n.link net3 (client_of k)) (n.link net3 (target_of k))
       clean_of k few not =
           subst (λ l. HaveCarried IsClean l (n.link net3 (target_of k))) (sym (ran.quiet.links (client_of k)))
           (subst (λ l. HaveCarried IsClean (n.link net2 (client_of k)) l) (sym (ran.quiet.links (target_of k)))
           (slot_clean (slice_get c1.slots.items k) _ _ _ _ (all_ended k few) not (ran.serving.served.slots k).is_slot))
 
-      faulty_of : (k : ℕ) → IsTrue (has_faulted (slice_get c1.slots.items k)) → HasFaulted (n.faults net0) (n.faults net3) k
+      faulty_of : (k : ℕ) → IsTrue (has_faulted (slice_get c1.slots.items k))
+          → HasFaulted (n.faults net0) (n.faults net3) k
       faulty_of k is = elim (ran.serving.faulty k is) [
-        | inl before ↦ let never : false ≡ true = sym (ap (λ (xs : List Slot). has_faulted (slice_get xs k)) ran.none) ∙ before in cc
+        | inl before ↦ let never : false ≡ true =
+            sym (ap (λ (xs : List Slot). has_faulted (slice_get xs k)) ran.none) ∙ before in cc
         | inr rose ↦ faulted_from (n.faults net0) (n.faults net1) (n.faults net3) k first_later
-            (subst (λ a. Rose (n.faults net1 (client_of k)) a ⊎ Rose (n.faults net1 (target_of k)) (n.faults net3 (target_of k))) (sym (counts_end (client_of k)))
-            (subst (λ b. Rose (n.faults net1 (client_of k)) (n.faults net2 (client_of k)) ⊎ Rose (n.faults net1 (target_of k)) b) (sym (counts_end (target_of k))) rose))
+            (subst (λ a. Rose (n.faults net1 (client_of k)) a
+            ⊎ Rose (n.faults net1 (target_of k)) (n.faults net3 (target_of k))) (sym (counts_end (client_of k)))
+            (subst (λ b. Rose (n.faults net1 (client_of k)) (n.faults net2 (client_of k))
+            ⊎ Rose (n.faults net1 (target_of k)) b) (sym (counts_end (target_of k))) rose))
       ]
 
-      pub serves_of : HasServed plan (n.link net3) (n.place net3) (n.faults net0) (n.faults net3) (record { connections = plan.conns; faults = c1.faulted })
+      pub serves_of : HasServed plan (n.link net3) (n.place net3) (n.faults net0) (n.faults net3)
+          (record { connections = plan.conns; faults = c1.faulted })
       serves_of = record {
         connections = refl;
         begun = begun_of;
@@ -430,7 +541,11 @@ module _ {N : Type 0} (n : Members N) where
         clean = clean_of;
       }
 
-    pub fault_of : Rose (n.poll_faults net1) (n.poll_faults net2) ⊎ Rose (n.faults net1 listener) (n.faults net2 listener)
+    pub fault_of : Rose (n.poll_faults net1) (n.poll_faults net2)
+        ⊎ Rose (n.faults net1 listener) (n.faults net2 listener)
         → Rose (n.poll_faults net0) (n.poll_faults net3) ⊎ Rose (n.faults net0 listener) (n.faults net3 listener)
-    fault_of (inl rose) = inl (subst (λ a. Rose a (n.poll_faults net3)) ran.polls (subst (Rose (n.poll_faults net1)) (sym ran.quiet.polls) rose))
-    fault_of (inr rose) = inr (rose_from _ _ _ ran.here (subst (Rose (n.faults net1 listener)) (sym (counts_end listener)) rose))
+    fault_of (inl rose) =
+        inl (subst (λ a. Rose a (n.poll_faults net3)) ran.polls
+        (subst (Rose (n.poll_faults net1)) (sym ran.quiet.polls) rose))
+    fault_of (inr rose) =
+        inr (rose_from _ _ _ ran.here (subst (Rose (n.faults net1 listener)) (sym (counts_end listener)) rose))

@@ -1,6 +1,8 @@
 -- One connection's slot changes, and the others stay.
-use Rattle.std.proofs.Common.{◌≡◌, ◌≢◌, ℕ, zero, suc, ◌+◌, ◌*◌, ◌-◌, ◌/◌, ◌<◌, ◌≤◌, ◌⊎◌, inl, inr, Bool, true, false, IsTrue, IsFalse, if◌then◌else◌, Option, Some, None, List, [], ◌∷◌, ◌++◌, length, set, slice_get, vec_capacity, refl, sym, ap, subst, ◌∙◌, ◌==◌, arith, length-append, eqb-true}
-use Rattle.std.proofs.lemmas.Bool.{cases_order, eqb-false}
+use Rattle.std.proofs.Common.{◌≡◌, ◌≢◌, ℕ, zero, suc, ◌+◌, ◌*◌, ◌<◌, ◌≤◌, ◌⊎◌, inl, inr, Bool, true, false, IsTrue}
+use Rattle.std.proofs.Common.{IsFalse, Option, Some, None, List, [], ◌∷◌, ◌++◌, length, set, slice_get, vec_capacity}
+use Rattle.std.proofs.Common.{refl, sym, ap, subst, ◌∙◌, arith, length-append}
+use Rattle.std.proofs.lemmas.Bool.{cases_order}
 use Rattle.std.proofs.lemmas.Option.{slice_get_past, slice_get_within}
 use Rattle.nio_base.specs.declared.numbers.Addr.{Addr}
 use Rattle.nio_base.specs.declared.numbers.ChanNo.{ChanNo}
@@ -13,14 +15,16 @@ use Rattle.nio_link.specs.declared.place.Role.TheVariants as role
 use Rattle.nio_link.specs.declared.place.Standing.TheVariants.{Nothing}
 use Rattle.nio_proxy.specs.Serving.{HasFaulted, IsUnfaulted, client_of, target_of, listener, count_below}
 use Rattle.nio_proxy.specs.Nets.{Members, Begins, FailsToAccept, IsQuiet, IsStill, Works}
-use Rattle.nio_proxy.specs.Slots.{IsSlot, IsUnbegun, HasRoles, IsSlotOf, AreSlots, AreServed, ListensAt, Serving, has_ended, has_faulted}
+use Rattle.nio_proxy.specs.Passing.{BothSame, OneRose}
+use Rattle.nio_proxy.specs.Slots.{IsSlot, IsUnbegun, HasRoles, IsSlotOf, AreSlots, AreServed, ListensAt, Serving}
+use Rattle.nio_proxy.specs.Slots.{has_ended, has_faulted}
 use Rattle.nio_proxy.specs.declared.board.Port.{Port}
 use Rattle.nio_proxy.specs.declared.connections.Connections.{Connections}
 use Rattle.nio_proxy.specs.declared.slot.Relay.{Relay}
 use Rattle.nio_proxy.specs.declared.slot.Slot.{Slot}
 use Rattle.nio_proxy.specs.declared.slot.Slot.TheVariants.{Live, Dropped}
 use Rattle.nio_proxy.proofs.Counts.{one_if, count_one}
-use Rattle.nio_proxy.proofs.Working.{rose_from, rose_on, chan_as}
+use Rattle.nio_proxy.proofs.Working.{rose_from, rose_on}
 
 -- ---- lists
 
@@ -40,7 +44,8 @@ pub get-push_same : {X : Type 0} (xs : List X) (x : X) → slice_get (xs ++ x �
 get-push_same [] x = refl
 get-push_same (y ∷ ys) x = get-push_same ys x
 
-pub get-push_other : {X : Type 0} (xs : List X) (j : ℕ) (x : X) → j ≢ length xs → slice_get (xs ++ x ∷ []) j ≡ slice_get xs j
+pub get-push_other : {X : Type 0} (xs : List X) (j : ℕ) (x : X) → j ≢ length xs
+    → slice_get (xs ++ x ∷ []) j ≡ slice_get xs j
 get-push_other [] zero x other = absurd (other refl)
 get-push_other [] (suc j) x other = refl
 get-push_other (y ∷ ys) zero x other = refl
@@ -68,7 +73,8 @@ abbrev pub IsSameElse : {A : Type 0} → ChanNo → ChanNo → (ChanNo → A) �
 IsSameElse a b before now = (c : ChanNo) → c ≢ a → c ≢ b → now c ≡ before c
 
 -- the two channels of another connection
-module _ {A : Type 0} (before now : ChanNo → A) (k j : ℕ) (same : IsSameElse (client_of k) (target_of k) before now) (other : j ≢ k) where
+module _ {A : Type 0} (before now : ChanNo → A) (k j : ℕ) (same : IsSameElse (client_of k) (target_of k) before now)
+    (other : j ≢ k) where
   pub same_client : now (client_of j) ≡ before (client_of j)
   same_client = same (client_of j) (client_else j k other) (client_target j k)
 
@@ -83,54 +89,78 @@ pub record Changes (before now : List Slot) (k : ℕ) (slot : Slot) : Type 0 whe
   pub else_ : (j : ℕ) → j ≢ k → slice_get now j ≡ slice_get before j
 
 pub changes_set : (slots : List Slot) (k : ℕ) (slot : Slot) → k < length slots → Changes slots (set slots k slot) k slot
-changes_set slots k slot few = record { here = get-set_same slots k slot few; else_ = λ j other. get-set_other slots k j slot other }
+changes_set slots k slot few =
+    record { here = get-set_same slots k slot few; else_ = λ j other. get-set_other slots k j slot other }
 
 pub changes_push : (slots : List Slot) (slot : Slot) → Changes slots (slots ++ slot ∷ []) (length slots) slot
-changes_push slots slot = record { here = get-push_same slots slot; else_ = λ j other. get-push_other slots j slot other }
+changes_push slots slot =
+    record { here = get-push_same slots slot; else_ = λ j other. get-push_other slots j slot other }
 
-is_slot_as : (to : Addr) (a b : Option Slot) (c0 c1 t0 t1 : Link) (p0 p1 q0 q1 : Place) → b ≡ a → c1 ≡ c0 → t1 ≡ t0 → p1 ≡ p0 → q1 ≡ q0
+is_slot_as : (to : Addr) (a b : Option Slot) (c0 c1 t0 t1 : Link) (p0 p1 q0 q1 : Place) → b ≡ a → c1 ≡ c0 → t1 ≡ t0
+    → p1 ≡ p0 → q1 ≡ q0
     → IsSlotOf to a c0 t0 p0 q0 → IsSlotOf to b c1 t1 p1 q1
 is_slot_as to a b c0 c1 t0 t1 p0 p1 q0 q1 slots clients targets at_clients at_targets is =
-    subst (λ s. IsSlotOf to s c1 t1 p1 q1) (sym slots) (subst (λ c. IsSlotOf to a c t1 p1 q1) (sym clients) (subst (λ t. IsSlotOf to a c0 t p1 q1) (sym targets)
-    (subst (λ p. IsSlotOf to a c0 t0 p q1) (sym at_clients) (subst (λ q. IsSlotOf to a c0 t0 p0 q) (sym at_targets) is))))
+    subst (λ s. IsSlotOf to s c1 t1 p1 q1) (sym slots)
+    (subst (λ c. IsSlotOf to a c t1 p1 q1) (sym clients) (subst (λ t. IsSlotOf to a c0 t p1 q1) (sym targets)
+    (subst (λ p. IsSlotOf to a c0 t0 p q1) (sym at_clients)
+    (subst (λ q. IsSlotOf to a c0 t0 p0 q) (sym at_targets) is))))
 
-module _ (to : Addr) (link0 link1 : ChanNo → Link) (place0 place1 : ChanNo → Place) (before now : List Slot) (k : ℕ) (slot : Slot) where
+module _ (to : Addr) (link0 link1 : ChanNo → Link) (place0 place1 : ChanNo → Place) (before now : List Slot) (k : ℕ)
+    (slot : Slot) where
   pub slots_change : AreSlots to link0 place0 before → Changes before now k slot
       → IsSameElse (client_of k) (target_of k) link0 link1 → IsSameElse (client_of k) (target_of k) place0 place1
-      → IsSlotOf to (Some slot) (link1 (client_of k)) (link1 (target_of k)) (place1 (client_of k)) (place1 (target_of k)) → AreSlots to link1 place1 now
+      → IsSlotOf to (Some slot) (link1 (client_of k)) (link1 (target_of k)) (place1 (client_of k))
+      (place1 (target_of k)) → AreSlots to link1 place1 now
   slots_change slots changes links places is j = elim (cases_order j k) [
-    | inl at ↦ subst (λ i. IsSlotOf to (slice_get now i) (link1 (client_of i)) (link1 (target_of i)) (place1 (client_of i)) (place1 (target_of i))) (sym at)
-        (subst (λ s. IsSlotOf to s (link1 (client_of k)) (link1 (target_of k)) (place1 (client_of k)) (place1 (target_of k))) (sym changes.here) is)
+    | inl at ↦ subst
+        (λ i. IsSlotOf to (slice_get now i) (link1 (client_of i)) (link1 (target_of i)) (place1 (client_of i))
+        (place1 (target_of i))) (sym at)
+        (subst (λ s. IsSlotOf to s (link1 (client_of k)) (link1 (target_of k)) (place1 (client_of k))
+        (place1 (target_of k))) (sym changes.here) is)
     | inr (inl less) ↦ stays (λ at. absurd (omega arith))
     | inr (inr more) ↦ stays (λ at. absurd (omega arith))
   ]
     where
-      stays : j ≢ k → IsSlotOf to (slice_get now j) (link1 (client_of j)) (link1 (target_of j)) (place1 (client_of j)) (place1 (target_of j))
-      stays other = is_slot_as to (slice_get before j) (slice_get now j) (link0 (client_of j)) (link1 (client_of j)) (link0 (target_of j)) (link1 (target_of j))
-          (place0 (client_of j)) (place1 (client_of j)) (place0 (target_of j)) (place1 (target_of j)) (changes.else_ j other)
+      stays : j ≢ k
+          → IsSlotOf to (slice_get now j) (link1 (client_of j)) (link1 (target_of j)) (place1 (client_of j))
+          (place1 (target_of j))
+      stays other =
+          is_slot_as to (slice_get before j) (slice_get now j) (link0 (client_of j)) (link1 (client_of j))
+          (link0 (target_of j)) (link1 (target_of j))
+          (place0 (client_of j)) (place1 (client_of j)) (place0 (target_of j)) (place1 (target_of j))
+          (changes.else_ j other)
           (same_client link0 link1 k j links other) (same_target link0 link1 k j links other)
           (same_client place0 place1 k j places other) (same_target place0 place1 k j places other) (slots j)
 
 -- the work left the links of connections alone
-pub slots_still : (to : Addr) (link0 link1 : ChanNo → Link) (place0 place1 : ChanNo → Place) (slots : List Slot) → ((c : ChanNo) → link1 c ≡ link0 c) → IsSameBut listener place0 place1
+pub slots_still : (to : Addr) (link0 link1 : ChanNo → Link) (place0 place1 : ChanNo → Place) (slots : List Slot)
+    → ((c : ChanNo) → link1 c ≡ link0 c) → IsSameBut listener place0 place1
     → AreSlots to link0 place0 slots → AreSlots to link1 place1 slots
 slots_still to link0 link1 place0 place1 slots links places are j =
-    is_slot_as to (slice_get slots j) (slice_get slots j) (link0 (client_of j)) (link1 (client_of j)) (link0 (target_of j)) (link1 (target_of j))
-    (place0 (client_of j)) (place1 (client_of j)) (place0 (target_of j)) (place1 (target_of j)) refl (links (client_of j)) (links (target_of j))
+    is_slot_as to (slice_get slots j) (slice_get slots j) (link0 (client_of j)) (link1 (client_of j))
+    (link0 (target_of j)) (link1 (target_of j))
+    (place0 (client_of j)) (place1 (client_of j)) (place0 (target_of j)) (place1 (target_of j)) refl
+    (links (client_of j)) (links (target_of j))
     (places (client_of j) (client_listener j)) (places (target_of j) (target_listener j)) (are j)
 
 -- ---- faults
 
-pub faulted_on : (before mid now : ChanNo → ℕ) (k : ℕ) → ((c : ChanNo) → before c ≤ mid c) → ((c : ChanNo) → mid c ≤ now c) → HasFaulted before mid k → HasFaulted before now k
-faulted_on before mid now k first second (inl rose) = inl (rose_on _ _ _ (first (client_of k)) rose (second (client_of k)))
-faulted_on before mid now k first second (inr rose) = inr (rose_on _ _ _ (first (target_of k)) rose (second (target_of k)))
+pub faulted_on : (before mid now : ChanNo → ℕ) (k : ℕ) → ((c : ChanNo) → before c ≤ mid c)
+    → ((c : ChanNo) → mid c ≤ now c) → HasFaulted before mid k → HasFaulted before now k
+faulted_on before mid now k first second (inl rose) =
+    inl (rose_on _ _ _ (first (client_of k)) rose (second (client_of k)))
+faulted_on before mid now k first second (inr rose) =
+    inr (rose_on _ _ _ (first (target_of k)) rose (second (target_of k)))
 
-pub faulted_from : (before mid now : ChanNo → ℕ) (k : ℕ) → ((c : ChanNo) → before c ≤ mid c) → HasFaulted mid now k → HasFaulted before now k
+pub faulted_from : (before mid now : ChanNo → ℕ) (k : ℕ) → ((c : ChanNo) → before c ≤ mid c) → HasFaulted mid now k
+    → HasFaulted before now k
 faulted_from before mid now k first (inl rose) = inl (rose_from _ _ _ (first (client_of k)) rose)
 faulted_from before mid now k first (inr rose) = inr (rose_from _ _ _ (first (target_of k)) rose)
 
-pub unfaulted_then : (before mid now : ChanNo → ℕ) (k : ℕ) → IsUnfaulted before mid k → IsUnfaulted mid now k → IsUnfaulted before now k
-unfaulted_then before mid now k first second = record { client = second.client ∙ first.client; target = second.target ∙ first.target }
+pub unfaulted_then : (before mid now : ChanNo → ℕ) (k : ℕ) → IsUnfaulted before mid k → IsUnfaulted mid now k
+    → IsUnfaulted before now k
+unfaulted_then before mid now k first second =
+    record { client = second.client ∙ first.client; target = second.target ∙ first.target }
 
 not_true : (b : Bool) → IsFalse b → IsTrue b → ⊥
 not_true true is_false is_true = cc
@@ -142,34 +172,52 @@ false_before false b lasts is = refl
 
 -- ---- all connections
 
-module _ (k : ℕ) (slot : Slot) (link0 link1 : ChanNo → Link) (place0 place1 : ChanNo → Place) (c0 c1 : Connections) where
-  pub served_change : AreServed link0 place0 c0 → k < c0.conns → c1.conns ≡ c0.conns → c1.target ≡ c0.target → c0.conns ≤ vec_capacity c1.slots → length c1.slots.items ≤ c0.conns
-      → Changes c0.slots.items c1.slots.items k slot → IsSameElse (client_of k) (target_of k) link0 link1 → IsSameElse (client_of k) (target_of k) place0 place1
-      → IsSlotOf c0.target (Some slot) (link1 (client_of k)) (link1 (target_of k)) (place1 (client_of k)) (place1 (target_of k))
+module _ (k : ℕ) (slot : Slot) (link0 link1 : ChanNo → Link) (place0 place1 : ChanNo → Place)
+    (c0 c1 : Connections) where
+  pub served_change : AreServed link0 place0 c0 → k < c0.conns → c1.conns ≡ c0.conns → c1.target ≡ c0.target
+      → c0.conns ≤ vec_capacity c1.slots → length c1.slots.items ≤ c0.conns
+      → Changes c0.slots.items c1.slots.items k slot → IsSameElse (client_of k) (target_of k) link0 link1
+      → IsSameElse (client_of k) (target_of k) place0 place1
+      → IsSlotOf c0.target (Some slot) (link1 (client_of k)) (link1 (target_of k)) (place1 (client_of k))
+      (place1 (target_of k))
       → has_ended (slice_get c0.slots.items k) ≡ false → has_faulted (slice_get c0.slots.items k) ≡ false
-      → c1.ended ≡ c0.ended + one_if (has_ended (Some slot)) → c1.faulted ≡ c0.faulted + one_if (has_faulted (Some slot))
+      → c1.ended ≡ c0.ended + one_if (has_ended (Some slot))
+      → c1.faulted ≡ c0.faulted + one_if (has_faulted (Some slot))
       → AreServed link1 place1 c1
-  served_change served few conns target room short changes links places is not_ended not_faulted ended faulted = record {
-    slots = subst (λ to. AreSlots to link1 place1 c1.slots.items) (sym target)
-        (slots_change c0.target link0 link1 place0 place1 c0.slots.items c1.slots.items k slot served.slots changes links places is);
-    few = omega (arith, short, conns);
-    room = omega (arith, room, conns);
-    bound = omega (arith, served.bound, conns);
-    ended = ended ∙ ap (λ n. n + one_if (has_ended (Some slot))) served.ended
-        ∙ sym (count_one (λ j. has_ended (slice_get c0.slots.items j)) (λ j. has_ended (slice_get c1.slots.items j)) k c0.conns few not_ended (λ j other. ap has_ended (changes.else_ j other))
-        ∙ ap (λ (s : Option Slot). count_below (λ j. has_ended (slice_get c0.slots.items j)) c0.conns + one_if (has_ended s)) changes.here)
-        ∙ ap (count_below (λ j. has_ended (slice_get c1.slots.items j))) (sym conns);
-    faulted = faulted ∙ ap (λ n. n + one_if (has_faulted (Some slot))) served.faulted
-        ∙ sym (count_one (λ j. has_faulted (slice_get c0.slots.items j)) (λ j. has_faulted (slice_get c1.slots.items j)) k c0.conns few not_faulted (λ j other. ap has_faulted (changes.else_ j other))
-        ∙ ap (λ (s : Option Slot). count_below (λ j. has_faulted (slice_get c0.slots.items j)) c0.conns + one_if (has_faulted s)) changes.here)
-        ∙ ap (count_below (λ j. has_faulted (slice_get c1.slots.items j))) (sym conns);
-  }
+  served_change served few conns target room short changes links places is not_ended not_faulted ended faulted =
+      record {
+        slots = subst (λ to. AreSlots to link1 place1 c1.slots.items) (sym target)
+            (slots_change c0.target link0 link1 place0 place1 c0.slots.items c1.slots.items k slot served.slots changes
+            links places is);
+        few = omega (arith, short, conns);
+        room = omega (arith, room, conns);
+        bound = omega (arith, served.bound, conns);
+        ended = ended ∙ ap (λ n. n + one_if (has_ended (Some slot))) served.ended
+            ∙ sym (count_one (λ j. has_ended (slice_get c0.slots.items j)) (λ j. has_ended (slice_get c1.slots.items j))
+            k
+            c0.conns few not_ended (λ j other. ap has_ended (changes.else_ j other))
+            ∙ ap (λ (s : Option Slot). count_below (λ j. has_ended (slice_get c0.slots.items j)) c0.conns
+            + one_if (has_ended s)) changes.here)
+            ∙ ap (count_below (λ j. has_ended (slice_get c1.slots.items j))) (sym conns);
+        faulted = faulted ∙ ap (λ n. n + one_if (has_faulted (Some slot))) served.faulted
+            ∙ sym (count_one (λ j. has_faulted (slice_get c0.slots.items j))
+            (λ j. has_faulted (slice_get c1.slots.items j))
+            k c0.conns few not_faulted (λ j other. ap has_faulted (changes.else_ j other))
+            ∙ ap (λ (s : Option Slot). count_below (λ j. has_faulted (slice_get c0.slots.items j)) c0.conns
+            + one_if (has_faulted s)) changes.here)
+            ∙ ap (count_below (λ j. has_faulted (slice_get c1.slots.items j))) (sym conns);
+      }
 
 module _ (k : ℕ) (slot : Slot) (faults0 faults1 : ChanNo → ℕ) (c0 c1 : Connections) where
-  pub faulty_change : Changes c0.slots.items c1.slots.items k slot → (IsTrue (has_faulted (Some slot)) → HasFaulted faults0 faults1 k)
-      → (j : ℕ) → IsTrue (has_faulted (slice_get c1.slots.items j)) → IsTrue (has_faulted (slice_get c0.slots.items j)) ⊎ HasFaulted faults0 faults1 j
+  pub faulty_change : Changes c0.slots.items c1.slots.items k slot
+      → (IsTrue (has_faulted (Some slot)) → HasFaulted faults0 faults1 k)
+      → (j : ℕ) → IsTrue (has_faulted (slice_get c1.slots.items j)) → IsTrue (has_faulted (slice_get c0.slots.items j))
+      ⊎ HasFaulted faults0 faults1 j
   faulty_change changes faulty j is = elim (cases_order j k) [
-    | inl at ↦ inr (subst (HasFaulted faults0 faults1) (sym at) (faulty (ap has_faulted (sym changes.here) ∙ ap (λ i. has_faulted (slice_get c1.slots.items i)) (sym at) ∙ is)))
+    | inl at ↦ inr
+        (subst (HasFaulted faults0 faults1) (sym at)
+        (faulty (ap has_faulted (sym changes.here) ∙ ap (λ i. has_faulted (slice_get c1.slots.items i)) (sym at)
+        ∙ is)))
     | inr (inl less) ↦ inl (ap has_faulted (sym (changes.else_ j (λ at. absurd (omega arith)))) ∙ is)
     | inr (inr more) ↦ inl (ap has_faulted (sym (changes.else_ j (λ at. absurd (omega arith)))) ∙ is)
   ]
@@ -178,24 +226,35 @@ module _ (k : ℕ) (slot : Slot) (faults0 faults1 : ChanNo → ℕ) (c0 c1 : Con
   pub lasting_change : Changes c0.slots.items c1.slots.items k slot → has_faulted (slice_get c0.slots.items k) ≡ false
       → (j : ℕ) → IsTrue (has_faulted (slice_get c0.slots.items j)) → IsTrue (has_faulted (slice_get c1.slots.items j))
   lasting_change changes was j is = elim (cases_order j k) [
-    | inl at ↦ absurd (not_true (has_faulted (slice_get c0.slots.items j)) (ap (λ i. has_faulted (slice_get c0.slots.items i)) at ∙ was) is)
+    | inl at ↦ absurd
+        (not_true (has_faulted (slice_get c0.slots.items j))
+        (ap (λ i. has_faulted (slice_get c0.slots.items i)) at ∙ was) is)
     | inr (inl less) ↦ ap has_faulted (changes.else_ j (λ at. absurd (omega arith))) ∙ is
     | inr (inr more) ↦ ap has_faulted (changes.else_ j (λ at. absurd (omega arith))) ∙ is
   ]
 
-  pub unfaulted_change : Changes c0.slots.items c1.slots.items k slot → (IsFalse (has_faulted (Some slot)) → IsUnfaulted faults0 faults1 k)
-      → IsSameElse (client_of k) (target_of k) faults0 faults1 → (j : ℕ) → IsFalse (has_faulted (slice_get c1.slots.items j)) → IsUnfaulted faults0 faults1 j
+  pub unfaulted_change : Changes c0.slots.items c1.slots.items k slot
+      → (IsFalse (has_faulted (Some slot)) → IsUnfaulted faults0 faults1 k)
+      → IsSameElse (client_of k) (target_of k) faults0 faults1 → (j : ℕ)
+      → IsFalse (has_faulted (slice_get c1.slots.items j)) → IsUnfaulted faults0 faults1 j
   unfaulted_change changes unfaulted same j is = elim (cases_order j k) [
-    | inl at ↦ subst (IsUnfaulted faults0 faults1) (sym at) (unfaulted (ap has_faulted (sym changes.here) ∙ ap (λ i. has_faulted (slice_get c1.slots.items i)) (sym at) ∙ is))
+    | inl at ↦ subst (IsUnfaulted faults0 faults1) (sym at)
+        (unfaulted (ap has_faulted (sym changes.here) ∙ ap (λ i. has_faulted (slice_get c1.slots.items i)) (sym at)
+        ∙ is))
     | inr (inl less) ↦ stays (λ at. absurd (omega arith))
     | inr (inr more) ↦ stays (λ at. absurd (omega arith))
   ]
     where
       stays : j ≢ k → IsUnfaulted faults0 faults1 j
-      stays other = record { client = same_client faults0 faults1 k j same other; target = same_target faults0 faults1 k j same other }
+      stays other =
+          record {
+            client = same_client faults0 faults1 k j same other;
+            target = same_target faults0 faults1 k j same other;
+          }
 
 -- no connection has carried more, and they are the same
-pub served_still : (link0 link1 : ChanNo → Link) (place0 place1 : ChanNo → Place) (c : Connections) → AreServed link0 place0 c → ((k : ChanNo) → link1 k ≡ link0 k)
+pub served_still : (link0 link1 : ChanNo → Link) (place0 place1 : ChanNo → Place) (c : Connections)
+    → AreServed link0 place0 c → ((k : ChanNo) → link1 k ≡ link0 k)
     → IsSameBut listener place0 place1 → AreServed link1 place1 c
 served_still link0 link1 place0 place1 c served links places = record {
   slots = slots_still c.target link0 link1 place0 place1 c.slots.items links places served.slots;
@@ -207,13 +266,16 @@ served_still link0 link1 place0 place1 c served links places = record {
 }
 
 -- the next connection hasn't been begun
-pub next_unbegun : (link : ChanNo → Link) (place : ChanNo → Place) (c : Connections) (client target : ChanNo) → AreServed link place c
-    → client ≡ client_of (length c.slots.items) → target ≡ target_of (length c.slots.items) → IsUnbegun (link client) (link target) (place client) (place target)
+pub next_unbegun : (link : ChanNo → Link) (place : ChanNo → Place) (c : Connections) (client target : ChanNo)
+    → AreServed link place c
+    → client ≡ client_of (length c.slots.items) → target ≡ target_of (length c.slots.items)
+    → IsUnbegun (link client) (link target) (place client) (place target)
 next_unbegun link place c client target served is_client is_target =
     let k = length c.slots.items in
     let none : slice_get c.slots.items k ≡ None = slice_get_past c.slots.items k (omega arith) in
     let next : IsUnbegun (link (client_of k)) (link (target_of k)) (place (client_of k)) (place (target_of k)) =
-    subst (λ s. IsSlot s (link (client_of k)) (link (target_of k)) (place (client_of k)) (place (target_of k))) none (served.slots k).is_slot in
+    subst (λ s. IsSlot s (link (client_of k)) (link (target_of k)) (place (client_of k)) (place (target_of k))) none
+    (served.slots k).is_slot in
     subst (λ a. IsUnbegun (link a) (link target) (place a) (place target)) (sym is_client)
     (subst (λ b. IsUnbegun (link (client_of k)) (link b) (place (client_of k)) (place b)) (sym is_target) next)
 
@@ -231,57 +293,86 @@ module _ {N : Type 0} (n : Members N) where
     polls = omega arith;
   }
 
-  pub serving_then : (x y z : N) (c0 c1 c2 : Connections) → Serving n x y c0 c1 → Serving n y z c1 c2 → Serving n x z c0 c2
+  pub serving_then : (x y z : N) (c0 c1 c2 : Connections) → Serving n x y c0 c1 → Serving n y z c1 c2
+      → Serving n x z c0 c2
   serving_then x y z c0 c1 c2 first second = record {
     served = second.served;
     conns = second.conns ∙ first.conns;
     target = second.target ∙ first.target;
     faulty = λ k is. elim (second.faulty k is) [
-      | inl before ↦ elim (first.faulty k before) [ inl at_first ↦ inl at_first | inr rose ↦ inr (faulted_on (n.faults x) (n.faults y) (n.faults z) k first.later second.later rose) ]
+      | inl before ↦ elim (first.faulty k before) [
+        | inl at_first ↦ inl at_first
+        | inr rose ↦ inr (faulted_on (n.faults x) (n.faults y) (n.faults z) k first.later second.later rose)
+      ]
       | inr rose ↦ inr (faulted_from (n.faults x) (n.faults y) (n.faults z) k first.later rose)
     ];
     lasting = λ k is. second.lasting k (first.lasting k is);
     unfaulted = λ k is. unfaulted_then (n.faults x) (n.faults y) (n.faults z) k
-        (first.unfaulted k (false_before (has_faulted (slice_get c1.slots.items k)) (has_faulted (slice_get c2.slots.items k)) (second.lasting k) is)) (second.unfaulted k is);
+        (first.unfaulted k
+        (false_before (has_faulted (slice_get c1.slots.items k)) (has_faulted (slice_get c2.slots.items k))
+        (second.lasting k) is)) (second.unfaulted k is);
     no_bytes = second.no_bytes ∙ first.no_bytes;
     later = λ c. omega (arith, first.later c, second.later c);
     polls = omega (arith, first.polls, second.polls);
   }
 
   -- where no link has carried more, and only the listener has failed or stands in another way
-  pub serving_alone : (x y : N) (c : Connections) → AreServed (n.link x) (n.place x) c → ((k : ChanNo) → n.link y k ≡ n.link x k) → IsSameBut listener (n.place x) (n.place y)
-      → ((k : ChanNo) → k ≢ listener → n.faults y k ≡ n.faults x k) → ((k : ChanNo) → n.faults x k ≤ n.faults y k) → n.poll_faults x ≤ n.poll_faults y → Serving n x y c c
+  pub serving_alone : (x y : N) (c : Connections) → AreServed (n.link x) (n.place x) c
+      → ((k : ChanNo) → n.link y k ≡ n.link x k) → IsSameBut listener (n.place x) (n.place y)
+      → ((k : ChanNo) → k ≢ listener → n.faults y k ≡ n.faults x k) → ((k : ChanNo) → n.faults x k ≤ n.faults y k)
+      → n.poll_faults x ≤ n.poll_faults y → Serving n x y c c
   serving_alone x y c served links places faults later polls = record {
     served = served_still (n.link x) (n.link y) (n.place x) (n.place y) c served links places;
     conns = refl;
     target = refl;
     faulty = λ k is. inl is;
     lasting = λ k is. is;
-    unfaulted = λ k is. record { client = faults (client_of k) (client_listener k); target = faults (target_of k) (target_listener k) };
+    unfaulted = λ k is. record {
+      client = faults (client_of k) (client_listener k);
+      target = faults (target_of k) (target_listener k);
+    };
     no_bytes = links listener;
     later = later;
     polls = polls;
   }
 
-  pub serving_still : (x y : N) (c : Connections) → AreServed (n.link x) (n.place x) c → IsStill n x y → Serving n x y c c
-  serving_still x y c served still = serving_alone x y c served still.links (λ k _. still.places k) (λ k _. still.faults k) (λ k. omega (arith, still.faults k)) (omega (arith, still.polls))
+  pub serving_still : (x y : N) (c : Connections) → AreServed (n.link x) (n.place x) c → IsStill n x y
+      → Serving n x y c c
+  serving_still x y c served still =
+      serving_alone x y c served still.links (λ k _. still.places k) (λ k _. still.faults k)
+      (λ k. omega (arith, still.faults k)) (omega (arith, still.polls))
 
   -- where work was done on the links of one connection
-  pub serving_step : (k : ℕ) (slot : Slot) (relay : Relay) (own : ChanNo) (x y : N) (c0 c1 : Connections) → AreServed (n.link x) (n.place x) c0
-      → slice_get c0.slots.items k ≡ Some (Live relay) → Works n (client_of k) (target_of k) own x y → Changes c0.slots.items c1.slots.items k slot
-      → length c1.slots.items ≡ length c0.slots.items → vec_capacity c1.slots ≡ vec_capacity c0.slots → c1.conns ≡ c0.conns → c1.target ≡ c0.target
-      → IsSlot (Some slot) (n.link y (client_of k)) (n.link y (target_of k)) (n.place y (client_of k)) (n.place y (target_of k))
+  pub serving_step : (k : ℕ) (slot : Slot) (relay : Relay) (x y : N) (c0 c1 : Connections)
+      → AreServed (n.link x) (n.place x) c0
+      → slice_get c0.slots.items k ≡ Some (Live relay) → Works n (client_of k) (target_of k) x y
+      → Changes c0.slots.items c1.slots.items k slot
+      → length c1.slots.items ≡ length c0.slots.items → vec_capacity c1.slots ≡ vec_capacity c0.slots
+      → c1.conns ≡ c0.conns → c1.target ≡ c0.target
+      → IsSlot (Some slot) (n.link y (client_of k)) (n.link y (target_of k)) (n.place y (client_of k))
+      (n.place y (target_of k))
       → ((to : Addr) (r s : Role) → HasRoles to (Some (Live relay)) r s → HasRoles to (Some slot) r s)
-      → c1.ended ≡ c0.ended + one_if (has_ended (Some slot)) → c1.faulted ≡ c0.faulted + one_if (has_faulted (Some slot))
-      → (IsTrue (has_faulted (Some slot)) → HasFaulted (n.faults x) (n.faults y) k) → (IsFalse (has_faulted (Some slot)) → IsUnfaulted (n.faults x) (n.faults y) k) → Serving n x y c0 c1
-  serving_step k slot relay own x y c0 c1 served was work changes short room conns target is roles ended faulted faulty unfaulted =
-      let before : HasRoles c0.target (Some (Live relay)) (n.place x (client_of k)).role (n.place x (target_of k)).role =
-      subst (λ s. HasRoles c0.target s (n.place x (client_of k)).role (n.place x (target_of k)).role) was (served.slots k).roles in
-      let now : HasRoles c0.target (Some (Live relay)) (n.place y (client_of k)).role (n.place y (target_of k)).role = (work.roles (client_of k) ∙ before.0, work.roles (target_of k) ∙ before.1) in
+      → c1.ended ≡ c0.ended + one_if (has_ended (Some slot))
+      → c1.faulted ≡ c0.faulted + one_if (has_faulted (Some slot))
+      → (IsTrue (has_faulted (Some slot)) → HasFaulted (n.faults x) (n.faults y) k)
+      → (IsFalse (has_faulted (Some slot)) → IsUnfaulted (n.faults x) (n.faults y) k) → Serving n x y c0 c1
+  serving_step k slot relay x y c0 c1 served was work changes short room conns target is roles ended faulted faulty
+      unfaulted =
+      let before : HasRoles c0.target (Some (Live relay)) (n.place x (client_of k)).role
+      (n.place x (target_of k)).role =
+      subst (λ s. HasRoles c0.target s (n.place x (client_of k)).role (n.place x (target_of k)).role) was
+      (served.slots k).roles in
+      let now : HasRoles c0.target (Some (Live relay)) (n.place y (client_of k)).role (n.place y (target_of k)).role =
+      (work.roles (client_of k) ∙ before.0, work.roles (target_of k) ∙ before.1) in
       record {
-        served = served_change k slot (n.link x) (n.link y) (n.place x) (n.place y) c0 c1 served (omega (arith, served.few, slice_get_within c0.slots.items k (Live relay) was)) conns target
+        served = served_change k slot (n.link x) (n.link y) (n.place x) (n.place y) c0 c1 served
+            (omega (arith, served.few, slice_get_within c0.slots.items k (Live relay) was)) conns target
             (omega (arith, served.room, room)) (omega (arith, served.few, short)) changes work.links work.places
-            (record { is_slot = is; roles = roles c0.target (n.place y (client_of k)).role (n.place y (target_of k)).role now }) (ap has_ended was) (ap has_faulted was) ended faulted;
+            (record {
+              is_slot = is;
+              roles = roles c0.target (n.place y (client_of k)).role
+                  (n.place y (target_of k)).role now;
+            }) (ap has_ended was) (ap has_faulted was) ended faulted;
         conns = conns;
         target = target;
         faulty = faulty_change k slot (n.faults x) (n.faults y) c0 c1 changes faulty;
@@ -294,68 +385,88 @@ module _ {N : Type 0} (n : Members N) where
 
   -- where a connection was begun
   pub serving_begun : (slot : Slot) (x y : N) (c0 c1 : Connections) → AreServed (n.link x) (n.place x) c0
-      → length c0.slots.items < c0.conns → Begins n (client_of (length c0.slots.items)) (target_of (length c0.slots.items)) x y
-      → c1.slots.items ≡ c0.slots.items ++ slot ∷ [] → vec_capacity c0.slots ≤ vec_capacity c1.slots → c1.conns ≡ c0.conns → c1.target ≡ c0.target
-      → IsSlotOf c0.target (Some slot) (n.link y (client_of (length c0.slots.items))) (n.link y (target_of (length c0.slots.items)))
+      → length c0.slots.items < c0.conns
+      → Begins n (client_of (length c0.slots.items)) (target_of (length c0.slots.items)) x y
+      → c1.slots.items ≡ c0.slots.items ++ slot ∷ [] → vec_capacity c0.slots ≤ vec_capacity c1.slots
+      → c1.conns ≡ c0.conns → c1.target ≡ c0.target
+      → IsSlotOf c0.target (Some slot) (n.link y (client_of (length c0.slots.items)))
+      (n.link y (target_of (length c0.slots.items)))
       (n.place y (client_of (length c0.slots.items))) (n.place y (target_of (length c0.slots.items)))
-      → c1.ended ≡ c0.ended + one_if (has_ended (Some slot)) → c1.faulted ≡ c0.faulted + one_if (has_faulted (Some slot))
+      → c1.ended ≡ c0.ended + one_if (has_ended (Some slot))
+      → c1.faulted ≡ c0.faulted + one_if (has_faulted (Some slot))
       → (IsTrue (has_faulted (Some slot)) → HasFaulted (n.faults x) (n.faults y) (length c0.slots.items))
-      → (IsFalse (has_faulted (Some slot)) → IsUnfaulted (n.faults x) (n.faults y) (length c0.slots.items)) → Serving n x y c0 c1
+      → (IsFalse (has_faulted (Some slot)) → IsUnfaulted (n.faults x) (n.faults y) (length c0.slots.items))
+      → Serving n x y c0 c1
   serving_begun slot x y c0 c1 served few begins slots room conns target is ended faulted faulty unfaulted =
       let k = length c0.slots.items in
       let none : slice_get c0.slots.items k ≡ None = slice_get_past c0.slots.items k (omega arith) in
-      let changes : Changes c0.slots.items c1.slots.items k slot = subst (λ xs. Changes c0.slots.items xs k slot) (sym slots) (changes_push c0.slots.items slot) in
+      let changes : Changes c0.slots.items c1.slots.items k slot = subst (λ xs. Changes c0.slots.items xs k slot)
+      (sym slots) (changes_push c0.slots.items slot) in
       record {
-        served = served_change k slot (n.link x) (n.link y) (n.place x) (n.place y) c0 c1 served few conns target (omega (arith, served.room, room))
-            (omega (arith, few, ap length slots, length-append c0.slots.items (slot ∷ []))) changes (λ c _ _. begins.links c) begins.places is (ap has_ended none) (ap has_faulted none) ended faulted;
+        served = served_change k slot (n.link x) (n.link y) (n.place x) (n.place y) c0 c1 served few conns target
+            (omega (arith, served.room, room))
+            (omega (arith, few, ap length slots, length-append c0.slots.items (slot ∷ []))) changes
+            (λ c _ _. begins.links c) begins.places is (ap has_ended none) (ap has_faulted none) ended faulted;
         conns = conns;
         target = target;
         faulty = faulty_change k slot (n.faults x) (n.faults y) c0 c1 changes faulty;
         lasting = lasting_change k slot (n.faults x) (n.faults y) c0 c1 changes (ap has_faulted none);
-        unfaulted = unfaulted_change k slot (n.faults x) (n.faults y) c0 c1 changes unfaulted (λ c _ not_target. begins.faults c not_target);
+        unfaulted = unfaulted_change k slot (n.faults x) (n.faults y) c0 c1 changes unfaulted
+            (λ c _ not_target. begins.faults c not_target);
         no_bytes = begins.links listener;
         later = begins.later;
         polls = omega (arith, begins.polls);
       }
 
-  -- the same, where the two links and the channel that was told have other names
-  pub serving_told : (k : ℕ) (slot : Slot) (relay : Relay) (own client target side : ChanNo) (x y : N) (c0 c1 : Connections)
-      → client ≡ client_of k → target ≡ target_of k → side ≡ own → AreServed (n.link x) (n.place x) c0
-      → slice_get c0.slots.items k ≡ Some (Live relay) → Works n client target side x y → Changes c0.slots.items c1.slots.items k slot
-      → length c1.slots.items ≡ length c0.slots.items → vec_capacity c1.slots ≡ vec_capacity c0.slots → c1.conns ≡ c0.conns → c1.target ≡ c0.target
+  -- the same, where the two links have other names
+  pub serving_told : (k : ℕ) (slot : Slot) (relay : Relay) (client target : ChanNo) (x y : N) (c0 c1 : Connections)
+      → client ≡ client_of k → target ≡ target_of k → AreServed (n.link x) (n.place x) c0
+      → slice_get c0.slots.items k ≡ Some (Live relay) → Works n client target x y
+      → Changes c0.slots.items c1.slots.items k slot → length c1.slots.items ≡ length c0.slots.items
+      → vec_capacity c1.slots ≡ vec_capacity c0.slots → c1.conns ≡ c0.conns → c1.target ≡ c0.target
       → IsSlot (Some slot) (n.link y client) (n.link y target) (n.place y client) (n.place y target)
       → ((to : Addr) (r s : Role) → HasRoles to (Some (Live relay)) r s → HasRoles to (Some slot) r s)
-      → c1.ended ≡ c0.ended + one_if (has_ended (Some slot)) → c1.faulted ≡ c0.faulted + one_if (has_faulted (Some slot))
-      → (IsTrue (has_faulted (Some slot)) → Rose (n.faults x client) (n.faults y client) ⊎ Rose (n.faults x target) (n.faults y target))
-      → (IsFalse (has_faulted (Some slot)) → (n.faults y client ≡ n.faults x client) × (n.faults y target ≡ n.faults x target)) → Serving n x y c0 c1
-  serving_told k slot relay own client target side x y c0 c1 is_client is_target is_own served was work changes short room conns to is roles ended faulted faulty calm =
-      serving_step k slot relay own x y c0 c1 served was
-      (subst (λ a. Works n a (target_of k) own x y) is_client (subst (λ b. Works n client b own x y) is_target (subst (λ s. Works n client target s x y) is_own work)))
+      → c1.ended ≡ c0.ended + one_if (has_ended (Some slot))
+      → c1.faulted ≡ c0.faulted + one_if (has_faulted (Some slot))
+      → (IsTrue (has_faulted (Some slot)) → OneRose (n.faults x) (n.faults y) client target)
+      → (IsFalse (has_faulted (Some slot)) → BothSame (n.faults x) (n.faults y) client target)
+      → Serving n x y c0 c1
+  serving_told k slot relay client target x y c0 c1 is_client is_target served was work changes short room conns to is
+      roles ended faulted faulty calm =
+      serving_step k slot relay x y c0 c1 served was
+      (subst (λ a. Works n a (target_of k) x y) is_client (subst (λ b. Works n client b x y) is_target work))
       changes short room conns to
-      (subst (λ a. IsSlot (Some slot) (n.link y a) (n.link y (target_of k)) (n.place y a) (n.place y (target_of k))) is_client
+      (subst (λ a. IsSlot (Some slot) (n.link y a) (n.link y (target_of k)) (n.place y a) (n.place y (target_of k)))
+      is_client
       (subst (λ b. IsSlot (Some slot) (n.link y client) (n.link y b) (n.place y client) (n.place y b)) is_target is))
       roles ended faulted
-      (λ f. subst (λ a. Rose (n.faults x a) (n.faults y a) ⊎ Rose (n.faults x (target_of k)) (n.faults y (target_of k))) is_client
-      (subst (λ b. Rose (n.faults x client) (n.faults y client) ⊎ Rose (n.faults x b) (n.faults y b)) is_target (faulty f)))
+      (λ f. subst (λ a. OneRose (n.faults x) (n.faults y) a (target_of k)) is_client
+      (subst (λ b. OneRose (n.faults x) (n.faults y) client b) is_target (faulty f)))
       (λ f. record {
-        client = subst (λ a. n.faults y a ≡ n.faults x a) is_client (calm f).0;
-        target = subst (λ b. n.faults y b ≡ n.faults x b) is_target (calm f).1;
+        client = subst (λ a. n.faults y a ≡ n.faults x a) is_client (calm f).first;
+        target = subst (λ b. n.faults y b ≡ n.faults x b) is_target (calm f).second;
       })
 
   pub serving_new : (slot : Slot) (client target : ChanNo) (x y : N) (c0 c1 : Connections)
-      → client ≡ client_of (length c0.slots.items) → target ≡ target_of (length c0.slots.items) → AreServed (n.link x) (n.place x) c0
+      → client ≡ client_of (length c0.slots.items) → target ≡ target_of (length c0.slots.items)
+      → AreServed (n.link x) (n.place x) c0
       → length c0.slots.items < c0.conns → Begins n client target x y → c1.slots.items ≡ c0.slots.items ++ slot ∷ []
       → vec_capacity c0.slots ≤ vec_capacity c1.slots → c1.conns ≡ c0.conns → c1.target ≡ c0.target
       → IsSlotOf c0.target (Some slot) (n.link y client) (n.link y target) (n.place y client) (n.place y target)
-      → c1.ended ≡ c0.ended + one_if (has_ended (Some slot)) → c1.faulted ≡ c0.faulted + one_if (has_faulted (Some slot))
+      → c1.ended ≡ c0.ended + one_if (has_ended (Some slot))
+      → c1.faulted ≡ c0.faulted + one_if (has_faulted (Some slot))
       → (IsTrue (has_faulted (Some slot)) → Rose (n.faults x target) (n.faults y target))
       → (IsFalse (has_faulted (Some slot)) → n.faults y target ≡ n.faults x target) → Serving n x y c0 c1
-  serving_new slot client target x y c0 c1 is_client is_target served few begins slots room conns to is ended faulted faulty calm =
+  serving_new slot client target x y c0 c1 is_client is_target served few begins slots room conns to is ended faulted
+      faulty calm =
       let k = length c0.slots.items in
-      let begun : Begins n (client_of k) (target_of k) x y = subst (λ a. Begins n a (target_of k) x y) is_client (subst (λ b. Begins n client b x y) is_target begins) in
+      let begun : Begins n (client_of k) (target_of k) x y = subst (λ a. Begins n a (target_of k) x y) is_client
+      (subst (λ b. Begins n client b x y) is_target begins) in
       serving_begun slot x y c0 c1 served few begun slots room conns to
-      (subst (λ a. IsSlotOf c0.target (Some slot) (n.link y a) (n.link y (target_of k)) (n.place y a) (n.place y (target_of k))) is_client
-      (subst (λ b. IsSlotOf c0.target (Some slot) (n.link y client) (n.link y b) (n.place y client) (n.place y b)) is_target is))
+      (subst (λ a. IsSlotOf c0.target (Some slot) (n.link y a) (n.link y (target_of k)) (n.place y a)
+      (n.place y (target_of k))) is_client
+      (subst (λ b. IsSlotOf c0.target (Some slot) (n.link y client) (n.link y b) (n.place y client) (n.place y b))
+      is_target is))
       ended faulted
       (λ f. inr (subst (λ b. Rose (n.faults x b) (n.faults y b)) is_target (faulty f)))
       (λ f. record {
@@ -364,20 +475,28 @@ module _ {N : Type 0} (n : Members N) where
       })
 
   -- where the next client couldn't be accepted
-  pub serving_unaccepted : (client : ChanNo) (x y : N) (c0 c1 : Connections) → client ≡ client_of (length c0.slots.items) → AreServed (n.link x) (n.place x) c0
-      → length c0.slots.items < c0.conns → FailsToAccept n client x y → n.place y client ≡ record { role = role.Accepted listener; standing = Nothing }
-      → c1.slots.items ≡ c0.slots.items ++ Dropped ∷ [] → vec_capacity c0.slots ≤ vec_capacity c1.slots → c1.conns ≡ c0.conns → c1.target ≡ c0.target
-      → c1.ended ≡ c0.ended + one_if (has_ended (Some Dropped)) → c1.faulted ≡ c0.faulted + one_if (has_faulted (Some Dropped)) → Serving n x y c0 c1
+  pub serving_unaccepted : (client : ChanNo) (x y : N) (c0 c1 : Connections)
+      → client ≡ client_of (length c0.slots.items) → AreServed (n.link x) (n.place x) c0
+      → length c0.slots.items < c0.conns → FailsToAccept n client x y
+      → n.place y client ≡ record { role = role.Accepted listener; standing = Nothing }
+      → c1.slots.items ≡ c0.slots.items ++ Dropped ∷ [] → vec_capacity c0.slots ≤ vec_capacity c1.slots
+      → c1.conns ≡ c0.conns → c1.target ≡ c0.target
+      → c1.ended ≡ c0.ended + one_if (has_ended (Some Dropped))
+      → c1.faulted ≡ c0.faulted + one_if (has_faulted (Some Dropped)) → Serving n x y c0 c1
   serving_unaccepted client x y c0 c1 is_client served few fails unmade slots room conns target ended faulted =
       let k = length c0.slots.items in
       let none : slice_get c0.slots.items k ≡ None = slice_get_past c0.slots.items k (omega arith) in
-      let changes : Changes c0.slots.items c1.slots.items k Dropped = subst (λ xs. Changes c0.slots.items xs k Dropped) (sym slots) (changes_push c0.slots.items Dropped) in
+      let changes : Changes c0.slots.items c1.slots.items k Dropped = subst (λ xs. Changes c0.slots.items xs k Dropped)
+      (sym slots) (changes_push c0.slots.items Dropped) in
       let next = next_unbegun (n.link x) (n.place x) c0 (client_of k) (target_of k) served refl refl in
-      let places : (c : ChanNo) → c ≢ client_of k → n.place y c ≡ n.place x c = λ c other. fails.places c (λ at. other (at ∙ is_client)) in
+      let places : (c : ChanNo) → c ≢ client_of k
+      → n.place y c ≡ n.place x c = λ c other. fails.places c (λ at. other (at ∙ is_client)) in
       let at_client : n.place y (client_of k) ≡ record { role = role.Accepted listener; standing = Nothing } =
       subst (λ a. n.place y a ≡ record { role = role.Accepted listener; standing = Nothing }) is_client unmade in
-      let at_target : n.place y (target_of k) ≡ unused = places (target_of k) (λ at. client_target k k (sym at)) ∙ next.target_unasked in
-      let is : IsSlotOf c0.target (Some Dropped) (n.link y (client_of k)) (n.link y (target_of k)) (n.place y (client_of k)) (n.place y (target_of k)) = record {
+      let at_target : n.place y (target_of k) ≡ unused = places (target_of k) (λ at. client_target k k (sym at))
+      ∙ next.target_unasked in
+      let is : IsSlotOf c0.target (Some Dropped) (n.link y (client_of k)) (n.link y (target_of k))
+      (n.place y (client_of k)) (n.place y (target_of k)) = record {
         is_slot = record {
           client_unused = subst IsUnused (sym (fails.links (client_of k))) next.client_unused;
           target_unused = subst IsUnused (sym (fails.links (target_of k))) next.target_unused;
@@ -387,23 +506,31 @@ module _ {N : Type 0} (n : Members N) where
         roles = (ap (λ (p : Place). p.role) at_client, ap (λ (p : Place). p.role) at_target);
       } in
       record {
-        served = served_change k Dropped (n.link x) (n.link y) (n.place x) (n.place y) c0 c1 served few conns target (omega (arith, served.room, room))
-            (omega (arith, few, ap length slots, length-append c0.slots.items (Dropped ∷ []))) changes (λ c _ _. fails.links c) (λ c not_client _. places c not_client) is
+        served = served_change k Dropped (n.link x) (n.link y) (n.place x) (n.place y) c0 c1 served few conns target
+            (omega (arith, served.room, room))
+            (omega (arith, few, ap length slots, length-append c0.slots.items (Dropped ∷ []))) changes
+            (λ c _ _. fails.links c) (λ c not_client _. places c not_client) is
             (ap has_ended none) (ap has_faulted none) ended faulted;
         conns = conns;
         target = target;
-        faulty = faulty_change k Dropped (n.faults x) (n.faults y) c0 c1 changes (λ never. absurd (not_true false refl never));
+        faulty = faulty_change k Dropped (n.faults x) (n.faults y) c0 c1 changes
+            (λ never. absurd (not_true false refl never));
         lasting = lasting_change k Dropped (n.faults x) (n.faults y) c0 c1 changes (ap has_faulted none);
-        unfaulted = λ j _. record { client = fails.faults (client_of j) (client_listener j); target = fails.faults (target_of j) (target_listener j) };
+        unfaulted = λ j _. record {
+          client = fails.faults (client_of j) (client_listener j);
+          target = fails.faults (target_of j) (target_listener j);
+        };
         no_bytes = fails.links listener;
         later = fails.later;
         polls = omega (arith, fails.polls);
       }
 
   -- where a link was closed, or the listener
-  pub serving_quiet : (x y z : N) (c0 c1 c2 : Connections) → Serving n x y c0 c1 → IsQuiet n y z → IsSameBut listener (n.place y) (n.place z) → c2 ≡ c1 → Serving n x z c0 c2
+  pub serving_quiet : (x y z : N) (c0 c1 c2 : Connections) → Serving n x y c0 c1 → IsQuiet n y z
+      → IsSameBut listener (n.place y) (n.place z) → c2 ≡ c1 → Serving n x z c0 c2
   serving_quiet x y z c0 c1 c2 serving quiet places same =
-      let still : Serving n y z c1 c1 = serving_alone y z c1 serving.served quiet.links places (λ k _. quiet.faults k) (λ k. omega (arith, quiet.faults k)) (omega (arith, quiet.polls)) in
+      let still : Serving n y z c1 c1 = serving_alone y z c1 serving.served quiet.links places (λ k _. quiet.faults k)
+      (λ k. omega (arith, quiet.faults k)) (omega (arith, quiet.polls)) in
       serving_then x y z c0 c1 c2 serving (subst (Serving n y z c1) (sym same) still)
 
   -- why a later part of the work failed is why the whole did
@@ -414,14 +541,8 @@ module _ {N : Type 0} (n : Members N) where
   cause_on x y z c0 c1 serving (inr rose) = inr (rose_from _ _ _ (serving.later listener) rose)
 
 -- the listener stands as it did, and is watched as it was
-pub listens_on : (before now : Option Port) (p q : Place) → now ≡ before → q ≡ p → ListensAt before p.standing → ListensAt now q.standing
-listens_on before now p q ports places listens = subst (λ o. ListensAt o q.standing) (sym ports) (subst (λ (x : Place). ListensAt before x.standing) (sym places) listens)
-
--- the link that was told is one of the two of its connection
-pub side_is : (chan client target : ChanNo) (k : ℕ) (b : Bool) → client ≡ client_of k → target ≡ target_of k → k ≡ (chan.0 - 1) / 2 → 1 ≤ chan.0
-    → b ≡ (chan.0 == client.0) → (if b then client else target) ≡ chan
-side_is chan client target k true is_client is_target is some same = sym (chan_as chan client (eqb-true chan.0 client.0 (sym same)))
-side_is chan client target k false is_client is_target is some other =
-    let never : chan.0 ≢ 2 * k + 1 = λ at. eqb-false chan.0 client.0 (sym other) (at ∙ sym (ap (λ (c : ChanNo). c.0) is_client)) in
-    let at : chan.0 ≡ 2 * k + 2 = omega (arith, never) in
-    is_target ∙ sym (chan_as chan (target_of k) at)
+pub listens_on : (before now : Option Port) (p q : Place) → now ≡ before → q ≡ p → ListensAt before p.standing
+    → ListensAt now q.standing
+listens_on before now p q ports places listens =
+    subst (λ o. ListensAt o q.standing) (sym ports)
+    (subst (λ (x : Place). ListensAt before x.standing) (sym places) listens)

@@ -1,5 +1,6 @@
 pub mod Board
 pub mod Nets
+pub mod Passing
 pub mod Relaying
 pub mod Serving
 pub mod Slots

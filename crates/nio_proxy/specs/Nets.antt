@@ -19,13 +19,13 @@ Members N = record {
   place : N → ChanNo → Place;
 }
 
--- From a net x to a net y only the links a and b have carried more, have failed or stand in another way, and only the
--- channel `own` may be ready for less. No channel was asked to be anything. No poll was made.
-pub record Works {N : Type 0} (n : Members N) (a b own : ChanNo) (x y : N) : Type 0 where
+-- From a net x to a net y only the links a and b have carried more, have failed, stand in another way or may be ready for
+-- less. No channel was asked to be anything. No poll was made.
+pub record Works {N : Type 0} (n : Members N) (a b : ChanNo) (x y : N) : Type 0 where
   pub links : (c : ChanNo) → c ≢ a → c ≢ b → n.link y c ≡ n.link x c
   pub places : (c : ChanNo) → c ≢ a → c ≢ b → n.place y c ≡ n.place x c
   pub faults : (c : ChanNo) → c ≢ a → c ≢ b → n.faults y c ≡ n.faults x c
-  pub ready : (c : ChanNo) → c ≢ own → n.ready y c ≡ n.ready x c
+  pub ready : (c : ChanNo) → c ≢ a → c ≢ b → n.ready y c ≡ n.ready x c
   pub later : (c : ChanNo) → n.faults x c ≤ n.faults y c
   pub roles : (c : ChanNo) → (n.place y c).role ≡ (n.place x c).role
   pub polls : n.poll_faults y ≡ n.poll_faults x

@@ -17,6 +17,7 @@ use crate::board::{Board, Refused};
 use crate::proxy::LISTENER;
 use crate::serve::ServeError;
 use crate::slot::{Relay, Slot, close_links, serve_relay, take_on};
+use crate::spare::Spare;
 use nio_base::{Addr, ChanNo, Ops};
 use nio_link::{Failed, Net};
 use nio_relay::CAPACITY;
@@ -31,6 +32,7 @@ pub(crate) struct Connections {
     pub conns: u32,
     pub target: Addr,
     pub slots: Vec<Slot>,
+    spare: Spare,
     pub ended: u32,
     pub faulted: u32,
 }
@@ -75,6 +77,7 @@ impl Connections {
             conns,
             target,
             slots: Vec::with_capacity(alloc, conns as usize)?,
+            spare: Spare::new(alloc),
             ended: 0,
             faulted: 0,
         })
@@ -128,24 +131,24 @@ impl Connections {
         self.slots.push(slot).unwrap();
     }
 
-    /// Does what one link was told ready for.
+    /// Does what the two links of a connection were told ready for.
     pub(crate) fn serve<N: Net>(
         &mut self,
         net: &mut N,
         board: &mut Board,
-        chan: ChanNo,
-        ops: Ops,
+        number: usize,
+        at_client: Ops,
+        at_target: Ops,
         scratch: &mut [u8],
     ) -> Result<(), Refused>
         requires scratch { length scratch.old ≡ CAPACITY }
-        requires link { 1 ≤ chan.0 }
-        requires ready { IsTrue (is_within ops (N.ready net.old chan)) }
+        requires ready_client { IsTrue (is_within at_client (N.ready net.old (client_of number))) }
+        requires ready_target { IsTrue (is_within at_target (N.ready net.old (target_of number))) }
         requires served { AreServed (N.link net.old) (N.place net.old) self.old }
         ensures serving { Serving N.Net net.old net.new self.old self.new }
-        ensures ready { IsSameBut chan (N.ready net.old) (N.ready net.new) }
+        ensures ready { (c : ChanNo) → c ≢ client_of number → c ≢ target_of number → N.ready net.new c ≡ N.ready net.old c }
         ensures listens { N.place net.new listener ≡ N.place net.old listener }
     {
-        let number = (chan.0 as usize - 1) / 2;
         let Some(relay) = self.take(number) else {
             return Ok(());
         };
@@ -153,11 +156,12 @@ impl Connections {
         let mut slot = serve_relay(
             net,
             board,
+            &mut self.spare,
             client,
             target,
             relay,
-            chan == client,
-            ops,
+            at_client,
+            at_target,
             scratch,
         );
         let followed = slot.follow(board);
@@ -186,7 +190,16 @@ impl Connections {
         let (client, target) = links_of(self.slots.len());
         match accept(net, client) {
             Ok(true) => {
-                let (slot, taken) = take_on(rt, alloc, net, board, client, target, self.target);
+                let (slot, taken) = take_on(
+                    rt,
+                    alloc,
+                    net,
+                    board,
+                    &mut self.spare,
+                    client,
+                    target,
+                    self.target,
+                );
                 self.add(slot);
                 match taken {
                     Ok(()) => Ok(true),

@@ -9,5 +9,6 @@ mod link;
 mod proxy;
 mod serve;
 mod slot;
+mod spare;
 #[cfg(test)]
 mod tests;

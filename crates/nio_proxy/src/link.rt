@@ -1,18 +1,39 @@
-//! The work on one link of a connection: reading, writing, passing on an end.
-ghost use Rattle.std.specs.Prelude.{◌≡◌, ◌≢◌, ◌⊎◌, IfOk, IsTrue, OnErr, OnOk, length};
+//! The work on one direction of a connection: reading, writing, passing on an end.
+ghost use Rattle.std.specs.Prelude.{◌≡◌, ◌≢◌, [], IfOk, IsTrue, OnErr, OnOk, length};
 ghost use Rattle.nio_base.specs.declared.numbers.ChanNo.{ChanNo};
 ghost use Rattle.nio_bytes.specs.Cause.{Rose};
+ghost use Rattle.nio_link.specs.Links.{IsGot};
 ghost use Rattle.nio_link.specs.Places.{IsLinked};
+ghost use Rattle.nio_link.specs.Readiness.{ready_after_read};
+ghost use Rattle.nio_relay.specs.Flow.{Flow, MayTake, held, takes};
 ghost use Rattle.nio_steps.specs.KeyCalls.{is_within};
 ghost use Rattle.nio_proxy.specs.Nets.{Works};
+ghost use Rattle.nio_proxy.specs.Passing.{BothSame, OneRose, Passes, flow_after_read};
 ghost use Rattle.nio_proxy.specs.Relaying.{IsEnd, KeepsSource, KeepsSink, SameSink, SameSource, carried, open_or_shut};
 
 use nio_base::{ChanNo, Ops};
 use nio_link::{Failed, Got, Net, Put};
 use nio_relay::{CAPACITY, Direction};
 
-// How many reads, and how many writes, are made on a link before the next one has its turn.
+// How many reads, and how many writes, are made on a link before the next connection has its turn.
 const ROUNDS: u32 = 64;
+
+// How many buffers at most are passed from one link to the other before the next connection has its turn.
+const PASSES: u32 = 4;
+
+/// Whether more may be passed on at once, in each of the two directions of a connection.
+#[derive(Clone, Copy, Debug, PartialEq, Eq)]
+pub(crate) struct Flows {
+    pub there: bool,
+    pub back: bool,
+}
+
+impl Flows {
+    pub(crate) const NEITHER: Flows = Flows {
+        there: false,
+        back: false,
+    };
+}
 
 #[tactic(auto, using(crate::proofs::Bits::keeps_write))]
 // Reads once what has come on a link into the direction that takes from it. Says whether more may be read at once.
@@ -27,7 +48,7 @@ fn read_once<N: Net>(
     requires linked { IsLinked (N.place net.old own).standing }
     ensures source { KeepsSource outgoing.old outgoing.new (N.link net.old own) (N.place net.old own) (N.link net.new own) (N.place net.new own) }
     ensures sink { SameSink outgoing.old outgoing.new }
-    ensures work { Works N.Net own own own net.old net.new }
+    ensures work { Works N.Net own own net.old net.new }
     ensures stands { N.place net.new own ≡ N.place net.old own }
     ensures cause { OnErr result (Rose (N.faults net.old own) (N.faults net.new own)) }
     ensures calm { OnOk result (N.faults net.new own ≡ N.faults net.old own) }
@@ -63,7 +84,7 @@ fn read_all<N: Net>(
     requires linked { IsLinked (N.place net.old own).standing }
     ensures source { KeepsSource outgoing.old outgoing.new (N.link net.old own) (N.place net.old own) (N.link net.new own) (N.place net.new own) }
     ensures sink { SameSink outgoing.old outgoing.new }
-    ensures work { Works N.Net own own own net.old net.new }
+    ensures work { Works N.Net own own net.old net.new }
     ensures stands { N.place net.new own ≡ N.place net.old own }
     ensures cause { OnErr result (Rose (N.faults net.old own) (N.faults net.new own)) }
     ensures calm { OnOk result (N.faults net.new own ≡ N.faults net.old own) }
@@ -78,16 +99,19 @@ fn read_all<N: Net>(
 }
 
 // Writes once what a direction holds to the link on which it is put. Says whether more may be written at once.
+#[tactic(auto, using(crate::proofs::Bits::keeps_read))]
 fn write_once<N: Net>(net: &mut N, own: ChanNo, incoming: &mut Direction) -> Result<bool, Failed>
     requires ready { IsTrue (is_within 4 (N.ready net.old own)) }
     requires stands { (N.place net.old own).standing ≡ open_or_shut incoming.old.shut }
     ensures sink { KeepsSink incoming.old incoming.new (N.link net.old own) (N.place net.old own) (N.link net.new own) (N.place net.new own) }
     ensures source { SameSource incoming.old incoming.new }
-    ensures work { Works N.Net own own own net.old net.new }
-    ensures stands { (N.place net.new own).standing ≡ open_or_shut incoming.new.shut }
+    ensures work { Works N.Net own own net.old net.new }
+    ensures stands { N.place net.new own ≡ N.place net.old own }
+    ensures shut { incoming.new.shut ≡ incoming.old.shut }
     ensures cause { OnErr result (Rose (N.faults net.old own) (N.faults net.new own)) }
     ensures calm { OnOk result (N.faults net.new own ≡ N.faults net.old own) }
     ensures more { IfOk result (λ more. IsTrue more → N.ready net.new own ≡ N.ready net.old own) }
+    ensures read { IsTrue (is_within 1 (N.ready net.old own)) → IsTrue (is_within 1 (N.ready net.new own)) }
 {
     let front = incoming.front();
     if front.is_empty() || incoming.is_shut() {
@@ -102,74 +126,237 @@ fn write_once<N: Net>(net: &mut N, own: ChanNo, incoming: &mut Direction) -> Res
     }
 }
 
-// Writes what a direction holds.
-fn write_all<N: Net>(net: &mut N, own: ChanNo, incoming: &mut Direction) -> Result<(), Failed>
+// Writes what a direction holds. Says whether that is all written, and more could be written at once.
+fn write_all<N: Net>(net: &mut N, own: ChanNo, incoming: &mut Direction) -> Result<bool, Failed>
     requires ready { IsTrue (is_within 4 (N.ready net.old own)) }
     requires stands { (N.place net.old own).standing ≡ open_or_shut incoming.old.shut }
     ensures sink { KeepsSink incoming.old incoming.new (N.link net.old own) (N.place net.old own) (N.link net.new own) (N.place net.new own) }
     ensures source { SameSource incoming.old incoming.new }
-    ensures work { Works N.Net own own own net.old net.new }
-    ensures stands { (N.place net.new own).standing ≡ open_or_shut incoming.new.shut }
+    ensures work { Works N.Net own own net.old net.new }
+    ensures stands { N.place net.new own ≡ N.place net.old own }
+    ensures shut { incoming.new.shut ≡ incoming.old.shut }
     ensures cause { OnErr result (Rose (N.faults net.old own) (N.faults net.new own)) }
     ensures calm { OnOk result (N.faults net.new own ≡ N.faults net.old own) }
+    ensures read { IsTrue (is_within 1 (N.ready net.old own)) → IsTrue (is_within 1 (N.ready net.new own)) }
+    ensures writable { IfOk result (λ more. IsTrue more → IsTrue (is_within 4 (N.ready net.new own))) }
+    ensures none_held { IfOk result (λ more. IsTrue more → held incoming.new ≡ []) }
 {
     for _ in 0..ROUNDS {
+        if incoming.front().is_empty() {
+            return Ok(true);
+        }
         if !write_once(net, own, incoming)? {
-            return Ok(());
+            return Ok(false);
         }
     }
-    Ok(())
+    Ok(false)
 }
 
-// Reads where the link was told ready for it.
-#[tactic(auto, using(crate::proofs::Working::works_none))]
-fn read_told<N: Net>(
+// Writes bytes to the link `own` that were just read, while none were held. What it doesn't take is held. Says whether
+// it took all.
+#[tactic(auto, using(crate::proofs::Bits::keeps_read, crate::proofs::Carrying::held_new, crate::proofs::Carrying::held_passed))]
+fn write_new<N: Net>(
     net: &mut N,
     own: ChanNo,
-    outgoing: &mut Direction,
-    ops: Ops,
-    scratch: &mut [u8],
-) -> Result<(), Failed>
+    direction: &mut Direction,
+    bytes: &[u8],
+) -> Result<bool, Failed>
+    requires some { bytes.now ≢ [] }
+    requires ready { IsTrue (is_within 4 (N.ready net.old own)) }
+    requires stands { (N.place net.old own).standing ≡ open_or_shut direction.old.shut }
+    requires bytes { MayTake direction.old bytes.now }
+    requires none_held { held direction.old ≡ [] }
+    ensures sink { KeepsSink direction.old direction.new (N.link net.old own) (N.place net.old own) (N.link net.new own) (N.place net.new own) }
+    ensures source { SameSource (takes direction.old bytes.now) direction.new }
+    ensures work { Works N.Net own own net.old net.new }
+    ensures stands { N.place net.new own ≡ N.place net.old own }
+    ensures shut { direction.new.shut ≡ direction.old.shut }
+    ensures cause { OnErr result (Rose (N.faults net.old own) (N.faults net.new own)) }
+    ensures calm { OnOk result (N.faults net.new own ≡ N.faults net.old own) }
+    ensures read { IsTrue (is_within 1 (N.ready net.old own)) → IsTrue (is_within 1 (N.ready net.new own)) }
+    ensures writable { IfOk result (λ all. IsTrue all → IsTrue (is_within 4 (N.ready net.new own))) }
+    ensures none_held { IfOk result (λ all. IsTrue all → held direction.new ≡ []) }
+{
+    direction.law();
+    if direction.is_shut() {
+        direction.on_read(bytes);
+        return Ok(false);
+    }
+    match net.write(own, bytes) {
+        Ok(Put::Bytes(count)) => {
+            direction.on_passed(bytes, count);
+            Ok(count == bytes.len())
+        }
+        Ok(Put::NotYet) => {
+            direction.on_read(bytes);
+            Ok(false)
+        }
+        Err(Failed) => {
+            direction.on_read(bytes);
+            Err(Failed)
+        }
+    }
+}
+
+// Reads once what has come on a link.
+#[tactic(auto, using(crate::proofs::Bits::keeps_write))]
+fn read_new<N: Net>(net: &mut N, own: ChanNo, scratch: &mut [u8]) -> Result<Got, Failed>
     requires scratch { length scratch.old ≡ CAPACITY }
-    requires ready { IsTrue (is_within ops (N.ready net.old own)) }
+    requires ready { IsTrue (is_within 1 (N.ready net.old own)) }
     requires linked { IsLinked (N.place net.old own).standing }
-    ensures source { KeepsSource outgoing.old outgoing.new (N.link net.old own) (N.place net.old own) (N.link net.new own) (N.place net.new own) }
-    ensures sink { SameSink outgoing.old outgoing.new }
-    ensures work { Works N.Net own own own net.old net.new }
+    ensures got { IfOk result (IsGot scratch.old) }
+    ensures source { (f : Flow) → KeepsSource f (flow_after_read result scratch.new f) (N.link net.old own) (N.place net.old own) (N.link net.new own) (N.place net.new own) }
+    ensures work { Works N.Net own own net.old net.new }
     ensures stands { N.place net.new own ≡ N.place net.old own }
     ensures cause { OnErr result (Rose (N.faults net.old own) (N.faults net.new own)) }
     ensures calm { OnOk result (N.faults net.new own ≡ N.faults net.old own) }
+    ensures ready { N.ready net.new own ≡ ready_after_read result (N.ready net.old own) }
     ensures write { IsTrue (is_within 4 (N.ready net.old own)) → IsTrue (is_within 4 (N.ready net.new own)) }
 {
-    if Ops::READ.within(ops) {
-        read_all(net, own, outgoing, scratch)
+    net.read(own, scratch)
+}
+
+// Reads once from the link `source`, and writes to the link `sink` at once what has come. Says whether more may be
+// passed on at once.
+fn pass_once<N: Net>(
+    net: &mut N,
+    source: ChanNo,
+    sink: ChanNo,
+    direction: &mut Direction,
+    scratch: &mut [u8],
+) -> Result<bool, Failed>
+    requires scratch { length scratch.old ≡ CAPACITY }
+    requires apart { source ≢ sink }
+    requires read { IsTrue (is_within 1 (N.ready net.old source)) }
+    requires write { IsTrue (is_within 4 (N.ready net.old sink)) }
+    requires linked { IsLinked (N.place net.old source).standing }
+    requires stands { (N.place net.old sink).standing ≡ open_or_shut direction.old.shut }
+    requires none_held { held direction.old ≡ [] }
+    ensures passes { Passes N.Net source sink direction.old direction.new net.old net.new }
+    ensures cause { OnErr result (OneRose (N.faults net.old) (N.faults net.new) source sink) }
+    ensures calm { OnOk result (BothSame (N.faults net.old) (N.faults net.new) source sink) }
+    ensures readable { IfOk result (λ more. IsTrue more → IsTrue (is_within 1 (N.ready net.new source))) }
+    ensures writable { IfOk result (λ more. IsTrue more → IsTrue (is_within 4 (N.ready net.new sink))) }
+    ensures none_held { IfOk result (λ more. IsTrue more → held direction.new ≡ []) }
+{
+    if direction.is_ended() {
+        return Ok(false);
+    }
+    match read_new(net, source, scratch)? {
+        Got::Bytes(count) => return write_new(net, sink, direction, &scratch[..count]),
+        Got::End => direction.on_end(),
+        Got::NotYet => {}
+    }
+    Ok(false)
+}
+
+// Passes on what comes from one link to the other. Says whether more may be passed on at once.
+fn pass_all<N: Net>(
+    net: &mut N,
+    source: ChanNo,
+    sink: ChanNo,
+    direction: &mut Direction,
+    scratch: &mut [u8],
+) -> Result<bool, Failed>
+    requires scratch { length scratch.old ≡ CAPACITY }
+    requires apart { source ≢ sink }
+    requires read { IsTrue (is_within 1 (N.ready net.old source)) }
+    requires write { IsTrue (is_within 4 (N.ready net.old sink)) }
+    requires linked { IsLinked (N.place net.old source).standing }
+    requires stands { (N.place net.old sink).standing ≡ open_or_shut direction.old.shut }
+    requires none_held { held direction.old ≡ [] }
+    ensures passes { Passes N.Net source sink direction.old direction.new net.old net.new }
+    ensures cause { OnErr result (OneRose (N.faults net.old) (N.faults net.new) source sink) }
+    ensures calm { OnOk result (BothSame (N.faults net.old) (N.faults net.new) source sink) }
+{
+    for _ in 0..PASSES {
+        if !pass_once(net, source, sink, direction, scratch)? {
+            return Ok(false);
+        }
+    }
+    Ok(true)
+}
+
+// Writes what is held where the link was told ready for it. Says whether more could be written at once.
+fn write_told<N: Net>(
+    net: &mut N,
+    source: ChanNo,
+    sink: ChanNo,
+    direction: &mut Direction,
+    can_write: bool,
+) -> Result<bool, Failed>
+    requires apart { source ≢ sink }
+    requires ready { IsTrue can_write → IsTrue (is_within 4 (N.ready net.old sink)) }
+    requires stands { (N.place net.old sink).standing ≡ open_or_shut direction.old.shut }
+    ensures passes { Passes N.Net source sink direction.old direction.new net.old net.new }
+    ensures readable { N.ready net.new source ≡ N.ready net.old source }
+    ensures cause { OnErr result (OneRose (N.faults net.old) (N.faults net.new) source sink) }
+    ensures calm { OnOk result (BothSame (N.faults net.old) (N.faults net.new) source sink) }
+    ensures writable { IfOk result (λ more. IsTrue more → IsTrue (is_within 4 (N.ready net.new sink))) }
+    ensures none_held { IfOk result (λ more. IsTrue more → held direction.new ≡ []) }
+{
+    if can_write {
+        write_all(net, sink, direction)
     } else {
-        Ok(())
+        Ok(false)
     }
 }
 
-// Writes where the link was told ready for it.
-#[tactic(auto, using(crate::proofs::Working::works_none))]
-fn write_told<N: Net>(
+// Reads where the link was told ready for it, and passes on what comes where the other can be written. Says whether
+// more may be passed on at once.
+fn read_told<N: Net>(
     net: &mut N,
-    own: ChanNo,
-    incoming: &mut Direction,
+    source: ChanNo,
+    sink: ChanNo,
+    direction: &mut Direction,
+    can_read: bool,
     can_write: bool,
-) -> Result<(), Failed>
-    requires ready { IsTrue can_write → IsTrue (is_within 4 (N.ready net.old own)) }
-    requires stands { (N.place net.old own).standing ≡ open_or_shut incoming.old.shut }
-    ensures sink { KeepsSink incoming.old incoming.new (N.link net.old own) (N.place net.old own) (N.link net.new own) (N.place net.new own) }
-    ensures source { SameSource incoming.old incoming.new }
-    ensures work { Works N.Net own own own net.old net.new }
-    ensures stands { (N.place net.new own).standing ≡ open_or_shut incoming.new.shut }
-    ensures cause { OnErr result (Rose (N.faults net.old own) (N.faults net.new own)) }
-    ensures calm { OnOk result (N.faults net.new own ≡ N.faults net.old own) }
+    scratch: &mut [u8],
+) -> Result<bool, Failed>
+    requires scratch { length scratch.old ≡ CAPACITY }
+    requires apart { source ≢ sink }
+    requires read { IsTrue can_read → IsTrue (is_within 1 (N.ready net.old source)) }
+    requires write { IsTrue can_write → IsTrue (is_within 4 (N.ready net.old sink)) }
+    requires linked { IsLinked (N.place net.old source).standing }
+    requires stands { (N.place net.old sink).standing ≡ open_or_shut direction.old.shut }
+    requires none_held { IsTrue can_write → held direction.old ≡ [] }
+    ensures passes { Passes N.Net source sink direction.old direction.new net.old net.new }
+    ensures cause { OnErr result (OneRose (N.faults net.old) (N.faults net.new) source sink) }
+    ensures calm { OnOk result (BothSame (N.faults net.old) (N.faults net.new) source sink) }
 {
-    if can_write {
-        write_all(net, own, incoming)
-    } else {
-        Ok(())
+    if !can_read {
+        return Ok(false);
     }
+    if can_write {
+        return pass_all(net, source, sink, direction, scratch);
+    }
+    read_all(net, source, direction, scratch)?;
+    Ok(false)
+}
+
+// Carries bytes from the link `source` to the link `sink`, as they were told ready. Says whether more may be passed on
+// at once.
+fn carry<N: Net>(
+    net: &mut N,
+    source: ChanNo,
+    sink: ChanNo,
+    direction: &mut Direction,
+    can_read: bool,
+    can_write: bool,
+    scratch: &mut [u8],
+) -> Result<bool, Failed>
+    requires scratch { length scratch.old ≡ CAPACITY }
+    requires apart { source ≢ sink }
+    requires read { IsTrue can_read → IsTrue (is_within 1 (N.ready net.old source)) }
+    requires write { IsTrue can_write → IsTrue (is_within 4 (N.ready net.old sink)) }
+    requires linked { IsLinked (N.place net.old source).standing }
+    requires stands { (N.place net.old sink).standing ≡ open_or_shut direction.old.shut }
+    ensures passes { Passes N.Net source sink direction.old direction.new net.old net.new }
+    ensures cause { OnErr result (OneRose (N.faults net.old) (N.faults net.new) source sink) }
+    ensures calm { OnOk result (BothSame (N.faults net.old) (N.faults net.new) source sink) }
+{
+    let takes_more = write_told(net, source, sink, direction, can_write)?;
+    read_told(net, source, sink, direction, can_read, takes_more, scratch)
 }
 
 // Shuts the link to which a direction writes, once all that it took is written.
@@ -178,7 +365,7 @@ fn pass_end<N: Net>(net: &mut N, own: ChanNo, incoming: &mut Direction) -> Resul
     requires stands { (N.place net.old own).standing ≡ open_or_shut incoming.old.shut }
     ensures sink { KeepsSink incoming.old incoming.new (N.link net.old own) (N.place net.old own) (N.link net.new own) (N.place net.new own) }
     ensures source { SameSource incoming.old incoming.new }
-    ensures work { (c : ChanNo) → Works N.Net own own c net.old net.new }
+    ensures work { Works N.Net own own net.old net.new }
     ensures cause { OnErr result (Rose (N.faults net.old own) (N.faults net.new own)) }
     ensures calm { OnOk result (N.faults net.new own ≡ N.faults net.old own) }
 {
@@ -189,30 +376,103 @@ fn pass_end<N: Net>(net: &mut N, own: ChanNo, incoming: &mut Direction) -> Resul
     Ok(())
 }
 
-// Reads and writes as a link was told ready, and passes on what has ended.
-pub(crate) fn serve_link<N: Net>(
+// Carries what the two links of a connection were told ready for, both ways.
+fn carry_both<N: Net>(
     net: &mut N,
-    own: ChanNo,
-    other: ChanNo,
-    outgoing: &mut Direction,
-    incoming: &mut Direction,
-    ops: Ops,
+    client: ChanNo,
+    target: ChanNo,
+    there: &mut Direction,
+    back: &mut Direction,
+    at_client: Ops,
+    at_target: Ops,
     scratch: &mut [u8],
-) -> Result<(), Failed>
+) -> Result<Flows, Failed>
     requires scratch { length scratch.old ≡ CAPACITY }
-    requires ready { IsTrue (is_within ops (N.ready net.old own)) }
-    requires apart { own ≢ other }
-    requires own { IsEnd (N.link net.old own) (N.place net.old own) (carried outgoing.old incoming.old) }
-    requires other { IsEnd (N.link net.old other) (N.place net.old other) (carried incoming.old outgoing.old) }
-    ensures own { IsEnd (N.link net.new own) (N.place net.new own) (carried outgoing.new incoming.new) }
-    ensures other { IsEnd (N.link net.new other) (N.place net.new other) (carried incoming.new outgoing.new) }
-    ensures work { Works N.Net own other own net.old net.new }
-    ensures cause { OnErr result (Rose (N.faults net.old own) (N.faults net.new own) ⊎ Rose (N.faults net.old other) (N.faults net.new other)) }
-    ensures calm { OnOk result ((N.faults net.new own ≡ N.faults net.old own) × (N.faults net.new other ≡ N.faults net.old other)) }
+    requires ready_client { IsTrue (is_within at_client (N.ready net.old client)) }
+    requires ready_target { IsTrue (is_within at_target (N.ready net.old target)) }
+    requires apart { client ≢ target }
+    requires client { IsEnd (N.link net.old client) (N.place net.old client) (carried there.old back.old) }
+    requires target { IsEnd (N.link net.old target) (N.place net.old target) (carried back.old there.old) }
+    ensures client { IsEnd (N.link net.new client) (N.place net.new client) (carried there.new back.new) }
+    ensures target { IsEnd (N.link net.new target) (N.place net.new target) (carried back.new there.new) }
+    ensures work { Works N.Net client target net.old net.new }
+    ensures cause { OnErr result (OneRose (N.faults net.old) (N.faults net.new) client target) }
+    ensures calm { OnOk result (BothSame (N.faults net.old) (N.faults net.new) client target) }
 {
-    let can_write = Ops::WRITE.within(ops);
-    read_told(net, own, outgoing, ops, scratch)?;
-    write_told(net, own, incoming, can_write)?;
-    pass_end(net, other, outgoing)?;
-    pass_end(net, own, incoming)
+    let client_reads = Ops::READ.within(at_client);
+    let client_writes = Ops::WRITE.within(at_client);
+    let target_reads = Ops::READ.within(at_target);
+    let target_writes = Ops::WRITE.within(at_target);
+    Ok(Flows {
+        there: carry(
+            net,
+            client,
+            target,
+            there,
+            client_reads,
+            target_writes,
+            scratch,
+        )?,
+        back: carry(
+            net,
+            target,
+            client,
+            back,
+            target_reads,
+            client_writes,
+            scratch,
+        )?,
+    })
+}
+
+// Passes on what has ended, both ways.
+fn pass_ends<N: Net>(
+    net: &mut N,
+    client: ChanNo,
+    target: ChanNo,
+    there: &mut Direction,
+    back: &mut Direction,
+) -> Result<(), Failed>
+    requires apart { client ≢ target }
+    requires client { IsEnd (N.link net.old client) (N.place net.old client) (carried there.old back.old) }
+    requires target { IsEnd (N.link net.old target) (N.place net.old target) (carried back.old there.old) }
+    ensures client { IsEnd (N.link net.new client) (N.place net.new client) (carried there.new back.new) }
+    ensures target { IsEnd (N.link net.new target) (N.place net.new target) (carried back.new there.new) }
+    ensures work { Works N.Net client target net.old net.new }
+    ensures cause { OnErr result (OneRose (N.faults net.old) (N.faults net.new) client target) }
+    ensures calm { OnOk result (BothSame (N.faults net.old) (N.faults net.new) client target) }
+{
+    pass_end(net, target, there)?;
+    pass_end(net, client, back)
+}
+
+// Carries what the two links of a connection were told ready for, and passes on what has ended. Says whether more may
+// be passed on at once.
+pub(crate) fn serve_links<N: Net>(
+    net: &mut N,
+    client: ChanNo,
+    target: ChanNo,
+    there: &mut Direction,
+    back: &mut Direction,
+    at_client: Ops,
+    at_target: Ops,
+    scratch: &mut [u8],
+) -> Result<Flows, Failed>
+    requires scratch { length scratch.old ≡ CAPACITY }
+    requires ready_client { IsTrue (is_within at_client (N.ready net.old client)) }
+    requires ready_target { IsTrue (is_within at_target (N.ready net.old target)) }
+    requires apart { client ≢ target }
+    requires client { IsEnd (N.link net.old client) (N.place net.old client) (carried there.old back.old) }
+    requires target { IsEnd (N.link net.old target) (N.place net.old target) (carried back.old there.old) }
+    ensures client { IsEnd (N.link net.new client) (N.place net.new client) (carried there.new back.new) }
+    ensures target { IsEnd (N.link net.new target) (N.place net.new target) (carried back.new there.new) }
+    ensures work { Works N.Net client target net.old net.new }
+    ensures cause { OnErr result (OneRose (N.faults net.old) (N.faults net.new) client target) }
+    ensures calm { OnOk result (BothSame (N.faults net.old) (N.faults net.new) client target) }
+{
+    let flows = carry_both(
+        net, client, target, there, back, at_client, at_target, scratch,
+    )?;
+    pass_ends(net, client, target, there, back)?;
+    Ok(flows)
 }

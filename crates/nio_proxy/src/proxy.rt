@@ -1,5 +1,5 @@
 //! The proxy at work: accepting, and serving what a selection tells.
-ghost use Rattle.std.specs.Prelude.{◌≡◌, ◌≤◌, ◌⊎◌, [], Err, IfOk, IsSome, IsTrue, OnOk, length, vec_capacity};
+ghost use Rattle.std.specs.Prelude.{◌≡◌, ◌≢◌, ◌≤◌, ◌⊎◌, [], Err, IfOk, IsSome, IsTrue, OnOk, length, vec_capacity};
 ghost use Rattle.nio_base.specs.declared.numbers.ChanNo.{ChanNo};
 ghost use Rattle.nio_bytes.specs.Cause.{Rose};
 ghost use Rattle.nio_link.specs.Links.{IsSameBut};
@@ -8,7 +8,8 @@ ghost use Rattle.nio_link.specs.declared.place.Standing.TheVariants.{Listening};
 ghost use Rattle.nio_steps.specs.KeyCalls.{is_within};
 ghost use Rattle.nio_proxy.specs.Board.{AreOrdered, AreReady};
 ghost use Rattle.nio_proxy.specs.Nets.{IsQuiet};
-ghost use Rattle.nio_proxy.specs.Serving.{listener};
+ghost use Rattle.nio_proxy.specs.Passing.{channel_after};
+ghost use Rattle.nio_proxy.specs.Serving.{client_of, listener, target_of};
 ghost use Rattle.nio_proxy.specs.Slots.{AreServed, ListensAt, Serving};
 ghost use Rattle.nio_proxy.specs.declared.serve.ServeError.TheVariants.{NetFault};
 
@@ -24,6 +25,13 @@ use std::sync::Wait;
 
 /// The channel of the listener.
 pub(crate) const LISTENER: ChanNo = ChanNo(0);
+
+// The first channel after those of the connection to which this one belongs; after the listener's the first of all.
+fn channel_after(chan: ChanNo) -> u64
+    ensures { result ≡ channel_after chan }
+{
+    2 * ((u64::from(chan.0) + 1) / 2) + 1
+}
 
 /// What a proxy works with. The listener is watched at its port until all connections were accepted.
 #[derive(Drop)]
@@ -130,41 +138,69 @@ impl Proxy {
         }
     }
 
-    // Does what one channel was told ready for.
+    // Does what the links of one connection were told ready for, and what comes of it for the table.
+    fn serve_links<N: Net>(
+        &mut self,
+        net: &mut N,
+        number: usize,
+        at_client: Ops,
+        at_target: Ops,
+        scratch: &mut [u8],
+    ) -> Result<(), ServeError>
+        requires scratch { length scratch.old ≡ CAPACITY }
+        requires ready_client { IsTrue (is_within at_client (N.ready net.old (client_of number))) }
+        requires ready_target { IsTrue (is_within at_target (N.ready net.old (target_of number))) }
+        requires served { AreServed (N.link net.old) (N.place net.old) self.old.connections }
+        ensures serving { Serving N.Net net.old net.new self.old.connections self.new.connections }
+        ensures listens { N.place net.new listener ≡ N.place net.old listener }
+        ensures port { self.new.port ≡ self.old.port }
+        ensures ready { (c : ChanNo) → c ≢ client_of number → c ≢ target_of number → N.ready net.new c ≡ N.ready net.old c }
+        ensures cause { result ≢ Err NetFault }
+    {
+        match self.connections.serve(net, &mut self.board, number, at_client, at_target, scratch) {
+            Ok(()) => Ok(()),
+            Err(Refused) => Err(ServeError::Memory),
+        }
+    }
+
+    // Does what a channel was told ready for: where it is a client's link, also what its target's link was told, if that
+    // comes next.
     fn serve_told<R: Wait, N: Net>(
         &mut self,
         rt: &R,
         alloc: Global,
         net: &mut N,
-        chan: ChanNo,
-        ops: Ops,
+        told: (ChanNo, Ops),
+        next: (ChanNo, Ops),
         scratch: &mut [u8],
     ) -> Result<(), ServeError>
         requires scratch { length scratch.old ≡ CAPACITY }
-        requires ready { IsTrue (is_within ops (N.ready net.old chan)) }
+        requires ready { IsTrue (is_within told.1 (N.ready net.old told.0)) }
+        requires ready_next { IsTrue (is_within next.1 (N.ready net.old next.0)) }
         requires listens { ListensAt self.old.port (N.place net.old listener).standing }
         requires served { AreServed (N.link net.old) (N.place net.old) self.old.connections }
         ensures serving { Serving N.Net net.old net.new self.old.connections self.new.connections }
         ensures listens { N.place net.new listener ≡ N.place net.old listener }
         ensures port { self.new.port ≡ self.old.port }
-        ensures ready { IsSameBut chan (N.ready net.old) (N.ready net.new) }
+        ensures ready { (c : ChanNo) → channel_after told.0 ≤ c.0 → N.ready net.new c ≡ N.ready net.old c }
         ensures cause { result ≡ Err NetFault → Rose (N.faults net.old listener) (N.faults net.new listener) }
     {
+        let (chan, ops) = told;
         if chan.0 == 0 {
-            self.accept_told(rt, alloc, net, ops)
+            return self.accept_told(rt, alloc, net, ops);
+        }
+        let number = (chan.0 as usize - 1) / 2;
+        if chan.0 % 2 == 0 {
+            self.serve_links(net, number, Ops::NONE, ops, scratch)
+        } else if next.0.0 as usize == 2 * number + 2 {
+            self.serve_links(net, number, ops, next.1, scratch)
         } else {
-            match self
-                .connections
-                .serve(net, &mut self.board, chan, ops, scratch)
-            {
-                Ok(()) => Ok(()),
-                Err(Refused) => Err(ServeError::Memory),
-            }
+            self.serve_links(net, number, ops, Ops::NONE, scratch)
         }
     }
 
-    // Does what a selection told: serves each told channel once. A channel that stands there twice is served for what
-    // was told of it first, since it may not be ready any more then; the next selection tells it again if it is.
+    // Does what a selection told: serves each connection once, with what was told first of each of its links. It may not
+    // be ready any more for what was told of it again; the next selection tells that if it is.
     fn serve_all<R: Wait, N: Net>(
         &mut self,
         rt: &R,
@@ -183,13 +219,15 @@ impl Proxy {
         ensures port { self.new.port ≡ self.old.port }
         ensures cause { result ≡ Err NetFault → Rose (N.faults net.old listener) (N.faults net.new listener) }
     {
-        let mut last = None;
-        for (chan, ops) in told {
-            if last == Some(*chan) {
+        let mut unserved = 0;
+        for index in 0..told.len() {
+            let one = told[index];
+            if (one.0.0 as u64) < unserved {
                 continue;
             }
-            last = Some(*chan);
-            let served = self.serve_told(rt, alloc, net, *chan, *ops, scratch);
+            let next = told[(index + 1).min(told.len() - 1)];
+            unserved = channel_after(one.0);
+            let served = self.serve_told(rt, alloc, net, one, next, scratch);
             if served.is_err() {
                 return served;
             }

@@ -12,13 +12,15 @@ ghost use Rattle.nio_link.specs.declared.place.Standing.TheVariants.{Connecting,
 ghost use Rattle.nio_relay.specs.Flow.{fresh};
 ghost use Rattle.nio_steps.specs.KeyCalls.{is_within};
 ghost use Rattle.nio_proxy.specs.Nets.{Begins, IsQuiet, Works};
+ghost use Rattle.nio_proxy.specs.Passing.{BothSame, OneRose};
 ghost use Rattle.nio_proxy.specs.Relaying.{standing_after_finish};
 ghost use Rattle.nio_proxy.specs.Serving.{listener};
 ghost use Rattle.nio_proxy.specs.declared.slot.Slot.TheVariants.{Live};
 ghost use Rattle.nio_proxy.specs.Slots.{IsRelaying, IsLive, IsSlot, IsSlotOf, HasRoles, has_ended, has_faulted};
 
 use crate::board::{Board, Port, Refused};
-use crate::link::serve_link;
+use crate::link::{Flows, serve_links};
+use crate::spare::Spare;
 use nio_base::{Addr, ChanNo, Kind, Ops};
 use nio_link::{Failed, Net};
 use nio_relay::{CAPACITY, Direction};
@@ -38,6 +40,7 @@ pub(crate) struct Relay {
     pub there: Direction,
     pub back: Direction,
     pub is_connected: bool,
+    pub flows: Flows,
     pub client: End,
     pub target: End,
 }
@@ -60,7 +63,7 @@ fn connect<N: Net>(net: &mut N, target: ChanNo, ops: Ops) -> Result<bool, Failed
     requires stands { (N.place net.old target).standing ≡ Connecting }
     ensures links { (c : ChanNo) → N.link net.new c ≡ N.link net.old c }
     ensures stands { (N.place net.new target).standing ≡ standing_after_finish result }
-    ensures work { Works N.Net target target target net.old net.new }
+    ensures work { Works N.Net target target net.old net.new }
     ensures cause { OnErr result (Rose (N.faults net.old target) (N.faults net.new target)) }
     ensures calm { OnOk result (N.faults net.new target ≡ N.faults net.old target) }
 {
@@ -73,51 +76,41 @@ fn connect<N: Net>(net: &mut N, target: ChanNo, ops: Ops) -> Result<bool, Failed
 
 #[tactic(auto)]
 impl Relay {
-    // Does what the one link was told ready for.
+    // Does what the two links were told ready for.
     fn advance<N: Net>(
         &mut self,
         net: &mut N,
         client: ChanNo,
         target: ChanNo,
-        at_client: bool,
-        ops: Ops,
+        at_client: Ops,
+        at_target: Ops,
         scratch: &mut [u8],
     ) -> Result<(), Failed>
         requires scratch { length scratch.old ≡ CAPACITY }
         requires apart { client ≢ target }
-        requires ready { IsTrue (is_within ops (N.ready net.old (if at_client then client else target))) }
+        requires ready_client { IsTrue (is_within at_client (N.ready net.old client)) }
+        requires ready_target { IsTrue (is_within at_target (N.ready net.old target)) }
         requires relaying { IsRelaying self.old.is_connected self.old.there self.old.back (N.link net.old client) (N.link net.old target) (N.place net.old client) (N.place net.old target) }
         ensures relaying { IsRelaying self.new.is_connected self.new.there self.new.back (N.link net.new client) (N.link net.new target) (N.place net.new client) (N.place net.new target) }
-        ensures work { Works N.Net client target (if at_client then client else target) net.old net.new }
-        ensures cause { OnErr result (Rose (N.faults net.old client) (N.faults net.new client) ⊎ Rose (N.faults net.old target) (N.faults net.new target)) }
-        ensures calm { OnOk result ((N.faults net.new client ≡ N.faults net.old client) × (N.faults net.new target ≡ N.faults net.old target)) }
+        ensures work { Works N.Net client target net.old net.new }
+        ensures cause { OnErr result (OneRose (N.faults net.old) (N.faults net.new) client target) }
+        ensures calm { OnOk result (BothSame (N.faults net.old) (N.faults net.new) client target) }
     {
-        if at_client && self.is_connected {
-            serve_link(
+        if self.is_connected {
+            self.flows = serve_links(
                 net,
                 client,
                 target,
                 &mut self.there,
                 &mut self.back,
-                ops,
+                at_client,
+                at_target,
                 scratch,
-            )
-        } else if at_client {
-            Ok(())
-        } else if self.is_connected {
-            serve_link(
-                net,
-                target,
-                client,
-                &mut self.back,
-                &mut self.there,
-                ops,
-                scratch,
-            )
+            )?;
         } else {
-            self.is_connected = connect(net, target, ops)?;
-            Ok(())
+            self.is_connected = connect(net, target, at_target)?;
         }
+        Ok(())
     }
 }
 
@@ -133,8 +126,15 @@ pub(crate) fn close_links<N: Net>(net: &mut N, client: ChanNo, target: ChanNo)
     net.close(target);
 }
 
-// Closes both links of a connection, and watches them no longer.
-fn hang_up<N: Net>(net: &mut N, board: &mut Board, client: ChanNo, target: ChanNo, relay: &Relay)
+// Closes both links of a connection, and watches them no longer. Its buffers are kept for another one.
+fn hang_up<N: Net>(
+    net: &mut N,
+    board: &mut Board,
+    spare: &mut Spare,
+    client: ChanNo,
+    target: ChanNo,
+    relay: Relay,
+)
     requires apart { client ≢ target }
     ensures quiet { IsQuiet N.Net net.old net.new }
     ensures places { (c : ChanNo) → c ≢ client → c ≢ target → N.place net.new c ≡ N.place net.old c }
@@ -144,6 +144,8 @@ fn hang_up<N: Net>(net: &mut N, board: &mut Board, client: ChanNo, target: ChanN
     close_links(net, client, target);
     board.unwatch(relay.client.port);
     board.unwatch(relay.target.port);
+    spare.give(relay.there);
+    spare.give(relay.back);
 }
 
 impl Slot {
@@ -166,6 +168,7 @@ impl Slot {
 fn settle<N: Net>(
     net: &mut N,
     board: &mut Board,
+    spare: &mut Spare,
     client: ChanNo,
     target: ChanNo,
     relay: Relay,
@@ -180,42 +183,44 @@ fn settle<N: Net>(
     ensures places { (c : ChanNo) → c ≢ client → c ≢ target → N.place net.new c ≡ N.place net.old c }
 {
     if served.is_err() {
-        hang_up(net, board, client, target, &relay);
+        hang_up(net, board, spare, client, target, relay);
         Slot::Faulted
     } else if relay.there.is_shut() && relay.back.is_shut() {
-        hang_up(net, board, client, target, &relay);
+        hang_up(net, board, spare, client, target, relay);
         Slot::Clean
     } else {
         Slot::Live(relay)
     }
 }
 
-/// Does what the one link of a connection was told ready for, and says what stands of the connection then.
+/// Does what the two links of a connection were told ready for, and says what stands of the connection then.
 pub(crate) fn serve_relay<N: Net>(
     net: &mut N,
     board: &mut Board,
+    spare: &mut Spare,
     client: ChanNo,
     target: ChanNo,
     relay: Relay,
-    at_client: bool,
-    ops: Ops,
+    at_client: Ops,
+    at_target: Ops,
     scratch: &mut [u8],
 ) -> Slot
     requires scratch { length scratch.old ≡ CAPACITY }
     requires apart { client ≢ target }
-    requires ready { IsTrue (is_within ops (N.ready net.old (if at_client then client else target))) }
+    requires ready_client { IsTrue (is_within at_client (N.ready net.old client)) }
+    requires ready_target { IsTrue (is_within at_target (N.ready net.old target)) }
     requires relaying { IsRelaying relay.is_connected relay.there relay.back (N.link net.old client) (N.link net.old target) (N.place net.old client) (N.place net.old target) }
     ensures slot { IsSlot (Some result) (N.link net.new client) (N.link net.new target) (N.place net.new client) (N.place net.new target) }
     ensures roles { (to : Addr) (r s : Role) → HasRoles to (Some (Live relay)) r s → HasRoles to (Some result) r s }
-    ensures faulty { IsTrue (has_faulted (Some result)) → Rose (N.faults net.old client) (N.faults net.new client) ⊎ Rose (N.faults net.old target) (N.faults net.new target) }
-    ensures calm { IsFalse (has_faulted (Some result)) → (N.faults net.new client ≡ N.faults net.old client) × (N.faults net.new target ≡ N.faults net.old target) }
-    ensures work { Works N.Net client target (if at_client then client else target) net.old net.new }
+    ensures faulty { IsTrue (has_faulted (Some result)) → OneRose (N.faults net.old) (N.faults net.new) client target }
+    ensures calm { IsFalse (has_faulted (Some result)) → BothSame (N.faults net.old) (N.faults net.new) client target }
+    ensures work { Works N.Net client target net.old net.new }
 {
     let mut relay = relay;
-    let served = relay.advance(net, client, target, at_client, ops, scratch);
+    let served = relay.advance(net, client, target, at_client, at_target, scratch);
     relay.there.law();
     relay.back.law();
-    settle(net, board, client, target, relay, served)
+    settle(net, board, spare, client, target, relay, served)
 }
 
 // A quarter of a direction's room.
@@ -226,14 +231,15 @@ fn awaits_bytes(direction: &Direction) -> bool {
     direction.want().read && direction.room() >= QUARTER
 }
 
-// What a link is watched for: the one direction takes from it, and the other writes to it.
-fn wanted(outgoing: &Direction, incoming: &Direction) -> Ops {
+// What a link is watched for: the one direction takes from it, and the other writes to it. It is also watched for
+// writing where more may come for it at once, so that the next selection tells whether that can be passed on.
+fn wanted(outgoing: &Direction, incoming: &Direction, flows: bool) -> Ops {
     let read = if awaits_bytes(outgoing) {
         Ops::READ
     } else {
         Ops::NONE
     };
-    let write = if incoming.want().write {
+    let write = if flows || incoming.want().write {
         Ops::WRITE
     } else {
         Ops::NONE
@@ -260,8 +266,10 @@ impl Relay {
         ensures connected { self.new.is_connected ≡ self.old.is_connected }
     {
         if self.is_connected {
-            self.client.watch(board, wanted(&self.there, &self.back))?;
-            self.target.watch(board, wanted(&self.back, &self.there))
+            self.client
+                .watch(board, wanted(&self.there, &self.back, self.flows.back))?;
+            self.target
+                .watch(board, wanted(&self.back, &self.there, self.flows.there))
         } else {
             Ok(())
         }
@@ -288,16 +296,17 @@ fn open_relay<R: Wait>(
     rt: &R,
     alloc: Global,
     board: &mut Board,
+    spare: &mut Spare,
     client: ChanNo,
     target: ChanNo,
 ) -> Result<Relay, Refused>
     ensures there { IfOk result (λ relay. relay.there ≡ fresh) }
     ensures back { IfOk result (λ relay. relay.back ≡ fresh) }
 {
-    let Ok(there) = Direction::make(alloc) else {
+    let Ok(there) = spare.take(alloc) else {
         return Err(Refused);
     };
-    let Ok(back) = Direction::make(alloc) else {
+    let Ok(back) = spare.take(alloc) else {
         return Err(Refused);
     };
     let client = board.watch(rt, client, Kind::Stream, Ops::NONE)?;
@@ -306,6 +315,7 @@ fn open_relay<R: Wait>(
         there,
         back,
         is_connected: false,
+        flows: Flows::NEITHER,
         client: End {
             port: client,
             interest: Ops::NONE,
@@ -322,6 +332,7 @@ fn open_relay<R: Wait>(
 fn connect_relay<N: Net>(
     net: &mut N,
     board: &mut Board,
+    spare: &mut Spare,
     client: ChanNo,
     target: ChanNo,
     relay: Relay,
@@ -346,7 +357,7 @@ fn connect_relay<N: Net>(
             Slot::Live(relay)
         }
         Err(Failed) => {
-            hang_up(net, board, client, target, &relay);
+            hang_up(net, board, spare, client, target, relay);
             Slot::Faulted
         }
     }
@@ -359,6 +370,7 @@ pub(crate) fn take_on<R: Wait, N: Net>(
     alloc: Global,
     net: &mut N,
     board: &mut Board,
+    spare: &mut Spare,
     client: ChanNo,
     target: ChanNo,
     to: Addr,
@@ -373,11 +385,11 @@ pub(crate) fn take_on<R: Wait, N: Net>(
     ensures calm { IsFalse (has_faulted (Some result.0)) → N.faults net.new target ≡ N.faults net.old target }
     ensures begins { Begins N.Net client target net.old net.new }
 {
-    let Ok(relay) = open_relay(rt, alloc, board, client, target) else {
+    let Ok(relay) = open_relay(rt, alloc, board, spare, client, target) else {
         net.close(client);
         return (Slot::Dropped, Err(Refused));
     };
-    let mut slot = connect_relay(net, board, client, target, relay, to);
+    let mut slot = connect_relay(net, board, spare, client, target, relay, to);
     let followed = slot.follow(board);
     (slot, followed)
 }

@@ -1,7 +1,7 @@
 -- What a direction holds and has written, told from its trace and its buffer.
-use Rattle.std.proofs.Common.{◌≡◌, ℕ, ◌+◌, ◌-◌, ◌≤◌, List, [], ◌++◌, length, take, drop, Bool, sym, ap, ◌∙◌, arith, length-append, length-drop}
-use Rattle.std.proofs.lemmas.List.{length-take-le}
-use Rattle.std.proofs.Math.Seq.{take-add, take-length, drop-append_seam}
+use Rattle.std.proofs.Common.{◌≡◌, ℕ, ◌+◌, ◌-◌, ◌≤◌, List, [], ◌++◌, length, take, drop, Bool, sym, ap, ◌∙◌, arith, append_assoc, length-append, length-drop}
+use Rattle.std.proofs.lemmas.List.{length-take-le, take-append-drop}
+use Rattle.std.proofs.Math.Seq.{take-add, take-append-add, take-length, drop-append_seam}
 use Rattle.circular_buffer.specs.Buffer.{Buffer}
 use Rattle.nio_relay.specs.Flow.{Flow, IsLawful}
 use Rattle.nio_relay.specs.Kept.{written_of, IsKept}
@@ -33,6 +33,26 @@ written_next taken items kept n left whole few left_is kept_is =
     let all_held : length (drop (length (written_of taken items)) taken) ≡ length items = ap length (held-items taken items whole) in
     let rest : length taken - length kept ≡ before + n = omega (arith, ap length kept_is, length-drop (length items - left) items) in
     rw (rest, at) (take-add before n taken)
+
+-- where nothing was held, the first n of these bytes were written at once, and the others are kept
+pub written_passed : (taken items bytes kept : List ℕ) (n : ℕ) → EndsWith taken items → items ≡ [] → n ≤ length bytes
+    → kept ≡ drop n bytes
+    → written_of (taken ++ bytes) kept
+    ≡ written_of taken items ++ take n (drop (length (written_of taken items)) (taken ++ bytes))
+written_passed taken items bytes kept n whole none few kept_is =
+    let before : written_of taken items ≡ taken = ap (written_of taken) none ∙ written_of-nil taken in
+    let count : length (taken ++ bytes) - length kept ≡ length taken + n
+    = omega (arith, ap length kept_is, length-drop n bytes, length-append taken bytes) in
+    rw (before, count, drop-append_seam taken bytes) (take-append-add taken bytes n)
+
+-- what was taken then ends with what is kept
+pub EndsWith-passed : (taken bytes kept : List ℕ) (n : ℕ) → n ≤ length bytes → kept ≡ drop n bytes
+    → EndsWith (taken ++ bytes) kept
+EndsWith-passed taken bytes kept n few kept_is =
+    let count : length (taken ++ bytes) - length kept ≡ length taken + n
+    = omega (arith, ap length kept_is, length-drop n bytes, length-append taken bytes) in
+    rw (count, take-append-add taken bytes n, kept_is)
+    (ap (λ xs. taken ++ xs) (sym (take-append-drop n bytes)) ∙ sym (append_assoc taken (take n bytes) (drop n bytes)))
 
 module _ (taken : List ℕ) (buffer : Buffer ℕ) (ended shut failed : Bool) where
   -- the flow that contracts see

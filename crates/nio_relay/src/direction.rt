@@ -123,6 +123,18 @@ impl Direction {
         self.buffer.truncate_front(self.buffer.len() - n);
     }
 
+    /// To be called once these bytes were read from the one end while none were held, and the first `n` of them were
+    /// written to the other end at once. Only the others are copied.
+    pub fn on_passed(&mut self, bytes: &[u8], n: usize)
+        requires bytes { MayTake self.old bytes.now }
+        requires none_held { held self.old ≡ [] }
+        requires within { n ≤ length bytes.now }
+        ensures { self.new ≡ writes (takes self.old bytes.now) n }
+    {
+        self.buffer.fill_from_slice(&bytes[n..]);
+        self.taken.extend(bytes);
+    }
+
     /// To be called once the one end's input has ended. What is held is still to be written.
     pub fn on_end(&mut self)
         ensures { self.new ≡ ends self.old }
@@ -143,6 +155,18 @@ impl Direction {
         ensures { self.new ≡ fails self.old }
     {
         self.failed = true;
+    }
+
+    /// To be called once its connection has ended, before it is used for another one: it is as one that was just made,
+    /// with the buffer that it has.
+    pub fn reset(&mut self)
+        ensures { self.new ≡ fresh }
+    {
+        self.buffer.clear();
+        self.taken = Trace::new();
+        self.ended = false;
+        self.shut = false;
+        self.failed = false;
     }
 
     /// A direction is lawful. Call it where a proof needs that.

@@ -36,11 +36,14 @@ const SHUT: Want = Want {
 enum Step {
     /// So many bytes are read.
     Read(usize),
+    /// So many bytes are read, and so many of them written at once.
+    Pass(usize, usize),
     /// Held bytes are written until so many are left.
     WriteTo(usize),
     End,
     Shut,
     Fault,
+    Reset,
 }
 
 /// A direction, what is still to be read by it, and all that it wrote.
@@ -55,6 +58,7 @@ impl Run<'_> {
     fn take(&mut self, rt: &impl Abort, step: Step) -> Result<(), Fail> {
         match step {
             Step::Read(count) => self.read(rt, count),
+            Step::Pass(count, at_once) => self.pass(rt, count, at_once)?,
             Step::WriteTo(left) => self.write_to(rt, left)?,
             Step::End => self.direction.on_end(),
             Step::Shut => {
@@ -62,6 +66,7 @@ impl Run<'_> {
                 self.direction.on_shut();
             }
             Step::Fault => self.direction.on_fault(),
+            Step::Reset => self.direction.reset(),
         }
         Ok(())
     }
@@ -73,6 +78,19 @@ impl Run<'_> {
         let (bytes, unread) = self.unread.split_at(count);
         self.direction.on_read(bytes);
         self.unread = unread;
+    }
+
+    fn pass(&mut self, rt: &impl Abort, count: usize, at_once: usize) -> Result<(), Fail> {
+        assert!(rt; self.direction.want().read);
+        assert!(rt; self.direction.front().is_empty());
+        assert!(rt; at_once <= count);
+        assert!(rt; count <= self.direction.room());
+        assert!(rt; count <= self.unread.len());
+        let (bytes, unread) = self.unread.split_at(count);
+        self.written.extend_from_slice(&bytes[..at_once])?;
+        self.direction.on_passed(bytes, at_once);
+        self.unread = unread;
+        Ok(())
     }
 
     /// What is held lies in two pieces at most.
@@ -108,6 +126,21 @@ const FILLS_WRAPS_ENDS_AND_SHUTS: &[(Step, usize, Want)] = &[
     (Step::End, 16_384, NOTHING),
 ];
 
+const PASSES_AND_IS_USED_AGAIN: &[(Step, usize, Want)] = &[
+    (Step::Pass(100, 100), 16_384, READ),
+    (Step::Pass(16_384, 6_384), 6_384, READ_WRITE),
+    (Step::WriteTo(0), 16_384, READ),
+    (Step::Pass(5, 0), 16_379, READ_WRITE),
+    (Step::WriteTo(0), 16_384, READ),
+    (Step::End, 16_384, SHUT),
+    (Step::Shut, 16_384, NOTHING),
+    (Step::Reset, 16_384, READ),
+    (Step::Read(7), 16_377, READ_WRITE),
+    (Step::Fault, 16_377, NOTHING),
+    (Step::WriteTo(0), 16_384, NOTHING),
+    (Step::Reset, 16_384, READ),
+];
+
 const FAILS_WITH_BYTES_HELD: &[(Step, usize, Want)] = &[
     (Step::Read(100), 16_284, READ_WRITE),
     (Step::Fault, 16_284, NOTHING),
@@ -125,6 +158,7 @@ fn directions_take_write_end_and_fail(rt: HostRuntime) -> Result<(), Fail> {
             FILLS_WRAPS_ENDS_AND_SHUTS,
             26_399,
         ),
+        ("passes and is used again", PASSES_AND_IS_USED_AGAIN, 16_496),
         ("fails with bytes held", FAILS_WITH_BYTES_HELD, 0),
     ] {
         let mut run = Run {

@@ -7,9 +7,10 @@ use Rattle.nio_proxy.proofs.link.read_all.Given as goal
 
 abbrev pub invariant-loop : goal.invariant-loop
 invariant-loop g l = record {
-  source : KeepsSource l.fn.outgoing l.outgoing (g.N.Net.link l.fn.net l.own) (g.N.Net.place l.fn.net l.own) (g.N.Net.link l.net l.own) (g.N.Net.place l.net l.own);
+  source : KeepsSource l.fn.outgoing l.outgoing (g.N.Net.link l.fn.net l.own) (g.N.Net.place l.fn.net l.own)
+      (g.N.Net.link l.net l.own) (g.N.Net.place l.net l.own);
   sink : SameSink l.fn.outgoing l.outgoing;
-  work : Works (seen g.N.Poller g.N.Net) l.own l.own l.own l.fn.net l.net;
+  work : Works (seen g.N.Poller g.N.Net) l.own l.own l.fn.net l.net;
   stands : g.N.Net.place l.net l.own ≡ g.N.Net.place l.fn.net l.own;
   calm : g.N.Net.faults l.net l.own ≡ g.N.Net.faults l.fn.net l.own;
   read : IsTrue (is_within 1 (g.N.Poller.ready l.net l.own));

@@ -1,6 +1,17 @@
-use Rattle.std.proofs.Common.{refl}
-use Rattle.nio_proxy.proofs.Bits.{within_trans}
+use Rattle.nio_proxy.proofs.Carrying.{passes_read}
+use Rattle.nio_proxy.proofs.Seen.{seen}
 use Rattle.nio_proxy.proofs.link.read_told.Goals as goal
 
-pub read_all-requires-clause-ready : goal.read_all-requires-clause-ready
-read_all-requires-clause-ready g c = within_trans 1 c.args.ops _ (c.if-within.ensures.0 refl) c.requires.ready
+pub returns-in_err-read_all-clause-passes : goal.returns-in_err-read_all-clause-passes
+returns-in_err-read_all-clause-passes g c =
+    let did = c.read_all.ensures in
+    passes_read (seen g.N.Poller g.N.Net) c.args.source c.args.sink _ _ _ _ c.requires.apart did.work did.source
+    did.sink
+    did.stands did.write
+
+pub returns-clause-passes : goal.returns-clause-passes
+returns-clause-passes g c =
+    let did = c.read_all.ensures in
+    passes_read (seen g.N.Poller g.N.Net) c.args.source c.args.sink _ _ _ _ c.requires.apart did.work did.source
+    did.sink
+    did.stands did.write

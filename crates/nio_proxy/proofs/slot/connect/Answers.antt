@@ -3,4 +3,8 @@ use Rattle.nio_proxy.proofs.Bits.{within_trans}
 use Rattle.nio_proxy.proofs.slot.connect.Goals as goal
 
 pub finish_connect-requires : goal.finish_connect-requires
-finish_connect-requires g c = record { ready = within_trans 8 c.args.ops _ (c.if-within.ensures.0 refl) c.requires.ready; connecting = c.requires.stands }
+finish_connect-requires g c =
+    record {
+      ready = within_trans 8 c.args.ops _ (c.if-within.ensures.0 refl) c.requires.ready;
+      connecting = c.requires.stands;
+    }

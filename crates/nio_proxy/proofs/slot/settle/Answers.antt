@@ -4,11 +4,13 @@ use Rattle.nio_proxy.proofs.slot.settle.Goals as goal
 
 pub returns-then-is_err-clause-slot : goal.returns-then-is_err-clause-slot
 returns-then-is_err-clause-slot g c =
-    ended_faulty c.args.relay.is_connected c.args.relay.there c.args.relay.back _ _ _ _ _ _ _ _ c.requires.live (c.hang_up.ensures.quiet.links c.args.client) (c.hang_up.ensures.quiet.links c.args.target)
+    ended_faulty c.args.relay.is_connected c.args.relay.there c.args.relay.back _ _ _ _ _ _ _ _ c.requires.live
+    (c.hang_up.ensures.quiet.links c.args.client) (c.hang_up.ensures.quiet.links c.args.target)
     c.hang_up.ensures.client c.hang_up.ensures.target
 
 pub returns-then-is_shut-2-clause-slot : goal.returns-then-is_shut-2-clause-slot
 returns-then-is_shut-2-clause-slot g c =
     let ended = c.hang_up-then-is_shut-2.ensures in
-    ended_clean c.args.relay.is_connected c.args.relay.there c.args.relay.back _ _ _ _ _ _ _ _ c.requires.live (ended.quiet.links c.args.client) (ended.quiet.links c.args.target) ended.client ended.target
+    ended_clean c.args.relay.is_connected c.args.relay.there c.args.relay.back _ _ _ _ _ _ _ _ c.requires.live
+    (ended.quiet.links c.args.client) (ended.quiet.links c.args.target) ended.client ended.target
     (sym c.is_shut.ensures ∙ c.if-is_shut.true) (sym c.is_shut-then-is_shut.ensures ∙ c.if-is_shut-2.true)

@@ -5,4 +5,5 @@ use Rattle.nio_proxy.proofs.board.selection.resolve.Goals as goal
 
 pub returns-clause-ordered : goal.returns-clause-ordered
 returns-clause-ordered c =
-    IsNonDecreasingBy-from_sort_by_key (λ (x : ChanNo × ℕ). x.0.0) _ c.sort_unstable_by_key.ensures.sorted (λ a r q k. search rules)
+    IsNonDecreasingBy-from_sort_by_key (λ (x : ChanNo × ℕ). x.0.0) _ c.sort_unstable_by_key.ensures.sorted
+    (λ a r q k. search rules)

@@ -3,7 +3,8 @@ use Rattle.nio_steps.proofs.PinLaws.{pins_are_given_back}
 use Rattle.nio_proxy.proofs.board.table.cancel_key.Goals as goal
 
 pub cancel-requires-clause-unpinned : goal.cancel-requires-clause-unpinned
-cancel-requires-clause-unpinned c = (idle_call (pins_are_given_back.find _ _ _ _) c.find.ensures.call c.find.ensures.ready c.requires).unpinned
+cancel-requires-clause-unpinned c =
+    (idle_call (pins_are_given_back.find _ _ _ _) c.find.ensures.call c.find.ensures.ready c.requires).unpinned
 
 pub returns-in-Some : goal.returns-in-Some
 returns-in-Some c =

@@ -6,7 +6,8 @@ pub close_channel-requires-clause-channel : goal.close_channel-requires-clause-c
 close_channel-requires-clause-channel g c = channel_after c.register.ensures.call.acts c.requires.channel
 
 pub returns-in-Ok-clause-idle : goal.returns-in-Ok-clause-idle
-returns-in-Ok-clause-idle g c = idle_after c.register.ensures.call.acts c.register.ensures.ready c.register.ensures.unpinned c.requires.idle
+returns-in-Ok-clause-idle g c =
+    idle_after c.register.ensures.call.acts c.register.ensures.ready c.register.ensures.unpinned c.requires.idle
 
 pub returns-in-Err-clause-idle : goal.returns-in-Err-clause-idle
 returns-in-Err-clause-idle g c =

@@ -3,7 +3,8 @@ use Rattle.nio_steps.proofs.PinLaws.{pins_are_given_back}
 use Rattle.nio_proxy.proofs.board.table.set_interest_of.Goals as goal
 
 pub set_interest-requires-clause-unpinned : goal.set_interest-requires-clause-unpinned
-set_interest-requires-clause-unpinned c = (idle_call (pins_are_given_back.find _ _ _ _) c.find.ensures.call c.find.ensures.ready c.requires).unpinned
+set_interest-requires-clause-unpinned c =
+    (idle_call (pins_are_given_back.find _ _ _ _) c.find.ensures.call c.find.ensures.ready c.requires).unpinned
 
 pub returns-in-Ok : goal.returns-in-Ok
 returns-in-Ok c =

@@ -14,24 +14,34 @@ loop-init g c = record {
 }
 
 pub returns-then-is_err-clause-serving : goal.returns-then-is_err-clause-serving
-returns-then-is_err-clause-serving g c = serving_then (seen g.N.Poller g.N.Net) _ _ _ _ _ _ c.loop.invariant.serving c.turn-turned.ensures.serving
+returns-then-is_err-clause-serving g c =
+    serving_then (seen g.N.Poller g.N.Net) _ _ _ _ _ _ c.loop.invariant.serving c.turn-turned.ensures.serving
 
 pub returns-then-is_err-clause-listens : goal.returns-then-is_err-clause-listens
-returns-then-is_err-clause-listens g c = listens_on _ _ _ _ c.turn-turned.ensures.port c.turn-turned.ensures.listens c.loop.invariant.listens
+returns-then-is_err-clause-listens g c =
+    listens_on _ _ _ _ c.turn-turned.ensures.port c.turn-turned.ensures.listens c.loop.invariant.listens
 
 pub returns-then-is_err-clause-role : goal.returns-then-is_err-clause-role
 returns-then-is_err-clause-role g c = ap (λ (p : Place). p.role) c.turn-turned.ensures.listens ∙ c.loop.invariant.role
 
 pub returns-then-is_err-clause-cause : goal.returns-then-is_err-clause-cause
-returns-then-is_err-clause-cause g c failed = cause_on (seen g.N.Poller g.N.Net) _ _ _ _ _ c.loop.invariant.serving (c.turn-turned.ensures.cause failed)
+returns-then-is_err-clause-cause g c failed =
+    cause_on (seen g.N.Poller g.N.Net) _ _ _ _ _ c.loop.invariant.serving (c.turn-turned.ensures.cause failed)
 
 pub loop-preserved : goal.loop-preserved
 loop-preserved g c = record {
-  serving = serving_quiet (seen g.N.Poller g.N.Net) _ _ _ _ _ _ (serving_then (seen g.N.Poller g.N.Net) _ _ _ _ _ _ c.loop.invariant.serving c.turn-turned.ensures.serving)
+  serving =
+      serving_quiet (seen g.N.Poller g.N.Net) _ _ _ _ _ _
+      (serving_then (seen g.N.Poller g.N.Net) _ _ _ _ _ _ c.loop.invariant.serving c.turn-turned.ensures.serving)
       c.stop_listening.ensures.quiet c.stop_listening.ensures.places c.stop_listening.ensures.connections;
   listens = c.stop_listening.ensures.listens;
-  role = role_stays _ _ (c.stop_listening.ensures.quiet.places listener) ∙ (ap (λ (p : Place). p.role) c.turn-turned.ensures.listens ∙ c.loop.invariant.role);
+  role = role_stays _ _ (c.stop_listening.ensures.quiet.places listener)
+      ∙ (ap (λ (p : Place). p.role) c.turn-turned.ensures.listens ∙ c.loop.invariant.role);
 }
 
 pub stop_listening-requires : goal.stop_listening-requires
-stop_listening-requires g c = record { listens = listens_on _ _ _ _ c.turn-turned.ensures.port c.turn-turned.ensures.listens c.loop.invariant.listens }
+stop_listening-requires g c =
+    record {
+      listens = listens_on _ _ _ _ c.turn-turned.ensures.port c.turn-turned.ensures.listens
+          c.loop.invariant.listens;
+    }

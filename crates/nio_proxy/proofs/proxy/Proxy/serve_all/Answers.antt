@@ -1,20 +1,13 @@
-use Rattle.std.proofs.Common.{◌≡◌, ◌≢◌, ℕ, ap, ◌∙◌, arith}
-use Rattle.nio_base.specs.declared.numbers.ChanNo.{ChanNo}
-use Rattle.nio_proxy.proofs.Ordered.{behind_last, rest_of_next}
-use Rattle.nio_proxy.proofs.Seen.{seen}
-use Rattle.nio_proxy.proofs.Slotting.{serving_then}
+use Rattle.std.proofs.Common.{arith}
+use Rattle.nio_proxy.proofs.Ordered.{still_ready}
 use Rattle.nio_proxy.proofs.proxy.Proxy.serve_all.Goals as goal
 
-pub loop-chan-preserved : goal.loop-chan-preserved
-loop-chan-preserved g c =
-    let item : ChanNo × ℕ = c.loop-chan-item.result in
-    record {
-      serving = serving_then (seen g.N.Poller g.N.Net) _ _ _ _ _ _ c.loop-chan.invariant.serving c.serve_told-served.ensures.serving;
-      listens = c.serve_told-served.ensures.listens ∙ c.loop-chan.invariant.listens;
-      port = c.serve_told-served.ensures.port ∙ c.loop-chan.invariant.port;
-      ready = λ d behind.
-          let other : d ≢ item.0 = λ same. let at : d.0 ≡ item.0.0 = ap (λ (x : ChanNo). x.0) same in omega (arith, at, behind) in
-          c.serve_told-served.ensures.ready d other
-          ∙ c.loop-chan.invariant.ready d (behind_last _ c.args.told.now _ item d c.loop-chan.invariant.rest c.loop-chan-test.true c.loop-chan-item.is behind);
-      rest = rest_of_next c.args.told.now _ item c.requires.ordered c.loop-chan-test.true c.loop-chan-item.is;
-    }
+pub serve_told-served-requires-clause-ready_next : goal.serve_told-served-requires-clause-ready_next
+serve_told-served-requires-clause-ready_next g c =
+    still_ready (g.N.Poller.ready c.args.net.now) (g.N.Poller.ready c.loop-index.net) c.args.told.now
+    c.loop-index.unserved c.loop-index.index c.min.result c.index-told-index.result c.index-told-min.result
+    c.requires.ready c.requires.ordered c.loop-index.invariant.ready c.index-told-index.is
+    (omega (arith, c.if-one-unserved.false))
+    (omega (arith, c.min.ensures, c.loop-index-test.true, c.loop-index.auto.index-end))
+    (omega (arith, c.min.ensures, c.loop-index-test.true, c.loop-index.auto.index-end))
+    c.index-told-min.is

@@ -5,4 +5,6 @@ use Rattle.nio_proxy.proofs.Working.{chan_as}
 use Rattle.nio_proxy.proofs.proxy.Proxy.serve_told.Goals as goal
 
 pub accept_told-requires-clause-ready : goal.accept_told-requires-clause-ready
-accept_told-requires-clause-ready g c = subst (λ x. IsTrue (is_within c.args.ops (g.N.Poller.ready c.args.net.now x))) (chan_as c.args.chan listener c.if-chan-eq0.true) c.requires.ready
+accept_told-requires-clause-ready g c =
+    subst (λ x. IsTrue (is_within c.args.told.1 (g.N.Poller.ready c.args.net.now x)))
+    (chan_as c.args.told.0 listener c.if-chan-eq0.true) c.requires.ready

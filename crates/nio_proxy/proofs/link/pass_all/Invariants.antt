@@ -1,0 +1,15 @@
+use Rattle.std.proofs.Common.{◌≡◌, [], IsTrue}
+use Rattle.nio_relay.specs.Flow.{held}
+use Rattle.nio_steps.specs.KeyCalls.{is_within}
+use Rattle.nio_proxy.specs.Passing.{BothSame, Passes}
+use Rattle.nio_proxy.proofs.Seen.{seen}
+use Rattle.nio_proxy.proofs.link.pass_all.Given as goal
+
+abbrev pub invariant-loop : goal.invariant-loop
+invariant-loop g l = record {
+  passes : Passes (seen g.N.Poller g.N.Net) l.source l.sink l.fn.direction l.direction l.fn.net l.net;
+  calm : BothSame (g.N.Net.faults l.fn.net) (g.N.Net.faults l.net) l.source l.sink;
+  read : IsTrue (is_within 1 (g.N.Poller.ready l.net l.source));
+  write : IsTrue (is_within 4 (g.N.Poller.ready l.net l.sink));
+  none_held : held l.direction ≡ [];
+}
