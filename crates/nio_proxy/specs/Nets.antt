@@ -19,7 +19,8 @@ Members N = record {
   place : N → ChanNo → Place;
 }
 
--- From a net x to a net y only the links a and b have carried more, have failed, stand in another way or may be ready for
+-- From a net x to a net y only the links a and b have carried more, have failed, stand in another way or may be ready
+-- for
 -- less. No channel was asked to be anything. No poll was made.
 pub record Works {N : Type 0} (n : Members N) (a b : ChanNo) (x y : N) : Type 0 where
   pub links : (c : ChanNo) → c ≢ a → c ≢ b → n.link y c ≡ n.link x c
@@ -39,7 +40,8 @@ pub record Accepts {N : Type 0} (n : Members N) (client : ChanNo) (x y : N) : Ty
   pub ready : (c : ChanNo) → n.ready y c ≡ n.ready x c
   pub polls : n.poll_faults y ≡ n.poll_faults x
 
--- A connection was begun: no link has carried more, only the target may have failed, and only the two links may stand in
+-- A connection was begun: no link has carried more, only the target may have failed, and only the two links may stand
+-- in
 -- another way. No channel is ready for less.
 pub record Begins {N : Type 0} (n : Members N) (client target : ChanNo) (x y : N) : Type 0 where
   pub links : (c : ChanNo) → n.link y c ≡ n.link x c
@@ -49,7 +51,8 @@ pub record Begins {N : Type 0} (n : Members N) (client target : ChanNo) (x y : N
   pub later : (c : ChanNo) → n.faults x c ≤ n.faults y c
   pub polls : n.poll_faults y ≡ n.poll_faults x
 
--- A link couldn't be accepted: no link has carried more, only the listener may have failed, and be ready for less, and only
+-- A link couldn't be accepted: no link has carried more, only the listener may have failed, and be ready for less, and
+-- only
 -- this channel stands in another way.
 pub record FailsToAccept {N : Type 0} (n : Members N) (client : ChanNo) (x y : N) : Type 0 where
   pub links : (c : ChanNo) → n.link y c ≡ n.link x c
@@ -59,7 +62,8 @@ pub record FailsToAccept {N : Type 0} (n : Members N) (client : ChanNo) (x y : N
   pub later : (c : ChanNo) → n.faults x c ≤ n.faults y c
   pub polls : n.poll_faults y ≡ n.poll_faults x
 
--- No link has carried more, no call failed, no channel's place has changed, and only the listener may be ready for less.
+-- No link has carried more, no call failed, no channel's place has changed, and only the listener may be ready for
+-- less.
 pub record IsStill {N : Type 0} (n : Members N) (x y : N) : Type 0 where
   pub links : (c : ChanNo) → n.link y c ≡ n.link x c
   pub places : (c : ChanNo) → n.place y c ≡ n.place x c

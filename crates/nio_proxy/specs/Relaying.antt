@@ -11,7 +11,8 @@ use Rattle.nio_proxy.specs.Serving.{HasCarried}
 
 -- what a link has carried of which one direction takes bytes and to which the other writes
 abbrev pub carried : Flow → Flow → Carried
-carried outgoing incoming = record { got = outgoing.taken; ended = outgoing.ended; put = incoming.written; shut = incoming.shut }
+carried outgoing incoming =
+    record { got = outgoing.taken; ended = outgoing.ended; put = incoming.written; shut = incoming.shut }
 
 -- what stands where a link is connected, and is shut or not
 abbrev pub open_or_shut : Bool → Standing

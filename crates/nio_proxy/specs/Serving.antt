@@ -1,5 +1,6 @@
 -- What a proxy promises.
-use Rattle.std.specs.Prelude.{◌≡◌, ℕ, zero, suc, ◌+◌, ◌*◌, ◌<◌, ◌⊎◌, Bool, IsTrue, IsFalse, if◌then◌else◌, IfSome, Result, Ok, Err}
+use Rattle.std.specs.Prelude.{◌≡◌, ℕ, zero, suc, ◌+◌, ◌*◌, ◌<◌, ◌⊎◌, Bool, IsTrue, IsFalse, if◌then◌else◌, IfSome}
+use Rattle.std.specs.Prelude.{Result, Ok, Err}
 use Rattle.nio_base.specs.declared.numbers.Addr.{Addr}
 use Rattle.nio_base.specs.declared.numbers.ChanNo.{ChanNo}
 use Rattle.nio_bytes.specs.Cause.{Rose}
@@ -59,7 +60,8 @@ RelaysBytes link = (k : ℕ) → HaveCarried AreRelayed (link (client_of k)) (li
 abbrev pub IsAtMost : Role → Role → Type 0
 IsAtMost wanted r = (r ≡ role.Nothing) ⊎ (r ≡ wanted)
 
--- At every end: nothing stands under any channel. Channels were asked to be nothing but a listener at the plan's address
+-- At every end: nothing stands under any channel. Channels were asked to be nothing but a listener at the plan's
+-- address
 -- and, for each connection of the plan, a link from it and one to the plan's target. Others carried nothing.
 pub record LeavesNothing (plan : ProxyPlan) (link : ChanNo → Link) (place : ChanNo → Place) : Type 0 where
   pub vacant : (c : ChanNo) → IsVacant (place c).standing
@@ -77,7 +79,8 @@ pub record WasBegun (target : Addr) (place : ChanNo → Place) (k : ℕ) : Type 
 
 -- the count of faults of one of the connection's two links rose
 abbrev pub HasFaulted : (ChanNo → ℕ) → (ChanNo → ℕ) → ℕ → Type 0
-HasFaulted before now k = Rose (before (client_of k)) (now (client_of k)) ⊎ Rose (before (target_of k)) (now (target_of k))
+HasFaulted before now k =
+    Rose (before (client_of k)) (now (client_of k)) ⊎ Rose (before (target_of k)) (now (target_of k))
 
 -- the counts of its two links are as they were
 pub record IsUnfaulted (before now : ChanNo → ℕ) (k : ℕ) : Type 0 where
@@ -95,7 +98,8 @@ count_below counted (suc n) = count_below counted n + (if counted n then 1 else 
 
 -- All connections of the plan were served. Some are counted as faulty: of each of those the count of faults of a link
 -- rose in this call. Each other one was clean, and its counts didn't rise.
-pub record HasServed (plan : ProxyPlan) (link : ChanNo → Link) (place : ChanNo → Place) (before now : ChanNo → ℕ) (served : Served) : Type 0 where
+pub record HasServed (plan : ProxyPlan) (link : ChanNo → Link) (place : ChanNo → Place) (before now : ChanNo → ℕ)
+    (served : Served) : Type 0 where
   pub connections : served.connections ≡ plan.conns
   pub begun : (k : ℕ) → k < plan.conns → WasBegun plan.target place k
   pub counted : ℕ → Bool
@@ -105,9 +109,11 @@ pub record HasServed (plan : ProxyPlan) (link : ChanNo → Link) (place : ChanNo
   pub clean : (k : ℕ) → k < plan.conns → IsFalse (counted k) → WasClean link k
 
 -- what the call answers: all were served; or the poller or the listener failed; or memory lacked
-abbrev pub Serves : ProxyPlan → (ChanNo → Link) → (ChanNo → Place) → (ChanNo → ℕ) → (ChanNo → ℕ) → ℕ → ℕ → Result Served ServeError → Type 0
+abbrev pub Serves : ProxyPlan → (ChanNo → Link) → (ChanNo → Place) → (ChanNo → ℕ) → (ChanNo → ℕ) → ℕ → ℕ
+    → Result Served ServeError → Type 0
 Serves plan link place before now polls_before polls_now (Ok served) = HasServed plan link place before now served
-Serves plan link place before now polls_before polls_now (Err NetFault) = Rose polls_before polls_now ⊎ Rose (before listener) (now listener)
+Serves plan link place before now polls_before polls_now (Err NetFault) =
+    Rose polls_before polls_now ⊎ Rose (before listener) (now listener)
 Serves plan link place before now polls_before polls_now (Err Memory) = Unit {0}
 
 -- no count of faults rose

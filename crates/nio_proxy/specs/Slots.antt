@@ -1,5 +1,6 @@
 -- What stands of each connection, and of all of them.
-use Rattle.std.specs.Prelude.{◌≡◌, ◌≢◌, ◌⊎◌, ℕ, ◌≤◌, Bool, true, false, IsTrue, IsFalse, Option, Some, None, List, length, slice_get, vec_capacity}
+use Rattle.std.specs.Prelude.{◌≡◌, ◌≢◌, ◌⊎◌, ℕ, ◌≤◌, Bool, true, false, IsTrue, IsFalse, Option, Some, None, List}
+use Rattle.std.specs.Prelude.{length, slice_get, vec_capacity}
 use Rattle.nio_base.specs.declared.numbers.Addr.{Addr}
 use Rattle.nio_base.specs.declared.numbers.ChanNo.{ChanNo}
 use Rattle.nio_link.specs.Links.{Link, IsUnused}
@@ -13,19 +14,22 @@ use Rattle.nio_relay.specs.Connection.{Carried, IsClean}
 use Rattle.nio_relay.specs.Flow.{Flow, IsLawful}
 use Rattle.nio_proxy.specs.Nets.{Members}
 use Rattle.nio_proxy.specs.Relaying.{carried, IsEnd, IsTarget}
-use Rattle.nio_proxy.specs.Serving.{HaveCarried, AreRelayed, HasFaulted, IsUnfaulted, client_of, target_of, count_below, listener}
+use Rattle.nio_proxy.specs.Serving.{HaveCarried, AreRelayed, HasFaulted, IsUnfaulted, client_of, target_of, count_below}
+use Rattle.nio_proxy.specs.Serving.{listener}
 use Rattle.nio_proxy.specs.declared.board.Port.{Port}
 use Rattle.nio_proxy.specs.declared.connections.Connections.{Connections}
 use Rattle.nio_proxy.specs.declared.slot.Slot.{Slot}
 use Rattle.nio_proxy.specs.declared.slot.Slot.TheVariants.{Live, Clean, Faulted, Dropped}
 
 -- one direction takes from the client what it writes to the target, and the other the other way round
-pub record IsRelaying (is_connected : Bool) (there back : Flow) (client target : Link) (at_client at_target : Place) : Type 0 where
+pub record IsRelaying (is_connected : Bool) (there back : Flow) (client target : Link)
+    (at_client at_target : Place) : Type 0 where
   pub by_client : IsEnd client at_client (carried there back)
   pub by_target : IsTarget is_connected target at_target (carried back there)
 
 -- while a connection is relayed
-pub record IsLive (is_connected : Bool) (there back : Flow) (client target : Link) (at_client at_target : Place) : Type 0 where
+pub record IsLive (is_connected : Bool) (there back : Flow) (client target : Link)
+    (at_client at_target : Place) : Type 0 where
   pub relaying : IsRelaying is_connected there back client target at_client at_target
   pub there_lawful : IsLawful there
   pub back_lawful : IsLawful back
@@ -52,7 +56,8 @@ pub record IsUnbegun (client target : Link) (at_client at_target : Place) : Type
 
 -- what the two links of a connection have carried and how they stand, by what stands of it
 abbrev pub IsSlot : Option Slot → Link → Link → Place → Place → Type 0
-IsSlot (Some (Live relay)) client target at_client at_target = IsLive relay.is_connected relay.there relay.back client target at_client at_target
+IsSlot (Some (Live relay)) client target at_client at_target =
+    IsLive relay.is_connected relay.there relay.back client target at_client at_target
 IsSlot (Some Clean) client target at_client at_target = HasEnded IsClean client target at_client at_target
 IsSlot (Some Faulted) client target at_client at_target = HasEnded AreRelayed client target at_client at_target
 IsSlot (Some Dropped) client target at_client at_target = IsDropped client target at_client at_target
@@ -72,7 +77,9 @@ pub record IsSlotOf (to : Addr) (slot : Option Slot) (client target : Link) (at_
   pub roles : HasRoles to slot at_client.role at_target.role
 
 abbrev pub AreSlots : Addr → (ChanNo → Link) → (ChanNo → Place) → List Slot → Type 0
-AreSlots to link place slots = (k : ℕ) → IsSlotOf to (slice_get slots k) (link (client_of k)) (link (target_of k)) (place (client_of k)) (place (target_of k))
+AreSlots to link place slots =
+    (k : ℕ) → IsSlotOf to (slice_get slots k) (link (client_of k)) (link (target_of k)) (place (client_of k))
+    (place (target_of k))
 
 -- the connection has ended
 abbrev pub has_ended : Option Slot → Bool
@@ -116,8 +123,10 @@ pub record Serving {N : Type 0} (n : Members N) (x y : N) (before now : Connecti
   pub target : now.target ≡ before.target
   pub faulty : (k : ℕ) → IsTrue (has_faulted (slice_get now.slots.items k))
       → IsTrue (has_faulted (slice_get before.slots.items k)) ⊎ HasFaulted (n.faults x) (n.faults y) k
-  pub lasting : (k : ℕ) → IsTrue (has_faulted (slice_get before.slots.items k)) → IsTrue (has_faulted (slice_get now.slots.items k))
-  pub unfaulted : (k : ℕ) → IsFalse (has_faulted (slice_get now.slots.items k)) → IsUnfaulted (n.faults x) (n.faults y) k
+  pub lasting : (k : ℕ) → IsTrue (has_faulted (slice_get before.slots.items k))
+      → IsTrue (has_faulted (slice_get now.slots.items k))
+  pub unfaulted : (k : ℕ) → IsFalse (has_faulted (slice_get now.slots.items k))
+      → IsUnfaulted (n.faults x) (n.faults y) k
   pub no_bytes : n.link y listener ≡ n.link x listener
   pub later : (c : ChanNo) → n.faults x c ≤ n.faults y c
   pub polls : n.poll_faults x ≤ n.poll_faults y

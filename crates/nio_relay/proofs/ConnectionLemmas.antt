@@ -26,5 +26,8 @@ pub connection : ConnectionLaw
 connection = record {
   relayed = flow-relayed;
   clean = λ there back client target there_lawful back_lawful of_there of_back there_shut back_shut.
-      record { there = flow-whole there client target there_lawful of_there there_shut; back = flow-whole back target client back_lawful of_back back_shut };
+      record {
+        there = flow-whole there client target there_lawful of_there there_shut;
+        back = flow-whole back target client back_lawful of_back back_shut;
+      };
 }

@@ -1,5 +1,6 @@
 -- What a direction holds and has written, told from its trace and its buffer.
-use Rattle.std.proofs.Common.{◌≡◌, ℕ, ◌+◌, ◌-◌, ◌≤◌, List, [], ◌++◌, length, take, drop, Bool, sym, ap, ◌∙◌, arith, append_assoc, length-append, length-drop}
+use Rattle.std.proofs.Common.{◌≡◌, ℕ, ◌+◌, ◌-◌, ◌≤◌, List, [], ◌++◌, length, take, drop, Bool, sym, ap, ◌∙◌, arith}
+use Rattle.std.proofs.Common.{append_assoc, length-append, length-drop}
 use Rattle.std.proofs.lemmas.List.{length-take-le, take-append-drop}
 use Rattle.std.proofs.Math.Seq.{take-add, take-append-add, take-length, drop-append_seam}
 use Rattle.circular_buffer.specs.Buffer.{Buffer}
@@ -13,7 +14,8 @@ EndsWith taken items = taken ≡ written_of taken items ++ items
 pub length-items : (taken items : List ℕ) → EndsWith taken items → length items ≤ length taken
 length-items taken items whole = omega (arith, ap length whole, length-append (written_of taken items) items)
 
-pub length-written_of : (taken items : List ℕ) → EndsWith taken items → length (written_of taken items) ≡ length taken - length items
+pub length-written_of : (taken items : List ℕ) → EndsWith taken items
+    → length (written_of taken items) ≡ length taken - length items
 length-written_of taken items whole = length-take-le (length taken - length items) taken (omega arith)
 
 -- what is held is what the buffer has
@@ -21,17 +23,22 @@ pub held-items : (taken items : List ℕ) → EndsWith taken items → drop (len
 held-items taken items whole = let w = written_of taken items in ap (drop (length w)) whole ∙ drop-append_seam w items
 
 pub written_of-nil : (taken : List ℕ) → written_of taken [] ≡ taken
-written_of-nil taken = let all : length taken - 0 ≡ length taken = omega arith in ap (λ (n : ℕ). take n taken) all ∙ take-length taken
+written_of-nil taken = let all : length taken - 0 ≡ length taken =
+    omega arith in ap (λ (n : ℕ). take n taken) all ∙ take-length taken
 
 -- once all but the last `left` items are dropped, the others are written
-pub written_next : (taken items kept : List ℕ) (n left : ℕ) → EndsWith taken items → n ≤ length (drop (length (written_of taken items)) taken) → left ≡ length items - n → kept ≡ drop (length items - left) items
+pub written_next : (taken items kept : List ℕ) (n left : ℕ) → EndsWith taken items
+    → n ≤ length (drop (length (written_of taken items)) taken) → left ≡ length items - n
+    → kept ≡ drop (length items - left) items
     → written_of taken kept ≡ written_of taken items ++ take n (drop (length (written_of taken items)) taken)
 written_next taken items kept n left whole few left_is kept_is =
     let before = length taken - length items in
     let fits : length items ≤ length taken = length-items taken items whole in
     let at : length (written_of taken items) ≡ before = length-written_of taken items whole in
-    let all_held : length (drop (length (written_of taken items)) taken) ≡ length items = ap length (held-items taken items whole) in
-    let rest : length taken - length kept ≡ before + n = omega (arith, ap length kept_is, length-drop (length items - left) items) in
+    let all_held : length (drop (length (written_of taken items)) taken) ≡ length items = ap length
+    (held-items taken items whole) in
+    let rest : length taken - length kept ≡ before
+    + n = omega (arith, ap length kept_is, length-drop (length items - left) items) in
     rw (rest, at) (take-add before n taken)
 
 -- where nothing was held, the first n of these bytes were written at once, and the others are kept

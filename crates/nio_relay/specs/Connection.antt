@@ -40,5 +40,6 @@ pub record IsFlowOf (f : Flow) (a b : Carried) : Type 0 where
 -- all of them; so a connection with both directions shut is clean
 pub record ConnectionLaw : Type 0 where
   pub relayed : (f : Flow) (a b : Carried) → IsLawful f → IsFlowOf f a b → IsRelayed a b
-  pub clean : (there back : Flow) (client target : Carried) → IsLawful there → IsLawful back → IsFlowOf there client target → IsFlowOf back target client
+  pub clean : (there back : Flow) (client target : Carried) → IsLawful there → IsLawful back
+      → IsFlowOf there client target → IsFlowOf back target client
       → IsTrue there.shut → IsTrue back.shut → IsClean client target

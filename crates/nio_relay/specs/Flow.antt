@@ -1,5 +1,6 @@
 -- What contracts see of one direction of a relayed connection, and what each call makes of it.
-use Rattle.std.specs.Prelude.{◌≡◌, ℕ, ◌-◌, ◌<◌, ◌≤◌, List, [], ◌++◌, length, take, drop, Bool, true, false, IsTrue, IsFalse}
+use Rattle.std.specs.Prelude.{◌≡◌, ℕ, ◌-◌, ◌<◌, ◌≤◌, List, [], ◌++◌, length, take, drop, Bool, true, false, IsTrue}
+use Rattle.std.specs.Prelude.{IsFalse}
 use mathlib.Core.List.{IsPrefix}
 
 -- all bytes that were taken from the one end and all that were written to the other, in order;

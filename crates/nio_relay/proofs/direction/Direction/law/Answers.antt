@@ -4,4 +4,6 @@ use Rattle.nio_relay.proofs.KeptLemmas.{seen-IsLawful}
 use Rattle.nio_relay.proofs.direction.Direction.law.Goals as goal
 
 pub returns : goal.returns
-returns c = let d = c.self.inside in subst IsLawful c.self.view_is (seen-IsLawful d.taken d.buffer d.ended d.shut d.failed c.self.invariant)
+returns c = let d =
+    c.self.inside in
+    subst IsLawful c.self.view_is (seen-IsLawful d.taken d.buffer d.ended d.shut d.failed c.self.invariant)
