@@ -66,6 +66,10 @@ module _ (l : Limits) (now : Progress) where
   named-stays me (call.Selected s) r waits = absurd (cc waits)
   named-stays me (call.Interrupt target) r waits = absurd (cc waits)
   named-stays me call.Interrupted r waits = absurd (cc waits)
+  named-stays me (call.Pipe target) r waits = absurd (cc waits)
+  named-stays me (call.Pwrite c bytes) r waits = absurd (cc waits)
+  named-stays me (call.Pread c n) r waits = absurd (cc waits)
+  named-stays me (call.Group g) r waits = absurd (cc waits)
 
   pub line_stays : (me : CallerNo) (word : Call) (acts : List Act) (said : Said) (r : Reply) → waits_for_hold word r ≡ true → Completes (line_plan l now me word) acts said → said.left ≡ now
   unfolding line_plan

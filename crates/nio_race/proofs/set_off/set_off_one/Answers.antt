@@ -22,8 +22,8 @@ returns-in-Ok-clause-ok c =
         pass = c.in-Ok.ensures;
         places = left_places w d d' own n c.requires.places begun.moved shut.moved (begun.from, begun.to, shut.from, shut.to)
             (made_for w d.pass c.hand_over.new.p d.pipes.items c.in-Ok.ensures.sees.sight c.requires.places.pipes);
-        own_places = moved_places w d d' own n c.requires.places begun.moved shut.moved (begun.from, begun.to, shut.from, shut.to) c.new.ensures;
-        own = moved_progress w d d' own n c.requires.places begun.moved shut.moved (begun.from, begun.to, shut.from, shut.to) refl c.new.ensures;
+        own_places = moved_places w d d' own n c.requires.places begun.moved shut.moved (begun.from, begun.to, shut.from, shut.to) c.new.ensures.items;
+        own = moved_progress w d d' own n c.requires.places begun.moved shut.moved (begun.from, begun.to, shut.from, shut.to) refl c.new.ensures.items;
         others = left_progress w d d' own n c.requires.places begun.moved shut.moved (begun.from, begun.to, shut.from, shut.to);
         unanswered = c.in_ok-replies.ensures.items;
         in_memory = refl;
