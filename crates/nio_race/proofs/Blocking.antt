@@ -1,5 +1,7 @@
 -- The line `block`.
-use Rattle.std.proofs.Common.{◌≡◌, ℕ, ◌==◌, not, Bool, true, false, Option, Some, None, List, [], ◌∷◌, All, map, ◌++◌, bit_and, if◌then◌else◌, Result, Ok, Err, IfOk, ⊎_elim, arith, refl, sym, ap, ◌∙◌, subst, eqb-true, eq-eqb}
+use Rattle.std.proofs.Common.{◌≡◌, ℕ, ◌==◌, not, Bool, true, false, Option, Some, None, List, [], ◌∷◌, All, map, ◌++◌}
+use Rattle.std.proofs.Common.{bit_and, if◌then◌else◌, Result, Ok, Err, IfOk, ⊎_elim, arith, refl, sym, ap, ◌∙◌, subst}
+use Rattle.std.proofs.Common.{eqb-true, eq-eqb}
 use Rattle.std.proofs.Math.Logic.{∥∥₁_map}
 use Rattle.std.proofs.lemmas.List.{append-nil}
 use Rattle.std.proofs.lemmas.List.Elements.{All-cons, All-head, All-nil, All-tail}
@@ -50,7 +52,8 @@ and_none : (n : ℕ) → bit_and n 0 ≡ 0
 and_none n = same_from_bits (bit_and n 0) 0 (λ i. simp (bit_at_and) (omega arith))
 
 -- where no channel is ready no mark succeeds
-unmarked : {before after : List Polled} {me : CallerNo} {s : SelNo} {v0 v1 : PassView} {result : Result Selected SelectError} → SelectClause me s Wait v0 v1 (Some before) (Some after) (λ _. 0) result
+unmarked : {before after : List Polled} {me : CallerNo} {s : SelNo} {v0 v1 : PassView}
+    {result : Result Selected SelectError} → SelectClause me s Wait v0 v1 (Some before) (Some after) (λ _. 0) result
     → (x : SelNo) (i told : ℕ) (from : KeyMark) → Contains (done_between me v0 v1) (Mark x i from told (Ok tt)) → ⊥
 unmarked clause x i told from there =
     let ready = clause.marks x i told from there in
@@ -61,7 +64,8 @@ unmarked clause x i told from there =
 
 all_back : {A B : Type 0} (P : B → Type 0) (f : A → B) (xs : List A) → All P (map f xs) → All (λ x. P (f x)) xs
 all_back P f [] each = All-nil (λ x. P (f x))
-all_back P f (x ∷ xs) each = All-cons (λ y. P (f y)) x xs (All-head P (f x) (map f xs) each) (all_back P f xs (All-tail P (f x) (map f xs) each))
+all_back P f (x ∷ xs) each =
+    All-cons (λ y. P (f y)) x xs (All-head P (f x) (map f xs) each) (all_back P f xs (All-tail P (f x) (map f xs) each))
 
 same_item : {A : Type 0} {x y : A} → Some x ≡ Some y → x ≡ y
 same_item e = cc
@@ -80,7 +84,9 @@ untold_from looked (first ∷ later) each =
     (all_back P (polled looked) later (All-tail P at_once (map (polled looked) later) each))
 
 -- the same of a poller that told nothing before the selection
-untold : {before after : List Polled} {me : CallerNo} {s : SelNo} {v0 v1 : PassView} {result : Result Selected SelectError} (clause : SelectClause me s Wait v0 v1 (Some before) (Some after) (λ _. 0) result)
+untold : {before after : List Polled} {me : CallerNo} {s : SelNo} {v0 v1 : PassView}
+    {result : Result Selected SelectError}
+    (clause : SelectClause me s Wait v0 v1 (Some before) (Some after) (λ _. 0) result)
     → before ≡ [] → AreStillUntold before after → All TellsNothing (told_from clause.polls)
 untold {before} {after} clause none still =
     let polls = polls_of (looked_by clause.call.shape.middle) Wait clause.polls in
@@ -104,9 +110,12 @@ said_closed (not_begun begin_error.Busy) is = absurd is
 said_closed (not_begun begin_error.Memory) is = absurd (cc is)
 said_closed left is = ⊎_elim (λ fault. absurd (cc fault)) (λ memory. absurd (cc memory)) is
 
-module _ (w : Words) (d d' : Desk) (me : CallerNo) (s : SelNo) {before after : List Polled} (none : before ≡ []) (still : AreStillUntold before after) where
+module _ (w : Words) (d d' : Desk) (me : CallerNo) (s : SelNo) {before after : List Polled} (none : before ≡ [])
+    (still : AreStillUntold before after) where
   -- the selection answered
-  pub blocks_selected : (x : Selected) → SelectClause me s Wait (view w d.pass) (view w d'.pass) (Some before) (Some after) (λ _. 0) (Ok x) → progress_of d' ≡ with_selection (progress_of d) s None
+  pub blocks_selected : (x : Selected)
+      → SelectClause me s Wait (view w d.pass) (view w d'.pass) (Some before) (Some after) (λ _. 0) (Ok x)
+      → progress_of d' ≡ with_selection (progress_of d) s None
       → BlocksOn w d d' me s (reply.Selected x.count x.why)
   blocks_selected x clause leaves =
       call_as (Blocks (progress_of d) s) (record { reply = reply.Selected x.count x.why; left = progress_of d' })
@@ -119,11 +128,22 @@ module _ (w : Words) (d d' : Desk) (me : CallerNo) (s : SelNo) {before after : L
         says = ap (λ (p : Progress). record { reply = reply.Selected x.count x.why; left = p }) leaves;
       }) its
     where
-      its : CallClause me (λ xs (r : SelectReply). Selects s Wait (told_from clause.polls) xs r × ((y : SelNo) (i told : ℕ) (from : KeyMark) → Contains xs (Mark y i from told (Ok tt)) → ⊥)) (view w d.pass) (view w d'.pass) (selected x)
-      its = record { acts = clause.call.acts; shape = (subst (λ (r : SelectReply). Selects s Wait (told_from clause.polls) (done_between me (view w d.pass) (view w d'.pass)) r) (said_selected clause.reply x clause.answers) clause.call.shape, unmarked clause) }
+      its : CallClause me (λ xs (r : SelectReply). Selects s Wait (told_from clause.polls) xs r
+          × ((y : SelNo) (i told : ℕ) (from : KeyMark) → Contains xs (Mark y i from told (Ok tt)) → ⊥)) (view w d.pass)
+          (view w d'.pass) (selected x)
+      its = record {
+        acts = clause.call.acts;
+        shape = (
+          subst (λ (r : SelectReply). Selects s Wait (told_from clause.polls)
+              (done_between me (view w d.pass) (view w d'.pass)) r) (said_selected clause.reply x clause.answers)
+              clause.call.shape,
+          unmarked clause,
+        );
+      }
 
   -- the selector is closed
-  pub blocks_closed : SelectClause me s Wait (view w d.pass) (view w d'.pass) (Some before) (Some after) (λ _. 0) (Err select_error.ClosedSelector) → progress_of d' ≡ progress_of d
+  pub blocks_closed : SelectClause me s Wait (view w d.pass) (view w d'.pass) (Some before) (Some after) (λ _. 0)
+      (Err select_error.ClosedSelector) → progress_of d' ≡ progress_of d
       → BlocksOn w d d' me s reply.ClosedSelector
   blocks_closed clause leaves =
       call_as (Blocks (progress_of d) s) (record { reply = reply.ClosedSelector; left = progress_of d' })
@@ -136,8 +156,18 @@ module _ (w : Words) (d d' : Desk) (me : CallerNo) (s : SelNo) {before after : L
         says = ap (λ (p : Progress). record { reply = reply.ClosedSelector; left = p }) leaves;
       }) its
     where
-      its : CallClause me (λ xs (r : SelectReply). Selects s Wait (told_from clause.polls) xs r × ((y : SelNo) (i told : ℕ) (from : KeyMark) → Contains xs (Mark y i from told (Ok tt)) → ⊥)) (view w d.pass) (view w d'.pass) (not_begun begin_error.ClosedSelector)
-      its = record { acts = clause.call.acts; shape = (subst (λ (r : SelectReply). Selects s Wait (told_from clause.polls) (done_between me (view w d.pass) (view w d'.pass)) r) (said_closed clause.reply clause.answers) clause.call.shape, unmarked clause) }
+      its : CallClause me (λ xs (r : SelectReply). Selects s Wait (told_from clause.polls) xs r
+          × ((y : SelNo) (i told : ℕ) (from : KeyMark) → Contains xs (Mark y i from told (Ok tt)) → ⊥)) (view w d.pass)
+          (view w d'.pass) (not_begun begin_error.ClosedSelector)
+      its = record {
+        acts = clause.call.acts;
+        shape = (
+          subst (λ (r : SelectReply). Selects s Wait (told_from clause.polls)
+              (done_between me (view w d.pass) (view w d'.pass)) r) (said_closed clause.reply clause.answers)
+              clause.call.shape,
+          unmarked clause,
+        );
+      }
 
 module _ (w : Words) (d d' : Desk) (me : CallerNo) (s : SelNo) where
   -- ---- the whole line
@@ -146,7 +176,9 @@ module _ (w : Words) (d d' : Desk) (me : CallerNo) (s : SelNo) where
       → CallClause me (Completes (find_selector_plan (limits_of w) s.0)) (view w d.pass) (view w d1.pass) (Some found)
       → BlocksOn w d1 d' me s r → LineOn w d d' me (Block s) r
   blocks_found d1 found r same looks blocks =
-      then_call looks (subst (λ (p : Progress). CallClause me (Blocks p s) (view w d1.pass) (view w d'.pass) (record { reply = r; left = progress_of d' })) same blocks)
+      then_call looks
+      (subst (λ (p : Progress). CallClause me (Blocks p s) (view w d1.pass) (view w d'.pass)
+      (record { reply = r; left = progress_of d' })) same blocks)
 
   -- the same of what may lack memory
   pub line_of_found : (d1 : Desk) (found : SelNo) (result : Result Reply AllocError) → progress_of d1 ≡ progress_of d
@@ -155,10 +187,12 @@ module _ (w : Words) (d d' : Desk) (me : CallerNo) (s : SelNo) where
   line_of_found d1 found (Ok r) same looks blocks = blocks_found d1 found r same looks blocks
   line_of_found d1 found (Err e) same looks blocks = tt
 
-  pub blocks_nowhere : progress_of d' ≡ progress_of d → CallClause me (Completes (find_selector_plan (limits_of w) s.0)) (view w d.pass) (view w d'.pass) None
+  pub blocks_nowhere : progress_of d' ≡ progress_of d
+      → CallClause me (Completes (find_selector_plan (limits_of w) s.0)) (view w d.pass) (view w d'.pass) None
       → LineOn w d d' me (Block s) reply.NoSelector
   blocks_nowhere same looks =
-      call_as (LooksAndBlocks (limits_of w) (progress_of d) s) (record { reply = reply.NoSelector; left = progress_of d' })
+      call_as (LooksAndBlocks (limits_of w) (progress_of d) s)
+      (record { reply = reply.NoSelector; left = progress_of d' })
       (λ xs run. record {
         first = xs;
         middle = None;
@@ -172,40 +206,66 @@ module _ (w : Words) (d d' : Desk) (me : CallerNo) (s : SelNo) where
 
 module _ (w : Words) (d d' : Desk) (me : CallerNo) (stands : StandsFor w d me) where
   -- after a look-up
-  pub stands_looked : (n : ℕ) (found : Option SelNo) → IsReady w d'.pass me → HasPlaces w d' → progress_of d' ≡ progress_of d
-      → CallClause me (Completes (find_selector_plan (limits_of w) n)) (view w d.pass) (view w d'.pass) found → StandsFor w d' me
+  pub stands_looked : (n : ℕ) (found : Option SelNo) → IsReady w d'.pass me → HasPlaces w d'
+      → progress_of d' ≡ progress_of d
+      → CallClause me (Completes (find_selector_plan (limits_of w) n)) (view w d.pass) (view w d'.pass) found
+      → StandsFor w d' me
   stands_looked n found ready places same looks =
       stands_made w d' me stands.caller ready places
-      (∥∥₁_map stands.made (λ m. subst (λ (acts : List Act). HasMade (limits_of w) acts me (progress_of d')) (sym looks.acts.history.own)
-      (subst (λ (p : Progress). HasMade (limits_of w) (acts_seen d.pass me ++ done_between me (view w d.pass) (view w d'.pass)) me p) (sym same)
-      (made_more (limits_of w) (acts_seen d.pass me) (done_between me (view w d.pass) (view w d'.pass)) me (progress_of d) (progress_of d) (find_selector n found) m looks.shape tt m.ongoing))))
+      (∥∥₁_map stands.made
+      (λ m. subst (λ (acts : List Act). HasMade (limits_of w) acts me (progress_of d')) (sym looks.acts.history.own)
+      (subst (λ (p : Progress). HasMade (limits_of w)
+      (acts_seen d.pass me ++ done_between me (view w d.pass) (view w d'.pass)) me p) (sym same)
+      (made_more (limits_of w) (acts_seen d.pass me) (done_between me (view w d.pass) (view w d'.pass)) me
+      (progress_of d) (progress_of d) (find_selector n found) m looks.shape tt m.ongoing))))
 
-  put_own : (s s' : SelNo) (m : HasMade (limits_of w) (acts_seen d.pass me) me (progress_of d)) → IsOngoing me (with_selection (progress_of d) s None) (selecting (after_calls nothing_ongoing m.calls) s None)
+  put_own : (s s' : SelNo) (m : HasMade (limits_of w) (acts_seen d.pass me) me (progress_of d))
+      → IsOngoing me (with_selection (progress_of d) s None) (selecting (after_calls nothing_ongoing m.calls) s None)
   put_own s s' m = record {
     selection = λ k. by_place k (k == s.0);
     closes = m.ongoing.closes;
   }
     where
-      by_place : (k : ℕ) (b : Bool) → (if b then None else (after_calls nothing_ongoing m.calls).selection k) ≡ if_own me (if b then None else (progress_of d).selection k)
+      by_place : (k : ℕ) (b : Bool)
+          → (if b then None else (after_calls nothing_ongoing m.calls).selection k)
+          ≡ if_own me (if b then None else (progress_of d).selection k)
       by_place k true = refl
       by_place k false = m.ongoing.selection k
 
   -- after a selection that answered
-  pub stands_selected : {before after : List Polled} (s : SelNo) (x : Selected) → IsReady w d'.pass me → HasPlaces w d' → progress_of d' ≡ with_selection (progress_of d) s None
-      → SelectClause me s Wait (view w d.pass) (view w d'.pass) (Some before) (Some after) (λ _. 0) (Ok x) → StandsFor w d' me
+  pub stands_selected : {before after : List Polled} (s : SelNo) (x : Selected) → IsReady w d'.pass me → HasPlaces w d'
+      → progress_of d' ≡ with_selection (progress_of d) s None
+      → SelectClause me s Wait (view w d.pass) (view w d'.pass) (Some before) (Some after) (λ _. 0) (Ok x)
+      → StandsFor w d' me
   stands_selected s x ready places leaves clause =
       stands_made w d' me stands.caller ready places
-      (∥∥₁_map stands.made (λ m. subst (λ (acts : List Act). HasMade (limits_of w) acts me (progress_of d')) (sym clause.call.acts.history.own)
-      (subst (λ (p : Progress). HasMade (limits_of w) (acts_seen d.pass me ++ done_between me (view w d.pass) (view w d'.pass)) me p) (sym leaves)
-      (made_more (limits_of w) (acts_seen d.pass me) (done_between me (view w d.pass) (view w d'.pass)) me (progress_of d) (with_selection (progress_of d) s None) (select s Wait (told_from clause.polls) (selected x)) m
-      (subst (λ (r : SelectReply). Selects s Wait (told_from clause.polls) (done_between me (view w d.pass) (view w d'.pass)) r) (said_selected clause.reply x clause.answers) clause.call.shape) tt (put_own s s m)))))
+      (∥∥₁_map stands.made
+      (λ m. subst (λ (acts : List Act). HasMade (limits_of w) acts me (progress_of d'))
+      (sym clause.call.acts.history.own)
+      (subst (λ (p : Progress). HasMade (limits_of w)
+      (acts_seen d.pass me ++ done_between me (view w d.pass) (view w d'.pass)) me p) (sym leaves)
+      (made_more (limits_of w) (acts_seen d.pass me) (done_between me (view w d.pass) (view w d'.pass)) me
+      (progress_of d) (with_selection (progress_of d) s None) (select s Wait (told_from clause.polls) (selected x))
+      m
+      (subst (λ (r : SelectReply). Selects s Wait (told_from clause.polls)
+      (done_between me (view w d.pass) (view w d'.pass)) r) (said_selected clause.reply x clause.answers)
+      clause.call.shape) tt (put_own s s m)))))
 
   -- after one that found the selector closed
-  pub stands_closed : {before after : List Polled} (s : SelNo) → IsReady w d'.pass me → HasPlaces w d' → progress_of d' ≡ progress_of d
-      → SelectClause me s Wait (view w d.pass) (view w d'.pass) (Some before) (Some after) (λ _. 0) (Err select_error.ClosedSelector) → StandsFor w d' me
+  pub stands_closed : {before after : List Polled} (s : SelNo) → IsReady w d'.pass me → HasPlaces w d'
+      → progress_of d' ≡ progress_of d
+      → SelectClause me s Wait (view w d.pass) (view w d'.pass) (Some before) (Some after) (λ _. 0)
+      (Err select_error.ClosedSelector) → StandsFor w d' me
   stands_closed s ready places same clause =
       stands_made w d' me stands.caller ready places
-      (∥∥₁_map stands.made (λ m. subst (λ (acts : List Act). HasMade (limits_of w) acts me (progress_of d')) (sym clause.call.acts.history.own)
-      (subst (λ (p : Progress). HasMade (limits_of w) (acts_seen d.pass me ++ done_between me (view w d.pass) (view w d'.pass)) me p) (sym same)
-      (made_more (limits_of w) (acts_seen d.pass me) (done_between me (view w d.pass) (view w d'.pass)) me (progress_of d) (progress_of d) (select s Wait (told_from clause.polls) (not_begun begin_error.ClosedSelector)) m
-      (subst (λ (r : SelectReply). Selects s Wait (told_from clause.polls) (done_between me (view w d.pass) (view w d'.pass)) r) (said_closed clause.reply clause.answers) clause.call.shape) tt m.ongoing))))
+      (∥∥₁_map stands.made
+      (λ m. subst (λ (acts : List Act). HasMade (limits_of w) acts me (progress_of d'))
+      (sym clause.call.acts.history.own)
+      (subst (λ (p : Progress). HasMade (limits_of w)
+      (acts_seen d.pass me ++ done_between me (view w d.pass) (view w d'.pass)) me p) (sym same)
+      (made_more (limits_of w) (acts_seen d.pass me) (done_between me (view w d.pass) (view w d'.pass)) me
+      (progress_of d) (progress_of d)
+      (select s Wait (told_from clause.polls) (not_begun begin_error.ClosedSelector)) m
+      (subst (λ (r : SelectReply). Selects s Wait (told_from clause.polls)
+      (done_between me (view w d.pass) (view w d'.pass)) r) (said_closed clause.reply clause.answers)
+      clause.call.shape) tt m.ongoing))))

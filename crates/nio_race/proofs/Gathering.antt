@@ -1,5 +1,6 @@
 -- The passes of a race are joined one after the other.
-use Rattle.std.proofs.Common.{◌≡◌, ℕ, ◌<◌, length, List, [], ◌∷◌, ◌++◌, All, inl, inr, refl, sym, ap, ◌∙◌, subst, append_assoc, arith}
+use Rattle.std.proofs.Common.{◌≡◌, ℕ, ◌<◌, length, List, [], ◌∷◌, ◌++◌, All, inl, inr, refl, sym, ap, ◌∙◌, subst}
+use Rattle.std.proofs.Common.{append_assoc, arith}
 use Rattle.std.proofs.lemmas.List.{append-nil, get_or_append_left, length-append}
 use Rattle.std.proofs.lemmas.List.Elements.{All-cons, All-weaker}
 use Rattle.nio_words.proofs.Beginnings.{prefix_self, prefix_trans}
@@ -22,10 +23,16 @@ stands_on a b c first later = record {
 }
 
 pub joined_own : (w : Words) (before other after : Pass) → Joins w before other after → StandsIn before after
-joined_own w before other after joins = record { begins = joins.stands.begins; holds = λ n held. (joins.numbers n).1 (inl held); own = joins.stands.own }
+joined_own w before other after joins =
+    record { begins = joins.stands.begins; holds = λ n held. (joins.numbers n).1 (inl held); own = joins.stands.own }
 
 pub joined_other : (w : Words) (before other after : Pass) → Joins w before other after → StandsIn other after
-joined_other w before other after joins = record { begins = joins.other_stands.begins; holds = λ n held. (joins.numbers n).1 (inr held); own = joins.other_stands.own }
+joined_other w before other after joins =
+    record {
+      begins = joins.other_stands.begins;
+      holds = λ n held. (joins.numbers n).1 (inr held);
+      own = joins.other_stands.own;
+    }
 
 -- some are joined, the last ones, and the others are still there
 pub record IsGathering (w : Words) (before now : Pass) (racers left : List Racer) : Type 0 where
@@ -36,7 +43,8 @@ pub record IsGathering (w : Words) (before now : Pass) (racers left : List Racer
   pub each : All (λ r. StandsIn r.desk.pass now) joined
   pub passes : AreRacers w left
 
-pub begins : (w : Words) (p : Pass) (racers : List Racer) → IsPassOf w p → AreRacers w racers → IsGathering w p p racers racers
+pub begins : (w : Words) (p : Pass) (racers : List Racer) → IsPassOf w p → AreRacers w racers
+    → IsGathering w p p racers racers
 begins w p racers pass passes = record {
   pass = pass;
   own = stands_self p;
@@ -47,7 +55,8 @@ begins w p racers pass passes = record {
 }
 
 -- a racer more was joined, the last of those that were left
-pub goes_on : (w : Words) (before now now' : Pass) (racers left left' : List Racer) (r : Racer) → IsGathering w before now racers left → left ≡ left' ++ r ∷ []
+pub goes_on : (w : Words) (before now now' : Pass) (racers left left' : List Racer) (r : Racer)
+    → IsGathering w before now racers left → left ≡ left' ++ r ∷ []
     → IsPassOf w now' → StandsIn now now' → StandsIn r.desk.pass now' → IsGathering w before now' racers left'
 goes_on w before now now' racers left left' r at is pass own other = record {
   pass = pass;
@@ -55,9 +64,11 @@ goes_on w before now now' racers left left' r at is pass own other = record {
   joined = r ∷ at.joined;
   parts = at.parts ∙ (ap (λ (rs : List Racer). rs ++ at.joined) is ∙ append_assoc left' (r ∷ []) at.joined);
   each = All-cons (λ (x : Racer). StandsIn x.desk.pass now') r at.joined other
-      (All-weaker (λ (x : Racer). StandsIn x.desk.pass now) (λ (x : Racer). StandsIn x.desk.pass now') (λ x there. stands_on x.desk.pass now now' there own) at.joined at.each);
+      (All-weaker (λ (x : Racer). StandsIn x.desk.pass now) (λ (x : Racer). StandsIn x.desk.pass now')
+      (λ x there. stands_on x.desk.pass now now' there own) at.joined at.each);
   passes = λ k x below.
-      let more : k < length (left' ++ r ∷ []) = subst (λ (m : ℕ). k < m) (sym (length-append left' (r ∷ []))) (omega (arith, below)) in
+      let more : k < length (left' ++ r ∷ []) = subst (λ (m : ℕ). k < m) (sym (length-append left' (r ∷ [])))
+      (omega (arith, below)) in
       subst (λ (y : Racer). IsPassOf w y.desk.pass) (get_or_append_left left' (r ∷ []) x k below)
       (subst (AreRacers w) is at.passes k x more);
 }
@@ -67,6 +78,8 @@ nothing_in [] none = refl
 nothing_in (x ∷ xs) none = absurd (omega (arith, none))
 
 -- once none is left, all are joined
-pub all_joined : (w : Words) (before now : Pass) (racers left : List Racer) → IsGathering w before now racers left → length left ≡ 0 → All (λ r. StandsIn r.desk.pass now) racers
+pub all_joined : (w : Words) (before now : Pass) (racers left : List Racer) → IsGathering w before now racers left
+    → length left ≡ 0 → All (λ r. StandsIn r.desk.pass now) racers
 all_joined w before now racers left at none =
-    subst (All (λ (r : Racer). StandsIn r.desk.pass now)) (sym (at.parts ∙ ap (λ (rs : List Racer). rs ++ at.joined) (nothing_in left none))) at.each
+    subst (All (λ (r : Racer). StandsIn r.desk.pass now))
+    (sym (at.parts ∙ ap (λ (rs : List Racer). rs ++ at.joined) (nothing_in left none))) at.each

@@ -1,5 +1,7 @@
 -- A race, put together from what each caller did.
-use Rattle.std.proofs.Common.{◌≡◌, ℕ, zero, suc, ◌<◌, ◌≤◌, ◌==◌, Bool, true, false, if◌then◌else◌, IsFalse, List, [], ◌∷◌, ◌++◌, length, map, All, refl, sym, ap, ◌∙◌, subst, ⊎_elim, eqb-true, append_assoc, arith}
+use Rattle.std.proofs.Common.{◌≡◌, ℕ, zero, suc, ◌<◌, ◌≤◌, ◌==◌, Bool, true, false, if◌then◌else◌, IsFalse, List, []}
+use Rattle.std.proofs.Common.{◌∷◌, ◌++◌, length, map, All, refl, sym, ap, ◌∙◌, subst, ⊎_elim, eqb-true, append_assoc}
+use Rattle.std.proofs.Common.{arith}
 use Rattle.std.proofs.Math.Logic.{∥∥₁_map, ∥∥₁_map₂}
 use Rattle.std.proofs.lemmas.Bool.{cases_lt}
 use Rattle.std.proofs.lemmas.Grind.{merely}
@@ -45,10 +47,12 @@ standing (x ∷ xs) zero below = (x, refl)
 standing (x ∷ xs) (suc k) below = standing xs k (omega (arith, below))
 
 -- it is met by what all items meet
-pub all-at : {A : Type 0} (P : A → Type 0) (xs : List A) (k : ℕ) (x : A) → k < length xs → slice_index_or xs k x ≡ x → All P xs → P x
+pub all-at : {A : Type 0} (P : A → Type 0) (xs : List A) (k : ℕ) (x : A) → k < length xs → slice_index_or xs k x ≡ x
+    → All P xs → P x
 all-at P xs k x below is all = subst P is (all k x below)
 
-map-at : {A B : Type 0} (f : A → B) (xs : List A) (k : ℕ) (x : A) (d : B) → k < length xs → slice_index_or xs k x ≡ x → slice_index_or (map f xs) k d ≡ f x
+map-at : {A B : Type 0} (f : A → B) (xs : List A) (k : ℕ) (x : A) (d : B) → k < length xs → slice_index_or xs k x ≡ x
+    → slice_index_or (map f xs) k d ≡ f x
 map-at f [] k x d below is = absurd (omega (arith, below))
 map-at f (y ∷ ys) zero x d below is = ap f is
 map-at f (y ∷ ys) (suc k) x d below is = map-at f ys k x d (omega (arith, below)) is
@@ -62,17 +66,21 @@ all_below : (P : ℕ → Type 0) (k : ℕ) → ((n : ℕ) → n < k → ∥ P n 
 all_below P zero each = merely (λ n below. absurd (omega (arith, below)))
 all_below P (suc k) each =
     ∥∥₁_map₂ (all_below P k (λ n below. each n (omega (arith, below)))) (each k (omega arith))
-    (λ before here n below. ⊎_elim (λ (earlier : n < k). before n earlier) (λ (last : k ≤ n). let same : k ≡ n = omega (arith, below, last) in subst P same here) (cases_lt n k))
+    (λ before here n below. ⊎_elim (λ (earlier : n < k). before n earlier)
+    (λ (last : k ≤ n). let same : k ≡ n = omega (arith, below, last) in subst P same here) (cases_lt n k))
 
 -- ---- whole histories
 
 -- a number that isn't a caller's has no event
-stranger-later : (l : Limits) (h : List Event) (n : CallerNo) → IsLegal l h → l.callers ≤ n.0 → (before later : List Event) → h ≡ before ++ later → mine n later ≡ []
+stranger-later : (l : Limits) (h : List Event) (n : CallerNo) → IsLegal l h → l.callers ≤ n.0
+    → (before later : List Event) → h ≡ before ++ later → mine n later ≡ []
 stranger-later l h n legal past before [] is = refl
 stranger-later l h n legal past before (e ∷ later) is =
-    by_test (stranger-later l h n legal past (before ++ e ∷ []) later (is ∙ sym (append_assoc before (e ∷ []) later))) (e.caller.0 == n.0) refl
+    by_test (stranger-later l h n legal past (before ++ e ∷ []) later (is ∙ sym (append_assoc before (e ∷ []) later)))
+    (e.caller.0 == n.0) refl
   where
-    by_test : mine n later ≡ [] → (b : Bool) → (e.caller.0 == n.0) ≡ b → map (λ (x : Event). x.act) (if b then e ∷ filter (is_by n) later else filter (is_by n) later) ≡ []
+    by_test : mine n later ≡ [] → (b : Bool) → (e.caller.0 == n.0) ≡ b
+        → map (λ (x : Event). x.act) (if b then e ∷ filter (is_by n) later else filter (is_by n) later) ≡ []
     by_test rest true by =
         let its : e.caller.0 < l.callers = (legal.steps before e later is).by_caller in
         let same : e.caller.0 ≡ n.0 = eqb-true e.caller.0 n.0 by in
@@ -82,16 +90,20 @@ stranger-later l h n legal past before (e ∷ later) is =
 stranger : (l : Limits) (h : List Event) (n : CallerNo) → IsLegal l h → l.callers ≤ n.0 → mine n h ≡ []
 stranger l h n legal past = stranger-later l h n legal past [] h refl
 
-pub whole_by_callers : (l : Limits) (h : List Event) → IsLegal l h → ((n : CallerNo) → n.0 < l.callers → ∥ HasMadeCalls l (mine n h) ∥₁) → ∥ IsWhole l h ∥₁
+pub whole_by_callers : (l : Limits) (h : List Event) → IsLegal l h
+    → ((n : CallerNo) → n.0 < l.callers → ∥ HasMadeCalls l (mine n h) ∥₁) → ∥ IsWhole l h ∥₁
 whole_by_callers l h legal each =
-    ∥∥₁_map (all_below (λ k. HasMadeCalls l (mine (record { 0 = k }) h)) l.callers (λ k below. each (record { 0 = k }) below))
+    ∥∥₁_map (all_below (λ k. HasMadeCalls l (mine (record { 0 = k }) h)) l.callers
+    (λ k below. each (record { 0 = k }) below))
     (λ all n. ⊎_elim
     (λ (below : n.0 < l.callers). all n.0 below)
-    (λ (past : l.callers ≤ n.0). subst (HasMadeCalls l) (sym (stranger l h n legal past)) (record { calls = []; are = record { runs = refl; in_order = tt } }))
+    (λ (past : l.callers ≤ n.0). subst (HasMadeCalls l) (sym (stranger l h n legal past))
+    (record { calls = []; are = record { runs = refl; in_order = tt } }))
     (cases_lt n.0 l.callers))
 
 -- at each moment of a whole history what is owed is owed by a caller that has still to do it
-pub owed_before : (l : Limits) (events before : List Event) → IsFit l → IsLegal l events → IsPrefix before events → IsWhole l events → Owed before
+pub owed_before : (l : Limits) (events before : List Event) → IsFit l → IsLegal l events → IsPrefix before events
+    → IsWhole l events → Owed before
 owed_before l events before fit legal begins whole =
     let rest = begins.0 in
     orderly_owes l before fit (legal_beginning l before rest (subst (IsLegal l) (sym begins.1) legal))
@@ -99,7 +111,8 @@ owed_before l events before fit legal begins whole =
 
 -- ---- the promise
 
-module _ (w : Words) (setup : List ScriptCall) (race : List RaceLine) (d : Desk) (racers racers' : List Racer) (p : Pass)
+module _ (w : Words) (setup : List ScriptCall) (race : List RaceLine) (d : Desk) (racers racers' : List Racer)
+    (p : Pass)
     (set_up : HasSetUp w d setup) (set_off : AreSetOff w (seen d.pass) (progress_of d) (limits_of w).callers racers)
     (raced : HaveRaced w race racers racers') (memory : All (λ r. IsFalse r.lacks_memory) racers')
     (pass : IsPassOf w p) (gathered : All (λ r. StandsIn r.desk.pass p) racers') where
@@ -132,39 +145,52 @@ module _ (w : Words) (setup : List ScriptCall) (race : List RaceLine) (d : Desk)
         stands_in = all-at (λ r. StandsIn r.desk.pass p) racers' n.0 last.0 below_last last.1 gathered;
         number = so.number ∙ at.number;
         own_number = at.number;
-        replied = map-at (λ (r : Racer). r.replies.items) racers' n.0 last.0 (strange_replies (calls_by n race)) below_last last.1;
+        replied = map-at (λ (r : Racer). r.replies.items) racers' n.0 last.0
+            (strange_replies (calls_by n race)) below_last last.1;
       }
 
   pub holds_each : (n : CallerNo) → n.0 < (limits_of w).callers → IsReady w p n
   holds_each n below =
       let k = known n below in
-      record { pass = pass; number = subst (λ (m : CallerNo). Holds p m) k.number (k.stands_in.holds k.after.number (k.raced_so.stands k.in_memory).ready.number) }
+      record {
+        pass = pass;
+        number = subst (λ (m : CallerNo). Holds p m) k.number
+            (k.stands_in.holds k.after.number (k.raced_so.stands k.in_memory).ready.number);
+      }
 
-  has_run : (n : CallerNo) → n.0 < (limits_of w).callers → HasRun (limits_of w) n (seen d.pass) (progress_of d) (calls_by n race) (seen p) (replies_by race racers' n)
+  has_run : (n : CallerNo) → n.0 < (limits_of w).callers
+      → HasRun (limits_of w) n (seen d.pass) (progress_of d) (calls_by n race) (seen p) (replies_by race racers' n)
   has_run n below =
       let k = known n below in
       let ran = k.raced_so.run k.in_memory in
-      let held = subst (λ (m : CallerNo). Holds k.after.desk.pass m) k.number (k.raced_so.stands k.in_memory).ready.number in
+      let held = subst (λ (m : CallerNo). Holds k.after.desk.pass m) k.number
+      (k.raced_so.stands k.in_memory).ready.number in
       record {
         acts = ran.acts;
         grew =
             k.stands_in.own n held
-            ∙ (subst (λ (m : CallerNo). mine m (seen k.after.desk.pass) ≡ mine m (seen k.before.desk.pass) ++ ran.acts) k.own_number ran.grew
+            ∙ (subst (λ (m : CallerNo). mine m (seen k.after.desk.pass) ≡ mine m (seen k.before.desk.pass) ++ ran.acts)
+            k.own_number ran.grew
             ∙ ap (λ (es : List Event). mine n es ++ ran.acts) k.at_go.sight);
         last = progress_of k.after.desk;
         lines =
-            subst (λ (rs : List Reply). AreRaceLines (limits_of w) n (own_progress n (progress_of d)) (calls_by n race) ran.acts rs (progress_of k.after.desk)) (sym k.replied)
-            (subst (λ (x : Progress). AreRaceLines (limits_of w) n x (calls_by n race) ran.acts k.after.replies.items (progress_of k.after.desk)) k.at_go.progress
-            (subst (λ (m : CallerNo). AreRaceLines (limits_of w) m (progress_of k.before.desk) (calls_by m race) ran.acts k.after.replies.items (progress_of k.after.desk)) k.own_number ran.lines));
+            subst (λ (rs : List Reply). AreRaceLines (limits_of w) n (own_progress n (progress_of d))
+            (calls_by n race) ran.acts rs (progress_of k.after.desk)) (sym k.replied)
+            (subst (λ (x : Progress). AreRaceLines (limits_of w) n x (calls_by n race) ran.acts k.after.replies.items
+            (progress_of k.after.desk)) k.at_go.progress
+            (subst (λ (m : CallerNo). AreRaceLines (limits_of w) m (progress_of k.before.desk)
+            (calls_by m race) ran.acts k.after.replies.items (progress_of k.after.desk)) k.own_number ran.lines));
       }
 
   whole : ∥ IsWhole (limits_of w) (seen p) ∥₁
   whole = whole_by_callers (limits_of w) (seen p) pass.legal (λ n below.
       let k = known n below in
-      let held = subst (λ (m : CallerNo). Holds k.after.desk.pass m) k.number (k.raced_so.stands k.in_memory).ready.number in
+      let held = subst (λ (m : CallerNo). Holds k.after.desk.pass m) k.number
+      (k.raced_so.stands k.in_memory).ready.number in
       ∥∥₁_map (k.raced_so.stands k.in_memory).made
       (λ made. subst (HasMadeCalls (limits_of w)) (sym (k.stands_in.own n held))
-      (subst (λ (m : CallerNo). HasMadeCalls (limits_of w) (mine m (seen k.after.desk.pass))) k.number (made_whole (limits_of w) _ k.after.number _ made))))
+      (subst (λ (m : CallerNo). HasMadeCalls (limits_of w) (mine m (seen k.after.desk.pass))) k.number
+      (made_whole (limits_of w) _ k.after.number _ made))))
 
   pub is_race : IsRace (limits_of w) setup race (seen p) (replies_by race racers')
   is_race =
@@ -173,11 +199,16 @@ module _ (w : Words) (setup : List ScriptCall) (race : List RaceLine) (d : Desk)
         go = seen d.pass;
         now = progress_of d;
         set_up = set_up.set_up;
-        begins = prefix_trans _ _ _ (subst (λ (es : List Event). IsPrefix es (seen first.after.desk.pass)) first.at_go.sight first.raced_so.later) first.stands_in.begins;
+        begins = prefix_trans _ _ _
+            (subst (λ (es : List Event). IsPrefix es (seen first.after.desk.pass)) first.at_go.sight
+            first.raced_so.later) first.stands_in.begins;
         run = has_run;
-        strangers = λ n past. get_or_past (map (λ (r : Racer). r.replies.items) racers') n.0 (strange_replies (calls_by n race))
-            (subst (λ (k : ℕ). k ≤ n.0) (sym (length-map (λ (r : Racer). r.replies.items) racers' ∙ raced.count ∙ set_off.count_is)) past);
+        strangers =
+            λ n past. get_or_past (map (λ (r : Racer). r.replies.items) racers') n.0 (strange_replies (calls_by n race))
+            (subst (λ (k : ℕ). k ≤ n.0)
+            (sym (length-map (λ (r : Racer). r.replies.items) racers' ∙ raced.count ∙ set_off.count_is)) past);
         legal = pass.legal;
         whole = whole;
-        owed = λ before begins. ∥∥₁_map whole (λ here. owed_before (limits_of w) (seen p) before set_up.stands.fit pass.legal begins here);
+        owed = λ before begins. ∥∥₁_map whole
+            (λ here. owed_before (limits_of w) (seen p) before set_up.stands.fit pass.legal begins here);
       }

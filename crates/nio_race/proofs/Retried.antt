@@ -28,7 +28,8 @@ pub record IsTrying (w : Words) (first d : Desk) (me : CallerNo) (word : Call) :
   pub stands : StandsFor w d me
   pub later : IsPrefix (seen first.pass) (seen d.pass)
   pub same : progress_of d ≡ progress_of first
-  pub tries : TryingClause me (λ (_ : Unit {0}). Completes (line_plan (limits_of w) (progress_of first) me word)) (λ _. is_made_again word) (view w first.pass) (view w d.pass)
+  pub tries : TryingClause me (λ (_ : Unit {0}). Completes (line_plan (limits_of w) (progress_of first) me word))
+      (λ _. is_made_again word) (view w first.pass) (view w d.pass)
 
 pub begins : (w : Words) (d : Desk) (me : CallerNo) (word : Call) → StandsFor w d me → IsTrying w d d me word
 begins w d me word stands = record {
@@ -37,18 +38,25 @@ begins w d me word stands = record {
   same = refl;
   tries =
       let shape = λ (_ : Unit {0}). Completes (line_plan (limits_of w) (progress_of d) me word) in
-      call_of_acts (λ acts (_ : Unit {0}). Tries shape (λ _. is_made_again word) acts) [] tt (acts_nothing me (view w d.pass) stands.ready.pass.legal) (tries_none shape (λ _. is_made_again word));
+      call_of_acts (λ acts (_ : Unit {0}). Tries shape (λ _. is_made_again word) acts) [] tt
+      (acts_nothing me (view w d.pass) stands.ready.pass.legal) (tries_none shape (λ _. is_made_again word));
 }
 
-module _ (w : Words) (first d d' : Desk) (me : CallerNo) (word : Call) (r : Reply) (at : IsTrying w first d me word) (once : MakesOnce w d d' me word r) where
-  its : CallClause me (Completes (line_plan (limits_of w) (progress_of first) me word)) (view w d.pass) (view w d'.pass) (record { reply = r; left = progress_of d' })
-  its = subst (λ (p : Progress). CallClause me (Completes (line_plan (limits_of w) p me word)) (view w d.pass) (view w d'.pass) (record { reply = r; left = progress_of d' })) at.same once
+module _ (w : Words) (first d d' : Desk) (me : CallerNo) (word : Call) (r : Reply) (at : IsTrying w first d me word)
+    (once : MakesOnce w d d' me word r) where
+  its : CallClause me (Completes (line_plan (limits_of w) (progress_of first) me word)) (view w d.pass) (view w d'.pass)
+      (record { reply = r; left = progress_of d' })
+  its = subst
+      (λ (p : Progress). CallClause me (Completes (line_plan (limits_of w) p me word)) (view w d.pass) (view w d'.pass)
+      (record { reply = r; left = progress_of d' })) at.same once
 
-  pub tries_on : StandsFor w d' me → IsPrefix (seen d.pass) (seen d'.pass) → waits_for_hold word r ≡ true → IsTrying w first d' me word
+  pub tries_on : StandsFor w d' me → IsPrefix (seen d.pass) (seen d'.pass) → waits_for_hold word r ≡ true
+      → IsTrying w first d' me word
   tries_on stands later again = record {
     stands = stands;
     later = prefix_trans _ _ _ at.later later;
-    same = line_stays (limits_of w) (progress_of first) me word _ (record { reply = r; left = progress_of d' }) r again its.shape;
+    same = line_stays (limits_of w) (progress_of first) me word _ (record { reply = r; left = progress_of d' }) r again
+        its.shape;
     tries = try_more tt (record { reply = r; left = progress_of d' }) at.tries its again;
   }
 

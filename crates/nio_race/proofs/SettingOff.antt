@@ -1,5 +1,7 @@
 -- What a caller has in progress goes to its racer.
-use Rattle.std.proofs.Common.{◌≡◌, ◌≢◌, ℕ, ◌+◌, ◌<◌, ◌≤◌, ◌==◌, Bool, true, false, if◌then◌else◌, Option, Some, None, option_map, List, [], ◌∷◌, ◌++◌, length, vec_len, IsFalse, refl, sym, ap, ◌∙◌, subst, ⊎_elim, eqb-true, arith}
+use Rattle.std.proofs.Common.{◌≡◌, ◌≢◌, ℕ, ◌+◌, ◌<◌, ◌≤◌, ◌==◌, Bool, true, false, if◌then◌else◌, Option, Some, None}
+use Rattle.std.proofs.Common.{option_map, List, [], ◌∷◌, ◌++◌, length, vec_len, IsFalse, refl, sym, ap, ◌∙◌, subst}
+use Rattle.std.proofs.Common.{⊎_elim, eqb-true, arith}
 use Rattle.std.proofs.Math.Bool.{Bool-set}
 use Rattle.std.proofs.Math.Logic.{∥∥₁_elim, ∥∥₁_map}
 use Rattle.std.proofs.lemmas.Bool.{cases_lt}
@@ -24,16 +26,19 @@ use Rattle.nio_words.specs.Passes.{IsPassOf, limits_of, seen}
 use Rattle.nio_words.specs.Views.{view}
 use Rattle.nio_words.specs.declared.words.Words.{Words}
 use Rattle.nio_race.specs.Race.{own_progress, own_selection_of}
-use Rattle.nio_race.specs.SetOff.{own_begun, other_begun, own_shut, other_shut, AddsRacer, AreRacers, AreSetOff, HasLeft, IsSetOffAt, MovedBelow, StoodAtGo, TakesOver}
+use Rattle.nio_race.specs.SetOff.{own_begun, other_begun, own_shut, other_shut, AddsRacer, AreRacers, AreSetOff}
+use Rattle.nio_race.specs.SetOff.{HasLeft, IsSetOffAt, MovedBelow, StoodAtGo, TakesOver}
 use Rattle.nio_race.specs.declared.racer.Racer.{Racer}
 
 -- ---- one place
 
-own-begun-part : (n : CallerNo) (o : Option Begun) → option_map selecting_of (own_begun n o) ≡ own_selection_of n (option_map selecting_of o)
+own-begun-part : (n : CallerNo) (o : Option Begun)
+    → option_map selecting_of (own_begun n o) ≡ own_selection_of n (option_map selecting_of o)
 own-begun-part n None = refl
 own-begun-part n (Some x) = by_test (x.caller.0 == n.0)
   where
-    by_test : (b : Bool) → option_map selecting_of (if b then Some x else None) ≡ (if b then Some (selecting_of x) else None)
+    by_test : (b : Bool)
+        → option_map selecting_of (if b then Some x else None) ≡ (if b then Some (selecting_of x) else None)
     by_test true = refl
     by_test false = refl
 
@@ -42,20 +47,26 @@ other_number a n m other by = by_test (a.0 == n.0) refl
   where
     by_test : (b : Bool) → (a.0 == n.0) ≡ b → b ≡ false
     by_test false is = refl
-    by_test true is = absurd (other (ap {B = CallerNo} (λ (k : ℕ). record { 0 = k }) (sym (eqb-true a.0 n.0 is) ∙ eqb-true a.0 m.0 by)))
+    by_test true is =
+        absurd (other
+        (ap {B = CallerNo} (λ (k : ℕ). record { 0 = k }) (sym (eqb-true a.0 n.0 is) ∙ eqb-true a.0 m.0 by)))
 
-others-begun-part : (n m : CallerNo) (o : Option Begun) → n ≢ m → own_selection_of n (option_map selecting_of (other_begun m o)) ≡ own_selection_of n (option_map selecting_of o)
+others-begun-part : (n m : CallerNo) (o : Option Begun) → n ≢ m
+    → own_selection_of n (option_map selecting_of (other_begun m o)) ≡ own_selection_of n (option_map selecting_of o)
 others-begun-part n m None other = refl
 others-begun-part n m (Some x) other = by_test (x.caller.0 == m.0) refl
   where
-    by_test : (b : Bool) → (x.caller.0 == m.0) ≡ b → own_selection_of n (option_map selecting_of (if b then None else Some x)) ≡ own_selection_of n (Some (selecting_of x))
+    by_test : (b : Bool) → (x.caller.0 == m.0) ≡ b
+        → own_selection_of n (option_map selecting_of (if b then None else Some x)) ≡ own_selection_of n
+        (Some (selecting_of x))
     by_test true is = sym (ap (λ b. if b then Some (selecting_of x) else None) (other_number x.caller n m other is))
     by_test false is = refl
 
 abbrev pub own_closing : CallerNo → Option CallerNo → Option CallerNo
 own_closing n o = if is_caller n o then o else None
 
-own-shut-part : (n : CallerNo) (o : Option Shut) → option_map (λ x. x.caller) (own_shut n o) ≡ own_closing n (option_map (λ x. x.caller) o)
+own-shut-part : (n : CallerNo) (o : Option Shut)
+    → option_map (λ x. x.caller) (own_shut n o) ≡ own_closing n (option_map (λ x. x.caller) o)
 own-shut-part n None = refl
 own-shut-part n (Some x) = by_test (x.caller.0 == n.0)
   where
@@ -63,27 +74,34 @@ own-shut-part n (Some x) = by_test (x.caller.0 == n.0)
     by_test true = refl
     by_test false = refl
 
-others-shut-part : (n m : CallerNo) (o : Option Shut) → n ≢ m → own_closing n (option_map (λ x. x.caller) (other_shut m o)) ≡ own_closing n (option_map (λ x. x.caller) o)
+others-shut-part : (n m : CallerNo) (o : Option Shut) → n ≢ m
+    → own_closing n (option_map (λ x. x.caller) (other_shut m o)) ≡ own_closing n (option_map (λ x. x.caller) o)
 others-shut-part n m None other = refl
 others-shut-part n m (Some x) other = by_test (x.caller.0 == m.0) refl
   where
-    by_test : (b : Bool) → (x.caller.0 == m.0) ≡ b → own_closing n (option_map (λ x. x.caller) (if b then None else Some x)) ≡ own_closing n (Some x.caller)
+    by_test : (b : Bool) → (x.caller.0 == m.0) ≡ b
+        → own_closing n (option_map (λ x. x.caller) (if b then None else Some x)) ≡ own_closing n (Some x.caller)
     by_test true is = sym (ap (λ b. if b then Some x.caller else None) (other_number x.caller n m other is))
     by_test false is = refl
 
 -- ---- all places
 
-module _ {A B : Type 0} (own other : Option A → Option A) (count : ℕ) (from from' to' : List (Option A)) (moved : MovedBelow own other count from from' to')
+module _ {A B : Type 0} (own other : Option A → Option A) (count : ℕ) (from from' to' : List (Option A))
+    (moved : MovedBelow own other count from from' to')
     (few : length from ≡ count) (view_of : Option A → B) (part : B → B) where
   -- what was moved, where the view of a caller's own is its part of the view
-  pub all_moved : ((o : Option A) → view_of (own o) ≡ part (view_of o)) → view_of None ≡ part (view_of None) → (s : ℕ) → view_of (slot to' s) ≡ part (view_of (slot from s))
+  pub all_moved : ((o : Option A) → view_of (own o) ≡ part (view_of o)) → view_of None ≡ part (view_of None) → (s : ℕ)
+      → view_of (slot to' s) ≡ part (view_of (slot from s))
   all_moved is none s = ⊎_elim
       (λ (below : s < count). ap view_of (moved.moved s below) ∙ is (slot from s))
-      (λ (past : count ≤ s). ap view_of (moved.unmoved s past) ∙ (none ∙ ap (λ o. part (view_of o)) (sym (get_or_past from s None (subst (λ (k : ℕ). k ≤ s) (sym few) past)))))
+      (λ (past : count ≤ s). ap view_of (moved.unmoved s past)
+      ∙ (none ∙ ap (λ o. part (view_of o))
+      (sym (get_or_past from s None (subst (λ (k : ℕ). k ≤ s) (sym few) past)))))
       (cases_lt s count)
 
   -- what was left
-  pub all_left : ((o : Option A) → part (view_of (other o)) ≡ part (view_of o)) → (s : ℕ) → part (view_of (slot from' s)) ≡ part (view_of (slot from s))
+  pub all_left : ((o : Option A) → part (view_of (other o)) ≡ part (view_of o)) → (s : ℕ)
+      → part (view_of (slot from' s)) ≡ part (view_of (slot from s))
   all_left is s = ⊎_elim
       (λ (below : s < count). ap (λ o. part (view_of o)) (moved.left s below) ∙ is (slot from s))
       (λ (past : count ≤ s). ap (λ o. part (view_of o)) (moved.unleft s past))
@@ -92,21 +110,32 @@ module _ {A B : Type 0} (own other : Option A → Option A) (count : ℕ) (from 
 -- ---- the parts of two desks
 
 module _ (w : Words) (d d' r : Desk) (n : CallerNo) (places : HasPlaces w d)
-    (begun : MovedBelow (own_begun n) (other_begun n) (limits_of w).selectors d.selections.items d'.selections.items r.selections.items)
-    (shut : MovedBelow (own_shut n) (other_shut n) (limits_of w).selectors d.closings.items d'.closings.items r.closings.items)
-    (lens : (vec_len d'.selections ≡ (limits_of w).selectors) × (vec_len r.selections ≡ (limits_of w).selectors) × (vec_len d'.closings ≡ (limits_of w).selectors) × (vec_len r.closings ≡ (limits_of w).selectors)) where
+    (begun : MovedBelow (own_begun n) (other_begun n) (limits_of w).selectors d.selections.items d'.selections.items
+    r.selections.items)
+    (shut : MovedBelow (own_shut n) (other_shut n) (limits_of w).selectors d.closings.items d'.closings.items
+    r.closings.items)
+    (lens : (vec_len d'.selections ≡ (limits_of w).selectors) × (vec_len r.selections ≡ (limits_of w).selectors)
+    × (vec_len d'.closings ≡ (limits_of w).selectors) × (vec_len r.closings ≡ (limits_of w).selectors)) where
   pub moved_progress : r.group ≡ None → r.pipes.items ≡ [] → progress_of r ≡ own_progress n (progress_of d)
   moved_progress no_group no_pipes = λ i. record {
-    selection = λ s. all_moved (own_begun n) (other_begun n) (limits_of w).selectors d.selections.items d'.selections.items r.selections.items begun (omega (arith, places.selections)) (option_map selecting_of) (own_selection_of n) (own-begun-part n) refl s i;
-    closing = λ s. all_moved (own_shut n) (other_shut n) (limits_of w).selectors d.closings.items d'.closings.items r.closings.items shut (omega (arith, places.closings)) (option_map (λ x. x.caller)) (own_closing n) (own-shut-part n) refl s i;
+    selection = λ s. all_moved (own_begun n) (other_begun n) (limits_of w).selectors d.selections.items
+        d'.selections.items r.selections.items begun (omega (arith, places.selections)) (option_map selecting_of)
+        (own_selection_of n) (own-begun-part n) refl s i;
+    closing = λ s. all_moved (own_shut n) (other_shut n) (limits_of w).selectors d.closings.items d'.closings.items
+        r.closings.items shut (omega (arith, places.closings)) (option_map (λ x. x.caller)) (own_closing n)
+        (own-shut-part n) refl s i;
     group = group_of (no_group i);
     pipes = pipes_of (no_pipes i);
   }
 
   pub left_progress : (m : CallerNo) → m ≢ n → own_progress m (progress_of d') ≡ own_progress m (progress_of d)
   left_progress m other = λ i. record {
-    selection = λ s. all_left (own_begun n) (other_begun n) (limits_of w).selectors d.selections.items d'.selections.items r.selections.items begun (omega (arith, places.selections)) (option_map selecting_of) (own_selection_of m) (λ o. others-begun-part m n o other) s i;
-    closing = λ s. all_left (own_shut n) (other_shut n) (limits_of w).selectors d.closings.items d'.closings.items r.closings.items shut (omega (arith, places.closings)) (option_map (λ x. x.caller)) (own_closing m) (λ o. others-shut-part m n o other) s i;
+    selection = λ s. all_left (own_begun n) (other_begun n) (limits_of w).selectors d.selections.items
+        d'.selections.items r.selections.items begun (omega (arith, places.selections)) (option_map selecting_of)
+        (own_selection_of m) (λ o. others-begun-part m n o other) s i;
+    closing = λ s. all_left (own_shut n) (other_shut n) (limits_of w).selectors d.closings.items d'.closings.items
+        r.closings.items shut (omega (arith, places.closings)) (option_map (λ x. x.caller)) (own_closing m)
+        (λ o. others-shut-part m n o other) s i;
     group = nothing_yet.group;
     pipes = nothing_yet.pipes;
   }
@@ -186,7 +215,8 @@ own_closes n (Some x) = by_test (x.0 == n.0) refl
     by_test true is = refl
     by_test false is = sym is
 
-pub own_made : (l : Limits) (acts : List Act) (n : CallerNo) (now : Progress) → HasMade l acts n now → HasMade l acts n (own_progress n now)
+pub own_made : (l : Limits) (acts : List Act) (n : CallerNo) (now : Progress) → HasMade l acts n now
+    → HasMade l acts n (own_progress n now)
 own_made l acts n now made = record {
   calls = made.calls;
   are = made.are;
@@ -216,16 +246,19 @@ first_left w d stands = record {
 above_is_other : (n : CallerNo) (k : ℕ) → k + 1 ≤ n.0 → n ≢ record { 0 = k }
 above_is_other n k above same = let is : n.0 ≡ k = ap (λ (m : CallerNo). m.0) same in absurd (omega (arith, above, is))
 
-pub next_left : (w : Words) (go : List Event) (now : Progress) (d d' : Desk) (k : ℕ) (r : Racer) → HasLeft w go now d k → TakesOver w d d' (record { 0 = k }) r → HasLeft w go now d' (k + 1)
+pub next_left : (w : Words) (go : List Event) (now : Progress) (d d' : Desk) (k : ℕ) (r : Racer) → HasLeft w go now d k
+    → TakesOver w d d' (record { 0 = k }) r → HasLeft w go now d' (k + 1)
 next_left w go now d d' k r left takes = record {
   pass = takes.pass.sees.pass;
   sight = takes.pass.sees.sight ∙ left.sight;
-  holds = λ n above below. (takes.pass.numbers n).1 (left.holds n (omega (arith, above)) below, above_is_other n k above);
+  holds = λ n above below. (takes.pass.numbers n).1
+      (left.holds n (omega (arith, above)) below, above_is_other n k above);
   places = takes.places;
   progress = λ n above. takes.others n (above_is_other n k above) ∙ left.progress n (omega (arith, above));
 }
 
-pub racer_set_off : (w : Words) (go : List Event) (now : Progress) (d d' : Desk) (k : ℕ) (r : Racer) → k < (limits_of w).callers → StoodAtGo w go now → HasLeft w go now d k
+pub racer_set_off : (w : Words) (go : List Event) (now : Progress) (d d' : Desk) (k : ℕ) (r : Racer)
+    → k < (limits_of w).callers → StoodAtGo w go now → HasLeft w go now d k
     → TakesOver w d d' (record { 0 = k }) r → IsSetOffAt w go now k r
 racer_set_off w go now d d' k r below stood left takes =
     let n : CallerNo = record { 0 = k } in
@@ -236,13 +269,20 @@ racer_set_off w go now d d' k r below stood left takes =
       set_off = record {
         stands = record {
           caller = subst (λ (m : CallerNo). IsCaller (limits_of w) m) (sym takes.number_is) below;
-          ready = record { pass = takes.pass.sees.given_pass; number = (takes.pass.given_number r.number).1 takes.number_is };
-          unpinned = λ s i. subst (λ (es : List Event). IsFalse (has_pin (state_after es) r.number s i)) (sym sight) (stood.unpinned r.number s i);
+          ready = record {
+            pass = takes.pass.sees.given_pass;
+            number = (takes.pass.given_number r.number).1 takes.number_is;
+          };
+          unpinned = λ s i. subst (λ (es : List Event). IsFalse (has_pin (state_after es) r.number s i)) (sym sight)
+              (stood.unpinned r.number s i);
           places = takes.own_places;
           made = ∥∥₁_map stood.made
-              (λ made. subst (λ (m : CallerNo). HasMade (limits_of w) (mine m (seen r.desk.pass)) m (progress_of r.desk)) (sym takes.number_is)
+              (λ made. subst
+              (λ (m : CallerNo). HasMade (limits_of w) (mine m (seen r.desk.pass)) m (progress_of r.desk))
+              (sym takes.number_is)
               (subst (λ (es : List Event). HasMade (limits_of w) (mine n es) n (progress_of r.desk)) (sym sight)
-              (subst (λ (p : Progress). HasMade (limits_of w) (mine n go) n p) (sym progress) (own_made (limits_of w) (mine n go) n now (made n)))));
+              (subst (λ (p : Progress). HasMade (limits_of w) (mine n go) n p) (sym progress)
+              (own_made (limits_of w) (mine n go) n now (made n)))));
         };
         unanswered = takes.unanswered;
         in_memory = takes.in_memory;
@@ -254,12 +294,14 @@ racer_set_off w go now d d' k r below stood left takes =
 pub none_set_off : (w : Words) (go : List Event) (now : Progress) → AreSetOff w go now 0 []
 none_set_off w go now = record { count_is = refl; each = λ k r below is. absurd (omega (arith, below)) }
 
-pub one_set_off : (w : Words) (go : List Event) (now : Progress) (k : ℕ) (racers : List Racer) (r : Racer) → AreSetOff w go now k racers → IsSetOffAt w go now k r
+pub one_set_off : (w : Words) (go : List Event) (now : Progress) (k : ℕ) (racers : List Racer) (r : Racer)
+    → AreSetOff w go now k racers → IsSetOffAt w go now k r
     → AreSetOff w go now (k + 1) (racers ++ r ∷ [])
 one_set_off w go now k racers r before at = record {
   count_is = length-append racers (r ∷ []) ∙ ap (λ m. m + 1) before.count_is;
   each = λ j x below is. ⊎_elim
-      (λ (earlier : j < k). before.each j x earlier (sym (get_or_append_left racers (r ∷ []) x j (subst (λ (m : ℕ). j < m) (sym before.count_is) earlier)) ∙ is))
+      (λ (earlier : j < k). before.each j x earlier
+      (sym (get_or_append_left racers (r ∷ []) x j (subst (λ (m : ℕ). j < m) (sym before.count_is) earlier)) ∙ is))
       (λ (last : k ≤ j).
       let same : j ≡ k = omega (arith, below, last) in
       let it : r ≡ x = sym (get_or_push racers r x j (before.count_is ∙ sym same)) ∙ is in
@@ -276,11 +318,13 @@ pub record IsSettingOff (w : Words) (first d : Desk) (k : ℕ) (racers : List Ra
 pub begins : (w : Words) (d : Desk) (racers : List Racer) → Stands w d → racers ≡ [] → IsSettingOff w d d 0 racers
 begins w d racers stands none = record {
   left = first_left w d stands;
-  set_off = subst (AreSetOff w (seen d.pass) (progress_of d) 0) (sym none) (none_set_off w (seen d.pass) (progress_of d));
+  set_off = subst (AreSetOff w (seen d.pass) (progress_of d) 0) (sym none)
+      (none_set_off w (seen d.pass) (progress_of d));
   racers_are = subst (AreRacers w) (sym none) (λ k r below. absurd (omega (arith, below)));
 }
 
-pub goes_on : (w : Words) (first d d' : Desk) (k : ℕ) (racers racers' : List Racer) → Stands w first → k < (limits_of w).callers → IsSettingOff w first d k racers
+pub goes_on : (w : Words) (first d d' : Desk) (k : ℕ) (racers racers' : List Racer) → Stands w first
+    → k < (limits_of w).callers → IsSettingOff w first d k racers
     → AddsRacer w d d' (record { 0 = k }) racers racers' → IsSettingOff w first d' (k + 1) racers'
 goes_on w first d d' k racers racers' stands below at adds =
     let go = seen first.pass in
@@ -288,6 +332,9 @@ goes_on w first d d' k racers racers' stands below at adds =
     record {
       left = next_left w go now d d' k adds.racer at.left adds.takes_over;
       set_off = subst (AreSetOff w go now (k + 1)) (sym adds.added)
-          (one_set_off w go now k racers adds.racer at.set_off (racer_set_off w go now d d' k adds.racer below (stood_at_go w first stands) at.left adds.takes_over));
-      racers_are = subst (AreRacers w) (sym adds.added) (All-push (λ (r : Racer). IsPassOf w r.desk.pass) racers adds.racer at.racers_are adds.takes_over.pass.sees.given_pass);
+          (one_set_off w go now k racers adds.racer at.set_off
+          (racer_set_off w go now d d' k adds.racer below (stood_at_go w first stands) at.left adds.takes_over));
+      racers_are = subst (AreRacers w) (sym adds.added)
+          (All-push (λ (r : Racer). IsPassOf w r.desk.pass) racers adds.racer at.racers_are
+          adds.takes_over.pass.sees.given_pass);
     }

@@ -8,7 +8,12 @@ use Rattle.nio_event.specs.Conditions.{has_pin}
 use Rattle.nio_event.specs.Histories.{IsLegal, mine, state_after}
 use Rattle.nio_event.specs.declared.act.Act.{Act}
 use Rattle.nio_event.specs.declared.event.Event.{Event}
-use Rattle.nio_orderly.specs.Made.{IsRun, Made, draw, find_selector, find_channel, find, is_valid, interest, set_interest, interest_or, interest_and, ready, cancel, unselect, attach, attachment, open_channel, is_open, is_blocking, is_registered, key_for, try_set_blocking, try_register, close_channel, open_selector, try_begin, told, leave, shut, try_finish, keys, selected_keys, wakeup, interrupt, interrupted, pipe, try_read, try_write, set_blocking, register, select, close, read, write}
+use Rattle.nio_orderly.specs.Made.{IsRun, Made, draw, find_selector, find_channel, find, is_valid, interest}
+use Rattle.nio_orderly.specs.Made.{set_interest, interest_or, interest_and, ready, cancel, unselect, attach, attachment}
+use Rattle.nio_orderly.specs.Made.{open_channel, is_open, is_blocking, is_registered, key_for, try_set_blocking}
+use Rattle.nio_orderly.specs.Made.{try_register, close_channel, open_selector, try_begin, told, leave, shut, try_finish}
+use Rattle.nio_orderly.specs.Made.{keys, selected_keys, wakeup, interrupt, interrupted, pipe, try_read, try_write}
+use Rattle.nio_orderly.specs.Made.{set_blocking, register, select, close, read, write}
 use Rattle.nio_orderly.specs.Orderly.{AreRuns, HasMadeCalls}
 use Rattle.nio_steps.proofs.PinBack.{NoPins, no_pins, no_pins-append}
 use Rattle.nio_steps.proofs.PinLaws.{pins_are_given_back}
@@ -38,13 +43,16 @@ run-none l (try_set_blocking c on answer) acts run = pins_are_given_back.try_set
 run-none l (try_register s c ops att answer) acts run = pins_are_given_back.try_register l s c ops att acts answer run
 run-none l (close_channel c answer) acts run = pins_are_given_back.close_channel l c acts answer run
 run-none l (open_selector answer) acts run = pins_are_given_back.open_selector l acts answer run
-run-none l (try_begin s mode answer) acts run = pins_are_given_back.try_begin s mode (begin_lacks_memory answer) acts answer run
-run-none l (told selection poll answer) acts run = pins_are_given_back.told selection poll.pairs poll.elapsed acts answer run
+run-none l (try_begin s mode answer) acts run =
+    pins_are_given_back.try_begin s mode (begin_lacks_memory answer) acts answer run
+run-none l (told selection poll answer) acts run =
+    pins_are_given_back.told selection poll.pairs poll.elapsed acts answer run
 run-none l (leave selection) acts run = pins_are_given_back.leave selection acts tt run
 run-none l (shut s answer) acts run = pins_are_given_back.shut s acts answer run
 run-none l (try_finish s answer) acts run = pins_are_given_back.try_finish s acts answer run
 run-none l (keys s answer) acts run = pins_are_given_back.keys s (list_lacks_memory answer) acts answer run
-run-none l (selected_keys s answer) acts run = pins_are_given_back.selected_keys s (list_lacks_memory answer) acts answer run
+run-none l (selected_keys s answer) acts run =
+    pins_are_given_back.selected_keys s (list_lacks_memory answer) acts answer run
 run-none l (wakeup s) acts run = pins_are_given_back.wakeup s acts tt run
 run-none l (interrupt n) acts run = pins_are_given_back.interrupt n acts tt run
 run-none l (interrupted answer) acts run = pins_are_given_back.interrupted acts answer run
@@ -60,7 +68,11 @@ run-none l (write source sink none answer) acts run = pins_are_given_back.write 
 
 runs-none : (l : Limits) (calls : List Made) (acts : List Act) → AreRuns l calls acts → NoPins acts
 runs-none l [] acts run = subst NoPins (sym run) no_pins
-runs-none l (call ∷ later) acts run = subst NoPins (sym run.parts) (no_pins-append run.first run.second (run-none l call run.first run.is_first) (runs-none l later run.second run.is_second))
+runs-none l (call ∷ later) acts run =
+    subst NoPins (sym run.parts)
+    (no_pins-append run.first run.second (run-none l call run.first run.is_first)
+    (runs-none l later run.second run.is_second))
 
-pub no_pin_left : (l : Limits) (h : List Event) (n : CallerNo) → IsLegal l h → HasMadeCalls l (mine n h) → (s : SelNo) (i : ℕ) → has_pin (state_after h) n s i ≡ false
+pub no_pin_left : (l : Limits) (h : List Event) (n : CallerNo) → IsLegal l h → HasMadeCalls l (mine n h)
+    → (s : SelNo) (i : ℕ) → has_pin (state_after h) n s i ≡ false
 no_pin_left l h n legal made s i = pins_are_own l n s i h legal ∙ runs-none l made.calls (mine n h) made.are.runs s.0 i

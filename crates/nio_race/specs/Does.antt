@@ -20,12 +20,14 @@ use Rattle.nio_race.specs.Race.{IsRace, race_output}
 
 -- The setup was made and each caller made its lines, with these replies: all that the pass has seen. It holds each
 -- number, so every thread has returned.
-pub record HasRunRace (w : Words) (pass : Pass) (setup : List ScriptCall) (race : List RaceLine) (replies : CallerNo → List Reply) : Type 0 where
+pub record HasRunRace (w : Words) (pass : Pass) (setup : List ScriptCall) (race : List RaceLine)
+    (replies : CallerNo → List Reply) : Type 0 where
   pub raced : IsRace (limits_of w) setup race (seen pass) replies
   pub holds : (n : CallerNo) → n.0 < (limits_of w).callers → IsReady w pass n
 
 -- The text is a race text, its race was run, its output was written and flushed, and no write failed.
-pub record IsRaced {K : Type 0} (k : sink.Ghosts K) (w : Words) (output output' : K) (pass : Pass) (text : List ℕ) : Type 0 where
+pub record IsRaced {K : Type 0} (k : sink.Ghosts K) (w : Words) (output output' : K) (pass : Pass)
+    (text : List ℕ) : Type 0 where
   pub setup : List ScriptCall
   pub race : List RaceLine
   pub race_text : IsRaceText text setup race
@@ -35,7 +37,8 @@ pub record IsRaced {K : Type 0} (k : sink.Ghosts K) (w : Words) (output output' 
   pub still : k.faults output' ≡ k.faults output
 
 -- The text is a race text, its race was run, and some of its output was written, from its front.
-pub record IsRaceCutShort {K : Type 0} (k : sink.Ghosts K) (w : Words) (output output' : K) (pass : Pass) (text : List ℕ) : Type 0 where
+pub record IsRaceCutShort {K : Type 0} (k : sink.Ghosts K) (w : Words) (output output' : K) (pass : Pass)
+    (text : List ℕ) : Type 0 where
   pub setup : List ScriptCall
   pub race : List RaceLine
   pub race_text : IsRaceText text setup race
@@ -44,7 +47,8 @@ pub record IsRaceCutShort {K : Type 0} (k : sink.Ghosts K) (w : Words) (output o
   pub written : WritesPrefix k output output' (race_output (limits_of w) setup race replies)
 
 -- The line is the text's first that isn't in the grammar, which was said, and no call was made.
-pub record IsRaceRefused {K : Type 0} (k : sink.Ghosts K) (output output' : K) (pass pass' : Pass) (line : ℕ) (text : List ℕ) : Type 0 where
+pub record IsRaceRefused {K : Type 0} (k : sink.Ghosts K) (output output' : K) (pass pass' : Pass) (line : ℕ)
+    (text : List ℕ) : Type 0 where
   pub first : IsFirstBadRace text line
   pub said : Notes k output output' (bad_line line)
   pub uncalled : pass' ≡ pass
@@ -55,7 +59,8 @@ pub record IsRaceUntouched {K : Type 0} (output output' : K) (pass pass' : Pass)
   pub uncalled : pass' ≡ pass
 
 -- What `race` does where it ends with this status. It ends with those that a script ends with.
-pub record DoesRace {S K : Type 0} (s : source.Ghosts S) (k : sink.Ghosts K) (w : Words) (input input' : S) (output output' : K) (pass pass' : Pass) (status : Status) : Type 0 where
+pub record DoesRace {S K : Type 0} (s : source.Ghosts S) (k : sink.Ghosts K) (w : Words) (input input' : S)
+    (output output' : K) (pass pass' : Pass) (status : Status) : Type 0 where
   -- what each status says
   pub done : status ≡ Done → ReadsText s input input' (IsRaced k w output output' pass')
   pub bad_script : (line : ℕ) → status ≡ BadScript line

@@ -1,5 +1,6 @@
 -- A race: a setup of lines one after the other, and then callers that run beside each other.
-use Rattle.std.specs.Prelude.{◌≡◌, ℕ, zero, suc, ◌+◌, ◌<◌, ◌≤◌, ◌==◌, ◌++◌, IsTrue, if◌then◌else◌, Option, Some, None, List, [], ◌∷◌, map, filter}
+use Rattle.std.specs.Prelude.{◌≡◌, ℕ, zero, suc, ◌+◌, ◌<◌, ◌≤◌, ◌==◌, ◌++◌, IsTrue, if◌then◌else◌, Option, Some, None}
+use Rattle.std.specs.Prelude.{List, [], ◌∷◌, map, filter}
 use mathlib.Core.List.{IsPrefix}
 use Rattle.nio_base.specs.declared.limits.Limits.{Limits}
 use Rattle.nio_base.specs.declared.numbers.CallerNo.{CallerNo}
@@ -52,7 +53,8 @@ own_progress n now = record nothing_yet {
 
 -- The caller went on after `go`: it made its lines, with these replies, and nothing else, beginning with what it had in
 -- progress there.
-pub record HasRun (l : Limits) (n : CallerNo) (go : List Event) (now : Progress) (calls : List RaceCall) (history : List Event) (replies : List Reply) : Type 0 where
+pub record HasRun (l : Limits) (n : CallerNo) (go : List Event) (now : Progress) (calls : List RaceCall)
+    (history : List Event) (replies : List Reply) : Type 0 where
   pub acts : List Act
   pub grew : mine n history ≡ mine n go ++ acts
   pub last : Progress
@@ -63,7 +65,8 @@ abbrev pub strange_replies : List RaceCall → List Reply
 strange_replies calls = map (λ _. reply.NoCaller) calls
 
 -- A race of this setup and these lines, with these replies of each caller's lines.
-pub record IsRace (l : Limits) (setup : List ScriptCall) (race : List RaceLine) (history : List Event) (replies : CallerNo → List Reply) : Type 0 where
+pub record IsRace (l : Limits) (setup : List ScriptCall) (race : List RaceLine) (history : List Event)
+    (replies : CallerNo → List Reply) : Type 0 where
   -- the setup comes first, and `go` stands after it
   pub go : List Event
   pub now : Progress
@@ -80,12 +83,14 @@ pub record IsRace (l : Limits) (setup : List ScriptCall) (race : List RaceLine) 
 
 -- ---- what is written
 
--- The lines of one caller with their replies, numbered from this number. In a race each line has its reply: `AreRaceLines`
+-- The lines of one caller with their replies, numbered from this number. In a race each line has its reply:
+-- `AreRaceLines`
 -- and `strange_replies` have as many replies as lines. So no line and no reply is left out.
 abbrev pub caller_text : CallerNo → ℕ → List RaceCall → List Reply → List ℕ
 caller_text n number [] replies = []
 caller_text n number (call ∷ later) [] = []
-caller_text n number (call ∷ later) (r ∷ replies) = race_line_text n number call r ++ caller_text n (number + 1) later replies
+caller_text n number (call ∷ later) (r ∷ replies) =
+    race_line_text n number call r ++ caller_text n (number + 1) later replies
 
 -- the lines of the callers from number k up, so many of them
 abbrev pub callers_text : ℕ → ℕ → List RaceLine → (CallerNo → List Reply) → List ℕ

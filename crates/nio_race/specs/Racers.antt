@@ -35,15 +35,21 @@ pub record StandsFor (w : Words) (d : Desk) (me : CallerNo) : Type 0 where
 
 -- what a line of the caller did, and what it said
 abbrev pub LineOn : Words → Desk → Desk → CallerNo → RaceCall → Reply → Type 0
-LineOn w d d' me line r = CallClause me (MakesRaceLine (limits_of w) (progress_of d) me line) (view w d.pass) (view w d'.pass) (record { reply = r; left = progress_of d' })
+LineOn w d d' me line r =
+    CallClause me (MakesRaceLine (limits_of w) (progress_of d) me line) (view w d.pass) (view w d'.pass)
+    (record { reply = r; left = progress_of d' })
 
 -- what a `block` did whose selector was found, and what it said
 abbrev pub BlocksOn : Words → Desk → Desk → CallerNo → SelNo → Reply → Type 0
-BlocksOn w d d' me s r = CallClause me (Blocks (progress_of d) s) (view w d.pass) (view w d'.pass) (record { reply = r; left = progress_of d' })
+BlocksOn w d d' me s r =
+    CallClause me (Blocks (progress_of d) s) (view w d.pass) (view w d'.pass)
+    (record { reply = r; left = progress_of d' })
 
 -- the same of a script's line that was made once
 abbrev pub MakesOnce : Words → Desk → Desk → CallerNo → Call → Reply → Type 0
-MakesOnce w d d' me word r = CallClause me (Completes (line_plan (limits_of w) (progress_of d) me word)) (view w d.pass) (view w d'.pass) (record { reply = r; left = progress_of d' })
+MakesOnce w d d' me word r =
+    CallClause me (Completes (line_plan (limits_of w) (progress_of d) me word)) (view w d.pass) (view w d'.pass)
+    (record { reply = r; left = progress_of d' })
 
 abbrev pub StandsAlone : Words → Racer → Type 0
 StandsAlone w r = StandsFor w r.desk r.number
@@ -55,13 +61,15 @@ pub record IsSetOff (w : Words) (r : Racer) : Type 0 where
   pub in_memory : IsFalse r.lacks_memory
 
 -- the line was made, and its reply comes behind the others
-pub record RepliesLine (w : Words) (d d' : Desk) (me : CallerNo) (line : RaceCall) (replies replies' : List Reply) : Type 0 where
+pub record RepliesLine (w : Words) (d d' : Desk) (me : CallerNo) (line : RaceCall)
+    (replies replies' : List Reply) : Type 0 where
   pub reply : Reply
   pub made : LineOn w d d' me line reply
   pub kept : replies' ≡ replies ++ reply ∷ []
 
 -- the caller made its lines of the race, each with its reply
-pub record MadeLines (w : Words) (race : List RaceLine) (me : CallerNo) (d d' : Desk) (replies : List Reply) : Type 0 where
+pub record MadeLines (w : Words) (race : List RaceLine) (me : CallerNo) (d d' : Desk)
+    (replies : List Reply) : Type 0 where
   pub acts : List Act
   pub grew : acts_seen d'.pass me ≡ acts_seen d.pass me ++ acts
   pub lines : AreRaceLines (limits_of w) me (progress_of d) (calls_by me race) acts replies (progress_of d')
@@ -80,7 +88,8 @@ pub record HasRaced (w : Words) (race : List RaceLine) (before after : Racer) : 
 -- each racer has become what it became
 pub record HaveRaced (w : Words) (race : List RaceLine) (before after : List Racer) : Type 0 where
   pub count : length after ≡ length before
-  pub each : (k : ℕ) (r r' : Racer) → k < length before → slice_index_or before k r ≡ r → slice_index_or after k r' ≡ r' → HasRaced w race r r'
+  pub each : (k : ℕ) (r r' : Racer) → k < length before → slice_index_or before k r ≡ r → slice_index_or after k r' ≡ r'
+      → HasRaced w race r r'
 
 -- the replies of each caller's lines: a racer's, or those of a caller that isn't one
 abbrev pub replies_by : List RaceLine → List Racer → CallerNo → List Reply

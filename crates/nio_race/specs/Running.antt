@@ -16,7 +16,8 @@ use Rattle.nio_race.specs.SetOff.{AreSetOff}
 use Rattle.nio_race.specs.declared.racer.Racer.{Racer}
 
 -- The race was run, with some replies, and this is its output.
-pub record RunsTo (w : Words) (pass : Pass) (setup : List ScriptCall) (race : List RaceLine) (text : List ℕ) : Type 0 where
+pub record RunsTo (w : Words) (pass : Pass) (setup : List ScriptCall) (race : List RaceLine)
+    (text : List ℕ) : Type 0 where
   pub replies : CallerNo → List Reply
   pub run : HasRunRace w pass setup race replies
   pub text_is : text ≡ race_output (limits_of w) setup race replies

@@ -151,11 +151,14 @@ wakes (call.Group g) = false
 
 -- ---- `block`
 
--- What the line says and leaves where the selection ended so. Its poller never fails, and want of memory ends the thread
--- instead. Where a selection ended the caller has none in progress there: one that it had begun before holds the turn, so
+-- What the line says and leaves where the selection ended so. Its poller never fails, and want of memory ends the
+-- thread
+-- instead. Where a selection ended the caller has none in progress there: one that it had begun before holds the turn,
+-- so
 -- that this one would wait for ever.
 abbrev pub BlockSays : Progress → SelNo → SelectReply → Said → Type 0
-BlockSays now s (selected answer) said = said ≡ record { reply = reply.Selected answer.count answer.why; left = with_selection now s None }
+BlockSays now s (selected answer) said =
+    said ≡ record { reply = reply.Selected answer.count answer.why; left = with_selection now s None }
 BlockSays now s (not_begun ClosedSelector) said = said ≡ record { reply = reply.ClosedSelector; left = now }
 BlockSays now s (not_begun Busy) said = ⊥
 BlockSays now s (not_begun Memory) said = ⊥
@@ -190,7 +193,8 @@ MakesRaceLine l now me (Script word) acts said = MakesScriptLine l now me word a
 MakesRaceLine l now me (Block s) acts said = LooksAndBlocks l now s acts said
 
 -- the acts and the replies are those of a line and then of others, which begin with what the line leaves in progress
-pub record LineAnd (Line : List Act → Said → Type 0) (Others : Progress → List Act → List Reply → Type 0) (acts : List Act) (replies : List Reply) : Type 0 where
+pub record LineAnd (Line : List Act → Said → Type 0) (Others : Progress → List Act → List Reply → Type 0)
+    (acts : List Act) (replies : List Reply) : Type 0 where
   pub first : List Act
   pub said : Said
   pub line : Line first said
@@ -203,4 +207,6 @@ pub record LineAnd (Line : List Act → Said → Type 0) (Others : Progress → 
 -- The caller made these lines, one after the other: what it did, the reply of each, and what is in progress at last.
 abbrev pub AreRaceLines : Limits → CallerNo → Progress → List RaceCall → List Act → List Reply → Progress → Type 0
 AreRaceLines l me now [] acts replies last = (acts ≡ []) × (replies ≡ []) × (last ≡ now)
-AreRaceLines l me now (line ∷ later) acts replies last = LineAnd (MakesRaceLine l now me line) (λ then acts' replies'. AreRaceLines l me then later acts' replies' last) acts replies
+AreRaceLines l me now (line ∷ later) acts replies last =
+    LineAnd (MakesRaceLine l now me line) (λ then acts' replies'. AreRaceLines l me then later acts' replies' last) acts
+    replies

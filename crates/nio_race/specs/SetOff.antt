@@ -1,5 +1,6 @@
 -- What `go` leaves: a racer for each caller, with what the caller has in progress.
-use Rattle.std.specs.Prelude.{◌≡◌, ◌≢◌, ℕ, ◌<◌, ◌≤◌, ◌==◌, ◌++◌, IsFalse, if◌then◌else◌, Option, Some, None, List, [], ◌∷◌, length, All}
+use Rattle.std.specs.Prelude.{◌≡◌, ◌≢◌, ℕ, ◌<◌, ◌≤◌, ◌==◌, ◌++◌, IsFalse, if◌then◌else◌, Option, Some, None, List, []}
+use Rattle.std.specs.Prelude.{◌∷◌, length, All}
 use Rattle.std.specs.List.{slice_index_or}
 use Rattle.nio_base.specs.declared.numbers.CallerNo.{CallerNo}
 use Rattle.nio_base.specs.declared.numbers.SelNo.{SelNo}
@@ -38,7 +39,8 @@ other_shut n None = None
 other_shut n (Some x) = if x.caller.0 == n.0 then None else Some x
 
 -- At the places below `count` the caller's own was moved from the one list to the other, in which nothing stood.
-pub record MovedBelow {A : Type 0} (own other : Option A → Option A) (count : ℕ) (from from' to' : List (Option A)) : Type 0 where
+pub record MovedBelow {A : Type 0} (own other : Option A → Option A) (count : ℕ)
+    (from from' to' : List (Option A)) : Type 0 where
   pub moved : (s : ℕ) → s < count → slot to' s ≡ own (slot from s)
   pub left : (s : ℕ) → s < count → slot from' s ≡ other (slot from s)
   pub unmoved : (s : ℕ) → count ≤ s → slot to' s ≡ None

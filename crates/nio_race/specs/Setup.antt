@@ -16,7 +16,8 @@ pub record HasSetUp (w : Words) (d : Desk) (setup : List ScriptCall) : Type 0 wh
   pub set_up : IsSetUp (limits_of w) setup (seen d.pass) (progress_of d)
 
 -- the line was made, and its history was added to the text
-pub record SaysAndWrites (w : Words) (old new : Desk) (number : ℕ) (line : ScriptCall) (before after : List ℕ) : Type 0 where
+pub record SaysAndWrites (w : Words) (old new : Desk) (number : ℕ) (line : ScriptCall)
+    (before after : List ℕ) : Type 0 where
   pub reply : Reply
   pub says : SaysLine w old new line.caller line.call (Ok reply)
   pub writes : after ≡ before ++ history_line number line.caller line.call reply

@@ -12,17 +12,22 @@ pub returns-in-Ok-clause-line : goal.returns-in-Ok-clause-line
 returns-in-Ok-clause-line g c =
     let d = c.args.d.now in
     let d' : Desk = record d { pass = c.select.new.p; selections = c.drop_selection.new.selections } in
-    blocks_selected c.args.w.now d d' c.args.me c.args.sel c.over-poller.ensures c.in-Ok.ensures.kept c.in-Ok.selected c.in-Ok.ensures.call
-    (progress_selection c.args.w.now d c.select.new.p c.args.sel c.drop_selection.new.selections None c.requires.stands.places c.requires.selector.inside c.drop_selection.ensures.items)
+    blocks_selected c.args.w.now d d' c.args.me c.args.sel c.over-poller.ensures c.in-Ok.ensures.kept c.in-Ok.selected
+    c.in-Ok.ensures.call
+    (progress_selection c.args.w.now d c.select.new.p c.args.sel c.drop_selection.new.selections None
+    c.requires.stands.places c.requires.selector.inside c.drop_selection.ensures.items)
 
 pub returns-in-Ok-clause-stands : goal.returns-in-Ok-clause-stands
 returns-in-Ok-clause-stands g c =
     let d = c.args.d.now in
     let d' : Desk = record d { pass = c.select.new.p; selections = c.drop_selection.new.selections } in
     stands_selected c.args.w.now d d' c.args.me c.requires.stands c.args.sel c.in-Ok.selected c.in-Ok.ensures.ready
-    (places_selection c.args.w.now d c.select.new.p c.args.sel c.drop_selection.new.selections None c.requires.stands.places c.requires.selector.inside c.drop_selection.ensures.items c.drop_selection.ensures.len (λ x is. absurd (cc is))
+    (places_selection c.args.w.now d c.select.new.p c.args.sel c.drop_selection.new.selections None
+    c.requires.stands.places c.requires.selector.inside c.drop_selection.ensures.items c.drop_selection.ensures.len
+    (λ x is. absurd (cc is))
     (still_made c.select.new.p c.requires.stands.places c.in-Ok.ensures.call.call))
-    (progress_selection c.args.w.now d c.select.new.p c.args.sel c.drop_selection.new.selections None c.requires.stands.places c.requires.selector.inside c.drop_selection.ensures.items)
+    (progress_selection c.args.w.now d c.select.new.p c.args.sel c.drop_selection.new.selections None
+    c.requires.stands.places c.requires.selector.inside c.drop_selection.ensures.items)
     c.in-Ok.ensures.call
 
 pub returns-in-Err-ClosedSelector-clause-line : goal.returns-in-Err-ClosedSelector-clause-line
@@ -30,12 +35,17 @@ returns-in-Err-ClosedSelector-clause-line g c =
     let d = c.args.d.now in
     let d' : Desk = record d { pass = c.select.new.p } in
     blocks_closed c.args.w.now d d' c.args.me c.args.sel c.over-poller.ensures c.in-Err-ClosedSelector.ensures.kept
-    (subst (λ (e : SelectError). SelectClause c.args.me c.args.sel Wait (view c.args.w.now d.pass) (view c.args.w.now d'.pass) (Some c.over-poller.result.polls) (Some c.select.new.poller.polls) (λ _. 0) (Err e)) c.in-Err-ClosedSelector.field-0-is c.in-Err-ClosedSelector.ensures.call)
+    (subst (λ (e : SelectError). SelectClause c.args.me c.args.sel Wait (view c.args.w.now d.pass)
+    (view c.args.w.now d'.pass) (Some c.over-poller.result.polls) (Some c.select.new.poller.polls) (λ _. 0) (Err e))
+    c.in-Err-ClosedSelector.field-0-is c.in-Err-ClosedSelector.ensures.call)
     refl
 
 pub returns-in-Err-ClosedSelector-clause-stands : goal.returns-in-Err-ClosedSelector-clause-stands
 returns-in-Err-ClosedSelector-clause-stands g c =
     let d = c.args.d.now in
     let d' : Desk = record d { pass = c.select.new.p } in
-    stands_closed c.args.w.now d d' c.args.me c.requires.stands c.args.sel c.in-Err-ClosedSelector.ensures.ready (places_same c.select.new.p c.in-Err-ClosedSelector.ensures.call.call c.requires.stands.places) refl
-    (subst (λ (e : SelectError). SelectClause c.args.me c.args.sel Wait (view c.args.w.now d.pass) (view c.args.w.now d'.pass) (Some c.over-poller.result.polls) (Some c.select.new.poller.polls) (λ _. 0) (Err e)) c.in-Err-ClosedSelector.field-0-is c.in-Err-ClosedSelector.ensures.call)
+    stands_closed c.args.w.now d d' c.args.me c.requires.stands c.args.sel c.in-Err-ClosedSelector.ensures.ready
+    (places_same c.select.new.p c.in-Err-ClosedSelector.ensures.call.call c.requires.stands.places) refl
+    (subst (λ (e : SelectError). SelectClause c.args.me c.args.sel Wait (view c.args.w.now d.pass)
+    (view c.args.w.now d'.pass) (Some c.over-poller.result.polls) (Some c.select.new.poller.polls) (λ _. 0) (Err e))
+    c.in-Err-ClosedSelector.field-0-is c.in-Err-ClosedSelector.ensures.call)

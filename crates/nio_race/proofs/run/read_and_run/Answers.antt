@@ -8,13 +8,19 @@ use Rattle.nio_script.proofs.Bytes.{if_known}
 use Rattle.nio_race.proofs.run.read_and_run.Goals as goal
 
 pub returns-in-Ok-clause-bad_script : goal.returns-in-Ok-clause-bad_script
-returns-in-Ok-clause-bad_script g c = λ line bad.
-    (c.in-Ok.text.items, c.in-Ok.ensures.whole, subst (IsRaceRefused g.K.Sink c.args.output.now c.run_text.new.output c.args.pass.now c.run_text.new.pass line) c.deref.ensures.value (c.run_text.ensures.bad_script line bad))
+returns-in-Ok-clause-bad_script g c = λ line bad. (
+  c.in-Ok.text.items,
+  c.in-Ok.ensures.whole,
+  subst (IsRaceRefused g.K.Sink c.args.output.now c.run_text.new.output c.args.pass.now c.run_text.new.pass line)
+      c.deref.ensures.value (c.run_text.ensures.bad_script line bad),
+)
 
 pub returns-in-Ok-clause-of_bad : goal.returns-in-Ok-clause-of_bad
 returns-in-Ok-clause-of_bad g c =
     let status = c.run_text.result in
     if_known (g.S.Source.left c.args.input.now) c.deref.result.now
-    (λ text. (line : ℕ) → length text ≤ LONGEST_INPUT → IsFirstBadRace text line → (status ≡ BadScript line) ⊎ (status ≡ ReadFault) ⊎ (status ≡ Memory))
-    (subst (λ text. IfSome (g.S.Source.left c.args.input.now) (λ bytes. bytes ≡ text)) (sym c.deref.ensures.value) c.in-Ok.ensures.whole.whole)
+    (λ text. (line : ℕ) → length text ≤ LONGEST_INPUT → IsFirstBadRace text line
+    → (status ≡ BadScript line) ⊎ (status ≡ ReadFault) ⊎ (status ≡ Memory))
+    (subst (λ text. IfSome (g.S.Source.left c.args.input.now) (λ bytes. bytes ≡ text))
+    (sym c.deref.ensures.value) c.in-Ok.ensures.whole.whole)
     (λ line fits bad. ⊎_elim inl (λ lacks. inr (inr lacks)) (c.run_text.ensures.of_bad line bad))

@@ -18,18 +18,22 @@ returns-in-Ok-race-clause-done g c = λ is.
       race = c.race.result.now;
       race_text =
           subst (λ (setup : List ScriptCall). IsRaceText text setup c.race.result.now) (sym c.setup.ensures)
-          (subst (λ (race : List RaceLine). IsRaceText text c.in-Ok.lines.setup race) (sym c.race.ensures) c.in-Ok.ensures.ok);
+          (subst (λ (race : List RaceLine). IsRaceText text c.in-Ok.lines.setup race)
+          (sym c.race.ensures) c.in-Ok.ensures.ok);
       replies = ran.replies;
       run = ran.run;
-      written = subst (λ (bytes : List ℕ). IsWritten g.K.Sink c.args.output.now c.write.new.output bytes) (c.deref.ensures.value ∙ ran.text_is) wrote.0;
+      written = subst (λ (bytes : List ℕ). IsWritten g.K.Sink c.args.output.now c.write.new.output bytes)
+          (c.deref.ensures.value ∙ ran.text_is) wrote.0;
       still = wrote.1;
     }
 
 pub returns-in-Ok-race-clause-of_bad : goal.returns-in-Ok-race-clause-of_bad
-returns-in-Ok-race-clause-of_bad g c = λ line bad. absurd (race_not_bad c.args.text.now c.in-Ok.lines.setup c.in-Ok.lines.race line c.in-Ok.ensures.ok bad)
+returns-in-Ok-race-clause-of_bad g c =
+    λ line bad. absurd (race_not_bad c.args.text.now c.in-Ok.lines.setup c.in-Ok.lines.race line c.in-Ok.ensures.ok bad)
 
 pub returns-in-Err-BadLine-clause-of_bad : goal.returns-in-Err-BadLine-clause-of_bad
 returns-in-Err-BadLine-clause-of_bad g c = λ line bad.
     let read = c.in-Err-BadLine in
     let first = read.ensures.bad read.line (ap Err read.field-0-is) in
-    subst (λ (n : ℕ). (c.refuse.result ≡ BadScript n) ⊎ (c.refuse.result ≡ Memory)) (first_bad_race_one c.args.text.now read.line line first bad) c.refuse.ensures.status
+    subst (λ (n : ℕ). (c.refuse.result ≡ BadScript n) ⊎ (c.refuse.result ≡ Memory))
+    (first_bad_race_one c.args.text.now read.line line first bad) c.refuse.ensures.status

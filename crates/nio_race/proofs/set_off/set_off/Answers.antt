@@ -13,6 +13,7 @@ set_off_one-requires-clause-number c =
 
 pub loop-number-preserved : goal.loop-number-preserved
 loop-number-preserved c =
-    goes_on c.args.w.now c.args.d.now c.loop-number.d c.set_off_one.new.d c.loop-number.number c.loop-number.racers.items c.set_off_one.new.racers.items c.requires.stands
+    goes_on c.args.w.now c.args.d.now c.loop-number.d c.set_off_one.new.d c.loop-number.number
+    c.loop-number.racers.items c.set_off_one.new.racers.items c.requires.stands
     (subst (λ (l : Limits). c.loop-number.number < l.callers) c.limits-number-end.ensures c.loop-number-test.true)
     c.loop-number.invariant c.in_ok-set_off_one.ensures.ok

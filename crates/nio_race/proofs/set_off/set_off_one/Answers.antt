@@ -10,21 +10,43 @@ returns-in-Ok-clause-ok c =
     let w = c.args.w.now in
     let d = c.args.d.now in
     let n = c.args.number in
-    let d' : Desk = record { pass = c.hand_over.new.p; selections = c.move_selections.new.from; closings = c.move_closings.new.from; group = d.group; pipes = d.pipes } in
-    let own : Desk = record { pass = c.in-Ok.pass; selections = c.move_selections.new.to; closings = c.move_closings.new.to; group = None; pipes = c.new.result } in
+    let d' : Desk = record {
+      pass = c.hand_over.new.p;
+      selections = c.move_selections.new.from;
+      closings = c.move_closings.new.from;
+      group = d.group;
+      pipes = d.pipes;
+    } in
+    let own : Desk = record {
+      pass = c.in-Ok.pass;
+      selections = c.move_selections.new.to;
+      closings = c.move_closings.new.to;
+      group = None;
+      pipes = c.new.result;
+    } in
     let begun = c.move_selections.ensures in
     let shut = c.move_closings.ensures in
-    let racer : Racer = record { number = n; desk = own; sleeper = c.in_ok-sleeper.sleeper; replies = c.in_ok-replies.replies; lacks_memory = false } in
+    let racer : Racer = record {
+      number = n;
+      desk = own;
+      sleeper = c.in_ok-sleeper.sleeper;
+      replies = c.in_ok-replies.replies;
+      lacks_memory = false;
+    } in
     record {
       racer = racer;
       takes_over = record {
         number_is = refl;
         pass = c.in-Ok.ensures;
-        places = left_places w d d' own n c.requires.places begun.moved shut.moved (begun.from, begun.to, shut.from, shut.to)
+        places = left_places w d d' own n c.requires.places begun.moved shut.moved
+            (begun.from, begun.to, shut.from, shut.to)
             (made_for w d.pass c.hand_over.new.p d.pipes.items c.in-Ok.ensures.sees.sight c.requires.places.pipes);
-        own_places = moved_places w d d' own n c.requires.places begun.moved shut.moved (begun.from, begun.to, shut.from, shut.to) c.new.ensures.items;
-        own = moved_progress w d d' own n c.requires.places begun.moved shut.moved (begun.from, begun.to, shut.from, shut.to) refl c.new.ensures.items;
-        others = left_progress w d d' own n c.requires.places begun.moved shut.moved (begun.from, begun.to, shut.from, shut.to);
+        own_places = moved_places w d d' own n c.requires.places begun.moved shut.moved
+            (begun.from, begun.to, shut.from, shut.to) c.new.ensures.items;
+        own = moved_progress w d d' own n c.requires.places begun.moved shut.moved
+            (begun.from, begun.to, shut.from, shut.to) refl c.new.ensures.items;
+        others = left_progress w d d' own n c.requires.places begun.moved shut.moved
+            (begun.from, begun.to, shut.from, shut.to);
         unanswered = c.in_ok-replies.ensures.items;
         in_memory = refl;
       };

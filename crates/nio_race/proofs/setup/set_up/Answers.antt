@@ -12,4 +12,5 @@ make_lines-requires-clause-set_up c =
 pub join-requires-clause-other : goal.join-requires-clause-other
 join-requires-clause-other c =
     let stands = c.in-Err.ensures.stands in
-    subst (λ (p : Pass). IsPassOf c.args.w.now p) (sym c.into_pass.ensures) (stands.ready (record { 0 = 0 }) (omega (arith, stands.fit.some_callers))).pass
+    subst (λ (p : Pass). IsPassOf c.args.w.now p) (sym c.into_pass.ensures)
+    (stands.ready (record { 0 = 0 }) (omega (arith, stands.fit.some_callers))).pass
