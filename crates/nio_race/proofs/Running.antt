@@ -1,5 +1,5 @@
 -- What a race leaves behind, from what its parts do.
-use Rattle.std.proofs.Common.{◌≡◌, ℕ, zero, suc, ◌<◌, List, [], ◌∷◌, ◌++◌, length, All, refl, ap, ◌∙◌, subst, arith}
+use Rattle.std.proofs.Common.{◌≡◌, ℕ, zero, suc, ◌<◌, List, [], ◌∷◌, ◌++◌, length, All, IsFalse, Result, Ok, Err, IfOk, refl, ap, ◌∙◌, subst, arith}
 use Rattle.std.proofs.lemmas.List.Elements.{All-weaker}
 use Rattle.std.specs.List.{slice_index_or}
 use Rattle.nio_event.specs.declared.call.ScriptCall.{ScriptCall}
@@ -8,8 +8,9 @@ use Rattle.nio_plain.specs.Answer.{answer_to}
 use Rattle.nio_plain.specs.declared.rules.Rules.TheVariants.{Now}
 use Rattle.nio_race_text.specs.declared.call.RaceLine.{RaceLine}
 use Rattle.nio_serial.specs.Documented.{Progress}
+use Rattle.nio_sole.specs.Stands.{progress_of}
 use Rattle.nio_sole.specs.declared.desk.Desk.{Desk}
-use Rattle.nio_words.specs.Passes.{IsPassOf, limits_of}
+use Rattle.nio_words.specs.Passes.{IsPassOf, limits_of, seen}
 use Rattle.nio_words.specs.declared.words.Pass.{Pass}
 use Rattle.nio_words.specs.declared.words.Words.{Words}
 use Rattle.nio_race.proofs.Gathering.{stands_on}
@@ -43,6 +44,14 @@ still_racers w race before after raced k d below =
     let first = subst (λ (m : ℕ). k < m) raced.count below in
     let r = standing before k first in
     (raced.each k r.0 (slice_index_or after k d) first r.1 (at_itself after k d below)).pass
+
+-- the racers were set off and each made its lines, whatever came of their output
+pub have_run : {A E : Type 0} (w : Words) (d : Desk) (race : List RaceLine) (before racers : List Racer) (result : Result A E)
+    → AreSetOff w (seen d.pass) (progress_of d) (limits_of w).callers before → HaveRaced w race before racers
+    → All (λ r. IsFalse r.lacks_memory) racers → IfOk result (λ _. HaveRun w d race racers)
+have_run w d race before racers (Ok x) set_off raced in_memory =
+    record { before = before; set_off = set_off; raced = raced; in_memory = in_memory }
+have_run w d race before racers (Err e) set_off raced in_memory = tt
 
 -- the passes of the racers and of the desk are joined
 pub runs_to : (w : Words) (d : Desk) (setup : List ScriptCall) (race : List RaceLine) (racers : List Racer)
