@@ -1,5 +1,6 @@
 -- What a race leaves behind, from what its parts do.
-use Rattle.std.proofs.Common.{◌≡◌, ℕ, zero, suc, ◌<◌, List, [], ◌∷◌, ◌++◌, length, All, IsFalse, Result, Ok, Err, IfOk, refl, ap, ◌∙◌, subst, arith}
+use Rattle.std.proofs.Common.{◌≡◌, ℕ, zero, suc, ◌<◌, List, [], ◌∷◌, ◌++◌, length, All, IsFalse, Result, Ok, Err, IfOk}
+use Rattle.std.proofs.Common.{refl, ap, ◌∙◌, subst, arith}
 use Rattle.std.proofs.lemmas.List.Elements.{All-weaker}
 use Rattle.std.specs.List.{slice_index_or}
 use Rattle.nio_event.specs.declared.call.ScriptCall.{ScriptCall}
@@ -46,7 +47,8 @@ still_racers w race before after raced k d below =
     (raced.each k r.0 (slice_index_or after k d) first r.1 (at_itself after k d below)).pass
 
 -- the racers were set off and each made its lines, whatever came of their output
-pub have_run : {A E : Type 0} (w : Words) (d : Desk) (race : List RaceLine) (before racers : List Racer) (result : Result A E)
+pub have_run : {A E : Type 0} (w : Words) (d : Desk) (race : List RaceLine) (before racers : List Racer)
+    (result : Result A E)
     → AreSetOff w (seen d.pass) (progress_of d) (limits_of w).callers before → HaveRaced w race before racers
     → All (λ r. IsFalse r.lacks_memory) racers → IfOk result (λ _. HaveRun w d race racers)
 have_run w d race before racers (Ok x) set_off raced in_memory =
