@@ -47,8 +47,7 @@ pub record LeavesState (st : State) (left : ScriptState) : Type 0 where
   pub is : documented st now ≡ left
 
 -- What a script leaves of the table. What the pass has seen leaves this state of scripts. Every number is drawn, and
--- the
--- pass holds each. Each caller made whole calls. At each moment what is owed is owed by a caller that has still to
+-- the pass holds each. Each caller made whole calls. At each moment what is owed is owed by a caller that has still to
 -- do it: no cancellation is lost.
 pub record Leaves (w : Words) (pass : Pass) (left : ScriptState) : Type 0 where
   pub state : LeavesState (state_seen pass) left

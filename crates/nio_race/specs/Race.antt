@@ -84,8 +84,7 @@ pub record IsRace (l : Limits) (setup : List ScriptCall) (race : List RaceLine) 
 -- ---- what is written
 
 -- The lines of one caller with their replies, numbered from this number. In a race each line has its reply:
--- `AreRaceLines`
--- and `strange_replies` have as many replies as lines. So no line and no reply is left out.
+-- `AreRaceLines` and `strange_replies` have as many replies as lines. So no line and no reply is left out.
 abbrev pub caller_text : CallerNo → ℕ → List RaceCall → List Reply → List ℕ
 caller_text n number [] replies = []
 caller_text n number (call ∷ later) [] = []

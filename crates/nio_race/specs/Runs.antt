@@ -152,10 +152,8 @@ wakes (call.Group g) = false
 -- ---- `block`
 
 -- What the line says and leaves where the selection ended so. Its poller never fails, and want of memory ends the
--- thread
--- instead. Where a selection ended the caller has none in progress there: one that it had begun before holds the turn,
--- so
--- that this one would wait for ever.
+-- thread instead. Where a selection ended the caller has none in progress there: one that it had begun before holds the
+-- turn, so that this one would wait for ever.
 abbrev pub BlockSays : Progress → SelNo → SelectReply → Said → Type 0
 BlockSays now s (selected answer) said =
     said ≡ record { reply = reply.Selected answer.count answer.why; left = with_selection now s None }
